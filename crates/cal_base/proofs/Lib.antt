@@ -1,0 +1,11 @@
+pub mod CivilLemmas
+pub mod Pieces
+pub mod PlaceLemmas
+pub mod SpanCounts
+pub mod SpanDigits
+pub mod SpanNumbers
+pub mod SpanPairs
+pub mod SpanReadBack
+pub mod SpanRule
+pub mod SpanWords
+pub mod YearLemmas

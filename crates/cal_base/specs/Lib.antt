@@ -1,0 +1,14 @@
+pub mod Bytes
+pub mod Civil
+pub mod Days
+pub mod Instant
+pub mod InstantText
+pub mod Local
+pub mod Place
+pub mod Scale
+pub mod Span
+pub mod SpanFault
+pub mod SpanText
+pub mod SpanValue
+pub mod SpanWord
+pub mod Zone

@@ -1,0 +1,6 @@
+-- What a `Span` may hold.
+use Rattle.std.specs.Prelude.{ℕ}
+
+-- the longest time span, in microseconds
+abbrev pub limit : ℕ
+limit = 9223372036854775807

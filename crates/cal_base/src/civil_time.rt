@@ -1,0 +1,75 @@
+//! The civil time that a zone's clocks show at an instant.
+ghost use Rattle.std.specs.Prelude.{◌≡◌, ◌≤◌, pos};
+ghost use Rattle.std.specs.Int.{IsInRange};
+ghost use Rattle.jiff.specs.Words.{IsBetween};
+ghost use Rattle.cal_base.specs.Civil.{civil_of, shown_at};
+ghost use Rattle.cal_base.specs.Zone.{zone_of};
+
+use crate::{Civil, Instant, Zone};
+use jiff::Timestamp;
+use jiff::civil::DateTime;
+use jiff::tz::Offset;
+
+/// What a clock in the zone shows at the instant.
+pub fn civil(zone: Zone, instant: Instant) -> Civil
+    ensures value { result ≡ civil_of (zone_of zone.entry) instant.secs }
+    ensures year { IsBetween (pos 1970) (pos 2200) result.year }
+    ensures month { IsInRange 1 12 result.month }
+    ensures day { IsInRange 1 31 result.day }
+    ensures weekday { IsInRange 1 7 result.weekday }
+    ensures hour { result.hour ≤ 23 }
+    ensures minute { result.minute ≤ 59 }
+    ensures second { result.second ≤ 59 }
+{
+    let _ = zone;
+    let Ok(timestamp) = Timestamp::from_second(instant.secs()) else {
+        unreachable!()
+    };
+    fields(Offset::UTC.to_datetime(timestamp), Offset::UTC)
+}
+
+// The fields of what a clock at the offset shows.
+fn fields(shown: DateTime, offset: Offset) -> Civil
+    ensures { result ≡ shown_at offset.seconds shown }
+{
+    Civil {
+        year: shown.year(),
+        month: shown.month() as u8,
+        day: shown.day() as u8,
+        weekday: shown.weekday().index() + 1,
+        hour: shown.hour() as u8,
+        minute: shown.minute() as u8,
+        second: shown.second() as u8,
+        offset: offset.seconds(),
+    }
+}
+
+#[cfg(test)]
+mod tests {
+    use super::*;
+    use std::test::Fail;
+
+    // Year, month, day, weekday, hour, minute and second in UTC.
+    fn shown(secs: i64) -> Option<(i16, u8, u8, u8, u8, u8, u8)> {
+        let civil = civil(Zone::utc(), Instant::new(secs)?);
+        Some((
+            civil.year,
+            civil.month,
+            civil.day,
+            civil.weekday,
+            civil.hour,
+            civil.minute,
+            civil.second,
+        ))
+    }
+
+    #[test]
+    fn civil_times(rt: HostRuntime) -> Result<(), Fail> {
+        assert_eq!(rt; shown(0), Some((1970, 1, 1, 4, 0, 0, 0)));
+        assert_eq!(rt; shown(1_704_067_200), Some((2024, 1, 1, 1, 0, 0, 0)));
+        assert_eq!(rt; shown(1_582_934_400), Some((2020, 2, 29, 6, 0, 0, 0)));
+        assert_eq!(rt; shown(7_258_118_399), Some((2199, 12, 31, 2, 23, 59, 59)));
+        assert_eq!(rt; shown(7_258_211_998), Some((2200, 1, 2, 4, 1, 59, 58)));
+        Ok(())
+    }
+}

@@ -1,0 +1,140 @@
+-- Lemmas on what is answered to one text, and to texts in a row.
+use Rattle.std.proofs.Common.{◌≡◌, ℕ, suc, ◌+◌, ◌<◌, ◌≤◌, Bool, true, false, ◌||◌, map, List, [], ◌∷◌, ◌++◌, length, drop, get_or, Option, None, Some, Ok, Err, refl, sym, ap, ◌∙◌, codes, add-one, drop-cons}
+use Rattle.std.specs.Prelude.{ℤ, is_err, if◌then◌else◌}
+use Rattle.std.specs.List.{flat_map, join_by, list_any}
+use Rattle.std.proofs.lemmas.List.{append-nil, drop_all}
+use Rattle.std.specs.Io.KnownBytes.{Appends}
+use Rattle.cal_base.specs.Bytes.{Leaves, AppendsFront}
+use Rattle.cal_base.proofs.Pieces.{step, stop, respell}
+use Rattle.cal_tool.specs.Answer.{Answer, report_in, refusal_in, later_text, status_in, reports_text, refusals_text, status_of}
+use Rattle.cal_base.specs.SpanFault.{words_of as span_words}
+use Rattle.cal_base.specs.SpanValue.{span_of}
+use Rattle.cal_base.specs.declared.span_fault.SpanFault.{SpanFault}
+use Rattle.cal_tool.specs.TimespanReport.{span_answer, timespan_answer, timespan_report}
+use Rattle.cal_tool.specs.Status.{is_fine, status_and}
+use Rattle.cal_tool.specs.declared.request.Status.{Status}
+use Rattle.cal_tool.specs.declared.request.Status.TheVariants.{Fine, Refused}
+use Rattle.cal_tool.specs.CalendarReport.{answer_with, calendar_answer, calendar_report}
+use Rattle.cal_tool.specs.Clock.{Clock}
+use Rattle.cal_tool.specs.ExpressionText.{expression_of}
+use Rattle.cal_tool.specs.Fault.{words_of}
+use Rattle.cal_tool.specs.declared.spec_fault.SpecFault.{SpecFault}
+use Rattle.cal_tool.specs.declared.spec_fault.SpecFault.TheVariants.{BadDate}
+
+-- an expression is answered by its report
+pub accepted : (now base : ℤ) (n : ℕ) (text : List ℕ) (clock : Clock) → expression_of text ≡ Some clock → calendar_answer now base n text ≡ Ok (calendar_report now base n text clock)
+unfolding calendar_answer
+accepted now base n text clock e = ap (answer_with now base n text) e
+
+-- another text by the words of its fault
+pub refused : (now base : ℤ) (n : ℕ) (text : List ℕ) (fault : SpecFault) → expression_of text ≡ None → fault ≡ BadDate → calendar_answer now base n text ≡ Err (words_of fault)
+unfolding calendar_answer
+refused now base n text fault e f = rw (e, f)
+
+-- a time span is answered by its report
+pub span_accepted : (text : List ℕ) (micros : ℕ) → span_of text ≡ Ok micros → timespan_answer text ≡ Ok (timespan_report text micros)
+unfolding timespan_answer
+span_accepted text micros e = ap (span_answer text) e
+
+-- another text by the words of its fault
+pub span_refused : (text : List ℕ) (fault : SpanFault) → span_of text ≡ Err fault → timespan_answer text ≡ Err (span_words fault)
+unfolding timespan_answer
+span_refused text fault e = ap (span_answer text) e
+
+-- reports that are left to write, behind an earlier one or before the first
+pub left_of : Bool → List (List ℕ) → List ℕ
+left_of true reports = flat_map (λ report. codes "\n" ++ report) reports
+left_of false reports = join_by (λ report. report) (codes "\n") reports
+
+left-next : (is_later : Bool) (a : Answer) (reports : List (List ℕ)) → left_of is_later (report_in a ++ reports) ≡ later_text is_later a ++ left_of (is_later || is_fine (status_in a)) reports
+unfolding left_of
+left-next true (Ok report) reports = rw (append-nil report) refl
+left-next false (Ok report) reports = rw (append-nil report) refl
+left-next true (Err words) reports = refl
+left-next false (Err words) reports = refl
+
+-- the reports of the texts that are left
+pub reports_left : Bool → (List ℕ → Answer) → List (List ℕ) → List ℕ
+reports_left is_later answer texts = left_of is_later (flat_map (λ text. report_in (answer text)) texts)
+
+pub reports_left-all : (answer : List ℕ → Answer) (texts : List (List ℕ)) → reports_text answer texts ≡ reports_left false answer texts
+unfolding reports_left left_of reports_text
+reports_left-all answer texts = refl
+
+pub reports_left-none : (is_later : Bool) (answer : List ℕ → Answer) → reports_left is_later answer [] ≡ []
+unfolding reports_left left_of
+reports_left-none true answer = refl
+reports_left-none false answer = refl
+
+-- the first text's report in its place, if it has one, and then the later ones
+pub reports_left-next : (is_later : Bool) (answer : List ℕ → Answer) (text : List ℕ) (texts : List (List ℕ)) → reports_left is_later answer (text ∷ texts) ≡ later_text is_later (answer text) ++ reports_left (is_later || is_fine (status_in (answer text))) answer texts
+unfolding reports_left
+reports_left-next is_later answer text texts = left-next is_later (answer text) (flat_map (λ t. report_in (answer t)) texts)
+
+-- the refusals of the texts that are left
+pub refusals-next : (answer : List ℕ → Answer) (text : List ℕ) (texts : List (List ℕ)) → refusals_text answer (text ∷ texts) ≡ refusal_in text (answer text) ++ refusals_text answer texts
+unfolding refusals_text
+refusals-next answer text texts = refl
+
+pub refusals-none : (answer : List ℕ → Answer) → refusals_text answer [] ≡ []
+unfolding refusals_text
+refusals-none answer = refl
+
+-- the status, from that of the texts so far and the texts that are left
+pub status_left : Status → (List ℕ → Answer) → List (List ℕ) → Status
+status_left Refused answer texts = Refused
+status_left Fine answer texts = status_of answer texts
+
+status-next : (a : Answer) (later : Bool) → (if is_err a || later then Refused else Fine) ≡ (if is_fine (status_in a) then (if later then Refused else Fine) else Refused)
+status-next (Ok report) later = refl
+status-next (Err words) later = refl
+
+status_left-by : (s : Status) (answer : List ℕ → Answer) (texts : List (List ℕ)) → (if is_fine s then status_of answer texts else Refused) ≡ status_left s answer texts
+unfolding status_left
+status_left-by Fine answer texts = refl
+status_left-by Refused answer texts = refl
+
+pub status_left-next : (s : Status) (answer : List ℕ → Answer) (text : List ℕ) (texts : List (List ℕ)) → status_left s answer (text ∷ texts) ≡ status_left (status_and s (status_in (answer text))) answer texts
+unfolding status_left status_of
+status_left-next Refused answer text texts = refl
+status_left-next Fine answer text texts = status-next (answer text) (list_any (λ t. is_err (answer t)) texts) ∙ status_left-by (status_in (answer text)) answer texts
+
+pub status_left-all : (answer : List ℕ → Answer) (texts : List (List ℕ)) → status_left Fine answer texts ≡ status_of answer texts
+unfolding status_left
+status_left-all answer texts = refl
+
+pub status_left-none : (s : Status) (answer : List ℕ → Answer) → status_left s answer [] ≡ s
+unfolding status_left status_of
+status_left-none Refused answer = refl
+status_left-none Fine answer = refl
+
+-- One turn of answering texts in a row
+
+-- the texts from an index on begin with the text there
+pub texts-drop : {A : Type 0} (bytes_of : A → List ℕ) (xs : List A) (i : ℕ) (x : A) (text : List ℕ) → i < length xs → x ≡ get_or xs i x → text ≡ bytes_of x → map bytes_of (drop i xs) ≡ text ∷ map bytes_of (drop (i + 1) xs)
+texts-drop bytes_of xs i x text h is e =
+    rw (add-one, drop-cons xs i x h) (ap (λ y. bytes_of y ∷ map bytes_of (drop (suc i) xs)) (sym is) ∙ ap (λ t. t ∷ map bytes_of (drop (suc i) xs)) (sym e))
+
+pub out_next : (a b c : Option (List ℕ)) (answer : List ℕ → Answer) (is_later fine : Bool) (answered : Status) (text : List ℕ) (texts rest : List (List ℕ)) (all : List ℕ) → texts ≡ text ∷ rest → answered ≡ status_in (answer text) → fine ≡ is_fine answered → Leaves a b (reports_left is_later answer texts) all → Appends b c (later_text is_later (answer text)) → Leaves a c (reports_left (is_later || fine) answer rest) all
+out_next a b c answer is_later fine answered text texts rest all e s f l w =
+    rw (f, s) (step a b c (later_text is_later (answer text)) _ all (respell a b _ _ all l (ap (reports_left is_later answer) e ∙ reports_left-next is_later answer text rest)) w)
+
+pub out_stops : (a b c : Option (List ℕ)) (answer : List ℕ → Answer) (is_later : Bool) (text : List ℕ) (texts rest : List (List ℕ)) (all : List ℕ) → texts ≡ text ∷ rest → Leaves a b (reports_left is_later answer texts) all → AppendsFront b c (later_text is_later (answer text)) → AppendsFront a c all
+out_stops a b c answer is_later text texts rest all e l w =
+    stop a b c (later_text is_later (answer text)) _ all (respell a b _ _ all l (ap (reports_left is_later answer) e ∙ reports_left-next is_later answer text rest)) w
+
+pub err_next : (a b c : Option (List ℕ)) (answer : List ℕ → Answer) (text : List ℕ) (texts rest : List (List ℕ)) (all : List ℕ) → texts ≡ text ∷ rest → Leaves a b (refusals_text answer texts) all → Appends b c (refusal_in text (answer text)) → Leaves a c (refusals_text answer rest) all
+err_next a b c answer text texts rest all e l w =
+    step a b c (refusal_in text (answer text)) _ all (respell a b _ _ all l (ap (refusals_text answer) e ∙ refusals-next answer text rest)) w
+
+pub err_stops : (a b c : Option (List ℕ)) (answer : List ℕ → Answer) (text : List ℕ) (texts rest : List (List ℕ)) (all : List ℕ) → texts ≡ text ∷ rest → Leaves a b (refusals_text answer texts) all → AppendsFront b c (refusal_in text (answer text)) → AppendsFront a c all
+err_stops a b c answer text texts rest all e l w =
+    stop a b c (refusal_in text (answer text)) _ all (respell a b _ _ all l (ap (refusals_text answer) e ∙ refusals-next answer text rest)) w
+
+pub status_next : (answer : List ℕ → Answer) (s answered whole : Status) (text : List ℕ) (texts rest : List (List ℕ)) → texts ≡ text ∷ rest → answered ≡ status_in (answer text) → status_left s answer texts ≡ whole → status_left (status_and s answered) answer rest ≡ whole
+status_next answer s answered whole text texts rest e i h =
+    rw i (sym (status_left-next s answer text rest) ∙ ap (status_left s answer) (sym e) ∙ h)
+
+-- no text is left
+pub texts-end : {A : Type 0} (bytes_of : A → List ℕ) (xs : List A) (i : ℕ) → length xs ≤ i → map bytes_of (drop i xs) ≡ []
+texts-end bytes_of xs i h = ap (map bytes_of) (drop_all i xs h)

@@ -1,0 +1,9 @@
+pub mod AnswerLemmas
+pub mod ElapseTexts
+pub mod ElapsesLemmas
+pub mod ExpressionLemmas
+pub mod RisingLemmas
+pub mod SearchLemmas
+pub mod TimeOfDayLemmas
+pub mod WordLemmas
+pub mod WorkedRows

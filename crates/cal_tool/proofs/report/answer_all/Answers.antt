@@ -1,0 +1,52 @@
+use Rattle.std.proofs.Common.{sym, ◌∙◌, ap, arith}
+use Rattle.std.specs.String.{string_bytes}
+use Rattle.cal_base.proofs.Pieces.{start, done, respell}
+use Rattle.cal_tool.proofs.AnswerLemmas.{reports_left, reports_left-all, reports_left-none, refusals-none, status_left, status_left-all, status_left-none, texts-drop, texts-end, out_next, out_stops, err_next, err_stops, status_next}
+use Rattle.cal_tool.specs.Answer.{refusals_text}
+use Rattle.cal_tool.proofs.report.answer_all.Goals as goal
+
+pub loop-text-init : goal.loop-text-init
+loop-text-init g c =
+    record {
+      out_works = c.requires.out;
+      err_works = c.requires.err;
+      out = respell _ _ _ _ _ (start _ _) (reports_left-all _ _);
+      err = start _ _;
+      status = status_left-all _ _;
+    }
+
+pub loop-text-preserved : goal.loop-text-preserved
+loop-text-preserved g c =
+    let next = texts-drop string_bytes c.args.request.now.texts.items c.loop-text.text-index c.text-item.result c.as_str.result.now (omega arith) (rw c.deref-text-items.ensures.value at c.text-item.is) c.as_str.ensures.value in
+    record {
+      out_works = c.in-Ok.ensures.out_failed;
+      err_works = c.in-Ok.ensures.err_failed;
+      out = out_next _ _ _ _ _ _ c.in-Ok.answered _ _ _ _ next c.in-Ok.ensures.status c.is_fine-is_later.ensures c.loop-text.invariant.out c.in-Ok.ensures.out;
+      err = err_next _ _ _ _ _ _ _ _ next c.loop-text.invariant.err c.in-Ok.ensures.err;
+      status = rw c.and-status.ensures (status_next _ _ _ _ _ _ _ next c.in-Ok.ensures.status c.loop-text.invariant.status);
+    }
+
+pub returns-in-Err-clause-out : goal.returns-in-Err-clause-out
+returns-in-Err-clause-out g c =
+    let next = texts-drop string_bytes c.args.request.now.texts.items c.loop-text.text-index c.text-item.result c.as_str.result.now (omega arith) (rw c.deref-text-items.ensures.value at c.text-item.is) c.as_str.ensures.value in
+    out_stops _ _ _ _ _ _ _ _ _ next c.loop-text.invariant.out c.in-Err.ensures.out
+
+pub returns-in-Err-clause-err : goal.returns-in-Err-clause-err
+returns-in-Err-clause-err g c =
+    let next = texts-drop string_bytes c.args.request.now.texts.items c.loop-text.text-index c.text-item.result c.as_str.result.now (omega arith) (rw c.deref-text-items.ensures.value at c.text-item.is) c.as_str.ensures.value in
+    err_stops _ _ _ _ _ _ _ _ next c.loop-text.invariant.err c.in-Err.ensures.err
+
+pub returns-clause-status : goal.returns-clause-status
+returns-clause-status g c =
+    let end = texts-end string_bytes c.args.request.now.texts.items c.loop-text.text-index (omega arith) in
+    sym (status_left-none _ _) ∙ ap (status_left _ _) (sym end) ∙ c.loop-text.invariant.status
+
+pub returns-clause-out : goal.returns-clause-out
+returns-clause-out g c =
+    let end = texts-end string_bytes c.args.request.now.texts.items c.loop-text.text-index (omega arith) in
+    done _ _ _ (respell _ _ _ _ _ c.loop-text.invariant.out (ap (reports_left _ _) end ∙ reports_left-none _ _))
+
+pub returns-clause-err : goal.returns-clause-err
+returns-clause-err g c =
+    let end = texts-end string_bytes c.args.request.now.texts.items c.loop-text.text-index (omega arith) in
+    done _ _ _ (respell _ _ _ _ _ c.loop-text.invariant.err (ap (refusals_text _) end ∙ refusals-none _))

@@ -1,0 +1,74 @@
+-- What is answered to one text, and the whole text of a run: the reports on standard output, the refusals on
+-- standard error, and the status.
+use Rattle.std.specs.Prelude.{ℕ, Bool, true, false, List, [], ◌∷◌, Result, Ok, Err, is_err, if◌then◌else◌, codes}
+use Rattle.std.specs.List.{list_any, flat_map, join_by}
+use Rattle.cal_base.specs.Bytes.{joined}
+use Rattle.cal_tool.specs.declared.request.RunFault.{RunFault}
+use Rattle.cal_tool.specs.declared.request.RunFault.TheVariants.{OutFailed, ErrFailed, NoMemory}
+use Rattle.cal_tool.specs.declared.request.Status.{Status}
+use Rattle.cal_tool.specs.declared.request.Status.TheVariants.{Fine, Refused}
+
+-- the report of a text that was accepted, or the words of its refusal
+abbrev pub Answer : Type 0
+Answer = Result (List ℕ) (List ℕ)
+
+-- the report, if there is one
+abbrev pub report_in : Answer → List (List ℕ)
+report_in (Ok report) = report ∷ []
+report_in (Err words) = []
+
+-- the line of a refusal, if the text was refused: `TEXT: WORDS`
+abbrev pub refusal_in : List ℕ → Answer → List ℕ
+refusal_in text (Ok report) = []
+refusal_in text (Err words) = joined (text ∷ codes ": " ∷ words ∷ codes "\n" ∷ [])
+
+-- what stands in front of a report: an empty line, unless it is the first
+abbrev pub lead_text : Bool → List ℕ
+lead_text is_later = if is_later then codes "\n" else []
+
+-- the report in its place, if there is one
+abbrev pub later_text : Bool → Answer → List ℕ
+later_text is_later (Ok report) = joined (lead_text is_later ∷ report ∷ [])
+later_text is_later (Err words) = []
+
+-- whether a run ended with the fault of the writer of the reports, or of the refusals
+abbrev pub is_out_failed : Result Status RunFault → Bool
+is_out_failed (Ok status) = false
+is_out_failed (Err OutFailed) = true
+is_out_failed (Err ErrFailed) = false
+is_out_failed (Err NoMemory) = false
+
+abbrev pub is_err_failed : Result Status RunFault → Bool
+is_err_failed (Ok status) = false
+is_err_failed (Err OutFailed) = false
+is_err_failed (Err ErrFailed) = true
+is_err_failed (Err NoMemory) = false
+
+abbrev pub status_in : Answer → Status
+status_in (Ok report) = Fine
+status_in (Err words) = Refused
+
+-- what a run writes and how it ends
+pub record Report : Type 0 where
+  pub out : List ℕ
+  pub err : List ℕ
+  pub status : Status
+
+-- The reports in the order of the texts, with one empty line between each two, which belongs to the later one.
+unfoldable pub reports_text : (List ℕ → Answer) → List (List ℕ) → List ℕ
+reports_text answer texts = join_by (λ report. report) (codes "\n") (flat_map (λ text. report_in (answer text)) texts)
+
+-- the lines of the refusals in the order of the texts
+unfoldable pub refusals_text : (List ℕ → Answer) → List (List ℕ) → List ℕ
+refusals_text answer = flat_map (λ text. refusal_in text (answer text))
+
+-- refused where some text was
+unfoldable pub status_of : (List ℕ → Answer) → List (List ℕ) → Status
+status_of answer texts = if list_any (λ text. is_err (answer text)) texts then Refused else Fine
+
+unfoldable pub report_of : (List ℕ → Answer) → List (List ℕ) → Report
+report_of answer texts = record {
+  out = reports_text answer texts;
+  err = refusals_text answer texts;
+  status = status_of answer texts;
+}

@@ -1,0 +1,61 @@
+-- The report of one calendar expression (systemd-analyze(1), calendar).
+use Rattle.std.specs.Prelude.{ℕ, ◌+◌, ◌-◌, ◌*◌, ◌==◌, ℤ, ◌-ℤ◌, int_lt, unsigned_abs, List, [], ◌∷◌, ◌++◌, length, take, replicate, Option, None, Some, Ok, Err, if◌then◌else◌, codes, decimal}
+use Rattle.jiff.specs.Types.{UTC}
+use Rattle.cal_base.specs.Bytes.{joined}
+use Rattle.cal_base.specs.InstantText.{instant_text, time_text}
+use Rattle.cal_base.specs.SpanText.{span_text}
+use Rattle.cal_tool.specs.Answer.{Answer}
+use Rattle.cal_tool.specs.Clock.{Clock}
+use Rattle.cal_tool.specs.Elapses.{elapses_after}
+use Rattle.cal_tool.specs.Expression.{timed}
+use Rattle.cal_tool.specs.ExpressionText.{expression_of}
+use Rattle.cal_tool.specs.Fault.{words_of}
+use Rattle.cal_tool.specs.declared.spec_fault.SpecFault.TheVariants.{BadDate}
+
+-- the expression in its normal form
+unfoldable pub normal_text : Clock → List ℕ
+normal_text clock = joined (codes "*-*-* " ∷ time_text clock.hour clock.minute clock.second ∷ [])
+
+-- `left` where the instant isn't before the present, `ago` where it is
+abbrev pub direction_text : ℤ → ℤ → List ℕ
+direction_text now instant = if int_lt instant now then codes " ago" else codes " left"
+
+-- the span between the present and an instant, which is in seconds
+unfoldable pub distance_text : ℤ → ℤ → List ℕ
+distance_text now instant =
+    joined (span_text (unsigned_abs (instant -ℤ now) * 1_000_000) ∷ direction_text now instant ∷ [])
+
+-- the label of the elapse with that number, from 1 on, right-aligned in 15 columns
+unfoldable pub label_text : ℕ → List ℕ
+label_text number =
+    if number == 1 then codes "    Next elapse: "
+    else joined (replicate (8 - length (decimal number)) 32 ∷ codes "Iter. #" ∷ decimal number ∷ codes ": " ∷ [])
+
+-- one elapse and how far it lies from the present
+unfoldable pub elapse_text : ℤ → ℕ → ℤ → List ℕ
+elapse_text now number elapse =
+    joined (label_text number ∷ instant_text UTC elapse ∷ codes "\n       From now: " ∷ distance_text now elapse ∷ codes "\n" ∷ [])
+
+-- elapses in a row, where the first of them has that number
+abbrev pub elapse_texts : ℤ → ℕ → List ℤ → List ℕ
+elapse_texts now number [] = []
+elapse_texts now number (elapse ∷ elapses) = elapse_text now number elapse ++ elapse_texts now (number + 1) elapses
+
+-- the elapses that are shown, or `never` where there is none
+abbrev pub elapses_text : ℤ → List ℤ → List ℕ
+elapses_text now [] = codes "    Next elapse: never\n"
+elapses_text now (elapse ∷ elapses) = elapse_texts now 1 (elapse ∷ elapses)
+
+-- The report of a text that is an expression: the text, its normal form, and the first n of the elapses after
+-- the base, or all where there are fewer.
+unfoldable pub calendar_report : ℤ → ℤ → ℕ → List ℕ → Clock → List ℕ
+calendar_report now base n text clock =
+    joined (codes "  Original form: " ∷ text ∷ codes "\nNormalized form: " ∷ normal_text clock ∷ codes "\n" ∷ elapses_text now (take n (elapses_after (timed clock ∷ []) base)) ∷ [])
+
+-- the report, or the words of the refusal
+abbrev pub answer_with : ℤ → ℤ → ℕ → List ℕ → Option Clock → Answer
+answer_with now base n text None = Err (words_of BadDate)
+answer_with now base n text (Some clock) = Ok (calendar_report now base n text clock)
+
+unfoldable pub calendar_answer : ℤ → ℤ → ℕ → List ℕ → Answer
+calendar_answer now base n text = answer_with now base n text (expression_of text)

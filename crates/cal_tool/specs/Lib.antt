@@ -1,0 +1,16 @@
+pub mod Answer
+pub mod CalendarReport
+pub mod Clock
+pub mod Elapses
+pub mod Expression
+pub mod ExpressionText
+pub mod Fault
+pub mod Match
+pub mod Report
+pub mod Request
+pub mod RisingList
+pub mod Search
+pub mod Status
+pub mod Stop
+pub mod TimespanReport
+pub mod Words

@@ -1,0 +1,51 @@
+-- Strictly rising lists of numbers, and the union of several lists as one of these.
+use Rattle.std.specs.Prelude.{◌≡◌, ◌⊎◌, ◌↔◌, cond, List, [], ◌∷◌, Option, None, Some, ℤ, ◌<ℤ◌, int_lt}
+
+-- the number is in the list
+abbrev pub Has : List ℤ → ℤ → Type 0
+Has [] i = ⊥
+Has (x ∷ xs) i = (x ≡ i) ⊎ Has xs i
+
+-- the number is in one of the lists
+abbrev pub HasAny : List (List ℤ) → ℤ → Type 0
+HasAny [] i = ⊥
+HasAny (xs ∷ xss) i = Has xs i ⊎ HasAny xss i
+
+-- each number of the list is above b
+abbrev pub IsAbove : ℤ → List ℤ → Type 0
+IsAbove b [] = Unit {0}
+IsAbove b (x ∷ xs) = (b <ℤ x) × IsAbove b xs
+
+-- each number is below the ones after it
+abbrev pub IsRising : List ℤ → Type 0
+IsRising [] = Unit {0}
+IsRising (x ∷ xs) = IsAbove x xs × IsRising xs
+
+-- the first number of a list, and the list without it
+abbrev pub first : List ℤ → Option ℤ
+first [] = None
+first (x ∷ xs) = Some x
+
+abbrev pub later : List ℤ → List ℤ
+later [] = []
+later (x ∷ xs) = xs
+
+-- a rising list with one number more, which it may have already
+abbrev pub placed : ℤ → List ℤ → List ℤ
+placed x [] = x ∷ []
+placed x (y ∷ ys) = cond (int_lt x y) (x ∷ y ∷ ys) (cond (int_lt y x) (y ∷ placed x ys) (y ∷ ys))
+
+-- a rising list with the numbers of a list more
+abbrev pub placed_all : List ℤ → List ℤ → List ℤ
+placed_all [] ys = ys
+placed_all (x ∷ xs) ys = placed x (placed_all xs ys)
+
+-- the rising list of the numbers that are in one of the lists
+unfoldable pub union : List (List ℤ) → List ℤ
+union [] = []
+union (xs ∷ xss) = placed_all xs (union xss)
+
+-- the list rises, and its numbers are those of the lists
+pub record IsUnion (xss : List (List ℤ)) (xs : List ℤ) : Type 0 where
+  pub rises : IsRising xs
+  pub members : (i : ℤ) → Has xs i ↔ HasAny xss i

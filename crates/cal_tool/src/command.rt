@@ -1,0 +1,19 @@
+//! What the words of the command line ask for.
+
+ghost use Rattle.std.specs.Prelude.{◌≡◌, ◌<◌, ◌≤◌, None, vec_len};
+
+use crate::request::Request;
+use cal_base::Instant;
+
+/// A request that the command line makes, with the present instant.
+#[derive(Debug, Drop)]
+pub struct Command {
+    /// What is asked of each text. There is at least one text, and the base is the present.
+    pub request: Request,
+    /// The present instant.
+    pub now: Instant,
+    ghost some_text: { 0 < vec_len request.texts },
+    ghost some_iteration: { 1 ≤ request.iterations },
+    ghost few_iterations: { request.iterations ≤ 1_000_000 },
+    ghost base: { request.base ≡ None },
+}

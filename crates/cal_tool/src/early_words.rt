@@ -1,0 +1,273 @@
+//! The words of the command line, as they are read until `clap` reads them.
+
+ghost use Rattle.std.specs.Prelude.{◌≡◌, ◌<◌, ◌≤◌, codes, length, map, take_while, option_map, option_copied, MatchOption, None, Some, IfSome, IfOk, string_bytes, vec_len};
+ghost use Rattle.std.specs.List.{list_all, list_any};
+ghost use Rattle.cal_tool.specs.Words.{texts_of, asked_in, asked_of, calendar_in, timespan_in, texts_in as texts_among, settings_in, is_dashed, is_option, is_option_of_calendar, values_in, value_in, IsGiven, iterations_in, now_in, count_in, present_in, number_in};
+
+use crate::command::Command;
+use crate::request::{Request, Verb};
+use cal_base::Instant;
+use std::alloc::{AllocError, Global};
+
+/// The options of `calendar`.
+#[derive(Clone, Copy)]
+struct Options {
+    iterations: u32,
+    now: Instant,
+    ghost some: { 1 ≤ iterations },
+    ghost few: { iterations ≤ 1_000_000 },
+}
+
+/// How often an option is given, and its value.
+#[derive(Clone, Copy)]
+enum Given<'a> {
+    Never,
+    Once(&'a str),
+    Twice,
+}
+
+/// What the words after the program's name ask for, or `None` where they aren't known.
+///
+/// `calendar` has the option `--now=@N` and may have `--iterations=N`, in any order and before the
+/// texts; `timespan` has no options. A `--` may stand before the texts, of which there is at least one;
+/// without it no text begins with `-`.
+pub fn early_words(alloc: Global, words: &[&str]) -> Result<Option<Command>, AllocError>
+    ensures { IfOk result (λ known. option_map asked_of known ≡ asked_in (texts_of words.now)) }
+{
+    let Some((verb, words)) = words.split_first() else {
+        return Ok(None);
+    };
+    if *verb == "calendar" {
+        calendar(alloc, words)
+    } else if *verb == "timespan" {
+        timespan(alloc, words)
+    } else {
+        Ok(None)
+    }
+}
+
+/// What the words after `calendar` ask for.
+fn calendar(alloc: Global, words: &[&str]) -> Result<Option<Command>, AllocError>
+    ensures { IfOk result (λ known. option_map asked_of known ≡ calendar_in (texts_of words.now)) }
+{
+    let (leading, behind) = words.split_at(leading_options(words));
+    let Some(options) = options_in(leading) else {
+        return Ok(None);
+    };
+    let Some(texts) = texts_in(behind) else {
+        return Ok(None);
+    };
+    let Options { iterations, now } = options;
+    Ok(Some(command(alloc, Verb::Calendar, texts, iterations, now)?))
+}
+
+/// What the words after `timespan` ask for.
+fn timespan(alloc: Global, words: &[&str]) -> Result<Option<Command>, AllocError>
+    ensures { IfOk result (λ known. option_map asked_of known ≡ timespan_in (texts_of words.now)) }
+{
+    let Some(texts) = texts_in(words) else {
+        return Ok(None);
+    };
+    // A run for time spans doesn't use the present, so any instant serves.
+    let now = Instant::new(0).unwrap();
+    Ok(Some(command(alloc, Verb::Timespan, texts, 1, now)?))
+}
+
+/// The command for these texts.
+fn command(
+    alloc: Global,
+    verb: Verb,
+    texts: &[&str],
+    iterations: u32,
+    now: Instant,
+) -> Result<Command, AllocError>
+    requires some_text { 0 < length texts.now }
+    requires some_iteration { 1 ≤ iterations }
+    requires few_iterations { iterations ≤ 1_000_000 }
+    ensures { IfOk result (λ command. asked_of command ≡ record {
+      verb = verb;
+      texts = texts_of texts.now;
+      iterations = iterations;
+      now = now.secs;
+    }) }
+{
+    let request = Request {
+        verb,
+        texts: owned(alloc, texts)?,
+        iterations,
+        base: None,
+    };
+    Ok(Command { request, now })
+}
+
+/// Whether a word begins with `-`.
+fn is_dashed(word: &str) -> bool
+    ensures { result ≡ is_dashed word.now }
+{
+    word.starts_with('-')
+}
+
+/// Whether a word stands as an option, known or not.
+fn is_option(word: &str) -> bool
+    ensures { result ≡ is_option word.now }
+{
+    is_dashed(word) && word != "--"
+}
+
+/// How many words stand before the first text or the `--` that ends the options.
+fn leading_options(words: &[&str]) -> usize
+    ensures { result ≡ length (take_while (λ word. is_option word.now) words.now) }
+{
+    words.iter().take_while(|word| is_option(word)).count()
+}
+
+/// The texts behind the options, or `None` where there is none or one begins with `-` without a `--`
+/// before it.
+fn texts_in<'w, 'a>(words: &'w [&'a str]) -> Option<&'w [&'a str]>
+    ensures value { option_map (λ texts. texts_of texts.now) result ≡ texts_among (texts_of words.now) }
+    ensures some { IfSome result (λ texts. 0 < length texts.now) }
+{
+    let (first, others) = words.split_first()?;
+    if *first == "--" {
+        return if others.is_empty() {
+            None
+        } else {
+            Some(others)
+        };
+    }
+    if is_any_dashed(words) {
+        None
+    } else {
+        Some(words)
+    }
+}
+
+/// Whether some word begins with `-`.
+fn is_any_dashed(words: &[&str]) -> bool
+    ensures { result ≡ list_any (λ word. is_dashed word.now) words.now }
+{
+    words.iter().any(|word| is_dashed(word))
+}
+
+/// The options of `calendar` that the words give, each at most once, or `None` where a word gives none.
+fn options_in(words: &[&str]) -> Option<Options>
+    ensures { MatchOption result (settings_in (texts_of words.now) ≡ None)
+        (λ options. settings_in (texts_of words.now)
+        ≡ Some (record { iterations = options.iterations; now = options.now.secs })) }
+{
+    if !are_known(words) {
+        return None;
+    }
+    let iterations = iterations_in(words)?;
+    let now = now_in(words)?;
+    Some(Options { iterations, now })
+}
+
+/// Whether each word is an option of `calendar`.
+fn are_known(words: &[&str]) -> bool
+    ensures { result ≡ list_all (λ word. is_option_of_calendar word.now) words.now }
+{
+    words.iter().all(|word| is_known(word))
+}
+
+/// How many elapses the words ask for: 1 where they don't say.
+fn iterations_in(words: &[&str]) -> Option<u32>
+    ensures value { result ≡ iterations_in (values_in (codes "--iterations=") (texts_of words.now)) }
+    ensures range { IfSome result (λ number. (1 ≤ number) × (number ≤ 1_000_000)) }
+{
+    match value_of(words, "--iterations=") {
+        Given::Never => Some(1),
+        Given::Once(value) => count_in(value),
+        Given::Twice => None,
+    }
+}
+
+/// The present instant that the words give.
+fn now_in(words: &[&str]) -> Option<Instant>
+    ensures { option_map (λ now. now.secs) result
+        ≡ now_in (values_in (codes "--now=") (texts_of words.now)) }
+{
+    match value_of(words, "--now=") {
+        Given::Once(value) => present_in(value),
+        Given::Never => None,
+        Given::Twice => None,
+    }
+}
+
+/// Whether a word is an option of `calendar`.
+fn is_known(word: &str) -> bool
+    ensures { result ≡ is_option_of_calendar word.now }
+{
+    word.starts_with("--iterations=") || word.starts_with("--now=")
+}
+
+/// What the words give for the option that begins so.
+fn value_of<'a>(words: &[&'a str], name: &str) -> Given<'a>
+    ensures { IsGiven result (values_in name.now (texts_of words.now)) }
+{
+    let mut found = None;
+    for word in words {
+        if let Some(value) = value_in(word, name) {
+            if found.is_some() {
+                return Given::Twice;
+            }
+            found = Some(value);
+        }
+    }
+    match found {
+        None => Given::Never,
+        Some(value) => Given::Once(value),
+    }
+}
+
+/// What a word gives for the option that begins so.
+fn value_in<'a>(word: &'a str, name: &str) -> Option<&'a str>
+    ensures { option_copied result ≡ value_in name.now word.now }
+{
+    word.strip_prefix(name)
+}
+
+/// A number of elapses: digits for 1 to 1,000,000.
+fn count_in(value: &str) -> Option<u32>
+    ensures value { result ≡ count_in value.now }
+    ensures range { IfSome result (λ number. (1 ≤ number) × (number ≤ 1_000_000)) }
+{
+    let number = number_in(value, 1, 1_000_000)?;
+    Some(number as u32)
+}
+
+/// An instant: `@` and digits for 0 to 7,258,211,998.
+fn present_in(value: &str) -> Option<Instant>
+    ensures { option_map (λ instant. instant.secs) result ≡ present_in value.now }
+{
+    let number = number_in(value.strip_prefix('@')?, 0, 7_258_211_998)?;
+    Instant::new(number as i64)
+}
+
+/// The number that a text of digits alone writes, where it is from `least` to `most`.
+fn number_in(text: &str, least: u64, most: u64) -> Option<u64>
+    ensures { result ≡ number_in least most text.now }
+{
+    if text.starts_with('+') {
+        return None;
+    }
+    match text.parse() {
+        Ok(number) if least <= number && number <= most => Some(number),
+        _ => None,
+    }
+}
+
+/// The texts on the heap.
+fn owned(alloc: Global, texts: &[&str]) -> Result<Vec<String>, AllocError>
+    ensures texts { IfOk result (λ all. map string_bytes all.items ≡ texts_of texts.now) }
+    ensures count { IfOk result (λ all. vec_len all ≡ length texts.now) }
+{
+    let mut all = Vec::with_capacity(alloc, texts.len())?;
+    for text in texts {
+        all.push(String::from_str(alloc, text)?)?;
+    }
+    Ok(all)
+}
+
+#[cfg(test)]
+mod tests;

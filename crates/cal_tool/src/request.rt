@@ -1,0 +1,65 @@
+//! What the program is asked to do, and how a run ends.
+
+/// What is asked of each text (systemd-analyze(1)).
+#[derive(Clone, Copy, PartialEq, Eq, Debug)]
+pub enum Verb {
+    /// The normal form of a calendar expression and its next elapses.
+    Calendar,
+    /// How long a time span is.
+    Timespan,
+}
+
+/// A request.
+#[derive(Debug, Drop)]
+pub struct Request {
+    /// What is asked of each text.
+    pub verb: Verb,
+    /// The texts, in order.
+    pub texts: Vec<String>,
+    /// How many elapses are shown at most: 1 to 1,000,000.
+    pub iterations: u32,
+    /// The timestamp after which elapses are sought, or `None` for the present.
+    pub base: Option<String>,
+}
+
+/// How a run that could write all of its text ended.
+#[derive(Clone, Copy, PartialEq, Eq, Debug)]
+pub enum Status {
+    /// Every text was accepted.
+    Fine,
+    /// Some text was refused, and told so on standard error.
+    Refused,
+}
+
+impl Status {
+    ghost use Rattle.std.specs.Prelude.{◌≡◌};
+    ghost use Rattle.cal_tool.specs.Status.{is_fine, status_and};
+
+    /// Whether nothing was refused.
+    pub fn is_fine(self) -> bool
+        ensures { result ≡ is_fine self }
+    {
+        matches!(self, Status::Fine)
+    }
+
+    /// The status of this and of what came after it: fine where both are.
+    pub fn and(self, later: Status) -> Status
+        ensures { result ≡ status_and self later }
+    {
+        match self {
+            Status::Fine => later,
+            Status::Refused => Status::Refused,
+        }
+    }
+}
+
+/// Why a run could not write all of its text. Each writer has a prefix of its whole text then.
+#[derive(Clone, Copy, PartialEq, Eq, Debug)]
+pub enum RunFault {
+    /// The writer of the reports failed.
+    OutFailed = 1,
+    /// The writer of the refusals failed.
+    ErrFailed = 2,
+    /// Memory was refused.
+    NoMemory = 3,
+}

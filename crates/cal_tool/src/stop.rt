@@ -1,0 +1,92 @@
+//! Why the program stops before all is done, what it says then, and its status.
+
+ghost use Rattle.std.specs.Prelude.{◌≡◌, false, is_err};
+ghost use Rattle.cal_base.specs.Bytes.{Writes};
+ghost use Rattle.cal_tool.specs.Stop.{line_of, status_of, stop_status};
+
+use crate::request::{RunFault, Status};
+use cal_base::{Sink, WriteFault, put_all};
+
+/// Why the program stops.
+#[derive(Clone, Copy, PartialEq, Eq, Debug)]
+pub enum Stop {
+    /// The words of the command line aren't known.
+    Usage,
+    /// The run ended with a fault.
+    Run(RunFault),
+}
+
+impl Stop {
+    /// The exit status: 2 for the command line, 1 for a run.
+    pub fn status(&self) -> u8
+        ensures { result ≡ stop_status self.now }
+    {
+        match self {
+            Stop::Usage => 2,
+            Stop::Run(_) => 1,
+        }
+    }
+
+    /// The line that the program writes to standard error; none where that is what failed.
+    #[tactic(auto, unfolding(crate::specs::Stop::line_of))]
+    fn line(&self) -> &str
+        ensures { result.now ≡ line_of self.now }
+    {
+        match self {
+            Stop::Usage => "calendar-analyze: usage\n",
+            Stop::Run(RunFault::OutFailed) => "calendar-analyze: output failed\n",
+            Stop::Run(RunFault::ErrFailed) => "",
+            Stop::Run(RunFault::NoMemory) => "calendar-analyze: out of memory\n",
+        }
+    }
+}
+
+/// Writes the line of a stop.
+pub fn write_stop<W: Sink>(out: &mut W, stop: &Stop) -> Result<(), WriteFault>
+    requires { W.is_failed out.old ≡ false }
+    ensures failed { W.is_failed out.new ≡ is_err result }
+    ensures bytes { Writes (W.written out.old) (W.written out.new) result (line_of stop.now) }
+{
+    put_all(out, stop.line().as_bytes())
+}
+
+/// The exit status of a run that could write all of its text: 0, or 1 where a text was refused.
+pub fn status_of(status: Status) -> u8
+    ensures { result ≡ status_of status }
+{
+    match status {
+        Status::Fine => 0,
+        Status::Refused => 1,
+    }
+}
+
+#[cfg(test)]
+mod tests {
+    use super::*;
+    use cal_base::Port;
+    use std::test::Fail;
+
+    #[test]
+    fn lines_and_statuses(rt: HostRuntime) -> Result<(), Fail> {
+        for (stop, line, status) in [
+            (Stop::Usage, "calendar-analyze: usage\n", 2),
+            (
+                Stop::Run(RunFault::OutFailed),
+                "calendar-analyze: output failed\n",
+                1,
+            ),
+            (Stop::Run(RunFault::ErrFailed), "", 1),
+            (
+                Stop::Run(RunFault::NoMemory),
+                "calendar-analyze: out of memory\n",
+                1,
+            ),
+        ] {
+            let mut out = Port::new(Vec::new(rt.alloc()));
+            assert!(rt; write_stop(&mut out, &stop).is_ok());
+            assert_eq!(rt; out.into_inner().as_slice(), line.as_bytes(), "{line}");
+            assert_eq!(rt; stop.status(), status, "{line}");
+        }
+        Ok(())
+    }
+}
