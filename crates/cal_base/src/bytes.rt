@@ -1,7 +1,7 @@
 //! Bytes out and in: the writers and readers that all of the project's calls take, and the two calls
 //! that write whole texts.
 
-ghost use Rattle.cal_base.specs.Bytes.{Offered, Fetched, Writes, joined};
+ghost use Rattle.cal_base.specs.Bytes.{Offered, Fetched, Writes};
 ghost use Rattle.std.specs.List.{flat_map};
 ghost use Rattle.std.specs.Prelude.{◌≡◌, ℕ, List, Option, None, Bool, false, is_none, is_err};
 

@@ -1,5 +1,5 @@
 //! Instants: whole seconds of Unix time.
-ghost use Rattle.std.specs.Prelude.{◌≡◌, ◌↔◌, pos, ◌≤ℤ◌, IsSome, IfSome};
+ghost use Rattle.std.specs.Prelude.{◌≡◌, ◌↔◌, IsSome, IfSome};
 ghost use Rattle.cal_base.specs.Instant.{IsInstant};
 
 /// A number of whole seconds of Unix time, from 0 to 7,258,211,998: the last local second of the year 2199

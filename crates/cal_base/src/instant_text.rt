@@ -1,11 +1,12 @@
 //! Instants as text.
 
-ghost use Rattle.std.specs.Prelude.{◌≡◌, ◌≤◌, false, is_err};
+ghost use Rattle.std.specs.Prelude.{◌≡◌, false, is_err};
 ghost use Rattle.cal_base.specs.Bytes.{Writes};
 ghost use Rattle.cal_base.specs.InstantText.{weekday_name, date_text, time_text, civil_text, instant_text};
 ghost use Rattle.cal_base.specs.Zone.{zone_of};
 
-use crate::{Civil, Instant, Sink, WriteFault, Zone, civil, put_all, put_pieces, zeros};
+use crate::number::zeros;
+use crate::{Civil, Instant, Sink, WriteFault, Zone, civil, put_all, put_pieces};
 use itoa::Buffer;
 
 /// Writes the instant as the zone's clock shows it: weekday, date, time and zone, as

@@ -2,19 +2,15 @@
 use Rattle.std.specs.Prelude.{ℕ, ◌+◌, ◌-◌, ◌*◌, ◌==◌, ℤ, ◌-ℤ◌, int_lt, unsigned_abs, List, [], ◌∷◌, ◌++◌, length, take, replicate, Option, None, Some, Ok, Err, if◌then◌else◌, codes, decimal}
 use Rattle.jiff.specs.Types.{UTC}
 use Rattle.cal_base.specs.Bytes.{joined}
-use Rattle.cal_base.specs.InstantText.{instant_text, time_text}
+use Rattle.cal_base.specs.InstantText.{instant_text}
 use Rattle.cal_base.specs.SpanText.{span_text}
 use Rattle.cal_tool.specs.Answer.{Answer}
 use Rattle.cal_tool.specs.Clock.{Clock}
 use Rattle.cal_tool.specs.Elapses.{elapses_after}
 use Rattle.cal_tool.specs.Expression.{timed}
-use Rattle.cal_tool.specs.ExpressionText.{expression_of}
+use Rattle.cal_tool.specs.ExpressionText.{expression_of, normal_text}
 use Rattle.cal_tool.specs.Fault.{words_of}
 use Rattle.cal_tool.specs.declared.spec_fault.SpecFault.TheVariants.{BadDate}
-
--- the expression in its normal form
-unfoldable pub normal_text : Clock → List ℕ
-normal_text clock = joined (codes "*-*-* " ∷ time_text clock.hour clock.minute clock.second ∷ [])
 
 -- `left` where the instant isn't before the present, `ago` where it is
 abbrev pub direction_text : ℤ → ℤ → List ℕ

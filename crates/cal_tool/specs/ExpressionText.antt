@@ -3,6 +3,7 @@ use Rattle.std.specs.Prelude.{◌≡◌, ℕ, ◌+◌, ◌-◌, ◌*◌, true, L
 use Rattle.std.specs.Str.{bytes_eq}
 use Rattle.std.specs.Char.{is_ascii_digit}
 use Rattle.cal_base.specs.Bytes.{joined}
+use Rattle.cal_base.specs.InstantText.{time_text}
 use Rattle.cal_tool.specs.Clock.{Clock, IsClock, day_time}
 
 -- The text is a number of one or two digits.
@@ -60,3 +61,7 @@ unfoldable pub expression_of : List ℕ → Option Clock
 expression_of text = do
   clock ← after (codes "*-*-* ") text
   clock_of clock
+
+-- the expression in its normal form
+unfoldable pub normal_text : Clock → List ℕ
+normal_text clock = joined (codes "*-*-* " ∷ time_text clock.hour clock.minute clock.second ∷ [])

@@ -93,14 +93,14 @@ texts_in (word ∷ words) =
     else if list_any is_dashed (word ∷ words) then None else Some (word ∷ words)
 
 -- What the command line asks for: a verb for some texts, with its numbers.
-pub record Asked : Type 0 where
+pub record Wanted : Type 0 where
   pub verb : Verb
   pub texts : List (List ℕ)
   pub iterations : ℕ
   pub now : ℤ
 
 -- Behind `calendar` stand options, and then texts.
-unfoldable pub calendar_in : List (List ℕ) → Option Asked
+unfoldable pub calendar_in : List (List ℕ) → Option Wanted
 calendar_in words =
     option_and_then (λ settings.
     option_map (λ texts. record { verb = Calendar; texts = texts; iterations = settings.iterations; now = settings.now })
@@ -108,19 +108,19 @@ calendar_in words =
     (settings_in (take_while is_option words))
 
 -- Behind `timespan` stand texts alone.
-unfoldable pub timespan_in : List (List ℕ) → Option Asked
+unfoldable pub timespan_in : List (List ℕ) → Option Wanted
 timespan_in words =
     option_map (λ texts. record { verb = Timespan; texts = texts; iterations = 1; now = pos 0 }) (texts_in words)
 
 -- What the words after the program's name ask for.
-unfoldable pub asked_in : List (List ℕ) → Option Asked
+unfoldable pub asked_in : List (List ℕ) → Option Wanted
 asked_in [] = None
 asked_in (verb ∷ words) =
     if bytes_eq verb (codes "calendar") then calendar_in words
     else if bytes_eq verb (codes "timespan") then timespan_in words else None
 
 -- What a command asks for.
-abbrev pub asked_of : Command → Asked
+abbrev pub asked_of : Command → Wanted
 asked_of command = record {
   verb = command.request.verb;
   texts = map string_bytes command.request.texts.items;

@@ -6,16 +6,16 @@ ghost use Rattle.jiff.specs.Types.{UTC};
 ghost use Rattle.cal_base.specs.Bytes.{Writes, joined};
 ghost use Rattle.cal_base.specs.InstantText.{instant_text};
 ghost use Rattle.cal_base.specs.SpanText.{span_text};
-ghost use Rattle.cal_tool.specs.CalendarReport.{normal_text, direction_text, distance_text, label_text, elapse_text, elapse_texts, elapses_text, calendar_report};
+ghost use Rattle.cal_tool.specs.CalendarReport.{direction_text, distance_text, label_text, elapse_text, elapse_texts, elapses_text, calendar_report};
 ghost use Rattle.cal_tool.specs.Clock.{clock_in};
 ghost use Rattle.cal_tool.specs.Elapses.{elapses_after};
 ghost use Rattle.cal_tool.specs.Expression.{timed};
 
 use crate::expression::Expression;
+use crate::expression_text::write_expression;
 use crate::search::next_elapse;
 use cal_base::{
     Instant, Sink, Span, WriteFault, Zone, put_all, put_pieces, write_instant, write_span,
-    write_time,
 };
 use itoa::Buffer;
 
@@ -56,18 +56,6 @@ fn put_original<W: Sink>(out: &mut W, text: &str) -> Result<(), WriteFault>
             b"\nNormalized form: ",
         ],
     )
-}
-
-/// Writes an expression in its normal form.
-#[tactic(auto, unfolding(crate::specs::CalendarReport::normal_text))]
-pub fn write_expression<W: Sink>(out: &mut W, expression: &Expression) -> Result<(), WriteFault>
-    requires { W.is_failed out.old ≡ false }
-    ensures failed { W.is_failed out.new ≡ is_err result }
-    ensures bytes { Writes (W.written out.old) (W.written out.new) result
-        (normal_text (clock_in expression.now)) }
-{
-    put_all(out, b"*-*-* ")?;
-    write_time(out, expression.hour, expression.minute, expression.second)
 }
 
 /// Writes the first elapses after the base, or `never` where there is none.

@@ -1,11 +1,13 @@
 //! Texts of calendar expressions: those that are accepted so far, read and written.
 
-ghost use Rattle.std.specs.Prelude.{◌≡◌, Some, None, option_map, option_copied, MatchResult};
+ghost use Rattle.std.specs.Prelude.{◌≡◌, false, is_err, Some, None, option_map, option_copied, MatchResult};
+ghost use Rattle.cal_base.specs.Bytes.{Writes};
 ghost use Rattle.cal_tool.specs.Clock.{clock_in};
-ghost use Rattle.cal_tool.specs.ExpressionText.{number_at, after, clock_at_end, clock_of, expression_of};
+ghost use Rattle.cal_tool.specs.ExpressionText.{number_at, after, clock_at_end, clock_of, expression_of, normal_text};
 
 use crate::expression::Expression;
 use crate::spec_fault::SpecFault;
+use cal_base::{Sink, WriteFault, put_all, write_time};
 
 /// Reads an expression: `*-*-*`, one space, and hour, minute and second with colons between, each of
 /// one or two digits and none greater than 23, 59 and 59. Every other text is refused as
@@ -19,6 +21,18 @@ pub fn read_expression(text: &str) -> Result<Expression, SpecFault>
         Some(expression) => Ok(expression),
         None => Err(SpecFault::BadDate),
     }
+}
+
+/// Writes an expression in its normal form.
+#[tactic(auto, unfolding(crate::specs::ExpressionText::normal_text))]
+pub fn write_expression<W: Sink>(out: &mut W, expression: &Expression) -> Result<(), WriteFault>
+    requires { W.is_failed out.old ≡ false }
+    ensures failed { W.is_failed out.new ≡ is_err result }
+    ensures bytes { Writes (W.written out.old) (W.written out.new) result
+        (normal_text (clock_in expression.now)) }
+{
+    put_all(out, b"*-*-* ")?;
+    write_time(out, expression.hour, expression.minute, expression.second)
 }
 
 #[tactic(auto, unfolding(crate::specs::ExpressionText::expression_of, crate::specs::ExpressionText::clock_of))]

@@ -1,17 +1,16 @@
 //! The report of a whole request: the reports of its texts on standard output, the refusals on standard
 //! error, and the status (systemd-analyze(1)).
 
-ghost use Rattle.std.specs.Prelude.{◌≡◌, ◌≤◌, [], ◌∷◌, ℕ, List, Ok, Err, None, false, is_err, codes, IfOk, IfErr, IsErrOf, map};
+ghost use Rattle.std.specs.Prelude.{◌≡◌, ◌≤◌, [], ◌∷◌, None, false, is_err, codes, IfOk, IsErrOf, map};
 ghost use Rattle.std.specs.String.{string_bytes};
 ghost use Rattle.cal_base.specs.Bytes.{Writes, joined};
-ghost use Rattle.cal_tool.specs.Answer.{Answer, refusal_in, later_text, lead_text, status_in, reports_text, refusals_text, status_of, is_out_failed, is_err_failed};
+ghost use Rattle.cal_tool.specs.Answer.{refusal_in, later_text, lead_text, status_in, reports_text, refusals_text, status_of, is_out_failed, is_err_failed};
 ghost use Rattle.cal_tool.specs.CalendarReport.{calendar_answer, calendar_report};
 ghost use Rattle.cal_tool.specs.Clock.{clock_in};
 ghost use Rattle.cal_tool.specs.Report.{answer_by, report};
 ghost use Rattle.cal_tool.specs.Request.{asked};
 ghost use Rattle.cal_tool.specs.TimespanReport.{timespan_answer, timespan_report};
-ghost use Rattle.cal_tool.specs.declared.request.Status.TheVariants.{Refused};
-ghost use Rattle.cal_tool.specs.declared.request.RunFault.TheVariants.{ErrFailed, NoMemory};
+ghost use Rattle.cal_tool.specs.declared.request.RunFault.TheVariants.{NoMemory};
 
 use crate::calendar_report::write_calendar;
 use crate::expression::Expression;
@@ -25,8 +24,12 @@ use std::alloc::Global;
 
 /// Answers a request: each accepted text gets a report on `out`, each refused one a line on `err`.
 ///
-/// So far expressions are in UTC, no memory is taken, and `input` isn't read. At a fault each writer has a
-/// prefix of its whole text.
+/// The elapses shown are the first `iterations` (1 to 1,000,000) after the present. So far expressions are in
+/// UTC and `input` isn't read.
+///
+/// [`RunFault::OutFailed`] and [`RunFault::ErrFailed`] come exactly where that writer failed in this call, and
+/// each writer has a prefix of its whole text then. No memory is taken so far, so [`RunFault::NoMemory`]
+/// never comes.
 #[tactic(auto, unfolding(crate::specs::Report::report, crate::specs::Request::asked, crate::specs::Answer::report_of))]
 pub fn run<R: Source, O: Sink, E: Sink>(
     alloc: Global,

@@ -1,7 +1,8 @@
 -- The text is written piece by piece: after each call the later pieces are left.
 use Rattle.std.proofs.Common.{[], ◌∷◌, codes, take}
 use Rattle.cal_base.proofs.Pieces.{start, step, stop, step_pieces, stop_pieces, finish_last, writes_err}
-use Rattle.cal_tool.specs.CalendarReport.{normal_text, elapses_text, calendar_report}
+use Rattle.cal_tool.specs.CalendarReport.{elapses_text, calendar_report}
+use Rattle.cal_tool.specs.ExpressionText.{normal_text}
 use Rattle.cal_tool.specs.Clock.{clock_in}
 use Rattle.cal_tool.specs.Elapses.{elapses_after}
 use Rattle.cal_tool.specs.Expression.{timed}

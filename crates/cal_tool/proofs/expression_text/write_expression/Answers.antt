@@ -2,9 +2,9 @@
 use Rattle.std.proofs.Common.{codes}
 use Rattle.cal_base.specs.InstantText.{time_text}
 use Rattle.cal_base.proofs.Pieces.{start, step, stop, finish_last, writes_err}
-use Rattle.cal_tool.specs.CalendarReport.{normal_text}
+use Rattle.cal_tool.specs.ExpressionText.{normal_text}
 use Rattle.cal_tool.specs.Clock.{clock_in}
-use Rattle.cal_tool.proofs.calendar_report.write_expression.Goals as goal
+use Rattle.cal_tool.proofs.expression_text.write_expression.Goals as goal
 
 pub returns-in_err-put_all-clause-bytes : goal.returns-in_err-put_all-clause-bytes
 unfolding normal_text
