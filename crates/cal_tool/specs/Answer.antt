@@ -32,14 +32,14 @@ later_text is_later (Ok report) = joined (lead_text is_later ∷ report ∷ [])
 later_text is_later (Err words) = []
 
 -- whether a run ended with the fault of the writer of the reports, or of the refusals
-abbrev pub is_out_failed : Result Status RunFault → Bool
-is_out_failed (Ok status) = false
+abbrev pub is_out_failed : {T : Type 0} → Result T RunFault → Bool
+is_out_failed (Ok ended) = false
 is_out_failed (Err OutFailed) = true
 is_out_failed (Err ErrFailed) = false
 is_out_failed (Err NoMemory) = false
 
-abbrev pub is_err_failed : Result Status RunFault → Bool
-is_err_failed (Ok status) = false
+abbrev pub is_err_failed : {T : Type 0} → Result T RunFault → Bool
+is_err_failed (Ok ended) = false
 is_err_failed (Err OutFailed) = false
 is_err_failed (Err ErrFailed) = true
 is_err_failed (Err NoMemory) = false

@@ -2,8 +2,14 @@
 //! (systemd-analyze(1), systemd.time(7)).
 #![tactic(auto)]
 
-ghost use Rattle.std.specs.Prelude.{◌≡◌, false, map, option_map, string_bytes, IfOk};
+ghost use Rattle.std.specs.Prelude.{◌≡◌, false, map, option_map, string_bytes, IfOk, IfErr};
+ghost use Rattle.std.specs.Io.Buffered.{writer_contents};
+ghost use Rattle.std.specs.Io.KnownBytes.{Keeps, Appends};
+ghost use Rattle.cal_base.specs.Bytes.{Writes};
+ghost use Rattle.cal_tool.specs.Answer.{is_err_failed};
+ghost use Rattle.cal_tool.specs.Report.{report_for};
 ghost use Rattle.cal_tool.specs.Words.{texts_of, asked_in, asked_of};
+ghost use Rattle.cal_tool.specs.declared.request.RunFault.TheVariants.{OutFailed};
 
 pub mod calendar_report;
 pub mod command;
@@ -62,7 +68,7 @@ fn answer<R: Env + AllocGlobal, W: Write + Drop, E: Sink>(
         Err(AllocError) => return Err(Stop::Run(RunFault::NoMemory)),
     };
     match run_buffered(rt.alloc(), &command, out, err) {
-        Ok(status) => Ok(status),
+        Ok(finished) => Ok(finished.status),
         Err(fault) => Err(Stop::Run(fault)),
     }
 }
@@ -99,7 +105,15 @@ fn borrowed<'a>(alloc: Global, words: &'a [String]) -> Result<Vec<&'a str>, Allo
     Ok(all)
 }
 
-/// Runs a command with a buffer before the standard output.
+/// A run that could write all of its text, out of the buffer too.
+#[derive(Drop)]
+struct Finished<W> {
+    /// The writer behind the buffer.
+    out: W,
+    status: Status,
+}
+
+/// Runs a command with a buffer before the writer of the reports, and gives that writer back.
 ///
 /// What can't be written out of the buffer at the end is a failure of the output.
 fn run_buffered<W: Write + Drop, E: Sink>(
@@ -107,8 +121,14 @@ fn run_buffered<W: Write + Drop, E: Sink>(
     command: &Command,
     out: W,
     err: &mut E,
-) -> Result<Status, RunFault>
+) -> Result<Finished<W>, RunFault>
     requires { E.is_failed err.old ≡ false }
+    ensures status { IfOk result (λ finished. finished.status ≡ (report_for command.entry.now).status) }
+    ensures out { IfOk result (λ finished. Appends (W.contents out) (W.contents finished.out)
+        (report_for command.entry.now).out) }
+    ensures err { Writes (E.written err.old) (E.written err.new) result
+        (report_for command.entry.now).err }
+    ensures err_failed { E.is_failed err.new ≡ is_err_failed result }
 {
     let Ok(buffer) = BufWriter::new(alloc, out) else {
         return Err(RunFault::NoMemory);
@@ -128,13 +148,21 @@ fn run_buffered<W: Write + Drop, E: Sink>(
         err,
     );
     let written = finish(out.into_inner());
-    let status = ended?;
-    written?;
-    Ok(status)
+    let status = match ended {
+        Ok(status) => status,
+        Err(fault) => return Err(fault),
+    };
+    match written {
+        Ok(out) => Ok(Finished { out, status }),
+        Err(fault) => Err(fault),
+    }
 }
 
-/// Writes what is left in a buffer, and lets it go.
-fn finish<W: Write + Drop>(buffer: BufWriter<W>) -> Result<(), RunFault> {
+/// Writes what is left in a buffer, and gives the writer behind it back.
+fn finish<W: Write + Drop>(buffer: BufWriter<W>) -> Result<W, RunFault>
+    ensures bytes { IfOk result (λ out. Keeps (writer_contents W.contents buffer) (W.contents out)) }
+    ensures fault { IfErr result (λ fault. fault ≡ OutFailed) }
+{
     let mut inner = match buffer.into_inner() {
         Ok(inner) => inner,
         Err(error) => {
@@ -144,7 +172,7 @@ fn finish<W: Write + Drop>(buffer: BufWriter<W>) -> Result<(), RunFault> {
         }
     };
     match inner.flush() {
-        Ok(()) => Ok(()),
+        Ok(()) => Ok(inner),
         Err(_) => Err(RunFault::OutFailed),
     }
 }
@@ -157,11 +185,27 @@ mod tests {
 
     #[test]
     fn failures_at_the_end(rt: HostRuntime) -> Result<(), Fail> {
-        for (limit, want) in [(3, Ok(())), (2, Err(RunFault::OutFailed))] {
+        for (limit, want) in [(3, None), (2, Some(RunFault::OutFailed))] {
             let writer = Faulty::new(Vec::new(rt.alloc()), 2, limit, Then::Error);
             let mut buffer = BufWriter::new(rt.alloc(), writer)?;
             assert_eq!(rt; buffer.write(b"abc")?, 3);
-            assert_eq!(rt; finish(buffer), want, "at {limit}");
+            assert_eq!(rt; finish(buffer).err(), want, "at {limit}");
+        }
+        Ok(())
+    }
+
+    #[test]
+    fn reports_behind_the_buffer(rt: HostRuntime) -> Result<(), Fail> {
+        let known = early_words::early_words(rt.alloc(), &["timespan", "1h"])?;
+        let command = known.ok_or("unknown words")?;
+        let text = "Original: 1h\n      μs: 3600000000\n   Human: 1h\n";
+        for (limit, want) in [(1000, None), (40, Some(RunFault::OutFailed))] {
+            let writer = Faulty::new(Vec::new(rt.alloc()), 7, limit, Then::Error);
+            let mut err = Port::new(Vec::new(rt.alloc()));
+            match run_buffered(rt.alloc(), &command, writer, &mut err) {
+                Ok(finished) => assert_eq!(rt; finished.out.bytes(), text.as_bytes(), "at {limit}"),
+                Err(fault) => assert_eq!(rt; Some(fault), want, "at {limit}"),
+            }
         }
         Ok(())
     }
