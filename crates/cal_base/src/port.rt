@@ -82,3 +82,48 @@ impl<T: Read> Source for Port<T> {
         }
     }
 }
+
+#[cfg(test)]
+mod tests {
+    use super::*;
+    use crate::{Faulty, Then};
+    use std::test::Fail;
+
+    #[test]
+    fn reads_until_it_fails(rt: HostRuntime) -> Result<(), Fail> {
+        let bytes = b"abc".to_vec(rt.alloc())?;
+        let mut port = Port::new(Faulty::new(bytes, 2, 3, Then::Interrupted));
+        let mut into = [0u8; 4];
+        assert_eq!(rt; port.fetch(&mut into), Some(2));
+        assert_eq!(rt; into, *b"ab\0\0");
+        assert_eq!(rt; port.fetch(&mut into), Some(1));
+        assert_eq!(rt; into, *b"cb\0\0");
+        assert_eq!(rt; port.fetch(&mut into), None);
+        assert!(rt; port.failed());
+        assert_eq!(rt; port.into_inner().calls(), 3);
+        Ok(())
+    }
+
+    #[test]
+    fn readers_end_or_go_on(rt: HostRuntime) -> Result<(), Fail> {
+        let mut into = [0u8; 2];
+        let mut used_up = Port::new(Faulty::new(Vec::new(rt.alloc()), 1, 9, Then::Error));
+        assert_eq!(rt; used_up.fetch(&mut into), Some(0));
+        let mut endless = Port::new(Faulty::new(Vec::new(rt.alloc()), 9, 0, Then::Endless));
+        for _ in 0..3 {
+            if endless.failed() {
+                break;
+            }
+            assert_eq!(rt; endless.fetch(&mut into), Some(2));
+            assert_eq!(rt; into, *b"##");
+        }
+        Ok(())
+    }
+
+    #[test]
+    fn nothing_taken_is_a_failure(rt: HostRuntime) {
+        let mut port = Port::new(Faulty::new(Vec::new(rt.alloc()), 1, 0, Then::Zero));
+        assert_eq!(rt; port.offer(b"x"), None);
+        assert!(rt; port.failed());
+    }
+}

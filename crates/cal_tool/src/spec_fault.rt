@@ -23,3 +23,18 @@ impl SpecFault {
         }
     }
 }
+
+#[cfg(test)]
+mod tests {
+    use super::*;
+    use std::test::Fail;
+
+    #[test]
+    fn display_is_the_words(rt: HostRuntime) -> Result<(), Fail> {
+        let fault = SpecFault::BadDate;
+        let shown = format!(in rt.alloc(); "{fault}")?;
+        assert_eq!(rt; shown.as_str(), fault.words());
+        assert_eq!(rt; fault as u8, 4);
+        Ok(())
+    }
+}
