@@ -113,9 +113,11 @@ struct Finished<W> {
     status: Status,
 }
 
-/// Runs a command with a buffer before the writer of the reports, and gives that writer back.
+/// Runs a command with a buffer before the writer of the reports, and gives that writer back with the
+/// whole text of the reports behind the buffer.
 ///
-/// What can't be written out of the buffer at the end is a failure of the output.
+/// What can't be written out of the buffer at the end is a failure of the output, and a buffer that
+/// can't be had is a lack of memory.
 fn run_buffered<W: Write + Drop, E: Sink>(
     alloc: Global,
     command: &Command,
@@ -147,18 +149,16 @@ fn run_buffered<W: Write + Drop, E: Sink>(
         &mut out,
         err,
     );
+    // Also where the run failed, so that what stands before the fault is written.
     let written = finish(out.into_inner());
-    let status = match ended {
-        Ok(status) => status,
-        Err(fault) => return Err(fault),
-    };
-    match written {
-        Ok(out) => Ok(Finished { out, status }),
-        Err(fault) => Err(fault),
-    }
+    let status = ended?;
+    let out = written?;
+    Ok(Finished { out, status })
 }
 
 /// Writes what is left in a buffer, and gives the writer behind it back.
+///
+/// The last `flush` is the writer's own: all bytes are its own by then, and no contract tells what it does.
 fn finish<W: Write + Drop>(buffer: BufWriter<W>) -> Result<W, RunFault>
     ensures bytes { IfOk result (λ out. Keeps (writer_contents W.contents buffer) (W.contents out)) }
     ensures fault { IfErr result (λ fault. fault ≡ OutFailed) }
