@@ -1,29 +1,13 @@
 -- Lemmas on bytes out: what was written in pieces is the whole, and what a failure leaves is a front of it.
-use Rattle.std.proofs.Common.{◌≡◌, ℕ, ◌+◌, ◌<◌, List, [], ◌∷◌, ◌++◌, length, take, drop, get_or, Option, None, Some, Result, Ok, Err, refl, sym, ap, ◌∙◌, append_assoc, subst, add-one, drop-cons}
+use Rattle.std.proofs.Common.{◌≡◌, ℕ, ◌+◌, ◌<◌, List, [], ◌++◌, length, take, drop, get_or, Option, Result, Ok, Err, refl, sym, ap, ◌∙◌, append_assoc, subst, add-one, drop-cons}
+use Rattle.std.proofs.KnownBytes.{Appends-nil, Appends-trans}
+use Rattle.std.proofs.lemmas.Grind.{flat_map-append}
 use Rattle.std.proofs.lemmas.List.{append-nil, take-append-drop}
 use Rattle.std.specs.List.{flat_map}
 use Rattle.std.specs.Prelude.{IsErr}
 use Rattle.std.proofs.lemmas.Bool.{false≢true}
-use Rattle.std.specs.Io.KnownBytes.{Keeps, Appends}
+use Rattle.std.specs.Io.KnownBytes.{Appends}
 use Rattle.cal_base.specs.Bytes.{AppendsFront, Writes, Leaves, joined}
-
--- nothing written
-pub appends_nothing : (a : Option (List ℕ)) → Appends a a []
-appends_nothing None = tt
-appends_nothing (Some xs) = sym (append-nil xs)
-
--- what keeps its bytes has nothing more
-pub appends_kept : (a b : Option (List ℕ)) → Keeps a b → Appends a b []
-appends_kept None b h = tt
-appends_kept (Some xs) None h = h
-appends_kept (Some xs) (Some ys) h = h ∙ sym (append-nil xs)
-
--- one text after another
-pub appends_both : (a b c : Option (List ℕ)) (xs ys : List ℕ) → Appends a b xs → Appends b c ys → Appends a c (xs ++ ys)
-appends_both None b c xs ys h k = tt
-appends_both (Some zs) None c xs ys h k = absurd h
-appends_both (Some zs) (Some us) None xs ys h k = k
-appends_both (Some zs) (Some us) (Some vs) xs ys h k = k ∙ ap (λ l. l ++ ys) h ∙ append_assoc zs xs ys
 
 -- a text that is written under another spelling
 appends_respelled : (a b : Option (List ℕ)) (xs ys : List ℕ) → xs ≡ ys → Appends a b xs → Appends a b ys
@@ -31,14 +15,14 @@ appends_respelled a b xs ys e h = subst (Appends a b) e h
 
 -- all is left at first
 pub start : (a : Option (List ℕ)) (text : List ℕ) → Leaves a a text text
-start a text = record { front = []; whole = refl; written = appends_nothing a }
+start a text = record { front = []; whole = refl; written = Appends-nil a }
 
 -- one more piece
 pub step : (a b c : Option (List ℕ)) (piece rest text : List ℕ) → Leaves a b (piece ++ rest) text → Appends b c piece → Leaves a c rest text
 step a b c piece rest text l h = record {
   front = l.front ++ piece;
   whole = l.whole ∙ sym (append_assoc l.front piece rest);
-  written = appends_both a b c l.front piece l.written h;
+  written = Appends-trans a b c l.front piece l.written h;
 }
 
 -- a failure in a piece leaves a front of the whole
@@ -47,7 +31,7 @@ stop a b c piece rest text l h = record {
   front = l.front ++ h.front;
   rest = h.rest ++ rest;
   whole = l.whole ∙ ap (λ p. l.front ++ (p ++ rest)) h.whole ∙ ap (λ q. l.front ++ q) (append_assoc h.front h.rest rest) ∙ sym (append_assoc l.front h.front (h.rest ++ rest));
-  written = appends_both a b c l.front h.front l.written h.written;
+  written = Appends-trans a b c l.front h.front l.written h.written;
 }
 
 -- nothing is left
@@ -76,10 +60,6 @@ pub stop_piece : {A : Type 0} (a b c : Option (List ℕ)) (f : A → List ℕ) (
 stop_piece a b c f i xs d text h l w =
     stop a b c (f (get_or xs i d)) (flat_map f (drop (i + 1) xs)) text (respell a b (flat_map f (drop i xs)) (f (get_or xs i d) ++ flat_map f (drop (i + 1) xs)) text l (flat_map-drop f i xs d h)) w
 
--- a call that fails before it writes anything more leaves a front
-pub front : (a b : Option (List ℕ)) (rest text : List ℕ) → Leaves a b rest text → AppendsFront a b text
-front a b rest text l = record { front = l.front; rest = rest; whole = l.whole; written = l.written }
-
 -- the last call's answer is the answer of the whole
 pub finish : {T E : Type 0} (a b c : Option (List ℕ)) (piece text : List ℕ) (r : Result T E) → Leaves a b piece text → Writes b c r piece → Writes a c r text
 finish a b c piece text (Ok x) l h = done a c text (step a b c piece [] text (respell a b piece (piece ++ []) text l (sym (append-nil piece))) h)
@@ -90,18 +70,13 @@ pub writes_err : {T E : Type 0} (a c : Option (List ℕ)) (r : Result T E) (text
 writes_err a c (Ok x) text e h = absurd (false≢true e)
 writes_err a c (Err e') text e h = h
 
--- the text of two rows of pieces is that of the one and then the other
-pub joined-append : (xs ys : List (List ℕ)) → joined (xs ++ ys) ≡ joined xs ++ joined ys
-joined-append [] ys = refl
-joined-append (x ∷ xs) ys = ap (λ l. x ++ l) (joined-append xs ys) ∙ sym (append_assoc x (joined xs) (joined ys))
-
 -- pieces in a row were written
 pub step_pieces : (a b c : Option (List ℕ)) (xs ys : List (List ℕ)) (text : List ℕ) → Leaves a b (joined (xs ++ ys)) text → Appends b c (joined xs) → Leaves a c (joined ys) text
-step_pieces a b c xs ys text l h = step a b c (joined xs) (joined ys) text (respell a b (joined (xs ++ ys)) (joined xs ++ joined ys) text l (joined-append xs ys)) h
+step_pieces a b c xs ys text l h = step a b c (joined xs) (joined ys) text (respell a b (joined (xs ++ ys)) (joined xs ++ joined ys) text l (flat_map-append (λ piece. piece) xs ys)) h
 
 -- pieces in a row were not written whole
 pub stop_pieces : (a b c : Option (List ℕ)) (xs ys : List (List ℕ)) (text : List ℕ) → Leaves a b (joined (xs ++ ys)) text → AppendsFront b c (joined xs) → AppendsFront a c text
-stop_pieces a b c xs ys text l h = stop a b c (joined xs) (joined ys) text (respell a b (joined (xs ++ ys)) (joined xs ++ joined ys) text l (joined-append xs ys)) h
+stop_pieces a b c xs ys text l h = stop a b c (joined xs) (joined ys) text (respell a b (joined (xs ++ ys)) (joined xs ++ joined ys) text l (flat_map-append (λ piece. piece) xs ys)) h
 
 -- the last call's answer is the answer of the whole, where its piece is the last of a row
 pub finish_last : {T E : Type 0} (a b c : Option (List ℕ)) (piece text : List ℕ) (r : Result T E) → Leaves a b (piece ++ []) text → Writes b c r piece → Writes a c r text

@@ -1,5 +1,5 @@
 use Rattle.std.proofs.Common.{refl}
-use Rattle.cal_base.proofs.Pieces.{appends_nothing}
+use Rattle.std.proofs.KnownBytes.{Appends-nil}
 use Rattle.cal_tool.proofs.AnswerLemmas.{accepted, refused}
 use Rattle.cal_tool.specs.Clock.{clock_in}
 use Rattle.cal_tool.proofs.report.answer_calendar.Goals as goal
@@ -17,7 +17,7 @@ returns-in-Ok-put_calendar-clause-out g c =
 pub returns-in-Ok-put_calendar-clause-err : goal.returns-in-Ok-put_calendar-clause-err
 returns-in-Ok-put_calendar-clause-err g c =
     let is = accepted c.args.now.secs c.args.now.secs c.args.iterations c.args.text.now (clock_in c.in-Ok.expression) c.in-Ok.ensures in
-    rw is (appends_nothing _)
+    rw is (Appends-nil _)
 
 pub returns-in-Err-Failed-clause-out : goal.returns-in-Err-Failed-clause-out
 returns-in-Err-Failed-clause-out g c =
@@ -32,7 +32,7 @@ returns-in-Ok-put_refusal-clause-status g c =
 pub returns-in-Ok-put_refusal-clause-out : goal.returns-in-Ok-put_refusal-clause-out
 returns-in-Ok-put_refusal-clause-out g c =
     let is = refused c.args.now.secs c.args.now.secs c.args.iterations c.args.text.now c.in-Err.fault c.in-Err.ensures.0 c.in-Err.ensures.1 in
-    rw is (appends_nothing _)
+    rw is (Appends-nil _)
 
 pub returns-in-Ok-put_refusal-clause-err : goal.returns-in-Ok-put_refusal-clause-err
 returns-in-Ok-put_refusal-clause-err g c =

@@ -1,5 +1,5 @@
 use Rattle.std.proofs.Common.{refl}
-use Rattle.cal_base.proofs.Pieces.{appends_nothing}
+use Rattle.std.proofs.KnownBytes.{Appends-nil}
 use Rattle.cal_tool.proofs.AnswerLemmas.{span_accepted, span_refused}
 use Rattle.cal_tool.proofs.report.answer_timespan.Goals as goal
 
@@ -16,7 +16,7 @@ returns-in-Ok-put_timespan-clause-out g c =
 pub returns-in-Ok-put_timespan-clause-err : goal.returns-in-Ok-put_timespan-clause-err
 returns-in-Ok-put_timespan-clause-err g c =
     let is = span_accepted c.args.text.now c.in-Ok.span.micros c.in-Ok.ensures in
-    rw is (appends_nothing _)
+    rw is (Appends-nil _)
 
 pub returns-in-Err-Failed-clause-out : goal.returns-in-Err-Failed-clause-out
 returns-in-Err-Failed-clause-out g c =
@@ -31,7 +31,7 @@ returns-in-Ok-put_refusal-clause-status g c =
 pub returns-in-Ok-put_refusal-clause-out : goal.returns-in-Ok-put_refusal-clause-out
 returns-in-Ok-put_refusal-clause-out g c =
     let is = span_refused c.args.text.now c.in-Err.fault c.in-Err.ensures in
-    rw is (appends_nothing _)
+    rw is (Appends-nil _)
 
 pub returns-in-Ok-put_refusal-clause-err : goal.returns-in-Ok-put_refusal-clause-err
 returns-in-Ok-put_refusal-clause-err g c =
