@@ -1,6 +1,7 @@
 pub mod CivilLemmas
 pub mod Pieces
 pub mod PlaceLemmas
+pub mod ShortText
 pub mod SpanCounts
 pub mod SpanDigits
 pub mod SpanNumbers

@@ -1,6 +1,7 @@
 pub mod Bytes
 pub mod Civil
 pub mod Days
+pub mod Fill
 pub mod Instant
 pub mod InstantText
 pub mod Local
