@@ -11,4 +11,5 @@ pub mod SpanReadBack
 pub mod SpanRule
 pub mod SpanRuns
 pub mod SpanWords
+pub mod WorkedRows
 pub mod YearLemmas

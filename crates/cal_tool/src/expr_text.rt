@@ -2,63 +2,63 @@
 
 ghost use Rattle.std.specs.Prelude.{◌≡◌, false, is_err, Some, None, option_map, option_copied, MatchResult};
 ghost use Rattle.cal_base.specs.Bytes.{Writes};
-ghost use Rattle.cal_tool.specs.Clock.{clock_in};
-ghost use Rattle.cal_tool.specs.ExpressionText.{number_at, after, clock_at_end, clock_of, expression_of, normal_text};
+ghost use Rattle.cal_tool.specs.TimeOfDay.{time_of_day};
+ghost use Rattle.cal_tool.specs.ExprText.{number_at, after, time_at_end, time_written, expr_of, normal_text};
 
-use crate::expression::Expression;
+use crate::expr::Expr;
 use crate::spec_fault::SpecFault;
 use cal_base::{Sink, WriteFault, put_all, write_time};
 
 /// Reads an expression: `*-*-*`, one space, and hour, minute and second with colons between, each of
 /// one or two digits and none greater than 23, 59 and 59. Every other text is refused as
 /// [`SpecFault::BadDate`].
-pub fn read_expression(text: &str) -> Result<Expression, SpecFault>
+pub fn read_expr(text: &str) -> Result<Expr, SpecFault>
     ensures { MatchResult result
-        (λ expression. expression_of text.now ≡ Some (clock_in expression))
-        (λ fault. (expression_of text.now ≡ None) × (fault ≡ SpecFault.BadDate)) }
+        (λ expr. expr_of text.now ≡ Some (time_of_day expr))
+        (λ fault. (expr_of text.now ≡ None) × (fault ≡ SpecFault.BadDate)) }
 {
-    match expression_in(text.as_bytes()) {
+    match expr_in(text.as_bytes()) {
         Some(expression) => Ok(expression),
         None => Err(SpecFault::BadDate),
     }
 }
 
 /// Writes an expression in its normal form.
-#[tactic(auto, unfolding(crate::specs::ExpressionText::normal_text))]
-pub fn write_expression<W: Sink>(out: &mut W, expression: &Expression) -> Result<(), WriteFault>
+#[tactic(auto, unfolding(crate::specs::ExprText::normal_text))]
+pub fn write_expr<W: Sink>(out: &mut W, expr: &Expr) -> Result<(), WriteFault>
     requires { W.is_failed out.old ≡ false }
     ensures failed { W.is_failed out.new ≡ is_err result }
     ensures bytes { Writes (W.written out.old) (W.written out.new) result
-        (normal_text (clock_in expression.now)) }
+        (normal_text (time_of_day expr.now)) }
 {
     put_all(out, b"*-*-* ")?;
-    write_time(out, expression.hour, expression.minute, expression.second)
+    write_time(out, expr.hour, expr.minute, expr.second)
 }
 
-#[tactic(auto, unfolding(crate::specs::ExpressionText::expression_of, crate::specs::ExpressionText::clock_of))]
-fn expression_in(text: &[u8]) -> Option<Expression>
-    ensures { option_map clock_in result ≡ expression_of text.now }
+#[tactic(auto, unfolding(crate::specs::ExprText::expr_of, crate::specs::ExprText::time_written))]
+fn expr_in(text: &[u8]) -> Option<Expr>
+    ensures { option_map time_of_day result ≡ expr_of text.now }
 {
     let (hour, rest) = number_at(after(text, b"*-*-* ")?)?;
     let (minute, rest) = number_at(after(rest, b":")?)?;
     let (second, rest) = number_at(after(rest, b":")?)?;
-    clock_at_end(hour, minute, second, rest)
+    time_at_end(hour, minute, second, rest)
 }
 
 /// The expression, where nothing follows and the day has that time.
-#[tactic(auto, unfolding(crate::specs::ExpressionText::clock_at_end))]
-fn clock_at_end(hour: u8, minute: u8, second: u8, rest: &[u8]) -> Option<Expression>
-    ensures { option_map clock_in result
-        ≡ clock_at_end (record { hour = hour; minute = minute; second = second }) rest.now }
+#[tactic(auto, unfolding(crate::specs::ExprText::time_at_end))]
+fn time_at_end(hour: u8, minute: u8, second: u8, rest: &[u8]) -> Option<Expr>
+    ensures { option_map time_of_day result
+        ≡ time_at_end (record { hour = hour; minute = minute; second = second }) rest.now }
 {
     match rest {
-        [] => Expression::new(hour, minute, second),
+        [] => Expr::new(hour, minute, second),
         _ => None,
     }
 }
 
 /// What follows a front.
-#[tactic(auto, unfolding(crate::specs::ExpressionText::after))]
+#[tactic(auto, unfolding(crate::specs::ExprText::after))]
 fn after<'a>(text: &'a [u8], front: &[u8]) -> Option<&'a [u8]>
     ensures { option_copied result ≡ after front.now text.now }
 {
@@ -66,7 +66,7 @@ fn after<'a>(text: &'a [u8], front: &[u8]) -> Option<&'a [u8]>
 }
 
 /// The number of one or two digits at the front, and what follows it.
-#[tactic(auto, unfolding(crate::specs::ExpressionText::number_at))]
+#[tactic(auto, unfolding(crate::specs::ExprText::number_at))]
 fn number_at(text: &[u8]) -> Option<(u8, &[u8])>
     ensures { option_map (λ found. (found.0, found.1.now)) result ≡ number_at text.now }
 {

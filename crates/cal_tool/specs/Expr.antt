@@ -4,22 +4,22 @@ use Rattle.jiff.specs.Types.{UTC}
 use Rattle.cal_base.specs.Place.{place_of}
 use Rattle.cal_tool.specs.Elapses.{Timed}
 use Rattle.cal_tool.specs.Match.{Sets, matches}
-use Rattle.cal_tool.specs.Clock.{Clock}
+use Rattle.cal_tool.specs.TimeOfDay.{TimeOfDay}
 
 -- the numbers from a to b, both included
 abbrev pub lies : ℕ → ℕ → ℕ → Bool
 lies a b v = nat_le a v && nat_le v b
 
 -- every date, and one time of day; `*` in a field is the whole field
-unfoldable pub sets_of : Clock → Sets
-sets_of clock = record {
+unfoldable pub sets_of : TimeOfDay → Sets
+sets_of time = record {
   weekday = lies 0 6;
   year = lies 1970 2199;
   month = lies 1 12;
   day = lies 1 31;
-  hour = λ v. v == clock.hour;
-  minute = λ v. v == clock.minute;
-  second = λ v. v == clock.second;
+  hour = λ v. v == time.hour;
+  minute = λ v. v == time.minute;
+  second = λ v. v == time.second;
   from_end = false;
 }
 
@@ -28,5 +28,5 @@ unfoldable pub utc_place : ℕ → Option ℤ
 utc_place local = place_of UTC (pos local)
 
 -- the meaning of an expression in UTC
-unfoldable pub timed : Clock → Timed
-timed clock = record { matches = matches (sets_of clock); place = utc_place }
+unfoldable pub timed : TimeOfDay → Timed
+timed time = record { matches = matches (sets_of time); place = utc_place }

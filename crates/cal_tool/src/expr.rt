@@ -6,7 +6,7 @@ use jiff::civil::Date;
 
 /// A calendar expression: so far one time of day on every date.
 #[derive(Clone, Copy, PartialEq, Eq, Debug)]
-pub struct Expression {
+pub struct Expr {
     /// 0 to 23.
     pub hour: u8,
     /// 0 to 59.
@@ -18,20 +18,20 @@ pub struct Expression {
     ghost second_in: { second ≤ 59 },
 }
 
-impl Expression {
-    ghost use Rattle.cal_tool.specs.Clock.{clock_in, day_time};
-    ghost use Rattle.cal_tool.specs.Expression.{sets_of};
+impl Expr {
+    ghost use Rattle.cal_tool.specs.TimeOfDay.{time_of_day, day_time};
+    ghost use Rattle.cal_tool.specs.Expr.{sets_of};
     ghost use Rattle.cal_tool.specs.Match.{date_in, time_in};
 
     /// The expression for that time of day, or `None` where no day has it: an hour above 23, or a
     /// minute or a second above 59.
-    #[tactic(auto, unfolding(crate::specs::Clock::day_time))]
-    pub fn new(hour: u8, minute: u8, second: u8) -> Option<Expression>
-        ensures { option_map clock_in result
+    #[tactic(auto, unfolding(crate::specs::TimeOfDay::day_time))]
+    pub fn new(hour: u8, minute: u8, second: u8) -> Option<Expr>
+        ensures { option_map time_of_day result
             ≡ day_time (record { hour = hour; minute = minute; second = second }) }
     {
         if hour <= 23 && minute <= 59 && second <= 59 {
-            Some(Expression {
+            Some(Expr {
                 hour,
                 minute,
                 second,
@@ -44,7 +44,7 @@ impl Expression {
     /// Whether the date is one of the expression's: of the years 1970 to 2199.
     #[tactic(auto, using(crate::proofs::SearchLemmas::date_in_years))]
     pub(crate) fn has_date(&self, date: Date) -> bool
-        ensures { result ≡ date_in (sets_of (clock_in self.now)) date }
+        ensures { result ≡ date_in (sets_of (time_of_day self.now)) date }
     {
         let year = date.year().unsigned_abs();
         year >= 1970 && year <= 2199
@@ -53,7 +53,7 @@ impl Expression {
     /// Whether so many seconds after midnight are the expression's time of day.
     #[tactic(auto, using(crate::proofs::SearchLemmas::time_in_fields))]
     pub(crate) fn has_time(&self, second: u64) -> bool
-        ensures { result ≡ time_in (sets_of (clock_in self.now)) second }
+        ensures { result ≡ time_in (sets_of (time_of_day self.now)) second }
     {
         second / 3_600 == u64::from(self.hour)
             && second / 60 % 60 == u64::from(self.minute)

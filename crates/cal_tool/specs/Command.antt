@@ -1,10 +1,10 @@
 -- What the words of the command line ask for, until `clap` reads them (systemd-analyze(1)).
-use Rattle.std.specs.Prelude.{◌≡◌, ◌<◌, ℕ, ℤ, pos, List, [], ◌∷◌, length, drop, map, Option, None, Some, Bool, codes, nat_eq, nat_lt, nat_le, string_bytes, if◌then◌else◌, ◌==◌, ◌&&◌, ◌||◌, not, slice_index, take_while, filter_map, option_and_then, option_map}
+use Rattle.std.specs.Prelude.{◌≡◌, ◌<◌, ℕ, ℤ, pos, List, [], ◌∷◌, length, drop, map, Option, None, Some, Bool, codes, nat_eq, nat_lt, nat_le, if◌then◌else◌, ◌==◌, ◌&&◌, ◌||◌, not, slice_index, take_while, filter_map, option_and_then, option_map}
 use Rattle.std.specs.Borrow.{Bor}
 use Rattle.std.specs.List.{list_all, list_any, starts_with}
 use Rattle.std.specs.Str.{all_ascii_digits, bytes_eq}
 use Rattle.std.specs.Str.Parse.{digits_value}
-use Rattle.cal_tool.specs.declared.request.Verb.{Verb}
+use Rattle.cal_tool.specs.Request.{Asked, asked}
 use Rattle.cal_tool.specs.declared.request.Verb.TheVariants.{Calendar, Timespan}
 use Rattle.cal_tool.specs.declared.command.Command.{Command}
 use Rattle.cal_tool.specs.declared.early_words.Given.{Given}
@@ -92,38 +92,26 @@ texts_in (word ∷ words) =
     if bytes_eq word (codes "--") then some_texts words
     else if list_any is_dashed (word ∷ words) then None else Some (word ∷ words)
 
--- What the command line asks for: a verb for some texts, with its numbers.
-pub record Wanted : Type 0 where
-  pub verb : Verb
-  pub texts : List (List ℕ)
-  pub iterations : ℕ
-  pub now : ℤ
-
 -- Behind `calendar` stand options, and then texts.
-unfoldable pub calendar_in : List (List ℕ) → Option Wanted
+unfoldable pub calendar_in : List (List ℕ) → Option Asked
 calendar_in words =
     option_and_then (λ settings.
-    option_map (λ texts. record { verb = Calendar; texts = texts; iterations = settings.iterations; now = settings.now })
+    option_map (λ texts. record { verb = Calendar; texts = texts; iterations = settings.iterations; base = None; now = settings.now })
     (texts_in (drop (length (take_while is_option words)) words)))
     (settings_in (take_while is_option words))
 
 -- Behind `timespan` stand texts alone.
-unfoldable pub timespan_in : List (List ℕ) → Option Wanted
+unfoldable pub timespan_in : List (List ℕ) → Option Asked
 timespan_in words =
-    option_map (λ texts. record { verb = Timespan; texts = texts; iterations = 1; now = pos 0 }) (texts_in words)
+    option_map (λ texts. record { verb = Timespan; texts = texts; iterations = 1; base = None; now = pos 0 }) (texts_in words)
 
 -- What the words after the program's name ask for.
-unfoldable pub asked_in : List (List ℕ) → Option Wanted
+unfoldable pub asked_in : List (List ℕ) → Option Asked
 asked_in [] = None
 asked_in (verb ∷ words) =
     if bytes_eq verb (codes "calendar") then calendar_in words
     else if bytes_eq verb (codes "timespan") then timespan_in words else None
 
 -- What a command asks for.
-abbrev pub asked_of : Command → Wanted
-asked_of command = record {
-  verb = command.request.verb;
-  texts = map string_bytes command.request.texts.items;
-  iterations = command.request.iterations;
-  now = command.now.secs;
-}
+abbrev pub asked_of : Command → Asked
+asked_of command = asked command.request command.now.secs

@@ -7,8 +7,8 @@ use Rattle.std.proofs.Math.Seq.{take-append_seam, drop-append_seam}
 use Rattle.std.proofs.lemmas.Option.{cond_some, option_and_then_some, some_pair_parts}
 use Rattle.std.proofs.lemmas.Slice.Eq.{bytes_eq-Decides}
 use Rattle.std.proofs.lemmas.Bool.{and_parts, leb-true, le-leb}
-use Rattle.cal_tool.specs.Clock.{Clock, IsClock, day_time}
-use Rattle.cal_tool.specs.ExpressionText.{IsShortNumber, IsExpressionText, number_at, after, clock_at_end, clock_of, expression_of}
+use Rattle.cal_tool.specs.TimeOfDay.{TimeOfDay, IsTimeOfDay, day_time}
+use Rattle.cal_tool.specs.ExprText.{IsShortNumber, IsExprText, number_at, after, time_at_end, time_written, expr_of}
 
 none_some : {A : Type 0} {x : A} → ◌≡◌ {A = Option A} None (Some x) → ⊥
 none_some e = cc
@@ -66,8 +66,8 @@ number_at_end (a ∷ b ∷ []) n h = rw (h.0, h.1, h.2) refl
 number_at_end (a ∷ b ∷ c ∷ more) n h = absurd h
 
 -- a time that ends a text
-clock_at_end_is : (t u : Clock) (rest : List ℕ) → clock_at_end t rest ≡ Some u → (rest ≡ []) × (t ≡ u) × IsClock t
-unfolding clock_at_end day_time
+clock_at_end_is : (t u : TimeOfDay) (rest : List ℕ) → time_at_end t rest ≡ Some u → (rest ≡ []) × (t ≡ u) × IsTimeOfDay t
+unfolding time_at_end day_time
 clock_at_end_is t u [] e =
     let both = cond_some (leb t.hour 23 && leb t.minute 59 && leb t.second 59) t u e in
     let seconds = and_parts (leb t.hour 23 && leb t.minute 59) (leb t.second 59) both.0 in
@@ -75,12 +75,12 @@ clock_at_end_is t u [] e =
     (refl, both.1, record { hour = leb-true t.hour 23 hours.0; minute = leb-true t.minute 59 hours.1; second = leb-true t.second 59 seconds.1 })
 clock_at_end_is t u (x ∷ rest) e = absurd (none_some e)
 
-clock_at_end_of : (t : Clock) → IsClock t → clock_at_end t [] ≡ Some t
-unfolding clock_at_end day_time
+clock_at_end_of : (t : TimeOfDay) → IsTimeOfDay t → time_at_end t [] ≡ Some t
+unfolding time_at_end day_time
 clock_at_end_of t h = rw (le-leb t.hour 23 h.hour, le-leb t.minute 59 h.minute, le-leb t.second 59 h.second) refl
 
 -- the texts of the three numbers
-record IsClockText (text : List ℕ) (t : Clock) : Type 0 where
+record IsClockText (text : List ℕ) (t : TimeOfDay) : Type 0 where
   hour : List ℕ
   minute : List ℕ
   second : List ℕ
@@ -88,10 +88,10 @@ record IsClockText (text : List ℕ) (t : Clock) : Type 0 where
   is_hour : IsShortNumber hour t.hour
   is_minute : IsShortNumber minute t.minute
   is_second : IsShortNumber second t.second
-  in_day : IsClock t
+  in_day : IsTimeOfDay t
 
 -- the second and what must not follow it
-second_read : (hour minute : List ℕ) (text second_text : List ℕ) (h m : ℕ) (second : ℕ × List ℕ) (t : Clock) → IsShortNumber hour h → IsShortNumber minute m → text ≡ hour ++ 58 ∷ (minute ++ 58 ∷ second_text) → Numbered second_text second.0 second.1 → clock_at_end (record { hour = h; minute = m; second = second.0 }) second.1 ≡ Some t → IsClockText text t
+second_read : (hour minute : List ℕ) (text second_text : List ℕ) (h m : ℕ) (second : ℕ × List ℕ) (t : TimeOfDay) → IsShortNumber hour h → IsShortNumber minute m → text ≡ hour ++ 58 ∷ (minute ++ 58 ∷ second_text) → Numbered second_text second.0 second.1 → time_at_end (record { hour = h; minute = m; second = second.0 }) second.1 ≡ Some t → IsClockText text t
 second_read hour minute text second_text h m second t ih im whole is e =
     let end = clock_at_end_is (record { hour = h; minute = m; second = second.0 }) t second.1 e in
     let same : second_text ≡ is.front = is.whole ∙ ap (λ l. is.front ++ l) end.0 ∙ append-nil is.front in
@@ -100,14 +100,14 @@ second_read hour minute text second_text h m second t ih im whole is e =
       minute = minute;
       second = is.front;
       whole = whole ∙ ap (λ l. hour ++ 58 ∷ (minute ++ 58 ∷ l)) same;
-      is_hour = subst (λ (u : Clock). IsShortNumber hour u.hour) end.1 ih;
-      is_minute = subst (λ (u : Clock). IsShortNumber minute u.minute) end.1 im;
-      is_second = subst (λ (u : Clock). IsShortNumber is.front u.second) end.1 is.is;
-      in_day = subst IsClock end.1 end.2;
+      is_hour = subst (λ (u : TimeOfDay). IsShortNumber hour u.hour) end.1 ih;
+      is_minute = subst (λ (u : TimeOfDay). IsShortNumber minute u.minute) end.1 im;
+      is_second = subst (λ (u : TimeOfDay). IsShortNumber is.front u.second) end.1 is.is;
+      in_day = subst IsTimeOfDay end.1 end.2;
     }
 
-clock_read : (text : List ℕ) (t : Clock) → clock_of text ≡ Some t → IsClockText text t
-unfolding clock_of
+clock_read : (text : List ℕ) (t : TimeOfDay) → time_written text ≡ Some t → IsClockText text t
+unfolding time_written
 clock_read text t e =
     option_and_then_some _ (number_at text) t e (λ hour h e1.
     option_and_then_some _ (after (codes ":") hour.1) t e1 (λ minute_text a e2.
@@ -121,8 +121,8 @@ clock_read text t e =
     ih.whole ∙ ap (λ l. ih.front ++ l) (after_is (codes ":") hour.1 minute_text a ∙ ap (λ l. 58 ∷ l) (im.whole ∙ ap (λ l. im.front ++ l) (after_is (codes ":") minute.1 second_text b))) in
     second_read ih.front im.front text second_text hour.0 minute.0 second t ih.is im.is whole is e5)))))
 
-clock_ruled : (text : List ℕ) (t : Clock) → IsClockText text t → clock_of text ≡ Some t
-unfolding clock_of
+clock_ruled : (text : List ℕ) (t : TimeOfDay) → IsClockText text t → time_written text ≡ Some t
+unfolding time_written
 clock_ruled text t c =
     rw (c.whole, number_before_colon c.hour t.hour (c.minute ++ 58 ∷ c.second) c.is_hour)
     (rw (after_front (codes ":") (c.minute ++ 58 ∷ c.second))
@@ -131,16 +131,16 @@ clock_ruled text t c =
     (rw (number_at_end c.second t.second c.is_second) (clock_at_end_of t c.in_day)))))
 
 -- what is read by computing is what the rule says
-pub read_is : (text : List ℕ) (t : Clock) → expression_of text ≡ Some t → IsExpressionText text t
-unfolding expression_of
+pub read_is : (text : List ℕ) (t : TimeOfDay) → expr_of text ≡ Some t → IsExprText text t
+unfolding expr_of
 read_is text t e =
-    option_and_then_some _ (after (codes "*-*-* ") text) t e (λ clock a k.
-    let c = clock_read clock t k in
+    option_and_then_some _ (after (codes "*-*-* ") text) t e (λ time a k.
+    let c = clock_read time t k in
     record {
       hour = c.hour;
       minute = c.minute;
       second = c.second;
-      whole = after_is (codes "*-*-* ") text clock a ∙ ap (λ l. codes "*-*-* " ++ l) (c.whole ∙ ap (λ l. c.hour ++ 58 ∷ (c.minute ++ 58 ∷ l)) (sym (append-nil c.second)));
+      whole = after_is (codes "*-*-* ") text time a ∙ ap (λ l. codes "*-*-* " ++ l) (c.whole ∙ ap (λ l. c.hour ++ 58 ∷ (c.minute ++ 58 ∷ l)) (sym (append-nil c.second)));
       is_hour = c.is_hour;
       is_minute = c.is_minute;
       is_second = c.is_second;
@@ -148,8 +148,8 @@ read_is text t e =
     })
 
 -- what the rule says is read by computing
-pub rule_is : (text : List ℕ) (t : Clock) → IsExpressionText text t → expression_of text ≡ Some t
-unfolding expression_of
+pub rule_is : (text : List ℕ) (t : TimeOfDay) → IsExprText text t → expr_of text ≡ Some t
+unfolding expr_of
 rule_is text t h =
     rw (h.whole)
     (rw (after_front (codes "*-*-* ") (h.hour ++ 58 ∷ (h.minute ++ 58 ∷ (h.second ++ []))))

@@ -16,7 +16,7 @@ use Rattle.std.proofs.lemmas.Bool.Decides.{nat_tests, Decides-eqb}
 use Rattle.std.proofs.lemmas.Str.Parse.{IsNumeralModel, numerals_by_value, tells_all_ascii_digits, parse_plain}
 use Rattle.cal_base.specs.Instant.{IsInstant}
 use Rattle.cal_base.specs.declared.instant.Instant.{Instant}
-use Rattle.cal_tool.specs.Words.{number_in, present_in, values_in, value_in, texts_in, some_texts, is_dashed, is_option, iterations_in, now_in, settings_in, calendar_in, timespan_in, asked_in, is_option_of_calendar, texts_of}
+use Rattle.cal_tool.specs.Command.{number_in, present_in, values_in, value_in, texts_in, some_texts, is_dashed, is_option, iterations_in, now_in, settings_in, calendar_in, timespan_in, asked_in, is_option_of_calendar, texts_of}
 
 own : IsNumeralModel (λ ds. all_ascii_digits ds ≡ true) (digits_value 10)
 own = numerals_by_value _ tells_all_ascii_digits
@@ -208,7 +208,7 @@ prefix_len-map p h (x ∷ xs) = ap (λ n. cond (p (h x)) (1 + n) 0) (prefix_len-
 pub calendar_in-split : (words leading behind : List (Bor (List ℕ))) (n : ℕ) → n ≡ length (take_while (λ word. is_option word.now) words)
     → leading ≡ take n words → behind ≡ drop n words
     → calendar_in (texts_of words) ≡ option_and_then (λ settings.
-    option_map (λ texts. record { verb = Calendar; texts = texts; iterations = settings.iterations; now = settings.now })
+    option_map (λ texts. record { verb = Calendar; texts = texts; iterations = settings.iterations; base = None; now = settings.now })
     (texts_in (texts_of behind)))
     (settings_in (texts_of leading))
 unfolding calendar_in
