@@ -19,6 +19,7 @@ mod span_rule;
 mod span_text;
 mod span_value;
 mod span_word;
+mod weekday;
 mod zone;
 
 pub use bytes::{Sink, Source, WriteFault, put_all, put_pieces};
@@ -35,4 +36,5 @@ pub use span_fault::SpanFault;
 pub use span_rule::one_value;
 pub use span_text::{one_text, text_reads_back, write_span};
 pub use span_value::read_span;
+pub use weekday::{WEEK, short_weekday_name, weekday_name};
 pub use zone::{Zone, ZoneTable};

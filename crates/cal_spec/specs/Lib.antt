@@ -1,0 +1,4 @@
+pub mod Fields
+pub mod Slot
+pub mod Sound
+pub mod SpecFault

@@ -1,0 +1,12 @@
+//! Calendar expressions: their grammar, their normal form, and what matches them (systemd.time(7), Calendar Events).
+#![tactic(auto)]
+
+mod field;
+mod part;
+mod raw;
+mod slot;
+mod spec_fault;
+
+pub use field::Field;
+pub use part::Part;
+pub use spec_fault::SpecFault;
