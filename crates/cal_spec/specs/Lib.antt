@@ -1,4 +1,13 @@
+pub mod Expr
+pub mod ExprText
 pub mod Fields
+pub mod Match
+pub mod Members
+pub mod NormalForm
+pub mod Order
 pub mod Slot
 pub mod Sound
 pub mod SpecFault
+pub mod ValidFields
+pub mod WeekdayRuns
+pub mod ZoneName
