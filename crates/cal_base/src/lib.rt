@@ -29,6 +29,7 @@ pub use faulty::{Faulty, Then};
 pub use instant::Instant;
 pub use instant_text::{write_instant, write_time};
 pub use moment::Moment;
+pub use number::zeros;
 pub use port::Port;
 pub use scale::Scale;
 pub use span::Span;

@@ -1,1 +1,5 @@
+mod MatchLemmas
 mod NormalRows
+mod OrderLemmas
+mod TextLemmas
+mod WeekdayLemmas

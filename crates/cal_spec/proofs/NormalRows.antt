@@ -3,7 +3,7 @@ use Rattle.std.proofs.Common.{◌≡◌, ℕ, Bool, true, false, List, [], ◌�
 use Rattle.std.specs.Fmt.{digits}
 use Rattle.cal_base.specs.Weekday.{name_of}
 use Rattle.cal_spec.specs.declared.part.Part.{Part}
-use Rattle.cal_spec.specs.ExprText.{expr_text, rows, row_text, parts_text, part_text, number_text}
+use Rattle.cal_spec.specs.ExprText.{expr_text, fields_text, row_text, parts_text, part_text, number_text}
 use Rattle.cal_spec.specs.Fields.{Fields}
 use Rattle.cal_spec.specs.NormalForm.{normal_fields, normal_parts, normal_second, part_cmp, reduced, point}
 use Rattle.cal_spec.specs.WeekdayRuns.{weekdays_text, runs_text, run_text}
@@ -42,7 +42,7 @@ monday_and_friday = record {
 }
 
 normal_forms : expr_text (normal_fields monday_and_friday) ≡ codes "Mon,Fri 2012-01/2-01,03 *:30:45"
-unfolding monday_and_friday repeated expr_text rows row_text parts_text part_text number_text digits normal_fields normal_second normal_parts reduced part_cmp weekdays_text runs_text run_text name_of
+unfolding monday_and_friday repeated expr_text fields_text row_text parts_text part_text number_text digits normal_fields normal_second normal_parts reduced part_cmp weekdays_text runs_text run_text name_of
 normal_forms = refl
 
 from_the_end : Fields
@@ -59,5 +59,5 @@ from_the_end = record {
 }
 
 from_the_end_text : expr_text (normal_fields from_the_end) ≡ codes "Mon..Thu,Sat,Sun 1993..2000-*~07/1 00:00:20..40 UTC"
-unfolding from_the_end range repeated expr_text rows row_text parts_text part_text number_text digits normal_fields normal_second normal_parts reduced part_cmp weekdays_text runs_text run_text name_of
+unfolding from_the_end range repeated expr_text fields_text row_text parts_text part_text number_text digits normal_fields normal_second normal_parts reduced part_cmp weekdays_text runs_text run_text name_of
 from_the_end_text = refl

@@ -8,8 +8,17 @@ use Rattle.std.specs.Ordering.{nat_cmp, ordering_then}
 use Rattle.std.specs.declared.cmp.Ordering.{Ordering}
 use Rattle.cal_spec.specs.Fields.{Fields}
 use Rattle.cal_spec.specs.Order.{Has, in_order}
-use Rattle.cal_spec.specs.Sound.{IsStep}
+use Rattle.cal_spec.specs.Sound.{EndsAfter, IsStep}
 use Rattle.cal_spec.specs.declared.part.Part.{Part}
+
+-- what a part has to be for a normal form: it doesn't run backwards, and steps on
+pub record IsPart (p : Part) : Type 0 where
+  pub forward : EndsAfter p.start p.end
+  pub steps : IsStep p.step
+
+abbrev pub AreParts : Option (List Part) → Type 0
+AreParts None = Unit {0}
+AreParts (Some ps) = AllByRecursion IsPart ps
 
 -- e is the last number of a, a + r, .. that isn't above b
 pub record IsLastReached (a b r e : ℕ) : Type 0 where

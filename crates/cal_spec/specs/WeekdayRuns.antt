@@ -43,14 +43,17 @@ runs_from day (b ∷ bs) = if b then with_day day (runs_from (day + 1) bs) else 
 abbrev pub day_name : ℕ → List ℕ
 day_name day = short_name_of (slice_index_or week day Monday)
 
--- a day alone, two as `first,second`, and more as `first..last`
-unfoldable pub run_text : Run → List ℕ
-run_text r =
-    if r.first == r.last then day_name r.first
-    else joined (day_name r.first ∷ (if r.first + 1 == r.last then codes "," else codes "..") ∷ day_name r.last ∷ [])
+-- what follows the first day of a run: nothing, `,` and the second of two days, `..` and the last of more
+abbrev pub behind_first : ℕ → ℕ → List ℕ
+behind_first first last =
+    if first == last then [] else joined ((if first + 1 == last then codes "," else codes "..") ∷ day_name last ∷ [])
+
+-- a run, with what leads up to it in front
+unfoldable pub run_text : List ℕ → Run → List ℕ
+run_text lead r = joined (lead ∷ day_name r.first ∷ behind_first r.first r.last ∷ [])
 
 unfoldable pub runs_text : List Run → List ℕ
-runs_text = join_by run_text (codes ",")
+runs_text = join_by (run_text []) (codes ",")
 
 -- all seven days print nothing; any others, and a space
 unfoldable pub weekdays_text : List Bool → List ℕ

@@ -1,0 +1,133 @@
+-- Runs of weekdays: those that are found day by day.
+use Rattle.std.proofs.Common.{◌≡◌, ℕ, zero, suc, ◌+◌, ◌-◌, ◌<◌, ◌≤◌, cond, Bool, true, false, nat_eq, List, [], ◌∷◌, ◌++◌, codes, length, drop, refl, sym, ap, ◌∙◌, subst, arith}
+use Rattle.std.specs.List.{flat_map, list_all, prefix_len}
+use Rattle.std.proofs.lemmas.List.{drop-drop}
+use Rattle.std.proofs.lemmas.Bool.{eq-eqb, ne_eqb, eqb-true, eqb-false}
+use Rattle.std.proofs.lemmas.List.Sums.{prefix_len-le-length}
+use Rattle.cal_base.specs.Bytes.{joined}
+use Rattle.cal_spec.specs.WeekdayRuns.{Run, AreApartFrom, with_day, runs_from, run_text, runs_text, weekdays_text, behind_first, day_name}
+
+run : ℕ → ℕ → Run
+run first last = record { first = first; last = last }
+
+-- how many days at the front are chosen
+abbrev pub front : List Bool → ℕ
+front = prefix_len (λ day. day)
+
+pub front_within : (bs : List Bool) → front bs ≤ length bs
+front_within bs = prefix_len-le-length (λ day. day) bs
+
+lower : (low high : ℕ) (rs : List Run) → low ≤ high → AreApartFrom high rs → AreApartFrom low rs
+lower low high [] h a = tt
+lower low high (r ∷ rs) h a = (omega (arith, a.0), a.1, a.2)
+
+with_day_by : (t : Bool) (day : ℕ) (r : Run) (rs : List Run) → nat_eq r.first (day + 1) ≡ t → AreApartFrom (day + 1) (r ∷ rs)
+    → AreApartFrom day (cond t (record { first = day; last = r.last } ∷ rs) (record { first = day; last = day } ∷ r ∷ rs))
+with_day_by true day r rs e a = (omega arith, omega (arith, a.0, a.1), a.2)
+with_day_by false day r rs e a =
+    let other = eqb-false r.first (day + 1) e in
+    (omega arith, omega arith, (omega (arith, a.0), a.1, a.2))
+
+with_day_apart : (day : ℕ) (rs : List Run) → AreApartFrom (day + 1) rs → AreApartFrom day (with_day day rs)
+with_day_apart day [] a = (omega arith, omega arith, tt)
+with_day_apart day (r ∷ rs) a = with_day_by (nat_eq r.first (day + 1)) day r rs refl a
+
+-- runs begin at the day that they are counted from, or later, and lie apart
+pub runs_apart : (day : ℕ) (bs : List Bool) → AreApartFrom day (runs_from day bs)
+runs_apart day [] = tt
+runs_apart day (true ∷ bs) = with_day_apart day (runs_from (day + 1) bs) (runs_apart (day + 1) bs)
+runs_apart day (false ∷ bs) = lower day (day + 1) (runs_from (day + 1) bs) (omega arith) (runs_apart (day + 1) bs)
+
+-- a day before runs that begin later than the next is a run of its own
+with_day-alone : (day : ℕ) (rs : List Run) → AreApartFrom (day + 2) rs → with_day day rs ≡ record { first = day; last = day } ∷ rs
+with_day-alone day [] a = refl
+with_day-alone day (r ∷ rs) a =
+    let other : nat_eq r.first (day + 1) ≡ false = ne_eqb r.first (day + 1) (λ e. absurd (omega (arith, a.0))) in
+    rw other
+
+-- a day before a run that begins on the next goes into it
+with_day-joins : (day last : ℕ) (rs : List Run) → with_day day (record { first = day + 1; last = last } ∷ rs) ≡ record { first = day; last = last } ∷ rs
+with_day-joins day last rs = let same : nat_eq (day + 1) (day + 1) ≡ true = eq-eqb (day + 1) (day + 1) refl in rw same
+
+-- no chosen day at the front
+pub runs_skip : (day : ℕ) (bs : List Bool) → front bs ≡ 0 → runs_from day bs ≡ runs_from (day + 1) (drop 1 bs)
+runs_skip day [] h = refl
+runs_skip day (true ∷ bs) h = absurd (omega arith)
+runs_skip day (false ∷ bs) h = refl
+
+-- the chosen days at the front are the first run
+pub runs_front : (n day : ℕ) (bs : List Bool) → front bs ≡ suc n
+    → runs_from day bs ≡ record { first = day; last = day + n } ∷ runs_from (day + n + 2) (drop (suc (suc n)) bs)
+runs_front n day [] h = absurd (omega arith)
+runs_front n day (false ∷ bs) h = absurd (omega arith)
+runs_front zero day (true ∷ bs) h =
+    let skip = runs_skip (day + 1) bs (omega arith) in
+    let two : day + 1 + 1 ≡ day + 2 = omega arith in
+    let rest = runs_from (day + 2) (drop 1 bs) in
+    let last : day + 0 ≡ day = omega arith in
+    rw (skip, two, with_day-alone day rest (runs_apart (day + 2) (drop 1 bs)), last) refl
+runs_front (suc m) day (true ∷ bs) h =
+    let inner = runs_front m (day + 1) bs (omega arith) in
+    let last : day + 1 + m ≡ day + suc m = omega arith in
+    let next : day + suc m + 2 ≡ day + suc m + 2 = refl in
+    rw (inner, last) (with_day-joins day (day + suc m) (runs_from (day + suc m + 2) (drop (suc (suc m)) bs)))
+
+-- the first run behind what leads up to it, and the others behind commas
+abbrev pub led : List ℕ → List Run → List ℕ
+led lead [] = []
+led lead (r ∷ rs) = run_text lead r ++ flat_map (λ q. codes "," ++ run_text [] q) rs
+
+pub runs_text-led : (rs : List Run) → runs_text rs ≡ led [] rs
+unfolding runs_text
+runs_text-led [] = refl
+runs_text-led (r ∷ rs) = refl
+
+pub led-comma : (rs : List Run) → flat_map (λ q. codes "," ++ run_text [] q) rs ≡ led (codes ",") rs
+unfolding run_text
+led-comma [] = refl
+led-comma (r ∷ rs) = refl
+
+-- what is left at a day that is chosen: the run that it begins, and what follows the day behind that
+pub led-front : (lead : List ℕ) (day last next n : ℕ) (days : List Bool) → n ≡ front (drop day days) → 0 < n → last ≡ day + n - 1 → next ≡ day + (n + 1)
+    → led lead (runs_from day (drop day days)) ≡ run_text lead (record { first = day; last = last }) ++ led (codes ",") (runs_from next (drop next days))
+led-front lead day last next zero days e positive at_last at_next = absurd (omega arith)
+led-front lead day last next (suc m) days e positive at_last at_next =
+    let bs = drop day days in
+    let here = runs_front m day bs (sym e) in
+    let at_end : last ≡ day + m = omega arith in
+    let behind : day + m + 2 ≡ next = omega arith in
+    let dropped : drop (suc (suc m)) bs ≡ drop next days = drop-drop (suc (suc m)) day days ∙ ap (λ k. drop k days) (omega arith) in
+    ap (led lead) here
+    ∙ ap (λ t. run_text lead (record { first = day; last = day + m }) ++ t) (led-comma (runs_from (day + m + 2) (drop (suc (suc m)) bs)))
+    ∙ rw (at_end, behind, dropped) refl
+
+-- at another day it is what follows that day
+pub led-skip : (lead : List ℕ) (day next n : ℕ) (days : List Bool) → n ≡ front (drop day days) → n ≡ 0 → next ≡ day + (n + 1)
+    → led lead (runs_from day (drop day days)) ≡ led lead (runs_from next (drop next days))
+led-skip lead day next n days e none at_next =
+    let behind : day + 1 ≡ next = omega arith in
+    let dropped : drop 1 (drop day days) ≡ drop next days = drop-drop 1 day days ∙ ap (λ k. drop k days) behind in
+    ap (led lead) (runs_skip day (drop day days) (sym e ∙ none)) ∙ rw (behind, dropped) refl
+
+pub weekdays_text-all : (days : List Bool) → list_all (λ day. day) days ≡ true → weekdays_text days ≡ []
+unfolding weekdays_text
+weekdays_text-all days h = rw h
+
+pub weekdays_text-some : (days : List Bool) → list_all (λ day. day) days ≡ false → weekdays_text days ≡ joined (runs_text (runs_from 0 days) ∷ codes " " ∷ [])
+unfolding weekdays_text
+weekdays_text-some days h = rw h
+
+-- what follows the first day of a run
+pub behind_first-none : (first last : ℕ) → first ≡ last → behind_first first last ≡ []
+behind_first-none first last h = rw (eq-eqb first last h)
+
+pub behind_first-second : (first last : ℕ) → first + 1 ≡ last → behind_first first last ≡ joined (codes "," ∷ day_name last ∷ [])
+behind_first-second first last h =
+    let other : nat_eq first last ≡ false = ne_eqb first last (λ e. absurd (omega arith)) in
+    rw (other, eq-eqb (first + 1) last h)
+
+pub behind_first-more : (first last : ℕ) → first + 1 < last → behind_first first last ≡ joined (codes ".." ∷ day_name last ∷ [])
+behind_first-more first last h =
+    let other : nat_eq first last ≡ false = ne_eqb first last (λ e. absurd (omega arith)) in
+    let no_second : nat_eq (first + 1) last ≡ false = ne_eqb (first + 1) last (λ e. absurd (omega arith)) in
+    rw (other, no_second)
