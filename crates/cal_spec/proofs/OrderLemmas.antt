@@ -59,7 +59,7 @@ module _ {A : Type 0} (cmp : A → A → Ordering) (total : IsTotalOrder cmp) (e
   has_placed x z (y ∷ ys) = has_placed_by (cmp x y) x y z ys (placed cmp x ys) refl (has_placed x z ys)
 
   -- the same elements
-  has_in_order : (z : A) (xs : List A) → Has (in_order cmp xs) z ↔ Has xs z
+  pub has_in_order : (z : A) (xs : List A) → Has (in_order cmp xs) z ↔ Has xs z
   has_in_order z [] = (λ h. h, λ h. h)
   has_in_order z (x ∷ xs) =
       let rest = has_in_order z xs in
@@ -92,7 +92,7 @@ module _ {A : Type 0} (cmp : A → A → Ordering) (total : IsTotalOrder cmp) (e
   sorted_placed x (y ∷ ys) h = sorted_placed_by (cmp x y) x y ys refl h (sorted_placed x ys (tail_sorted y ys h))
 
   -- each element stands once, in its place
-  sorted_in_order : (xs : List A) → IsStrictlySortedBy cmp (in_order cmp xs)
+  pub sorted_in_order : (xs : List A) → IsStrictlySortedBy cmp (in_order cmp xs)
   unfolding IsStrictlySortedBy
   sorted_in_order [] = tt
   sorted_in_order (x ∷ xs) = sorted_placed x (in_order cmp xs) (sorted_in_order xs)
@@ -123,7 +123,7 @@ module _ {A : Type 0} (cmp : A → A → Ordering) (total : IsTotalOrder cmp) (e
   ]
 
   -- two such lists with the same elements are equal
-  same_sorted : (xs ys : List A) → IsStrictlySortedBy cmp xs → IsStrictlySortedBy cmp ys → ((z : A) → Has xs z ↔ Has ys z) → xs ≡ ys
+  pub same_sorted : (xs ys : List A) → IsStrictlySortedBy cmp xs → IsStrictlySortedBy cmp ys → ((z : A) → Has xs z ↔ Has ys z) → xs ≡ ys
   unfolding IsStrictlySortedBy
   same_sorted [] [] sx sy h = refl
   same_sorted [] (y ∷ ys) sx sy h = absurd ((h y).1 (inl refl))
