@@ -1,4 +1,6 @@
 mod MatchLemmas
+mod MemberLemmas
+mod NormalFieldsLemmas
 mod NormalLemmas
 mod NormalRows
 mod OrderLemmas

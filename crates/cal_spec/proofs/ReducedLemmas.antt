@@ -1,7 +1,7 @@
 -- Parts in their normal form: their ends are the last numbers reached, they are normal, and they have the same members.
-use Rattle.std.proofs.Common.{◌≡◌, ℕ, zero, suc, ◌+◌, ◌-◌, ◌*◌, ◌/◌, ◌%◌, ◌<◌, ◌≤◌, cond, Bool, true, false, ◌&&◌, nat_eq, nat_le, List, [], ◌∷◌, Option, None, Some, refl, sym, ap, ◌∙◌, subst, arith}
-use Rattle.std.proofs.Math.Nat.{div-mul-le_self, mul-mod_left, mod-one}
-use Rattle.std.proofs.lemmas.Bool.{eq-eqb, ne_eqb, eqb-true, eqb-false, leb-true, le-leb, and_parts, and_from, cases_Bool, cases_order}
+use Rattle.std.proofs.Common.{◌≡◌, ℕ, zero, suc, ◌+◌, ◌-◌, ◌*◌, ◌/◌, ◌%◌, ◌<◌, ◌≤◌, cond, Bool, true, false, ◌&&◌, nat_eq, nat_le, List, [], ◌∷◌, Option, None, Some, refl, sym, ap, ◌∙◌, subst, inl, inr, arith}
+use Rattle.std.proofs.Math.Nat.{div-mul-le_self, mul-le-mul_right, mul-mod_left, mod-one}
+use Rattle.std.proofs.lemmas.Bool.{eq-eqb, ne_eqb, eqb-true, eqb-false, leb-true, le-leb, and_parts, and_from, cases_lt}
 use Rattle.std.proofs.lemmas.Bool.Decides.{nat_tests}
 use Rattle.std.proofs.lemmas.Nat.{div-mul-add, div-add-mod', mod_below}
 use Rattle.cal_spec.specs.Members.{lies, lies_by, repeats, values, part_has}
@@ -151,14 +151,14 @@ unfolding reduced
 reduced_sound slot p h = sound_to slot p.start p.end p.step h.start_in h.end_in h.forward h.some_step h.goes_on
 
 -- two tests that imply each other
-same_tests : (x y : Bool) → (x ≡ true → y ≡ true) → (y ≡ true → x ≡ true) → x ≡ y
+pub same_tests : (x y : Bool) → (x ≡ true → y ≡ true) → (y ≡ true → x ≡ true) → x ≡ y
 same_tests true true f g = refl
 same_tests true false f g = sym (f refl)
 same_tests false true f g = g refl
 same_tests false false f g = refl
 
 -- a range up to the last number that is reached has the range's members
-last_lies : (a b r e v : ℕ) → 0 < r → IsLastReached a b r e → lies_by a e r (v - a) v ≡ lies_by a b r (v - a) v
+pub last_lies : (a b r e v : ℕ) → 0 < r → IsLastReached a b r e → lies_by a e r (v - a) v ≡ lies_by a b r (v - a) v
 last_lies a b r e v positive last = same_tests (lies_by a e r (v - a) v) (lies_by a b r (v - a) v)
     (λ h.
     let both = and_parts (lies a e v) (nat_eq ((v - a) % r) 0) h in
@@ -180,4 +180,9 @@ last_lies a b r e v positive last = same_tests (lies_by a e r (v - a) v) (lies_b
         let whole = div-add-mod' (v - a) r in
         let to_last = div-add-mod' (e - a) r in
         let at_last = last.reached in
-        ?
+        elim (cases_lt ((v - a) / r) ((e - a) / r + 1)) [
+          | inl few ↦ (let product : (v - a) / r * r ≤ (e - a) / r * r = mul-le-mul_right r (omega arith) in omega (arith, last.from))
+          | inr more ↦
+              (let product : ((e - a) / r + 1) * r ≤ (v - a) / r * r = mul-le-mul_right r more in
+              absurd (omega (arith, last.last, last.from)))
+        ]

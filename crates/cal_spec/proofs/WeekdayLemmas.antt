@@ -1,11 +1,13 @@
 -- Runs of weekdays: those that are found day by day.
-use Rattle.std.proofs.Common.{◌≡◌, ℕ, zero, suc, ◌+◌, ◌-◌, ◌<◌, ◌≤◌, cond, Bool, true, false, nat_eq, List, [], ◌∷◌, ◌++◌, codes, length, drop, refl, sym, ap, ◌∙◌, subst, arith}
+use Rattle.std.proofs.Common.{◌≡◌, ℕ, zero, suc, ◌+◌, ◌-◌, ◌<◌, ◌≤◌, cond, Bool, true, false, ◌||◌, ◌&&◌, nat_eq, nat_le, get_or, List, [], ◌∷◌, ◌++◌, codes, length, drop, refl, sym, ap, ◌∙◌, subst, arith}
 use Rattle.std.specs.List.{flat_map, list_all, prefix_len}
 use Rattle.std.proofs.lemmas.List.{drop-drop}
-use Rattle.std.proofs.lemmas.Bool.{eq-eqb, ne_eqb, eqb-true, eqb-false}
+use Rattle.std.proofs.lemmas.Bool.{eq-eqb, ne_eqb, eqb-true, eqb-false, lt-leb}
+use Rattle.std.proofs.lemmas.Bool.Decides.{nat_tests}
+use Rattle.cal_spec.specs.Members.{lies}
 use Rattle.std.proofs.lemmas.List.Sums.{prefix_len-le-length}
 use Rattle.cal_base.specs.Bytes.{joined}
-use Rattle.cal_spec.specs.WeekdayRuns.{Run, AreApartFrom, with_day, runs_from, run_text, runs_text, weekdays_text, behind_first, day_name}
+use Rattle.cal_spec.specs.WeekdayRuns.{Run, AreApartFrom, AreRuns, is_in, with_day, runs_from, run_text, runs_text, weekdays_text, behind_first, day_name}
 
 run : ℕ → ℕ → Run
 run first last = record { first = first; last = last }
@@ -131,3 +133,62 @@ behind_first-more first last h =
     let other : nat_eq first last ≡ false = ne_eqb first last (λ e. absurd (omega arith)) in
     let no_second : nat_eq (first + 1) last ≡ false = ne_eqb (first + 1) last (λ e. absurd (omega arith)) in
     rw (other, no_second)
+
+or_assoc : (x y z : Bool) → ((x || y) || z) ≡ (x || (y || z))
+or_assoc true y z = refl
+or_assoc false y z = refl
+
+-- a day is in the runs exactly where it is chosen
+is_in-later : (low day : ℕ) (rs : List Run) → AreApartFrom low rs → day < low → is_in day rs ≡ false
+is_in-later low day [] a h = refl
+is_in-later low day (r ∷ rs) a h =
+    let before : lies r.first r.last day ≡ false = (let first : nat_le r.first day ≡ false = lt-leb r.first day (omega (arith, a.0)) in rw first refl) in
+    rw before (is_in-later (r.last + 2) day rs a.2 (omega (arith, a.0, a.1)))
+
+with_day_in_by : (t : Bool) (day k : ℕ) (r : Run) (rs : List Run) → nat_eq r.first (day + 1) ≡ t → r.first ≤ r.last
+    → is_in k (cond t (record { first = day; last = r.last } ∷ rs) (record { first = day; last = day } ∷ r ∷ rs)) ≡ (nat_eq k day || is_in k (r ∷ rs))
+with_day_in_by true day k r rs e forward =
+    let same = eqb-true r.first (day + 1) e in
+    let joined_up : lies day r.last k ≡ (nat_eq k day || lies r.first r.last k) = grind (arith, nat_tests) in
+    ap (λ b. b || is_in k rs) joined_up ∙ or_assoc (nat_eq k day) (lies r.first r.last k) (is_in k rs)
+with_day_in_by false day k r rs e forward =
+    let alone : lies day day k ≡ nat_eq k day = grind (arith, nat_tests) in
+    ap (λ b. b || is_in k (r ∷ rs)) alone
+
+with_day_in : (day k : ℕ) (rs : List Run) → AreApartFrom (day + 1) rs → is_in k (with_day day rs) ≡ (nat_eq k day || is_in k rs)
+with_day_in day k [] a =
+    let alone : lies day day k ≡ nat_eq k day = grind (arith, nat_tests) in
+    ap (λ b. b || false) alone
+with_day_in day k (r ∷ rs) a = with_day_in_by (nat_eq r.first (day + 1)) day k r rs refl a.1
+
+runs_chosen : (low day : ℕ) (bs : List Bool) → is_in (low + day) (runs_from low bs) ≡ get_or bs day false
+runs_chosen low day [] = refl
+runs_chosen low zero (true ∷ bs) =
+    let here : nat_eq (low + 0) low ≡ true = eq-eqb (low + 0) low (omega arith) in
+    with_day_in low (low + 0) (runs_from (low + 1) bs) (runs_apart (low + 1) bs) ∙ rw here refl
+runs_chosen low (suc k) (true ∷ bs) =
+    let other : nat_eq (low + suc k) low ≡ false = ne_eqb (low + suc k) low (λ e. absurd (omega arith)) in
+    let next : low + suc k ≡ low + 1 + k = omega arith in
+    with_day_in low (low + suc k) (runs_from (low + 1) bs) (runs_apart (low + 1) bs)
+    ∙ rw (other, next) (runs_chosen (low + 1) k bs)
+runs_chosen low zero (false ∷ bs) = is_in-later (low + 1) (low + 0) (runs_from (low + 1) bs) (runs_apart (low + 1) bs) (omega arith)
+runs_chosen low (suc k) (false ∷ bs) =
+    let next : low + suc k ≡ low + 1 + k = omega arith in
+    rw next (runs_chosen (low + 1) k bs)
+
+pub are_runs : (days : List Bool) → AreRuns days (runs_from 0 days)
+are_runs days = record {
+  chosen = λ day. let start : 0 + day ≡ day = omega arith in (rw start at (runs_chosen 0 day days));
+  apart = runs_apart 0 days;
+}
+
+-- and no other runs hold the same days
+same_runs : (low other : ℕ) (rs qs : List Run) → AreApartFrom low rs → AreApartFrom other qs → ((day : ℕ) → is_in day rs ≡ is_in day qs) → rs ≡ qs
+same_runs low other [] [] a b h = refl
+same_runs low other [] (q ∷ qs) a b h = ?
+same_runs low other (r ∷ rs) [] a b h = ?
+same_runs low other (r ∷ rs) (q ∷ qs) a b h = ?
+
+pub runs_only : (days : List Bool) (rs : List Run) → AreRuns days rs → rs ≡ runs_from 0 days
+runs_only days rs h =
+    same_runs 0 0 rs (runs_from 0 days) h.apart (runs_apart 0 days) (λ day. h.chosen day ∙ sym ((are_runs days).chosen day))

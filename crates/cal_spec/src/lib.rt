@@ -4,6 +4,7 @@
 mod expr;
 mod expr_text;
 mod field;
+pub mod laws;
 mod matching;
 mod members;
 mod normal_form;
