@@ -1,8 +1,8 @@
 -- Runs of weekdays: those that are found day by day.
-use Rattle.std.proofs.Common.{◌≡◌, ℕ, zero, suc, ◌+◌, ◌-◌, ◌<◌, ◌≤◌, cond, Bool, true, false, ◌||◌, ◌&&◌, nat_eq, nat_le, get_or, List, [], ◌∷◌, ◌++◌, codes, length, drop, refl, sym, ap, ◌∙◌, subst, arith}
+use Rattle.std.proofs.Common.{◌≡◌, ℕ, zero, suc, ◌+◌, ◌-◌, ◌<◌, ◌≤◌, cond, Bool, true, false, ◌||◌, ◌&&◌, nat_eq, nat_le, get_or, List, [], ◌∷◌, ◌++◌, codes, length, drop, refl, sym, ap, ◌∙◌, subst, inl, inr, arith}
 use Rattle.std.specs.List.{flat_map, list_all, prefix_len}
 use Rattle.std.proofs.lemmas.List.{drop-drop}
-use Rattle.std.proofs.lemmas.Bool.{eq-eqb, ne_eqb, eqb-true, eqb-false, lt-leb}
+use Rattle.std.proofs.lemmas.Bool.{eq-eqb, ne_eqb, eqb-true, eqb-false, le-leb, lt-leb, and_from, and_right, or_left, cases_lt}
 use Rattle.std.proofs.lemmas.Bool.Decides.{nat_tests}
 use Rattle.cal_spec.specs.Members.{lies}
 use Rattle.std.proofs.lemmas.List.Sums.{prefix_len-le-length}
@@ -182,12 +182,61 @@ are_runs days = record {
   apart = runs_apart 0 days;
 }
 
--- and no other runs hold the same days
+run_in : (r : Run) (rs : List Run) (day : ℕ) → r.first ≤ day → day ≤ r.last → is_in day (r ∷ rs) ≡ true
+run_in r rs day low high =
+    or_left (lies r.first r.last day) (is_in day rs) (and_from (nat_le r.first day) (nat_le day r.last) (le-leb r.first day low) (le-leb day r.last high))
+
+run_past : (r : Run) (rs : List Run) (day : ℕ) → r.last < day → is_in day (r ∷ rs) ≡ is_in day rs
+run_past r rs day past =
+    let outside : lies r.first r.last day ≡ false = and_right (nat_le r.first day) (nat_le day r.last) (lt-leb day r.last past) in
+    rw outside refl
+
+contradiction : {A : Type 0} (x y : Bool) → x ≡ true → y ≡ false → x ≡ y → A
+contradiction x y holds fails same = absurd (cc)
+
+-- two lists of runs that hold the same days begin and end their first runs alike
+first_le : (r q : Run) (rs qs : List Run) → r.first ≤ r.last → AreApartFrom q.first (q ∷ qs) → ((day : ℕ) → is_in day (r ∷ rs) ≡ is_in day (q ∷ qs))
+    → q.first ≤ r.first
+first_le r q rs qs forward apart same = elim (cases_lt r.first q.first) [
+  | inl early ↦ contradiction _ _ (run_in r rs r.first (omega arith) forward) (is_in-later q.first r.first (q ∷ qs) apart early) (same r.first)
+  | inr late ↦ late
+]
+
+last_le : (r q : Run) (rs qs : List Run) → q.first ≤ r.last → AreApartFrom (r.last + 2) rs → ((day : ℕ) → is_in day (r ∷ rs) ≡ is_in day (q ∷ qs))
+    → q.last ≤ r.last
+last_le r q rs qs begun apart same = elim (cases_lt r.last q.last) [
+  | inl early ↦
+      contradiction _ _ (run_in q qs (r.last + 1) (omega arith) (omega arith))
+      (run_past r rs (r.last + 1) (omega arith) ∙ is_in-later (r.last + 2) (r.last + 1) rs apart (omega arith))
+      (sym (same (r.last + 1)))
+  | inr late ↦ late
+]
+
+rest_same : (r q : Run) (rs qs : List Run) → r.last ≡ q.last → AreApartFrom (r.last + 2) rs → AreApartFrom (q.last + 2) qs
+    → ((day : ℕ) → is_in day (r ∷ rs) ≡ is_in day (q ∷ qs)) → (day : ℕ) → is_in day rs ≡ is_in day qs
+rest_same r q rs qs last a b same day = elim (cases_lt day (r.last + 2)) [
+  | inl early ↦ is_in-later (r.last + 2) day rs a early ∙ sym (is_in-later (q.last + 2) day qs b (omega arith))
+  | inr late ↦ sym (run_past r rs day (omega arith)) ∙ same day ∙ run_past q qs day (omega arith)
+]
+
+-- no other runs hold the same days
 same_runs : (low other : ℕ) (rs qs : List Run) → AreApartFrom low rs → AreApartFrom other qs → ((day : ℕ) → is_in day rs ≡ is_in day qs) → rs ≡ qs
-same_runs low other [] [] a b h = refl
-same_runs low other [] (q ∷ qs) a b h = ?
-same_runs low other (r ∷ rs) [] a b h = ?
-same_runs low other (r ∷ rs) (q ∷ qs) a b h = ?
+same_runs low other [] [] a b same = refl
+same_runs low other [] (q ∷ qs) a b same = contradiction _ _ (run_in q qs q.first (omega arith) b.1) refl (sym (same q.first))
+same_runs low other (r ∷ rs) [] a b same = contradiction _ _ (run_in r rs r.first (omega arith) a.1) refl (same r.first)
+same_runs low other (r ∷ rs) (q ∷ qs) a b same =
+    let back : (day : ℕ) → is_in day (q ∷ qs) ≡ is_in day (r ∷ rs) = λ day. sym (same day) in
+    let later = first_le r q rs qs a.1 (omega arith, b.1, b.2) same in
+    let sooner = first_le q r qs rs b.1 (omega arith, a.1, a.2) back in
+    let first : r.first ≡ q.first = omega arith in
+    let forward = a.1 in
+    let onward = b.1 in
+    let shorter = last_le r q rs qs (omega arith) a.2 same in
+    let longer = last_le q r qs rs (omega arith) b.2 back in
+    let last : r.last ≡ q.last = omega arith in
+    let rest = same_runs (r.last + 2) (q.last + 2) rs qs a.2 b.2 (rest_same r q rs qs last a.2 b.2 same) in
+    let whole : ◌≡◌ {A = List Run} (record { first = r.first; last = r.last } ∷ rs) (record { first = q.first; last = q.last } ∷ qs) = cc in
+    whole
 
 pub runs_only : (days : List Bool) (rs : List Run) → AreRuns days rs → rs ≡ runs_from 0 days
 runs_only days rs h =
