@@ -160,3 +160,6 @@ fn normal_time(time: RawTime) -> RawTime
         second: normal_second(second),
     }
 }
+
+#[cfg(test)]
+mod tests;
