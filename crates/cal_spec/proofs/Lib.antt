@@ -1,3 +1,4 @@
+mod LengthLemmas
 mod MatchLemmas
 mod MemberLemmas
 mod NormalFieldsLemmas

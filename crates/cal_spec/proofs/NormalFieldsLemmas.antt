@@ -142,7 +142,7 @@ starred_is_by : (t : Bool) (p : Part) → part_eq p each ≡ t → IsStarred (p 
 starred_is_by true p is = ap (λ q. q ∷ []) (part_eq_exact p each is)
 starred_is_by false p is = (refl, not_each p is)
 
-starred_is : (ps : List Part) → IsStarred ps (starred ps)
+pub starred_is : (ps : List Part) → IsStarred ps (starred ps)
 starred_is [] = (refl, λ e. cc)
 starred_is (p ∷ []) = starred_is_by (part_eq p each) p refl
 starred_is (p ∷ q ∷ ps) = (refl, λ e. cc)

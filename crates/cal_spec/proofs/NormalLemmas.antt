@@ -20,7 +20,7 @@ use Rattle.cal_spec.specs.declared.slot.Slot.{Slot}
 use Rattle.cal_spec.proofs.OrderLemmas.{contains_from_has, has_from_contains, all_from, has_in_order, sorted_in_order, same_sorted}
 
 -- parts that have a meaning don't run backwards, and step on
-each_part : (slot : Slot) (ps : List Part) → AllByRecursion (IsSound slot) ps → AllByRecursion IsPart ps
+pub each_part : (slot : Slot) (ps : List Part) → AllByRecursion (IsSound slot) ps → AllByRecursion IsPart ps
 each_part slot [] h = tt
 each_part slot (p ∷ ps) h = (record { forward = h.0.forward; steps = h.0.some_step }, each_part slot ps h.1)
 

@@ -3,6 +3,7 @@
 
 ghost use Rattle.std.specs.Prelude.{◌≡◌, ◌<◌, ℕ, Bool, List, Option, length};
 ghost use Rattle.std.specs.List.{AllByRecursion};
+ghost use Rattle.cal_spec.specs.ExprText.{expr_text};
 ghost use Rattle.cal_spec.specs.Fields.{Fields};
 ghost use Rattle.cal_spec.specs.Match.{matches};
 ghost use Rattle.cal_spec.specs.Members.{component_has, sets_of};
@@ -51,6 +52,11 @@ pub fn members_stay()
 pub fn matches_stay()
     ensures { (f : Fields) (local : ℕ) → IsValidFields f
         → matches (sets_of (normal_fields f)) local ≡ matches (sets_of f) local }
+{}
+
+/// The normal text of valid fields has fewer than 4,096 bytes.
+pub fn normal_texts_are_short()
+    ensures { (f : Fields) → IsValidFields f → length (expr_text (normal_fields f)) < 4_096 }
 {}
 
 /// Weekdays have exactly one list of runs.
