@@ -1,4 +1,14 @@
+pub mod Components
+pub mod DateAndTime
 pub mod Fields
+pub mod Grammar
+pub mod Parts
+pub mod Reads
+pub mod Shorthand
 pub mod Slot
 pub mod Sound
 pub mod SpecFault
+pub mod ValidFields
+pub mod Weekdays
+pub mod Words
+pub mod ZoneName

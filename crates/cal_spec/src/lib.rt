@@ -4,6 +4,7 @@
 mod field;
 mod part;
 mod raw;
+mod shorthand;
 mod slot;
 mod spec_fault;
 
