@@ -1,1 +1,2 @@
 mod ReadingRows
+pub mod SignLemmas

@@ -8,6 +8,7 @@ pub mod Shorthand
 pub mod Slot
 pub mod Sound
 pub mod SpecFault
+pub mod Symbol
 pub mod ValidFields
 pub mod Weekdays
 pub mod Words

@@ -2,7 +2,10 @@
 #![tactic(auto)]
 
 mod field;
+mod no_memory;
+mod numbers;
 mod part;
+mod parts;
 mod raw;
 mod shorthand;
 mod slot;
