@@ -1,2 +1,3 @@
+pub mod PieceLemmas
 mod ReadingRows
 pub mod SignLemmas

@@ -3,6 +3,7 @@ pub mod DateAndTime
 pub mod Fields
 pub mod Grammar
 pub mod Parts
+pub mod Pieces
 pub mod Reads
 pub mod Shorthand
 pub mod Slot

@@ -1,11 +1,13 @@
 //! Calendar expressions: their grammar, their normal form, and what matches them (systemd.time(7), Calendar Events).
 #![tactic(auto)]
 
+mod components;
 mod field;
 mod no_memory;
 mod numbers;
 mod part;
 mod parts;
+mod pieces;
 mod raw;
 mod shorthand;
 mod slot;
