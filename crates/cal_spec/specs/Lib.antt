@@ -1,5 +1,6 @@
 pub mod Components
 pub mod DateAndTime
+pub mod DateAndTimeViews
 pub mod Fields
 pub mod Grammar
 pub mod Parts

@@ -2,6 +2,7 @@
 #![tactic(auto)]
 
 mod components;
+mod date_and_time;
 mod field;
 mod no_memory;
 mod numbers;
