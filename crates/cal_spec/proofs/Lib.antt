@@ -1,3 +1,5 @@
 pub mod PieceLemmas
 mod ReadingRows
 pub mod SignLemmas
+pub mod WordLemmas
+pub mod ZoneLemmas

@@ -4,7 +4,7 @@ use Rattle.std.specs.Prelude.{not, nat_lt, filter}
 use Rattle.std.specs.List.{slice_split, onto_first, position, position_or_len, prefix_len}
 use Rattle.cal_spec.specs.DateAndTime.{TimeTexts, is_colon, time_texts}
 use Rattle.std.proofs.lemmas.Bool.{not-true, ltb-true, ltb-false}
-use Rattle.std.proofs.lemmas.List.Sums.{prefix_len_passes}
+use Rattle.std.proofs.lemmas.List.Sums.{prefix_len_passes, prefix_len-le-length}
 use Rattle.std.proofs.lemmas.List.Splits.{slice_split_first, slice_split_none}
 
 found_at : (test : Bool) (m n : ℕ) → cond test (Some m) None ≡ Some n → (test ≡ true) × (m ≡ n)
@@ -78,3 +78,14 @@ pub no_time : (word hour minute second b1 b2 b3 : List ℕ) → slice_split is_c
 unfolding time_texts
 no_time word hour minute second b1 b2 b3 first next last =
     let more = some_piece is_colon b3 in rw (first, next, last, more.2) refl
+
+-- the first place that passes, and the length where there is none
+pub place_some : (p : ℕ → Bool) (xs : List ℕ) (n : ℕ) → position p xs ≡ Some n → (n ≡ position_or_len p xs) × (n ≤ length xs)
+place_some p xs n at =
+    let found = found_at (nat_lt (position_or_len p xs) (length xs)) (position_or_len p xs) n at in
+    let within = ltb-true _ _ found.0 in (sym found.1, omega (arith, found.1, within))
+
+pub place_none : (p : ℕ → Bool) (xs : List ℕ) → position p xs ≡ None → length xs ≡ position_or_len p xs
+place_none p xs at =
+    let none = ltb-false _ _ (not_found (nat_lt (position_or_len p xs) (length xs)) (position_or_len p xs) at) in
+    omega (arith, none, prefix_len-le-length (λ x. not (p x)) xs)

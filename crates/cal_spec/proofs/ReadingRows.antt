@@ -1,7 +1,7 @@
 -- The worked texts of the rule, computed by the definitions.
 use Rattle.std.proofs.Common.{◌≡◌, codes, refl, Err, Ok, None, Some, replicate, List, ℕ, ◌++◌, [], ◌∷◌, true, false, Bool}
 use Rattle.std.specs.Prelude.{Result}
-use Rattle.cal_spec.specs.Grammar.{fields_in, fields_at, fields_of_words}
+use Rattle.cal_spec.specs.Grammar.{fields_in, fields_at}
 use Rattle.cal_spec.specs.Words.{words, places_of}
 use Rattle.cal_spec.specs.Shorthand.{shorthand_named}
 use Rattle.cal_spec.specs.Weekdays.{day_named, days_of, listed_days, weekdays_of}

@@ -1,6 +1,6 @@
 -- The fields of a calendar expression, or the fault of a text that is none: systemd.time(7), Calendar Events. The words
 -- are judged from the left.
-use Rattle.std.specs.Prelude.{ℕ, nat_lt, if◌then◌else◌, List, [], ◌∷◌, length, Result, Ok, Err}
+use Rattle.std.specs.Prelude.{ℕ, nat_lt, if◌then◌else◌, List, length, Option, None, Some, Result, Ok, Err}
 use Rattle.cal_spec.specs.DateAndTime.{DateFields, TimeFields, date_of, time_of, room_behind}
 use Rattle.cal_spec.specs.Fields.{Fields}
 use Rattle.cal_spec.specs.Reads.{◌>>=◌}
@@ -33,10 +33,11 @@ fields_at p =
       zone = name;
     })
 
-abbrev pub fields_of_words : List (List ℕ) → Result Fields SpecFault
-fields_of_words [] = Err Empty
-fields_of_words (w ∷ ws) = fields_at (places_of w ws)
+-- a text without a word has no fields
+abbrev pub fields_due : Option Places → Result Fields SpecFault
+fields_due None = Err Empty
+fields_due (Some p) = fields_at p
 
 -- the fields of a text, or its fault
 unfoldable pub fields_in : List ℕ → Result Fields SpecFault
-fields_in text = if nat_lt most_bytes (length text) then Err TextTooLong else fields_of_words (words text)
+fields_in text = if nat_lt most_bytes (length text) then Err TextTooLong else fields_due (places_of (words text))

@@ -5,8 +5,10 @@ pub mod Fields
 pub mod Grammar
 pub mod Parts
 pub mod Pieces
+pub mod PlacesView
 pub mod Reads
 pub mod Shorthand
+pub mod ShorthandViews
 pub mod Slot
 pub mod Sound
 pub mod SpecFault

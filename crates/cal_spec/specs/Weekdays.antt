@@ -1,6 +1,6 @@
 -- The weekday list of a calendar expression: systemd.time(7), Calendar Events.
-use Rattle.std.specs.Prelude.{ℕ, ◌+◌, ◌-◌, ◌%◌, ◌==◌, nat_le, Bool, true, false, not, ◌&&◌, ◌||◌, if◌then◌else◌, List, [], ◌∷◌, length, map, take, drop, Option, None, Some, is_some, Result, Ok, Err}
-use Rattle.std.specs.List.{find, list_any, list_all, prefix_len, slice_split}
+use Rattle.std.specs.Prelude.{ℕ, ◌+◌, ◌-◌, ◌%◌, ◌==◌, nat_le, Bool, true, false, not, ◌&&◌, ◌||◌, if◌then◌else◌, List, [], ◌∷◌, length, map, take, drop, slice_index, Option, None, Some, is_some, Result, Ok, Err}
+use Rattle.std.specs.List.{find, list_any, list_all, position_or_len, slice_split}
 use Rattle.std.specs.Option.{ok_or, option_map}
 use Rattle.std.specs.Char.{is_ascii_alphabetic}
 use Rattle.std.specs.Str.{str_eq_ignore_ascii_case}
@@ -9,6 +9,7 @@ use Rattle.jiff_core.specs.Weekday.{monday_zero}
 use Rattle.cal_base.specs.Weekday.{week, name_of, short_name_of}
 use Rattle.cal_spec.specs.Components.{is_comma}
 use Rattle.cal_spec.specs.Reads.{◌>>=◌}
+use Rattle.cal_spec.specs.declared.weekdays.Days.{Days}
 use Rattle.cal_spec.specs.declared.spec_fault.SpecFault.{SpecFault}
 use Rattle.cal_spec.specs.declared.spec_fault.SpecFault.TheVariants.{BadWeekday, UnknownShorthand}
 
@@ -17,11 +18,6 @@ unfoldable pub day_named : List ℕ → Option Weekday
 day_named word =
     find (λ day. str_eq_ignore_ascii_case word (name_of day) || str_eq_ignore_ascii_case word (short_name_of day)) week
 
--- one or more weekdays in a row, past Sunday too
-pub record Days : Type 0 where
-  pub first : Weekday
-  pub last : Weekday
-
 -- how many days it is from one weekday to the next other
 abbrev pub days_until : Weekday → Weekday → ℕ
 days_until day other = (monday_zero other + 7 - monday_zero day) % 7
@@ -29,12 +25,15 @@ days_until day other = (monday_zero other + 7 - monday_zero day) % 7
 abbrev pub is_covered : Weekday → Days → Bool
 is_covered day days = nat_le (days_until days.first day) (days_until days.first days.last)
 
+abbrev pub is_no_letter : ℕ → Bool
+is_no_letter b = not (is_ascii_alphabetic b)
+
 -- the letters at the front, and what stands behind them
 abbrev pub leading_letters : List ℕ → List ℕ
-leading_letters word = take (prefix_len is_ascii_alphabetic word) word
+leading_letters word = take (position_or_len is_no_letter word) word
 
 abbrev pub behind_letters : List ℕ → List ℕ
-behind_letters word = drop (prefix_len is_ascii_alphabetic word) word
+behind_letters word = drop (position_or_len is_no_letter word) word
 
 -- what stands behind `-` or `..`
 abbrev pub behind_joint : List ℕ → Option (List ℕ)
@@ -65,10 +64,8 @@ items_of [] = Ok []
 items_of (t ∷ ts) = ok_or (days_of t) BadWeekday >>= λ days. items_of ts >>= λ more. Ok (days ∷ more)
 
 -- one trailing comma is allowed
-abbrev pub without_trailing : List (List ℕ) → List (List ℕ)
-without_trailing [] = []
-without_trailing ([] ∷ []) = []
-without_trailing (t ∷ ts) = t ∷ without_trailing ts
+abbrev pub without_comma : List ℕ → List ℕ
+without_comma word = if is_comma (slice_index word (length word - 1)) then take (length word - 1) word else word
 
 -- whether each weekday is chosen, from Monday on
 abbrev pub set_of : List Days → List Bool
@@ -76,7 +73,7 @@ set_of items = map (λ day. list_any (is_covered day) items) week
 
 -- items joined by commas
 unfoldable pub listed_days : List ℕ → Result (List Bool) SpecFault
-listed_days word = items_of (without_trailing (slice_split is_comma word)) >>= λ items. Ok (set_of items)
+listed_days word = items_of (slice_split is_comma (without_comma word)) >>= λ items. Ok (set_of items)
 
 -- what a word that begins with no weekday name was meant for
 abbrev pub is_like_shorthand : List ℕ → Bool

@@ -52,6 +52,7 @@ places_by (Some shorthand) w ws =
       rest = ws;
     }
 
--- the places of the words of a text
-unfoldable pub places_of : List ℕ → List (List ℕ) → Places
-places_of w ws = places_by (shorthand_named w) w ws
+-- the places of the words of a text, where there is a word
+unfoldable pub places_of : List (List ℕ) → Option Places
+places_of [] = None
+places_of (w ∷ ws) = Some (places_by (shorthand_named w) w ws)

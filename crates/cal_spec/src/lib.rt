@@ -10,9 +10,14 @@ mod part;
 mod parts;
 mod pieces;
 mod raw;
+mod read;
+mod same_word;
 mod shorthand;
 mod slot;
 mod spec_fault;
+mod weekdays;
+mod words;
+mod zone_name;
 
 pub use field::Field;
 pub use part::Part;
