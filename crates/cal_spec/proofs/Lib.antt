@@ -1,4 +1,7 @@
+pub mod ComponentLemmas
+pub mod FieldLemmas
 pub mod PieceLemmas
+pub mod ReadLemmas
 mod ReadingRows
 pub mod SignLemmas
 pub mod WordLemmas
