@@ -45,12 +45,7 @@ pub(crate) fn counted(slot: Slot, component: &Option<Vec<Part>>) -> usize
 
 /// Parts between commas.
 #[tactic(auto, unfolding(crate::specs::Components::listed))]
-fn read_listed(
-    alloc: Global,
-    slot: Slot,
-    room: usize,
-    text: &[u8],
-) -> Result<Vec<Part>, SpecFault>
+fn read_listed(alloc: Global, slot: Slot, room: usize, text: &[u8]) -> Result<Vec<Part>, SpecFault>
     requires { room ≤ 240 }
     ensures { GivesUnlessNoMemory (λ parts. parts.items) result (listed slot room text.now) }
 {

@@ -102,7 +102,7 @@ fn cut_at_sign(word: &[u8]) -> Option<(&[u8], u8, &[u8])>
     ensures { MatchOption result
         ((slice_split is_date_sign word.now ≡ word.now ∷ []) × (filter is_date_sign word.now ≡ []))
         (λ found. (slice_split is_date_sign word.now ≡ found.0.now ∷ slice_split is_date_sign found.2.now)
-            × (filter is_date_sign word.now ≡ found.1 ∷ filter is_date_sign found.2.now)) }
+        × (filter is_date_sign word.now ≡ found.1 ∷ filter is_date_sign found.2.now)) }
 {
     let index = sign_place(word)?;
     Some((&word[..index], word[index], &word[index + 1..]))
