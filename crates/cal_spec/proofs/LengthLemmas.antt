@@ -1,6 +1,5 @@
 -- How long normal texts are: fewer than 4,096 bytes.
 use Rattle.std.proofs.Common.{◌≡◌, ℕ, zero, suc, ◌+◌, ◌-◌, ◌*◌, ◌/◌, ◌%◌, ◌^◌, ◌<◌, ◌≤◌, cond, Bool, true, false, ◌&&◌, nat_le, List, [], ◌∷◌, ◌++◌, length, codes, Option, None, Some, refl, sym, ap, ◌∙◌, subst, lit<, lit≤, arith, length-append}
-use Rattle.std.specs.Char.{is_ascii_alphabetic}
 use Rattle.std.specs.Fmt.{decimal}
 use Rattle.std.specs.List.{AllByRecursion, flat_map, list_all}
 use Rattle.std.proofs.lemmas.Bool.{and_parts, leb-true}
@@ -14,9 +13,9 @@ use Rattle.cal_spec.specs.Fields.{Fields, counted_parts, parts_in}
 use Rattle.cal_spec.specs.NormalForm.{IsNormal, IsNormalTo, IsStarred, normal_component, normal_fields, normal_from_end, normal_parts, normal_second, starred}
 use Rattle.cal_spec.specs.Slot.{least, greatest, day_slot}
 use Rattle.cal_spec.specs.Sound.{AreSound, GoesOn, IsEndWithin, IsSecondWithin, IsSound, IsWithin}
-use Rattle.cal_spec.specs.ValidFields.{IsValidFields, IsZoneOption}
+use Rattle.cal_spec.specs.ValidFields.{IsValidFields}
 use Rattle.cal_spec.specs.WeekdayRuns.{run_text, runs_text, weekdays_text}
-use Rattle.cal_spec.specs.ZoneName.{is_zone_name, is_zone_byte}
+use Rattle.cal_spec.specs.ZoneName.{IsZoneOption, begins_with_letter, is_zone_byte, is_zone_name}
 use Rattle.cal_spec.specs.declared.part.Part.{Part}
 use Rattle.cal_spec.specs.declared.slot.Slot.{Slot}
 use Rattle.cal_spec.specs.declared.slot.Slot.TheVariants.{Year, Month, Day, DayFromEnd, Hour, Minute, Second}
@@ -198,10 +197,9 @@ weekdays_length days seven = leb-true _ 20 (each_checked 7 (λ ds. nat_le (lengt
 zone_length : (name : Option (List ℕ)) → IsZoneOption name → length (zone_text name) ≤ 256
 unfolding is_zone_name
 zone_length None h = omega arith
-zone_length (Some []) h = omega arith
-zone_length (Some (b ∷ bs)) h =
-    let long = and_parts (list_all is_zone_byte bs) (nat_le (length bs) 254) (and_parts (is_ascii_alphabetic b) (list_all is_zone_byte bs && nat_le (length bs) 254) h).1 in
-    omega (arith, leb-true (length bs) 254 long.1, length-append (b ∷ bs) [])
+zone_length (Some name) h =
+    let long = and_parts (begins_with_letter name && list_all is_zone_byte name) (nat_le (length name) 255) h in
+    omega (arith, leb-true (length name) 255 long.1, length-append name [])
 
 -- a text of small parts is short
 pub expr_length : (f : Fields) → IsValidFields f → AreSmall f.year → AreSmall f.month → AreSmall f.day → AreSmall f.hour → AreSmall f.minute → AreSmall f.second

@@ -1,18 +1,12 @@
--- Which fields are those of a calendar expression: systemd.time(7), Calendar Events.
-use Rattle.std.specs.Prelude.{◌≡◌, ℕ, ◌≤◌, true, List, length, Option, None, Some}
+-- The fields of which expressions are made: systemd.time(7), Calendar Events.
+use Rattle.std.specs.Prelude.{◌≡◌, ◌≤◌, true, length}
 use Rattle.std.specs.List.{list_any}
 use Rattle.cal_spec.specs.Fields.{Fields, counted_parts}
 use Rattle.cal_spec.specs.Slot.{day_slot}
 use Rattle.cal_spec.specs.Sound.{AreSound}
-use Rattle.cal_spec.specs.ZoneName.{is_zone_name}
+use Rattle.cal_spec.specs.ZoneName.{IsZoneOption}
 use Rattle.cal_spec.specs.declared.slot.Slot.TheVariants.{Year, Month, Hour, Minute, Second}
 
--- no name, or the name of a zone
-abbrev pub IsZoneOption : Option (List ℕ) → Type 0
-IsZoneOption None = Unit {0}
-IsZoneOption (Some name) = is_zone_name name ≡ true
-
--- fields that have a meaning
 pub record IsValidFields (f : Fields) : Type 0 where
   pub seven : length f.weekdays ≡ 7
   pub chosen : list_any (λ d. d) f.weekdays ≡ true
