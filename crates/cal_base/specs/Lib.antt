@@ -14,3 +14,4 @@ pub mod SpanText
 pub mod SpanValue
 pub mod SpanWord
 pub mod Zone
+pub mod Weekday

@@ -1,0 +1,162 @@
+-- Components that were read have a meaning, and no more counted parts than may stand.
+use Rattle.std.proofs.Common.{ℕ, suc, ◌+◌, ◌-◌, ◌<◌, ◌≤◌, ◌≡◌, Bool, true, false, cond, not, ◌&&◌, ◌||◌, List, [], ◌∷◌, length, map, Option, Some, None, Ok, Err, Result, refl, sym, ap, ◌∙◌, arith, leb, ltb, eqb}
+use Rattle.std.specs.Prelude.{⊤}
+use Rattle.std.specs.List.{AllByRecursion, slice_split}
+use Rattle.std.specs.Option.{option_or}
+use Rattle.std.proofs.lemmas.Bool.{and_parts, leb-true, ltb-false, leb-false, eqb-false, not-false, not_from_true, eq-eqb}
+use Rattle.std.proofs.lemmas.Bool.Decides.{nat_tests}
+use Rattle.cal_spec.specs.Components.{is_comma, is_star, counted, room_in, part_due, parts_of, first_fault, listed, component_of}
+use Rattle.cal_spec.specs.Parts.{is_time, is_from_end, part_of, with_values, is_within, is_outside, is_backward, is_zero, is_idle, fault_of}
+use Rattle.cal_spec.specs.Reads.{◌>>=◌, unless, first_of}
+use Rattle.cal_spec.specs.Slot.{least, greatest}
+use Rattle.cal_spec.specs.Sound.{IsWithin, IsEndWithin, EndsAfter, IsStep, IsSecondWithin, GoesOn, IsSound, AreSound}
+use Rattle.cal_spec.specs.declared.part.Part.{Part}
+use Rattle.cal_spec.specs.declared.slot.Slot.{Slot}
+use Rattle.cal_spec.specs.declared.slot.Slot.TheVariants.{Year, Month, Day, DayFromEnd, Hour, Minute, Second}
+use Rattle.cal_spec.specs.declared.spec_fault.SpecFault.{SpecFault}
+use Rattle.cal_spec.specs.declared.spec_fault.SpecFault.TheVariants.{OutOfField, BackwardRange, ZeroRepeat, NoRepeat, TooManyParts}
+use Rattle.cal_spec.proofs.PieceLemmas.{some_piece}
+use Rattle.cal_spec.proofs.ReadLemmas.{Follows, bind_ok, unless_ok, cond_ok}
+
+-- a part without a fault
+
+no_fault : (a b c d : Bool) → cond a (Some OutOfField) (cond b (Some BackwardRange) (cond c (Some ZeroRepeat) (cond d (Some NoRepeat) None))) ≡ None → (a ≡ false) × (b ≡ false) × (c ≡ false) × (d ≡ false)
+no_fault true b c d at = cc
+no_fault false true c d at = cc
+no_fault false false true d at = cc
+no_fault false false false true at = cc
+no_fault false false false false at = (refl, refl, refl, refl)
+
+within_from : (slot : Slot) (n : ℕ) → is_within slot n ≡ true → IsWithin slot n
+within_from slot n test =
+    let both = and_parts (leb (least slot) n) (leb n (greatest slot)) test in
+    (leb-true (least slot) n both.0, leb-true n (greatest slot) both.1)
+
+pub start_within : (slot : Slot) (a : ℕ) (end : Option ℕ) → is_outside slot a end ≡ false → IsWithin slot a
+start_within slot a None test = within_from slot a (not-false (is_within slot a) test)
+start_within slot a (Some b) test =
+    within_from slot a (and_parts (is_within slot a) (is_within slot b) (not-false (is_within slot a && is_within slot b) test)).0
+
+pub end_within : (slot : Slot) (a : ℕ) (end : Option ℕ) → is_outside slot a end ≡ false → IsEndWithin slot end
+end_within slot a None test = tt
+end_within slot a (Some b) test =
+    within_from slot b (and_parts (is_within slot a) (is_within slot b) (not-false (is_within slot a && is_within slot b) test)).1
+
+ends_after : (a : ℕ) (end : Option ℕ) → is_backward a end ≡ false → EndsAfter a end
+ends_after a None test = tt
+ends_after a (Some b) test = ltb-false b a test
+
+is_step : (step : Option ℕ) → is_zero step ≡ false → IsStep step
+is_step None test = tt
+is_step (Some r) test = let some = eqb-false r 0 test in grind (arith, some)
+
+goes_on : (slot : Slot) (a : ℕ) (end step : Option ℕ) → is_idle slot a end step ≡ false → GoesOn slot a end step
+goes_on slot a (Some b) step test = tt
+goes_on slot a None None test = tt
+goes_on Year a None (Some r) test = ltb-false _ _ test
+goes_on Month a None (Some r) test = ltb-false _ _ test
+goes_on Day a None (Some r) test = ltb-false _ _ test
+goes_on DayFromEnd a None (Some r) test = leb-false _ _ test
+goes_on Hour a None (Some r) test = ltb-false _ _ test
+goes_on Minute a None (Some r) test = ltb-false _ _ test
+goes_on Second a None (Some r) test = ltb-false _ _ test
+
+pub sound_part : (slot : Slot) (p : Part) → fault_of slot p ≡ None → IsSound slot p
+unfolding fault_of
+sound_part slot p at =
+    let none = no_fault (is_outside slot p.start p.end) (is_backward p.start p.end) (is_zero p.step) (is_idle slot p.start p.end p.step) at in
+    record {
+      start_in = start_within slot p.start p.end none.0;
+      end_in = end_within slot p.start p.end none.0;
+      forward = ends_after p.start p.end none.1;
+      some_step = is_step p.step none.2;
+      goes_on = goes_on slot p.start p.end p.step none.3;
+    }
+
+or_none : (o p : Option SpecFault) → option_or o p ≡ None → (o ≡ None) × (p ≡ None)
+or_none None p at = (refl, at)
+or_none (Some e) p at = cc
+
+pub sound_parts : (slot : Slot) (ps : List Part) → first_fault slot ps ≡ None → AllByRecursion (IsSound slot) ps
+sound_parts slot [] at = tt
+sound_parts slot (p ∷ ps) at =
+    let none = or_none (fault_of slot p) (first_fault slot ps) at in
+    (sound_part slot p none.0, sound_parts slot ps none.1)
+
+-- as many parts as texts, and no more than may stand
+
+pub part_due_ok : (slot : Slot) (room : ℕ) (text : List ℕ) (p : Part) → part_due slot room text ≡ Ok p → 0 < room
+unfolding part_due
+part_due_ok slot room text p at =
+    let some = eqb-false room 0 (cond_ok (eqb room 0) TooManyParts _ p at).0 in grind (arith, some)
+
+pub record PartsRead (slot : Slot) (room : ℕ) (t : List ℕ) (ts : List (List ℕ)) (ps : List Part) : Type 0 where
+  pub first : Part
+  pub rest : List Part
+  pub is : ps ≡ first ∷ rest
+  pub first_is : part_due slot room t ≡ Ok first
+  pub rest_is : parts_of slot (room - 1) ts ≡ Ok rest
+
+pub parts_of-cons : (slot : Slot) (room : ℕ) (t : List ℕ) (ts : List (List ℕ)) (ps : List Part) → parts_of slot room (t ∷ ts) ≡ Ok ps → PartsRead slot room t ts ps
+parts_of-cons slot room t ts ps at =
+    let one = bind_ok (part_due slot room t) (λ p. parts_of slot (room - 1) ts >>= λ more. Ok (p ∷ more)) ps at in
+    let two = bind_ok (parts_of slot (room - 1) ts) (λ more. Ok (one.value ∷ more)) ps one.next in
+    record { first = one.value; rest = two.value; is = cc; first_is = one.first; rest_is = two.first }
+
+pub parts_counted : (slot : Slot) (room : ℕ) (ts : List (List ℕ)) (ps : List Part) → parts_of slot room ts ≡ Ok ps → (length ps ≡ length ts) × (length ps ≤ room)
+parts_counted slot room [] ps at = let none : [] ≡ ps = cc in rw (← none) (refl, omega arith)
+parts_counted slot room (t ∷ ts) ps at =
+    let read = parts_of-cons slot room t ts ps at in
+    let some = part_due_ok slot room t read.first read.first_is in
+    let rest = parts_counted slot (room - 1) ts read.rest read.rest_is in
+    rw read.is (ap suc rest.0, omega (arith, some, rest.1))
+
+pub record ListedRead (slot : Slot) (room : ℕ) (text : List ℕ) (ps : List Part) : Type 0 where
+  pub shapes : parts_of slot (room_in slot room) (slice_split is_comma text) ≡ Ok ps
+  pub values : first_fault slot ps ≡ None
+
+pub listed_ok : (slot : Slot) (room : ℕ) (text : List ℕ) (ps : List Part) → listed slot room text ≡ Ok ps → ListedRead slot room text ps
+unfolding listed
+listed_ok slot room text ps at =
+    let one = bind_ok (parts_of slot (room_in slot room) (slice_split is_comma text)) (λ ps. unless (first_fault slot ps) ps) ps at in
+    let two = unless_ok (first_fault slot one.value) one.value ps one.next in
+    record { shapes = rw two.1 at one.first; values = rw two.1 at two.0 }
+
+-- some part
+parts_some : (slot : Slot) (room : ℕ) (text : List ℕ) (ps : List Part) → parts_of slot room (slice_split is_comma text) ≡ Ok ps → 0 < length ps
+parts_some slot room text ps at =
+    let some = some_piece is_comma text in
+    omega (arith, (parts_counted slot room (slice_split is_comma text) ps at).0, ap length some.2)
+
+counted_in : (time : Bool) (n room : ℕ) → n ≤ cond time (room + 1) room → cond time (n - 1) n ≤ room
+counted_in true n room h = omega arith
+counted_in false n room h = h
+
+-- what a component that was read has
+pub record IsRead (slot : Slot) (room : ℕ) (c : Option (List Part)) : Type 0 where
+  pub sound : AreSound slot c
+  pub few : counted slot c ≤ room
+
+star_read : (slot : Slot) (room : ℕ) (c : Option (List Part)) → None ≡ c → IsRead slot room c
+star_read slot room None at = record { sound = tt; few = omega arith }
+star_read slot room (Some ps) at = cc
+
+listed_read : (slot : Slot) (room : ℕ) (text : List ℕ) (ps : List Part) (c : Option (List Part)) → listed slot room text ≡ Ok ps → Some ps ≡ c → IsRead slot room c
+listed_read slot room text ps None at is = cc
+listed_read slot room text ps (Some qs) at is =
+    let same : ps ≡ qs = cc in
+    let read = listed_ok slot room text qs (rw same at at) in
+    record {
+      sound = (parts_some slot (room_in slot room) text qs read.shapes, sound_parts slot qs read.values);
+      few = counted_in (is_time slot) (length qs) room (parts_counted slot (room_in slot room) (slice_split is_comma text) qs read.shapes).1;
+    }
+
+component_by : (slot : Slot) (room : ℕ) (text : List ℕ) (star : Bool) (c : Option (List Part)) → cond star (Ok None) (listed slot room text >>= λ ps. Ok (Some ps)) ≡ Ok c → IsRead slot room c
+component_by slot room text true c at = star_read slot room c cc
+component_by slot room text false c at =
+    let one = bind_ok (listed slot room text) (λ ps. Ok (Some ps)) c at in
+    listed_read slot room text one.value c one.first cc
+
+pub component_read : (slot : Slot) (room : ℕ) (text : List ℕ) (c : Option (List Part)) → component_of slot room text ≡ Ok c → IsRead slot room c
+unfolding component_of
+component_read slot room text c at = component_by slot room text (is_star text) c at

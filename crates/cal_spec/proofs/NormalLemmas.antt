@@ -1,0 +1,110 @@
+-- The normal form of a list of parts, and that there is only one.
+use Rattle.std.proofs.Common.{◌≡◌, ◌↔◌, ℕ, ◌+◌, ◌-◌, ◌*◌, ◌/◌, ◌%◌, ◌<◌, ◌≤◌, Bool, true, false, ◌&&◌, nat_eq, List, [], ◌∷◌, ◌++◌, length, take, drop, map, get_or, Option, None, Some, refl, sym, ap, ◌∙◌, subst, inl, inr, arith}
+use Rattle.std.specs.Cmp.{IsEquivalence, IsTotalOrder, nat_cmp_total, on_total, then_total, both_tied}
+use Rattle.std.specs.Cmp.Lexicographic.{options_total}
+use Rattle.std.specs.List.{AllByRecursion, Contains, dedup}
+use Rattle.std.specs.List.Sorted.{IsPermutation, IsSorted, IsStrictlySortedBy}
+use Rattle.std.specs.Option.{option_cmp, option_eq}
+use Rattle.std.specs.Ordering.{nat_cmp, ordering_then, is_eq, eq_by_cmp}
+use Rattle.std.specs.declared.cmp.Ordering.{Ordering}
+use Rattle.std.specs.declared.cmp.Ordering.TheVariants.{Less, Equal, Greater}
+use Rattle.std.proofs.lemmas.Bool.Decides.{nat_tests}
+use Rattle.std.proofs.lemmas.Cmp.{eq_by_cmp_equiv}
+use Rattle.std.proofs.lemmas.List.Kept.{IsStrictlySortedBy-dedup, Contains-dedup, Contains-from_dedup}
+use Rattle.std.proofs.lemmas.List.Sorted.{Contains-permutation, IsPermutation-sym}
+use Rattle.cal_spec.specs.NormalForm.{part_cmp, part_eq, normal_parts, reduced, IsPart, AreParts}
+use Rattle.cal_spec.specs.Order.{Has, in_order}
+use Rattle.cal_spec.specs.Sound.{IsSound, AreSound}
+use Rattle.cal_spec.specs.declared.part.Part.{Part}
+use Rattle.cal_spec.specs.declared.slot.Slot.{Slot}
+use Rattle.cal_spec.proofs.OrderLemmas.{contains_from_has, has_from_contains, all_from, has_in_order, sorted_in_order, same_sorted}
+
+-- parts that have a meaning don't run backwards, and step on
+pub each_part : (slot : Slot) (ps : List Part) → AllByRecursion (IsSound slot) ps → AllByRecursion IsPart ps
+each_part slot [] h = tt
+each_part slot (p ∷ ps) h = (record { forward = h.0.forward; steps = h.0.some_step }, each_part slot ps h.1)
+
+pub parts_from_sound : (slot : Slot) (c : Option (List Part)) → AreSound slot c → AreParts c
+parts_from_sound slot None h = tt
+parts_from_sound slot (Some ps) h = each_part slot ps h.1
+
+-- the order of parts
+pub part_total : IsTotalOrder part_cmp
+unfolding part_cmp
+part_total =
+    then_total (on_total (λ (p : Part). p.start) nat_cmp_total)
+    (then_total (on_total (λ (p : Part). p.end) (options_total nat_cmp_total)) (on_total (λ (p : Part). p.step) (options_total nat_cmp_total)))
+
+nat_tied : (a b : ℕ) → nat_cmp a b ≡ Equal → a ≡ b
+nat_tied a b h = grind (arith, nat_tests)
+
+option_tied : (a b : Option ℕ) → option_cmp nat_cmp a b ≡ Equal → a ≡ b
+option_tied None None h = refl
+option_tied None (Some y) h = cc
+option_tied (Some x) None h = cc
+option_tied (Some x) (Some y) h = ap Some (nat_tied x y h)
+
+then_tied : (o q : Ordering) → ordering_then o q ≡ Equal → (o ≡ Equal) × (q ≡ Equal)
+then_tied Less q h = cc
+then_tied Equal q h = (refl, h)
+then_tied Greater q h = cc
+
+pub same_part : (p q : Part) → p.start ≡ q.start → p.end ≡ q.end → p.step ≡ q.step → p ≡ q
+same_part p q start end step =
+    let same : ◌≡◌ {A = Part} (record { start = p.start; end = p.end; step = p.step }) (record { start = q.start; end = q.end; step = q.step }) = cc in
+    same
+
+-- parts that are tied are the same
+pub part_exact : (p q : Part) → part_cmp p q ≡ Equal → p ≡ q
+unfolding part_cmp
+part_exact p q h =
+    let start = then_tied (nat_cmp p.start q.start) _ h in
+    let end = then_tied (option_cmp nat_cmp p.end q.end) _ start.1 in
+    same_part p q (nat_tied p.start q.start start.0) (option_tied p.end q.end end.0) (option_tied p.step q.step end.1)
+
+nat_ties : (a b : ℕ) → nat_eq a b ≡ is_eq (nat_cmp a b)
+nat_ties a b = grind (arith, nat_tests)
+
+option_ties : (a b : Option ℕ) → option_eq nat_eq a b ≡ is_eq (option_cmp nat_cmp a b)
+option_ties None None = refl
+option_ties None (Some y) = refl
+option_ties (Some x) None = refl
+option_ties (Some x) (Some y) = nat_ties x y
+
+pub part_ties : (p q : Part) → part_eq p q ≡ eq_by_cmp part_cmp p q
+unfolding part_cmp
+part_ties p q =
+    both_tied _ _ (nat_cmp p.start q.start) _ (nat_ties p.start q.start)
+    (both_tied _ _ (option_cmp nat_cmp p.end q.end) _ (option_ties p.end q.end) (option_ties p.step q.step))
+
+pub part_eq_exact : (p q : Part) → part_eq p q ≡ true → p ≡ q
+part_eq_exact p q h = part_exact p q (tied (part_cmp p q) (sym (part_ties p q) ∙ h)) where
+  tied : (o : Ordering) → is_eq o ≡ true → o ≡ Equal
+  tied Less e = cc
+  tied Equal e = refl
+  tied Greater e = cc
+
+-- parts once each stay the parts
+part_equiv : IsEquivalence part_eq
+part_equiv =
+    let same : eq_by_cmp part_cmp ≡ part_eq = λ i p q. sym (part_ties p q) i in
+    subst (λ E. IsEquivalence E) same (eq_by_cmp_equiv part_total)
+
+has_dedup : (ys : List Part) (z : Part) → Has (dedup part_eq ys) z ↔ Has ys z
+has_dedup ys z = (
+  λ h. has_from_contains ys z (Contains-from_dedup part_eq ys z (contains_from_has (dedup part_eq ys) z h)),
+  λ h. has_from_contains (dedup part_eq ys) z (Contains-dedup part_equiv part_eq_exact ys z (contains_from_has ys z h)),
+)
+
+pub sorted_deduped : (raw ys : List Part) → IsPermutation (map reduced raw) ys → IsSorted part_cmp ys → dedup part_eq ys ≡ normal_parts raw
+unfolding normal_parts
+sorted_deduped raw ys moved sorted =
+    let xs = map reduced raw in
+    same_sorted part_cmp part_total part_exact (dedup part_eq ys) (in_order part_cmp xs)
+    (IsStrictlySortedBy-dedup part_total part_ties ys sorted)
+    (sorted_in_order part_cmp part_total part_exact xs)
+    (λ z.
+    let placed = has_in_order part_cmp part_total part_exact z xs in (
+      λ h. placed.1 (has_from_contains xs z (Contains-permutation _ _ _ (IsPermutation-sym xs ys moved) (contains_from_has ys z ((has_dedup ys z).0 h)))),
+      λ h. (has_dedup ys z).1 (has_from_contains ys z (Contains-permutation _ _ _ moved (contains_from_has xs z (placed.0 h)))),
+    ))

@@ -1,0 +1,15 @@
+use Rattle.std.proofs.Common.{◌∙◌, sym, ◌+◌}
+use Rattle.std.proofs.lemmas.List.{take_rest}
+use Rattle.cal_spec.specs.DateAndTime.{is_date_sign}
+use Rattle.cal_spec.proofs.PieceLemmas.{cut_some, cut_none}
+use Rattle.cal_spec.proofs.date_and_time.cut_at_sign.Goals as goal
+
+pub returns-in_err-index : goal.returns-in_err-index
+returns-in_err-index c =
+    rw c.from_residual.ensures (cut_none is_date_sign c.args.word.now (sym c.sign_place.ensures ∙ c.in_err-index.was))
+
+pub returns : goal.returns
+returns c =
+    let word = c.args.word.now in
+    let n = c.in_ok-index.index in
+    rw (take_rest word (n + 1)) (cut_some is_date_sign word n (sym c.sign_place.ensures ∙ c.in_ok-index.was))

@@ -1,0 +1,51 @@
+use Rattle.std.proofs.Common.{◌≡◌, refl, sym, subst}
+use Rattle.cal_spec.specs.Expr.{IsExpr}
+use Rattle.cal_spec.specs.declared.raw.Raw.{Raw}
+use Rattle.cal_spec.specs.Fields.{fields_of}
+use Rattle.cal_spec.specs.NormalForm.{normal_fields}
+use Rattle.cal_spec.specs.Slot.{day_slot}
+use Rattle.cal_spec.specs.declared.slot.Slot.TheVariants.{Year, Month, Hour, Minute, Second}
+use Rattle.cal_spec.proofs.NormalLemmas.{parts_from_sound}
+use Rattle.cal_spec.proofs.NormalFieldsLemmas.{fields_valid, fields_twice}
+use Rattle.cal_spec.proofs.expr.Expr.normal.Goals as goal
+
+pub normal_date-requires-clause-year : goal.normal_date-requires-clause-year
+unfolding fields_of
+normal_date-requires-clause-year c = parts_from_sound Year _ c.requires.year
+
+pub normal_date-requires-clause-month : goal.normal_date-requires-clause-month
+unfolding fields_of
+normal_date-requires-clause-month c = parts_from_sound Month _ c.requires.month
+
+pub normal_date-requires-clause-day : goal.normal_date-requires-clause-day
+unfolding fields_of
+normal_date-requires-clause-day c = parts_from_sound (day_slot c.args.raw.date.from_end) _ c.requires.day
+
+pub normal_time-requires-clause-hour : goal.normal_time-requires-clause-hour
+unfolding fields_of
+normal_time-requires-clause-hour c = parts_from_sound Hour _ c.requires.hour
+
+pub normal_time-requires-clause-minute : goal.normal_time-requires-clause-minute
+unfolding fields_of
+normal_time-requires-clause-minute c = parts_from_sound Minute _ c.requires.minute
+
+pub normal_time-requires-clause-second : goal.normal_time-requires-clause-second
+unfolding fields_of
+normal_time-requires-clause-second c = parts_from_sound Second _ c.requires.second
+
+pub invariant_of-result : goal.invariant_of-result
+unfolding fields_of normal_fields
+invariant_of-result c =
+    let f = fields_of c.args.raw in
+    let date = c.normal_date.ensures in
+    let time = c.normal_time.ensures in
+    let made : Raw = record { weekdays = c.args.raw.weekdays; date = c.normal_date.result; time = c.normal_time.result; zone = c.args.raw.zone } in
+    let same : fields_of made ≡ normal_fields f = rw (date.year, date.month, date.day, time.hour, time.minute, time.second, date.from_end) refl in
+    subst IsExpr (sym same) (record { valid = fields_valid f c.requires; normal = fields_twice f c.requires })
+
+pub returns : goal.returns
+unfolding fields_of normal_fields
+returns c =
+    let date = c.normal_date.ensures in
+    let time = c.normal_time.ensures in
+    rw (date.year, date.month, date.day, time.hour, time.minute, time.second, date.from_end) refl

@@ -1,0 +1,12 @@
+use Rattle.std.proofs.Common.{sym, ◌∙◌, subst}
+use Rattle.std.specs.List.Sorted.{IsPermutation}
+use Rattle.std.proofs.lemmas.List.Filters.{dedup_is}
+use Rattle.cal_spec.specs.NormalForm.{part_cmp, part_eq}
+use Rattle.cal_spec.proofs.NormalLemmas.{sorted_deduped}
+use Rattle.cal_spec.proofs.normal_form.normal_parts.Goals as goal
+
+pub returns : goal.returns
+unfolding part_cmp
+returns c =
+    dedup_is part_eq _ _ c.dedup.ensures.filtered
+    ∙ sorted_deduped c.args.parts.items _ (rw c.reduce_each.ensures at c.sort_unstable.ensures.permutation) c.sort_unstable.ensures.sorted

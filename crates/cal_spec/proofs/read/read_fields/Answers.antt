@@ -1,0 +1,12 @@
+use Rattle.std.proofs.Common.{rules}
+use Rattle.cal_spec.specs.Fields.{fields_of}
+use Rattle.cal_spec.specs.Grammar.{fields_in}
+use Rattle.cal_spec.specs.Reads.{GivesUnlessNoMemory}
+use Rattle.cal_spec.proofs.FieldLemmas.{gives_valid}
+use Rattle.cal_spec.proofs.read.read_fields.Goals as goal
+
+pub returns-in-Some-clause-valid : goal.returns-in-Some-clause-valid
+unfolding fields_in
+returns-in-Some-clause-valid c =
+    let gives : GivesUnlessNoMemory fields_of c.read_places.result (fields_in c.args.text.now) = search rules in
+    gives_valid c.args.text.now c.read_places.result gives

@@ -1,0 +1,50 @@
+-- A component of a date or of a time: systemd.time(7), Calendar Events.
+use Rattle.std.specs.Prelude.{ℕ, ◌+◌, ◌-◌, ◌==◌, Bool, if◌then◌else◌, List, [], ◌∷◌, length, map, codes, Option, None, Some, Result, Ok, Err}
+use Rattle.std.specs.List.{slice_split}
+use Rattle.std.specs.Str.{bytes_eq}
+use Rattle.cal_spec.specs.Reads.{◌>>=◌, unless, first_of}
+use Rattle.cal_spec.specs.Parts.{is_time, part_of, with_values, fault_of}
+use Rattle.cal_spec.specs.declared.part.Part.{Part}
+use Rattle.cal_spec.specs.declared.slot.Slot.{Slot}
+use Rattle.cal_spec.specs.declared.spec_fault.SpecFault.{SpecFault}
+use Rattle.cal_spec.specs.declared.spec_fault.SpecFault.TheVariants.{TooManyParts}
+
+abbrev pub is_comma : ℕ → Bool
+is_comma b = b == 44
+
+-- `*`, for all values
+abbrev pub is_star : List ℕ → Bool
+is_star text = bytes_eq text (codes "*")
+
+-- how many counted parts a component has: the first part of a time's component isn't counted
+abbrev pub counted : Slot → Option (List Part) → ℕ
+counted slot None = 0
+counted slot (Some ps) = if is_time slot then length ps - 1 else length ps
+
+-- how many parts may stand where so many counted ones may
+abbrev pub room_in : Slot → ℕ → ℕ
+room_in slot room = if is_time slot then room + 1 else room
+
+-- the part that is due where so many may stand
+unfoldable pub part_due : Slot → ℕ → List ℕ → Result Part SpecFault
+part_due slot room text =
+    if room == 0 then Err TooManyParts else (part_of slot text >>= λ p. Ok (with_values slot p))
+
+-- the parts of these texts, or the first fault of a shape
+abbrev pub parts_of : Slot → ℕ → List (List ℕ) → Result (List Part) SpecFault
+parts_of slot room [] = Ok []
+parts_of slot room (t ∷ ts) =
+    part_due slot room t >>= λ p. parts_of slot (room - 1) ts >>= λ ps. Ok (p ∷ ps)
+
+-- the first fault of a value
+abbrev pub first_fault : Slot → List Part → Option SpecFault
+first_fault slot ps = first_of (map (fault_of slot) ps)
+
+-- parts joined by commas: first their shapes are judged, then their values
+unfoldable pub listed : Slot → ℕ → List ℕ → Result (List Part) SpecFault
+listed slot room text =
+    parts_of slot (room_in slot room) (slice_split is_comma text) >>= λ ps. unless (first_fault slot ps) ps
+
+-- a component, where so many counted parts may stand
+unfoldable pub component_of : Slot → ℕ → List ℕ → Result (Option (List Part)) SpecFault
+component_of slot room text = if is_star text then Ok None else (listed slot room text >>= λ ps. Ok (Some ps))

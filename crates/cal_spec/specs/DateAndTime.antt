@@ -1,0 +1,108 @@
+-- The date and the time of a calendar expression: systemd.time(7), Calendar Events.
+use Rattle.std.specs.Prelude.{ℕ, ◌-◌, ◌==◌, Bool, true, false, ◌||◌, if◌then◌else◌, List, [], ◌∷◌, filter, codes, Option, None, Some, Result, Ok, Err}
+use Rattle.std.specs.List.{slice_split}
+use Rattle.cal_spec.specs.Components.{counted, component_of}
+use Rattle.cal_spec.specs.Reads.{◌>>=◌}
+use Rattle.cal_spec.specs.Slot.{day_slot}
+use Rattle.cal_spec.specs.declared.part.Part.{Part}
+use Rattle.cal_spec.specs.declared.slot.Slot.{Slot}
+use Rattle.cal_spec.specs.declared.slot.Slot.TheVariants.{Year, Month, Hour, Minute, Second}
+use Rattle.cal_spec.specs.declared.spec_fault.SpecFault.{SpecFault}
+use Rattle.cal_spec.specs.declared.spec_fault.SpecFault.TheVariants.{BadDate, BadTime}
+
+-- the texts of a date's components, and whether its day is counted from the month's end
+pub record DateTexts : Type 0 where
+  pub year : List ℕ
+  pub month : List ℕ
+  pub day : List ℕ
+  pub from_end : Bool
+
+-- the texts of a time's components
+pub record TimeTexts : Type 0 where
+  pub hour : List ℕ
+  pub minute : List ℕ
+  pub second : List ℕ
+
+-- the components of a date
+pub record DateFields : Type 0 where
+  pub year : Option (List Part)
+  pub month : Option (List Part)
+  pub day : Option (List Part)
+  pub from_end : Bool
+
+-- the components of a time
+pub record TimeFields : Type 0 where
+  pub hour : Option (List Part)
+  pub minute : Option (List Part)
+  pub second : Option (List Part)
+
+abbrev pub is_tilde : ℕ → Bool
+is_tilde b = b == 126
+
+-- what stands between the components of a date
+abbrev pub is_date_sign : ℕ → Bool
+is_date_sign b = (b == 45) || is_tilde b
+
+abbrev pub is_colon : ℕ → Bool
+is_colon b = b == 58
+
+-- two or three components; only the last sign may be `~`
+abbrev pub date_by : List ℕ → List (List ℕ) → Option DateTexts
+date_by (s ∷ []) (month ∷ day ∷ []) =
+    Some (record { year = codes "*"; month = month; day = day; from_end = is_tilde s })
+date_by (s ∷ t ∷ []) (year ∷ month ∷ day ∷ []) =
+    if is_tilde s then None else Some (record { year = year; month = month; day = day; from_end = is_tilde t })
+date_by ss texts = None
+
+-- two or three components; missing seconds are `00`
+abbrev pub time_by : List (List ℕ) → Option TimeTexts
+time_by (hour ∷ minute ∷ []) = Some (record { hour = hour; minute = minute; second = codes "00" })
+time_by (hour ∷ minute ∷ second ∷ []) = Some (record { hour = hour; minute = minute; second = second })
+time_by texts = None
+
+unfoldable pub date_texts : List ℕ → Option DateTexts
+date_texts word = date_by (filter is_date_sign word) (slice_split is_date_sign word)
+
+unfoldable pub time_texts : List ℕ → Option TimeTexts
+time_texts word = time_by (slice_split is_colon word)
+
+-- how many counted parts may stand in all
+abbrev pub most_counted : ℕ
+most_counted = 240
+
+-- the components of a date from the left
+unfoldable pub date_fields : DateTexts → Result DateFields SpecFault
+date_fields t =
+    component_of Year most_counted t.year
+    >>= λ year. component_of Month (most_counted - counted Year year) t.month
+    >>= λ month. component_of (day_slot t.from_end) (most_counted - counted Year year - counted Month month) t.day
+    >>= λ day. Ok (record { year = year; month = month; day = day; from_end = t.from_end })
+
+-- how many counted parts may stand behind the date
+abbrev pub room_behind : DateFields → ℕ
+room_behind d =
+    most_counted - counted Year d.year - counted Month d.month - counted (day_slot d.from_end) d.day
+
+-- the components of a time from the left, where so many counted parts may stand
+unfoldable pub time_fields : ℕ → TimeTexts → Result TimeFields SpecFault
+time_fields room t =
+    component_of Hour room t.hour
+    >>= λ hour. component_of Minute (room - counted Hour hour) t.minute
+    >>= λ minute. component_of Second (room - counted Hour hour - counted Minute minute) t.second
+    >>= λ second. Ok (record { hour = hour; minute = minute; second = second })
+
+abbrev pub date_due : Option DateTexts → Result DateFields SpecFault
+date_due None = Err BadDate
+date_due (Some t) = date_fields t
+
+abbrev pub time_due : ℕ → Option TimeTexts → Result TimeFields SpecFault
+time_due room None = Err BadTime
+time_due room (Some t) = time_fields room t
+
+-- the date that the word writes, or its fault
+unfoldable pub date_of : List ℕ → Result DateFields SpecFault
+date_of word = date_due (date_texts word)
+
+-- the time that the word writes, or its fault
+unfoldable pub time_of : ℕ → List ℕ → Result TimeFields SpecFault
+time_of room word = time_due room (time_texts word)

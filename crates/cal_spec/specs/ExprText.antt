@@ -1,0 +1,51 @@
+-- How a calendar expression in its normal form is printed: systemd.time(7), Calendar Events. Years have four digits,
+-- other numbers two, steps no padding.
+use Rattle.std.specs.Prelude.{ℕ, Bool, if◌then◌else◌, List, [], ◌∷◌, Option, None, Some, codes, decimal}
+use Rattle.std.specs.List.{join_by}
+use Rattle.cal_base.specs.Bytes.{joined}
+use Rattle.cal_base.specs.InstantText.{zeros}
+use Rattle.cal_spec.specs.Fields.{Fields}
+use Rattle.cal_spec.specs.WeekdayRuns.{weekdays_text}
+use Rattle.cal_spec.specs.declared.part.Part.{Part}
+
+-- a number in at least so many digits, with what leads up to it in front
+unfoldable pub number_text : List ℕ → ℕ → ℕ → List ℕ
+number_text lead width n = joined (lead ∷ zeros width n ∷ decimal n ∷ [])
+
+abbrev pub optional_text : List ℕ → ℕ → Option ℕ → List ℕ
+optional_text lead width None = []
+optional_text lead width (Some n) = number_text lead width n
+
+-- `a`, `a/r`, `a..b` or `a..b/r`, with what leads up to it in front
+unfoldable pub part_text : List ℕ → ℕ → Part → List ℕ
+part_text lead width p =
+    joined (number_text lead width p.start ∷ optional_text (codes "..") width p.end ∷ optional_text (codes "/") 0 p.step ∷ [])
+
+unfoldable pub parts_text : ℕ → List Part → List ℕ
+parts_text width = join_by (part_text [] width) (codes ",")
+
+abbrev pub component_text : ℕ → Option (List Part) → List ℕ
+component_text width None = codes "*"
+component_text width (Some ps) = parts_text width ps
+
+-- a component with what leads up to it
+unfoldable pub row_text : List ℕ → ℕ → Option (List Part) → List ℕ
+row_text lead width parts = joined (lead ∷ component_text width parts ∷ [])
+
+-- the sign before the day
+abbrev pub day_lead : Bool → List ℕ
+day_lead from_end = if from_end then codes "~" else codes "-"
+
+-- date and time: `year-month-day hour:minute:second`
+unfoldable pub fields_text : Fields → List ℕ
+fields_text f =
+    joined (row_text [] 4 f.year ∷ row_text (codes "-") 2 f.month ∷ row_text (day_lead f.from_end) 2 f.day ∷ row_text (codes " ") 2 f.hour ∷ row_text (codes ":") 2 f.minute ∷ row_text (codes ":") 2 f.second ∷ [])
+
+-- the zone after a space
+abbrev pub zone_text : Option (List ℕ) → List ℕ
+zone_text None = []
+zone_text (Some name) = joined (codes " " ∷ name ∷ [])
+
+-- weekdays, date, time and zone
+unfoldable pub expr_text : Fields → List ℕ
+expr_text f = joined (weekdays_text f.weekdays ∷ fields_text f ∷ zone_text f.zone ∷ [])

@@ -1,0 +1,48 @@
+-- What contracts see of the fields of a calendar expression, and when they have a meaning: systemd.time(7),
+-- Calendar Events.
+use Rattle.std.specs.Prelude.{◌≡◌, ℕ, ◌+◌, ◌-◌, ◌≤◌, Bool, true, List, length, Option, None, Some, string_bytes}
+use Rattle.std.specs.List.{list_any}
+use Rattle.std.specs.Option.{option_map}
+use Rattle.cal_spec.specs.Slot.{day_slot}
+use Rattle.cal_spec.specs.Sound.{AreSound}
+use Rattle.cal_spec.specs.declared.part.Part.{Part}
+use Rattle.cal_spec.specs.declared.raw.Raw.{Raw}
+use Rattle.cal_spec.specs.declared.slot.Slot.TheVariants.{Year, Month, Hour, Minute, Second}
+
+-- the weekdays from Monday on, six components of which None is `*`, whether the day is counted from the month's
+-- end, and the name of the zone
+pub record Fields : Type 0 where
+  pub weekdays : List Bool
+  pub year : Option (List Part)
+  pub month : Option (List Part)
+  pub day : Option (List Part)
+  pub hour : Option (List Part)
+  pub minute : Option (List Part)
+  pub second : Option (List Part)
+  pub from_end : Bool
+  pub zone : Option (List ℕ)
+
+-- the fields without where they lie in memory
+unfoldable pub fields_of : Raw → Fields
+fields_of raw = record {
+  weekdays = raw.weekdays;
+  year = option_map (λ parts. parts.items) raw.date.year;
+  month = option_map (λ parts. parts.items) raw.date.month;
+  day = option_map (λ parts. parts.items) raw.date.day;
+  hour = option_map (λ parts. parts.items) raw.time.hour;
+  minute = option_map (λ parts. parts.items) raw.time.minute;
+  second = option_map (λ parts. parts.items) raw.time.second;
+  from_end = raw.date.from_end;
+  zone = option_map string_bytes raw.zone;
+}
+
+-- how many parts a component has
+abbrev pub parts_in : Option (List Part) → ℕ
+parts_in None = 0
+parts_in (Some ps) = length ps
+
+-- the parts that are counted: all but the first of the hour, of the minute and of the second
+unfoldable pub counted_parts : Fields → ℕ
+counted_parts f =
+    parts_in f.year + parts_in f.month + parts_in f.day
+    + (parts_in f.hour - 1) + (parts_in f.minute - 1) + (parts_in f.second - 1)

@@ -1,0 +1,166 @@
+-- One part of a component: systemd.time(7), Calendar Events. The text is taken apart into signs, and these are judged
+-- from the left.
+use Rattle.std.specs.Prelude.{ℕ, ◌+◌, ◌==◌, nat_lt, nat_le, Bool, true, false, not, ◌&&◌, ◌||◌, if◌then◌else◌, List, [], ◌∷◌, Option, None, Some, Result, Ok, Err, ⊤}
+use Rattle.std.specs.Option.{option_map}
+use Rattle.std.specs.Char.{is_ascii_digit}
+use Rattle.std.specs.Str.Parse.{digits_value}
+use Rattle.cal_spec.specs.Reads.{◌>>=◌}
+use Rattle.cal_spec.specs.Slot.{least, greatest}
+use Rattle.cal_spec.specs.declared.part.Part.{Part}
+use Rattle.cal_spec.specs.declared.slot.Slot.{Slot}
+use Rattle.cal_spec.specs.declared.slot.Slot.TheVariants.{Year, Month, Day, DayFromEnd, Hour, Minute, Second}
+use Rattle.cal_spec.specs.declared.spec_fault.SpecFault.{SpecFault}
+use Rattle.cal_spec.specs.declared.spec_fault.SpecFault.TheVariants.{BadDate, BadTime, FractionalSecond, NumberTooLarge, OutOfField, BackwardRange, ZeroRepeat, NoRepeat}
+
+-- Slots
+
+-- whether the slot is one of a time
+abbrev pub is_time : Slot → Bool
+is_time Hour = true
+is_time Minute = true
+is_time Second = true
+is_time slot = false
+
+abbrev pub is_year : Slot → Bool
+is_year Year = true
+is_year slot = false
+
+abbrev pub is_second : Slot → Bool
+is_second Second = true
+is_second slot = false
+
+abbrev pub is_from_end : Slot → Bool
+is_from_end DayFromEnd = true
+is_from_end slot = false
+
+-- the fault of a shape that the slot doesn't allow
+abbrev pub bad : Slot → SpecFault
+bad slot = if is_time slot then BadTime else BadDate
+
+-- Signs
+
+abbrev pub is_point : ℕ → Bool
+is_point b = b == 46
+
+abbrev pub is_slash : ℕ → Bool
+is_slash b = b == 47
+
+-- a longest run of digits, two points, a slash, a point that is followed by none, or any other byte
+pub data Sign : Type 0 where
+  digits : List ℕ → Sign
+  dots : Sign
+  slash : Sign
+  point : Sign
+  other : ℕ → Sign
+
+-- a digit in front of signs
+abbrev pub with_digit : ℕ → List Sign → List Sign
+with_digit b (digits ds ∷ ss) = digits (b ∷ ds) ∷ ss
+with_digit b ss = digits (b ∷ []) ∷ ss
+
+-- the sign of a byte that stands alone
+abbrev pub lone : ℕ → Sign
+lone b = if is_point b then point else (if is_slash b then slash else other b)
+
+abbrev pub with_byte : ℕ → List Sign → List Sign
+with_byte b ss = if is_ascii_digit b then with_digit b ss else lone b ∷ ss
+
+-- the signs of a text; points are paired from the left
+abbrev pub signs : List ℕ → List Sign
+signs [] = []
+signs (b ∷ []) = with_byte b []
+signs (b ∷ c ∷ bs) = if is_point b && is_point c then dots ∷ signs bs else with_byte b (signs (c ∷ bs))
+
+-- Shapes: `a`, `a/r`, `a..b` and `a..b/r`
+
+abbrev pub starts_with_point : List Sign → Bool
+starts_with_point (point ∷ ss) = true
+starts_with_point ss = false
+
+-- the greatest number that may be written
+abbrev pub most : ℕ
+most = 9999
+
+-- a number with the signs behind it
+pub record Counted : Type 0 where
+  pub number : ℕ
+  pub behind : List Sign
+
+-- a number is judged at its last digit, and in the seconds the point of a fraction behind it
+abbrev pub behind_number : Slot → ℕ → List Sign → Result Counted SpecFault
+behind_number slot n ss =
+    if nat_lt most n then Err NumberTooLarge
+    else (if is_second slot && starts_with_point ss then Err FractionalSecond
+    else Ok (record { number = n; behind = ss }))
+
+-- where a number is due
+abbrev pub number_due : Slot → List Sign → Result Counted SpecFault
+number_due slot (digits ds ∷ ss) = behind_number slot (digits_value 10 ds) ss
+number_due slot ss = Err (bad slot)
+
+abbrev pub part_at_end : Slot → Part → List Sign → Result Part SpecFault
+part_at_end slot p [] = Ok p
+part_at_end slot p ss = Err (bad slot)
+
+-- behind a slash
+unfoldable pub with_step : Slot → ℕ → Option ℕ → List Sign → Result Part SpecFault
+with_step slot a last ss =
+    number_due slot ss >>= λ r. part_at_end slot (record { start = a; end = last; step = Some r.number }) r.behind
+
+-- behind the end of a range
+unfoldable pub behind_end : Slot → ℕ → ℕ → List Sign → Result Part SpecFault
+behind_end slot a b [] = Ok (record { start = a; end = Some b; step = None })
+behind_end slot a b (slash ∷ ss) = with_step slot a (Some b) ss
+behind_end slot a b ss = Err (bad slot)
+
+-- behind the first number
+unfoldable pub behind_start : Slot → ℕ → List Sign → Result Part SpecFault
+behind_start slot a [] = Ok (record { start = a; end = None; step = None })
+behind_start slot a (dots ∷ ss) = number_due slot ss >>= λ b. behind_end slot a b.number b.behind
+behind_start slot a (slash ∷ ss) = with_step slot a None ss
+behind_start slot a ss = Err (bad slot)
+
+-- the part that the text writes, or the fault of its shape
+unfoldable pub part_of : Slot → List ℕ → Result Part SpecFault
+part_of slot text = number_due slot (signs text) >>= λ a. behind_start slot a.number a.behind
+
+-- Values
+
+-- a year below 100 is one of 2000 to 2069 or of 1970 to 1999
+abbrev pub with_century : ℕ → ℕ
+with_century n = if nat_lt n 70 then n + 2000 else (if nat_lt n 100 then n + 1900 else n)
+
+-- the part with the numbers that are meant
+abbrev pub with_values : Slot → Part → Part
+with_values slot p =
+    if is_year slot then record { start = with_century p.start; end = option_map with_century p.end; step = p.step } else p
+
+abbrev pub is_within : Slot → ℕ → Bool
+is_within slot n = nat_le (least slot) n && nat_le n (greatest slot)
+
+-- one of the numbers of the part is none of the slot's
+abbrev pub is_outside : Slot → ℕ → Option ℕ → Bool
+is_outside slot a None = not (is_within slot a)
+is_outside slot a (Some b) = not (is_within slot a && is_within slot b)
+
+-- the end is below the start
+abbrev pub is_backward : ℕ → Option ℕ → Bool
+is_backward a None = false
+is_backward a (Some b) = nat_lt b a
+
+abbrev pub is_zero : Option ℕ → Bool
+is_zero None = false
+is_zero (Some r) = r == 0
+
+-- a repetition without an end that reaches no second number
+abbrev pub is_idle : Slot → ℕ → Option ℕ → Option ℕ → Bool
+is_idle slot a None (Some r) = if is_from_end slot then nat_le a r else nat_lt (greatest slot) (a + r)
+is_idle slot a last step = false
+
+-- the fault of a part's values
+unfoldable pub fault_of : Slot → Part → Option SpecFault
+fault_of slot p =
+    if is_outside slot p.start p.end then Some OutOfField
+    else (if is_backward p.start p.end then Some BackwardRange
+    else (if is_zero p.step then Some ZeroRepeat
+    else (if is_idle slot p.start p.end p.step then Some NoRepeat else None)))

@@ -1,0 +1,31 @@
+-- What reading a text gives: a value, or the text's fault. systemd.time(7), Calendar Events.
+use Rattle.std.specs.Prelude.{◌≡◌, List, [], ◌∷◌, Option, None, Some, Result, Ok, Err}
+use Rattle.std.specs.Option.{option_or}
+use Rattle.cal_spec.specs.declared.spec_fault.SpecFault.{SpecFault}
+use Rattle.cal_spec.specs.declared.spec_fault.SpecFault.TheVariants.{NoMemory}
+
+-- what follows where there was no fault
+infixl 10 ◌>>=◌
+abbrev pub ◌>>=◌ : {A B : Type 0} → Result A SpecFault → (A → Result B SpecFault) → Result B SpecFault
+(Ok x) >>= f = f x
+(Err e) >>= f = Err e
+
+-- the value, unless there is a fault
+abbrev pub unless : {A : Type 0} → Option SpecFault → A → Result A SpecFault
+unless None x = Ok x
+unless (Some e) x = Err e
+
+-- the first fault of a row of judgements
+abbrev pub first_of : List (Option SpecFault) → Option SpecFault
+first_of [] = None
+first_of (o ∷ os) = option_or o (first_of os)
+
+-- a call's result is this read
+abbrev pub Gives : {T V : Type 0} → (T → V) → Result T SpecFault → Result V SpecFault → Type 0
+Gives view (Ok x) read = read ≡ Ok (view x)
+Gives view (Err e) read = read ≡ Err e
+
+-- a call's result is this read, or tells that memory was refused
+abbrev pub GivesUnlessNoMemory : {T V : Type 0} → (T → V) → Result T SpecFault → Result V SpecFault → Type 0
+GivesUnlessNoMemory view (Ok x) read = read ≡ Ok (view x)
+GivesUnlessNoMemory view (Err e) read = (e ≡ NoMemory → ⊥) → read ≡ Err e

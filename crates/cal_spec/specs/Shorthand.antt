@@ -1,0 +1,58 @@
+-- The shorthands: systemd.time(7), Calendar Events.
+use Rattle.std.specs.Prelude.{ℕ, List, [], ◌∷◌, codes, Option, None, Some}
+use Rattle.std.specs.List.{find, list_any}
+use Rattle.std.specs.Str.{str_eq_ignore_ascii_case}
+use Rattle.cal_spec.specs.declared.shorthand.Shorthand.{Shorthand}
+use Rattle.cal_spec.specs.declared.shorthand.Shorthand.TheVariants.{Minutely, Hourly, Daily, Weekly, Monthly, Quarterly, Semiannually, Yearly}
+
+-- the texts that stand for a missing date and for a missing time
+abbrev pub any_date : List ℕ
+any_date = codes "*-*-*"
+
+abbrev pub midnight : List ℕ
+midnight = codes "00:00:00"
+
+-- all of them
+abbrev pub shorthands : List Shorthand
+shorthands = Minutely ∷ Hourly ∷ Daily ∷ Weekly ∷ Monthly ∷ Quarterly ∷ Semiannually ∷ Yearly ∷ []
+
+-- the words that name it
+abbrev pub names_of : Shorthand → List (List ℕ)
+names_of Minutely = codes "minutely" ∷ []
+names_of Hourly = codes "hourly" ∷ []
+names_of Daily = codes "daily" ∷ []
+names_of Weekly = codes "weekly" ∷ []
+names_of Monthly = codes "monthly" ∷ []
+names_of Quarterly = codes "quarterly" ∷ []
+names_of Semiannually =
+    codes "semiannually" ∷ codes "semi-annually" ∷ codes "biannually" ∷ codes "bi-annually" ∷ []
+names_of Yearly = codes "yearly" ∷ codes "annually" ∷ []
+
+-- the texts of the weekdays, of the date and of the time
+pub record Meaning : Type 0 where
+  pub weekdays : Option (List ℕ)
+  pub date : List ℕ
+  pub time : List ℕ
+
+-- on these dates at midnight
+abbrev pub dates : List ℕ → Meaning
+dates date = record { weekdays = None; date = date; time = midnight }
+
+-- on each date at these times
+abbrev pub times : List ℕ → Meaning
+times time = record { weekdays = None; date = any_date; time = time }
+
+-- what it stands for
+abbrev pub meaning_of : Shorthand → Meaning
+meaning_of Minutely = times (codes "*:*:00")
+meaning_of Hourly = times (codes "*:00:00")
+meaning_of Daily = dates any_date
+meaning_of Weekly = record { weekdays = Some (codes "Mon"); date = any_date; time = midnight }
+meaning_of Monthly = dates (codes "*-*-01")
+meaning_of Quarterly = dates (codes "*-01,04,07,10-01")
+meaning_of Semiannually = dates (codes "*-01,07-01")
+meaning_of Yearly = dates (codes "*-01-01")
+
+-- the shorthand with this name, in any case
+unfoldable pub shorthand_named : List ℕ → Option Shorthand
+shorthand_named word = find (λ shorthand. list_any (str_eq_ignore_ascii_case word) (names_of shorthand)) shorthands

@@ -1,0 +1,28 @@
+-- Where a number of a calendar expression stands, and the numbers that are allowed there: systemd.time(7),
+-- Calendar Events.
+use Rattle.std.specs.Prelude.{ℕ, Bool, true, false}
+use Rattle.cal_spec.specs.declared.slot.Slot.{Slot}
+use Rattle.cal_spec.specs.declared.slot.Slot.TheVariants.{Year, Month, Day, DayFromEnd, Hour, Minute, Second}
+
+abbrev pub least : Slot → ℕ
+least Year = 1970
+least Month = 1
+least Day = 1
+least DayFromEnd = 1
+least Hour = 0
+least Minute = 0
+least Second = 0
+
+abbrev pub greatest : Slot → ℕ
+greatest Year = 2199
+greatest Month = 12
+greatest Day = 31
+greatest DayFromEnd = 28
+greatest Hour = 23
+greatest Minute = 59
+greatest Second = 59
+
+-- where a day stands, which may be counted from the month's end
+abbrev pub day_slot : Bool → Slot
+day_slot false = Day
+day_slot true = DayFromEnd

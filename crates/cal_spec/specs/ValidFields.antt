@@ -1,0 +1,20 @@
+-- The fields of which expressions are made: systemd.time(7), Calendar Events.
+use Rattle.std.specs.Prelude.{◌≡◌, ◌≤◌, true, length}
+use Rattle.std.specs.List.{list_any}
+use Rattle.cal_spec.specs.Fields.{Fields, counted_parts}
+use Rattle.cal_spec.specs.Slot.{day_slot}
+use Rattle.cal_spec.specs.Sound.{AreSound}
+use Rattle.cal_spec.specs.ZoneName.{IsZoneOption}
+use Rattle.cal_spec.specs.declared.slot.Slot.TheVariants.{Year, Month, Hour, Minute, Second}
+
+pub record IsValidFields (f : Fields) : Type 0 where
+  pub seven : length f.weekdays ≡ 7
+  pub chosen : list_any (λ d. d) f.weekdays ≡ true
+  pub year : AreSound Year f.year
+  pub month : AreSound Month f.month
+  pub day : AreSound (day_slot f.from_end) f.day
+  pub hour : AreSound Hour f.hour
+  pub minute : AreSound Minute f.minute
+  pub second : AreSound Second f.second
+  pub few : counted_parts f ≤ 240
+  pub zone : IsZoneOption f.zone

@@ -1,0 +1,91 @@
+-- The weekday list of a calendar expression: systemd.time(7), Calendar Events.
+use Rattle.std.specs.Prelude.{ℕ, ◌+◌, ◌-◌, ◌%◌, ◌==◌, nat_le, Bool, true, false, not, ◌&&◌, ◌||◌, if◌then◌else◌, List, [], ◌∷◌, length, map, take, drop, slice_index, Option, None, Some, is_some, Result, Ok, Err}
+use Rattle.std.specs.List.{find, list_any, list_all, position_or_len, slice_split}
+use Rattle.std.specs.Option.{ok_or, option_map}
+use Rattle.std.specs.Char.{is_ascii_alphabetic}
+use Rattle.std.specs.Str.{str_eq_ignore_ascii_case}
+use Rattle.jiff_core.specs.declared.civil.weekday.Weekday.{Weekday}
+use Rattle.jiff_core.specs.Weekday.{monday_zero}
+use Rattle.cal_base.specs.Weekday.{week, name_of, short_name_of}
+use Rattle.cal_spec.specs.Components.{is_comma}
+use Rattle.cal_spec.specs.Reads.{◌>>=◌}
+use Rattle.cal_spec.specs.declared.weekdays.Days.{Days}
+use Rattle.cal_spec.specs.declared.spec_fault.SpecFault.{SpecFault}
+use Rattle.cal_spec.specs.declared.spec_fault.SpecFault.TheVariants.{BadWeekday, UnknownShorthand}
+
+-- the weekday with this name, or with a name that has these first three letters, in any case
+unfoldable pub day_named : List ℕ → Option Weekday
+day_named word =
+    find (λ day. str_eq_ignore_ascii_case word (name_of day) || str_eq_ignore_ascii_case word (short_name_of day)) week
+
+-- how many days it is from one weekday to the next other
+abbrev pub days_until : Weekday → Weekday → ℕ
+days_until day other = (monday_zero other + 7 - monday_zero day) % 7
+
+abbrev pub is_covered : Weekday → Days → Bool
+is_covered day days = nat_le (days_until days.first day) (days_until days.first days.last)
+
+abbrev pub is_no_letter : ℕ → Bool
+is_no_letter b = not (is_ascii_alphabetic b)
+
+-- the letters at the front, and what stands behind them
+abbrev pub leading_letters : List ℕ → List ℕ
+leading_letters word = take (position_or_len is_no_letter word) word
+
+abbrev pub behind_letters : List ℕ → List ℕ
+behind_letters word = drop (position_or_len is_no_letter word) word
+
+-- what stands behind `-` or `..`
+abbrev pub behind_joint : List ℕ → Option (List ℕ)
+behind_joint [] = None
+behind_joint (b ∷ []) = if b == 45 then Some [] else None
+behind_joint (b ∷ c ∷ bs) =
+    if b == 45 then Some (c ∷ bs) else (if (b == 46) && (c == 46) then Some bs else None)
+
+-- the days from the first one to the one that stands behind a joint
+abbrev pub days_to : Weekday → Option (List ℕ) → Option Days
+days_to first None = None
+days_to first (Some name) = option_map (λ last. record { first = first; last = last }) (day_named name)
+
+abbrev pub days_from : Weekday → List ℕ → Option Days
+days_from first [] = Some (record { first = first; last = first })
+days_from first (b ∷ bs) = days_to first (behind_joint (b ∷ bs))
+
+abbrev pub days_by : Option Weekday → List ℕ → Option Days
+days_by None behind = None
+days_by (Some first) behind = days_from first behind
+
+-- an item: a name, or two names joined by `..` or `-`
+unfoldable pub days_of : List ℕ → Option Days
+days_of item = days_by (day_named (leading_letters item)) (behind_letters item)
+
+abbrev pub items_of : List (List ℕ) → Result (List Days) SpecFault
+items_of [] = Ok []
+items_of (t ∷ ts) = ok_or (days_of t) BadWeekday >>= λ days. items_of ts >>= λ more. Ok (days ∷ more)
+
+-- one trailing comma is allowed
+abbrev pub without_comma : List ℕ → List ℕ
+without_comma word = if is_comma (slice_index word (length word - 1)) then take (length word - 1) word else word
+
+-- whether each weekday is chosen, from Monday on
+abbrev pub set_of : List Days → List Bool
+set_of items = map (λ day. list_any (is_covered day) items) week
+
+-- items joined by commas
+unfoldable pub listed_days : List ℕ → Result (List Bool) SpecFault
+listed_days word = items_of (slice_split is_comma (without_comma word)) >>= λ items. Ok (set_of items)
+
+-- what a word that begins with no weekday name was meant for
+abbrev pub is_like_shorthand : List ℕ → Bool
+is_like_shorthand word = list_all (λ b. is_ascii_alphabetic b || (b == 45)) word
+
+-- the weekdays that the word lists, or its fault
+unfoldable pub weekdays_of : List ℕ → Result (List Bool) SpecFault
+weekdays_of word =
+    if is_some (day_named (leading_letters word)) then listed_days word
+    else Err (if is_like_shorthand word then UnknownShorthand else BadWeekday)
+
+-- no weekday list means all seven
+abbrev pub weekdays_in : Option (List ℕ) → Result (List Bool) SpecFault
+weekdays_in None = Ok (map (λ day. true) week)
+weekdays_in (Some word) = weekdays_of word

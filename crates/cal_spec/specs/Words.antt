@@ -1,0 +1,58 @@
+-- The words of a calendar expression, and what each stands for: systemd.time(7), Calendar Events.
+use Rattle.std.specs.Prelude.{ℕ, ◌==◌, nat_lt, Bool, ◌||◌, if◌then◌else◌, List, [], ◌∷◌, length, filter, codes, Option, None, Some}
+use Rattle.std.specs.List.{list_any, slice_split}
+use Rattle.cal_spec.specs.DateAndTime.{is_colon}
+use Rattle.cal_spec.specs.Shorthand.{Meaning, any_date, midnight, shorthand_named, meaning_of}
+use Rattle.cal_spec.specs.ZoneName.{begins_with_letter}
+use Rattle.cal_spec.specs.declared.shorthand.Shorthand.{Shorthand}
+
+abbrev pub is_blank : ℕ → Bool
+is_blank b = (b == 32) || (b == 9)
+
+-- the pieces between blanks that aren't empty
+unfoldable pub words : List ℕ → List (List ℕ)
+words text = filter (λ word. nat_lt 0 (length word)) (slice_split is_blank text)
+
+-- the texts of the weekdays, of the date and of the time, and the words behind these; a missing date is the text
+-- `*-*-*`, and a missing time `00:00:00`
+pub record Places : Type 0 where
+  pub weekdays : Option (List ℕ)
+  pub date : List ℕ
+  pub time : List ℕ
+  pub rest : List (List ℕ)
+
+-- behind a date, a word that begins with a letter is a zone; any other is the time
+abbrev pub behind_date : Option (List ℕ) → List ℕ → List (List ℕ) → Places
+behind_date weekdays date [] = record { weekdays = weekdays; date = date; time = midnight; rest = [] }
+behind_date weekdays date (w ∷ ws) =
+    if begins_with_letter w then record { weekdays = weekdays; date = date; time = midnight; rest = w ∷ ws }
+    else record { weekdays = weekdays; date = date; time = w; rest = ws }
+
+-- behind the weekdays, a word that begins with a letter is a zone; another one with a colon is the time; any other is
+-- the date
+abbrev pub behind_weekdays : Option (List ℕ) → List (List ℕ) → Places
+behind_weekdays weekdays [] = record { weekdays = weekdays; date = any_date; time = midnight; rest = [] }
+behind_weekdays weekdays (w ∷ ws) =
+    if begins_with_letter w then record { weekdays = weekdays; date = any_date; time = midnight; rest = w ∷ ws }
+    else (if list_any is_colon w then record { weekdays = weekdays; date = any_date; time = w; rest = ws }
+    else behind_date weekdays w ws)
+
+-- a first word that begins with a letter is the weekday list
+abbrev pub places_in : List ℕ → List (List ℕ) → Places
+places_in w ws = if begins_with_letter w then behind_weekdays (Some w) ws else behind_weekdays None (w ∷ ws)
+
+-- a shorthand stands for the texts of its meaning
+abbrev pub places_by : Option Shorthand → List ℕ → List (List ℕ) → Places
+places_by None w ws = places_in w ws
+places_by (Some shorthand) w ws =
+    record {
+      weekdays = (meaning_of shorthand).weekdays;
+      date = (meaning_of shorthand).date;
+      time = (meaning_of shorthand).time;
+      rest = ws;
+    }
+
+-- the places of the words of a text, where there is a word
+unfoldable pub places_of : List (List ℕ) → Option Places
+places_of [] = None
+places_of (w ∷ ws) = Some (places_by (shorthand_named w) w ws)

@@ -1,0 +1,102 @@
+//! The components of dates and times: `*`, or parts between commas.
+
+ghost use Rattle.std.specs.Prelude.{◌≡◌, ◌≤◌};
+ghost use Rattle.std.specs.List.{slice_split};
+ghost use Rattle.std.specs.Option.{option_copied, option_map};
+ghost use Rattle.cal_spec.specs.Components.{is_comma, room_in, counted, part_due, parts_of, first_fault, listed, component_of};
+ghost use Rattle.cal_spec.specs.Reads.{Gives, GivesUnlessNoMemory};
+
+use crate::parts::{fault_of, is_time, read_part, with_values};
+use crate::pieces::first_piece;
+use crate::slot::Slot;
+use crate::{Part, SpecFault};
+use std::alloc::Global;
+
+/// The component that the text writes, `None` for `*`, where so many counted parts may stand
+/// (systemd.time(7), Calendar Events). First the shapes of all its parts are judged, then their values.
+#[tactic(auto, unfolding(crate::specs::Components::component_of))]
+pub(crate) fn read_component(
+    alloc: Global,
+    slot: Slot,
+    room: usize,
+    text: &[u8],
+) -> Result<Option<Vec<Part>>, SpecFault>
+    requires { room ≤ 240 }
+    ensures { GivesUnlessNoMemory (λ component. option_map (λ parts. parts.items) component) result
+        (component_of slot room text.now) }
+{
+    if text == b"*".as_slice() {
+        return Ok(None);
+    }
+    let parts = read_listed(alloc, slot, room, text)?;
+    Ok(Some(parts))
+}
+
+/// How many counted parts the component has: of a time's component all but the first.
+pub(crate) fn counted(slot: Slot, component: &Option<Vec<Part>>) -> usize
+    ensures { result ≡ counted slot (option_map (λ parts. parts.items) component.now) }
+{
+    match component {
+        Some(parts) if is_time(slot) => parts.len().saturating_sub(1),
+        Some(parts) => parts.len(),
+        None => 0,
+    }
+}
+
+/// Parts between commas.
+#[tactic(auto, unfolding(crate::specs::Components::listed))]
+fn read_listed(alloc: Global, slot: Slot, room: usize, text: &[u8]) -> Result<Vec<Part>, SpecFault>
+    requires { room ≤ 240 }
+    ensures { GivesUnlessNoMemory (λ parts. parts.items) result (listed slot room text.now) }
+{
+    // The first part of a time's component isn't counted.
+    let room = if is_time(slot) { room + 1 } else { room };
+    let parts = read_parts(alloc, slot, room, text)?;
+    match first_fault(slot, &parts) {
+        Some(fault) => Err(fault),
+        None => Ok(parts),
+    }
+}
+
+/// The parts between commas, without a look at their values.
+fn read_parts(alloc: Global, slot: Slot, room: usize, text: &[u8]) -> Result<Vec<Part>, SpecFault>
+    ensures { GivesUnlessNoMemory (λ parts. parts.items) result
+        (parts_of slot room (slice_split is_comma text.now)) }
+{
+    let mut parts = Vec::new(alloc);
+    let mut room = room;
+    let mut rest = Some(text);
+    while let Some(texts) = rest {
+        let (first, behind) = first_piece(texts, b',');
+        let part = part_due(slot, room, first)?;
+        parts.push(part)?;
+        room = room.saturating_sub(1);
+        rest = behind;
+    }
+    Ok(parts)
+}
+
+/// The part that is due where so many may stand.
+#[tactic(auto, unfolding(crate::specs::Components::part_due))]
+fn part_due(slot: Slot, room: usize, text: &[u8]) -> Result<Part, SpecFault>
+    ensures { Gives (λ part. part) result (part_due slot room text.now) }
+{
+    if room == 0 {
+        return Err(SpecFault::TooManyParts);
+    }
+    let part = read_part(slot, text)?;
+    Ok(with_values(slot, part))
+}
+
+/// The first fault of a value.
+fn first_fault(slot: Slot, parts: &[Part]) -> Option<SpecFault>
+    ensures { result ≡ first_fault slot parts.now }
+{
+    for part in parts {
+        let fault = fault_of(slot, *part);
+        if fault.is_some() {
+            return fault;
+        }
+    }
+    None
+}

@@ -1,0 +1,165 @@
+//! Calendar expressions as values (systemd.time(7), Calendar Events).
+
+ghost use Rattle.std.specs.Prelude.{◌≡◌, ◌≤ℤ◌, ◌<ℤ◌, pos, unsigned_abs, option_copied, option_map};
+ghost use Rattle.cal_spec.specs.NormalForm.{AreParts, normal_component, normal_from_end, normal_second};
+
+use crate::matching::has_local;
+use crate::normal_form::{normal_component, normal_second};
+use crate::raw::{Raw, RawDate, RawTime};
+use crate::{Field, Part};
+use std::marker::Model;
+
+/// A calendar expression (systemd.time(7), Calendar Events): valid, and in its normal form.
+///
+/// A contract sees its fields.
+#[derive(Debug, Drop)]
+pub struct Expr {
+    raw: Raw,
+}
+
+impl Model for Expr {
+    ghost use Rattle.cal_spec.specs.Fields.{Fields, fields_of};
+    ghost use Rattle.cal_spec.specs.Expr.{IsExpr};
+
+    ghost Value = { Fields };
+
+    ghost view = { λ e. fields_of e.raw };
+
+    ghost invariant = { λ e. IsExpr (fields_of e.raw) };
+}
+
+impl Expr {
+    ghost use Rattle.cal_base.specs.Local.{seconds_in_all};
+    ghost use Rattle.cal_spec.specs.Expr.{IsExpr, component};
+    ghost use Rattle.cal_spec.specs.Fields.{fields_of};
+    ghost use Rattle.cal_spec.specs.Match.{matches};
+    ghost use Rattle.cal_spec.specs.Members.{sets_of};
+    ghost use Rattle.cal_spec.specs.NormalForm.{normal_fields};
+    ghost use Rattle.cal_spec.specs.ValidFields.{IsValidFields};
+
+    /// The normal form of what a text says. Takes no memory.
+    pub(crate) fn normal(raw: Raw) -> Expr
+        requires { IsValidFields (fields_of raw) }
+        ensures { result ≡ normal_fields (fields_of raw) }
+    {
+        let Raw {
+            weekdays,
+            date,
+            time,
+            zone,
+        } = raw;
+        Expr {
+            raw: Raw {
+                weekdays,
+                date: normal_date(date),
+                time: normal_time(time),
+                zone,
+            },
+        }
+    }
+
+    /// Whether the expression matches a local second of the years 1970 to 2199, counted from 1970-01-01 00:00:00 on
+    /// the clock: whether its weekday, its date and its time are the expression's.
+    pub fn has(&self, local: i64) -> bool
+        requires from { pos 0 ≤ℤ local }
+        requires before { local <ℤ pos seconds_in_all }
+        ensures { result ≡ matches (sets_of self.now) (unsigned_abs local) }
+    {
+        has_local(&self.raw, local.unsigned_abs())
+    }
+
+    /// Whether each weekday is chosen, from Monday on.
+    #[tactic(auto, unfolding(crate::specs::Fields::fields_of))]
+    pub fn weekdays(&self) -> [bool; 7]
+        ensures { result ≡ self.now.weekdays }
+    {
+        self.raw.weekdays
+    }
+
+    /// The parts of a component; `None` is `*`.
+    #[tactic(auto, unfolding(crate::specs::Fields::fields_of))]
+    pub fn field(&self, field: Field) -> Option<&[Part]>
+        ensures { option_copied result ≡ component field self.now }
+    {
+        let Raw { date, time, .. } = &self.raw;
+        let parts = match field {
+            Field::Year => &date.year,
+            Field::Month => &date.month,
+            Field::Day => &date.day,
+            Field::Hour => &time.hour,
+            Field::Minute => &time.minute,
+            Field::Second => &time.second,
+        };
+        parts.as_deref()
+    }
+
+    /// Whether the days are counts from the month's end, of which the last day is 1.
+    #[tactic(auto, unfolding(crate::specs::Fields::fields_of))]
+    pub fn from_end(&self) -> bool
+        ensures { result ≡ self.now.from_end }
+    {
+        self.raw.date.from_end
+    }
+
+    /// The name of the zone, where there is one.
+    #[tactic(auto, unfolding(crate::specs::Fields::fields_of))]
+    pub fn zone_name(&self) -> Option<&str>
+        ensures { option_copied result ≡ self.now.zone }
+    {
+        self.raw.zone.as_deref()
+    }
+
+    /// That the fields are valid and in their normal form.
+    pub fn check(&self)
+        ensures { IsExpr self.now }
+    {
+        let _ = &self.raw;
+    }
+}
+
+fn normal_date(date: RawDate) -> RawDate
+    requires year { AreParts (option_map (λ v. v.items) date.year) }
+    requires month { AreParts (option_map (λ v. v.items) date.month) }
+    requires day { AreParts (option_map (λ v. v.items) date.day) }
+    ensures year { option_map (λ v. v.items) result.year ≡ normal_component (option_map (λ v. v.items) date.year) }
+    ensures month { option_map (λ v. v.items) result.month ≡ normal_component (option_map (λ v. v.items) date.month) }
+    ensures day { option_map (λ v. v.items) result.day ≡ normal_component (option_map (λ v. v.items) date.day) }
+    ensures from_end { result.from_end ≡ normal_from_end date.from_end (option_map (λ v. v.items) date.day) }
+{
+    let RawDate {
+        year,
+        month,
+        day,
+        from_end,
+    } = date;
+    let from_end = from_end && day.is_some();
+    RawDate {
+        year: normal_component(year),
+        month: normal_component(month),
+        day: normal_component(day),
+        from_end,
+    }
+}
+
+fn normal_time(time: RawTime) -> RawTime
+    requires hour { AreParts (option_map (λ v. v.items) time.hour) }
+    requires minute { AreParts (option_map (λ v. v.items) time.minute) }
+    requires second { AreParts (option_map (λ v. v.items) time.second) }
+    ensures hour { option_map (λ v. v.items) result.hour ≡ normal_component (option_map (λ v. v.items) time.hour) }
+    ensures minute { option_map (λ v. v.items) result.minute ≡ normal_component (option_map (λ v. v.items) time.minute) }
+    ensures second { option_map (λ v. v.items) result.second ≡ normal_second (option_map (λ v. v.items) time.second) }
+{
+    let RawTime {
+        hour,
+        minute,
+        second,
+    } = time;
+    RawTime {
+        hour: normal_component(hour),
+        minute: normal_component(minute),
+        second: normal_second(second),
+    }
+}
+
+#[cfg(test)]
+mod tests;

@@ -1,0 +1,178 @@
+//! Calendar expressions as text, in their normal form (systemd.time(7), Calendar Events).
+
+ghost use Rattle.std.specs.Prelude.{◌≡◌, ◌≤◌, [], ◌∷◌, codes, drop, false, is_err, option_copied};
+ghost use Rattle.std.specs.List.{flat_map};
+ghost use Rattle.cal_base.specs.Bytes.{Writes, joined};
+ghost use Rattle.cal_spec.specs.Expr.{component};
+ghost use Rattle.cal_spec.specs.ExprText.{component_text, day_lead, expr_text, fields_text, number_text, optional_text, part_text, parts_text, row_text, zone_text};
+
+use crate::weekday_runs::put_weekdays;
+use crate::{Expr, Field, Part};
+use cal_base::{Sink, WriteFault, put_all, put_pieces, zeros};
+use itoa::Buffer;
+
+/// A component, the digits of its numbers, and what leads up to it.
+#[derive(Clone, Copy)]
+struct Row<'a> {
+    lead: &'a [u8],
+    width: usize,
+    parts: Option<&'a [Part]>,
+    ghost narrow: { width ≤ 4 },
+}
+
+/// Writes an expression in its normal form (systemd.time(7), Calendar Events): weekdays, date, time and zone, as
+/// `Mon,Fri 2012-01/2-01,03 *:30:45`. Takes no memory.
+///
+/// [`WriteFault::Failed`] comes exactly where the writer failed; it has a prefix of the text then.
+pub fn write_expr<W: Sink>(out: &mut W, expr: &Expr) -> Result<(), WriteFault>
+    requires { W.is_failed out.old ≡ false }
+    ensures failed { W.is_failed out.new ≡ is_err result }
+    ensures bytes { Writes (W.written out.old) (W.written out.new) result (expr_text expr.now) }
+{
+    put_weekdays(out, &expr.weekdays())?;
+    put_rows(out, &rows(expr))?;
+    put_zone(out, expr.zone_name())
+}
+
+/// The components in the order in which they are printed.
+#[tactic(auto, unfolding(crate::specs::ExprText::fields_text))]
+fn rows(expr: &Expr) -> [Row<'_>; 6]
+    ensures { flat_map (λ row. row_text row.lead.now row.width (option_copied row.parts)) result
+        ≡ fields_text expr.now }
+{
+    let day_lead: &[u8] = if expr.from_end() { b"~" } else { b"-" };
+    [
+        row_of(expr, b"", 4, Field::Year),
+        row_of(expr, b"-", 2, Field::Month),
+        row_of(expr, day_lead, 2, Field::Day),
+        row_of(expr, b" ", 2, Field::Hour),
+        row_of(expr, b":", 2, Field::Minute),
+        row_of(expr, b":", 2, Field::Second),
+    ]
+}
+
+fn row_of<'a>(expr: &'a Expr, lead: &'a [u8], width: usize, field: Field) -> Row<'a>
+    requires { width ≤ 4 }
+    ensures lead { result.lead.now ≡ lead.now }
+    ensures width { result.width ≡ width }
+    ensures parts { option_copied result.parts ≡ component field expr.now }
+{
+    Row {
+        lead,
+        width,
+        parts: expr.field(field),
+    }
+}
+
+fn put_rows<W: Sink>(out: &mut W, rows: &[Row]) -> Result<(), WriteFault>
+    requires { W.is_failed out.old ≡ false }
+    ensures failed { W.is_failed out.new ≡ is_err result }
+    ensures bytes { Writes (W.written out.old) (W.written out.new) result
+        (flat_map (λ row. row_text row.lead.now row.width (option_copied row.parts)) rows.now) }
+{
+    for row in rows {
+        put_row(out, *row)?;
+    }
+    Ok(())
+}
+
+fn put_row<W: Sink>(out: &mut W, row: Row) -> Result<(), WriteFault>
+    requires { W.is_failed out.old ≡ false }
+    ensures failed { W.is_failed out.new ≡ is_err result }
+    ensures bytes { Writes (W.written out.old) (W.written out.new) result
+        (row_text row.entry.lead.now row.entry.width (option_copied row.entry.parts)) }
+{
+    put_all(out, row.lead)?;
+    put_component(out, row.width, row.parts)
+}
+
+fn put_component<W: Sink>(
+    out: &mut W,
+    width: usize,
+    parts: Option<&[Part]>,
+) -> Result<(), WriteFault>
+    requires works { W.is_failed out.old ≡ false }
+    requires narrow { width ≤ 4 }
+    ensures failed { W.is_failed out.new ≡ is_err result }
+    ensures bytes { Writes (W.written out.old) (W.written out.new) result
+        (component_text width (option_copied parts.entry)) }
+{
+    match parts {
+        Some(parts) => put_parts(out, width, parts),
+        None => put_all(out, b"*"),
+    }
+}
+
+fn put_parts<W: Sink>(out: &mut W, width: usize, parts: &[Part]) -> Result<(), WriteFault>
+    requires works { W.is_failed out.old ≡ false }
+    requires narrow { width ≤ 4 }
+    ensures failed { W.is_failed out.new ≡ is_err result }
+    ensures bytes { Writes (W.written out.old) (W.written out.new) result (parts_text width parts.now) }
+{
+    let Some((first, rest)) = parts.split_first() else {
+        return Ok(());
+    };
+    put_part(out, b"", width, *first)?;
+    for part in rest {
+        put_part(out, b",", width, *part)?;
+    }
+    Ok(())
+}
+
+/// Writes a part, with what leads up to it in front.
+fn put_part<W: Sink>(out: &mut W, lead: &[u8], width: usize, part: Part) -> Result<(), WriteFault>
+    requires works { W.is_failed out.old ≡ false }
+    requires narrow { width ≤ 4 }
+    ensures failed { W.is_failed out.new ≡ is_err result }
+    ensures bytes { Writes (W.written out.old) (W.written out.new) result (part_text lead.now width part) }
+{
+    put_number(out, lead, width, part.start)?;
+    put_optional(out, b"..", width, part.end)?;
+    put_optional(out, b"/", 0, part.step)
+}
+
+fn put_optional<W: Sink>(
+    out: &mut W,
+    lead: &[u8],
+    width: usize,
+    number: Option<u16>,
+) -> Result<(), WriteFault>
+    requires works { W.is_failed out.old ≡ false }
+    requires narrow { width ≤ 4 }
+    ensures failed { W.is_failed out.new ≡ is_err result }
+    ensures bytes { Writes (W.written out.old) (W.written out.new) result (optional_text lead.now width number) }
+{
+    match number {
+        Some(number) => put_number(out, lead, width, number),
+        None => Ok(()),
+    }
+}
+
+/// Writes a number in at least so many digits, with what leads up to it in front.
+#[tactic(auto, unfolding(crate::specs::ExprText::number_text))]
+fn put_number<W: Sink>(
+    out: &mut W,
+    lead: &[u8],
+    width: usize,
+    number: u16,
+) -> Result<(), WriteFault>
+    requires works { W.is_failed out.old ≡ false }
+    requires narrow { width ≤ 4 }
+    ensures failed { W.is_failed out.new ≡ is_err result }
+    ensures bytes { Writes (W.written out.old) (W.written out.new) result (number_text lead.now width number) }
+{
+    let mut digits = Buffer::new();
+    let number = digits.format(number);
+    put_pieces(out, &[lead, zeros(number, width), number.as_bytes()])
+}
+
+fn put_zone<W: Sink>(out: &mut W, zone: Option<&str>) -> Result<(), WriteFault>
+    requires { W.is_failed out.old ≡ false }
+    ensures failed { W.is_failed out.new ≡ is_err result }
+    ensures bytes { Writes (W.written out.old) (W.written out.new) result (zone_text (option_copied zone.entry)) }
+{
+    match zone {
+        Some(name) => put_pieces(out, &[b" ", name.as_bytes()]),
+        None => Ok(()),
+    }
+}

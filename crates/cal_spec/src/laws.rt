@@ -1,0 +1,66 @@
+//! Laws of the definitions that the contracts cite. Each is a function that does nothing, and whose contract is the
+//! law.
+
+ghost use Rattle.std.specs.Prelude.{◌≡◌, ◌<◌, ℕ, Bool, List, Option, length};
+ghost use Rattle.std.specs.List.{AllByRecursion};
+ghost use Rattle.cal_spec.specs.ExprText.{expr_text};
+ghost use Rattle.cal_spec.specs.Fields.{Fields};
+ghost use Rattle.cal_spec.specs.Match.{matches};
+ghost use Rattle.cal_spec.specs.Members.{component_has, sets_of};
+ghost use Rattle.cal_spec.specs.NormalForm.{AreNormal, AreNormalOf, AreParts, IsNormalFieldsOf, IsNormalOf, IsNormalSecondOf, IsPart, normal_component, normal_fields, normal_parts, normal_second};
+ghost use Rattle.cal_spec.specs.ValidFields.{IsValidFields};
+ghost use Rattle.cal_spec.specs.WeekdayRuns.{AreRuns, Run, runs_from};
+ghost use Rattle.cal_spec.specs.declared.part.Part.{Part};
+ghost use Rattle.cal_spec.specs.declared.slot.Slot.{Slot};
+ghost use Rattle.cal_spec.specs.declared.slot.Slot.TheVariants.{Second};
+
+/// A list of parts has exactly one normal form. It is normal, and what is normal is its own normal form.
+pub fn one_normal_form()
+    ensures some { (raw : List Part) → AllByRecursion IsPart raw → AreNormalOf raw (normal_parts raw) }
+    ensures only { (raw ps : List Part) → AllByRecursion IsPart raw → AreNormalOf raw ps → ps ≡ normal_parts raw }
+    ensures normal { (raw : List Part) → AllByRecursion IsPart raw → AreNormal (normal_parts raw) }
+    ensures stays { (ps : List Part) → AreNormal ps → normal_parts ps ≡ ps }
+{}
+
+/// A component has exactly one normal form.
+pub fn one_normal_component()
+    ensures some { (raw : Option (List Part)) → AreParts raw → IsNormalOf raw (normal_component raw) }
+    ensures only { (raw normal : Option (List Part)) → AreParts raw → IsNormalOf raw normal
+        → normal ≡ normal_component raw }
+    ensures second { (raw : Option (List Part)) → AreParts raw → IsNormalSecondOf raw (normal_second raw) }
+    ensures only_second { (raw normal : Option (List Part)) → AreParts raw → IsNormalSecondOf raw normal
+        → normal ≡ normal_second raw }
+{}
+
+/// Valid fields have exactly one normal form. It is valid, and its own normal form.
+pub fn one_normal_form_of_fields()
+    ensures some { (f : Fields) → IsValidFields f → IsNormalFieldsOf f (normal_fields f) }
+    ensures only { (f g : Fields) → IsValidFields f → IsNormalFieldsOf f g → g ≡ normal_fields f }
+    ensures valid { (f : Fields) → IsValidFields f → IsValidFields (normal_fields f) }
+    ensures stays { (f : Fields) → IsValidFields f → normal_fields (normal_fields f) ≡ normal_fields f }
+{}
+
+/// A component has the same members before and after it is brought into its normal form.
+pub fn members_stay()
+    ensures component { (slot : Slot) (raw : Option (List Part)) (v : ℕ) → AreParts raw
+        → component_has slot (normal_component raw) v ≡ component_has slot raw v }
+    ensures second { (raw : Option (List Part)) (v : ℕ) → AreParts raw
+        → component_has Second (normal_second raw) v ≡ component_has Second raw v }
+{}
+
+/// The same local seconds match before and after.
+pub fn matches_stay()
+    ensures { (f : Fields) (local : ℕ) → IsValidFields f
+        → matches (sets_of (normal_fields f)) local ≡ matches (sets_of f) local }
+{}
+
+/// The normal text of valid fields has fewer than 4,096 bytes.
+pub fn normal_texts_are_short()
+    ensures { (f : Fields) → IsValidFields f → length (expr_text (normal_fields f)) < 4_096 }
+{}
+
+/// Weekdays have exactly one list of runs.
+pub fn one_list_of_runs()
+    ensures some { (days : List Bool) → AreRuns days (runs_from 0 days) }
+    ensures only { (days : List Bool) (rs : List Run) → AreRuns days rs → rs ≡ runs_from 0 days }
+{}

@@ -1,0 +1,35 @@
+//! Calendar expressions: their grammar, their normal form, and what matches them (systemd.time(7), Calendar Events).
+#![tactic(auto)]
+
+#[cfg(test)]
+mod accepted_texts;
+mod components;
+mod date_and_time;
+mod expr;
+mod expr_text;
+mod field;
+pub mod laws;
+mod matching;
+mod members;
+mod no_memory;
+mod normal_form;
+mod numbers;
+mod part;
+mod parts;
+mod pieces;
+mod raw;
+mod read;
+mod same_word;
+mod shorthand;
+mod slot;
+mod spec_fault;
+mod weekday_runs;
+mod weekdays;
+mod words;
+mod zone_name;
+
+pub use expr::Expr;
+pub use expr_text::write_expr;
+pub use field::Field;
+pub use part::Part;
+pub use spec_fault::SpecFault;

@@ -1,0 +1,93 @@
+//! Which local seconds an expression matches (systemd.time(7), Calendar Events).
+
+ghost use Rattle.std.specs.Prelude.{◌≡◌, ◌<◌, ◌≤◌, false, length, slice_index_or};
+ghost use Rattle.jiff.specs.Words.{monday_zero};
+ghost use Rattle.cal_base.specs.Local.{civil_date, seconds_in_all};
+ghost use Rattle.cal_spec.specs.Fields.{fields_of};
+ghost use Rattle.cal_spec.specs.Match.{date_in, day_number, matches, time_in};
+ghost use Rattle.cal_spec.specs.Members.{sets_of};
+ghost use Rattle.cal_spec.specs.Slot.{day_slot};
+
+use crate::members::component_has;
+use crate::raw::{Raw, RawTime};
+use crate::slot::Slot;
+use jiff::Timestamp;
+use jiff::civil::{Date, Weekday};
+use jiff::tz::Offset;
+
+// The seconds of a day.
+const DAY: u64 = 86_400;
+
+/// Whether a local second of the years 1970 to 2199 matches: whether its weekday, date and time all do.
+#[tactic(auto, unfolding(crate::specs::Match::matches))]
+pub fn has_local(raw: &Raw, local: u64) -> bool
+    requires { local < seconds_in_all }
+    ensures { result ≡ matches (sets_of (fields_of raw.now)) local }
+{
+    has_date(raw, date_of_day(local / DAY)) && has_time(raw, local % DAY)
+}
+
+#[tactic(auto, unfolding(crate::specs::Match::date_in, crate::specs::Members::sets_of, crate::specs::Fields::fields_of))]
+fn has_date(raw: &Raw, date: Date) -> bool
+    ensures { result ≡ date_in (sets_of (fields_of raw.now)) date }
+{
+    let day = day_number(raw.date.from_end, date);
+    has_weekday(&raw.weekdays, date.weekday())
+        && component_has(Slot::Year, &raw.date.year, date.year().unsigned_abs())
+        && component_has(
+            Slot::Month,
+            &raw.date.month,
+            date.month().unsigned_abs().into(),
+        )
+        && component_has(day_slot(raw.date.from_end), &raw.date.day, day)
+}
+
+fn has_weekday(weekdays: &[bool; 7], weekday: Weekday) -> bool
+    ensures { result ≡ slice_index_or weekdays.now (monday_zero weekday) false }
+{
+    weekdays[usize::from(weekday.index())]
+}
+
+#[tactic(auto, unfolding(crate::specs::Match::time_in, crate::specs::Members::sets_of, crate::specs::Fields::fields_of))]
+fn has_time(raw: &Raw, second: u64) -> bool
+    requires { second < 86_400 }
+    ensures { result ≡ time_in (sets_of (fields_of raw.now)) second }
+{
+    let time: &RawTime = &raw.time;
+    component_has(Slot::Hour, &time.hour, (second / 3_600) as u16)
+        && component_has(Slot::Minute, &time.minute, (second / 60 % 60) as u16)
+        && component_has(Slot::Second, &time.second, (second % 60) as u16)
+}
+
+/// The number that is tested for the day: the day itself, or its count from the month's end.
+fn day_number(from_end: bool, date: Date) -> u16
+    ensures { result ≡ day_number from_end date }
+{
+    let day = if from_end {
+        date.days_in_month() - date.day() + 1
+    } else {
+        date.day()
+    };
+    day.unsigned_abs().into()
+}
+
+fn day_slot(from_end: bool) -> Slot
+    ensures { result ≡ day_slot from_end }
+{
+    if from_end {
+        Slot::DayFromEnd
+    } else {
+        Slot::Day
+    }
+}
+
+/// The date of a day of the years 1970 to 2199, by its day number.
+fn date_of_day(day: u64) -> Date
+    requires { day < 84_006 }
+    ensures { result ≡ civil_date day }
+{
+    let Ok(timestamp) = Timestamp::from_second((day * DAY) as i64) else {
+        unreachable!()
+    };
+    Offset::UTC.to_datetime(timestamp).date()
+}

@@ -1,0 +1,82 @@
+//! The numbers that a component holds (systemd.time(7), Calendar Events).
+
+ghost use Rattle.std.specs.Prelude.{◌≡◌, option_map};
+ghost use Rattle.std.specs.List.{list_any};
+ghost use Rattle.cal_spec.specs.Members.{component_has, in_field, lies, lies_by, part_has, repeats};
+
+use crate::Part;
+use crate::slot::Slot;
+
+/// Whether a number is a member of a component, of which `None` is `*`.
+pub fn component_has(slot: Slot, parts: &Option<Vec<Part>>, value: u16) -> bool
+    ensures { result ≡ component_has slot (option_map (λ v. v.items) parts.now) value }
+{
+    match parts {
+        Some(parts) => parts_have(slot, parts, value),
+        None => in_field(slot, value),
+    }
+}
+
+fn parts_have(slot: Slot, parts: &[Part], value: u16) -> bool
+    ensures { result ≡ list_any (λ p. part_has slot p value) parts.now }
+{
+    parts.iter().any(|part| part_has(slot, *part, value))
+}
+
+#[tactic(auto, unfolding(crate::specs::Members::part_has))]
+fn part_has(slot: Slot, part: Part, value: u16) -> bool
+    ensures { result ≡ part_has slot part value }
+{
+    match (part.end, part.step) {
+        (None, None) => value == part.start,
+        (None, Some(step)) => repeats(slot, part.start, step, value),
+        (Some(end), None) => lies(part.start, end, value),
+        (Some(end), Some(step)) => lies_by(
+            part.start,
+            end,
+            step,
+            value.saturating_sub(part.start),
+            value,
+        ),
+    }
+}
+
+/// Whether a repetition without an end reaches a number: upwards, or downwards for a count from the month's end.
+fn repeats(slot: Slot, start: u16, step: u16, value: u16) -> bool
+    ensures { result ≡ repeats slot start step value }
+{
+    match slot {
+        Slot::DayFromEnd => lies_by(1, start, step, start.saturating_sub(value), value),
+        _ => lies_by(
+            start,
+            slot.greatest(),
+            step,
+            value.saturating_sub(start),
+            value,
+        ),
+    }
+}
+
+/// Whether a number is one of the field's. A count from the month's end goes as far as a day.
+fn in_field(slot: Slot, value: u16) -> bool
+    ensures { result ≡ in_field slot value }
+{
+    let slot = if slot == Slot::DayFromEnd {
+        Slot::Day
+    } else {
+        slot
+    };
+    lies(slot.least(), slot.greatest(), value)
+}
+
+fn lies_by(start: u16, end: u16, step: u16, distance: u16, value: u16) -> bool
+    ensures { result ≡ lies_by start end step distance value }
+{
+    lies(start, end, value) && distance.is_multiple_of(step)
+}
+
+fn lies(start: u16, end: u16, value: u16) -> bool
+    ensures { result ≡ lies start end value }
+{
+    start <= value && value <= end
+}

@@ -1,0 +1,97 @@
+//! The normal form of components: ranges end at the last number that they reach, and parts stand in order, equal ones
+//! once.
+
+ghost use Rattle.std.specs.Prelude.{◌≡◌, None, Some, map, option_map, if◌then◌else◌};
+ghost use Rattle.std.specs.List.{AllByRecursion};
+ghost use Rattle.cal_spec.specs.NormalForm.{AreParts, IsPart, normal_component, normal_parts, normal_second, reduced, starred};
+
+use crate::Part;
+
+// The part `0/1`.
+const EACH: Part = Part {
+    start: 0,
+    end: None,
+    step: Some(1),
+};
+
+/// A component in its normal form; `*` stays.
+pub fn normal_component(parts: Option<Vec<Part>>) -> Option<Vec<Part>>
+    requires { AreParts (option_map (λ v. v.items) parts) }
+    ensures { option_map (λ v. v.items) result ≡ normal_component (option_map (λ v. v.items) parts) }
+{
+    match parts {
+        Some(parts) => Some(normal_parts(parts)),
+        None => None,
+    }
+}
+
+/// The seconds in their normal form, where the one part `0/1` becomes `*`.
+#[tactic(auto, unfolding(crate::specs::NormalForm::normal_second))]
+pub fn normal_second(parts: Option<Vec<Part>>) -> Option<Vec<Part>>
+    requires { AreParts (option_map (λ v. v.items) parts) }
+    ensures { option_map (λ v. v.items) result ≡ normal_second (option_map (λ v. v.items) parts) }
+{
+    match normal_component(parts) {
+        Some(parts) => {
+            if is_every_number(&parts) {
+                None
+            } else {
+                Some(parts)
+            }
+        }
+        None => None,
+    }
+}
+
+fn is_every_number(parts: &[Part]) -> bool
+    ensures { starred parts.now ≡ (if result then None else Some parts.now) }
+{
+    match parts {
+        [part] => *part == EACH,
+        _ => false,
+    }
+}
+
+fn normal_parts(mut parts: Vec<Part>) -> Vec<Part>
+    requires { AllByRecursion IsPart parts.items }
+    ensures { result.items ≡ normal_parts parts.items }
+{
+    reduce_each(&mut parts);
+    parts.sort_unstable();
+    parts.dedup();
+    parts
+}
+
+fn reduce_each(parts: &mut Vec<Part>)
+    requires { AllByRecursion IsPart parts.old.items }
+    ensures { parts.new.items ≡ map reduced parts.old.items }
+{
+    for part in parts.iter_mut() {
+        *part = reduced(*part);
+    }
+}
+
+/// The part with its end at the last number that is reached; a point where that is the start. A step of 1 is dropped.
+#[tactic(auto, unfolding(crate::specs::NormalForm::reduced))]
+fn reduced(part: Part) -> Part
+    requires { IsPart part }
+    ensures { result ≡ reduced part }
+{
+    let Some(end) = part.end else {
+        return part;
+    };
+    let step = part.step.unwrap_or(1);
+    let last = part.start + (end - part.start) / step * step;
+    if last == part.start {
+        return Part {
+            start: part.start,
+            end: None,
+            step: None,
+        };
+    }
+    Part {
+        start: part.start,
+        end: Some(last),
+        step: part.step.filter(|step| *step != 1),
+    }
+}

@@ -1,0 +1,67 @@
+//! The signs of which a part of a component is made, and the value of its numbers.
+
+ghost use Rattle.std.specs.Prelude.{◌≡◌, ◌≤◌, ◌∷◌, [], IsTrue, MatchOption, min, length};
+ghost use Rattle.std.specs.List.{list_all, prefix_len};
+ghost use Rattle.std.specs.Char.{is_ascii_digit};
+ghost use Rattle.std.specs.Str.Parse.{digits_value};
+ghost use Rattle.cal_spec.specs.Parts.{signs};
+ghost use Rattle.cal_spec.specs.Symbol.{sign_of};
+
+/// What stands in a part of a component.
+#[derive(Clone, Copy)]
+pub(crate) enum Symbol<'a> {
+    /// As many digits as stand together.
+    Digits(&'a [u8]),
+    /// Two points.
+    Dots,
+    Slash,
+    /// A point that is followed by none.
+    Point,
+    /// Any other byte.
+    Other(u8),
+}
+
+/// The first symbol of the text and what stands behind it.
+pub(crate) fn first_symbol(text: &[u8]) -> Option<(Symbol<'_>, &[u8])>
+    ensures { MatchOption result (text.now ≡ [])
+        (λ found. signs text.now ≡ sign_of found.0 ∷ signs found.1.now) }
+{
+    match text {
+        [] => None,
+        [b'.', b'.', behind @ ..] => Some((Symbol::Dots, behind)),
+        [b'.', behind @ ..] => Some((Symbol::Point, behind)),
+        [b'/', behind @ ..] => Some((Symbol::Slash, behind)),
+        [b'0'..=b'9', ..] => {
+            let (digits, behind) = text.split_at(digits_len(text));
+            Some((Symbol::Digits(digits), behind))
+        }
+        [other, behind @ ..] => Some((Symbol::Other(*other), behind)),
+    }
+}
+
+/// The number of digits at the front of the text.
+fn digits_len(text: &[u8]) -> usize
+    ensures value { result ≡ prefix_len is_ascii_digit text.now }
+    ensures within { result ≤ length text.now }
+{
+    for (index, byte) in text.iter().enumerate() {
+        if !byte.is_ascii_digit() {
+            return index;
+        }
+    }
+    text.len()
+}
+
+/// The number that the digits write, or `u16::MAX` where that is less.
+pub(crate) fn value_of(digits: &[u8]) -> u16
+    requires { IsTrue (list_all is_ascii_digit digits.now) }
+    ensures { result ≡ min (digits_value 10 digits.now) u16.MAX }
+{
+    let mut value = 0_u16;
+    for digit in digits {
+        value = value
+            .saturating_mul(10)
+            .saturating_add(u16::from(*digit - b'0'));
+    }
+    value
+}

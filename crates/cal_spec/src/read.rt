@@ -1,0 +1,70 @@
+//! The fields of a calendar expression.
+
+ghost use Rattle.std.specs.Prelude.{◌≡◌, IfOk};
+ghost use Rattle.std.specs.Option.{option_copied};
+ghost use Rattle.cal_spec.specs.Fields.{fields_of};
+ghost use Rattle.cal_spec.specs.Grammar.{fields_at, fields_in};
+ghost use Rattle.cal_spec.specs.PlacesView.{places_seen};
+ghost use Rattle.cal_spec.specs.Reads.{GivesUnlessNoMemory};
+ghost use Rattle.cal_spec.specs.ValidFields.{IsValidFields};
+ghost use Rattle.cal_spec.specs.Weekdays.{weekdays_in};
+
+use crate::SpecFault;
+use crate::date_and_time::{read_date, read_time, room_behind};
+use crate::raw::Raw;
+use crate::weekdays::read_weekdays;
+use crate::words::{Places, find_places};
+use crate::zone_name::read_zone;
+use std::alloc::Global;
+
+/// The most bytes that a text may have.
+const MOST_BYTES: usize = 4096;
+
+/// The fields of a text, `[weekdays] [date] [time] [zone]` or `shorthand [zone]`, as it writes them (systemd.time(7),
+/// Calendar Events).
+///
+/// The fault is the first one: `TextTooLong` above 4,096 bytes, then `Empty` where there is no word, then that of the
+/// words from the left. `NoMemory` comes only where memory was refused; nothing stands then.
+#[tactic(auto, unfolding(crate::specs::Grammar::fields_in))]
+pub(crate) fn read_fields(alloc: Global, text: &str) -> Result<Raw, SpecFault>
+    ensures fields { GivesUnlessNoMemory fields_of result (fields_in text.now) }
+    ensures valid { IfOk result (λ raw. IsValidFields (fields_of raw)) }
+{
+    if text.len() > MOST_BYTES {
+        return Err(SpecFault::TextTooLong);
+    }
+    match find_places(text.as_bytes()) {
+        Some(places) => read_places(alloc, places),
+        None => Err(SpecFault::Empty),
+    }
+}
+
+/// The fields of the texts at their places, judged from the left.
+#[tactic(auto, unfolding(crate::specs::Grammar::fields_at, crate::specs::Fields::fields_of))]
+fn read_places(alloc: Global, places: Places<'_>) -> Result<Raw, SpecFault>
+    ensures { GivesUnlessNoMemory fields_of result (fields_at (places_seen places.entry)) }
+{
+    let weekdays = chosen_weekdays(alloc, places.weekdays)?;
+    let date = read_date(alloc, places.date)?;
+    let time = read_time(alloc, room_behind(&date), places.time)?;
+    let zone = read_zone(alloc, places.rest)?;
+    Ok(Raw {
+        weekdays,
+        date,
+        time,
+        zone,
+    })
+}
+
+/// Whether each weekday is chosen, from Monday on: without a weekday list all are.
+fn chosen_weekdays(alloc: Global, word: Option<&[u8]>) -> Result<[bool; 7], SpecFault>
+    ensures { GivesUnlessNoMemory (λ days. days) result (weekdays_in (option_copied word.entry)) }
+{
+    match word {
+        Some(word) => read_weekdays(alloc, word),
+        None => Ok([true; 7]),
+    }
+}
+
+#[cfg(test)]
+mod tests;

@@ -1,0 +1,11 @@
+//! Words of which the case doesn't matter.
+
+ghost use Rattle.std.specs.Prelude.{◌≡◌};
+ghost use Rattle.std.specs.Str.{str_eq_ignore_ascii_case};
+
+/// Whether the words are the same but for the case of their ASCII letters.
+pub(crate) fn is_same_word(word: &[u8], other: &[u8]) -> bool
+    ensures { result ≡ str_eq_ignore_ascii_case word.now other.now }
+{
+    word.eq_ignore_ascii_case(other)
+}

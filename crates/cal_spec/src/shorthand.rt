@@ -1,0 +1,146 @@
+//! The shorthands of calendar expressions.
+
+ghost use Rattle.std.specs.Prelude.{◌≡◌, map};
+ghost use Rattle.std.specs.List.{find, list_any};
+ghost use Rattle.std.specs.Str.{str_eq_ignore_ascii_case};
+ghost use Rattle.cal_spec.specs.Shorthand.{dates, times, names_of, meaning_of, shorthand_named};
+ghost use Rattle.cal_spec.specs.ShorthandViews.{meaning_in};
+
+use crate::same_word::is_same_word;
+
+/// The text that stands for a missing date.
+pub(crate) const ANY_DATE: &[u8] = b"*-*-*";
+
+/// The text that stands for a missing time.
+pub(crate) const MIDNIGHT: &[u8] = b"00:00:00";
+
+/// A word that stands for a whole expression (systemd.time(7), Calendar Events).
+#[derive(Clone, Copy, PartialEq, Eq, Debug)]
+pub(crate) enum Shorthand {
+    Minutely,
+    Hourly,
+    Daily,
+    Weekly,
+    Monthly,
+    Quarterly,
+    Semiannually,
+    Yearly,
+}
+
+/// The texts that a shorthand stands for.
+#[derive(Clone, Copy)]
+pub(crate) struct Meaning {
+    pub(crate) weekdays: Option<&'static [u8]>,
+    pub(crate) date: &'static [u8],
+    pub(crate) time: &'static [u8],
+}
+
+impl Shorthand {
+    /// All of them.
+    const ALL: [Shorthand; 8] = [
+        Shorthand::Minutely,
+        Shorthand::Hourly,
+        Shorthand::Daily,
+        Shorthand::Weekly,
+        Shorthand::Monthly,
+        Shorthand::Quarterly,
+        Shorthand::Semiannually,
+        Shorthand::Yearly,
+    ];
+
+    /// The words that name it, in any case.
+    fn names(self) -> &'static [&'static [u8]]
+        ensures { map (λ name. name.now) result.now ≡ names_of self }
+    {
+        match self {
+            Shorthand::Minutely => &[b"minutely"],
+            Shorthand::Hourly => &[b"hourly"],
+            Shorthand::Daily => &[b"daily"],
+            Shorthand::Weekly => &[b"weekly"],
+            Shorthand::Monthly => &[b"monthly"],
+            Shorthand::Quarterly => &[b"quarterly"],
+            Shorthand::Semiannually => &[
+                b"semiannually",
+                b"semi-annually",
+                b"biannually",
+                b"bi-annually",
+            ],
+            Shorthand::Yearly => &[b"yearly", b"annually"],
+        }
+    }
+
+    /// What it stands for.
+    pub(crate) fn meaning(self) -> Meaning
+        ensures { meaning_in result ≡ meaning_of self }
+    {
+        match self {
+            Shorthand::Minutely => times(b"*:*:00"),
+            Shorthand::Hourly => times(b"*:00:00"),
+            Shorthand::Daily => dates(ANY_DATE),
+            Shorthand::Weekly => Meaning {
+                weekdays: Some(b"Mon"),
+                date: ANY_DATE,
+                time: MIDNIGHT,
+            },
+            Shorthand::Monthly => dates(b"*-*-01"),
+            Shorthand::Quarterly => dates(b"*-01,04,07,10-01"),
+            Shorthand::Semiannually => dates(b"*-01,07-01"),
+            Shorthand::Yearly => dates(b"*-01-01"),
+        }
+    }
+}
+
+/// The shorthand with this name, in any case.
+#[tactic(auto, unfolding(crate::specs::Shorthand::shorthand_named))]
+pub(crate) fn find_shorthand(word: &[u8]) -> Option<Shorthand>
+    ensures { result ≡ shorthand_named word.now }
+{
+    find_named(&Shorthand::ALL, word)
+}
+
+/// On these dates at midnight.
+fn dates(date: &'static [u8]) -> Meaning
+    ensures { meaning_in result ≡ dates date.now }
+{
+    Meaning {
+        weekdays: None,
+        date,
+        time: MIDNIGHT,
+    }
+}
+
+/// On each date at these times.
+fn times(time: &'static [u8]) -> Meaning
+    ensures { meaning_in result ≡ times time.now }
+{
+    Meaning {
+        weekdays: None,
+        date: ANY_DATE,
+        time,
+    }
+}
+
+/// The first of the shorthands with this name.
+fn find_named(shorthands: &[Shorthand], word: &[u8]) -> Option<Shorthand>
+    ensures { result
+        ≡ find (λ shorthand. list_any (str_eq_ignore_ascii_case word.now) (names_of shorthand)) shorthands.now }
+{
+    for shorthand in shorthands {
+        if is_among(shorthand.names(), word) {
+            return Some(*shorthand);
+        }
+    }
+    None
+}
+
+/// Whether the word is one of the names.
+fn is_among(names: &[&[u8]], word: &[u8]) -> bool
+    ensures { result ≡ list_any (str_eq_ignore_ascii_case word.now) (map (λ name. name.now) names.now) }
+{
+    for name in names {
+        if is_same_word(word, name) {
+            return true;
+        }
+    }
+    false
+}

@@ -1,0 +1,169 @@
+//! The weekday list of a calendar expression.
+
+ghost use Rattle.std.specs.Prelude.{◌≡◌, ◌≤◌, ◌||◌, length};
+ghost use Rattle.std.specs.List.{find, list_any, list_all, position, position_or_len, slice_split};
+ghost use Rattle.std.specs.Option.{option_copied};
+ghost use Rattle.std.specs.Str.{str_eq_ignore_ascii_case};
+ghost use Rattle.cal_base.specs.Weekday.{name_of, short_name_of};
+ghost use Rattle.cal_spec.specs.Components.{is_comma};
+ghost use Rattle.cal_spec.specs.Reads.{Gives, GivesUnlessNoMemory};
+ghost use Rattle.cal_spec.specs.Weekdays.{behind_joint, day_named, days_of, is_covered, is_like_shorthand, is_no_letter, items_of, set_of, weekdays_of, without_comma};
+
+use crate::SpecFault;
+use crate::pieces::first_piece;
+use crate::same_word::is_same_word;
+use cal_base::{WEEK, short_weekday_name, weekday_name};
+use jiff::civil::Weekday;
+use std::alloc::Global;
+
+/// One or more weekdays in a row, past Sunday too.
+#[derive(Clone, Copy)]
+pub(crate) struct Days {
+    first: Weekday,
+    last: Weekday,
+}
+
+/// Whether the word lists each weekday, from Monday on (systemd.time(7), Calendar Events): items between commas, with
+/// one trailing comma allowed. The fault is `BadWeekday`, or `UnknownShorthand` where the word begins with no weekday's
+/// name and consists of letters and `-`.
+#[tactic(auto, unfolding(crate::specs::Weekdays::weekdays_of, crate::specs::Weekdays::listed_days))]
+pub(crate) fn read_weekdays(alloc: Global, word: &[u8]) -> Result<[bool; 7], SpecFault>
+    ensures { GivesUnlessNoMemory (λ days. days) result (weekdays_of word.now) }
+{
+    let (letters, _) = word.split_at(letters_len(word));
+    if find_day(letters).is_none() {
+        return Err(if is_like_shorthand(word) {
+            SpecFault::UnknownShorthand
+        } else {
+            SpecFault::BadWeekday
+        });
+    }
+    let items = read_items(alloc, without_comma(word))?;
+    Ok(set_of(&items))
+}
+
+/// The items between commas.
+fn read_items(alloc: Global, list: &[u8]) -> Result<Vec<Days>, SpecFault>
+    ensures { GivesUnlessNoMemory (λ items. items.items) result
+        (items_of (slice_split is_comma list.now)) }
+{
+    let mut items = Vec::new(alloc);
+    let mut rest = Some(list);
+    while let Some(texts) = rest {
+        let (first, behind) = first_piece(texts, b',');
+        let days = read_days(first).ok_or(SpecFault::BadWeekday)?;
+        items.push(days)?;
+        rest = behind;
+    }
+    Ok(items)
+}
+
+/// The days of an item: a name, or two names joined by `..` or `-`.
+#[tactic(auto, unfolding(crate::specs::Weekdays::days_of))]
+fn read_days(item: &[u8]) -> Option<Days>
+    ensures { result ≡ days_of item.now }
+{
+    let (letters, behind) = item.split_at(letters_len(item));
+    let first = find_day(letters)?;
+    if behind.is_empty() {
+        return Some(Days { first, last: first });
+    }
+    let last = find_day(behind_joint(behind)?)?;
+    Some(Days { first, last })
+}
+
+/// What stands behind `..` or `-`.
+fn behind_joint(text: &[u8]) -> Option<&[u8]>
+    ensures { option_copied result ≡ behind_joint text.now }
+{
+    match text {
+        [b'-', name @ ..] | [b'.', b'.', name @ ..] => Some(name),
+        _ => None,
+    }
+}
+
+/// The weekday with this name, or with a name of which these are the first three letters, in any case.
+#[tactic(auto, unfolding(crate::specs::Weekdays::day_named))]
+fn find_day(word: &[u8]) -> Option<Weekday>
+    ensures { result ≡ day_named word.now }
+{
+    find_named(&WEEK, word)
+}
+
+/// The first of the weekdays with this name.
+fn find_named(days: &[Weekday], word: &[u8]) -> Option<Weekday>
+    ensures { result ≡ find (λ day. str_eq_ignore_ascii_case word.now (name_of day)
+        || str_eq_ignore_ascii_case word.now (short_name_of day)) days.now }
+{
+    for day in days {
+        if is_same_word(word, weekday_name(*day)) || is_same_word(word, short_weekday_name(*day)) {
+            return Some(*day);
+        }
+    }
+    None
+}
+
+/// The number of letters at the front of the word.
+fn letters_len(word: &[u8]) -> usize
+    ensures value { result ≡ position_or_len is_no_letter word.now }
+    ensures within { result ≤ length word.now }
+{
+    match place_behind_letters(word) {
+        Some(index) => index,
+        None => word.len(),
+    }
+}
+
+/// The place of the first byte that is no letter.
+fn place_behind_letters(word: &[u8]) -> Option<usize>
+    ensures { result ≡ position is_no_letter word.now }
+{
+    word.iter().position(|byte| !byte.is_ascii_alphabetic())
+}
+
+/// The word without one trailing comma.
+fn without_comma(word: &[u8]) -> &[u8]
+    ensures { result.now ≡ without_comma word.now }
+{
+    match word {
+        [list @ .., b','] => list,
+        _ => word,
+    }
+}
+
+/// Whether the word consists of letters and `-`.
+fn is_like_shorthand(word: &[u8]) -> bool
+    ensures { result ≡ is_like_shorthand word.now }
+{
+    word.iter()
+        .all(|byte| byte.is_ascii_alphabetic() || *byte == b'-')
+}
+
+/// Whether each weekday is chosen, from Monday on.
+fn set_of(items: &[Days]) -> [bool; 7]
+    ensures { result ≡ set_of items.now }
+{
+    [
+        is_chosen(items, Weekday::Monday),
+        is_chosen(items, Weekday::Tuesday),
+        is_chosen(items, Weekday::Wednesday),
+        is_chosen(items, Weekday::Thursday),
+        is_chosen(items, Weekday::Friday),
+        is_chosen(items, Weekday::Saturday),
+        is_chosen(items, Weekday::Sunday),
+    ]
+}
+
+/// Whether one of the items covers the day.
+fn is_chosen(items: &[Days], day: Weekday) -> bool
+    ensures { result ≡ list_any (is_covered day) items.now }
+{
+    items.iter().any(|days| is_covered(day, *days))
+}
+
+/// Whether the day is one of the days in a row.
+fn is_covered(day: Weekday, days: Days) -> bool
+    ensures { result ≡ is_covered day days }
+{
+    days.first.until(day) <= days.first.until(days.last)
+}

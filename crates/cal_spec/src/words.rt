@@ -1,0 +1,135 @@
+//! The words of a calendar expression, and what each stands for.
+
+ghost use Rattle.std.specs.Prelude.{◌≡◌, ◌∷◌, [], MatchOption};
+ghost use Rattle.std.specs.List.{list_any, position};
+ghost use Rattle.std.specs.Option.{option_copied, option_map, unwrap_or};
+ghost use Rattle.cal_spec.specs.DateAndTime.{is_colon};
+ghost use Rattle.cal_spec.specs.PlacesView.{places_seen};
+ghost use Rattle.cal_spec.specs.Words.{is_blank, words, behind_date, behind_weekdays, places_of};
+
+use crate::pieces::cut_at;
+use crate::shorthand::{ANY_DATE, MIDNIGHT, find_shorthand};
+use crate::zone_name::begins_with_letter;
+
+/// The texts at the places of an expression, and the words behind these.
+#[derive(Clone, Copy)]
+pub(crate) struct Places<'a> {
+    /// The weekday list, if there is one.
+    pub(crate) weekdays: Option<&'a [u8]>,
+    /// The date, or `*-*-*`.
+    pub(crate) date: &'a [u8],
+    /// The time, or `00:00:00`.
+    pub(crate) time: &'a [u8],
+    /// What stands behind the time.
+    pub(crate) rest: &'a [u8],
+}
+
+/// The places of the words of a text, or `None` where it has none (systemd.time(7), Calendar Events). A shorthand stands
+/// for the texts of its meaning.
+#[tactic(auto, unfolding(crate::specs::Words::places_of))]
+pub(crate) fn find_places(text: &[u8]) -> Option<Places<'_>>
+    ensures { option_map places_seen result ≡ places_of (words text.now) }
+{
+    let (word, behind) = first_word(text)?;
+    if let Some(shorthand) = find_shorthand(word) {
+        let meaning = shorthand.meaning();
+        return Some(Places {
+            weekdays: meaning.weekdays,
+            date: meaning.date,
+            time: meaning.time,
+            rest: behind,
+        });
+    }
+    if begins_with_letter(word) {
+        return Some(behind_weekdays(Some(word), behind));
+    }
+    Some(behind_weekdays(None, text))
+}
+
+/// The first word of the text and what stands behind it, or `None` where there are only blanks.
+pub(crate) fn first_word(text: &[u8]) -> Option<(&[u8], &[u8])>
+    ensures { MatchOption result (words text.now ≡ [])
+        (λ found. words text.now ≡ found.0.now ∷ words found.1.now) }
+{
+    let mut rest = Some(text);
+    while let Some(texts) = rest {
+        let (piece, behind) = cut_at(texts, blank_place(texts));
+        if !piece.is_empty() {
+            return Some((piece, or_empty(behind)));
+        }
+        rest = behind;
+    }
+    None
+}
+
+/// The place of the first blank.
+fn blank_place(text: &[u8]) -> Option<usize>
+    ensures { result ≡ position is_blank text.now }
+{
+    text.iter().position(|byte| *byte == b' ' || *byte == b'\t')
+}
+
+/// The text, or the empty one where there is none.
+fn or_empty(text: Option<&[u8]>) -> &[u8]
+    ensures { result.now ≡ unwrap_or (option_copied text.entry) [] }
+{
+    match text {
+        Some(text) => text,
+        None => &[],
+    }
+}
+
+/// The places behind the weekdays: a word that begins with a letter is a zone, another one with a colon is the time, and
+/// any other is the date.
+fn behind_weekdays<'a>(weekdays: Option<&'a [u8]>, text: &'a [u8]) -> Places<'a>
+    ensures { places_seen result ≡ behind_weekdays (option_copied weekdays.entry) (words text.now) }
+{
+    match first_word(text) {
+        Some((word, rest)) if !begins_with_letter(word) => {
+            if has_colon(word) {
+                Places {
+                    weekdays,
+                    date: ANY_DATE,
+                    time: word,
+                    rest,
+                }
+            } else {
+                behind_date(weekdays, word, rest)
+            }
+        }
+        _ => Places {
+            weekdays,
+            date: ANY_DATE,
+            time: MIDNIGHT,
+            rest: text,
+        },
+    }
+}
+
+/// The places behind the date: a word that begins with a letter is a zone, and any other is the time.
+fn behind_date<'a>(weekdays: Option<&'a [u8]>, date: &'a [u8], text: &'a [u8]) -> Places<'a>
+    ensures { places_seen result
+        ≡ behind_date (option_copied weekdays.entry) date.now (words text.now) }
+{
+    match first_word(text) {
+        Some((time, rest)) if !begins_with_letter(time) => Places {
+            weekdays,
+            date,
+            time,
+            rest,
+        },
+        _ => Places {
+            weekdays,
+            date,
+            time: MIDNIGHT,
+            rest: text,
+        },
+    }
+}
+
+/// Whether the word has a colon.
+fn has_colon(word: &[u8]) -> bool
+    ensures { result ≡ list_any is_colon word.now }
+{
+    word.iter().any(|byte| *byte == b':')
+}
