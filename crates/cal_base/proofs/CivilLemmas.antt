@@ -1,12 +1,12 @@
 -- What a clock shows, against the local second that it stands for.
-use Rattle.std.proofs.Common.{◌≡◌, ◌+◌, ℤ, pos, sym, ap, ◌∙◌, arith}
+use Rattle.std.proofs.Common.{◌≡◌, ◌+◌, ◌*◌, ℕ, ℤ, pos, sym, ap, ◌∙◌, arith}
 use Rattle.jiff.specs.Types.{DateTime, TimeZone}
 use Rattle.jiff.specs.Words.{civil_nanos, epoch_day, nanos_of_seconds, offset_at, weekday_of, IsBetween}
 use Rattle.jiff_core.specs.Time.{time_seconds}
 use Rattle.jiff.proofs.SpanFacts.{signed_arith}
 use Rattle.cal_base.specs.Civil.{civil_of, shown_at}
 use Rattle.cal_base.specs.Days.{date_of, date_of-epoch_day}
-use Rattle.cal_base.specs.Local.{day_of, second_of_day, hour_of, minute_of, second_of}
+use Rattle.cal_base.specs.Local.{civil_date, day_of, second_of_day, hour_of, minute_of, second_of}
 use Rattle.cal_base.specs.Instant.{IsInstant}
 use Rattle.cal_base.specs.Zone.{local_of}
 use Rattle.cal_base.proofs.YearLemmas.{year-from_1970, year-to_2200}
@@ -48,3 +48,10 @@ pub year_shown : (dt : DateTime) (secs : ℤ) → civil_nanos dt ≡ nanos_of_se
 year_shown dt secs e h =
     let day = epoch_day-whole dt secs e in
     (year-from_1970 dt.date (omega (arith, signed_arith, h.0)), year-to_2200 dt.date (omega (arith, signed_arith, h.1)))
+
+-- the date that a clock in UTC shows at a day's first second is that day's
+pub date_of_midnight : (shown : DateTime) (day : ℕ) → civil_nanos shown ≡ nanos_of_seconds (pos (day * 86_400)) → shown.date ≡ civil_date day
+unfolding civil_date
+date_of_midnight shown day h =
+    let number : epoch_day shown.date ≡ pos day = omega (arith, signed_arith, epoch_day-whole shown (pos (day * 86_400)) h) in
+    sym (date_of-epoch_day shown.date) ∙ ap date_of number

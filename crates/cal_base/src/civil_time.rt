@@ -1,14 +1,21 @@
 //! The civil time that a zone's clocks show at an instant.
-ghost use Rattle.std.specs.Prelude.{◌≡◌, ◌≤◌, pos};
+ghost use Rattle.std.specs.Prelude.{◌≡◌, ◌<◌, ◌≤◌, pos};
 ghost use Rattle.std.specs.Int.{IsInRange};
 ghost use Rattle.jiff.specs.Words.{IsBetween};
 ghost use Rattle.cal_base.specs.Civil.{civil_of, shown_at};
+ghost use Rattle.cal_base.specs.Local.{civil_date};
 ghost use Rattle.cal_base.specs.Zone.{zone_of};
 
 use crate::{Civil, Instant, Zone};
 use jiff::Timestamp;
-use jiff::civil::DateTime;
+use jiff::civil::{Date, DateTime};
 use jiff::tz::Offset;
+
+/// The seconds of a day.
+pub const DAY: u64 = 86_400;
+
+/// The days of the years 1970 to 2199.
+pub const DAYS: u64 = 84_006;
 
 /// What a clock in the zone shows at the instant.
 pub fn civil(zone: Zone, instant: Instant) -> Civil
@@ -28,7 +35,18 @@ pub fn civil(zone: Zone, instant: Instant) -> Civil
     fields(Offset::UTC.to_datetime(timestamp), Offset::UTC)
 }
 
-// The fields of what a clock at the offset shows.
+/// The date of a day of the years 1970 to 2199, by its number from 1970-01-01 on, which is below [`DAYS`].
+pub fn date_of_day(day: u64) -> Date
+    requires { day < DAYS }
+    ensures { result ≡ civil_date day }
+{
+    let Ok(timestamp) = Timestamp::from_second((day * DAY) as i64) else {
+        unreachable!()
+    };
+    Offset::UTC.to_datetime(timestamp).date()
+}
+
+/// The fields of what a clock at the offset shows.
 fn fields(shown: DateTime, offset: Offset) -> Civil
     ensures { result ≡ shown_at offset.seconds shown }
 {

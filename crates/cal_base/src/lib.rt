@@ -24,12 +24,11 @@ mod zone;
 
 pub use bytes::{Sink, Source, WriteFault, put_all, put_pieces};
 pub use civil_fields::Civil;
-pub use civil_time::civil;
+pub use civil_time::{DAY, DAYS, civil, date_of_day};
 pub use faulty::{Faulty, Then};
 pub use instant::Instant;
 pub use instant_text::{format_instant, write_instant, write_time};
 pub use moment::Moment;
-pub use number::zeros;
 pub use port::Port;
 pub use scale::Scale;
 pub use short_text::{Fill, ShortText, in_a_row, padding};

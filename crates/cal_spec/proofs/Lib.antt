@@ -1,5 +1,4 @@
 mod LengthLemmas
-mod MatchLemmas
 mod MemberLemmas
 mod NormalFieldsLemmas
 mod NormalLemmas

@@ -1,19 +1,26 @@
 -- What contracts see of a calendar expression: systemd.time(7), Calendar Events.
-use Rattle.std.specs.Prelude.{◌≡◌, List, Option}
+use Rattle.std.specs.Prelude.{◌≡◌, ℕ, List, Option, Result, Ok}
 use Rattle.cal_spec.specs.Fields.{Fields}
+use Rattle.cal_spec.specs.Grammar.{fields_in}
 use Rattle.cal_spec.specs.NormalForm.{normal_fields}
+use Rattle.cal_spec.specs.Reads.{◌>>=◌}
 use Rattle.cal_spec.specs.ValidFields.{IsValidFields}
 use Rattle.cal_spec.specs.Slot.{day_slot}
 use Rattle.cal_spec.specs.declared.field.Field.{Field}
 use Rattle.cal_spec.specs.declared.field.Field.TheVariants as field
 use Rattle.cal_spec.specs.declared.part.Part.{Part}
 use Rattle.cal_spec.specs.declared.slot.Slot.{Slot}
+use Rattle.cal_spec.specs.declared.spec_fault.SpecFault.{SpecFault}
 use Rattle.cal_spec.specs.declared.slot.Slot.TheVariants as slot
 
 -- valid fields in their normal form
 pub record IsExpr (f : Fields) : Type 0 where
   pub valid : IsValidFields f
   pub normal : normal_fields f ≡ f
+
+-- the expression that a text is, or the text's one fault
+unfoldable pub expr_in : List ℕ → Result Fields SpecFault
+expr_in text = fields_in text >>= λ f. Ok (normal_fields f)
 
 -- a component of the fields
 abbrev pub component : Field → Fields → Option (List Part)

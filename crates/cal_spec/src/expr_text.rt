@@ -8,7 +8,7 @@ ghost use Rattle.cal_spec.specs.ExprText.{component_text, day_lead, expr_text, f
 
 use crate::weekday_runs::put_weekdays;
 use crate::{Expr, Field, Part};
-use cal_base::{Sink, WriteFault, put_all, put_pieces, zeros};
+use cal_base::{Fill, Sink, WriteFault, padding, put_all, put_pieces};
 use itoa::Buffer;
 
 /// A component, the digits of its numbers, and what leads up to it.
@@ -163,7 +163,7 @@ fn put_number<W: Sink>(
 {
     let mut digits = Buffer::new();
     let number = digits.format(number);
-    put_pieces(out, &[lead, zeros(number, width), number.as_bytes()])
+    put_pieces(out, &[lead, padding(number, width, Fill::Zero), number.as_bytes()])
 }
 
 fn put_zone<W: Sink>(out: &mut W, zone: Option<&str>) -> Result<(), WriteFault>

@@ -32,4 +32,5 @@ pub use expr::Expr;
 pub use expr_text::write_expr;
 pub use field::Field;
 pub use part::Part;
+pub use read::read_expr;
 pub use spec_fault::SpecFault;

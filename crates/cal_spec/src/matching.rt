@@ -2,7 +2,7 @@
 
 ghost use Rattle.std.specs.Prelude.{◌≡◌, ◌<◌, ◌≤◌, false, length, slice_index_or};
 ghost use Rattle.jiff.specs.Words.{monday_zero};
-ghost use Rattle.cal_base.specs.Local.{civil_date, seconds_in_all};
+ghost use Rattle.cal_base.specs.Local.{seconds_in_all};
 ghost use Rattle.cal_spec.specs.Fields.{fields_of};
 ghost use Rattle.cal_spec.specs.Match.{date_in, day_number, matches, time_in};
 ghost use Rattle.cal_spec.specs.Members.{sets_of};
@@ -11,12 +11,8 @@ ghost use Rattle.cal_spec.specs.Slot.{day_slot};
 use crate::members::component_has;
 use crate::raw::{Raw, RawTime};
 use crate::slot::Slot;
-use jiff::Timestamp;
+use cal_base::{DAY, date_of_day};
 use jiff::civil::{Date, Weekday};
-use jiff::tz::Offset;
-
-// The seconds of a day.
-const DAY: u64 = 86_400;
 
 /// Whether a local second of the years 1970 to 2199 matches: whether its weekday, date and time all do.
 #[tactic(auto, unfolding(crate::specs::Match::matches))]
@@ -27,8 +23,9 @@ pub fn has_local(raw: &Raw, local: u64) -> bool
     has_date(raw, date_of_day(local / DAY)) && has_time(raw, local % DAY)
 }
 
+/// Whether the date is one of the expression's.
 #[tactic(auto, unfolding(crate::specs::Match::date_in, crate::specs::Members::sets_of, crate::specs::Fields::fields_of))]
-fn has_date(raw: &Raw, date: Date) -> bool
+pub fn has_date(raw: &Raw, date: Date) -> bool
     ensures { result ≡ date_in (sets_of (fields_of raw.now)) date }
 {
     let day = day_number(raw.date.from_end, date);
@@ -48,8 +45,9 @@ fn has_weekday(weekdays: &[bool; 7], weekday: Weekday) -> bool
     weekdays[usize::from(weekday.index())]
 }
 
+/// Whether so many seconds after midnight are a time of the expression's.
 #[tactic(auto, unfolding(crate::specs::Match::time_in, crate::specs::Members::sets_of, crate::specs::Fields::fields_of))]
-fn has_time(raw: &Raw, second: u64) -> bool
+pub fn has_time(raw: &Raw, second: u64) -> bool
     requires { second < 86_400 }
     ensures { result ≡ time_in (sets_of (fields_of raw.now)) second }
 {
@@ -79,15 +77,4 @@ fn day_slot(from_end: bool) -> Slot
     } else {
         Slot::Day
     }
-}
-
-/// The date of a day of the years 1970 to 2199, by its day number.
-fn date_of_day(day: u64) -> Date
-    requires { day < 84_006 }
-    ensures { result ≡ civil_date day }
-{
-    let Ok(timestamp) = Timestamp::from_second((day * DAY) as i64) else {
-        unreachable!()
-    };
-    Offset::UTC.to_datetime(timestamp).date()
 }

@@ -2,6 +2,7 @@
 
 ghost use Rattle.std.specs.Prelude.{◌≡◌, IfOk};
 ghost use Rattle.std.specs.Option.{option_copied};
+ghost use Rattle.cal_spec.specs.Expr.{expr_in};
 ghost use Rattle.cal_spec.specs.Fields.{fields_of};
 ghost use Rattle.cal_spec.specs.Grammar.{fields_at, fields_in};
 ghost use Rattle.cal_spec.specs.PlacesView.{places_seen};
@@ -9,7 +10,7 @@ ghost use Rattle.cal_spec.specs.Reads.{GivesUnlessNoMemory};
 ghost use Rattle.cal_spec.specs.ValidFields.{IsValidFields};
 ghost use Rattle.cal_spec.specs.Weekdays.{weekdays_in};
 
-use crate::SpecFault;
+use crate::{Expr, SpecFault};
 use crate::date_and_time::{read_date, read_time, room_behind};
 use crate::raw::Raw;
 use crate::weekdays::read_weekdays;
@@ -20,13 +21,27 @@ use std::alloc::Global;
 /// The most bytes that a text may have.
 const MOST_BYTES: usize = 4096;
 
+/// Reads a calendar expression, `[weekdays] [date] [time] [zone]` or `shorthand [zone]` (systemd.time(7), Calendar
+/// Events), and gives it in its normal form.
+///
+/// The fault is the first one: [`SpecFault::TextTooLong`] above 4,096 bytes, then [`SpecFault::Empty`] where there is
+/// no word, then that of the words from the left. [`SpecFault::NoMemory`] comes only where memory was refused; nothing
+/// stands then. Whether there is a zone of the name that stands at the end isn't asked here.
+#[tactic(auto, unfolding(crate::specs::Expr::expr_in))]
+pub fn read_expr(alloc: Global, text: &str) -> Result<Expr, SpecFault>
+    ensures { GivesUnlessNoMemory (λ expr. expr) result (expr_in text.now) }
+{
+    let raw = read_fields(alloc, text)?;
+    Ok(Expr::normal(raw))
+}
+
 /// The fields of a text, `[weekdays] [date] [time] [zone]` or `shorthand [zone]`, as it writes them (systemd.time(7),
 /// Calendar Events).
 ///
 /// The fault is the first one: `TextTooLong` above 4,096 bytes, then `Empty` where there is no word, then that of the
 /// words from the left. `NoMemory` comes only where memory was refused; nothing stands then.
 #[tactic(auto, unfolding(crate::specs::Grammar::fields_in))]
-pub(crate) fn read_fields(alloc: Global, text: &str) -> Result<Raw, SpecFault>
+fn read_fields(alloc: Global, text: &str) -> Result<Raw, SpecFault>
     ensures fields { GivesUnlessNoMemory fields_of result (fields_in text.now) }
     ensures valid { IfOk result (λ raw. IsValidFields (fields_of raw)) }
 {

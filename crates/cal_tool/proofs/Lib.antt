@@ -2,8 +2,6 @@ pub mod AnswerLemmas
 pub mod CommandLemmas
 pub mod ElapseTexts
 pub mod ElapsesLemmas
-pub mod ExprLemmas
 pub mod RisingLemmas
 pub mod SearchLemmas
-pub mod TimeOfDayLemmas
 pub mod WorkedRows

@@ -1,73 +1,78 @@
--- The definitions, tried on worked local seconds.
-use Rattle.std.proofs.Common.{◌≡◌, ℕ, ◌<◌, [], ◌∷◌, ◌++◌, None, codes, pos, inl, true, false, ◌∙◌, refl, rules, arith}
+-- The definitions, tried on worked local seconds and on a whole request.
+use Rattle.std.proofs.Common.{◌≡◌, [], ◌∷◌, ◌++◌, None, Some, codes, pos, ◌∙◌, ap, sym, inl, true, false, refl, rules, arith}
 use Rattle.std.specs.Fmt.{digits}
-use Rattle.cal_base.specs.Local.{seconds_in_all, seconds_in_all-is}
-use Rattle.cal_tool.specs.TimeOfDay.{TimeOfDay, IsTimeOfDay}
-use Rattle.cal_tool.specs.Expr.{sets_of, timed}
+use Rattle.jiff.specs.Types.{Date}
+use Rattle.jiff.specs.Words.{epoch_day, weekday_of}
+use Rattle.jiff_core.proofs.CalendarLemmas.{days_from_civil-day_count}
+use Rattle.jiff_core.proofs.MarchLemmas.{day_count-early}
+use Rattle.jiff.proofs.SpanFacts.{signed_arith}
+use Rattle.jiff_core.specs.Calendar.{weekday_number}
+use Rattle.cal_base.specs.Days.{date_of, date_of-epoch_day}
+use Rattle.cal_base.specs.Local.{civil_date, seconds_in_all-is}
 use Rattle.cal_base.specs.Scale.{words_for, name_of}
 use Rattle.cal_base.specs.SpanText.{units_text, row_text}
 use Rattle.cal_base.specs.SpanValue.{words_in, pairs_in, is_number, unit_named, number_worth, worth_of, span_of}
+use Rattle.cal_spec.specs.Fields.{Fields}
+use Rattle.cal_spec.specs.Match.{matches, date_in, time_in}
+use Rattle.cal_spec.specs.Members.{sets_of, part_has}
 use Rattle.cal_tool.specs.Answer.{reports_text, refusals_text, whole_status}
 use Rattle.cal_tool.specs.Elapses.{IsElapse}
-use Rattle.cal_tool.specs.Match.{matches}
 use Rattle.cal_tool.specs.Report.{report}
 use Rattle.cal_tool.specs.Request.{Asked}
+use Rattle.cal_tool.specs.Timed.{timed}
 use Rattle.cal_tool.specs.TimespanReport.{timespan_answer, timespan_report}
 use Rattle.cal_tool.specs.declared.request.Status.TheVariants.{Refused}
 use Rattle.cal_tool.specs.declared.request.Verb.TheVariants.{Timespan}
-use Rattle.cal_tool.proofs.TimeOfDayLemmas.{matches-daily, matches-past, utc_place-is}
+use Rattle.cal_tool.proofs.SearchLemmas.{inside, utc_place-is}
 
-within : (t : ℕ) → t < 7_258_118_400 → t < seconds_in_all
-within t h = omega (arith, seconds_in_all-is)
+-- `*-*-* 12:30:00`
+noon_thirty : Fields
+noon_thirty = record {
+  weekdays = true ∷ true ∷ true ∷ true ∷ true ∷ true ∷ true ∷ [];
+  year = None;
+  month = None;
+  day = None;
+  hour = Some (record { start = 12; end = None; step = None } ∷ []);
+  minute = Some (record { start = 30; end = None; step = None } ∷ []);
+  second = Some (record { start = 0; end = None; step = None } ∷ []);
+  from_end = false;
+  zone = None;
+}
 
-noon_thirty : TimeOfDay
-noon_thirty = record { hour = 12; minute = 30; second = 0 }
+-- Mon 2024-01-01
+new_year : Date
+new_year = record { year = pos 2024; month = 1; day = 1; year_in = search rules; month_in = search rules; day_in = search rules }
 
-last_second : TimeOfDay
-last_second = record { hour = 23; minute = 59; second = 59 }
+new_year-number : epoch_day new_year ≡ pos 19_723
+unfolding new_year
+new_year-number =
+    omega (arith, signed_arith, days_from_civil-day_count (pos 2024) 1 1, day_count-early (pos 2024) 12023 1 1 refl (omega arith) (omega arith) (omega arith))
 
-noon_thirty-is : IsTimeOfDay noon_thirty
-unfolding noon_thirty
-noon_thirty-is = record { hour = search rules; minute = search rules; second = search rules }
+new_year-weekday : weekday_of new_year ≡ 0
+unfolding weekday_number
+new_year-weekday = rw new_year-number refl
 
-last_second-is : IsTimeOfDay last_second
-unfolding last_second
-last_second-is = record { hour = search rules; minute = search rules; second = search rules }
+new_year-is : civil_date 19_723 ≡ new_year
+unfolding civil_date
+new_year-is = ap date_of (sym new_year-number) ∙ date_of-epoch_day new_year
+
+noon_thirty-on : date_in (sets_of noon_thirty) new_year ≡ true
+unfolding noon_thirty date_in sets_of
+noon_thirty-on = rw new_year-weekday (unfold new_year in refl)
+
+noon_thirty-at : time_in (sets_of noon_thirty) 45_000 ≡ true
+unfolding noon_thirty time_in sets_of part_has
+noon_thirty-at = refl
 
 -- Mon 2024-01-01 12:30:00
 noon_thirty-matches : matches (sets_of noon_thirty) 1_704_112_200 ≡ true
-unfolding noon_thirty
-noon_thirty-matches = matches-daily noon_thirty noon_thirty-is 1_704_112_200 (within 1_704_112_200 (omega arith)) ∙ refl
+unfolding matches
+noon_thirty-matches = rw (inside 1_704_112_200 (omega arith), new_year-is, noon_thirty-on, noon_thirty-at) refl
 
--- and not a second later
-noon_thirty-passed : matches (sets_of noon_thirty) 1_704_112_201 ≡ false
-unfolding noon_thirty
-noon_thirty-passed = matches-daily noon_thirty noon_thirty-is 1_704_112_201 (within 1_704_112_201 (omega arith)) ∙ refl
-
--- Tue 2199-12-31 23:59:59
-last_second-matches : matches (sets_of last_second) 7_258_118_399 ≡ true
-unfolding last_second
-last_second-matches = matches-daily last_second last_second-is 7_258_118_399 (within 7_258_118_399 (omega arith)) ∙ refl
-
--- and nothing matches from 2200 on
-last_second-passed : (time : TimeOfDay) → matches (sets_of time) 7_258_118_400 ≡ false
-last_second-passed time = matches-past (sets_of time) 7_258_118_400 (omega (arith, seconds_in_all-is))
-
--- Tue 2024-01-02 12:30:00
-noon_thirty-matches_again : matches (sets_of noon_thirty) 1_704_198_600 ≡ true
-unfolding noon_thirty
-noon_thirty-matches_again = matches-daily noon_thirty noon_thirty-is 1_704_198_600 (within 1_704_198_600 (omega arith)) ∙ refl
-
--- so both are elapses in UTC
-elapse_at : (local : ℕ) → local < 7_258_118_400 → matches (sets_of noon_thirty) local ≡ true → IsElapse (timed noon_thirty ∷ []) (pos local)
-unfolding timed
-elapse_at local h is = inl (record { local = local; within = within local h; is_match = is; placed = utc_place-is local })
-
+-- so it is an elapse in UTC
 noon_thirty-elapses : IsElapse (timed noon_thirty ∷ []) (pos 1_704_112_200)
-noon_thirty-elapses = elapse_at 1_704_112_200 (omega arith) noon_thirty-matches
-
-noon_thirty-elapses_again : IsElapse (timed noon_thirty ∷ []) (pos 1_704_198_600)
-noon_thirty-elapses_again = elapse_at 1_704_198_600 (omega arith) noon_thirty-matches_again
+unfolding timed
+noon_thirty-elapses = inl (record { local = 1_704_112_200; within = omega (arith, seconds_in_all-is); is_match = noon_thirty-matches; placed = utc_place-is 1_704_112_200 })
 
 -- A report with a refusal
 

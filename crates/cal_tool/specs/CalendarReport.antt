@@ -1,16 +1,19 @@
 -- The report of one calendar expression (systemd-analyze(1), calendar).
-use Rattle.std.specs.Prelude.{ℕ, ◌+◌, ◌-◌, ◌*◌, ◌==◌, ℤ, ◌-ℤ◌, int_lt, unsigned_abs, List, [], ◌∷◌, ◌++◌, length, take, replicate, Option, None, Some, Ok, Err, if◌then◌else◌, codes, decimal}
+use Rattle.std.specs.Prelude.{ℕ, ◌+◌, ◌-◌, ◌*◌, ◌==◌, ℤ, ◌-ℤ◌, int_lt, unsigned_abs, Bool, true, List, [], ◌∷◌, ◌++◌, length, map, take, replicate, Option, None, Some, Result, Ok, Err, if◌then◌else◌, codes, decimal}
+use Rattle.std.specs.Char.{to_ascii_lowercase}
+use Rattle.std.specs.Str.{bytes_eq}
 use Rattle.jiff.specs.Types.{UTC}
 use Rattle.cal_base.specs.Bytes.{joined}
 use Rattle.cal_base.specs.InstantText.{instant_text}
 use Rattle.cal_base.specs.SpanText.{span_text}
+use Rattle.cal_spec.specs.Expr.{expr_in}
+use Rattle.cal_spec.specs.ExprText.{expr_text}
+use Rattle.cal_spec.specs.Fields.{Fields}
+use Rattle.cal_spec.specs.SpecFault.{words_of}
+use Rattle.cal_spec.specs.declared.spec_fault.SpecFault.{SpecFault}
 use Rattle.cal_tool.specs.Answer.{Answer}
-use Rattle.cal_tool.specs.TimeOfDay.{TimeOfDay}
 use Rattle.cal_tool.specs.Elapses.{elapses_after}
-use Rattle.cal_tool.specs.Expr.{timed}
-use Rattle.cal_tool.specs.ExprText.{expr_of, normal_text}
-use Rattle.cal_tool.specs.SpecFault.{words_of}
-use Rattle.cal_tool.specs.declared.spec_fault.SpecFault.TheVariants.{BadDate}
+use Rattle.cal_tool.specs.Timed.{timed}
 
 -- `left` where the instant isn't before the present, `ago` where it is
 abbrev pub direction_text : ℤ → ℤ → List ℕ
@@ -43,27 +46,33 @@ elapses_text now [] = codes "    Next elapse: never\n"
 elapses_text now (elapse ∷ elapses) = elapse_texts now 1 (elapse ∷ elapses)
 
 -- the line of the normal form, behind its label
-unfoldable pub normal_line : TimeOfDay → List ℕ
-normal_line time = joined (normal_text time ∷ codes "\n" ∷ [])
+unfoldable pub normal_line : Fields → List ℕ
+normal_line fields = joined (expr_text fields ∷ codes "\n" ∷ [])
 
 -- the line of a text as it was handed in, and the label of the next
 unfoldable pub original_line : List ℕ → List ℕ
 original_line text = joined (codes "  Original form: " ∷ text ∷ codes "\nNormalized form: " ∷ [])
 
 -- both lines
-unfoldable pub heading_text : List ℕ → TimeOfDay → List ℕ
-heading_text text time = joined (original_line text ∷ normal_line time ∷ [])
+unfoldable pub heading_text : List ℕ → Fields → List ℕ
+heading_text text fields = joined (original_line text ∷ normal_line fields ∷ [])
 
 -- The report of a text that is an expression: the text, its normal form, and the first n of the elapses after
 -- the base, or all where there are fewer.
-unfoldable pub calendar_report : ℤ → ℤ → ℕ → List ℕ → TimeOfDay → List ℕ
-calendar_report now base n text time =
-    joined (heading_text text time ∷ elapses_text now (take n (elapses_after (timed time ∷ []) base)) ∷ [])
+unfoldable pub calendar_report : ℤ → ℤ → ℕ → List ℕ → Fields → List ℕ
+calendar_report now base n text fields =
+    joined (heading_text text fields ∷ elapses_text now (take n (elapses_after (timed fields ∷ []) base)) ∷ [])
+
+-- a zone of that name is there; so far UTC alone is
+abbrev pub is_there : Option (List ℕ) → Bool
+is_there None = true
+is_there (Some name) = bytes_eq (map to_ascii_lowercase name) (codes "utc")
 
 -- the report, or the words of the refusal
-abbrev pub answer_with : ℤ → ℤ → ℕ → List ℕ → Option TimeOfDay → Answer
-answer_with now base n text None = Err (words_of BadDate)
-answer_with now base n text (Some time) = Ok (calendar_report now base n text time)
+abbrev pub answer_with : ℤ → ℤ → ℕ → List ℕ → Result Fields SpecFault → Answer
+answer_with now base n text (Err fault) = Err (words_of fault)
+answer_with now base n text (Ok fields) =
+    if is_there fields.zone then Ok (calendar_report now base n text fields) else Err (codes "no such zone")
 
 unfoldable pub calendar_answer : ℤ → ℤ → ℕ → List ℕ → Answer
-calendar_answer now base n text = answer_with now base n text (expr_of text)
+calendar_answer now base n text = answer_with now base n text (expr_in text)

@@ -3,16 +3,12 @@ pub mod Answer
 pub mod CalendarReport
 pub mod Command
 pub mod Elapses
-pub mod Expr
-pub mod ExprText
-pub mod Match
 pub mod Report
 pub mod Request
 pub mod RisingList
 pub mod RunFault
 pub mod Search
-pub mod SpecFault
 pub mod Status
 pub mod Stop
-pub mod TimeOfDay
+pub mod Timed
 pub mod TimespanReport

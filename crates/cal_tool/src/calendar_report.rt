@@ -4,18 +4,16 @@
 ghost use Rattle.std.specs.Prelude.{◌≡◌, ◌-◌, ◌≤◌, [], ◌∷◌, false, is_err, take, length, unsigned_abs, ◌*◌, ◌-ℤ◌};
 ghost use Rattle.cal_base.specs.Bytes.{Writes};
 ghost use Rattle.cal_tool.specs.CalendarReport.{heading_text, original_line, normal_line, direction_text, distance_text, label_text, elapse_text, elapse_texts, elapses_text, calendar_report};
-ghost use Rattle.cal_tool.specs.TimeOfDay.{time_of_day};
 ghost use Rattle.cal_tool.specs.Elapses.{elapses_after};
-ghost use Rattle.cal_tool.specs.Expr.{timed};
+ghost use Rattle.cal_tool.specs.Timed.{timed};
 ghost use Rattle.cal_tool.specs.Request.{IsCount};
 
-use crate::expr::Expr;
-use crate::expr_text::write_expr;
 use crate::search::next_elapse;
 use cal_base::{
     Fill, Instant, ShortText, Sink, Span, WriteFault, Zone, format_instant, format_span, in_a_row,
     padding, put_all, put_pieces,
 };
+use cal_spec::{Expr, write_expr};
 use itoa::Buffer;
 
 /// Writes the report of an expression: at most so many of its elapses after the base, each with the
@@ -33,7 +31,7 @@ pub fn write_calendar<W: Sink>(
     requires out { W.is_failed out.old ≡ false }
     ensures failed { W.is_failed out.new ≡ is_err result }
     ensures bytes { Writes (W.written out.old) (W.written out.new) result
-        (calendar_report now.secs base.secs iterations text.now (time_of_day expr.now)) }
+        (calendar_report now.secs base.secs iterations text.now expr.now) }
 {
     put_heading(out, text, expr)?;
     put_elapses(out, expr, iterations, base, now)
@@ -45,7 +43,7 @@ fn put_heading<W: Sink>(out: &mut W, text: &str, expr: &Expr) -> Result<(), Writ
     requires { W.is_failed out.old ≡ false }
     ensures failed { W.is_failed out.new ≡ is_err result }
     ensures bytes { Writes (W.written out.old) (W.written out.new) result
-        (heading_text text.now (time_of_day expr.now)) }
+        (heading_text text.now expr.now) }
 {
     put_original(out, text)?;
     put_normal(out, expr)
@@ -74,7 +72,7 @@ fn put_normal<W: Sink>(out: &mut W, expr: &Expr) -> Result<(), WriteFault>
     requires { W.is_failed out.old ≡ false }
     ensures failed { W.is_failed out.new ≡ is_err result }
     ensures bytes { Writes (W.written out.old) (W.written out.new) result
-        (normal_line (time_of_day expr.now)) }
+        (normal_line expr.now) }
 {
     write_expr(out, expr)?;
     put_all(out, b"\n")
@@ -93,7 +91,7 @@ fn put_elapses<W: Sink>(
     ensures failed { W.is_failed out.new ≡ is_err result }
     ensures bytes { Writes (W.written out.old) (W.written out.new) result
         (elapses_text now.secs
-        (take iterations (elapses_after (timed (time_of_day expr.now) ∷ []) base.secs))) }
+        (take iterations (elapses_after (timed expr.now ∷ []) base.secs))) }
 {
     match next_elapse(expr, base) {
         None => put_all(out, b"    Next elapse: never\n"),
@@ -117,7 +115,7 @@ fn put_more<W: Sink>(
     ensures failed { W.is_failed out.new ≡ is_err result }
     ensures bytes { Writes (W.written out.old) (W.written out.new) result
         (elapse_texts now.secs 2
-        (take (iterations - 1) (elapses_after (timed (time_of_day expr.now) ∷ []) first.secs))) }
+        (take (iterations - 1) (elapses_after (timed expr.now ∷ []) first.secs))) }
 {
     let mut last = first;
     for number in 2..iterations + 1 {

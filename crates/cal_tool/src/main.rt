@@ -10,13 +10,10 @@ pub mod buffered;
 pub mod calendar_report;
 pub mod command;
 pub mod early_words;
-pub mod expr;
-pub mod expr_text;
 pub mod laws;
 pub mod report;
 pub mod request;
 pub mod search;
-pub mod spec_fault;
 pub mod stop;
 pub mod timespan_report;
 

@@ -10,8 +10,9 @@ ghost use Rattle.cal_tool.specs.Report.{answer_to, report};
 ghost use Rattle.cal_tool.specs.Request.{IsCount, asked};
 ghost use Rattle.cal_tool.specs.RunFault.{is_out_failed, is_err_failed};
 ghost use Rattle.cal_tool.specs.declared.request.RunFault.TheVariants.{NoMemory};
+ghost use Rattle.cal_tool.specs.declared.request.Verb.TheVariants.{Timespan};
 
-use crate::accepted::{Accepted, read_text, write_report};
+use crate::accepted::{Accepted, Refusal, read_text, write_report};
 use crate::request::{Request, RunFault, Status};
 use cal_base::{Instant, Sink, Source, WriteFault, Zone, ZoneTable, put_all, put_pieces};
 use std::alloc::Global;
@@ -22,8 +23,8 @@ use std::alloc::Global;
 /// UTC and `input` isn't read.
 ///
 /// [`RunFault::OutFailed`] and [`RunFault::ErrFailed`] come exactly where that writer failed in this call, and
-/// each writer has a prefix of its whole text then. No memory is taken so far, so [`RunFault::NoMemory`]
-/// never comes.
+/// each writer has a prefix of its whole text then, as it has where memory is refused ([`RunFault::NoMemory`]).
+/// Time spans take no memory.
 #[tactic(auto, unfolding(crate::specs::Report::report))]
 pub fn run<R: Source, O: Sink, E: Sink>(
     alloc: Global,
@@ -47,16 +48,18 @@ pub fn run<R: Source, O: Sink, E: Sink>(
         (report (asked request.now now.secs)).err }
     ensures out_failed { O.is_failed out.new ≡ is_out_failed result }
     ensures err_failed { E.is_failed err.new ≡ is_err_failed result }
-    ensures memory { IsErrOf result NoMemory → ⊥ }
+    ensures memory { request.now.verb ≡ Timespan → IsErrOf result NoMemory → ⊥ }
     ensures input { input.new ≡ input.old }
 {
-    answer_all(request, now, out, err)
+    answer_all(alloc, request, now, table, out, err)
 }
 
 /// Answers the texts in order.
 fn answer_all<O: Sink, E: Sink>(
+    alloc: Global,
     request: &Request,
     now: Instant,
+    table: &ZoneTable,
     out: &mut O,
     err: &mut E,
 ) -> Result<Status, RunFault>
@@ -73,12 +76,12 @@ fn answer_all<O: Sink, E: Sink>(
         (refusals_text answer (map string_bytes request.now.texts.items)) }
     ensures out_failed { O.is_failed out.new ≡ is_out_failed result }
     ensures err_failed { E.is_failed err.new ≡ is_err_failed result }
-    ensures memory { IsErrOf result NoMemory → ⊥ }
+    ensures memory { request.now.verb ≡ Timespan → IsErrOf result NoMemory → ⊥ }
 {
     let mut status = Status::Fine;
     let mut is_later = false;
     for text in &request.texts {
-        let answered = match answer_one(request, now, text.as_str(), is_later, out, err) {
+        let answered = match answer_one(alloc, request, now, table, text.as_str(), is_later, out, err) {
             Ok(answered) => answered,
             Err(fault) => return Err(fault),
         };
@@ -90,8 +93,10 @@ fn answer_all<O: Sink, E: Sink>(
 
 /// Answers one text, by its report or by the line of its refusal.
 fn answer_one<O: Sink, E: Sink>(
+    alloc: Global,
     request: &Request,
     now: Instant,
+    table: &ZoneTable,
     text: &str,
     is_later: bool,
     out: &mut O,
@@ -108,13 +113,14 @@ fn answer_one<O: Sink, E: Sink>(
         (refusal_in text.now (answer_to (asked request.now now.secs) text.now)) }
     ensures out_failed { O.is_failed out.new ≡ is_out_failed result }
     ensures err_failed { E.is_failed err.new ≡ is_err_failed result }
-    ensures memory { IsErrOf result NoMemory → ⊥ }
+    ensures memory { request.now.verb ≡ Timespan → IsErrOf result NoMemory → ⊥ }
 {
-    match read_text(request, now, text) {
+    match read_text(alloc, request, now, table, text) {
         Ok(accepted) => match put_report(out, is_later, request, now, text, &accepted) {
             Ok(()) => Ok(Status::Fine),
             Err(WriteFault::Failed) => Err(RunFault::OutFailed),
         },
+        Err(Refusal::NoMemory) => Err(RunFault::NoMemory),
         Err(refusal) => match put_refusal(err, text, refusal.words()) {
             Ok(()) => Ok(Status::Refused),
             Err(WriteFault::Failed) => Err(RunFault::ErrFailed),

@@ -1,8 +1,8 @@
 use Rattle.std.proofs.Common.{◌*◌, arith, w64, ◌∙◌}
 use Rattle.std.proofs.lemmas.Int.{to_z_pos}
 use Rattle.jiff.proofs.SpanFacts.{signed_arith}
-use Rattle.cal_spec.proofs.MatchLemmas.{date_of_midnight}
-use Rattle.cal_spec.proofs.matching.date_of_day.Goals as goal
+use Rattle.cal_base.proofs.CivilLemmas.{date_of_midnight}
+use Rattle.cal_base.proofs.civil_time.date_of_day.Goals as goal
 
 pub returns : goal.returns
 returns c =
