@@ -5,6 +5,9 @@ mod NormalFieldsLemmas
 mod NormalLemmas
 mod NormalRows
 mod OrderLemmas
+mod ReadBack
+mod ReadBackParts
+mod ReadBackWeekdays
 mod ReadingRows
 mod ReducedLemmas
 mod TextLemmas
