@@ -1,5 +1,5 @@
 -- The dates and times of local seconds.
-use Rattle.std.proofs.Common.{◌≡◌, ℕ, ◌*◌, ℤ, pos, sym, ap, ◌∙◌, arith}
+use Rattle.std.proofs.Common.{◌≡◌, ℕ, ◌*◌, pos, sym, ap, ◌∙◌, arith}
 use Rattle.jiff.specs.Types.{DateTime}
 use Rattle.jiff.specs.Words.{civil_nanos, epoch_day, nanos_of_seconds}
 use Rattle.jiff.proofs.SpanFacts.{signed_arith}

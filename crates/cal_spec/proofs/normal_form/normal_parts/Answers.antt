@@ -1,5 +1,4 @@
-use Rattle.std.proofs.Common.{sym, ◌∙◌, subst}
-use Rattle.std.specs.List.Sorted.{IsPermutation}
+use Rattle.std.proofs.Common.{◌∙◌}
 use Rattle.std.proofs.lemmas.List.Filters.{dedup_is}
 use Rattle.cal_spec.specs.NormalForm.{part_cmp, part_eq}
 use Rattle.cal_spec.proofs.NormalLemmas.{sorted_deduped}

@@ -1,4 +1,4 @@
-use Rattle.std.proofs.Common.{get_or, None, arith}
+use Rattle.std.proofs.Common.{get_or, arith}
 use Rattle.std.proofs.lemmas.List.{get_or_default}
 use Rattle.std.proofs.lemmas.List.Edits.{map_over_more}
 use Rattle.cal_spec.specs.NormalForm.{reduced, point}
