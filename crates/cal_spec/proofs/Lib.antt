@@ -1,4 +1,5 @@
 pub mod ComponentLemmas
+pub mod FaultLemmas
 pub mod FieldLemmas
 pub mod PieceLemmas
 pub mod ReadLemmas

@@ -1,6 +1,7 @@
 pub mod Components
 pub mod DateAndTime
 pub mod DateAndTimeViews
+pub mod Faults
 pub mod Fields
 pub mod Grammar
 pub mod Parts
