@@ -4,6 +4,7 @@ pub mod DateAndTimeViews
 pub mod Faults
 pub mod Fields
 pub mod Grammar
+pub mod GrammarRule
 pub mod Parts
 pub mod Pieces
 pub mod PlacesView
