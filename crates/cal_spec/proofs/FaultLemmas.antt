@@ -54,7 +54,7 @@ part_due_fault slot room number text sum =
     due_fault slot text (part_of slot text) (eqb room 0) ∙ ap (λ full. cond full (Some TooManyParts) (result_err (part_of slot text))) (full_is room number sum)
 
 -- a part that was read had room
-part_due_is : (slot : Slot) (room : ℕ) (text : List ℕ) (p : Part) → part_due slot room text ≡ Ok p → (0 < room) × Follows (part_of slot text) (λ raw. Ok (with_values slot raw)) p
+pub part_due_is : (slot : Slot) (room : ℕ) (text : List ℕ) (p : Part) → part_due slot room text ≡ Ok p → (0 < room) × Follows (part_of slot text) (λ raw. Ok (with_values slot raw)) p
 unfolding part_due
 part_due_is slot room text p at =
     let read = cond_ok (eqb room 0) TooManyParts (part_of slot text >>= λ raw. Ok (with_values slot raw)) p at in

@@ -252,15 +252,15 @@ text_found text f at =
 
 -- how many counted parts
 
-counted_date : (slot : Slot) (c : Option (List Part)) → is_time slot ≡ false → counted slot c ≡ parts_in c
+pub counted_date : (slot : Slot) (c : Option (List Part)) → is_time slot ≡ false → counted slot c ≡ parts_in c
 counted_date slot None test = refl
 counted_date slot (Some ps) test = rw test refl
 
-counted_time : (slot : Slot) (c : Option (List Part)) → is_time slot ≡ true → counted slot c ≡ parts_in c - 1
+pub counted_time : (slot : Slot) (c : Option (List Part)) → is_time slot ≡ true → counted slot c ≡ parts_in c - 1
 counted_time slot None test = refl
 counted_time slot (Some ps) test = rw test refl
 
-day_no_time : (from_end : Bool) → is_time (day_slot from_end) ≡ false
+pub day_no_time : (from_end : Bool) → is_time (day_slot from_end) ≡ false
 day_no_time true = refl
 day_no_time false = refl
 

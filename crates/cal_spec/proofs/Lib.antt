@@ -1,10 +1,13 @@
+pub mod CleanLemmas
 pub mod ComponentLemmas
+pub mod ComponentRule
+pub mod DateRule
 pub mod FaultLemmas
 pub mod FieldLemmas
 pub mod PartRule
 pub mod PieceLemmas
 pub mod ReadLemmas
+mod ReadingRows
 pub mod SignLemmas
 pub mod WordLemmas
 pub mod ZoneLemmas
-mod ReadingRows
