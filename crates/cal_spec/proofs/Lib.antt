@@ -9,5 +9,7 @@ pub mod PieceLemmas
 pub mod ReadLemmas
 mod ReadingRows
 pub mod SignLemmas
+pub mod WeekdayRule
 pub mod WordLemmas
+pub mod WordRule
 pub mod ZoneLemmas
