@@ -10,6 +10,7 @@ pub mod ReadLemmas
 mod ReadingRows
 pub mod SignLemmas
 pub mod WeekdayRule
+pub mod WholeRule
 pub mod WordLemmas
 pub mod WordRule
 pub mod ZoneLemmas

@@ -6,6 +6,7 @@ mod accepted_texts;
 mod components;
 mod date_and_time;
 mod field;
+pub mod grammar_laws;
 mod no_memory;
 mod numbers;
 mod part;
