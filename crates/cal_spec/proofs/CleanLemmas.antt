@@ -1,9 +1,8 @@
 -- Texts without a separator, and texts that are joined by separators.
-use Rattle.std.proofs.Common.{ℕ, suc, ◌+◌, ◌<◌, ◌≤◌, ◌≡◌, Bool, true, false, cond, ◌&&◌, ◌||◌, List, [], ◌∷◌, ◌++◌, length, refl, sym, ap, ◌∙◌, arith, eqb, leb}
+use Rattle.std.proofs.Common.{ℕ, ◌<◌, ◌≡◌, Bool, true, false, cond, List, [], ◌∷◌, ◌++◌, length, refl, ap, ◌∙◌, arith, eqb}
 use Rattle.std.specs.Prelude.{filter, ◌==◌}
 use Rattle.std.specs.List.{AllByRecursion, list_all, list_any, slice_split, onto_first, join_with_byte}
 use Rattle.std.proofs.lemmas.Bool.{and_parts, and_from, or_from}
-use Rattle.std.proofs.lemmas.List.{append-nil, append_assoc}
 
 -- no byte of the text passes p
 abbrev pub IsClear : (ℕ → Bool) → List ℕ → Type 0

@@ -1,31 +1,27 @@
 -- A component that was read is one by the rule, and one by the rule is read.
-use Rattle.std.proofs.Common.{ℕ, suc, ◌+◌, ◌-◌, ◌<◌, ◌≤◌, ◌≡◌, Bool, true, false, cond, not, ◌&&◌, ◌||◌, List, [], ◌∷◌, ◌++◌, length, map, codes, Option, Some, None, Ok, Err, Result, refl, sym, ap, ◌∙◌, arith, leb, ltb, eqb}
+use Rattle.std.proofs.Common.{ℕ, ◌+◌, ◌-◌, ◌<◌, ◌≤◌, ◌≡◌, Bool, true, false, cond, ◌&&◌, ◌||◌, List, [], ◌∷◌, ◌++◌, length, codes, Option, Some, None, Ok, refl, sym, ap, ◌∙◌, arith, leb}
 use Rattle.std.specs.Prelude.{◌==◌}
 use Rattle.std.specs.List.{AllByRecursion, AllZip, list_all, slice_split, join_with_byte}
 use Rattle.std.specs.Char.{is_ascii_digit}
-use Rattle.std.specs.Str.{bytes_eq}
-use Rattle.std.proofs.lemmas.Bool.{and_parts, and_from, or_left, or_right, le-leb, le-ltb, lt-leb, ne_eqb, eqb-true, leb-true, false_from_ne_true, not_from_true}
-use Rattle.std.proofs.lemmas.Bool.Decides.{nat_tests}
+use Rattle.std.proofs.lemmas.Bool.{and_parts, and_from, or_right, le-leb, le-ltb, lt-leb, ne_eqb, leb-true, false_from_ne_true, not_from_true}
 use Rattle.std.proofs.lemmas.List.{append-nil, append_assoc}
 use Rattle.std.proofs.lemmas.List.Splits.{join_with_byte-slice_split}
 use Rattle.std.proofs.lemmas.Slice.Eq.{bytes_eq-Decides}
 use Rattle.cal_spec.specs.Components.{is_comma, is_star, counted, room_in, part_due, parts_of, first_fault, listed, component_of}
 use Rattle.cal_spec.specs.GrammarRule.{IsNumber, IsNext, IsPartText, IsPartOf, AreListed, IsComponent}
-use Rattle.cal_spec.specs.Parts.{is_time, is_from_end, part_of, with_values, is_within, is_outside, is_backward, is_zero, is_idle, fault_of}
-use Rattle.cal_spec.specs.Reads.{◌>>=◌, unless, first_of}
+use Rattle.cal_spec.specs.Parts.{is_time, with_values, is_within, is_outside, is_backward, is_zero, is_idle, fault_of}
+use Rattle.cal_spec.specs.Reads.{◌>>=◌}
 use Rattle.cal_spec.specs.Slot.{least, greatest}
 use Rattle.cal_spec.specs.Sound.{IsWithin, IsEndWithin, EndsAfter, IsStep, GoesOn, IsSound}
 use Rattle.cal_spec.specs.declared.part.Part.{Part}
 use Rattle.cal_spec.specs.declared.slot.Slot.{Slot}
 use Rattle.cal_spec.specs.declared.slot.Slot.TheVariants.{Year, Month, Day, DayFromEnd, Hour, Minute, Second}
-use Rattle.cal_spec.specs.declared.spec_fault.SpecFault.{SpecFault}
-use Rattle.cal_spec.specs.declared.spec_fault.SpecFault.TheVariants.{OutOfField, BackwardRange, ZeroRepeat, NoRepeat, TooManyParts}
 use Rattle.cal_spec.proofs.CleanLemmas.{IsClear, Apart, clear_from, list_all-append, split_joined}
-use Rattle.cal_spec.proofs.ComponentLemmas.{PartsRead, parts_of-cons, parts_counted, sound_parts, ListedRead, listed_ok}
+use Rattle.cal_spec.proofs.ComponentLemmas.{parts_of-cons, sound_parts, listed_ok}
 use Rattle.cal_spec.proofs.FaultLemmas.{part_due_is}
 use Rattle.cal_spec.proofs.PartRule.{part_found, part_only}
 use Rattle.cal_spec.proofs.PieceLemmas.{some_piece}
-use Rattle.cal_spec.proofs.ReadLemmas.{Follows, bind_ok}
+use Rattle.cal_spec.proofs.ReadLemmas.{bind_ok}
 
 -- A part with a meaning has no fault
 

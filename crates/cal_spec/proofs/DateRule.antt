@@ -1,23 +1,21 @@
 -- A date or a time that was read is one by the rule, and one by the rule is read.
-use Rattle.std.proofs.Common.{ℕ, suc, ◌+◌, ◌-◌, ◌<◌, ◌≤◌, ◌≡◌, ◌⊎◌, inl, inr, Bool, true, false, cond, not, ◌&&◌, ◌||◌, List, [], ◌∷◌, ◌++◌, length, map, codes, Option, Some, None, Ok, Err, Result, refl, sym, ap, ◌∙◌, arith, leb, ltb, eqb}
+use Rattle.std.proofs.Common.{ℕ, ◌-◌, ◌≤◌, ◌≡◌, inl, inr, Bool, true, false, cond, List, [], ◌∷◌, ◌++◌, codes, Option, Some, None, Ok, refl, sym, ap, ◌∙◌, arith}
 use Rattle.std.specs.Prelude.{◌==◌, filter}
-use Rattle.std.specs.List.{AllByRecursion, list_all, list_any, slice_split, join_with_byte}
+use Rattle.std.specs.List.{AllByRecursion, slice_split, join_with_byte}
 use Rattle.std.proofs.lemmas.Bool.{or_cases, eqb-true, false≢true}
 use Rattle.std.proofs.lemmas.Bool.Decides.{nat_tests}
 use Rattle.std.proofs.lemmas.List.Splits.{join_with_byte-slice_split}
-use Rattle.cal_spec.specs.Components.{counted, component_of}
-use Rattle.cal_spec.specs.DateAndTime.{DateTexts, TimeTexts, DateFields, TimeFields, is_tilde, is_date_sign, is_colon, date_by, time_by, date_texts, time_texts, most_counted, date_fields, time_fields, date_due, time_due, room_behind, date_of, time_of}
-use Rattle.cal_spec.specs.Fields.{Fields, parts_in, counted_parts}
+use Rattle.cal_spec.specs.Components.{counted}
+use Rattle.cal_spec.specs.DateAndTime.{DateTexts, TimeTexts, DateFields, TimeFields, is_tilde, is_date_sign, is_colon, date_by, time_by, date_texts, time_texts, most_counted, date_fields, time_fields, room_behind, date_of, time_of}
+use Rattle.cal_spec.specs.Fields.{Fields, counted_parts}
 use Rattle.cal_spec.specs.GrammarRule.{last_sign, IsDateShape, IsTimeShape, IsDate, IsTime, IsComponent}
-use Rattle.cal_spec.specs.Reads.{◌>>=◌}
 use Rattle.cal_spec.specs.Slot.{day_slot}
 use Rattle.cal_spec.specs.declared.part.Part.{Part}
 use Rattle.cal_spec.specs.declared.slot.Slot.{Slot}
 use Rattle.cal_spec.specs.declared.slot.Slot.TheVariants.{Year, Month, Hour, Minute, Second}
-use Rattle.cal_spec.specs.declared.spec_fault.SpecFault.{SpecFault}
 use Rattle.cal_spec.proofs.CleanLemmas.{IsClear, Apart, clear_from, split_at, split_alone, filter_at, filter_alone, woven, woven_whole, filter_passes}
 use Rattle.cal_spec.proofs.ComponentRule.{is_component_byte, component_found, component_only, component_bytes}
-use Rattle.cal_spec.proofs.FieldLemmas.{fields_with, DateRead, TimeRead, DateFound, date_found, TimeFound, time_found, counted_date, counted_time, day_no_time}
+use Rattle.cal_spec.proofs.FieldLemmas.{fields_with, date_found, time_found, counted_date, counted_time, day_no_time}
 
 -- The shape of a date
 

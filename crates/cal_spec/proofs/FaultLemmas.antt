@@ -1,15 +1,14 @@
 -- The fault of a text is the first of all judgements.
-use Rattle.std.proofs.Common.{ℕ, suc, ◌+◌, ◌-◌, ◌<◌, ◌≤◌, ◌≡◌, Bool, true, false, cond, List, [], ◌∷◌, ◌++◌, length, map, Option, Some, None, Ok, Err, Result, refl, sym, ap, ◌∙◌, arith, leb, ltb, eqb, zero-add}
-use Rattle.std.specs.List.{slice_split}
+use Rattle.std.proofs.Common.{ℕ, ◌+◌, ◌-◌, ◌<◌, ◌≡◌, Bool, true, false, cond, List, [], ◌∷◌, ◌++◌, length, map, Option, Some, None, Ok, Err, Result, refl, sym, ap, ◌∙◌, arith, ltb, eqb, zero-add}
 use Rattle.std.specs.Option.{option_or}
 use Rattle.std.specs.Result.{result_err}
-use Rattle.std.proofs.lemmas.Bool.{eq-eqb, ne_eqb, lt-ltb, le-ltb, eqb-true, eqb-false}
+use Rattle.std.proofs.lemmas.Bool.{eqb-false}
 use Rattle.std.proofs.lemmas.Bool.Decides.{nat_tests}
-use Rattle.cal_spec.specs.Components.{is_comma, is_star, counted, room_in, part_due, parts_of, first_fault, listed, component_of}
-use Rattle.cal_spec.specs.DateAndTime.{DateTexts, TimeTexts, DateFields, TimeFields, date_texts, time_texts, most_counted, date_fields, time_fields, date_due, time_due, room_behind, date_of, time_of}
+use Rattle.cal_spec.specs.Components.{is_star, counted, room_in, part_due, parts_of, first_fault, listed, component_of}
+use Rattle.cal_spec.specs.DateAndTime.{DateTexts, TimeTexts, DateFields, date_texts, time_texts, most_counted, date_fields, time_fields, date_due, time_due, room_behind, date_of, time_of}
 use Rattle.cal_spec.specs.Faults.{pieces_of, numbered, first_number, shape_fault, shape_faults, value_fault, component_faults, numbered_in, date_faults, time_faults, faults_at, faults_in}
 use Rattle.cal_spec.specs.Grammar.{most_bytes, fields_at, fields_due, fields_in}
-use Rattle.cal_spec.specs.Parts.{is_time, part_of, with_values, fault_of}
+use Rattle.cal_spec.specs.Parts.{is_time, part_of, with_values}
 use Rattle.cal_spec.specs.Reads.{◌>>=◌, unless, first_of}
 use Rattle.cal_spec.specs.Slot.{day_slot}
 use Rattle.cal_spec.specs.Weekdays.{weekdays_in}
@@ -20,8 +19,8 @@ use Rattle.cal_spec.specs.declared.slot.Slot.{Slot}
 use Rattle.cal_spec.specs.declared.slot.Slot.TheVariants.{Year, Month, Hour, Minute, Second}
 use Rattle.cal_spec.specs.declared.spec_fault.SpecFault.{SpecFault}
 use Rattle.cal_spec.specs.declared.spec_fault.SpecFault.TheVariants.{TextTooLong, TooManyParts}
-use Rattle.cal_spec.proofs.ComponentLemmas.{IsRead, component_read, PartsRead, parts_of-cons, parts_counted, ListedRead, listed_ok}
-use Rattle.cal_spec.proofs.FieldLemmas.{fields_with, DateRead, date_fields_ok, DateFound, date_found}
+use Rattle.cal_spec.proofs.ComponentLemmas.{component_read, parts_of-cons, parts_counted, listed_ok}
+use Rattle.cal_spec.proofs.FieldLemmas.{fields_with, DateRead, date_found}
 use Rattle.cal_spec.proofs.ReadLemmas.{Follows, bind_ok, cond_ok}
 
 -- the fault of two reads in a row

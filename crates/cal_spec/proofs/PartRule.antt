@@ -1,19 +1,18 @@
 -- A part by its signs is a part by the rule.
-use Rattle.std.proofs.Common.{ℕ, suc, ◌+◌, ◌-◌, ◌<◌, ◌≤◌, ◌≡◌, Bool, true, false, cond, ◌&&◌, ◌||◌, List, [], ◌∷◌, ◌++◌, length, codes, Option, Some, None, Ok, Err, Result, refl, sym, ap, ◌∙◌, arith, ltb, leb}
+use Rattle.std.proofs.Common.{ℕ, ◌≡◌, Bool, true, false, cond, ◌&&◌, List, [], ◌∷◌, ◌++◌, codes, Option, Some, None, Ok, Err, refl, sym, ap, ◌∙◌, arith, ltb}
 use Rattle.std.specs.List.{AllByRecursion, flat_map, list_all}
 use Rattle.std.specs.Char.{is_ascii_digit}
 use Rattle.std.specs.Str.Parse.{digits_value}
 use Rattle.std.proofs.lemmas.Bool.{ltb-false, le-ltb, and_parts, and_right, eqb-true}
-use Rattle.std.proofs.lemmas.List.{append-nil, append_assoc}
+use Rattle.std.proofs.lemmas.List.{append-nil}
 use Rattle.cal_spec.specs.GrammarRule.{IsNumber, IsNext, IsPartText}
-use Rattle.cal_spec.specs.Parts.{Sign, digits, dots, slash, point, other, is_point, is_slash, with_digit, with_byte, lone, signs, starts_with_point, most, bad, is_second, Counted, behind_number, number_due, part_at_end, with_step, behind_end, behind_start, part_of}
+use Rattle.cal_spec.specs.Parts.{Sign, digits, dots, slash, point, other, is_point, is_slash, with_digit, with_byte, lone, signs, starts_with_point, most, is_second, Counted, behind_number, number_due, part_at_end, with_step, behind_end, behind_start, part_of}
 use Rattle.cal_spec.specs.Reads.{◌>>=◌}
 use Rattle.cal_spec.specs.declared.part.Part.{Part}
 use Rattle.cal_spec.specs.declared.slot.Slot.{Slot}
-use Rattle.cal_spec.specs.declared.spec_fault.SpecFault.{SpecFault}
 use Rattle.cal_spec.specs.declared.spec_fault.SpecFault.TheVariants.{NumberTooLarge, FractionalSecond}
-use Rattle.cal_spec.proofs.ReadLemmas.{Follows, bind_ok, cond_ok}
-use Rattle.cal_spec.proofs.SignLemmas.{IsSign, begins_with, signs_digit, signs_lone, signs_number, signs_sound}
+use Rattle.cal_spec.proofs.ReadLemmas.{bind_ok, cond_ok}
+use Rattle.cal_spec.proofs.SignLemmas.{IsSign, begins_with, signs_lone, signs_number, signs_sound}
 
 -- The signs are the text
 

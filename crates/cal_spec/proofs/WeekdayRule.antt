@@ -1,11 +1,11 @@
 -- A weekday list that was read is one by the rule, and one by the rule is read.
-use Rattle.std.proofs.Common.{ℕ, suc, ◌+◌, ◌-◌, ◌<◌, ◌≤◌, ◌≡◌, ◌⊎◌, inl, inr, Bool, true, false, cond, not, ◌&&◌, ◌||◌, List, [], ◌∷◌, ◌++◌, length, map, take, drop, get_or, codes, Option, Some, None, Ok, Err, Result, refl, sym, ap, ◌∙◌, arith, leb, ltb, eqb}
+use Rattle.std.proofs.Common.{ℕ, suc, ◌-◌, ◌<◌, ◌≡◌, ◌⊎◌, inl, inr, Bool, true, false, cond, not, ◌&&◌, ◌||◌, List, [], ◌∷◌, ◌++◌, length, map, take, drop, get_or, codes, Option, Some, None, Ok, refl, sym, ap, ◌∙◌, arith}
 use Rattle.std.specs.Prelude.{◌==◌, is_some, slice_index}
 use Rattle.std.specs.List.{AllByRecursion, AllZip, list_all, slice_split, join_with_byte, position_or_len, find}
-use Rattle.std.specs.Option.{option_map, ok_or}
+use Rattle.std.specs.Option.{option_map}
 use Rattle.std.specs.Char.{is_ascii_alphabetic, is_ascii_lowercase, to_ascii_lowercase}
-use Rattle.std.specs.Str.{bytes_eq, str_eq_ignore_ascii_case}
-use Rattle.std.proofs.lemmas.Bool.{and_parts, and_from, or_cases, or_left, eqb-true, eq-eqb, ne_eqb, leb-true, false_from_ne_true, not_from_true, not-false}
+use Rattle.std.specs.Str.{str_eq_ignore_ascii_case}
+use Rattle.std.proofs.lemmas.Bool.{and_parts, and_from, or_cases, or_left, eqb-true}
 use Rattle.std.proofs.lemmas.Bool.Decides.{nat_tests}
 use Rattle.std.proofs.lemmas.List.{append-nil, append_assoc, take-append-drop, length-append}
 use Rattle.std.proofs.lemmas.List.Splits.{join_with_byte-slice_split}
@@ -14,16 +14,12 @@ use Rattle.jiff_core.specs.declared.civil.weekday.Weekday.{Weekday}
 use Rattle.jiff_core.specs.declared.civil.weekday.Weekday.TheVariants.{Monday, Tuesday, Wednesday, Thursday, Friday, Saturday, Sunday}
 use Rattle.cal_base.specs.Weekday.{week, name_of, short_name_of}
 use Rattle.cal_spec.specs.Components.{is_comma}
-use Rattle.cal_spec.specs.GrammarRule.{IsName, AreJoined, IsItem, AreWeekdays, HasWeekdays}
-use Rattle.cal_spec.specs.Reads.{◌>>=◌}
-use Rattle.cal_spec.specs.Weekdays.{day_named, is_no_letter, leading_letters, behind_letters, behind_joint, days_to, days_from, days_by, days_of, items_of, without_comma, set_of, listed_days, is_like_shorthand, weekdays_of, weekdays_in}
+use Rattle.cal_spec.specs.GrammarRule.{IsName, IsItem, AreWeekdays, HasWeekdays}
+use Rattle.cal_spec.specs.Weekdays.{day_named, is_no_letter, leading_letters, behind_letters, behind_joint, days_to, days_by, days_of, items_of, without_comma, set_of, listed_days, weekdays_of, weekdays_in}
 use Rattle.cal_spec.specs.ZoneName.{begins_with_letter}
-use Rattle.cal_spec.specs.declared.spec_fault.SpecFault.{SpecFault}
-use Rattle.cal_spec.specs.declared.spec_fault.SpecFault.TheVariants.{BadWeekday, UnknownShorthand}
 use Rattle.cal_spec.specs.declared.weekdays.Days.{Days}
-use Rattle.cal_spec.proofs.CleanLemmas.{IsClear, Apart, clear_from, clear_append, list_all-append, split_joined, some_pieces}
-use Rattle.cal_spec.proofs.FieldLemmas.{ItemsRead, items_of-cons, WeekdaysFound, weekdays_found}
-use Rattle.cal_spec.proofs.PieceLemmas.{some_piece}
+use Rattle.cal_spec.proofs.CleanLemmas.{IsClear, Apart, clear_from, list_all-append, split_joined, some_pieces}
+use Rattle.cal_spec.proofs.FieldLemmas.{items_of-cons, weekdays_found}
 
 -- Names
 

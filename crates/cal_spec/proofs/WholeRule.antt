@@ -1,5 +1,5 @@
 -- The fields of a text are those of the rule.
-use Rattle.std.proofs.Common.{ℕ, ◌≤◌, ◌≡◌, ◌⊎◌, inl, inr, List, Bool, length, Option, Some, None, Ok, Err, Result, refl, sym, ap, ◌∙◌}
+use Rattle.std.proofs.Common.{ℕ, ◌≡◌, ◌⊎◌, inl, inr, List, Bool, length, Option, Some, Ok, sym, ap, ◌∙◌}
 use Rattle.std.specs.Option.{option_map}
 use Rattle.std.proofs.lemmas.Bool.{le-ltb}
 use Rattle.cal_spec.specs.DateAndTime.{DateFields, TimeFields, room_behind, date_of, time_of}
@@ -9,11 +9,10 @@ use Rattle.cal_spec.specs.GrammarRule.{given, ArePlain, AreShort, IsExpression, 
 use Rattle.cal_spec.specs.Weekdays.{weekdays_in}
 use Rattle.cal_spec.specs.Words.{Places, words, places_of}
 use Rattle.cal_spec.specs.ZoneName.{zone_name, zone_in}
-use Rattle.cal_spec.specs.declared.spec_fault.SpecFault.{SpecFault}
 use Rattle.cal_spec.proofs.DateRule.{is_date, is_time, AreFew, are_few, date_with, time_with, date_only, time_only}
-use Rattle.cal_spec.proofs.FieldLemmas.{fields_with, FieldsFound, TextFound, text_found, valid_fields}
+use Rattle.cal_spec.proofs.FieldLemmas.{fields_with, text_found, valid_fields}
 use Rattle.cal_spec.proofs.WeekdayRule.{weekdays_by_rule, weekdays_only}
-use Rattle.cal_spec.proofs.WordRule.{ZoneRead, zone_read, zone_only, name_begins, time_colon, places_found, places_only}
+use Rattle.cal_spec.proofs.WordRule.{zone_read, zone_only, name_begins, time_colon, places_found, places_only}
 
 expression_with : (text : List ℕ) (p : Places) (weekdays : List Bool) (d : DateFields) (h : TimeFields) (kept : Option (List ℕ)) → places_of (words text) ≡ Some p → weekdays_in p.weekdays ≡ Ok weekdays → date_of p.date ≡ Ok d → time_of (room_behind d) p.time ≡ Ok h → zone_in p.rest ≡ Ok kept → IsExpression text (fields_with weekdays d h kept)
 expression_with text p weekdays d h kept placed week date time last =

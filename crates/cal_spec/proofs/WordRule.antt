@@ -1,22 +1,20 @@
 -- The places of words that were read are those of the rule, and those of the rule are found.
-use Rattle.std.proofs.Common.{ℕ, suc, ◌+◌, ◌<◌, ◌≤◌, ◌≡◌, ◌⊎◌, inl, inr, Bool, true, false, cond, not, ◌&&◌, ◌||◌, List, [], ◌∷◌, ◌++◌, length, map, codes, Option, Some, None, Ok, Err, Result, refl, sym, ap, ◌∙◌, arith, leb, eqb}
-use Rattle.std.specs.Prelude.{IfSome, ⊤, ◌==◌, nat_le}
-use Rattle.std.specs.List.{AllByRecursion, list_all, list_any, slice_split, find}
-use Rattle.std.specs.Option.{option_to_list, option_map, unwrap_or}
+use Rattle.std.proofs.Common.{ℕ, ◌<◌, ◌≤◌, ◌≡◌, ◌⊎◌, inl, inr, Bool, true, false, cond, ◌&&◌, List, [], ◌∷◌, ◌++◌, length, Option, Some, None, Ok, Err, refl, sym, ap, ◌∙◌, arith, eqb}
+use Rattle.std.specs.Prelude.{IfSome, nat_le}
+use Rattle.std.specs.List.{list_all, list_any}
+use Rattle.std.specs.Option.{option_map, unwrap_or}
 use Rattle.std.specs.Char.{is_ascii_alphabetic, to_ascii_lowercase}
-use Rattle.std.specs.Str.{str_eq_ignore_ascii_case}
-use Rattle.std.proofs.lemmas.Bool.{and_parts, or_parts, cond-false, eqb-true, ne_eqb, false≢true, true_from_ne_false}
+use Rattle.std.proofs.lemmas.Bool.{and_parts, or_parts, cond-false, false≢true, true_from_ne_false}
 use Rattle.std.proofs.lemmas.Bool.Decides.{nat_tests}
 use Rattle.cal_spec.specs.DateAndTime.{TimeTexts, TimeFields, is_colon, time_texts, time_of}
 use Rattle.cal_spec.specs.GrammarRule.{given, ArePlain, AreShort}
-use Rattle.cal_spec.specs.Shorthand.{Meaning, any_date, midnight, meaning_of, shorthand_named}
-use Rattle.cal_spec.specs.Words.{Places, behind_date, behind_weekdays, places_in, places_by, places_of}
+use Rattle.cal_spec.specs.Shorthand.{any_date, midnight, meaning_of, shorthand_named}
+use Rattle.cal_spec.specs.Words.{Places, behind_date, behind_weekdays, places_by, places_of}
 use Rattle.cal_spec.specs.ZoneName.{begins_with_letter, is_zone_byte, is_zone_name, zone_name, zone_in}
 use Rattle.cal_spec.specs.declared.shorthand.Shorthand.{Shorthand}
-use Rattle.cal_spec.specs.declared.spec_fault.SpecFault.{SpecFault}
 use Rattle.cal_spec.specs.declared.spec_fault.SpecFault.TheVariants.{StrayWord}
 use Rattle.cal_spec.proofs.CleanLemmas.{IsClear, split_alone}
-use Rattle.cal_spec.proofs.FieldLemmas.{TimeFound, time_found}
+use Rattle.cal_spec.proofs.FieldLemmas.{time_found}
 
 -- The zone
 

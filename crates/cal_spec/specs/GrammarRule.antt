@@ -1,5 +1,5 @@
 -- The rule of calendar expressions in its own words, as productions over whole texts: systemd.time(7), Calendar Events.
-use Rattle.std.specs.Prelude.{ℕ, ◌+◌, ◌<◌, ◌≤◌, ◌≡◌, ◌⊎◌, Bool, true, false, List, [], ◌∷◌, ◌++◌, length, map, codes, Option, None, Some, IfSome, ⊤}
+use Rattle.std.specs.Prelude.{ℕ, ◌<◌, ◌≤◌, ◌≡◌, ◌⊎◌, Bool, true, false, List, [], ◌∷◌, ◌++◌, length, map, codes, Option, None, Some, IfSome}
 use Rattle.std.specs.List.{AllByRecursion, AllZip, list_all, list_any, join_with_byte}
 use Rattle.std.specs.Option.{option_to_list, option_map, unwrap_or}
 use Rattle.std.specs.Char.{is_ascii_digit, to_ascii_lowercase}
@@ -9,7 +9,7 @@ use Rattle.cal_base.specs.Weekday.{week, name_of, short_name_of}
 use Rattle.cal_spec.specs.DateAndTime.{DateTexts, TimeTexts, is_colon}
 use Rattle.cal_spec.specs.Fields.{Fields, counted_parts}
 use Rattle.cal_spec.specs.Parts.{most, with_values}
-use Rattle.cal_spec.specs.Shorthand.{Meaning, any_date, midnight, shorthand_named, meaning_of}
+use Rattle.cal_spec.specs.Shorthand.{any_date, midnight, shorthand_named, meaning_of}
 use Rattle.cal_spec.specs.Slot.{day_slot}
 use Rattle.cal_spec.specs.Sound.{IsSound}
 use Rattle.cal_spec.specs.Weekdays.{set_of}
