@@ -1,7 +1,4 @@
-use Rattle.std.proofs.Common.{◌≡◌, ℕ, ◌<◌, ◌≤◌, arith, rules, length, get_or, sym, ap, ◌∙◌, take, drop}
-use Rattle.std.specs.List.{prefix_len}
-use Rattle.std.specs.Char.{is_ascii_digit}
-use Rattle.cal_spec.specs.Parts.{signs, Sign, digits}
+use Rattle.std.proofs.Common.{◌<◌, ◌≤◌, rules, length, get_or}
 use Rattle.cal_spec.proofs.SignLemmas.{digits_at_front}
 use Rattle.cal_spec.proofs.numbers.first_symbol.Goals as goal
 

@@ -1,4 +1,4 @@
-use Rattle.std.proofs.Common.{◌≡◌, ◌∙◌, sym, ap, ◌+◌, ◌∷◌, take, drop, Some}
+use Rattle.std.proofs.Common.{◌∙◌, sym, ap, ◌+◌, ◌∷◌, take}
 use Rattle.std.specs.List.{slice_split}
 use Rattle.std.proofs.lemmas.List.{take_rest}
 use Rattle.cal_spec.proofs.PieceLemmas.{split_some, split_none}

@@ -1,4 +1,4 @@
-use Rattle.std.proofs.Common.{arith, ◌∙◌, sym}
+use Rattle.std.proofs.Common.{◌∙◌, sym}
 use Rattle.cal_spec.specs.Weekdays.{is_no_letter}
 use Rattle.cal_spec.proofs.PieceLemmas.{place_some, place_none}
 use Rattle.cal_spec.proofs.weekdays.letters_len.Goals as goal
