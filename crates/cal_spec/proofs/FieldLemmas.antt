@@ -1,5 +1,5 @@
 -- Fields that were read are those of an expression.
-use Rattle.std.proofs.Common.{ℕ, ◌-◌, ◌≤◌, ◌≡◌, Bool, true, false, cond, ◌||◌, List, [], ◌∷◌, length, map, Option, Some, None, Ok, Err, Result, refl, arith, ltb, codes}
+use Rattle.std.proofs.Common.{ℕ, ◌-◌, ◌≤◌, ◌≡◌, Bool, true, false, cond, ◌||◌, List, [], ◌∷◌, length, map, Option, Some, None, Ok, Err, Result, refl, arith, ltb, codes, subst}
 use Rattle.std.specs.Prelude.{IfOk, is_some}
 use Rattle.std.specs.List.{list_any, slice_split}
 use Rattle.std.specs.Option.{ok_or}
@@ -178,11 +178,16 @@ unfolding is_zone_name
 zone_kept word true test = refl
 zone_kept word false test = test
 
+zone_twice : (word : List ℕ) (utc : Bool) → str_eq_ignore_ascii_case word (codes "UTC") ≡ utc → zone_name (cond utc (codes "UTC") word) ≡ cond utc (codes "UTC") word
+zone_twice word true is = refl
+zone_twice word false is = rw is refl
+
 zone_by : (word : List ℕ) (test : Bool) (name : Option (List ℕ)) → is_zone_name word ≡ test → cond test (Ok (Some (zone_name word))) (Err StrayWord) ≡ Ok name → IsZoneOption name
 zone_by word true None is at = cc
 zone_by word true (Some name) is at =
     let same : zone_name word ≡ name = cc in
-    rw same at (zone_kept word (str_eq_ignore_ascii_case word (codes "UTC")) is)
+    let utc = str_eq_ignore_ascii_case word (codes "UTC") in
+    subst (λ n. (is_zone_name n ≡ true) × (zone_name n ≡ n)) same (zone_kept word utc is, zone_twice word utc refl)
 zone_by word false name is at = cc
 
 pub is_zone : (ws : List (List ℕ)) (name : Option (List ℕ)) → zone_in ws ≡ Ok name → IsZoneOption name

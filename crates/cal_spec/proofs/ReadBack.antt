@@ -34,7 +34,7 @@ use Rattle.cal_spec.proofs.ReadBackParts.{both_all, clear_of, component_back, co
 use Rattle.cal_spec.proofs.ReadBackWeekdays.{ReadsDays, weekdays_all, weekdays_some}
 use Rattle.cal_spec.proofs.WeekdayLemmas.{weekdays_text-all, weekdays_text-some}
 
--- fields that are read back: valid, with small numbers, and a zone's name that is kept
+-- fields that are read back: valid, with small numbers
 pub record IsReadable (f : Fields) : Type 0 where
   pub valid : IsValidFields f
   pub year : AreSmall f.year
@@ -43,7 +43,6 @@ pub record IsReadable (f : Fields) : Type 0 where
   pub hour : AreSmall f.hour
   pub minute : AreSmall f.minute
   pub second : AreSmall f.second
-  pub kept : option_map zone_name f.zone ≡ f.zone
 
 -- The words of the date and of the time
 
@@ -290,7 +289,7 @@ words_to_zone : (w : List ℕ) (name : Option (List ℕ)) → list_any is_blank 
 unfolding is_zone_name
 words_to_zone w None clear some h = ap words (append-nil w) ∙ word_last w clear some
 words_to_zone w (Some name) clear some h =
-    let long = and_parts (begins_with_letter name && list_all is_zone_byte name) (nat_le (length name) 255) h in
+    let long = and_parts (begins_with_letter name && list_all is_zone_byte name) (nat_le (length name) 255) h.0 in
     let parts = and_parts (begins_with_letter name) (list_all is_zone_byte name) long.0 in
     let trimmed : zone_text (Some name) ++ [] ≡ 32 ∷ name = ap (λ t. 32 ∷ t) (append-nil (name ++ []) ∙ append-nil name) in
     ap (λ t. words (w ++ t)) trimmed
@@ -337,9 +336,9 @@ places_some f word h days =
     let no_zone = no_letter_first is_time_byte (time_word f) time_no_letter (time_bytes f h) in
     rw (days.plain, days.letter, plain, no_time, no_zone) refl
 
-zone_back : (name : Option (List ℕ)) → IsZoneOption name → option_map zone_name name ≡ name → zone_in (zone_words name) ≡ Ok name
-zone_back None h kept = refl
-zone_back (Some name) h kept = rw h (ap Ok kept)
+zone_back : (name : Option (List ℕ)) → IsZoneOption name → zone_in (zone_words name) ≡ Ok name
+zone_back None h = refl
+zone_back (Some name) h = rw h.0 (ap (λ n. Ok (Some n)) h.1)
 
 same_fields : (f : Fields) → record { weekdays = f.weekdays; year = f.year; month = f.month; day = f.day; hour = f.hour; minute = f.minute; second = f.second; from_end = f.from_end; zone = f.zone } ≡ f
 same_fields f = refl
@@ -349,7 +348,7 @@ unfolding fields_at places
 places_back f weekdays h days =
     let date = date_back f h in
     let time = time_back f h in
-    let name = zone_back f.zone h.valid.zone h.kept in
+    let name = zone_back f.zone h.valid.zone in
     rw (days, date, time, name) (ap Ok (same_fields f))
 
 -- The whole text
@@ -388,9 +387,9 @@ pub readable_back : (f : Fields) → IsReadable f → fields_in (expr_text f) �
 readable_back f h =
     back_by_days f (list_all (λ d. d) f.weekdays) h (expr_length f h.valid h.year h.month h.day h.hour h.minute h.second) refl
 
-readable : (f : Fields) → IsValidFields f → option_map zone_name f.zone ≡ f.zone → IsReadable (normal_fields f)
+readable : (f : Fields) → IsValidFields f → IsReadable (normal_fields f)
 unfolding normal_fields
-readable f valid kept = record {
+readable f valid = record {
   valid = fields_valid f valid;
   year = small_component Year f.year valid.year;
   month = small_component Month f.month valid.month;
@@ -398,9 +397,8 @@ readable f valid kept = record {
   hour = small_component Hour f.hour valid.hour;
   minute = small_component Minute f.minute valid.minute;
   second = small_second f.second valid.second;
-  kept = kept;
 }
 
 -- the normal text of valid fields is read as their normal form
-pub normal_back : (f : Fields) → IsValidFields f → option_map zone_name f.zone ≡ f.zone → fields_in (expr_text (normal_fields f)) ≡ Ok (normal_fields f)
-normal_back f valid kept = readable_back (normal_fields f) (readable f valid kept)
+pub normal_back : (f : Fields) → IsValidFields f → fields_in (expr_text (normal_fields f)) ≡ Ok (normal_fields f)
+normal_back f valid = readable_back (normal_fields f) (readable f valid)

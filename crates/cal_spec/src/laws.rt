@@ -1,8 +1,9 @@
 //! Laws of the definitions that the contracts cite. Each is a function that does nothing, and whose contract is the
 //! law.
 
-ghost use Rattle.std.specs.Prelude.{◌≡◌, ◌<◌, ℕ, Bool, List, Ok, Option, length, option_map};
+ghost use Rattle.std.specs.Prelude.{◌≡◌, ◌<◌, ℕ, Bool, List, Ok, Option, length};
 ghost use Rattle.std.specs.List.{AllByRecursion};
+ghost use Rattle.cal_spec.specs.Expr.{IsExpr};
 ghost use Rattle.cal_spec.specs.ExprText.{expr_text};
 ghost use Rattle.cal_spec.specs.Fields.{Fields};
 ghost use Rattle.cal_spec.specs.Grammar.{fields_in};
@@ -11,7 +12,6 @@ ghost use Rattle.cal_spec.specs.Members.{component_has, sets_of};
 ghost use Rattle.cal_spec.specs.NormalForm.{AreNormal, AreNormalOf, AreParts, IsNormalFieldsOf, IsNormalOf, IsNormalSecondOf, IsPart, normal_component, normal_fields, normal_parts, normal_second};
 ghost use Rattle.cal_spec.specs.ValidFields.{IsValidFields};
 ghost use Rattle.cal_spec.specs.WeekdayRuns.{AreRuns, Run, runs_from};
-ghost use Rattle.cal_spec.specs.ZoneName.{zone_name};
 ghost use Rattle.cal_spec.specs.declared.part.Part.{Part};
 ghost use Rattle.cal_spec.specs.declared.slot.Slot.{Slot};
 ghost use Rattle.cal_spec.specs.declared.slot.Slot.TheVariants.{Second};
@@ -67,8 +67,9 @@ pub fn one_list_of_runs()
     ensures only { (days : List Bool) (rs : List Run) → AreRuns days rs → rs ≡ runs_from 0 days }
 {}
 
-/// The normal text of valid fields is read as their normal form, where the zone has the name that reading keeps.
+/// The normal text of valid fields is read as their normal form.
 pub fn normal_texts_read_back()
-    ensures { (f : Fields) → IsValidFields f → option_map zone_name f.zone ≡ f.zone
+    ensures normal { (f : Fields) → IsValidFields f
         → fields_in (expr_text (normal_fields f)) ≡ Ok (normal_fields f) }
+    ensures expression { (f : Fields) → IsExpr f → fields_in (expr_text f) ≡ Ok f }
 {}
