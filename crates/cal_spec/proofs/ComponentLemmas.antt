@@ -1,22 +1,20 @@
 -- Components that were read have a meaning, and no more counted parts than may stand.
-use Rattle.std.proofs.Common.{ℕ, suc, ◌+◌, ◌-◌, ◌<◌, ◌≤◌, ◌≡◌, Bool, true, false, cond, not, ◌&&◌, ◌||◌, List, [], ◌∷◌, length, map, Option, Some, None, Ok, Err, Result, refl, sym, ap, ◌∙◌, arith, leb, ltb, eqb}
-use Rattle.std.specs.Prelude.{⊤}
+use Rattle.std.proofs.Common.{ℕ, suc, ◌+◌, ◌-◌, ◌<◌, ◌≤◌, ◌≡◌, Bool, true, false, cond, ◌&&◌, List, [], ◌∷◌, length, Option, Some, None, Ok, refl, ap, arith, leb, eqb}
 use Rattle.std.specs.List.{AllByRecursion, slice_split}
 use Rattle.std.specs.Option.{option_or}
-use Rattle.std.proofs.lemmas.Bool.{and_parts, leb-true, ltb-false, leb-false, eqb-false, not-false, not_from_true, eq-eqb}
-use Rattle.std.proofs.lemmas.Bool.Decides.{nat_tests}
+use Rattle.std.proofs.lemmas.Bool.{and_parts, leb-true, ltb-false, leb-false, eqb-false, not-false}
 use Rattle.cal_spec.specs.Components.{is_comma, is_star, counted, room_in, part_due, parts_of, first_fault, listed, component_of}
-use Rattle.cal_spec.specs.Parts.{is_time, is_from_end, part_of, with_values, is_within, is_outside, is_backward, is_zero, is_idle, fault_of}
-use Rattle.cal_spec.specs.Reads.{◌>>=◌, unless, first_of}
+use Rattle.cal_spec.specs.Parts.{is_time, is_within, is_outside, is_backward, is_zero, is_idle, fault_of}
+use Rattle.cal_spec.specs.Reads.{◌>>=◌, unless}
 use Rattle.cal_spec.specs.Slot.{least, greatest}
-use Rattle.cal_spec.specs.Sound.{IsWithin, IsEndWithin, EndsAfter, IsStep, IsSecondWithin, GoesOn, IsSound, AreSound}
+use Rattle.cal_spec.specs.Sound.{IsWithin, IsEndWithin, EndsAfter, IsStep, GoesOn, IsSound, AreSound}
 use Rattle.cal_spec.specs.declared.part.Part.{Part}
 use Rattle.cal_spec.specs.declared.slot.Slot.{Slot}
 use Rattle.cal_spec.specs.declared.slot.Slot.TheVariants.{Year, Month, Day, DayFromEnd, Hour, Minute, Second}
 use Rattle.cal_spec.specs.declared.spec_fault.SpecFault.{SpecFault}
 use Rattle.cal_spec.specs.declared.spec_fault.SpecFault.TheVariants.{OutOfField, BackwardRange, ZeroRepeat, NoRepeat, TooManyParts}
 use Rattle.cal_spec.proofs.PieceLemmas.{some_piece}
-use Rattle.cal_spec.proofs.ReadLemmas.{Follows, bind_ok, unless_ok, cond_ok}
+use Rattle.cal_spec.proofs.ReadLemmas.{bind_ok, unless_ok, cond_ok}
 
 -- a part without a fault
 

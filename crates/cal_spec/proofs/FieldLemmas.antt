@@ -1,5 +1,5 @@
 -- Fields that were read are those of an expression.
-use Rattle.std.proofs.Common.{ℕ, suc, ◌+◌, ◌-◌, ◌<◌, ◌≤◌, ◌≡◌, Bool, true, false, cond, not, ◌&&◌, ◌||◌, List, [], ◌∷◌, length, map, Option, Some, None, Ok, Err, Result, refl, sym, ap, ◌∙◌, arith, leb, ltb, codes}
+use Rattle.std.proofs.Common.{ℕ, ◌-◌, ◌≤◌, ◌≡◌, Bool, true, false, cond, ◌||◌, List, [], ◌∷◌, length, map, Option, Some, None, Ok, Err, Result, refl, arith, ltb, codes, subst}
 use Rattle.std.specs.Prelude.{IfOk, is_some}
 use Rattle.std.specs.List.{list_any, slice_split}
 use Rattle.std.specs.Option.{ok_or}
@@ -22,13 +22,13 @@ use Rattle.cal_spec.specs.Words.{Places, words, places_of}
 use Rattle.cal_spec.specs.ZoneName.{IsZoneOption, is_zone_name, zone_name, zone_in}
 use Rattle.cal_spec.specs.declared.part.Part.{Part}
 use Rattle.cal_spec.specs.declared.slot.Slot.{Slot}
-use Rattle.cal_spec.specs.declared.slot.Slot.TheVariants.{Year, Month, Day, DayFromEnd, Hour, Minute, Second}
+use Rattle.cal_spec.specs.declared.slot.Slot.TheVariants.{Year, Month, Hour, Minute, Second}
 use Rattle.cal_spec.specs.declared.spec_fault.SpecFault.{SpecFault}
 use Rattle.cal_spec.specs.declared.spec_fault.SpecFault.TheVariants.{TextTooLong, BadWeekday, UnknownShorthand, StrayWord}
 use Rattle.cal_spec.specs.declared.weekdays.Days.{Days}
 use Rattle.cal_spec.proofs.ComponentLemmas.{IsRead, component_read}
 use Rattle.cal_spec.proofs.PieceLemmas.{some_piece}
-use Rattle.cal_spec.proofs.ReadLemmas.{Follows, bind_ok, cond_ok, Three, three_ok, Four, four_ok}
+use Rattle.cal_spec.proofs.ReadLemmas.{bind_ok, cond_ok, three_ok, four_ok}
 
 -- Dates and times
 
@@ -178,11 +178,16 @@ unfolding is_zone_name
 zone_kept word true test = refl
 zone_kept word false test = test
 
+zone_twice : (word : List ℕ) (utc : Bool) → str_eq_ignore_ascii_case word (codes "UTC") ≡ utc → zone_name (cond utc (codes "UTC") word) ≡ cond utc (codes "UTC") word
+zone_twice word true is = refl
+zone_twice word false is = rw is refl
+
 zone_by : (word : List ℕ) (test : Bool) (name : Option (List ℕ)) → is_zone_name word ≡ test → cond test (Ok (Some (zone_name word))) (Err StrayWord) ≡ Ok name → IsZoneOption name
 zone_by word true None is at = cc
 zone_by word true (Some name) is at =
     let same : zone_name word ≡ name = cc in
-    rw same at (zone_kept word (str_eq_ignore_ascii_case word (codes "UTC")) is)
+    let utc = str_eq_ignore_ascii_case word (codes "UTC") in
+    subst (λ n. (is_zone_name n ≡ true) × (zone_name n ≡ n)) same (zone_kept word utc is, zone_twice word utc refl)
 zone_by word false name is at = cc
 
 pub is_zone : (ws : List (List ℕ)) (name : Option (List ℕ)) → zone_in ws ≡ Ok name → IsZoneOption name
@@ -252,15 +257,15 @@ text_found text f at =
 
 -- how many counted parts
 
-counted_date : (slot : Slot) (c : Option (List Part)) → is_time slot ≡ false → counted slot c ≡ parts_in c
+pub counted_date : (slot : Slot) (c : Option (List Part)) → is_time slot ≡ false → counted slot c ≡ parts_in c
 counted_date slot None test = refl
 counted_date slot (Some ps) test = rw test refl
 
-counted_time : (slot : Slot) (c : Option (List Part)) → is_time slot ≡ true → counted slot c ≡ parts_in c - 1
+pub counted_time : (slot : Slot) (c : Option (List Part)) → is_time slot ≡ true → counted slot c ≡ parts_in c - 1
 counted_time slot None test = refl
 counted_time slot (Some ps) test = rw test refl
 
-day_no_time : (from_end : Bool) → is_time (day_slot from_end) ≡ false
+pub day_no_time : (from_end : Bool) → is_time (day_slot from_end) ≡ false
 day_no_time true = refl
 day_no_time false = refl
 

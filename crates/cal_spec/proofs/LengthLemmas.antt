@@ -198,7 +198,7 @@ zone_length : (name : Option (List ℕ)) → IsZoneOption name → length (zone_
 unfolding is_zone_name
 zone_length None h = omega arith
 zone_length (Some name) h =
-    let long = and_parts (begins_with_letter name && list_all is_zone_byte name) (nat_le (length name) 255) h in
+    let long = and_parts (begins_with_letter name && list_all is_zone_byte name) (nat_le (length name) 255) h.0 in
     omega (arith, leb-true (length name) 255 long.1, length-append name [])
 
 -- a text of small parts is short

@@ -4,14 +4,25 @@ mod NormalFieldsLemmas
 mod NormalLemmas
 mod NormalRows
 mod OrderLemmas
+mod ReadBack
+mod ReadBackParts
+mod ReadBackWeekdays
 mod ReadingRows
 mod ReducedLemmas
 mod TextLemmas
 mod WeekdayLemmas
+pub mod CleanLemmas
 pub mod ComponentLemmas
+pub mod ComponentRule
+pub mod DateRule
+pub mod FaultLemmas
 pub mod FieldLemmas
+pub mod PartRule
 pub mod PieceLemmas
 pub mod ReadLemmas
 pub mod SignLemmas
+pub mod WeekdayRule
+pub mod WholeRule
 pub mod WordLemmas
+pub mod WordRule
 pub mod ZoneLemmas

@@ -1,27 +1,26 @@
 -- A component has the same members before and after it is brought into its normal form.
-use Rattle.std.proofs.Common.{◌≡◌, ◌↔◌, ℕ, ◌+◌, ◌-◌, ◌*◌, ◌/◌, ◌%◌, ◌<◌, ◌≤◌, cond, Bool, true, false, ◌&&◌, ◌||◌, nat_eq, nat_le, nat_lt, unsigned_abs, List, [], ◌∷◌, map, Option, None, Some, refl, sym, ap, ◌∙◌, subst, inl, inr, arith, slice_index_or}
+use Rattle.std.proofs.Common.{◌≡◌, ℕ, ◌-◌, ◌/◌, ◌%◌, ◌<◌, cond, Bool, true, false, ◌||◌, nat_eq, nat_le, unsigned_abs, List, [], ◌∷◌, map, Option, None, Some, refl, sym, ap, ◌∙◌, inl, inr, arith}
 use Rattle.std.specs.List.{AllByRecursion, list_any}
 use Rattle.std.proofs.Math.Nat.{mod-one}
-use Rattle.std.proofs.lemmas.Bool.{eqb-true, eqb-false, le-leb, or_cases, or_left, or_right, and_from}
+use Rattle.std.proofs.lemmas.Bool.{eqb-true, le-leb, or_cases, or_left, or_right, and_from}
 use Rattle.std.proofs.lemmas.Bool.Decides.{nat_tests}
 use Rattle.jiff.specs.Types.{Date}
-use Rattle.jiff.specs.Words.{month_length}
 use Rattle.jiff_core.proofs.CalendarLemmas.{days_in_month_bounds}
 use Rattle.cal_base.specs.Local.{civil_date}
 use Rattle.cal_spec.specs.Fields.{Fields}
-use Rattle.cal_spec.specs.Match.{Sets, date_in, day_number, matches, time_in}
-use Rattle.cal_spec.specs.Members.{component_has, in_field, lies, lies_by, part_has, sets_of, values}
-use Rattle.cal_spec.specs.NormalForm.{AreParts, IsPart, each, normal_component, normal_from_end, normal_fields, normal_parts, normal_second, part_cmp, part_eq, point, range_step, reduced, reduced_to, starred, step_of}
+use Rattle.cal_spec.specs.Match.{date_in, day_number, matches, time_in}
+use Rattle.cal_spec.specs.Members.{component_has, lies, lies_by, part_has, sets_of, values}
+use Rattle.cal_spec.specs.NormalForm.{AreParts, IsPart, each, normal_component, normal_from_end, normal_fields, normal_parts, normal_second, part_cmp, part_eq, point, range_step, reduced, reduced_to, starred}
 use Rattle.cal_spec.specs.Order.{Has, in_order}
 use Rattle.cal_spec.specs.Slot.{day_slot}
 use Rattle.cal_spec.specs.Sound.{EndsAfter, IsStep}
 use Rattle.cal_spec.specs.ValidFields.{IsValidFields}
 use Rattle.cal_spec.specs.declared.part.Part.{Part}
 use Rattle.cal_spec.specs.declared.slot.Slot.{Slot}
-use Rattle.cal_spec.specs.declared.slot.Slot.TheVariants.{Year, Month, Day, DayFromEnd, Hour, Minute, Second}
+use Rattle.cal_spec.specs.declared.slot.Slot.TheVariants.{Year, Month, Hour, Minute, Second}
 use Rattle.cal_spec.proofs.NormalLemmas.{part_eq_exact, part_exact, part_total, parts_from_sound}
-use Rattle.cal_spec.proofs.OrderLemmas.{all_at, has_in_order}
-use Rattle.cal_spec.proofs.ReducedLemmas.{last_lies, last_of, last_reached, same_tests, step_positive}
+use Rattle.cal_spec.proofs.OrderLemmas.{has_in_order}
+use Rattle.cal_spec.proofs.ReducedLemmas.{last_lies, last_of, last_reached, same_tests}
 
 -- a range of one number
 one_number : (a v : ℕ) → nat_eq v a ≡ lies a a v

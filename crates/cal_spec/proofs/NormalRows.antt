@@ -1,5 +1,5 @@
 -- Worked rows of the normal form and its text.
-use Rattle.std.proofs.Common.{◌≡◌, ℕ, Bool, true, false, List, [], ◌∷◌, Option, None, Some, refl, codes}
+use Rattle.std.proofs.Common.{◌≡◌, ℕ, true, false, [], ◌∷◌, Option, None, Some, refl, codes}
 use Rattle.std.specs.Fmt.{digits}
 use Rattle.cal_base.specs.Weekday.{name_of}
 use Rattle.cal_spec.specs.declared.part.Part.{Part}

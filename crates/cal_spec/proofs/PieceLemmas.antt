@@ -1,8 +1,8 @@
 -- The pieces of a text, cut at the first separator.
-use Rattle.std.proofs.Common.{ℕ, ◌+◌, ◌<◌, ◌≤◌, ◌≡◌, Bool, true, false, cond, List, [], ◌∷◌, ◌++◌, suc, length, get_or, take, drop, Option, Some, None, refl, sym, ap, ◌∙◌, arith}
+use Rattle.std.proofs.Common.{ℕ, ◌+◌, ◌<◌, ◌≤◌, ◌≡◌, Bool, true, false, cond, List, [], ◌∷◌, suc, length, get_or, take, drop, Some, None, refl, sym, ap, ◌∙◌, arith}
 use Rattle.std.specs.Prelude.{not, nat_lt, filter}
-use Rattle.std.specs.List.{slice_split, onto_first, position, position_or_len, prefix_len}
-use Rattle.cal_spec.specs.DateAndTime.{TimeTexts, is_colon, time_texts}
+use Rattle.std.specs.List.{slice_split, onto_first, position, position_or_len}
+use Rattle.cal_spec.specs.DateAndTime.{is_colon, time_texts}
 use Rattle.std.proofs.lemmas.Bool.{not-true, ltb-true, ltb-false}
 use Rattle.std.proofs.lemmas.List.Sums.{prefix_len_passes, prefix_len-le-length}
 use Rattle.std.proofs.lemmas.List.Splits.{slice_split_first, slice_split_none}

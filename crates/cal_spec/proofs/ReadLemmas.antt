@@ -1,9 +1,7 @@
 -- Reads in a row.
-use Rattle.std.proofs.Common.{◌≡◌, Bool, true, false, cond, Option, Some, None, Ok, Err, refl, sym, ap, ◌∙◌}
-use Rattle.std.specs.Prelude.{Result, List, [], ◌∷◌, ◌++◌}
-use Rattle.std.specs.Option.{option_or}
-use Rattle.std.specs.Result.{result_err}
-use Rattle.cal_spec.specs.Reads.{◌>>=◌, unless, first_of}
+use Rattle.std.proofs.Common.{◌≡◌, Bool, true, false, cond, Option, Some, None, Ok, Err, refl}
+use Rattle.std.specs.Prelude.{Result}
+use Rattle.cal_spec.specs.Reads.{◌>>=◌, unless}
 use Rattle.cal_spec.specs.declared.spec_fault.SpecFault.{SpecFault}
 
 -- what a read with a value is made of

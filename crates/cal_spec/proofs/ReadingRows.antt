@@ -1,6 +1,5 @@
 -- The worked texts of the rule, computed by the definitions.
-use Rattle.std.proofs.Common.{◌≡◌, codes, refl, Err, Ok, None, Some, replicate, List, ℕ, ◌++◌, [], ◌∷◌, true, false, Bool}
-use Rattle.std.specs.Prelude.{Result}
+use Rattle.std.proofs.Common.{◌≡◌, codes, refl, Err, List, ℕ}
 use Rattle.cal_spec.specs.Grammar.{fields_in, fields_at}
 use Rattle.cal_spec.specs.Words.{words, places_of}
 use Rattle.cal_spec.specs.Shorthand.{shorthand_named}
@@ -9,10 +8,9 @@ use Rattle.cal_spec.specs.DateAndTime.{date_texts, time_texts, date_fields, time
 use Rattle.cal_spec.specs.Components.{part_due, listed, component_of}
 use Rattle.cal_spec.specs.Parts.{with_step, behind_end, behind_start, part_of, fault_of}
 use Rattle.cal_spec.specs.ZoneName.{is_zone_name}
-use Rattle.cal_spec.specs.Fields.{Fields}
 use Rattle.cal_spec.specs.declared.spec_fault.SpecFault.{SpecFault}
 use Rattle.cal_base.specs.Weekday.{name_of}
-use Rattle.cal_spec.specs.declared.spec_fault.SpecFault.TheVariants.{Empty, TextTooLong, BadWeekday, BadDate, BadTime, FractionalSecond, NumberTooLarge, OutOfField, BackwardRange, ZeroRepeat, NoRepeat, TooManyParts, StrayWord, UnknownShorthand, NoMemory}
+use Rattle.cal_spec.specs.declared.spec_fault.SpecFault.TheVariants.{Empty, BadWeekday, BadDate, BadTime, FractionalSecond, NumberTooLarge, OutOfField, BackwardRange, ZeroRepeat, NoRepeat, TooManyParts, StrayWord, UnknownShorthand}
 
 abbrev IsFault : List ℕ → SpecFault → Type 0
 IsFault text fault = fields_in text ≡ Err fault

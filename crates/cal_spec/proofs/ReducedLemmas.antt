@@ -1,10 +1,9 @@
 -- Parts in their normal form: their ends are the last numbers reached, they are normal, and they have the same members.
-use Rattle.std.proofs.Common.{◌≡◌, ℕ, zero, suc, ◌+◌, ◌-◌, ◌*◌, ◌/◌, ◌%◌, ◌<◌, ◌≤◌, cond, Bool, true, false, ◌&&◌, nat_eq, nat_le, List, [], ◌∷◌, Option, None, Some, refl, sym, ap, ◌∙◌, subst, inl, inr, arith}
-use Rattle.std.proofs.Math.Nat.{div-mul-le_self, mul-le-mul_right, mul-mod_left, mod-one}
-use Rattle.std.proofs.lemmas.Bool.{eq-eqb, ne_eqb, eqb-true, eqb-false, leb-true, le-leb, and_parts, and_from, cases_lt}
-use Rattle.std.proofs.lemmas.Bool.Decides.{nat_tests}
+use Rattle.std.proofs.Common.{◌≡◌, ℕ, ◌+◌, ◌-◌, ◌*◌, ◌/◌, ◌%◌, ◌<◌, ◌≤◌, cond, Bool, true, false, nat_eq, nat_le, Option, None, Some, refl, sym, ap, ◌∙◌, inl, inr, arith}
+use Rattle.std.proofs.Math.Nat.{mul-le-mul_right, mul-mod_left}
+use Rattle.std.proofs.lemmas.Bool.{ne_eqb, eqb-true, eqb-false, leb-true, le-leb, and_parts, and_from, cases_lt}
 use Rattle.std.proofs.lemmas.Nat.{div-mul-add, div-add-mod', mod_below}
-use Rattle.cal_spec.specs.Members.{lies, lies_by, repeats, values, part_has}
+use Rattle.cal_spec.specs.Members.{lies, lies_by}
 use Rattle.cal_spec.specs.NormalForm.{IsPart, IsLastReached, IsReducedTo, IsReduced, IsNormal, IsNormalTo, IsNormalRange, reduced_to, reduced, range_to, range_step, step_of, point}
 use Rattle.cal_spec.specs.Sound.{EndsAfter, GoesOn, IsEndWithin, IsSound, IsStep, IsWithin}
 use Rattle.cal_spec.specs.declared.part.Part.{Part}

@@ -1,12 +1,11 @@
 -- The signs of a text, and the numbers among them.
-use Rattle.std.proofs.Common.{ℕ, suc, ◌+◌, ◌-◌, ◌*◌, ◌<◌, ◌≤◌, ◌≡◌, Bool, true, false, ◌&&◌, ◌||◌, List, [], ◌∷◌, ◌++◌, length, take, drop, get_or, min, refl, sym, ap, ◌∙◌, arith}
+use Rattle.std.proofs.Common.{ℕ, suc, ◌+◌, ◌-◌, ◌*◌, ◌<◌, ◌≤◌, ◌≡◌, Bool, true, false, ◌&&◌, List, [], ◌∷◌, ◌++◌, length, take, drop, get_or, min, refl, sym, ap, ◌∙◌, arith}
 use Rattle.std.specs.Prelude.{⊤, cond, leb}
-use Rattle.std.specs.List.{AllByRecursion, list_all, prefix_len, flat_map}
-use Rattle.std.specs.Char.{is_ascii_digit, digit_value}
+use Rattle.std.specs.List.{AllByRecursion, list_all, prefix_len}
+use Rattle.std.specs.Char.{is_ascii_digit}
 use Rattle.std.specs.Str.Parse.{digits_value}
 use Rattle.std.proofs.lemmas.Int.Digits.{digits_value_more}
-use Rattle.std.proofs.lemmas.Bool.{and_parts, and_from, leb-true, le-leb, eqb-true, eqb-false, ne_eqb, cases_Bool, false_from_ne_true}
-use Rattle.std.proofs.lemmas.Bool.Decides.{nat_tests}
+use Rattle.std.proofs.lemmas.Bool.{and_parts, and_from, leb-true, le-leb, ne_eqb}
 use Rattle.std.proofs.lemmas.List.{take-append-drop, at_drop_more}
 use Rattle.cal_base.proofs.SpanNumbers.{digit_at}
 use Rattle.cal_spec.specs.Parts.{Sign, digits, dots, slash, point, other, is_point, is_slash, with_digit, with_byte, lone, signs}

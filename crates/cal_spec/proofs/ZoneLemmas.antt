@@ -1,9 +1,9 @@
 -- The names of zones.
-use Rattle.std.proofs.Common.{ℕ, zero, suc, ◌<◌, ◌≤◌, ◌≡◌, Bool, true, false, cond, List, [], ◌∷◌, length, get_or, refl, sym, ap, ◌∙◌, arith, ◌||◌, ◌&&◌}
-use Rattle.std.specs.Prelude.{slice_index, ◌==◌, leb}
+use Rattle.std.proofs.Common.{ℕ, zero, suc, ◌<◌, ◌≡◌, true, List, [], ◌∷◌, length, get_or, arith, ◌&&◌}
+use Rattle.std.specs.Prelude.{leb}
 use Rattle.std.specs.List.{list_all}
 use Rattle.std.specs.Str.{IsAscii}
-use Rattle.std.proofs.lemmas.Bool.{or_cases, and_parts, leb-true, eqb-true}
+use Rattle.std.proofs.lemmas.Bool.{and_parts}
 use Rattle.std.proofs.lemmas.Bool.Decides.{nat_tests}
 use Rattle.cal_spec.specs.ZoneName.{begins_with_letter, is_zone_byte, is_zone_name}
 

@@ -1,13 +1,9 @@
 -- What contracts see of the fields of a calendar expression, and when they have a meaning: systemd.time(7),
 -- Calendar Events.
-use Rattle.std.specs.Prelude.{◌≡◌, ℕ, ◌+◌, ◌-◌, ◌≤◌, Bool, true, List, length, Option, None, Some, string_bytes}
-use Rattle.std.specs.List.{list_any}
+use Rattle.std.specs.Prelude.{ℕ, ◌+◌, ◌-◌, Bool, List, length, Option, None, Some, string_bytes}
 use Rattle.std.specs.Option.{option_map}
-use Rattle.cal_spec.specs.Slot.{day_slot}
-use Rattle.cal_spec.specs.Sound.{AreSound}
 use Rattle.cal_spec.specs.declared.part.Part.{Part}
 use Rattle.cal_spec.specs.declared.raw.Raw.{Raw}
-use Rattle.cal_spec.specs.declared.slot.Slot.TheVariants.{Year, Month, Hour, Minute, Second}
 
 -- the weekdays from Monday on, six components of which None is `*`, whether the day is counted from the month's
 -- end, and the name of the zone

@@ -1,7 +1,7 @@
 -- The fields of a calendar expression, or the fault of a text that is none: systemd.time(7), Calendar Events. The words
 -- are judged from the left.
 use Rattle.std.specs.Prelude.{ℕ, nat_lt, if◌then◌else◌, List, length, Option, None, Some, Result, Ok, Err}
-use Rattle.cal_spec.specs.DateAndTime.{DateFields, TimeFields, date_of, time_of, room_behind}
+use Rattle.cal_spec.specs.DateAndTime.{date_of, time_of, room_behind}
 use Rattle.cal_spec.specs.Fields.{Fields}
 use Rattle.cal_spec.specs.Reads.{◌>>=◌}
 use Rattle.cal_spec.specs.Weekdays.{weekdays_in}

@@ -3,8 +3,10 @@ pub mod DateAndTime
 pub mod DateAndTimeViews
 pub mod Expr
 pub mod ExprText
+pub mod Faults
 pub mod Fields
 pub mod Grammar
+pub mod GrammarRule
 pub mod Match
 pub mod Members
 pub mod NormalForm

@@ -4,7 +4,7 @@ use Rattle.std.specs.List.{AllByRecursion}
 use Rattle.cal_spec.specs.Slot.{least, greatest}
 use Rattle.cal_spec.specs.declared.part.Part.{Part}
 use Rattle.cal_spec.specs.declared.slot.Slot.{Slot}
-use Rattle.cal_spec.specs.declared.slot.Slot.TheVariants.{Year, Month, Day, DayFromEnd, Hour, Minute, Second}
+use Rattle.cal_spec.specs.declared.slot.Slot.TheVariants.{DayFromEnd}
 
 -- a number of the slot
 abbrev pub IsWithin : Slot → ℕ → Type 0

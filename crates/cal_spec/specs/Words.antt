@@ -1,8 +1,8 @@
 -- The words of a calendar expression, and what each stands for: systemd.time(7), Calendar Events.
-use Rattle.std.specs.Prelude.{ℕ, ◌==◌, nat_lt, Bool, ◌||◌, if◌then◌else◌, List, [], ◌∷◌, length, filter, codes, Option, None, Some}
+use Rattle.std.specs.Prelude.{ℕ, ◌==◌, nat_lt, Bool, ◌||◌, if◌then◌else◌, List, [], ◌∷◌, length, filter, Option, None, Some}
 use Rattle.std.specs.List.{list_any, slice_split}
 use Rattle.cal_spec.specs.DateAndTime.{is_colon}
-use Rattle.cal_spec.specs.Shorthand.{Meaning, any_date, midnight, shorthand_named, meaning_of}
+use Rattle.cal_spec.specs.Shorthand.{any_date, midnight, shorthand_named, meaning_of}
 use Rattle.cal_spec.specs.ZoneName.{begins_with_letter}
 use Rattle.cal_spec.specs.declared.shorthand.Shorthand.{Shorthand}
 

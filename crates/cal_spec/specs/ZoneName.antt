@@ -18,13 +18,14 @@ begins_with_letter (b ∷ bs) = is_ascii_alphabetic b
 unfoldable pub is_zone_name : List ℕ → Bool
 is_zone_name name = begins_with_letter name && list_all is_zone_byte name && nat_le (length name) 255
 
-abbrev pub IsZoneOption : Option (List ℕ) → Type 0
-IsZoneOption None = Unit {0}
-IsZoneOption (Some name) = is_zone_name name ≡ true
-
 -- `UTC` in any case is kept as `UTC`
 abbrev pub zone_name : List ℕ → List ℕ
 zone_name word = if str_eq_ignore_ascii_case word (codes "UTC") then codes "UTC" else word
+
+-- no name, or the name of a zone as it is kept
+abbrev pub IsZoneOption : Option (List ℕ) → Type 0
+IsZoneOption None = Unit {0}
+IsZoneOption (Some name) = (is_zone_name name ≡ true) × (zone_name name ≡ name)
 
 -- the words behind the time: none, or the name of a zone
 abbrev pub zone_in : List (List ℕ) → Result (Option (List ℕ)) SpecFault

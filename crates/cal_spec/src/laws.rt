@@ -1,10 +1,12 @@
 //! Laws of the definitions that the contracts cite. Each is a function that does nothing, and whose contract is the
 //! law.
 
-ghost use Rattle.std.specs.Prelude.{◌≡◌, ◌<◌, ℕ, Bool, List, Option, length};
+ghost use Rattle.std.specs.Prelude.{◌≡◌, ◌<◌, ℕ, Bool, List, Ok, Option, length};
 ghost use Rattle.std.specs.List.{AllByRecursion};
+ghost use Rattle.cal_spec.specs.Expr.{IsExpr};
 ghost use Rattle.cal_spec.specs.ExprText.{expr_text};
 ghost use Rattle.cal_spec.specs.Fields.{Fields};
+ghost use Rattle.cal_spec.specs.Grammar.{fields_in};
 ghost use Rattle.cal_spec.specs.Match.{matches};
 ghost use Rattle.cal_spec.specs.Members.{component_has, sets_of};
 ghost use Rattle.cal_spec.specs.NormalForm.{AreNormal, AreNormalOf, AreParts, IsNormalFieldsOf, IsNormalOf, IsNormalSecondOf, IsPart, normal_component, normal_fields, normal_parts, normal_second};
@@ -63,4 +65,11 @@ pub fn normal_texts_are_short()
 pub fn one_list_of_runs()
     ensures some { (days : List Bool) → AreRuns days (runs_from 0 days) }
     ensures only { (days : List Bool) (rs : List Run) → AreRuns days rs → rs ≡ runs_from 0 days }
+{}
+
+/// The normal text of valid fields is read as their normal form.
+pub fn normal_texts_read_back()
+    ensures normal { (f : Fields) → IsValidFields f
+        → fields_in (expr_text (normal_fields f)) ≡ Ok (normal_fields f) }
+    ensures expression { (f : Fields) → IsExpr f → fields_in (expr_text f) ≡ Ok f }
 {}

@@ -8,6 +8,7 @@ mod date_and_time;
 mod expr;
 mod expr_text;
 mod field;
+pub mod grammar_laws;
 pub mod laws;
 mod matching;
 mod members;

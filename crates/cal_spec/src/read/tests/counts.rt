@@ -24,12 +24,12 @@ fn expect_last(
     rt: &impl Abort,
     alloc: Global,
     [front, piece, back]: [&str; 3],
-    last: u32,
+    last: u16,
     fault: SpecFault,
 ) -> Result<(), Fail> {
-    let text = repeated(alloc, front, piece, last, back)?;
+    let text = repeated(alloc, front, piece, u32::from(last), back)?;
     assert_eq!(rt; read_fields(alloc, &text).err(), None, "at {text}");
-    let text = repeated(alloc, front, piece, last + 1, back)?;
+    let text = repeated(alloc, front, piece, u32::from(last) + 1, back)?;
     assert_eq!(rt; read_fields(alloc, &text).err(), Some(fault), "at {text}");
     Ok(())
 }

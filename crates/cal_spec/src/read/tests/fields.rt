@@ -16,7 +16,10 @@ const fn point(start: u16) -> Part {
 
 #[test]
 fn accepted(rt: HostRuntime) {
-    for (text, normal) in ACCEPTED {
+    for line in ACCEPTED.lines() {
+        let Some((text, normal)) = line.split_once(" -> ") else {
+            continue;
+        };
         assert_eq!(rt; read_fields(rt.alloc(), text).err(), None, "at {text:?}");
         assert_eq!(rt;
             read_fields(rt.alloc(), normal).err(),

@@ -1,7 +1,7 @@
-use Rattle.std.proofs.Common.{◌≡◌, true, refl, sym, ap, ◌∙◌, subst, rules, arith, string_bytes, codes}
+use Rattle.std.proofs.Common.{◌≡◌, true, Some, refl, sym, ap, ◌∙◌, subst, rules, arith, string_bytes, codes}
 use Rattle.cal_spec.specs.Fields.{fields_of, counted_parts, parts_in}
 use Rattle.cal_spec.specs.Sound.{AreSound}
-use Rattle.cal_spec.specs.ZoneName.{is_zone_name}
+use Rattle.cal_spec.specs.ZoneName.{IsZoneOption, is_zone_name}
 use Rattle.cal_spec.specs.declared.slot.Slot.TheVariants.{Year, DayFromEnd, Hour, Minute, Second}
 use Rattle.cal_spec.proofs.expr.tests.counts_from_the_end.Goals as goal
 
@@ -27,5 +27,5 @@ normal-requires c =
       minute = subst (AreSound Minute) (sym minute) (search rules);
       second = subst (AreSound Second) (sym second) (search rules);
       few = omega (arith, ap parts_in year, ap parts_in day, ap parts_in hour, ap parts_in minute, ap parts_in second);
-      zone = ap is_zone_name c.in_ok-from_str.ensures.ok ∙ utc;
+      zone = subst (λ name. IsZoneOption (Some name)) (sym c.in_ok-from_str.ensures.ok) (utc, refl);
     }

@@ -1,0 +1,213 @@
+-- A date or a time that was read is one by the rule, and one by the rule is read.
+use Rattle.std.proofs.Common.{ℕ, ◌-◌, ◌≤◌, ◌≡◌, inl, inr, Bool, true, false, cond, List, [], ◌∷◌, ◌++◌, codes, Option, Some, None, Ok, refl, sym, ap, ◌∙◌, arith}
+use Rattle.std.specs.Prelude.{◌==◌, filter}
+use Rattle.std.specs.List.{AllByRecursion, slice_split, join_with_byte}
+use Rattle.std.proofs.lemmas.Bool.{or_cases, eqb-true, false≢true}
+use Rattle.std.proofs.lemmas.Bool.Decides.{nat_tests}
+use Rattle.std.proofs.lemmas.List.Splits.{join_with_byte-slice_split}
+use Rattle.cal_spec.specs.Components.{counted}
+use Rattle.cal_spec.specs.DateAndTime.{DateTexts, TimeTexts, DateFields, TimeFields, is_tilde, is_date_sign, is_colon, date_by, time_by, date_texts, time_texts, most_counted, date_fields, time_fields, room_behind, date_of, time_of}
+use Rattle.cal_spec.specs.Fields.{Fields, counted_parts}
+use Rattle.cal_spec.specs.GrammarRule.{last_sign, IsDateShape, IsTimeShape, IsDate, IsTime, IsComponent}
+use Rattle.cal_spec.specs.Slot.{day_slot}
+use Rattle.cal_spec.specs.declared.part.Part.{Part}
+use Rattle.cal_spec.specs.declared.slot.Slot.{Slot}
+use Rattle.cal_spec.specs.declared.slot.Slot.TheVariants.{Year, Month, Hour, Minute, Second}
+use Rattle.cal_spec.proofs.CleanLemmas.{IsClear, Apart, clear_from, split_at, split_alone, filter_at, filter_alone, woven, woven_whole, filter_passes}
+use Rattle.cal_spec.proofs.ComponentRule.{is_component_byte, component_found, component_only, component_bytes}
+use Rattle.cal_spec.proofs.FieldLemmas.{fields_with, date_found, time_found, counted_date, counted_time, day_no_time}
+
+-- The shape of a date
+
+sign_by : (s : ℕ) (tilde : Bool) → is_tilde s ≡ tilde → is_date_sign s ≡ true → last_sign tilde ≡ s ∷ []
+sign_by s true is test = ap (λ b. b ∷ []) (sym (eqb-true s 126 is))
+sign_by s false is test =
+    elim (or_cases (s == 45) (is_tilde s) test) [
+      | inl dash ↦ ap (λ b. b ∷ []) (sym (eqb-true s 45 dash))
+      | inr tilde ↦ absurd (false≢true (sym is ∙ tilde))
+    ]
+
+sign_is : (s : ℕ) → is_date_sign s ≡ true → last_sign (is_tilde s) ≡ s ∷ []
+sign_is s test = sign_by s (is_tilde s) refl test
+
+dash_is : (s : ℕ) → is_tilde s ≡ false → is_date_sign s ≡ true → codes "-" ≡ s ∷ []
+dash_is s is test = sign_by s false is test
+
+two_found : (s : ℕ) (month day : List ℕ) (t : DateTexts) → is_date_sign s ≡ true → record { year = codes "*"; month = month; day = day; from_end = is_tilde s } ≡ t → IsDateShape (month ++ (s ∷ day)) t
+two_found s month day t sign is =
+    rw (← is) (inr (refl, ap (λ front. month ++ (front ++ day)) (sym (sign_is s sign))))
+
+three_by : (s u : ℕ) (year month day : List ℕ) (t : DateTexts) (tilde : Bool) → is_tilde s ≡ tilde → is_date_sign s ≡ true → is_date_sign u ≡ true → cond tilde None (Some (record { year = year; month = month; day = day; from_end = is_tilde u })) ≡ Some t → IsDateShape (year ++ (s ∷ (month ++ (u ∷ day)))) t
+three_by s u year month day t true is first second at = cc
+three_by s u year month day t false is first second at =
+    let made : record { year = year; month = month; day = day; from_end = is_tilde u } ≡ t = cc in
+    rw (← made) (inl (ap (λ front. year ++ (front ++ (month ++ (u ∷ day)))) (sym (dash_is s is first)) ∙ ap (λ front. year ++ (codes "-" ++ (month ++ (front ++ day)))) (sym (sign_is u second))))
+
+date_by_found : (ss : List ℕ) (ts : List (List ℕ)) (t : DateTexts) → AllByRecursion (λ b. is_date_sign b ≡ true) ss → date_by ss ts ≡ Some t → IsDateShape (woven ss ts) t
+date_by_found [] ts t signs at = cc
+date_by_found (s ∷ []) [] t signs at = cc
+date_by_found (s ∷ []) (a ∷ []) t signs at = cc
+date_by_found (s ∷ []) (a ∷ b ∷ []) t signs at =
+    let made : record { year = codes "*"; month = a; day = b; from_end = is_tilde s } ≡ t = cc in
+    two_found s a b t signs.0 made
+date_by_found (s ∷ []) (a ∷ b ∷ c ∷ ts) t signs at = cc
+date_by_found (s ∷ u ∷ []) [] t signs at = cc
+date_by_found (s ∷ u ∷ []) (a ∷ []) t signs at = cc
+date_by_found (s ∷ u ∷ []) (a ∷ b ∷ []) t signs at = cc
+date_by_found (s ∷ u ∷ []) (a ∷ b ∷ c ∷ []) t signs at = three_by s u a b c t (is_tilde s) refl signs.0 signs.1.0 at
+date_by_found (s ∷ u ∷ []) (a ∷ b ∷ c ∷ d ∷ ts) t signs at = cc
+date_by_found (s ∷ u ∷ v ∷ ss) ts t signs at = cc
+
+date_shape_found : (word : List ℕ) (t : DateTexts) → date_texts word ≡ Some t → IsDateShape word t
+unfolding date_texts
+date_shape_found word t at =
+    rw woven_whole at (date_by_found (filter is_date_sign word) (slice_split is_date_sign word) t (filter_passes is_date_sign word) at)
+
+two_only : (month day : List ℕ) (from_end : Bool) → IsClear is_date_sign month → IsClear is_date_sign day → date_texts (month ++ (last_sign from_end ++ day)) ≡ Some (record { year = codes "*"; month = month; day = day; from_end = from_end })
+unfolding date_texts
+two_only month day true m d =
+    rw (filter_at is_date_sign month 126 day m refl, filter_alone is_date_sign day d, split_at is_date_sign month 126 day m refl, split_alone is_date_sign day d) refl
+two_only month day false m d =
+    rw (filter_at is_date_sign month 45 day m refl, filter_alone is_date_sign day d, split_at is_date_sign month 45 day m refl, split_alone is_date_sign day d) refl
+
+three_only : (year month day : List ℕ) (from_end : Bool) → IsClear is_date_sign year → IsClear is_date_sign month → IsClear is_date_sign day → date_texts (year ++ (codes "-" ++ (month ++ (last_sign from_end ++ day)))) ≡ Some (record { year = year; month = month; day = day; from_end = from_end })
+unfolding date_texts
+three_only year month day true y m d =
+    rw (filter_at is_date_sign year 45 (month ++ (126 ∷ day)) y refl, filter_at is_date_sign month 126 day m refl, filter_alone is_date_sign day d, split_at is_date_sign year 45 (month ++ (126 ∷ day)) y refl, split_at is_date_sign month 126 day m refl, split_alone is_date_sign day d) refl
+three_only year month day false y m d =
+    rw (filter_at is_date_sign year 45 (month ++ (45 ∷ day)) y refl, filter_at is_date_sign month 45 day m refl, filter_alone is_date_sign day d, split_at is_date_sign year 45 (month ++ (45 ∷ day)) y refl, split_at is_date_sign month 45 day m refl, split_alone is_date_sign day d) refl
+
+with_star : (t : DateTexts) → t.year ≡ codes "*" → record { year = codes "*"; month = t.month; day = t.day; from_end = t.from_end } ≡ t
+with_star t is = ap (λ (y : List ℕ). record { year = y; month = t.month; day = t.day; from_end = t.from_end }) (sym is)
+
+date_shape_only : (word : List ℕ) (t : DateTexts) → IsClear is_date_sign t.year → IsClear is_date_sign t.month → IsClear is_date_sign t.day → IsDateShape word t → date_texts word ≡ Some t
+date_shape_only word t y m d (inl whole) = ap date_texts whole ∙ three_only t.year t.month t.day t.from_end y m d
+date_shape_only word t y m d (inr shape) = ap date_texts shape.1 ∙ two_only t.month t.day t.from_end m d ∙ ap Some (with_star t shape.0)
+
+-- The shape of a time
+
+time_by_found : (ts : List (List ℕ)) (t : TimeTexts) → time_by ts ≡ Some t → IsTimeShape (join_with_byte 58 ts) t
+time_by_found [] t at = cc
+time_by_found (a ∷ []) t at = cc
+time_by_found (a ∷ b ∷ []) t at =
+    let made : record { hour = a; minute = b; second = codes "00" } ≡ t = cc in rw (← made) (inr (refl, refl))
+time_by_found (a ∷ b ∷ c ∷ []) t at =
+    let made : record { hour = a; minute = b; second = c } ≡ t = cc in rw (← made) (inl refl)
+time_by_found (a ∷ b ∷ c ∷ d ∷ ts) t at = cc
+
+time_shape_found : (word : List ℕ) (t : TimeTexts) → time_texts word ≡ Some t → IsTimeShape word t
+unfolding time_texts
+time_shape_found word t at = rw (join_with_byte-slice_split 58 word) at (time_by_found (slice_split is_colon word) t at)
+
+time_two_only : (hour minute : List ℕ) → IsClear is_colon hour → IsClear is_colon minute → time_texts (hour ++ (codes ":" ++ minute)) ≡ Some (record { hour = hour; minute = minute; second = codes "00" })
+unfolding time_texts
+time_two_only hour minute h m = rw (split_at is_colon hour 58 minute h refl, split_alone is_colon minute m) refl
+
+time_three_only : (hour minute second : List ℕ) → IsClear is_colon hour → IsClear is_colon minute → IsClear is_colon second → time_texts (hour ++ (codes ":" ++ (minute ++ (codes ":" ++ second)))) ≡ Some (record { hour = hour; minute = minute; second = second })
+unfolding time_texts
+time_three_only hour minute second h m s =
+    rw (split_at is_colon hour 58 (minute ++ (58 ∷ second)) h refl, split_at is_colon minute 58 second m refl, split_alone is_colon second s) refl
+
+with_zeros : (t : TimeTexts) → t.second ≡ codes "00" → record { hour = t.hour; minute = t.minute; second = codes "00" } ≡ t
+with_zeros t is = ap (λ (s : List ℕ). record { hour = t.hour; minute = t.minute; second = s }) (sym is)
+
+time_shape_only : (word : List ℕ) (t : TimeTexts) → IsClear is_colon t.hour → IsClear is_colon t.minute → IsClear is_colon t.second → IsTimeShape word t → time_texts word ≡ Some t
+time_shape_only word t h m s (inl whole) = ap time_texts whole ∙ time_three_only t.hour t.minute t.second h m s
+time_shape_only word t h m s (inr shape) = ap time_texts shape.1 ∙ time_two_only t.hour t.minute h m ∙ ap Some (with_zeros t shape.0)
+
+-- The bytes of components
+
+pub component_no_sign : Apart is_component_byte is_date_sign
+component_no_sign b h = grind (arith, nat_tests)
+
+pub component_no_colon : Apart is_component_byte is_colon
+component_no_colon b h = grind (arith, nat_tests)
+
+clear_of : (p : ℕ → Bool) (slot : Slot) (text : List ℕ) (c : Option (List Part)) → Apart is_component_byte p → IsComponent slot text c → IsClear p text
+clear_of p slot text c apart is = clear_from is_component_byte p text apart (component_bytes slot text c is)
+
+-- What was read is a date or a time by the rule
+
+pub is_date : (word : List ℕ) (weekdays : List Bool) (d : DateFields) (h : TimeFields) (name : Option (List ℕ)) → date_of word ≡ Ok d → IsDate word (fields_with weekdays d h name)
+is_date word weekdays d h name at =
+    let found = date_found word d at in
+    let read = found.read in
+    let t = found.texts in
+    record {
+      texts = t;
+      shape = date_shape_found word t found.shape;
+      from_end = read.from_end;
+      year = component_found Year most_counted t.year d.year read.year;
+      month = component_found Month (most_counted - counted Year d.year) t.month d.month read.month;
+      day = component_found (day_slot d.from_end) (most_counted - counted Year d.year - counted Month d.month) t.day d.day (rw read.from_end at read.day);
+    }
+
+pub is_time : (room : ℕ) (word : List ℕ) (weekdays : List Bool) (d : DateFields) (h : TimeFields) (name : Option (List ℕ)) → time_of room word ≡ Ok h → IsTime word (fields_with weekdays d h name)
+is_time room word weekdays d h name at =
+    let found = time_found room word h at in
+    let read = found.read in
+    let t = found.texts in
+    record {
+      texts = t;
+      shape = time_shape_found word t found.shape;
+      hour = component_found Hour room t.hour h.hour read.hour;
+      minute = component_found Minute (room - counted Hour h.hour) t.minute h.minute read.minute;
+      second = component_found Second (room - counted Hour h.hour - counted Minute h.minute) t.second h.second read.second;
+    }
+
+-- What the rule writes is read
+
+-- the counted parts of each component
+pub record AreFew (f : Fields) : Type 0 where
+  pub year : counted Year f.year ≤ 240
+  pub month : counted Month f.month ≤ 240 - counted Year f.year
+  pub day : counted (day_slot f.from_end) f.day ≤ 240 - counted Year f.year - counted Month f.month
+  pub hour : counted Hour f.hour ≤ 240 - counted Year f.year - counted Month f.month - counted (day_slot f.from_end) f.day
+  pub minute : counted Minute f.minute ≤ 240 - counted Year f.year - counted Month f.month - counted (day_slot f.from_end) f.day - counted Hour f.hour
+  pub second : counted Second f.second ≤ 240 - counted Year f.year - counted Month f.month - counted (day_slot f.from_end) f.day - counted Hour f.hour - counted Minute f.minute
+
+pub are_few : (f : Fields) → counted_parts f ≤ 240 → AreFew f
+unfolding counted_parts
+are_few f few =
+    let year = counted_date Year f.year refl in
+    let month = counted_date Month f.month refl in
+    let day = counted_date (day_slot f.from_end) f.day (day_no_time f.from_end) in
+    let hour = counted_time Hour f.hour refl in
+    let minute = counted_time Minute f.minute refl in
+    let second = counted_time Second f.second refl in
+    record {
+      year = omega (arith, few, year, month, day, hour, minute, second);
+      month = omega (arith, few, year, month, day, hour, minute, second);
+      day = omega (arith, few, year, month, day, hour, minute, second);
+      hour = omega (arith, few, year, month, day, hour, minute, second);
+      minute = omega (arith, few, year, month, day, hour, minute, second);
+      second = omega (arith, few, year, month, day, hour, minute, second);
+    }
+
+abbrev pub date_with : Fields → DateFields
+date_with f = record { year = f.year; month = f.month; day = f.day; from_end = f.from_end }
+
+abbrev pub time_with : Fields → TimeFields
+time_with f = record { hour = f.hour; minute = f.minute; second = f.second }
+
+pub date_only : (word : List ℕ) (f : Fields) → AreFew f → IsDate word f → date_of word ≡ Ok (date_with f)
+unfolding date_of date_fields
+date_only word f few is =
+    let t = is.texts in
+    let day_is : IsComponent (day_slot t.from_end) t.day f.day = rw is.from_end is.day in
+    let shape = date_shape_only word t (clear_of is_date_sign Year t.year f.year component_no_sign is.year) (clear_of is_date_sign Month t.month f.month component_no_sign is.month) (clear_of is_date_sign (day_slot t.from_end) t.day f.day component_no_sign day_is) is.shape in
+    let year = component_only Year 240 t.year f.year is.year few.year in
+    let month = component_only Month (240 - counted Year f.year) t.month f.month is.month few.month in
+    let day = component_only (day_slot f.from_end) (240 - counted Year f.year - counted Month f.month) t.day f.day is.day few.day in
+    rw (shape, is.from_end, year, month, day) refl
+
+pub time_only : (word : List ℕ) (f : Fields) → AreFew f → IsTime word f → time_of (room_behind (date_with f)) word ≡ Ok (time_with f)
+unfolding time_of time_fields
+time_only word f few is =
+    let t = is.texts in
+    let room = room_behind (date_with f) in
+    let shape = time_shape_only word t (clear_of is_colon Hour t.hour f.hour component_no_colon is.hour) (clear_of is_colon Minute t.minute f.minute component_no_colon is.minute) (clear_of is_colon Second t.second f.second component_no_colon is.second) is.shape in
+    let hour = component_only Hour room t.hour f.hour is.hour few.hour in
+    let minute = component_only Minute (room - counted Hour f.hour) t.minute f.minute is.minute few.minute in
+    let second = component_only Second (room - counted Hour f.hour - counted Minute f.minute) t.second f.second is.second few.second in
+    rw (shape, hour, minute, second) refl

@@ -1,0 +1,404 @@
+-- The normal text of an expression is read as the expression.
+use Rattle.std.proofs.Common.{◌≡◌, ℕ, zero, suc, ◌+◌, ◌-◌, ◌<◌, ◌≤◌, cond, Bool, true, false, not, ◌&&◌, ◌||◌, nat_eq, nat_le, nat_lt, List, [], ◌∷◌, ◌++◌, length, map, codes, Option, None, Some, Result, Ok, Err, refl, sym, ap, ◌∙◌, subst, arith, append_assoc}
+use Rattle.std.specs.Prelude.{filter, if◌then◌else◌}
+use Rattle.std.specs.Char.{is_ascii_alphabetic, to_ascii_lowercase}
+use Rattle.std.specs.List.{list_all, list_any, slice_split}
+use Rattle.std.specs.Option.{option_map}
+use Rattle.std.proofs.lemmas.Bool.{and_parts, cases_Bool, eqb-true, false_from_ne_true, le-ltb, leb-true, leb-false, lt-leb, lt-ltb, ne_eqb, or_cases, or_from, or_parts}
+use Rattle.std.proofs.lemmas.Bool.Decides.{nat_tests}
+use Rattle.std.proofs.lemmas.List.{append-nil, length-append}
+use Rattle.cal_base.specs.Bytes.{joined}
+use Rattle.cal_spec.specs.Components.{component_of, counted}
+use Rattle.cal_spec.specs.DateAndTime.{DateFields, DateTexts, TimeFields, TimeTexts, date_by, date_due, date_fields, date_of, date_texts, is_colon, is_date_sign, is_tilde, most_counted, room_behind, time_by, time_due, time_fields, time_of, time_texts}
+use Rattle.cal_spec.specs.ExprText.{component_text, day_lead, expr_text, fields_text, row_text, zone_text}
+use Rattle.cal_spec.specs.Fields.{Fields, counted_parts, parts_in}
+use Rattle.cal_spec.specs.Grammar.{fields_at, fields_due, fields_in, most_bytes}
+use Rattle.cal_spec.specs.NormalForm.{normal_component, normal_fields, normal_from_end, normal_second}
+use Rattle.cal_spec.specs.Reads.{◌>>=◌}
+use Rattle.cal_spec.specs.Shorthand.{names_of, shorthand_named, shorthands}
+use Rattle.cal_spec.specs.Slot.{day_slot}
+use Rattle.cal_spec.specs.Sound.{AreSound}
+use Rattle.cal_spec.specs.ValidFields.{IsValidFields}
+use Rattle.cal_spec.specs.WeekdayRuns.{runs_from, runs_text, weekdays_text}
+use Rattle.cal_spec.specs.Weekdays.{weekdays_in, weekdays_of}
+use Rattle.cal_spec.specs.Words.{Places, is_blank, places_of, words}
+use Rattle.cal_spec.specs.ZoneName.{IsZoneOption, begins_with_letter, is_zone_byte, is_zone_name, zone_in, zone_name}
+use Rattle.cal_spec.specs.declared.part.Part.{Part}
+use Rattle.cal_spec.specs.declared.shorthand.Shorthand.{Shorthand}
+use Rattle.cal_spec.specs.declared.slot.Slot.{Slot}
+use Rattle.cal_spec.specs.declared.slot.Slot.TheVariants.{Year, Month, Day, DayFromEnd, Hour, Minute, Second}
+use Rattle.cal_spec.specs.declared.spec_fault.SpecFault.{SpecFault}
+use Rattle.cal_spec.proofs.LengthLemmas.{AreSmall, expr_length, small_component, small_second}
+use Rattle.cal_spec.proofs.NormalFieldsLemmas.{fields_valid}
+use Rattle.cal_spec.proofs.ReadBackParts.{both_all, clear_of, component_back, component_bytes, component_some, is_component_byte, split_alone, split_at, wider}
+use Rattle.cal_spec.proofs.ReadBackWeekdays.{ReadsDays, weekdays_all, weekdays_some}
+use Rattle.cal_spec.proofs.WeekdayLemmas.{weekdays_text-all, weekdays_text-some}
+
+-- fields that are read back: valid, with small numbers
+pub record IsReadable (f : Fields) : Type 0 where
+  pub valid : IsValidFields f
+  pub year : AreSmall f.year
+  pub month : AreSmall f.month
+  pub day : AreSmall f.day
+  pub hour : AreSmall f.hour
+  pub minute : AreSmall f.minute
+  pub second : AreSmall f.second
+
+-- The words of the date and of the time
+
+abbrev sign : Bool → ℕ
+sign true = 126
+sign false = 45
+
+date_word : Fields → List ℕ
+date_word f = component_text 4 f.year ++ (45 ∷ (component_text 2 f.month ++ (sign f.from_end ∷ component_text 2 f.day)))
+
+time_word : Fields → List ℕ
+time_word f = component_text 2 f.hour ++ (58 ∷ (component_text 2 f.minute ++ (58 ∷ component_text 2 f.second)))
+
+regrouped : (a b c rest : List ℕ) (s : ℕ) → (a ++ (45 ∷ (b ++ (s ∷ c)))) ++ rest ≡ a ++ (45 ∷ (b ++ (s ∷ (c ++ rest))))
+regrouped a b c rest s = append_assoc a (45 ∷ (b ++ (s ∷ c))) rest ∙ ap (λ t. a ++ (45 ∷ t)) (append_assoc b (s ∷ c) rest)
+
+layout : (t : Bool) (a b c d e g : List ℕ)
+    → joined (joined ([] ∷ a ∷ []) ∷ joined (codes "-" ∷ b ∷ []) ∷ joined (day_lead t ∷ c ∷ []) ∷ joined (codes " " ∷ d ∷ []) ∷ joined (codes ":" ∷ e ∷ []) ∷ joined (codes ":" ∷ g ∷ []) ∷ [])
+    ≡ (a ++ (45 ∷ (b ++ (sign t ∷ c)))) ++ (32 ∷ (d ++ (58 ∷ (e ++ (58 ∷ g)))))
+layout true a b c d e g =
+    rw (append-nil a, append-nil b, append-nil c, append-nil d, append-nil e, append-nil g, append-nil g) (sym (regrouped a b c (32 ∷ (d ++ (58 ∷ (e ++ (58 ∷ g))))) 126))
+layout false a b c d e g =
+    rw (append-nil a, append-nil b, append-nil c, append-nil d, append-nil e, append-nil g, append-nil g) (sym (regrouped a b c (32 ∷ (d ++ (58 ∷ (e ++ (58 ∷ g))))) 45))
+
+fields_printed : (f : Fields) → fields_text f ≡ date_word f ++ (32 ∷ time_word f)
+unfolding fields_text row_text date_word time_word
+fields_printed f =
+    layout f.from_end (component_text 4 f.year) (component_text 2 f.month) (component_text 2 f.day) (component_text 2 f.hour) (component_text 2 f.minute) (component_text 2 f.second)
+
+-- what no component has
+no_sign : (b : ℕ) → is_component_byte b ≡ true → is_date_sign b ≡ false
+no_sign b h = grind (arith, nat_tests)
+
+no_colon : (b : ℕ) → is_component_byte b ≡ true → is_colon b ≡ false
+no_colon b h = grind (arith, nat_tests)
+
+-- the bytes of a date, of a time, and of neither weekdays nor zones
+abbrev is_date_byte : ℕ → Bool
+is_date_byte b = is_component_byte b || (nat_eq b 45 || nat_eq b 126)
+
+abbrev is_time_byte : ℕ → Bool
+is_time_byte b = is_component_byte b || nat_eq b 58
+
+in_date : (b : ℕ) → is_component_byte b ≡ true → is_date_byte b ≡ true
+in_date b h = rw h refl
+
+in_time : (b : ℕ) → is_component_byte b ≡ true → is_time_byte b ≡ true
+in_time b h = rw h refl
+
+date_no_blank : (b : ℕ) → is_date_byte b ≡ true → is_blank b ≡ false
+date_no_blank b h = grind (arith, nat_tests)
+
+date_no_colon : (b : ℕ) → is_date_byte b ≡ true → is_colon b ≡ false
+date_no_colon b h = grind (arith, nat_tests)
+
+date_no_letter : (b : ℕ) → is_date_byte b ≡ true → is_ascii_alphabetic b ≡ false
+date_no_letter b h = grind (arith, nat_tests)
+
+time_no_blank : (b : ℕ) → is_time_byte b ≡ true → is_blank b ≡ false
+time_no_blank b h = grind (arith, nat_tests)
+
+time_no_letter : (b : ℕ) → is_time_byte b ≡ true → is_ascii_alphabetic b ≡ false
+time_no_letter b h = grind (arith, nat_tests)
+
+zone_no_blank : (b : ℕ) → is_zone_byte b ≡ true → is_blank b ≡ false
+zone_no_blank b h = grind (arith, nat_tests)
+
+component_clear : (p : ℕ → Bool) (width : ℕ) (c : Option (List Part)) → ((b : ℕ) → is_component_byte b ≡ true → p b ≡ false) → AreSmall c → list_any p (component_text width c) ≡ false
+component_clear p width c apart small = clear_of is_component_byte p (component_text width c) apart (component_bytes width c small)
+
+sign_in_date : (t : Bool) → is_date_byte (sign t) ≡ true
+sign_in_date true = refl
+sign_in_date false = refl
+
+date_bytes : (f : Fields) → IsReadable f → list_all is_date_byte (date_word f) ≡ true
+unfolding date_word
+date_bytes f h =
+    both_all is_date_byte (component_text 4 f.year) (45 ∷ (component_text 2 f.month ++ (sign f.from_end ∷ component_text 2 f.day)))
+    (wider is_component_byte is_date_byte (component_text 4 f.year) in_date (component_bytes 4 f.year h.year))
+    (both_all is_date_byte (component_text 2 f.month) (sign f.from_end ∷ component_text 2 f.day)
+    (wider is_component_byte is_date_byte (component_text 2 f.month) in_date (component_bytes 2 f.month h.month))
+    (rw (sign_in_date f.from_end) (wider is_component_byte is_date_byte (component_text 2 f.day) in_date (component_bytes 2 f.day h.day))))
+
+time_bytes : (f : Fields) → IsReadable f → list_all is_time_byte (time_word f) ≡ true
+unfolding time_word
+time_bytes f h =
+    both_all is_time_byte (component_text 2 f.hour) (58 ∷ (component_text 2 f.minute ++ (58 ∷ component_text 2 f.second)))
+    (wider is_component_byte is_time_byte (component_text 2 f.hour) in_time (component_bytes 2 f.hour h.hour))
+    (both_all is_time_byte (component_text 2 f.minute) (58 ∷ component_text 2 f.second)
+    (wider is_component_byte is_time_byte (component_text 2 f.minute) in_time (component_bytes 2 f.minute h.minute))
+    (wider is_component_byte is_time_byte (component_text 2 f.second) in_time (component_bytes 2 f.second h.second)))
+
+some_front : (xs ys : List ℕ) → 0 < length xs → 0 < length (xs ++ ys)
+some_front xs ys h = omega (arith, length-append xs ys)
+
+date_some : (f : Fields) → IsReadable f → 0 < length (date_word f)
+unfolding date_word
+date_some f h = some_front (component_text 4 f.year) _ (component_some 4 f.year Year h.valid.year h.year)
+
+time_some : (f : Fields) → IsReadable f → 0 < length (time_word f)
+unfolding time_word
+time_some f h = some_front (component_text 2 f.hour) _ (component_some 2 f.hour Hour h.valid.hour h.hour)
+
+no_letter_first : (q : ℕ → Bool) (word : List ℕ) → ((b : ℕ) → q b ≡ true → is_ascii_alphabetic b ≡ false) → list_all q word ≡ true → begins_with_letter word ≡ false
+no_letter_first q [] apart all = refl
+no_letter_first q (b ∷ bs) apart all = apart b (and_parts (q b) (list_all q bs) all).0
+
+-- Date and time
+
+filter_at : (p : ℕ → Bool) (front : List ℕ) (c : ℕ) (rest : List ℕ) → list_any p front ≡ false → p c ≡ true → filter p (front ++ (c ∷ rest)) ≡ c ∷ filter p rest
+filter_at p [] c rest clear is = rw is refl
+filter_at p (x ∷ xs) c rest clear is =
+    let parts = or_parts (p x) (list_any p xs) clear in
+    rw (parts.0) (filter_at p xs c rest parts.1 is)
+
+filter_alone : (p : ℕ → Bool) (xs : List ℕ) → list_any p xs ≡ false → filter p xs ≡ []
+filter_alone p [] clear = refl
+filter_alone p (x ∷ xs) clear =
+    let parts = or_parts (p x) (list_any p xs) clear in
+    rw (parts.0) (filter_alone p xs parts.1)
+
+sign_is : (t : Bool) → is_date_sign (sign t) ≡ true
+sign_is true = refl
+sign_is false = refl
+
+tilde_is : (t : Bool) → is_tilde (sign t) ≡ t
+tilde_is true = refl
+tilde_is false = refl
+
+three_of : (t : Bool) (a b c : List ℕ) → list_any is_date_sign a ≡ false → list_any is_date_sign b ≡ false → list_any is_date_sign c ≡ false
+    → date_texts (a ++ (45 ∷ (b ++ (sign t ∷ c)))) ≡ Some (record { year = a; month = b; day = c; from_end = t })
+unfolding date_texts
+three_of t a b c ca cb cc' =
+    let signs : filter is_date_sign (a ++ (45 ∷ (b ++ (sign t ∷ c)))) ≡ 45 ∷ sign t ∷ [] =
+    filter_at is_date_sign a 45 (b ++ (sign t ∷ c)) ca refl
+    ∙ ap (λ ss. 45 ∷ ss) (filter_at is_date_sign b (sign t) c cb (sign_is t) ∙ ap (λ ss. sign t ∷ ss) (filter_alone is_date_sign c cc')) in
+    let texts : slice_split is_date_sign (a ++ (45 ∷ (b ++ (sign t ∷ c)))) ≡ a ∷ b ∷ c ∷ [] =
+    split_at is_date_sign a 45 (b ++ (sign t ∷ c)) ca refl
+    ∙ ap (λ ts. a ∷ ts) (split_at is_date_sign b (sign t) c cb (sign_is t) ∙ ap (λ ts. b ∷ ts) (split_alone is_date_sign c cc')) in
+    rw (signs, texts) (ap (λ u. Some (record { year = a; month = b; day = c; from_end = u })) (tilde_is t))
+
+date_texts_back : (f : Fields) → IsReadable f
+    → date_texts (date_word f) ≡ Some (record { year = component_text 4 f.year; month = component_text 2 f.month; day = component_text 2 f.day; from_end = f.from_end })
+unfolding date_word
+date_texts_back f h =
+    three_of f.from_end (component_text 4 f.year) (component_text 2 f.month) (component_text 2 f.day)
+    (component_clear is_date_sign 4 f.year no_sign h.year) (component_clear is_date_sign 2 f.month no_sign h.month) (component_clear is_date_sign 2 f.day no_sign h.day)
+
+time_texts_back : (f : Fields) → IsReadable f
+    → time_texts (time_word f) ≡ Some (record { hour = component_text 2 f.hour; minute = component_text 2 f.minute; second = component_text 2 f.second })
+unfolding time_word time_texts
+time_texts_back f h =
+    let a = component_text 2 f.hour in
+    let b = component_text 2 f.minute in
+    let c = component_text 2 f.second in
+    let texts : slice_split is_colon (a ++ (58 ∷ (b ++ (58 ∷ c)))) ≡ a ∷ b ∷ c ∷ [] =
+    split_at is_colon a 58 (b ++ (58 ∷ c)) (component_clear is_colon 2 f.hour no_colon h.hour) refl
+    ∙ ap (λ ts. a ∷ ts) (split_at is_colon b 58 c (component_clear is_colon 2 f.minute no_colon h.minute) refl
+    ∙ ap (λ ts. b ∷ ts) (split_alone is_colon c (component_clear is_colon 2 f.second no_colon h.second))) in
+    rw texts refl
+
+-- the counted parts of a date's component are its parts
+counted_year : (c : Option (List Part)) → counted Year c ≡ parts_in c
+counted_year None = refl
+counted_year (Some ps) = refl
+
+counted_month : (c : Option (List Part)) → counted Month c ≡ parts_in c
+counted_month None = refl
+counted_month (Some ps) = refl
+
+counted_day : (t : Bool) (c : Option (List Part)) → counted (day_slot t) c ≡ parts_in c
+counted_day true None = refl
+counted_day true (Some ps) = refl
+counted_day false None = refl
+counted_day false (Some ps) = refl
+
+counted_hour : (c : Option (List Part)) → counted Hour c ≡ parts_in c - 1
+counted_hour None = refl
+counted_hour (Some ps) = refl
+
+counted_minute : (c : Option (List Part)) → counted Minute c ≡ parts_in c - 1
+counted_minute None = refl
+counted_minute (Some ps) = refl
+
+counted_second : (c : Option (List Part)) → counted Second c ≡ parts_in c - 1
+counted_second None = refl
+counted_second (Some ps) = refl
+
+few_counted : (f : Fields) → IsReadable f
+    → counted Year f.year + counted Month f.month + counted (day_slot f.from_end) f.day + counted Hour f.hour + counted Minute f.minute + counted Second f.second ≤ 240
+unfolding counted_parts
+few_counted f h =
+    let few = h.valid.few in
+    omega (arith, counted_year f.year, counted_month f.month, counted_day f.from_end f.day, counted_hour f.hour, counted_minute f.minute, counted_second f.second)
+
+abbrev date_in : Fields → DateFields
+date_in f = record { year = f.year; month = f.month; day = f.day; from_end = f.from_end }
+
+abbrev time_in : Fields → TimeFields
+time_in f = record { hour = f.hour; minute = f.minute; second = f.second }
+
+date_back : (f : Fields) → IsReadable f → date_of (date_word f) ≡ Ok (date_in f)
+unfolding date_of date_fields
+date_back f h =
+    let few = few_counted f h in
+    let year = component_back Year 240 4 f.year (omega arith) h.valid.year h.year in
+    let month = component_back Month (240 - counted Year f.year) 2 f.month (omega arith) h.valid.month h.month in
+    let day = component_back (day_slot f.from_end) (240 - counted Year f.year - counted Month f.month) 2 f.day (omega arith) h.valid.day h.day in
+    ap date_due (date_texts_back f h) ∙ rw (year, month, day) refl
+
+time_back : (f : Fields) → IsReadable f → time_of (room_behind (date_in f)) (time_word f) ≡ Ok (time_in f)
+unfolding time_of time_fields
+time_back f h =
+    let few = few_counted f h in
+    let room = room_behind (date_in f) in
+    let hour = component_back Hour room 2 f.hour (omega arith) h.valid.hour h.hour in
+    let minute = component_back Minute (room - counted Hour f.hour) 2 f.minute (omega arith) h.valid.minute h.minute in
+    let second = component_back Second (room - counted Hour f.hour - counted Minute f.minute) 2 f.second (omega arith) h.valid.second h.second in
+    ap (time_due room) (time_texts_back f h) ∙ rw (hour, minute, second) refl
+
+-- Words
+
+word_first : (w rest : List ℕ) → list_any is_blank w ≡ false → 0 < length w → words (w ++ (32 ∷ rest)) ≡ w ∷ words rest
+unfolding words
+word_first w rest clear some =
+    let kept : nat_lt 0 (length w) ≡ true = lt-ltb 0 (length w) some in
+    ap (filter (λ word. nat_lt 0 (length word))) (split_at is_blank w 32 rest clear refl) ∙ rw kept refl
+
+word_last : (w : List ℕ) → list_any is_blank w ≡ false → 0 < length w → words w ≡ w ∷ []
+unfolding words
+word_last w clear some =
+    let kept : nat_lt 0 (length w) ≡ true = lt-ltb 0 (length w) some in
+    ap (filter (λ word. nat_lt 0 (length word))) (split_alone is_blank w clear) ∙ rw kept refl
+
+abbrev zone_words : Option (List ℕ) → List (List ℕ)
+zone_words None = []
+zone_words (Some name) = name ∷ []
+
+name_letter : (name : List ℕ) → begins_with_letter name ≡ true → 0 < length name
+name_letter [] h = cc
+name_letter (b ∷ bs) h = omega arith
+
+words_to_zone : (w : List ℕ) (name : Option (List ℕ)) → list_any is_blank w ≡ false → 0 < length w → IsZoneOption name → words (w ++ (zone_text name ++ [])) ≡ w ∷ zone_words name
+unfolding is_zone_name
+words_to_zone w None clear some h = ap words (append-nil w) ∙ word_last w clear some
+words_to_zone w (Some name) clear some h =
+    let long = and_parts (begins_with_letter name && list_all is_zone_byte name) (nat_le (length name) 255) h.0 in
+    let parts = and_parts (begins_with_letter name) (list_all is_zone_byte name) long.0 in
+    let trimmed : zone_text (Some name) ++ [] ≡ 32 ∷ name = ap (λ t. 32 ∷ t) (append-nil (name ++ []) ∙ append-nil name) in
+    ap (λ t. words (w ++ t)) trimmed
+    ∙ word_first w name clear some
+    ∙ ap (λ ws. w ∷ ws) (word_last name (clear_of is_zone_byte is_blank name zone_no_blank parts.1) (name_letter name parts.0))
+
+words_of_fields : (f : Fields) → IsReadable f → words (fields_text f ++ (zone_text f.zone ++ [])) ≡ date_word f ∷ time_word f ∷ zone_words f.zone
+words_of_fields f h =
+    let behind = zone_text f.zone ++ [] in
+    ap (λ t. words (t ++ behind)) (fields_printed f)
+    ∙ ap words (append_assoc (date_word f) (32 ∷ time_word f) behind)
+    ∙ word_first (date_word f) (time_word f ++ behind) (clear_of is_date_byte is_blank (date_word f) date_no_blank (date_bytes f h)) (date_some f h)
+    ∙ ap (λ ws. date_word f ∷ ws) (words_to_zone (time_word f) f.zone (clear_of is_time_byte is_blank (time_word f) time_no_blank (time_bytes f h)) (time_some f h) h.valid.zone)
+
+-- no shorthand begins without a letter
+not_first : (b c : ℕ) → is_ascii_alphabetic b ≡ false → 97 ≤ c → c ≤ 122 → nat_eq (to_ascii_lowercase b) c ≡ false
+not_first b c h low high = grind (arith, nat_tests)
+
+no_shorthand : (word : List ℕ) → begins_with_letter word ≡ false → shorthand_named word ≡ None
+unfolding shorthand_named
+no_shorthand [] h = refl
+no_shorthand (b ∷ bs) h =
+    let apart = λ (c : ℕ) (low : 97 ≤ c) (high : c ≤ 122). not_first b c h low high in
+    rw (apart 109 (omega arith) (omega arith), apart 104 (omega arith) (omega arith), apart 100 (omega arith) (omega arith), apart 119 (omega arith) (omega arith), apart 113 (omega arith) (omega arith), apart 115 (omega arith) (omega arith), apart 98 (omega arith) (omega arith), apart 121 (omega arith) (omega arith), apart 97 (omega arith) (omega arith)) refl
+
+-- Places
+
+places : Option (List ℕ) → Fields → Places
+places weekdays f = record { weekdays = weekdays; date = date_word f; time = time_word f; rest = zone_words f.zone }
+
+places_all : (f : Fields) → IsReadable f → places_of (date_word f ∷ time_word f ∷ zone_words f.zone) ≡ Some (places None f)
+unfolding places_of places
+places_all f h =
+    let plain = no_letter_first is_date_byte (date_word f) date_no_letter (date_bytes f h) in
+    let no_time = clear_of is_date_byte is_colon (date_word f) date_no_colon (date_bytes f h) in
+    let no_zone = no_letter_first is_time_byte (time_word f) time_no_letter (time_bytes f h) in
+    rw (no_shorthand (date_word f) plain, plain, no_time, no_zone) refl
+
+places_some : (f : Fields) (word : List ℕ) → IsReadable f → ReadsDays word f.weekdays → places_of (word ∷ date_word f ∷ time_word f ∷ zone_words f.zone) ≡ Some (places (Some word) f)
+unfolding places_of places
+places_some f word h days =
+    let plain = no_letter_first is_date_byte (date_word f) date_no_letter (date_bytes f h) in
+    let no_time = clear_of is_date_byte is_colon (date_word f) date_no_colon (date_bytes f h) in
+    let no_zone = no_letter_first is_time_byte (time_word f) time_no_letter (time_bytes f h) in
+    rw (days.plain, days.letter, plain, no_time, no_zone) refl
+
+zone_back : (name : Option (List ℕ)) → IsZoneOption name → zone_in (zone_words name) ≡ Ok name
+zone_back None h = refl
+zone_back (Some name) h = rw h.0 (ap (λ n. Ok (Some n)) h.1)
+
+same_fields : (f : Fields) → record { weekdays = f.weekdays; year = f.year; month = f.month; day = f.day; hour = f.hour; minute = f.minute; second = f.second; from_end = f.from_end; zone = f.zone } ≡ f
+same_fields f = refl
+
+places_back : (f : Fields) (weekdays : Option (List ℕ)) → IsReadable f → weekdays_in weekdays ≡ Ok f.weekdays → fields_at (places weekdays f) ≡ Ok f
+unfolding fields_at places
+places_back f weekdays h days =
+    let date = date_back f h in
+    let time = time_back f h in
+    let name = zone_back f.zone h.valid.zone in
+    rw (days, date, time, name) (ap Ok (same_fields f))
+
+-- The whole text
+
+back_by : (f : Fields) (ws : List (List ℕ)) (p : Places) → length (expr_text f) < 4_096 → words (expr_text f) ≡ ws → places_of ws ≡ Some p → fields_at p ≡ Ok f → fields_in (expr_text f) ≡ Ok f
+unfolding fields_in
+back_by f ws p short split placed read =
+    let fits : nat_lt 4_096 (length (expr_text f)) ≡ false = le-ltb 4_096 (length (expr_text f)) (omega arith) in
+    rw (fits, split, placed) read
+
+back_all : (f : Fields) → IsReadable f → length (expr_text f) < 4_096 → list_all (λ d. d) f.weekdays ≡ true → fields_in (expr_text f) ≡ Ok f
+unfolding expr_text
+back_all f h short all =
+    let text : expr_text f ≡ fields_text f ++ (zone_text f.zone ++ []) = ap (λ t. t ++ (fields_text f ++ (zone_text f.zone ++ []))) (weekdays_text-all f.weekdays all) in
+    back_by f (date_word f ∷ time_word f ∷ zone_words f.zone) (places None f) short (ap words text ∙ words_of_fields f h) (places_all f h)
+    (places_back f None h (ap Ok (weekdays_all f.weekdays h.valid.seven all)))
+
+back_some : (f : Fields) → IsReadable f → length (expr_text f) < 4_096 → list_all (λ d. d) f.weekdays ≡ false → fields_in (expr_text f) ≡ Ok f
+unfolding expr_text
+back_some f h short some =
+    let word = runs_text (runs_from 0 f.weekdays) in
+    let days = weekdays_some f.weekdays h.valid.seven some h.valid.chosen in
+    let rest = fields_text f ++ (zone_text f.zone ++ []) in
+    let text : expr_text f ≡ word ++ (32 ∷ rest) =
+    ap (λ t. t ++ rest) (weekdays_text-some f.weekdays some) ∙ append_assoc word (32 ∷ []) rest in
+    back_by f (word ∷ date_word f ∷ time_word f ∷ zone_words f.zone) (places (Some word) f) short
+    (ap words text ∙ word_first word rest days.clear (name_letter word days.letter) ∙ ap (λ ws. word ∷ ws) (words_of_fields f h))
+    (places_some f word h days)
+    (places_back f (Some word) h days.read)
+
+back_by_days : (f : Fields) (t : Bool) → IsReadable f → length (expr_text f) < 4_096 → list_all (λ d. d) f.weekdays ≡ t → fields_in (expr_text f) ≡ Ok f
+back_by_days f true h short is = back_all f h short is
+back_by_days f false h short is = back_some f h short is
+
+pub readable_back : (f : Fields) → IsReadable f → fields_in (expr_text f) ≡ Ok f
+readable_back f h =
+    back_by_days f (list_all (λ d. d) f.weekdays) h (expr_length f h.valid h.year h.month h.day h.hour h.minute h.second) refl
+
+readable : (f : Fields) → IsValidFields f → IsReadable (normal_fields f)
+unfolding normal_fields
+readable f valid = record {
+  valid = fields_valid f valid;
+  year = small_component Year f.year valid.year;
+  month = small_component Month f.month valid.month;
+  day = small_component (day_slot f.from_end) f.day valid.day;
+  hour = small_component Hour f.hour valid.hour;
+  minute = small_component Minute f.minute valid.minute;
+  second = small_second f.second valid.second;
+}
+
+-- the normal text of valid fields is read as their normal form
+pub normal_back : (f : Fields) → IsValidFields f → fields_in (expr_text (normal_fields f)) ≡ Ok (normal_fields f)
+normal_back f valid = readable_back (normal_fields f) (readable f valid)

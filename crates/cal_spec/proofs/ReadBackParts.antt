@@ -1,0 +1,392 @@
+-- What is printed of parts and components is read again.
+use Rattle.std.proofs.Common.{◌≡◌, ℕ, zero, suc, ◌+◌, ◌-◌, ◌*◌, ◌^◌, ◌<◌, ◌≤◌, cond, Bool, true, false, not, ◌&&◌, ◌||◌, nat_eq, nat_le, nat_lt, List, [], ◌∷◌, ◌++◌, length, map, replicate, codes, Option, None, Some, Result, Ok, Err, refl, sym, ap, ◌∙◌, subst, inl, inr, lit≤, arith, append_assoc}
+use Rattle.std.specs.Char.{is_ascii_digit, digit_value}
+use Rattle.std.specs.Fmt.{decimal}
+use Rattle.std.specs.List.{AllByRecursion, flat_map, list_all, list_any, slice_split, onto_first}
+use Rattle.std.specs.Option.{option_map}
+use Rattle.std.specs.Str.{bytes_eq}
+use Rattle.std.specs.Str.Parse.{AllDigits, digits_value}
+use Rattle.std.proofs.lemmas.Bool.{and_from, and_parts, eqb-true, false_from_ne_true, le-leb, le-ltb, leb-true, lt-leb, lt-ltb, ne_eqb, or_left, or_parts}
+use Rattle.std.proofs.lemmas.Fmt.{decimal_is_IsNumeral}
+use Rattle.std.proofs.lemmas.List.{append-nil}
+use Rattle.std.proofs.lemmas.List.Folds.{list_all-append}
+use Rattle.std.proofs.lemmas.Str.Parse.{digit_from_value}
+use Rattle.cal_base.specs.InstantText.{zeros}
+use Rattle.cal_spec.specs.Components.{component_of, counted, first_fault, is_comma, is_star, listed, part_due, parts_of, room_in}
+use Rattle.cal_spec.specs.ExprText.{component_text, number_text, optional_text, part_text, parts_text}
+use Rattle.cal_spec.specs.Parts.{Sign, digits, dots, slash, point, other, Counted, behind_end, behind_number, behind_start, bad, fault_of, is_backward, is_idle, is_outside, is_point, is_second, is_slash, is_time, is_within, is_year, is_zero, lone, number_due, part_at_end, part_of, signs, starts_with_point, with_century, with_step, with_values}
+use Rattle.cal_spec.specs.Reads.{◌>>=◌, first_of, unless}
+use Rattle.cal_spec.specs.Slot.{least, greatest}
+use Rattle.cal_spec.specs.Sound.{AreSound, EndsAfter, GoesOn, IsEndWithin, IsSecondWithin, IsSound, IsStep, IsWithin}
+use Rattle.cal_spec.specs.declared.part.Part.{Part}
+use Rattle.cal_spec.specs.declared.slot.Slot.{Slot}
+use Rattle.cal_spec.specs.declared.slot.Slot.TheVariants.{Year, Month, Day, DayFromEnd, Hour, Minute, Second}
+use Rattle.cal_spec.specs.declared.spec_fault.SpecFault.{SpecFault}
+use Rattle.cal_spec.proofs.LengthLemmas.{AreSmall, IsBelow, IsSmall}
+use Rattle.cal_spec.proofs.NormalLemmas.{same_part}
+use Rattle.cal_spec.proofs.SignLemmas.{begins_with, signs_lone, signs_number}
+
+-- Numbers
+
+-- the digits of a number in at least so many digits
+abbrev pub padded : ℕ → ℕ → List ℕ
+padded width n = zeros width n ++ decimal n
+
+digits_all : (ds : List ℕ) → AllDigits 10 ds → list_all is_ascii_digit ds ≡ true
+digits_all [] h = refl
+digits_all (c ∷ cs) h =
+    let range = digit_from_value c h.0 in
+    and_from (is_ascii_digit c) (list_all is_ascii_digit cs) (and_from (nat_le 48 c) (nat_le c 57) (le-leb 48 c range.0) (le-leb c 57 range.1)) (digits_all cs h.1)
+
+zeros_all : (k : ℕ) (ds : List ℕ) → list_all is_ascii_digit (replicate k 48 ++ ds) ≡ list_all is_ascii_digit ds
+zeros_all zero ds = refl
+zeros_all (suc k) ds = zeros_all k ds
+
+zeros_value : (k : ℕ) (ds : List ℕ) → digits_value 10 (replicate k 48 ++ ds) ≡ digits_value 10 ds
+zeros_value zero ds = refl
+zeros_value (suc k) ds = zeros_value k ds
+
+zeros_some : (k : ℕ) (ds : List ℕ) → 0 < length ds → 0 < length (replicate k 48 ++ ds)
+zeros_some zero ds h = h
+zeros_some (suc k) ds h = omega arith
+
+pub record IsPrinted (n : ℕ) (ds : List ℕ) : Type 0 where
+  pub all : list_all is_ascii_digit ds ≡ true
+  pub some : 0 < length ds
+  pub value : digits_value 10 ds ≡ n
+
+pub number_printed : (width n : ℕ) → n < 10_000 → IsPrinted n (padded width n)
+number_printed width n small =
+    let numeral = decimal_is_IsNumeral n (omega arith) in
+    let k = width - length (decimal n) in
+    record {
+      all = zeros_all k (decimal n) ∙ digits_all (decimal n) numeral.0.1;
+      some = zeros_some k (decimal n) numeral.0.0;
+      value = zeros_value k (decimal n) ∙ numeral.1;
+    }
+
+-- a number in front of what begins with no digit is its sign
+signs_of_number : (ds rest : List ℕ) → list_all is_ascii_digit ds ≡ true → 0 < length ds → begins_with is_ascii_digit rest ≡ false → signs (ds ++ rest) ≡ digits ds ∷ signs rest
+signs_of_number [] rest all some apart = absurd (omega arith)
+signs_of_number (d ∷ ds) rest all some apart =
+    let parts = and_parts (is_ascii_digit d) (list_all is_ascii_digit ds) all in
+    signs_number d ds rest parts.0 parts.1 apart
+
+no_second_point : (t u : Bool) → u ≡ false → (t && u) ≡ false
+no_second_point true u h = h
+no_second_point false u h = refl
+
+-- and it is read where a number is due
+due_by : (slot : Slot) (n : ℕ) (ss : List Sign) → n < 10_000 → starts_with_point ss ≡ false → behind_number slot n ss ≡ Ok (record { number = n; behind = ss })
+due_by slot n ss small whole =
+    let fits : nat_lt 9_999 n ≡ false = le-ltb 9_999 n (omega arith) in
+    rw (fits, no_second_point (is_second slot) (starts_with_point ss) whole) refl
+
+due : (slot : Slot) (n : ℕ) (ds rest : List ℕ) → IsPrinted n ds → n < 10_000 → begins_with is_ascii_digit rest ≡ false → starts_with_point (signs rest) ≡ false
+    → number_due slot (signs (ds ++ rest)) ≡ Ok (record { number = n; behind = signs rest })
+due slot n ds rest printed small apart whole =
+    ap (number_due slot) (signs_of_number ds rest printed.all printed.some apart)
+    ∙ ap (λ k. behind_number slot k (signs rest)) printed.value
+    ∙ due_by slot n (signs rest) small whole
+
+-- Parts
+
+slash_signs : (rest : List ℕ) → signs (47 ∷ rest) ≡ slash ∷ signs rest
+slash_signs rest = signs_lone 47 rest refl refl
+
+-- the text behind a number
+step_text : Option ℕ → List ℕ
+step_text None = []
+step_text (Some r) = 47 ∷ padded 0 r
+
+end_text : ℕ → Option ℕ → Option ℕ → List ℕ
+end_text width None step = step_text step
+end_text width (Some b) step = 46 ∷ 46 ∷ (padded width b ++ step_text step)
+
+no_digit_step : (step : Option ℕ) → (begins_with is_ascii_digit (step_text step) ≡ false) × (starts_with_point (signs (step_text step)) ≡ false)
+unfolding step_text
+no_digit_step None = (refl, refl)
+no_digit_step (Some r) = (refl, ap starts_with_point (slash_signs (padded 0 r)))
+
+no_digit_end : (width : ℕ) (end step : Option ℕ) → (begins_with is_ascii_digit (end_text width end step) ≡ false) × (starts_with_point (signs (end_text width end step)) ≡ false)
+unfolding end_text
+no_digit_end width None step = no_digit_step step
+no_digit_end width (Some b) step = (refl, refl)
+
+with_step_back : (slot : Slot) (a : ℕ) (last : Option ℕ) (r : ℕ) → r < 10_000 → with_step slot a last (signs (padded 0 r)) ≡ Ok (record { start = a; end = last; step = Some r })
+unfolding with_step
+with_step_back slot a last r small =
+    let read = due slot r (padded 0 r) [] (number_printed 0 r small) small refl refl in
+    let whole : number_due slot (signs (padded 0 r)) ≡ Ok (record { number = r; behind = [] }) = ap (λ t. number_due slot (signs t)) (sym (append-nil (padded 0 r))) ∙ read in
+    ap (λ o. o >>= λ c. part_at_end slot (record { start = a; end = last; step = Some c.number }) c.behind) whole
+
+behind_end_back : (slot : Slot) (a b : ℕ) (step : Option ℕ) → IsBelow 10_000 step → behind_end slot a b (signs (step_text step)) ≡ Ok (record { start = a; end = Some b; step = step })
+unfolding behind_end step_text
+behind_end_back slot a b None small = refl
+behind_end_back slot a b (Some r) small = ap (behind_end slot a b) (slash_signs (padded 0 r)) ∙ with_step_back slot a (Some b) r small
+
+behind_start_back : (slot : Slot) (width a : ℕ) (end step : Option ℕ) → IsBelow 10_000 end → IsBelow 10_000 step
+    → behind_start slot a (signs (end_text width end step)) ≡ Ok (record { start = a; end = end; step = step })
+unfolding behind_start end_text step_text
+behind_start_back slot width a None None below small = refl
+behind_start_back slot width a None (Some r) below small = ap (behind_start slot a) (slash_signs (padded 0 r)) ∙ with_step_back slot a None r small
+behind_start_back slot width a (Some b) step below small =
+    let apart = no_digit_step step in
+    let read = due slot b (padded width b) (step_text step) (number_printed width b below) below apart.0 apart.1 in
+    ap (λ o. o >>= λ c. behind_end slot a c.number c.behind) read ∙ behind_end_back slot a b step small
+
+step_small : (step : Option ℕ) → IsBelow 1_000 step → IsBelow 10_000 step
+step_small None h = tt
+step_small (Some r) h = omega arith
+
+-- the text of a part is that of its first number and what is behind it
+step_printed : (step : Option ℕ) → optional_text (codes "/") 0 step ++ [] ≡ step_text step
+unfolding step_text number_text
+step_printed None = refl
+step_printed (Some r) = ap (λ t. 47 ∷ t) (append-nil (zeros 0 r ++ (decimal r ++ [])) ∙ ap (λ t. zeros 0 r ++ t) (append-nil (decimal r)))
+
+end_printed : (width : ℕ) (end step : Option ℕ) → optional_text (codes "..") width end ++ (optional_text (codes "/") 0 step ++ []) ≡ end_text width end step
+unfolding end_text number_text
+end_printed width None step = step_printed step
+end_printed width (Some b) step =
+    ap (λ t. (46 ∷ 46 ∷ (zeros width b ++ (decimal b ++ []))) ++ t) (step_printed step)
+    ∙ ap (λ t. 46 ∷ 46 ∷ (t ++ step_text step)) (ap (λ t. zeros width b ++ t) (append-nil (decimal b)))
+
+part_printed : (width : ℕ) (p : Part) → part_text [] width p ≡ padded width p.start ++ end_text width p.end p.step
+unfolding part_text number_text
+part_printed width p =
+    ap (λ t. (zeros width p.start ++ (decimal p.start ++ [])) ++ t) (end_printed width p.end p.step)
+    ∙ ap (λ t. (zeros width p.start ++ t) ++ end_text width p.end p.step) (append-nil (decimal p.start))
+
+-- a part is read again
+pub part_back : (slot : Slot) (width : ℕ) (p : Part) → IsSmall p → part_of slot (part_text [] width p) ≡ Ok p
+unfolding part_of
+part_back slot width p small =
+    let apart = no_digit_end width p.end p.step in
+    let read = due slot p.start (padded width p.start) (end_text width p.end p.step) (number_printed width p.start small.start) small.start apart.0 apart.1 in
+    ap (λ t. number_due slot (signs t) >>= λ a. behind_start slot a.number a.behind) (part_printed width p)
+    ∙ ap (λ o. o >>= λ a. behind_start slot a.number a.behind) read
+    ∙ behind_start_back slot width p.start p.end p.step small.end (step_small p.step small.step)
+    ∙ ap Ok (same_part _ p refl refl refl)
+
+-- Values
+
+within_true : (slot : Slot) (n : ℕ) → IsWithin slot n → is_within slot n ≡ true
+within_true slot n h = and_from (nat_le (least slot) n) (nat_le n (greatest slot)) (le-leb (least slot) n h.0) (le-leb n (greatest slot) h.1)
+
+not_outside : (slot : Slot) (a : ℕ) (end : Option ℕ) → IsWithin slot a → IsEndWithin slot end → is_outside slot a end ≡ false
+not_outside slot a None start last = ap not (within_true slot a start)
+not_outside slot a (Some b) start last = ap not (and_from (is_within slot a) (is_within slot b) (within_true slot a start) (within_true slot b last))
+
+not_backward : (a : ℕ) (end : Option ℕ) → EndsAfter a end → is_backward a end ≡ false
+not_backward a None h = refl
+not_backward a (Some b) h = le-ltb b a h
+
+not_zero : (step : Option ℕ) → IsStep step → is_zero step ≡ false
+not_zero None h = refl
+not_zero (Some r) h = ne_eqb r 0 (λ e. absurd (omega arith))
+
+not_idle : (slot : Slot) (a : ℕ) (end step : Option ℕ) → GoesOn slot a end step → is_idle slot a end step ≡ false
+not_idle slot a None None h = refl
+not_idle Year a None (Some r) h = le-ltb 2199 (a + r) h
+not_idle Month a None (Some r) h = le-ltb 12 (a + r) h
+not_idle Day a None (Some r) h = le-ltb 31 (a + r) h
+not_idle DayFromEnd a None (Some r) h = lt-leb a r h
+not_idle Hour a None (Some r) h = le-ltb 23 (a + r) h
+not_idle Minute a None (Some r) h = le-ltb 59 (a + r) h
+not_idle Second a None (Some r) h = le-ltb 59 (a + r) h
+not_idle slot a (Some b) None h = refl
+not_idle slot a (Some b) (Some r) h = refl
+
+no_fault : (slot : Slot) (p : Part) → IsSound slot p → fault_of slot p ≡ None
+unfolding fault_of
+no_fault slot p h =
+    rw (not_outside slot p.start p.end h.start_in h.end_in, not_backward p.start p.end h.forward, not_zero p.step h.some_step, not_idle slot p.start p.end p.step h.goes_on) refl
+
+no_faults : (slot : Slot) (ps : List Part) → AllByRecursion (IsSound slot) ps → first_fault slot ps ≡ None
+no_faults slot [] h = refl
+no_faults slot (p ∷ ps) h = rw (no_fault slot p h.0) (no_faults slot ps h.1)
+
+century_stays : (n : ℕ) → 1970 ≤ n → with_century n ≡ n
+century_stays n h =
+    let late : nat_lt n 70 ≡ false = le-ltb n 70 (omega arith) in
+    let later : nat_lt n 100 ≡ false = le-ltb n 100 (omega arith) in
+    rw (late, later) refl
+
+centuries_stay : (end : Option ℕ) → IsEndWithin Year end → option_map with_century end ≡ end
+centuries_stay None h = refl
+centuries_stay (Some b) h = ap Some (century_stays b h.0)
+
+values_stay : (slot : Slot) (p : Part) → IsSound slot p → with_values slot p ≡ p
+values_stay Year p h = same_part _ p (century_stays p.start h.start_in.0) (centuries_stay p.end h.end_in) refl
+values_stay Month p h = refl
+values_stay Day p h = refl
+values_stay DayFromEnd p h = refl
+values_stay Hour p h = refl
+values_stay Minute p h = refl
+values_stay Second p h = refl
+
+-- Splitting
+
+-- a text without a separator in front of one
+pub split_at : (p : ℕ → Bool) (front : List ℕ) (c : ℕ) (rest : List ℕ) → list_any p front ≡ false → p c ≡ true → slice_split p (front ++ (c ∷ rest)) ≡ front ∷ slice_split p rest
+split_at p [] c rest clear sign = rw sign refl
+split_at p (x ∷ xs) c rest clear sign =
+    let parts = or_parts (p x) (list_any p xs) clear in
+    rw (parts.0, split_at p xs c rest parts.1 sign) refl
+
+pub split_alone : (p : ℕ → Bool) (xs : List ℕ) → list_any p xs ≡ false → slice_split p xs ≡ xs ∷ []
+split_alone p [] clear = refl
+split_alone p (x ∷ xs) clear =
+    let parts = or_parts (p x) (list_any p xs) clear in
+    rw (parts.0, split_alone p xs parts.1) refl
+
+-- texts joined by a separator
+pub split_joined : {A : Type 0} (p : ℕ → Bool) (c : ℕ) (f : A → List ℕ) (x : A) (xs : List A) → p c ≡ true → AllByRecursion (λ y. list_any p (f y) ≡ false) (x ∷ xs)
+    → slice_split p (f x ++ flat_map (λ y. c ∷ f y) xs) ≡ f x ∷ map f xs
+split_joined p c f x [] sign clear = ap (slice_split p) (append-nil (f x)) ∙ split_alone p (f x) clear.0
+split_joined p c f x (y ∷ ys) sign clear =
+    split_at p (f x) c (f y ++ flat_map (λ z. c ∷ f z) ys) clear.0 sign ∙ ap (λ ts. f x ∷ ts) (split_joined p c f y ys sign clear.1)
+
+-- a class of bytes without the separator
+pub clear_of : (q p : ℕ → Bool) (text : List ℕ) → ((b : ℕ) → q b ≡ true → p b ≡ false) → list_all q text ≡ true → list_any p text ≡ false
+clear_of q p [] apart all = refl
+clear_of q p (b ∷ bs) apart all =
+    let parts = and_parts (q b) (list_all q bs) all in
+    rw (apart b parts.0) (clear_of q p bs apart parts.1)
+
+pub wider : (q p : ℕ → Bool) (text : List ℕ) → ((b : ℕ) → q b ≡ true → p b ≡ true) → list_all q text ≡ true → list_all p text ≡ true
+wider q p [] holds all = refl
+wider q p (b ∷ bs) holds all =
+    let parts = and_parts (q b) (list_all q bs) all in
+    and_from (p b) (list_all p bs) (holds b parts.0) (wider q p bs holds parts.1)
+
+pub both_all : (q : ℕ → Bool) (xs ys : List ℕ) → list_all q xs ≡ true → list_all q ys ≡ true → list_all q (xs ++ ys) ≡ true
+both_all q xs ys h k = list_all-append q xs ys ∙ and_from (list_all q xs) (list_all q ys) h k
+
+-- the bytes of a part: digits, `.` and `/`
+abbrev pub is_part_byte : ℕ → Bool
+is_part_byte b = nat_le 46 b && nat_le b 57
+
+digit_in_part : (b : ℕ) → is_ascii_digit b ≡ true → is_part_byte b ≡ true
+digit_in_part b h =
+    let parts = and_parts (nat_le 48 b) (nat_le b 57) h in
+    let low = leb-true 48 b parts.0 in
+    and_from (nat_le 46 b) (nat_le b 57) (le-leb 46 b (omega arith)) parts.1
+
+padded_bytes : (width n : ℕ) → n < 10_000 → list_all is_part_byte (padded width n) ≡ true
+padded_bytes width n small = wider is_ascii_digit is_part_byte (padded width n) digit_in_part (number_printed width n small).all
+
+step_bytes : (step : Option ℕ) → IsBelow 10_000 step → list_all is_part_byte (step_text step) ≡ true
+unfolding step_text
+step_bytes None h = refl
+step_bytes (Some r) h = padded_bytes 0 r h
+
+end_bytes : (width : ℕ) (end step : Option ℕ) → IsBelow 10_000 end → IsBelow 10_000 step → list_all is_part_byte (end_text width end step) ≡ true
+unfolding end_text
+end_bytes width None step h k = step_bytes step k
+end_bytes width (Some b) step h k = both_all is_part_byte (padded width b) (step_text step) (padded_bytes width b h) (step_bytes step k)
+
+pub part_bytes : (width : ℕ) (p : Part) → IsSmall p → list_all is_part_byte (part_text [] width p) ≡ true
+part_bytes width p small =
+    rw (part_printed width p)
+    (both_all is_part_byte (padded width p.start) (end_text width p.end p.step) (padded_bytes width p.start small.start) (end_bytes width p.end p.step small.end (step_small p.step small.step)))
+
+part_no_comma : (b : ℕ) → is_part_byte b ≡ true → is_comma b ≡ false
+part_no_comma b h = let low = leb-true 46 b (and_parts (nat_le 46 b) (nat_le b 57) h).0 in ne_eqb b 44 (λ e. absurd (omega arith))
+
+parts_clear : (width : ℕ) (ps : List Part) → AllByRecursion IsSmall ps → AllByRecursion (λ p. list_any is_comma (part_text [] width p) ≡ false) ps
+parts_clear width [] h = tt
+parts_clear width (p ∷ ps) h = (clear_of is_part_byte is_comma (part_text [] width p) part_no_comma (part_bytes width p h.0), parts_clear width ps h.1)
+
+pub parts_split : (width : ℕ) (p : Part) (ps : List Part) → AllByRecursion IsSmall (p ∷ ps) → slice_split is_comma (parts_text width (p ∷ ps)) ≡ map (part_text [] width) (p ∷ ps)
+unfolding parts_text
+parts_split width p ps small = split_joined is_comma 44 (part_text [] width) p ps refl (parts_clear width (p ∷ ps) small)
+
+-- Components
+
+due_back : (slot : Slot) (room width : ℕ) (p : Part) → 0 < room → IsSound slot p → IsSmall p → part_due slot room (part_text [] width p) ≡ Ok p
+unfolding part_due
+due_back slot room width p some sound small =
+    let room_left : nat_eq room 0 ≡ false = ne_eqb room 0 (λ e. absurd (omega arith)) in
+    rw (room_left, part_back slot width p small) (ap Ok (values_stay slot p sound))
+
+parts_back : (slot : Slot) (room width : ℕ) (ps : List Part) → length ps ≤ room → AllByRecursion (IsSound slot) ps → AllByRecursion IsSmall ps
+    → parts_of slot room (map (part_text [] width) ps) ≡ Ok ps
+parts_back slot room width [] few sound small = refl
+parts_back slot room width (p ∷ ps) few sound small =
+    rw (due_back slot room width p (omega arith) sound.0 small.0, parts_back slot (room - 1) width ps (omega arith) sound.1 small.1) refl
+
+room_enough : (time : Bool) (n room : ℕ) → cond time (n - 1) n ≤ room → n ≤ cond time (room + 1) room
+room_enough true n room h = omega arith
+room_enough false n room h = h
+
+listed_back : (slot : Slot) (room width : ℕ) (p : Part) (ps : List Part) → counted slot (Some (p ∷ ps)) ≤ room → AllByRecursion (IsSound slot) (p ∷ ps) → AllByRecursion IsSmall (p ∷ ps)
+    → listed slot room (parts_text width (p ∷ ps)) ≡ Ok (p ∷ ps)
+unfolding listed
+listed_back slot room width p ps few sound small =
+    rw (parts_split width p ps small, parts_back slot (room_in slot room) width (p ∷ ps) (room_enough (is_time slot) (length (p ∷ ps)) room few) sound small, no_faults slot (p ∷ ps) sound) refl
+
+-- the bytes of a component: those of its parts, `,` and `*`
+abbrev pub is_component_byte : ℕ → Bool
+is_component_byte b = is_part_byte b || (nat_eq b 44 || nat_eq b 42)
+
+part_in_component : (b : ℕ) → is_part_byte b ≡ true → is_component_byte b ≡ true
+part_in_component b h = or_left (is_part_byte b) (nat_eq b 44 || nat_eq b 42) h
+
+more_bytes : (width : ℕ) (ps : List Part) → AllByRecursion IsSmall ps → list_all is_component_byte (flat_map (λ p. codes "," ++ part_text [] width p) ps) ≡ true
+more_bytes width [] h = refl
+more_bytes width (p ∷ ps) h =
+    both_all is_component_byte (part_text [] width p) (flat_map (λ q. codes "," ++ part_text [] width q) ps)
+    (wider is_part_byte is_component_byte (part_text [] width p) part_in_component (part_bytes width p h.0)) (more_bytes width ps h.1)
+
+pub component_bytes : (width : ℕ) (c : Option (List Part)) → AreSmall c → list_all is_component_byte (component_text width c) ≡ true
+unfolding parts_text
+component_bytes width None h = refl
+component_bytes width (Some []) h = refl
+component_bytes width (Some (p ∷ ps)) h =
+    both_all is_component_byte (part_text [] width p) (flat_map (λ q. codes "," ++ part_text [] width q) ps)
+    (wider is_part_byte is_component_byte (part_text [] width p) part_in_component (part_bytes width p h.0)) (more_bytes width ps h.1)
+
+-- parts begin with a digit
+begins_append : (q : ℕ → Bool) (xs ys : List ℕ) → list_all q xs ≡ true → 0 < length xs → begins_with q (xs ++ ys) ≡ true
+begins_append q [] ys all some = absurd (omega arith)
+begins_append q (x ∷ xs) ys all some = (and_parts (q x) (list_all q xs) all).0
+
+pub part_begins : (width : ℕ) (p : Part) (rest : List ℕ) → IsSmall p → begins_with is_ascii_digit (part_text [] width p ++ rest) ≡ true
+part_begins width p rest small =
+    let printed = number_printed width p.start small.start in
+    ap (λ t. begins_with is_ascii_digit (t ++ rest)) (part_printed width p)
+    ∙ ap (begins_with is_ascii_digit) (append_assoc (padded width p.start) (end_text width p.end p.step) rest)
+    ∙ begins_append is_ascii_digit (padded width p.start) (end_text width p.end p.step ++ rest) printed.all printed.some
+
+no_star : (text : List ℕ) → begins_with is_ascii_digit text ≡ true → is_star text ≡ false
+no_star [] h = refl
+no_star (b ∷ bs) h =
+    let low = leb-true 48 b (and_parts (nat_le 48 b) (nat_le b 57) h).0 in
+    let other_byte : nat_eq b 42 ≡ false = ne_eqb b 42 (λ e. absurd (omega arith)) in
+    rw other_byte refl
+
+pub begins_some : (q : ℕ → Bool) (text : List ℕ) → begins_with q text ≡ true → 0 < length text
+begins_some q [] h = cc
+begins_some q (b ∷ bs) h = omega arith
+
+pub component_some : (width : ℕ) (c : Option (List Part)) (slot : Slot) → AreSound slot c → AreSmall c → 0 < length (component_text width c)
+unfolding parts_text
+component_some width None slot sound small = omega arith
+component_some width (Some []) slot sound small = absurd (omega (arith, sound.0))
+component_some width (Some (p ∷ ps)) slot sound small =
+    begins_some is_ascii_digit (part_text [] width p ++ flat_map (λ q. codes "," ++ part_text [] width q) ps) (part_begins width p (flat_map (λ q. codes "," ++ part_text [] width q) ps) small.0)
+
+parts_no_star : (width : ℕ) (p : Part) (ps : List Part) → IsSmall p → is_star (parts_text width (p ∷ ps)) ≡ false
+unfolding parts_text
+parts_no_star width p ps small =
+    no_star (part_text [] width p ++ flat_map (λ q. codes "," ++ part_text [] width q) ps) (part_begins width p (flat_map (λ q. codes "," ++ part_text [] width q) ps) small)
+
+-- a component is read again
+pub component_back : (slot : Slot) (room width : ℕ) (c : Option (List Part)) → counted slot c ≤ room → AreSound slot c → AreSmall c → component_of slot room (component_text width c) ≡ Ok c
+unfolding component_of
+component_back slot room width None few sound small = refl
+component_back slot room width (Some []) few sound small = absurd (omega (arith, sound.0))
+component_back slot room width (Some (p ∷ ps)) few sound small =
+    rw (parts_no_star width p ps small.0, listed_back slot room width p ps few sound.1 small) refl

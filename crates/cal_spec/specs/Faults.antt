@@ -1,0 +1,83 @@
+-- Every judgement of a text in the order of refusals, each on its own: systemd.time(7), Calendar Events. The fault of a
+-- text is the first of them.
+use Rattle.std.specs.Prelude.{ℕ, ◌+◌, ◌-◌, nat_lt, if◌then◌else◌, List, [], ◌∷◌, ◌++◌, length, map, Option, None, Some, Result, Ok, Err}
+use Rattle.std.specs.List.{slice_split}
+use Rattle.std.specs.Result.{result_err}
+use Rattle.cal_spec.specs.Components.{is_comma, is_star}
+use Rattle.cal_spec.specs.DateAndTime.{DateTexts, TimeTexts, date_texts, time_texts, most_counted}
+use Rattle.cal_spec.specs.Grammar.{most_bytes}
+use Rattle.cal_spec.specs.Parts.{is_time, part_of, with_values, fault_of}
+use Rattle.cal_spec.specs.Slot.{day_slot}
+use Rattle.cal_spec.specs.Weekdays.{weekdays_in}
+use Rattle.cal_spec.specs.Words.{Places, words, places_of}
+use Rattle.cal_spec.specs.ZoneName.{zone_in}
+use Rattle.cal_spec.specs.declared.part.Part.{Part}
+use Rattle.cal_spec.specs.declared.slot.Slot.{Slot}
+use Rattle.cal_spec.specs.declared.slot.Slot.TheVariants.{Year, Month, Hour, Minute, Second}
+use Rattle.cal_spec.specs.declared.spec_fault.SpecFault.{SpecFault}
+use Rattle.cal_spec.specs.declared.spec_fault.SpecFault.TheVariants.{Empty, TextTooLong, BadDate, BadTime, TooManyParts}
+
+-- the texts of the parts
+abbrev pub pieces_of : List ℕ → List (List ℕ)
+pieces_of text = slice_split is_comma text
+
+-- how many counted parts the text of a component has
+abbrev pub numbered : Slot → List ℕ → ℕ
+numbered slot text =
+    if is_star text then 0 else (if is_time slot then length (pieces_of text) - 1 else length (pieces_of text))
+
+-- the number of the first part, where so many counted ones stand before it
+abbrev pub first_number : Slot → ℕ → ℕ
+first_number slot before = if is_time slot then before else before + 1
+
+-- the shape of the part with this number
+abbrev pub shape_fault : Slot → ℕ → List ℕ → Option SpecFault
+shape_fault slot number text = if nat_lt most_counted number then Some TooManyParts else result_err (part_of slot text)
+
+abbrev pub shape_faults : Slot → ℕ → List (List ℕ) → List (Option SpecFault)
+shape_faults slot number [] = []
+shape_faults slot number (t ∷ ts) = shape_fault slot number t ∷ shape_faults slot (number + 1) ts
+
+-- the values of a part that has a shape
+abbrev pub value_fault : Slot → Result Part SpecFault → Option SpecFault
+value_fault slot (Ok p) = fault_of slot (with_values slot p)
+value_fault slot (Err e) = None
+
+-- first the shapes of all parts, then their values
+unfoldable pub component_faults : Slot → ℕ → List ℕ → List (Option SpecFault)
+component_faults slot before text =
+    if is_star text then []
+    else shape_faults slot (first_number slot before) (pieces_of text) ++ map (λ t. value_fault slot (part_of slot t)) (pieces_of text)
+
+-- how many counted parts a date has
+abbrev pub numbered_in : Option DateTexts → ℕ
+numbered_in None = 0
+numbered_in (Some t) = numbered Year t.year + numbered Month t.month + numbered (day_slot t.from_end) t.day
+
+-- the number of components, then these from the left
+abbrev pub date_faults : Option DateTexts → List (Option SpecFault)
+date_faults None = Some BadDate ∷ []
+date_faults (Some t) =
+    component_faults Year 0 t.year
+    ++ (component_faults Month (numbered Year t.year) t.month
+    ++ component_faults (day_slot t.from_end) (numbered Year t.year + numbered Month t.month) t.day)
+
+abbrev pub time_faults : ℕ → Option TimeTexts → List (Option SpecFault)
+time_faults before None = Some BadTime ∷ []
+time_faults before (Some t) =
+    component_faults Hour before t.hour
+    ++ (component_faults Minute (before + numbered Hour t.hour) t.minute
+    ++ component_faults Second (before + numbered Hour t.hour + numbered Minute t.minute) t.second)
+
+-- the words from the left
+abbrev pub faults_at : Option Places → List (Option SpecFault)
+faults_at None = Some Empty ∷ []
+faults_at (Some p) =
+    result_err (weekdays_in p.weekdays)
+    ∷ (date_faults (date_texts p.date)
+    ++ (time_faults (numbered_in (date_texts p.date)) (time_texts p.time)
+    ++ (result_err (zone_in p.rest) ∷ [])))
+
+-- all judgements of a text
+unfoldable pub faults_in : List ℕ → List (Option SpecFault)
+faults_in text = (if nat_lt most_bytes (length text) then Some TextTooLong else None) ∷ faults_at (places_of (words text))

@@ -1,0 +1,20 @@
+//! That the texts which are read are those of the rule in its own words. Each law is a function that does nothing, and
+//! whose contract is the law.
+
+ghost use Rattle.std.specs.Prelude.{◌≡◌, ℕ, List, Ok};
+ghost use Rattle.std.specs.Result.{result_err};
+ghost use Rattle.cal_spec.specs.Faults.{faults_in};
+ghost use Rattle.cal_spec.specs.Fields.{Fields};
+ghost use Rattle.cal_spec.specs.Grammar.{fields_in};
+ghost use Rattle.cal_spec.specs.GrammarRule.{IsValid};
+ghost use Rattle.cal_spec.specs.Reads.{first_of};
+
+/// A text has fields exactly where it is an expression by the productions of systemd.time(7), Calendar Events, and these
+/// are its fields. It is at most one expression. Where it is none, its fault is the first of all judgements in the
+/// order of refusals.
+pub fn expressions_are_those_of_the_rule()
+    ensures found { (text : List ℕ) (f : Fields) → fields_in text ≡ Ok f → IsValid text f }
+    ensures only { (text : List ℕ) (f : Fields) → IsValid text f → fields_in text ≡ Ok f }
+    ensures one { (text : List ℕ) (f g : Fields) → IsValid text f → IsValid text g → f ≡ g }
+    ensures fault { (text : List ℕ) → result_err (fields_in text) ≡ first_of (faults_in text) }
+{}
