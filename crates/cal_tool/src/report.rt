@@ -81,7 +81,16 @@ fn answer_all<O: Sink, E: Sink>(
     let mut status = Status::Fine;
     let mut is_later = false;
     for text in &request.texts {
-        let answered = match answer_one(alloc, request, now, table, text.as_str(), is_later, out, err) {
+        let answered = match answer_one(
+            alloc,
+            request,
+            now,
+            table,
+            text.as_str(),
+            is_later,
+            out,
+            err,
+        ) {
             Ok(answered) => answered,
             Err(fault) => return Err(fault),
         };

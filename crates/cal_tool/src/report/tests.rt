@@ -107,7 +107,12 @@ Normalized form: *-*-* 23:59:59
     Next elapse: never
 ";
 
-const ONE_OF_TWO: &str = "  Original form: *-*-* 1:2:3
+const TWO_TIMES: &str = "  Original form: 12:30
+Normalized form: *-*-* 12:30:00
+    Next elapse: Mon 2024-01-01 12:30:00 UTC
+       From now: 12h 30min left
+
+  Original form: *-*-* 1:2:3
 Normalized form: *-*-* 01:02:03
     Next elapse: Mon 2024-01-01 01:02:03 UTC
        From now: 1h 2min 3s left
@@ -155,9 +160,9 @@ fn calendar_reports(rt: HostRuntime) -> Result<(), Fail> {
                 now: 1_704_067_200,
                 ..calendar
             },
-            out: ONE_OF_TWO,
-            err: "12:30: bad date\n",
-            status: Status::Refused,
+            out: TWO_TIMES,
+            err: "",
+            status: Status::Fine,
         },
         Whole {
             row: Row {
@@ -167,7 +172,7 @@ fn calendar_reports(rt: HostRuntime) -> Result<(), Fail> {
                 ..calendar
             },
             out: TWO_REPORTS,
-            err: ": bad date\n*-*-* 24:00:00: bad date\n",
+            err: ": empty expression\n*-*-* 24:00:00: value out of range\n",
             status: Status::Refused,
         },
         Whole {
@@ -178,6 +183,118 @@ fn calendar_reports(rt: HostRuntime) -> Result<(), Fail> {
             out: "",
             err: "",
             status: Status::Fine,
+        },
+    ];
+    check(&rt, &rows)
+}
+
+const LEAP_DAYS: &str = "  Original form: *-2-29 0:0:0
+Normalized form: *-02-29 00:00:00
+    Next elapse: Sat 2020-02-29 00:00:00 UTC
+       From now: 11month 2w 1d 16h 30min left
+       Iter. #2: Thu 2024-02-29 00:00:00 UTC
+       From now: 4y 11month 2w 1d 16h 30min left
+       Iter. #3: Tue 2028-02-29 00:00:00 UTC
+       From now: 8y 11month 2w 1d 16h 30min left
+       Iter. #4: Sun 2032-02-29 00:00:00 UTC
+       From now: 12y 11month 2w 1d 16h 30min left
+       Iter. #5: Fri 2036-02-29 00:00:00 UTC
+       From now: 16y 11month 2w 1d 16h 30min left
+";
+
+const LAST_MONDAYS_OF_MAY: &str = "  Original form: Mon *-05~07/1
+Normalized form: Mon *-05~07/1 00:00:00
+    Next elapse: Mon 2024-05-27 00:00:00 UTC
+       From now: 4month 3w 4d 6h left
+       Iter. #2: Mon 2025-05-26 00:00:00 UTC
+       From now: 1y 4month 3w 3d left
+";
+
+const NEVER: &str = "  Original form: 2100-02-29
+Normalized form: 2100-02-29 00:00:00
+    Next elapse: never
+";
+
+const IN_UTC: &str = "  Original form: weekly utc
+Normalized form: Mon *-*-* 00:00:00 UTC
+    Next elapse: Mon 2024-01-08 00:00:00 UTC
+       From now: 1w left
+";
+
+const LISTS_OF_WEEKDAYS: &str = "  Original form: Sat,Thu,Mon..Wed,Sat..Sun
+Normalized form: Mon..Thu,Sat,Sun *-*-* 00:00:00
+    Next elapse: Tue 2024-01-02 00:00:00 UTC
+       From now: 1d left
+
+  Original form: Wed, 17:48
+Normalized form: Wed *-*-* 17:48:00
+    Next elapse: Wed 2024-01-03 17:48:00 UTC
+       From now: 2d 17h 48min left
+";
+
+/// A row of which every text is accepted.
+fn accepted<'a>(row: Row<'a>, out: &'a str) -> Whole<'a> {
+    Whole {
+        row,
+        out,
+        err: "",
+        status: Status::Fine,
+    }
+}
+
+/// Calendar expressions of every kind, with the present at the first of 2024 unless a row says otherwise.
+#[test]
+fn expression_reports(rt: HostRuntime) -> Result<(), Fail> {
+    let calendar = Row {
+        verb: Verb::Calendar,
+        texts: &["*-2-29 0:0:0"],
+        iterations: 5,
+        now: 1_552_651_200,
+    };
+    let new_year = Row {
+        iterations: 1,
+        now: 1_704_067_200,
+        ..calendar
+    };
+    let rows = [
+        accepted(calendar, LEAP_DAYS),
+        accepted(
+            Row {
+                texts: &["Mon *-05~07/1"],
+                iterations: 2,
+                ..new_year
+            },
+            LAST_MONDAYS_OF_MAY,
+        ),
+        accepted(
+            Row {
+                texts: &["2100-02-29"],
+                ..new_year
+            },
+            NEVER,
+        ),
+        accepted(
+            Row {
+                texts: &["weekly utc"],
+                ..new_year
+            },
+            IN_UTC,
+        ),
+        accepted(
+            Row {
+                texts: &["Sat,Thu,Mon..Wed,Sat..Sun", "Wed, 17:48"],
+                ..new_year
+            },
+            LISTS_OF_WEEKDAYS,
+        ),
+        Whole {
+            row: Row {
+                texts: &["daily Mars/One", "20/4:00"],
+                ..new_year
+            },
+            out: "",
+            err: "daily Mars/One: no such zone\n20/4:00: repetition reaches no further value\n",
+            status: Status::Refused,
         },
     ];
     check(&rt, &rows)
@@ -368,7 +485,7 @@ fn failing_writers(rt: HostRuntime) -> Result<(), Fail> {
     assert_eq!(rt; ended, Err(RunFault::ErrFailed));
     assert_eq!(rt; out.into_inner().as_slice(), NOON_THIRTY_TEXT.as_bytes());
     let faulty = err.into_inner();
-    assert_eq!(rt; Faulty::bytes(&faulty), b"x: b".as_slice());
+    assert_eq!(rt; Faulty::bytes(&faulty), b"x: u".as_slice());
     assert_eq!(rt; faulty.calls(), 5);
     Ok(())
 }
