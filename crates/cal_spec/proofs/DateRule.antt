@@ -5,8 +5,8 @@ use Rattle.std.specs.List.{AllByRecursion, slice_split, join_with_byte}
 use Rattle.std.proofs.lemmas.Bool.{or_cases, eqb-true, false≢true}
 use Rattle.std.proofs.lemmas.Bool.Decides.{nat_tests}
 use Rattle.std.proofs.lemmas.List.Splits.{join_with_byte-slice_split}
-use Rattle.cal_spec.specs.Components.{counted}
-use Rattle.cal_spec.specs.DateAndTime.{DateTexts, TimeTexts, DateFields, TimeFields, is_tilde, is_date_sign, is_colon, date_by, time_by, date_texts, time_texts, most_counted, date_fields, time_fields, room_behind, date_of, time_of}
+use Rattle.cal_spec.specs.Components.{most_counted, counted}
+use Rattle.cal_spec.specs.DateAndTime.{DateTexts, TimeTexts, DateFields, TimeFields, is_tilde, is_date_sign, is_colon, date_by, time_by, date_texts, time_texts, date_fields, time_fields, room_behind, date_of, time_of}
 use Rattle.cal_spec.specs.Fields.{Fields, counted_parts}
 use Rattle.cal_spec.specs.GrammarRule.{last_sign, IsDateShape, IsTimeShape, IsDate, IsTime, IsComponent}
 use Rattle.cal_spec.specs.Slot.{day_slot}

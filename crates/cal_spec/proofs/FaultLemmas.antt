@@ -4,8 +4,8 @@ use Rattle.std.specs.Option.{option_or}
 use Rattle.std.specs.Result.{result_err}
 use Rattle.std.proofs.lemmas.Bool.{eqb-false}
 use Rattle.std.proofs.lemmas.Bool.Decides.{nat_tests}
-use Rattle.cal_spec.specs.Components.{is_star, counted, room_in, part_due, parts_of, first_fault, listed, component_of}
-use Rattle.cal_spec.specs.DateAndTime.{DateTexts, TimeTexts, DateFields, date_texts, time_texts, most_counted, date_fields, time_fields, date_due, time_due, room_behind, date_of, time_of}
+use Rattle.cal_spec.specs.Components.{most_counted, is_star, counted, room_in, part_due, parts_of, first_fault, listed, component_of}
+use Rattle.cal_spec.specs.DateAndTime.{DateTexts, TimeTexts, DateFields, date_texts, time_texts, date_fields, time_fields, date_due, time_due, room_behind, date_of, time_of}
 use Rattle.cal_spec.specs.Faults.{pieces_of, numbered, first_number, shape_fault, shape_faults, value_fault, component_faults, numbered_in, date_faults, time_faults, faults_at, faults_in}
 use Rattle.cal_spec.specs.Grammar.{most_bytes, fields_at, fields_due, fields_in}
 use Rattle.cal_spec.specs.Parts.{is_time, part_of, with_values}

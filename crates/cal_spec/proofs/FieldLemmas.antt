@@ -8,8 +8,8 @@ use Rattle.std.proofs.lemmas.Bool.{or_left, or_right, le-leb, ltb-false}
 use Rattle.jiff_core.specs.declared.civil.weekday.Weekday.{Weekday}
 use Rattle.jiff_core.specs.declared.civil.weekday.Weekday.TheVariants.{Monday, Tuesday, Wednesday, Thursday, Friday, Saturday, Sunday}
 use Rattle.cal_base.specs.Weekday.{week}
-use Rattle.cal_spec.specs.Components.{is_comma, counted, component_of}
-use Rattle.cal_spec.specs.DateAndTime.{DateTexts, TimeTexts, DateFields, TimeFields, date_texts, time_texts, most_counted, date_fields, time_fields, date_due, time_due, room_behind, date_of, time_of}
+use Rattle.cal_spec.specs.Components.{most_counted, is_comma, counted, component_of}
+use Rattle.cal_spec.specs.DateAndTime.{DateTexts, TimeTexts, DateFields, TimeFields, date_texts, time_texts, date_fields, time_fields, date_due, time_due, room_behind, date_of, time_of}
 use Rattle.cal_spec.specs.Fields.{Fields, fields_of, parts_in, counted_parts}
 use Rattle.cal_spec.specs.Parts.{is_time}
 use Rattle.cal_spec.specs.Grammar.{most_bytes, fields_at, fields_due, fields_in}

@@ -25,4 +25,5 @@ pub mod WeekdayRule
 pub mod WholeRule
 pub mod WordLemmas
 pub mod WordRule
+pub mod WordsBetween
 pub mod ZoneLemmas

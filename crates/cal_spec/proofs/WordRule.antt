@@ -48,7 +48,7 @@ name_begins (Some word) good = zone_begins word good
 
 -- A time has a colon
 
-clear_by : (p : ℕ → Bool) (xs : List ℕ) → list_any p xs ≡ false → IsClear p xs
+pub clear_by : (p : ℕ → Bool) (xs : List ℕ) → list_any p xs ≡ false → IsClear p xs
 clear_by p [] none = tt
 clear_by p (x ∷ xs) none = let parts = or_parts (p x) (list_any p xs) none in (parts.0, clear_by p xs parts.1)
 

@@ -16,6 +16,10 @@ is_comma b = b == 44
 abbrev pub is_star : List ℕ → Bool
 is_star text = bytes_eq text (codes "*")
 
+-- how many counted parts may stand in all
+abbrev pub most_counted : ℕ
+most_counted = 240
+
 -- how many counted parts a component has: the first part of a time's component isn't counted
 abbrev pub counted : Slot → Option (List Part) → ℕ
 counted slot None = 0

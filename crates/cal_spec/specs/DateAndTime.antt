@@ -1,7 +1,7 @@
 -- The date and the time of a calendar expression: systemd.time(7), Calendar Events.
 use Rattle.std.specs.Prelude.{ℕ, ◌-◌, ◌==◌, Bool, ◌||◌, if◌then◌else◌, List, [], ◌∷◌, filter, codes, Option, None, Some, Result, Ok, Err}
 use Rattle.std.specs.List.{slice_split}
-use Rattle.cal_spec.specs.Components.{counted, component_of}
+use Rattle.cal_spec.specs.Components.{most_counted, counted, component_of}
 use Rattle.cal_spec.specs.Reads.{◌>>=◌}
 use Rattle.cal_spec.specs.Slot.{day_slot}
 use Rattle.cal_spec.specs.declared.part.Part.{Part}
@@ -64,10 +64,6 @@ date_texts word = date_by (filter is_date_sign word) (slice_split is_date_sign w
 
 unfoldable pub time_texts : List ℕ → Option TimeTexts
 time_texts word = time_by (slice_split is_colon word)
-
--- how many counted parts may stand in all
-abbrev pub most_counted : ℕ
-most_counted = 240
 
 -- the components of a date from the left
 unfoldable pub date_fields : DateTexts → Result DateFields SpecFault

@@ -3,8 +3,8 @@
 use Rattle.std.specs.Prelude.{ℕ, ◌+◌, ◌-◌, nat_lt, if◌then◌else◌, List, [], ◌∷◌, ◌++◌, length, map, Option, None, Some, Result, Ok, Err}
 use Rattle.std.specs.List.{slice_split}
 use Rattle.std.specs.Result.{result_err}
-use Rattle.cal_spec.specs.Components.{is_comma, is_star}
-use Rattle.cal_spec.specs.DateAndTime.{DateTexts, TimeTexts, date_texts, time_texts, most_counted}
+use Rattle.cal_spec.specs.Components.{most_counted, is_comma, is_star}
+use Rattle.cal_spec.specs.DateAndTime.{DateTexts, TimeTexts, date_texts, time_texts}
 use Rattle.cal_spec.specs.Grammar.{most_bytes}
 use Rattle.cal_spec.specs.Parts.{is_time, part_of, with_values, fault_of}
 use Rattle.cal_spec.specs.Slot.{day_slot}

@@ -1,5 +1,5 @@
 -- The rule of calendar expressions in its own words, as productions over whole texts: systemd.time(7), Calendar Events.
-use Rattle.std.specs.Prelude.{ℕ, ◌<◌, ◌≤◌, ◌≡◌, ◌⊎◌, Bool, true, false, List, [], ◌∷◌, ◌++◌, length, map, codes, Option, None, Some, IfSome}
+use Rattle.std.specs.Prelude.{ℕ, ◌<◌, ◌≤◌, ◌≡◌, ◌⊎◌, Bool, true, false, List, [], ◌∷◌, ◌++◌, length, map, codes, Option, None, Some, IfSome, ⊤}
 use Rattle.std.specs.List.{AllByRecursion, AllZip, list_all, list_any, join_with_byte}
 use Rattle.std.specs.Option.{option_to_list, option_map, unwrap_or}
 use Rattle.std.specs.Char.{is_ascii_digit, to_ascii_lowercase}
@@ -13,7 +13,7 @@ use Rattle.cal_spec.specs.Shorthand.{any_date, midnight, shorthand_named, meanin
 use Rattle.cal_spec.specs.Slot.{day_slot}
 use Rattle.cal_spec.specs.Sound.{IsSound}
 use Rattle.cal_spec.specs.Weekdays.{set_of}
-use Rattle.cal_spec.specs.Words.{Places, words}
+use Rattle.cal_spec.specs.Words.{Places, is_blank, words}
 use Rattle.cal_spec.specs.ZoneName.{begins_with_letter, is_zone_name, zone_name}
 use Rattle.cal_spec.specs.declared.part.Part.{Part}
 use Rattle.cal_spec.specs.declared.shorthand.Shorthand.{Shorthand}
@@ -131,7 +131,25 @@ abbrev pub HasWeekdays : Option (List ℕ) → List Bool → Type 0
 HasWeekdays None days = days ≡ map (λ day. true) week
 HasWeekdays (Some word) days = AreWeekdays word days
 
--- Words
+-- The words of a text
+
+-- a word has no blank
+pub record IsWord (word : List ℕ) : Type 0 where
+  pub some : 0 < length word
+  pub solid : list_any is_blank word ≡ false
+
+-- the text ends here, or a blank follows
+abbrev pub Ends : List ℕ → Type 0
+Ends [] = ⊤
+Ends (b ∷ bs) = is_blank b ≡ true
+
+-- these are the words of the text, with blanks between them
+abbrev pub AreWords : List ℕ → List (List ℕ) → Type 0
+AreWords text [] = list_all is_blank text ≡ true
+AreWords text (w ∷ ws) =
+    (lead : List ℕ) × (rest : List ℕ) × (text ≡ lead ++ (w ++ rest)) × (list_all is_blank lead ≡ true) × IsWord w × Ends rest × AreWords rest ws
+
+-- What the words stand for
 
 -- the word that stands there, if one does
 abbrev pub given : Option (List ℕ) → List (List ℕ)

@@ -3,7 +3,7 @@
 ghost use Rattle.std.specs.Prelude.{◌≡◌, ◌≤◌};
 ghost use Rattle.std.specs.List.{slice_split};
 ghost use Rattle.std.specs.Option.{option_copied, option_map};
-ghost use Rattle.cal_spec.specs.Components.{is_comma, room_in, counted, part_due, parts_of, first_fault, listed, component_of};
+ghost use Rattle.cal_spec.specs.Components.{most_counted, is_comma, room_in, counted, part_due, parts_of, first_fault, listed, component_of};
 ghost use Rattle.cal_spec.specs.Reads.{Gives, GivesUnlessNoMemory};
 
 use crate::parts::{fault_of, is_time, read_part, with_values};
@@ -21,7 +21,7 @@ pub(crate) fn read_component(
     room: usize,
     text: &[u8],
 ) -> Result<Option<Vec<Part>>, SpecFault>
-    requires { room ≤ 240 }
+    requires { room ≤ most_counted }
     ensures { GivesUnlessNoMemory (λ component. option_map (λ parts. parts.items) component) result
         (component_of slot room text.now) }
 {
@@ -46,7 +46,7 @@ pub(crate) fn counted(slot: Slot, component: &Option<Vec<Part>>) -> usize
 /// Parts between commas.
 #[tactic(auto, unfolding(crate::specs::Components::listed))]
 fn read_listed(alloc: Global, slot: Slot, room: usize, text: &[u8]) -> Result<Vec<Part>, SpecFault>
-    requires { room ≤ 240 }
+    requires { room ≤ most_counted }
     ensures { GivesUnlessNoMemory (λ parts. parts.items) result (listed slot room text.now) }
 {
     // The first part of a time's component isn't counted.

@@ -3,6 +3,7 @@
 ghost use Rattle.std.specs.Prelude.{◌≡◌, ◌≤◌, ◌∷◌, [], MatchOption, filter};
 ghost use Rattle.std.specs.List.{position, slice_split};
 ghost use Rattle.std.specs.Option.{option_map};
+ghost use Rattle.cal_spec.specs.Components.{most_counted};
 ghost use Rattle.cal_spec.specs.DateAndTime.{is_date_sign, date_texts, time_texts, date_of, time_of, date_fields, time_fields, room_behind};
 ghost use Rattle.cal_spec.specs.DateAndTimeViews.{date_in, time_in, date_texts_in, time_texts_in};
 ghost use Rattle.cal_spec.specs.Reads.{GivesUnlessNoMemory};
@@ -35,7 +36,7 @@ pub(crate) fn read_date(alloc: Global, word: &[u8]) -> Result<RawDate, SpecFault
 /// (systemd.time(7), Calendar Events). First the number of components is judged, then these from the left.
 #[tactic(auto, unfolding(crate::specs::DateAndTime::time_of))]
 pub(crate) fn read_time(alloc: Global, room: usize, word: &[u8]) -> Result<RawTime, SpecFault>
-    requires { room ≤ 240 }
+    requires { room ≤ most_counted }
     ensures { GivesUnlessNoMemory time_in result (time_of room word.now) }
 {
     match time_words(word) {
@@ -47,7 +48,7 @@ pub(crate) fn read_time(alloc: Global, room: usize, word: &[u8]) -> Result<RawTi
 /// How many counted parts may stand behind the date.
 pub(crate) fn room_behind(date: &RawDate) -> usize
     ensures value { result ≡ room_behind (date_in date.now) }
-    ensures bound { result ≤ 240 }
+    ensures bound { result ≤ most_counted }
 {
     MOST_COUNTED
         .saturating_sub(counted(Slot::Year, &date.year))
@@ -172,7 +173,7 @@ fn date_fields(alloc: Global, words: DateWords<'_>) -> Result<RawDate, SpecFault
 /// The components of a time from the left, where so many counted parts may stand.
 #[tactic(auto, unfolding(crate::specs::DateAndTime::time_fields))]
 fn time_fields(alloc: Global, room: usize, words: TimeWords<'_>) -> Result<RawTime, SpecFault>
-    requires { room ≤ 240 }
+    requires { room ≤ most_counted }
     ensures { GivesUnlessNoMemory time_in result (time_fields room (time_texts_in words.entry)) }
 {
     let hour = read_component(alloc, Slot::Hour, room, words.hour)?;

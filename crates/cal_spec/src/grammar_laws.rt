@@ -6,8 +6,9 @@ ghost use Rattle.std.specs.Result.{result_err};
 ghost use Rattle.cal_spec.specs.Faults.{faults_in};
 ghost use Rattle.cal_spec.specs.Fields.{Fields};
 ghost use Rattle.cal_spec.specs.Grammar.{fields_in};
-ghost use Rattle.cal_spec.specs.GrammarRule.{IsValid};
+ghost use Rattle.cal_spec.specs.GrammarRule.{AreWords, IsValid};
 ghost use Rattle.cal_spec.specs.Reads.{first_of};
+ghost use Rattle.cal_spec.specs.Words.{words};
 
 /// A text has fields exactly where it is an expression by the productions of systemd.time(7), Calendar Events, and these
 /// are its fields. It is at most one expression. Where it is none, its fault is the first of all judgements in the
@@ -17,4 +18,11 @@ pub fn expressions_are_those_of_the_rule()
     ensures only { (text : List ℕ) (f : Fields) → IsValid text f → fields_in text ≡ Ok f }
     ensures one { (text : List ℕ) (f g : Fields) → IsValid text f → IsValid text g → f ≡ g }
     ensures fault { (text : List ℕ) → result_err (fields_in text) ≡ first_of (faults_in text) }
+{}
+
+/// The words of a text are the longest runs without a blank: no word has one, and the text is the words with blanks
+/// between them.
+pub fn words_stand_between_blanks()
+    ensures found { (text : List ℕ) → AreWords text (words text) }
+    ensures only { (text : List ℕ) (ws : List (List ℕ)) → AreWords text ws → words text ≡ ws }
 {}
