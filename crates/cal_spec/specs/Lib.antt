@@ -14,6 +14,7 @@ pub mod Order
 pub mod Parts
 pub mod Pieces
 pub mod PlacesView
+pub mod ReadExpr
 pub mod Reads
 pub mod Shorthand
 pub mod ShorthandViews

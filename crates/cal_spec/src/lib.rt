@@ -6,6 +6,7 @@ mod accepted_texts;
 mod components;
 mod date_and_time;
 mod expr;
+mod expr_reading;
 mod expr_text;
 mod field;
 pub mod grammar_laws;
@@ -30,6 +31,7 @@ mod words;
 mod zone_name;
 
 pub use expr::Expr;
+pub use expr_reading::read_expr;
 pub use expr_text::write_expr;
 pub use field::Field;
 pub use part::Part;
