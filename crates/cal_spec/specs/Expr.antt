@@ -5,13 +5,10 @@ use Rattle.cal_spec.specs.Grammar.{fields_in}
 use Rattle.cal_spec.specs.NormalForm.{normal_fields}
 use Rattle.cal_spec.specs.Reads.{◌>>=◌}
 use Rattle.cal_spec.specs.ValidFields.{IsValidFields}
-use Rattle.cal_spec.specs.Slot.{day_slot}
 use Rattle.cal_spec.specs.declared.field.Field.{Field}
 use Rattle.cal_spec.specs.declared.field.Field.TheVariants as field
 use Rattle.cal_spec.specs.declared.part.Part.{Part}
-use Rattle.cal_spec.specs.declared.slot.Slot.{Slot}
 use Rattle.cal_spec.specs.declared.spec_fault.SpecFault.{SpecFault}
-use Rattle.cal_spec.specs.declared.slot.Slot.TheVariants as slot
 
 -- valid fields in their normal form
 pub record IsExpr (f : Fields) : Type 0 where
@@ -30,12 +27,3 @@ component field.Day f = f.day
 component field.Hour f = f.hour
 component field.Minute f = f.minute
 component field.Second f = f.second
-
--- where its numbers stand
-abbrev pub slot_of : Field → Fields → Slot
-slot_of field.Year f = slot.Year
-slot_of field.Month f = slot.Month
-slot_of field.Day f = day_slot f.from_end
-slot_of field.Hour f = slot.Hour
-slot_of field.Minute f = slot.Minute
-slot_of field.Second f = slot.Second

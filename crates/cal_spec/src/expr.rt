@@ -93,10 +93,11 @@ impl Expr {
         self.raw.weekdays
     }
 
-    /// The parts of a component; `None` is `*`.
+    /// The parts of a component; `None` is `*`. A caller learns that the fields are valid and in their normal form.
     #[tactic(auto, unfolding(crate::specs::Fields::fields_of))]
     pub fn field(&self, field: Field) -> Option<&[Part]>
-        ensures { option_copied result ≡ component field self.now }
+        ensures parts { option_copied result ≡ component field self.now }
+        ensures expr { IsExpr self.now }
     {
         let Raw { date, time, .. } = &self.raw;
         let parts = match field {
@@ -124,13 +125,6 @@ impl Expr {
         ensures { option_copied result ≡ self.now.zone }
     {
         self.raw.zone.as_deref()
-    }
-
-    /// That the fields are valid and in their normal form.
-    pub fn check(&self)
-        ensures { IsExpr self.now }
-    {
-        let _ = &self.raw;
     }
 }
 
