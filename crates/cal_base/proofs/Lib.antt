@@ -1,4 +1,6 @@
 pub mod CivilLemmas
+pub mod InstantTextLemmas
+pub mod OffsetLemmas
 pub mod Pieces
 pub mod PlaceLemmas
 pub mod SpanCounts
@@ -8,4 +10,7 @@ pub mod SpanPairs
 pub mod SpanReadBack
 pub mod SpanRule
 pub mod SpanWords
+pub mod WholeLemmas
 pub mod YearLemmas
+pub mod ZoneLemmas
+pub mod ZoneMapLemmas

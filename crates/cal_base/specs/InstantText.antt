@@ -1,9 +1,11 @@
 -- How an instant is printed: `Sat 2020-02-29 00:00:00 UTC`, as systemd.time(7) shows timestamps.
-use Rattle.std.specs.Prelude.{ℕ, ◌-◌, ◌==◌, if◌then◌else◌, ℤ, unsigned_abs, List, [], ◌∷◌, length, codes, decimal, replicate}
-use Rattle.jiff.specs.Types.{TimeZone}
+use Rattle.std.specs.Prelude.{ℕ, ◌-◌, ◌/◌, ◌%◌, ◌==◌, if◌then◌else◌, Bool, ℤ, pos, int_lt, unsigned_abs, List, [], ◌∷◌, ◌++◌, length, codes, decimal, replicate}
 use Rattle.cal_base.specs.Bytes.{joined}
 use Rattle.cal_base.specs.Civil.{civil_of}
+use Rattle.cal_base.specs.Local.{second_of}
+use Rattle.cal_base.specs.Zone.{is_utc, zone_of}
 use Rattle.cal_base.specs.declared.civil_fields.Civil.{Civil}
+use Rattle.cal_base.specs.declared.zone.Zone.{Zone}
 
 -- the zeros in front of a number that is printed in at least so many digits
 abbrev pub zeros : ℕ → ℕ → List ℕ
@@ -20,21 +22,46 @@ weekday_name n =
     else (if n == 6 then codes "Sat" else codes "Sun")))))
 
 -- `2020-02-29`: four digits of the year, two of the month and of the day
-unfoldable pub date_text : Civil → List ℕ
-date_text c =
-    let year = unsigned_abs c.year in
-    joined (zeros 4 year ∷ decimal year ∷ codes "-" ∷ zeros 2 c.month ∷ decimal c.month ∷ codes "-" ∷ zeros 2 c.day ∷ decimal c.day ∷ [])
+abbrev pub date_pieces : Civil → List (List ℕ)
+date_pieces c =
+    zeros 4 (unsigned_abs c.year) ∷ decimal (unsigned_abs c.year) ∷ codes "-" ∷ zeros 2 c.month ∷ decimal c.month ∷ codes "-" ∷ zeros 2 c.day ∷ decimal c.day ∷ []
 
 -- `00:00:00`: two digits each of hour, minute and second
-unfoldable pub time_text : ℕ → ℕ → ℕ → List ℕ
-time_text hour minute second =
-    joined (zeros 2 hour ∷ decimal hour ∷ codes ":" ∷ zeros 2 minute ∷ decimal minute ∷ codes ":" ∷ zeros 2 second ∷ decimal second ∷ [])
+abbrev pub time_pieces : ℕ → ℕ → ℕ → List (List ℕ)
+time_pieces hour minute second =
+    zeros 2 hour ∷ decimal hour ∷ codes ":" ∷ zeros 2 minute ∷ decimal minute ∷ codes ":" ∷ zeros 2 second ∷ decimal second ∷ []
 
--- what a clock shows: weekday, date, time and zone
-unfoldable pub civil_text : Civil → List ℕ
-civil_text c =
-    joined (weekday_name c.weekday ∷ codes " " ∷ date_text c ∷ codes " " ∷ time_text c.hour c.minute c.second ∷ codes " UTC" ∷ [])
+unfoldable pub time_text : ℕ → ℕ → ℕ → List ℕ
+time_text hour minute second = joined (time_pieces hour minute second)
+
+-- `+` or `-`, and then two digits each of the hours and the minutes that a clock is ahead of UTC or behind it
+abbrev pub sign_text : ℤ → List ℕ
+sign_text offset = if int_lt offset (pos 0) then codes "-" else codes "+"
+
+abbrev pub minutes_pieces : ℤ → List (List ℕ)
+minutes_pieces offset =
+    let ahead = unsigned_abs offset in
+    sign_text offset ∷ zeros 2 (ahead / 3_600) ∷ decimal (ahead / 3_600) ∷ codes ":" ∷ zeros 2 (ahead / 60 % 60) ∷ decimal (ahead / 60 % 60) ∷ []
+
+-- the seconds, where they aren't 0
+abbrev pub seconds_pieces : ℕ → List (List ℕ)
+seconds_pieces second = if second == 0 then [] else codes ":" ∷ zeros 2 second ∷ decimal second ∷ []
+
+-- `+02:00`, or with seconds `+00:53:28`
+unfoldable pub offset_text : ℤ → List ℕ
+offset_text offset = joined (minutes_pieces offset ++ seconds_pieces (second_of (unsigned_abs offset)))
+
+-- the word of a zone behind a time: `UTC` for UTC itself, and else the offset
+unfoldable pub zone_word : Bool → ℤ → List ℕ
+zone_word is_utc offset = if is_utc then codes "UTC" else offset_text offset
+
+-- what a clock shows: weekday, date and time, and the word of its zone
+unfoldable pub civil_text : Civil → List ℕ → List ℕ
+civil_text c word =
+    joined (weekday_name c.weekday ∷ codes " " ∷ (date_pieces c ++ (codes " " ∷ (time_pieces c.hour c.minute c.second ++ (codes " " ∷ word ∷ [])))))
 
 -- the instant as the zone's clock shows it
-abbrev pub instant_text : TimeZone → ℤ → List ℕ
-instant_text tz second = civil_text (civil_of tz second)
+unfoldable pub instant_text : Zone → ℤ → List ℕ
+instant_text zone second =
+    let shown = civil_of (zone_of zone) second in
+    civil_text shown (zone_word (is_utc zone) shown.offset)

@@ -5,10 +5,17 @@ pub mod Instant
 pub mod InstantText
 pub mod Local
 pub mod Place
+pub mod Rules
 pub mod Scale
 pub mod Span
 pub mod SpanFault
 pub mod SpanText
 pub mod SpanValue
 pub mod SpanWord
+pub mod Whole
 pub mod Zone
+pub mod ZoneFault
+pub mod ZoneFile
+pub mod ZoneMap
+pub mod ZoneName
+pub mod ZoneTable
