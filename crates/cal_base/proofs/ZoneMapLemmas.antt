@@ -10,6 +10,8 @@ use Rattle.std.specs.Prelude.{String, Some, None, is_some, option_map}
 use Rattle.std.specs.Str.{bytes_eq}
 use Rattle.std.specs.String.{string_bytes, string_cmp}
 use Rattle.std.specs.declared.alloc.Global.{Global}
+use Rattle.std.proofs.lemmas.Bool.{false_from_ne_true}
+use Rattle.std.proofs.lemmas.Slice.Eq.{bytes_eq-Decides}
 use Rattle.std.proofs.lemmas.Map.Text.{btree_map_updates_text, is_eq-slice_cmp}
 use Rattle.jiff.specs.Types.{TimeZone, UTC}
 use Rattle.cal_base.specs.ZoneMap.{ZoneMap, zones_in}
@@ -50,3 +52,21 @@ zones_in-insert old new name zone updates =
     ∙ ap (λ b. cond b (Some zone) (get_by_text old q)) (same_test name q)
     ∙ ap (λ o. cond (eq_by_cmp (slice_cmp nat_cmp) q name) (Some zone) o) (sym (get-zones_in old q))
     ∙ sym (get-insert nat_list_cmp_total (zones_in old) name zone q))
+
+differ : (xs ys : List ℕ) → (xs ≡ ys → ⊥) → eq_by_cmp (slice_cmp nat_cmp) xs ys ≡ false
+differ xs ys h = is_eq-slice_cmp xs ys ∙ false_from_ne_true _ (λ e. h ((bytes_eq-Decides xs ys).0 e))
+
+same : (xs : List ℕ) → eq_by_cmp (slice_cmp nat_cmp) xs xs ≡ true
+same xs = is_eq-slice_cmp xs xs ∙ (bytes_eq-Decides xs xs).1 refl
+
+pub zone_named-here : (table : ZoneMap) (name : List ℕ) (zone : TimeZone) → is_utc_name name ≡ false → zone_named (insert table name zone) name ≡ Some zone
+unfolding zone_named
+zone_named-here table name zone other =
+    ap (λ b. cond b (Some UTC) (get (insert table name zone) name)) other
+    ∙ get-insert nat_list_cmp_total table name zone name ∙ ap (λ b. cond b (Some zone) (get table name)) (same name)
+
+pub zone_named-elsewhere : (table : ZoneMap) (name other : List ℕ) (zone : TimeZone) → (other ≡ name → ⊥) → zone_named (insert table name zone) other ≡ zone_named table other
+unfolding zone_named
+zone_named-elsewhere table name other zone apart =
+    ap (λ o. cond (is_utc_name other) (Some UTC) o)
+    (get-insert nat_list_cmp_total table name zone other ∙ ap (λ b. cond b (Some zone) (get table other)) (differ other name apart))
