@@ -107,3 +107,6 @@ fn short_name(shown: &Civil) -> &str
         _ => "Sun",
     }
 }
+
+#[cfg(test)]
+mod tests;

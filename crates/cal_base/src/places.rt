@@ -98,3 +98,6 @@ fn datetime(local: i64) -> DateTime
     };
     Offset::UTC.to_datetime(timestamp)
 }
+
+#[cfg(test)]
+mod tests;

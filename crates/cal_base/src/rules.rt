@@ -100,3 +100,6 @@ impl Rules {
         time_zone.to_offset(timestamp)
     }
 }
+
+#[cfg(test)]
+mod tests;

@@ -51,3 +51,6 @@ pub fn read_whole<R: Source>(
     }
     Err(WholeFault::ReadFailed)
 }
+
+#[cfg(test)]
+mod tests;

@@ -38,3 +38,6 @@ pub(crate) fn is_utc_name(text: &str) -> bool
 {
     text.eq_ignore_ascii_case("utc")
 }
+
+#[cfg(test)]
+mod tests;

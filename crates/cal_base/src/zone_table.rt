@@ -92,3 +92,6 @@ impl ZoneTable {
         }
     }
 }
+
+#[cfg(test)]
+mod tests;

@@ -22,7 +22,7 @@ returns-in-Utc c =
 pub returns-in-Offset : goal.returns-in-Offset
 returns-in-Offset c =
     let there : place_of (zone_of c.args.zone) c.args.local ≡ Some (c.args.local -ℤ c.in-Offset.ahead.seconds)
-        = ap (λ tz. place_of tz c.args.local) (zone_of-offset c.args.zone c.in-Offset.ahead c.in-Offset.is) ∙ place_of-fixed_zone (offset_of c.in-Offset.ahead) c.args.local in
+    = ap (λ tz. place_of tz c.args.local) (zone_of-offset c.args.zone c.in-Offset.ahead c.in-Offset.is) ∙ place_of-fixed_zone (offset_of c.in-Offset.ahead) c.args.local in
     ap Some (omega (arith, signed_arith, seconds_in_all-is, c.unix_second.ensures, c.in-Offset.ahead.in_range)) ∙ sym there
 
 pub returns-in-Rules : goal.returns-in-Rules

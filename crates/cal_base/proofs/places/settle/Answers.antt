@@ -15,7 +15,7 @@ returns-in-Utc c =
 pub returns-in-Offset : goal.returns-in-Offset
 returns-in-Offset c =
     let there : settle_of (zone_of c.args.zone) c.args.local ≡ c.args.local -ℤ c.in-Offset.ahead.seconds
-        = ap (λ tz. settle_of tz c.args.local) (zone_of-offset c.args.zone c.in-Offset.ahead c.in-Offset.is) ∙ settle_of-fixed_zone (offset_of c.in-Offset.ahead) c.args.local in
+    = ap (λ tz. settle_of tz c.args.local) (zone_of-offset c.args.zone c.in-Offset.ahead c.in-Offset.is) ∙ settle_of-fixed_zone (offset_of c.in-Offset.ahead) c.args.local in
     omega (arith, signed_arith, c.unix_second.ensures, c.in-Offset.ahead.in_range)
 
 pub returns-in-Rules : goal.returns-in-Rules

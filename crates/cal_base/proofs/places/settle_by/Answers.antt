@@ -34,6 +34,7 @@ pub returns-clause-near : goal.returns-clause-near
 returns-clause-near c =
     let fits : FitsSigned w64 c.args.local = search rules in
     let instant = picked c.args.rules.now _ c.datetime.result c.args.local c.requires (c.datetime.ensures ∙ ap datetime_of (to_z-of_z w64 _ fits)) (c.time_zone-time_zone.ensures.of c.datetime.result) in
-    let near = settle_of-near c.args.rules.now c.args.local in
-    (omega (arith, signed_arith, c.as_second.ensures, c.in-Ok.ensures.value),
-    omega (arith, signed_arith, c.as_second.ensures, c.in-Ok.ensures.value))
+    let near = settle_of-near c.args.rules.now c.args.local in (
+      omega (arith, signed_arith, c.as_second.ensures, c.in-Ok.ensures.value),
+      omega (arith, signed_arith, c.as_second.ensures, c.in-Ok.ensures.value),
+    )
