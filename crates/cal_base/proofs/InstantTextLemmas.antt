@@ -1,9 +1,9 @@
 -- Two digits, and the text of an offset.
-use Rattle.std.proofs.Common.{◌≡◌, ◌≢◌, ℕ, ◌+◌, ◌/◌, ◌%◌, ◌<◌, ◌==◌, ℤ, true, false, List, [], ◌∷◌, ◌++◌, unsigned_abs, inl, inr, sym, ap, ◌∙◌, arith, decimal}
+use Rattle.std.proofs.Common.{◌≡◌, ◌≢◌, ℕ, ◌+◌, ◌/◌, ◌%◌, ◌<◌, ◌==◌, ℤ, true, false, List, [], ◌∷◌, ◌++◌, unsigned_abs, inl, inr, ap, ◌∙◌, arith, decimal}
 use Rattle.std.proofs.lemmas.Bool.{cases_lt}
 use Rattle.std.proofs.lemmas.Fmt.{decimal_digit}
 use Rattle.itoa.proofs.Decimal.{decimal_two}
-use Rattle.cal_base.specs.InstantText.{zeros, offset_text, seconds_pieces, sign_text}
+use Rattle.cal_base.specs.InstantText.{zeros, offset_text, sign_text}
 
 -- two digits are tens and units
 two_digits : (n tens units : ℕ) (rest : List ℕ) → n < 100 → tens ≡ 48 + n / 10 → units ≡ 48 + n % 10 → tens ∷ units ∷ rest ≡ zeros 2 n ++ (decimal n ++ rest)

@@ -1,5 +1,4 @@
 -- What contracts see of a zone's rules.
-use Rattle.std.specs.Borrow.{Bor}
 use Rattle.jiff.specs.Types.{TimeZone, Tzif}
 use Rattle.jiff.specs.Words.{plain_zone}
 use Rattle.cal_base.specs.declared.rules.Kind.{Kind}

@@ -1,5 +1,5 @@
 -- What contracts see of a zone table: a finite map from names to zones.
-use Rattle.std.specs.Prelude.{ℕ, List, String, map}
+use Rattle.std.specs.Prelude.{String, map}
 use Rattle.std.specs.BTreeMap.{BTreeMap}
 use Rattle.std.specs.Cmp.Lexicographic.{slice_cmp}
 use Rattle.std.specs.FinMap.{FinMap, from_entries}

@@ -1,5 +1,5 @@
 -- What a zone table answers: this project's own rule, where systemd.time(7) has the zones of the machine.
-use Rattle.std.specs.Prelude.{◌≡◌, ℕ, Bool, true, false, ◌||◌, List, Option, Some, is_some, if◌then◌else◌}
+use Rattle.std.specs.Prelude.{◌≡◌, ℕ, Bool, true, false, List, Option, Some, is_some, if◌then◌else◌}
 use Rattle.std.specs.FinMap.{get}
 use Rattle.jiff.specs.Types.{TimeZone, UTC}
 use Rattle.cal_base.specs.ZoneMap.{ZoneMap}

@@ -35,10 +35,10 @@ impl Model for Rules {
     ghost view = { λ rules. zone_in rules.kind };
 }
 
-/// The most bytes that a zone file may have.
-const FILE_LIMIT: usize = 1_048_576;
-
 impl Rules {
+    /// The most bytes that a zone file may have.
+    pub const FILE_LIMIT: usize = 1_048_576;
+
     /// The rules of a POSIX rule, as `CET-1CEST,M3.5.0,M10.5.0/3`.
     ///
     /// [`ZoneFault::BadRule`] comes exactly where `jiff` reads no rule. Today this takes no memory.
@@ -69,7 +69,7 @@ impl Rules {
         if !is_zone_name(name) {
             return Err(ZoneFault::BadName);
         }
-        if bytes.len() > FILE_LIMIT {
+        if bytes.len() > Self::FILE_LIMIT {
             return Err(ZoneFault::TooLarge);
         }
         match Tzif::parse(alloc, Some(name), bytes) {

@@ -1,9 +1,9 @@
 -- The report of one calendar expression (systemd-analyze(1), calendar).
 use Rattle.std.specs.Prelude.{ℕ, ◌+◌, ◌-◌, ◌*◌, ◌==◌, ℤ, ◌-ℤ◌, int_lt, unsigned_abs, List, [], ◌∷◌, ◌++◌, length, take, replicate, Option, None, Some, Ok, Err, if◌then◌else◌, codes, decimal}
-use Rattle.jiff.specs.Types.{UTC}
 use Rattle.cal_base.specs.Bytes.{joined}
 use Rattle.cal_base.specs.InstantText.{instant_text}
 use Rattle.cal_base.specs.SpanText.{span_text}
+use Rattle.cal_base.specs.Zone.{utc}
 use Rattle.cal_tool.specs.Answer.{Answer}
 use Rattle.cal_tool.specs.Clock.{Clock}
 use Rattle.cal_tool.specs.Elapses.{elapses_after}
@@ -30,7 +30,7 @@ label_text number =
 -- one elapse and how far it lies from the present
 unfoldable pub elapse_text : ℤ → ℕ → ℤ → List ℕ
 elapse_text now number elapse =
-    joined (label_text number ∷ instant_text UTC elapse ∷ codes "\n       From now: " ∷ distance_text now elapse ∷ codes "\n" ∷ [])
+    joined (label_text number ∷ instant_text utc elapse ∷ codes "\n       From now: " ∷ distance_text now elapse ∷ codes "\n" ∷ [])
 
 -- elapses in a row, where the first of them has that number
 abbrev pub elapse_texts : ℤ → ℕ → List ℤ → List ℕ

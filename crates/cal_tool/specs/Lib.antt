@@ -5,6 +5,8 @@ pub mod Elapses
 pub mod Expression
 pub mod ExpressionText
 pub mod Fault
+pub mod LoadFault
+pub mod LoadZone
 pub mod Match
 pub mod Report
 pub mod Request

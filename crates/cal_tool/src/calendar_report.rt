@@ -2,9 +2,9 @@
 //! its next elapses with the span until each.
 
 ghost use Rattle.std.specs.Prelude.{◌≡◌, ◌+◌, ◌-◌, ◌≤◌, [], ◌∷◌, false, is_err, take, length, replicate, codes, unsigned_abs, ◌*◌, ◌-ℤ◌};
-ghost use Rattle.jiff.specs.Types.{UTC};
 ghost use Rattle.cal_base.specs.Bytes.{Writes, joined};
 ghost use Rattle.cal_base.specs.InstantText.{instant_text};
+ghost use Rattle.cal_base.specs.Zone.{utc};
 ghost use Rattle.cal_base.specs.SpanText.{span_text};
 ghost use Rattle.cal_tool.specs.CalendarReport.{direction_text, distance_text, label_text, elapse_text, elapse_texts, elapses_text, calendar_report};
 ghost use Rattle.cal_tool.specs.Clock.{clock_in};
@@ -131,7 +131,7 @@ fn put_elapse<W: Sink>(
 fn put_instant<W: Sink>(out: &mut W, instant: Instant) -> Result<(), WriteFault>
     requires { W.is_failed out.old ≡ false }
     ensures failed { W.is_failed out.new ≡ is_err result }
-    ensures bytes { Writes (W.written out.old) (W.written out.new) result (instant_text UTC instant.secs) }
+    ensures bytes { Writes (W.written out.old) (W.written out.new) result (instant_text utc instant.secs) }
 {
     write_instant(out, Zone::utc(), instant)
 }

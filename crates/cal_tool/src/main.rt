@@ -17,6 +17,7 @@ pub mod early_words;
 pub mod expression;
 pub mod expression_text;
 pub mod laws;
+pub mod load_zone;
 pub mod report;
 pub mod request;
 pub mod search;

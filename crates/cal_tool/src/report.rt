@@ -2,8 +2,10 @@
 //! error, and the status (systemd-analyze(1)).
 
 ghost use Rattle.std.specs.Prelude.{◌≡◌, ◌≤◌, [], ◌∷◌, None, false, is_err, codes, IfOk, IsErrOf, map};
+ghost use Rattle.std.specs.FinMap.{empty};
 ghost use Rattle.std.specs.String.{string_bytes};
 ghost use Rattle.cal_base.specs.Bytes.{Writes, joined};
+ghost use Rattle.cal_base.specs.Zone.{utc};
 ghost use Rattle.cal_tool.specs.Answer.{refusal_in, later_text, lead_text, status_in, reports_text, refusals_text, status_of, is_out_failed, is_err_failed};
 ghost use Rattle.cal_tool.specs.CalendarReport.{calendar_answer, calendar_report};
 ghost use Rattle.cal_tool.specs.Clock.{clock_in};
@@ -25,7 +27,7 @@ use std::alloc::Global;
 /// Answers a request: each accepted text gets a report on `out`, each refused one a line on `err`.
 ///
 /// The elapses shown are the first `iterations` (1 to 1,000,000) after the present. So far expressions are in
-/// UTC and `input` isn't read.
+/// UTC, `local` is [`Zone::utc`], the table is empty, and `input` isn't read.
 ///
 /// [`RunFault::OutFailed`] and [`RunFault::ErrFailed`] come exactly where that writer failed in this call, and
 /// each writer has a prefix of its whole text then. No memory is taken so far, so [`RunFault::NoMemory`]
@@ -43,6 +45,8 @@ pub fn run<R: Source, O: Sink, E: Sink>(
 ) -> Result<Status, RunFault>
     requires iterations { (1 ≤ request.now.iterations) × (request.now.iterations ≤ 1_000_000) }
     requires base { request.now.base ≡ None }
+    requires local { local.entry ≡ utc }
+    requires table { table.now ≡ empty }
     requires input { R.is_failed input.old ≡ false }
     requires out { O.is_failed out.old ≡ false }
     requires err { E.is_failed err.old ≡ false }

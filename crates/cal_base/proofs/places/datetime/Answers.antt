@@ -1,4 +1,4 @@
-use Rattle.std.proofs.Common.{◌≡◌, ◌∙◌, sym, arith}
+use Rattle.std.proofs.Common.{arith}
 use Rattle.jiff.specs.Words.{IsEpochDay}
 use Rattle.jiff.proofs.Family.{same_datetime}
 use Rattle.jiff.proofs.SpanFacts.{signed_arith}

@@ -2,7 +2,6 @@ use Rattle.std.proofs.Common.{◌∙◌, sym, ap, is_some}
 use Rattle.std.specs.FinMap.{insert}
 use Rattle.cal_base.specs.Zone.{zone_of}
 use Rattle.cal_base.specs.ZoneMap.{zones_in}
-use Rattle.cal_base.specs.ZoneTable.{IsAddable}
 use Rattle.cal_base.proofs.ZoneMapLemmas.{is_some-option_map, zones_in-insert}
 use Rattle.cal_base.proofs.zone_table.ZoneTable.add.Goals as goal
 
