@@ -45,7 +45,7 @@ pub fn run<R: Source, O: Sink, E: Sink>(
 ) -> Result<Status, RunFault>
     requires iterations { (1 ≤ request.now.iterations) × (request.now.iterations ≤ 1_000_000) }
     requires base { request.now.base ≡ None }
-    requires local { local.entry ≡ utc }
+    requires local { local ≡ utc }
     requires table { table.now ≡ empty }
     requires input { R.is_failed input.old ≡ false }
     requires out { O.is_failed out.old ≡ false }
