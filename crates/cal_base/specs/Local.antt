@@ -1,5 +1,5 @@
 -- Local seconds: the seconds of a civil clock since 1970-01-01 00:00:00 on that clock.
-use Rattle.std.specs.Prelude.{◌≡◌, ℕ, ◌/◌, ◌%◌, ℤ, pos, neg_ℤ, ◌≤ℤ◌, ◌<ℤ◌, unsigned_abs, refl}
+use Rattle.std.specs.Prelude.{◌≡◌, ℕ, ◌/◌, ◌%◌, ℤ, pos, neg_ℤ, unsigned_abs, refl}
 use Rattle.std.specs.Int.{int_div_euclid, int_rem_euclid}
 use Rattle.jiff.specs.Types.{Date}
 use Rattle.jiff.specs.Words.{IsBetween}
@@ -16,7 +16,7 @@ seconds_in_all-is = refl
 
 -- a local second of the years 1970 to 2199
 abbrev pub IsLocalSecond : ℤ → Type 0
-IsLocalSecond local = (pos 0 ≤ℤ local) × (local <ℤ pos seconds_in_all)
+IsLocalSecond local = IsBetween (pos 0) (pos 7_258_118_399) local
 
 -- a local second of these years or of some days before or after them
 abbrev pub CanSettle : ℤ → Type 0

@@ -1,7 +1,20 @@
 //! Places round the changes of a clock, worked out by hand from each rule.
 
 use crate::{Rules, Zone, place, settle};
+use std::process::Abort;
 use std::test::Fail;
+
+// The place of a local second that is one of the years 1970 to 2199.
+fn placed(rt: &impl Abort, zone: Zone, local: i64) -> Option<i64> {
+    assert!(rt; local >= 0 && local <= 7_258_118_399);
+    place(zone, local)
+}
+
+// Where a local second settles that lies near enough to these years.
+fn settled(rt: &impl Abort, zone: Zone, local: i64) -> i64 {
+    assert!(rt; local >= -300_000 && local <= 7_258_500_000);
+    settle(zone, local)
+}
 
 // Each rule with local seconds and their places.
 #[test]
@@ -58,7 +71,7 @@ fn places_round_each_change(rt: HostRuntime) -> Result<(), Fail> {
         };
         for (local, expected) in rows {
             assert_eq!(rt;
-                place(Zone::rules(&rules), local),
+                placed(&rt, Zone::rules(&rules), local),
                 expected,
                 "{rule} at {local}"
             );
@@ -82,7 +95,11 @@ fn gap_and_fold_settle(rt: HostRuntime) -> Result<(), Fail> {
         (-300_000, -303_600),
         (7_258_500_000, 7_258_496_400),
     ] {
-        assert_eq!(rt; settle(Zone::rules(&rules), local), expected, "{local}");
+        assert_eq!(rt;
+            settled(&rt, Zone::rules(&rules), local),
+            expected,
+            "{local}"
+        );
     }
     Ok(())
 }
@@ -100,7 +117,11 @@ fn hidden_by_two_changes(rt: HostRuntime) -> Result<(), Fail> {
         (1_711_850_999, None),
         (1_711_854_600, Some(1_711_854_600)),
     ] {
-        assert_eq!(rt; place(Zone::rules(&rules), local), expected, "{local}");
+        assert_eq!(rt;
+            placed(&rt, Zone::rules(&rules), local),
+            expected,
+            "{local}"
+        );
     }
     Ok(())
 }
@@ -115,8 +136,8 @@ fn fixed_offsets(rt: HostRuntime) {
         (Zone::offset(-93_599), 7_258_118_399, 7_258_211_998),
         (Zone::offset(3_208), 3_208, 0),
     ] {
-        assert_eq!(rt; place(zone, local), Some(expected), "{local}");
-        assert_eq!(rt; settle(zone, local), expected, "{local}");
+        assert_eq!(rt; placed(&rt, zone, local), Some(expected), "{local}");
+        assert_eq!(rt; settled(&rt, zone, local), expected, "{local}");
     }
     assert_eq!(rt; settle(Zone::offset(93_599), -300_000), -393_599);
     assert_eq!(rt; settle(Zone::offset(-93_599), 7_258_500_000), 7_258_593_599);

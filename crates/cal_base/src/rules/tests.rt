@@ -178,7 +178,9 @@ fn damaged_files(rt: HostRuntime) -> Result<(), Fail> {
     for changed in [0xff, 0x00, 0x01, 0x80] {
         for at in 0..whole.len() {
             let mut bytes = whole.clone()?;
-            bytes[at] = changed;
+            if let Some(byte) = bytes.get_mut(at) {
+                *byte = changed;
+            }
             let fault = Rules::file(alloc, "Test/Fixed", bytes.as_slice()).err();
             assert!(rt;
                 matches!(fault, None | Some(ZoneFault::BadFile)),

@@ -7,6 +7,7 @@ use std::test::Fail;
 fn reads_to_the_end(rt: HostRuntime) -> Result<(), Fail> {
     for (step, limit) in [(1, 5), (2, 5), (3, 9), (5, 6), (9, 5)] {
         let bytes = b"abcde".to_vec(rt.alloc())?;
+        assert!(rt; step > 0);
         let mut port = Port::new(Faulty::new(bytes, step, 99, Then::Error));
         let Ok(whole) = read_whole(rt.alloc(), &mut port, limit) else {
             return Err("the reader is refused".into());

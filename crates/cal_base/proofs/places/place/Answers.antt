@@ -9,10 +9,10 @@ use Rattle.cal_base.proofs.ZoneLemmas.{zone_of-utc, zone_of-offset, zone_of-rule
 use Rattle.cal_base.proofs.places.place.Goals as goal
 
 pub unix_second-requires : goal.unix_second-requires
-unix_second-requires c = (omega (arith, signed_arith, seconds_in_all-is), omega (arith, signed_arith, seconds_in_all-is))
+unix_second-requires c = (omega (arith, signed_arith), omega (arith, signed_arith))
 
 pub place_by-requires : goal.place_by-requires
-place_by-requires c = (omega (arith, signed_arith, seconds_in_all-is), omega (arith, signed_arith, seconds_in_all-is))
+place_by-requires c = (omega (arith, signed_arith), omega (arith, signed_arith))
 
 pub returns-in-Utc : goal.returns-in-Utc
 returns-in-Utc c =
@@ -23,7 +23,7 @@ pub returns-in-Offset : goal.returns-in-Offset
 returns-in-Offset c =
     let there : place_of (zone_of c.args.zone) c.args.local ≡ Some (c.args.local -ℤ c.in-Offset.ahead.seconds)
     = ap (λ tz. place_of tz c.args.local) (zone_of-offset c.args.zone c.in-Offset.ahead c.in-Offset.is) ∙ place_of-fixed_zone (offset_of c.in-Offset.ahead) c.args.local in
-    ap Some (omega (arith, signed_arith, seconds_in_all-is, c.unix_second.ensures, c.in-Offset.ahead.in_range)) ∙ sym there
+    ap Some (omega (arith, signed_arith, c.unix_second.ensures, c.in-Offset.ahead.in_range)) ∙ sym there
 
 pub returns-in-Rules : goal.returns-in-Rules
 returns-in-Rules c =
