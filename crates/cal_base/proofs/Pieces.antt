@@ -1,5 +1,5 @@
 -- Lemmas on bytes out: what was written in pieces is the whole, and what a failure leaves is a front of it.
-use Rattle.std.proofs.Common.{◌≡◌, ℕ, ◌+◌, ◌<◌, List, [], ◌++◌, length, take, drop, get_or, Option, Result, Ok, Err, refl, sym, ap, ◌∙◌, append_assoc, subst, add-one, drop-cons}
+use Rattle.std.proofs.Common.{◌≡◌, ℕ, ◌+◌, ◌<◌, List, [], ◌∷◌, ◌++◌, length, take, drop, get_or, Option, Result, Ok, Err, refl, sym, ap, ◌∙◌, append_assoc, subst, add-one, drop-cons}
 use Rattle.std.proofs.KnownBytes.{Appends-nil, Appends-trans}
 use Rattle.std.proofs.lemmas.Grind.{flat_map-append}
 use Rattle.std.proofs.lemmas.List.{append-nil, take-append-drop}
@@ -81,3 +81,17 @@ stop_pieces a b c xs ys text l h = stop a b c (joined xs) (joined ys) text (resp
 -- the last call's answer is the answer of the whole, where its piece is the last of a row
 pub finish_last : {T E : Type 0} (a b c : Option (List ℕ)) (piece text : List ℕ) (r : Result T E) → Leaves a b (piece ++ []) text → Writes b c r piece → Writes a c r text
 finish_last a b c piece text r l h = finish a b c piece text r (respell a b (piece ++ []) piece text l (append-nil piece)) h
+
+-- a call that wrote a text under another spelling
+pub writes_respelled : {T E : Type 0} (a b : Option (List ℕ)) (r : Result T E) (x y : List ℕ) → Writes a b r x → x ≡ y → Writes a b r y
+writes_respelled a b r x y h e = subst (λ (text : List ℕ). Writes a b r text) e h
+
+-- Two calls in a row
+
+-- the first failed
+pub first_fails : {T E : Type 0} (a b : Option (List ℕ)) (r : Result T E) (x y : List ℕ) → IsErr r → AppendsFront a b x → Writes a b r (x ++ y)
+first_fails a b r x y e h = writes_err a b r (x ++ y) e (stop a a b x y (x ++ y) (start a (x ++ y)) h)
+
+-- or it succeeded, and the second call's answer is the answer of both
+pub second_ends : {T E : Type 0} (a b c : Option (List ℕ)) (r : Result T E) (x y : List ℕ) → Appends a b x → Writes b c r y → Writes a c r (joined (x ∷ y ∷ []))
+second_ends a b c r x y h w = finish_last a b c y (joined (x ∷ y ∷ [])) r (step a a b x (y ++ []) (joined (x ∷ y ∷ [])) (start a (joined (x ∷ y ∷ []))) h) w

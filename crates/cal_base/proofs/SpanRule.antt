@@ -6,13 +6,11 @@ use Rattle.cal_base.specs.declared.scale.Scale.{Scale}
 use Rattle.cal_base.specs.declared.span_fault.SpanFault.{SpanFault}
 use Rattle.cal_base.specs.declared.span_fault.SpanFault.TheVariants.{Empty, BadNumber, UnknownUnit, TooLarge}
 use Rattle.cal_base.specs.declared.scale.Scale.TheVariants.{Year, Month, Week, Day, Hour, Minute, Second, Millisecond, Microsecond}
-use Rattle.cal_base.specs.declared.span_word.Kind.TheVariants.{Letter}
 use Rattle.cal_base.specs.Scale.{words_for}
 use Rattle.cal_base.specs.Span.{limit}
-use Rattle.std.specs.List.{AllByRecursion, flat_map}
-use Rattle.std.proofs.lemmas.List.{append_assoc}
-use Rattle.cal_base.proofs.SpanWords.{same_from_is_kind}
-use Rattle.cal_base.specs.SpanValue.{Piece, kind_of, is_kind, is_micro, symbols, with_front, runs, AreApart, unit_named, Pair, pairs_in, is_number, unit_in, worth_in, worth_of, ◌>>=◌, sum_with, judged, value_of_pairs, span_of, AreWorth, IsFaultAfter, IsFirstFault, Judges}
+use Rattle.std.specs.List.{AllByRecursion}
+use Rattle.cal_base.specs.SpanValue.{unit_named, Pair, pairs_in, is_number, unit_in, worth_in, worth_of, ◌>>=◌, sum_with, judged, value_of_pairs, span_of}
+use Rattle.cal_base.specs.SpanRule.{AreWorth, IsFaultAfter, IsFirstFault, Judges}
 
 -- a pair alone is at fault in its number or in its unit
 worth_fault_by : (number : List ℕ) (good : Bool) (unit : Option Scale) (f : SpanFault) → cond good (worth_in number unit) (Err BadNumber) ≡ Err f → (f ≡ BadNumber) ⊎ (f ≡ UnknownUnit)
@@ -127,53 +125,6 @@ only_value ps (Err TooLarge) fault = only_first_fault ps TooLarge fault
 
 pub one_judgement : (ps : List Pair) (a b : Result ℕ SpanFault) → Judges ps a → Judges ps b → a ≡ b
 one_judgement ps a b by_a by_b = sym (only_value ps a by_a) ∙ only_value ps b by_b
-
--- the runs are the text
-text_with_front : (s w : Piece) (ws : List Piece) (same : Bool) → flat_map (λ (run : Piece). run.text) (cond same (record { kind = s.kind; text = s.text ++ w.text } ∷ ws) (s ∷ w ∷ ws)) ≡ s.text ++ (w.text ++ flat_map (λ (run : Piece). run.text) ws)
-text_with_front s w ws true = append_assoc s.text w.text (flat_map (λ (run : Piece). run.text) ws)
-text_with_front s w ws false = refl
-
-text_first : (s : Piece) (ws : List Piece) → flat_map (λ (run : Piece). run.text) (with_front s ws) ≡ s.text ++ flat_map (λ (run : Piece). run.text) ws
-text_first s [] = refl
-text_first s (w ∷ ws) = text_with_front s w ws (is_kind s.kind w.kind)
-
-text_of_runs : (ss : List Piece) → flat_map (λ (run : Piece). run.text) (runs ss) ≡ flat_map (λ (run : Piece). run.text) ss
-text_of_runs [] = refl
-text_of_runs (s ∷ ss) = text_first s (runs ss) ∙ ap (λ text. s.text ++ text) (text_of_runs ss)
-
-text_of_pair : (b c : ℕ) (bytes : List ℕ) (mu : Bool) → flat_map (λ (s : Piece). s.text) (symbols bytes) ≡ bytes → flat_map (λ (s : Piece). s.text) (symbols (c ∷ bytes)) ≡ c ∷ bytes → flat_map (λ (s : Piece). s.text) (cond mu (record { kind = Letter; text = b ∷ c ∷ [] } ∷ symbols bytes) (record { kind = kind_of b; text = b ∷ [] } ∷ symbols (c ∷ bytes))) ≡ b ∷ c ∷ bytes
-text_of_pair b c bytes true two one = ap (λ text. b ∷ c ∷ text) two
-text_of_pair b c bytes false two one = ap (λ text. b ∷ text) one
-
-text_of_symbols : (bytes : List ℕ) → flat_map (λ (s : Piece). s.text) (symbols bytes) ≡ bytes
-text_of_symbols [] = refl
-text_of_symbols (b ∷ []) = refl
-text_of_symbols (b ∷ c ∷ bytes) =
-    text_of_pair b c bytes (is_micro b c) (text_of_symbols bytes) (text_of_symbols (c ∷ bytes))
-
-pub runs_whole : (text : List ℕ) → flat_map (λ (run : Piece). run.text) (runs (symbols text)) ≡ text
-runs_whole text = text_of_runs (symbols text) ∙ text_of_symbols text
-
--- and no two neighbours are of one kind
-apart_joined : (s w : Piece) (ws : List Piece) → is_kind s.kind w.kind ≡ true → AreApart (w ∷ ws) → AreApart (record { kind = s.kind; text = s.text ++ w.text } ∷ ws)
-apart_joined s w [] same apart = tt
-apart_joined s w (v ∷ ws) same (first, rest) =
-    (ap (λ k. is_kind k v.kind) (same_from_is_kind s.kind w.kind same) ∙ first, rest)
-
-apart_by : (s w : Piece) (ws : List Piece) (same : Bool) → is_kind s.kind w.kind ≡ same → AreApart (w ∷ ws) → AreApart (cond same (record { kind = s.kind; text = s.text ++ w.text } ∷ ws) (s ∷ w ∷ ws))
-apart_by s w ws true test apart = apart_joined s w ws test apart
-apart_by s w ws false test apart = (test, apart)
-
-apart_first : (s : Piece) (ws : List Piece) → AreApart ws → AreApart (with_front s ws)
-apart_first s [] apart = tt
-apart_first s (w ∷ ws) apart = apart_by s w ws (is_kind s.kind w.kind) refl apart
-
-runs_apart : (ss : List Piece) → AreApart (runs ss)
-runs_apart [] = tt
-runs_apart (s ∷ ss) = apart_first s (runs ss) (runs_apart ss)
-
-pub runs_longest : (text : List ℕ) → AreApart (runs (symbols text))
-runs_longest text = runs_apart (symbols text)
 
 -- no word spells two units
 pub spelled_once : (unit : Scale) → AllByRecursion (λ (word : List ℕ). unit_named word ≡ Some unit) (words_for unit)

@@ -2,7 +2,6 @@
 use Rattle.std.specs.Prelude.{ℕ, ◌-◌, ◌/◌, ◌%◌, ◌==◌, if◌then◌else◌, Bool, ℤ, pos, int_lt, unsigned_abs, List, [], ◌∷◌, ◌++◌, length, codes, decimal, replicate}
 use Rattle.cal_base.specs.Bytes.{joined}
 use Rattle.cal_base.specs.Civil.{civil_of}
-use Rattle.cal_base.specs.Local.{second_of}
 use Rattle.cal_base.specs.Zone.{is_utc, zone_of}
 use Rattle.cal_base.specs.declared.civil_fields.Civil.{Civil}
 use Rattle.cal_base.specs.declared.zone.Zone.{Zone}
@@ -22,43 +21,41 @@ weekday_name n =
     else (if n == 6 then codes "Sat" else codes "Sun")))))
 
 -- `2020-02-29`: four digits of the year, two of the month and of the day
-abbrev pub date_pieces : Civil → List (List ℕ)
-date_pieces c =
-    zeros 4 (unsigned_abs c.year) ∷ decimal (unsigned_abs c.year) ∷ codes "-" ∷ zeros 2 c.month ∷ decimal c.month ∷ codes "-" ∷ zeros 2 c.day ∷ decimal c.day ∷ []
+unfoldable pub date_text : Civil → List ℕ
+date_text c =
+    let year = unsigned_abs c.year in
+    joined (zeros 4 year ∷ decimal year ∷ codes "-" ∷ zeros 2 c.month ∷ decimal c.month ∷ codes "-" ∷ zeros 2 c.day ∷ decimal c.day ∷ [])
 
 -- `00:00:00`: two digits each of hour, minute and second
-abbrev pub time_pieces : ℕ → ℕ → ℕ → List (List ℕ)
-time_pieces hour minute second =
-    zeros 2 hour ∷ decimal hour ∷ codes ":" ∷ zeros 2 minute ∷ decimal minute ∷ codes ":" ∷ zeros 2 second ∷ decimal second ∷ []
-
 unfoldable pub time_text : ℕ → ℕ → ℕ → List ℕ
-time_text hour minute second = joined (time_pieces hour minute second)
+time_text hour minute second =
+    joined (zeros 2 hour ∷ decimal hour ∷ codes ":" ∷ zeros 2 minute ∷ decimal minute ∷ codes ":" ∷ zeros 2 second ∷ decimal second ∷ [])
 
--- `+` or `-`, and then two digits each of the hours and the minutes that a clock is ahead of UTC or behind it
+-- `-` for a clock behind UTC, and else `+`
 abbrev pub sign_text : ℤ → List ℕ
 sign_text offset = if int_lt offset (pos 0) then codes "-" else codes "+"
 
+-- `+02:00`: the hours and the minutes
 abbrev pub minutes_pieces : ℤ → List (List ℕ)
 minutes_pieces offset =
     let ahead = unsigned_abs offset in
     sign_text offset ∷ zeros 2 (ahead / 3_600) ∷ decimal (ahead / 3_600) ∷ codes ":" ∷ zeros 2 (ahead / 60 % 60) ∷ decimal (ahead / 60 % 60) ∷ []
 
--- the seconds, where they aren't 0
-abbrev pub seconds_pieces : ℕ → List (List ℕ)
-seconds_pieces second = if second == 0 then [] else codes ":" ∷ zeros 2 second ∷ decimal second ∷ []
-
--- `+02:00`, or with seconds `+00:53:28`
+-- how far a clock is ahead of UTC: `+02:00`, and `+00:53:28` where the seconds aren't 0
 unfoldable pub offset_text : ℤ → List ℕ
-offset_text offset = joined (minutes_pieces offset ++ seconds_pieces (second_of (unsigned_abs offset)))
+offset_text offset =
+    let second = unsigned_abs offset % 60 in
+    if second == 0 then joined (minutes_pieces offset)
+    else joined (minutes_pieces offset ++ (codes ":" ∷ zeros 2 second ∷ decimal second ∷ []))
 
--- the word of a zone behind a time: `UTC` for UTC itself, and else the offset
+-- the word of a zone behind a time: `UTC` for UTC itself, and else how far its clock is ahead
 unfoldable pub zone_word : Bool → ℤ → List ℕ
 zone_word is_utc offset = if is_utc then codes "UTC" else offset_text offset
 
 -- what a clock shows: weekday, date and time, and the word of its zone
 unfoldable pub civil_text : Civil → List ℕ → List ℕ
 civil_text c word =
-    joined (weekday_name c.weekday ∷ codes " " ∷ (date_pieces c ++ (codes " " ∷ (time_pieces c.hour c.minute c.second ++ (codes " " ∷ word ∷ [])))))
+    joined (weekday_name c.weekday ∷ codes " " ∷ date_text c ∷ codes " " ∷ time_text c.hour c.minute c.second ∷ codes " " ∷ word ∷ [])
 
 -- the instant as the zone's clock shows it
 unfoldable pub instant_text : Zone → ℤ → List ℕ

@@ -1,6 +1,7 @@
 pub mod Bytes
 pub mod Civil
 pub mod Days
+pub mod Fill
 pub mod Instant
 pub mod InstantText
 pub mod Local
@@ -9,6 +10,7 @@ pub mod Rules
 pub mod Scale
 pub mod Span
 pub mod SpanFault
+pub mod SpanRule
 pub mod SpanText
 pub mod SpanValue
 pub mod SpanWord

@@ -1,6 +1,6 @@
 -- The value of a text as a time span (systemd.time(7), Parsing Time Spans): the text is split into
 -- words, the words are taken as pairs of a number and a unit, and the pairs are judged from the left.
-use Rattle.std.specs.Prelude.{ℕ, ◌+◌, ◌*◌, ◌/◌, ◌^◌, ◌<◌, ◌≤◌, ◌≡◌, ◌==◌, nat_le, ⊤, Bool, true, false, not, ◌&&◌, ◌||◌, if◌then◌else◌, List, [], ◌∷◌, ◌++◌, length, filter, count_by, Option, Some, None, Result, Ok, Err}
+use Rattle.std.specs.Prelude.{ℕ, ◌+◌, ◌*◌, ◌/◌, ◌^◌, ◌==◌, nat_le, Bool, true, false, not, ◌&&◌, ◌||◌, if◌then◌else◌, List, [], ◌∷◌, ◌++◌, filter, count_by, Option, Some, None, Result, Ok, Err}
 use Rattle.std.specs.List.{list_any, list_all, find, before_first, after_first}
 use Rattle.std.specs.Str.{bytes_eq}
 use Rattle.std.specs.Char.{digit_value, is_ascii_digit, is_ascii_alphabetic}
@@ -69,12 +69,6 @@ with_front s (w ∷ ws) =
 abbrev pub runs : List Piece → List Piece
 runs [] = []
 runs (s ∷ ss) = with_front s (runs ss)
-
--- neighbours are of different kinds, so no run can be made longer
-abbrev pub AreApart : List Piece → Type 0
-AreApart [] = ⊤
-AreApart (w ∷ []) = ⊤
-AreApart (w ∷ v ∷ ws) = (is_kind w.kind v.kind ≡ false) × AreApart (v ∷ ws)
 
 -- the words of a text: its runs without the blanks between them
 unfoldable pub words_in : List ℕ → List Piece
@@ -174,27 +168,3 @@ value_of_pairs (p ∷ ps) = judged 0 (p ∷ ps)
 -- the value of a text in microseconds, or its fault
 unfoldable pub span_of : List ℕ → Result ℕ SpanFault
 span_of text = value_of_pairs (pairs_in text)
-
--- The rule in its own words, which `one_value` ties to `span_of`
-
--- the pairs have worths, and n is their sum
-abbrev pub AreWorth : List Pair → ℕ → Type 0
-AreWorth [] n = n ≡ 0
-AreWorth (p ∷ ps) n = (m : ℕ) × (k : ℕ) × (worth_of p ≡ Ok m) × AreWorth ps k × (n ≡ m + k)
-
--- behind pairs with this sum, the pair p is at fault: the sum with it exceeds the limit, or it has no worth
-abbrev pub IsFaultAfter : ℕ → Pair → SpanFault → Type 0
-IsFaultAfter sum p TooLarge = (m : ℕ) × (worth_of p ≡ Ok m) × (limit < sum + m)
-IsFaultAfter sum p fault = worth_of p ≡ Err fault
-
--- some pair is at fault, and none before it
-abbrev pub IsFirstFault : List Pair → SpanFault → Type 0
-IsFirstFault ps fault =
-    (before : List Pair) × (p : Pair) × (after : List Pair) × (sum : ℕ) × (ps ≡ before ++ (p ∷ after)) × AreWorth before sum × (sum ≤ limit) × IsFaultAfter sum p fault
-
--- The value is the sum of the worths, of at least one pair and at most the limit. The fault is Empty
--- where there is no pair, and else that of the first pair at fault, from the left.
-abbrev pub Judges : List Pair → Result ℕ SpanFault → Type 0
-Judges ps (Ok n) = (0 < length ps) × AreWorth ps n × (n ≤ limit)
-Judges ps (Err Empty) = ps ≡ []
-Judges ps (Err fault) = IsFirstFault ps fault

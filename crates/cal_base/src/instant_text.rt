@@ -1,70 +1,34 @@
 //! Instants as text.
 
-ghost use Rattle.std.specs.Prelude.{◌≡◌, false, is_err};
+ghost use Rattle.std.specs.Prelude.{◌≡◌, ◌≤◌, false, is_err, length};
 ghost use Rattle.cal_base.specs.Bytes.{Writes};
-ghost use Rattle.cal_base.specs.InstantText.{weekday_name, time_text, civil_text, instant_text};
+ghost use Rattle.cal_base.specs.InstantText.{weekday_name, time_text, civil_text, instant_text, offset_text, sign_text, zone_word};
 
-use crate::number::zeros;
-use crate::zone_word::ZoneWord;
-use crate::{Civil, Instant, Sink, WriteFault, Zone, civil, put_pieces};
+use crate::short_text::{Fill, ShortText, in_a_row, padding};
+use crate::{Civil, Instant, Sink, WriteFault, Zone, civil, put_all, put_pieces};
 use itoa::Buffer;
 
-/// Writes the instant as the zone's clock shows it: weekday, date and time, and then `UTC` for [`Zone::utc`] alone
-/// and otherwise how far the clock is ahead of UTC, as `Sat 2020-02-29 00:00:00 UTC` or
-/// `Thu 1970-01-01 00:53:28 +00:53:28`. The seconds of that offset stand there only where they aren't 0.
+/// The text of the instant as the zone's clock shows it: weekday, date and time, and then `UTC` for [`Zone::utc`]
+/// alone and otherwise how far the clock is ahead of UTC, with seconds where they aren't 0
+/// (systemd.time(7), Displaying Timestamps). So it is `Sat 2020-02-29 00:00:00 UTC` or
+/// `Thu 1970-01-01 00:53:28 +00:53:28`.
 #[tactic(auto, unfolding(crate::specs::InstantText::instant_text))]
+pub fn format_instant(zone: Zone, instant: Instant) -> ShortText
+    ensures { result.items ≡ instant_text zone.entry instant.secs }
+{
+    let shown = civil(zone, instant);
+    format_civil(&shown, format_zone(zone.is_utc(), shown.offset))
+}
+
+/// Writes the text of the instant, as [`format_instant`] forms it.
 pub fn write_instant<W: Sink>(out: &mut W, zone: Zone, instant: Instant) -> Result<(), WriteFault>
     requires { W.is_failed out.old ≡ false }
     ensures failed { W.is_failed out.new ≡ is_err result }
     ensures bytes { Writes (W.written out.old) (W.written out.new) result
         (instant_text zone.entry instant.secs) }
 {
-    let shown = civil(zone, instant);
-    let word = ZoneWord::new(zone.is_utc(), shown.offset);
-    put_civil(out, shown, word)
-}
-
-// Writes what a clock shows, with the word of its zone.
-#[tactic(auto, unfolding(crate::specs::InstantText::civil_text))]
-fn put_civil<W: Sink>(out: &mut W, shown: Civil, word: ZoneWord) -> Result<(), WriteFault>
-    requires { W.is_failed out.old ≡ false }
-    ensures failed { W.is_failed out.new ≡ is_err result }
-    ensures bytes { Writes (W.written out.old) (W.written out.new) result (civil_text shown word) }
-{
-    let (mut years, mut months, mut days) = (Buffer::new(), Buffer::new(), Buffer::new());
-    let (mut hours, mut minutes, mut seconds) = (Buffer::new(), Buffer::new(), Buffer::new());
-    let year = years.format(shown.year.unsigned_abs());
-    let month = months.format(shown.month);
-    let day = days.format(shown.day);
-    let hour = hours.format(shown.hour);
-    let minute = minutes.format(shown.minute);
-    let second = seconds.format(shown.second);
-    put_pieces(
-        out,
-        &[
-            short_name(&shown).as_bytes(),
-            b" ",
-            zeros(year, 4),
-            year.as_bytes(),
-            b"-",
-            zeros(month, 2),
-            month.as_bytes(),
-            b"-",
-            zeros(day, 2),
-            day.as_bytes(),
-            b" ",
-            zeros(hour, 2),
-            hour.as_bytes(),
-            b":",
-            zeros(minute, 2),
-            minute.as_bytes(),
-            b":",
-            zeros(second, 2),
-            second.as_bytes(),
-            b" ",
-            word.as_bytes(),
-        ],
-    )
+    let text = format_instant(zone, instant);
+    put_all(out, text.as_slice())
 }
 
 /// Writes a time of day as `00:00:00`.
@@ -81,30 +45,125 @@ pub fn write_time<W: Sink>(out: &mut W, hour: u8, minute: u8, second: u8) -> Res
     put_pieces(
         out,
         &[
-            zeros(hour, 2),
+            padding(hour, 2, Fill::Zero),
             hour.as_bytes(),
             b":",
-            zeros(minute, 2),
+            padding(minute, 2, Fill::Zero),
             minute.as_bytes(),
             b":",
-            zeros(second, 2),
+            padding(second, 2, Fill::Zero),
             second.as_bytes(),
         ],
     )
 }
 
-// The short English name of the weekday.
-fn short_name(shown: &Civil) -> &str
-    ensures { result.now ≡ weekday_name shown.now.weekday }
+/// The text of what a clock shows, with the word of its zone.
+#[tactic(auto, unfolding(crate::specs::InstantText::civil_text, crate::specs::InstantText::date_text, crate::specs::InstantText::time_text))]
+fn format_civil(shown: &Civil, word: ShortText) -> ShortText
+    requires { length word.items ≤ 40 }
+    ensures { result.items ≡ civil_text shown.now word.items }
 {
-    match shown.weekday {
-        1 => "Mon",
-        2 => "Tue",
-        3 => "Wed",
-        4 => "Thu",
-        5 => "Fri",
-        6 => "Sat",
-        _ => "Sun",
+    let mut years = Buffer::new();
+    let (mut months, mut days) = (Buffer::new(), Buffer::new());
+    let (mut hours, mut minutes, mut seconds) = (Buffer::new(), Buffer::new(), Buffer::new());
+    let year = years.format(shown.year.unsigned_abs());
+    let month = months.format(shown.month);
+    let day = days.format(shown.day);
+    let hour = hours.format(shown.hour);
+    let minute = minutes.format(shown.minute);
+    let second = seconds.format(shown.second);
+    in_a_row(&[
+        weekday_name(shown.weekday),
+        b" ",
+        padding(year, 4, Fill::Zero),
+        year.as_bytes(),
+        b"-",
+        padding(month, 2, Fill::Zero),
+        month.as_bytes(),
+        b"-",
+        padding(day, 2, Fill::Zero),
+        day.as_bytes(),
+        b" ",
+        padding(hour, 2, Fill::Zero),
+        hour.as_bytes(),
+        b":",
+        padding(minute, 2, Fill::Zero),
+        minute.as_bytes(),
+        b":",
+        padding(second, 2, Fill::Zero),
+        second.as_bytes(),
+        b" ",
+        word.as_slice(),
+    ])
+}
+
+/// The word of a zone behind a time: `UTC` for UTC itself, and otherwise how far its clock is ahead.
+#[tactic(auto, unfolding(crate::specs::InstantText::zone_word))]
+fn format_zone(is_utc: bool, offset: i32) -> ShortText
+    ensures text { result.items ≡ zone_word is_utc offset }
+    ensures short { length result.items ≤ 40 }
+{
+    if is_utc {
+        in_a_row(&[b"UTC"])
+    } else {
+        format_offset(offset)
+    }
+}
+
+/// How far a clock is ahead, as `+02:00`, or as `+00:53:28` where the seconds aren't 0.
+#[tactic(auto, unfolding(crate::specs::InstantText::offset_text))]
+fn format_offset(offset: i32) -> ShortText
+    ensures text { result.items ≡ offset_text offset }
+    ensures short { length result.items ≤ 40 }
+{
+    let ahead = offset.unsigned_abs();
+    let (mut hours, mut minutes, mut seconds) = (Buffer::new(), Buffer::new(), Buffer::new());
+    let hour = hours.format(ahead / 3_600);
+    let minute = minutes.format(ahead / 60 % 60);
+    if ahead % 60 == 0 {
+        return in_a_row(&[
+            sign(offset),
+            padding(hour, 2, Fill::Zero),
+            hour.as_bytes(),
+            b":",
+            padding(minute, 2, Fill::Zero),
+            minute.as_bytes(),
+        ]);
+    }
+    let second = seconds.format(ahead % 60);
+    in_a_row(&[
+        sign(offset),
+        padding(hour, 2, Fill::Zero),
+        hour.as_bytes(),
+        b":",
+        padding(minute, 2, Fill::Zero),
+        minute.as_bytes(),
+        b":",
+        padding(second, 2, Fill::Zero),
+        second.as_bytes(),
+    ])
+}
+
+/// `-` for a clock behind UTC, and otherwise `+`.
+fn sign<'a>(offset: i32) -> &'a [u8]
+    ensures { result.now ≡ sign_text offset }
+{
+    if offset < 0 { b"-" } else { b"+" }
+}
+
+/// The short English name of a weekday, Monday being 1.
+fn weekday_name<'a>(weekday: u8) -> &'a [u8]
+    ensures name { result.now ≡ weekday_name weekday }
+    ensures short { length result.now ≤ 3 }
+{
+    match weekday {
+        1 => b"Mon",
+        2 => b"Tue",
+        3 => b"Wed",
+        4 => b"Thu",
+        5 => b"Fri",
+        6 => b"Sat",
+        _ => b"Sun",
     }
 }
 

@@ -1,6 +1,6 @@
 //! Laws of local seconds and dates, for the proofs of the crates above. Each is a function that does nothing,
 //! and whose contract is the law.
-ghost use Rattle.std.specs.Prelude.{◌≡◌, ℕ, ◌/◌, ◌<◌, ℤ, ◌-ℤ◌, pos, List, Some, None, false};
+ghost use Rattle.std.specs.Prelude.{◌≡◌, ℕ, ◌/◌, ◌<◌, ℤ, pos, ◌≤ℤ◌, ◌<ℤ◌, ◌+ℤ◌, ◌-ℤ◌, ◌*ℤ◌, List, Some, None, false};
 ghost use Rattle.std.specs.FinMap.{insert};
 ghost use Rattle.jiff.specs.Types.{Date, Fold, Gap, Offset, TimeZone, UTC, Unambiguous};
 ghost use Rattle.jiff.specs.Words.{ambiguous_at, civil_nanos, epoch_day, fixed_zone, nanos_of_seconds, offset_at, picked_instant, IsBetween, IsEpochDay, IsOffsetSeconds};
@@ -18,11 +18,15 @@ pub fn days_have_one_date()
     ensures only { (day : ℤ) (date : Date) → epoch_day date ≡ day → date_of day ≡ date }
 {}
 
-/// There are 7,258,118,400 local seconds, and each lies in the years 1970 to 2199.
+/// There are 7,258,118,400 local seconds; each lies in the years 1970 to 2199, and each second of a date of these
+/// years is one of them.
 pub fn local_seconds_are_counted()
     ensures count { seconds_in_all ≡ 7_258_118_400 }
     ensures years { (local : ℕ) → local < seconds_in_all
         → IsBetween (pos 1970) (pos 2199) (civil_date (local / 86_400)).year }
+    ensures all { (date : Date) (second : ℕ) → IsBetween (pos 1970) (pos 2199) date.year → second < 86_400
+        → (pos 0 ≤ℤ (epoch_day date *ℤ pos 86_400 +ℤ pos second))
+        × ((epoch_day date *ℤ pos 86_400 +ℤ pos second) <ℤ pos seconds_in_all) }
 {}
 
 /// A local second's civil time stands for it, it settles at the instant that `jiff`'s compatible conversion picks

@@ -1,6 +1,6 @@
 //! The units of time that a time span is written in.
 
-ghost use Rattle.std.specs.Prelude.{◌≡◌, ◌≤◌, ◌<◌, map};
+ghost use Rattle.std.specs.Prelude.{◌≡◌, ◌≤◌, ◌<◌, length, map};
 ghost use Rattle.cal_base.specs.Scale.{size_of, words_for, name_of};
 
 /// A unit of time, as in systemd.time(7), Parsing Time Spans.
@@ -83,7 +83,8 @@ impl Scale {
     /// The spelling in which the unit is printed.
     #[tactic(auto, unfolding(crate::specs::Scale::name_of))]
     pub fn name(self) -> &'static str
-        ensures { result.now ≡ name_of self }
+        ensures name { result.now ≡ name_of self }
+        ensures short { length result.now ≤ 5 }
     {
         match self {
             Scale::Year => "y",

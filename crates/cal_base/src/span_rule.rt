@@ -1,18 +1,26 @@
 //! That the value of a text is the one that the rule gives.
 
 ghost use Rattle.std.specs.Prelude.{◌≡◌, ℕ, List, Result, Some};
-ghost use Rattle.std.specs.List.{AllByRecursion, flat_map};
+ghost use Rattle.std.specs.List.{AllByRecursion};
 ghost use Rattle.cal_base.specs.declared.scale.Scale.{Scale};
 ghost use Rattle.cal_base.specs.declared.span_fault.SpanFault.{SpanFault};
 ghost use Rattle.cal_base.specs.Scale.{words_for};
-ghost use Rattle.cal_base.specs.SpanValue.{Pair, AreApart, Judges, symbols, runs, unit_named, pairs_in, span_of};
+ghost use Rattle.cal_base.specs.SpanRule.{AreRuns, AreApart, ArePairs, Judges};
+ghost use Rattle.cal_base.specs.SpanValue.{Piece, Pair, symbols, runs, pairs_of, unit_named, pairs_in, span_of};
 
 /// Each text has exactly one value or fault by the rule of systemd.time(7), Parsing Time Spans, and
 /// it is the one that `read_span` gives.
 pub fn one_value()
-    // The longest runs are the text, cut wherever the kind of character changes.
-    ensures whole { (text : List ℕ) → flat_map (λ run. run.text) (runs (symbols text)) ≡ text }
+    // The longest runs are the characters, cut wherever their kind changes, and nothing else is.
+    ensures cut { (text : List ℕ) → AreRuns (symbols text) (runs (symbols text)) }
     ensures longest { (text : List ℕ) → AreApart (runs (symbols text)) }
+    ensures only_runs { (text : List ℕ) (words : List Piece)
+        → AreRuns (symbols text) words → AreApart words → words ≡ runs (symbols text) }
+
+    // The pairs are those of the words, and nothing else is.
+    ensures paired { (words : List Piece) → ArePairs words (pairs_of words) }
+    ensures only_pairs { (words : List Piece) (pairs : List Pair)
+        → ArePairs words pairs → pairs ≡ pairs_of words }
 
     // No word spells two units.
     ensures spelled { (unit : Scale)

@@ -1,20 +1,32 @@
 //! How a time span is written: from the largest unit down, the greatest whole count that fits what is
 //! left, as in `1h 30min`.
 
-ghost use Rattle.std.specs.Prelude.{◌≡◌, ◌≤◌, ℕ, List, [], ◌∷◌, false, is_err, decimal};
+ghost use Rattle.std.specs.Prelude.{◌≡◌, ◌+◌, ◌≤◌, ℕ, List, [], ◌∷◌, ◌++◌, length, false, is_err, decimal};
 ghost use Rattle.cal_base.specs.Span.{limit};
 ghost use Rattle.cal_base.specs.SpanValue.{span_of};
 ghost use Rattle.cal_base.specs.Bytes.{Writes, joined};
 ghost use Rattle.cal_base.specs.Scale.{name_of};
 ghost use Rattle.cal_base.specs.SpanText.{IsSpanText, span_text, row_text, positive, counts_of};
 
-use crate::bytes::{Sink, WriteFault, put_all, put_pieces};
+use crate::bytes::{Sink, WriteFault, put_all};
 use crate::scale::Scale;
+use crate::short_text::{ShortText, in_a_row, push};
 use crate::span::Span;
 use itoa::Buffer;
 
-/// Writes a span from the largest unit down, counts of zero left out, as `1h 30min`, or `0` where it is
+/// The text of a span from the largest unit down, counts of zero left out, as `1h 30min`, or `0` where it is
 /// nothing (systemd.time(7), Parsing Time Spans).
+pub fn format_span(span: Span) -> ShortText
+    ensures text { result.items ≡ span_text span.micros }
+    ensures short { length result.items ≤ 234 }
+{
+    match span.micros() {
+        0 => in_a_row(&[b"0"]),
+        micros => format_counts(&Scale::ALL, micros),
+    }
+}
+
+/// Writes the text of a span, as [`format_span`] forms it.
 ///
 /// [`WriteFault::Failed`] comes exactly where the writer failed; it has a prefix of the text then.
 pub fn write_span<W: Sink>(out: &mut W, span: Span) -> Result<(), WriteFault>
@@ -22,10 +34,8 @@ pub fn write_span<W: Sink>(out: &mut W, span: Span) -> Result<(), WriteFault>
     ensures failed { W.is_failed out.new ≡ is_err result }
     ensures bytes { Writes (W.written out.old) (W.written out.new) result (span_text span.micros) }
 {
-    match span.micros() {
-        0 => put_all(out, b"0"),
-        micros => put_counts(out, &Scale::ALL, micros),
-    }
+    let text = format_span(span);
+    put_all(out, text.as_slice())
 }
 
 /// Each number of microseconds has exactly one span text.
@@ -39,45 +49,37 @@ pub fn text_reads_back()
     ensures { (n : ℕ) → n ≤ limit → span_of (span_text n) ≡ Ok n }
 {}
 
-/// Writes the counts that aren't zero, one space between them.
-fn put_counts<W: Sink>(out: &mut W, scales: &[Scale], micros: u64) -> Result<(), WriteFault>
-    requires { W.is_failed out.old ≡ false }
-    ensures failed { W.is_failed out.new ≡ is_err result }
-    ensures bytes { Writes (W.written out.old) (W.written out.new) result
-        (row_text (positive (counts_of scales.now micros))) }
+/// The counts that aren't zero, one space between them.
+fn format_counts(scales: &[Scale], micros: u64) -> ShortText
+    requires { length scales.now ≤ 9 }
+    ensures text { result.items ≡ row_text (positive (counts_of scales.now micros)) }
+    ensures short { length result.items ≤ 234 }
 {
+    let mut text = ShortText::new();
     let mut lead: &[u8] = b"";
     let mut rest = micros;
     for scale in scales {
         let size = scale.micros();
         if rest >= size {
-            put_count(out, lead, rest / size, *scale)?;
+            push_count(&mut text, lead, rest / size, *scale);
             lead = b" ";
         }
         rest %= size;
     }
-    Ok(())
+    text
 }
 
-/// Writes one count, with what leads up to it in front.
-fn put_count<W: Sink>(out: &mut W, lead: &[u8], count: u64, unit: Scale) -> Result<(), WriteFault>
-    requires { W.is_failed out.old ≡ false }
-    ensures failed { W.is_failed out.new ≡ is_err result }
-    ensures bytes { Writes (W.written out.old) (W.written out.new) result
-        (joined (lead.now ∷ decimal count ∷ name_of unit ∷ [])) }
+/// Appends one count, with what leads up to it in front.
+fn push_count(text: &mut ShortText, lead: &[u8], count: u64, unit: Scale)
+    requires lead { length lead.now ≤ 1 }
+    requires room { length text.old.items + 26 ≤ 256 }
+    ensures text { text.new.items ≡ text.old.items ++ joined (lead.now ∷ decimal count ∷ name_of unit ∷ []) }
+    ensures short { length text.new.items ≤ length text.old.items + 26 }
 {
     let mut digits = Buffer::new();
-    put_pieces(
-        out,
-        &[lead, digits.format(count).as_bytes(), spelling(unit)],
-    )
-}
-
-/// The unit's spelling, in bytes that live no longer than it takes.
-fn spelling<'a>(unit: Scale) -> &'a [u8]
-    ensures { result.now ≡ name_of unit }
-{
-    unit.name().as_bytes()
+    push(text, lead);
+    push(text, digits.format(count).as_bytes());
+    push(text, unit.name().as_bytes());
 }
 
 #[cfg(test)]

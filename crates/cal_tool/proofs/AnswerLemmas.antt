@@ -1,45 +1,15 @@
 -- Lemmas on what is answered to one text, and to texts in a row.
-use Rattle.std.proofs.Common.{◌≡◌, ℕ, suc, ◌+◌, ◌<◌, ◌≤◌, Bool, true, false, ◌||◌, map, List, [], ◌∷◌, ◌++◌, length, drop, get_or, Option, None, Some, Ok, Err, refl, sym, ap, ◌∙◌, codes, add-one, drop-cons}
-use Rattle.std.specs.Prelude.{ℤ, is_err, if◌then◌else◌}
+use Rattle.std.proofs.Common.{◌≡◌, ℕ, suc, ◌+◌, ◌<◌, ◌≤◌, Bool, true, false, ◌||◌, map, List, [], ◌∷◌, ◌++◌, length, drop, get_or, Option, Ok, Err, refl, sym, ap, ◌∙◌, codes, add-one, drop-cons}
+use Rattle.std.specs.Prelude.{is_err, if◌then◌else◌}
 use Rattle.std.specs.List.{flat_map, join_by, list_any}
 use Rattle.std.proofs.lemmas.List.{append-nil, drop_all}
 use Rattle.std.specs.Io.KnownBytes.{Appends}
 use Rattle.cal_base.specs.Bytes.{Leaves, AppendsFront}
 use Rattle.cal_base.proofs.Pieces.{step, stop, respell}
-use Rattle.cal_tool.specs.Answer.{Answer, report_in, refusal_in, later_text, status_in, reports_text, refusals_text, status_of}
-use Rattle.cal_base.specs.SpanFault.{words_of as span_words}
-use Rattle.cal_base.specs.SpanValue.{span_of}
-use Rattle.cal_base.specs.declared.span_fault.SpanFault.{SpanFault}
-use Rattle.cal_tool.specs.TimespanReport.{span_answer, timespan_answer, timespan_report}
+use Rattle.cal_tool.specs.Answer.{Answer, report_in, refusal_in, later_text, status_in, reports_text, refusals_text, whole_status}
 use Rattle.cal_tool.specs.Status.{is_fine, status_and}
 use Rattle.cal_tool.specs.declared.request.Status.{Status}
 use Rattle.cal_tool.specs.declared.request.Status.TheVariants.{Fine, Refused}
-use Rattle.cal_tool.specs.CalendarReport.{answer_with, calendar_answer, calendar_report}
-use Rattle.cal_tool.specs.Clock.{Clock}
-use Rattle.cal_tool.specs.ExpressionText.{expression_of}
-use Rattle.cal_tool.specs.Fault.{words_of}
-use Rattle.cal_tool.specs.declared.spec_fault.SpecFault.{SpecFault}
-use Rattle.cal_tool.specs.declared.spec_fault.SpecFault.TheVariants.{BadDate}
-
--- an expression is answered by its report
-pub accepted : (now base : ℤ) (n : ℕ) (text : List ℕ) (clock : Clock) → expression_of text ≡ Some clock → calendar_answer now base n text ≡ Ok (calendar_report now base n text clock)
-unfolding calendar_answer
-accepted now base n text clock e = ap (answer_with now base n text) e
-
--- another text by the words of its fault
-pub refused : (now base : ℤ) (n : ℕ) (text : List ℕ) (fault : SpecFault) → expression_of text ≡ None → fault ≡ BadDate → calendar_answer now base n text ≡ Err (words_of fault)
-unfolding calendar_answer
-refused now base n text fault e f = rw (e, f)
-
--- a time span is answered by its report
-pub span_accepted : (text : List ℕ) (micros : ℕ) → span_of text ≡ Ok micros → timespan_answer text ≡ Ok (timespan_report text micros)
-unfolding timespan_answer
-span_accepted text micros e = ap (span_answer text) e
-
--- another text by the words of its fault
-pub span_refused : (text : List ℕ) (fault : SpanFault) → span_of text ≡ Err fault → timespan_answer text ≡ Err (span_words fault)
-unfolding timespan_answer
-span_refused text fault e = ap (span_answer text) e
 
 -- reports that are left to write, behind an earlier one or before the first
 pub left_of : Bool → List (List ℕ) → List ℕ
@@ -83,28 +53,28 @@ refusals-none answer = refl
 -- the status, from that of the texts so far and the texts that are left
 pub status_left : Status → (List ℕ → Answer) → List (List ℕ) → Status
 status_left Refused answer texts = Refused
-status_left Fine answer texts = status_of answer texts
+status_left Fine answer texts = whole_status answer texts
 
 status-next : (a : Answer) (later : Bool) → (if is_err a || later then Refused else Fine) ≡ (if is_fine (status_in a) then (if later then Refused else Fine) else Refused)
 status-next (Ok report) later = refl
 status-next (Err words) later = refl
 
-status_left-by : (s : Status) (answer : List ℕ → Answer) (texts : List (List ℕ)) → (if is_fine s then status_of answer texts else Refused) ≡ status_left s answer texts
+status_left-by : (s : Status) (answer : List ℕ → Answer) (texts : List (List ℕ)) → (if is_fine s then whole_status answer texts else Refused) ≡ status_left s answer texts
 unfolding status_left
 status_left-by Fine answer texts = refl
 status_left-by Refused answer texts = refl
 
 pub status_left-next : (s : Status) (answer : List ℕ → Answer) (text : List ℕ) (texts : List (List ℕ)) → status_left s answer (text ∷ texts) ≡ status_left (status_and s (status_in (answer text))) answer texts
-unfolding status_left status_of
+unfolding status_left whole_status
 status_left-next Refused answer text texts = refl
 status_left-next Fine answer text texts = status-next (answer text) (list_any (λ t. is_err (answer t)) texts) ∙ status_left-by (status_in (answer text)) answer texts
 
-pub status_left-all : (answer : List ℕ → Answer) (texts : List (List ℕ)) → status_left Fine answer texts ≡ status_of answer texts
+pub status_left-all : (answer : List ℕ → Answer) (texts : List (List ℕ)) → status_left Fine answer texts ≡ whole_status answer texts
 unfolding status_left
 status_left-all answer texts = refl
 
 pub status_left-none : (s : Status) (answer : List ℕ → Answer) → status_left s answer [] ≡ s
-unfolding status_left status_of
+unfolding status_left whole_status
 status_left-none Refused answer = refl
 status_left-none Fine answer = refl
 

@@ -1,9 +1,9 @@
 pub mod AnswerLemmas
+pub mod CommandLemmas
 pub mod ElapseTexts
 pub mod ElapsesLemmas
-pub mod ExpressionLemmas
+pub mod ExprLemmas
 pub mod RisingLemmas
 pub mod SearchLemmas
 pub mod TimeOfDayLemmas
-pub mod WordLemmas
 pub mod WorkedRows

@@ -9,8 +9,8 @@ use Rattle.cal_base.proofs.CivilLemmas.{epoch_day-whole}
 use Rattle.cal_base.specs.Days.{date_of, date_of-epoch_day}
 use Rattle.jiff_core.proofs.CalendarLemmas.{days_in_month_bounds, weekday_number_bound}
 use Rattle.cal_base.specs.Local.{civil_date, seconds_in_all, seconds_in_all-is}
-use Rattle.cal_tool.specs.Clock.{Clock}
-use Rattle.cal_tool.specs.Expression.{lies, sets_of, timed, utc_place}
+use Rattle.cal_tool.specs.TimeOfDay.{TimeOfDay}
+use Rattle.cal_tool.specs.Expr.{lies, sets_of, timed, utc_place}
 use Rattle.cal_tool.specs.Elapses.{Timed, elapses_after, IsPlace}
 use Rattle.cal_tool.specs.RisingList.{first, later}
 use Rattle.cal_base.specs.Instant.{IsInstant}
@@ -27,11 +27,11 @@ only_years : (weekday year month day : Bool) → weekday ≡ true → month ≡ 
 only_years weekday true month day w m d = rw (w, m, d)
 only_years weekday false month day w m d = rw w
 
--- every date of 1970 to 2199 is one of the clock's
-pub date_in_years : (clock : Clock) (date : Date)
-    → date_in (sets_of clock) date ≡ (nat_le 1970 (unsigned_abs date.year) && nat_le (unsigned_abs date.year) 2199)
+-- every date of 1970 to 2199 is one of the expression's
+pub date_in_years : (time : TimeOfDay) (date : Date)
+    → date_in (sets_of time) date ≡ (nat_le 1970 (unsigned_abs date.year) && nat_le (unsigned_abs date.year) 2199)
 unfolding date_in sets_of
-date_in_years clock date =
+date_in_years time date =
     let long = days_in_month_bounds date.year date.month in
     let bound = weekday_number_bound (epoch_day date) in
     let weekday = lies_within 0 6 (weekday_of date) (omega arith) (omega arith) in
@@ -40,11 +40,11 @@ date_in_years clock date =
     only_years (lies 0 6 (weekday_of date)) (lies 1970 2199 (unsigned_abs date.year)) (lies 1 12 date.month) (lies 1 31 date.day) weekday month day
 
 -- and only the second with its hour, minute and second is its time
-pub time_in_fields : (clock : Clock) (second : ℕ)
-    → time_in (sets_of clock) second
-    ≡ (nat_eq (second / 3_600) clock.hour && (nat_eq (second / 60 % 60) clock.minute && nat_eq (second % 60) clock.second))
+pub time_in_fields : (time : TimeOfDay) (second : ℕ)
+    → time_in (sets_of time) second
+    ≡ (nat_eq (second / 3_600) time.hour && (nat_eq (second / 60 % 60) time.minute && nat_eq (second % 60) time.second))
 unfolding time_in sets_of
-time_in_fields clock second = refl
+time_in_fields time second = refl
 
 -- the date that a clock in UTC shows at a day's first second is that day's
 pub date_of_midnight : (shown : DateTime) (day : ℕ) → civil_nanos shown ≡ nanos_of_seconds (pos (day * 86_400)) → shown.date ≡ civil_date day
@@ -105,57 +105,57 @@ pub NonePasses-more : (passes : ℕ → Bool) (from day : ℕ) → NonePasses pa
 NonePasses-more passes from day before here = λ t above below.
     elim (cases_lt t (day * 86_400)) [ inl early ↦ before t above early | inr late ↦ here t (omega arith) (omega arith) ]
 
--- what the places of an clock in UTC are
-place_in_utc : (clock : Clock) (i : ℤ) (place : IsPlace (timed clock) i) → i ≡ pos place.local
+-- what the places of an time in UTC are
+place_in_utc : (time : TimeOfDay) (i : ℤ) (place : IsPlace (timed time) i) → i ≡ pos place.local
 unfolding timed utc_place
-place_in_utc clock i place =
+place_in_utc time i place =
     let here = place_of-UTC (pos place.local) in
     let there = place.placed in
     cc
 
-is_match_in_utc : (clock : Clock) (i : ℤ) (place : IsPlace (timed clock) i) → matches (sets_of clock) place.local ≡ true
+is_match_in_utc : (time : TimeOfDay) (i : ℤ) (place : IsPlace (timed time) i) → matches (sets_of time) place.local ≡ true
 unfolding timed
-is_match_in_utc clock i place = place.is_match
+is_match_in_utc time i place = place.is_match
 
-place_of_match : (clock : Clock) (t : ℕ) → t < seconds_in_all → matches (sets_of clock) t ≡ true → IsPlace (timed clock) (pos t)
+place_of_match : (time : TimeOfDay) (t : ℕ) → t < seconds_in_all → matches (sets_of time) t ≡ true → IsPlace (timed time) (pos t)
 unfolding timed utc_place
-place_of_match clock t within is_match = record { local = t; within = within; is_match = is_match; placed = place_of-UTC (pos t) }
+place_of_match time t within is_match = record { local = t; within = within; is_match = is_match; placed = place_of-UTC (pos t) }
 
 contradiction : {A : Type 0} (b : Bool) → b ≡ true → b ≡ false → A
 contradiction b holds fails = absurd (cc)
 
 -- no place where none matches
-no_match : (clock : Clock) (base : ℤ) (from : ℕ) (i : ℤ) → pos from ≡ base +ℤ pos 1 → base <ℤ i → (place : IsPlace (timed clock) i)
-    → NonePasses (matches (sets_of clock)) from seconds_in_all → ⊥
-no_match clock base from i e above place none =
-    let here = place_in_utc clock i place in
+no_match : (time : TimeOfDay) (base : ℤ) (from : ℕ) (i : ℤ) → pos from ≡ base +ℤ pos 1 → base <ℤ i → (place : IsPlace (timed time) i)
+    → NonePasses (matches (sets_of time)) from seconds_in_all → ⊥
+no_match time base from i e above place none =
+    let here = place_in_utc time i place in
     let low : from ≤ place.local = omega (arith, ints) in
-    contradiction (matches (sets_of clock) place.local) (is_match_in_utc clock i place) (none place.local low place.within)
+    contradiction (matches (sets_of time) place.local) (is_match_in_utc time i place) (none place.local low place.within)
 
 -- no place before the first match
-no_earlier : (clock : Clock) (base : ℤ) (from s : ℕ) (j : ℤ) → pos from ≡ base +ℤ pos 1 → base <ℤ j → (place : IsPlace (timed clock) j)
-    → NonePasses (matches (sets_of clock)) from s → pos s ≤ℤ j
-no_earlier clock base from s j e above place none =
-    let here = place_in_utc clock j place in
+no_earlier : (time : TimeOfDay) (base : ℤ) (from s : ℕ) (j : ℤ) → pos from ≡ base +ℤ pos 1 → base <ℤ j → (place : IsPlace (timed time) j)
+    → NonePasses (matches (sets_of time)) from s → pos s ≤ℤ j
+no_earlier time base from s j e above place none =
+    let here = place_in_utc time j place in
     let low : from ≤ place.local = omega (arith, ints) in
     elim (cases_lt place.local s) [
-      | inl early ↦ contradiction (matches (sets_of clock) place.local) (is_match_in_utc clock j place) (none place.local low early)
+      | inl early ↦ contradiction (matches (sets_of time) place.local) (is_match_in_utc time j place) (none place.local low early)
       | inr late ↦ (omega (arith, ints))
     ]
 
 -- the first match after a base is the first elapse in UTC
-pub first_elapse-search : (clock : Clock) (base : ℤ) (from : ℕ) (found : Option ℕ) → pos from ≡ base +ℤ pos 1
-    → IsFirstPassing (matches (sets_of clock)) from seconds_in_all found → first (elapses_after (timed clock ∷ []) base) ≡ option_map pos found
-first_elapse-search clock base from None e h =
-    first_elapse-none (timed clock ∷ []) base (λ i above m. elim m [
-      | inl place ↦ no_match clock base from i e above place h
+pub first_elapse-search : (time : TimeOfDay) (base : ℤ) (from : ℕ) (found : Option ℕ) → pos from ≡ base +ℤ pos 1
+    → IsFirstPassing (matches (sets_of time)) from seconds_in_all found → first (elapses_after (timed time ∷ []) base) ≡ option_map pos found
+first_elapse-search time base from None e h =
+    first_elapse-none (timed time ∷ []) base (λ i above m. elim m [
+      | inl place ↦ no_match time base from i e above place h
       | inr n ↦ absurd n
     ])
-first_elapse-search clock base from (Some s) e h =
-    first_elapse-least (timed clock ∷ []) base (pos s) (omega (arith, ints))
-    (inl (place_of_match clock s h.1 h.2))
+first_elapse-search time base from (Some s) e h =
+    first_elapse-least (timed time ∷ []) base (pos s) (omega (arith, ints))
+    (inl (place_of_match time s h.1 h.2))
     (λ j above m. elim m [
-      | inl place ↦ no_earlier clock base from s j e above place h.3
+      | inl place ↦ no_earlier time base from s j e above place h.3
       | inr n ↦ absurd n
     ])
 

@@ -7,8 +7,8 @@ use Rattle.jiff.proofs.SpanFacts.{signed_arith}
 use Rattle.cal_base.proofs.PlaceLemmas.{place_of-UTC}
 use Rattle.cal_base.proofs.YearLemmas.{year_of_local}
 use Rattle.cal_base.specs.Local.{civil_date, seconds_in_all, seconds_in_all-is}
-use Rattle.cal_tool.specs.Clock.{Clock, IsClock}
-use Rattle.cal_tool.specs.Expression.{sets_of, utc_place}
+use Rattle.cal_tool.specs.TimeOfDay.{TimeOfDay, IsTimeOfDay}
+use Rattle.cal_tool.specs.Expr.{sets_of, utc_place}
 use Rattle.cal_tool.specs.Match.{Sets, date_in, matches}
 use Rattle.cal_tool.proofs.SearchLemmas.{date_in_years, matches-time, time_in_fields}
 
@@ -17,22 +17,22 @@ year_number (pos n) low high = (omega (arith, signed_arith), omega (arith, signe
 year_number (negsuc n) low high = absurd (omega (arith, signed_arith))
 
 -- every date of the years 1970 to 2199 is in
-date_is_in : (clock : Clock) (date : Date) → IsBetween (pos 1970) (pos 2199) date.year → date_in (sets_of clock) date ≡ true
-date_is_in clock date h =
+date_is_in : (time : TimeOfDay) (date : Date) → IsBetween (pos 1970) (pos 2199) date.year → date_in (sets_of time) date ≡ true
+date_is_in time date h =
     let within = year_number date.year h.0 h.1 in
-    date_in_years clock date ∙ grind arith
+    date_in_years time date ∙ grind arith
 
 -- an hour, a minute and a second are those of one second after midnight
 one_second : (s h m k : ℕ) → m < 60 → k < 60
     → (nat_eq (s / 3_600) h && (nat_eq (s / 60 % 60) m && nat_eq (s % 60) k)) ≡ nat_eq s (h * 3_600 + m * 60 + k)
 one_second s h m k minute second = grind (arith, nat_tests)
 
-pub matches-daily : (clock : Clock) → IsClock clock → (t : ℕ) → t < seconds_in_all
-    → matches (sets_of clock) t ≡ nat_eq (t % 86_400) (clock.hour * 3_600 + clock.minute * 60 + clock.second)
-matches-daily clock real t h =
+pub matches-daily : (time : TimeOfDay) → IsTimeOfDay time → (t : ℕ) → t < seconds_in_all
+    → matches (sets_of time) t ≡ nat_eq (t % 86_400) (time.hour * 3_600 + time.minute * 60 + time.second)
+matches-daily time real t h =
     let count = seconds_in_all-is in
-    matches-time (sets_of clock) (t / 86_400) t (omega arith) (omega arith) (omega arith) (date_is_in clock (civil_date (t / 86_400)) (year_of_local t h))
-    ∙ (time_in_fields clock (t % 86_400) ∙ one_second (t % 86_400) clock.hour clock.minute clock.second (omega (arith, real.minute)) (omega (arith, real.second)))
+    matches-time (sets_of time) (t / 86_400) t (omega arith) (omega arith) (omega arith) (date_is_in time (civil_date (t / 86_400)) (year_of_local t h))
+    ∙ (time_in_fields time (t % 86_400) ∙ one_second (t % 86_400) time.hour time.minute time.second (omega (arith, real.minute)) (omega (arith, real.second)))
 
 pub matches-past : (sets : Sets) (t : ℕ) → seconds_in_all ≤ t → matches sets t ≡ false
 unfolding matches

@@ -1,10 +1,8 @@
--- What is answered to one text, and the whole text of a run: the reports on standard output, the refusals on
--- standard error, and the status.
-use Rattle.std.specs.Prelude.{ℕ, Bool, true, false, List, [], ◌∷◌, Result, Ok, Err, is_err, if◌then◌else◌, codes}
+-- What is answered to one text, and to texts in a row: the reports on standard output, the refusals on standard error,
+-- and the status.
+use Rattle.std.specs.Prelude.{ℕ, Bool, List, [], ◌∷◌, Result, Ok, Err, is_err, if◌then◌else◌, codes}
 use Rattle.std.specs.List.{list_any, flat_map, join_by}
 use Rattle.cal_base.specs.Bytes.{joined}
-use Rattle.cal_tool.specs.declared.request.RunFault.{RunFault}
-use Rattle.cal_tool.specs.declared.request.RunFault.TheVariants.{OutFailed, ErrFailed, NoMemory}
 use Rattle.cal_tool.specs.declared.request.Status.{Status}
 use Rattle.cal_tool.specs.declared.request.Status.TheVariants.{Fine, Refused}
 
@@ -31,28 +29,10 @@ abbrev pub later_text : Bool → Answer → List ℕ
 later_text is_later (Ok report) = joined (lead_text is_later ∷ report ∷ [])
 later_text is_later (Err words) = []
 
--- whether a run ended with the fault of the writer of the reports, or of the refusals
-abbrev pub is_out_failed : {T : Type 0} → Result T RunFault → Bool
-is_out_failed (Ok ended) = false
-is_out_failed (Err OutFailed) = true
-is_out_failed (Err ErrFailed) = false
-is_out_failed (Err NoMemory) = false
-
-abbrev pub is_err_failed : {T : Type 0} → Result T RunFault → Bool
-is_err_failed (Ok ended) = false
-is_err_failed (Err OutFailed) = false
-is_err_failed (Err ErrFailed) = true
-is_err_failed (Err NoMemory) = false
-
+-- the status of one text
 abbrev pub status_in : Answer → Status
 status_in (Ok report) = Fine
 status_in (Err words) = Refused
-
--- what a run writes and how it ends
-pub record Report : Type 0 where
-  pub out : List ℕ
-  pub err : List ℕ
-  pub status : Status
 
 -- The reports in the order of the texts, with one empty line between each two, which belongs to the later one.
 unfoldable pub reports_text : (List ℕ → Answer) → List (List ℕ) → List ℕ
@@ -63,12 +43,5 @@ unfoldable pub refusals_text : (List ℕ → Answer) → List (List ℕ) → Lis
 refusals_text answer = flat_map (λ text. refusal_in text (answer text))
 
 -- refused where some text was
-unfoldable pub status_of : (List ℕ → Answer) → List (List ℕ) → Status
-status_of answer texts = if list_any (λ text. is_err (answer text)) texts then Refused else Fine
-
-unfoldable pub report_of : (List ℕ → Answer) → List (List ℕ) → Report
-report_of answer texts = record {
-  out = reports_text answer texts;
-  err = refusals_text answer texts;
-  status = status_of answer texts;
-}
+unfoldable pub whole_status : (List ℕ → Answer) → List (List ℕ) → Status
+whole_status answer texts = if list_any (λ text. is_err (answer text)) texts then Refused else Fine

@@ -5,11 +5,11 @@ use Rattle.cal_base.specs.InstantText.{instant_text}
 use Rattle.cal_base.specs.SpanText.{span_text}
 use Rattle.cal_base.specs.Zone.{utc}
 use Rattle.cal_tool.specs.Answer.{Answer}
-use Rattle.cal_tool.specs.Clock.{Clock}
+use Rattle.cal_tool.specs.TimeOfDay.{TimeOfDay}
 use Rattle.cal_tool.specs.Elapses.{elapses_after}
-use Rattle.cal_tool.specs.Expression.{timed}
-use Rattle.cal_tool.specs.ExpressionText.{expression_of, normal_text}
-use Rattle.cal_tool.specs.Fault.{words_of}
+use Rattle.cal_tool.specs.Expr.{timed}
+use Rattle.cal_tool.specs.ExprText.{expr_of, normal_text}
+use Rattle.cal_tool.specs.SpecFault.{words_of}
 use Rattle.cal_tool.specs.declared.spec_fault.SpecFault.TheVariants.{BadDate}
 
 -- `left` where the instant isn't before the present, `ago` where it is
@@ -42,16 +42,28 @@ abbrev pub elapses_text : ℤ → List ℤ → List ℕ
 elapses_text now [] = codes "    Next elapse: never\n"
 elapses_text now (elapse ∷ elapses) = elapse_texts now 1 (elapse ∷ elapses)
 
+-- the line of the normal form, behind its label
+unfoldable pub normal_line : TimeOfDay → List ℕ
+normal_line time = joined (normal_text time ∷ codes "\n" ∷ [])
+
+-- the line of a text as it was handed in, and the label of the next
+unfoldable pub original_line : List ℕ → List ℕ
+original_line text = joined (codes "  Original form: " ∷ text ∷ codes "\nNormalized form: " ∷ [])
+
+-- both lines
+unfoldable pub heading_text : List ℕ → TimeOfDay → List ℕ
+heading_text text time = joined (original_line text ∷ normal_line time ∷ [])
+
 -- The report of a text that is an expression: the text, its normal form, and the first n of the elapses after
 -- the base, or all where there are fewer.
-unfoldable pub calendar_report : ℤ → ℤ → ℕ → List ℕ → Clock → List ℕ
-calendar_report now base n text clock =
-    joined (codes "  Original form: " ∷ text ∷ codes "\nNormalized form: " ∷ normal_text clock ∷ codes "\n" ∷ elapses_text now (take n (elapses_after (timed clock ∷ []) base)) ∷ [])
+unfoldable pub calendar_report : ℤ → ℤ → ℕ → List ℕ → TimeOfDay → List ℕ
+calendar_report now base n text time =
+    joined (heading_text text time ∷ elapses_text now (take n (elapses_after (timed time ∷ []) base)) ∷ [])
 
 -- the report, or the words of the refusal
-abbrev pub answer_with : ℤ → ℤ → ℕ → List ℕ → Option Clock → Answer
+abbrev pub answer_with : ℤ → ℤ → ℕ → List ℕ → Option TimeOfDay → Answer
 answer_with now base n text None = Err (words_of BadDate)
-answer_with now base n text (Some clock) = Ok (calendar_report now base n text clock)
+answer_with now base n text (Some time) = Ok (calendar_report now base n text time)
 
 unfoldable pub calendar_answer : ℤ → ℤ → ℕ → List ℕ → Answer
-calendar_answer now base n text = answer_with now base n text (expression_of text)
+calendar_answer now base n text = answer_with now base n text (expr_of text)

@@ -1,22 +1,37 @@
 -- The report of a request: what goes to standard output, what goes to standard error, and the status.
-use Rattle.std.specs.Prelude.{ℕ, ℤ, List}
-use Rattle.cal_tool.specs.Answer.{Answer, Report, report_of}
+use Rattle.std.specs.Prelude.{ℕ, List}
+use Rattle.cal_tool.specs.Answer.{Answer, reports_text, refusals_text, whole_status}
 use Rattle.cal_tool.specs.CalendarReport.{calendar_answer}
 use Rattle.cal_tool.specs.Request.{Asked, asked}
 use Rattle.cal_tool.specs.TimespanReport.{timespan_answer}
 use Rattle.cal_tool.specs.declared.command.Command.{Command}
+use Rattle.cal_tool.specs.declared.request.Status.{Status}
 use Rattle.cal_tool.specs.declared.request.Verb.{Verb}
 use Rattle.cal_tool.specs.declared.request.Verb.TheVariants.{Calendar, Timespan}
 
--- what is answered to one text of a request; so far the base of the elapses is the present
-abbrev pub answer_by : Verb → ℤ → ℕ → List ℕ → Answer
-answer_by Calendar now n text = calendar_answer now now n text
-answer_by Timespan now n text = timespan_answer text
+-- what a run writes and how it ends
+pub record Report : Type 0 where
+  pub out : List ℕ
+  pub err : List ℕ
+  pub status : Status
 
--- the report of a request at that present instant
-unfoldable pub report : Asked → ℤ → Report
-report asked now = report_of (answer_by asked.verb now asked.iterations) asked.texts
+-- what a verb answers to one text; so far the base of the elapses is the present
+abbrev pub answer_by : Verb → Asked → List ℕ → Answer
+answer_by Calendar asked text = calendar_answer asked.now asked.now asked.iterations text
+answer_by Timespan asked text = timespan_answer text
+
+-- what is answered to one text of a request
+abbrev pub answer_to : Asked → List ℕ → Answer
+answer_to asked = answer_by asked.verb asked
+
+-- the report of all texts, in their order
+unfoldable pub report : Asked → Report
+report asked = record {
+  out = reports_text (answer_to asked) asked.texts;
+  err = refusals_text (answer_to asked) asked.texts;
+  status = whole_status (answer_to asked) asked.texts;
+}
 
 -- the report of what a command asks for, at its present
 abbrev pub report_for : Command → Report
-report_for command = report (asked command.request) command.now.secs
+report_for command = report (asked command.request command.now.secs)

@@ -19,6 +19,6 @@ stop_status Usage = 2
 stop_status (Run fault) = 1
 
 -- the exit status of a run
-abbrev pub status_of : Status → ℕ
-status_of Fine = 0
-status_of Refused = 1
+abbrev pub exit_status : Status → ℕ
+exit_status Fine = 0
+exit_status Refused = 1

@@ -2,7 +2,7 @@
 
 ghost use Rattle.std.specs.Prelude.{◌≡◌, ◌<◌, ◌≤◌, codes, length, map, take_while, option_map, option_copied, MatchOption, None, Some, IfSome, IfOk, string_bytes, vec_len};
 ghost use Rattle.std.specs.List.{list_all, list_any};
-ghost use Rattle.cal_tool.specs.Words.{texts_of, asked_in, asked_of, calendar_in, timespan_in, texts_in as texts_among, settings_in, is_dashed, is_option, is_option_of_calendar, values_in, value_in, IsGiven, iterations_in, now_in, count_in, present_in, number_in};
+ghost use Rattle.cal_tool.specs.Command.{texts_of, asked_in, asked_of, calendar_in, timespan_in, texts_in as texts_among, settings_in, is_dashed, is_option, is_option_of_calendar, values_in, value_in, IsGiven, iterations_in, now_in, count_in, present_in, number_in};
 
 use crate::command::Command;
 use crate::request::{Request, Verb};
@@ -69,7 +69,9 @@ fn timespan(alloc: Global, words: &[&str]) -> Result<Option<Command>, AllocError
         return Ok(None);
     };
     // A run for time spans doesn't use the present, so any instant serves.
-    let now = Instant::new(0).unwrap();
+    let Some(now) = Instant::new(0) else {
+        unreachable!()
+    };
     Ok(Some(command(alloc, Verb::Timespan, texts, 1, now)?))
 }
 
@@ -88,6 +90,7 @@ fn command(
       verb = verb;
       texts = texts_of texts.now;
       iterations = iterations;
+      base = None;
       now = now.secs;
     }) }
 {

@@ -3,12 +3,12 @@
 
 ghost use Rattle.std.specs.Prelude.{◌≡◌, ◌==◌, ◌+◌, ◌*◌, ◌%◌, ◌<◌, ◌≤◌, ◌++◌, ◌∷◌, [], ℕ, ℤ, pos, List, Some, false, map, suc, take, drop, slice_get};
 ghost use Rattle.cal_base.specs.Local.{seconds_in_all};
-ghost use Rattle.cal_tool.specs.Clock.{Clock, IsClock};
+ghost use Rattle.cal_tool.specs.TimeOfDay.{TimeOfDay, IsTimeOfDay};
 ghost use Rattle.cal_tool.specs.Elapses.{Timed, AreElapses, elapses_after};
-ghost use Rattle.cal_tool.specs.Expression.{sets_of, utc_place};
+ghost use Rattle.cal_tool.specs.Expr.{sets_of, utc_place};
 ghost use Rattle.cal_tool.specs.Match.{matches};
 ghost use Rattle.cal_tool.specs.RisingList.{IsUnion, union};
-ghost use Rattle.cal_tool.specs.ExpressionText.{IsExpressionText, expression_of};
+ghost use Rattle.cal_tool.specs.ExprText.{IsExprText, expr_of};
 
 /// The union of lists is one list: it rises, has exactly the numbers of the lists, and no other list does.
 pub fn union_is_one_list()
@@ -46,17 +46,17 @@ pub fn elapses_in_parts()
 /// The expression that a text is, by computing, is the one that it is by the rule, and the other way
 /// round; so a text is at most one expression.
 pub fn accepted_texts()
-    ensures read { (text : List ℕ) (clock : Clock) → expression_of text ≡ Some clock → IsExpressionText text clock }
-    ensures only { (text : List ℕ) (clock : Clock) → IsExpressionText text clock → expression_of text ≡ Some clock }
+    ensures read { (text : List ℕ) (time : TimeOfDay) → expr_of text ≡ Some time → IsExprText text time }
+    ensures only { (text : List ℕ) (time : TimeOfDay) → IsExprText text time → expr_of text ≡ Some time }
 {}
 
 /// A time of day matches at that time on every date of the years 1970 to 2199, and in UTC the place of a
 /// local second is itself.
 pub fn times_of_day_match_daily()
-    ensures daily { (clock : Clock) → IsClock clock → (local : ℕ) → local < seconds_in_all
-        → matches (sets_of clock) local
-        ≡ (local % 86_400 == clock.hour * 3_600 + clock.minute * 60 + clock.second) }
-    ensures past_the_end { (clock : Clock) (local : ℕ) → seconds_in_all ≤ local
-        → matches (sets_of clock) local ≡ false }
+    ensures daily { (time : TimeOfDay) → IsTimeOfDay time → (local : ℕ) → local < seconds_in_all
+        → matches (sets_of time) local
+        ≡ (local % 86_400 == time.hour * 3_600 + time.minute * 60 + time.second) }
+    ensures past_the_end { (time : TimeOfDay) (local : ℕ) → seconds_in_all ≤ local
+        → matches (sets_of time) local ≡ false }
     ensures place { (local : ℕ) → utc_place local ≡ Some (pos local) }
 {}

@@ -6,22 +6,16 @@ ghost use Rattle.std.specs.FinMap.{empty};
 ghost use Rattle.std.specs.String.{string_bytes};
 ghost use Rattle.cal_base.specs.Bytes.{Writes, joined};
 ghost use Rattle.cal_base.specs.Zone.{utc};
-ghost use Rattle.cal_tool.specs.Answer.{refusal_in, later_text, lead_text, status_in, reports_text, refusals_text, status_of, is_out_failed, is_err_failed};
-ghost use Rattle.cal_tool.specs.CalendarReport.{calendar_answer, calendar_report};
-ghost use Rattle.cal_tool.specs.Clock.{clock_in};
-ghost use Rattle.cal_tool.specs.Report.{answer_by, report};
+ghost use Rattle.cal_tool.specs.Accepted.{report_text};
+ghost use Rattle.cal_tool.specs.Answer.{refusal_in, later_text, lead_text, status_in, reports_text, refusals_text, whole_status};
+ghost use Rattle.cal_tool.specs.Report.{answer_to, report};
 ghost use Rattle.cal_tool.specs.Request.{asked};
-ghost use Rattle.cal_tool.specs.TimespanReport.{timespan_answer, timespan_report};
+ghost use Rattle.cal_tool.specs.RunFault.{is_out_failed, is_err_failed};
 ghost use Rattle.cal_tool.specs.declared.request.RunFault.TheVariants.{NoMemory};
 
-use crate::calendar_report::write_calendar;
-use crate::expression::Expression;
-use crate::expression_text::read_expression;
-use crate::request::{Request, RunFault, Status, Verb};
-use crate::timespan_report::write_timespan;
-use cal_base::{
-    Instant, Sink, Source, Span, WriteFault, Zone, ZoneTable, put_all, put_pieces, read_span,
-};
+use crate::accepted::{Accepted, read_text, write_report};
+use crate::request::{Request, RunFault, Status};
+use cal_base::{Instant, Sink, Source, WriteFault, Zone, ZoneTable, put_all, put_pieces};
 use std::alloc::Global;
 
 /// Answers a request: each accepted text gets a report on `out`, each refused one a line on `err`.
@@ -32,7 +26,7 @@ use std::alloc::Global;
 /// [`RunFault::OutFailed`] and [`RunFault::ErrFailed`] come exactly where that writer failed in this call, and
 /// each writer has a prefix of its whole text then. No memory is taken so far, so [`RunFault::NoMemory`]
 /// never comes.
-#[tactic(auto, unfolding(crate::specs::Report::report, crate::specs::Request::asked, crate::specs::Answer::report_of))]
+#[tactic(auto, unfolding(crate::specs::Report::report))]
 pub fn run<R: Source, O: Sink, E: Sink>(
     alloc: Global,
     request: &Request,
@@ -50,11 +44,11 @@ pub fn run<R: Source, O: Sink, E: Sink>(
     requires input { R.is_failed input.old ≡ false }
     requires out { O.is_failed out.old ≡ false }
     requires err { E.is_failed err.old ≡ false }
-    ensures status { IfOk result (λ status. status ≡ (report (asked request.now) now.secs).status) }
+    ensures status { IfOk result (λ status. status ≡ (report (asked request.now now.secs)).status) }
     ensures out { Writes (O.written out.old) (O.written out.new) result
-        (report (asked request.now) now.secs).out }
+        (report (asked request.now now.secs)).out }
     ensures err { Writes (E.written err.old) (E.written err.new) result
-        (report (asked request.now) now.secs).err }
+        (report (asked request.now now.secs)).err }
     ensures out_failed { O.is_failed out.new ≡ is_out_failed result }
     ensures err_failed { E.is_failed err.new ≡ is_err_failed result }
     ensures memory { IsErrOf result NoMemory → ⊥ }
@@ -73,12 +67,12 @@ fn answer_all<O: Sink, E: Sink>(
     requires iterations { (1 ≤ request.now.iterations) × (request.now.iterations ≤ 1_000_000) }
     requires out { O.is_failed out.old ≡ false }
     requires err { E.is_failed err.old ≡ false }
-    ensures status { let answer = answer_by request.now.verb now.secs request.now.iterations in
-        IfOk result (λ status. status ≡ status_of answer (map string_bytes request.now.texts.items)) }
-    ensures out { let answer = answer_by request.now.verb now.secs request.now.iterations in
+    ensures status { let answer = answer_to (asked request.now now.secs) in
+        IfOk result (λ status. status ≡ whole_status answer (map string_bytes request.now.texts.items)) }
+    ensures out { let answer = answer_to (asked request.now now.secs) in
         Writes (O.written out.old) (O.written out.new) result
         (reports_text answer (map string_bytes request.now.texts.items)) }
-    ensures err { let answer = answer_by request.now.verb now.secs request.now.iterations in
+    ensures err { let answer = answer_to (asked request.now now.secs) in
         Writes (E.written err.old) (E.written err.new) result
         (refusals_text answer (map string_bytes request.now.texts.items)) }
     ensures out_failed { O.is_failed out.new ≡ is_out_failed result }
@@ -88,7 +82,7 @@ fn answer_all<O: Sink, E: Sink>(
     let mut status = Status::Fine;
     let mut is_later = false;
     for text in &request.texts {
-        let answered = match answer_one(request, text.as_str(), now, is_later, out, err) {
+        let answered = match answer_one(request, now, text.as_str(), is_later, out, err) {
             Ok(answered) => answered,
             Err(fault) => return Err(fault),
         };
@@ -98,11 +92,11 @@ fn answer_all<O: Sink, E: Sink>(
     Ok(status)
 }
 
-/// Answers one text, by a report or by the line of its refusal.
+/// Answers one text, by its report or by the line of its refusal.
 fn answer_one<O: Sink, E: Sink>(
     request: &Request,
-    text: &str,
     now: Instant,
+    text: &str,
     is_later: bool,
     out: &mut O,
     err: &mut E,
@@ -111,119 +105,45 @@ fn answer_one<O: Sink, E: Sink>(
     requires out { O.is_failed out.old ≡ false }
     requires err { E.is_failed err.old ≡ false }
     ensures status { IfOk result (λ status. status
-        ≡ status_in (answer_by request.now.verb now.secs request.now.iterations text.now)) }
+        ≡ status_in (answer_to (asked request.now now.secs) text.now)) }
     ensures out { Writes (O.written out.old) (O.written out.new) result
-        (later_text is_later (answer_by request.now.verb now.secs request.now.iterations text.now)) }
+        (later_text is_later (answer_to (asked request.now now.secs) text.now)) }
     ensures err { Writes (E.written err.old) (E.written err.new) result
-        (refusal_in text.now (answer_by request.now.verb now.secs request.now.iterations text.now)) }
+        (refusal_in text.now (answer_to (asked request.now now.secs) text.now)) }
     ensures out_failed { O.is_failed out.new ≡ is_out_failed result }
     ensures err_failed { E.is_failed err.new ≡ is_err_failed result }
     ensures memory { IsErrOf result NoMemory → ⊥ }
 {
-    match request.verb {
-        Verb::Calendar => answer_calendar(text, request.iterations, now, is_later, out, err),
-        Verb::Timespan => answer_timespan(text, is_later, out, err),
-    }
-}
-
-/// Answers one calendar expression.
-fn answer_calendar<O: Sink, E: Sink>(
-    text: &str,
-    iterations: u32,
-    now: Instant,
-    is_later: bool,
-    out: &mut O,
-    err: &mut E,
-) -> Result<Status, RunFault>
-    requires iterations { (1 ≤ iterations) × (iterations ≤ 1_000_000) }
-    requires out { O.is_failed out.old ≡ false }
-    requires err { E.is_failed err.old ≡ false }
-    ensures status { IfOk result (λ status. status
-        ≡ status_in (calendar_answer now.secs now.secs iterations text.now)) }
-    ensures out { Writes (O.written out.old) (O.written out.new) result
-        (later_text is_later (calendar_answer now.secs now.secs iterations text.now)) }
-    ensures err { Writes (E.written err.old) (E.written err.new) result
-        (refusal_in text.now (calendar_answer now.secs now.secs iterations text.now)) }
-    ensures out_failed { O.is_failed out.new ≡ is_out_failed result }
-    ensures err_failed { E.is_failed err.new ≡ is_err_failed result }
-    ensures memory { IsErrOf result NoMemory → ⊥ }
-{
-    match read_expression(text) {
-        Ok(expression) => match put_calendar(out, is_later, text, &expression, iterations, now) {
+    match read_text(request, now, text) {
+        Ok(accepted) => match put_report(out, is_later, request, now, text, &accepted) {
             Ok(()) => Ok(Status::Fine),
             Err(WriteFault::Failed) => Err(RunFault::OutFailed),
         },
-        Err(fault) => match put_refusal(err, text, fault.words()) {
+        Err(refusal) => match put_refusal(err, text, refusal.words()) {
             Ok(()) => Ok(Status::Refused),
             Err(WriteFault::Failed) => Err(RunFault::ErrFailed),
         },
     }
 }
 
-/// Answers one time span.
-fn answer_timespan<O: Sink, E: Sink>(
-    text: &str,
-    is_later: bool,
-    out: &mut O,
-    err: &mut E,
-) -> Result<Status, RunFault>
-    requires out { O.is_failed out.old ≡ false }
-    requires err { E.is_failed err.old ≡ false }
-    ensures status { IfOk result (λ status. status ≡ status_in (timespan_answer text.now)) }
-    ensures out { Writes (O.written out.old) (O.written out.new) result
-        (later_text is_later (timespan_answer text.now)) }
-    ensures err { Writes (E.written err.old) (E.written err.new) result
-        (refusal_in text.now (timespan_answer text.now)) }
-    ensures out_failed { O.is_failed out.new ≡ is_out_failed result }
-    ensures err_failed { E.is_failed err.new ≡ is_err_failed result }
-    ensures memory { IsErrOf result NoMemory → ⊥ }
-{
-    match read_span(text) {
-        Ok(span) => match put_timespan(out, is_later, text, span) {
-            Ok(()) => Ok(Status::Fine),
-            Err(WriteFault::Failed) => Err(RunFault::OutFailed),
-        },
-        Err(fault) => match put_refusal(err, text, fault.words()) {
-            Ok(()) => Ok(Status::Refused),
-            Err(WriteFault::Failed) => Err(RunFault::ErrFailed),
-        },
-    }
-}
-
-/// Writes the report of an expression in its place among the reports.
-fn put_calendar<W: Sink>(
+/// Writes a report in its place among the others.
+#[tactic(auto, using(cal_base::proofs::Pieces::first_fails, cal_base::proofs::Pieces::second_ends))]
+fn put_report<W: Sink>(
     out: &mut W,
     is_later: bool,
-    text: &str,
-    expression: &Expression,
-    iterations: u32,
+    request: &Request,
     now: Instant,
+    text: &str,
+    accepted: &Accepted,
 ) -> Result<(), WriteFault>
-    requires iterations { (1 ≤ iterations) × (iterations ≤ 1_000_000) }
+    requires iterations { (1 ≤ request.now.iterations) × (request.now.iterations ≤ 1_000_000) }
     requires out { W.is_failed out.old ≡ false }
     ensures failed { W.is_failed out.new ≡ is_err result }
     ensures bytes { Writes (W.written out.old) (W.written out.new) result
-        (joined (lead_text is_later
-        ∷ calendar_report now.secs now.secs iterations text.now (clock_in expression.now) ∷ [])) }
+        (joined (lead_text is_later ∷ report_text (asked request.now now.secs) text.now accepted.now ∷ [])) }
 {
     put_lead(out, is_later)?;
-    write_calendar(out, text, expression, iterations, now, now)
-}
-
-/// Writes the report of a time span in its place among the reports.
-fn put_timespan<W: Sink>(
-    out: &mut W,
-    is_later: bool,
-    text: &str,
-    span: Span,
-) -> Result<(), WriteFault>
-    requires { W.is_failed out.old ≡ false }
-    ensures failed { W.is_failed out.new ≡ is_err result }
-    ensures bytes { Writes (W.written out.old) (W.written out.new) result
-        (joined (lead_text is_later ∷ timespan_report text.now span.micros ∷ [])) }
-{
-    put_lead(out, is_later)?;
-    write_timespan(out, text, span)
+    write_report(out, request, now, text, accepted)
 }
 
 /// Writes the empty line that parts a report from the one before it.

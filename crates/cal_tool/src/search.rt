@@ -1,14 +1,14 @@
 //! The search for the next elapse: day after day, and in each day second after second.
 ghost use Rattle.std.specs.Prelude.{◌≡◌, ◌+◌, ◌*◌, ◌<◌, ◌≤◌, [], ◌∷◌, option_map, IfSome};
 ghost use Rattle.cal_base.specs.Local.{civil_date, seconds_in_all};
-ghost use Rattle.cal_tool.specs.Clock.{clock_in};
+ghost use Rattle.cal_tool.specs.TimeOfDay.{time_of_day};
 ghost use Rattle.cal_tool.specs.Elapses.{elapses_after};
-ghost use Rattle.cal_tool.specs.Expression.{sets_of, timed};
+ghost use Rattle.cal_tool.specs.Expr.{sets_of, timed};
 ghost use Rattle.cal_tool.specs.Match.{matches};
 ghost use Rattle.cal_tool.specs.RisingList.{first, later};
 ghost use Rattle.cal_tool.specs.Search.{IsFirstPassing};
 
-use crate::expression::Expression;
+use crate::expr::Expr;
 use cal_base::Instant;
 use jiff::Timestamp;
 use jiff::civil::Date;
@@ -22,23 +22,23 @@ const DAYS: u64 = 84_006;
 
 /// The first elapse of the expression in UTC that is later than the base, or `None` where there is none through
 /// the year 2199: systemd.time(7), Calendar Events.
-pub fn next_elapse(expression: &Expression, base: Instant) -> Option<Instant>
+pub fn next_elapse(expr: &Expr, base: Instant) -> Option<Instant>
     ensures first { option_map (λ i. i.secs) result
-        ≡ first (elapses_after (timed (clock_in expression.now) ∷ []) base.secs) }
-    ensures rest { IfSome result (λ e. elapses_after (timed (clock_in expression.now) ∷ []) e.secs
-        ≡ later (elapses_after (timed (clock_in expression.now) ∷ []) base.secs)) }
+        ≡ first (elapses_after (timed (time_of_day expr.now) ∷ []) base.secs) }
+    ensures rest { IfSome result (λ e. elapses_after (timed (time_of_day expr.now) ∷ []) e.secs
+        ≡ later (elapses_after (timed (time_of_day expr.now) ∷ []) base.secs)) }
 {
-    let local = next_local(expression, base.secs() as u64 + 1)?;
+    let local = next_local(expr, base.secs() as u64 + 1)?;
     Instant::new(local as i64)
 }
 
 // The first matching local second that is not below `from`.
-fn next_local(expression: &Expression, from: u64) -> Option<u64>
-    ensures { IsFirstPassing (matches (sets_of (clock_in expression.now))) from seconds_in_all result }
+fn next_local(expr: &Expr, from: u64) -> Option<u64>
+    ensures { IsFirstPassing (matches (sets_of (time_of_day expr.now))) from seconds_in_all result }
 {
     for day in from / DAY..DAYS {
         let start = from.max(day * DAY);
-        if let Some(local) = next_in_day(expression, day, start) {
+        if let Some(local) = next_in_day(expr, day, start) {
             return Some(local);
         }
     }
@@ -46,16 +46,16 @@ fn next_local(expression: &Expression, from: u64) -> Option<u64>
 }
 
 // The first matching local second of that day that is not below `from`, a local second of the day or later.
-fn next_in_day(expression: &Expression, day: u64, from: u64) -> Option<u64>
+fn next_in_day(expr: &Expr, day: u64, from: u64) -> Option<u64>
     requires day_in { day < 84_006 }
     requires from_in { day * 86_400 ≤ from }
-    ensures { IsFirstPassing (matches (sets_of (clock_in expression.now))) from (day * 86_400 + 86_400) result }
+    ensures { IsFirstPassing (matches (sets_of (time_of_day expr.now))) from (day * 86_400 + 86_400) result }
 {
-    if !expression.has_date(date_of_day(day)) {
+    if !expr.has_date(date_of_day(day)) {
         return None;
     }
     for local in from..day * DAY + DAY {
-        if expression.has_time(local % DAY) {
+        if expr.has_time(local % DAY) {
             return Some(local);
         }
     }
@@ -80,8 +80,8 @@ mod tests {
     // The seconds of the next elapse of that time of day.
     fn next(time: (u8, u8, u8), base: i64) -> Option<i64> {
         let (hour, minute, second) = time;
-        let expression = Expression::new(hour, minute, second)?;
-        let elapse = next_elapse(&expression, Instant::new(base)?)?;
+        let expr = Expr::new(hour, minute, second)?;
+        let elapse = next_elapse(&expr, Instant::new(base)?)?;
         Some(elapse.secs())
     }
 

@@ -1,7 +1,7 @@
 //! Why a calendar expression is refused.
 
 ghost use Rattle.std.specs.Prelude.{◌≡◌};
-ghost use Rattle.cal_tool.specs.Fault.{words_of};
+ghost use Rattle.cal_tool.specs.SpecFault.{words_of};
 
 use thiserror::Error;
 

@@ -2,7 +2,7 @@
 
 ghost use Rattle.std.specs.Prelude.{◌≡◌, false, is_err};
 ghost use Rattle.cal_base.specs.Bytes.{Writes};
-ghost use Rattle.cal_tool.specs.Stop.{line_of, status_of, stop_status};
+ghost use Rattle.cal_tool.specs.Stop.{line_of, exit_status, stop_status};
 
 use crate::request::{RunFault, Status};
 use cal_base::{Sink, WriteFault, put_all};
@@ -51,8 +51,8 @@ pub fn write_stop<W: Sink>(out: &mut W, stop: &Stop) -> Result<(), WriteFault>
 }
 
 /// The exit status of a run that could write all of its text: 0, or 1 where a text was refused.
-pub fn status_of(status: Status) -> u8
-    ensures { result ≡ status_of status }
+pub fn exit_status(status: Status) -> u8
+    ensures { result ≡ exit_status status }
 {
     match status {
         Status::Fine => 0,

@@ -1,7 +1,6 @@
 use Rattle.std.proofs.Common.{◌≡◌, ◌-ℤ◌, ◌∙◌, sym, ap, Some, arith, rules, w64, FitsSigned}
 use Rattle.std.proofs.lemmas.Int.{to_z-of_z}
 use Rattle.jiff.proofs.SpanFacts.{signed_arith}
-use Rattle.cal_base.specs.Local.{seconds_in_all-is}
 use Rattle.cal_base.specs.Place.{place_of}
 use Rattle.cal_base.specs.Zone.{offset_of, zone_of}
 use Rattle.cal_base.proofs.PlaceLemmas.{place_of-UTC, place_of-fixed_zone}

@@ -1,5 +1,5 @@
 use Rattle.std.proofs.Common.{◌∙◌, refl, sym, ap, Some}
-use Rattle.cal_tool.proofs.WordLemmas.{calendar_in-split}
+use Rattle.cal_tool.proofs.CommandLemmas.{calendar_in-split}
 use Rattle.cal_tool.proofs.early_words.calendar.Goals as goal
 
 pub returns-in_default : goal.returns-in_default

@@ -1,6 +1,6 @@
 use Rattle.std.proofs.Common.{◌∙◌, rules, sym}
-use Rattle.cal_tool.specs.Words.{count_in}
-use Rattle.cal_tool.proofs.WordLemmas.{number_in-range}
+use Rattle.cal_tool.specs.Command.{count_in}
+use Rattle.cal_tool.proofs.CommandLemmas.{number_in-range}
 use Rattle.cal_tool.proofs.early_words.count_in.Goals as goal
 
 pub returns-in_err-number-clause-value : goal.returns-in_err-number-clause-value

@@ -1,5 +1,5 @@
 use Rattle.std.proofs.Common.{◌∙◌, sym}
-use Rattle.cal_tool.proofs.WordLemmas.{asked_in-empty, asked_in-calendar, asked_in-timespan, asked_in-other}
+use Rattle.cal_tool.proofs.CommandLemmas.{asked_in-empty, asked_in-calendar, asked_in-timespan, asked_in-other}
 use Rattle.cal_tool.proofs.early_words.early_words.Goals as goal
 
 pub returns-in_default : goal.returns-in_default

@@ -1,6 +1,6 @@
 use Rattle.std.proofs.Common.{refl, codes}
 use Rattle.std.proofs.lemmas.Str.Pattern.{starts_text}
-use Rattle.cal_tool.specs.Words.{is_option_of_calendar}
+use Rattle.cal_tool.specs.Command.{is_option_of_calendar}
 use Rattle.cal_tool.proofs.early_words.is_known.Goals as goal
 
 pub returns-then-starts_with : goal.returns-then-starts_with

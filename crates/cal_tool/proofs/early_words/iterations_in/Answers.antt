@@ -1,6 +1,6 @@
 use Rattle.std.proofs.Common.{refl, sym}
-use Rattle.cal_tool.specs.Words.{iterations_in}
-use Rattle.cal_tool.proofs.WordLemmas.{iterations_in-twice}
+use Rattle.cal_tool.specs.Command.{iterations_in}
+use Rattle.cal_tool.proofs.CommandLemmas.{iterations_in-twice}
 use Rattle.cal_tool.proofs.early_words.iterations_in.Goals as goal
 
 pub returns-in-Never-clause-value : goal.returns-in-Never-clause-value

@@ -1,6 +1,6 @@
 use Rattle.std.proofs.Common.{refl, sym}
-use Rattle.cal_tool.specs.Words.{now_in}
-use Rattle.cal_tool.proofs.WordLemmas.{now_in-twice}
+use Rattle.cal_tool.specs.Command.{now_in}
+use Rattle.cal_tool.proofs.CommandLemmas.{now_in-twice}
 use Rattle.cal_tool.proofs.early_words.now_in.Goals as goal
 
 pub returns-in-Never : goal.returns-in-Never

@@ -1,6 +1,6 @@
 use Rattle.std.proofs.Common.{◌≡◌, ◌∙◌, refl, sym, rules, None}
-use Rattle.cal_tool.specs.Words.{settings_in, texts_of}
-use Rattle.cal_tool.proofs.WordLemmas.{settings_in-unknown, settings_in-known}
+use Rattle.cal_tool.specs.Command.{settings_in, texts_of}
+use Rattle.cal_tool.proofs.CommandLemmas.{settings_in-unknown, settings_in-known}
 use Rattle.cal_tool.proofs.early_words.options_in.Goals as goal
 
 pub returns-then-not-are_known : goal.returns-then-not-are_known

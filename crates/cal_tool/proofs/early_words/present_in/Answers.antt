@@ -1,7 +1,7 @@
 use Rattle.std.proofs.Common.{◌∙◌, Some, None, lit<, sym, ap, arith, rules, w64}
 use Rattle.std.proofs.lemmas.Str.Pattern.{strip_prefix_char}
 use Rattle.std.proofs.lemmas.Int.{ints, to_z_pos}
-use Rattle.cal_tool.proofs.WordLemmas.{present_in-none, present_in-some, number_in-range, instant_some}
+use Rattle.cal_tool.proofs.CommandLemmas.{present_in-none, present_in-some, number_in-range, instant_some}
 use Rattle.cal_tool.proofs.early_words.present_in.Goals as goal
 
 pub returns-in_err-strip_prefix : goal.returns-in_err-strip_prefix

@@ -1,6 +1,6 @@
 use Rattle.std.proofs.Common.{◌∙◌, sym, refl, rules, arith}
 use Rattle.std.proofs.lemmas.Bool.Decides.{nat_tests}
-use Rattle.cal_tool.proofs.WordLemmas.{texts_in-empty, texts_in-after, texts_in-plain, some_texts-none, some_texts-some}
+use Rattle.cal_tool.proofs.CommandLemmas.{texts_in-empty, texts_in-after, texts_in-plain, some_texts-none, some_texts-some}
 use Rattle.cal_tool.proofs.early_words.texts_in.Goals as goal
 
 pub returns-in_err-first-clause-value : goal.returns-in_err-first-clause-value

@@ -1,4 +1,4 @@
-use Rattle.cal_tool.proofs.WordLemmas.{strips_text}
+use Rattle.cal_tool.proofs.CommandLemmas.{strips_text}
 use Rattle.cal_tool.proofs.early_words.value_in.Goals as goal
 
 pub returns : goal.returns

@@ -1,6 +1,6 @@
 use Rattle.std.proofs.Common.{◌∙◌, refl, sym, arith}
-use Rattle.cal_tool.specs.Words.{values_in}
-use Rattle.cal_tool.proofs.WordLemmas.{values_in-second, values_in-first, values_in-kept}
+use Rattle.cal_tool.specs.Command.{values_in}
+use Rattle.cal_tool.proofs.CommandLemmas.{values_in-second, values_in-first, values_in-kept}
 use Rattle.cal_tool.proofs.early_words.value_of.Goals.{in-Some+else-is_some, in_default}
 use Rattle.cal_tool.proofs.early_words.value_of.Goals as goal
 

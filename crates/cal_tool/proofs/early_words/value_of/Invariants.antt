@@ -1,5 +1,5 @@
 use Rattle.std.proofs.Common.{◌≡◌, map, take, option_to_list, option_copied}
-use Rattle.cal_tool.specs.Words.{values_in}
+use Rattle.cal_tool.specs.Command.{values_in}
 use Rattle.cal_tool.proofs.early_words.value_of.Given as goal
 
 -- what the words so far give

@@ -1,4 +1,4 @@
-use Rattle.cal_tool.proofs.ExpressionLemmas.{read_is, rule_is}
+use Rattle.cal_tool.proofs.ExprLemmas.{read_is, rule_is}
 use Rattle.cal_tool.proofs.laws.accepted_texts.Goals as goal
 
 pub returns : goal.returns

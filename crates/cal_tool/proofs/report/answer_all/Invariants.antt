@@ -3,14 +3,15 @@
 use Rattle.std.proofs.Common.{◌≡◌, false, drop, map}
 use Rattle.std.specs.String.{string_bytes}
 use Rattle.cal_base.specs.Bytes.{Leaves}
-use Rattle.cal_tool.specs.Answer.{reports_text, refusals_text, status_of}
-use Rattle.cal_tool.specs.Report.{answer_by}
+use Rattle.cal_tool.specs.Answer.{reports_text, refusals_text, whole_status}
+use Rattle.cal_tool.specs.Report.{answer_to}
+use Rattle.cal_tool.specs.Request.{asked}
 use Rattle.cal_tool.proofs.AnswerLemmas.{reports_left, status_left}
 use Rattle.cal_tool.proofs.report.answer_all.Given as goal
 
 abbrev pub invariant-loop-text : goal.invariant-loop-text
 invariant-loop-text g l =
-    let answer = answer_by l.request.verb l.now.secs l.request.iterations in
+    let answer = answer_to (asked l.request l.now.secs) in
     let all = map string_bytes l.request.texts.items in
     let rest = map string_bytes (drop l.text-index l.request.texts.items) in
     record {
@@ -18,5 +19,5 @@ invariant-loop-text g l =
       err_works : g.E.Sink.is_failed l.err ≡ false;
       out : Leaves (g.O.Sink.written l.fn.out) (g.O.Sink.written l.out) (reports_left l.is_later answer rest) (reports_text answer all);
       err : Leaves (g.E.Sink.written l.fn.err) (g.E.Sink.written l.err) (refusals_text answer rest) (refusals_text answer all);
-      status : status_left l.status answer rest ≡ status_of answer all;
+      status : status_left l.status answer rest ≡ whole_status answer all;
     }

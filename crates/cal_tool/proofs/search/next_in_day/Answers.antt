@@ -1,8 +1,8 @@
 use Rattle.std.proofs.Common.{◌≡◌, true, arith, sym, ◌∙◌}
 use Rattle.std.proofs.Common.{rules}
 use Rattle.cal_base.specs.Local.{civil_date}
-use Rattle.cal_tool.specs.Clock.{clock_in}
-use Rattle.cal_tool.specs.Expression.{sets_of}
+use Rattle.cal_tool.specs.TimeOfDay.{time_of_day}
+use Rattle.cal_tool.specs.Expr.{sets_of}
 use Rattle.cal_tool.specs.Match.{date_in, matches}
 use Rattle.cal_tool.proofs.SearchLemmas.{NonePasses-day, NonePasses-one, matches-time}
 use Rattle.cal_tool.proofs.search.next_in_day.Goals as goal
@@ -12,12 +12,12 @@ returns-then-not-has_date c = NonePasses-day _ c.args.day c.args.from c.requires
 
 pub returns-then-has_time : goal.returns-then-has_time
 returns-then-has_time c =
-    let date : date_in (sets_of (clock_in c.args.expression.now)) (civil_date c.args.day) ≡ true = cc in
-    let here = matches-time (sets_of (clock_in c.args.expression.now)) c.args.day c.loop-local.local c.requires.day_in (omega arith) (omega arith) date in
+    let date : date_in (sets_of (time_of_day c.args.expr.now)) (civil_date c.args.day) ≡ true = cc in
+    let here = matches-time (sets_of (time_of_day c.args.expr.now)) c.args.day c.loop-local.local c.requires.day_in (omega arith) (omega arith) date in
     (omega arith, omega arith, here ∙ sym c.if-has_time.ensures, c.loop-local.invariant)
 
 pub loop-local-preserved : goal.loop-local-preserved
 loop-local-preserved c =
-    let date : date_in (sets_of (clock_in c.args.expression.now)) (civil_date c.args.day) ≡ true = cc in
-    let here = matches-time (sets_of (clock_in c.args.expression.now)) c.args.day c.loop-local.local c.requires.day_in (omega arith) (omega arith) date in
-    NonePasses-one (matches (sets_of (clock_in c.args.expression.now))) c.args.from c.loop-local.local c.loop-local.invariant (here ∙ sym c.if-has_time.ensures)
+    let date : date_in (sets_of (time_of_day c.args.expr.now)) (civil_date c.args.day) ≡ true = cc in
+    let here = matches-time (sets_of (time_of_day c.args.expr.now)) c.args.day c.loop-local.local c.requires.day_in (omega arith) (omega arith) date in
+    NonePasses-one (matches (sets_of (time_of_day c.args.expr.now))) c.args.from c.loop-local.local c.loop-local.invariant (here ∙ sym c.if-has_time.ensures)

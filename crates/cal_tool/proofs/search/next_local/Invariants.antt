@@ -1,9 +1,9 @@
 use Rattle.std.proofs.Common.{◌*◌}
-use Rattle.cal_tool.specs.Clock.{clock_in}
-use Rattle.cal_tool.specs.Expression.{sets_of}
+use Rattle.cal_tool.specs.TimeOfDay.{time_of_day}
+use Rattle.cal_tool.specs.Expr.{sets_of}
 use Rattle.cal_tool.specs.Match.{matches}
 use Rattle.cal_tool.specs.Search.{NonePasses}
 use Rattle.cal_tool.proofs.search.next_local.Given as goal
 
 abbrev pub invariant-loop-day : goal.invariant-loop-day
-invariant-loop-day l = NonePasses (matches (sets_of (clock_in l.expression))) l.fn.from (l.day * 86_400)
+invariant-loop-day l = NonePasses (matches (sets_of (time_of_day l.expr))) l.fn.from (l.day * 86_400)

@@ -1,0 +1,244 @@
+-- The words of the command line, read one at a time.
+use Rattle.std.proofs.Common.{◌≡◌, ◌≢◌, ℕ, ◌+◌, ◌<◌, ◌≤◌, ◌^◌, ◌||◌, List, [], ◌∷◌, length, map, take, drop, Option, None, Some, Result, Ok, Err, Bool, true, false, cond, nat_le, ◌==◌, ◌&&◌, get_or, refl, ap, sym, ◌∙◌, arith, codes, Bor, take_while, ◌++◌, option_to_list, length-append, option_map, option_and_then, option_copied, pos, MatchOption, ℤ, IsSome, IfSome, ◌↔◌, is_some, append-nil}
+use Rattle.std.specs.List.{prefix_len, filter_map, list_any, list_all}
+use Rattle.std.specs.Str.{all_ascii_digits, bytes_eq}
+use Rattle.std.specs.Str.Parse.{digits_value, ParsesUnsigned}
+use Rattle.std.proofs.lemmas.List.{take_more, map-append, take-append-drop}
+use Rattle.std.specs.List.{take-map, drop-map, cons_option}
+use Rattle.std.specs.Str.Pattern.{FindsTextPrefix, StripsPrefix}
+use Rattle.std.proofs.lemmas.Str.Pattern.{starts_text}
+use Rattle.std.proofs.lemmas.Slice.Eq.{starts_is}
+use Rattle.std.proofs.lemmas.List.Folds.{list_all-map, length-prefix_len}
+use Rattle.cal_tool.specs.declared.request.Verb.TheVariants.{Calendar}
+use Rattle.std.proofs.lemmas.List.Elements.{filter_map-append}
+use Rattle.std.proofs.lemmas.Bool.{and_parts, ltb-true, lt-ltb, leb-true}
+use Rattle.std.proofs.lemmas.Bool.Decides.{nat_tests, Decides-eqb}
+use Rattle.std.proofs.lemmas.Str.Parse.{IsNumeralModel, numerals_by_value, tells_all_ascii_digits, parse_plain}
+use Rattle.cal_base.specs.Instant.{IsInstant}
+use Rattle.cal_base.specs.declared.instant.Instant.{Instant}
+use Rattle.cal_tool.specs.Command.{number_in, present_in, values_in, value_in, texts_in, some_texts, is_dashed, is_option, iterations_in, now_in, settings_in, calendar_in, timespan_in, asked_in, is_option_of_calendar, texts_of}
+
+own : IsNumeralModel (λ ds. all_ascii_digits ds ≡ true) (digits_value 10)
+own = numerals_by_value _ tells_all_ascii_digits
+
+guard-second : (a b c d : Bool) (n : ℕ) → b ≡ false → cond (a && b && c && d) (Some n) None ≡ None
+guard-second true b c d n h = rw h refl
+guard-second false b c d n h = refl
+
+guard-none : (b : Bool) (n : ℕ) → (b ≡ true → ⊥) → cond b (Some n) None ≡ None
+guard-none true n h = absurd (h refl)
+guard-none false n h = refl
+
+guard-some : (b : Bool) (n m : ℕ) → Some m ≡ cond b (Some n) None → (b ≡ true) × (m ≡ n)
+guard-some true n m h = (refl, cc)
+guard-some false n m h = absurd (cc)
+
+no_plus : (text : List ℕ) → get_or text 0 0 ≡ 43 → all_ascii_digits text ≡ false
+no_plus [] at = absurd (omega arith)
+no_plus (c ∷ cs) at = rw at refl
+
+-- a sign is no digit
+pub number_in-plus : (least most : ℕ) (text : List ℕ) → get_or text 0 0 ≡ 43 → number_in least most text ≡ None
+unfolding number_in
+number_in-plus least most text at = guard-second _ _ _ _ _ (no_plus text at)
+
+-- a number that was read, if it is in range
+abbrev pub within : {E : Type 0} → ℕ → ℕ → Result ℕ E → Option ℕ
+within least most (Ok n) = cond (nat_le least n && nat_le n most) (Some n) None
+within least most (Err e) = None
+
+-- the number that `parse` read, if it is in range
+pub number_in-parsed : (E : Type 0) (least most : ℕ) (text : List ℕ) (r : Result ℕ E) → ParsesUnsigned 64 10 text r → get_or text 0 0 ≢ 43
+    → most < 2 ^ 64 → number_in least most text ≡ within least most r
+unfolding number_in
+number_in-parsed E least most text (Ok n) read unsigned small =
+    let h = parse_plain own {E = E} 64 text (Ok n) read unsigned in
+    rw (lt-ltb 0 (length text) h.0.1, h.0.0, ← h.1) refl
+number_in-parsed E least most text (Err e) refused unsigned small =
+    let h = parse_plain own {E = E} 64 text (Err e) refused unsigned in
+    guard-none _ _ (λ holds.
+    let upper = and_parts _ _ holds in
+    let lower = and_parts _ _ upper.0 in
+    let digits = and_parts _ _ lower.0 in
+    let most_is : digits_value 10 text ≤ most = leb-true _ _ upper.1 in
+    h (digits.1, ltb-true _ _ digits.0, omega arith))
+
+-- a number in range is in range
+pub number_in-range : (least most n : ℕ) (text : List ℕ) → Some n ≡ number_in least most text → (least ≤ n) × (n ≤ most)
+unfolding number_in
+number_in-range least most n text is =
+    let h = guard-some _ _ _ is in
+    let upper = and_parts _ _ h.0 in
+    let lower = and_parts _ _ upper.0 in
+    rw h.1 (leb-true _ _ lower.1, leb-true _ _ upper.1)
+
+present_at : (b : ℕ) (bs : List ℕ) (t : Bool) → t ≡ (b == 64) → ((rest : List ℕ) → b ∷ bs ≢ 64 ∷ rest) → cond t (option_map pos (number_in 0 7_258_211_998 bs)) None ≡ None
+present_at b bs true is h = absurd (grind (arith, nat_tests, h bs))
+present_at b bs false is h = refl
+
+pub present_in-none : (text : List ℕ) → ((rest : List ℕ) → text ≢ 64 ∷ rest) → present_in text ≡ None
+unfolding present_in
+present_in-none [] h = refl
+present_in-none (b ∷ bs) h = present_at b bs _ refl h
+
+pub present_in-some : (text rest : List ℕ) → text ≡ 64 ∷ rest → present_in text ≡ option_map pos (number_in 0 7_258_211_998 rest)
+unfolding present_in
+present_in-some text rest at = rw at refl
+
+list_any-map : {A B : Type 0} (p : B → Bool) (h : A → B) (xs : List A) → list_any p (map h xs) ≡ list_any (λ x. p (h x)) xs
+list_any-map p h [] = refl
+list_any-map p h (x ∷ xs) = ap (λ (b : Bool). p (h x) || b) (list_any-map p h xs)
+
+pub texts_in-empty : (words : List (Bor (List ℕ))) → length words ≡ 0 → texts_in (texts_of words) ≡ None
+unfolding texts_in
+texts_in-empty [] h = refl
+texts_in-empty (w ∷ ws) h = absurd (omega arith)
+
+pub texts_in-after : (words others : List (Bor (List ℕ))) (first : Bor (List ℕ)) → words ≡ first ∷ others → bytes_eq first.now (codes "--") ≡ true
+    → texts_in (texts_of words) ≡ some_texts (texts_of others)
+unfolding texts_in
+texts_in-after words others first is at = rw (is, at) refl
+
+pub texts_in-plain : (words others : List (Bor (List ℕ))) (first : Bor (List ℕ)) → words ≡ first ∷ others → bytes_eq first.now (codes "--") ≡ false
+    → texts_in (texts_of words) ≡ cond (list_any (λ word. is_dashed word.now) words) None (Some (texts_of words))
+unfolding texts_in
+texts_in-plain words others first is at =
+    rw (is, at) (ap (λ (b : Bool). cond b None (Some (texts_of (first ∷ others)))) (list_any-map is_dashed (λ word. word.now) (first ∷ others)))
+
+pub some_texts-none : (texts : List (Bor (List ℕ))) → length texts ≡ 0 → some_texts (texts_of texts) ≡ None
+some_texts-none [] h = refl
+some_texts-none (t ∷ ts) h = absurd (omega arith)
+
+pub some_texts-some : (texts : List (Bor (List ℕ))) → length texts ≢ 0 → some_texts (texts_of texts) ≡ Some (texts_of texts)
+some_texts-some [] h = absurd (h refl)
+some_texts-some (t ∷ ts) h = refl
+
+cons_option-list : {A : Type 0} (o : Option A) → cons_option o [] ≡ option_to_list o
+cons_option-list None = refl
+cons_option-list (Some x) = refl
+
+-- behind the words so far, one more
+values_in-more : (name : List ℕ) (words : List (Bor (List ℕ))) (i : ℕ) (d : Bor (List ℕ)) (found value : Option (Bor (List ℕ)))
+    → i < length words → option_copied value ≡ value_in name (get_or words i d).now
+    → values_in name (texts_of (take i words)) ≡ option_to_list (option_copied found)
+    → values_in name (texts_of (take (i + 1) words)) ≡ option_to_list (option_copied found) ++ option_to_list (option_copied value)
+unfolding values_in
+values_in-more name words i d found value inside is so =
+    rw (take_more words i d inside, map-append, filter_map-append, so, is)
+    (ap (λ (l : List (List ℕ)). option_to_list (option_copied found) ++ l) (cons_option-list (value_in name (get_or words i d).now)))
+
+-- no fewer than in the first words
+pub values_in-take : (name : List ℕ) (words : List (Bor (List ℕ))) (i : ℕ) → length (values_in name (texts_of (take i words))) ≤ length (values_in name (texts_of words))
+unfolding values_in
+values_in-take name words i =
+    let whole : texts_of words ≡ texts_of (take i words) ++ texts_of (drop i words)
+    = ap texts_of (sym (take-append-drop i words)) ∙ map-append (λ (word : Bor (List ℕ)). word.now) (take i words) (drop i words) in
+    let count = ap (λ (l : List (List ℕ)). length (filter_map (value_in name) l)) whole in
+    omega (arith, simp (filter_map-append, length-append) at count)
+
+found_nothing : (found : Option (Bor (List ℕ))) → is_some found ≡ false → option_to_list (option_copied found) ≡ []
+found_nothing None h = refl
+found_nothing (Some x) h = absurd (cc)
+
+found_one : (found : Option (Bor (List ℕ))) → is_some found ≡ true → length (option_to_list (option_copied found)) ≡ 1
+found_one None h = absurd (cc)
+found_one (Some x) h = refl
+
+-- the next word gives nothing
+pub values_in-kept : (name : List ℕ) (words : List (Bor (List ℕ))) (i : ℕ) (d : Bor (List ℕ)) (found value next : Option (Bor (List ℕ)))
+    → i < length words → option_copied value ≡ value_in name (get_or words i d).now
+    → values_in name (texts_of (take i words)) ≡ option_to_list (option_copied found) → value ≡ None → next ≡ found
+    → values_in name (texts_of (take (i + 1) words)) ≡ option_to_list (option_copied next)
+values_in-kept name words i d found value next inside is so none same =
+    values_in-more name words i d found value inside is so ∙ rw (none, same) (append-nil _)
+
+-- the next word gives the first value
+pub values_in-first : (name : List ℕ) (words : List (Bor (List ℕ))) (i : ℕ) (d : Bor (List ℕ)) (found value next : Option (Bor (List ℕ)))
+    → i < length words → option_copied value ≡ value_in name (get_or words i d).now
+    → values_in name (texts_of (take i words)) ≡ option_to_list (option_copied found) → is_some found ≡ false → next ≡ value
+    → values_in name (texts_of (take (i + 1) words)) ≡ option_to_list (option_copied next)
+values_in-first name words i d found value next inside is so none same =
+    values_in-more name words i d found value inside is so ∙ rw (same, found_nothing found none) refl
+
+-- the next word gives one more
+pub values_in-second : (name : List ℕ) (words : List (Bor (List ℕ))) (i : ℕ) (d : Bor (List ℕ)) (found value : Option (Bor (List ℕ)))
+    → i < length words → option_copied value ≡ value_in name (get_or words i d).now
+    → values_in name (texts_of (take i words)) ≡ option_to_list (option_copied found) → is_some found ≡ true → is_some value ≡ true
+    → 1 < length (values_in name (texts_of words))
+values_in-second name words i d found value inside is so one again =
+    let more = ap length (values_in-more name words i d found value inside is so)
+    ∙ length-append (option_to_list (option_copied found)) (option_to_list (option_copied value)) in
+    omega (arith, more, found_one found one, found_one value again, values_in-take name words (i + 1))
+
+-- what `strip_prefix` gives at a text
+pub strips_text : (n s : List ℕ) (r : Option (Bor (List ℕ))) → MatchOption r (FindsTextPrefix n s None) (λ x. StripsPrefix (FindsTextPrefix n) s x.now)
+    → option_copied r ≡ value_in n s
+strips_text n s None h = rw (← starts_text false n s h) refl
+strips_text n s (Some x) h = rw ((starts_is Decides-eqb s n _ refl).1 _ h.1.1) (ap Some (h.2 ∙ ap (λ (k : ℕ). drop k s) h.1.0))
+
+-- no more, or two or more
+pub iterations_in-twice : (values : List (List ℕ)) → 1 < length values → iterations_in values ≡ None
+unfolding iterations_in
+iterations_in-twice [] h = absurd (omega arith)
+iterations_in-twice (a ∷ []) h = absurd (omega arith)
+iterations_in-twice (a ∷ b ∷ vs) h = refl
+
+pub now_in-twice : (values : List (List ℕ)) → 1 < length values → now_in values ≡ None
+unfolding now_in
+now_in-twice [] h = absurd (omega arith)
+now_in-twice (a ∷ []) h = absurd (omega arith)
+now_in-twice (a ∷ b ∷ vs) h = refl
+
+pub settings_in-unknown : (words : List (Bor (List ℕ))) → list_all (λ word. is_option_of_calendar word.now) words ≡ false → settings_in (texts_of words) ≡ None
+unfolding settings_in
+settings_in-unknown words h = rw (list_all-map is_option_of_calendar (λ (word : Bor (List ℕ)). word.now) words, h) refl
+
+pub settings_in-known : (words : List (Bor (List ℕ))) → list_all (λ word. is_option_of_calendar word.now) words ≡ true
+    → settings_in (texts_of words) ≡ option_and_then (λ iterations.
+    option_map (λ now. record { iterations = iterations; now = now }) (now_in (values_in (codes "--now=") (texts_of words))))
+    (iterations_in (values_in (codes "--iterations=") (texts_of words)))
+unfolding settings_in
+settings_in-known words h = rw (list_all-map is_option_of_calendar (λ (word : Bor (List ℕ)). word.now) words, h) refl
+
+prefix_len-map : {A B : Type 0} (p : B → Bool) (h : A → B) (xs : List A) → prefix_len p (map h xs) ≡ prefix_len (λ x. p (h x)) xs
+prefix_len-map p h [] = refl
+prefix_len-map p h (x ∷ xs) = ap (λ n. cond (p (h x)) (1 + n) 0) (prefix_len-map p h xs)
+
+-- the options come first, and the texts behind them
+pub calendar_in-split : (words leading behind : List (Bor (List ℕ))) (n : ℕ) → n ≡ length (take_while (λ word. is_option word.now) words)
+    → leading ≡ take n words → behind ≡ drop n words
+    → calendar_in (texts_of words) ≡ option_and_then (λ settings.
+    option_map (λ texts. record { verb = Calendar; texts = texts; iterations = settings.iterations; base = None; now = settings.now })
+    (texts_in (texts_of behind)))
+    (settings_in (texts_of leading))
+unfolding calendar_in
+calendar_in-split words leading behind n count front back =
+    let same : prefix_len is_option (texts_of words) ≡ n
+    = prefix_len-map is_option (λ (word : Bor (List ℕ)). word.now) words
+    ∙ sym (length-prefix_len (λ (word : Bor (List ℕ)). is_option word.now) words) ∙ sym count in
+    rw (length-prefix_len is_option (texts_of words), same, front, back, take-map, drop-map) refl
+
+pub instant_some : (made : Option Instant) (secs : ℤ) → IsSome made ↔ IsInstant secs → IfSome made (λ instant. instant.secs ≡ secs) → IsInstant secs
+    → option_map (λ instant. instant.secs) made ≡ Some secs
+instant_some None secs variant value inside = absurd (cc (variant.1 inside))
+instant_some (Some instant) secs variant value inside = ap Some value
+
+pub asked_in-empty : (words : List (Bor (List ℕ))) → length words ≡ 0 → asked_in (texts_of words) ≡ None
+unfolding asked_in
+asked_in-empty [] h = refl
+asked_in-empty (w ∷ ws) h = absurd (omega arith)
+
+pub asked_in-calendar : (words others : List (Bor (List ℕ))) (first : Bor (List ℕ)) → words ≡ first ∷ others → bytes_eq first.now (codes "calendar") ≡ true
+    → asked_in (texts_of words) ≡ calendar_in (texts_of others)
+unfolding asked_in
+asked_in-calendar words others first is at = rw (is, at) refl
+
+pub asked_in-timespan : (words others : List (Bor (List ℕ))) (first : Bor (List ℕ)) → words ≡ first ∷ others → bytes_eq first.now (codes "calendar") ≡ false
+    → bytes_eq first.now (codes "timespan") ≡ true → asked_in (texts_of words) ≡ timespan_in (texts_of others)
+unfolding asked_in
+asked_in-timespan words others first is other at = rw (is, other, at) refl
+
+pub asked_in-other : (words others : List (Bor (List ℕ))) (first : Bor (List ℕ)) → words ≡ first ∷ others → bytes_eq first.now (codes "calendar") ≡ false
+    → bytes_eq first.now (codes "timespan") ≡ false → asked_in (texts_of words) ≡ None
+unfolding asked_in
+asked_in-other words others first is other at = rw (is, other, at) refl

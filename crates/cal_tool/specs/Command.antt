@@ -1,0 +1,117 @@
+-- What the words of the command line ask for, until `clap` reads them (systemd-analyze(1)).
+use Rattle.std.specs.Prelude.{◌≡◌, ◌<◌, ℕ, ℤ, pos, List, [], ◌∷◌, length, drop, map, Option, None, Some, Bool, codes, nat_eq, nat_lt, nat_le, if◌then◌else◌, ◌==◌, ◌&&◌, ◌||◌, not, slice_index, take_while, filter_map, option_and_then, option_map}
+use Rattle.std.specs.Borrow.{Bor}
+use Rattle.std.specs.List.{list_all, list_any, starts_with}
+use Rattle.std.specs.Str.{all_ascii_digits, bytes_eq}
+use Rattle.std.specs.Str.Parse.{digits_value}
+use Rattle.cal_tool.specs.Request.{Asked, asked}
+use Rattle.cal_tool.specs.declared.request.Verb.TheVariants.{Calendar, Timespan}
+use Rattle.cal_tool.specs.declared.command.Command.{Command}
+use Rattle.cal_tool.specs.declared.early_words.Given.{Given}
+use Rattle.cal_tool.specs.declared.early_words.Given.TheVariants.{Never, Once, Twice}
+
+-- The bytes of each word.
+abbrev pub texts_of : List (Bor (List ℕ)) → List (List ℕ)
+texts_of = map (λ word. word.now)
+
+-- The number that a text of digits alone writes, where it is from least to most.
+unfoldable pub number_in : ℕ → ℕ → List ℕ → Option ℕ
+number_in least most text =
+    let number = digits_value 10 text in
+    if nat_lt 0 (length text) && all_ascii_digits text && nat_le least number && nat_le number most
+    then Some number else None
+
+-- A number of elapses.
+unfoldable pub count_in : List ℕ → Option ℕ
+count_in = number_in 1 1_000_000
+
+-- An instant: `@` and its seconds.
+unfoldable pub present_in : List ℕ → Option ℤ
+present_in [] = None
+present_in (byte ∷ bytes) = if byte == 64 then option_map pos (number_in 0 7_258_211_998 bytes) else None
+
+-- A word begins with `-`.
+abbrev pub is_dashed : List ℕ → Bool
+is_dashed word = slice_index word 0 == 45
+
+-- A word stands as an option. The word `--` is none.
+abbrev pub is_option : List ℕ → Bool
+is_option word = is_dashed word && not (bytes_eq word (codes "--"))
+
+unfoldable pub is_option_of_calendar : List ℕ → Bool
+is_option_of_calendar word = starts_with nat_eq word (codes "--iterations=") || starts_with nat_eq word (codes "--now=")
+
+-- What a word gives for the option that begins so.
+abbrev pub value_in : List ℕ → List ℕ → Option (List ℕ)
+value_in name word = if starts_with nat_eq word name then Some (drop (length name) word) else None
+
+-- What the words give for the option that begins so, in order.
+unfoldable pub values_in : List ℕ → List (List ℕ) → List (List ℕ)
+values_in name words = filter_map (value_in name) words
+
+-- An option is given with these values.
+abbrev pub IsGiven : Given → List (List ℕ) → Type 0
+IsGiven Never values = values ≡ []
+IsGiven (Once value) values = values ≡ value.now ∷ []
+IsGiven Twice values = 1 < length values
+
+-- The iterations of an option that is given at most once.
+unfoldable pub iterations_in : List (List ℕ) → Option ℕ
+iterations_in [] = Some 1
+iterations_in (value ∷ []) = count_in value
+iterations_in (value ∷ again ∷ values) = None
+
+-- The present of an option that is given once.
+unfoldable pub now_in : List (List ℕ) → Option ℤ
+now_in (value ∷ []) = present_in value
+now_in _ = None
+
+-- What the options of `calendar` say.
+pub record Settings : Type 0 where
+  pub iterations : ℕ
+  pub now : ℤ
+
+-- Each word is an option of `calendar`, `--now=` stands once and `--iterations=` at most once.
+unfoldable pub settings_in : List (List ℕ) → Option Settings
+settings_in options =
+    if list_all is_option_of_calendar options then
+    option_and_then (λ iterations.
+    option_map (λ now. record { iterations = iterations; now = now })
+    (now_in (values_in (codes "--now=") options)))
+    (iterations_in (values_in (codes "--iterations=") options))
+    else None
+
+abbrev pub some_texts : List (List ℕ) → Option (List (List ℕ))
+some_texts [] = None
+some_texts (text ∷ texts) = Some (text ∷ texts)
+
+-- The texts behind the options: after a `--` any words, else words of which none begins with `-`.
+unfoldable pub texts_in : List (List ℕ) → Option (List (List ℕ))
+texts_in [] = None
+texts_in (word ∷ words) =
+    if bytes_eq word (codes "--") then some_texts words
+    else if list_any is_dashed (word ∷ words) then None else Some (word ∷ words)
+
+-- Behind `calendar` stand options, and then texts.
+unfoldable pub calendar_in : List (List ℕ) → Option Asked
+calendar_in words =
+    option_and_then (λ settings.
+    option_map (λ texts. record { verb = Calendar; texts = texts; iterations = settings.iterations; base = None; now = settings.now })
+    (texts_in (drop (length (take_while is_option words)) words)))
+    (settings_in (take_while is_option words))
+
+-- Behind `timespan` stand texts alone.
+unfoldable pub timespan_in : List (List ℕ) → Option Asked
+timespan_in words =
+    option_map (λ texts. record { verb = Timespan; texts = texts; iterations = 1; base = None; now = pos 0 }) (texts_in words)
+
+-- What the words after the program's name ask for.
+unfoldable pub asked_in : List (List ℕ) → Option Asked
+asked_in [] = None
+asked_in (verb ∷ words) =
+    if bytes_eq verb (codes "calendar") then calendar_in words
+    else if bytes_eq verb (codes "timespan") then timespan_in words else None
+
+-- What a command asks for.
+abbrev pub asked_of : Command → Asked
+asked_of command = asked command.request command.now.secs
