@@ -11,12 +11,15 @@ pub struct Instant {
 }
 
 impl Instant {
-    /// The instant of that many seconds, or `None` outside 0 to 7,258,211,998.
+    /// The seconds of the last instant.
+    pub const LAST: i64 = 7_258_211_998;
+
+    /// The instant of that many seconds, or `None` outside 0 to [`Instant::LAST`].
     pub fn new(secs: i64) -> Option<Instant>
         ensures some { IsSome result ↔ IsInstant secs }
         ensures value { IfSome result (λ i. i.secs ≡ secs) }
     {
-        if secs < 0 || secs > 7_258_211_998 {
+        if secs < 0 || secs > Self::LAST {
             return None;
         }
         Some(Instant { secs })

@@ -13,12 +13,15 @@ pub struct Moment {
 }
 
 impl Moment {
+    /// The microseconds of the last moment, the last of the last instant.
+    pub const LAST: i64 = 7_258_211_998_999_999;
+
     /// The moment of that many microseconds, or `None` outside 0 to 7,258,211,998,999,999.
     pub fn new(micros: i64) -> Option<Moment>
         ensures some { IsSome result ↔ IsMoment micros }
         ensures value { IfSome result (λ moment. moment.micros ≡ micros) }
     {
-        if micros < 0 || micros > 7_258_211_998_999_999 {
+        if micros < 0 || micros > Self::LAST {
             return None;
         }
         Some(Moment { micros })

@@ -1,5 +1,5 @@
 -- The definitions, tried on worked local seconds.
-use Rattle.std.proofs.Common.{◌≡◌, ℕ, ◌<◌, List, [], ◌∷◌, ◌++◌, None, codes, pos, inl, true, false, ◌∙◌, refl, rules, arith}
+use Rattle.std.proofs.Common.{◌≡◌, ℕ, ◌<◌, [], ◌∷◌, ◌++◌, None, codes, pos, inl, true, false, ◌∙◌, refl, rules, arith}
 use Rattle.std.specs.Fmt.{digits}
 use Rattle.cal_base.specs.Local.{seconds_in_all, seconds_in_all-is}
 use Rattle.cal_tool.specs.TimeOfDay.{TimeOfDay, IsTimeOfDay}

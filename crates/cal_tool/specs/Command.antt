@@ -1,10 +1,12 @@
 -- What the words of the command line ask for, until `clap` reads them (systemd-analyze(1)).
-use Rattle.std.specs.Prelude.{◌≡◌, ◌<◌, ℕ, ℤ, pos, List, [], ◌∷◌, length, drop, map, Option, None, Some, Bool, codes, nat_eq, nat_lt, nat_le, if◌then◌else◌, ◌==◌, ◌&&◌, ◌||◌, not, slice_index, take_while, filter_map, option_and_then, option_map}
+use Rattle.std.specs.Prelude.{◌≡◌, ◌<◌, ℕ, ℤ, pos, List, [], ◌∷◌, length, drop, map, Option, None, Some, Bool, codes, nat_eq, nat_lt, nat_le, if◌then◌else◌, ◌==◌, unsigned_abs, ◌&&◌, ◌||◌, not, slice_index, take_while, filter_map, option_and_then, option_map}
 use Rattle.std.specs.Borrow.{Bor}
 use Rattle.std.specs.List.{list_all, list_any, starts_with}
 use Rattle.std.specs.Str.{all_ascii_digits, bytes_eq}
 use Rattle.std.specs.Str.Parse.{digits_value}
+use Rattle.cal_base.specs.declared.instant.TheConstants.Instant.{LAST}
 use Rattle.cal_tool.specs.Request.{Asked, asked}
+use Rattle.cal_tool.specs.declared.request.TheConstants.{MOST_ITERATIONS}
 use Rattle.cal_tool.specs.declared.request.Verb.TheVariants.{Calendar, Timespan}
 use Rattle.cal_tool.specs.declared.command.Command.{Command}
 use Rattle.cal_tool.specs.declared.early_words.Given.{Given}
@@ -23,12 +25,12 @@ number_in least most text =
 
 -- A number of elapses.
 unfoldable pub count_in : List ℕ → Option ℕ
-count_in = number_in 1 1_000_000
+count_in = number_in 1 MOST_ITERATIONS
 
 -- An instant: `@` and its seconds.
 unfoldable pub present_in : List ℕ → Option ℤ
 present_in [] = None
-present_in (byte ∷ bytes) = if byte == 64 then option_map pos (number_in 0 7_258_211_998 bytes) else None
+present_in (byte ∷ bytes) = if byte == 64 then option_map pos (number_in 0 (unsigned_abs LAST) bytes) else None
 
 -- A word begins with `-`.
 abbrev pub is_dashed : List ℕ → Bool

@@ -4,7 +4,7 @@ ghost use Rattle.std.specs.Prelude.{◌≡◌, ◌≤◌, Ok, Err, MatchResult, 
 ghost use Rattle.cal_base.specs.Bytes.{Writes};
 ghost use Rattle.cal_tool.specs.Accepted.{report_text, refusal_words};
 ghost use Rattle.cal_tool.specs.Report.{answer_to};
-ghost use Rattle.cal_tool.specs.Request.{asked};
+ghost use Rattle.cal_tool.specs.Request.{IsCount, asked};
 
 use crate::calendar_report::write_calendar;
 use crate::expr::Expr;
@@ -72,7 +72,7 @@ pub fn write_report<W: Sink>(
     text: &str,
     accepted: &Accepted,
 ) -> Result<(), WriteFault>
-    requires iterations { (1 ≤ request.now.iterations) × (request.now.iterations ≤ 1_000_000) }
+    requires iterations { IsCount request.now.iterations }
     requires out { W.is_failed out.old ≡ false }
     ensures failed { W.is_failed out.new ≡ is_err result }
     ensures bytes { Writes (W.written out.old) (W.written out.new) result

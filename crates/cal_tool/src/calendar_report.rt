@@ -7,6 +7,7 @@ ghost use Rattle.cal_tool.specs.CalendarReport.{heading_text, original_line, nor
 ghost use Rattle.cal_tool.specs.TimeOfDay.{time_of_day};
 ghost use Rattle.cal_tool.specs.Elapses.{elapses_after};
 ghost use Rattle.cal_tool.specs.Expr.{timed};
+ghost use Rattle.cal_tool.specs.Request.{IsCount};
 
 use crate::expr::Expr;
 use crate::expr_text::write_expr;
@@ -28,7 +29,7 @@ pub fn write_calendar<W: Sink>(
     base: Instant,
     now: Instant,
 ) -> Result<(), WriteFault>
-    requires iterations { (1 ≤ iterations) × (iterations ≤ 1_000_000) }
+    requires iterations { IsCount iterations }
     requires out { W.is_failed out.old ≡ false }
     ensures failed { W.is_failed out.new ≡ is_err result }
     ensures bytes { Writes (W.written out.old) (W.written out.new) result
@@ -87,7 +88,7 @@ fn put_elapses<W: Sink>(
     base: Instant,
     now: Instant,
 ) -> Result<(), WriteFault>
-    requires iterations { (1 ≤ iterations) × (iterations ≤ 1_000_000) }
+    requires iterations { IsCount iterations }
     requires out { W.is_failed out.old ≡ false }
     ensures failed { W.is_failed out.new ≡ is_err result }
     ensures bytes { Writes (W.written out.old) (W.written out.new) result
@@ -111,7 +112,7 @@ fn put_more<W: Sink>(
     first: Instant,
     now: Instant,
 ) -> Result<(), WriteFault>
-    requires iterations { (1 ≤ iterations) × (iterations ≤ 1_000_000) }
+    requires iterations { IsCount iterations }
     requires out { W.is_failed out.old ≡ false }
     ensures failed { W.is_failed out.new ≡ is_err result }
     ensures bytes { Writes (W.written out.old) (W.written out.new) result

@@ -1,6 +1,7 @@
 //! What the words of the command line ask for.
 
-ghost use Rattle.std.specs.Prelude.{◌≡◌, ◌<◌, ◌≤◌, None, vec_len};
+ghost use Rattle.std.specs.Prelude.{◌≡◌, ◌<◌, None, vec_len};
+ghost use Rattle.cal_tool.specs.Request.{IsCount};
 
 use crate::request::Request;
 use cal_base::Instant;
@@ -13,7 +14,6 @@ pub struct Command {
     /// The present instant.
     pub now: Instant,
     ghost some_text: { 0 < vec_len request.texts },
-    ghost some_iteration: { 1 ≤ request.iterations },
-    ghost few_iterations: { request.iterations ≤ 1_000_000 },
+    ghost iterations: { IsCount request.iterations },
     ghost base: { request.base ≡ None },
 }

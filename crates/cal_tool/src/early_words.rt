@@ -2,10 +2,11 @@
 
 ghost use Rattle.std.specs.Prelude.{◌≡◌, ◌<◌, ◌≤◌, codes, length, map, take_while, option_map, option_copied, MatchOption, None, Some, IfSome, IfOk, string_bytes, vec_len};
 ghost use Rattle.std.specs.List.{list_all, list_any};
+ghost use Rattle.cal_tool.specs.Request.{IsCount};
 ghost use Rattle.cal_tool.specs.Command.{texts_of, asked_in, asked_of, calendar_in, timespan_in, texts_in as texts_among, settings_in, is_dashed, is_option, is_option_of_calendar, values_in, value_in, IsGiven, iterations_in, now_in, count_in, present_in, number_in};
 
 use crate::command::Command;
-use crate::request::{Request, Verb};
+use crate::request::{MOST_ITERATIONS, Request, Verb};
 use cal_base::Instant;
 use std::alloc::{AllocError, Global};
 
@@ -14,8 +15,7 @@ use std::alloc::{AllocError, Global};
 struct Options {
     iterations: u32,
     now: Instant,
-    ghost some: { 1 ≤ iterations },
-    ghost few: { iterations ≤ 1_000_000 },
+    ghost counts: { IsCount iterations },
 }
 
 /// How often an option is given, and its value.
@@ -84,8 +84,7 @@ fn command(
     now: Instant,
 ) -> Result<Command, AllocError>
     requires some_text { 0 < length texts.now }
-    requires some_iteration { 1 ≤ iterations }
-    requires few_iterations { iterations ≤ 1_000_000 }
+    requires iterations { IsCount iterations }
     ensures { IfOk result (λ command. asked_of command ≡ record {
       verb = verb;
       texts = texts_of texts.now;
@@ -176,7 +175,7 @@ fn are_known(words: &[&str]) -> bool
 /// How many elapses the words ask for: 1 where they don't say.
 fn iterations_in(words: &[&str]) -> Option<u32>
     ensures value { result ≡ iterations_in (values_in (codes "--iterations=") (texts_of words.now)) }
-    ensures range { IfSome result (λ number. (1 ≤ number) × (number ≤ 1_000_000)) }
+    ensures range { IfSome result IsCount }
 {
     match value_of(words, "--iterations=") {
         Given::Never => Some(1),
@@ -230,20 +229,20 @@ fn value_in<'a>(word: &'a str, name: &str) -> Option<&'a str>
     word.strip_prefix(name)
 }
 
-/// A number of elapses: digits for 1 to 1,000,000.
+/// A number of elapses: digits for 1 to [`MOST_ITERATIONS`].
 fn count_in(value: &str) -> Option<u32>
     ensures value { result ≡ count_in value.now }
-    ensures range { IfSome result (λ number. (1 ≤ number) × (number ≤ 1_000_000)) }
+    ensures range { IfSome result IsCount }
 {
-    let number = number_in(value, 1, 1_000_000)?;
+    let number = number_in(value, 1, MOST_ITERATIONS as u64)?;
     Some(number as u32)
 }
 
-/// An instant: `@` and digits for 0 to 7,258,211,998.
+/// An instant: `@` and digits for 0 to [`Instant::LAST`].
 fn present_in(value: &str) -> Option<Instant>
     ensures { option_map (λ instant. instant.secs) result ≡ present_in value.now }
 {
-    let number = number_in(value.strip_prefix('@')?, 0, 7_258_211_998)?;
+    let number = number_in(value.strip_prefix('@')?, 0, Instant::LAST as u64)?;
     Instant::new(number as i64)
 }
 

@@ -9,7 +9,7 @@ ghost use Rattle.cal_base.specs.Zone.{utc};
 ghost use Rattle.cal_tool.specs.Accepted.{report_text};
 ghost use Rattle.cal_tool.specs.Answer.{refusal_in, later_text, lead_text, status_in, reports_text, refusals_text, whole_status};
 ghost use Rattle.cal_tool.specs.Report.{answer_to, report};
-ghost use Rattle.cal_tool.specs.Request.{asked};
+ghost use Rattle.cal_tool.specs.Request.{IsCount, asked};
 ghost use Rattle.cal_tool.specs.RunFault.{is_out_failed, is_err_failed};
 ghost use Rattle.cal_tool.specs.declared.request.RunFault.TheVariants.{NoMemory};
 
@@ -37,7 +37,7 @@ pub fn run<R: Source, O: Sink, E: Sink>(
     out: &mut O,
     err: &mut E,
 ) -> Result<Status, RunFault>
-    requires iterations { (1 ≤ request.now.iterations) × (request.now.iterations ≤ 1_000_000) }
+    requires iterations { IsCount request.now.iterations }
     requires base { request.now.base ≡ None }
     requires local { local ≡ utc }
     requires table { table.now ≡ empty }
@@ -64,7 +64,7 @@ fn answer_all<O: Sink, E: Sink>(
     out: &mut O,
     err: &mut E,
 ) -> Result<Status, RunFault>
-    requires iterations { (1 ≤ request.now.iterations) × (request.now.iterations ≤ 1_000_000) }
+    requires iterations { IsCount request.now.iterations }
     requires out { O.is_failed out.old ≡ false }
     requires err { E.is_failed err.old ≡ false }
     ensures status { let answer = answer_to (asked request.now now.secs) in
@@ -101,7 +101,7 @@ fn answer_one<O: Sink, E: Sink>(
     out: &mut O,
     err: &mut E,
 ) -> Result<Status, RunFault>
-    requires iterations { (1 ≤ request.now.iterations) × (request.now.iterations ≤ 1_000_000) }
+    requires iterations { IsCount request.now.iterations }
     requires out { O.is_failed out.old ≡ false }
     requires err { E.is_failed err.old ≡ false }
     ensures status { IfOk result (λ status. status
@@ -136,7 +136,7 @@ fn put_report<W: Sink>(
     text: &str,
     accepted: &Accepted,
 ) -> Result<(), WriteFault>
-    requires iterations { (1 ≤ request.now.iterations) × (request.now.iterations ≤ 1_000_000) }
+    requires iterations { IsCount request.now.iterations }
     requires out { W.is_failed out.old ≡ false }
     ensures failed { W.is_failed out.new ≡ is_err result }
     ensures bytes { Writes (W.written out.old) (W.written out.new) result

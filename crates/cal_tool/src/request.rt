@@ -9,6 +9,9 @@ pub enum Verb {
     Timespan,
 }
 
+/// How many elapses a request can ask for at most.
+pub const MOST_ITERATIONS: u32 = 1_000_000;
+
 /// A request.
 #[derive(Debug, Drop)]
 pub struct Request {
@@ -16,7 +19,7 @@ pub struct Request {
     pub verb: Verb,
     /// The texts, in order.
     pub texts: Vec<String>,
-    /// How many elapses are shown at most: 1 to 1,000,000.
+    /// How many elapses are shown at most: 1 to [`MOST_ITERATIONS`].
     pub iterations: u32,
     /// The timestamp after which elapses are sought, or `None` for the present.
     pub base: Option<String>,

@@ -1,5 +1,6 @@
 use Rattle.std.proofs.Common.{◌∙◌, rules, sym}
 use Rattle.cal_tool.specs.Command.{count_in}
+use Rattle.cal_tool.specs.declared.request.TheConstants.{MOST_ITERATIONS}
 use Rattle.cal_tool.proofs.CommandLemmas.{number_in-range}
 use Rattle.cal_tool.proofs.early_words.count_in.Goals as goal
 
@@ -9,7 +10,7 @@ returns-in_err-number-clause-value c = search rules
 
 pub overflow_cast-result : goal.overflow_cast-result
 overflow_cast-result c =
-    let range = number_in-range 1 1_000_000 c.in_ok-number.number c.args.value.now (sym c.in_ok-number.was ∙ c.number_in.ensures) in
+    let range = number_in-range 1 MOST_ITERATIONS c.in_ok-number.number c.args.value.now (sym c.in_ok-number.was ∙ c.number_in.ensures) in
     search (rules, range)
 
 pub returns-clause-value : goal.returns-clause-value
@@ -17,4 +18,4 @@ unfolding count_in
 returns-clause-value c = search rules
 
 pub returns-clause-range : goal.returns-clause-range
-returns-clause-range c = number_in-range 1 1_000_000 c.in_ok-number.number c.args.value.now (sym c.in_ok-number.was ∙ c.number_in.ensures)
+returns-clause-range c = number_in-range 1 MOST_ITERATIONS c.in_ok-number.number c.args.value.now (sym c.in_ok-number.was ∙ c.number_in.ensures)
