@@ -9,7 +9,8 @@ use Rattle.cal_base.specs.Days.{date_of, date_of-epoch_day}
 use Rattle.cal_base.specs.Local.{civil_date, day_of, second_of_day, hour_of, minute_of, second_of}
 use Rattle.cal_base.specs.Instant.{IsInstant}
 use Rattle.cal_base.specs.Zone.{local_of}
-use Rattle.cal_base.proofs.YearLemmas.{year-from_1970, year-to_2200}
+use Rattle.cal_base.proofs.YearLemmas.{year-from_1969, year-to_2200}
+use Rattle.cal_base.proofs.ZoneLemmas.{offset_at-in_range}
 
 -- the day number of a datetime that stands for a whole local second
 pub epoch_day-whole : (dt : DateTime) (local : ℤ) → civil_nanos dt ≡ nanos_of_seconds local → epoch_day dt.date ≡ day_of local
@@ -43,11 +44,13 @@ shown_at-civil_of tz second dt e =
       offset = offset_at tz (nanos_of_seconds second);
     }
 
--- at an instant a clock in UTC shows a year from 1970 to 2200
-pub year_shown : (dt : DateTime) (secs : ℤ) → civil_nanos dt ≡ nanos_of_seconds secs → IsInstant secs → IsBetween (pos 1970) (pos 2200) dt.date.year
-year_shown dt secs e h =
-    let day = epoch_day-whole dt secs e in
-    (year-from_1970 dt.date (omega (arith, signed_arith, h.0)), year-to_2200 dt.date (omega (arith, signed_arith, h.1)))
+-- at an instant a clock shows a year from 1969 to 2200
+pub year_shown : (tz : TimeZone) (dt : DateTime) (secs : ℤ) → civil_nanos dt ≡ nanos_of_seconds (local_of tz secs) → IsInstant secs → IsBetween (pos 1969) (pos 2200) dt.date.year
+unfolding local_of
+year_shown tz dt secs e h =
+    let day = epoch_day-whole dt (local_of tz secs) e in
+    let offset = offset_at-in_range tz (nanos_of_seconds secs) in
+    (year-from_1969 dt.date (omega (arith, signed_arith, h.0)), year-to_2200 dt.date (omega (arith, signed_arith, h.1)))
 
 -- the date that a clock in UTC shows at a day's first second is that day's
 pub date_of_midnight : (shown : DateTime) (day : ℕ) → civil_nanos shown ≡ nanos_of_seconds (pos (day * 86_400)) → shown.date ≡ civil_date day

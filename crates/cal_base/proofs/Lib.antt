@@ -1,4 +1,5 @@
 pub mod CivilLemmas
+pub mod OffsetLemmas
 pub mod Pieces
 pub mod PlaceLemmas
 pub mod ShortText
@@ -11,5 +12,9 @@ pub mod SpanReadBack
 pub mod SpanRule
 pub mod SpanRuns
 pub mod SpanWords
+pub mod WholeLemmas
+pub mod WeekdayLemmas
 pub mod WorkedRows
 pub mod YearLemmas
+pub mod ZoneLemmas
+pub mod ZoneMapLemmas

@@ -15,6 +15,10 @@ days_from_civil-1970 : days_from_civil (pos 1970) 1 1 ≡ pos 0
 days_from_civil-1970 =
     omega (arith, signed_arith, days_from_civil-day_count (pos 1970) 1 1, day_count-early (pos 1970) 11969 1 1 refl (omega arith) (omega arith) (omega arith))
 
+days_from_civil-1969 : days_from_civil (pos 1969) 1 1 ≡ negsuc 364
+days_from_civil-1969 =
+    omega (arith, signed_arith, days_from_civil-day_count (pos 1969) 1 1, day_count-early (pos 1969) 11968 1 1 refl (omega arith) (omega arith) (omega arith))
+
 days_from_civil-2199 : days_from_civil (pos 2199) 12 31 ≡ pos 84_005
 days_from_civil-2199 =
     omega (arith, signed_arith, days_from_civil-day_count (pos 2199) 12 31, day_count-late (pos 2199) 12199 12 31 refl (omega arith) (omega arith) (omega arith))
@@ -25,6 +29,9 @@ days_from_civil-2200 =
 
 first_of_1970 : Date
 first_of_1970 = record { year = pos 1970; month = 1; day = 1; year_in = search rules; month_in = search rules; day_in = search rules }
+
+first_of_1969 : Date
+first_of_1969 = record { year = pos 1969; month = 1; day = 1; year_in = search rules; month_in = search rules; day_in = search rules }
 
 last_of_2199 : Date
 last_of_2199 = record { year = pos 2199; month = 12; day = 31; year_in = search rules; month_in = search rules; day_in = search rules }
@@ -37,6 +44,12 @@ pub year-from_1970 : (d : Date) → pos 0 ≤ℤ epoch_day d → pos 1970 ≤ℤ
 unfolding first_of_1970
 year-from_1970 d h =
     by_lt_z d.year (pos 1970) (λ lt. absurd (omega (arith, signed_arith, days_from_civil-1970, epoch_day-lt d first_of_1970 (inl lt)))) (λ ge. ge)
+
+-- the days from -365 on lie in 1969 or later
+pub year-from_1969 : (d : Date) → negsuc 364 ≤ℤ epoch_day d → pos 1969 ≤ℤ d.year
+unfolding first_of_1969
+year-from_1969 d h =
+    by_lt_z d.year (pos 1969) (λ lt. absurd (omega (arith, signed_arith, days_from_civil-1969, epoch_day-lt d first_of_1969 (inl lt)))) (λ ge. ge)
 
 -- and those up to 84,005 in 2199 or earlier
 pub year-to_2199 : (d : Date) → epoch_day d ≤ℤ pos 84_005 → d.year ≤ℤ pos 2199

@@ -6,6 +6,7 @@ pub mod Instant
 pub mod InstantText
 pub mod Local
 pub mod Place
+pub mod Rules
 pub mod Scale
 pub mod Span
 pub mod SpanFault
@@ -13,5 +14,11 @@ pub mod SpanRule
 pub mod SpanText
 pub mod SpanValue
 pub mod SpanWord
-pub mod Zone
 pub mod Weekday
+pub mod Whole
+pub mod Zone
+pub mod ZoneFault
+pub mod ZoneFile
+pub mod ZoneMap
+pub mod ZoneName
+pub mod ZoneTable

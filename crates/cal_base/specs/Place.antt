@@ -3,8 +3,8 @@ use Rattle.std.specs.Prelude.{◌≡◌, ◌<◌, ℕ, ℤ, ◌-ℤ◌, Option, 
 use Rattle.std.specs.Ordering.{int_eq}
 use Rattle.std.proofs.Common.{arith}
 use Rattle.jiff.proofs.SpanFacts.{signed_arith}
-use Rattle.jiff.specs.Types.{DateTime, Time, TimeZone}
-use Rattle.jiff.specs.Words.{ambiguous_at, compatible_offset, civil_nanos, nanos_of_seconds, IsEpochDay}
+use Rattle.jiff.specs.Types.{DateTime, Offset, Time, TimeZone}
+use Rattle.jiff.specs.Words.{ambiguous_at, compatible_offset, civil_nanos, nanos_of_seconds, offset_at, IsEpochDay}
 use Rattle.cal_base.specs.Days.{date_of, epoch_day-date_of}
 use Rattle.cal_base.specs.Local.{day_of, second_of_day, hour_of, minute_of, second_of}
 use Rattle.cal_base.specs.Zone.{local_of}
@@ -49,6 +49,13 @@ settle_of tz local = local -ℤ (compatible_offset (ambiguous_at tz (datetime_of
 -- that the clock skips has none, and of one that it shows twice this is the first
 unfoldable pub place_of : TimeZone → ℤ → Option ℤ
 place_of tz local = if int_eq (local_of tz (settle_of tz local)) local then Some (settle_of tz local) else None
+
+-- what is found where only one offset is tried: the second at which a clock at that offset shows the local second,
+-- if the zone has that offset there
+unfoldable pub place_at : TimeZone → ℤ → Offset → Option ℤ
+place_at tz local offset =
+    let second = local -ℤ offset.seconds in
+    if int_eq (offset_at tz (nanos_of_seconds second)) offset.seconds then Some second else None
 
 -- the civil time of a local second stands for that second
 pub civil_nanos-datetime_of : (local : ℤ) → IsEpochDay (day_of local) → civil_nanos (datetime_of local) ≡ nanos_of_seconds local

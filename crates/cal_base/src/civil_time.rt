@@ -1,11 +1,12 @@
 //! The civil time that a zone's clocks show at an instant.
 ghost use Rattle.std.specs.Prelude.{◌≡◌, ◌<◌, ◌≤◌, pos};
 ghost use Rattle.std.specs.Int.{IsInRange};
-ghost use Rattle.jiff.specs.Words.{IsBetween};
+ghost use Rattle.jiff.specs.Words.{offset_at, IsBetween, IsOffsetSeconds};
 ghost use Rattle.cal_base.specs.Civil.{civil_of, shown_at};
 ghost use Rattle.cal_base.specs.Local.{civil_date};
-ghost use Rattle.cal_base.specs.Zone.{zone_of};
+ghost use Rattle.cal_base.specs.Zone.{offset_of, zone_of};
 
+use crate::zone::{Ahead, Kind};
 use crate::{Civil, Instant, Zone};
 use jiff::Timestamp;
 use jiff::civil::{Date, DateTime};
@@ -20,19 +21,41 @@ pub const DAYS: u64 = 84_006;
 /// What a clock in the zone shows at the instant.
 pub fn civil(zone: Zone, instant: Instant) -> Civil
     ensures value { result ≡ civil_of (zone_of zone.entry) instant.secs }
-    ensures year { IsBetween (pos 1970) (pos 2200) result.year }
+    ensures year { IsBetween (pos 1969) (pos 2200) result.year }
     ensures month { IsInRange 1 12 result.month }
     ensures day { IsInRange 1 31 result.day }
     ensures weekday { IsInRange 1 7 result.weekday }
     ensures hour { result.hour ≤ 23 }
     ensures minute { result.minute ≤ 59 }
     ensures second { result.second ≤ 59 }
+    ensures offset { IsOffsetSeconds result.offset }
 {
-    let _ = zone;
     let Ok(timestamp) = Timestamp::from_second(instant.secs()) else {
         unreachable!()
     };
-    fields(Offset::UTC.to_datetime(timestamp), Offset::UTC)
+    let offset = offset_in(zone, timestamp);
+    fields(offset.to_datetime(timestamp), offset)
+}
+
+// How far the zone's clock is ahead of UTC at the instant.
+fn offset_in(zone: Zone, timestamp: Timestamp) -> Offset
+    ensures { result.seconds ≡ offset_at (zone_of zone.entry) timestamp.nanosecond }
+{
+    match zone.kind {
+        Kind::Utc => Offset::UTC,
+        Kind::Offset(ahead) => fixed_offset(ahead),
+        Kind::Rules(rules) => rules.offset(timestamp),
+    }
+}
+
+// The offset of a clock that is always so far ahead.
+fn fixed_offset(ahead: Ahead) -> Offset
+    ensures { result ≡ offset_of ahead }
+{
+    let Ok(offset) = Offset::from_seconds(ahead.seconds) else {
+        unreachable!()
+    };
+    offset
 }
 
 /// The date of a day of the years 1970 to 2199, by its number from 1970-01-01 on, which is below [`DAYS`].

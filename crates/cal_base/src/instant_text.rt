@@ -1,20 +1,25 @@
 //! Instants as text.
 
 ghost use Rattle.std.specs.Prelude.{◌≡◌, ◌≤◌, false, is_err, length};
+ghost use Rattle.std.specs.Int.{IsInRange};
 ghost use Rattle.cal_base.specs.Bytes.{Writes};
-ghost use Rattle.cal_base.specs.InstantText.{weekday_name, time_text, civil_text, instant_text};
-ghost use Rattle.cal_base.specs.Zone.{zone_of};
+ghost use Rattle.cal_base.specs.InstantText.{weekday_name, civil_text, instant_text, offset_text, sign_text, zone_word};
 
 use crate::short_text::{Fill, ShortText, in_a_row, padding};
-use crate::{Civil, Instant, Sink, WriteFault, Zone, civil, put_all, put_pieces};
+use crate::{Civil, Instant, Sink, WriteFault, Zone, civil, put_all, short_weekday_name};
 use itoa::Buffer;
+use jiff::civil::Weekday;
 
-/// The text of the instant as the zone's clock shows it: weekday, date, time and zone, as
-/// `Sat 2020-02-29 00:00:00 UTC` (systemd.time(7), Displaying Timestamps).
+/// The text of the instant as the zone's clock shows it: weekday, date and time, and then `UTC` for [`Zone::utc`]
+/// alone and otherwise how far the clock is ahead of UTC, with seconds where they aren't 0
+/// (systemd.time(7), Displaying Timestamps). So it is `Sat 2020-02-29 00:00:00 UTC` or
+/// `Thu 1970-01-01 00:53:28 +00:53:28`.
+#[tactic(auto, unfolding(crate::specs::InstantText::instant_text))]
 pub fn format_instant(zone: Zone, instant: Instant) -> ShortText
-    ensures { result.items ≡ instant_text (zone_of zone.entry) instant.secs }
+    ensures { result.items ≡ instant_text zone.entry instant.secs }
 {
-    format_civil(&civil(zone, instant))
+    let shown = civil(zone, instant);
+    format_civil(&shown, format_zone(zone.is_utc(), shown.offset))
 }
 
 /// Writes the text of the instant, as [`format_instant`] forms it.
@@ -22,42 +27,18 @@ pub fn write_instant<W: Sink>(out: &mut W, zone: Zone, instant: Instant) -> Resu
     requires { W.is_failed out.old ≡ false }
     ensures failed { W.is_failed out.new ≡ is_err result }
     ensures bytes { Writes (W.written out.old) (W.written out.new) result
-        (instant_text (zone_of zone.entry) instant.secs) }
+        (instant_text zone.entry instant.secs) }
 {
     let text = format_instant(zone, instant);
     put_all(out, text.as_slice())
 }
 
-/// Writes a time of day as `00:00:00`.
-#[tactic(auto, unfolding(crate::specs::InstantText::time_text))]
-pub fn write_time<W: Sink>(out: &mut W, hour: u8, minute: u8, second: u8) -> Result<(), WriteFault>
-    requires { W.is_failed out.old ≡ false }
-    ensures failed { W.is_failed out.new ≡ is_err result }
-    ensures bytes { Writes (W.written out.old) (W.written out.new) result (time_text hour minute second) }
-{
-    let (mut hours, mut minutes, mut seconds) = (Buffer::new(), Buffer::new(), Buffer::new());
-    let hour = hours.format(hour);
-    let minute = minutes.format(minute);
-    let second = seconds.format(second);
-    put_pieces(
-        out,
-        &[
-            padding(hour, 2, Fill::Zero),
-            hour.as_bytes(),
-            b":",
-            padding(minute, 2, Fill::Zero),
-            minute.as_bytes(),
-            b":",
-            padding(second, 2, Fill::Zero),
-            second.as_bytes(),
-        ],
-    )
-}
-
-/// The text of what a clock shows.
+/// The text of what a clock shows, with the word of its zone.
 #[tactic(auto, unfolding(crate::specs::InstantText::civil_text, crate::specs::InstantText::date_text, crate::specs::InstantText::time_text))]
-fn format_civil(shown: &Civil) -> ShortText
-    ensures { result.items ≡ civil_text shown.now }
+fn format_civil(shown: &Civil, word: ShortText) -> ShortText
+    requires weekday { IsInRange 1 7 shown.now.weekday }
+    requires word { length word.items ≤ 40 }
+    ensures { result.items ≡ civil_text shown.now word.items }
 {
     let mut years = Buffer::new();
     let (mut months, mut days) = (Buffer::new(), Buffer::new());
@@ -69,7 +50,7 @@ fn format_civil(shown: &Civil) -> ShortText
     let minute = minutes.format(shown.minute);
     let second = seconds.format(shown.second);
     in_a_row(&[
-        weekday_name(shown.weekday),
+        short_name(shown.weekday),
         b" ",
         padding(year, 4, Fill::Zero),
         year.as_bytes(),
@@ -88,22 +69,74 @@ fn format_civil(shown: &Civil) -> ShortText
         b":",
         padding(second, 2, Fill::Zero),
         second.as_bytes(),
-        b" UTC",
+        b" ",
+        word.as_slice(),
     ])
 }
 
+/// The word of a zone behind a time: `UTC` for UTC itself, and otherwise how far its clock is ahead.
+#[tactic(auto, unfolding(crate::specs::InstantText::zone_word))]
+fn format_zone(is_utc: bool, offset: i32) -> ShortText
+    ensures text { result.items ≡ zone_word is_utc offset }
+    ensures short { length result.items ≤ 40 }
+{
+    if is_utc {
+        in_a_row(&[b"UTC"])
+    } else {
+        format_offset(offset)
+    }
+}
+
+/// How far a clock is ahead, as `+02:00`, or as `+00:53:28` where the seconds aren't 0.
+#[tactic(auto, unfolding(crate::specs::InstantText::offset_text))]
+fn format_offset(offset: i32) -> ShortText
+    ensures text { result.items ≡ offset_text offset }
+    ensures short { length result.items ≤ 40 }
+{
+    let ahead = offset.unsigned_abs();
+    let (mut hours, mut minutes, mut seconds) = (Buffer::new(), Buffer::new(), Buffer::new());
+    let hour = hours.format(ahead / 3_600);
+    let minute = minutes.format(ahead / 60 % 60);
+    if ahead % 60 == 0 {
+        return in_a_row(&[
+            sign(offset),
+            padding(hour, 2, Fill::Zero),
+            hour.as_bytes(),
+            b":",
+            padding(minute, 2, Fill::Zero),
+            minute.as_bytes(),
+        ]);
+    }
+    let second = seconds.format(ahead % 60);
+    in_a_row(&[
+        sign(offset),
+        padding(hour, 2, Fill::Zero),
+        hour.as_bytes(),
+        b":",
+        padding(minute, 2, Fill::Zero),
+        minute.as_bytes(),
+        b":",
+        padding(second, 2, Fill::Zero),
+        second.as_bytes(),
+    ])
+}
+
+/// `-` for a clock behind UTC, and otherwise `+`.
+fn sign<'a>(offset: i32) -> &'a [u8]
+    ensures { result.now ≡ sign_text offset }
+{
+    if offset < 0 { b"-" } else { b"+" }
+}
+
 /// The short English name of a weekday, Monday being 1.
-fn weekday_name<'a>(weekday: u8) -> &'a [u8]
+#[tactic(auto, using(crate::proofs::WeekdayLemmas::numbered))]
+fn short_name<'a>(weekday: u8) -> &'a [u8]
+    requires { IsInRange 1 7 weekday }
     ensures name { result.now ≡ weekday_name weekday }
     ensures short { length result.now ≤ 3 }
 {
-    match weekday {
-        1 => b"Mon",
-        2 => b"Tue",
-        3 => b"Wed",
-        4 => b"Thu",
-        5 => b"Fri",
-        6 => b"Sat",
-        _ => b"Sun",
-    }
+    short_weekday_name(Weekday::from_index(weekday - 1))
 }
+
+#[cfg(test)]
+mod tests;

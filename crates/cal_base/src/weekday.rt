@@ -1,6 +1,6 @@
 //! The English names of the weekdays, which texts are read and printed by.
 
-ghost use Rattle.std.specs.Prelude.{◌≡◌};
+ghost use Rattle.std.specs.Prelude.{◌≡◌, ◌≤◌, length};
 ghost use Rattle.cal_base.specs.Weekday.{name_of, short_name_of};
 
 use jiff::civil::Weekday;
@@ -35,7 +35,8 @@ pub fn weekday_name(weekday: Weekday) -> &'static [u8]
 /// The first three letters of a weekday's name, in which it is printed.
 #[tactic(auto, unfolding(crate::specs::Weekday::name_of))]
 pub fn short_weekday_name(weekday: Weekday) -> &'static [u8]
-    ensures { result.now ≡ short_name_of weekday }
+    ensures name { result.now ≡ short_name_of weekday }
+    ensures short { length result.now ≤ 3 }
 {
     weekday_name(weekday).split_at(3).0
 }

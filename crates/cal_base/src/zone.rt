@@ -1,67 +1,66 @@
-//! Zones, and the table of those that have a name.
-ghost use Rattle.std.specs.Prelude.{◌≡◌, ◌↔◌, IsSome, IfSome, map, codes};
-ghost use Rattle.std.specs.Char.{to_ascii_lowercase};
-ghost use Rattle.jiff.specs.Types.{UTC};
+//! Zones: how a civil clock is reckoned from Unix time.
 
-use std::alloc::Global;
-use std::marker::PhantomData;
+ghost use Rattle.std.specs.Prelude.{◌≡◌, true, false};
+ghost use Rattle.jiff.specs.Types.{Offset};
+ghost use Rattle.jiff.specs.Words.{fixed_zone, IsOffsetSeconds};
 
-/// How local time is reckoned. Today this is UTC alone.
+use crate::Rules;
+
+/// How a civil clock is reckoned: as UTC, at a fixed offset, or by rules.
 #[derive(Clone, Copy)]
 pub struct Zone<'t> {
-    rules: PhantomData<&'t ()>,
+    pub(crate) kind: Kind<'t>,
 }
 
-impl Zone<'_> {
-    ghost use Rattle.cal_base.specs.Zone.{zone_of};
+#[derive(Clone, Copy)]
+pub(crate) enum Kind<'t> {
+    Utc,
+    Offset(Ahead),
+    Rules(&'t Rules),
+}
+
+/// How far a clock is ahead of UTC.
+#[derive(Clone, Copy)]
+pub(crate) struct Ahead {
+    pub(crate) seconds: i32,
+    ghost in_range: { IsOffsetSeconds seconds },
+}
+
+impl<'t> Zone<'t> {
+    ghost use Rattle.cal_base.specs.Zone.{is_utc, utc, zone_of};
 
     /// UTC, whose civil clock is the Unix clock.
-    pub fn utc() -> Self
-        ensures { zone_of result ≡ UTC }
+    pub fn utc() -> Zone<'static>
+        ensures { result ≡ utc }
     {
-        Zone { rules: PhantomData }
-    }
-}
-
-/// Zones by name. Today it is always empty.
-#[derive(Drop)]
-pub struct ZoneTable {
-    alloc: Global,
-}
-
-impl ZoneTable {
-    ghost use Rattle.cal_base.specs.Zone.{zone_of};
-
-    /// The table with no zone.
-    pub fn new(alloc: Global) -> Self {
-        ZoneTable { alloc }
+        Zone { kind: Kind::Utc }
     }
 
-    /// The zone of that name: UTC for `UTC` in any case, and so far none for every other name.
-    pub fn find(&self, name: &str) -> Option<Zone<'_>>
-        ensures known { IsSome result ↔ (map to_ascii_lowercase name.now ≡ codes "utc") }
-        ensures zone { IfSome result (λ zone. zone_of zone ≡ UTC) }
+    /// The zone whose clock is always that many seconds ahead of UTC. It is told from UTC also where these are 0.
+    pub fn offset(seconds: i32) -> Zone<'static>
+        requires { IsOffsetSeconds seconds }
+        ensures zone { (offset : Offset) → offset.seconds ≡ seconds → zone_of result ≡ fixed_zone offset }
+        ensures told { is_utc result ≡ false }
     {
-        if name.eq_ignore_ascii_case("utc") {
-            Some(Zone::utc())
-        } else {
-            None
+        Zone {
+            kind: Kind::Offset(Ahead { seconds }),
         }
     }
-}
 
-#[cfg(test)]
-mod tests {
-    use super::*;
+    /// The zone whose clock goes by these rules.
+    pub fn rules(rules: &'t Rules) -> Zone<'t>
+        ensures zone { zone_of result ≡ rules.now }
+        ensures told { is_utc result ≡ false }
+    {
+        Zone {
+            kind: Kind::Rules(rules),
+        }
+    }
 
-    #[test]
-    fn names(rt: HostRuntime) {
-        let table = ZoneTable::new(rt.alloc());
-        for name in ["UTC", "utc", "Utc"] {
-            assert!(rt; table.find(name).is_some(), "{name}");
-        }
-        for name in ["", "UT", "UTCx", "Mars/One"] {
-            assert!(rt; table.find(name).is_none(), "{name}");
-        }
+    /// Whether this is UTC itself, [`Zone::utc`].
+    pub fn is_utc(self) -> bool
+        ensures { result ≡ is_utc self.entry }
+    {
+        matches!(self.kind, Kind::Utc)
     }
 }

@@ -19,7 +19,8 @@ use Rattle.cal_spec.specs.Slot.{day_slot}
 use Rattle.cal_spec.specs.ValidFields.{IsValidFields}
 use Rattle.cal_spec.specs.Weekdays.{day_named, leading_letters, days_until, is_covered, days_of, items_of, without_comma, set_of, listed_days, is_like_shorthand, weekdays_of, weekdays_in}
 use Rattle.cal_spec.specs.Words.{Places, words, places_of}
-use Rattle.cal_spec.specs.ZoneName.{IsZoneOption, is_zone_name, zone_name, zone_in}
+use Rattle.cal_base.specs.ZoneName.{is_zone_name}
+use Rattle.cal_spec.specs.ZoneName.{IsZoneOption, zone_name, zone_in}
 use Rattle.cal_spec.specs.declared.part.Part.{Part}
 use Rattle.cal_spec.specs.declared.slot.Slot.{Slot}
 use Rattle.cal_spec.specs.declared.slot.Slot.TheVariants.{Year, Month, Hour, Minute, Second}

@@ -15,7 +15,8 @@ use Rattle.cal_spec.specs.Slot.{least, greatest, day_slot}
 use Rattle.cal_spec.specs.Sound.{AreSound, GoesOn, IsEndWithin, IsSecondWithin, IsSound, IsWithin}
 use Rattle.cal_spec.specs.ValidFields.{IsValidFields}
 use Rattle.cal_spec.specs.WeekdayRuns.{run_text, runs_text, weekdays_text}
-use Rattle.cal_spec.specs.ZoneName.{IsZoneOption, begins_with_letter, is_zone_byte, is_zone_name}
+use Rattle.cal_base.specs.ZoneName.{begins_with_letter, is_zone_byte, is_zone_name}
+use Rattle.cal_spec.specs.ZoneName.{IsZoneOption}
 use Rattle.cal_spec.specs.declared.part.Part.{Part}
 use Rattle.cal_spec.specs.declared.slot.Slot.{Slot}
 use Rattle.cal_spec.specs.declared.slot.Slot.TheVariants.{Year, Month, Day, DayFromEnd, Hour, Minute, Second}

@@ -19,7 +19,8 @@ use Rattle.cal_spec.specs.ValidFields.{IsValidFields}
 use Rattle.cal_spec.specs.WeekdayRuns.{runs_from, runs_text}
 use Rattle.cal_spec.specs.Weekdays.{weekdays_in}
 use Rattle.cal_spec.specs.Words.{Places, is_blank, places_of, words}
-use Rattle.cal_spec.specs.ZoneName.{IsZoneOption, begins_with_letter, is_zone_byte, is_zone_name, zone_in}
+use Rattle.cal_base.specs.ZoneName.{begins_with_letter, is_zone_byte, is_zone_name}
+use Rattle.cal_spec.specs.ZoneName.{IsZoneOption, zone_in}
 use Rattle.cal_spec.specs.declared.part.Part.{Part}
 use Rattle.cal_spec.specs.declared.slot.Slot.TheVariants.{Year, Month, Hour, Minute, Second}
 use Rattle.cal_spec.proofs.LengthLemmas.{AreSmall, expr_length, small_component, small_second}

@@ -7,7 +7,7 @@ use Rattle.cal_spec.specs.Shorthand.{shorthand_named}
 use Rattle.cal_spec.specs.WeekdayRuns.{run_text, runs_from, runs_text}
 use Rattle.cal_spec.specs.Weekdays.{day_named, days_of, listed_days, weekdays_of}
 use Rattle.cal_spec.specs.Words.{is_blank}
-use Rattle.cal_spec.specs.ZoneName.{begins_with_letter}
+use Rattle.cal_base.specs.ZoneName.{begins_with_letter}
 use Rattle.cal_spec.specs.declared.shorthand.Shorthand.{Shorthand}
 use Rattle.cal_spec.specs.declared.spec_fault.SpecFault.{SpecFault}
 use Rattle.cal_spec.proofs.LengthLemmas.{check_all, each_checked}

@@ -14,7 +14,8 @@ use Rattle.cal_spec.specs.Slot.{day_slot}
 use Rattle.cal_spec.specs.Sound.{IsSound}
 use Rattle.cal_spec.specs.Weekdays.{set_of}
 use Rattle.cal_spec.specs.Words.{Places, is_blank, words}
-use Rattle.cal_spec.specs.ZoneName.{begins_with_letter, is_zone_name, zone_name}
+use Rattle.cal_base.specs.ZoneName.{begins_with_letter, is_zone_name}
+use Rattle.cal_spec.specs.ZoneName.{zone_name}
 use Rattle.cal_spec.specs.declared.part.Part.{Part}
 use Rattle.cal_spec.specs.declared.shorthand.Shorthand.{Shorthand}
 use Rattle.cal_spec.specs.declared.slot.Slot.{Slot}

@@ -1,22 +1,9 @@
 -- The name of a zone at the end of a calendar expression: systemd.time(7), Calendar Events.
-use Rattle.std.specs.Prelude.{ℕ, ◌≡◌, ◌==◌, nat_le, Bool, true, false, ◌&&◌, ◌||◌, if◌then◌else◌, List, [], ◌∷◌, length, codes, Option, None, Some, Result, Ok, Err}
-use Rattle.std.specs.List.{list_all}
-use Rattle.std.specs.Char.{is_ascii_alphabetic, is_ascii_alphanumeric}
+use Rattle.std.specs.Prelude.{ℕ, ◌≡◌, true, if◌then◌else◌, List, [], ◌∷◌, codes, Option, None, Some, Result, Ok, Err}
 use Rattle.std.specs.Str.{str_eq_ignore_ascii_case}
+use Rattle.cal_base.specs.ZoneName.{is_zone_name}
 use Rattle.cal_spec.specs.declared.spec_fault.SpecFault.{SpecFault}
 use Rattle.cal_spec.specs.declared.spec_fault.SpecFault.TheVariants.{StrayWord}
-
--- letters, digits, `/`, `_`, `+` and `-`
-abbrev pub is_zone_byte : ℕ → Bool
-is_zone_byte b = is_ascii_alphanumeric b || (b == 47) || (b == 95) || (b == 43) || (b == 45)
-
-abbrev pub begins_with_letter : List ℕ → Bool
-begins_with_letter [] = false
-begins_with_letter (b ∷ bs) = is_ascii_alphabetic b
-
--- a letter followed by such bytes, at most 255 bytes in all
-unfoldable pub is_zone_name : List ℕ → Bool
-is_zone_name name = begins_with_letter name && list_all is_zone_byte name && nat_le (length name) 255
 
 -- `UTC` in any case is kept as `UTC`
 abbrev pub zone_name : List ℕ → List ℕ

@@ -5,3 +5,4 @@ pub mod ElapsesLemmas
 pub mod RisingLemmas
 pub mod SearchLemmas
 pub mod WorkedRows
+pub mod ZoneLemmas

@@ -1,11 +1,10 @@
 -- The report of one calendar expression (systemd-analyze(1), calendar).
-use Rattle.std.specs.Prelude.{ℕ, ◌+◌, ◌-◌, ◌*◌, ◌==◌, ℤ, ◌-ℤ◌, int_lt, unsigned_abs, Bool, true, List, [], ◌∷◌, ◌++◌, length, map, take, replicate, Option, None, Some, Result, Ok, Err, if◌then◌else◌, codes, decimal}
-use Rattle.std.specs.Char.{to_ascii_lowercase}
-use Rattle.std.specs.Str.{bytes_eq}
-use Rattle.jiff.specs.Types.{UTC}
+use Rattle.std.specs.Prelude.{ℕ, ◌+◌, ◌-◌, ◌*◌, ◌==◌, ℤ, ◌-ℤ◌, int_lt, unsigned_abs, Bool, true, List, [], ◌∷◌, ◌++◌, length, take, replicate, Option, None, Some, Result, Ok, Err, if◌then◌else◌, codes, decimal}
 use Rattle.cal_base.specs.Bytes.{joined}
 use Rattle.cal_base.specs.InstantText.{instant_text}
 use Rattle.cal_base.specs.SpanText.{span_text}
+use Rattle.cal_base.specs.Zone.{utc}
+use Rattle.cal_base.specs.ZoneName.{is_utc_name}
 use Rattle.cal_spec.specs.Expr.{expr_in}
 use Rattle.cal_spec.specs.ExprText.{expr_text}
 use Rattle.cal_spec.specs.Fields.{Fields}
@@ -33,7 +32,7 @@ label_text number =
 -- one elapse and how far it lies from the present
 unfoldable pub elapse_text : ℤ → ℕ → ℤ → List ℕ
 elapse_text now number elapse =
-    joined (label_text number ∷ instant_text UTC elapse ∷ codes "\n       From now: " ∷ distance_text now elapse ∷ codes "\n" ∷ [])
+    joined (label_text number ∷ instant_text utc elapse ∷ codes "\n       From now: " ∷ distance_text now elapse ∷ codes "\n" ∷ [])
 
 -- elapses in a row, where the first of them has that number
 abbrev pub elapse_texts : ℤ → ℕ → List ℤ → List ℕ
@@ -66,7 +65,7 @@ calendar_report now base n text fields =
 -- a zone of that name is there; so far UTC alone is
 abbrev pub is_there : Option (List ℕ) → Bool
 is_there None = true
-is_there (Some name) = bytes_eq (map to_ascii_lowercase name) (codes "utc")
+is_there (Some name) = is_utc_name name
 
 -- the report, or the words of the refusal
 abbrev pub answer_with : ℤ → ℤ → ℕ → List ℕ → Result Fields SpecFault → Answer

@@ -3,6 +3,8 @@ pub mod Answer
 pub mod CalendarReport
 pub mod Command
 pub mod Elapses
+pub mod LoadFault
+pub mod LoadZone
 pub mod Report
 pub mod Request
 pub mod RisingList

@@ -1,6 +1,7 @@
 //! What each verb reads from a text, and why it refuses one.
 
 ghost use Rattle.std.specs.Prelude.{◌≡◌, ℕ, ℤ, Ok, Err, IfOk, IfErr, IsErrOf, false, is_err};
+ghost use Rattle.std.specs.FinMap.{empty};
 ghost use Rattle.cal_base.specs.Bytes.{Writes};
 ghost use Rattle.cal_tool.specs.Accepted.{report_text, refusal_words};
 ghost use Rattle.cal_tool.specs.CalendarReport.{is_there, calendar_answer, calendar_report};
@@ -60,6 +61,7 @@ pub fn read_text(
     table: &ZoneTable,
     text: &str,
 ) -> Result<Accepted, Refusal>
+    requires { table.now ≡ empty }
     ensures accepted { IfOk result (λ accepted. answer_to (asked request.now now.secs) text.now
         ≡ Ok (report_text (asked request.now now.secs) text.now accepted)) }
     ensures refused { IfErr result (λ refusal. (refusal ≡ NoMemory → ⊥)
@@ -78,6 +80,7 @@ pub fn read_text(
 /// Reads a calendar expression whose zone, if it names one, is there.
 #[tactic(auto, unfolding(crate::specs::CalendarReport::calendar_answer))]
 fn read_calendar(alloc: Global, table: &ZoneTable, text: &str) -> Result<Expr, Refusal>
+    requires { table.now ≡ empty }
     ensures accepted { IfOk result (λ expr. (now base : ℤ) (n : ℕ)
         → calendar_answer now base n text.now ≡ Ok (calendar_report now base n text.now expr)) }
     ensures refused { IfErr result (λ refusal. (refusal ≡ NoMemory → ⊥)
@@ -92,7 +95,9 @@ fn read_calendar(alloc: Global, table: &ZoneTable, text: &str) -> Result<Expr, R
 }
 
 /// Whether the zone that an expression names is there.
+#[tactic(auto, unfolding(cal_base::specs::ZoneTable::zone_named))]
 fn is_there(table: &ZoneTable, expr: &Expr) -> bool
+    requires { table.now ≡ empty }
     ensures { result ≡ is_there expr.now.zone }
 {
     match expr.zone_name() {

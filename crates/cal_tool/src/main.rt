@@ -11,6 +11,7 @@ pub mod calendar_report;
 pub mod command;
 pub mod early_words;
 pub mod laws;
+pub mod load_zone;
 pub mod report;
 pub mod request;
 pub mod search;

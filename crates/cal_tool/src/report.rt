@@ -2,8 +2,10 @@
 //! error, and the status (systemd-analyze(1)).
 
 ghost use Rattle.std.specs.Prelude.{◌≡◌, ◌≤◌, [], ◌∷◌, None, false, is_err, codes, IfOk, IsErrOf, map};
+ghost use Rattle.std.specs.FinMap.{empty};
 ghost use Rattle.std.specs.String.{string_bytes};
 ghost use Rattle.cal_base.specs.Bytes.{Writes, joined};
+ghost use Rattle.cal_base.specs.Zone.{utc};
 ghost use Rattle.cal_tool.specs.Accepted.{report_text};
 ghost use Rattle.cal_tool.specs.Answer.{refusal_in, later_text, lead_text, status_in, reports_text, refusals_text, whole_status};
 ghost use Rattle.cal_tool.specs.Report.{answer_to, report};
@@ -20,7 +22,7 @@ use std::alloc::Global;
 /// Answers a request: each accepted text gets a report on `out`, each refused one a line on `err`.
 ///
 /// The elapses shown are the first `iterations` (1 to 1,000,000) after the present. So far expressions are in
-/// UTC and `input` isn't read.
+/// UTC, `local` is [`Zone::utc`], the table is empty, and `input` isn't read.
 ///
 /// [`RunFault::OutFailed`] and [`RunFault::ErrFailed`] come exactly where that writer failed in this call, and
 /// each writer has a prefix of its whole text then, as it has where memory is refused ([`RunFault::NoMemory`]).
@@ -38,6 +40,8 @@ pub fn run<R: Source, O: Sink, E: Sink>(
 ) -> Result<Status, RunFault>
     requires iterations { IsCount request.now.iterations }
     requires base { request.now.base ≡ None }
+    requires local { local ≡ utc }
+    requires table { table.now ≡ empty }
     requires input { R.is_failed input.old ≡ false }
     requires out { O.is_failed out.old ≡ false }
     requires err { E.is_failed err.old ≡ false }
@@ -64,6 +68,7 @@ fn answer_all<O: Sink, E: Sink>(
     err: &mut E,
 ) -> Result<Status, RunFault>
     requires iterations { IsCount request.now.iterations }
+    requires table { table.now ≡ empty }
     requires out { O.is_failed out.old ≡ false }
     requires err { E.is_failed err.old ≡ false }
     ensures status { let answer = answer_to (asked request.now now.secs) in
@@ -112,6 +117,7 @@ fn answer_one<O: Sink, E: Sink>(
     err: &mut E,
 ) -> Result<Status, RunFault>
     requires iterations { IsCount request.now.iterations }
+    requires table { table.now ≡ empty }
     requires out { O.is_failed out.old ≡ false }
     requires err { E.is_failed err.old ≡ false }
     ensures status { IfOk result (λ status. status

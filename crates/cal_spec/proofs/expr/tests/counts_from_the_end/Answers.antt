@@ -1,7 +1,8 @@
 use Rattle.std.proofs.Common.{◌≡◌, true, Some, refl, sym, ap, ◌∙◌, subst, rules, arith, string_bytes, codes}
 use Rattle.cal_spec.specs.Fields.{fields_of, counted_parts, parts_in}
 use Rattle.cal_spec.specs.Sound.{AreSound}
-use Rattle.cal_spec.specs.ZoneName.{IsZoneOption, is_zone_name}
+use Rattle.cal_base.specs.ZoneName.{is_zone_name}
+use Rattle.cal_spec.specs.ZoneName.{IsZoneOption}
 use Rattle.cal_spec.specs.declared.slot.Slot.TheVariants.{Year, DayFromEnd, Hour, Minute, Second}
 use Rattle.cal_spec.proofs.expr.tests.counts_from_the_end.Goals as goal
 
