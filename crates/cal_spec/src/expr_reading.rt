@@ -19,3 +19,6 @@ pub fn read_expr(alloc: Global, text: &str) -> Result<Expr, SpecFault>
     let raw = read_fields(alloc, text)?;
     Ok(Expr::normal(raw))
 }
+
+#[cfg(test)]
+mod tests;
