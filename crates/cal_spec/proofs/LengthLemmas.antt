@@ -1,5 +1,5 @@
 -- How long normal texts are: fewer than 4,096 bytes.
-use Rattle.std.proofs.Common.{◌≡◌, ℕ, zero, suc, ◌+◌, ◌-◌, ◌*◌, ◌/◌, ◌%◌, ◌^◌, ◌<◌, ◌≤◌, cond, Bool, true, false, ◌&&◌, nat_le, List, [], ◌∷◌, ◌++◌, length, codes, Option, None, Some, refl, sym, ap, ◌∙◌, subst, lit<, lit≤, arith, length-append}
+use Rattle.std.proofs.Common.{◌≡◌, ℕ, zero, suc, ◌+◌, ◌-◌, ◌*◌, ◌/◌, ◌^◌, ◌<◌, ◌≤◌, Bool, true, false, ◌&&◌, nat_le, List, [], ◌∷◌, ◌++◌, length, codes, Option, None, Some, refl, sym, subst, lit≤, arith, length-append}
 use Rattle.std.specs.Fmt.{decimal}
 use Rattle.std.specs.List.{AllByRecursion, flat_map, list_all}
 use Rattle.std.proofs.lemmas.Bool.{and_parts, leb-true}
@@ -10,7 +10,7 @@ use Rattle.cal_base.specs.InstantText.{zeros}
 use Rattle.cal_base.specs.Weekday.{name_of}
 use Rattle.cal_spec.specs.ExprText.{component_text, day_lead, expr_text, fields_text, number_text, optional_text, part_text, parts_text, row_text, zone_text}
 use Rattle.cal_spec.specs.Fields.{Fields, counted_parts, parts_in}
-use Rattle.cal_spec.specs.NormalForm.{IsNormal, IsNormalTo, IsStarred, normal_component, normal_fields, normal_from_end, normal_parts, normal_second, starred}
+use Rattle.cal_spec.specs.NormalForm.{IsNormal, IsNormalTo, IsStarred, normal_component, normal_fields, normal_parts, normal_second, starred}
 use Rattle.cal_spec.specs.Slot.{least, greatest, day_slot}
 use Rattle.cal_spec.specs.Sound.{AreSound, GoesOn, IsEndWithin, IsSecondWithin, IsSound, IsWithin}
 use Rattle.cal_spec.specs.ValidFields.{IsValidFields}
@@ -116,7 +116,7 @@ optional_length : (lead : List ℕ) (width most : ℕ) (n : Option ℕ) → 0 < 
 optional_length lead width most None some narrow few small = omega arith
 optional_length lead width most (Some n) some narrow few small = number_length lead width most n some narrow few small
 
-step_small : (step : Option ℕ) → IsBelow 1_000 step → IsBelow 10_000 step
+pub step_small : (step : Option ℕ) → IsBelow 1_000 step → IsBelow 10_000 step
 step_small None h = tt
 step_small (Some r) h = omega arith
 

@@ -1,33 +1,27 @@
 -- The normal text of an expression is read as the expression.
-use Rattle.std.proofs.Common.{◌≡◌, ℕ, zero, suc, ◌+◌, ◌-◌, ◌<◌, ◌≤◌, cond, Bool, true, false, not, ◌&&◌, ◌||◌, nat_eq, nat_le, nat_lt, List, [], ◌∷◌, ◌++◌, length, map, codes, Option, None, Some, Result, Ok, Err, refl, sym, ap, ◌∙◌, subst, arith, append_assoc}
-use Rattle.std.specs.Prelude.{filter, if◌then◌else◌}
+use Rattle.std.proofs.Common.{◌≡◌, ℕ, ◌+◌, ◌-◌, ◌<◌, ◌≤◌, Bool, true, false, ◌&&◌, ◌||◌, nat_eq, nat_le, nat_lt, List, [], ◌∷◌, ◌++◌, length, codes, Option, None, Some, Ok, refl, sym, ap, ◌∙◌, arith, append_assoc}
+use Rattle.std.specs.Prelude.{filter}
 use Rattle.std.specs.Char.{is_ascii_alphabetic, to_ascii_lowercase}
 use Rattle.std.specs.List.{list_all, list_any, slice_split}
-use Rattle.std.specs.Option.{option_map}
-use Rattle.std.proofs.lemmas.Bool.{and_parts, cases_Bool, eqb-true, false_from_ne_true, le-ltb, leb-true, leb-false, lt-leb, lt-ltb, ne_eqb, or_cases, or_from, or_parts}
+use Rattle.std.proofs.lemmas.Bool.{and_parts, le-ltb, lt-ltb, or_parts}
 use Rattle.std.proofs.lemmas.Bool.Decides.{nat_tests}
 use Rattle.std.proofs.lemmas.List.{append-nil, length-append}
 use Rattle.cal_base.specs.Bytes.{joined}
-use Rattle.cal_spec.specs.Components.{component_of, counted}
-use Rattle.cal_spec.specs.DateAndTime.{DateFields, DateTexts, TimeFields, TimeTexts, date_by, date_due, date_fields, date_of, date_texts, is_colon, is_date_sign, is_tilde, most_counted, room_behind, time_by, time_due, time_fields, time_of, time_texts}
+use Rattle.cal_spec.specs.Components.{counted}
+use Rattle.cal_spec.specs.DateAndTime.{DateFields, TimeFields, date_due, date_fields, date_of, date_texts, is_colon, is_date_sign, is_tilde, room_behind, time_due, time_fields, time_of, time_texts}
 use Rattle.cal_spec.specs.ExprText.{component_text, day_lead, expr_text, fields_text, row_text, zone_text}
 use Rattle.cal_spec.specs.Fields.{Fields, counted_parts, parts_in}
-use Rattle.cal_spec.specs.Grammar.{fields_at, fields_due, fields_in, most_bytes}
-use Rattle.cal_spec.specs.NormalForm.{normal_component, normal_fields, normal_from_end, normal_second}
-use Rattle.cal_spec.specs.Reads.{◌>>=◌}
-use Rattle.cal_spec.specs.Shorthand.{names_of, shorthand_named, shorthands}
+use Rattle.cal_spec.specs.Grammar.{fields_at, fields_in}
+use Rattle.cal_spec.specs.NormalForm.{normal_fields}
+use Rattle.cal_spec.specs.Shorthand.{shorthand_named}
 use Rattle.cal_spec.specs.Slot.{day_slot}
-use Rattle.cal_spec.specs.Sound.{AreSound}
 use Rattle.cal_spec.specs.ValidFields.{IsValidFields}
-use Rattle.cal_spec.specs.WeekdayRuns.{runs_from, runs_text, weekdays_text}
-use Rattle.cal_spec.specs.Weekdays.{weekdays_in, weekdays_of}
+use Rattle.cal_spec.specs.WeekdayRuns.{runs_from, runs_text}
+use Rattle.cal_spec.specs.Weekdays.{weekdays_in}
 use Rattle.cal_spec.specs.Words.{Places, is_blank, places_of, words}
-use Rattle.cal_spec.specs.ZoneName.{IsZoneOption, begins_with_letter, is_zone_byte, is_zone_name, zone_in, zone_name}
+use Rattle.cal_spec.specs.ZoneName.{IsZoneOption, begins_with_letter, is_zone_byte, is_zone_name, zone_in}
 use Rattle.cal_spec.specs.declared.part.Part.{Part}
-use Rattle.cal_spec.specs.declared.shorthand.Shorthand.{Shorthand}
-use Rattle.cal_spec.specs.declared.slot.Slot.{Slot}
-use Rattle.cal_spec.specs.declared.slot.Slot.TheVariants.{Year, Month, Day, DayFromEnd, Hour, Minute, Second}
-use Rattle.cal_spec.specs.declared.spec_fault.SpecFault.{SpecFault}
+use Rattle.cal_spec.specs.declared.slot.Slot.TheVariants.{Year, Month, Hour, Minute, Second}
 use Rattle.cal_spec.proofs.LengthLemmas.{AreSmall, expr_length, small_component, small_second}
 use Rattle.cal_spec.proofs.NormalFieldsLemmas.{fields_valid}
 use Rattle.cal_spec.proofs.ReadBackParts.{both_all, clear_of, component_back, component_bytes, component_some, is_component_byte, split_alone, split_at, wider}

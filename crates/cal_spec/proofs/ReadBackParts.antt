@@ -1,12 +1,11 @@
 -- What is printed of parts and components is read again.
-use Rattle.std.proofs.Common.{◌≡◌, ℕ, zero, suc, ◌+◌, ◌-◌, ◌*◌, ◌^◌, ◌<◌, ◌≤◌, cond, Bool, true, false, not, ◌&&◌, ◌||◌, nat_eq, nat_le, nat_lt, List, [], ◌∷◌, ◌++◌, length, map, replicate, codes, Option, None, Some, Result, Ok, Err, refl, sym, ap, ◌∙◌, subst, inl, inr, lit≤, arith, append_assoc}
-use Rattle.std.specs.Char.{is_ascii_digit, digit_value}
+use Rattle.std.proofs.Common.{◌≡◌, ℕ, zero, suc, ◌+◌, ◌-◌, ◌<◌, ◌≤◌, cond, Bool, true, false, not, ◌&&◌, ◌||◌, nat_eq, nat_le, nat_lt, List, [], ◌∷◌, ◌++◌, length, map, replicate, codes, Option, None, Some, Ok, refl, sym, ap, ◌∙◌, arith, append_assoc}
+use Rattle.std.specs.Char.{is_ascii_digit}
 use Rattle.std.specs.Fmt.{decimal}
-use Rattle.std.specs.List.{AllByRecursion, flat_map, list_all, list_any, slice_split, onto_first}
+use Rattle.std.specs.List.{AllByRecursion, flat_map, list_all, list_any, slice_split}
 use Rattle.std.specs.Option.{option_map}
-use Rattle.std.specs.Str.{bytes_eq}
 use Rattle.std.specs.Str.Parse.{AllDigits, digits_value}
-use Rattle.std.proofs.lemmas.Bool.{and_from, and_parts, eqb-true, false_from_ne_true, le-leb, le-ltb, leb-true, lt-leb, lt-ltb, ne_eqb, or_left, or_parts}
+use Rattle.std.proofs.lemmas.Bool.{and_from, and_parts, le-leb, le-ltb, leb-true, lt-leb, ne_eqb, or_left, or_parts}
 use Rattle.std.proofs.lemmas.Fmt.{decimal_is_IsNumeral}
 use Rattle.std.proofs.lemmas.List.{append-nil}
 use Rattle.std.proofs.lemmas.List.Folds.{list_all-append}
@@ -14,15 +13,14 @@ use Rattle.std.proofs.lemmas.Str.Parse.{digit_from_value}
 use Rattle.cal_base.specs.InstantText.{zeros}
 use Rattle.cal_spec.specs.Components.{component_of, counted, first_fault, is_comma, is_star, listed, part_due, parts_of, room_in}
 use Rattle.cal_spec.specs.ExprText.{component_text, number_text, optional_text, part_text, parts_text}
-use Rattle.cal_spec.specs.Parts.{Sign, digits, dots, slash, point, other, Counted, behind_end, behind_number, behind_start, bad, fault_of, is_backward, is_idle, is_outside, is_point, is_second, is_slash, is_time, is_within, is_year, is_zero, lone, number_due, part_at_end, part_of, signs, starts_with_point, with_century, with_step, with_values}
-use Rattle.cal_spec.specs.Reads.{◌>>=◌, first_of, unless}
+use Rattle.cal_spec.specs.Parts.{Sign, digits, slash, behind_end, behind_number, behind_start, fault_of, is_backward, is_idle, is_outside, is_second, is_time, is_within, is_zero, number_due, part_at_end, part_of, signs, starts_with_point, with_century, with_step, with_values}
+use Rattle.cal_spec.specs.Reads.{◌>>=◌}
 use Rattle.cal_spec.specs.Slot.{least, greatest}
-use Rattle.cal_spec.specs.Sound.{AreSound, EndsAfter, GoesOn, IsEndWithin, IsSecondWithin, IsSound, IsStep, IsWithin}
+use Rattle.cal_spec.specs.Sound.{AreSound, EndsAfter, GoesOn, IsEndWithin, IsSound, IsStep, IsWithin}
 use Rattle.cal_spec.specs.declared.part.Part.{Part}
 use Rattle.cal_spec.specs.declared.slot.Slot.{Slot}
 use Rattle.cal_spec.specs.declared.slot.Slot.TheVariants.{Year, Month, Day, DayFromEnd, Hour, Minute, Second}
-use Rattle.cal_spec.specs.declared.spec_fault.SpecFault.{SpecFault}
-use Rattle.cal_spec.proofs.LengthLemmas.{AreSmall, IsBelow, IsSmall}
+use Rattle.cal_spec.proofs.LengthLemmas.{AreSmall, IsBelow, IsSmall, step_small}
 use Rattle.cal_spec.proofs.NormalLemmas.{same_part}
 use Rattle.cal_spec.proofs.SignLemmas.{begins_with, signs_lone, signs_number}
 
@@ -134,10 +132,6 @@ behind_start_back slot width a (Some b) step below small =
     let apart = no_digit_step step in
     let read = due slot b (padded width b) (step_text step) (number_printed width b below) below apart.0 apart.1 in
     ap (λ o. o >>= λ c. behind_end slot a c.number c.behind) read ∙ behind_end_back slot a b step small
-
-step_small : (step : Option ℕ) → IsBelow 1_000 step → IsBelow 10_000 step
-step_small None h = tt
-step_small (Some r) h = omega arith
 
 -- the text of a part is that of its first number and what is behind it
 step_printed : (step : Option ℕ) → optional_text (codes "/") 0 step ++ [] ≡ step_text step
