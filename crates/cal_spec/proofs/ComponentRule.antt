@@ -57,7 +57,7 @@ unfolding fault_of
 no_fault_of slot p sound =
     rw (not_outside slot p.start p.end sound.start_in sound.end_in, not_backward p.start p.end sound.forward, not_zero p.step sound.some_step, not_idle slot p.start p.end p.step sound.goes_on) refl
 
-no_first_fault : (slot : Slot) (ps : List Part) → AllByRecursion (IsSound slot) ps → first_fault slot ps ≡ None
+pub no_first_fault : (slot : Slot) (ps : List Part) → AllByRecursion (IsSound slot) ps → first_fault slot ps ≡ None
 no_first_fault slot [] sound = refl
 no_first_fault slot (p ∷ ps) sound = rw (no_fault_of slot p sound.0) (no_first_fault slot ps sound.1)
 

@@ -117,7 +117,7 @@ optional_length : (lead : List ℕ) (width most : ℕ) (n : Option ℕ) → 0 < 
 optional_length lead width most None some narrow few small = omega arith
 optional_length lead width most (Some n) some narrow few small = number_length lead width most n some narrow few small
 
-step_small : (step : Option ℕ) → IsBelow 1_000 step → IsBelow 10_000 step
+pub step_small : (step : Option ℕ) → IsBelow 1_000 step → IsBelow 10_000 step
 step_small None h = tt
 step_small (Some r) h = omega arith
 

@@ -1,7 +1,7 @@
 -- The normal text of an expression is read as the expression.
 use Rattle.std.proofs.Common.{◌≡◌, ℕ, ◌+◌, ◌-◌, ◌<◌, ◌≤◌, Bool, true, false, ◌&&◌, ◌||◌, nat_eq, nat_le, nat_lt, List, [], ◌∷◌, ◌++◌, length, codes, Option, None, Some, Ok, refl, sym, ap, ◌∙◌, arith, append_assoc}
 use Rattle.std.specs.Prelude.{filter}
-use Rattle.std.specs.Char.{is_ascii_alphabetic, to_ascii_lowercase}
+use Rattle.std.specs.Char.{is_ascii_alphabetic}
 use Rattle.std.specs.List.{list_all, list_any, slice_split}
 use Rattle.std.proofs.lemmas.Bool.{and_parts, le-ltb, lt-ltb, or_parts}
 use Rattle.std.proofs.lemmas.Bool.Decides.{nat_tests}
@@ -13,7 +13,6 @@ use Rattle.cal_spec.specs.ExprText.{component_text, day_lead, expr_text, fields_
 use Rattle.cal_spec.specs.Fields.{Fields, counted_parts, parts_in}
 use Rattle.cal_spec.specs.Grammar.{fields_at, fields_in}
 use Rattle.cal_spec.specs.NormalForm.{normal_fields}
-use Rattle.cal_spec.specs.Shorthand.{shorthand_named}
 use Rattle.cal_spec.specs.Slot.{day_slot}
 use Rattle.cal_spec.specs.ValidFields.{IsValidFields}
 use Rattle.cal_spec.specs.WeekdayRuns.{runs_from, runs_text}
@@ -27,6 +26,7 @@ use Rattle.cal_spec.proofs.LengthLemmas.{AreSmall, expr_length, small_component,
 use Rattle.cal_spec.proofs.NormalFieldsLemmas.{fields_valid}
 use Rattle.cal_spec.proofs.ReadBackParts.{both_all, clear_of, component_back, component_bytes, component_some, is_component_byte, split_alone, split_at, wider}
 use Rattle.cal_spec.proofs.ReadBackWeekdays.{ReadsDays, weekdays_all, weekdays_some}
+use Rattle.cal_spec.proofs.WordRule.{no_shorthand}
 use Rattle.cal_spec.proofs.WeekdayLemmas.{weekdays_text-all, weekdays_text-some}
 
 -- fields that are read back: valid, with small numbers
@@ -298,17 +298,6 @@ words_of_fields f h =
     ∙ ap words (append_assoc (date_word f) (32 ∷ time_word f) behind)
     ∙ word_first (date_word f) (time_word f ++ behind) (clear_of is_date_byte is_blank (date_word f) date_no_blank (date_bytes f h)) (date_some f h)
     ∙ ap (λ ws. date_word f ∷ ws) (words_to_zone (time_word f) f.zone (clear_of is_time_byte is_blank (time_word f) time_no_blank (time_bytes f h)) (time_some f h) h.valid.zone)
-
--- no shorthand begins without a letter
-not_first : (b c : ℕ) → is_ascii_alphabetic b ≡ false → 97 ≤ c → c ≤ 122 → nat_eq (to_ascii_lowercase b) c ≡ false
-not_first b c h low high = grind (arith, nat_tests)
-
-no_shorthand : (word : List ℕ) → begins_with_letter word ≡ false → shorthand_named word ≡ None
-unfolding shorthand_named
-no_shorthand [] h = refl
-no_shorthand (b ∷ bs) h =
-    let apart = λ (c : ℕ) (low : 97 ≤ c) (high : c ≤ 122). not_first b c h low high in
-    rw (apart 109 (omega arith) (omega arith), apart 104 (omega arith) (omega arith), apart 100 (omega arith) (omega arith), apart 119 (omega arith) (omega arith), apart 113 (omega arith) (omega arith), apart 115 (omega arith) (omega arith), apart 98 (omega arith) (omega arith), apart 121 (omega arith) (omega arith), apart 97 (omega arith) (omega arith)) refl
 
 -- Places
 

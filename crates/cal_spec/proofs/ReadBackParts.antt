@@ -1,26 +1,26 @@
 -- What is printed of parts and components is read again.
-use Rattle.std.proofs.Common.{◌≡◌, ℕ, zero, suc, ◌+◌, ◌-◌, ◌<◌, ◌≤◌, cond, Bool, true, false, not, ◌&&◌, ◌||◌, nat_eq, nat_le, nat_lt, List, [], ◌∷◌, ◌++◌, length, map, replicate, codes, Option, None, Some, Ok, refl, sym, ap, ◌∙◌, arith, append_assoc}
+use Rattle.std.proofs.Common.{◌≡◌, ℕ, zero, suc, ◌+◌, ◌-◌, ◌<◌, ◌≤◌, cond, Bool, true, false, ◌&&◌, ◌||◌, nat_eq, nat_le, nat_lt, List, [], ◌∷◌, ◌++◌, length, map, replicate, codes, Option, None, Some, Ok, refl, sym, ap, ◌∙◌, arith, append_assoc}
 use Rattle.std.specs.Char.{is_ascii_digit}
 use Rattle.std.specs.Fmt.{decimal}
 use Rattle.std.specs.List.{AllByRecursion, flat_map, list_all, list_any, slice_split}
 use Rattle.std.specs.Option.{option_map}
 use Rattle.std.specs.Str.Parse.{AllDigits, digits_value}
-use Rattle.std.proofs.lemmas.Bool.{and_from, and_parts, le-leb, le-ltb, leb-true, lt-leb, ne_eqb, or_left, or_parts}
+use Rattle.std.proofs.lemmas.Bool.{and_from, and_parts, le-leb, le-ltb, leb-true, ne_eqb, or_left, or_parts}
 use Rattle.std.proofs.lemmas.Fmt.{decimal_is_IsNumeral}
 use Rattle.std.proofs.lemmas.List.{append-nil}
 use Rattle.std.proofs.lemmas.List.Folds.{list_all-append}
 use Rattle.std.proofs.lemmas.Str.Parse.{digit_from_value}
 use Rattle.cal_base.specs.InstantText.{zeros}
-use Rattle.cal_spec.specs.Components.{component_of, counted, first_fault, is_comma, is_star, listed, part_due, parts_of, room_in}
+use Rattle.cal_spec.specs.Components.{component_of, counted, is_comma, is_star, listed, part_due, parts_of, room_in}
 use Rattle.cal_spec.specs.ExprText.{component_text, number_text, optional_text, part_text, parts_text}
-use Rattle.cal_spec.specs.Parts.{Sign, digits, slash, behind_end, behind_number, behind_start, fault_of, is_backward, is_idle, is_outside, is_second, is_time, is_within, is_zero, number_due, part_at_end, part_of, signs, starts_with_point, with_century, with_step, with_values}
+use Rattle.cal_spec.specs.Parts.{Sign, digits, slash, behind_end, behind_number, behind_start, is_second, is_time, number_due, part_at_end, part_of, signs, starts_with_point, with_century, with_step, with_values}
 use Rattle.cal_spec.specs.Reads.{◌>>=◌}
-use Rattle.cal_spec.specs.Slot.{least, greatest}
-use Rattle.cal_spec.specs.Sound.{AreSound, EndsAfter, GoesOn, IsEndWithin, IsSound, IsStep, IsWithin}
+use Rattle.cal_spec.specs.Sound.{AreSound, IsEndWithin, IsSound}
 use Rattle.cal_spec.specs.declared.part.Part.{Part}
 use Rattle.cal_spec.specs.declared.slot.Slot.{Slot}
 use Rattle.cal_spec.specs.declared.slot.Slot.TheVariants.{Year, Month, Day, DayFromEnd, Hour, Minute, Second}
-use Rattle.cal_spec.proofs.LengthLemmas.{AreSmall, IsBelow, IsSmall}
+use Rattle.cal_spec.proofs.ComponentRule.{no_first_fault}
+use Rattle.cal_spec.proofs.LengthLemmas.{AreSmall, IsBelow, IsSmall, step_small}
 use Rattle.cal_spec.proofs.NormalLemmas.{same_part}
 use Rattle.cal_spec.proofs.SignLemmas.{begins_with, signs_lone, signs_number}
 
@@ -133,10 +133,6 @@ behind_start_back slot width a (Some b) step below small =
     let read = due slot b (padded width b) (step_text step) (number_printed width b below) below apart.0 apart.1 in
     ap (λ o. o >>= λ c. behind_end slot a c.number c.behind) read ∙ behind_end_back slot a b step small
 
-step_small : (step : Option ℕ) → IsBelow 1_000 step → IsBelow 10_000 step
-step_small None h = tt
-step_small (Some r) h = omega arith
-
 -- the text of a part is that of its first number and what is behind it
 step_printed : (step : Option ℕ) → optional_text (codes "/") 0 step ++ [] ≡ step_text step
 unfolding step_text number_text
@@ -168,42 +164,6 @@ part_back slot width p small =
     ∙ ap Ok (same_part _ p refl refl refl)
 
 -- Values
-
-within_true : (slot : Slot) (n : ℕ) → IsWithin slot n → is_within slot n ≡ true
-within_true slot n h = and_from (nat_le (least slot) n) (nat_le n (greatest slot)) (le-leb (least slot) n h.0) (le-leb n (greatest slot) h.1)
-
-not_outside : (slot : Slot) (a : ℕ) (end : Option ℕ) → IsWithin slot a → IsEndWithin slot end → is_outside slot a end ≡ false
-not_outside slot a None start last = ap not (within_true slot a start)
-not_outside slot a (Some b) start last = ap not (and_from (is_within slot a) (is_within slot b) (within_true slot a start) (within_true slot b last))
-
-not_backward : (a : ℕ) (end : Option ℕ) → EndsAfter a end → is_backward a end ≡ false
-not_backward a None h = refl
-not_backward a (Some b) h = le-ltb b a h
-
-not_zero : (step : Option ℕ) → IsStep step → is_zero step ≡ false
-not_zero None h = refl
-not_zero (Some r) h = ne_eqb r 0 (λ e. absurd (omega arith))
-
-not_idle : (slot : Slot) (a : ℕ) (end step : Option ℕ) → GoesOn slot a end step → is_idle slot a end step ≡ false
-not_idle slot a None None h = refl
-not_idle Year a None (Some r) h = le-ltb 2199 (a + r) h
-not_idle Month a None (Some r) h = le-ltb 12 (a + r) h
-not_idle Day a None (Some r) h = le-ltb 31 (a + r) h
-not_idle DayFromEnd a None (Some r) h = lt-leb a r h
-not_idle Hour a None (Some r) h = le-ltb 23 (a + r) h
-not_idle Minute a None (Some r) h = le-ltb 59 (a + r) h
-not_idle Second a None (Some r) h = le-ltb 59 (a + r) h
-not_idle slot a (Some b) None h = refl
-not_idle slot a (Some b) (Some r) h = refl
-
-no_fault : (slot : Slot) (p : Part) → IsSound slot p → fault_of slot p ≡ None
-unfolding fault_of
-no_fault slot p h =
-    rw (not_outside slot p.start p.end h.start_in h.end_in, not_backward p.start p.end h.forward, not_zero p.step h.some_step, not_idle slot p.start p.end p.step h.goes_on) refl
-
-no_faults : (slot : Slot) (ps : List Part) → AllByRecursion (IsSound slot) ps → first_fault slot ps ≡ None
-no_faults slot [] h = refl
-no_faults slot (p ∷ ps) h = rw (no_fault slot p h.0) (no_faults slot ps h.1)
 
 century_stays : (n : ℕ) → 1970 ≤ n → with_century n ≡ n
 century_stays n h =
@@ -323,7 +283,7 @@ listed_back : (slot : Slot) (room width : ℕ) (p : Part) (ps : List Part) → c
     → listed slot room (parts_text width (p ∷ ps)) ≡ Ok (p ∷ ps)
 unfolding listed
 listed_back slot room width p ps few sound small =
-    rw (parts_split width p ps small, parts_back slot (room_in slot room) width (p ∷ ps) (room_enough (is_time slot) (length (p ∷ ps)) room few) sound small, no_faults slot (p ∷ ps) sound) refl
+    rw (parts_split width p ps small, parts_back slot (room_in slot room) width (p ∷ ps) (room_enough (is_time slot) (length (p ∷ ps)) room few) sound small, no_first_fault slot (p ∷ ps) sound) refl
 
 -- the bytes of a component: those of its parts, `,` and `*`
 abbrev pub is_component_byte : ℕ → Bool

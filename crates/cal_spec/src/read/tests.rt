@@ -5,6 +5,7 @@ use std::process::Abort;
 
 mod counts;
 mod fields;
+mod normal_texts;
 
 /// Each line is a text with this fault.
 fn expect_each(rt: &impl Abort, alloc: Global, fault: SpecFault, lines: &str) {
