@@ -1,5 +1,5 @@
 -- Weekdays by their numbers.
-use Rattle.std.proofs.Common.{◌≡◌, ℕ, ◌-◌, List, refl, ap, ◌∙◌}
+use Rattle.std.proofs.Common.{◌≡◌, ℕ, ◌-◌, refl, ap, ◌∙◌}
 use Rattle.std.specs.Prelude.{slice_index_or}
 use Rattle.jiff.specs.Words.{monday_zero}
 use Rattle.jiff_core.specs.declared.civil.weekday.Weekday.{Weekday}

@@ -37,7 +37,7 @@ pub fn civil(zone: Zone, instant: Instant) -> Civil
     fields(offset.to_datetime(timestamp), offset)
 }
 
-// How far the zone's clock is ahead of UTC at the instant.
+/// How far the zone's clock is ahead of UTC at the instant.
 fn offset_in(zone: Zone, timestamp: Timestamp) -> Offset
     ensures { result.seconds ≡ offset_at (zone_of zone.entry) timestamp.nanosecond }
 {
@@ -48,7 +48,7 @@ fn offset_in(zone: Zone, timestamp: Timestamp) -> Offset
     }
 }
 
-// The offset of a clock that is always so far ahead.
+/// The offset of a clock that is always so far ahead.
 fn fixed_offset(ahead: Ahead) -> Offset
     ensures { result ≡ offset_of ahead }
 {
@@ -90,7 +90,7 @@ mod tests {
     use super::*;
     use std::test::Fail;
 
-    // Year, month, day, weekday, hour, minute and second in UTC.
+    /// Year, month, day, weekday, hour, minute and second in UTC.
     fn shown(secs: i64) -> Option<(i16, u8, u8, u8, u8, u8, u8)> {
         let civil = civil(Zone::utc(), Instant::new(secs)?);
         Some((

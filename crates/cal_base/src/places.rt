@@ -43,7 +43,7 @@ pub fn settle(zone: Zone, local: i64) -> i64
     }
 }
 
-// The second of Unix time at which a clock that is always so far ahead shows a local second.
+/// The second of Unix time at which a clock that is always so far ahead shows a local second.
 fn unix_second(ahead: Ahead, local: i64) -> i64
     requires { CanSettle local }
     ensures { result ≡ local -ℤ ahead.seconds }
@@ -51,7 +51,7 @@ fn unix_second(ahead: Ahead, local: i64) -> i64
     local - i64::from(ahead.seconds)
 }
 
-// The place of a local second where the clock goes by rules.
+/// The place of a local second where the clock goes by rules.
 fn place_by(rules: &Rules, local: i64) -> Option<i64>
     requires { CanSettle local }
     ensures { result ≡ place_of rules.now local }
@@ -64,7 +64,7 @@ fn place_by(rules: &Rules, local: i64) -> Option<i64>
     }
 }
 
-// The second that a local second settles at where the clock goes by rules.
+/// The second that a local second settles at where the clock goes by rules.
 fn settle_by(rules: &Rules, local: i64) -> i64
     requires { CanSettle local }
     ensures value { result ≡ settle_of rules.now local }
@@ -77,7 +77,7 @@ fn settle_by(rules: &Rules, local: i64) -> i64
     timestamp.as_second()
 }
 
-// The local second that a clock by these rules shows at a second near those that can be settled.
+/// The local second that a clock by these rules shows at a second near those that can be settled.
 fn shown_by(rules: &Rules, second: i64) -> i64
     requires { IsNearSettled second }
     ensures { result ≡ local_of rules.now second }
@@ -88,7 +88,7 @@ fn shown_by(rules: &Rules, second: i64) -> i64
     second + i64::from(rules.offset(timestamp).seconds())
 }
 
-// The civil time of a local second.
+/// The civil time of a local second.
 fn datetime(local: i64) -> DateTime
     requires { CanSettle local }
     ensures { result ≡ datetime_of local }

@@ -17,7 +17,7 @@ pub enum WholeFault {
     NoMemory = 3,
 }
 
-// How many bytes are asked for at a time.
+/// How many bytes are asked for at a time.
 const CHUNK: usize = 4_096;
 
 /// The bytes of a reader up to its end, at most `limit` of them.

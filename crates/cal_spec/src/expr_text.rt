@@ -163,7 +163,10 @@ fn put_number<W: Sink>(
 {
     let mut digits = Buffer::new();
     let number = digits.format(number);
-    put_pieces(out, &[lead, padding(number, width, Fill::Zero), number.as_bytes()])
+    put_pieces(
+        out,
+        &[lead, padding(number, width, Fill::Zero), number.as_bytes()],
+    )
 }
 
 fn put_zone<W: Sink>(out: &mut W, zone: Option<&str>) -> Result<(), WriteFault>

@@ -7,7 +7,7 @@ ghost use Rattle.cal_spec.specs.NormalForm.{AreParts, IsPart, normal_component, 
 
 use crate::Part;
 
-// The part `0/1`.
+/// The part `0/1`.
 const EACH: Part = Part {
     start: 0,
     end: None,

@@ -10,12 +10,12 @@ ghost use Rattle.cal_spec.specs.Reads.{GivesUnlessNoMemory};
 ghost use Rattle.cal_spec.specs.ValidFields.{IsValidFields};
 ghost use Rattle.cal_spec.specs.Weekdays.{weekdays_in};
 
-use crate::{Expr, SpecFault};
 use crate::date_and_time::{read_date, read_time, room_behind};
 use crate::raw::Raw;
 use crate::weekdays::read_weekdays;
 use crate::words::{Places, find_places};
 use crate::zone_name::read_zone;
+use crate::{Expr, SpecFault};
 use std::alloc::Global;
 
 /// The most bytes that a text may have.

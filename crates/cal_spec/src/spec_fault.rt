@@ -81,3 +81,41 @@ impl SpecFault {
         }
     }
 }
+
+#[cfg(test)]
+mod tests {
+    use super::*;
+    use std::test::Fail;
+
+    #[test]
+    fn display_is_the_words(rt: HostRuntime) -> Result<(), Fail> {
+        let faults = [
+            (SpecFault::Empty, "empty expression"),
+            (SpecFault::TextTooLong, "expression longer than 4096 bytes"),
+            (SpecFault::BadWeekday, "bad weekday"),
+            (SpecFault::BadDate, "bad date"),
+            (SpecFault::BadTime, "bad time"),
+            (
+                SpecFault::FractionalSecond,
+                "fractions of a second are not supported",
+            ),
+            (SpecFault::NumberTooLarge, "number above 9999"),
+            (SpecFault::OutOfField, "value out of range"),
+            (SpecFault::BackwardRange, "range runs backwards"),
+            (SpecFault::ZeroRepeat, "repetition of zero"),
+            (SpecFault::NoRepeat, "repetition reaches no further value"),
+            (SpecFault::TooManyParts, "more than 240 parts"),
+            (SpecFault::StrayWord, "stray word"),
+            (SpecFault::UnknownShorthand, "unknown shorthand"),
+            (SpecFault::NoMemory, ""),
+        ];
+        for (fault, words) in faults {
+            let shown = format!(in rt.alloc(); "{fault}")?;
+            assert_eq!(rt; shown.as_str(), words);
+            assert_eq!(rt; fault.words(), words);
+        }
+        assert_eq!(rt; SpecFault::Empty as u8, 1);
+        assert_eq!(rt; SpecFault::NoMemory as u8, 15);
+        Ok(())
+    }
+}

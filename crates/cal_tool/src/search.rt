@@ -23,7 +23,7 @@ pub fn next_elapse(expr: &Expr, base: Instant) -> Option<Instant>
     Instant::new(local as i64)
 }
 
-// The first matching local second that is not below `from`.
+/// The first matching local second that is not below `from`.
 fn next_local(expr: &Expr, from: u64) -> Option<u64>
     ensures { IsFirstPassing (matches (sets_of expr.now)) from seconds_in_all result }
 {
@@ -36,7 +36,7 @@ fn next_local(expr: &Expr, from: u64) -> Option<u64>
     None
 }
 
-// The first matching local second of that day that is not below `from`, a local second of the day or later.
+/// The first matching local second of that day that is not below `from`, a local second of the day or later.
 fn next_in_day(expr: &Expr, day: u64, from: u64) -> Option<u64>
     requires day_in { day < DAYS }
     requires from_in { day * 86_400 ≤ from }
@@ -59,7 +59,7 @@ mod tests {
     use cal_spec::read_expr;
     use std::alloc::Global;
 
-    // The seconds of the next elapse of that expression.
+    /// The seconds of the next elapse of that expression.
     fn next(alloc: Global, text: &str, base: i64) -> Option<i64> {
         let expr = read_expr(alloc, text).ok()?;
         let elapse = next_elapse(&expr, Instant::new(base)?)?;

@@ -4,19 +4,19 @@ use crate::{Rules, Zone, place, settle};
 use std::process::Abort;
 use std::test::Fail;
 
-// The place of a local second that is one of the years 1970 to 2199.
+/// The place of a local second that is one of the years 1970 to 2199.
 fn placed(rt: &impl Abort, zone: Zone, local: i64) -> Option<i64> {
     assert!(rt; local >= 0 && local <= 7_258_118_399);
     place(zone, local)
 }
 
-// Where a local second settles that lies near enough to these years.
+/// Where a local second settles that lies near enough to these years.
 fn settled(rt: &impl Abort, zone: Zone, local: i64) -> i64 {
     assert!(rt; local >= -300_000 && local <= 7_258_500_000);
     settle(zone, local)
 }
 
-// Each rule with local seconds and their places.
+/// Each rule with local seconds and their places.
 #[test]
 fn places_round_each_change(rt: HostRuntime) -> Result<(), Fail> {
     for (rule, rows) in [

@@ -16,11 +16,11 @@ const READ: [&str; 42] = [
     "IST-5:30",
     "NPT-5:45",
     "XXX12:34:56",
-    "XXX-12:34:56",
+    "ABC-12:34:56",
     "XXX24",
-    "XXX-24",
+    "ABC-24",
     "XXX24:59:59",
-    "XXX-24:59:59",
+    "ABC-24:59:59",
     "XXX0:00",
     "XXX00:00:00",
     "XXX05",
@@ -114,11 +114,11 @@ fn posix_rules(rt: HostRuntime) {
     }
 }
 
-// A zone file of version 2 with one local time type, 3,600 seconds east of UTC, no change and the footer `CET-1`.
+/// A zone file of version 2 with one local time type, 3,600 seconds east of UTC, no change and the footer `CET-1`.
 const BLOCK: [u8; 54] =
     *b"TZif2\0\0\0\0\0\0\0\0\0\0\0\0\0\0\0\0\0\0\0\0\0\0\0\0\0\0\0\0\0\0\0\0\0\0\x01\0\0\0\x04\0\0\x0e\x10\0\0CET\0";
 
-// That file's bytes.
+/// That file's bytes.
 fn file(alloc: Global) -> Result<Vec<u8>, AllocError> {
     let mut bytes = Vec::from_slice(alloc, &BLOCK)?;
     bytes.extend_from_slice(&BLOCK)?;

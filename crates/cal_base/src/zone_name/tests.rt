@@ -3,7 +3,7 @@
 use crate::is_zone_name;
 use std::test::Fail;
 
-// What may stand first, and what may stand behind it.
+/// What may stand first, and what may stand behind it.
 const LETTERS: &str = "ABCDEFGHIJKLMNOPQRSTUVWXYZabcdefghijklmnopqrstuvwxyz";
 
 const OTHERS: &str = "0123456789/_+-";

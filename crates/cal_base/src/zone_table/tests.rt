@@ -5,7 +5,7 @@ use std::alloc::Global;
 use std::process::Abort;
 use std::test::Fail;
 
-// The rules of a POSIX rule that is known to be one.
+/// The rules of a POSIX rule that is known to be one.
 fn rules(rt: &impl Abort, alloc: Global, rule: &str) -> Rules {
     match Rules::posix(alloc, rule) {
         Ok(rules) => rules,
@@ -13,7 +13,7 @@ fn rules(rt: &impl Abort, alloc: Global, rule: &str) -> Rules {
     }
 }
 
-// The place of local midnight of 2024-01-01 in the zone of that name.
+/// The place of local midnight of 2024-01-01 in the zone of that name.
 fn midnight(table: &ZoneTable, name: &str) -> Option<i64> {
     place(table.find(name)?, 1_704_067_200)
 }

@@ -5,11 +5,11 @@ use cal_base::{Faulty, Port, Then, ZoneFault, ZoneTable, place};
 use std::alloc::{AllocError, Global};
 use std::test::Fail;
 
-// A zone file of version 2 with one local time type, 3,600 seconds east of UTC, no change and the footer `CET-1`.
+/// A zone file of version 2 with one local time type, 3,600 seconds east of UTC, no change and the footer `CET-1`.
 const BLOCK: [u8; 54] =
     *b"TZif2\0\0\0\0\0\0\0\0\0\0\0\0\0\0\0\0\0\0\0\0\0\0\0\0\0\0\0\0\0\0\0\0\0\0\x01\0\0\0\x04\0\0\x0e\x10\0\0CET\0";
 
-// That file's bytes.
+/// That file's bytes.
 fn file(alloc: Global) -> Result<Vec<u8>, AllocError> {
     let mut bytes = Vec::from_slice(alloc, &BLOCK)?;
     bytes.extend_from_slice(&BLOCK)?;
@@ -17,7 +17,7 @@ fn file(alloc: Global) -> Result<Vec<u8>, AllocError> {
     Ok(bytes)
 }
 
-// The place of local midnight of 2024-01-01 in the zone of that name.
+/// The place of local midnight of 2024-01-01 in the zone of that name.
 fn midnight(table: &ZoneTable, name: &str) -> Option<i64> {
     place(table.find(name)?, 1_704_067_200)
 }
