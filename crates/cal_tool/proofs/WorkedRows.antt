@@ -1,5 +1,5 @@
 -- The definitions, tried on worked local seconds and on a whole request.
-use Rattle.std.proofs.Common.{◌≡◌, [], ◌∷◌, ◌++◌, None, Some, codes, pos, ◌∙◌, ap, sym, inl, true, false, refl, rules, arith}
+use Rattle.std.proofs.Common.{◌≡◌, ℕ, ◌<◌, [], ◌∷◌, ◌++◌, None, Some, codes, pos, ◌∙◌, ap, sym, inl, true, false, refl, rules, arith}
 use Rattle.std.specs.Fmt.{digits}
 use Rattle.jiff.specs.Types.{Date}
 use Rattle.jiff.specs.Words.{epoch_day, weekday_of}
@@ -69,10 +69,43 @@ noon_thirty-matches : matches (sets_of noon_thirty) 1_704_112_200 ≡ true
 unfolding matches
 noon_thirty-matches = rw (inside 1_704_112_200 (omega arith), new_year-is, noon_thirty-on, noon_thirty-at) refl
 
--- so it is an elapse in UTC
-noon_thirty-elapses : IsElapse (timed noon_thirty ∷ []) (pos 1_704_112_200)
+-- Tue 2024-01-02
+day_after : Date
+day_after = record { year = pos 2024; month = 1; day = 2; year_in = search rules; month_in = search rules; day_in = search rules }
+
+day_after-number : epoch_day day_after ≡ pos 19_724
+unfolding day_after
+day_after-number =
+    omega (arith, signed_arith, days_from_civil-day_count (pos 2024) 1 2, day_count-early (pos 2024) 12023 1 2 refl (omega arith) (omega arith) (omega arith))
+
+day_after-weekday : weekday_of day_after ≡ 1
+unfolding weekday_number
+day_after-weekday = rw day_after-number refl
+
+day_after-is : civil_date 19_724 ≡ day_after
+unfolding civil_date
+day_after-is = ap date_of (sym day_after-number) ∙ date_of-epoch_day day_after
+
+noon_thirty-on_again : date_in (sets_of noon_thirty) day_after ≡ true
+unfolding noon_thirty date_in sets_of
+noon_thirty-on_again = rw day_after-weekday (unfold day_after in refl)
+
+-- Tue 2024-01-02 12:30:00
+noon_thirty-matches_again : matches (sets_of noon_thirty) 1_704_198_600 ≡ true
+unfolding matches
+noon_thirty-matches_again = rw (inside 1_704_198_600 (omega arith), day_after-is, noon_thirty-on_again, noon_thirty-at) refl
+
+-- so both are elapses in UTC
+elapse_at : (local : ℕ) → local < 7_258_118_400 → matches (sets_of noon_thirty) local ≡ true → IsElapse (timed noon_thirty ∷ []) (pos local)
 unfolding timed
-noon_thirty-elapses = inl (record { local = 1_704_112_200; within = omega (arith, seconds_in_all-is); is_match = noon_thirty-matches; placed = utc_place-is 1_704_112_200 })
+elapse_at local h is =
+    inl (record { local = local; within = omega (arith, seconds_in_all-is); is_match = is; placed = utc_place-is local })
+
+noon_thirty-elapses : IsElapse (timed noon_thirty ∷ []) (pos 1_704_112_200)
+noon_thirty-elapses = elapse_at 1_704_112_200 (omega arith) noon_thirty-matches
+
+noon_thirty-elapses_again : IsElapse (timed noon_thirty ∷ []) (pos 1_704_198_600)
+noon_thirty-elapses_again = elapse_at 1_704_198_600 (omega arith) noon_thirty-matches_again
 
 -- A report with a refusal
 

@@ -555,3 +555,14 @@ Foo1 25:0
 ",
     );
 }
+
+/// Whichever growth is refused, the answer is want of memory and no other fault; where none is refused, the text is
+/// read. (A run of the tests in which each allocation is refused in turn shows the first half.)
+#[test]
+fn refused_growths(rt: HostRuntime) {
+    let text = "mon,wed..fri 2012..2020/2,2030-1,3-5,7..9 1/2:3,4:5/6,30..40 Test/Zone";
+    match read_expr(rt.alloc(), text) {
+        Ok(expr) => assert_eq!(rt; expr.zone_name(), Some("Test/Zone")),
+        Err(fault) => assert_eq!(rt; fault, SpecFault::NoMemory),
+    }
+}
