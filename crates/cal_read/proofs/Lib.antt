@@ -1,0 +1,5 @@
+pub mod GroupLemmas
+pub mod LineLemmas
+pub mod ListedLemmas
+pub mod ResumedLemmas
+pub mod TimerLemmas
