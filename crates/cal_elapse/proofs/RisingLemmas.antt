@@ -1,7 +1,7 @@
 -- Rising lists: two with the same members are equal, and a union has the members of its lists.
 use Rattle.std.proofs.Common.{◌≡◌, ◌⊎◌, ◌↔◌, ℕ, suc, true, false, List, [], ◌∷◌, take, inl, inr, None, Some, ℤ, ◌<ℤ◌, ◌≤ℤ◌, int_lt, refl, sym, ap, ◌∙◌, subst, arith}
 use Rattle.std.proofs.lemmas.Int.{by_lt_z, ints}
-use Rattle.cal_tool.specs.RisingList.{Has, HasAny, IsAbove, IsRising, IsUnion, first, later, placed, placed_all, union}
+use Rattle.cal_elapse.specs.RisingList.{Has, HasAny, IsAbove, IsRising, IsUnion, first, later, placed, placed_all, union}
 
 -- a number above a list's bound is above what is below the bound
 IsAbove-lower : (a b : ℤ) (xs : List ℤ) → a <ℤ b → IsAbove b xs → IsAbove a xs

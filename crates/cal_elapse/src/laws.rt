@@ -1,10 +1,9 @@
 //! Laws of the definitions that the contracts cite. Each is a function that does nothing, and whose
 //! contract is the law.
 
-ghost use Rattle.std.specs.Prelude.{◌≡◌, ◌+◌, ◌++◌, ◌∷◌, [], ℕ, ℤ, pos, List, Some, map, suc, take, drop, slice_get};
-ghost use Rattle.cal_tool.specs.Elapses.{Timed, AreElapses, elapses_after};
-ghost use Rattle.cal_tool.specs.Timed.{utc_place};
-ghost use Rattle.cal_tool.specs.RisingList.{IsUnion, union};
+ghost use Rattle.std.specs.Prelude.{◌≡◌, ◌+◌, ◌++◌, ◌∷◌, [], ℕ, ℤ, List, Some, map, suc, take, drop, slice_get};
+ghost use Rattle.cal_elapse.specs.Elapses.{Timed, AreElapses, elapses_after};
+ghost use Rattle.cal_elapse.specs.RisingList.{IsUnion, union};
 
 /// The union of lists is one list: it rises, has exactly the numbers of the lists, and no other list does.
 pub fn union_is_one_list()
@@ -37,9 +36,4 @@ pub fn elapses_in_parts()
     ensures { (es : List Timed) (base e : ℤ) (k m : ℕ) → slice_get (elapses_after es base) k ≡ Some e
         → take (suc k) (elapses_after es base) ++ take m (elapses_after es e)
         ≡ take (suc k + m) (elapses_after es base) }
-{}
-
-/// In UTC the place of a local second is itself.
-pub fn places_in_utc()
-    ensures { (local : ℕ) → utc_place local ≡ Some (pos local) }
 {}
