@@ -1,0 +1,7 @@
+pub mod Stamp
+pub mod StampDate
+pub mod StampDateViews
+pub mod StampFault
+pub mod StampForm
+pub mod StampTime
+pub mod StampViews
