@@ -42,6 +42,7 @@ pub use scale::Scale;
 pub use short_text::{Fill, ShortText, in_a_row, padding};
 pub use span::Span;
 pub use span_fault::SpanFault;
+pub use span_number::{are_digits, fraction_of, whole_of};
 pub use span_rule::one_value;
 pub use span_text::{format_span, one_text, text_reads_back, write_span};
 pub use span_value::read_span;

@@ -34,7 +34,8 @@ pub fn place(zone: Zone, local: i64) -> Option<i64>
 /// twice this is the first. (systemd.time(7), Parsing Timestamps.)
 pub fn settle(zone: Zone, local: i64) -> i64
     requires { CanSettle local }
-    ensures { result ≡ settle_of (zone_of zone.entry) local }
+    ensures value { result ≡ settle_of (zone_of zone.entry) local }
+    ensures near { IsOffsetSeconds (local -ℤ result) }
 {
     match zone.kind {
         Kind::Utc => local,

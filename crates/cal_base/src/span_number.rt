@@ -69,14 +69,14 @@ fn point_index(word: &[u8]) -> Option<usize>
 }
 
 /// Whether each byte is a digit.
-fn are_digits(bytes: &[u8]) -> bool
+pub fn are_digits(bytes: &[u8]) -> bool
     ensures { result ≡ list_all is_ascii_digit bytes.now }
 {
     bytes.iter().all(|byte| byte.is_ascii_digit())
 }
 
-/// The number that the digits write.
-fn whole_of(digits: &[u8]) -> u64
+/// The number that the digits write, or `u64::MAX` where that is less.
+pub fn whole_of(digits: &[u8]) -> u64
     requires { IsTrue (list_all is_ascii_digit digits.now) }
     ensures { result ≡ min (digits_value 10 digits.now) u64.MAX }
 {
@@ -91,7 +91,7 @@ fn whole_of(digits: &[u8]) -> u64
 
 /// What the digits behind a point add in a unit of this size: the term of each is rounded down by
 /// itself.
-fn fraction_of(digits: &[u8], size: u64) -> u64
+pub fn fraction_of(digits: &[u8], size: u64) -> u64
     requires digits { IsTrue (list_all is_ascii_digit digits.now) }
     requires size { size ≤ size_of Scale.Year }
     ensures { result ≡ min (fraction_worth size 1 digits.now) u64.MAX }

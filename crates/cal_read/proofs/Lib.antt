@@ -2,4 +2,6 @@ pub mod GroupLemmas
 pub mod LineLemmas
 pub mod ListedLemmas
 pub mod ResumedLemmas
+pub mod StampLemmas
+pub mod StampText
 pub mod TimerLemmas

@@ -1,6 +1,13 @@
 pub mod Assignments
 pub mod LineView
 pub mod Lines
+pub mod Stamp
+pub mod StampDate
+pub mod StampDateViews
+pub mod StampFault
+pub mod StampForm
+pub mod StampTime
+pub mod StampViews
 pub mod TimerFault
 pub mod TimerText
 pub mod TimerView

@@ -33,5 +33,8 @@ pub use expr::Expr;
 pub use expr_text::write_expr;
 pub use field::Field;
 pub use part::Part;
+pub use parts::with_century;
+pub use pieces::first_piece;
 pub use read::read_expr;
 pub use spec_fault::SpecFault;
+pub use weekdays::find_day;

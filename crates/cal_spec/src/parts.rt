@@ -150,7 +150,7 @@ fn with_step(slot: Slot, start: u16, end: Option<u16>, text: &[u8]) -> Result<Pa
 }
 
 /// A year below 100 is one of 2000 to 2069 or of 1970 to 1999.
-fn with_century(year: u16) -> u16
+pub fn with_century(year: u16) -> u16
     ensures { result ≡ with_century year }
 {
     match year {

@@ -26,7 +26,7 @@ pub(crate) fn cut_at(text: &[u8], place: Option<usize>) -> (&[u8], Option<&[u8]>
 }
 
 /// The text before the first separator of this kind, and what stands behind it.
-pub(crate) fn first_piece(text: &[u8], separator: u8) -> (&[u8], Option<&[u8]>)
+pub fn first_piece(text: &[u8], separator: u8) -> (&[u8], Option<&[u8]>)
     ensures pieces { slice_split (λ byte. byte == separator) text.now
         ≡ result.0.now ∷ pieces_behind (λ byte. byte == separator) (option_copied result.1) }
     ensures shorter { left (option_copied result.1) ≤ length text.now }

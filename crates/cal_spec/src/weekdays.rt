@@ -84,7 +84,7 @@ fn behind_joint(text: &[u8]) -> Option<&[u8]>
 
 /// The weekday with this name, or with a name of which these are the first three letters, in any case.
 #[tactic(auto, unfolding(crate::specs::Weekdays::day_named))]
-fn find_day(word: &[u8]) -> Option<Weekday>
+pub fn find_day(word: &[u8]) -> Option<Weekday>
     ensures { result ≡ day_named word.now }
 {
     find_named(&WEEK, word)

@@ -2,7 +2,7 @@
 use Rattle.std.proofs.Common.{◌≡◌, ℕ, zero, suc, ◌+◌, List, [], ◌∷◌, ◌++◌, take, Option, None, Some, refl, codes}
 use Rattle.std.specs.Prelude.{ℤ}
 use Rattle.cal_tool.specs.CalendarReport.{elapse_text, elapse_texts, elapses_text}
-use Rattle.cal_tool.specs.RisingList.{first, later}
+use Rattle.cal_elapse.specs.RisingList.{first, later}
 
 some_is : (x e : ℤ) → ◌≡◌ {A = Option ℤ} (Some e) (Some x) → x ≡ e
 some_is x e h = cc

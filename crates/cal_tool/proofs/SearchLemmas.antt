@@ -1,4 +1,5 @@
 -- The tests of a search, and its steps.
+use Rattle.jiff.specs.Types.{UTC}
 use Rattle.std.proofs.Common.{◌≡◌, ℕ, ◌+◌, ◌*◌, ◌/◌, ◌%◌, ◌<◌, ◌≤◌, Bool, true, false, ◌&&◌, nat_lt, max, ◌↔◌, IsSome, IfSome, to_z, of_z, w64, negsuc, ◌^◌, unsigned_abs, List, [], ◌∷◌, ◌+ℤ◌, ◌<ℤ◌, ◌≤ℤ◌, option_map, Option, None, Some, ℤ, pos, refl, sym, ap, inl, inr, arith}
 use Rattle.std.proofs.lemmas.Bool.{cases_lt}
 use Rattle.std.proofs.lemmas.Int.{ints, to_z_pos}
@@ -6,12 +7,12 @@ use Rattle.jiff.proofs.SpanFacts.{signed_arith}
 use Rattle.cal_base.specs.Local.{civil_date, seconds_in_all, seconds_in_all-is}
 use Rattle.cal_spec.specs.Fields.{Fields}
 use Rattle.cal_spec.specs.Members.{sets_of}
-use Rattle.cal_tool.specs.Timed.{timed, utc_place}
-use Rattle.cal_tool.specs.Elapses.{Timed, elapses_after, IsPlace}
-use Rattle.cal_tool.specs.RisingList.{first, later}
+use Rattle.cal_elapse.specs.Timed.{timed}
+use Rattle.cal_elapse.specs.Elapses.{Timed, elapses_after, IsPlace}
+use Rattle.cal_elapse.specs.RisingList.{first, later}
 use Rattle.cal_base.specs.Instant.{IsInstant}
 use Rattle.cal_base.specs.declared.instant.Instant.{Instant}
-use Rattle.cal_tool.proofs.ElapsesLemmas.{elapses_after-first, first_elapse-none, first_elapse-least}
+use Rattle.cal_elapse.proofs.ElapsesLemmas.{elapses_after-first, first_elapse-none, first_elapse-least}
 use Rattle.cal_base.proofs.PlaceLemmas.{place_of-UTC}
 use Rattle.cal_spec.specs.Match.{Sets, date_in, time_in, matches}
 use Rattle.cal_tool.specs.Search.{IsFirstPassing, NonePasses}
@@ -69,26 +70,26 @@ NonePasses-more passes from day before here = λ t above below.
     elim (cases_lt t (day * 86_400)) [ inl early ↦ before t above early | inr late ↦ here t (omega arith) (omega arith) ]
 
 -- what the places of an time in UTC are
-place_in_utc : (fields : Fields) (i : ℤ) (place : IsPlace (timed fields) i) → i ≡ pos place.local
-unfolding timed utc_place
+place_in_utc : (fields : Fields) (i : ℤ) (place : IsPlace (timed fields UTC) i) → i ≡ pos place.local
+unfolding timed
 place_in_utc fields i place =
     let here = place_of-UTC (pos place.local) in
     let there = place.placed in
     cc
 
-is_match_in_utc : (fields : Fields) (i : ℤ) (place : IsPlace (timed fields) i) → matches (sets_of fields) place.local ≡ true
+is_match_in_utc : (fields : Fields) (i : ℤ) (place : IsPlace (timed fields UTC) i) → matches (sets_of fields) place.local ≡ true
 unfolding timed
 is_match_in_utc fields i place = place.is_match
 
-place_of_match : (fields : Fields) (t : ℕ) → t < seconds_in_all → matches (sets_of fields) t ≡ true → IsPlace (timed fields) (pos t)
-unfolding timed utc_place
+place_of_match : (fields : Fields) (t : ℕ) → t < seconds_in_all → matches (sets_of fields) t ≡ true → IsPlace (timed fields UTC) (pos t)
+unfolding timed
 place_of_match fields t within is_match = record { local = t; within = within; is_match = is_match; placed = place_of-UTC (pos t) }
 
 contradiction : {A : Type 0} (b : Bool) → b ≡ true → b ≡ false → A
 contradiction b holds fails = absurd (cc)
 
 -- no place where none matches
-no_match : (fields : Fields) (base : ℤ) (from : ℕ) (i : ℤ) → pos from ≡ base +ℤ pos 1 → base <ℤ i → (place : IsPlace (timed fields) i)
+no_match : (fields : Fields) (base : ℤ) (from : ℕ) (i : ℤ) → pos from ≡ base +ℤ pos 1 → base <ℤ i → (place : IsPlace (timed fields UTC) i)
     → NonePasses (matches (sets_of fields)) from seconds_in_all → ⊥
 no_match fields base from i e above place none =
     let here = place_in_utc fields i place in
@@ -96,7 +97,7 @@ no_match fields base from i e above place none =
     contradiction (matches (sets_of fields) place.local) (is_match_in_utc fields i place) (none place.local low place.within)
 
 -- no place before the first match
-no_earlier : (fields : Fields) (base : ℤ) (from s : ℕ) (j : ℤ) → pos from ≡ base +ℤ pos 1 → base <ℤ j → (place : IsPlace (timed fields) j)
+no_earlier : (fields : Fields) (base : ℤ) (from s : ℕ) (j : ℤ) → pos from ≡ base +ℤ pos 1 → base <ℤ j → (place : IsPlace (timed fields UTC) j)
     → NonePasses (matches (sets_of fields)) from s → pos s ≤ℤ j
 no_earlier fields base from s j e above place none =
     let here = place_in_utc fields j place in
@@ -108,14 +109,14 @@ no_earlier fields base from s j e above place none =
 
 -- the first match after a base is the first elapse in UTC
 pub first_elapse-search : (fields : Fields) (base : ℤ) (from : ℕ) (found : Option ℕ) → pos from ≡ base +ℤ pos 1
-    → IsFirstPassing (matches (sets_of fields)) from seconds_in_all found → first (elapses_after (timed fields ∷ []) base) ≡ option_map pos found
+    → IsFirstPassing (matches (sets_of fields)) from seconds_in_all found → first (elapses_after (timed fields UTC ∷ []) base) ≡ option_map pos found
 first_elapse-search fields base from None e h =
-    first_elapse-none (timed fields ∷ []) base (λ i above m. elim m [
+    first_elapse-none (timed fields UTC ∷ []) base (λ i above m. elim m [
       | inl place ↦ no_match fields base from i e above place h
       | inr n ↦ absurd n
     ])
 first_elapse-search fields base from (Some s) e h =
-    first_elapse-least (timed fields ∷ []) base (pos s) (omega (arith, ints))
+    first_elapse-least (timed fields UTC ∷ []) base (pos s) (omega (arith, ints))
     (inl (place_of_match fields s h.1 h.2))
     (λ j above m. elim m [
       | inl place ↦ no_earlier fields base from s j e above place h.3
@@ -140,8 +141,3 @@ pub later_than_first : (found : Option Instant) (es : List Timed) (base : ℤ) �
     → IfSome found (λ e. elapses_after es e.secs ≡ later (elapses_after es base))
 later_than_first None es base h = tt
 later_than_first (Some e) es base h = elapses_after-first es base e.secs (sym h)
-
--- in UTC the place of a local second is itself
-pub utc_place-is : (t : ℕ) → utc_place t ≡ Some (pos t)
-unfolding utc_place
-utc_place-is t = place_of-UTC (pos t)

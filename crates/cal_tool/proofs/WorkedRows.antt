@@ -1,4 +1,5 @@
 -- The definitions, tried on worked local seconds and on a whole request.
+use Rattle.jiff.specs.Types.{UTC}
 use Rattle.std.proofs.Common.{◌≡◌, ℕ, ◌<◌, [], ◌∷◌, ◌++◌, None, Some, codes, pos, ◌∙◌, ap, sym, inl, true, false, refl, rules, arith}
 use Rattle.std.specs.Fmt.{digits}
 use Rattle.jiff.specs.Types.{Date}
@@ -16,14 +17,15 @@ use Rattle.cal_spec.specs.Fields.{Fields}
 use Rattle.cal_spec.specs.Match.{matches, date_in, time_in}
 use Rattle.cal_spec.specs.Members.{sets_of, part_has}
 use Rattle.cal_tool.specs.Answer.{reports_text, refusals_text, whole_status}
-use Rattle.cal_tool.specs.Elapses.{IsElapse}
+use Rattle.cal_elapse.specs.Elapses.{IsElapse}
 use Rattle.cal_tool.specs.Report.{report}
 use Rattle.cal_tool.specs.Request.{Asked}
-use Rattle.cal_tool.specs.Timed.{timed}
+use Rattle.cal_elapse.specs.Timed.{timed}
 use Rattle.cal_tool.specs.TimespanReport.{timespan_answer, timespan_report}
 use Rattle.cal_tool.specs.declared.request.Status.TheVariants.{Refused}
 use Rattle.cal_tool.specs.declared.request.Verb.TheVariants.{Timespan}
-use Rattle.cal_tool.proofs.SearchLemmas.{inside, utc_place-is}
+use Rattle.cal_tool.proofs.SearchLemmas.{inside}
+use Rattle.cal_base.proofs.PlaceLemmas.{place_of-UTC}
 
 -- `*-*-* 12:30:00`
 noon_thirty : Fields
@@ -96,15 +98,15 @@ unfolding matches
 noon_thirty-matches_again = rw (inside 1_704_198_600 (omega arith), day_after-is, noon_thirty-on_again, noon_thirty-at) refl
 
 -- so both are elapses in UTC
-elapse_at : (local : ℕ) → local < 7_258_118_400 → matches (sets_of noon_thirty) local ≡ true → IsElapse (timed noon_thirty ∷ []) (pos local)
+elapse_at : (local : ℕ) → local < 7_258_118_400 → matches (sets_of noon_thirty) local ≡ true → IsElapse (timed noon_thirty UTC ∷ []) (pos local)
 unfolding timed
 elapse_at local h is =
-    inl (record { local = local; within = omega (arith, seconds_in_all-is); is_match = is; placed = utc_place-is local })
+    inl (record { local = local; within = omega (arith, seconds_in_all-is); is_match = is; placed = place_of-UTC (pos local) })
 
-noon_thirty-elapses : IsElapse (timed noon_thirty ∷ []) (pos 1_704_112_200)
+noon_thirty-elapses : IsElapse (timed noon_thirty UTC ∷ []) (pos 1_704_112_200)
 noon_thirty-elapses = elapse_at 1_704_112_200 (omega arith) noon_thirty-matches
 
-noon_thirty-elapses_again : IsElapse (timed noon_thirty ∷ []) (pos 1_704_198_600)
+noon_thirty-elapses_again : IsElapse (timed noon_thirty UTC ∷ []) (pos 1_704_198_600)
 noon_thirty-elapses_again = elapse_at 1_704_198_600 (omega arith) noon_thirty-matches_again
 
 -- A report with a refusal

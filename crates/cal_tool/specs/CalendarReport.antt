@@ -1,4 +1,5 @@
 -- The report of one calendar expression (systemd-analyze(1), calendar).
+use Rattle.jiff.specs.Types.{UTC}
 use Rattle.std.specs.Prelude.{ℕ, ◌+◌, ◌-◌, ◌*◌, ◌==◌, ℤ, ◌-ℤ◌, int_lt, unsigned_abs, Bool, true, List, [], ◌∷◌, ◌++◌, length, take, replicate, Option, None, Some, Result, Ok, Err, if◌then◌else◌, codes, decimal}
 use Rattle.cal_base.specs.Bytes.{joined}
 use Rattle.cal_base.specs.InstantText.{instant_text}
@@ -11,8 +12,8 @@ use Rattle.cal_spec.specs.Fields.{Fields}
 use Rattle.cal_spec.specs.SpecFault.{words_of}
 use Rattle.cal_spec.specs.declared.spec_fault.SpecFault.{SpecFault}
 use Rattle.cal_tool.specs.Answer.{Answer}
-use Rattle.cal_tool.specs.Elapses.{elapses_after}
-use Rattle.cal_tool.specs.Timed.{timed}
+use Rattle.cal_elapse.specs.Elapses.{elapses_after}
+use Rattle.cal_elapse.specs.Timed.{timed}
 
 -- `left` where the instant isn't before the present, `ago` where it is
 abbrev pub direction_text : ℤ → ℤ → List ℕ
@@ -60,7 +61,7 @@ heading_text text fields = joined (original_line text ∷ normal_line fields ∷
 -- the base, or all where there are fewer.
 unfoldable pub calendar_report : ℤ → ℤ → ℕ → List ℕ → Fields → List ℕ
 calendar_report now base n text fields =
-    joined (heading_text text fields ∷ elapses_text now (take n (elapses_after (timed fields ∷ []) base)) ∷ [])
+    joined (heading_text text fields ∷ elapses_text now (take n (elapses_after (timed fields UTC ∷ []) base)) ∷ [])
 
 -- a zone of that name is there; so far UTC alone is
 abbrev pub is_there : Option (List ℕ) → Bool

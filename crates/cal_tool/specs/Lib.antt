@@ -2,15 +2,12 @@ pub mod Accepted
 pub mod Answer
 pub mod CalendarReport
 pub mod Command
-pub mod Elapses
 pub mod LoadFault
 pub mod LoadZone
 pub mod Report
 pub mod Request
-pub mod RisingList
 pub mod RunFault
 pub mod Search
 pub mod Status
 pub mod Stop
-pub mod Timed
 pub mod TimespanReport

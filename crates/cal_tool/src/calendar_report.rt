@@ -1,11 +1,12 @@
 //! The report of one calendar expression (systemd-analyze(1), calendar): its text, its normal form, and
 //! its next elapses with the span until each.
 
+ghost use Rattle.jiff.specs.Types.{UTC};
 ghost use Rattle.std.specs.Prelude.{◌≡◌, ◌-◌, ◌≤◌, [], ◌∷◌, false, is_err, take, length, unsigned_abs, ◌*◌, ◌-ℤ◌};
 ghost use Rattle.cal_base.specs.Bytes.{Writes};
 ghost use Rattle.cal_tool.specs.CalendarReport.{heading_text, original_line, normal_line, direction_text, distance_text, label_text, elapse_text, elapse_texts, elapses_text, calendar_report};
-ghost use Rattle.cal_tool.specs.Elapses.{elapses_after};
-ghost use Rattle.cal_tool.specs.Timed.{timed};
+ghost use Rattle.cal_elapse.specs.Elapses.{elapses_after};
+ghost use Rattle.cal_elapse.specs.Timed.{timed};
 ghost use Rattle.cal_tool.specs.Request.{IsCount};
 
 use crate::search::next_elapse;
@@ -91,7 +92,7 @@ fn put_elapses<W: Sink>(
     ensures failed { W.is_failed out.new ≡ is_err result }
     ensures bytes { Writes (W.written out.old) (W.written out.new) result
         (elapses_text now.secs
-        (take iterations (elapses_after (timed expr.now ∷ []) base.secs))) }
+        (take iterations (elapses_after (timed expr.now UTC ∷ []) base.secs))) }
 {
     match next_elapse(expr, base) {
         None => put_all(out, b"    Next elapse: never\n"),
@@ -115,7 +116,7 @@ fn put_more<W: Sink>(
     ensures failed { W.is_failed out.new ≡ is_err result }
     ensures bytes { Writes (W.written out.old) (W.written out.new) result
         (elapse_texts now.secs 2
-        (take (iterations - 1) (elapses_after (timed expr.now ∷ []) first.secs))) }
+        (take (iterations - 1) (elapses_after (timed expr.now UTC ∷ []) first.secs))) }
 {
     let mut last = first;
     for number in 2..iterations + 1 {

@@ -10,7 +10,6 @@ pub mod buffered;
 pub mod calendar_report;
 pub mod command;
 pub mod early_words;
-pub mod laws;
 pub mod load_zone;
 pub mod report;
 pub mod request;

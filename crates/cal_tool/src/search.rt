@@ -1,11 +1,12 @@
 //! The search for the next elapse: day after day, and in each day second after second.
+ghost use Rattle.jiff.specs.Types.{UTC};
 ghost use Rattle.std.specs.Prelude.{◌≡◌, ◌+◌, ◌*◌, ◌<◌, ◌≤◌, [], ◌∷◌, option_map, IfSome};
 ghost use Rattle.cal_base.specs.Local.{seconds_in_all};
-ghost use Rattle.cal_tool.specs.Elapses.{elapses_after};
+ghost use Rattle.cal_elapse.specs.Elapses.{elapses_after};
 ghost use Rattle.cal_spec.specs.Match.{matches};
 ghost use Rattle.cal_spec.specs.Members.{sets_of};
-ghost use Rattle.cal_tool.specs.Timed.{timed};
-ghost use Rattle.cal_tool.specs.RisingList.{first, later};
+ghost use Rattle.cal_elapse.specs.Timed.{timed};
+ghost use Rattle.cal_elapse.specs.RisingList.{first, later};
 ghost use Rattle.cal_tool.specs.Search.{IsFirstPassing};
 
 use cal_base::{DAY, DAYS, Instant, date_of_day};
@@ -15,9 +16,9 @@ use cal_spec::Expr;
 /// the year 2199: systemd.time(7), Calendar Events.
 pub fn next_elapse(expr: &Expr, base: Instant) -> Option<Instant>
     ensures first { option_map (λ i. i.secs) result
-        ≡ first (elapses_after (timed expr.now ∷ []) base.secs) }
-    ensures rest { IfSome result (λ e. elapses_after (timed expr.now ∷ []) e.secs
-        ≡ later (elapses_after (timed expr.now ∷ []) base.secs)) }
+        ≡ first (elapses_after (timed expr.now UTC ∷ []) base.secs) }
+    ensures rest { IfSome result (λ e. elapses_after (timed expr.now UTC ∷ []) e.secs
+        ≡ later (elapses_after (timed expr.now UTC ∷ []) base.secs)) }
 {
     let local = next_local(expr, base.secs() as u64 + 1)?;
     Instant::new(local as i64)

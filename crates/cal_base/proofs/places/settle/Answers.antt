@@ -7,19 +7,19 @@ use Rattle.cal_base.proofs.PlaceLemmas.{settle_of-UTC, settle_of-fixed_zone}
 use Rattle.cal_base.proofs.ZoneLemmas.{zone_of-utc, zone_of-offset, zone_of-rules}
 use Rattle.cal_base.proofs.places.settle.Goals as goal
 
-pub returns-in-Utc : goal.returns-in-Utc
-returns-in-Utc c =
+pub returns-in-Utc-clause-value : goal.returns-in-Utc-clause-value
+returns-in-Utc-clause-value c =
     let fits : FitsSigned w64 c.args.local = search rules in
     to_z-of_z w64 _ fits ∙ sym (ap (λ tz. settle_of tz c.args.local) (zone_of-utc c.args.zone c.in-Utc.is) ∙ settle_of-UTC c.args.local)
 
-pub returns-in-Offset : goal.returns-in-Offset
-returns-in-Offset c =
+pub returns-in-Offset-clause-value : goal.returns-in-Offset-clause-value
+returns-in-Offset-clause-value c =
     let there : settle_of (zone_of c.args.zone) c.args.local ≡ c.args.local -ℤ c.in-Offset.ahead.seconds
     = ap (λ tz. settle_of tz c.args.local) (zone_of-offset c.args.zone c.in-Offset.ahead c.in-Offset.is) ∙ settle_of-fixed_zone (offset_of c.in-Offset.ahead) c.args.local in
     omega (arith, signed_arith, c.unix_second.ensures, c.in-Offset.ahead.in_range)
 
-pub returns-in-Rules : goal.returns-in-Rules
-returns-in-Rules c =
+pub returns-in-Rules-clause-value : goal.returns-in-Rules-clause-value
+returns-in-Rules-clause-value c =
     let fits : FitsSigned w64 c.settle_by.result = search rules in
     let local_fits : FitsSigned w64 c.args.local = search rules in
     to_z-of_z w64 _ fits ∙ c.settle_by.ensures.value

@@ -1,12 +1,13 @@
+use Rattle.jiff.specs.Types.{UTC}
 use Rattle.std.proofs.Common.{◌≡◌, [], ◌∷◌, arith, pos, sym, ◌∙◌, None, Some, option_map, w64}
 use Rattle.jiff.proofs.SpanFacts.{signed_arith}
 use Rattle.std.proofs.lemmas.Int.{to_z_pos}
 use Rattle.cal_base.specs.Instant.{IsInstant}
 use Rattle.cal_base.specs.Local.{seconds_in_all-is}
 use Rattle.cal_base.specs.declared.instant.Instant.{Instant}
-use Rattle.cal_tool.specs.Elapses.{elapses_after}
-use Rattle.cal_tool.specs.Timed.{timed}
-use Rattle.cal_tool.specs.RisingList.{first}
+use Rattle.cal_elapse.specs.Elapses.{elapses_after}
+use Rattle.cal_elapse.specs.Timed.{timed}
+use Rattle.cal_elapse.specs.RisingList.{first}
 use Rattle.cal_tool.proofs.SearchLemmas.{after_base, first_elapse-search, later_than_first, secs-new}
 use Rattle.cal_tool.proofs.search.next_elapse.Goals as goal
 
@@ -20,7 +21,7 @@ overflow_cast-local c =
     omega (arith, signed_arith, c.in_ok-local.ensures)
 
 -- what was found is the first elapse
-found : (c : goal.After-new) → option_map (λ (i : Instant). i.secs) c.new.result ≡ first (elapses_after (timed c.args.expr.now ∷ []) c.args.base.secs)
+found : (c : goal.After-new) → option_map (λ (i : Instant). i.secs) c.new.result ≡ first (elapses_after (timed c.args.expr.now UTC ∷ []) c.args.base.secs)
 found c =
     let count = seconds_in_all-is in
     let secs = to_z_pos w64 c.in_ok-local.local (omega (arith, c.in_ok-local.ensures)) in
@@ -34,4 +35,4 @@ pub returns-clause-first : goal.returns-clause-first
 returns-clause-first c = found c
 
 pub returns-clause-rest : goal.returns-clause-rest
-returns-clause-rest c = later_than_first c.new.result (timed c.args.expr.now ∷ []) c.args.base.secs (found c)
+returns-clause-rest c = later_than_first c.new.result (timed c.args.expr.now UTC ∷ []) c.args.base.secs (found c)

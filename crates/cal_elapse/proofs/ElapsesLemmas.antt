@@ -1,0 +1,234 @@
+-- The elapses are one list, and go on from any of them.
+use Rattle.std.proofs.Common.{◌≡◌, ◌⊎◌, ◌↔◌, ℕ, zero, suc, ◌+◌, ◌<◌, ◌≤◌, cond, Bool, true, false, List, [], ◌∷◌, ◌++◌, take, drop, inl, inr, Option, None, Some, ℤ, ◌<ℤ◌, ◌≤ℤ◌, int_lt, refl, sym, ap, ◌∙◌, subst, arith, map}
+use Rattle.std.specs.List.{filter, filter_map, cons_option, range_with_len, slice_get}
+use Rattle.std.proofs.Math.Seq.{take-add}
+use Rattle.std.proofs.lemmas.Bool.{cases_eq}
+use Rattle.std.proofs.lemmas.Int.{ints}
+use Rattle.cal_base.specs.Local.{seconds_in_all}
+use Rattle.cal_elapse.specs.Elapses.{Timed, places, elapses_after, IsPlace, IsElapse, AreElapses}
+use Rattle.cal_elapse.specs.RisingList.{Has, HasAny, IsRising, first, later, union}
+use Rattle.cal_elapse.proofs.RisingLemmas.{above_has, later_members, same_rising, Has-union, IsRising-union}
+
+-- a local second among n from a on that matches has its place here
+record IsPlaceFrom (e : Timed) (a n : ℕ) (i : ℤ) : Type 0 where
+  local : ℕ
+  low : a ≤ local
+  high : local < a + n
+  is_match : e.matches local ≡ true
+  placed : e.place local ≡ Some i
+
+-- one local second more
+Has-one : (b : Bool) (o : Option ℤ) (rest : List ℤ) (i : ℤ) → Has (cond b (cons_option o rest) rest) i ↔ (((b ≡ true) × (o ≡ Some i)) ⊎ Has rest i)
+Has-one true (Some x) rest i = (
+  λ m. elim m [ inl e ↦ inl (refl, ap Some e) | inr n ↦ inr n ],
+  λ m. elim m [ inl p ↦ inl (let e = p.1 in cc) | inr n ↦ inr n ],
+)
+Has-one true None rest i = (λ m. inr m, λ m. elim m [ inl p ↦ absurd (let e = p.1 in cc) | inr n ↦ n ])
+Has-one false o rest i = (λ m. inr m, λ m. elim m [ inl p ↦ absurd (let e = p.0 in cc) | inr n ↦ n ])
+
+kept-one : (h : ℕ → Option ℤ) (b : Bool) (x : ℕ) (ys : List ℕ) → filter_map h (cond b (x ∷ ys) ys) ≡ cond b (cons_option (h x) (filter_map h ys)) (filter_map h ys)
+kept-one h true x ys = refl
+kept-one h false x ys = refl
+
+from_here : (e : Timed) (a n : ℕ) (i : ℤ) → e.matches a ≡ true → e.place a ≡ Some i → IsPlaceFrom e a (suc n) i
+from_here e a n i m p = record { local = a; low = omega arith; high = omega arith; is_match = m; placed = p }
+
+from_later : (e : Timed) (a n : ℕ) (i : ℤ) → IsPlaceFrom e (a + 1) n i → IsPlaceFrom e a (suc n) i
+from_later e a n i p = record { local = p.local; low = omega arith; high = omega arith; is_match = p.is_match; placed = p.placed }
+
+from_split : (e : Timed) (a n : ℕ) (i : ℤ) → IsPlaceFrom e a (suc n) i → ((e.matches a ≡ true) × (e.place a ≡ Some i)) ⊎ IsPlaceFrom e (a + 1) n i
+from_split e a n i p =
+    elim (cases_eq p.local a) [
+      | inl same ↦ inl (subst (λ (t : ℕ). e.matches t ≡ true) same p.is_match, subst (λ (t : ℕ). e.place t ≡ Some i) same p.placed)
+      | inr other ↦ inr (record { local = p.local; low = omega arith; high = omega arith; is_match = p.is_match; placed = p.placed })
+    ]
+
+-- the places of n local seconds from a on
+Has-from : (e : Timed) (a n : ℕ) (i : ℤ) → Has (filter_map e.place (filter e.matches (range_with_len a n))) i ↔ IsPlaceFrom e a n i
+Has-from e a zero i = (λ m. absurd m, λ p. absurd (omega arith))
+Has-from e a (suc n) i =
+    let rest = Has-from e (a + 1) n i in
+    let one = Has-one (e.matches a) (e.place a) (filter_map e.place (filter e.matches (range_with_len (a + 1) n))) i in
+    rw (kept-one e.place (e.matches a) a (filter e.matches (range_with_len (a + 1) n))) (
+      λ m. elim (one.0 m) [ inl p ↦ from_here e a n i p.0 p.1 | inr k ↦ from_later e a n i (rest.0 k) ],
+      λ p. elim (from_split e a n i p) [ inl q ↦ one.1 (inl q) | inr q ↦ one.1 (inr (rest.1 q)) ],
+    )
+
+-- the elapse set has exactly the places of the local seconds that match
+pub Has-places : (e : Timed) (i : ℤ) → Has (places e) i ↔ IsPlace e i
+unfolding places
+Has-places e i =
+    let all = Has-from e 0 seconds_in_all i in (
+      λ m. let p = all.0 m in record { local = p.local; within = omega arith; is_match = p.is_match; placed = p.placed },
+      λ p. all.1 (record { local = p.local; low = omega arith; high = omega arith; is_match = p.is_match; placed = p.placed }),
+    )
+
+not_above : (b x i : ℤ) → x ≤ℤ b → b <ℤ i → x ≡ i → ⊥
+not_above b x i ge lt e = omega (arith, ints)
+
+not_both : (x e i : ℤ) → x <ℤ e → e <ℤ i → x ≡ i → ⊥
+not_both x e i h k f = omega (arith, ints)
+
+chained : (b e i : ℤ) → b <ℤ e → e <ℤ i → b <ℤ i
+chained b e i h k = omega (arith, ints)
+
+-- a filter keeps the members above b
+above-one : (b x : ℤ) (keep : Bool) (rest : List ℤ) (i : ℤ) → int_lt b x ≡ keep → Has (cond keep (x ∷ rest) rest) i ↔ (((b <ℤ i) × (x ≡ i)) ⊎ Has rest i)
+above-one b x true rest i h =
+    let lt : b <ℤ x = grind (arith, ints) in (
+      λ m. elim m [ inl e ↦ inl (subst (λ (j : ℤ). b <ℤ j) e lt, e) | inr n ↦ inr n ],
+      λ m. elim m [ inl p ↦ inl p.1 | inr n ↦ inr n ],
+    )
+above-one b x false rest i h =
+    let ge : x ≤ℤ b = grind (arith, ints) in (
+      λ m. inr m,
+      λ m. elim m [ inl p ↦ absurd (not_above b x i ge p.0 p.1) | inr n ↦ n ],
+    )
+
+Has-above : (b : ℤ) (xs : List ℤ) (i : ℤ) → Has (filter (int_lt b) xs) i ↔ ((b <ℤ i) × Has xs i)
+Has-above b [] i = (λ m. absurd m, λ p. p.1)
+Has-above b (x ∷ xs) i =
+    let rest = Has-above b xs i in
+    let one = above-one b x (int_lt b x) (filter (int_lt b) xs) i refl in (
+      λ m. elim (one.0 m) [ inl p ↦ (p.0, inl p.1) | inr n ↦ ((rest.0 n).0, inr (rest.0 n).1) ],
+      λ p. elim p.1 [ inl e ↦ one.1 (inl (p.0, e)) | inr n ↦ one.1 (inr (rest.1 (p.0, n))) ],
+    )
+
+-- in one of the elapse sets, above b
+HasAny-elapses : (es : List Timed) (b i : ℤ) → HasAny (map (λ e. filter (int_lt b) (places e)) es) i ↔ ((b <ℤ i) × IsElapse es i)
+HasAny-elapses [] b i = (λ m. absurd m, λ p. p.1)
+HasAny-elapses (e ∷ es) b i =
+    let here = Has-above b (places e) i in
+    let set = Has-places e i in
+    let rest = HasAny-elapses es b i in (
+      λ m. elim m [ inl n ↦ ((here.0 n).0, inl (set.0 (here.0 n).1)) | inr n ↦ ((rest.0 n).0, inr (rest.0 n).1) ],
+      λ p. elim p.1 [ inl q ↦ inl (here.1 (p.0, set.1 q)) | inr q ↦ inr (rest.1 (p.0, q)) ],
+    )
+
+-- the elapses after a base are as they should be
+pub AreElapses-elapses_after : (es : List Timed) (b : ℤ) → AreElapses es b (elapses_after es b)
+unfolding elapses_after
+AreElapses-elapses_after es b =
+    let lists = map (λ e. filter (int_lt b) (places e)) es in
+    record {
+      rises = IsRising-union lists;
+      members = λ i. (
+        λ m. (HasAny-elapses es b i).0 ((Has-union lists i).0 m),
+        λ p. (Has-union lists i).1 ((HasAny-elapses es b i).1 p),
+      );
+    }
+
+-- two lists that are the elapses are the same
+same_elapses : (es : List Timed) (b : ℤ) (xs ys : List ℤ) → AreElapses es b xs → AreElapses es b ys → xs ≡ ys
+same_elapses es b xs ys h k =
+    same_rising xs ys h.rises k.rises
+    (λ i. (λ m. (k.members i).1 ((h.members i).0 m), λ m. (h.members i).1 ((k.members i).0 m)))
+
+pub AreElapses-only : (es : List Timed) (b : ℤ) (xs : List ℤ) → AreElapses es b xs → xs ≡ elapses_after es b
+AreElapses-only es b xs h = same_elapses es b xs (elapses_after es b) h (AreElapses-elapses_after es b)
+
+-- what stands after the k-th of a rising list rises, and is what is above the k-th
+pub IsRising-drop : (xs : List ℤ) (k : ℕ) → IsRising xs → IsRising (drop k xs)
+IsRising-drop xs zero h = h
+IsRising-drop [] (suc k) h = tt
+IsRising-drop (x ∷ xs) (suc k) h = IsRising-drop xs k h.1
+
+has_at : (xs : List ℤ) (k : ℕ) (e : ℤ) → slice_get xs k ≡ Some e → Has xs e
+has_at [] k e h = absurd (cc)
+has_at (x ∷ xs) zero e h = inl (cc)
+has_at (x ∷ xs) (suc k) e h = inr (has_at xs k e h)
+
+Has-drop : (xs : List ℤ) (k : ℕ) (e : ℤ) → IsRising xs → slice_get xs k ≡ Some e → (i : ℤ) → Has (drop (suc k) xs) i ↔ ((e <ℤ i) × Has xs i)
+Has-drop [] k e h at i = absurd (cc)
+Has-drop (x ∷ xs) zero e h at i =
+    let same : x ≡ e = cc in
+    subst (λ (z : ℤ). Has xs i ↔ ((z <ℤ i) × Has (x ∷ xs) i)) same (later_members x xs h i)
+Has-drop (x ∷ xs) (suc k) e h at i =
+    let rest = Has-drop xs k e h.1 at i in
+    let up = above_has x e xs h.0 (has_at xs k e at) in (
+      λ m. ((rest.0 m).0, inr (rest.0 m).1),
+      λ p. elim p.1 [ inl f ↦ absurd (not_both x e i up p.0 f) | inr n ↦ rest.1 (p.0, n) ],
+    )
+
+-- starting again at the k-th elapse gives exactly the ones after it
+pub elapses_after-later : (es : List Timed) (b e : ℤ) (k : ℕ) → slice_get (elapses_after es b) k ≡ Some e → elapses_after es e ≡ drop (suc k) (elapses_after es b)
+elapses_after-later es b e k at =
+    let all = AreElapses-elapses_after es b in
+    let up = ((all.members e).0 (has_at (elapses_after es b) k e at)).0 in
+    let after = Has-drop (elapses_after es b) k e all.rises at in
+    sym (AreElapses-only es e (drop (suc k) (elapses_after es b)) (record {
+      rises = IsRising-drop (elapses_after es b) (suc k) all.rises;
+      members = λ i. (
+        λ m. (((after i).0 m).0, ((all.members i).0 ((after i).0 m).1).1),
+        λ p. (after i).1 (p.0, (all.members i).1 (chained b e i up p.0, p.1)),
+      );
+    }))
+
+-- so the first k + 1 and then the first m after the last of these are the first k + 1 + m
+pub elapses_after-parts : (es : List Timed) (b e : ℤ) (k m : ℕ) → slice_get (elapses_after es b) k ≡ Some e
+    → take (suc k) (elapses_after es b) ++ take m (elapses_after es e) ≡ take (suc k + m) (elapses_after es b)
+elapses_after-parts es b e k m at =
+    rw (elapses_after-later es b e k at) (sym (take-add (suc k) m (elapses_after es b)))
+
+first_at : (xs : List ℤ) (e : ℤ) → first xs ≡ Some e → slice_get xs zero ≡ Some e
+first_at [] e h = absurd (cc)
+first_at (x ∷ xs) e h = h
+
+drop_one : (xs : List ℤ) → drop 1 xs ≡ later xs
+drop_one [] = refl
+drop_one (x ∷ xs) = refl
+
+-- the list after the first elapse
+pub elapses_after-first : (es : List Timed) (b e : ℤ) → first (elapses_after es b) ≡ Some e → elapses_after es e ≡ later (elapses_after es b)
+elapses_after-first es b e h =
+    elapses_after-later es b e zero (first_at (elapses_after es b) e h) ∙ drop_one (elapses_after es b)
+
+below_and_above : (x i : ℤ) → x <ℤ i → i ≤ℤ x → ⊥
+below_and_above x i h k = omega (arith, ints)
+
+-- a list with no members has no first
+first-none : (xs : List ℤ) → ((i : ℤ) → Has xs i → ⊥) → first xs ≡ None
+first-none [] h = refl
+first-none (x ∷ xs) h = absurd (h x (inl refl))
+
+-- the least member of a rising list is its first
+first-least : (xs : List ℤ) (i : ℤ) → IsRising xs → Has xs i → ((j : ℤ) → Has xs j → i ≤ℤ j) → first xs ≡ Some i
+first-least [] i h m least = absurd m
+first-least (x ∷ xs) i h (inl e) least = ap Some e
+first-least (x ∷ xs) i h (inr n) least = absurd (below_and_above x i (above_has x i xs h.0 n) (least x (inl refl)))
+
+-- what is no elapse, and what is the first elapse
+pub first_elapse-none : (es : List Timed) (b : ℤ) → ((i : ℤ) → b <ℤ i → IsElapse es i → ⊥) → first (elapses_after es b) ≡ None
+first_elapse-none es b h =
+    let all = AreElapses-elapses_after es b in
+    first-none (elapses_after es b) (λ i m. h i ((all.members i).0 m).0 ((all.members i).0 m).1)
+
+pub first_elapse-least : (es : List Timed) (b i : ℤ) → b <ℤ i → IsElapse es i → ((j : ℤ) → b <ℤ j → IsElapse es j → i ≤ℤ j) → first (elapses_after es b) ≡ Some i
+first_elapse-least es b i above m least =
+    let all = AreElapses-elapses_after es b in
+    first-least (elapses_after es b) i all.rises ((all.members i).1 (above, m))
+    (λ j n. least j ((all.members j).0 n).0 ((all.members j).0 n).1)
+
+-- an elapse of several is an elapse of one of them
+HasAny-each : (es : List Timed) (b i : ℤ) → HasAny (map (λ e. elapses_after (e ∷ []) b) es) i ↔ ((b <ℤ i) × IsElapse es i)
+HasAny-each [] b i = (λ m. absurd m, λ p. p.1)
+HasAny-each (e ∷ es) b i =
+    let here = (AreElapses-elapses_after (e ∷ []) b).members i in
+    let rest = HasAny-each es b i in (
+      λ m. elim m [
+        | inl n ↦ ((here.0 n).0, elim (here.0 n).1 [ inl q ↦ inl q | inr q ↦ absurd q ])
+        | inr n ↦ ((rest.0 n).0, inr (rest.0 n).1)
+      ],
+      λ p. elim p.1 [ inl q ↦ inl (here.1 (p.0, inl q)) | inr q ↦ inr (rest.1 (p.0, q)) ],
+    )
+
+pub union-elapses_after : (es : List Timed) (b : ℤ) → union (map (λ e. elapses_after (e ∷ []) b) es) ≡ elapses_after es b
+union-elapses_after es b =
+    let lists = map (λ e. elapses_after (e ∷ []) b) es in
+    AreElapses-only es b (union lists) (record {
+      rises = IsRising-union lists;
+      members = λ i. (
+        λ m. (HasAny-each es b i).0 ((Has-union lists i).0 m),
+        λ p. (Has-union lists i).1 ((HasAny-each es b i).1 p),
+      );
+    })

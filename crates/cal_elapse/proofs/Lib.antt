@@ -1,0 +1,2 @@
+pub mod ElapsesLemmas
+pub mod RisingLemmas

@@ -1,0 +1,36 @@
+-- The elapses of calendar expressions: systemd.time(7), Calendar Events.
+use Rattle.std.specs.Prelude.{◌≡◌, ◌⊎◌, ◌↔◌, ◌<◌, ℕ, Bool, true, List, [], ◌∷◌, Option, Some, ℤ, ◌<ℤ◌, int_lt, map, filter}
+use Rattle.std.specs.List.{filter_map, range_with_len}
+use Rattle.cal_base.specs.Local.{seconds_in_all}
+use Rattle.cal_elapse.specs.RisingList.{Has, IsRising, union}
+
+-- what an expression in a zone means: the local seconds that match, and the place of a local second on the
+-- clock of Unix time, which it lacks where the zone's clock skips it
+pub record Timed : Type 0 where
+  pub matches : ℕ → Bool
+  pub place : ℕ → Option ℤ
+
+-- the elapse set: the places of all local seconds that match
+unfoldable pub places : Timed → List ℤ
+places e = filter_map e.place (filter e.matches (range_with_len 0 seconds_in_all))
+
+-- the elapses after b: the rising list of all numbers above b in one of the elapse sets
+unfoldable pub elapses_after : List Timed → ℤ → List ℤ
+elapses_after es b = union (map (λ e. filter (int_lt b) (places e)) es)
+
+-- a local second that matches has its place here
+pub record IsPlace (e : Timed) (i : ℤ) : Type 0 where
+  pub local : ℕ
+  pub within : local < seconds_in_all
+  pub is_match : e.matches local ≡ true
+  pub placed : e.place local ≡ Some i
+
+-- the number is an elapse of one of them
+abbrev pub IsElapse : List Timed → ℤ → Type 0
+IsElapse [] i = ⊥
+IsElapse (e ∷ es) i = IsPlace e i ⊎ IsElapse es i
+
+-- the list rises, and has exactly the elapses above b
+pub record AreElapses (es : List Timed) (b : ℤ) (xs : List ℤ) : Type 0 where
+  pub rises : IsRising xs
+  pub members : (i : ℤ) → Has xs i ↔ ((b <ℤ i) × IsElapse es i)

@@ -1,0 +1,3 @@
+pub mod Elapses
+pub mod RisingList
+pub mod Timed

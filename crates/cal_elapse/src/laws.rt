@@ -1,0 +1,39 @@
+//! Laws of the definitions that the contracts cite. Each is a function that does nothing, and whose
+//! contract is the law.
+
+ghost use Rattle.std.specs.Prelude.{◌≡◌, ◌+◌, ◌++◌, ◌∷◌, [], ℕ, ℤ, List, Some, map, suc, take, drop, slice_get};
+ghost use Rattle.cal_elapse.specs.Elapses.{Timed, AreElapses, elapses_after};
+ghost use Rattle.cal_elapse.specs.RisingList.{IsUnion, union};
+
+/// The union of lists is one list: it rises, has exactly the numbers of the lists, and no other list does.
+pub fn union_is_one_list()
+    ensures this { (lists : List (List ℤ)) → IsUnion lists (union lists) }
+    ensures only { (lists : List (List ℤ)) (list : List ℤ) → IsUnion lists list → list ≡ union lists }
+{}
+
+/// The elapses after a base are one list: it rises, has exactly the places of matching local seconds that lie
+/// above the base, and no other list does.
+pub fn elapses_are_one_list()
+    ensures these { (es : List Timed) (base : ℤ) → AreElapses es base (elapses_after es base) }
+    ensures only { (es : List Timed) (base : ℤ) (xs : List ℤ) → AreElapses es base xs
+        → xs ≡ elapses_after es base }
+{}
+
+/// The elapses of several are the union of the elapses of each.
+pub fn elapses_of_each()
+    ensures { (es : List Timed) (base : ℤ) → union (map (λ e. elapses_after (e ∷ []) base) es)
+        ≡ elapses_after es base }
+{}
+
+/// Starting again at one of the elapses gives exactly those after it.
+pub fn elapses_go_on()
+    ensures { (es : List Timed) (base e : ℤ) (k : ℕ) → slice_get (elapses_after es base) k ≡ Some e
+        → elapses_after es e ≡ drop (suc k) (elapses_after es base) }
+{}
+
+/// The first k + 1 elapses, and then the first m after the last of these, are the first k + 1 + m.
+pub fn elapses_in_parts()
+    ensures { (es : List Timed) (base e : ℤ) (k m : ℕ) → slice_get (elapses_after es base) k ≡ Some e
+        → take (suc k) (elapses_after es base) ++ take m (elapses_after es e)
+        ≡ take (suc k + m) (elapses_after es base) }
+{}

@@ -1,0 +1,87 @@
+-- Numbers, pieces and moments of timestamps.
+use Rattle.std.proofs.Common.{ℕ, ◌+◌, ◌*◌, ◌^◌, ◌<◌, ◌≤◌, ◌≡◌, Bool, true, List, [], ◌∷◌, zero, suc, length, take, refl, sym, ap, arith, None, Err, ℤ, ◌+ℤ◌, ◌<ℤ◌}
+use Rattle.std.specs.Char.{is_ascii_digit, digit_value}
+use Rattle.std.specs.List.{list_all, slice_split}
+use Rattle.std.specs.Str.Parse.{AllDigits, digits_value}
+use Rattle.std.proofs.Math.Nat.{pow-le-pow_right, div-le_self, mul-le-mul_right}
+use Rattle.std.proofs.lemmas.Bool.{and_parts}
+use Rattle.std.proofs.lemmas.Bool.Decides.{nat_tests}
+use Rattle.std.proofs.lemmas.Int.{ints}
+use Rattle.std.proofs.lemmas.Int.Digits.{digits_value-lt}
+use Rattle.jiff.specs.Types.{TimeZone}
+use Rattle.cal_base.specs.declared.civil_fields.Civil.{Civil}
+use Rattle.cal_base.specs.declared.moment.TheConstants.Moment.{LAST}
+use Rattle.cal_base.specs.Civil.{civil_of}
+use Rattle.cal_base.specs.SpanValue.{fraction_worth, is_point}
+use Rattle.cal_spec.specs.DateAndTime.{is_colon}
+use Rattle.cal_base.specs.Zone.{local_of}
+use Rattle.cal_spec.proofs.PieceLemmas.{some_piece}
+use Rattle.cal_read.specs.Stamp.{in_moments}
+use Rattle.cal_read.specs.StampDate.{is_hyphen, date_numbers}
+use Rattle.cal_read.specs.StampTime.{second_written, time_numbers}
+use Rattle.cal_read.specs.declared.stamp_fault.StampFault.TheVariants.{OutOfRange}
+
+-- Numbers
+
+digit_below : (b : ℕ) → is_ascii_digit b ≡ true → digit_value b < 10
+digit_below b h = grind (arith, nat_tests)
+
+all_digits : (ds : List ℕ) → list_all is_ascii_digit ds ≡ true → AllDigits 10 ds
+all_digits [] h = tt
+all_digits (d ∷ ds) h =
+    let parts = and_parts (is_ascii_digit d) (list_all is_ascii_digit ds) h in
+    (digit_below d parts.0, all_digits ds parts.1)
+
+-- four digits write less than 10,000
+pub short_number : (ds : List ℕ) → list_all is_ascii_digit ds ≡ true → length ds ≤ 4 → digits_value 10 ds < 10_000
+short_number ds all short =
+    let fits = digits_value-lt 10 ds (all_digits ds all) in
+    let most : 10 ^ length ds ≤ 10 ^ 4 = pow-le-pow_right (omega arith) short in
+    omega (arith, fits, most)
+
+-- what digits behind a point add is at most nine times the unit for each
+pub fraction_bound : (size place : ℕ) (ds : List ℕ) → list_all is_ascii_digit ds ≡ true → fraction_worth size place ds ≤ length ds * (9 * size)
+fraction_bound size place [] h = omega arith
+fraction_bound size place (d ∷ ds) h =
+    let parts = and_parts (is_ascii_digit d) (list_all is_ascii_digit ds) h in
+    let below = digit_below d parts.0 in
+    let rest = fraction_bound size (place + 1) ds parts.1 in
+    let part = div-le_self (digit_value d * size) (10 ^ place) in
+    let whole : digit_value d * size ≤ 9 * size = mul-le-mul_right size (omega arith) in
+    omega (arith, rest, part, whole)
+
+pub list_all-take : (p : ℕ → Bool) (xs : List ℕ) (n : ℕ) → list_all p xs ≡ true → list_all p (take n xs) ≡ true
+list_all-take p xs zero h = refl
+list_all-take p [] (suc n) h = refl
+list_all-take p (x ∷ xs) (suc n) h =
+    let parts = and_parts (p x) (list_all p xs) h in
+    rw (parts.0, list_all-take p xs n parts.1) refl
+
+-- Pieces
+
+-- a fourth piece, or a third of seconds, is too many
+pub no_date : (word year month day b1 b2 b3 : List ℕ) → slice_split is_hyphen word ≡ year ∷ slice_split is_hyphen b1 → slice_split is_hyphen b1 ≡ month ∷ slice_split is_hyphen b2 → slice_split is_hyphen b2 ≡ day ∷ slice_split is_hyphen b3 → None ≡ date_numbers word
+unfolding date_numbers
+no_date word year month day b1 b2 b3 first next last =
+    let more = some_piece is_hyphen b3 in rw (first, next, last, more.2) refl
+
+pub no_time : (word hour minute second b1 b2 b3 : List ℕ) → slice_split is_colon word ≡ hour ∷ slice_split is_colon b1 → slice_split is_colon b1 ≡ minute ∷ slice_split is_colon b2 → slice_split is_colon b2 ≡ second ∷ slice_split is_colon b3 → None ≡ time_numbers word
+unfolding time_numbers
+no_time word hour minute second b1 b2 b3 first next last =
+    let more = some_piece is_colon b3 in rw (first, next, last, more.2) refl
+
+pub no_second : (word whole digits b1 b2 : List ℕ) → slice_split is_point word ≡ whole ∷ slice_split is_point b1 → slice_split is_point b1 ≡ digits ∷ slice_split is_point b2 → None ≡ second_written word
+unfolding second_written
+no_second word whole digits b1 b2 first next =
+    let more = some_piece is_point b2 in rw (first, next, more.2) refl
+
+-- Moments
+
+pub too_late : (micros : ℤ) → LAST <ℤ micros → in_moments micros ≡ Err OutOfRange
+unfolding in_moments
+too_late micros late = grind (arith, ints)
+
+-- the offset that a clock shows is how far it is ahead
+pub local_of-civil : (zone : TimeZone) (second : ℤ) (shown : Civil) → shown ≡ civil_of zone second → local_of zone second ≡ second +ℤ shown.offset
+unfolding local_of civil_of
+local_of-civil zone second shown e = ap (λ o. second +ℤ o) (sym (ap (λ (s : Civil). s.offset) e))

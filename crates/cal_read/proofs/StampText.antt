@@ -1,0 +1,164 @@
+-- The blanks and the words of a text, and where it may be cut.
+use Rattle.std.proofs.Common.{ℕ, ◌+◌, ◌-◌, ◌<◌, ◌≤◌, ◌≡◌, Bool, true, false, cond, not, List, [], ◌∷◌, suc, length, get_or, take, drop, refl, ◌∙◌, subst, arith, inl, inr, add-one, add-zero, drop-cons, length-drop}
+use Rattle.std.specs.Prelude.{reverse}
+use Rattle.std.specs.Str.{IsUtf8, IsCharBoundary}
+use Rattle.std.specs.List.{list_any, prefix_len, suffix_len, position_or_len}
+use Rattle.std.proofs.lemmas.Bool.{cases_lt, lt-ltb, not-true, not-false}
+use Rattle.std.proofs.lemmas.Bool.Decides.{nat_tests}
+use Rattle.std.proofs.lemmas.List.{get_or-reverse, length-reverse, get_or-drop, length-take, take_all, drop_all}
+use Rattle.std.proofs.lemmas.List.Folds.{list_any_at, list_any_none}
+use Rattle.std.proofs.lemmas.List.Sums.{prefix_len_passes, prefix_len_stops, prefix_len-le-length, suffix_len-le-length}
+use Rattle.std.proofs.lemmas.List.Splits.{slice_split_first, slice_split_none}
+use Rattle.std.proofs.lemmas.Str.{IsCharBoundary-start, IsCharBoundary-end, IsCharBoundary-before_ascii, IsCharBoundary-after_ascii}
+use Rattle.cal_spec.specs.Words.{is_blank, words}
+use Rattle.cal_read.specs.StampForm.{from_solid}
+
+-- a blank is one byte
+blank_ascii : (b : ℕ) → is_blank b ≡ true → b < 128
+blank_ascii b h = grind (arith, nat_tests)
+
+pub boundary_at : (text : List ℕ) (m n : ℕ) → m ≡ n → IsCharBoundary text m → IsCharBoundary text n
+boundary_at text m n e h = let P : ℕ → Type 0 = λ k. IsCharBoundary text k in subst P e h
+
+pub front_boundary : (text : List ℕ) → IsUtf8 text → IsCharBoundary text (prefix_len is_blank text)
+front_boundary text u =
+    let n = prefix_len is_blank text in
+    elim (cases_lt 0 n) [
+      | inl some ↦
+          let within : n - 1 < length text = omega (arith, prefix_len-le-length is_blank text) in
+          let ascii = blank_ascii (get_or text (n - 1) 0) (prefix_len_passes is_blank text (n - 1) 0 (omega arith)) in
+          boundary_at text (n - 1 + 1) n (omega arith) (IsCharBoundary-after_ascii text (n - 1) u within ascii)
+      | inr none ↦ boundary_at text 0 n (omega arith) (IsCharBoundary-start text u)
+    ]
+
+pub word_boundary : (text : List ℕ) → IsUtf8 text → IsCharBoundary text (position_or_len is_blank text)
+word_boundary text u =
+    let n = position_or_len is_blank text in
+    elim (cases_lt n (length text)) [
+      | inl within ↦
+          IsCharBoundary-before_ascii text n within (blank_ascii (get_or text n 0) (not-false (is_blank (get_or text n 0)) (prefix_len_stops (λ b. not (is_blank b)) text 0 within)))
+      | inr past ↦
+          boundary_at text (length text) n (omega (arith, prefix_len-le-length (λ b. not (is_blank b)) text)) (IsCharBoundary-end text)
+    ]
+
+-- the byte before the last that pass
+before_suffix : (p : ℕ → Bool) (text : List ℕ) → suffix_len p text < length text → p (get_or text (length text - suffix_len p text - 1) 0) ≡ false
+before_suffix p text within =
+    let n = suffix_len p text in
+    let there : n < length (reverse text) = omega (arith, length-reverse text) in
+    let here : length text - 1 - n ≡ length text - n - 1 = omega arith in
+    rw (← here, ← get_or-reverse text n 0 within) (prefix_len_stops p (reverse text) 0 there)
+
+first_of_suffix : (p : ℕ → Bool) (text : List ℕ) → 0 < suffix_len p text → p (get_or text (length text - suffix_len p text) 0) ≡ true
+first_of_suffix p text some =
+    let n = suffix_len p text in
+    let within : n - 1 < length text = omega (arith, suffix_len-le-length p text) in
+    let here : length text - 1 - (n - 1) ≡ length text - n = omega arith in
+    rw (← here, ← get_or-reverse text (n - 1) 0 within) (prefix_len_passes p (reverse text) (n - 1) 0 (omega arith))
+
+pub end_boundary : (text : List ℕ) → IsUtf8 text → IsCharBoundary text (length text - suffix_len is_blank text)
+end_boundary text u =
+    let n = suffix_len is_blank text in
+    elim (cases_lt 0 n) [
+      | inl some ↦
+          IsCharBoundary-before_ascii text (length text - n) (omega (arith, suffix_len-le-length is_blank text)) (blank_ascii (get_or text (length text - n) 0) (first_of_suffix is_blank text some))
+      | inr none ↦ boundary_at text (length text) (length text - n) (omega arith) (IsCharBoundary-end text)
+    ]
+
+-- no blank
+abbrev pub is_solid : ℕ → Bool
+is_solid b = not (is_blank b)
+
+last_blank : (text : List ℕ) → suffix_len is_solid text < length text → is_blank (get_or text (length text - suffix_len is_solid text - 1) 0) ≡ true
+last_blank text within =
+    not-false (is_blank (get_or text (length text - suffix_len is_solid text - 1) 0)) (before_suffix is_solid text within)
+
+pub last_word_boundary : (text : List ℕ) → IsUtf8 text → suffix_len is_solid text < length text → IsCharBoundary text (length text - suffix_len is_solid text)
+last_word_boundary text u within =
+    let start = length text - suffix_len is_solid text in
+    let ascii = blank_ascii (get_or text (start - 1) 0) (last_blank text within) in
+    boundary_at text (start - 1 + 1) start (omega arith) (IsCharBoundary-after_ascii text (start - 1) u (omega arith) ascii)
+
+pub last_blank_boundary : (text : List ℕ) → suffix_len is_solid text < length text → IsCharBoundary text (length text - suffix_len is_solid text - 1)
+last_blank_boundary text within =
+    let start = length text - suffix_len is_solid text in
+    IsCharBoundary-before_ascii text (start - 1) (omega arith) (blank_ascii (get_or text (start - 1) 0) (last_blank text within))
+
+pub some_blank : (text : List ℕ) → suffix_len is_solid text < length text → list_any is_blank text ≡ true
+some_blank text within =
+    list_any_at is_blank text (length text - suffix_len is_solid text - 1) 0 (omega arith) (last_blank text within)
+
+solid_at : (text : List ℕ) (k d : ℕ) → suffix_len is_solid text ≡ length text → k < length text → is_blank (get_or text k d) ≡ false
+solid_at text k d all within =
+    let back = length text - 1 - k in
+    let there : back < suffix_len is_solid text = omega arith in
+    let here : length text - 1 - back ≡ k = omega arith in
+    let seen = prefix_len_passes is_solid (reverse text) back d there in
+    let reversed = get_or-reverse text back d (omega arith) in
+    not-true (is_blank (get_or text k d)) (rw (reversed, here) at seen)
+
+pub no_blank : (text : List ℕ) → suffix_len is_solid text ≡ length text → list_any is_blank text ≡ false
+no_blank text all = list_any_none is_blank text (λ k d within. solid_at text k d all within)
+
+-- Words
+
+-- a blank in front adds no word
+pub words-blank : (b : ℕ) (text : List ℕ) → is_blank b ≡ true → words (b ∷ text) ≡ words text
+unfolding words
+words-blank b text blank = rw blank refl
+
+drop_step : (b : ℕ) (text : List ℕ) (test : Bool) → is_blank b ≡ test → words (from_solid text) ≡ words text → words (drop (cond test (1 + prefix_len is_blank text) 0) (b ∷ text)) ≡ words (b ∷ text)
+drop_step b text true blank rest =
+    let one : 1 + prefix_len is_blank text ≡ suc (prefix_len is_blank text) = omega arith in
+    rw (one, words-blank b text blank) rest
+drop_step b text false blank rest = refl
+
+pub words-from_solid : (text : List ℕ) → words (from_solid text) ≡ words text
+words-from_solid [] = refl
+words-from_solid (b ∷ bs) = drop_step b bs (is_blank b) refl (words-from_solid bs)
+
+pub words-nil : words [] ≡ []
+unfolding words
+words-nil = refl
+
+-- the first word of a text that begins with no blank
+then_blank : (text : List ℕ) → 0 < position_or_len is_blank text → position_or_len is_blank text < length text
+    → words text ≡ take (position_or_len is_blank text) text ∷ words (drop (position_or_len is_blank text + 1) text)
+unfolding words
+then_blank text some within =
+    let n = position_or_len is_blank text in
+    let long : length (take n text) ≡ n = omega (arith, length-take n text) in
+    rw (slice_split_first is_blank text 0 within, lt-ltb 0 (length (take n text)) (omega arith)) refl
+
+blank_dropped : (text : List ℕ) → position_or_len is_blank text < length text
+    → words (drop (position_or_len is_blank text) text) ≡ words (drop (position_or_len is_blank text + 1) text)
+blank_dropped text within =
+    let n = position_or_len is_blank text in
+    let blank = not-false (is_blank (get_or text n 0)) (prefix_len_stops is_solid text 0 within) in
+    rw (drop-cons text n 0 within, add-one) (words-blank (get_or text n 0) (drop (suc n) text) blank)
+
+to_the_end : (text : List ℕ) → 0 < length text → length text ≤ position_or_len is_blank text → words text ≡ text ∷ []
+unfolding words
+to_the_end text some past =
+    rw (slice_split_none is_blank text (λ k d within. not-true (is_blank (get_or text k d)) (prefix_len_passes is_solid text k d (omega arith))), lt-ltb 0 (length text) some) refl
+
+pub first_word : (text : List ℕ) → 0 < position_or_len is_blank text → words text ≡ take (position_or_len is_blank text) text ∷ words (drop (position_or_len is_blank text) text)
+first_word text some =
+    let n = position_or_len is_blank text in
+    elim (cases_lt n (length text)) [
+      | inl within ↦ rw blank_dropped (then_blank text some within)
+      | inr past ↦
+          to_the_end text (omega (arith, prefix_len-le-length is_solid text)) past
+          ∙ rw (take_all n text past, drop_all n text past, words-nil) refl
+    ]
+
+-- a text without blanks at its front begins with a word
+begins_solid : (text : List ℕ) → 0 < length text → is_blank (get_or text 0 0) ≡ false → 0 < position_or_len is_blank text
+begins_solid [] some solid = absurd (omega arith)
+begins_solid (b ∷ bs) some solid = rw solid (omega arith)
+
+pub begins_with_word : (text : List ℕ) → 0 < length (from_solid text) → 0 < position_or_len is_blank (from_solid text)
+begins_with_word text some =
+    let n = prefix_len is_blank text in
+    let within : n < length text = omega (arith, length-drop n text) in
+    begins_solid (from_solid text) some (rw (get_or-drop n text 0 0, add-zero) (prefix_len_stops is_blank text 0 within))

@@ -1,0 +1,143 @@
+-- The meaning of a timestamp: systemd.time(7), Parsing Timestamps. The text is read by the first form that fits.
+use Rattle.std.specs.Prelude.{ℕ, ◌/◌, ◌%◌, ◌==◌, Bool, true, false, not, ◌&&◌, if◌then◌else◌, ℤ, pos, int_lt, ◌+ℤ◌, ◌-ℤ◌, ◌*ℤ◌, List, [], ◌∷◌, Option, None, Some, Result, Ok, Err}
+use Rattle.std.specs.List.{list_any}
+use Rattle.std.specs.Option.{unwrap_or}
+use Rattle.std.specs.Char.{is_ascii_digit}
+use Rattle.jiff.specs.Types.{TimeZone, Weekday}
+use Rattle.jiff_core.specs.Calendar.{weekday_number}
+use Rattle.jiff_core.specs.Weekday.{monday_zero}
+use Rattle.cal_base.specs.declared.moment.TheConstants.Moment.{LAST}
+use Rattle.cal_base.specs.declared.span_fault.SpanFault.{SpanFault}
+use Rattle.cal_base.specs.Local.{day_of}
+use Rattle.cal_base.specs.Place.{settle_of}
+use Rattle.cal_base.specs.SpanValue.{span_of}
+use Rattle.cal_base.specs.Zone.{local_of}
+use Rattle.cal_base.specs.ZoneName.{begins_with_letter}
+use Rattle.cal_spec.specs.DateAndTime.{is_colon}
+use Rattle.cal_spec.specs.Weekdays.{day_named}
+use Rattle.cal_read.specs.StampForm.{Form, nothing, present, later, earlier, counted, from_today, civil, form_of}
+use Rattle.cal_read.specs.StampDate.{day_written}
+use Rattle.cal_read.specs.StampTime.{time_written}
+use Rattle.cal_read.specs.declared.stamp_fault.StampFault.{StampFault}
+use Rattle.cal_read.specs.declared.stamp_fault.StampFault.TheVariants.{Empty, BadWeekday, BadDate, WrongWeekday, BadSpan, NoSuchZone, StrayWord, OutOfRange}
+
+-- what a text is read by, aside from the present: the local zone, and the zone that a name has
+pub record Setting : Type 0 where
+  pub local : TimeZone
+  pub find : List ℕ → Option TimeZone
+
+-- what follows where there was no fault
+infixl 10 ◌>>=◌
+abbrev pub ◌>>=◌ : {A B : Type 0} → Result A StampFault → (A → Result B StampFault) → Result B StampFault
+(Ok x) >>= f = f x
+(Err e) >>= f = Err e
+
+-- Spans
+
+-- the moment of so many microseconds of Unix time, where there is one
+unfoldable pub in_moments : ℤ → Result ℤ StampFault
+in_moments micros =
+    if not (int_lt micros (pos 0)) && not (int_lt LAST micros) then Ok micros else Err OutOfRange
+
+-- the microseconds of a second of Unix time
+abbrev pub micros_of : ℤ → ℤ
+micros_of second = second *ℤ pos 1_000_000
+
+-- the moment a span behind the second, or before it
+abbrev pub behind_second : ℤ → Result ℕ SpanFault → Result ℤ StampFault
+behind_second second (Ok span) = in_moments (micros_of second +ℤ pos span)
+behind_second second (Err fault) = Err (BadSpan fault)
+
+abbrev pub before_second : ℤ → Result ℕ SpanFault → Result ℤ StampFault
+before_second second (Ok span) = in_moments (micros_of second -ℤ pos span)
+before_second second (Err fault) = Err (BadSpan fault)
+
+-- Days
+
+-- the present day in a zone
+unfoldable pub today : ℤ → TimeZone → ℤ
+today now zone = day_of (local_of zone now)
+
+-- the moment of so many microseconds after a day's midnight: a local time that the clock skips is moved on by what is
+-- skipped, and of one that it shows twice this is the first
+unfoldable pub settled : TimeZone → ℤ → ℕ → Result ℤ StampFault
+settled zone day micros =
+    in_moments (micros_of (settle_of zone (day *ℤ pos 86_400 +ℤ pos (micros / 1_000_000))) +ℤ pos (micros % 1_000_000))
+
+-- Words
+
+-- no word, or the name of a zone as the only one
+abbrev pub zone_found : Option TimeZone → List (List ℕ) → Result TimeZone StampFault
+zone_found None ws = Err NoSuchZone
+zone_found (Some zone) [] = Ok zone
+zone_found (Some zone) (w ∷ ws) = Err StrayWord
+
+abbrev pub zone_in : Setting → List (List ℕ) → Result TimeZone StampFault
+zone_in at [] = Ok at.local
+zone_in at (w ∷ ws) = if begins_with_letter w then zone_found (at.find w) ws else Err StrayWord
+
+-- a civil time as it is written
+pub record Written : Type 0 where
+  pub weekday : Option Weekday
+  pub day : Option ℤ
+  pub micros : ℕ
+  pub zone : TimeZone
+
+-- with the zone that the words behind it name
+abbrev pub written_in : Setting → Option Weekday → Option ℤ → ℕ → List (List ℕ) → Result Written StampFault
+written_in at weekday day micros ws =
+    zone_in at ws >>= λ zone. Ok (record { weekday = weekday; day = day; micros = micros; zone = zone })
+
+abbrev pub begins_with_digit : List ℕ → Bool
+begins_with_digit [] = false
+begins_with_digit (b ∷ bs) = is_ascii_digit b
+
+-- behind a date, a word that begins with a digit is the time
+abbrev pub behind_date : Setting → Option Weekday → ℤ → List (List ℕ) → Result Written StampFault
+behind_date at weekday day [] = written_in at weekday (Some day) 0 []
+behind_date at weekday day (w ∷ ws) =
+    if begins_with_digit w then (time_written w >>= λ micros. written_in at weekday (Some day) micros ws)
+    else written_in at weekday (Some day) 0 (w ∷ ws)
+
+-- behind the weekday, a word with a colon is the time, any other the date
+abbrev pub behind_weekday : Setting → Option Weekday → List (List ℕ) → Result Written StampFault
+behind_weekday at weekday [] = Err BadDate
+behind_weekday at weekday (w ∷ ws) =
+    if list_any is_colon w then (time_written w >>= λ micros. written_in at weekday None micros ws)
+    else (day_written w >>= λ day. behind_date at weekday day ws)
+
+abbrev pub weekday_found : Setting → Option Weekday → List (List ℕ) → Result Written StampFault
+weekday_found at None ws = Err BadWeekday
+weekday_found at (Some weekday) ws = behind_weekday at (Some weekday) ws
+
+-- a first word that begins with a letter is the weekday
+abbrev pub civil_time : Setting → List (List ℕ) → Result Written StampFault
+civil_time at [] = Err BadDate
+civil_time at (w ∷ ws) =
+    if begins_with_letter w then weekday_found at (day_named w) ws else behind_weekday at None (w ∷ ws)
+
+-- whether the day is one of these weekdays
+abbrev pub fits_weekday : Option Weekday → ℤ → Bool
+fits_weekday None day = true
+fits_weekday (Some weekday) day = weekday_number day == monday_zero weekday
+
+-- the moment of a civil time: a missing date is the present day in its zone
+unfoldable pub moment_of_written : ℤ → Written → Result ℤ StampFault
+moment_of_written now c =
+    let day = unwrap_or c.day (today now c.zone) in
+    if fits_weekday c.weekday day then settled c.zone day c.micros else Err WrongWeekday
+
+-- The meaning
+
+abbrev pub moment_of_form : ℤ → Setting → Form → Result ℤ StampFault
+moment_of_form now at nothing = Err Empty
+moment_of_form now at present = in_moments (micros_of now)
+moment_of_form now at (later span) = behind_second now (span_of span)
+moment_of_form now at (earlier span) = before_second now (span_of span)
+moment_of_form now at (counted span) = behind_second (pos 0) (span_of span)
+moment_of_form now at (from_today shift ws) = zone_in at ws >>= λ zone. settled zone (today now zone +ℤ shift) 0
+moment_of_form now at (civil ws) = civil_time at ws >>= λ written. moment_of_written now written
+
+-- the microseconds of the moment that a text means, by the present second and the zones, or the text's fault
+unfoldable pub moment_in : ℤ → Setting → List ℕ → Result ℤ StampFault
+moment_in now at text = moment_of_form now at (form_of text)

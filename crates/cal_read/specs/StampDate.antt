@@ -1,0 +1,56 @@
+-- The date of a timestamp: systemd.time(7), Parsing Timestamps. The calendar is `jiff`'s.
+use Rattle.std.specs.Prelude.{ℕ, ◌==◌, nat_le, Bool, ◌&&◌, if◌then◌else◌, ℤ, pos, List, [], ◌∷◌, length, Option, None, Some, Result, Ok, Err}
+use Rattle.std.specs.Char.{is_ascii_digit}
+use Rattle.std.specs.List.{list_all, slice_split}
+use Rattle.std.specs.Str.Parse.{digits_value}
+use Rattle.jiff.specs.Words.{days_in_month}
+use Rattle.jiff_core.specs.Calendar.{days_from_civil}
+use Rattle.cal_spec.specs.Parts.{with_century}
+use Rattle.cal_read.specs.declared.stamp_fault.StampFault.{StampFault}
+use Rattle.cal_read.specs.declared.stamp_fault.StampFault.TheVariants.{BadDate, NoSuchDate}
+
+-- the number that one or more digits write, at most so many
+unfoldable pub number_in : ℕ → List ℕ → Option ℕ
+number_in most word =
+    if nat_le 1 (length word) && nat_le (length word) most && list_all is_ascii_digit word then Some (digits_value 10 word)
+    else None
+
+abbrev pub is_hyphen : ℕ → Bool
+is_hyphen b = b == 45
+
+-- a year, a month and a day as they are written
+pub record DateNumbers : Type 0 where
+  pub year : ℕ
+  pub month : ℕ
+  pub day : ℕ
+
+abbrev pub date_by : Option ℕ → Option ℕ → Option ℕ → Option DateNumbers
+date_by (Some year) (Some month) (Some day) = Some (record { year = year; month = month; day = day })
+date_by year month day = None
+
+-- the year of one to four digits, the others of one or two
+abbrev pub date_of_pieces : List (List ℕ) → Option DateNumbers
+date_of_pieces (year ∷ month ∷ day ∷ []) = date_by (number_in 4 year) (number_in 2 month) (number_in 2 day)
+date_of_pieces pieces = None
+
+unfoldable pub date_numbers : List ℕ → Option DateNumbers
+date_numbers word = date_of_pieces (slice_split is_hyphen word)
+
+-- a day from 1970-01-01 to 2199-12-31
+abbrev pub is_day : ℕ → ℕ → ℕ → Bool
+is_day year month day =
+    nat_le 1970 year && nat_le year 2199 && nat_le 1 month && nat_le month 12 && nat_le 1 day
+    && nat_le day (days_in_month (pos year) month)
+
+-- its day number from 1970-01-01 on
+unfoldable pub day_number : ℕ → ℕ → ℕ → Result ℤ StampFault
+day_number year month day =
+    if is_day year month day then Ok (days_from_civil (pos year) month day) else Err NoSuchDate
+
+abbrev pub day_due : Option DateNumbers → Result ℤ StampFault
+day_due None = Err BadDate
+day_due (Some date) = day_number (with_century date.year) date.month date.day
+
+-- the day number of the date that the word writes, or its fault
+unfoldable pub day_written : List ℕ → Result ℤ StampFault
+day_written word = day_due (date_numbers word)

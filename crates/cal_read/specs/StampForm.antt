@@ -1,0 +1,74 @@
+-- The forms of a timestamp: systemd.time(7), Parsing Timestamps.
+use Rattle.std.specs.Prelude.{ℕ, ◌-◌, ◌==◌, ◌&&◌, if◌then◌else◌, ℤ, pos, neg_ℤ, List, [], ◌∷◌, length, take, drop, codes, Option, None, Some}
+use Rattle.std.specs.List.{list_any, prefix_len, suffix_len, before_last, after_last}
+use Rattle.std.specs.Str.{bytes_eq}
+use Rattle.cal_spec.specs.Words.{is_blank, words}
+
+-- the text without the blanks at its front
+abbrev pub from_solid : List ℕ → List ℕ
+from_solid text = drop (prefix_len is_blank text) text
+
+-- the text without the blanks at its end
+abbrev pub to_solid : List ℕ → List ℕ
+to_solid text = take (length text - suffix_len is_blank text) text
+
+-- the text without the blanks at its ends
+unfoldable pub solid : List ℕ → List ℕ
+solid text = to_solid (from_solid text)
+
+-- what a text asks for: nothing at all, the present, a span text behind the present, before it or behind 0, so many
+-- days from the present day with the words behind, or the words of a civil time
+pub data Form : Type 0 where
+  nothing : Form
+  present : Form
+  later : List ℕ → Form
+  earlier : List ℕ → Form
+  counted : List ℕ → Form
+  from_today : ℤ → List (List ℕ) → Form
+  civil : List (List ℕ) → Form
+
+-- what stands before the last blank, where this word stands behind it
+abbrev pub before_word : List ℕ → List ℕ → Option (List ℕ)
+before_word word text =
+    if list_any is_blank text && bytes_eq (after_last is_blank text) word then Some (before_last is_blank text) else None
+
+-- how many days behind the present day the word names
+unfoldable pub day_shift : List ℕ → Option ℤ
+day_shift word =
+    if bytes_eq word (codes "today") then Some (pos 0)
+    else (if bytes_eq word (codes "yesterday") then Some (neg_ℤ (pos 1))
+    else (if bytes_eq word (codes "tomorrow") then Some (pos 1) else None))
+
+abbrev pub form_by_day : Option ℤ → List ℕ → List (List ℕ) → Form
+form_by_day None w ws = civil (w ∷ ws)
+form_by_day (Some shift) w ws = from_today shift ws
+
+abbrev pub form_of_words : List (List ℕ) → Form
+form_of_words [] = nothing
+form_of_words (w ∷ ws) = form_by_day (day_shift w) w ws
+
+-- a text that ends in `left` is meant behind the present, one that ends in `ago` before it
+abbrev pub form_by_ago : Option (List ℕ) → List ℕ → Form
+form_by_ago None text = form_of_words (words text)
+form_by_ago (Some span) text = earlier span
+
+abbrev pub form_by_left : Option (List ℕ) → List ℕ → Form
+form_by_left None text = form_by_ago (before_word (codes "ago") text) text
+form_by_left (Some span) text = later span
+
+unfoldable pub form_by_end : List ℕ → Form
+form_by_end text = form_by_left (before_word (codes "left") text) text
+
+-- what a text without blanks at its ends asks for: the first that fits
+abbrev pub form_of_solid : List ℕ → Form
+form_of_solid [] = nothing
+form_of_solid (b ∷ bs) =
+    if bytes_eq (b ∷ bs) (codes "now") then present
+    else (if b == 43 then later bs
+    else (if b == 45 then earlier bs
+    else (if b == 64 then counted bs
+    else form_by_end (b ∷ bs))))
+
+-- what a text asks for
+unfoldable pub form_of : List ℕ → Form
+form_of text = form_of_solid (solid text)

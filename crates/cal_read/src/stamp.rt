@@ -1,0 +1,47 @@
+//! Timestamps: the moment that a text means.
+
+ghost use Rattle.std.specs.Prelude.{◌≡◌};
+ghost use Rattle.cal_base.specs.Zone.{zone_of};
+ghost use Rattle.cal_base.specs.ZoneTable.{zone_named};
+ghost use Rattle.cal_read.specs.Stamp.{moment_in};
+ghost use Rattle.cal_read.specs.StampViews.{setting, told};
+
+use crate::StampFault;
+use crate::stamp_civil::{moment_of_written, read_civil};
+use crate::stamp_form::{Form, form_of};
+use crate::stamp_moment::{before_second, behind_second, day_number, moment_of, settled};
+use crate::stamp_time::SECOND;
+use crate::stamp_zone::read_zone;
+use cal_base::{Instant, Moment, Zone, ZoneTable, read_span};
+
+/// The moment that a text means (systemd.time(7), Parsing Timestamps), by the first form that fits: nothing; `now`; a
+/// span text behind `+`, `-` or `@`, or before `left` or `ago`; `today`, `yesterday` or `tomorrow` and a zone; or
+/// `[weekday] [date] [time] [zone]`.
+///
+/// The fault is that of the first word at fault, from the left; then comes `WrongWeekday`, and then `OutOfRange`.
+#[tactic(auto, unfolding(crate::specs::Stamp::moment_in))]
+pub fn read_stamp(
+    text: &str,
+    now: Instant,
+    local: Zone<'_>,
+    table: &ZoneTable,
+) -> Result<Moment, StampFault>
+    ensures { told result
+        ≡ moment_in now.secs (setting (zone_of local.entry) (zone_named table.now)) text.now }
+{
+    match form_of(text) {
+        Form::Nothing => Err(StampFault::Empty),
+        Form::Present => moment_of(now.secs() * SECOND as i64),
+        Form::Later(span) => behind_second(now.secs(), read_span(span)?),
+        Form::Earlier(span) => before_second(now.secs(), read_span(span)?),
+        Form::Counted(span) => behind_second(0, read_span(span)?),
+        Form::Midnight(day, behind) => {
+            let zone = read_zone(behind, local, table)?;
+            settled(zone, day_number(now, zone, day), 0)
+        }
+        Form::Civil(text) => {
+            let written = read_civil(text, local, table)?;
+            moment_of_written(now, written)
+        }
+    }
+}

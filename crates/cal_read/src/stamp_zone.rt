@@ -1,0 +1,36 @@
+//! The zone that the words of a timestamp name.
+
+ghost use Rattle.std.specs.Prelude.{◌≡◌};
+ghost use Rattle.cal_base.specs.Zone.{zone_of};
+ghost use Rattle.cal_base.specs.ZoneTable.{zone_named};
+ghost use Rattle.cal_spec.specs.Words.{words};
+ghost use Rattle.cal_read.specs.Stamp.{zone_in};
+ghost use Rattle.cal_read.specs.StampViews.{setting, zone_told};
+
+use crate::StampFault;
+use crate::stamp_text::first_word;
+use cal_base::{Zone, ZoneTable, begins_with_letter};
+
+/// The zone that the text names, or the local one where it has no word (systemd.time(7), Parsing Timestamps).
+/// `StrayWord` where the word doesn't begin with a letter or another one stands behind it, `NoSuchZone` where there is
+/// no zone of that name.
+pub(crate) fn read_zone<'t>(
+    text: &str,
+    local: Zone<'t>,
+    table: &'t ZoneTable,
+) -> Result<Zone<'t>, StampFault>
+    ensures { zone_told result
+        ≡ zone_in (setting (zone_of local.entry) (zone_named table.now)) (words text.now) }
+{
+    let Some((word, behind)) = first_word(text) else {
+        return Ok(local);
+    };
+    if !begins_with_letter(word.as_bytes()) {
+        return Err(StampFault::StrayWord);
+    }
+    let zone = table.find(word).ok_or(StampFault::NoSuchZone)?;
+    match first_word(behind) {
+        None => Ok(zone),
+        Some(_) => Err(StampFault::StrayWord),
+    }
+}

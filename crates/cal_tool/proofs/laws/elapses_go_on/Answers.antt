@@ -1,5 +1,0 @@
-use Rattle.cal_tool.proofs.ElapsesLemmas.{elapses_after-later}
-use Rattle.cal_tool.proofs.laws.elapses_go_on.Goals as goal
-
-pub returns : goal.returns
-returns c = elapses_after-later

@@ -1,5 +1,0 @@
-use Rattle.cal_tool.proofs.ElapsesLemmas.{elapses_after-parts}
-use Rattle.cal_tool.proofs.laws.elapses_in_parts.Goals as goal
-
-pub returns : goal.returns
-returns c = elapses_after-parts
