@@ -104,3 +104,6 @@ fn read_lines(alloc: Global, text: &str) -> Result<Vec<TimerLine>, TimerFault>
     }
     Ok(lines)
 }
+
+#[cfg(test)]
+mod tests;

@@ -19,4 +19,4 @@ returns-in-Err c = λ _.
     let no_text = rw c.in-Err.is at c.from_utf8.ensures.cases in
     let valid = rw c.in-Err.is at c.from_utf8.ensures.valid_len in
     broken_bytes expr_in c.args.bytes.now c.line_behind.result no_text.0
-        (c.line_behind.ensures ∙ rw (c.valid_up_to.ensures, valid) (grind arith))
+    (c.line_behind.ensures ∙ rw (c.valid_up_to.ensures, valid) (grind arith))

@@ -14,10 +14,10 @@ returns-in_err-inside c =
     let found = rw c.in-Some.is at c.in_ok-line.ensures.lines in
     let fault = rw c.as_str.ensures.value at c.in_err-inside.ensures in
     rw (p.1, p.2) (λ other.
-        sym (resumed_is_list expr_in (assignments_in false (logical_lines 1 c.args.text.now)))
-        ∙ c.loop-lines.invariant.list
-        ∙ ap (λ lines. resumed expr_in (map shown c.loop-lines.lines.items) (assignments_in c.loop-lines.inside lines)) found
-        ∙ fault other (logical_lines c.in-Some.line.next c.in-Some.line.rest.now))
+    sym (resumed_is_list expr_in (assignments_in false (logical_lines 1 c.args.text.now)))
+    ∙ c.loop-lines.invariant.list
+    ∙ ap (λ lines. resumed expr_in (map shown c.loop-lines.lines.items) (assignments_in c.loop-lines.inside lines)) found
+    ∙ fault other (logical_lines c.in-Some.line.next c.in-Some.line.rest.now))
 
 pub returns : goal.returns
 returns c =

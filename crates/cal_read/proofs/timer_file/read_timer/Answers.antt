@@ -21,9 +21,10 @@ returns-in-Err-NoMemory-clause-list g c =
 
 pub returns-clause-failed : goal.returns-clause-failed
 returns-clause-failed g c =
-    let works = c.in-Ok.ensures.failed in
-    (λ failed. let never : false ≡ true = rw works at failed in cc,
-    λ told. let read = rw told at c.read_bytes.ensures in absurd (never_failed expr_in c.as_slice.result.now (read (λ e. cc))))
+    let works = c.in-Ok.ensures.failed in (
+      λ failed. let never : false ≡ true = rw works at failed in cc,
+      λ told. let read = rw told at c.read_bytes.ensures in absurd (never_failed expr_in c.as_slice.result.now (read (λ e. cc))),
+    )
 
 pub returns-clause-list : goal.returns-clause-list
 returns-clause-list g c = (Ok c.in-Ok.bytes.items, c.in-Ok.ensures.bytes, rw c.as_slice.ensures.value at c.read_bytes.ensures)
