@@ -5,3 +5,4 @@ pub mod ResumedLemmas
 pub mod StampLemmas
 pub mod StampText
 pub mod TimerLemmas
+pub mod TimerRuleLemmas

@@ -9,28 +9,40 @@ use Rattle.cal_read.specs.Assignments.{Assigned, assignments_in}
 use Rattle.cal_read.specs.Lines.{logical_lines}
 use Rattle.cal_read.specs.TimerText.{Entry, bad_line, broken_line, fault_behind, first_fault, is_expression, list_of, listed, most_expressions, some_entries, timer_in, timer_of, unless_fault, without_mark}
 use Rattle.cal_read.specs.declared.timer_fault.TimerFault.{TimerFault}
-use Rattle.cal_read.specs.declared.timer_fault.TimerFault.TheVariants.{NotUtf8, ReadFailed}
+use Rattle.cal_read.specs.declared.timer_fault.TimerFault.TheVariants.{BadLine, NoMemory, NothingToDo, NotUtf8, ReadFailed, TooLarge, TooMany}
 
--- no assignment's fault is a failed reader
-never_of_text : {E : Type 0} (number : ℕ) (r : Result E SpecFault) → bad_line number r ≡ Some ReadFailed → ⊥
-never_of_text number (Ok expr) e = cc
-never_of_text number (Err fault) e = cc
+-- the faults that a line can have
+abbrev pub is_of_line : TimerFault → Bool
+is_of_line ReadFailed = false
+is_of_line TooLarge = false
+is_of_line (NotUtf8 line) = false
+is_of_line (BadLine line fault) = true
+is_of_line (TooMany line) = true
+is_of_line NothingToDo = false
+is_of_line NoMemory = false
 
-never_of_one_as : {E : Type 0} (read : List ℕ → Result E SpecFault) (before : List Assigned) (a : Assigned) (expresses many : Bool) → is_expression a ≡ expresses → nat_le most_expressions (length (listed before)) ≡ many → fault_behind read before a ≡ Some ReadFailed → ⊥
+text_is_of_line : {E : Type 0} (number : ℕ) (r : Result E SpecFault) (fault : TimerFault) → bad_line number r ≡ Some fault → is_of_line fault ≡ true
+text_is_of_line number (Ok expr) fault e = cc
+text_is_of_line number (Err f) fault e = let same : BadLine number f ≡ fault = cc in rw (← same) refl
+
+one_is_of_line : {E : Type 0} (read : List ℕ → Result E SpecFault) (before : List Assigned) (a : Assigned) (fault : TimerFault) (expresses many : Bool) → is_expression a ≡ expresses → nat_le most_expressions (length (listed before)) ≡ many → fault_behind read before a ≡ Some fault → is_of_line fault ≡ true
 unfolding fault_behind
-never_of_one_as read before a false many e f = rw e (λ h. cc)
-never_of_one_as read before a true true e f = rw (e, f) (λ h. cc)
-never_of_one_as read before a true false e f = rw (e, f) (never_of_text a.number (read a.value))
+one_is_of_line read before a fault false many e f = rw e (λ h. cc)
+one_is_of_line read before a fault true true e f = rw (e, f) (λ h. let same : TooMany a.number ≡ fault = cc in rw (← same) refl)
+one_is_of_line read before a fault true false e f = rw (e, f) (text_is_of_line a.number (read a.value) fault)
 
-never_either : (o p : Option TimerFault) → (o ≡ Some ReadFailed → ⊥) → (p ≡ Some ReadFailed → ⊥) → option_or o p ≡ Some ReadFailed → ⊥
-never_either None p first rest h = rest h
-never_either (Some fault) p first rest h = first h
+either_is_of_line : (o p : Option TimerFault) (fault : TimerFault) → (o ≡ Some fault → is_of_line fault ≡ true) → (p ≡ Some fault → is_of_line fault ≡ true) → option_or o p ≡ Some fault → is_of_line fault ≡ true
+either_is_of_line None p fault first rest h = rest h
+either_is_of_line (Some f) p fault first rest h = first h
 
-never_first : {E : Type 0} (read : List ℕ → Result E SpecFault) (before behind : List Assigned) → first_fault read before behind ≡ Some ReadFailed → ⊥
+pub first_is_of_line : {E : Type 0} (read : List ℕ → Result E SpecFault) (before behind : List Assigned) (fault : TimerFault) → first_fault read before behind ≡ Some fault → is_of_line fault ≡ true
 unfolding first_fault
-never_first read before [] h = cc
-never_first read before (a ∷ behind) h =
-    never_either (fault_behind read before a) (first_fault read (before ++ a ∷ []) behind) (never_of_one_as read before a (is_expression a) (nat_le most_expressions (length (listed before))) refl refl) (never_first read (before ++ a ∷ []) behind) h
+first_is_of_line read before [] fault h = cc
+first_is_of_line read before (a ∷ behind) fault h =
+    either_is_of_line (fault_behind read before a) (first_fault read (before ++ a ∷ []) behind) fault (one_is_of_line read before a fault (is_expression a) (nat_le most_expressions (length (listed before))) refl refl) (first_is_of_line read (before ++ a ∷ []) behind fault) h
+
+never_of_line : is_of_line ReadFailed ≡ true → ⊥
+never_of_line h = cc
 
 never_of_list : {E : Type 0} (o : Option TimerFault) (es : List (Entry E)) → (o ≡ Some ReadFailed → ⊥) → unless_fault o (some_entries es) ≡ Err ReadFailed → ⊥
 never_of_list None [] never h = cc
@@ -39,7 +51,7 @@ never_of_list (Some fault) es never h = never cc
 
 never_as : {E : Type 0} (read : List ℕ → Result E SpecFault) (bytes : List ℕ) (utf8 : Bool) → is_utf8 bytes ≡ utf8 → timer_in read bytes ≡ Err ReadFailed → ⊥
 unfolding timer_in timer_of list_of
-never_as read bytes true e = rw e (never_of_list _ _ (never_first read [] (assignments_in false (logical_lines 1 (without_mark bytes)))))
+never_as read bytes true e = rw e (never_of_list _ _ (λ h. never_of_line (first_is_of_line read [] (assignments_in false (logical_lines 1 (without_mark bytes))) ReadFailed h)))
 never_as read bytes false e = rw e (λ h. cc)
 
 -- the bytes of a file are never a failed reader

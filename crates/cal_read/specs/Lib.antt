@@ -9,5 +9,6 @@ pub mod StampForm
 pub mod StampTime
 pub mod StampViews
 pub mod TimerFault
+pub mod TimerRule
 pub mod TimerText
 pub mod TimerView

@@ -16,6 +16,7 @@ mod stamp_zone;
 mod timer;
 mod timer_fault;
 mod timer_file;
+pub mod timer_laws;
 mod timer_list;
 
 pub use stamp::read_stamp;
