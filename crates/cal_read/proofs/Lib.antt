@@ -5,4 +5,5 @@ pub mod ResumedLemmas
 pub mod StampLemmas
 pub mod StampText
 pub mod TimerLemmas
+pub mod TimerRows
 pub mod TimerRuleLemmas
