@@ -115,6 +115,10 @@ abbrev pub timer_text : {E : Type 0} → (List ℕ → Result E SpecFault) → R
 timer_text read (Ok bytes) = timer_in read bytes
 timer_text read (Err fault) = Err (input_fault fault)
 
+-- the most bytes that a timer file may have
+abbrev pub most_bytes : ℕ
+most_bytes = 1_048_576
+
 -- what reading to the end gives: all the bytes, or the cause why they can't be had
 abbrev pub ReadsWhole : Option (List ℕ) → Option (List ℕ) → ℕ → Result (List ℕ) WholeFault → Type 0
 ReadsWhole old new limit (Ok bytes) = GivesAll old new limit bytes

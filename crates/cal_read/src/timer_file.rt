@@ -6,7 +6,7 @@ ghost use Rattle.cal_base.specs.declared.whole.WholeFault.{WholeFault};
 ghost use Rattle.cal_spec.specs.Expr.{expr_in};
 ghost use Rattle.cal_read.specs.Assignments.{assignments_in};
 ghost use Rattle.cal_read.specs.Lines.{logical_lines};
-ghost use Rattle.cal_read.specs.TimerText.{list_of, some_entries, timer_in, timer_of, timer_text, without_mark, ReadsWhole};
+ghost use Rattle.cal_read.specs.TimerText.{most_bytes, list_of, some_entries, timer_in, timer_of, timer_text, without_mark, ReadsWhole};
 ghost use Rattle.cal_read.specs.TimerView.{shown};
 
 use crate::lines::first_logical;
@@ -25,7 +25,7 @@ pub fn read_timer<R: Source>(alloc: Global, input: &mut R) -> Result<Timer, Time
     requires { R.is_failed input.old ≡ false }
     ensures failed { IsTrue (R.is_failed input.new) ↔ IsErrOf result TimerFault.ReadFailed }
     ensures list { (read : Result (List ℕ) WholeFault)
-        × ReadsWhole (R.remaining input.old) (R.remaining input.new) Timer.FILE_LIMIT read
+        × ReadsWhole (R.remaining input.old) (R.remaining input.new) most_bytes read
         × MatchResult result
         (λ timer. timer_text expr_in read ≡ Ok timer)
         (λ fault. fault ≢ TimerFault.NoMemory → timer_text expr_in read ≡ Err fault) }
@@ -42,7 +42,7 @@ pub fn read_timer<R: Source>(alloc: Global, input: &mut R) -> Result<Timer, Time
 /// The expressions of a file of these bytes.
 #[tactic(auto, unfolding(crate::specs::TimerText::timer_in, crate::specs::TimerText::broken_line))]
 fn read_bytes(alloc: Global, bytes: &[u8]) -> Result<Timer, TimerFault>
-    requires { length bytes.now ≤ Timer.FILE_LIMIT }
+    requires { length bytes.now ≤ most_bytes }
     ensures { MatchResult result
         (λ timer. timer_in expr_in bytes.now ≡ Ok timer)
         (λ fault. fault ≢ TimerFault.NoMemory → timer_in expr_in bytes.now ≡ Err fault) }
@@ -55,7 +55,7 @@ fn read_bytes(alloc: Global, bytes: &[u8]) -> Result<Timer, TimerFault>
 
 /// The number of the physical line that goes on behind these bytes, the first of a file.
 fn line_behind(bytes: &[u8]) -> u32
-    requires { length bytes.now ≤ Timer.FILE_LIMIT }
+    requires { length bytes.now ≤ most_bytes }
     ensures { result ≡ count_by (λ b. b == 10) bytes.now + 1 }
 {
     bytes.iter().filter(|byte| **byte == b'\n').count() as u32 + 1
@@ -64,7 +64,7 @@ fn line_behind(bytes: &[u8]) -> u32
 /// The expressions of a file of this text.
 #[tactic(auto, unfolding(crate::specs::TimerText::timer_of))]
 fn read_text(alloc: Global, text: &str) -> Result<Timer, TimerFault>
-    requires { length text.now ≤ Timer.FILE_LIMIT }
+    requires { length text.now ≤ most_bytes }
     ensures { MatchResult result
         (λ timer. timer_of expr_in text.now ≡ Ok timer)
         (λ fault. fault ≢ TimerFault.NoMemory → timer_of expr_in text.now ≡ Err fault) }
@@ -87,7 +87,7 @@ fn without_mark(text: &str) -> &str
 
 /// The expressions in the logical lines of a text; an empty list is no fault here.
 fn read_lines(alloc: Global, text: &str) -> Result<Vec<TimerLine>, TimerFault>
-    requires { length text.now ≤ Timer.FILE_LIMIT }
+    requires { length text.now ≤ most_bytes }
     ensures { MatchResult result
         (λ lines. list_of expr_in (assignments_in false (logical_lines 1 text.now)) ≡ some_entries (map shown lines.items))
         (λ fault. fault ≢ TimerFault.NoMemory

@@ -1,4 +1,3 @@
-use Rattle.cal_read.proofs.TimerRows
 use Rattle.cal_read.proofs.TimerRuleLemmas.{listed_behind_reset, listed_without_reset}
 use Rattle.cal_read.proofs.timer_laws.one_list.Goals as goal
 
