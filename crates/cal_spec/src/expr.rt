@@ -104,10 +104,11 @@ impl Expr {
         }
     }
 
-    /// Whether each weekday is chosen, from Monday on.
+    /// Whether each weekday is chosen, from Monday on. A caller learns that the fields are valid and in their normal form.
     #[tactic(auto, unfolding(crate::specs::Fields::fields_of))]
     pub fn weekdays(&self) -> [bool; 7]
-        ensures { result ≡ self.now.weekdays }
+        ensures chosen { result ≡ self.now.weekdays }
+        ensures expr { IsExpr self.now }
     {
         self.raw.weekdays
     }
