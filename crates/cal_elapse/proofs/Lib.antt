@@ -1,2 +1,4 @@
 pub mod ElapsesLemmas
+pub mod MasksLemmas
 pub mod RisingLemmas
+pub mod SearchLemmas

@@ -1,3 +1,5 @@
 pub mod Elapses
+pub mod Masks
 pub mod RisingList
+pub mod Search
 pub mod Timed

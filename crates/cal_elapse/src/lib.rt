@@ -2,6 +2,11 @@
 #![tactic(auto)]
 
 pub mod laws;
+mod masks;
+mod masks_of;
 mod rising;
+mod search;
 
+pub use masks::Masks;
 pub use rising::Rising;
+pub use search::{Found, next_local};
