@@ -1,4 +1,5 @@
 pub mod ElapsesLemmas
 pub mod MasksLemmas
+pub mod PendingLemmas
 pub mod RisingLemmas
 pub mod SearchLemmas

@@ -4,9 +4,11 @@
 pub mod laws;
 mod masks;
 mod masks_of;
+mod pending;
 mod rising;
 mod search;
 
 pub use masks::Masks;
+pub use pending::Pending;
 pub use rising::Rising;
 pub use search::{Found, next_local};
