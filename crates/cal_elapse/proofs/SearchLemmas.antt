@@ -76,3 +76,12 @@ begins (pos n) low high =
     let small : n < 2 ^ 63 = omega (arith, ints) in
     rw (to_z_pos w64 n small) refl
 begins (negsuc n) low high = absurd (omega (arith, ints))
+
+-- and back
+pub IsFirstPassing-Some : (passes : ℕ → Bool) (from : ℤ) (start : ℕ) (s : ℤ) → from ≡ pos start → IsFirstLocal passes from (Some s)
+    → IsFirstPassing passes start seconds_in_all (Some (unsigned_abs (to_z w64 (of_z w64 s))))
+IsFirstPassing-Some passes from start (pos n) same found =
+    let count = seconds_in_all-is in
+    let fits = to_z_pos w64 n (omega (arith, ints)) in
+    rw fits (omega (arith, ints), omega (arith, ints), found.2, λ t above below. found.3 t (omega (arith, ints)) (omega (arith, ints)))
+IsFirstPassing-Some passes from start (negsuc n) same found = absurd (omega (arith, ints))
