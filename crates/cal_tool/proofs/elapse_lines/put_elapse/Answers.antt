@@ -1,6 +1,6 @@
 use Rattle.cal_base.proofs.Pieces.{writes_respelled}
-use Rattle.cal_tool.specs.CalendarReport.{elapse_text}
-use Rattle.cal_tool.proofs.calendar_report.put_elapse.Goals as goal
+use Rattle.cal_tool.specs.ElapseLines.{elapse_text}
+use Rattle.cal_tool.proofs.elapse_lines.put_elapse.Goals as goal
 
 pub returns-clause-bytes : goal.returns-clause-bytes
 unfolding elapse_text
