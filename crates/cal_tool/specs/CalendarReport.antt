@@ -13,15 +13,12 @@ use Rattle.cal_spec.specs.SpecFault.{words_of}
 use Rattle.cal_spec.specs.declared.spec_fault.SpecFault.{SpecFault}
 use Rattle.cal_tool.specs.Answer.{Answer}
 use Rattle.cal_tool.specs.ElapseLines.{elapses_text}
+use Rattle.cal_tool.specs.ReportLines.{original_line}
 use Rattle.cal_tool.specs.Request.{Asked}
 
 -- the line of the normal form, behind its label
 unfoldable pub normal_line : Fields → List ℕ
 normal_line fields = joined (expr_text fields ∷ codes "\n" ∷ [])
-
--- the line of a text as it was handed in, and the label of the next
-unfoldable pub original_line : List ℕ → List ℕ
-original_line text = joined (codes "  Original form: " ∷ text ∷ codes "\nNormalized form: " ∷ [])
 
 -- both lines
 unfoldable pub heading_text : List ℕ → Fields → List ℕ

@@ -5,7 +5,7 @@ use Rattle.cal_base.specs.InstantText.{instant_text}
 use Rattle.cal_base.specs.declared.zone.Zone.{Zone}
 use Rattle.cal_base.specs.Instant.{IsInstant}
 use Rattle.cal_elapse.specs.RisingList.{Has}
-use Rattle.cal_tool.specs.InstantLines.{distance_text, micros_of, utc_line}
+use Rattle.cal_tool.specs.ReportLines.{distance_text, micros_of, utc_line}
 
 -- the label of the elapse with that number, from 1 on, right-aligned in 15 columns
 unfoldable pub label_text : ℕ → List ℕ

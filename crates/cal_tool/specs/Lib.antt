@@ -4,7 +4,7 @@ pub mod CalendarReport
 pub mod Command
 pub mod Context
 pub mod ElapseLines
-pub mod InstantLines
+pub mod ReportLines
 pub mod LoadFault
 pub mod LoadZone
 pub mod Report
@@ -14,3 +14,4 @@ pub mod RunFault
 pub mod Status
 pub mod Stop
 pub mod TimespanReport
+pub mod TimestampReport

@@ -7,16 +7,17 @@ use Rattle.cal_base.specs.declared.zone.Zone.{Zone}
 use Rattle.cal_tool.specs.declared.request.TheConstants.{MOST_ITERATIONS}
 use Rattle.cal_tool.specs.declared.request.Request.{Request}
 use Rattle.cal_tool.specs.declared.request.Verb.{Verb}
-use Rattle.cal_tool.specs.declared.request.Verb.TheVariants.{Calendar, Timespan}
+use Rattle.cal_tool.specs.declared.request.Verb.TheVariants.{Calendar, Timestamp, Timespan}
 
 -- a number of elapses that a request can ask for
 abbrev pub IsCount : ℕ → Type 0
 IsCount n = (1 ≤ n) × (n ≤ MOST_ITERATIONS)
 
--- whether a verb takes memory for a text
-abbrev pub takes_memory : Verb → Bool
-takes_memory Calendar = true
-takes_memory Timespan = false
+-- whether a verb seeks elapses: such a verb alone has a base, and takes memory
+abbrev pub seeks_elapses : Verb → Bool
+seeks_elapses Calendar = true
+seeks_elapses Timestamp = false
+seeks_elapses Timespan = false
 
 -- what is asked: a request without where its texts lie in memory, the present instant, and the zones
 pub record Asked : Type 0 where

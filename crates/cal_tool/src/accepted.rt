@@ -3,33 +3,36 @@
 ghost use Rattle.std.specs.Prelude.{◌≡◌, [], ◌∷◌, ℤ, Ok, Err, IfOk, IfErr, IsErrOf, false, is_err, option_map};
 ghost use Rattle.cal_base.specs.Bytes.{Writes, joined};
 ghost use Rattle.cal_base.specs.Zone.{zone_of};
-ghost use Rattle.cal_elapse.specs.Elapses.{elapses_after};
-ghost use Rattle.cal_elapse.specs.Timed.{timed};
-ghost use Rattle.cal_tool.specs.Accepted.{report_text, refusal_words, verb_of};
+ghost use Rattle.cal_read.specs.StampViews.{told};
+ghost use Rattle.cal_tool.specs.Accepted.{IsTimely, report_text, refusal_words, verb_of};
 ghost use Rattle.cal_tool.specs.Answer.{lead_text};
-ghost use Rattle.cal_tool.specs.CalendarReport.{calendar_answer, calendar_report, zone_for};
+ghost use Rattle.cal_tool.specs.CalendarReport.{calendar_answer, zone_for};
 ghost use Rattle.cal_tool.specs.Context.{asked_by};
 ghost use Rattle.cal_tool.specs.Report.{answer_to};
 ghost use Rattle.cal_tool.specs.ReportFault.{is_failed_in};
-ghost use Rattle.cal_tool.specs.TimespanReport.{timespan_report};
+ghost use Rattle.cal_tool.specs.TimestampReport.{stamp_in};
 ghost use Rattle.cal_tool.specs.declared.accepted.Refusal.TheVariants.{NoMemory};
-ghost use Rattle.cal_tool.specs.Request.{IsCount, takes_memory};
+ghost use Rattle.cal_tool.specs.Request.{IsCount, seeks_elapses};
 
 use crate::calendar_report::write_calendar;
 use crate::context::Context;
 use crate::report_fault::ReportFault;
 use crate::request::Verb;
 use crate::timespan_report::write_timespan;
-use cal_base::{Instant, Sink, Span, SpanFault, WriteFault, Zone, put_all, read_span};
+use crate::timestamp_report::write_timestamp;
+use cal_base::{Moment, Sink, Span, SpanFault, WriteFault, Zone, put_all, read_span};
 use cal_elapse::Elapses;
+use cal_read::{StampFault, read_stamp};
 use cal_spec::{Expr, SpecFault, read_expr};
-use std::alloc::Global;
+use std::alloc::{AllocError, Global};
 
 /// What was read from a text: one variant for each verb.
 #[derive(Drop)]
 pub enum Accepted<'a> {
-    /// A calendar expression, and the zone in which it is meant.
-    Calendar(Expr, Zone<'a>),
+    /// A calendar expression, and its elapses.
+    Calendar(Expr, Elapses<'a>),
+    /// A timestamp, by its moment.
+    Timestamp(Moment),
     /// A time span.
     Timespan(Span),
 }
@@ -41,6 +44,8 @@ pub enum Refusal {
     Spec(SpecFault),
     /// It is a calendar expression in a zone that isn't there.
     NoSuchZone,
+    /// It is no timestamp.
+    Stamp(StampFault),
     /// It is no time span.
     Span(SpanFault),
     /// Memory was refused.
@@ -55,28 +60,35 @@ impl Refusal {
         match self {
             Refusal::Spec(fault) => fault.words(),
             Refusal::NoSuchZone => "no such zone",
+            Refusal::Stamp(fault) => fault.words(),
             Refusal::Span(fault) => fault.words(),
             Refusal::NoMemory => "",
         }
     }
 }
 
-/// Reads a text as the request's verb does. A calendar expression takes memory, a time span takes none.
-#[tactic(auto, unfolding(crate::specs::TimespanReport::timespan_answer))]
+/// Reads a text as the request's verb does. All memory that the text needs is taken here, but for that of each elapse;
+/// timestamps and time spans take none.
+#[tactic(auto, unfolding(crate::specs::TimespanReport::timespan_answer, crate::specs::TimestampReport::timestamp_answer))]
 pub fn read_text<'a>(
     alloc: Global,
     context: Context<'a>,
     text: &str,
 ) -> Result<Accepted<'a>, Refusal>
-    ensures accepted { IfOk result (λ accepted. answer_to (asked_by context.entry) text.now
+    ensures accepted { IfOk result (λ accepted. answer_to (asked_by context.entry) context.entry.base.secs text.now
         ≡ Ok (report_text (asked_by context.entry) text.now accepted)) }
     ensures refused { IfErr result (λ refusal. (refusal ≡ NoMemory → ⊥)
-        → answer_to (asked_by context.entry) text.now ≡ Err (refusal_words refusal)) }
+        → answer_to (asked_by context.entry) context.entry.base.secs text.now ≡ Err (refusal_words refusal)) }
     ensures verb { IfOk result (λ accepted. verb_of accepted ≡ context.entry.request.now.verb) }
-    ensures memory { takes_memory context.entry.request.now.verb ≡ false → IsErrOf result NoMemory → ⊥ }
+    ensures timely { IfOk result IsTimely }
+    ensures memory { seeks_elapses context.entry.request.now.verb ≡ false → IsErrOf result NoMemory → ⊥ }
 {
     match context.request.verb {
         Verb::Calendar => read_calendar(alloc, context, text),
+        Verb::Timestamp => match read_moment(context, text) {
+            Ok(moment) => Ok(Accepted::Timestamp(moment)),
+            Err(fault) => Err(Refusal::Stamp(fault)),
+        },
         Verb::Timespan => match read_span(text) {
             Ok(span) => Ok(Accepted::Timespan(span)),
             Err(fault) => Err(Refusal::Span(fault)),
@@ -84,27 +96,39 @@ pub fn read_text<'a>(
     }
 }
 
+/// The moment that a text means at the present, in the local zone.
+#[tactic(auto, unfolding(crate::specs::TimestampReport::stamp_in))]
+fn read_moment(context: Context<'_>, text: &str) -> Result<Moment, StampFault>
+    ensures { told result ≡ stamp_in (asked_by context.entry) text.now }
+{
+    read_stamp(text, context.now, context.local, context.table)
+}
+
 /// Reads a calendar expression whose zone, if it names one, is there.
-#[tactic(auto, unfolding(crate::specs::CalendarReport::calendar_answer))]
+#[tactic(auto, using(crate::proofs::TimelyLemmas::elapses_are_instants), unfolding(crate::specs::CalendarReport::calendar_answer, crate::specs::CalendarReport::calendar_report))]
 fn read_calendar<'a>(
     alloc: Global,
     context: Context<'a>,
     text: &str,
 ) -> Result<Accepted<'a>, Refusal>
-    ensures accepted { IfOk result (λ accepted. calendar_answer (asked_by context.entry) context.entry.now.secs text.now
+    ensures accepted { IfOk result (λ accepted. calendar_answer (asked_by context.entry) context.entry.base.secs text.now
         ≡ Ok (report_text (asked_by context.entry) text.now accepted)) }
-    ensures verb { IfOk result (λ accepted. verb_of accepted ≡ Verb.Calendar) }
     ensures refused { IfErr result (λ refusal. (refusal ≡ NoMemory → ⊥)
-        → calendar_answer (asked_by context.entry) context.entry.now.secs text.now ≡ Err (refusal_words refusal)) }
+        → calendar_answer (asked_by context.entry) context.entry.base.secs text.now ≡ Err (refusal_words refusal)) }
+    ensures verb { IfOk result (λ accepted. verb_of accepted ≡ Verb.Calendar) }
+    ensures timely { IfOk result IsTimely }
 {
     let expr = match read_expr(alloc, text) {
         Ok(expr) => expr,
         Err(SpecFault::NoMemory) => return Err(Refusal::NoMemory),
         Err(fault) => return Err(Refusal::Spec(fault)),
     };
-    match zone_for(context, &expr) {
-        Some(zone) => Ok(Accepted::Calendar(expr, zone)),
-        None => Err(Refusal::NoSuchZone),
+    let Some(zone) = zone_for(context, &expr) else {
+        return Err(Refusal::NoSuchZone);
+    };
+    match Elapses::new(alloc, &expr, zone, context.base) {
+        Ok(elapses) => Ok(Accepted::Calendar(expr, elapses)),
+        Err(AllocError) => Err(Refusal::NoMemory),
     }
 }
 
@@ -120,66 +144,48 @@ fn zone_for<'a>(context: Context<'a>, expr: &Expr) -> Option<Zone<'a>>
 }
 
 /// Writes the report of what was read from the text, in its place among the others.
-pub fn write_report<W: Sink>(
-    alloc: Global,
+#[tactic(auto, using(cal_base::proofs::Pieces::first_fails, cal_base::proofs::Pieces::second_ends))]
+pub fn put_report<W: Sink>(
     out: &mut W,
     is_later: bool,
     context: Context<'_>,
     text: &str,
-    accepted: &Accepted<'_>,
+    accepted: Accepted<'_>,
 ) -> Result<(), ReportFault>
     requires iterations { IsCount context.request.now.iterations }
+    requires timely { IsTimely accepted }
     requires out { W.is_failed out.old ≡ false }
     ensures failed { W.is_failed out.new ≡ is_failed_in result }
     ensures bytes { Writes (W.written out.old) (W.written out.new) result
-        (joined (lead_text is_later ∷ report_text (asked_by context.entry) text.now accepted.now ∷ [])) }
-    ensures memory { takes_memory (verb_of accepted.now) ≡ false → IsErrOf result ReportFault.NoMemory → ⊥ }
+        (joined (lead_text is_later ∷ report_text (asked_by context.entry) text.now accepted.entry ∷ [])) }
+    ensures memory { seeks_elapses (verb_of accepted.entry) ≡ false → IsErrOf result ReportFault.NoMemory → ⊥ }
+{
+    put_lead(out, is_later)?;
+    write_report(out, context, text, accepted)
+}
+
+/// Writes the report of what was read from the text.
+pub fn write_report<W: Sink>(
+    out: &mut W,
+    context: Context<'_>,
+    text: &str,
+    accepted: Accepted<'_>,
+) -> Result<(), ReportFault>
+    requires iterations { IsCount context.request.now.iterations }
+    requires timely { IsTimely accepted }
+    requires out { W.is_failed out.old ≡ false }
+    ensures failed { W.is_failed out.new ≡ is_failed_in result }
+    ensures bytes { Writes (W.written out.old) (W.written out.new) result
+        (report_text (asked_by context.entry) text.now accepted.entry) }
+    ensures memory { seeks_elapses (verb_of accepted.entry) ≡ false → IsErrOf result ReportFault.NoMemory → ⊥ }
 {
     match accepted {
-        Accepted::Calendar(expr, zone) => {
-            write_elapses(alloc, out, is_later, context, text, expr, *zone)
+        Accepted::Calendar(expr, mut elapses) => {
+            write_calendar(out, context, text, &expr, &mut elapses)
         }
-        Accepted::Timespan(span) => Ok(write_span_report(out, is_later, text, *span)?),
+        Accepted::Timestamp(moment) => Ok(write_timestamp(out, context, text, moment)?),
+        Accepted::Timespan(span) => Ok(write_timespan(out, text, span)?),
     }
-}
-
-/// Writes the report of an expression in a zone. Memory is taken before the first byte, and for each elapse.
-#[tactic(auto, using(cal_base::proofs::Pieces::first_fails, cal_base::proofs::Pieces::second_ends, crate::proofs::TimelyLemmas::elapses_are_instants), unfolding(crate::specs::CalendarReport::calendar_report))]
-fn write_elapses<W: Sink>(
-    alloc: Global,
-    out: &mut W,
-    is_later: bool,
-    context: Context<'_>,
-    text: &str,
-    expr: &Expr,
-    zone: Zone<'_>,
-) -> Result<(), ReportFault>
-    requires iterations { IsCount context.request.now.iterations }
-    requires out { W.is_failed out.old ≡ false }
-    ensures failed { W.is_failed out.new ≡ is_failed_in result }
-    ensures bytes { Writes (W.written out.old) (W.written out.new) result (joined (lead_text is_later
-        ∷ calendar_report (asked_by context.entry) context.entry.now.secs text.now expr.now (zone_of zone.entry) ∷ [])) }
-{
-    let mut elapses = Elapses::new(alloc, expr, zone, context.now)?;
-    put_lead(out, is_later)?;
-    write_calendar(out, context, text, expr, &mut elapses)
-}
-
-/// Writes the report of a time span.
-#[tactic(auto, using(cal_base::proofs::Pieces::first_fails, cal_base::proofs::Pieces::second_ends))]
-fn write_span_report<W: Sink>(
-    out: &mut W,
-    is_later: bool,
-    text: &str,
-    span: Span,
-) -> Result<(), WriteFault>
-    requires { W.is_failed out.old ≡ false }
-    ensures failed { W.is_failed out.new ≡ is_err result }
-    ensures bytes { Writes (W.written out.old) (W.written out.new) result
-        (joined (lead_text is_later ∷ timespan_report text.now span.micros ∷ [])) }
-{
-    put_lead(out, is_later)?;
-    write_timespan(out, text, span)
 }
 
 /// Writes the empty line that parts a report from the one before it.

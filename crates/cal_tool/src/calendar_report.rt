@@ -3,7 +3,7 @@
 
 ghost use Rattle.std.specs.Prelude.{◌≡◌, [], ◌∷◌, false, is_err};
 ghost use Rattle.cal_base.specs.Bytes.{Writes};
-ghost use Rattle.cal_tool.specs.CalendarReport.{report_of_elapses, heading_text, original_line, normal_line};
+ghost use Rattle.cal_tool.specs.CalendarReport.{report_of_elapses, heading_text, normal_line};
 ghost use Rattle.cal_tool.specs.Context.{asked_by};
 ghost use Rattle.cal_tool.specs.ElapseLines.{AreInstants};
 ghost use Rattle.cal_tool.specs.ReportFault.{is_failed_in};
@@ -12,7 +12,8 @@ ghost use Rattle.cal_tool.specs.Request.{IsCount};
 use crate::context::Context;
 use crate::elapse_lines::put_elapses;
 use crate::report_fault::ReportFault;
-use cal_base::{Sink, WriteFault, put_all, put_pieces};
+use crate::report_lines::put_original;
+use cal_base::{Sink, WriteFault, put_all};
 use cal_elapse::Rising;
 use cal_spec::{Expr, write_expr};
 
@@ -53,23 +54,6 @@ pub fn put_heading<W: Sink>(out: &mut W, text: &str, expr: &Expr) -> Result<(), 
 {
     put_original(out, text)?;
     put_normal(out, expr)
-}
-
-/// Writes the line of the text as it was handed in, and the next label.
-#[tactic(auto, unfolding(crate::specs::CalendarReport::original_line))]
-fn put_original<W: Sink>(out: &mut W, text: &str) -> Result<(), WriteFault>
-    requires { W.is_failed out.old ≡ false }
-    ensures failed { W.is_failed out.new ≡ is_err result }
-    ensures bytes { Writes (W.written out.old) (W.written out.new) result (original_line text.now) }
-{
-    put_pieces(
-        out,
-        &[
-            b"  Original form: ",
-            text.as_bytes(),
-            b"\nNormalized form: ",
-        ],
-    )
 }
 
 /// Writes the rest of the line of the normal form.

@@ -10,6 +10,8 @@ pub struct Context<'a> {
     pub request: &'a Request,
     /// The present instant.
     pub now: Instant,
+    /// The instant after which elapses are sought.
+    pub base: Instant,
     /// The local zone: in it instants are printed, and expressions are meant that name no zone.
     pub local: Zone<'a>,
     /// The zones that have a name.

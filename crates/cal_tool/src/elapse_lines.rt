@@ -7,8 +7,8 @@ ghost use Rattle.cal_tool.specs.ElapseLines.{AreInstants, label_text, elapse_tex
 ghost use Rattle.cal_tool.specs.Request.{IsCount};
 ghost use Rattle.cal_tool.specs.ReportFault.{is_failed_in};
 
-use crate::instant_lines::{first_moment, format_distance, format_utc_line};
 use crate::report_fault::ReportFault;
+use crate::report_lines::{first_moment, format_distance, format_utc_line};
 use cal_base::{
     Fill, Instant, ShortText, Sink, WriteFault, Zone, format_instant, in_a_row, padding, put_all,
     put_pieces,

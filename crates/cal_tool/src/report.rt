@@ -3,18 +3,20 @@
 
 ghost use Rattle.std.specs.Prelude.{◌≡◌, [], ◌∷◌, None, false, is_err, codes, IfOk, IsErrOf};
 ghost use Rattle.cal_base.specs.Bytes.{Writes, joined};
-ghost use Rattle.cal_tool.specs.Answer.{refusal_in, later_text, status_in, reports_text, refusals_text, whole_status};
+ghost use Rattle.cal_tool.specs.Answer.{refusal_in, refusal_line, later_text, status_in, reports_text, refusals_text, whole_status};
 ghost use Rattle.cal_tool.specs.Context.{asked_by};
-ghost use Rattle.cal_tool.specs.Report.{answer_to, report};
-ghost use Rattle.cal_tool.specs.Request.{IsCount, asked, takes_memory};
+ghost use Rattle.cal_tool.specs.Report.{answer_to, base_in, report, secs_told};
+ghost use Rattle.cal_tool.specs.Request.{IsCount, asked, seeks_elapses};
 ghost use Rattle.cal_tool.specs.RunFault.{is_out_failed, is_err_failed};
 ghost use Rattle.cal_tool.specs.declared.request.RunFault.TheVariants.{NoMemory};
+ghost use Rattle.cal_tool.specs.declared.request.Status.TheVariants.{Refused};
 
-use crate::accepted::{Refusal, read_text, write_report};
+use crate::accepted::{Refusal, put_report, read_text};
 use crate::context::Context;
 use crate::report_fault::ReportFault;
 use crate::request::{Request, RunFault, Status};
 use cal_base::{Instant, Sink, Source, WriteFault, Zone, ZoneTable, put_pieces};
+use cal_read::{StampFault, read_stamp};
 use std::alloc::Global;
 
 /// Answers a request: each accepted text gets a report on `out`, each refused one a line on `err`.
@@ -38,7 +40,7 @@ pub fn run<R: Source, O: Sink, E: Sink>(
     err: &mut E,
 ) -> Result<Status, RunFault>
     requires iterations { IsCount request.now.iterations }
-    requires base { request.now.base ≡ None }
+    requires base { seeks_elapses request.now.verb ≡ false → request.now.base ≡ None }
     requires input { R.is_failed input.old ≡ false }
     requires out { O.is_failed out.old ≡ false }
     requires err { E.is_failed err.old ≡ false }
@@ -49,16 +51,38 @@ pub fn run<R: Source, O: Sink, E: Sink>(
         (report (asked request.now now.secs local.entry table.now)).err }
     ensures out_failed { O.is_failed out.new ≡ is_out_failed result }
     ensures err_failed { E.is_failed err.new ≡ is_err_failed result }
-    ensures memory { takes_memory request.now.verb ≡ false → IsErrOf result NoMemory → ⊥ }
+    ensures memory { seeks_elapses request.now.verb ≡ false → IsErrOf result NoMemory → ⊥ }
     ensures input { input.new ≡ input.old }
 {
+    let base = match read_base(request, now, local, table) {
+        Ok(base) => base,
+        Err(fault) => return refuse(err, "--base-time", fault.words()),
+    };
     let context = Context {
         request,
         now,
+        base,
         local,
         table,
     };
     answer_all(alloc, context, out, err)
+}
+
+/// The instant after which elapses are sought: that of the moment that the base means, or the present.
+#[tactic(auto, unfolding(crate::specs::Report::base_in, crate::specs::TimestampReport::stamp_in))]
+fn read_base(
+    request: &Request,
+    now: Instant,
+    local: Zone<'_>,
+    table: &ZoneTable,
+) -> Result<Instant, StampFault>
+    ensures { secs_told result ≡ base_in (asked request.now now.secs local.entry table.now) }
+{
+    let Some(text) = &request.base else {
+        return Ok(now);
+    };
+    let moment = read_stamp(text.as_str(), now, local, table)?;
+    Ok(moment.instant())
 }
 
 /// Answers the texts in order.
@@ -72,14 +96,14 @@ fn answer_all<O: Sink, E: Sink>(
     requires out { O.is_failed out.old ≡ false }
     requires err { E.is_failed err.old ≡ false }
     ensures status { let asked = asked_by context.entry in
-        IfOk result (λ status. status ≡ whole_status (answer_to asked) asked.texts) }
+        IfOk result (λ status. status ≡ whole_status (answer_to asked context.entry.base.secs) asked.texts) }
     ensures out { let asked = asked_by context.entry in
-        Writes (O.written out.old) (O.written out.new) result (reports_text (answer_to asked) asked.texts) }
+        Writes (O.written out.old) (O.written out.new) result (reports_text (answer_to asked context.entry.base.secs) asked.texts) }
     ensures err { let asked = asked_by context.entry in
-        Writes (E.written err.old) (E.written err.new) result (refusals_text (answer_to asked) asked.texts) }
+        Writes (E.written err.old) (E.written err.new) result (refusals_text (answer_to asked context.entry.base.secs) asked.texts) }
     ensures out_failed { O.is_failed out.new ≡ is_out_failed result }
     ensures err_failed { E.is_failed err.new ≡ is_err_failed result }
-    ensures memory { takes_memory context.entry.request.now.verb ≡ false → IsErrOf result NoMemory → ⊥ }
+    ensures memory { seeks_elapses context.entry.request.now.verb ≡ false → IsErrOf result NoMemory → ⊥ }
 {
     let mut status = Status::Fine;
     let mut is_later = false;
@@ -106,26 +130,38 @@ fn answer_one<O: Sink, E: Sink>(
     requires iterations { IsCount context.request.now.iterations }
     requires out { O.is_failed out.old ≡ false }
     requires err { E.is_failed err.old ≡ false }
-    ensures status { IfOk result (λ status. status ≡ status_in (answer_to (asked_by context.entry) text.now)) }
+    ensures status { IfOk result (λ status. status ≡ status_in (answer_to (asked_by context.entry) context.entry.base.secs text.now)) }
     ensures out { Writes (O.written out.old) (O.written out.new) result
-        (later_text is_later (answer_to (asked_by context.entry) text.now)) }
+        (later_text is_later (answer_to (asked_by context.entry) context.entry.base.secs text.now)) }
     ensures err { Writes (E.written err.old) (E.written err.new) result
-        (refusal_in text.now (answer_to (asked_by context.entry) text.now)) }
+        (refusal_in text.now (answer_to (asked_by context.entry) context.entry.base.secs text.now)) }
     ensures out_failed { O.is_failed out.new ≡ is_out_failed result }
     ensures err_failed { E.is_failed err.new ≡ is_err_failed result }
-    ensures memory { takes_memory context.entry.request.now.verb ≡ false → IsErrOf result NoMemory → ⊥ }
+    ensures memory { seeks_elapses context.entry.request.now.verb ≡ false → IsErrOf result NoMemory → ⊥ }
 {
     match read_text(alloc, context, text) {
-        Ok(accepted) => match write_report(alloc, out, is_later, context, text, &accepted) {
+        Ok(accepted) => match put_report(out, is_later, context, text, accepted) {
             Ok(()) => Ok(Status::Fine),
             Err(ReportFault::Failed) => Err(RunFault::OutFailed),
             Err(ReportFault::NoMemory) => Err(RunFault::NoMemory),
         },
         Err(Refusal::NoMemory) => Err(RunFault::NoMemory),
-        Err(refusal) => match put_refusal(err, text, refusal.words()) {
-            Ok(()) => Ok(Status::Refused),
-            Err(WriteFault::Failed) => Err(RunFault::ErrFailed),
-        },
+        Err(refusal) => refuse(err, text, refusal.words()),
+    }
+}
+
+/// Tells that a text is refused.
+fn refuse<E: Sink>(err: &mut E, text: &str, words: &str) -> Result<Status, RunFault>
+    requires { E.is_failed err.old ≡ false }
+    ensures status { IfOk result (λ status. status ≡ Refused) }
+    ensures err { Writes (E.written err.old) (E.written err.new) result (refusal_line text.now words.now) }
+    ensures err_failed { E.is_failed err.new ≡ is_err_failed result }
+    ensures out_failed { is_out_failed result ≡ false }
+    ensures memory { IsErrOf result NoMemory → ⊥ }
+{
+    match put_refusal(err, text, words) {
+        Ok(()) => Ok(Status::Refused),
+        Err(WriteFault::Failed) => Err(RunFault::ErrFailed),
     }
 }
 
@@ -134,7 +170,7 @@ fn put_refusal<W: Sink>(err: &mut W, text: &str, words: &str) -> Result<(), Writ
     requires { W.is_failed err.old ≡ false }
     ensures failed { W.is_failed err.new ≡ is_err result }
     ensures bytes { Writes (W.written err.old) (W.written err.new) result
-        (joined (text.now ∷ codes ": " ∷ words.now ∷ codes "\n" ∷ [])) }
+        (refusal_line text.now words.now) }
 {
     put_pieces(err, &[text.as_bytes(), b": ", words.as_bytes(), b"\n"])
 }

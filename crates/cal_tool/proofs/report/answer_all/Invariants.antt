@@ -11,7 +11,7 @@ use Rattle.cal_tool.proofs.report.answer_all.Given as goal
 
 abbrev pub invariant-loop-text : goal.invariant-loop-text
 invariant-loop-text g l =
-    let answer = answer_to (asked_by l.context) in
+    let answer = answer_to (asked_by l.context) l.context.base.secs in
     let all = map string_bytes l.context.request.now.texts.items in
     let rest = map string_bytes (drop l.text-index l.context.request.now.texts.items) in
     record {

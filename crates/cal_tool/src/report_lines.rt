@@ -1,12 +1,33 @@
-//! What every report says of an instant beside its line (systemd-analyze(1), calendar and timestamp).
+//! Lines of the reports (systemd-analyze(1), calendar and timestamp).
 
-ghost use Rattle.std.specs.Prelude.{◌≡◌, ◌≤◌, ◌-ℤ◌, length, unsigned_abs};
-ghost use Rattle.cal_tool.specs.InstantLines.{direction_text, distance_text, micros_of, utc_line};
+ghost use Rattle.std.specs.Prelude.{◌≡◌, ◌≤◌, ◌-ℤ◌, false, is_err, length, unsigned_abs};
+ghost use Rattle.cal_base.specs.Bytes.{Writes};
+ghost use Rattle.cal_tool.specs.ReportLines.{direction_text, distance_text, micros_of, original_line, utc_line};
 
-use cal_base::{Instant, Moment, ShortText, Span, Zone, format_instant, format_span, in_a_row};
+use cal_base::{
+    Instant, Moment, ShortText, Sink, Span, WriteFault, Zone, format_instant, format_span,
+    in_a_row, put_pieces,
+};
+
+/// Writes the line of the text as it was handed in, and the next label.
+#[tactic(auto, unfolding(crate::specs::ReportLines::original_line))]
+pub fn put_original<W: Sink>(out: &mut W, text: &str) -> Result<(), WriteFault>
+    requires { W.is_failed out.old ≡ false }
+    ensures failed { W.is_failed out.new ≡ is_err result }
+    ensures bytes { Writes (W.written out.old) (W.written out.new) result (original_line text.now) }
+{
+    put_pieces(
+        out,
+        &[
+            b"  Original form: ",
+            text.as_bytes(),
+            b"\nNormalized form: ",
+        ],
+    )
+}
 
 /// The line of the instant in UTC; empty where the local zone is UTC itself.
-#[tactic(auto, unfolding(crate::specs::InstantLines::utc_line))]
+#[tactic(auto, unfolding(crate::specs::ReportLines::utc_line))]
 pub fn format_utc_line(local: Zone<'_>, instant: Instant) -> ShortText
     ensures { result.items ≡ utc_line local.entry instant.secs }
 {
@@ -18,7 +39,7 @@ pub fn format_utc_line(local: Zone<'_>, instant: Instant) -> ShortText
 }
 
 /// The span between the present and a moment, and which of the two is later.
-#[tactic(auto, unfolding(crate::specs::InstantLines::distance_text))]
+#[tactic(auto, unfolding(crate::specs::ReportLines::distance_text))]
 pub fn format_distance(now: Instant, moment: Moment) -> ShortText
     ensures { result.items ≡ distance_text (micros_of now.secs) moment.micros }
 {

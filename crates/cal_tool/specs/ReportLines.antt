@@ -1,11 +1,15 @@
--- What every report says of an instant beside its line: the same instant in UTC, and how far it lies from the present
--- (systemd-analyze(1), calendar and timestamp).
+-- Lines of the reports (systemd-analyze(1), calendar and timestamp): the text as it was handed in, an instant in UTC, and
+-- how far it lies from the present.
 use Rattle.std.specs.Prelude.{ℕ, ℤ, pos, ◌-ℤ◌, ◌*ℤ◌, int_lt, unsigned_abs, List, [], ◌∷◌, if◌then◌else◌, codes}
 use Rattle.cal_base.specs.Bytes.{joined}
 use Rattle.cal_base.specs.InstantText.{instant_text}
 use Rattle.cal_base.specs.SpanText.{span_text}
 use Rattle.cal_base.specs.Zone.{is_utc, utc}
 use Rattle.cal_base.specs.declared.zone.Zone.{Zone}
+
+-- the line of a text as it was handed in, and the label of the next
+unfoldable pub original_line : List ℕ → List ℕ
+original_line text = joined (codes "  Original form: " ∷ text ∷ codes "\nNormalized form: " ∷ [])
 
 -- the microseconds of an instant
 abbrev pub micros_of : ℤ → ℤ
