@@ -1,2 +1,3 @@
 pub mod StampLemmas
+pub mod StampRule
 pub mod StampText
