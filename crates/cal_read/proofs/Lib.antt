@@ -1,3 +1,4 @@
+mod StampRows
 pub mod StampLemmas
 pub mod StampRule
 pub mod StampText
