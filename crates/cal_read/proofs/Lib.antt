@@ -1,4 +1,5 @@
 mod StampRows
+pub mod StampCivilRule
 pub mod StampLemmas
 pub mod StampRule
 pub mod StampText

@@ -1,4 +1,5 @@
 pub mod Stamp
+pub mod StampCivilRule
 pub mod StampDate
 pub mod StampDateViews
 pub mod StampFault

@@ -1,6 +1,9 @@
-//! That the form of a text is the one that the rule gives.
+//! That texts are read by the rule in its own words. Each law is a function that does nothing, and whose contract is the
+//! law.
 
-ghost use Rattle.std.specs.Prelude.{◌≡◌, ℕ, List};
+ghost use Rattle.std.specs.Prelude.{◌≡◌, ℕ, List, Ok};
+ghost use Rattle.cal_read.specs.Stamp.{Setting, Written, civil_time};
+ghost use Rattle.cal_read.specs.StampCivilRule.{IsCivilTime};
 ghost use Rattle.cal_read.specs.StampForm.{Form, form_of};
 ghost use Rattle.cal_read.specs.StampRule.{HasForm};
 
@@ -9,4 +12,13 @@ ghost use Rattle.cal_read.specs.StampRule.{HasForm};
 pub fn one_form()
     ensures found { (text : List ℕ) → HasForm text (form_of text) }
     ensures only { (text : List ℕ) (form : Form) → HasForm text form → form ≡ form_of text }
+{}
+
+/// Words are a civil time exactly where they are `[weekday] [date] [time] [zone]` with a date or a time (systemd.time(7),
+/// Parsing Timestamps), and it is the one by which `read_stamp` reads them.
+pub fn one_civil_time()
+    ensures found { (at : Setting) (ws : List (List ℕ)) (c : Written)
+        → civil_time at ws ≡ Ok c → IsCivilTime at ws c }
+    ensures only { (at : Setting) (ws : List (List ℕ)) (c : Written)
+        → IsCivilTime at ws c → civil_time at ws ≡ Ok c }
 {}
