@@ -1,6 +1,6 @@
 -- The rule of a civil time in its own words: systemd.time(7), Parsing Timestamps. The law `one_civil_time` ties it to
 -- what `Stamp` computes.
-use Rattle.std.specs.Prelude.{ℕ, ◌≡◌, ◌||◌, true, ℤ, List, ◌++◌, Option, None, Some, is_some, Ok}
+use Rattle.std.specs.Prelude.{ℕ, ◌≡◌, ◌⊎◌, ◌||◌, true, ℤ, List, [], ◌∷◌, ◌++◌, Option, None, Some, is_some, Ok, Err}
 use Rattle.std.specs.Option.{option_to_list}
 use Rattle.jiff.specs.Types.{TimeZone, Weekday}
 use Rattle.cal_base.specs.ZoneName.{begins_with_letter}
@@ -8,6 +8,7 @@ use Rattle.cal_spec.specs.Weekdays.{day_named}
 use Rattle.cal_read.specs.Stamp.{Setting, Written}
 use Rattle.cal_read.specs.StampDate.{day_written}
 use Rattle.cal_read.specs.StampTime.{time_written}
+use Rattle.cal_read.specs.declared.stamp_fault.StampFault.TheVariants.{NoSuchDate}
 
 -- no word, or a weekday's name
 abbrev pub NamesWeekday : Option (List ℕ) → Option Weekday → Type 0
@@ -42,3 +43,8 @@ pub record IsCivilTime (at : Setting) (words : List (List ℕ)) (c : Written) : 
   pub has_date : WritesDate date c.day
   pub has_time : WritesTime time c.micros
   pub has_zone : NamesZone at zone c.zone
+
+-- one of the words is a date that there isn't
+abbrev pub HasNoSuchDate : List (List ℕ) → Type 0
+HasNoSuchDate [] = ⊥
+HasNoSuchDate (w ∷ ws) = (day_written w ≡ Err NoSuchDate) ⊎ HasNoSuchDate ws
