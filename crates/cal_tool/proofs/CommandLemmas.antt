@@ -1,4 +1,6 @@
 -- The words of the command line, read one at a time.
+use Rattle.std.specs.FinMap.{empty}
+use Rattle.cal_base.specs.Zone.{utc}
 use Rattle.std.proofs.Common.{◌≡◌, ◌≢◌, ℕ, ◌+◌, ◌<◌, ◌≤◌, ◌^◌, ◌||◌, List, [], ◌∷◌, length, map, take, drop, Option, None, Some, Result, Ok, Err, Bool, true, false, cond, nat_le, ◌==◌, ◌&&◌, get_or, refl, ap, sym, ◌∙◌, arith, codes, Bor, take_while, ◌++◌, option_to_list, length-append, option_map, option_and_then, option_copied, pos, MatchOption, ℤ, IsSome, IfSome, ◌↔◌, is_some, append-nil}
 use Rattle.std.specs.List.{prefix_len, filter_map, list_any, list_all}
 use Rattle.std.specs.Str.{all_ascii_digits, bytes_eq}
@@ -208,7 +210,7 @@ prefix_len-map p h (x ∷ xs) = ap (λ n. cond (p (h x)) (1 + n) 0) (prefix_len-
 pub calendar_in-split : (words leading behind : List (Bor (List ℕ))) (n : ℕ) → n ≡ length (take_while (λ word. is_option word.now) words)
     → leading ≡ take n words → behind ≡ drop n words
     → calendar_in (texts_of words) ≡ option_and_then (λ settings.
-    option_map (λ texts. record { verb = Calendar; texts = texts; iterations = settings.iterations; base = None; now = settings.now })
+    option_map (λ texts. record { verb = Calendar; texts = texts; iterations = settings.iterations; base = None; now = settings.now; local = utc; zones = empty })
     (texts_in (texts_of behind)))
     (settings_in (texts_of leading))
 unfolding calendar_in

@@ -1,6 +1,8 @@
 -- The definitions, tried on worked local seconds and on a whole request.
 use Rattle.jiff.specs.Types.{UTC}
-use Rattle.std.proofs.Common.{◌≡◌, ℕ, ◌<◌, [], ◌∷◌, ◌++◌, None, Some, codes, pos, ◌∙◌, ap, sym, inl, true, false, refl, rules, arith}
+use Rattle.std.specs.FinMap.{empty}
+use Rattle.cal_base.specs.Zone.{utc}
+use Rattle.std.proofs.Common.{nat_lt, ◌≡◌, ℕ, ◌<◌, [], ◌∷◌, ◌++◌, None, Some, codes, pos, ◌∙◌, ap, sym, inl, true, false, refl, rules, arith}
 use Rattle.std.specs.Fmt.{digits}
 use Rattle.jiff.specs.Types.{Date}
 use Rattle.jiff.specs.Words.{epoch_day, weekday_of}
@@ -9,7 +11,7 @@ use Rattle.jiff_core.proofs.MarchLemmas.{day_count-early}
 use Rattle.jiff.proofs.SpanFacts.{signed_arith}
 use Rattle.jiff_core.specs.Calendar.{weekday_number}
 use Rattle.cal_base.specs.Days.{date_of, date_of-epoch_day}
-use Rattle.cal_base.specs.Local.{civil_date, seconds_in_all-is}
+use Rattle.cal_base.specs.Local.{civil_date, seconds_in_all, seconds_in_all-is}
 use Rattle.cal_base.specs.Scale.{words_for, name_of}
 use Rattle.cal_base.specs.SpanText.{units_text, row_text}
 use Rattle.cal_base.specs.SpanValue.{words_in, pairs_in, is_number, unit_named, number_worth, worth_of, span_of}
@@ -24,8 +26,13 @@ use Rattle.cal_elapse.specs.Timed.{timed}
 use Rattle.cal_tool.specs.TimespanReport.{timespan_answer, timespan_report}
 use Rattle.cal_tool.specs.declared.request.Status.TheVariants.{Refused}
 use Rattle.cal_tool.specs.declared.request.Verb.TheVariants.{Timespan}
-use Rattle.cal_tool.proofs.SearchLemmas.{inside}
 use Rattle.cal_base.proofs.PlaceLemmas.{place_of-UTC}
+
+inside : (t : ℕ) → t < 7_258_118_400 → nat_lt t seconds_in_all ≡ true
+inside t h =
+    let count = seconds_in_all-is in
+    let below : t < seconds_in_all = omega arith in
+    grind arith
 
 -- `*-*-* 12:30:00`
 noon_thirty : Fields
@@ -112,7 +119,7 @@ noon_thirty-elapses_again = elapse_at 1_704_198_600 (omega arith) noon_thirty-ma
 -- A report with a refusal
 
 two_spans : Asked
-two_spans = record { verb = Timespan; texts = codes "1h" ∷ codes "5x" ∷ []; iterations = 1; base = None; now = pos 0 }
+two_spans = record { verb = Timespan; texts = codes "1h" ∷ codes "5x" ∷ []; iterations = 1; base = None; now = pos 0; local = utc; zones = empty }
 
 two_spans-out : (report two_spans).out ≡ codes "Original: 1h\n" ++ (codes "      " ++ (206 ∷ 188 ∷ codes "s: 3600000000\n   Human: 1h\n"))
 unfolding two_spans report reports_text timespan_answer timespan_report units_text row_text span_of pairs_in words_in worth_of is_number unit_named number_worth words_for name_of digits

@@ -4,6 +4,8 @@ use Rattle.std.specs.Borrow.{Bor}
 use Rattle.std.specs.List.{list_all, list_any, starts_with}
 use Rattle.std.specs.Str.{all_ascii_digits, bytes_eq}
 use Rattle.std.specs.Str.Parse.{digits_value}
+use Rattle.std.specs.FinMap.{empty}
+use Rattle.cal_base.specs.Zone.{utc}
 use Rattle.cal_base.specs.declared.instant.TheConstants.Instant.{LAST}
 use Rattle.cal_tool.specs.Request.{Asked, asked}
 use Rattle.cal_tool.specs.declared.request.TheConstants.{MOST_ITERATIONS}
@@ -98,14 +100,14 @@ texts_in (word ∷ words) =
 unfoldable pub calendar_in : List (List ℕ) → Option Asked
 calendar_in words =
     option_and_then (λ settings.
-    option_map (λ texts. record { verb = Calendar; texts = texts; iterations = settings.iterations; base = None; now = settings.now })
+    option_map (λ texts. record { verb = Calendar; texts = texts; iterations = settings.iterations; base = None; now = settings.now; local = utc; zones = empty })
     (texts_in (drop (length (take_while is_option words)) words)))
     (settings_in (take_while is_option words))
 
 -- Behind `timespan` stand texts alone.
 unfoldable pub timespan_in : List (List ℕ) → Option Asked
 timespan_in words =
-    option_map (λ texts. record { verb = Timespan; texts = texts; iterations = 1; base = None; now = pos 0 }) (texts_in words)
+    option_map (λ texts. record { verb = Timespan; texts = texts; iterations = 1; base = None; now = pos 0; local = utc; zones = empty }) (texts_in words)
 
 -- What the words after the program's name ask for.
 unfoldable pub asked_in : List (List ℕ) → Option Asked
@@ -114,6 +116,6 @@ asked_in (verb ∷ words) =
     if bytes_eq verb (codes "calendar") then calendar_in words
     else if bytes_eq verb (codes "timespan") then timespan_in words else None
 
--- What a command asks for.
+-- What a command asks for: in UTC, and with no other zone.
 abbrev pub asked_of : Command → Asked
-asked_of command = asked command.request command.now.secs
+asked_of command = asked command.request command.now.secs utc empty

@@ -2,7 +2,8 @@
 use Rattle.std.specs.Prelude.{ℕ, List}
 use Rattle.cal_tool.specs.Answer.{Answer, reports_text, refusals_text, whole_status}
 use Rattle.cal_tool.specs.CalendarReport.{calendar_answer}
-use Rattle.cal_tool.specs.Request.{Asked, asked}
+use Rattle.cal_tool.specs.Command.{asked_of}
+use Rattle.cal_tool.specs.Request.{Asked}
 use Rattle.cal_tool.specs.TimespanReport.{timespan_answer}
 use Rattle.cal_tool.specs.declared.command.Command.{Command}
 use Rattle.cal_tool.specs.declared.request.Status.{Status}
@@ -17,7 +18,7 @@ pub record Report : Type 0 where
 
 -- what a verb answers to one text; so far the base of the elapses is the present
 abbrev pub answer_by : Verb → Asked → List ℕ → Answer
-answer_by Calendar asked text = calendar_answer asked.now asked.now asked.iterations text
+answer_by Calendar asked text = calendar_answer asked asked.now text
 answer_by Timespan asked text = timespan_answer text
 
 -- what is answered to one text of a request
@@ -32,6 +33,6 @@ report asked = record {
   status = whole_status (answer_to asked) asked.texts;
 }
 
--- the report of what a command asks for, at its present
+-- the report of what a command asks for, at its present, in UTC and with no other zone
 abbrev pub report_for : Command → Report
-report_for command = report (asked command.request command.now.secs)
+report_for command = report (asked_of command)

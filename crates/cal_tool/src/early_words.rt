@@ -2,6 +2,8 @@
 
 ghost use Rattle.std.specs.Prelude.{◌≡◌, ◌<◌, ◌≤◌, codes, length, map, take_while, option_map, option_copied, MatchOption, None, Some, IfSome, IfOk, string_bytes, vec_len};
 ghost use Rattle.std.specs.List.{list_all, list_any};
+ghost use Rattle.std.specs.FinMap.{empty};
+ghost use Rattle.cal_base.specs.Zone.{utc};
 ghost use Rattle.cal_tool.specs.Request.{IsCount};
 ghost use Rattle.cal_tool.specs.Command.{texts_of, asked_in, asked_of, calendar_in, timespan_in, texts_in as texts_among, settings_in, is_dashed, is_option, is_option_of_calendar, values_in, value_in, IsGiven, iterations_in, now_in, count_in, present_in, number_in};
 
@@ -91,6 +93,8 @@ fn command(
       iterations = iterations;
       base = None;
       now = now.secs;
+      local = utc;
+      zones = empty;
     }) }
 {
     let request = Request {

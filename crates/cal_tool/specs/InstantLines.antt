@@ -1,0 +1,26 @@
+-- What every report says of an instant beside its line: the same instant in UTC, and how far it lies from the present
+-- (systemd-analyze(1), calendar and timestamp).
+use Rattle.std.specs.Prelude.{ℕ, ℤ, pos, ◌-ℤ◌, ◌*ℤ◌, int_lt, unsigned_abs, List, [], ◌∷◌, if◌then◌else◌, codes}
+use Rattle.cal_base.specs.Bytes.{joined}
+use Rattle.cal_base.specs.InstantText.{instant_text}
+use Rattle.cal_base.specs.SpanText.{span_text}
+use Rattle.cal_base.specs.Zone.{is_utc, utc}
+use Rattle.cal_base.specs.declared.zone.Zone.{Zone}
+
+-- the microseconds of an instant
+abbrev pub micros_of : ℤ → ℤ
+micros_of secs = secs *ℤ pos 1_000_000
+
+-- the line of the instant in UTC, which stands where the local zone isn't UTC itself
+unfoldable pub utc_line : Zone → ℤ → List ℕ
+utc_line local secs =
+    if is_utc local then []
+    else joined (codes "       (in UTC): " ∷ instant_text utc secs ∷ codes "\n" ∷ [])
+
+-- `left` where the moment isn't before the present, `ago` where it is
+abbrev pub direction_text : ℤ → ℤ → List ℕ
+direction_text now micros = if int_lt micros now then codes " ago" else codes " left"
+
+-- the span between the present and a moment, both in microseconds
+unfoldable pub distance_text : ℤ → ℤ → List ℕ
+distance_text now micros = joined (span_text (unsigned_abs (micros -ℤ now)) ∷ direction_text now micros ∷ [])
