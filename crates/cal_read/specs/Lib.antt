@@ -1,3 +1,6 @@
+pub mod Assignments
+pub mod LineView
+pub mod Lines
 pub mod Stamp
 pub mod StampCivilRule
 pub mod StampDate
@@ -7,3 +10,7 @@ pub mod StampForm
 pub mod StampRule
 pub mod StampTime
 pub mod StampViews
+pub mod TimerFault
+pub mod TimerRule
+pub mod TimerText
+pub mod TimerView
