@@ -1,2 +1,9 @@
+pub mod CountLemmas
 pub mod ElapsesLemmas
+pub mod InstantLemmas
+pub mod MasksLemmas
+pub mod PendingLemmas
+pub mod ReadyLemmas
 pub mod RisingLemmas
+pub mod SearchLemmas
+pub mod WindowLemmas

@@ -1,3 +1,9 @@
 pub mod Elapses
+pub mod Masks
+pub mod Near
+pub mod Rest
+pub mod Rises
 pub mod RisingList
+pub mod Search
 pub mod Timed
+pub mod Window

@@ -1,7 +1,18 @@
 //! The elapses of calendar expressions under every zone (systemd.time(7), Calendar Events).
 #![tactic(auto)]
 
+mod elapses;
 pub mod laws;
+mod masks;
+mod masks_of;
+mod pending;
 mod rising;
+mod search;
+mod searcher;
+mod window;
 
+pub use elapses::Elapses;
+pub use masks::Masks;
+pub use pending::Pending;
 pub use rising::Rising;
+pub use search::{Found, next_local};

@@ -8,6 +8,7 @@ mod stamp_civil;
 mod stamp_date;
 mod stamp_fault;
 mod stamp_form;
+pub mod stamp_laws;
 mod stamp_moment;
 mod stamp_text;
 mod stamp_time;
