@@ -1,3 +1,5 @@
 pub mod Elapses
+pub mod Listed
+pub mod Merge
 pub mod RisingList
 pub mod Timed
