@@ -1,2 +1,3 @@
 pub mod ElapsesLemmas
+pub mod MergeLemmas
 pub mod RisingLemmas

@@ -1,12 +1,8 @@
 -- Rising lists: two with the same members are equal, and a union has the members of its lists.
 use Rattle.std.proofs.Common.{◌≡◌, ◌⊎◌, ◌↔◌, ℕ, suc, true, false, List, [], ◌∷◌, take, inl, inr, None, Some, ℤ, ◌<ℤ◌, ◌≤ℤ◌, int_lt, refl, sym, ap, ◌∙◌, subst, arith}
 use Rattle.std.proofs.lemmas.Int.{by_lt_z, ints}
+pub use Rattle.cal_elapse.specs.Rises.{IsAbove-lower, IsRising-placed, IsRising-placed_all, IsRising-union}
 use Rattle.cal_elapse.specs.RisingList.{Has, HasAny, IsAbove, IsRising, IsUnion, first, later, placed, placed_all, union}
-
--- a number above a list's bound is above what is below the bound
-IsAbove-lower : (a b : ℤ) (xs : List ℤ) → a <ℤ b → IsAbove b xs → IsAbove a xs
-IsAbove-lower a b [] h k = tt
-IsAbove-lower a b (x ∷ xs) h k = (omega (arith, ints, k.0), IsAbove-lower a b xs h k.1)
 
 -- what is in a list above b is above b
 pub above_has : (b i : ℤ) (xs : List ℤ) → IsAbove b xs → Has xs i → b <ℤ i
@@ -82,24 +78,7 @@ Has-placed x (y ∷ ys) i =
     ))
     (λ e. rw (placed-same x y ys e) (λ m. inr m, λ m. elim m [ inl f ↦ inl (sym e ∙ f) | inr n ↦ n ]))
 
--- a list whose members are above b is above b
-above_all : (b : ℤ) (xs : List ℤ) → ((i : ℤ) → Has xs i → b <ℤ i) → IsAbove b xs
-above_all b [] h = tt
-above_all b (x ∷ xs) h = (h x (inl refl), above_all b xs (λ i m. h i (inr m)))
-
--- and keeps a list rising
-pub IsRising-placed : (x : ℤ) (ys : List ℤ) → IsRising ys → IsRising (placed x ys)
-IsRising-placed x [] h = (tt, tt)
-IsRising-placed x (y ∷ ys) h =
-    by_order x y
-    (λ lt. rw (placed-below x y ys lt) ((lt, IsAbove-lower x y ys lt h.0), h))
-    (λ gt. rw (placed-above x y ys gt) (
-      above_all y (placed x ys) (λ i m. elim ((Has-placed x ys i).0 m) [ inl e ↦ subst (λ (j : ℤ). y <ℤ j) e gt | inr k ↦ above_has y i ys h.0 k ]),
-      IsRising-placed x ys h.1,
-    ))
-    (λ e. rw (placed-same x y ys e) h)
-
--- the same for a list of numbers
+-- placing several adds them all
 pub Has-placed_all : (xs ys : List ℤ) (i : ℤ) → Has (placed_all xs ys) i ↔ (Has xs i ⊎ Has ys i)
 Has-placed_all [] ys i = (λ m. inr m, λ m. elim m [ inl n ↦ absurd n | inr n ↦ n ])
 Has-placed_all (x ∷ xs) ys i =
@@ -109,11 +88,7 @@ Has-placed_all (x ∷ xs) ys i =
       λ m. elim m [ inl n ↦ elim n [ inl e ↦ one.1 (inl e) | inr k ↦ one.1 (inr (rest.1 (inl k))) ] | inr k ↦ one.1 (inr (rest.1 (inr k))) ],
     )
 
-pub IsRising-placed_all : (xs ys : List ℤ) → IsRising ys → IsRising (placed_all xs ys)
-IsRising-placed_all [] ys h = h
-IsRising-placed_all (x ∷ xs) ys h = IsRising-placed x (placed_all xs ys) (IsRising-placed_all xs ys h)
-
--- the union has the members of the lists, and rises whatever they are
+-- the union has the members of the lists
 pub Has-union : (xss : List (List ℤ)) (i : ℤ) → Has (union xss) i ↔ HasAny xss i
 unfolding union
 Has-union [] i = (λ m. m, λ m. m)
@@ -123,11 +98,6 @@ Has-union (xs ∷ xss) i =
       λ m. elim (here.0 m) [ inl n ↦ inl n | inr n ↦ inr (rest.0 n) ],
       λ m. elim m [ inl n ↦ here.1 (inl n) | inr n ↦ here.1 (inr (rest.1 n)) ],
     )
-
-pub IsRising-union : (xss : List (List ℤ)) → IsRising (union xss)
-unfolding union
-IsRising-union [] = tt
-IsRising-union (xs ∷ xss) = IsRising-placed_all xs (union xss) (IsRising-union xss)
 
 pub IsUnion-union : (xss : List (List ℤ)) → IsUnion xss (union xss)
 IsUnion-union xss = record { rises = IsRising-union xss; members = Has-union xss }

@@ -1,5 +1,6 @@
 pub mod Elapses
 pub mod Listed
 pub mod Merge
+pub mod Rises
 pub mod RisingList
 pub mod Timed

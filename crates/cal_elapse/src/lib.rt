@@ -4,7 +4,9 @@
 mod branch;
 pub mod laws;
 mod listed;
+mod merge;
 mod rising;
 
 pub use listed::Listed;
+pub use merge::Merge;
 pub use rising::Rising;
