@@ -126,3 +126,6 @@ fn lesser(one: Option<i64>, other: Option<i64>) -> Option<i64>
         (None, found) | (found, None) => found,
     }
 }
+
+#[cfg(test)]
+mod tests;
