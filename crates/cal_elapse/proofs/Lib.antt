@@ -2,6 +2,7 @@ pub mod CountLemmas
 pub mod ElapsesLemmas
 pub mod InstantLemmas
 pub mod MasksLemmas
+pub mod MergeLemmas
 pub mod PendingLemmas
 pub mod ReadyLemmas
 pub mod RisingLemmas

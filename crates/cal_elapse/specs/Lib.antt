@@ -1,5 +1,7 @@
 pub mod Elapses
+pub mod Listed
 pub mod Masks
+pub mod Merge
 pub mod Near
 pub mod Rest
 pub mod Rises

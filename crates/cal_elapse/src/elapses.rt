@@ -63,3 +63,6 @@ impl Rising for Elapses<'_> {
 
     ghost rises = { IsRising-rest_of };
 }
+
+#[cfg(test)]
+mod tests;

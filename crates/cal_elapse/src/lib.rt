@@ -1,10 +1,13 @@
 //! The elapses of calendar expressions under every zone (systemd.time(7), Calendar Events).
 #![tactic(auto)]
 
+mod branch;
 mod elapses;
 pub mod laws;
+mod listed;
 mod masks;
 mod masks_of;
+mod merge;
 mod pending;
 mod rising;
 mod search;
@@ -12,7 +15,9 @@ mod searcher;
 mod window;
 
 pub use elapses::Elapses;
+pub use listed::Listed;
 pub use masks::Masks;
+pub use merge::Merge;
 pub use pending::Pending;
 pub use rising::Rising;
 pub use search::{Found, next_local};

@@ -62,3 +62,22 @@ impl Pending {
         self.set.pop_first()
     }
 }
+
+#[cfg(test)]
+mod tests {
+    use super::*;
+
+    #[test]
+    fn each_once_rising(rt: HostRuntime) -> Result<(), AllocError> {
+        let mut pending = Pending::new(rt.alloc())?;
+        assert_eq!(rt; pending.least(), None);
+        pending.put(100)?;
+        pending.put(50)?;
+        pending.put(100)?;
+        assert_eq!(rt; pending.least(), Some(50));
+        assert_eq!(rt; pending.take_least(), Some(50));
+        assert_eq!(rt; pending.take_least(), Some(100));
+        assert_eq!(rt; pending.take_least(), None);
+        Ok(())
+    }
+}

@@ -60,3 +60,26 @@ fn next_in_day(masks: &Masks, day: u64, from: u64) -> Option<u64>
     }
     None
 }
+
+#[cfg(test)]
+mod tests {
+    use super::*;
+    use cal_spec::read_expr;
+    use std::test::Fail;
+
+    #[test]
+    fn leap_days(rt: HostRuntime) -> Result<(), Fail> {
+        let Ok(expr) = read_expr(rt.alloc(), "*-2-29 0:0:0") else {
+            return Err("an expression is refused".into());
+        };
+        let masks = Masks::of(&expr);
+        assert_eq!(rt; next_local(&masks, 0).local, Some(68_169_600));
+        assert_eq!(rt; next_local(&masks, 68_169_601).local, Some(194_400_000));
+        assert_eq!(rt;
+            next_local(&masks, 3_981_398_400).local,
+            Some(4_233_686_400)
+        );
+        assert_eq!(rt; next_local(&masks, 7_258_118_400).local, None);
+        Ok(())
+    }
+}

@@ -1,0 +1,156 @@
+//! Several lists given as one.
+
+ghost use Rattle.std.specs.Prelude.{◌≡◌, ◌∷◌, [], false, IfOk};
+ghost use Rattle.cal_elapse.specs.RisingList.{IsRising};
+
+use super::*;
+use crate::Listed;
+use std::process::Abort;
+use std::test::Fail;
+
+/// The merge of one list.
+fn merge_one(alloc: Global, one: Vec<i64>) -> Result<Merge<Listed>, AllocError>
+    requires { IsRising one.items }
+    ensures { IfOk result (λ merge. merge ≡ record { started = false; lists = one.items ∷ [] }) }
+{
+    let mut merge = Merge::new(alloc);
+    match merge.add(Listed::new(one)) {
+        Ok(()) => Ok(merge),
+        Err((_, refused)) => Err(refused),
+    }
+}
+
+/// The merge of two lists.
+fn merge_two(alloc: Global, one: Vec<i64>, two: Vec<i64>) -> Result<Merge<Listed>, AllocError>
+    requires one { IsRising one.items }
+    requires two { IsRising two.items }
+    ensures { IfOk result (λ merge. merge ≡ record { started = false; lists = one.items ∷ two.items ∷ [] }) }
+{
+    let mut merge = merge_one(alloc, one)?;
+    match merge.add(Listed::new(two)) {
+        Ok(()) => Ok(merge),
+        Err((_, refused)) => Err(refused),
+    }
+}
+
+/// The source gives these numbers, and then nothing.
+fn expect_numbers<S: Rising>(rt: &impl Abort, source: &mut S, numbers: &[i64]) -> Result<(), Fail> {
+    for number in numbers {
+        assert_eq!(rt; source.next()?, Some(*number));
+    }
+    assert_eq!(rt; source.next()?, None);
+    assert_eq!(rt; source.next()?, None);
+    Ok(())
+}
+
+#[test]
+fn no_source(rt: HostRuntime) -> Result<(), Fail> {
+    let mut merge: Merge<Listed> = Merge::new(rt.alloc());
+    expect_numbers(&rt, &mut merge, &[])
+}
+
+#[test]
+fn one_list(rt: HostRuntime) -> Result<(), Fail> {
+    let alloc = rt.alloc();
+    let mut merge = merge_one(alloc, vec![in alloc; -3, 1, 9]?)?;
+    expect_numbers(&rt, &mut merge, &[-3, 1, 9])
+}
+
+#[test]
+fn greatest_number(rt: HostRuntime) -> Result<(), Fail> {
+    let alloc = rt.alloc();
+    let mut merge = merge_two(alloc, vec![in alloc; i64::MAX]?, vec![in alloc; 1]?)?;
+    expect_numbers(&rt, &mut merge, &[1, i64::MAX])
+}
+
+#[test]
+fn shared_number(rt: HostRuntime) -> Result<(), Fail> {
+    let alloc = rt.alloc();
+    let mut merge = merge_two(alloc, vec![in alloc; 1, 5, 9]?, vec![in alloc; 5, 7]?)?;
+    expect_numbers(&rt, &mut merge, &[1, 5, 7, 9])
+}
+
+#[test]
+fn three_equal_heads(rt: HostRuntime) -> Result<(), Fail> {
+    let alloc = rt.alloc();
+    let mut merge = merge_two(alloc, vec![in alloc; 2, 4]?, vec![in alloc; 2, 3, 4]?)?;
+    assert!(rt; merge.add(Listed::new(vec![in alloc; 2]?)).is_ok());
+    expect_numbers(&rt, &mut merge, &[2, 3, 4])
+}
+
+#[test]
+fn merge_of_merges(rt: HostRuntime) -> Result<(), Fail> {
+    let alloc = rt.alloc();
+    let mut merge = Merge::new(alloc);
+    let odd = merge_two(alloc, vec![in alloc; 1, 5]?, vec![in alloc; 3, 5]?)?;
+    assert!(rt; merge.add(odd).is_ok());
+    assert!(rt; merge.add(merge_one(alloc, vec![in alloc; 2, 3]?)?).is_ok());
+    assert!(rt; merge.add(Merge::new(alloc)).is_ok());
+    expect_numbers(&rt, &mut merge, &[1, 2, 3, 5])
+}
+
+/// A source that is refused memory so many times before it gives its numbers.
+#[derive(Drop)]
+struct Refused<S: Rising> {
+    times: u8,
+    source: S,
+}
+
+impl<S: Rising> Rising for Refused<S> {
+    ghost rest = { λ refused. S.rest refused.source };
+
+    fn next(&mut self) -> Result<Option<i64>, AllocError> {
+        if self.times > 0 {
+            self.times -= 1;
+            return Err(AllocError);
+        }
+        self.source.next()
+    }
+
+    ghost rises = { λ refused. S.rises refused.source };
+}
+
+/// No number is lost where a source is refused memory after another gave its first number.
+#[test]
+fn refused_fetches(rt: HostRuntime) -> Result<(), Fail> {
+    let alloc = rt.alloc();
+    let mut merge = Merge::new(alloc);
+    let at_once = Refused {
+        times: 0,
+        source: Listed::new(vec![in alloc; 1, 5]?),
+    };
+    let at_last = Refused {
+        times: 2,
+        source: Listed::new(vec![in alloc; 1, 3]?),
+    };
+    assert!(rt; merge.add(at_once).is_ok());
+    assert!(rt; merge.add(at_last).is_ok());
+    assert!(rt; merge.next().is_err());
+    assert!(rt; merge.next().is_err());
+    expect_numbers(&rt, &mut merge, &[1, 3, 5])
+}
+
+/// Whichever growth is refused, the merge has what it had and the source is handed back. (A run of the tests in which
+/// each allocation is refused in turn shows the refusals.)
+#[test]
+fn refused_growths(rt: HostRuntime) -> Result<(), Fail> {
+    let alloc = rt.alloc();
+    let mut merge = Merge::new(alloc);
+    let one = vec![in alloc; 1, 5]?;
+    let two = vec![in alloc; 5, 7]?;
+    let one_added = match merge.add(Listed::new(one)) {
+        Ok(()) => true,
+        Err((mut handed_back, _)) => {
+            expect_numbers(&rt, &mut handed_back, &[1, 5])?;
+            false
+        }
+    };
+    match merge.add(Listed::new(two)) {
+        Ok(()) if one_added => expect_numbers(&rt, &mut merge, &[1, 5, 7]),
+        Ok(()) => expect_numbers(&rt, &mut merge, &[5, 7]),
+        Err((mut handed_back, _)) => {
+            expect_numbers(&rt, &mut handed_back, &[5, 7])?;
+            expect_numbers(&rt, &mut merge, &[1, 5])
+        }
+    }
+}
