@@ -2,8 +2,9 @@
 
 ghost use Rattle.std.specs.Prelude.{◌≡◌, ◌<◌};
 ghost use Rattle.cal_elapse.specs.Masks.{sets_in, told};
-ghost use Rattle.cal_spec.specs.Match.{date_in, day_number, time_in};
+ghost use Rattle.cal_spec.specs.Match.{date_in, time_in};
 
+use cal_spec::day_number;
 use jiff::civil::Date;
 
 /// The first year of which there are local seconds.
@@ -56,16 +57,4 @@ fn told(table: &[bool], first: u16, value: u16) -> bool
             .get(usize::from(value - first))
             .copied()
             .unwrap_or(false)
-}
-
-/// The number that is tested for the day: the day itself, or its count from the month's end.
-fn day_number(from_end: bool, date: Date) -> u16
-    ensures { result ≡ day_number from_end date }
-{
-    let day = if from_end {
-        date.days_in_month() - date.day() + 1
-    } else {
-        date.day()
-    };
-    day.unsigned_abs().into()
 }
