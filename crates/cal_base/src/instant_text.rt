@@ -16,7 +16,8 @@ use jiff::civil::Weekday;
 /// `Thu 1970-01-01 00:53:28 +00:53:28`.
 #[tactic(auto, unfolding(crate::specs::InstantText::instant_text))]
 pub fn format_instant(zone: Zone, instant: Instant) -> ShortText
-    ensures { result.items ≡ instant_text zone.entry instant.secs }
+    ensures text { result.items ≡ instant_text zone.entry instant.secs }
+    ensures short { length result.items ≤ 100 }
 {
     let shown = civil(zone, instant);
     format_civil(&shown, format_zone(zone.is_utc(), shown.offset))
@@ -38,7 +39,8 @@ pub fn write_instant<W: Sink>(out: &mut W, zone: Zone, instant: Instant) -> Resu
 fn format_civil(shown: &Civil, word: ShortText) -> ShortText
     requires weekday { IsInRange 1 7 shown.now.weekday }
     requires word { length word.items ≤ 40 }
-    ensures { result.items ≡ civil_text shown.now word.items }
+    ensures text { result.items ≡ civil_text shown.now word.items }
+    ensures short { length result.items ≤ 100 }
 {
     let mut years = Buffer::new();
     let (mut months, mut days) = (Buffer::new(), Buffer::new());

@@ -1,3 +1,10 @@
+pub mod CountLemmas
 pub mod ElapsesLemmas
+pub mod InstantLemmas
+pub mod MasksLemmas
 pub mod MergeLemmas
+pub mod PendingLemmas
+pub mod ReadyLemmas
 pub mod RisingLemmas
+pub mod SearchLemmas
+pub mod WindowLemmas

@@ -1,6 +1,11 @@
 pub mod Elapses
 pub mod Listed
+pub mod Masks
 pub mod Merge
+pub mod Near
+pub mod Rest
 pub mod Rises
 pub mod RisingList
+pub mod Search
 pub mod Timed
+pub mod Window

@@ -1,9 +1,13 @@
 //! Laws of the definitions that the contracts cite. Each is a function that does nothing, and whose
 //! contract is the law.
 
-ghost use Rattle.std.specs.Prelude.{◌≡◌, ◌+◌, ◌++◌, ◌∷◌, [], ℕ, ℤ, List, Some, map, suc, take, drop, slice_get};
+ghost use Rattle.std.specs.Prelude.{◌≡◌, ◌+◌, ◌++◌, ◌∷◌, [], ℕ, ℤ, pos, ◌≤ℤ◌, List, Some, map, suc, take, drop, slice_get};
+ghost use Rattle.jiff.specs.Types.{TimeZone};
+ghost use Rattle.cal_base.specs.Instant.{IsInstant};
+ghost use Rattle.cal_spec.specs.Fields.{Fields};
 ghost use Rattle.cal_elapse.specs.Elapses.{Timed, AreElapses, elapses_after};
-ghost use Rattle.cal_elapse.specs.RisingList.{IsUnion, union};
+ghost use Rattle.cal_elapse.specs.RisingList.{first, Has, IsUnion, union};
+ghost use Rattle.cal_elapse.specs.Timed.{timed};
 
 /// The union of lists is one list: it rises, has exactly the numbers of the lists, and no other list does.
 pub fn union_is_one_list()
@@ -36,4 +40,12 @@ pub fn elapses_in_parts()
     ensures { (es : List Timed) (base e : ℤ) (k m : ℕ) → slice_get (elapses_after es base) k ≡ Some e
         → take (suc k) (elapses_after es base) ++ take m (elapses_after es e)
         ≡ take (suc k + m) (elapses_after es base) }
+{}
+
+/// Each elapse after a base of 0 or more is an instant, so that it can be a base.
+pub fn elapses_are_instants()
+    ensures each { (fields : Fields) (tz : TimeZone) (base elapse : ℤ) → pos 0 ≤ℤ base
+        → Has (elapses_after (timed fields tz ∷ []) base) elapse → IsInstant elapse }
+    ensures first { (fields : Fields) (tz : TimeZone) (base elapse : ℤ) → pos 0 ≤ℤ base
+        → first (elapses_after (timed fields tz ∷ []) base) ≡ Some elapse → IsInstant elapse }
 {}

@@ -2,11 +2,22 @@
 #![tactic(auto)]
 
 mod branch;
+mod elapses;
 pub mod laws;
 mod listed;
+mod masks;
+mod masks_of;
 mod merge;
+mod pending;
 mod rising;
+mod search;
+mod searcher;
+mod window;
 
+pub use elapses::Elapses;
 pub use listed::Listed;
+pub use masks::Masks;
 pub use merge::Merge;
+pub use pending::Pending;
 pub use rising::Rising;
+pub use search::{Found, next_local};

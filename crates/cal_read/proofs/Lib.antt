@@ -1,2 +1,13 @@
+pub mod GroupLemmas
+pub mod LineLemmas
+pub mod ListedLemmas
+pub mod ResumedLemmas
+pub mod StampCivilRule
+pub mod StampFaults
 pub mod StampLemmas
+mod StampRows
+pub mod StampRule
 pub mod StampText
+pub mod TimerLemmas
+pub mod TimerRows
+pub mod TimerRuleLemmas

@@ -42,26 +42,28 @@ word_boundary text u =
     ]
 
 -- the byte before the last that pass
-before_suffix : (p : ℕ → Bool) (text : List ℕ) → suffix_len p text < length text → p (get_or text (length text - suffix_len p text - 1) 0) ≡ false
+pub before_suffix : (p : ℕ → Bool) (text : List ℕ) → suffix_len p text < length text → p (get_or text (length text - suffix_len p text - 1) 0) ≡ false
 before_suffix p text within =
     let n = suffix_len p text in
     let there : n < length (reverse text) = omega (arith, length-reverse text) in
     let here : length text - 1 - n ≡ length text - n - 1 = omega arith in
     rw (← here, ← get_or-reverse text n 0 within) (prefix_len_stops p (reverse text) 0 there)
 
-first_of_suffix : (p : ℕ → Bool) (text : List ℕ) → 0 < suffix_len p text → p (get_or text (length text - suffix_len p text) 0) ≡ true
-first_of_suffix p text some =
-    let n = suffix_len p text in
-    let within : n - 1 < length text = omega (arith, suffix_len-le-length p text) in
-    let here : length text - 1 - (n - 1) ≡ length text - n = omega arith in
-    rw (← here, ← get_or-reverse text (n - 1) 0 within) (prefix_len_passes p (reverse text) (n - 1) 0 (omega arith))
+pub in_suffix : (p : ℕ → Bool) (text : List ℕ) (k d : ℕ) → length text - suffix_len p text ≤ k → k < length text → p (get_or text k d) ≡ true
+in_suffix p text k d from within =
+    let back = length text - 1 - k in
+    let there : back < suffix_len p text = omega arith in
+    let here : length text - 1 - back ≡ k = omega arith in
+    let seen = prefix_len_passes p (reverse text) back d there in
+    let reversed = get_or-reverse text back d (omega arith) in
+    rw (reversed, here) at seen
 
 pub end_boundary : (text : List ℕ) → IsUtf8 text → IsCharBoundary text (length text - suffix_len is_blank text)
 end_boundary text u =
     let n = suffix_len is_blank text in
     elim (cases_lt 0 n) [
       | inl some ↦
-          IsCharBoundary-before_ascii text (length text - n) (omega (arith, suffix_len-le-length is_blank text)) (blank_ascii (get_or text (length text - n) 0) (first_of_suffix is_blank text some))
+          IsCharBoundary-before_ascii text (length text - n) (omega (arith, suffix_len-le-length is_blank text)) (blank_ascii (get_or text (length text - n) 0) (in_suffix is_blank text (length text - n) 0 (omega arith) (omega (arith, suffix_len-le-length is_blank text))))
       | inr none ↦ boundary_at text (length text) (length text - n) (omega arith) (IsCharBoundary-end text)
     ]
 
@@ -69,7 +71,7 @@ end_boundary text u =
 abbrev pub is_solid : ℕ → Bool
 is_solid b = not (is_blank b)
 
-last_blank : (text : List ℕ) → suffix_len is_solid text < length text → is_blank (get_or text (length text - suffix_len is_solid text - 1) 0) ≡ true
+pub last_blank : (text : List ℕ) → suffix_len is_solid text < length text → is_blank (get_or text (length text - suffix_len is_solid text - 1) 0) ≡ true
 last_blank text within =
     not-false (is_blank (get_or text (length text - suffix_len is_solid text - 1) 0)) (before_suffix is_solid text within)
 
@@ -88,17 +90,8 @@ pub some_blank : (text : List ℕ) → suffix_len is_solid text < length text �
 some_blank text within =
     list_any_at is_blank text (length text - suffix_len is_solid text - 1) 0 (omega arith) (last_blank text within)
 
-solid_at : (text : List ℕ) (k d : ℕ) → suffix_len is_solid text ≡ length text → k < length text → is_blank (get_or text k d) ≡ false
-solid_at text k d all within =
-    let back = length text - 1 - k in
-    let there : back < suffix_len is_solid text = omega arith in
-    let here : length text - 1 - back ≡ k = omega arith in
-    let seen = prefix_len_passes is_solid (reverse text) back d there in
-    let reversed = get_or-reverse text back d (omega arith) in
-    not-true (is_blank (get_or text k d)) (rw (reversed, here) at seen)
-
 pub no_blank : (text : List ℕ) → suffix_len is_solid text ≡ length text → list_any is_blank text ≡ false
-no_blank text all = list_any_none is_blank text (λ k d within. solid_at text k d all within)
+no_blank text all = list_any_none is_blank text (λ k d within. not-true (is_blank (get_or text k d)) (in_suffix is_solid text k d (omega arith) within))
 
 -- Words
 

@@ -1,7 +1,16 @@
+pub mod Assignments
+pub mod LineView
+pub mod Lines
 pub mod Stamp
+pub mod StampCivilRule
 pub mod StampDate
 pub mod StampDateViews
 pub mod StampFault
 pub mod StampForm
+pub mod StampRule
 pub mod StampTime
 pub mod StampViews
+pub mod TimerFault
+pub mod TimerRule
+pub mod TimerText
+pub mod TimerView

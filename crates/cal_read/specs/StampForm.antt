@@ -44,7 +44,7 @@ form_by_day None w ws = civil (w ∷ ws)
 form_by_day (Some shift) w ws = from_today shift ws
 
 abbrev pub form_of_words : List (List ℕ) → Form
-form_of_words [] = nothing
+form_of_words [] = civil []
 form_of_words (w ∷ ws) = form_by_day (day_shift w) w ws
 
 -- a text that ends in `left` is meant behind the present, one that ends in `ago` before it

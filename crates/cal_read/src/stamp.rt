@@ -45,3 +45,6 @@ pub fn read_stamp(
         }
     }
 }
+
+#[cfg(test)]
+mod tests;

@@ -63,12 +63,12 @@ fn form_by_end(text: &str) -> Form<'_>
     if let Some(span) = before_word("ago", text) {
         return Form::Earlier(span);
     }
-    match first_word(text) {
-        None => Form::Nothing,
-        Some((word, behind)) => match near_day(word) {
-            Some(day) => Form::Midnight(day, behind),
-            None => Form::Civil(text),
-        },
+    let Some((word, behind)) = first_word(text) else {
+        return Form::Civil(text);
+    };
+    match near_day(word) {
+        Some(day) => Form::Midnight(day, behind),
+        None => Form::Civil(text),
     }
 }
 

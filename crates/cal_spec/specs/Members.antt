@@ -4,6 +4,8 @@ use Rattle.std.specs.List.{list_any}
 use Rattle.cal_spec.specs.Fields.{Fields}
 use Rattle.cal_spec.specs.Match.{Sets}
 use Rattle.cal_spec.specs.Slot.{least, greatest, day_slot}
+use Rattle.cal_spec.specs.declared.field.Field.{Field}
+use Rattle.cal_spec.specs.declared.field.Field.TheVariants as field
 use Rattle.cal_spec.specs.declared.part.Part.{Part}
 use Rattle.cal_spec.specs.declared.slot.Slot.{Slot}
 use Rattle.cal_spec.specs.declared.slot.Slot.TheVariants.{Year, Month, Day, DayFromEnd, Hour, Minute, Second}
@@ -53,3 +55,12 @@ sets_of f = record {
   second = component_has Second f.second;
   from_end = f.from_end;
 }
+
+-- the members of a field
+abbrev pub members_of : Field → Sets → ℕ → Bool
+members_of field.Year sets = sets.year
+members_of field.Month sets = sets.month
+members_of field.Day sets = sets.day
+members_of field.Hour sets = sets.hour
+members_of field.Minute sets = sets.minute
+members_of field.Second sets = sets.second

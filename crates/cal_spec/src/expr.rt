@@ -3,9 +3,11 @@
 ghost use Rattle.std.specs.Prelude.{◌≡◌, ◌<◌, ◌≤ℤ◌, ◌<ℤ◌, pos, unsigned_abs, option_copied, option_map};
 ghost use Rattle.cal_spec.specs.NormalForm.{AreParts, normal_component, normal_from_end, normal_second};
 
-use crate::matching::{has_date, has_local, has_time};
+use crate::matching::{day_slot, has_date, has_local, has_time};
+use crate::members::component_has;
 use crate::normal_form::{normal_component, normal_second};
 use crate::raw::{Raw, RawDate, RawTime};
+use crate::slot::Slot;
 use crate::{Field, Part};
 use cal_base::DAY;
 use jiff::civil::Date;
@@ -35,7 +37,7 @@ impl Expr {
     ghost use Rattle.cal_spec.specs.Expr.{IsExpr, component};
     ghost use Rattle.cal_spec.specs.Fields.{fields_of};
     ghost use Rattle.cal_spec.specs.Match.{date_in, matches, time_in};
-    ghost use Rattle.cal_spec.specs.Members.{sets_of};
+    ghost use Rattle.cal_spec.specs.Members.{members_of, sets_of};
     ghost use Rattle.cal_spec.specs.NormalForm.{normal_fields};
     ghost use Rattle.cal_spec.specs.ValidFields.{IsValidFields};
 
@@ -85,10 +87,28 @@ impl Expr {
         has_time(&self.raw, second)
     }
 
-    /// Whether each weekday is chosen, from Monday on.
+    /// Whether a number is a member of a field: of the day, whether it is a day of the month, or its count from the
+    /// month's end where the days are such counts.
+    #[tactic(auto, unfolding(crate::specs::Fields::fields_of, crate::specs::Members::sets_of))]
+    pub fn has_member(&self, field: Field, value: u16) -> bool
+        ensures { result ≡ members_of field (sets_of self.now) value }
+    {
+        let Raw { date, time, .. } = &self.raw;
+        match field {
+            Field::Year => component_has(Slot::Year, &date.year, value),
+            Field::Month => component_has(Slot::Month, &date.month, value),
+            Field::Day => component_has(day_slot(date.from_end), &date.day, value),
+            Field::Hour => component_has(Slot::Hour, &time.hour, value),
+            Field::Minute => component_has(Slot::Minute, &time.minute, value),
+            Field::Second => component_has(Slot::Second, &time.second, value),
+        }
+    }
+
+    /// Whether each weekday is chosen, from Monday on. A caller learns that the fields are valid and in their normal form.
     #[tactic(auto, unfolding(crate::specs::Fields::fields_of))]
     pub fn weekdays(&self) -> [bool; 7]
-        ensures { result ≡ self.now.weekdays }
+        ensures chosen { result ≡ self.now.weekdays }
+        ensures expr { IsExpr self.now }
     {
         self.raw.weekdays
     }

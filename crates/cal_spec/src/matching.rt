@@ -69,7 +69,8 @@ fn day_number(from_end: bool, date: Date) -> u16
     day.unsigned_abs().into()
 }
 
-fn day_slot(from_end: bool) -> Slot
+/// Where a day stands, which may be counted from the month's end.
+pub fn day_slot(from_end: bool) -> Slot
     ensures { result ≡ day_slot from_end }
 {
     if from_end {

@@ -1,10 +1,11 @@
 -- Lemmas on what is answered to one text, and to texts in a row.
-use Rattle.std.proofs.Common.{◌≡◌, ℕ, suc, ◌+◌, ◌<◌, ◌≤◌, Bool, true, false, ◌||◌, map, List, [], ◌∷◌, ◌++◌, length, drop, get_or, Option, Ok, Err, refl, sym, ap, ◌∙◌, codes, add-one, drop-cons}
+use Rattle.std.proofs.Common.{◌≡◌, ℕ, suc, ◌+◌, ◌<◌, ◌≤◌, Bool, true, false, ◌||◌, map, List, [], ◌∷◌, ◌++◌, length, drop, get_or, Option, Result, Ok, Err, refl, sym, ap, ◌∙◌, codes, add-one, drop-cons}
 use Rattle.std.specs.Prelude.{is_err, if◌then◌else◌}
 use Rattle.std.specs.List.{flat_map, join_by, list_any}
 use Rattle.std.proofs.lemmas.List.{append-nil, drop_all}
 use Rattle.std.specs.Io.KnownBytes.{Appends}
-use Rattle.cal_base.specs.Bytes.{Leaves, AppendsFront}
+use Rattle.cal_base.specs.Bytes.{Leaves, AppendsFront, Writes}
+use Rattle.std.proofs.KnownBytes.{Appends-nil}
 use Rattle.cal_base.proofs.Pieces.{step, stop, respell}
 use Rattle.cal_tool.specs.Answer.{Answer, report_in, refusal_in, later_text, status_in, reports_text, refusals_text, whole_status}
 use Rattle.cal_tool.specs.Status.{is_fine, status_and}
@@ -108,3 +109,8 @@ status_next answer s answered whole text texts rest e i h =
 -- no text is left
 pub texts-end : {A : Type 0} (bytes_of : A → List ℕ) (xs : List A) (i : ℕ) → length xs ≤ i → map bytes_of (drop i xs) ≡ []
 texts-end bytes_of xs i h = ap (map bytes_of) (drop_all i xs h)
+
+-- a call that wrote nothing
+pub writes_nothing : {T E : Type 0} (a : Option (List ℕ)) (r : Result T E) → Writes a a r []
+writes_nothing a (Ok x) = Appends-nil a
+writes_nothing a (Err e) = record { front = []; rest = []; whole = refl; written = Appends-nil a }

@@ -1,4 +1,6 @@
 -- The words of the command line, read one at a time.
+use Rattle.std.specs.FinMap.{empty}
+use Rattle.cal_base.specs.Zone.{utc}
 use Rattle.std.proofs.Common.{◌≡◌, ◌≢◌, ℕ, ◌+◌, ◌<◌, ◌≤◌, ◌^◌, ◌||◌, List, [], ◌∷◌, length, map, take, drop, Option, None, Some, Result, Ok, Err, Bool, true, false, cond, nat_le, ◌==◌, ◌&&◌, get_or, refl, ap, sym, ◌∙◌, arith, codes, Bor, take_while, ◌++◌, option_to_list, length-append, option_map, option_and_then, option_copied, pos, MatchOption, ℤ, IsSome, IfSome, ◌↔◌, is_some, append-nil}
 use Rattle.std.specs.List.{prefix_len, filter_map, list_any, list_all}
 use Rattle.std.specs.Str.{all_ascii_digits, bytes_eq}
@@ -9,14 +11,15 @@ use Rattle.std.specs.Str.Pattern.{FindsTextPrefix, StripsPrefix}
 use Rattle.std.proofs.lemmas.Str.Pattern.{starts_text}
 use Rattle.std.proofs.lemmas.Slice.Eq.{starts_is}
 use Rattle.std.proofs.lemmas.List.Folds.{list_all-map, length-prefix_len}
-use Rattle.cal_tool.specs.declared.request.Verb.TheVariants.{Calendar}
+use Rattle.cal_tool.specs.declared.request.Verb.{Verb}
+use Rattle.cal_tool.specs.declared.request.Verb.TheVariants.{Calendar, Timestamp}
 use Rattle.std.proofs.lemmas.List.Elements.{filter_map-append}
 use Rattle.std.proofs.lemmas.Bool.{and_parts, ltb-true, lt-ltb, leb-true}
 use Rattle.std.proofs.lemmas.Bool.Decides.{nat_tests, Decides-eqb}
 use Rattle.std.proofs.lemmas.Str.Parse.{IsNumeralModel, numerals_by_value, tells_all_ascii_digits, parse_plain}
 use Rattle.cal_base.specs.Instant.{IsInstant}
 use Rattle.cal_base.specs.declared.instant.Instant.{Instant}
-use Rattle.cal_tool.specs.Command.{number_in, present_in, values_in, value_in, texts_in, some_texts, is_dashed, is_option, iterations_in, now_in, settings_in, calendar_in, timespan_in, asked_in, is_option_of_calendar, texts_of}
+use Rattle.cal_tool.specs.Command.{number_in, present_in, values_in, value_in, texts_in, some_texts, is_dashed, is_option, iterations_in, now_in, settings_in, given_once, base_in, dated_in, timespan_in, asked_in, is_option_of, texts_of}
 
 own : IsNumeralModel (λ ds. all_ascii_digits ds ≡ true) (digits_value 10)
 own = numerals_by_value _ tells_all_ascii_digits
@@ -189,30 +192,37 @@ now_in-twice [] h = absurd (omega arith)
 now_in-twice (a ∷ []) h = absurd (omega arith)
 now_in-twice (a ∷ b ∷ vs) h = refl
 
-pub settings_in-unknown : (words : List (Bor (List ℕ))) → list_all (λ word. is_option_of_calendar word.now) words ≡ false → settings_in (texts_of words) ≡ None
+pub settings_in-unknown : (verb : Verb) (words : List (Bor (List ℕ))) → list_all (λ word. is_option_of verb word.now) words ≡ false → settings_in verb (texts_of words) ≡ None
 unfolding settings_in
-settings_in-unknown words h = rw (list_all-map is_option_of_calendar (λ (word : Bor (List ℕ)). word.now) words, h) refl
+settings_in-unknown verb words h = rw (list_all-map (is_option_of verb) (λ (word : Bor (List ℕ)). word.now) words, h) refl
 
-pub settings_in-known : (words : List (Bor (List ℕ))) → list_all (λ word. is_option_of_calendar word.now) words ≡ true
-    → settings_in (texts_of words) ≡ option_and_then (λ iterations.
-    option_map (λ now. record { iterations = iterations; now = now }) (now_in (values_in (codes "--now=") (texts_of words))))
+pub settings_in-known : (verb : Verb) (words : List (Bor (List ℕ))) → list_all (λ word. is_option_of verb word.now) words ≡ true
+    → settings_in verb (texts_of words) ≡ option_and_then (λ iterations.
+    option_and_then (λ base.
+    option_map (λ now. record { iterations = iterations; base = base; now = now }) (now_in (values_in (codes "--now=") (texts_of words))))
+    (base_in verb (texts_of words)))
     (iterations_in (values_in (codes "--iterations=") (texts_of words)))
 unfolding settings_in
-settings_in-known words h = rw (list_all-map is_option_of_calendar (λ (word : Bor (List ℕ)). word.now) words, h) refl
+settings_in-known verb words h = rw (list_all-map (is_option_of verb) (λ (word : Bor (List ℕ)). word.now) words, h) refl
+
+pub given_once-twice : (values : List (List ℕ)) → 1 < length values → given_once values ≡ None
+given_once-twice [] h = absurd (omega arith)
+given_once-twice (a ∷ []) h = absurd (omega arith)
+given_once-twice (a ∷ b ∷ vs) h = refl
 
 prefix_len-map : {A B : Type 0} (p : B → Bool) (h : A → B) (xs : List A) → prefix_len p (map h xs) ≡ prefix_len (λ x. p (h x)) xs
 prefix_len-map p h [] = refl
 prefix_len-map p h (x ∷ xs) = ap (λ n. cond (p (h x)) (1 + n) 0) (prefix_len-map p h xs)
 
 -- the options come first, and the texts behind them
-pub calendar_in-split : (words leading behind : List (Bor (List ℕ))) (n : ℕ) → n ≡ length (take_while (λ word. is_option word.now) words)
+pub dated_in-split : (verb : Verb) (words leading behind : List (Bor (List ℕ))) (n : ℕ) → n ≡ length (take_while (λ word. is_option word.now) words)
     → leading ≡ take n words → behind ≡ drop n words
-    → calendar_in (texts_of words) ≡ option_and_then (λ settings.
-    option_map (λ texts. record { verb = Calendar; texts = texts; iterations = settings.iterations; base = None; now = settings.now })
+    → dated_in verb (texts_of words) ≡ option_and_then (λ settings.
+    option_map (λ texts. record { verb = verb; texts = texts; iterations = settings.iterations; base = settings.base; now = settings.now; local = utc; zones = empty })
     (texts_in (texts_of behind)))
-    (settings_in (texts_of leading))
-unfolding calendar_in
-calendar_in-split words leading behind n count front back =
+    (settings_in verb (texts_of leading))
+unfolding dated_in
+dated_in-split verb words leading behind n count front back =
     let same : prefix_len is_option (texts_of words) ≡ n
     = prefix_len-map is_option (λ (word : Bor (List ℕ)). word.now) words
     ∙ sym (length-prefix_len (λ (word : Bor (List ℕ)). is_option word.now) words) ∙ sym count in
@@ -229,16 +239,22 @@ asked_in-empty [] h = refl
 asked_in-empty (w ∷ ws) h = absurd (omega arith)
 
 pub asked_in-calendar : (words others : List (Bor (List ℕ))) (first : Bor (List ℕ)) → words ≡ first ∷ others → bytes_eq first.now (codes "calendar") ≡ true
-    → asked_in (texts_of words) ≡ calendar_in (texts_of others)
+    → asked_in (texts_of words) ≡ dated_in Calendar (texts_of others)
 unfolding asked_in
 asked_in-calendar words others first is at = rw (is, at) refl
 
-pub asked_in-timespan : (words others : List (Bor (List ℕ))) (first : Bor (List ℕ)) → words ≡ first ∷ others → bytes_eq first.now (codes "calendar") ≡ false
-    → bytes_eq first.now (codes "timespan") ≡ true → asked_in (texts_of words) ≡ timespan_in (texts_of others)
+pub asked_in-timestamp : (words others : List (Bor (List ℕ))) (first : Bor (List ℕ)) → words ≡ first ∷ others → bytes_eq first.now (codes "calendar") ≡ false
+    → bytes_eq first.now (codes "timestamp") ≡ true → asked_in (texts_of words) ≡ dated_in Timestamp (texts_of others)
 unfolding asked_in
-asked_in-timespan words others first is other at = rw (is, other, at) refl
+asked_in-timestamp words others first is at found = rw (is, at, found) refl
+
+pub asked_in-timespan : (words others : List (Bor (List ℕ))) (first : Bor (List ℕ)) → words ≡ first ∷ others → bytes_eq first.now (codes "calendar") ≡ false
+    → bytes_eq first.now (codes "timestamp") ≡ false → bytes_eq first.now (codes "timespan") ≡ true
+    → asked_in (texts_of words) ≡ timespan_in (texts_of others)
+unfolding asked_in
+asked_in-timespan words others first is other another at = rw (is, other, another, at) refl
 
 pub asked_in-other : (words others : List (Bor (List ℕ))) (first : Bor (List ℕ)) → words ≡ first ∷ others → bytes_eq first.now (codes "calendar") ≡ false
-    → bytes_eq first.now (codes "timespan") ≡ false → asked_in (texts_of words) ≡ None
+    → bytes_eq first.now (codes "timestamp") ≡ false → bytes_eq first.now (codes "timespan") ≡ false → asked_in (texts_of words) ≡ None
 unfolding asked_in
-asked_in-other words others first is other at = rw (is, other, at) refl
+asked_in-other words others first is other another third = rw (is, other, another, third) refl

@@ -1,6 +1,6 @@
 pub mod AnswerLemmas
 pub mod CommandLemmas
 pub mod ElapseTexts
-pub mod SearchLemmas
+pub mod TimelyLemmas
 pub mod WorkedRows
 pub mod ZoneLemmas

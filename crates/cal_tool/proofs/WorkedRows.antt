@@ -1,6 +1,8 @@
 -- The definitions, tried on worked local seconds and on a whole request.
 use Rattle.jiff.specs.Types.{UTC}
-use Rattle.std.proofs.Common.{◌≡◌, ℕ, ◌<◌, [], ◌∷◌, ◌++◌, None, Some, codes, pos, ◌∙◌, ap, sym, inl, true, false, refl, rules, arith}
+use Rattle.std.specs.FinMap.{empty}
+use Rattle.cal_base.specs.Zone.{utc}
+use Rattle.std.proofs.Common.{nat_lt, ◌≡◌, ℕ, ◌<◌, [], ◌∷◌, ◌++◌, None, Some, codes, pos, ◌∙◌, ap, sym, inl, true, false, refl, rules, arith}
 use Rattle.std.specs.Fmt.{digits}
 use Rattle.jiff.specs.Types.{Date}
 use Rattle.jiff.specs.Words.{epoch_day, weekday_of}
@@ -9,7 +11,7 @@ use Rattle.jiff_core.proofs.MarchLemmas.{day_count-early}
 use Rattle.jiff.proofs.SpanFacts.{signed_arith}
 use Rattle.jiff_core.specs.Calendar.{weekday_number}
 use Rattle.cal_base.specs.Days.{date_of, date_of-epoch_day}
-use Rattle.cal_base.specs.Local.{civil_date, seconds_in_all-is}
+use Rattle.cal_base.specs.Local.{civil_date, seconds_in_all, seconds_in_all-is}
 use Rattle.cal_base.specs.Scale.{words_for, name_of}
 use Rattle.cal_base.specs.SpanText.{units_text, row_text}
 use Rattle.cal_base.specs.SpanValue.{words_in, pairs_in, is_number, unit_named, number_worth, worth_of, span_of}
@@ -18,14 +20,19 @@ use Rattle.cal_spec.specs.Match.{matches, date_in, time_in}
 use Rattle.cal_spec.specs.Members.{sets_of, part_has}
 use Rattle.cal_tool.specs.Answer.{reports_text, refusals_text, whole_status}
 use Rattle.cal_elapse.specs.Elapses.{IsElapse}
-use Rattle.cal_tool.specs.Report.{report}
+use Rattle.cal_tool.specs.Report.{base_in, report}
 use Rattle.cal_tool.specs.Request.{Asked}
 use Rattle.cal_elapse.specs.Timed.{timed}
 use Rattle.cal_tool.specs.TimespanReport.{timespan_answer, timespan_report}
 use Rattle.cal_tool.specs.declared.request.Status.TheVariants.{Refused}
 use Rattle.cal_tool.specs.declared.request.Verb.TheVariants.{Timespan}
-use Rattle.cal_tool.proofs.SearchLemmas.{inside}
 use Rattle.cal_base.proofs.PlaceLemmas.{place_of-UTC}
+
+inside : (t : ℕ) → t < 7_258_118_400 → nat_lt t seconds_in_all ≡ true
+inside t h =
+    let count = seconds_in_all-is in
+    let below : t < seconds_in_all = omega arith in
+    grind arith
 
 -- `*-*-* 12:30:00`
 noon_thirty : Fields
@@ -112,16 +119,16 @@ noon_thirty-elapses_again = elapse_at 1_704_198_600 (omega arith) noon_thirty-ma
 -- A report with a refusal
 
 two_spans : Asked
-two_spans = record { verb = Timespan; texts = codes "1h" ∷ codes "5x" ∷ []; iterations = 1; base = None; now = pos 0 }
+two_spans = record { verb = Timespan; texts = codes "1h" ∷ codes "5x" ∷ []; iterations = 1; base = None; now = pos 0; local = utc; zones = empty }
 
 two_spans-out : (report two_spans).out ≡ codes "Original: 1h\n" ++ (codes "      " ++ (206 ∷ 188 ∷ codes "s: 3600000000\n   Human: 1h\n"))
-unfolding two_spans report reports_text timespan_answer timespan_report units_text row_text span_of pairs_in words_in worth_of is_number unit_named number_worth words_for name_of digits
+unfolding two_spans report base_in reports_text timespan_answer timespan_report units_text row_text span_of pairs_in words_in worth_of is_number unit_named number_worth words_for name_of digits
 two_spans-out = refl
 
 two_spans-err : (report two_spans).err ≡ codes "5x: unknown unit\n"
-unfolding two_spans report refusals_text timespan_answer timespan_report units_text row_text span_of pairs_in words_in worth_of is_number unit_named number_worth words_for name_of digits
+unfolding two_spans report base_in refusals_text timespan_answer timespan_report units_text row_text span_of pairs_in words_in worth_of is_number unit_named number_worth words_for name_of digits
 two_spans-err = refl
 
 two_spans-status : (report two_spans).status ≡ Refused
-unfolding two_spans report whole_status timespan_answer timespan_report units_text row_text span_of pairs_in words_in worth_of is_number unit_named number_worth words_for name_of digits
+unfolding two_spans report base_in whole_status timespan_answer timespan_report units_text row_text span_of pairs_in words_in worth_of is_number unit_named number_worth words_for name_of digits
 two_spans-status = refl

@@ -15,10 +15,14 @@ abbrev pub report_in : Answer → List (List ℕ)
 report_in (Ok report) = report ∷ []
 report_in (Err words) = []
 
--- the line of a refusal, if the text was refused: `TEXT: WORDS`
+-- the line of a refusal: `TEXT: WORDS`
+abbrev pub refusal_line : List ℕ → List ℕ → List ℕ
+refusal_line text words = joined (text ∷ codes ": " ∷ words ∷ codes "\n" ∷ [])
+
+-- this line, if the text was refused
 abbrev pub refusal_in : List ℕ → Answer → List ℕ
 refusal_in text (Ok report) = []
-refusal_in text (Err words) = joined (text ∷ codes ": " ∷ words ∷ codes "\n" ∷ [])
+refusal_in text (Err words) = refusal_line text words
 
 -- what stands in front of a report: an empty line, unless it is the first
 abbrev pub lead_text : Bool → List ℕ

@@ -1,13 +1,16 @@
 -- What the words of the command line ask for, until `clap` reads them (systemd-analyze(1)).
-use Rattle.std.specs.Prelude.{◌≡◌, ◌<◌, ℕ, ℤ, pos, List, [], ◌∷◌, length, drop, map, Option, None, Some, Bool, codes, nat_eq, nat_lt, nat_le, if◌then◌else◌, ◌==◌, unsigned_abs, ◌&&◌, ◌||◌, not, slice_index, take_while, filter_map, option_and_then, option_map}
+use Rattle.std.specs.Prelude.{◌≡◌, ◌<◌, ℕ, ℤ, pos, List, [], ◌∷◌, length, drop, map, Option, None, Some, Bool, false, codes, nat_eq, nat_lt, nat_le, if◌then◌else◌, ◌==◌, unsigned_abs, ◌&&◌, ◌||◌, not, slice_index, take_while, filter_map, option_and_then, option_map}
 use Rattle.std.specs.Borrow.{Bor}
 use Rattle.std.specs.List.{list_all, list_any, starts_with}
 use Rattle.std.specs.Str.{all_ascii_digits, bytes_eq}
 use Rattle.std.specs.Str.Parse.{digits_value}
+use Rattle.std.specs.FinMap.{empty}
+use Rattle.cal_base.specs.Zone.{utc}
 use Rattle.cal_base.specs.declared.instant.TheConstants.Instant.{LAST}
-use Rattle.cal_tool.specs.Request.{Asked, asked}
+use Rattle.cal_tool.specs.Request.{Asked, asked, seeks_elapses}
 use Rattle.cal_tool.specs.declared.request.TheConstants.{MOST_ITERATIONS}
-use Rattle.cal_tool.specs.declared.request.Verb.TheVariants.{Calendar, Timespan}
+use Rattle.cal_tool.specs.declared.request.Verb.{Verb}
+use Rattle.cal_tool.specs.declared.request.Verb.TheVariants.{Calendar, Timestamp, Timespan}
 use Rattle.cal_tool.specs.declared.command.Command.{Command}
 use Rattle.cal_tool.specs.declared.early_words.Given.{Given}
 use Rattle.cal_tool.specs.declared.early_words.Given.TheVariants.{Never, Once, Twice}
@@ -40,8 +43,12 @@ is_dashed word = slice_index word 0 == 45
 abbrev pub is_option : List ℕ → Bool
 is_option word = is_dashed word && not (bytes_eq word (codes "--"))
 
-unfoldable pub is_option_of_calendar : List ℕ → Bool
-is_option_of_calendar word = starts_with nat_eq word (codes "--iterations=") || starts_with nat_eq word (codes "--now=")
+-- A word is an option that the verb has.
+unfoldable pub is_option_of : Verb → List ℕ → Bool
+is_option_of Calendar word =
+    starts_with nat_eq word (codes "--now=") || (starts_with nat_eq word (codes "--iterations=") || starts_with nat_eq word (codes "--base-time="))
+is_option_of Timestamp word = starts_with nat_eq word (codes "--now=")
+is_option_of Timespan word = false
 
 -- What a word gives for the option that begins so.
 abbrev pub value_in : List ℕ → List ℕ → Option (List ℕ)
@@ -68,18 +75,30 @@ unfoldable pub now_in : List (List ℕ) → Option ℤ
 now_in (value ∷ []) = present_in value
 now_in _ = None
 
--- What the options of `calendar` say.
+-- The base of an option that is given at most once.
+abbrev pub given_once : List (List ℕ) → Option (Option (List ℕ))
+given_once [] = Some None
+given_once (value ∷ []) = Some (Some value)
+given_once (value ∷ again ∷ values) = None
+
+unfoldable pub base_in : Verb → List (List ℕ) → Option (Option (List ℕ))
+base_in verb options = if seeks_elapses verb then given_once (values_in (codes "--base-time=") options) else Some None
+
+-- What the options say.
 pub record Settings : Type 0 where
   pub iterations : ℕ
+  pub base : Option (List ℕ)
   pub now : ℤ
 
--- Each word is an option of `calendar`, `--now=` stands once and `--iterations=` at most once.
-unfoldable pub settings_in : List (List ℕ) → Option Settings
-settings_in options =
-    if list_all is_option_of_calendar options then
+-- Each word is an option of the verb, `--now=` stands once, the others at most once.
+unfoldable pub settings_in : Verb → List (List ℕ) → Option Settings
+settings_in verb options =
+    if list_all (is_option_of verb) options then
     option_and_then (λ iterations.
-    option_map (λ now. record { iterations = iterations; now = now })
+    option_and_then (λ base.
+    option_map (λ now. record { iterations = iterations; base = base; now = now })
     (now_in (values_in (codes "--now=") options)))
+    (base_in verb options))
     (iterations_in (values_in (codes "--iterations=") options))
     else None
 
@@ -94,26 +113,27 @@ texts_in (word ∷ words) =
     if bytes_eq word (codes "--") then some_texts words
     else if list_any is_dashed (word ∷ words) then None else Some (word ∷ words)
 
--- Behind `calendar` stand options, and then texts.
-unfoldable pub calendar_in : List (List ℕ) → Option Asked
-calendar_in words =
+-- Behind a verb that has options stand these, and then texts.
+unfoldable pub dated_in : Verb → List (List ℕ) → Option Asked
+dated_in verb words =
     option_and_then (λ settings.
-    option_map (λ texts. record { verb = Calendar; texts = texts; iterations = settings.iterations; base = None; now = settings.now })
+    option_map (λ texts. record { verb = verb; texts = texts; iterations = settings.iterations; base = settings.base; now = settings.now; local = utc; zones = empty })
     (texts_in (drop (length (take_while is_option words)) words)))
-    (settings_in (take_while is_option words))
+    (settings_in verb (take_while is_option words))
 
 -- Behind `timespan` stand texts alone.
 unfoldable pub timespan_in : List (List ℕ) → Option Asked
 timespan_in words =
-    option_map (λ texts. record { verb = Timespan; texts = texts; iterations = 1; base = None; now = pos 0 }) (texts_in words)
+    option_map (λ texts. record { verb = Timespan; texts = texts; iterations = 1; base = None; now = pos 0; local = utc; zones = empty }) (texts_in words)
 
 -- What the words after the program's name ask for.
 unfoldable pub asked_in : List (List ℕ) → Option Asked
 asked_in [] = None
 asked_in (verb ∷ words) =
-    if bytes_eq verb (codes "calendar") then calendar_in words
+    if bytes_eq verb (codes "calendar") then dated_in Calendar words
+    else if bytes_eq verb (codes "timestamp") then dated_in Timestamp words
     else if bytes_eq verb (codes "timespan") then timespan_in words else None
 
--- What a command asks for.
+-- What a command asks for: in UTC, and with no other zone.
 abbrev pub asked_of : Command → Asked
-asked_of command = asked command.request command.now.secs
+asked_of command = asked command.request command.now.secs utc empty

@@ -2,12 +2,16 @@ pub mod Accepted
 pub mod Answer
 pub mod CalendarReport
 pub mod Command
+pub mod Context
+pub mod ElapseLines
+pub mod ReportLines
 pub mod LoadFault
 pub mod LoadZone
 pub mod Report
+pub mod ReportFault
 pub mod Request
 pub mod RunFault
-pub mod Search
 pub mod Status
 pub mod Stop
 pub mod TimespanReport
+pub mod TimestampReport

@@ -1,26 +1,38 @@
 //! What each verb reads from a text, and why it refuses one.
 
-ghost use Rattle.std.specs.Prelude.{◌≡◌, ℕ, ℤ, Ok, Err, IfOk, IfErr, IsErrOf, false, is_err};
-ghost use Rattle.std.specs.FinMap.{empty};
-ghost use Rattle.cal_base.specs.Bytes.{Writes};
-ghost use Rattle.cal_tool.specs.Accepted.{report_text, refusal_words};
-ghost use Rattle.cal_tool.specs.CalendarReport.{is_there, calendar_answer, calendar_report};
+ghost use Rattle.std.specs.Prelude.{◌≡◌, [], ◌∷◌, ℤ, Ok, Err, IfOk, IfErr, IsErrOf, false, is_err, option_map};
+ghost use Rattle.cal_base.specs.Bytes.{Writes, joined};
+ghost use Rattle.cal_base.specs.Zone.{zone_of};
+ghost use Rattle.cal_read.specs.StampViews.{told};
+ghost use Rattle.cal_tool.specs.Accepted.{IsTimely, report_text, refusal_words, verb_of};
+ghost use Rattle.cal_tool.specs.Answer.{lead_text};
+ghost use Rattle.cal_tool.specs.CalendarReport.{calendar_answer, zone_for};
+ghost use Rattle.cal_tool.specs.Context.{asked_by};
 ghost use Rattle.cal_tool.specs.Report.{answer_to};
+ghost use Rattle.cal_tool.specs.ReportFault.{is_failed_in};
+ghost use Rattle.cal_tool.specs.TimestampReport.{stamp_in};
 ghost use Rattle.cal_tool.specs.declared.accepted.Refusal.TheVariants.{NoMemory};
-ghost use Rattle.cal_tool.specs.Request.{IsCount, asked};
+ghost use Rattle.cal_tool.specs.Request.{IsCount, seeks_elapses};
 
 use crate::calendar_report::write_calendar;
-use crate::request::{Request, Verb};
+use crate::context::Context;
+use crate::report_fault::ReportFault;
+use crate::request::Verb;
 use crate::timespan_report::write_timespan;
-use cal_base::{Instant, Sink, Span, SpanFault, WriteFault, ZoneTable, read_span};
+use crate::timestamp_report::write_timestamp;
+use cal_base::{Moment, Sink, Span, SpanFault, WriteFault, Zone, put_all, read_span};
+use cal_elapse::Elapses;
+use cal_read::{StampFault, read_stamp};
 use cal_spec::{Expr, SpecFault, read_expr};
-use std::alloc::Global;
+use std::alloc::{AllocError, Global};
 
 /// What was read from a text: one variant for each verb.
-#[derive(Debug, Drop)]
-pub enum Accepted {
-    /// A calendar expression.
-    Calendar(Expr),
+#[derive(Drop)]
+pub enum Accepted<'a> {
+    /// A calendar expression, and its elapses.
+    Calendar(Expr, Elapses<'a>),
+    /// A timestamp, by its moment.
+    Timestamp(Moment),
     /// A time span.
     Timespan(Span),
 }
@@ -32,6 +44,8 @@ pub enum Refusal {
     Spec(SpecFault),
     /// It is a calendar expression in a zone that isn't there.
     NoSuchZone,
+    /// It is no timestamp.
+    Stamp(StampFault),
     /// It is no time span.
     Span(SpanFault),
     /// Memory was refused.
@@ -46,30 +60,35 @@ impl Refusal {
         match self {
             Refusal::Spec(fault) => fault.words(),
             Refusal::NoSuchZone => "no such zone",
+            Refusal::Stamp(fault) => fault.words(),
             Refusal::Span(fault) => fault.words(),
             Refusal::NoMemory => "",
         }
     }
 }
 
-/// Reads a text as the request's verb does. A calendar expression takes memory, a time span takes none.
-#[tactic(auto, unfolding(crate::specs::TimespanReport::timespan_answer))]
-pub fn read_text(
+/// Reads a text as the request's verb does. All memory that the text needs is taken here, but for that of each elapse;
+/// timestamps and time spans take none.
+#[tactic(auto, unfolding(crate::specs::TimespanReport::timespan_answer, crate::specs::TimestampReport::timestamp_answer))]
+pub fn read_text<'a>(
     alloc: Global,
-    request: &Request,
-    now: Instant,
-    table: &ZoneTable,
+    context: Context<'a>,
     text: &str,
-) -> Result<Accepted, Refusal>
-    requires { table.now ≡ empty }
-    ensures accepted { IfOk result (λ accepted. answer_to (asked request.now now.secs) text.now
-        ≡ Ok (report_text (asked request.now now.secs) text.now accepted)) }
+) -> Result<Accepted<'a>, Refusal>
+    ensures accepted { IfOk result (λ accepted. answer_to (asked_by context.entry) context.entry.base.secs text.now
+        ≡ Ok (report_text (asked_by context.entry) text.now accepted)) }
     ensures refused { IfErr result (λ refusal. (refusal ≡ NoMemory → ⊥)
-        → answer_to (asked request.now now.secs) text.now ≡ Err (refusal_words refusal)) }
-    ensures memory { request.now.verb ≡ Verb.Timespan → IsErrOf result NoMemory → ⊥ }
+        → answer_to (asked_by context.entry) context.entry.base.secs text.now ≡ Err (refusal_words refusal)) }
+    ensures verb { IfOk result (λ accepted. verb_of accepted ≡ context.entry.request.now.verb) }
+    ensures timely { IfOk result IsTimely }
+    ensures memory { seeks_elapses context.entry.request.now.verb ≡ false → IsErrOf result NoMemory → ⊥ }
 {
-    match request.verb {
-        Verb::Calendar => Ok(Accepted::Calendar(read_calendar(alloc, table, text)?)),
+    match context.request.verb {
+        Verb::Calendar => read_calendar(alloc, context, text),
+        Verb::Timestamp => match read_moment(context, text) {
+            Ok(moment) => Ok(Accepted::Timestamp(moment)),
+            Err(fault) => Err(Refusal::Stamp(fault)),
+        },
         Verb::Timespan => match read_span(text) {
             Ok(span) => Ok(Accepted::Timespan(span)),
             Err(fault) => Err(Refusal::Span(fault)),
@@ -77,51 +96,107 @@ pub fn read_text(
     }
 }
 
-/// Reads a calendar expression whose zone, if it names one, is there.
-#[tactic(auto, unfolding(crate::specs::CalendarReport::calendar_answer))]
-fn read_calendar(alloc: Global, table: &ZoneTable, text: &str) -> Result<Expr, Refusal>
-    requires { table.now ≡ empty }
-    ensures accepted { IfOk result (λ expr. (now base : ℤ) (n : ℕ)
-        → calendar_answer now base n text.now ≡ Ok (calendar_report now base n text.now expr)) }
-    ensures refused { IfErr result (λ refusal. (refusal ≡ NoMemory → ⊥)
-        → (now base : ℤ) (n : ℕ) → calendar_answer now base n text.now ≡ Err (refusal_words refusal)) }
+/// The moment that a text means at the present, in the local zone.
+#[tactic(auto, unfolding(crate::specs::TimestampReport::stamp_in))]
+fn read_moment(context: Context<'_>, text: &str) -> Result<Moment, StampFault>
+    ensures { told result ≡ stamp_in (asked_by context.entry) text.now }
 {
-    match read_expr(alloc, text) {
-        Ok(expr) if is_there(table, &expr) => Ok(expr),
-        Ok(_) => Err(Refusal::NoSuchZone),
-        Err(SpecFault::NoMemory) => Err(Refusal::NoMemory),
-        Err(fault) => Err(Refusal::Spec(fault)),
+    read_stamp(text, context.now, context.local, context.table)
+}
+
+/// Reads a calendar expression whose zone, if it names one, is there.
+#[tactic(auto, using(crate::proofs::TimelyLemmas::elapses_are_instants), unfolding(crate::specs::CalendarReport::calendar_answer, crate::specs::CalendarReport::calendar_report))]
+fn read_calendar<'a>(
+    alloc: Global,
+    context: Context<'a>,
+    text: &str,
+) -> Result<Accepted<'a>, Refusal>
+    ensures accepted { IfOk result (λ accepted. calendar_answer (asked_by context.entry) context.entry.base.secs text.now
+        ≡ Ok (report_text (asked_by context.entry) text.now accepted)) }
+    ensures refused { IfErr result (λ refusal. (refusal ≡ NoMemory → ⊥)
+        → calendar_answer (asked_by context.entry) context.entry.base.secs text.now ≡ Err (refusal_words refusal)) }
+    ensures verb { IfOk result (λ accepted. verb_of accepted ≡ Verb.Calendar) }
+    ensures timely { IfOk result IsTimely }
+{
+    let expr = match read_expr(alloc, text) {
+        Ok(expr) => expr,
+        Err(SpecFault::NoMemory) => return Err(Refusal::NoMemory),
+        Err(fault) => return Err(Refusal::Spec(fault)),
+    };
+    let Some(zone) = zone_for(context, &expr) else {
+        return Err(Refusal::NoSuchZone);
+    };
+    match Elapses::new(alloc, &expr, zone, context.base) {
+        Ok(elapses) => Ok(Accepted::Calendar(expr, elapses)),
+        Err(AllocError) => Err(Refusal::NoMemory),
     }
 }
 
-/// Whether the zone that an expression names is there.
-#[tactic(auto, unfolding(cal_base::specs::ZoneTable::zone_named))]
-fn is_there(table: &ZoneTable, expr: &Expr) -> bool
-    requires { table.now ≡ empty }
-    ensures { result ≡ is_there expr.now.zone }
+/// The zone of an expression: the one that it names, which may not be there, or else the local one.
+#[tactic(auto, unfolding(crate::specs::CalendarReport::zone_for))]
+fn zone_for<'a>(context: Context<'a>, expr: &Expr) -> Option<Zone<'a>>
+    ensures { option_map zone_of result ≡ zone_for (asked_by context.entry) expr.now.zone }
 {
     match expr.zone_name() {
-        Some(name) => table.find(name).is_some(),
-        None => true,
+        Some(name) => context.table.find(name),
+        None => Some(context.local),
     }
+}
+
+/// Writes the report of what was read from the text, in its place among the others.
+#[tactic(auto, using(cal_base::proofs::Pieces::first_fails, cal_base::proofs::Pieces::second_ends))]
+pub fn put_report<W: Sink>(
+    out: &mut W,
+    is_later: bool,
+    context: Context<'_>,
+    text: &str,
+    accepted: Accepted<'_>,
+) -> Result<(), ReportFault>
+    requires iterations { IsCount context.request.now.iterations }
+    requires timely { IsTimely accepted }
+    requires out { W.is_failed out.old ≡ false }
+    ensures failed { W.is_failed out.new ≡ is_failed_in result }
+    ensures bytes { Writes (W.written out.old) (W.written out.new) result
+        (joined (lead_text is_later ∷ report_text (asked_by context.entry) text.now accepted.entry ∷ [])) }
+    ensures memory { seeks_elapses (verb_of accepted.entry) ≡ false → IsErrOf result ReportFault.NoMemory → ⊥ }
+{
+    put_lead(out, is_later)?;
+    write_report(out, context, text, accepted)
 }
 
 /// Writes the report of what was read from the text.
 pub fn write_report<W: Sink>(
     out: &mut W,
-    request: &Request,
-    now: Instant,
+    context: Context<'_>,
     text: &str,
-    accepted: &Accepted,
-) -> Result<(), WriteFault>
-    requires iterations { IsCount request.now.iterations }
+    accepted: Accepted<'_>,
+) -> Result<(), ReportFault>
+    requires iterations { IsCount context.request.now.iterations }
+    requires timely { IsTimely accepted }
     requires out { W.is_failed out.old ≡ false }
-    ensures failed { W.is_failed out.new ≡ is_err result }
+    ensures failed { W.is_failed out.new ≡ is_failed_in result }
     ensures bytes { Writes (W.written out.old) (W.written out.new) result
-        (report_text (asked request.now now.secs) text.now accepted.now) }
+        (report_text (asked_by context.entry) text.now accepted.entry) }
+    ensures memory { seeks_elapses (verb_of accepted.entry) ≡ false → IsErrOf result ReportFault.NoMemory → ⊥ }
 {
     match accepted {
-        Accepted::Calendar(expr) => write_calendar(out, text, expr, request.iterations, now, now),
-        Accepted::Timespan(span) => write_timespan(out, text, *span),
+        Accepted::Calendar(expr, mut elapses) => {
+            write_calendar(out, context, text, &expr, &mut elapses)
+        }
+        Accepted::Timestamp(moment) => Ok(write_timestamp(out, context, text, moment)?),
+        Accepted::Timespan(span) => Ok(write_timespan(out, text, span)?),
+    }
+}
+
+/// Writes the empty line that parts a report from the one before it.
+fn put_lead<W: Sink>(out: &mut W, is_later: bool) -> Result<(), WriteFault>
+    requires { W.is_failed out.old ≡ false }
+    ensures failed { W.is_failed out.new ≡ is_err result }
+    ensures bytes { Writes (W.written out.old) (W.written out.new) result (lead_text is_later) }
+{
+    if is_later {
+        put_all(out, b"\n")
+    } else {
+        put_all(out, b"")
     }
 }

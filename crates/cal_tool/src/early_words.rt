@@ -1,21 +1,31 @@
 //! The words of the command line, as they are read until `clap` reads them.
 
-ghost use Rattle.std.specs.Prelude.{◌≡◌, ◌<◌, ◌≤◌, codes, length, map, take_while, option_map, option_copied, MatchOption, None, Some, IfSome, IfOk, string_bytes, vec_len};
+ghost use Rattle.std.specs.Prelude.{◌≡◌, ◌<◌, ◌≤◌, false, codes, length, map, take_while, option_map, option_copied, MatchOption, None, Some, IfSome, IfOk, string_bytes, vec_len};
 ghost use Rattle.std.specs.List.{list_all, list_any};
-ghost use Rattle.cal_tool.specs.Request.{IsCount};
-ghost use Rattle.cal_tool.specs.Command.{texts_of, asked_in, asked_of, calendar_in, timespan_in, texts_in as texts_among, settings_in, is_dashed, is_option, is_option_of_calendar, values_in, value_in, IsGiven, iterations_in, now_in, count_in, present_in, number_in};
+ghost use Rattle.std.specs.FinMap.{empty};
+ghost use Rattle.cal_base.specs.Zone.{utc};
+ghost use Rattle.cal_tool.specs.Request.{IsCount, seeks_elapses};
+ghost use Rattle.cal_tool.specs.Command.{texts_of, asked_in, asked_of, dated_in, timespan_in, texts_in as texts_among, settings_in, is_dashed, is_option, is_option_of, base_in, values_in, value_in, IsGiven, iterations_in, now_in, count_in, present_in, number_in};
+ghost use Rattle.cal_tool.specs.declared.request.Verb.TheVariants.{Calendar};
 
 use crate::command::Command;
 use crate::request::{MOST_ITERATIONS, Request, Verb};
 use cal_base::Instant;
 use std::alloc::{AllocError, Global};
 
-/// The options of `calendar`.
+/// What the options say.
 #[derive(Clone, Copy)]
-struct Options {
+struct Options<'a> {
     iterations: u32,
+    base: Option<&'a str>,
     now: Instant,
     ghost counts: { IsCount iterations },
+}
+
+/// The base, if one is given.
+#[derive(Clone, Copy)]
+struct Base<'a> {
+    text: Option<&'a str>,
 }
 
 /// How often an option is given, and its value.
@@ -28,9 +38,9 @@ enum Given<'a> {
 
 /// What the words after the program's name ask for, or `None` where they aren't known.
 ///
-/// `calendar` has the option `--now=@N` and may have `--iterations=N`, in any order and before the
-/// texts; `timespan` has no options. A `--` may stand before the texts, of which there is at least one;
-/// without it no text begins with `-`.
+/// `calendar` and `timestamp` have the option `--now=@N`, and `calendar` may have `--iterations=N` and
+/// `--base-time=STAMP`, in any order and before the texts; `timespan` has no options. A `--` may stand before the
+/// texts, of which there is at least one; without it no text begins with `-`.
 pub fn early_words(alloc: Global, words: &[&str]) -> Result<Option<Command>, AllocError>
     ensures { IfOk result (λ known. option_map asked_of known ≡ asked_in (texts_of words.now)) }
 {
@@ -38,7 +48,9 @@ pub fn early_words(alloc: Global, words: &[&str]) -> Result<Option<Command>, All
         return Ok(None);
     };
     if *verb == "calendar" {
-        calendar(alloc, words)
+        dated(alloc, Verb::Calendar, words)
+    } else if *verb == "timestamp" {
+        dated(alloc, Verb::Timestamp, words)
     } else if *verb == "timespan" {
         timespan(alloc, words)
     } else {
@@ -46,19 +58,23 @@ pub fn early_words(alloc: Global, words: &[&str]) -> Result<Option<Command>, All
     }
 }
 
-/// What the words after `calendar` ask for.
-fn calendar(alloc: Global, words: &[&str]) -> Result<Option<Command>, AllocError>
-    ensures { IfOk result (λ known. option_map asked_of known ≡ calendar_in (texts_of words.now)) }
+/// What the words after a verb ask for that has options.
+fn dated(alloc: Global, verb: Verb, words: &[&str]) -> Result<Option<Command>, AllocError>
+    ensures { IfOk result (λ known. option_map asked_of known ≡ dated_in verb (texts_of words.now)) }
 {
     let (leading, behind) = words.split_at(leading_options(words));
-    let Some(options) = options_in(leading) else {
+    let Some(options) = options_in(verb, leading) else {
         return Ok(None);
     };
     let Some(texts) = texts_in(behind) else {
         return Ok(None);
     };
-    let Options { iterations, now } = options;
-    Ok(Some(command(alloc, Verb::Calendar, texts, iterations, now)?))
+    let Options {
+        iterations,
+        base,
+        now,
+    } = options;
+    Ok(Some(command(alloc, verb, texts, iterations, base, now)?))
 }
 
 /// What the words after `timespan` ask for.
@@ -72,7 +88,7 @@ fn timespan(alloc: Global, words: &[&str]) -> Result<Option<Command>, AllocError
     let Some(now) = Instant::new(0) else {
         unreachable!()
     };
-    Ok(Some(command(alloc, Verb::Timespan, texts, 1, now)?))
+    Ok(Some(command(alloc, Verb::Timespan, texts, 1, None, now)?))
 }
 
 /// The command for these texts.
@@ -81,23 +97,30 @@ fn command(
     verb: Verb,
     texts: &[&str],
     iterations: u32,
+    base: Option<&str>,
     now: Instant,
 ) -> Result<Command, AllocError>
     requires some_text { 0 < length texts.now }
     requires iterations { IsCount iterations }
+    requires base { seeks_elapses verb ≡ false → base ≡ None }
     ensures { IfOk result (λ command. asked_of command ≡ record {
       verb = verb;
       texts = texts_of texts.now;
       iterations = iterations;
-      base = None;
+      base = option_copied base.entry;
       now = now.secs;
+      local = utc;
+      zones = empty;
     }) }
 {
     let request = Request {
         verb,
         texts: owned(alloc, texts)?,
         iterations,
-        base: None,
+        base: match base {
+            Some(text) => Some(String::from_str(alloc, text)?),
+            None => None,
+        },
     };
     Ok(Command { request, now })
 }
@@ -151,25 +174,46 @@ fn is_any_dashed(words: &[&str]) -> bool
     words.iter().any(|word| is_dashed(word))
 }
 
-/// The options of `calendar` that the words give, each at most once, or `None` where a word gives none.
-fn options_in(words: &[&str]) -> Option<Options>
-    ensures { MatchOption result (settings_in (texts_of words.now) ≡ None)
-        (λ options. settings_in (texts_of words.now)
-        ≡ Some (record { iterations = options.iterations; now = options.now.secs })) }
+/// The options of a verb that the words give, each at most once, or `None` where a word gives none.
+fn options_in<'a>(verb: Verb, words: &[&'a str]) -> Option<Options<'a>>
+    ensures value { MatchOption result (settings_in verb (texts_of words.now) ≡ None)
+        (λ options. settings_in verb (texts_of words.now)
+        ≡ Some (record { iterations = options.iterations; base = option_copied options.base; now = options.now.secs })) }
+    ensures base { IfSome result (λ options. seeks_elapses verb ≡ false → options.base ≡ None) }
 {
-    if !are_known(words) {
+    if !are_known(verb, words) {
         return None;
     }
     let iterations = iterations_in(words)?;
+    let base = base_in(verb, words)?;
     let now = now_in(words)?;
-    Some(Options { iterations, now })
+    Some(Options {
+        iterations,
+        base: base.text,
+        now,
+    })
 }
 
-/// Whether each word is an option of `calendar`.
-fn are_known(words: &[&str]) -> bool
-    ensures { result ≡ list_all (λ word. is_option_of_calendar word.now) words.now }
+/// Whether each word is an option of the verb.
+fn are_known(verb: Verb, words: &[&str]) -> bool
+    ensures { result ≡ list_all (λ word. is_option_of verb word.now) words.now }
 {
-    words.iter().all(|word| is_known(word))
+    words.iter().all(|word| is_known(verb, word))
+}
+
+/// The base that the words give, for a verb that seeks elapses.
+fn base_in<'a>(verb: Verb, words: &[&'a str]) -> Option<Base<'a>>
+    ensures value { option_map (λ base. option_copied base.text) result ≡ base_in verb (texts_of words.now) }
+    ensures none { IfSome result (λ base. seeks_elapses verb ≡ false → base.text ≡ None) }
+{
+    if !verb.seeks_elapses() {
+        return Some(Base { text: None });
+    }
+    match value_of(words, "--base-time=") {
+        Given::Never => Some(Base { text: None }),
+        Given::Once(text) => Some(Base { text: Some(text) }),
+        Given::Twice => None,
+    }
 }
 
 /// How many elapses the words ask for: 1 where they don't say.
@@ -196,11 +240,25 @@ fn now_in(words: &[&str]) -> Option<Instant>
     }
 }
 
-/// Whether a word is an option of `calendar`.
-fn is_known(word: &str) -> bool
-    ensures { result ≡ is_option_of_calendar word.now }
+/// Whether a word is an option of the verb.
+fn is_known(verb: Verb, word: &str) -> bool
+    ensures { result ≡ is_option_of verb word.now }
 {
-    word.starts_with("--iterations=") || word.starts_with("--now=")
+    match verb {
+        Verb::Calendar => is_of_elapses(word),
+        Verb::Timestamp => word.starts_with("--now="),
+        Verb::Timespan => false,
+    }
+}
+
+/// Whether a word is an option of a verb that seeks elapses.
+fn is_of_elapses(word: &str) -> bool
+    ensures { result ≡ is_option_of Calendar word.now }
+{
+    if word.starts_with("--now=") {
+        return true;
+    }
+    word.starts_with("--iterations=") || word.starts_with("--base-time=")
 }
 
 /// What the words give for the option that begins so.

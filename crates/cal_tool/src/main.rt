@@ -9,13 +9,17 @@ pub mod accepted;
 pub mod buffered;
 pub mod calendar_report;
 pub mod command;
+pub mod context;
 pub mod early_words;
+pub mod elapse_lines;
 pub mod load_zone;
 pub mod report;
+pub mod report_fault;
+pub mod report_lines;
 pub mod request;
-pub mod search;
 pub mod stop;
 pub mod timespan_report;
+pub mod timestamp_report;
 
 use crate::buffered::run_buffered;
 use crate::command::Command;

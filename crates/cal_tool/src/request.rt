@@ -5,8 +5,22 @@
 pub enum Verb {
     /// The normal form of a calendar expression and its next elapses.
     Calendar,
+    /// The instant that a timestamp means.
+    Timestamp,
     /// How long a time span is.
     Timespan,
+}
+
+impl Verb {
+    ghost use Rattle.std.specs.Prelude.{◌≡◌};
+    ghost use Rattle.cal_tool.specs.Request.{seeks_elapses};
+
+    /// Whether the verb seeks elapses: such a verb alone has a base, and takes memory.
+    pub fn seeks_elapses(self) -> bool
+        ensures { result ≡ seeks_elapses self }
+    {
+        matches!(self, Verb::Calendar)
+    }
 }
 
 /// How many elapses a request can ask for at most.

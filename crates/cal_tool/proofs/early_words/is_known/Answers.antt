@@ -1,17 +1,12 @@
 use Rattle.std.proofs.Common.{refl, codes}
 use Rattle.std.proofs.lemmas.Str.Pattern.{starts_text}
-use Rattle.cal_tool.specs.Command.{is_option_of_calendar}
+use Rattle.cal_tool.specs.Command.{is_option_of}
 use Rattle.cal_tool.proofs.early_words.is_known.Goals as goal
 
-pub returns-then-starts_with : goal.returns-then-starts_with
-unfolding is_option_of_calendar
-returns-then-starts_with c =
-    let first = starts_text c.starts_with.result (codes "--iterations=") c.args.word.now c.starts_with.ensures.cases in
-    rw (← first, c.if-starts_with.true) refl
+pub returns-in-Timestamp : goal.returns-in-Timestamp
+unfolding is_option_of
+returns-in-Timestamp c = rw c.in-Timestamp.is (starts_text c.starts_with.result (codes "--now=") c.args.word.now c.starts_with.ensures.cases)
 
-pub returns-else-starts_with : goal.returns-else-starts_with
-unfolding is_option_of_calendar
-returns-else-starts_with c =
-    let first = starts_text c.starts_with.result (codes "--iterations=") c.args.word.now c.starts_with.ensures.cases in
-    let second = starts_text c.starts_with-else-starts_with.result (codes "--now=") c.args.word.now c.starts_with-else-starts_with.ensures.cases in
-    rw (← first, c.if-starts_with.false, ← second) refl
+pub returns-in-Timespan : goal.returns-in-Timespan
+unfolding is_option_of
+returns-in-Timespan c = rw c.in-Timespan.is refl

@@ -17,7 +17,7 @@ loop-text-init g c =
 
 pub loop-text-preserved : goal.loop-text-preserved
 loop-text-preserved g c =
-    let next = texts-drop string_bytes c.args.request.now.texts.items c.loop-text.text-index c.text-item.result c.as_str.result.now (omega arith) (rw c.deref-text-items.ensures.value at c.text-item.is) c.as_str.ensures.value in
+    let next = texts-drop string_bytes c.args.context.request.now.texts.items c.loop-text.text-index c.text-item.result c.as_str.result.now (omega arith) (rw c.deref-text-items.ensures.value at c.text-item.is) c.as_str.ensures.value in
     record {
       out_works = c.in-Ok.ensures.out_failed;
       err_works = c.in-Ok.ensures.err_failed;
@@ -28,25 +28,25 @@ loop-text-preserved g c =
 
 pub returns-in-Err-clause-out : goal.returns-in-Err-clause-out
 returns-in-Err-clause-out g c =
-    let next = texts-drop string_bytes c.args.request.now.texts.items c.loop-text.text-index c.text-item.result c.as_str.result.now (omega arith) (rw c.deref-text-items.ensures.value at c.text-item.is) c.as_str.ensures.value in
+    let next = texts-drop string_bytes c.args.context.request.now.texts.items c.loop-text.text-index c.text-item.result c.as_str.result.now (omega arith) (rw c.deref-text-items.ensures.value at c.text-item.is) c.as_str.ensures.value in
     out_stops _ _ _ _ _ _ _ _ _ next c.loop-text.invariant.out c.in-Err.ensures.out
 
 pub returns-in-Err-clause-err : goal.returns-in-Err-clause-err
 returns-in-Err-clause-err g c =
-    let next = texts-drop string_bytes c.args.request.now.texts.items c.loop-text.text-index c.text-item.result c.as_str.result.now (omega arith) (rw c.deref-text-items.ensures.value at c.text-item.is) c.as_str.ensures.value in
+    let next = texts-drop string_bytes c.args.context.request.now.texts.items c.loop-text.text-index c.text-item.result c.as_str.result.now (omega arith) (rw c.deref-text-items.ensures.value at c.text-item.is) c.as_str.ensures.value in
     err_stops _ _ _ _ _ _ _ _ next c.loop-text.invariant.err c.in-Err.ensures.err
 
 pub returns-clause-status : goal.returns-clause-status
 returns-clause-status g c =
-    let end = texts-end string_bytes c.args.request.now.texts.items c.loop-text.text-index (omega arith) in
+    let end = texts-end string_bytes c.args.context.request.now.texts.items c.loop-text.text-index (omega arith) in
     sym (status_left-none _ _) ∙ ap (status_left _ _) (sym end) ∙ c.loop-text.invariant.status
 
 pub returns-clause-out : goal.returns-clause-out
 returns-clause-out g c =
-    let end = texts-end string_bytes c.args.request.now.texts.items c.loop-text.text-index (omega arith) in
+    let end = texts-end string_bytes c.args.context.request.now.texts.items c.loop-text.text-index (omega arith) in
     done _ _ _ (respell _ _ _ _ _ c.loop-text.invariant.out (ap (reports_left _ _) end ∙ reports_left-none _ _))
 
 pub returns-clause-err : goal.returns-clause-err
 returns-clause-err g c =
-    let end = texts-end string_bytes c.args.request.now.texts.items c.loop-text.text-index (omega arith) in
+    let end = texts-end string_bytes c.args.context.request.now.texts.items c.loop-text.text-index (omega arith) in
     done _ _ _ (respell _ _ _ _ _ c.loop-text.invariant.err (ap (refusals_text _) end ∙ refusals-none _))

@@ -5,15 +5,15 @@ use Rattle.std.specs.String.{string_bytes}
 use Rattle.cal_base.specs.Bytes.{Leaves}
 use Rattle.cal_tool.specs.Answer.{reports_text, refusals_text, whole_status}
 use Rattle.cal_tool.specs.Report.{answer_to}
-use Rattle.cal_tool.specs.Request.{asked}
+use Rattle.cal_tool.specs.Context.{asked_by}
 use Rattle.cal_tool.proofs.AnswerLemmas.{reports_left, status_left}
 use Rattle.cal_tool.proofs.report.answer_all.Given as goal
 
 abbrev pub invariant-loop-text : goal.invariant-loop-text
 invariant-loop-text g l =
-    let answer = answer_to (asked l.request l.now.secs) in
-    let all = map string_bytes l.request.texts.items in
-    let rest = map string_bytes (drop l.text-index l.request.texts.items) in
+    let answer = answer_to (asked_by l.context) l.context.base.secs in
+    let all = map string_bytes l.context.request.now.texts.items in
+    let rest = map string_bytes (drop l.text-index l.context.request.now.texts.items) in
     record {
       out_works : g.O.Sink.is_failed l.out ≡ false;
       err_works : g.E.Sink.is_failed l.err ≡ false;

@@ -1,0 +1,136 @@
+-- The window is ready at first, and after each match that is placed.
+use Rattle.std.proofs.Common.{◌≡◌, ℕ, ◌+◌, ◌-◌, ◌<◌, ◌≤◌, List, Option, None, Some, ℤ, pos, ◌+ℤ◌, ◌≤ℤ◌, sym, ap, subst, arith, true, [], ◌^◌, unsigned_abs, to_z, of_z, w64, negsuc, refl}
+use Rattle.std.proofs.lemmas.Int.{ints, to_z_pos}
+use Rattle.jiff.proofs.SpanFacts.{signed_arith}
+use Rattle.cal_base.specs.Instant.{IsInstant}
+use Rattle.cal_spec.specs.Fields.{Fields}
+use Rattle.cal_spec.specs.Members.{sets_of}
+use Rattle.cal_elapse.specs.Timed.{timed}
+use Rattle.cal_base.specs.Local.{seconds_in_all, seconds_in_all-is}
+use Rattle.cal_base.specs.Place.{place_of}
+use Rattle.cal_base.specs.Zone.{zone_of}
+use Rattle.cal_base.specs.declared.zone.Zone.{Zone}
+use Rattle.cal_elapse.specs.Elapses.{Timed}
+use Rattle.cal_elapse.specs.Masks.{sets_in}
+use Rattle.cal_elapse.specs.Rest.{rest_of}
+use Rattle.cal_elapse.specs.RisingList.{Has}
+use Rattle.cal_elapse.specs.Search.{IsFirstPassing, NonePasses}
+use Rattle.cal_elapse.specs.Window.{IsMatchAhead, IsReady, Windowed, bound_of, count_from, start_of, timed_by, timed_in, with_place}
+use Rattle.cal_elapse.specs.declared.masks.Masks.{Masks}
+use Rattle.cal_elapse.specs.declared.searcher.Searcher.{Searcher}
+use Rattle.cal_elapse.specs.declared.window.Window.{Window}
+use Rattle.cal_elapse.proofs.CountLemmas.{count_from-begun, count_from-most, count_from-on}
+use Rattle.cal_elapse.proofs.WindowLemmas.{timed_by-near, windowed_on, windowed_put, windowed_start}
+use Rattle.cal_spec.specs.Match.{matches}
+
+-- what the search answered
+pub record IsNext (e : Timed) (from : ℕ) (answer : Option ℕ) : Type 0 where
+  pub low : from ≤ bound_of answer
+  pub none : NonePasses e.matches from (bound_of answer)
+  pub found : IsMatchAhead e answer
+
+next_by : (e : Timed) (from : ℕ) (found : Option ℕ) → from ≤ seconds_in_all → IsFirstPassing e.matches from seconds_in_all found → IsNext e from found
+next_by e from None h none = record { low = h; none = none; found = tt }
+next_by e from (Some local) h first = record { low = first.0; none = first.3; found = (first.1, first.2) }
+
+pub is_next : (masks : Masks) (zone : Zone) (from : ℕ) (found : Option ℕ) → from ≤ seconds_in_all → IsFirstPassing (matches (sets_in masks)) from seconds_in_all found
+    → IsNext (timed_by masks zone) from found
+unfolding timed_by
+is_next masks zone from found h first = next_by (timed_by masks zone) from found h first
+
+-- the same masks after a search
+pub ready_after : (v : Window) (searcher : Searcher) (ahead : Option ℕ) (pending : List ℤ) → searcher.masks ≡ v.searcher.masks → pos 0 ≤ℤ v.base → v.base ≤ℤ v.last
+    → Windowed (timed_in v) (start_of v.base) (bound_of ahead) v.last pending → IsMatchAhead (timed_in v) ahead → start_of v.base ≤ bound_of ahead
+    → searcher.searches ≡ count_from (timed_in v).matches (start_of v.base) (bound_of ahead - start_of v.base) + 1
+    → IsReady (record v { searcher = searcher; ahead = ahead; pending = pending })
+ready_after v searcher ahead pending masks low above windowed found begun counted =
+    let same : timed_in v ≡ timed_by searcher.masks v.zone = ap (λ m. timed_by m v.zone) (sym masks) in
+    record {
+      windowed = subst (λ (e : Timed). Windowed e (start_of v.base) (bound_of ahead) v.last pending) same windowed;
+      found = subst (λ (e : Timed). IsMatchAhead e ahead) same found;
+      low = low;
+      above = above;
+      begun = begun;
+      counted = subst (λ (e : Timed). searcher.searches ≡ count_from e.matches (start_of v.base) (bound_of ahead - start_of v.base) + 1) same counted;
+    }
+
+put_at : (masks : Masks) (zone : Zone) (from bound : ℕ) (last : ℤ) (xs : List ℤ) → Windowed (timed_by masks zone) from bound last xs → (timed_by masks zone).matches bound ≡ true
+    → ((i : ℤ) → Has xs i → pos bound ≤ℤ (i +ℤ pos 93_599)) → Windowed (timed_by masks zone) from (bound + 1) last (with_place (place_of (zone_of zone) (pos bound)) last xs)
+unfolding timed_by
+put_at masks zone from bound last xs w holds near = windowed_put (timed_by masks zone) from bound last xs (timed_by-near masks zone) w holds near
+
+-- a match is placed and the next is found
+pub placed_ready : (v : Window) (local : ℕ) (searcher : Searcher) (ahead : Option ℕ) (pending : List ℤ) → IsReady v → v.ahead ≡ Some local
+    → ((i : ℤ) → Has v.pending i → pos local ≤ℤ (i +ℤ pos 93_599)) → searcher.masks ≡ v.searcher.masks → searcher.searches ≡ v.searcher.searches + 1
+    → IsFirstPassing (matches (sets_in v.searcher.masks)) (local + 1) seconds_in_all ahead → pending ≡ with_place (place_of (zone_of v.zone) (pos local)) v.last v.pending
+    → IsReady (record v { searcher = searcher; ahead = ahead; pending = pending })
+placed_ready v local searcher ahead pending h at near masks more first put =
+    let e = timed_in v in
+    let start = start_of v.base in
+    let here = subst (λ (o : Option ℕ). Windowed e start (bound_of o) v.last v.pending) at h.windowed in
+    let match_here = subst (IsMatchAhead e) at h.found in
+    let begun = subst (λ (o : Option ℕ). start ≤ bound_of o) at h.begun in
+    let counted = subst (λ (o : Option ℕ). v.searcher.searches ≡ count_from e.matches start (bound_of o - start) + 1) at h.counted in
+    let next = is_next v.searcher.masks v.zone (local + 1) ahead (omega arith) first in
+    let done = put_at v.searcher.masks v.zone start local v.last v.pending here match_here.1 near in
+    let on = windowed_on e start (local + 1) (bound_of ahead) v.last _ next.low next.none done in
+    let count = count_from-on e.matches start local (bound_of ahead) begun next.low match_here.1 next.none in
+    ready_after v searcher ahead pending masks h.low h.above (subst (Windowed e start (bound_of ahead) v.last) (sym put) on) next.found (omega arith) (omega arith)
+
+-- so few searches were made
+pub few_searches : (v : Window) (local : ℕ) → IsReady v → v.ahead ≡ Some local → v.searcher.searches ≤ seconds_in_all
+few_searches v local h at =
+    let e = timed_in v in
+    let start = start_of v.base in
+    let match_here = subst (IsMatchAhead e) at h.found in
+    let most = count_from-most e.matches start (bound_of v.ahead - start) in
+    let bound : bound_of v.ahead ≡ local = ap bound_of at in
+    let counted = h.counted in
+    omega arith
+
+pub ahead_inside : (v : Window) (local : ℕ) → IsReady v → v.ahead ≡ Some local → local < seconds_in_all
+ahead_inside v local h at = (subst (IsMatchAhead (timed_in v)) at h.found).0
+
+-- the members are the places of earlier local seconds
+pub placed_before : (v : Window) (local : ℕ) → IsReady v → v.ahead ≡ Some local → (i : ℤ) → Has v.pending i → i ≤ℤ (pos local +ℤ pos 93_599)
+placed_before v local h at i m =
+    let bound : bound_of v.ahead ≡ local = ap bound_of at in
+    let place = ((h.windowed.members i).0 m).1 in
+    let near = (timed_by-near v.searcher.masks v.zone place.local i place.placed).1 in
+    let early = place.below in
+    omega (arith, ints)
+
+-- where the first search begins
+pub start_is : (secs : ℤ) → IsInstant secs → unsigned_abs (to_z w64 (of_z w64 secs)) - 93_599 ≡ start_of secs
+start_is (pos n) h =
+    let small : n < 2 ^ 63 = omega (arith, signed_arith, h.1) in
+    rw (to_z_pos w64 n small) refl
+start_is (negsuc n) h = absurd (omega (arith, signed_arith, h.0))
+
+pub start_inside : (secs : ℤ) → IsInstant secs → start_of secs ≤ seconds_in_all
+start_inside (pos n) h = let count = seconds_in_all-is in omega (arith, signed_arith, h.1)
+start_inside (negsuc n) h = absurd (omega (arith, signed_arith, h.0))
+
+-- the window before anything is placed
+pub begun_ready : (searcher after : Searcher) (zone : Zone) (base : ℤ) (ahead : Option ℕ) (pending : List ℤ) → IsInstant base → searcher.searches ≡ 0
+    → after.masks ≡ searcher.masks → after.searches ≡ searcher.searches + 1 → pending ≡ [] → IsFirstPassing (matches (sets_in searcher.masks)) (start_of base) seconds_in_all ahead
+    → IsReady (record { searcher = after; zone = zone; base = base; ahead = ahead; last = base; pending = pending })
+begun_ready searcher after zone base ahead pending instant zero masks more none first =
+    let v : Window = record { searcher = searcher; zone = zone; base = base; ahead = ahead; last = base; pending = pending } in
+    let e = timed_by searcher.masks zone in
+    let start = start_of base in
+    let next = is_next searcher.masks zone start ahead (start_inside base instant) first in
+    let empty = windowed_start e base (timed_by-near searcher.masks zone) instant.0 in
+    let on = windowed_on e start start (bound_of ahead) base [] next.low next.none empty in
+    let count = count_from-begun e.matches start (bound_of ahead) next.low next.none in
+    ready_after v after ahead pending masks instant.0 (omega (arith, ints)) (subst (Windowed e start (bound_of ahead) base) (sym none) on) next.found next.low (omega arith)
+
+-- the masks of an expression mean in a zone what the expression does
+pub timed_by-timed : (masks : Masks) (zone : Zone) (fields : Fields) → sets_in masks ≡ sets_of fields → timed_by masks zone ≡ timed fields (zone_of zone)
+unfolding timed_by timed
+timed_by-timed masks zone fields same = λ i. record { matches = matches (same i); place = λ local. place_of (zone_of zone) (pos local) }
+
+-- the same rest
+pub rest_of-same : (v w : Window) → timed_in v ≡ timed_in w → v.last ≡ w.last → rest_of v ≡ rest_of w
+unfolding rest_of
+rest_of-same v w timed last = rw (timed, last)

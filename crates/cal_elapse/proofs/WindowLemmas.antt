@@ -1,0 +1,298 @@
+-- What stays true of the pending instants as matches are placed, and what of them is the first elapse.
+use Rattle.std.proofs.Common.{◌≡◌, ◌⊎◌, ℕ, ◌+◌, ◌<◌, ◌≤◌, cond, Bool, true, false, List, [], ◌∷◌, inl, inr, Option, None, Some, ℤ, pos, negsuc, ◌+ℤ◌, ◌-ℤ◌, ◌<ℤ◌, ◌≤ℤ◌, int_lt, refl, sym, ap, ◌∙◌, subst, arith, to_z, w64}
+use Rattle.std.proofs.lemmas.Bool.{cases_eq, cases_lt}
+use Rattle.std.proofs.lemmas.Int.{ints, to_z_pos}
+use Rattle.jiff.proofs.SpanFacts.{signed_arith}
+use Rattle.cal_base.specs.Local.{seconds_in_all, seconds_in_all-is}
+use Rattle.cal_base.specs.declared.zone.Zone.{Zone}
+use Rattle.cal_base.specs.Place.{place_of}
+use Rattle.jiff.specs.Types.{TimeZone}
+use Rattle.cal_elapse.specs.Near.{IsNear}
+use Rattle.cal_base.proofs.PlaceLemmas.{within}
+use Rattle.cal_elapse.specs.declared.masks.Masks.{Masks}
+use Rattle.cal_elapse.specs.Elapses.{Timed, IsPlace, elapses_after}
+use Rattle.cal_elapse.specs.RisingList.{Has, IsRising, first, later, placed}
+use Rattle.cal_elapse.specs.Search.{NonePasses}
+use Rattle.cal_elapse.specs.Window.{IsMatchAhead, IsPlacedBelow, IsReady, Windowed, bound_of, start_of, timed_by, timed_in, to_place, with_place}
+use Rattle.cal_elapse.specs.declared.window.Window.{Window}
+use Rattle.cal_elapse.proofs.ElapsesLemmas.{elapses_after-first, first_elapse-least, first_elapse-none}
+use Rattle.cal_elapse.proofs.RisingLemmas.{Has-placed, IsRising-placed, above_has, later_members, list-first, lt_test, not_lt_test}
+
+-- a place is near its local second
+abbrev pub AreNear : Timed → Type 0
+AreNear e = (local : ℕ) (i : ℤ) → e.place local ≡ Some i → (pos local ≤ℤ (i +ℤ pos 93_599)) × (i ≤ℤ (pos local +ℤ pos 93_599))
+
+pub timed_by-near : (masks : Masks) (zone : Zone) → AreNear (timed_by masks zone)
+unfolding timed_by
+timed_by-near masks zone local i placed =
+    let near = within _ (pos local) i placed in
+    (omega (arith, signed_arith, near), omega (arith, signed_arith, near))
+
+contradiction : {A : Type 0} (b : Bool) → b ≡ true → b ≡ false → A
+contradiction b holds fails = absurd (cc)
+
+-- a bound further on
+placed_on : (e : Timed) (a b : ℕ) (i : ℤ) → a ≤ b → IsPlacedBelow e a i → IsPlacedBelow e b i
+placed_on e a b i h p = record { local = p.local; below = omega arith; is_match = p.is_match; placed = p.placed }
+
+-- what is placed below the next bound is placed here or below this one
+placed_split : (e : Timed) (bound : ℕ) (i : ℤ) → IsPlacedBelow e (bound + 1) i → (e.place bound ≡ Some i) ⊎ IsPlacedBelow e bound i
+placed_split e bound i p =
+    elim (cases_eq p.local bound) [
+      | inl same ↦ inl (subst (λ (t : ℕ). e.place t ≡ Some i) same p.placed)
+      | inr other ↦ inr (record { local = p.local; below = omega arith; is_match = p.is_match; placed = p.placed })
+    ]
+
+-- the matches up to the bound are no later than a member by more than a place can be
+reach_on : (e : Timed) (from bound : ℕ) (i : ℤ) → ((t : ℕ) → from ≤ t → t < bound → e.matches t ≡ true → pos t ≤ℤ (i +ℤ pos 93_599))
+    → pos bound ≤ℤ (i +ℤ pos 93_599) → (t : ℕ) → from ≤ t → t < bound + 1 → e.matches t ≡ true → pos t ≤ℤ (i +ℤ pos 93_599)
+reach_on e from bound i before here t low high m =
+    elim (cases_eq t bound) [
+      | inl same ↦ subst (λ (s : ℕ). pos s ≤ℤ (i +ℤ pos 93_599)) (sym same) here
+      | inr other ↦ before t low (omega arith) m
+    ]
+
+up_to : (bound t : ℕ) (i : ℤ) → pos bound ≤ℤ (i +ℤ pos 93_599) → t < bound + 1 → pos t ≤ℤ (i +ℤ pos 93_599)
+up_to bound t i h k = omega (arith, ints)
+
+not_above : {A : Type 0} (last p i : ℤ) → int_lt last p ≡ false → p ≡ i → last <ℤ i → A
+not_above last p i h e k =
+    let le : p ≤ℤ last = grind (arith, ints) in
+    absurd (omega (arith, ints))
+
+is_above : (last p : ℤ) → int_lt last p ≡ true → last <ℤ p
+is_above last p h = grind (arith, ints)
+
+put_none : (e : Timed) (from bound : ℕ) (last : ℤ) (xs : List ℤ) → Windowed e from bound last xs
+    → ((i : ℤ) → last <ℤ i → e.place bound ≡ Some i → ⊥) → ((i : ℤ) → Has xs i → pos bound ≤ℤ (i +ℤ pos 93_599)) → Windowed e from (bound + 1) last xs
+put_none e from bound last xs w nowhere near = record {
+  rises = w.rises;
+  members = λ i. (
+    λ m. (((w.members i).0 m).0, placed_on e bound (bound + 1) i (omega arith) ((w.members i).0 m).1),
+    λ p. elim (placed_split e bound i p.1) [ inl here ↦ absurd (nowhere i p.0 here) | inr q ↦ (w.members i).1 (p.0, q) ],
+  );
+  reach = λ i m. reach_on e from bound i (w.reach i m) (near i m);
+}
+
+put_some : (e : Timed) (from bound : ℕ) (last p : ℤ) (xs : List ℤ) → Windowed e from bound last xs → e.matches bound ≡ true → e.place bound ≡ Some p
+    → last <ℤ p → pos bound ≤ℤ (p +ℤ pos 93_599) → ((i : ℤ) → Has xs i → pos bound ≤ℤ (i +ℤ pos 93_599)) → Windowed e from (bound + 1) last (placed p xs)
+put_some e from bound last p xs w is_match at above far near = record {
+  rises = IsRising-placed p xs w.rises;
+  members = λ i. (
+    λ m. elim ((Has-placed p xs i).0 m) [
+      | inl same ↦ (
+        subst (λ (j : ℤ). last <ℤ j) same above,
+        record { local = bound; below = omega arith; is_match = is_match; placed = at ∙ ap Some same },
+      )
+      | inr k ↦ (((w.members i).0 k).0, placed_on e bound (bound + 1) i (omega arith) ((w.members i).0 k).1)
+    ],
+    λ q. (Has-placed p xs i).1 (elim (placed_split e bound i q.1) [ inl here ↦ inl (cc) | inr r ↦ inr ((w.members i).1 (q.0, r)) ]),
+  );
+  reach = λ i m. elim ((Has-placed p xs i).0 m) [
+    | inl same ↦ λ t low high k. up_to bound t i (subst (λ (j : ℤ). pos bound ≤ℤ (j +ℤ pos 93_599)) same far) high
+    | inr k ↦ reach_on e from bound i (w.reach i k) (near i k)
+  ];
+}
+
+put_test : (e : Timed) (from bound : ℕ) (last p : ℤ) (xs : List ℤ) (b : Bool) → int_lt last p ≡ b → AreNear e → Windowed e from bound last xs → e.matches bound ≡ true
+    → e.place bound ≡ Some p → ((i : ℤ) → Has xs i → pos bound ≤ℤ (i +ℤ pos 93_599)) → Windowed e from (bound + 1) last (cond b (placed p xs) xs)
+put_test e from bound last p xs true test near w is_match at close =
+    put_some e from bound last p xs w is_match at (is_above last p test) (near bound p at).0 close
+put_test e from bound last p xs false test near w is_match at close =
+    put_none e from bound last xs w (λ i above here. let same : p ≡ i = cc in not_above last p i test same above) close
+
+put_by : (e : Timed) (from bound : ℕ) (last : ℤ) (xs : List ℤ) (o : Option ℤ) → AreNear e → Windowed e from bound last xs → e.matches bound ≡ true → e.place bound ≡ o
+    → ((i : ℤ) → Has xs i → pos bound ≤ℤ (i +ℤ pos 93_599)) → Windowed e from (bound + 1) last (with_place o last xs)
+put_by e from bound last xs None near w is_match at close = put_none e from bound last xs w (λ i above here. absurd (cc)) close
+put_by e from bound last xs (Some p) near w is_match at close =
+    put_test e from bound last p xs (int_lt last p) refl near w is_match at close
+
+-- the match at the bound is placed
+pub windowed_put : (e : Timed) (from bound : ℕ) (last : ℤ) (xs : List ℤ) → AreNear e → Windowed e from bound last xs → e.matches bound ≡ true
+    → ((i : ℤ) → Has xs i → pos bound ≤ℤ (i +ℤ pos 93_599)) → Windowed e from (bound + 1) last (with_place (e.place bound) last xs)
+windowed_put e from bound last xs near w is_match close = put_by e from bound last xs (e.place bound) near w is_match refl close
+
+none_between : (e : Timed) (a b t : ℕ) → NonePasses e.matches a b → t < b → e.matches t ≡ true → t < a
+none_between e a b t none below m =
+    elim (cases_lt t a) [ inl early ↦ early | inr late ↦ contradiction (e.matches t) m (none t late below) ]
+
+-- where none matches up to a later bound, nothing more is to be placed
+pub windowed_on : (e : Timed) (from a b : ℕ) (last : ℤ) (xs : List ℤ) → a ≤ b → NonePasses e.matches a b → Windowed e from a last xs → Windowed e from b last xs
+windowed_on e from a b last xs h none w = record {
+  rises = w.rises;
+  members = λ i. (
+    λ m. (((w.members i).0 m).0, placed_on e a b i h ((w.members i).0 m).1),
+    λ p. (w.members i).1 (
+      p.0,
+      record {
+        local = p.1.local;
+        below = none_between e a b p.1.local none p.1.below p.1.is_match;
+        is_match = p.1.is_match;
+        placed = p.1.placed;
+      },
+    ),
+  );
+  reach = λ i m t low high k. w.reach i m t low (none_between e a b t none high k) k;
+}
+
+chained : (a b c : ℤ) → a <ℤ b → b <ℤ c → a <ℤ c
+chained a b c h k = omega (arith, ints)
+
+-- the first member is given
+pub windowed_later : (e : Timed) (from bound : ℕ) (last x : ℤ) (xs : List ℤ) → Windowed e from bound last (x ∷ xs) → Windowed e from bound x xs
+windowed_later e from bound last x xs w =
+    let above = ((w.members x).0 (inl refl)).0 in
+    record {
+      rises = w.rises.1;
+      members = λ i. (
+        λ m. (((later_members x xs w.rises i).0 m).0, ((w.members i).0 (inr m)).1),
+        λ p. (later_members x xs w.rises i).1 (p.0, (w.members i).1 (chained last x i above p.0, p.1)),
+      );
+      reach = λ i m. w.reach i (inr m);
+    }
+
+too_early : (base : ℤ) (t : ℕ) (i : ℤ) → pos 0 ≤ℤ base → t < start_of base → i ≤ℤ (pos t +ℤ pos 93_599) → base <ℤ i → ⊥
+too_early (pos b) t i low early near above = omega (arith, ints)
+too_early (negsuc n) t i low early near above = omega (arith, ints)
+
+-- nothing is placed at first
+pub windowed_start : (e : Timed) (base : ℤ) → AreNear e → pos 0 ≤ℤ base → Windowed e (start_of base) (start_of base) base []
+windowed_start e base near low = record {
+  rises = tt;
+  members = λ i. (
+    λ m. absurd m,
+    λ p. too_early base p.1.local i low p.1.below (near p.1.local i p.1.placed).1 p.0,
+  );
+  reach = λ i m. absurd m;
+}
+
+placed_of : (e : Timed) (i : ℤ) → IsPlace e i → IsPlacedBelow e seconds_in_all i
+placed_of e i p = record { local = p.local; below = p.within; is_match = p.is_match; placed = p.placed }
+
+elapse_of : (e : Timed) (bound : ℕ) (i : ℤ) → bound ≤ seconds_in_all → IsPlacedBelow e bound i → IsPlace e i
+elapse_of e bound i h p = record { local = p.local; within = omega arith; is_match = p.is_match; placed = p.placed }
+
+no_more : {A : Type 0} (local : ℕ) → ◌≡◌ {A = Option ℕ} (Some local) None → A
+no_more local h = absurd (cc)
+
+-- with nothing pending all is placed
+all_placed : (ahead : Option ℕ) → to_place ahead None ≡ None → ahead ≡ None
+all_placed None h = refl
+all_placed (Some local) h = no_more local h
+
+bound_in : (e : Timed) (ahead : Option ℕ) → IsMatchAhead e ahead → bound_of ahead ≤ seconds_in_all
+bound_in e None h = omega arith
+bound_in e (Some local) h = omega arith
+
+by_test : (b : Bool) (local : ℕ) → ◌≡◌ {A = Option ℕ} (cond b None (Some local)) None → b ≡ true
+by_test true local h = refl
+by_test false local h = no_more local h
+
+-- a match that isn't placed has its place above the least member that can be given
+later_place : (ahead : Option ℕ) (x j : ℤ) (t : ℕ) → to_place ahead (Some x) ≡ None → bound_of ahead ≤ t → t < seconds_in_all → pos t ≤ℤ (j +ℤ pos 93_599) → x ≤ℤ j
+later_place None x j t full late inside near = absurd (omega arith)
+later_place (Some local) x j t full late inside near =
+    let test = by_test (int_lt x (pos local -ℤ pos 93_599)) local full in
+    let early : x <ℤ (pos local -ℤ pos 93_599) = is_above x (pos local -ℤ pos 93_599) test in
+    omega (arith, ints)
+
+at_least : (x j : ℤ) (xs : List ℤ) → IsRising (x ∷ xs) → Has (x ∷ xs) j → x ≤ℤ j
+at_least x j xs h (inl e) = subst (λ (k : ℤ). x ≤ℤ k) e (omega (arith, ints))
+at_least x j xs h (inr m) = let up = above_has x j xs h.0 m in omega (arith, ints)
+
+least_place : (e : Timed) (from : ℕ) (ahead : Option ℕ) (last x j : ℤ) (xs : List ℤ) → AreNear e → Windowed e from (bound_of ahead) last (x ∷ xs)
+    → to_place ahead (Some x) ≡ None → last <ℤ j → IsPlace e j → x ≤ℤ j
+least_place e from ahead last x j xs near w full above p =
+    elim (cases_lt p.local (bound_of ahead)) [
+      | inl early ↦ at_least x j xs w.rises ((w.members j).1 (above, record { local = p.local; below = early; is_match = p.is_match; placed = p.placed }))
+      | inr late ↦ later_place ahead x j p.local full late p.within (near p.local j p.placed).0
+    ]
+
+-- the first member is the first elapse, once nothing is to be placed before it
+pub full_first : (e : Timed) (from : ℕ) (ahead : Option ℕ) (last : ℤ) (xs : List ℤ) → AreNear e → Windowed e from (bound_of ahead) last xs → IsMatchAhead e ahead
+    → to_place ahead (first xs) ≡ None → first (elapses_after (e ∷ []) last) ≡ first xs
+full_first e from ahead last [] near w found full =
+    let none = all_placed ahead full in
+    first_elapse-none (e ∷ []) last (λ i above m. elim m [
+      | inl p ↦ (w.members i).1 (above, subst (λ (o : Option ℕ). IsPlacedBelow e (bound_of o) i) (sym none) (placed_of e i p))
+      | inr n ↦ n
+    ])
+full_first e from ahead last (x ∷ xs) near w found full =
+    let here = (w.members x).0 (inl refl) in
+    first_elapse-least (e ∷ []) last x here.0
+    (inl (elapse_of e (bound_of ahead) x (bound_in e ahead found) here.1))
+    (λ j above m. elim m [ inl p ↦ least_place e from ahead last x j xs near w full above p | inr n ↦ absurd n ])
+
+-- the window after its least member is given
+pub taken_ready : (v : Window) (i last : ℤ) (xs : List ℤ) → IsReady v → first v.pending ≡ Some i → last ≡ i → xs ≡ later v.pending
+    → IsReady (record v { last = last; pending = xs })
+taken_ready v i last xs h at same rest =
+    let all : v.pending ≡ last ∷ xs = list-first v.pending i at ∙ (λ k. sym same k ∷ sym rest k) in
+    let here = subst (Windowed (timed_in v) (start_of v.base) (bound_of v.ahead) v.last) all h.windowed in
+    let up = ((here.members last).0 (inl refl)).0 in
+    record {
+      windowed = windowed_later (timed_in v) (start_of v.base) (bound_of v.ahead) v.last last xs here;
+      found = h.found;
+      low = h.low;
+      above = omega (arith, ints, up, h.above);
+      begun = h.begun;
+      counted = h.counted;
+    }
+
+-- the member given is the first elapse
+pub first_given : (v : Window) → IsReady v → to_place v.ahead (first v.pending) ≡ None → first (elapses_after (timed_in v ∷ []) v.last) ≡ first v.pending
+first_given v h full = full_first (timed_in v) (start_of v.base) v.ahead v.last v.pending (timed_by-near v.searcher.masks v.zone) h.windowed h.found full
+
+pub later_given : (v : Window) (i last : ℤ) → IsReady v → to_place v.ahead (first v.pending) ≡ None → first v.pending ≡ Some i → last ≡ i
+    → elapses_after (timed_in v ∷ []) last ≡ later (elapses_after (timed_in v ∷ []) v.last)
+later_given v i last h full at same =
+    elapses_after-first (timed_in v ∷ []) v.last last (first_given v h full ∙ (at ∙ ap Some (sym same)))
+
+none_later : (xs : List ℤ) → first xs ≡ None → xs ≡ later xs
+none_later [] h = refl
+none_later (x ∷ xs) h = absurd (cc)
+
+pub none_given : (v : Window) → IsReady v → to_place v.ahead (first v.pending) ≡ None → first v.pending ≡ None
+    → elapses_after (timed_in v ∷ []) v.last ≡ later (elapses_after (timed_in v ∷ []) v.last)
+none_given v h full none = none_later (elapses_after (timed_in v ∷ []) v.last) (first_given v h full ∙ none)
+
+-- what is put, by the place that was found
+pub with_place-none : (o : Option ℤ) (last : ℤ) (xs : List ℤ) → o ≡ None → xs ≡ with_place o last xs
+with_place-none o last xs e = rw e refl
+
+pub with_place-given : (o : Option ℤ) (i last : ℤ) (xs : List ℤ) → o ≡ Some i → i ≤ℤ last → xs ≡ with_place o last xs
+with_place-given o i last xs e h = rw (e, not_lt_test last i h) refl
+
+pub with_place-above : (o : Option ℤ) (i last : ℤ) (xs : List ℤ) → o ≡ Some i → last <ℤ i → placed i xs ≡ with_place o last xs
+with_place-above o i last xs e h = rw (e, lt_test last i h) refl
+
+-- the place of a local second that lies no farther from a member than a place can is near to the member
+pub put_near : (tz : TimeZone) (local : ℕ) (place member : ℤ) → place_of tz (pos local) ≡ Some place → pos local ≤ℤ (member +ℤ pos 93_599)
+    → member ≤ℤ (pos local +ℤ pos 93_599) → IsNear member place
+put_near tz local place member at low high =
+    let near = within tz (pos local) place at in
+    (omega (arith, signed_arith, near), omega (arith, signed_arith, near))
+
+-- what is found at a local second is its place
+pub place_found : (tz : TimeZone) (local : ℕ) (found : Option ℤ) → local < seconds_in_all → found ≡ place_of tz (to_z w64 local) → place_of tz (pos local) ≡ found
+place_found tz local found inside e =
+    let count = seconds_in_all-is in
+    sym (e ∙ ap (place_of tz) (to_z_pos w64 local (omega arith)))
+
+by_match : (b : Bool) (m local : ℕ) → ◌≡◌ {A = Option ℕ} (cond b None (Some m)) (Some local) → (b ≡ false) × (m ≡ local)
+by_match true m local h = absurd (cc)
+by_match false m local h = (refl, cc)
+
+to_place-near : (ahead : Option ℕ) (x i : ℤ) (local : ℕ) → to_place ahead (Some x) ≡ Some local → x ≤ℤ i → pos local ≤ℤ (i +ℤ pos 93_599)
+to_place-near None x i local h le = absurd (cc)
+to_place-near (Some m) x i local h le =
+    let both = by_match (int_lt x (pos m -ℤ pos 93_599)) m local h in
+    let test = both.0 in
+    let same : m ≡ local = both.1 in
+    let far : (pos m -ℤ pos 93_599) ≤ℤ x = grind (arith, ints) in
+    omega (arith, ints)
+
+-- a match that is to be placed is no later than a member by more than a place can be
+pub near_members : (ahead : Option ℕ) (xs : List ℤ) (local : ℕ) → IsRising xs → to_place ahead (first xs) ≡ Some local → (i : ℤ) → Has xs i → pos local ≤ℤ (i +ℤ pos 93_599)
+near_members ahead [] local rises h i m = absurd m
+near_members ahead (x ∷ xs) local rises h i m = to_place-near ahead x i local h (at_least x i xs rises m)

@@ -1,0 +1,14 @@
+use Rattle.std.proofs.Common.{◌≡◌, ◌-◌}
+use Rattle.cal_base.specs.Local.{seconds_in_all}
+use Rattle.cal_elapse.specs.Window.{IsReady, bound_of, timed_in}
+use Rattle.cal_elapse.proofs.window.Window.fill.Given as goal
+
+abbrev pub invariant-loop-local : goal.invariant-loop-local
+invariant-loop-local l = record {
+  ready : IsReady l.self;
+  timed : timed_in l.self ≡ timed_in l.fn.self;
+  last : l.self.last ≡ l.fn.self.last;
+}
+
+abbrev pub decreases-loop-local : goal.decreases-loop-local
+decreases-loop-local l = seconds_in_all - bound_of l.self.ahead

@@ -1,0 +1,23 @@
+use Rattle.std.proofs.Common.{◌≡◌, ◌∙◌, ℕ, FitsSigned, ap, of_z, rules, subst, sym, to_z, w64}
+use Rattle.std.proofs.lemmas.Int.{to_z-of_z}
+use Rattle.cal_base.specs.Instant.{IsInstant}
+use Rattle.cal_base.specs.Local.{seconds_in_all}
+use Rattle.cal_elapse.specs.Masks.{sets_in}
+use Rattle.cal_elapse.specs.Search.{IsFirstPassing}
+use Rattle.cal_elapse.specs.Window.{start_of}
+use Rattle.cal_spec.specs.Match.{matches}
+use Rattle.cal_elapse.proofs.ReadyLemmas.{begun_ready, timed_by-timed}
+use Rattle.cal_elapse.proofs.window.Window.new.Goals as goal
+
+pub returns-clause-ready : goal.returns-clause-ready
+returns-clause-ready c =
+    let fits : FitsSigned w64 c.secs-base.result = search rules in
+    let base : c.args.base.secs ≡ to_z w64 (of_z w64 c.secs-base.result) = sym (to_z-of_z w64 c.secs-base.result fits ∙ c.secs-base.ensures.value) in
+    let begin = c.first_local.ensures.start ∙ ap start_of base in
+    begun_ready c.of-searcher.result c.next_local-ahead.new.self c.args.zone _ c.next_local-ahead.result c.in_ok-pending.pending (subst IsInstant base c.args.base.in_range) c.of-searcher.ensures.none
+    c.next_local-ahead.ensures.masks c.next_local-ahead.ensures.counted c.in_ok-pending.ensures
+    (subst (λ (from : ℕ). IsFirstPassing (matches (sets_in c.of-searcher.result.masks)) from seconds_in_all c.next_local-ahead.result) begin c.next_local-ahead.ensures.first)
+
+pub returns-clause-timed : goal.returns-clause-timed
+returns-clause-timed c =
+    timed_by-timed c.next_local-ahead.new.self.masks c.args.zone c.args.expr.now (ap sets_in c.next_local-ahead.ensures.masks ∙ c.of-searcher.ensures.masks)

@@ -1,0 +1,28 @@
+use Rattle.std.proofs.Common.{FitsSigned, arith, ap, rules, w64}
+use Rattle.std.proofs.lemmas.Int.{to_z-of_z}
+use Rattle.cal_base.specs.Local.{seconds_in_all-is}
+use Rattle.cal_elapse.specs.Window.{timed_by}
+use Rattle.cal_elapse.proofs.ReadyLemmas.{ahead_inside, few_searches, placed_before, placed_ready}
+use Rattle.cal_elapse.proofs.window.Window.place_one.Goals as goal
+
+pub put_place-requires-clause-before : goal.put_place-requires-clause-before
+put_place-requires-clause-before c = placed_before c.args.self.now c.args.local c.requires.ready c.requires.ahead
+
+pub overflow_add-local : goal.overflow_add-local
+overflow_add-local c =
+    let count = seconds_in_all-is in
+    let inside = ahead_inside c.args.self.now c.args.local c.requires.ready c.requires.ahead in
+    omega arith
+
+pub next_local-self-requires-clause-few : goal.next_local-self-requires-clause-few
+next_local-self-requires-clause-few c = few_searches c.args.self.now c.args.local c.requires.ready c.requires.ahead
+
+pub returns-clause-ready : goal.returns-clause-ready
+returns-clause-ready c =
+    let fits : FitsSigned w64 c.args.self.now.last = search rules in
+    placed_ready c.args.self.now c.args.local c.next_local-self.new.self c.next_local-self.result c.put_place.new.pending c.requires.ready c.requires.ahead c.requires.near
+    c.next_local-self.ensures.masks c.next_local-self.ensures.counted c.next_local-self.ensures.first
+    (rw (to_z-of_z w64 c.args.self.now.last fits) at c.in_ok-put_place.ensures.put)
+
+pub returns-clause-timed : goal.returns-clause-timed
+returns-clause-timed c = ap (λ masks. timed_by masks c.args.self.now.zone) c.next_local-self.ensures.masks

@@ -1,0 +1,41 @@
+use Rattle.std.proofs.Common.{◌∙◌, FitsSigned, ap, arith, rules, subst, sym, w64, ℤ}
+use Rattle.std.proofs.lemmas.Int.{ints, to_z-of_z, to_z_pos}
+use Rattle.std.proofs.lemmas.Result.{on_ok_weaker}
+use Rattle.jiff.proofs.SpanFacts.{signed_arith}
+use Rattle.cal_base.specs.Local.{seconds_in_all-is}
+use Rattle.cal_base.specs.Zone.{zone_of}
+use Rattle.cal_elapse.specs.Near.{IsNear}
+use Rattle.cal_elapse.specs.RisingList.{placed}
+use Rattle.cal_elapse.proofs.WindowLemmas.{place_found, put_near, with_place-above, with_place-given, with_place-none}
+use Rattle.cal_elapse.proofs.window.put_place.Goals as goal
+
+pub overflow_cast-local : goal.overflow_cast-local
+overflow_cast-local c = let count = seconds_in_all-is in omega (arith, signed_arith)
+
+pub place-requires : goal.place-requires
+place-requires c =
+    let count = seconds_in_all-is in
+    rw (to_z_pos w64 c.args.local (omega arith)) (omega (arith, ints), omega (arith, ints))
+
+pub returns-in_default-clause-put : goal.returns-in_default-clause-put
+returns-in_default-clause-put c = with_place-none _ c.args.last c.args.pending.now (place_found (zone_of c.args.zone) c.args.local c.place.result c.requires.local_in c.place.ensures ∙ c.in_default.is)
+
+pub returns-then-instant-last-clause-put : goal.returns-then-instant-last-clause-put
+returns-then-instant-last-clause-put c =
+    let h = c.if-instant-last.true in
+    with_place-given _ c.in-Some.instant c.args.last c.args.pending.now (place_found (zone_of c.args.zone) c.args.local c.place.result c.requires.local_in c.place.ensures ∙ c.in-Some.is) (search rules)
+
+pub put-requires : goal.put-requires
+put-requires c = λ member m.
+    let fits : FitsSigned w64 c.in-Some.instant = search rules in
+    subst (IsNear member) (sym (to_z-of_z w64 c.in-Some.instant fits))
+    (put_near (zone_of c.args.zone) c.args.local c.in-Some.instant member (place_found (zone_of c.args.zone) c.args.local c.place.result c.requires.local_in c.place.ensures ∙ c.in-Some.is) (c.requires.near member m) (c.requires.before member m))
+
+pub returns-clause-put : goal.returns-clause-put
+returns-clause-put c =
+    let fits : FitsSigned w64 c.in-Some.instant = search rules in
+    let above = c.if-instant-last.false in
+    on_ok_weaker c.put.result
+    (λ e. e ∙ (ap (λ (i : ℤ). placed i c.args.pending.now) (to_z-of_z w64 c.in-Some.instant fits)
+    ∙ with_place-above _ c.in-Some.instant c.args.last c.args.pending.now (place_found (zone_of c.args.zone) c.args.local c.place.result c.requires.local_in c.place.ensures ∙ c.in-Some.is) (search rules)))
+    c.put.ensures.added

@@ -1,0 +1,73 @@
+-- What is pending of an expression's elapses in a zone, while its matching local seconds are placed one after another.
+use Rattle.std.specs.Prelude.{◌≡◌, ◌↔◌, ◌+◌, ◌-◌, ◌<◌, ◌≤◌, cond, ℕ, zero, suc, Bool, true, List, Option, None, Some, ℤ, pos, negsuc, ◌+ℤ◌, ◌-ℤ◌, ◌<ℤ◌, ◌≤ℤ◌, int_lt}
+use Rattle.cal_base.specs.Local.{seconds_in_all}
+use Rattle.cal_base.specs.Place.{place_of}
+use Rattle.cal_base.specs.Zone.{zone_of}
+use Rattle.cal_base.specs.declared.zone.Zone.{Zone}
+use Rattle.cal_elapse.specs.Elapses.{Timed}
+use Rattle.cal_elapse.specs.Masks.{sets_in}
+use Rattle.cal_elapse.specs.RisingList.{Has, IsRising, placed}
+use Rattle.cal_elapse.specs.declared.masks.Masks.{Masks}
+use Rattle.cal_elapse.specs.declared.window.Window.{Window}
+use Rattle.cal_spec.specs.Match.{matches}
+
+-- a local second below the bound matches and has its place here
+pub record IsPlacedBelow (e : Timed) (bound : ℕ) (i : ℤ) : Type 0 where
+  pub local : ℕ
+  pub below : local < bound
+  pub is_match : e.matches local ≡ true
+  pub placed : e.place local ≡ Some i
+
+-- The list rises and has the places above `last` of the matching local seconds below the bound. None of those from
+-- `from` on is later than a member by more than a place can lie from its local second.
+pub record Windowed (e : Timed) (from bound : ℕ) (last : ℤ) (xs : List ℤ) : Type 0 where
+  pub rises : IsRising xs
+  pub members : (i : ℤ) → Has xs i ↔ ((last <ℤ i) × IsPlacedBelow e bound i)
+  pub reach : (i : ℤ) → Has xs i → (t : ℕ) → from ≤ t → t < bound → e.matches t ≡ true → pos t ≤ℤ (i +ℤ pos 93_599)
+
+-- the local second that the first search begins at: no place of an earlier one is above the base
+abbrev pub start_of : ℤ → ℕ
+start_of (pos base) = base - 93_599
+start_of (negsuc n) = 0
+
+-- the first local second that is not placed: the match that was found, or none of them
+abbrev pub bound_of : Option ℕ → ℕ
+bound_of None = seconds_in_all
+bound_of (Some local) = local
+
+-- what was found is a match
+abbrev pub IsMatchAhead : Timed → Option ℕ → Type 0
+IsMatchAhead e None = Unit {0}
+IsMatchAhead e (Some local) = (local < seconds_in_all) × (e.matches local ≡ true)
+
+-- how many of the k numbers from a on pass
+unfoldable pub count_from : (ℕ → Bool) → ℕ → ℕ → ℕ
+count_from passes a zero = 0
+count_from passes a (suc k) = count_from passes a k + cond (passes (a + k)) 1 0
+
+-- the match that is to be placed before the least member can be given
+abbrev pub to_place : Option ℕ → Option ℤ → Option ℕ
+to_place None least = None
+to_place (Some local) None = Some local
+to_place (Some local) (Some least) = cond (int_lt least (pos local -ℤ pos 93_599)) None (Some local)
+
+-- a place is put where it is above the last instant given
+abbrev pub with_place : Option ℤ → ℤ → List ℤ → List ℤ
+with_place None last xs = xs
+with_place (Some i) last xs = cond (int_lt last i) (placed i xs) xs
+
+-- what masks mean in a zone: the local seconds that match, and their places
+unfoldable pub timed_by : Masks → Zone → Timed
+timed_by masks zone = record { matches = matches (sets_in masks); place = λ local. place_of (zone_of zone) (pos local) }
+
+abbrev pub timed_in : Window → Timed
+timed_in w = timed_by w.searcher.masks w.zone
+
+-- all matching local seconds below the one ahead are placed, and each search found one of them or the one ahead
+pub record IsReady (w : Window) : Type 0 where
+  pub windowed : Windowed (timed_in w) (start_of w.base) (bound_of w.ahead) w.last w.pending
+  pub found : IsMatchAhead (timed_in w) w.ahead
+  pub low : pos 0 ≤ℤ w.base
+  pub above : w.base ≤ℤ w.last
+  pub begun : start_of w.base ≤ bound_of w.ahead
+  pub counted : w.searcher.searches ≡ count_from (timed_in w).matches (start_of w.base) (bound_of w.ahead - start_of w.base) + 1

@@ -1,0 +1,158 @@
+//! The matches of an expression in a zone, placed one after another.
+
+ghost use Rattle.std.specs.Prelude.{◌≡◌, ◌<◌, ◌≤◌, ℤ, pos, ◌+ℤ◌, ◌-ℤ◌, ◌≤ℤ◌, IfSome, OnOk, OnErr};
+ghost use Rattle.cal_base.specs.Local.{seconds_in_all};
+ghost use Rattle.cal_base.specs.Place.{place_of};
+ghost use Rattle.cal_base.specs.Zone.{zone_of};
+ghost use Rattle.cal_elapse.specs.RisingList.{Has};
+ghost use Rattle.cal_elapse.specs.Window.{start_of, to_place, with_place};
+
+use crate::Pending;
+use crate::searcher::Searcher;
+use cal_base::{Instant, Zone, place};
+use cal_spec::Expr;
+use std::alloc::{AllocError, Global};
+
+/// How far a place can lie from its local second.
+const FARTHEST: u64 = 93_599;
+
+/// What is pending of the elapses of an expression in a zone.
+#[derive(Drop)]
+pub struct Window<'z> {
+    searcher: Searcher,
+    zone: Zone<'z>,
+    base: i64,
+    /// The match that was found and isn't placed yet.
+    ahead: Option<u64>,
+    /// The instant that was given last, or the base.
+    last: i64,
+    pending: Pending,
+}
+
+impl<'z> Window<'z> {
+    ghost use Rattle.std.specs.Prelude.{◌≡◌, ◌<◌, [], ◌∷◌, ℤ, pos, ◌+ℤ◌, ◌≤ℤ◌, None, Some, IfOk, OnOk, OnErr};
+    ghost use Rattle.cal_base.specs.Zone.{zone_of};
+    ghost use Rattle.cal_elapse.specs.Elapses.{elapses_after};
+    ghost use Rattle.cal_elapse.specs.RisingList.{Has, first, later};
+    ghost use Rattle.cal_elapse.specs.Timed.{timed};
+    ghost use Rattle.cal_elapse.specs.Window.{IsReady, bound_of, timed_in, to_place};
+
+    /// Before anything is placed. The first search begins where a place can be above the base.
+    pub fn new(
+        alloc: Global,
+        expr: &Expr,
+        zone: Zone<'z>,
+        base: Instant,
+    ) -> Result<Window<'z>, AllocError>
+        ensures ready { IfOk result IsReady }
+        ensures timed { IfOk result (λ window. timed_in window ≡ timed expr.now (zone_of zone.entry)) }
+        ensures last { IfOk result (λ window. window.last ≡ base.secs) }
+    {
+        let pending = Pending::new(alloc)?;
+        let mut searcher = Searcher::of(expr);
+        let ahead = searcher.next_local(first_local(base));
+        let base = base.secs();
+        Ok(Window {
+            searcher,
+            zone,
+            base,
+            ahead,
+            last: base,
+            pending,
+        })
+    }
+
+    /// Places matches until the least pending instant can be given.
+    pub fn fill(&mut self) -> Result<(), AllocError>
+        requires { IsReady self.old }
+        ensures ready { IsReady self.new }
+        ensures timed { timed_in self.new ≡ timed_in self.old }
+        ensures last { self.new.last ≡ self.old.last }
+        ensures full { OnOk result (to_place self.new.ahead (first self.new.pending) ≡ None) }
+    {
+        while let Some(local) = next_to_place(self.ahead, self.pending.least()) {
+            self.place_one(local)?;
+        }
+        Ok(())
+    }
+
+    /// Gives the least pending instant.
+    pub fn take(&mut self) -> Option<i64>
+        requires ready { IsReady self.old }
+        requires full { to_place self.old.ahead (first self.old.pending) ≡ None }
+        ensures ready { IsReady self.new }
+        ensures timed { timed_in self.new ≡ timed_in self.old }
+        ensures given { result ≡ first (elapses_after (timed_in self.old ∷ []) self.old.last) }
+        ensures left { elapses_after (timed_in self.new ∷ []) self.new.last
+            ≡ later (elapses_after (timed_in self.old ∷ []) self.old.last) }
+    {
+        let instant = self.pending.take_least();
+        if let Some(instant) = instant {
+            self.last = instant;
+        }
+        instant
+    }
+
+    /// Places the match that was found, and finds the next.
+    fn place_one(&mut self, local: u64) -> Result<(), AllocError>
+        requires ready { IsReady self.old }
+        requires ahead { self.old.ahead ≡ Some local }
+        requires near { (i : ℤ) → Has self.old.pending i → pos local ≤ℤ (i +ℤ pos 93_599) }
+        ensures ready { IsReady self.new }
+        ensures timed { timed_in self.new ≡ timed_in self.old }
+        ensures last { self.new.last ≡ self.old.last }
+        ensures on { OnOk result (bound_of self.old.ahead < bound_of self.new.ahead) }
+    {
+        put_place(&mut self.pending, self.zone, local, self.last)?;
+        self.ahead = self.searcher.next_local(local + 1);
+        Ok(())
+    }
+}
+
+/// The local second that the first search begins at: no place of an earlier one is above the base.
+fn first_local(base: Instant) -> u64
+    ensures start { result ≡ start_of base.secs }
+    ensures inside { result ≤ seconds_in_all }
+{
+    base.secs().unsigned_abs().saturating_sub(FARTHEST)
+}
+
+/// The match that is to be placed before the least pending instant can be given: a match that could be placed at that
+/// instant or before it.
+fn next_to_place(ahead: Option<u64>, least: Option<i64>) -> Option<u64>
+    requires { IfSome ahead (λ local. local < seconds_in_all) }
+    ensures { result ≡ to_place ahead least }
+{
+    let Some(local) = ahead else {
+        return None;
+    };
+    match least {
+        Some(instant) if instant < earliest_place(local) => None,
+        _ => Some(local),
+    }
+}
+
+/// The earliest instant that can be the place of a local second.
+fn earliest_place(local: u64) -> i64
+    requires { local < seconds_in_all }
+    ensures { result ≡ pos local -ℤ pos 93_599 }
+{
+    local as i64 - FARTHEST as i64
+}
+
+/// Puts the place of a local second where it is above the last instant given.
+fn put_place(pending: &mut Pending, zone: Zone<'_>, local: u64, last: i64) -> Result<(), AllocError>
+    requires local_in { local < seconds_in_all }
+    requires before { (i : ℤ) → Has pending.old i → i ≤ℤ (pos local +ℤ pos 93_599) }
+    requires near { (i : ℤ) → Has pending.old i → pos local ≤ℤ (i +ℤ pos 93_599) }
+    ensures put { OnOk result (pending.new ≡ with_place (place_of (zone_of zone.entry) (pos local)) last pending.old) }
+    ensures unchanged { OnErr result (pending.new ≡ pending.old) }
+{
+    let Some(instant) = place(zone, local as i64) else {
+        return Ok(());
+    };
+    if instant <= last {
+        return Ok(());
+    }
+    pending.put(instant)
+}

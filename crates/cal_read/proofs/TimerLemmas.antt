@@ -1,0 +1,68 @@
+-- Which faults a file's bytes can have.
+use Rattle.std.proofs.Common.{◌≡◌, ℕ, Bool, true, false, List, [], ◌∷◌, ◌++◌, length, refl, Option, Some, None, Result, Ok, Err}
+use Rattle.std.specs.Prelude.{nat_le}
+use Rattle.std.specs.Option.{option_or}
+use Rattle.std.specs.Str.{is_utf8, IsUtf8}
+use Rattle.std.proofs.lemmas.Str.{IsUtf8-from_is_utf8}
+use Rattle.cal_spec.specs.declared.spec_fault.SpecFault.{SpecFault}
+use Rattle.cal_read.specs.Assignments.{Assigned, assignments_in}
+use Rattle.cal_read.specs.Lines.{logical_lines}
+use Rattle.cal_read.specs.TimerText.{Entry, bad_line, broken_line, fault_behind, first_fault, is_expression, list_of, listed, most_expressions, some_entries, timer_in, timer_of, unless_fault, without_mark}
+use Rattle.cal_read.specs.declared.timer_fault.TimerFault.{TimerFault}
+use Rattle.cal_read.specs.declared.timer_fault.TimerFault.TheVariants.{BadLine, NoMemory, NothingToDo, NotUtf8, ReadFailed, TooLarge, TooMany}
+
+-- the faults that a line can have
+abbrev pub is_of_line : TimerFault → Bool
+is_of_line ReadFailed = false
+is_of_line TooLarge = false
+is_of_line (NotUtf8 line) = false
+is_of_line (BadLine line fault) = true
+is_of_line (TooMany line) = true
+is_of_line NothingToDo = false
+is_of_line NoMemory = false
+
+text_is_of_line : {E : Type 0} (number : ℕ) (r : Result E SpecFault) (fault : TimerFault) → bad_line number r ≡ Some fault → is_of_line fault ≡ true
+text_is_of_line number (Ok expr) fault e = cc
+text_is_of_line number (Err f) fault e = let same : BadLine number f ≡ fault = cc in rw (← same) refl
+
+one_is_of_line : {E : Type 0} (read : List ℕ → Result E SpecFault) (before : List Assigned) (a : Assigned) (fault : TimerFault) (expresses many : Bool) → is_expression a ≡ expresses → nat_le most_expressions (length (listed before)) ≡ many → fault_behind read before a ≡ Some fault → is_of_line fault ≡ true
+unfolding fault_behind
+one_is_of_line read before a fault false many e f = rw e (λ h. cc)
+one_is_of_line read before a fault true true e f = rw (e, f) (λ h. let same : TooMany a.number ≡ fault = cc in rw (← same) refl)
+one_is_of_line read before a fault true false e f = rw (e, f) (text_is_of_line a.number (read a.value) fault)
+
+either_is_of_line : (o p : Option TimerFault) (fault : TimerFault) → (o ≡ Some fault → is_of_line fault ≡ true) → (p ≡ Some fault → is_of_line fault ≡ true) → option_or o p ≡ Some fault → is_of_line fault ≡ true
+either_is_of_line None p fault first rest h = rest h
+either_is_of_line (Some f) p fault first rest h = first h
+
+pub first_is_of_line : {E : Type 0} (read : List ℕ → Result E SpecFault) (before behind : List Assigned) (fault : TimerFault) → first_fault read before behind ≡ Some fault → is_of_line fault ≡ true
+unfolding first_fault
+first_is_of_line read before [] fault h = cc
+first_is_of_line read before (a ∷ behind) fault h =
+    either_is_of_line (fault_behind read before a) (first_fault read (before ++ a ∷ []) behind) fault (one_is_of_line read before a fault (is_expression a) (nat_le most_expressions (length (listed before))) refl refl) (first_is_of_line read (before ++ a ∷ []) behind fault) h
+
+never_of_line : is_of_line ReadFailed ≡ true → ⊥
+never_of_line h = cc
+
+never_of_list : {E : Type 0} (o : Option TimerFault) (es : List (Entry E)) → (o ≡ Some ReadFailed → ⊥) → unless_fault o (some_entries es) ≡ Err ReadFailed → ⊥
+never_of_list None [] never h = cc
+never_of_list None (e ∷ es) never h = cc
+never_of_list (Some fault) es never h = never cc
+
+never_as : {E : Type 0} (read : List ℕ → Result E SpecFault) (bytes : List ℕ) (utf8 : Bool) → is_utf8 bytes ≡ utf8 → timer_in read bytes ≡ Err ReadFailed → ⊥
+unfolding timer_in timer_of list_of
+never_as read bytes true e = rw e (never_of_list _ _ (λ h. never_of_line (first_is_of_line read [] (assignments_in false (logical_lines 1 (without_mark bytes))) ReadFailed h)))
+never_as read bytes false e = rw e (λ h. cc)
+
+-- the bytes of a file are never a failed reader
+pub never_failed : {E : Type 0} (read : List ℕ → Result E SpecFault) (bytes : List ℕ) → timer_in read bytes ≡ Err ReadFailed → ⊥
+never_failed read bytes = never_as read bytes (is_utf8 bytes) refl
+
+-- what is no UTF-8 isn't taken for it
+no_text : (bytes : List ℕ) (utf8 : Bool) → is_utf8 bytes ≡ utf8 → (IsUtf8 bytes → ⊥) → is_utf8 bytes ≡ false
+no_text bytes true e h = absurd (h (IsUtf8-from_is_utf8 bytes e))
+no_text bytes false e h = e
+
+pub broken_bytes : {E : Type 0} (read : List ℕ → Result E SpecFault) (bytes : List ℕ) (number : ℕ) → (IsUtf8 bytes → ⊥) → number ≡ broken_line bytes → timer_in read bytes ≡ Err (NotUtf8 number)
+unfolding timer_in
+broken_bytes read bytes number broken e = rw (no_text bytes (is_utf8 bytes) refl broken, e) refl

@@ -1,0 +1,258 @@
+-- The definitions of timer files against the rule's own words.
+use Rattle.std.proofs.Common.{◌≡◌, ◌<◌, ℕ, Bool, true, false, List, [], ◌∷◌, ◌++◌, codes, filter, length, refl, sym, subst, ap, ◌∙◌, arith, append_assoc, append-nil, Option, Some, None, Result, Ok, Err}
+use Rattle.std.specs.List.{after_last, list_any}
+use Rattle.std.specs.Option.{option_or}
+use Rattle.std.specs.Prelude.{◌||◌, if◌then◌else◌}
+use Rattle.std.specs.Str.{bytes_eq}
+use Rattle.cal_spec.specs.declared.spec_fault.SpecFault.{SpecFault}
+use Rattle.cal_read.specs.Assignments.{Assigned, is_header, section_of, timer_lines}
+use Rattle.cal_read.specs.Lines.{Group, Line, continued_by, groups, is_continued}
+use Rattle.cal_read.specs.TimerRule.{AreFine, AreGroups, IsClosed, IsFirstFault, IsOpen, Judges, lines_of}
+use Rattle.cal_read.specs.TimerText.{Entry, entries, fault_behind, first_fault, is_expression, is_reset, list_of, listed, some_entries, unless_fault}
+use Rattle.cal_read.specs.declared.timer_fault.TimerFault.{TimerFault}
+use Rattle.cal_read.specs.declared.timer_fault.TimerFault.TheVariants.{ReadFailed, TooLarge, NotUtf8, BadLine, TooMany, NothingToDo, NoMemory}
+use Rattle.cal_read.proofs.ListedLemmas.{after_last_here, after_last_more}
+use Rattle.cal_read.proofs.TimerLemmas.{first_is_of_line, is_of_line}
+
+or_parts : (a b : Bool) → (a || b) ≡ false → (a ≡ false) × (b ≡ false)
+or_parts true b h = cc
+or_parts false b h = (refl, h)
+
+-- The groups have all the lines, in their order
+lines_of_continued : (line : Line) (all : List Group) → lines_of (continued_by line all) ≡ line ∷ lines_of all
+lines_of_continued line [] = refl
+lines_of_continued line (group ∷ rest) = refl
+
+lines_of_groups_as : (continued : Bool) (line : Line) (lines : List Line) → is_continued line.text ≡ continued → lines_of (groups lines) ≡ lines → lines_of (groups (line ∷ lines)) ≡ line ∷ lines
+unfolding groups
+lines_of_groups_as true line lines e all = rw e (lines_of_continued line (groups lines) ∙ ap (λ ls. line ∷ ls) all)
+lines_of_groups_as false line lines e all = rw e (ap (λ ls. line ∷ ls) all)
+
+pub lines_of_groups : (lines : List Line) → lines_of (groups lines) ≡ lines
+unfolding groups
+lines_of_groups [] = refl
+lines_of_groups (line ∷ lines) = lines_of_groups_as (is_continued line.text) line lines refl (lines_of_groups lines)
+
+-- They are groups
+continued_groups : (line : Line) (all : List Group) → is_continued line.text ≡ true → AreGroups all → AreGroups (continued_by line all)
+continued_groups line [] e h = tt
+continued_groups line (group ∷ []) e h = (e, h)
+continued_groups line (group ∷ next ∷ rest) e h = ((e, h.0), h.1)
+
+ended_groups : (line : Line) (all : List Group) → is_continued line.text ≡ false → AreGroups all → AreGroups (record { first = line; more = [] } ∷ all)
+ended_groups line [] e h = tt
+ended_groups line (group ∷ rest) e h = (e, h)
+
+are_groups_as : (continued : Bool) (line : Line) (lines : List Line) → is_continued line.text ≡ continued → AreGroups (groups lines) → AreGroups (groups (line ∷ lines))
+unfolding groups
+are_groups_as true line lines e h = rw e (continued_groups line (groups lines) e h)
+are_groups_as false line lines e h = rw e (ended_groups line (groups lines) e h)
+
+pub are_groups : (lines : List Line) → AreGroups (groups lines)
+unfolding groups
+are_groups [] = tt
+are_groups (line ∷ lines) = are_groups_as (is_continued line.text) line lines refl (are_groups lines)
+
+-- There are no others
+closed_group : (line : Line) (more rest : List Line) → IsClosed line more → groups ((line ∷ more) ++ rest) ≡ record { first = line; more = more } ∷ groups rest
+unfolding groups
+closed_group line [] rest e = rw e refl
+closed_group line (next ∷ more) rest h = rw h.0 (ap (continued_by line) (closed_group next more rest h.1))
+
+alone : (continued : Bool) (line : Line) → is_continued line.text ≡ continued → groups (line ∷ []) ≡ record { first = line; more = [] } ∷ []
+unfolding groups
+alone true line e = rw e refl
+alone false line e = rw e refl
+
+open_group : (line : Line) (more : List Line) → IsOpen line more → groups ((line ∷ more) ++ []) ≡ record { first = line; more = more } ∷ []
+unfolding groups
+open_group line [] h = alone (is_continued line.text) line refl
+open_group line (next ∷ more) h = rw h.0 (ap (continued_by line) (open_group next more h.1))
+
+pub groups_of_lines : (all : List Group) → AreGroups all → groups (lines_of all) ≡ all
+unfolding groups
+groups_of_lines [] h = refl
+groups_of_lines (group ∷ []) h = open_group group.first group.more h
+groups_of_lines (group ∷ next ∷ rest) h =
+    closed_group group.first group.more (lines_of (next ∷ rest)) h.0 ∙ ap (λ all. group ∷ all) (groups_of_lines (next ∷ rest) h.1)
+
+-- The lines of a section
+pub no_header : (inside : Bool) (lines : List Line) → list_any (λ line. is_header line.text) lines ≡ false → timer_lines inside lines ≡ (if inside then lines else [])
+unfolding timer_lines
+no_header true [] h = refl
+no_header false [] h = refl
+no_header true (line ∷ lines) h =
+    let parts = or_parts (is_header line.text) (list_any (λ line. is_header line.text) lines) h in
+    rw parts.0 (ap (λ ls. line ∷ ls) (no_header true lines parts.1))
+no_header false (line ∷ lines) h =
+    let parts = or_parts (is_header line.text) (list_any (λ line. is_header line.text) lines) h in
+    rw parts.0 (no_header false lines parts.1)
+
+-- what stands behind the last header
+abbrev opened : Line → List Line → List Line
+opened header rest = if bytes_eq (section_of header.text) (codes "Timer") then rest else []
+
+header_passed : (headed inside : Bool) (line : Line) (front rest : List Line) (header : Line) → is_header line.text ≡ headed → ((inside : Bool) → timer_lines inside (front ++ (header ∷ rest)) ≡ timer_lines inside front ++ opened header rest) → timer_lines inside ((line ∷ front) ++ (header ∷ rest)) ≡ timer_lines inside (line ∷ front) ++ opened header rest
+unfolding timer_lines
+header_passed true inside line front rest header e next = rw e (next (bytes_eq (section_of line.text) (codes "Timer")))
+header_passed false true line front rest header e next = rw e (ap (λ ls. line ∷ ls) (next true))
+header_passed false false line front rest header e next = rw e (next false)
+
+pub last_header : (inside : Bool) (front rest : List Line) (header : Line) → is_header header.text ≡ true → list_any (λ line. is_header line.text) rest ≡ false → timer_lines inside (front ++ (header ∷ rest)) ≡ timer_lines inside front ++ opened header rest
+unfolding timer_lines
+last_header inside [] rest header e none = rw e (no_header (bytes_eq (section_of header.text) (codes "Timer")) rest none)
+last_header inside (line ∷ front) rest header e none = header_passed (is_header line.text) inside line front rest header refl (λ inside. last_header inside front rest header e none)
+
+-- The list behind the last reset
+after_last_behind : {X : Type 0} (p : X → Bool) (xs ys : List X) → list_any p ys ≡ false → after_last p (xs ++ ys) ≡ after_last p xs ++ ys
+after_last_behind p xs [] none = ap (after_last p) (append-nil xs) ∙ sym (append-nil (after_last p xs))
+after_last_behind p xs (y ∷ ys) none =
+    let parts = or_parts (p y) (list_any p ys) none in
+    ap (after_last p) (sym (append_assoc xs (y ∷ []) ys))
+    ∙ after_last_behind p (xs ++ y ∷ []) ys parts.1
+    ∙ ap (λ front. front ++ ys) (after_last_more p xs y parts.0)
+    ∙ append_assoc (after_last p xs) (y ∷ []) ys
+
+pub listed_behind_reset : (front rest : List Assigned) (reset : Assigned) → is_reset reset ≡ true → list_any is_reset rest ≡ false → listed (front ++ (reset ∷ rest)) ≡ filter is_expression rest
+unfolding listed
+listed_behind_reset front rest reset e none =
+    ap (λ all. filter is_expression (after_last is_reset all)) (sym (append_assoc front (reset ∷ []) rest))
+    ∙ ap (filter is_expression) (after_last_behind is_reset (front ++ reset ∷ []) rest none ∙ ap (λ before. before ++ rest) (after_last_here is_reset front reset e))
+
+pub listed_without_reset : (all : List Assigned) → list_any is_reset all ≡ false → listed all ≡ filter is_expression all
+unfolding listed
+listed_without_reset all none = ap (filter is_expression) (after_last_behind is_reset [] all none)
+
+-- The first fault. Where these stand before, no assignment of the others has a fault.
+abbrev AreFineBehind : {E : Type 0} → (List ℕ → Result E SpecFault) → List Assigned → List Assigned → Type 0
+AreFineBehind read first all = (before : List Assigned) (a : Assigned) (behind : List Assigned) → all ≡ before ++ (a ∷ behind) → fault_behind read (first ++ before) a ≡ None
+
+option_parts : (o p : Option TimerFault) → option_or o p ≡ None → (o ≡ None) × (p ≡ None)
+option_parts None p h = (refl, h)
+option_parts (Some fault) p h = cc
+
+no_split : (before : List Assigned) (a : Assigned) (behind : List Assigned) → [] ≡ before ++ (a ∷ behind) → ⊥
+no_split [] a behind e = cc
+no_split (b ∷ before) a behind e = cc
+
+fine_more : {E : Type 0} (read : List ℕ → Result E SpecFault) (first : List Assigned) (x : Assigned) (xs : List Assigned) → fault_behind read first x ≡ None → AreFineBehind read (first ++ x ∷ []) xs → AreFineBehind read first (x ∷ xs)
+fine_more read first x xs here fine [] a behind split =
+    let same : x ≡ a = cc in
+    rw (append-nil first, ← same) here
+fine_more read first x xs here fine (b ∷ before) a behind split =
+    let same : x ≡ b = cc in
+    let rest : xs ≡ before ++ (a ∷ behind) = cc in
+    rw (← same) (subst (λ (front : List Assigned). fault_behind read front a ≡ None) (append_assoc first (x ∷ []) before) (fine before a behind rest))
+
+fine_from_none : {E : Type 0} (read : List ℕ → Result E SpecFault) (first all : List Assigned) → first_fault read first all ≡ None → AreFineBehind read first all
+unfolding first_fault
+fine_from_none read first [] h = λ before a behind split. absurd (no_split before a behind split)
+fine_from_none read first (x ∷ xs) h =
+    let parts = option_parts (fault_behind read first x) (first_fault read (first ++ x ∷ []) xs) h in
+    fine_more read first x xs parts.0 (fine_from_none read (first ++ x ∷ []) xs parts.1)
+
+none_from_fine : {E : Type 0} (read : List ℕ → Result E SpecFault) (first all : List Assigned) → AreFineBehind read first all → first_fault read first all ≡ None
+unfolding first_fault
+none_from_fine read first [] fine = refl
+none_from_fine read first (x ∷ xs) fine =
+    let here : fault_behind read first x ≡ None = subst (λ (front : List Assigned). fault_behind read front x ≡ None) (append-nil first) (fine [] x xs refl) in
+    let rest : first_fault read (first ++ x ∷ []) xs ≡ None = none_from_fine read (first ++ x ∷ []) xs (λ before a behind e. subst (λ (front : List Assigned). fault_behind read front a ≡ None) (sym (append_assoc first (x ∷ []) before)) (fine (x ∷ before) a behind (ap (λ ys. x ∷ ys) e))) in
+    rw here rest
+
+-- an assignment with a fault, behind fine ones
+record FirstFault {E : Type 0} (read : List ℕ → Result E SpecFault) (first all : List Assigned) (fault : TimerFault) : Type 0 where
+  before : List Assigned
+  at : Assigned
+  behind : List Assigned
+  whole : all ≡ before ++ (at ∷ behind)
+  is_fault : fault_behind read (first ++ before) at ≡ Some fault
+  fine : AreFineBehind read first before
+
+fault_at : {E : Type 0} (read : List ℕ → Result E SpecFault) (first : List Assigned) (x : Assigned) (xs : List Assigned) (fault : TimerFault) (o : Option TimerFault) → fault_behind read first x ≡ o → option_or o (first_fault read (first ++ x ∷ []) xs) ≡ Some fault → (first_fault read (first ++ x ∷ []) xs ≡ Some fault → FirstFault read (first ++ x ∷ []) xs fault) → FirstFault read first (x ∷ xs) fault
+fault_at read first x xs fault (Some found) e h next = record {
+  before = [];
+  at = x;
+  behind = xs;
+  whole = refl;
+  is_fault = rw (append-nil first, e) h;
+  fine = λ before a behind split. absurd (no_split before a behind split);
+}
+fault_at read first x xs fault None e h next =
+    let found = next h in
+    record {
+      before = x ∷ found.before;
+      at = found.at;
+      behind = found.behind;
+      whole = ap (λ ys. x ∷ ys) found.whole;
+      is_fault = subst (λ (front : List Assigned). fault_behind read front found.at ≡ Some fault) (append_assoc first (x ∷ []) found.before) found.is_fault;
+      fine = λ before a behind split. fine_more read first x found.before e found.fine before a behind split;
+    }
+
+fault_from_some : {E : Type 0} (read : List ℕ → Result E SpecFault) (first all : List Assigned) (fault : TimerFault) → first_fault read first all ≡ Some fault → FirstFault read first all fault
+unfolding first_fault
+fault_from_some read first [] fault h = cc
+fault_from_some read first (x ∷ xs) fault h = fault_at read first x xs fault (fault_behind read first x) refl h (fault_from_some read (first ++ x ∷ []) xs fault)
+
+-- the first of all faults, where an assignment behind fine ones has one
+some_from_fault : {E : Type 0} (read : List ℕ → Result E SpecFault) (first before : List Assigned) (a : Assigned) (behind : List Assigned) (fault : TimerFault) → AreFineBehind read first before → fault_behind read (first ++ before) a ≡ Some fault → first_fault read first (before ++ (a ∷ behind)) ≡ Some fault
+unfolding first_fault
+some_from_fault read first [] a behind fault fine e =
+    let here : fault_behind read first a ≡ Some fault = subst (λ (front : List Assigned). fault_behind read front a ≡ Some fault) (append-nil first) e in
+    rw here refl
+some_from_fault read first (x ∷ before) a behind fault fine e =
+    let here : fault_behind read first x ≡ None = subst (λ (front : List Assigned). fault_behind read front x ≡ None) (append-nil first) (fine [] x before refl) in
+    let fine_behind : AreFineBehind read (first ++ x ∷ []) before = λ bs b cs split. subst (λ (front : List Assigned). fault_behind read front b ≡ None) (sym (append_assoc first (x ∷ []) bs)) (fine (x ∷ bs) b cs (ap (λ ys. x ∷ ys) split)) in
+    let there : fault_behind read ((first ++ x ∷ []) ++ before) a ≡ Some fault = subst (λ (front : List Assigned). fault_behind read front a ≡ Some fault) (sym (append_assoc first (x ∷ []) before)) e in
+    rw here (some_from_fault read (first ++ x ∷ []) before a behind fault fine_behind there)
+
+-- The one result
+judged_fault : {E : Type 0} (read : List ℕ → Result E SpecFault) (all : List Assigned) (fault : TimerFault) → is_of_line fault ≡ true → IsFirstFault read all fault → Judges read all (Err fault)
+judged_fault read all ReadFailed e h = h
+judged_fault read all TooLarge e h = h
+judged_fault read all (NotUtf8 n) e h = h
+judged_fault read all (BadLine n f) e h = h
+judged_fault read all (TooMany n) e h = h
+judged_fault read all NothingToDo e h = cc
+judged_fault read all NoMemory e h = h
+
+judged_entries : {E : Type 0} (read : List ℕ → Result E SpecFault) (all : List Assigned) (es : List (Entry E)) → AreFine read all → entries read all ≡ es → Judges read all (some_entries es)
+judged_entries read all [] fine e = (fine, e)
+judged_entries read all (entry ∷ es) fine e = (fine, e, omega arith)
+
+judged_as : {E : Type 0} (read : List ℕ → Result E SpecFault) (all : List Assigned) (o : Option TimerFault) → first_fault read [] all ≡ o → Judges read all (unless_fault o (some_entries (entries read all)))
+judged_as read all None e = judged_entries read all (entries read all) (fine_from_none read [] all e) refl
+judged_as read all (Some fault) e =
+    let found = fault_from_some read [] all fault e in
+    judged_fault read all fault (first_is_of_line read [] all fault e) (record {
+      before = found.before;
+      at = found.at;
+      behind = found.behind;
+      whole = found.whole;
+      is_fault = found.is_fault;
+      fine = found.fine;
+    })
+
+pub judged : {E : Type 0} (read : List ℕ → Result E SpecFault) (all : List Assigned) → Judges read all (list_of read all)
+unfolding list_of
+judged read all = judged_as read all (first_fault read [] all) refl
+
+faulted : {E : Type 0} (read : List ℕ → Result E SpecFault) (all : List Assigned) (fault : TimerFault) → IsFirstFault read all fault → Err fault ≡ list_of read all
+unfolding list_of
+faulted read all fault h =
+    let first : first_fault read [] all ≡ Some fault = rw h.whole (some_from_fault read [] h.before h.at h.behind fault h.fine h.is_fault) in
+    rw first refl
+
+some_if_any : {E : Type 0} (es : List (Entry E)) → 0 < length es → some_entries es ≡ Ok es
+some_if_any [] h = absurd (omega arith)
+some_if_any (e ∷ es) h = refl
+
+pub only_judged : {E : Type 0} (read : List ℕ → Result E SpecFault) (all : List Assigned) (result : Result (List (Entry E)) TimerFault) → Judges read all result → result ≡ list_of read all
+unfolding list_of
+only_judged read all (Ok es) h = rw (none_from_fine read [] all h.0, h.1) (sym (some_if_any es h.2))
+only_judged read all (Err NothingToDo) h = rw (none_from_fine read [] all h.0, h.1) refl
+only_judged read all (Err ReadFailed) h = faulted read all ReadFailed h
+only_judged read all (Err TooLarge) h = faulted read all TooLarge h
+only_judged read all (Err (NotUtf8 n)) h = faulted read all (NotUtf8 n) h
+only_judged read all (Err (BadLine n f)) h = faulted read all (BadLine n f) h
+only_judged read all (Err (TooMany n)) h = faulted read all (TooMany n) h
+only_judged read all (Err NoMemory) h = faulted read all NoMemory h

@@ -1,0 +1,48 @@
+-- The assignments of the section `Timer` of a unit file: systemd.syntax(7).
+use Rattle.std.specs.Prelude.{ℕ, ◌-◌, ◌==◌, Bool, ◌&&◌, if◌then◌else◌, List, [], ◌∷◌, length, map, take, drop, slice_index, codes, Option, None, Some}
+use Rattle.std.specs.List.{after_first, before_first, filter_map, list_any}
+use Rattle.std.specs.Str.{bytes_eq}
+use Rattle.cal_read.specs.Lines.{Line, trim}
+
+-- a logical line that begins with `[` and ends with `]` opens the section named between them
+abbrev pub is_header : List ℕ → Bool
+is_header text = (slice_index text 0 == 91) && (slice_index text (length text - 1) == 93)
+
+abbrev pub section_of : List ℕ → List ℕ
+section_of text = take (length text - 2) (drop 1 text)
+
+-- a line without the blanks at its ends
+abbrev pub trimmed : Line → Line
+trimmed line = record { number = line.number; text = trim line.text }
+
+-- The lines of the section `Timer`, headers apart, where the first of them stand in it or not. Names of sections are
+-- exact.
+unfoldable pub timer_lines : Bool → List Line → List Line
+timer_lines inside [] = []
+timer_lines inside (line ∷ lines) =
+    if is_header line.text then timer_lines (bytes_eq (section_of line.text) (codes "Timer")) lines
+    else (if inside then line ∷ timer_lines inside lines else timer_lines inside lines)
+
+-- a key and its value, and the number of their line
+pub record Assigned : Type 0 where
+  pub number : ℕ
+  pub key : List ℕ
+  pub value : List ℕ
+
+abbrev pub is_equals : ℕ → Bool
+is_equals b = b == 61
+
+-- the key stands before the first `=`, and the value behind it; a line without one assigns nothing
+unfoldable pub assignment_of : Line → Option Assigned
+assignment_of line =
+    if list_any is_equals line.text
+    then Some (record {
+      number = line.number;
+      key = trim (before_first is_equals line.text);
+      value = trim (after_first is_equals line.text);
+    })
+    else None
+
+-- the assignments of the section `Timer` in these logical lines
+unfoldable pub assignments_in : Bool → List Line → List Assigned
+assignments_in inside lines = filter_map assignment_of (timer_lines inside (map trimmed lines))

@@ -1,0 +1,50 @@
+-- The rule of a civil time in its own words: systemd.time(7), Parsing Timestamps. The law `one_civil_time` ties it to
+-- what `Stamp` computes.
+use Rattle.std.specs.Prelude.{ℕ, ◌≡◌, ◌⊎◌, ◌||◌, true, ℤ, List, [], ◌∷◌, ◌++◌, Option, None, Some, is_some, Ok, Err}
+use Rattle.std.specs.Option.{option_to_list}
+use Rattle.jiff.specs.Types.{TimeZone, Weekday}
+use Rattle.cal_base.specs.ZoneName.{begins_with_letter}
+use Rattle.cal_spec.specs.Weekdays.{day_named}
+use Rattle.cal_read.specs.Stamp.{Setting, Written}
+use Rattle.cal_read.specs.StampDate.{day_written}
+use Rattle.cal_read.specs.StampTime.{time_written}
+use Rattle.cal_read.specs.declared.stamp_fault.StampFault.TheVariants.{NoSuchDate}
+
+-- no word, or a weekday's name
+abbrev pub NamesWeekday : Option (List ℕ) → Option Weekday → Type 0
+NamesWeekday None weekday = weekday ≡ None
+NamesWeekday (Some word) weekday =
+    (named : Weekday) × (begins_with_letter word ≡ true) × (day_named word ≡ Some named) × (weekday ≡ Some named)
+
+-- no word, or a date
+abbrev pub WritesDate : Option (List ℕ) → Option ℤ → Type 0
+WritesDate None day = day ≡ None
+WritesDate (Some word) day = (number : ℤ) × (day_written word ≡ Ok number) × (day ≡ Some number)
+
+-- no word, which means midnight, or a time
+abbrev pub WritesTime : Option (List ℕ) → ℕ → Type 0
+WritesTime None micros = micros ≡ 0
+WritesTime (Some word) micros = time_written word ≡ Ok micros
+
+-- no word, which means the local zone, or the name of a zone
+abbrev pub NamesZone : Setting → Option (List ℕ) → TimeZone → Type 0
+NamesZone at None zone = zone ≡ at.local
+NamesZone at (Some word) zone = (begins_with_letter word ≡ true) × (at.find word ≡ Some zone)
+
+-- `[weekday] [date] [time] [zone]`, of which date or time must be there
+pub record IsCivilTime (at : Setting) (words : List (List ℕ)) (c : Written) : Type 0 where
+  pub weekday : Option (List ℕ)
+  pub date : Option (List ℕ)
+  pub time : Option (List ℕ)
+  pub zone : Option (List ℕ)
+  pub whole : words ≡ option_to_list weekday ++ (option_to_list date ++ (option_to_list time ++ option_to_list zone))
+  pub some : (is_some date || is_some time) ≡ true
+  pub has_weekday : NamesWeekday weekday c.weekday
+  pub has_date : WritesDate date c.day
+  pub has_time : WritesTime time c.micros
+  pub has_zone : NamesZone at zone c.zone
+
+-- one of the words is a date that there isn't
+abbrev pub HasNoSuchDate : List (List ℕ) → Type 0
+HasNoSuchDate [] = ⊥
+HasNoSuchDate (w ∷ ws) = (day_written w ≡ Err NoSuchDate) ⊎ HasNoSuchDate ws

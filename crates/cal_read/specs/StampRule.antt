@@ -1,0 +1,73 @@
+-- The rule by which a text has a form, in its own words: systemd.time(7), Parsing Timestamps. The law `one_form` ties it
+-- to what `StampForm` computes.
+use Rattle.std.specs.Prelude.{ℕ, ◌-◌, ◌<◌, ◌≡◌, ◌⊎◌, true, false, ℤ, pos, neg_ℤ, List, [], ◌∷◌, ◌++◌, length, slice_index, codes}
+use Rattle.std.specs.List.{list_all}
+use Rattle.cal_spec.specs.Words.{is_blank, words}
+use Rattle.cal_read.specs.StampForm.{Form, nothing, present, later, earlier, counted, from_today, civil}
+
+-- the text is the core with blanks round it, and no blank stands at the ends of the core
+pub record IsBetweenBlanks (text core : List ℕ) : Type 0 where
+  pub front : List ℕ
+  pub back : List ℕ
+  pub whole : text ≡ front ++ (core ++ back)
+  pub before : list_all is_blank front ≡ true
+  pub behind : list_all is_blank back ≡ true
+  pub begins : 0 < length core → is_blank (slice_index core 0) ≡ false
+  pub ends : 0 < length core → is_blank (slice_index core (length core - 1)) ≡ false
+
+-- 1: nothing
+abbrev pub IsNothing : List ℕ → Form → Type 0
+IsNothing core form = (core ≡ []) × (form ≡ nothing)
+
+-- 2: `now` alone
+abbrev pub IsPresent : List ℕ → Form → Type 0
+IsPresent core form = (core ≡ codes "now") × (form ≡ present)
+
+-- 3 and 4: a sign and a span text
+abbrev pub IsBehindSign : List ℕ → (List ℕ → Form) → List ℕ → Form → Type 0
+IsBehindSign sign means core form = (span : List ℕ) × (core ≡ sign ++ span) × (form ≡ means span)
+
+-- 5: a span text, a blank and a word
+abbrev pub IsBeforeWord : List ℕ → (List ℕ → Form) → List ℕ → Form → Type 0
+IsBeforeWord word means core form =
+    (span : List ℕ) × (blank : ℕ) × (is_blank blank ≡ true) × (core ≡ span ++ (blank ∷ word)) × (form ≡ means span)
+
+-- 6: a day's word, and the words behind it
+abbrev pub IsNearDay : List ℕ → ℤ → List ℕ → Form → Type 0
+IsNearDay word shift core form =
+    (behind : List (List ℕ)) × (words core ≡ word ∷ behind) × (form ≡ from_today shift behind)
+
+-- 7: any words
+abbrev pub IsCivil : List ℕ → Form → Type 0
+IsCivil core form = form ≡ civil (words core)
+
+-- the first, or the second where the first fits with no form
+abbrev pub OrElse : (List ℕ → Form → Type 0) → (List ℕ → Form → Type 0) → List ℕ → Form → Type 0
+OrElse P Q core form = P core form ⊎ (((other : Form) → P core other → ⊥) × Q core form)
+
+-- 6 and 7
+abbrev pub FitsByWords : List ℕ → Form → Type 0
+FitsByWords =
+    OrElse (IsNearDay (codes "today") (pos 0))
+    (OrElse (IsNearDay (codes "yesterday") (neg_ℤ (pos 1)))
+    (OrElse (IsNearDay (codes "tomorrow") (pos 1)) IsCivil))
+
+-- 5 to 7
+abbrev pub FitsByEnd : List ℕ → Form → Type 0
+FitsByEnd = OrElse (IsBeforeWord (codes "left") later) (OrElse (IsBeforeWord (codes "ago") earlier) FitsByWords)
+
+-- 3 to 7
+abbrev pub FitsBySign : List ℕ → Form → Type 0
+FitsBySign =
+    OrElse (IsBehindSign (codes "+") later)
+    (OrElse (IsBehindSign (codes "-") earlier) (OrElse (IsBehindSign (codes "@") counted) FitsByEnd))
+
+-- the first of the seven that fits
+abbrev pub FitsFirst : List ℕ → Form → Type 0
+FitsFirst = OrElse IsNothing (OrElse IsPresent FitsBySign)
+
+-- the form of a text
+pub record HasForm (text : List ℕ) (form : Form) : Type 0 where
+  pub core : List ℕ
+  pub between : IsBetweenBlanks text core
+  pub fits : FitsFirst core form

@@ -1,0 +1,25 @@
+-- What is said of a timer file that is refused: this project's own words.
+use Rattle.std.specs.Prelude.{ℕ, List, [], codes, Option, None, Some}
+use Rattle.cal_spec.specs.SpecFault as spec_fault
+use Rattle.cal_read.specs.declared.timer_fault.TimerFault.{TimerFault}
+use Rattle.cal_read.specs.declared.timer_fault.TimerFault.TheVariants.{ReadFailed, TooLarge, NotUtf8, BadLine, TooMany, NothingToDo, NoMemory}
+
+-- the words that tell a user of the fault
+abbrev pub words_of : TimerFault → List ℕ
+words_of ReadFailed = codes "cannot be read"
+words_of TooLarge = codes "larger than 1048576 bytes"
+words_of (NotUtf8 line) = codes "not UTF-8"
+words_of (BadLine line fault) = spec_fault.words_of fault
+words_of (TooMany line) = codes "more than 256 expressions"
+words_of NothingToDo = codes "no calendar expression"
+words_of NoMemory = []
+
+-- the number of the line at fault
+abbrev pub line_of : TimerFault → Option ℕ
+line_of ReadFailed = None
+line_of TooLarge = None
+line_of (NotUtf8 line) = Some line
+line_of (BadLine line fault) = Some line
+line_of (TooMany line) = Some line
+line_of NothingToDo = None
+line_of NoMemory = None

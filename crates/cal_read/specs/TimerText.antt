@@ -1,0 +1,125 @@
+-- What the text of a timer file says: systemd.timer(5), OnCalendar=. The list is a filter over all assignments, and so
+-- is the count of those that stand before one.
+use Rattle.std.specs.Prelude.{ℕ, ◌+◌, ◌==◌, nat_eq, nat_le, Bool, false, not, ◌&&◌, if◌then◌else◌, List, [], ◌∷◌, ◌++◌, length, filter, take, drop, codes, Option, None, Some, Result, Ok, Err, count_by}
+use Rattle.std.specs.List.{after_last, filter_map, list_any, starts_with}
+use Rattle.std.specs.Option.{option_or}
+use Rattle.std.specs.Str.{bytes_eq, is_utf8}
+use Rattle.std.specs.Str.Lossy.{utf8_valid_len}
+use Rattle.cal_read.specs.Assignments.{Assigned, assignments_in}
+use Rattle.cal_read.specs.Lines.{logical_lines}
+use Rattle.cal_base.specs.Whole.{GivesAll, IsWholeFault}
+use Rattle.cal_base.specs.declared.whole.WholeFault.{WholeFault}
+use Rattle.cal_base.specs.declared.whole.WholeFault.TheVariants as whole
+use Rattle.cal_spec.specs.declared.spec_fault.SpecFault.{SpecFault}
+use Rattle.cal_read.specs.declared.timer_fault.TimerFault.{TimerFault}
+use Rattle.cal_read.specs.declared.timer_fault.TimerFault.TheVariants.{ReadFailed, TooLarge, NotUtf8, BadLine, TooMany, NothingToDo, NoMemory}
+
+-- the keys that empty the list by an empty value
+abbrev pub timer_keys : List (List ℕ)
+timer_keys =
+    codes "OnActiveSec" ∷ codes "OnBootSec" ∷ codes "OnStartupSec" ∷ codes "OnUnitActiveSec"
+    ∷ codes "OnUnitInactiveSec" ∷ codes "OnCalendar" ∷ []
+
+abbrev pub has_no_value : Assigned → Bool
+has_no_value a = length a.value == 0
+
+unfoldable pub is_reset : Assigned → Bool
+is_reset a = has_no_value a && list_any (bytes_eq a.key) timer_keys
+
+-- an assignment of `OnCalendar` with a value is an expression's
+unfoldable pub is_expression : Assigned → Bool
+is_expression a = not (has_no_value a) && bytes_eq a.key (codes "OnCalendar")
+
+-- the assignments that are on the list: those of expressions that follow the last reset
+unfoldable pub listed : List Assigned → List Assigned
+listed assignments = filter is_expression (after_last is_reset assignments)
+
+-- the most expressions on the list
+abbrev pub most_expressions : ℕ
+most_expressions = 256
+
+-- an expression of the list: the number of its line, its text, and what it reads as
+pub record Entry (E : Type 0) : Type 0 where
+  pub number : ℕ
+  pub text : List ℕ
+  pub expr : E
+
+-- the fault of a line whose text reads so
+abbrev pub bad_line : {E : Type 0} → ℕ → Result E SpecFault → Option TimerFault
+bad_line number (Ok expr) = None
+bad_line number (Err fault) = Some (BadLine number fault)
+
+-- The fault of an assignment behind others. An expression is one too many where the list holds the most already; else
+-- its text is judged, also where a later reset drops it.
+unfoldable pub fault_behind : {E : Type 0} → (List ℕ → Result E SpecFault) → List Assigned → Assigned → Option TimerFault
+fault_behind read before a =
+    if is_expression a
+    then (if nat_le most_expressions (length (listed before)) then Some (TooMany a.number) else bad_line a.number (read a.value))
+    else None
+
+-- the first fault of assignments behind others
+unfoldable pub first_fault : {E : Type 0} → (List ℕ → Result E SpecFault) → List Assigned → List Assigned → Option TimerFault
+first_fault read before [] = None
+first_fault read before (a ∷ behind) = option_or (fault_behind read before a) (first_fault read (before ++ a ∷ []) behind)
+
+-- the entry of an assignment whose text reads so
+abbrev pub entry_of : {E : Type 0} → Assigned → Result E SpecFault → Option (Entry E)
+entry_of a (Ok expr) = Some (record { number = a.number; text = a.value; expr = expr })
+entry_of a (Err fault) = None
+
+-- the entries of the list
+unfoldable pub entries : {E : Type 0} → (List ℕ → Result E SpecFault) → List Assigned → List (Entry E)
+entries read assignments = filter_map (λ a. entry_of a (read a.value)) (listed assignments)
+
+-- an empty list is nothing to do
+abbrev pub some_entries : {E : Type 0} → List (Entry E) → Result (List (Entry E)) TimerFault
+some_entries [] = Err NothingToDo
+some_entries (e ∷ es) = Ok (e ∷ es)
+
+abbrev pub unless_fault : {A : Type 0} → Option TimerFault → Result A TimerFault → Result A TimerFault
+unless_fault None result = result
+unless_fault (Some fault) result = Err fault
+
+-- the list, or the first fault
+unfoldable pub list_of : {E : Type 0} → (List ℕ → Result E SpecFault) → List Assigned → Result (List (Entry E)) TimerFault
+list_of read assignments = unless_fault (first_fault read [] assignments) (some_entries (entries read assignments))
+
+-- the bytes of the byte order mark, U+FEFF
+abbrev pub byte_order_mark : List ℕ
+byte_order_mark = 239 ∷ 187 ∷ 191 ∷ []
+
+-- without a byte order mark at the very start
+unfoldable pub without_mark : List ℕ → List ℕ
+without_mark text = if starts_with nat_eq text byte_order_mark then drop 3 text else text
+
+-- the list that a text gives, or its fault
+unfoldable pub timer_of : {E : Type 0} → (List ℕ → Result E SpecFault) → List ℕ → Result (List (Entry E)) TimerFault
+timer_of read text = list_of read (assignments_in false (logical_lines 1 (without_mark text)))
+
+-- the number of the physical line in which the first bytes stand that are no UTF-8
+unfoldable pub broken_line : List ℕ → ℕ
+broken_line bytes = count_by (λ b. b == 10) (take (utf8_valid_len bytes) bytes) + 1
+
+-- the list that a file's bytes give, or their fault
+unfoldable pub timer_in : {E : Type 0} → (List ℕ → Result E SpecFault) → List ℕ → Result (List (Entry E)) TimerFault
+timer_in read bytes = if is_utf8 bytes then timer_of read bytes else Err (NotUtf8 (broken_line bytes))
+
+-- the fault of an input that can't be had whole
+abbrev pub input_fault : WholeFault → TimerFault
+input_fault whole.ReadFailed = ReadFailed
+input_fault whole.TooLarge = TooLarge
+input_fault whole.NoMemory = NoMemory
+
+-- what reading a timer gives, by what the reads gave
+abbrev pub timer_text : {E : Type 0} → (List ℕ → Result E SpecFault) → Result (List ℕ) WholeFault → Result (List (Entry E)) TimerFault
+timer_text read (Ok bytes) = timer_in read bytes
+timer_text read (Err fault) = Err (input_fault fault)
+
+-- the most bytes that a timer file may have
+abbrev pub most_bytes : ℕ
+most_bytes = 1_048_576
+
+-- what reading to the end gives: all the bytes, or the cause why they can't be had
+abbrev pub ReadsWhole : Option (List ℕ) → Option (List ℕ) → ℕ → Result (List ℕ) WholeFault → Type 0
+ReadsWhole old new limit (Ok bytes) = GivesAll old new limit bytes
+ReadsWhole old new limit (Err fault) = IsWholeFault old new limit fault

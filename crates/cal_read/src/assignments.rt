@@ -1,0 +1,86 @@
+//! The assignments of a timer file, and what each is for (systemd.syntax(7); systemd.timer(5), OnCalendar=).
+
+ghost use Rattle.std.specs.Prelude.{◌≡◌, MatchOption, map, true, false};
+ghost use Rattle.std.specs.List.{list_any};
+ghost use Rattle.std.specs.Option.{option_map};
+ghost use Rattle.std.specs.Str.{bytes_eq};
+ghost use Rattle.cal_read.specs.Assignments.{assignment_of, is_header, section_of};
+ghost use Rattle.cal_read.specs.LineView.{line_at, shown_assignment};
+ghost use Rattle.cal_read.specs.TimerText.{is_expression, is_reset};
+
+use crate::lines::trim;
+
+/// The keys that empty the list by an empty value.
+const TIMER_KEYS: [&[u8]; 6] = [
+    b"OnActiveSec",
+    b"OnBootSec",
+    b"OnStartupSec",
+    b"OnUnitActiveSec",
+    b"OnUnitInactiveSec",
+    b"OnCalendar",
+];
+
+/// A key and its value, both without blanks at their ends.
+#[derive(Clone, Copy)]
+pub(crate) struct Assignment<'t> {
+    /// The number of its line.
+    pub(crate) number: u32,
+    pub(crate) key: &'t str,
+    pub(crate) value: &'t str,
+}
+
+impl Assignment<'_> {
+    /// Whether it empties the list: whether one of the timer's keys has no value.
+    #[tactic(auto, unfolding(crate::specs::TimerText::is_reset))]
+    pub(crate) fn is_reset(self) -> bool
+        ensures { result ≡ is_reset (shown_assignment self.entry) }
+    {
+        self.value.is_empty() && is_among(&TIMER_KEYS, self.key.as_bytes())
+    }
+
+    /// Whether it is an expression's: whether `OnCalendar` has a value.
+    #[tactic(auto, unfolding(crate::specs::TimerText::is_expression))]
+    pub(crate) fn is_expression(self) -> bool
+        ensures { result ≡ is_expression (shown_assignment self.entry) }
+    {
+        !self.value.is_empty() && self.key == "OnCalendar"
+    }
+}
+
+/// Whether the word is one of the names.
+fn is_among(names: &[&[u8]], word: &[u8]) -> bool
+    ensures { result ≡ list_any (bytes_eq word.now) (map (λ name. name.now) names.now) }
+{
+    for name in names {
+        if word == *name {
+            return true;
+        }
+    }
+    false
+}
+
+/// The name of the section that a line opens, if it begins with `[` and ends with `]`.
+pub(crate) fn section(line: &str) -> Option<&[u8]>
+    ensures { MatchOption result (is_header line.now ≡ false)
+        (λ name. (is_header line.now ≡ true) × (name.now ≡ section_of line.now)) }
+{
+    match line.as_bytes() {
+        [b'[', name @ .., b']'] => Some(name),
+        _ => None,
+    }
+}
+
+/// The assignment in a line: the key stands before the first `=`, and the value behind it.
+#[tactic(auto, unfolding(crate::specs::Assignments::assignment_of))]
+pub(crate) fn read_assignment(number: u32, line: &str) -> Option<Assignment<'_>>
+    ensures { option_map shown_assignment result ≡ assignment_of (line_at number line.now) }
+{
+    let Some((key, value)) = line.split_once('=') else {
+        return None;
+    };
+    Some(Assignment {
+        number,
+        key: trim(key),
+        value: trim(value),
+    })
+}

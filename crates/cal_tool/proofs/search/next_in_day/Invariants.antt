@@ -1,7 +1,0 @@
-use Rattle.cal_spec.specs.Members.{sets_of}
-use Rattle.cal_spec.specs.Match.{matches}
-use Rattle.cal_tool.specs.Search.{NonePasses}
-use Rattle.cal_tool.proofs.search.next_in_day.Given as goal
-
-abbrev pub invariant-loop-local : goal.invariant-loop-local
-invariant-loop-local l = NonePasses (matches (sets_of l.expr)) l.fn.from l.local

@@ -1,8 +1,0 @@
-use Rattle.std.proofs.Common.{◌*◌}
-use Rattle.cal_spec.specs.Members.{sets_of}
-use Rattle.cal_spec.specs.Match.{matches}
-use Rattle.cal_tool.specs.Search.{NonePasses}
-use Rattle.cal_tool.proofs.search.next_local.Given as goal
-
-abbrev pub invariant-loop-day : goal.invariant-loop-day
-invariant-loop-day l = NonePasses (matches (sets_of l.expr)) l.fn.from (l.day * 86_400)

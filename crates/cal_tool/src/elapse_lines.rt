@@ -1,0 +1,132 @@
+//! The lines of elapses in a report, each with the span between it and the present (systemd-analyze(1), calendar).
+
+ghost use Rattle.std.specs.Prelude.{◌≡◌, ◌-◌, ◌≤◌, false, is_err, IfOk, OnOk, option_map, take};
+ghost use Rattle.cal_base.specs.Bytes.{Writes};
+ghost use Rattle.cal_elapse.specs.RisingList.{first, later};
+ghost use Rattle.cal_tool.specs.ElapseLines.{AreInstants, label_text, elapse_text, elapse_texts, elapses_text};
+ghost use Rattle.cal_tool.specs.Request.{IsCount};
+ghost use Rattle.cal_tool.specs.ReportFault.{is_failed_in};
+
+use crate::report_fault::ReportFault;
+use crate::report_lines::{first_moment, format_distance, format_utc_line};
+use cal_base::{
+    Fill, Instant, ShortText, Sink, WriteFault, Zone, format_instant, in_a_row, padding, put_all,
+    put_pieces,
+};
+use cal_elapse::Rising;
+use itoa::Buffer;
+
+/// Writes the first of the elapses that are left, as many as are asked for, or `never` where there is none.
+pub fn put_elapses<W: Sink, S: Rising>(
+    out: &mut W,
+    elapses: &mut S,
+    iterations: u32,
+    local: Zone<'_>,
+    now: Instant,
+) -> Result<(), ReportFault>
+    requires iterations { IsCount iterations }
+    requires instants { AreInstants (S.rest elapses.old) }
+    requires out { W.is_failed out.old ≡ false }
+    ensures failed { W.is_failed out.new ≡ is_failed_in result }
+    ensures bytes { Writes (W.written out.old) (W.written out.new) result
+        (elapses_text local.entry now.secs (take iterations (S.rest elapses.old))) }
+{
+    match next_instant(elapses)? {
+        None => Ok(put_all(out, b"    Next elapse: never\n")?),
+        Some(first) => {
+            put_elapse(out, 1, first, local, now)?;
+            put_more(out, elapses, iterations, local, now)
+        }
+    }
+}
+
+/// Writes the elapses after the first, from the second on.
+fn put_more<W: Sink, S: Rising>(
+    out: &mut W,
+    elapses: &mut S,
+    iterations: u32,
+    local: Zone<'_>,
+    now: Instant,
+) -> Result<(), ReportFault>
+    requires iterations { IsCount iterations }
+    requires instants { AreInstants (S.rest elapses.old) }
+    requires out { W.is_failed out.old ≡ false }
+    ensures failed { W.is_failed out.new ≡ is_failed_in result }
+    ensures bytes { Writes (W.written out.old) (W.written out.new) result
+        (elapse_texts local.entry now.secs 2 (take (iterations - 1) (S.rest elapses.old))) }
+{
+    for number in 2..iterations + 1 {
+        let Some(elapse) = next_instant(elapses)? else {
+            return Ok(());
+        };
+        put_elapse(out, number, elapse, local, now)?;
+    }
+    Ok(())
+}
+
+/// The next elapse.
+fn next_instant<S: Rising>(elapses: &mut S) -> Result<Option<Instant>, ReportFault>
+    requires { AreInstants (S.rest elapses.old) }
+    ensures given { IfOk result (λ elapse. option_map (λ instant. instant.secs) elapse ≡ first (S.rest elapses.old)) }
+    ensures left { OnOk result (S.rest elapses.new ≡ later (S.rest elapses.old)) }
+    ensures instants { OnOk result (AreInstants (S.rest elapses.new)) }
+    ensures fault { is_failed_in result ≡ false }
+{
+    let Some(secs) = elapses.next()? else {
+        return Ok(None);
+    };
+    let Some(instant) = Instant::new(secs) else {
+        unreachable!()
+    };
+    Ok(Some(instant))
+}
+
+/// Writes one elapse, and how far it lies from the present.
+#[tactic(auto, unfolding(crate::specs::ElapseLines::elapse_text))]
+fn put_elapse<W: Sink>(
+    out: &mut W,
+    number: u32,
+    elapse: Instant,
+    local: Zone<'_>,
+    now: Instant,
+) -> Result<(), WriteFault>
+    requires { W.is_failed out.old ≡ false }
+    ensures failed { W.is_failed out.new ≡ is_err result }
+    ensures bytes { Writes (W.written out.old) (W.written out.new) result
+        (elapse_text local.entry now.secs number elapse.secs) }
+{
+    let label = format_label(number);
+    let instant = format_instant(local, elapse);
+    let utc_line = format_utc_line(local, elapse);
+    let distance = format_distance(now, first_moment(elapse));
+    put_pieces(
+        out,
+        &[
+            label.as_slice(),
+            instant.as_slice(),
+            b"\n",
+            utc_line.as_slice(),
+            b"       From now: ",
+            distance.as_slice(),
+            b"\n",
+        ],
+    )
+}
+
+/// The label of the elapse with that number.
+#[tactic(auto, unfolding(crate::specs::ElapseLines::label_text))]
+fn format_label(number: u32) -> ShortText
+    ensures { result.items ≡ label_text number }
+{
+    if number == 1 {
+        return in_a_row(&[b"    Next elapse: "]);
+    }
+    let mut buffer = Buffer::new();
+    let digits = buffer.format(number);
+    in_a_row(&[
+        padding(digits, 8, Fill::Blank),
+        b"Iter. #",
+        digits.as_bytes(),
+        b": ",
+    ])
+}

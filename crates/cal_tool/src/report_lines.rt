@@ -1,0 +1,81 @@
+//! Lines of the reports (systemd-analyze(1), calendar and timestamp).
+
+ghost use Rattle.std.specs.Prelude.{◌≡◌, ◌≤◌, ◌-ℤ◌, false, is_err, length, unsigned_abs};
+ghost use Rattle.cal_base.specs.Bytes.{Writes};
+ghost use Rattle.cal_tool.specs.ReportLines.{direction_text, distance_text, micros_of, original_line, utc_line};
+
+use cal_base::{
+    Instant, Moment, ShortText, Sink, Span, WriteFault, Zone, format_instant, format_span,
+    in_a_row, put_pieces,
+};
+
+/// Writes the line of the text as it was handed in, and the next label.
+#[tactic(auto, unfolding(crate::specs::ReportLines::original_line))]
+pub fn put_original<W: Sink>(out: &mut W, text: &str) -> Result<(), WriteFault>
+    requires { W.is_failed out.old ≡ false }
+    ensures failed { W.is_failed out.new ≡ is_err result }
+    ensures bytes { Writes (W.written out.old) (W.written out.new) result (original_line text.now) }
+{
+    put_pieces(
+        out,
+        &[
+            b"  Original form: ",
+            text.as_bytes(),
+            b"\nNormalized form: ",
+        ],
+    )
+}
+
+/// The line of the instant in UTC; empty where the local zone is UTC itself.
+#[tactic(auto, unfolding(crate::specs::ReportLines::utc_line))]
+pub fn format_utc_line(local: Zone<'_>, instant: Instant) -> ShortText
+    ensures { result.items ≡ utc_line local.entry instant.secs }
+{
+    if local.is_utc() {
+        return in_a_row(&[]);
+    }
+    let text = format_instant(Zone::utc(), instant);
+    in_a_row(&[b"       (in UTC): ", text.as_slice(), b"\n"])
+}
+
+/// The span between the present and a moment, and which of the two is later.
+#[tactic(auto, unfolding(crate::specs::ReportLines::distance_text))]
+pub fn format_distance(now: Instant, moment: Moment) -> ShortText
+    ensures { result.items ≡ distance_text (micros_of now.secs) moment.micros }
+{
+    let now = first_moment(now);
+    let span = format_span(distance(now, moment));
+    in_a_row(&[span.as_slice(), direction(now, moment)])
+}
+
+/// The first moment of an instant.
+pub fn first_moment(instant: Instant) -> Moment
+    ensures { result.micros ≡ micros_of instant.secs }
+{
+    let Some(moment) = Moment::new(instant.secs() * 1_000_000) else {
+        unreachable!()
+    };
+    moment
+}
+
+/// ` left` where the moment isn't before the present, and ` ago` where it is.
+fn direction<'a>(now: Moment, moment: Moment) -> &'a [u8]
+    ensures text { result.now ≡ direction_text now.micros moment.micros }
+    ensures short { length result.now ≤ 5 }
+{
+    if moment.micros() < now.micros() {
+        b" ago"
+    } else {
+        b" left"
+    }
+}
+
+/// The span between two moments.
+fn distance(now: Moment, moment: Moment) -> Span
+    ensures { result.micros ≡ unsigned_abs (moment.micros -ℤ now.micros) }
+{
+    let Some(span) = Span::new((moment.micros() - now.micros()).unsigned_abs()) else {
+        unreachable!()
+    };
+    span
+}
