@@ -8,6 +8,8 @@ use crate::Listed;
 use std::process::Abort;
 use std::test::Fail;
 
+mod of_elapses;
+
 /// The merge of one list.
 fn merge_one(alloc: Global, one: Vec<i64>) -> Result<Merge<Listed>, AllocError>
     requires { IsRising one.items }
