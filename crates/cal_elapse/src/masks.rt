@@ -9,7 +9,8 @@ use jiff::civil::Date;
 /// The first year of which there are local seconds.
 pub const FIRST_YEAR: u16 = 1_970;
 
-/// The members of each field of a calendar expression: one truth value for each value of each field.
+/// The members of each field of a calendar expression: one truth value for each value of each field, from the field's
+/// least value on. The days are counts from the month's end where `from_end` is set.
 #[derive(Clone, Copy, Debug)]
 pub struct Masks {
     pub(crate) weekdays: [bool; 7],

@@ -5,6 +5,7 @@ use Rattle.std.specs.List.{list_all, slice_split}
 use Rattle.cal_base.specs.SpanValue.{is_point, fraction_worth}
 use Rattle.cal_spec.specs.DateAndTime.{is_colon}
 use Rattle.cal_read.specs.StampDate.{number_in}
+use Rattle.cal_read.specs.declared.stamp_time.TheConstants.{KEPT_DIGITS}
 use Rattle.cal_read.specs.declared.stamp_fault.StampFault.{StampFault}
 use Rattle.cal_read.specs.declared.stamp_fault.StampFault.TheVariants.{BadTime}
 
@@ -19,7 +20,7 @@ clock_number greatest word = up_to greatest (number_in 2 word)
 -- the microseconds of one or more digits behind the point: six digits are kept, the rest is dropped
 unfoldable pub fraction_in : List ℕ → Option ℕ
 fraction_in digits =
-    if nat_le 1 (length digits) && list_all is_ascii_digit digits then Some (fraction_worth 1_000_000 1 (take 6 digits))
+    if nat_le 1 (length digits) && list_all is_ascii_digit digits then Some (fraction_worth 1_000_000 1 (take KEPT_DIGITS digits))
     else None
 
 -- so many seconds and microseconds, in microseconds

@@ -11,6 +11,9 @@ use cal_spec::first_piece;
 /// The microseconds of a second.
 pub(crate) const SECOND: u64 = 1_000_000;
 
+/// How many digits of a fraction are kept.
+const KEPT_DIGITS: usize = 6;
+
 /// The microseconds after midnight of the time that the word writes: `H:M`, `H:M:S` or `H:M:S.` and one or more
 /// digits, of which six are kept (systemd.time(7), Parsing Timestamps). H is 0 to 23, M and S are 0 to 59, each of one
 /// or two digits; anything else is `BadTime`.
@@ -100,6 +103,6 @@ fn read_fraction(digits: &[u8]) -> Option<u64>
     if digits.is_empty() || !are_digits(digits) {
         return None;
     }
-    let kept = &digits[..digits.len().min(6)];
+    let kept = &digits[..digits.len().min(KEPT_DIGITS)];
     Some(fraction_of(kept, SECOND))
 }
