@@ -1,6 +1,7 @@
 -- Several rising lists given as one, each number once: systemd.timer(5), OnCalendar=, where a timer with several
 -- expressions elapses whenever one of them does.
-use Rattle.std.specs.Prelude.{◌≡◌, cond, Bool, List, [], ◌∷◌, Option, None, Some, ℤ, int_lt}
+use Rattle.std.specs.Prelude.{◌≡◌, cond, Bool, false, map, List, [], ◌∷◌, Option, None, Some, ℤ, int_lt}
+use Rattle.cal_elapse.specs.Elapses.{Timed, elapses_after}
 use Rattle.cal_elapse.specs.RisingList.{IsRising, first, union}
 
 -- what is left of a merge: whether a number was asked for already, and what each source has to give
@@ -11,6 +12,10 @@ pub record Merging : Type 0 where
 -- the rest of a merge: the numbers of all its sources
 abbrev pub merged : Merging → List ℤ
 merged m = union m.lists
+
+-- the merge of the elapses after b of each of these, before a number was asked for
+abbrev pub merge_of : List Timed → ℤ → Merging
+merge_of es b = record { started = false; lists = map (λ e. elapses_after (e ∷ []) b) es }
 
 -- one source of a merge: the number taken from it that was not given yet, and what is behind that number
 pub record Stream : Type 0 where

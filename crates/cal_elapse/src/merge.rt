@@ -1,6 +1,6 @@
 //! Several sources of rising numbers given as one, each number once.
 
-ghost use Rattle.std.specs.Prelude.{◌≡◌, ◌++◌, ◌∷◌, [], map, true, false, IfErr, OnOk, OnErr, MatchResult, IfOk};
+ghost use Rattle.std.specs.Prelude.{◌≡◌, ◌++◌, ◌∷◌, [], map, true, false, IfErr, IfOk, OnErr, OnOk};
 ghost use Rattle.std.specs.List.{All};
 ghost use Rattle.cal_elapse.specs.Merge.{HasHead, lesser, merged, numbers, passed};
 ghost use Rattle.cal_elapse.specs.RisingList.{first, later, union};
