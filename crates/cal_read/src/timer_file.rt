@@ -2,6 +2,7 @@
 
 ghost use Rattle.std.specs.Prelude.{◌≡◌, ◌≢◌, ◌+◌, ◌<◌, ◌≤◌, ◌^◌, ◌↔◌, ◌==◌, ℕ, List, Ok, Err, Result, MatchResult, IsTrue, false, length, map, count_by};
 ghost use Rattle.std.specs.Result.{IsErrOf};
+ghost use Rattle.cal_base.specs.Whole.{is_read_failed};
 ghost use Rattle.cal_base.specs.declared.whole.WholeFault.{WholeFault};
 ghost use Rattle.cal_spec.specs.Expr.{expr_in};
 ghost use Rattle.cal_read.specs.Assignments.{assignments_in};
@@ -26,6 +27,7 @@ pub fn read_timer<R: Source>(alloc: Global, input: &mut R) -> Result<Timer, Time
     ensures failed { IsTrue (R.is_failed input.new) ↔ IsErrOf result TimerFault.ReadFailed }
     ensures list { (read : Result (List ℕ) WholeFault)
         × ReadsWhole (R.remaining input.old) (R.remaining input.new) most_bytes read
+        × (R.is_failed input.new ≡ is_read_failed read)
         × MatchResult result
         (λ timer. timer_text expr_in read ≡ Ok timer)
         (λ fault. fault ≢ TimerFault.NoMemory → timer_text expr_in read ≡ Err fault) }

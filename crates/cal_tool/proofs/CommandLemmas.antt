@@ -12,14 +12,14 @@ use Rattle.std.proofs.lemmas.Str.Pattern.{starts_text}
 use Rattle.std.proofs.lemmas.Slice.Eq.{starts_is}
 use Rattle.std.proofs.lemmas.List.Folds.{list_all-map, length-prefix_len}
 use Rattle.cal_tool.specs.declared.request.Verb.{Verb}
-use Rattle.cal_tool.specs.declared.request.Verb.TheVariants.{Calendar, Timestamp}
+use Rattle.cal_tool.specs.declared.request.Verb.TheVariants.{Calendar, Timer, Timestamp}
 use Rattle.std.proofs.lemmas.List.Elements.{filter_map-append}
 use Rattle.std.proofs.lemmas.Bool.{and_parts, ltb-true, lt-ltb, leb-true}
 use Rattle.std.proofs.lemmas.Bool.Decides.{nat_tests, Decides-eqb}
 use Rattle.std.proofs.lemmas.Str.Parse.{IsNumeralModel, numerals_by_value, tells_all_ascii_digits, parse_plain}
 use Rattle.cal_base.specs.Instant.{IsInstant}
 use Rattle.cal_base.specs.declared.instant.Instant.{Instant}
-use Rattle.cal_tool.specs.Command.{number_in, present_in, values_in, value_in, texts_in, some_texts, is_dashed, is_option, iterations_in, now_in, settings_in, given_once, base_in, dated_in, timespan_in, asked_in, is_option_of, texts_of}
+use Rattle.cal_tool.specs.Command.{number_in, present_in, values_in, value_in, texts_in, some_texts, is_dashed, is_option, iterations_in, now_in, settings_in, given_once, base_in, dated_in, texts_for, timespan_in, asked_in, is_option_of, texts_of}
 
 own : IsNumeralModel (λ ds. all_ascii_digits ds ≡ true) (digits_value 10)
 own = numerals_by_value _ tells_all_ascii_digits
@@ -219,7 +219,7 @@ pub dated_in-split : (verb : Verb) (words leading behind : List (Bor (List ℕ))
     → leading ≡ take n words → behind ≡ drop n words
     → dated_in verb (texts_of words) ≡ option_and_then (λ settings.
     option_map (λ texts. record { verb = verb; texts = texts; iterations = settings.iterations; base = settings.base; now = settings.now; local = utc; zones = empty })
-    (texts_in (texts_of behind)))
+    (texts_for verb (texts_of behind)))
     (settings_in verb (texts_of leading))
 unfolding dated_in
 dated_in-split verb words leading behind n count front back =
@@ -248,13 +248,19 @@ pub asked_in-timestamp : (words others : List (Bor (List ℕ))) (first : Bor (Li
 unfolding asked_in
 asked_in-timestamp words others first is at found = rw (is, at, found) refl
 
+pub asked_in-timer : (words others : List (Bor (List ℕ))) (first : Bor (List ℕ)) → words ≡ first ∷ others → bytes_eq first.now (codes "calendar") ≡ false
+    → bytes_eq first.now (codes "timestamp") ≡ false → bytes_eq first.now (codes "timer") ≡ true → asked_in (texts_of words) ≡ dated_in Timer (texts_of others)
+unfolding asked_in
+asked_in-timer words others first is at a found = rw (is, at, a, found) refl
+
 pub asked_in-timespan : (words others : List (Bor (List ℕ))) (first : Bor (List ℕ)) → words ≡ first ∷ others → bytes_eq first.now (codes "calendar") ≡ false
-    → bytes_eq first.now (codes "timestamp") ≡ false → bytes_eq first.now (codes "timespan") ≡ true
+    → bytes_eq first.now (codes "timestamp") ≡ false → bytes_eq first.now (codes "timer") ≡ false → bytes_eq first.now (codes "timespan") ≡ true
     → asked_in (texts_of words) ≡ timespan_in (texts_of others)
 unfolding asked_in
-asked_in-timespan words others first is other another at = rw (is, other, another, at) refl
+asked_in-timespan words others first is at a b found = rw (is, at, a, b, found) refl
 
 pub asked_in-other : (words others : List (Bor (List ℕ))) (first : Bor (List ℕ)) → words ≡ first ∷ others → bytes_eq first.now (codes "calendar") ≡ false
-    → bytes_eq first.now (codes "timestamp") ≡ false → bytes_eq first.now (codes "timespan") ≡ false → asked_in (texts_of words) ≡ None
+    → bytes_eq first.now (codes "timestamp") ≡ false → bytes_eq first.now (codes "timer") ≡ false → bytes_eq first.now (codes "timespan") ≡ false
+    → asked_in (texts_of words) ≡ None
 unfolding asked_in
-asked_in-other words others first is other another third = rw (is, other, another, third) refl
+asked_in-other words others first is at a b d = rw (is, at, a, b, d) refl

@@ -1,6 +1,8 @@
 pub mod AnswerLemmas
 pub mod CommandLemmas
 pub mod ElapseTexts
+pub mod ReportLemmas
 pub mod TimelyLemmas
+pub mod TimerLemmas
 pub mod WorkedRows
 pub mod ZoneLemmas

@@ -2,7 +2,7 @@
 use Rattle.jiff.specs.Types.{UTC}
 use Rattle.std.specs.FinMap.{empty}
 use Rattle.cal_base.specs.Zone.{utc}
-use Rattle.std.proofs.Common.{nat_lt, ◌≡◌, ℕ, ◌<◌, [], ◌∷◌, ◌++◌, None, Some, codes, pos, ◌∙◌, ap, sym, inl, true, false, refl, rules, arith}
+use Rattle.std.proofs.Common.{nat_lt, ◌≡◌, ℕ, ◌<◌, [], ◌∷◌, ◌++◌, None, Some, Ok, codes, pos, ◌∙◌, ap, sym, inl, true, false, refl, rules, arith}
 use Rattle.std.specs.Fmt.{digits}
 use Rattle.jiff.specs.Types.{Date}
 use Rattle.jiff.specs.Words.{epoch_day, weekday_of}
@@ -20,7 +20,7 @@ use Rattle.cal_spec.specs.Match.{matches, date_in, time_in}
 use Rattle.cal_spec.specs.Members.{sets_of, part_has}
 use Rattle.cal_tool.specs.Answer.{reports_text, refusals_text, whole_status}
 use Rattle.cal_elapse.specs.Elapses.{IsElapse}
-use Rattle.cal_tool.specs.Report.{base_in, report}
+use Rattle.cal_tool.specs.Report.{base_in, report, texts_report}
 use Rattle.cal_tool.specs.Request.{Asked}
 use Rattle.cal_elapse.specs.Timed.{timed}
 use Rattle.cal_tool.specs.TimespanReport.{timespan_answer, timespan_report}
@@ -121,14 +121,14 @@ noon_thirty-elapses_again = elapse_at 1_704_198_600 (omega arith) noon_thirty-ma
 two_spans : Asked
 two_spans = record { verb = Timespan; texts = codes "1h" ∷ codes "5x" ∷ []; iterations = 1; base = None; now = pos 0; local = utc; zones = empty }
 
-two_spans-out : (report two_spans).out ≡ codes "Original: 1h\n" ++ (codes "      " ++ (206 ∷ 188 ∷ codes "s: 3600000000\n   Human: 1h\n"))
-unfolding two_spans report base_in reports_text timespan_answer timespan_report units_text row_text span_of pairs_in words_in worth_of is_number unit_named number_worth words_for name_of digits
+two_spans-out : (report two_spans (Ok [])).out ≡ codes "Original: 1h\n" ++ (codes "      " ++ (206 ∷ 188 ∷ codes "s: 3600000000\n   Human: 1h\n"))
+unfolding two_spans report texts_report base_in reports_text timespan_answer timespan_report units_text row_text span_of pairs_in words_in worth_of is_number unit_named number_worth words_for name_of digits
 two_spans-out = refl
 
-two_spans-err : (report two_spans).err ≡ codes "5x: unknown unit\n"
-unfolding two_spans report base_in refusals_text timespan_answer timespan_report units_text row_text span_of pairs_in words_in worth_of is_number unit_named number_worth words_for name_of digits
+two_spans-err : (report two_spans (Ok [])).err ≡ codes "5x: unknown unit\n"
+unfolding two_spans report texts_report base_in refusals_text timespan_answer timespan_report units_text row_text span_of pairs_in words_in worth_of is_number unit_named number_worth words_for name_of digits
 two_spans-err = refl
 
-two_spans-status : (report two_spans).status ≡ Refused
-unfolding two_spans report base_in whole_status timespan_answer timespan_report units_text row_text span_of pairs_in words_in worth_of is_number unit_named number_worth words_for name_of digits
+two_spans-status : (report two_spans (Ok [])).status ≡ Refused
+unfolding two_spans report texts_report base_in whole_status timespan_answer timespan_report units_text row_text span_of pairs_in words_in worth_of is_number unit_named number_worth words_for name_of digits
 two_spans-status = refl

@@ -7,10 +7,10 @@ use Rattle.std.specs.Str.Parse.{digits_value}
 use Rattle.std.specs.FinMap.{empty}
 use Rattle.cal_base.specs.Zone.{utc}
 use Rattle.cal_base.specs.declared.instant.TheConstants.Instant.{LAST}
-use Rattle.cal_tool.specs.Request.{Asked, asked, seeks_elapses}
+use Rattle.cal_tool.specs.Request.{Asked, asked, is_timer, seeks_elapses}
 use Rattle.cal_tool.specs.declared.request.TheConstants.{MOST_ITERATIONS}
 use Rattle.cal_tool.specs.declared.request.Verb.{Verb}
-use Rattle.cal_tool.specs.declared.request.Verb.TheVariants.{Calendar, Timestamp, Timespan}
+use Rattle.cal_tool.specs.declared.request.Verb.TheVariants.{Calendar, Timer, Timestamp, Timespan}
 use Rattle.cal_tool.specs.declared.command.Command.{Command}
 use Rattle.cal_tool.specs.declared.early_words.Given.{Given}
 use Rattle.cal_tool.specs.declared.early_words.Given.TheVariants.{Never, Once, Twice}
@@ -43,10 +43,15 @@ is_dashed word = slice_index word 0 == 45
 abbrev pub is_option : List ℕ → Bool
 is_option word = is_dashed word && not (bytes_eq word (codes "--"))
 
--- A word is an option that the verb has.
-unfoldable pub is_option_of : Verb → List ℕ → Bool
-is_option_of Calendar word =
+-- A word is an option of the verbs that seek elapses.
+unfoldable pub is_option_of_elapses : List ℕ → Bool
+is_option_of_elapses word =
     starts_with nat_eq word (codes "--now=") || (starts_with nat_eq word (codes "--iterations=") || starts_with nat_eq word (codes "--base-time="))
+
+-- A word is an option that the verb has.
+abbrev pub is_option_of : Verb → List ℕ → Bool
+is_option_of Calendar word = is_option_of_elapses word
+is_option_of Timer word = is_option_of_elapses word
 is_option_of Timestamp word = starts_with nat_eq word (codes "--now=")
 is_option_of Timespan word = false
 
@@ -113,12 +118,17 @@ texts_in (word ∷ words) =
     if bytes_eq word (codes "--") then some_texts words
     else if list_any is_dashed (word ∷ words) then None else Some (word ∷ words)
 
+-- A timer has one text alone, the file's name.
+unfoldable pub texts_for : Verb → List (List ℕ) → Option (List (List ℕ))
+texts_for verb words =
+    option_and_then (λ texts. if is_timer verb && not (length texts == 1) then None else Some texts) (texts_in words)
+
 -- Behind a verb that has options stand these, and then texts.
 unfoldable pub dated_in : Verb → List (List ℕ) → Option Asked
 dated_in verb words =
     option_and_then (λ settings.
     option_map (λ texts. record { verb = verb; texts = texts; iterations = settings.iterations; base = settings.base; now = settings.now; local = utc; zones = empty })
-    (texts_in (drop (length (take_while is_option words)) words)))
+    (texts_for verb (drop (length (take_while is_option words)) words)))
     (settings_in verb (take_while is_option words))
 
 -- Behind `timespan` stand texts alone.
@@ -132,6 +142,7 @@ asked_in [] = None
 asked_in (verb ∷ words) =
     if bytes_eq verb (codes "calendar") then dated_in Calendar words
     else if bytes_eq verb (codes "timestamp") then dated_in Timestamp words
+    else if bytes_eq verb (codes "timer") then dated_in Timer words
     else if bytes_eq verb (codes "timespan") then timespan_in words else None
 
 -- What a command asks for: in UTC, and with no other zone.

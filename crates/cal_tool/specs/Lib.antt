@@ -13,5 +13,7 @@ pub mod Request
 pub mod RunFault
 pub mod Status
 pub mod Stop
+pub mod TimerPlan
+pub mod TimerReport
 pub mod TimespanReport
 pub mod TimestampReport

@@ -1,19 +1,23 @@
 -- The report of a request: what goes to standard output, what goes to standard error, and the status.
-use Rattle.std.specs.Prelude.{ℕ, ℤ, List, [], Option, None, Some, Result, Ok, Err, codes}
+use Rattle.std.specs.Prelude.{◌≡◌, ℕ, ℤ, Bool, true, false, ◌&&◌, List, [], Option, None, Some, Result, Ok, Err, IfOk, is_ok, slice_index_or, if◌then◌else◌, codes}
+use Rattle.cal_base.specs.Bytes.{Writes}
+use Rattle.cal_base.specs.Whole.{is_read_failed}
+use Rattle.cal_base.specs.declared.whole.WholeFault.{WholeFault}
 use Rattle.cal_base.specs.declared.instant.Instant.{Instant}
 use Rattle.cal_read.specs.StampFault.{words_of}
+use Rattle.cal_read.specs.TimerText.{ReadsWhole, most_bytes}
 use Rattle.cal_read.specs.declared.stamp_fault.StampFault.{StampFault}
 use Rattle.cal_tool.specs.Answer.{Answer, refusal_line, reports_text, refusals_text, whole_status}
 use Rattle.cal_tool.specs.CalendarReport.{calendar_answer}
-use Rattle.cal_tool.specs.Command.{asked_of}
-use Rattle.cal_tool.specs.Request.{Asked}
+use Rattle.cal_tool.specs.Request.{Asked, is_timer}
+use Rattle.cal_tool.specs.TimerReport.{timer_answer}
 use Rattle.cal_tool.specs.TimespanReport.{timespan_answer}
 use Rattle.cal_tool.specs.TimestampReport.{second_of, stamp_in, timestamp_answer}
-use Rattle.cal_tool.specs.declared.command.Command.{Command}
+use Rattle.cal_tool.specs.declared.request.RunFault.{RunFault}
 use Rattle.cal_tool.specs.declared.request.Status.{Status}
-use Rattle.cal_tool.specs.declared.request.Status.TheVariants.{Refused}
+use Rattle.cal_tool.specs.declared.request.Status.TheVariants.{Fine, Refused}
 use Rattle.cal_tool.specs.declared.request.Verb.{Verb}
-use Rattle.cal_tool.specs.declared.request.Verb.TheVariants.{Calendar, Timestamp, Timespan}
+use Rattle.cal_tool.specs.declared.request.Verb.TheVariants.{Calendar, Timer, Timestamp, Timespan}
 
 -- what a run writes and how it ends
 pub record Report : Type 0 where
@@ -21,11 +25,13 @@ pub record Report : Type 0 where
   pub err : List ℕ
   pub status : Status
 
--- what a verb answers to one text, where elapses are sought after the base
+-- what a verb answers to one text, where elapses are sought after the base; the text of `timer` is a file's name, and
+-- isn't answered by itself
 abbrev pub answer_by : Verb → Asked → ℤ → List ℕ → Answer
 answer_by Calendar asked base text = calendar_answer asked base text
 answer_by Timestamp asked base text = timestamp_answer asked text
 answer_by Timespan asked base text = timespan_answer text
+answer_by Timer asked base text = Err []
 
 -- what is answered to one text of a request
 abbrev pub answer_to : Asked → ℤ → List ℕ → Answer
@@ -48,22 +54,55 @@ secs_told (Err fault) = Err fault
 unfoldable pub base_in : Asked → Result ℤ StampFault
 base_in asked = base_from asked asked.base
 
--- the report of all texts, in their order; a base that is refused is all that is told
-abbrev pub report_from : Asked → Result ℤ StampFault → Report
-report_from asked (Err fault) = record {
-  out = [];
-  err = refusal_line (codes "--base-time") (words_of fault);
-  status = Refused;
-}
-report_from asked (Ok base) = record {
+-- the report of all texts, in their order
+unfoldable pub texts_report : Asked → ℤ → Report
+texts_report asked base = record {
   out = reports_text (answer_to asked base) asked.texts;
   err = refusals_text (answer_to asked base) asked.texts;
   status = whole_status (answer_to asked base) asked.texts;
 }
 
-unfoldable pub report : Asked → Report
-report asked = report_from asked (base_in asked)
+-- one report, or the line of one refusal
+abbrev pub whole_report : Result (List ℕ) (List ℕ) → Report
+whole_report (Ok text) = record { out = text; err = []; status = Fine }
+whole_report (Err line) = record { out = []; err = line; status = Refused }
 
--- the report of what a command asks for, at its present, in UTC and with no other zone
-abbrev pub report_for : Command → Report
-report_for command = report (asked_of command)
+-- the file that a timer is read from
+abbrev pub file_name : Asked → List ℕ
+file_name asked = slice_index_or asked.texts 0 []
+
+-- the report where elapses are sought after the base, by what was read of the input
+abbrev pub report_after : Asked → ℤ → Result (List ℕ) WholeFault → Report
+report_after asked base read =
+    if is_timer asked.verb then whole_report (timer_answer asked base (file_name asked) read) else texts_report asked base
+
+-- a base that is refused is all that is told
+abbrev pub report_from : Asked → Result (List ℕ) WholeFault → Result ℤ StampFault → Report
+report_from asked read (Err fault) = whole_report (Err (refusal_line (codes "--base-time") (words_of fault)))
+report_from asked read (Ok base) = report_after asked base read
+
+-- the report of a request, by what was read of its input
+unfoldable pub report : Asked → Result (List ℕ) WholeFault → Report
+report asked read = report_from asked read (base_in asked)
+
+-- the input is read for a timer alone, and only behind a base that isn't refused
+abbrev pub reads_input : Asked → Bool
+reads_input asked = is_timer asked.verb && is_ok (base_in asked)
+
+-- what was read: all of the input, or the cause why it can't be had; and nothing where none is read
+abbrev pub ReadsIf : Bool → Option (List ℕ) → Option (List ℕ) → Result (List ℕ) WholeFault → Type 0
+ReadsIf true old new read = ReadsWhole old new most_bytes read
+ReadsIf false old new read = (new ≡ old) × (read ≡ Ok [])
+
+-- A run wrote the report, or a front of it where it ended with a fault, and ended as it says.
+pub record IsTold (result : Result Status RunFault) (out_old out_new err_old err_new : Option (List ℕ)) (report : Report) : Type 0 where
+  pub status : IfOk result (λ status. status ≡ report.status)
+  pub out : Writes out_old out_new result report.out
+  pub err : Writes err_old err_new result report.err
+
+-- There is an answer of the reads for whose report this holds. The input has failed exactly where a read failed.
+pub record ByReading (asked : Asked) (old new : Option (List ℕ)) (failed : Bool) (told : Report → Type 0) : Type 0 where
+  pub read : Result (List ℕ) WholeFault
+  pub input : ReadsIf (reads_input asked) old new read
+  pub fails : failed ≡ is_read_failed read
+  pub holds : told (report asked read)

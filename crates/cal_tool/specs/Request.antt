@@ -7,7 +7,7 @@ use Rattle.cal_base.specs.declared.zone.Zone.{Zone}
 use Rattle.cal_tool.specs.declared.request.TheConstants.{MOST_ITERATIONS}
 use Rattle.cal_tool.specs.declared.request.Request.{Request}
 use Rattle.cal_tool.specs.declared.request.Verb.{Verb}
-use Rattle.cal_tool.specs.declared.request.Verb.TheVariants.{Calendar, Timestamp, Timespan}
+use Rattle.cal_tool.specs.declared.request.Verb.TheVariants.{Calendar, Timer, Timestamp, Timespan}
 
 -- a number of elapses that a request can ask for
 abbrev pub IsCount : ℕ → Type 0
@@ -18,6 +18,14 @@ abbrev pub seeks_elapses : Verb → Bool
 seeks_elapses Calendar = true
 seeks_elapses Timestamp = false
 seeks_elapses Timespan = false
+seeks_elapses Timer = true
+
+-- whether a verb has a file in place of texts
+abbrev pub is_timer : Verb → Bool
+is_timer Calendar = false
+is_timer Timestamp = false
+is_timer Timespan = false
+is_timer Timer = true
 
 -- what is asked: a request without where its texts lie in memory, the present instant, and the zones
 pub record Asked : Type 0 where

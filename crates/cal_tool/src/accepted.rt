@@ -12,7 +12,7 @@ ghost use Rattle.cal_tool.specs.Report.{answer_to};
 ghost use Rattle.cal_tool.specs.ReportFault.{is_failed_in};
 ghost use Rattle.cal_tool.specs.TimestampReport.{stamp_in};
 ghost use Rattle.cal_tool.specs.declared.accepted.Refusal.TheVariants.{NoMemory};
-ghost use Rattle.cal_tool.specs.Request.{IsCount, seeks_elapses};
+ghost use Rattle.cal_tool.specs.Request.{IsCount, is_timer, seeks_elapses};
 
 use crate::calendar_report::write_calendar;
 use crate::context::Context;
@@ -75,6 +75,7 @@ pub fn read_text<'a>(
     context: Context<'a>,
     text: &str,
 ) -> Result<Accepted<'a>, Refusal>
+    requires texts { is_timer context.request.now.verb ≡ false }
     ensures accepted { IfOk result (λ accepted. answer_to (asked_by context.entry) context.entry.base.secs text.now
         ≡ Ok (report_text (asked_by context.entry) text.now accepted)) }
     ensures refused { IfErr result (λ refusal. (refusal ≡ NoMemory → ⊥)
@@ -85,6 +86,7 @@ pub fn read_text<'a>(
 {
     match context.request.verb {
         Verb::Calendar => read_calendar(alloc, context, text),
+        Verb::Timer => unreachable!(),
         Verb::Timestamp => match read_moment(context, text) {
             Ok(moment) => Ok(Accepted::Timestamp(moment)),
             Err(fault) => Err(Refusal::Stamp(fault)),
@@ -134,7 +136,7 @@ fn read_calendar<'a>(
 
 /// The zone of an expression: the one that it names, which may not be there, or else the local one.
 #[tactic(auto, unfolding(crate::specs::CalendarReport::zone_for))]
-fn zone_for<'a>(context: Context<'a>, expr: &Expr) -> Option<Zone<'a>>
+pub fn zone_for<'a>(context: Context<'a>, expr: &Expr) -> Option<Zone<'a>>
     ensures { option_map zone_of result ≡ zone_for (asked_by context.entry) expr.now.zone }
 {
     match expr.zone_name() {

@@ -4,14 +4,15 @@ ghost use Rattle.std.specs.Prelude.{◌≡◌, false, IfOk, IfErr};
 ghost use Rattle.std.specs.Io.Buffered.{writer_contents};
 ghost use Rattle.std.specs.Io.KnownBytes.{Keeps, Appends};
 ghost use Rattle.cal_base.specs.Bytes.{Writes};
-ghost use Rattle.cal_tool.specs.Report.{report_for};
+ghost use Rattle.cal_tool.specs.Command.{asked_of};
+ghost use Rattle.cal_tool.specs.Report.{ByReading};
 ghost use Rattle.cal_tool.specs.RunFault.{is_err_failed};
 ghost use Rattle.cal_tool.specs.declared.request.RunFault.TheVariants.{OutFailed};
 
 use crate::command::Command;
 use crate::report::run;
 use crate::request::{RunFault, Status};
-use cal_base::{Port, Sink, Zone, ZoneTable};
+use cal_base::{Port, Sink, Source, Zone, ZoneTable};
 use std::alloc::Global;
 use std::io::{BufWriter, Write};
 
@@ -29,31 +30,32 @@ pub struct Finished<W> {
 ///
 /// What can't be written out of the buffer at the end is a failure of the output, and a buffer that
 /// can't be had is a lack of memory.
-pub fn run_buffered<W: Write + Drop, E: Sink>(
+pub fn run_buffered<R: Source, W: Write + Drop, E: Sink>(
     alloc: Global,
     command: &Command,
+    input: &mut R,
     out: W,
     err: &mut E,
 ) -> Result<Finished<W>, RunFault>
-    requires { E.is_failed err.old ≡ false }
-    ensures status { IfOk result (λ finished. finished.status ≡ (report_for command.entry.now).status) }
-    ensures out { IfOk result (λ finished. Appends (W.contents out) (W.contents finished.out)
-        (report_for command.entry.now).out) }
-    ensures err { Writes (E.written err.old) (E.written err.new) result
-        (report_for command.entry.now).err }
+    requires input { R.is_failed input.old ≡ false }
+    requires err { E.is_failed err.old ≡ false }
+    ensures reported { ByReading (asked_of command.entry.now)
+        (R.remaining input.old) (R.remaining input.new) (R.is_failed input.new)
+        (λ report. IfOk result (λ finished. (finished.status ≡ report.status)
+        × Appends (W.contents out) (W.contents finished.out) report.out)
+        × Writes (E.written err.old) (E.written err.new) result report.err) }
     ensures err_failed { E.is_failed err.new ≡ is_err_failed result }
 {
     let Ok(buffer) = BufWriter::new(alloc, out) else {
         return Err(RunFault::NoMemory);
     };
     let mut out = Port::new(buffer);
-    let mut input = Port::new(b"".as_slice());
     let local = Zone::utc();
     let table = ZoneTable::new(alloc);
     let ended = run(
         alloc,
         &command.request,
-        &mut input,
+        input,
         command.now,
         local,
         &table,
@@ -113,8 +115,9 @@ mod tests {
         let text = "Original: 1h\n      μs: 3600000000\n   Human: 1h\n";
         for (limit, want) in [(1000, None), (40, Some(RunFault::OutFailed))] {
             let writer = Faulty::new(Vec::new(rt.alloc()), 7, limit, Then::Error);
+            let mut input = Port::new(b"".as_slice());
             let mut err = Port::new(Vec::new(rt.alloc()));
-            match run_buffered(rt.alloc(), &command, writer, &mut err) {
+            match run_buffered(rt.alloc(), &command, &mut input, writer, &mut err) {
                 Ok(finished) => assert_eq!(rt; finished.out.bytes(), text.as_bytes(), "at {limit}"),
                 Err(fault) => assert_eq!(rt; Some(fault), want, "at {limit}"),
             }

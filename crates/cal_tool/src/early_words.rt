@@ -1,12 +1,11 @@
 //! The words of the command line, as they are read until `clap` reads them.
 
-ghost use Rattle.std.specs.Prelude.{◌≡◌, ◌<◌, ◌≤◌, false, codes, length, map, take_while, option_map, option_copied, MatchOption, None, Some, IfSome, IfOk, string_bytes, vec_len};
+ghost use Rattle.std.specs.Prelude.{◌≡◌, ◌<◌, ◌≤◌, true, false, codes, length, map, take_while, option_map, option_copied, MatchOption, None, Some, IfSome, IfOk, string_bytes, vec_len};
 ghost use Rattle.std.specs.List.{list_all, list_any};
 ghost use Rattle.std.specs.FinMap.{empty};
 ghost use Rattle.cal_base.specs.Zone.{utc};
-ghost use Rattle.cal_tool.specs.Request.{IsCount, seeks_elapses};
-ghost use Rattle.cal_tool.specs.Command.{texts_of, asked_in, asked_of, dated_in, timespan_in, texts_in as texts_among, settings_in, is_dashed, is_option, is_option_of, base_in, values_in, value_in, IsGiven, iterations_in, now_in, count_in, present_in, number_in};
-ghost use Rattle.cal_tool.specs.declared.request.Verb.TheVariants.{Calendar};
+ghost use Rattle.cal_tool.specs.Request.{IsCount, is_timer, seeks_elapses};
+ghost use Rattle.cal_tool.specs.Command.{texts_of, asked_in, asked_of, dated_in, timespan_in, texts_in as texts_among, texts_for as texts_among_for, settings_in, is_dashed, is_option, is_option_of, is_option_of_elapses, base_in, values_in, value_in, IsGiven, iterations_in, now_in, count_in, present_in, number_in};
 
 use crate::command::Command;
 use crate::request::{MOST_ITERATIONS, Request, Verb};
@@ -38,9 +37,10 @@ enum Given<'a> {
 
 /// What the words after the program's name ask for, or `None` where they aren't known.
 ///
-/// `calendar` and `timestamp` have the option `--now=@N`, and `calendar` may have `--iterations=N` and
+/// `calendar`, `timer` and `timestamp` have the option `--now=@N`, and the first two may have `--iterations=N` and
 /// `--base-time=STAMP`, in any order and before the texts; `timespan` has no options. A `--` may stand before the
-/// texts, of which there is at least one; without it no text begins with `-`.
+/// texts, of which there is at least one, and for `timer` one alone, the file's name; without it no text begins with
+/// `-`.
 pub fn early_words(alloc: Global, words: &[&str]) -> Result<Option<Command>, AllocError>
     ensures { IfOk result (λ known. option_map asked_of known ≡ asked_in (texts_of words.now)) }
 {
@@ -51,6 +51,8 @@ pub fn early_words(alloc: Global, words: &[&str]) -> Result<Option<Command>, All
         dated(alloc, Verb::Calendar, words)
     } else if *verb == "timestamp" {
         dated(alloc, Verb::Timestamp, words)
+    } else if *verb == "timer" {
+        dated(alloc, Verb::Timer, words)
     } else if *verb == "timespan" {
         timespan(alloc, words)
     } else {
@@ -66,7 +68,7 @@ fn dated(alloc: Global, verb: Verb, words: &[&str]) -> Result<Option<Command>, A
     let Some(options) = options_in(verb, leading) else {
         return Ok(None);
     };
-    let Some(texts) = texts_in(behind) else {
+    let Some(texts) = texts_for(verb, behind) else {
         return Ok(None);
     };
     let Options {
@@ -102,6 +104,7 @@ fn command(
 ) -> Result<Command, AllocError>
     requires some_text { 0 < length texts.now }
     requires iterations { IsCount iterations }
+    requires file { is_timer verb ≡ true → length texts.now ≡ 1 }
     requires base { seeks_elapses verb ≡ false → base ≡ None }
     ensures { IfOk result (λ command. asked_of command ≡ record {
       verb = verb;
@@ -144,6 +147,20 @@ fn leading_options(words: &[&str]) -> usize
     ensures { result ≡ length (take_while (λ word. is_option word.now) words.now) }
 {
     words.iter().take_while(|word| is_option(word)).count()
+}
+
+/// The texts behind the options of a verb, of which a timer has one alone.
+#[tactic(auto, unfolding(crate::specs::Command::texts_for))]
+fn texts_for<'w, 'a>(verb: Verb, words: &'w [&'a str]) -> Option<&'w [&'a str]>
+    ensures value { option_map (λ texts. texts_of texts.now) result ≡ texts_among_for verb (texts_of words.now) }
+    ensures some { IfSome result (λ texts. 0 < length texts.now) }
+    ensures file { IfSome result (λ texts. is_timer verb ≡ true → length texts.now ≡ 1) }
+{
+    let texts = texts_in(words)?;
+    if verb.is_timer() && texts.len() != 1 {
+        return None;
+    }
+    Some(texts)
 }
 
 /// The texts behind the options, or `None` where there is none or one begins with `-` without a `--`
@@ -245,7 +262,7 @@ fn is_known(verb: Verb, word: &str) -> bool
     ensures { result ≡ is_option_of verb word.now }
 {
     match verb {
-        Verb::Calendar => is_of_elapses(word),
+        Verb::Calendar | Verb::Timer => is_of_elapses(word),
         Verb::Timestamp => word.starts_with("--now="),
         Verb::Timespan => false,
     }
@@ -253,7 +270,7 @@ fn is_known(verb: Verb, word: &str) -> bool
 
 /// Whether a word is an option of a verb that seeks elapses.
 fn is_of_elapses(word: &str) -> bool
-    ensures { result ≡ is_option_of Calendar word.now }
+    ensures { result ≡ is_option_of_elapses word.now }
 {
     if word.starts_with("--now=") {
         return true;

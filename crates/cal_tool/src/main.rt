@@ -18,19 +18,21 @@ pub mod report_fault;
 pub mod report_lines;
 pub mod request;
 pub mod stop;
+pub mod timer_report;
 pub mod timespan_report;
 pub mod timestamp_report;
 
 use crate::buffered::run_buffered;
 use crate::command::Command;
-use crate::request::{RunFault, Status};
+use crate::report::file_name;
+use crate::request::{RunFault, Status, Verb};
 use crate::stop::{Stop, exit_status, write_stop};
 use cal_base::{Port, Sink};
 use std::alloc::{AllocError, Global};
 use std::io::{ErrorKind, Write};
 use std::process::ExitCode;
-use std::rt::Env;
-use std::{env, io};
+use std::rt::{Env, Files};
+use std::{env, fs, io};
 
 fn main(rt: HostRuntime) -> ExitCode {
     let mut err = Port::new(rt.stderr());
@@ -48,7 +50,7 @@ fn main(rt: HostRuntime) -> ExitCode {
 }
 
 /// Does what the words of the command line ask for.
-fn answer<R: Env + AllocGlobal, W: Write + Drop, E: Sink>(
+fn answer<R: Env + Files + AllocGlobal, W: Write + Drop, E: Sink>(
     rt: &R,
     out: W,
     err: &mut E,
@@ -64,9 +66,33 @@ fn answer<R: Env + AllocGlobal, W: Write + Drop, E: Sink>(
         Ok(None) => return Err(Stop::Usage),
         Err(AllocError) => return Err(Stop::Run(RunFault::NoMemory)),
     };
-    match run_buffered(rt.alloc(), &command, out, err) {
+    let ended = match command.request.verb {
+        Verb::Timer => {
+            let mut file = Port::new(open(rt, file_name(&command.request))?);
+            run_buffered(rt.alloc(), &command, &mut file, out, err)
+        }
+        _ => run_buffered(
+            rt.alloc(),
+            &command,
+            &mut Port::new(b"".as_slice()),
+            out,
+            err,
+        ),
+    };
+    match ended {
         Ok(finished) => Ok(finished.status),
         Err(fault) => Err(Stop::Run(fault)),
+    }
+}
+
+/// Opens the file of that name.
+fn open<R: Files + AllocGlobal>(rt: &R, name: &str) -> Result<R::File, Stop> {
+    match fs::open(rt, name) {
+        Ok(file) => Ok(file),
+        Err(_) => match String::from_str(rt.alloc(), name) {
+            Ok(name) => Err(Stop::Open(name)),
+            Err(_) => Err(Stop::Run(RunFault::NoMemory)),
+        },
     }
 }
 

@@ -1,12 +1,17 @@
 //! The report of a whole request: the reports of its texts on standard output, the refusals on standard
 //! error, and the status (systemd-analyze(1)).
 
-ghost use Rattle.std.specs.Prelude.{◌≡◌, [], ◌∷◌, None, false, is_err, codes, IfOk, IsErrOf};
+ghost use Rattle.std.specs.Prelude.{ℕ, List, Result, slice_index_or, length, map, true, ◌≡◌, [], ◌∷◌, None, false, is_err, codes, IfOk, IsErrOf};
+ghost use Rattle.std.specs.String.{string_bytes};
+ghost use Rattle.cal_base.specs.Whole.{is_read_failed};
+ghost use Rattle.cal_base.specs.declared.whole.WholeFault.{WholeFault};
+ghost use Rattle.cal_read.specs.TimerText.{ReadsWhole, most_bytes};
 ghost use Rattle.cal_base.specs.Bytes.{Writes, joined};
 ghost use Rattle.cal_tool.specs.Answer.{refusal_in, refusal_line, later_text, status_in, reports_text, refusals_text, whole_status};
 ghost use Rattle.cal_tool.specs.Context.{asked_by};
-ghost use Rattle.cal_tool.specs.Report.{answer_to, base_in, report, secs_told};
-ghost use Rattle.cal_tool.specs.Request.{IsCount, asked, seeks_elapses};
+ghost use Rattle.cal_tool.specs.Report.{ByReading, IsTold, answer_to, base_in, file_name, secs_told, whole_report};
+ghost use Rattle.cal_tool.specs.Request.{IsCount, asked, is_timer, seeks_elapses};
+ghost use Rattle.cal_tool.specs.TimerReport.{refusal_at, timer_answer};
 ghost use Rattle.cal_tool.specs.RunFault.{is_out_failed, is_err_failed};
 ghost use Rattle.cal_tool.specs.declared.request.RunFault.TheVariants.{NoMemory};
 ghost use Rattle.cal_tool.specs.declared.request.Status.TheVariants.{Refused};
@@ -14,16 +19,19 @@ ghost use Rattle.cal_tool.specs.declared.request.Status.TheVariants.{Refused};
 use crate::accepted::{Refusal, put_report, read_text};
 use crate::context::Context;
 use crate::report_fault::ReportFault;
-use crate::request::{Request, RunFault, Status};
+use crate::request::{Request, RunFault, Status, Verb};
+use crate::timer_report::{TimerRefusal, read_plan, write_timer};
 use cal_base::{Instant, Sink, Source, WriteFault, Zone, ZoneTable, put_pieces};
 use cal_read::{StampFault, read_stamp};
+use itoa::Buffer;
 use std::alloc::Global;
 
 /// Answers a request: each accepted text gets a report on `out`, each refused one a line on `err`.
 ///
 /// The elapses shown are the first `iterations` (1 to 1,000,000) after the present. An expression is meant in the zone
 /// that it names, which has to be in the table, and otherwise in the local zone. Instants are printed in the local
-/// zone, and once more in UTC where that is another. So far `input` isn't read.
+/// zone, and once more in UTC where that is another. `input` is the file of [`Verb::Timer`], whose name is the one text;
+/// for other verbs it isn't read.
 ///
 /// [`RunFault::OutFailed`] and [`RunFault::ErrFailed`] come exactly where that writer failed in this call, and
 /// each writer has a prefix of its whole text then, as it has where memory is refused ([`RunFault::NoMemory`]).
@@ -40,23 +48,22 @@ pub fn run<R: Source, O: Sink, E: Sink>(
     err: &mut E,
 ) -> Result<Status, RunFault>
     requires iterations { IsCount request.now.iterations }
+    requires file { is_timer request.now.verb ≡ true → length request.now.texts.items ≡ 1 }
     requires base { seeks_elapses request.now.verb ≡ false → request.now.base ≡ None }
     requires input { R.is_failed input.old ≡ false }
     requires out { O.is_failed out.old ≡ false }
     requires err { E.is_failed err.old ≡ false }
-    ensures status { IfOk result (λ status. status ≡ (report (asked request.now now.secs local.entry table.now)).status) }
-    ensures out { Writes (O.written out.old) (O.written out.new) result
-        (report (asked request.now now.secs local.entry table.now)).out }
-    ensures err { Writes (E.written err.old) (E.written err.new) result
-        (report (asked request.now now.secs local.entry table.now)).err }
+    ensures reported { ByReading (asked request.now now.secs local.entry table.now)
+        (R.remaining input.old) (R.remaining input.new) (R.is_failed input.new)
+        (IsTold result (O.written out.old) (O.written out.new) (E.written err.old) (E.written err.new)) }
     ensures out_failed { O.is_failed out.new ≡ is_out_failed result }
     ensures err_failed { E.is_failed err.new ≡ is_err_failed result }
     ensures memory { seeks_elapses request.now.verb ≡ false → IsErrOf result NoMemory → ⊥ }
-    ensures input { input.new ≡ input.old }
+    ensures input { is_timer request.now.verb ≡ false → input.new ≡ input.old }
 {
     let base = match read_base(request, now, local, table) {
         Ok(base) => base,
-        Err(fault) => return refuse(err, "--base-time", fault.words()),
+        Err(fault) => return refuse(err, "--base-time", None, fault.words()),
     };
     let context = Context {
         request,
@@ -65,7 +72,10 @@ pub fn run<R: Source, O: Sink, E: Sink>(
         local,
         table,
     };
-    answer_all(alloc, context, out, err)
+    match request.verb {
+        Verb::Timer => answer_timer(alloc, context, input, out, err),
+        _ => answer_all(alloc, context, out, err),
+    }
 }
 
 /// The instant after which elapses are sought: that of the moment that the base means, or the present.
@@ -92,6 +102,7 @@ fn answer_all<O: Sink, E: Sink>(
     out: &mut O,
     err: &mut E,
 ) -> Result<Status, RunFault>
+    requires texts { is_timer context.request.now.verb ≡ false }
     requires iterations { IsCount context.request.now.iterations }
     requires out { O.is_failed out.old ≡ false }
     requires err { E.is_failed err.old ≡ false }
@@ -127,6 +138,7 @@ fn answer_one<O: Sink, E: Sink>(
     out: &mut O,
     err: &mut E,
 ) -> Result<Status, RunFault>
+    requires texts { is_timer context.request.now.verb ≡ false }
     requires iterations { IsCount context.request.now.iterations }
     requires out { O.is_failed out.old ≡ false }
     requires err { E.is_failed err.old ≡ false }
@@ -146,33 +158,105 @@ fn answer_one<O: Sink, E: Sink>(
             Err(ReportFault::NoMemory) => Err(RunFault::NoMemory),
         },
         Err(Refusal::NoMemory) => Err(RunFault::NoMemory),
-        Err(refusal) => refuse(err, text, refusal.words()),
+        Err(refusal) => refuse(err, text, None, refusal.words()),
     }
 }
 
-/// Tells that a text is refused.
-fn refuse<E: Sink>(err: &mut E, text: &str, words: &str) -> Result<Status, RunFault>
+/// Answers a timer file, by its report or by the line of its refusal.
+fn answer_timer<R: Source, O: Sink, E: Sink>(
+    alloc: Global,
+    context: Context<'_>,
+    input: &mut R,
+    out: &mut O,
+    err: &mut E,
+) -> Result<Status, RunFault>
+    requires iterations { IsCount context.request.now.iterations }
+    requires input { R.is_failed input.old ≡ false }
+    requires out { O.is_failed out.old ≡ false }
+    requires err { E.is_failed err.old ≡ false }
+    ensures reported { (read : Result (List ℕ) WholeFault)
+        × ReadsWhole (R.remaining input.old) (R.remaining input.new) most_bytes read
+        × (R.is_failed input.new ≡ is_read_failed read)
+        × IsTold result (O.written out.old) (O.written out.new) (E.written err.old) (E.written err.new)
+        (whole_report (timer_answer (asked_by context.entry) context.entry.base.secs (file_name (asked_by context.entry)) read)) }
+    ensures out_failed { O.is_failed out.new ≡ is_out_failed result }
+    ensures err_failed { E.is_failed err.new ≡ is_err_failed result }
+{
+    match read_plan(alloc, context, input) {
+        Ok(plan) => match write_timer(out, context, plan) {
+            Ok(()) => Ok(Status::Fine),
+            Err(ReportFault::Failed) => Err(RunFault::OutFailed),
+            Err(ReportFault::NoMemory) => Err(RunFault::NoMemory),
+        },
+        Err(TimerRefusal::NoMemory) => Err(RunFault::NoMemory),
+        Err(refusal) => refuse(
+            err,
+            file_name(context.request),
+            refusal.line(),
+            refusal.words(),
+        ),
+    }
+}
+
+/// The name of the file that a timer is read from: the one text.
+pub fn file_name(request: &Request) -> &str
+    ensures { result.now ≡ slice_index_or (map string_bytes request.now.texts.items) 0 [] }
+{
+    match request.texts.first() {
+        Some(name) => name.as_str(),
+        None => "",
+    }
+}
+
+/// Tells that a text is refused, or a file, in that line where there is one.
+fn refuse<E: Sink>(
+    err: &mut E,
+    text: &str,
+    line: Option<u32>,
+    words: &str,
+) -> Result<Status, RunFault>
     requires { E.is_failed err.old ≡ false }
     ensures status { IfOk result (λ status. status ≡ Refused) }
-    ensures err { Writes (E.written err.old) (E.written err.new) result (refusal_line text.now words.now) }
+    ensures err { Writes (E.written err.old) (E.written err.new) result (refusal_at text.now line words.now) }
     ensures err_failed { E.is_failed err.new ≡ is_err_failed result }
     ensures out_failed { is_out_failed result ≡ false }
     ensures memory { IsErrOf result NoMemory → ⊥ }
 {
-    match put_refusal(err, text, words) {
+    match put_refusal(err, text, line, words) {
         Ok(()) => Ok(Status::Refused),
         Err(WriteFault::Failed) => Err(RunFault::ErrFailed),
     }
 }
 
 /// Writes the line of a refusal.
-fn put_refusal<W: Sink>(err: &mut W, text: &str, words: &str) -> Result<(), WriteFault>
+#[tactic(auto, unfolding(crate::specs::TimerReport::refusal_at))]
+fn put_refusal<W: Sink>(
+    err: &mut W,
+    text: &str,
+    line: Option<u32>,
+    words: &str,
+) -> Result<(), WriteFault>
     requires { W.is_failed err.old ≡ false }
     ensures failed { W.is_failed err.new ≡ is_err result }
     ensures bytes { Writes (W.written err.old) (W.written err.new) result
-        (refusal_line text.now words.now) }
+        (refusal_at text.now line words.now) }
 {
-    put_pieces(err, &[text.as_bytes(), b": ", words.as_bytes(), b"\n"])
+    let Some(line) = line else {
+        return put_pieces(err, &[text.as_bytes(), b": ", words.as_bytes(), b"\n"]);
+    };
+    let mut buffer = Buffer::new();
+    let number = buffer.format(line);
+    put_pieces(
+        err,
+        &[
+            text.as_bytes(),
+            b":",
+            number.as_bytes(),
+            b": ",
+            words.as_bytes(),
+            b"\n",
+        ],
+    )
 }
 
 #[cfg(test)]

@@ -5,6 +5,8 @@
 pub enum Verb {
     /// The normal form of a calendar expression and its next elapses.
     Calendar,
+    /// The next elapses of the expressions of a timer file, whose name is the one text.
+    Timer,
     /// The instant that a timestamp means.
     Timestamp,
     /// How long a time span is.
@@ -13,13 +15,20 @@ pub enum Verb {
 
 impl Verb {
     ghost use Rattle.std.specs.Prelude.{◌≡◌};
-    ghost use Rattle.cal_tool.specs.Request.{seeks_elapses};
+    ghost use Rattle.cal_tool.specs.Request.{is_timer, seeks_elapses};
 
     /// Whether the verb seeks elapses: such a verb alone has a base, and takes memory.
     pub fn seeks_elapses(self) -> bool
         ensures { result ≡ seeks_elapses self }
     {
-        matches!(self, Verb::Calendar)
+        matches!(self, Verb::Calendar | Verb::Timer)
+    }
+
+    /// Whether the verb has a file in place of texts.
+    pub fn is_timer(self) -> bool
+        ensures { result ≡ is_timer self }
+    {
+        matches!(self, Verb::Timer)
     }
 }
 

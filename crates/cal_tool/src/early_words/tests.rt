@@ -19,6 +19,7 @@ fn shown(alloc: Global, line: &str) -> Result<String, Fail> {
     };
     let verb = match command.request.verb {
         Verb::Calendar => "calendar",
+        Verb::Timer => "timer",
         Verb::Timestamp => "timestamp",
         Verb::Timespan => "timespan",
     };

@@ -7,12 +7,12 @@ returns-in_default c =
     let split = dated_in-split c.args.verb c.args.words.now _ _ c.leading_options.result c.leading_options.ensures c.split_at.ensures.front c.split_at.ensures.back in
     sym (split ∙ rw c.in_default.ensures.value refl)
 
-pub returns-in_default-texts_in : goal.returns-in_default-texts_in
-returns-in_default-texts_in c =
+pub returns-in_default-texts_for : goal.returns-in_default-texts_for
+returns-in_default-texts_for c =
     let split = dated_in-split c.args.verb c.args.words.now _ _ c.leading_options.result c.leading_options.ensures c.split_at.ensures.front c.split_at.ensures.back in
-    sym (split ∙ rw (c.in-Some.ensures.value, ← c.in_default-texts_in.ensures.value) refl)
+    sym (split ∙ rw (c.in-Some.ensures.value, ← c.in_default-texts_for.ensures.value) refl)
 
 pub returns : goal.returns
 returns c =
     let split = dated_in-split c.args.verb c.args.words.now _ _ c.leading_options.result c.leading_options.ensures c.split_at.ensures.front c.split_at.ensures.back in
-    sym (split ∙ rw (c.in-Some.ensures.value, ← c.in-Some-texts_in.ensures.value) (ap Some (sym c.in_ok-command.ensures)))
+    sym (split ∙ rw (c.in-Some.ensures.value, ← c.in-Some-texts_for.ensures.value) (ap Some (sym c.in_ok-command.ensures)))
