@@ -2,14 +2,16 @@
 
 ghost use Rattle.std.specs.Prelude.{◌≡◌, ◌<◌};
 ghost use Rattle.cal_elapse.specs.Masks.{sets_in, told};
-ghost use Rattle.cal_spec.specs.Match.{date_in, day_number, time_in};
+ghost use Rattle.cal_spec.specs.Match.{date_in, time_in};
 
+use cal_spec::day_number;
 use jiff::civil::Date;
 
 /// The first year of which there are local seconds.
 pub const FIRST_YEAR: u16 = 1_970;
 
-/// The members of each field of a calendar expression: one truth value for each value of each field.
+/// The members of each field of a calendar expression: one truth value for each value of each field, from the field's
+/// least value on. The days are counts from the month's end where `from_end` is set.
 #[derive(Clone, Copy, Debug)]
 pub struct Masks {
     pub(crate) weekdays: [bool; 7],
@@ -55,16 +57,4 @@ fn told(table: &[bool], first: u16, value: u16) -> bool
             .get(usize::from(value - first))
             .copied()
             .unwrap_or(false)
-}
-
-/// The number that is tested for the day: the day itself, or its count from the month's end.
-fn day_number(from_end: bool, date: Date) -> u16
-    ensures { result ≡ day_number from_end date }
-{
-    let day = if from_end {
-        date.days_in_month() - date.day() + 1
-    } else {
-        date.day()
-    };
-    day.unsigned_abs().into()
 }

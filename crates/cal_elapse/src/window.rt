@@ -16,16 +16,18 @@ use std::alloc::{AllocError, Global};
 /// How far a place can lie from its local second.
 const FARTHEST: u64 = 93_599;
 
-/// What is pending of the elapses of an expression in a zone.
+/// What is pending of the elapses of an expression in a zone. Every public call leaves it ready, as `IsReady` says.
 #[derive(Drop)]
 pub struct Window<'z> {
     searcher: Searcher,
     zone: Zone<'z>,
+    /// What all elapses are later than.
     base: i64,
     /// The match that was found and isn't placed yet.
     ahead: Option<u64>,
     /// The instant that was given last, or the base.
     last: i64,
+    /// The places above `last` of the matches before the one ahead.
     pending: Pending,
 }
 

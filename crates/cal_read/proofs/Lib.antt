@@ -8,6 +8,7 @@ pub mod StampLemmas
 mod StampRows
 pub mod StampRule
 pub mod StampText
+pub mod TextEnds
 pub mod TimerLemmas
 pub mod TimerRows
 pub mod TimerRuleLemmas

@@ -1,11 +1,11 @@
 -- Where a text may be cut, and the lines of a file one after the other.
-use Rattle.std.proofs.Common.{◌≡◌, ◌≢◌, ◌<◌, ◌≤◌, ◌-◌, ℕ, Bool, true, false, List, length, get_or, arith, refl, ◌∙◌, subst, ap, zero, suc, reverse, ◌==◌, [], ◌∷◌}
-use Rattle.std.specs.List.{prefix_len, suffix_len}
-use Rattle.std.specs.Str.{IsCharBoundary, IsUtf8}
+use Rattle.std.proofs.Common.{◌≡◌, ◌≢◌, ◌<◌, ◌≤◌, ◌-◌, ℕ, true, false, List, length, get_or, arith, refl, ◌∙◌, ap, reverse, ◌==◌, [], ◌∷◌}
+use Rattle.std.specs.List.{suffix_len}
+use Rattle.std.specs.Str.{IsCharBoundary}
 use Rattle.std.proofs.lemmas.Bool.Decides.{nat_tests}
 use Rattle.std.proofs.lemmas.List.{get_or-reverse}
-use Rattle.std.proofs.lemmas.List.Sums.{prefix_len_passes, prefix_len-le-length, suffix_len-le-length}
-use Rattle.std.proofs.lemmas.Str.{IsCharBoundary-start, IsCharBoundary-end, IsCharBoundary-before_ascii, IsCharBoundary-after_ascii}
+use Rattle.std.proofs.lemmas.List.Sums.{prefix_len_passes, suffix_len-le-length}
+use Rattle.std.proofs.lemmas.Str.{IsCharBoundary-before_ascii}
 use Rattle.std.specs.List.{after_first, before_first, position_or_len, slice_split}
 use Rattle.std.specs.Str.Lines.{lines, lines_of_parts, strip_carriage_return}
 use Rattle.std.proofs.lemmas.List.Elements.{All-from_get_or}
@@ -15,28 +15,6 @@ use Rattle.cal_read.specs.Lines.{is_blank, is_continued}
 -- every blank is ASCII
 pub blank_is_ascii : (b : ℕ) → is_blank b ≡ true → b < 128
 blank_is_ascii b h = grind (arith, nat_tests)
-
--- behind ASCII at the start a text may be cut
-front_boundary_at : (p : ℕ → Bool) (bs : List ℕ) (n : ℕ) → ((b : ℕ) → p b ≡ true → b < 128) → IsUtf8 bs → prefix_len p bs ≡ n → IsCharBoundary bs n
-front_boundary_at p bs zero ascii utf8 e = IsCharBoundary-start bs utf8
-front_boundary_at p bs (suc n) ascii utf8 e =
-    let passes = prefix_len_passes p bs n 0 (omega (arith, e)) in
-    subst (IsCharBoundary bs) (omega arith) (IsCharBoundary-after_ascii bs n utf8 (omega (arith, e, prefix_len-le-length p bs)) (ascii (get_or bs n 0) passes))
-
-pub front_boundary : (p : ℕ → Bool) (bs : List ℕ) → ((b : ℕ) → p b ≡ true → b < 128) → IsUtf8 bs → IsCharBoundary bs (prefix_len p bs)
-front_boundary p bs ascii utf8 = front_boundary_at p bs (prefix_len p bs) ascii utf8 refl
-
--- and so it may in front of ASCII at the end
-end_boundary_at : (p : ℕ → Bool) (bs : List ℕ) (n : ℕ) → ((b : ℕ) → p b ≡ true → b < 128) → suffix_len p bs ≡ n → IsCharBoundary bs (length bs - n)
-end_boundary_at p bs zero ascii e = subst (IsCharBoundary bs) (omega arith) (IsCharBoundary-end bs)
-end_boundary_at p bs (suc n) ascii e =
-    let fits : suc n ≤ length bs = omega (arith, e, suffix_len-le-length p bs) in
-    let passes = prefix_len_passes p (reverse bs) n 0 (omega (arith, e)) in
-    let there : get_or (reverse bs) n 0 ≡ get_or bs (length bs - suc n) 0 = get_or-reverse bs n 0 (omega arith) ∙ ap (λ k. get_or bs k 0) (omega arith) in
-    IsCharBoundary-before_ascii bs (length bs - suc n) (omega arith) (ascii (get_or bs (length bs - suc n) 0) (rw there at passes))
-
-pub end_boundary : (p : ℕ → Bool) (bs : List ℕ) → ((b : ℕ) → p b ≡ true → b < 128) → IsCharBoundary bs (length bs - suffix_len p bs)
-end_boundary p bs ascii = end_boundary_at p bs (suffix_len p bs) ascii refl
 
 -- the last byte of a line that is continued is a backslash
 pub last_is_backslash : (line : List ℕ) → is_continued line ≡ true → (1 ≤ length line) × IsCharBoundary line (length line - 1)

@@ -7,29 +7,18 @@ use Rattle.std.proofs.lemmas.Bool.{cases_lt, lt-ltb, not-true, not-false}
 use Rattle.std.proofs.lemmas.Bool.Decides.{nat_tests}
 use Rattle.std.proofs.lemmas.List.{get_or-reverse, length-reverse, get_or-drop, length-take, take_all, drop_all}
 use Rattle.std.proofs.lemmas.List.Folds.{list_any_at, list_any_none}
-use Rattle.std.proofs.lemmas.List.Sums.{prefix_len_passes, prefix_len_stops, prefix_len-le-length, suffix_len-le-length}
+use Rattle.std.proofs.lemmas.List.Sums.{prefix_len_passes, prefix_len_stops, prefix_len-le-length}
 use Rattle.std.proofs.lemmas.List.Splits.{slice_split_first, slice_split_none}
-use Rattle.std.proofs.lemmas.Str.{IsCharBoundary-start, IsCharBoundary-end, IsCharBoundary-before_ascii, IsCharBoundary-after_ascii}
+use Rattle.std.proofs.lemmas.Str.{IsCharBoundary-end, IsCharBoundary-before_ascii, IsCharBoundary-after_ascii}
 use Rattle.cal_spec.specs.Words.{is_blank, words}
 use Rattle.cal_read.specs.StampForm.{from_solid}
 
 -- a blank is one byte
-blank_ascii : (b : ℕ) → is_blank b ≡ true → b < 128
+pub blank_ascii : (b : ℕ) → is_blank b ≡ true → b < 128
 blank_ascii b h = grind (arith, nat_tests)
 
 pub boundary_at : (text : List ℕ) (m n : ℕ) → m ≡ n → IsCharBoundary text m → IsCharBoundary text n
 boundary_at text m n e h = let P : ℕ → Type 0 = λ k. IsCharBoundary text k in subst P e h
-
-pub front_boundary : (text : List ℕ) → IsUtf8 text → IsCharBoundary text (prefix_len is_blank text)
-front_boundary text u =
-    let n = prefix_len is_blank text in
-    elim (cases_lt 0 n) [
-      | inl some ↦
-          let within : n - 1 < length text = omega (arith, prefix_len-le-length is_blank text) in
-          let ascii = blank_ascii (get_or text (n - 1) 0) (prefix_len_passes is_blank text (n - 1) 0 (omega arith)) in
-          boundary_at text (n - 1 + 1) n (omega arith) (IsCharBoundary-after_ascii text (n - 1) u within ascii)
-      | inr none ↦ boundary_at text 0 n (omega arith) (IsCharBoundary-start text u)
-    ]
 
 pub word_boundary : (text : List ℕ) → IsUtf8 text → IsCharBoundary text (position_or_len is_blank text)
 word_boundary text u =
@@ -57,15 +46,6 @@ in_suffix p text k d from within =
     let seen = prefix_len_passes p (reverse text) back d there in
     let reversed = get_or-reverse text back d (omega arith) in
     rw (reversed, here) at seen
-
-pub end_boundary : (text : List ℕ) → IsUtf8 text → IsCharBoundary text (length text - suffix_len is_blank text)
-end_boundary text u =
-    let n = suffix_len is_blank text in
-    elim (cases_lt 0 n) [
-      | inl some ↦
-          IsCharBoundary-before_ascii text (length text - n) (omega (arith, suffix_len-le-length is_blank text)) (blank_ascii (get_or text (length text - n) 0) (in_suffix is_blank text (length text - n) 0 (omega arith) (omega (arith, suffix_len-le-length is_blank text))))
-      | inr none ↦ boundary_at text (length text) (length text - n) (omega arith) (IsCharBoundary-end text)
-    ]
 
 -- no blank
 abbrev pub is_solid : ℕ → Bool

@@ -18,8 +18,8 @@ abbrev pub with_read : {E A : Type 0} → Assigned → Result E SpecFault → (E
 with_read a (Ok expr) next = next (record { number = a.number; text = a.value; expr = expr })
 with_read a (Err fault) next = Err (BadLine a.number fault)
 
--- The list, from the entries so far and the assignments that are left: line by line, as the code goes. `Resumes` ties it
--- to the list of all assignments.
+-- The list, from the entries so far and the assignments that are left: from one to the next, as the code goes. For
+-- private contracts alone; the lemma `resumed_is_list` says that this is `list_of`.
 unfoldable pub resumed : {E : Type 0} → (List ℕ → Result E SpecFault) → List (Entry E) → List Assigned → Result (List (Entry E)) TimerFault
 resumed read es [] = some_entries es
 resumed read es (a ∷ behind) =

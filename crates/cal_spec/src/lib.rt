@@ -32,6 +32,7 @@ mod zone_name;
 pub use expr::Expr;
 pub use expr_text::write_expr;
 pub use field::Field;
+pub use matching::day_number;
 pub use part::Part;
 pub use parts::with_century;
 pub use pieces::first_piece;

@@ -1,7 +1,8 @@
 use Rattle.std.proofs.Common.{◌∙◌, arith}
 use Rattle.std.proofs.lemmas.List.Sums.{suffix_len-le-length}
 use Rattle.cal_read.specs.Lines.{is_blank, trim_end}
-use Rattle.cal_read.proofs.LineLemmas.{blank_is_ascii, end_boundary}
+use Rattle.cal_read.proofs.LineLemmas.{blank_is_ascii}
+use Rattle.cal_read.proofs.TextEnds.{end_boundary}
 use Rattle.cal_read.proofs.lines.trim_end.Goals as goal
 
 pub overflow_sub-text : goal.overflow_sub-text

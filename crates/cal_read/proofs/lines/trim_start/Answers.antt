@@ -1,6 +1,7 @@
 use Rattle.std.proofs.Common.{◌∙◌, ap, drop}
 use Rattle.cal_read.specs.Lines.{is_blank, trim_start}
-use Rattle.cal_read.proofs.LineLemmas.{blank_is_ascii, front_boundary}
+use Rattle.cal_read.proofs.LineLemmas.{blank_is_ascii}
+use Rattle.cal_read.proofs.TextEnds.{front_boundary}
 use Rattle.cal_read.proofs.lines.trim_start.Goals as goal
 
 pub range_from-requires : goal.range_from-requires
