@@ -12,7 +12,7 @@ fn read(alloc: Global, line: &str) -> Result<Option<Command>, Fail> {
     Ok(early_words(alloc, words.as_slice())?)
 }
 
-/// One line for what was asked: the verb, the iterations, the present and the texts.
+/// One line for what was asked: the verb, the iterations, the present, the base if there is one, and the texts.
 fn shown(alloc: Global, line: &str) -> Result<String, Fail> {
     let Some(command) = read(alloc, line)? else {
         return Ok(String::from_str(alloc, "unknown")?);
@@ -26,6 +26,10 @@ fn shown(alloc: Global, line: &str) -> Result<String, Fail> {
     let count = command.request.iterations;
     let now = command.now.secs();
     let mut line = format!(in alloc; "{verb} {count} {now}")?;
+    if let Some(base) = &command.request.base {
+        line.push_str(" after ")?;
+        line.push_str(base.as_str())?;
+    }
     for text in &command.request.texts {
         line.push('|')?;
         line.push_str(text.as_str())?;
@@ -59,6 +63,40 @@ fn known_words(rt: HostRuntime) -> Result<(), Fail> {
             "calendar 1 0|-5min|--now=@1",
         ),
         ("calendar|--now=@0|--|--", "calendar 1 0|--"),
+        (
+            "calendar|--base-time=@5|--now=@0|a",
+            "calendar 1 0 after @5|a",
+        ),
+        (
+            "calendar|--now=@9|--base-time=Mon 2012-11-23|--iterations=2|a|b",
+            "calendar 2 9 after Mon 2012-11-23|a|b",
+        ),
+        ("calendar|--base-time=|--now=@0|a", "calendar 1 0 after |a"),
+        (
+            "calendar|--base-time=-5min|--now=@0|a",
+            "calendar 1 0 after -5min|a",
+        ),
+        (
+            "calendar|--base-time=--now=@1|--now=@0|a",
+            "calendar 1 0 after --now=@1|a",
+        ),
+        (
+            "calendar|--now=@0|--|--base-time=@1",
+            "calendar 1 0|--base-time=@1",
+        ),
+        (
+            "timestamp|--now=@1353665722|11:12",
+            "timestamp 1 1353665722|11:12",
+        ),
+        (
+            "timestamp|--now=@7258211998|a||now",
+            "timestamp 1 7258211998|a||now",
+        ),
+        ("timestamp|--now=@5|--|-5min|b", "timestamp 1 5|-5min|b"),
+        (
+            "timestamp|--now=@5|--|--base-time=@1",
+            "timestamp 1 5|--base-time=@1",
+        ),
         ("timespan|5min", "timespan 1 0|5min"),
         ("timespan|5min|5x", "timespan 1 0|5min|5x"),
         ("timespan|--|-5min", "timespan 1 0|-5min"),
@@ -97,14 +135,32 @@ fn unknown_words(rt: HostRuntime) -> Result<(), Fail> {
         "calendar|--now=@@1|a",
         "calendar|--now=@7258211999|a",
         "calendar|--now=@123456789012345678901234567890|a",
-        "calendar|--base-time=@0|--now=@0|a",
+        "calendar|--base-time=@0|a",
+        "calendar|--base-time=@0|--now=@0|--base-time=@0|a",
+        "calendar|--base-time=@0|--now=@0",
+        "calendar|--base-time|@0|--now=@0|a",
+        "calendar|--Base-time=@0|--now=@0|a",
+        "calendar|--now=@0|a|--base-time=@0",
         "calendar|-|--now=@0|a",
         "calendar|--now=@0|a|-b",
         "calendar|--now=@0|a|--",
         "calendar|--now=@0|a|--iterations=2",
+        "timestamp",
+        "timestamp|11:12",
+        "timestamp|--now=@0",
+        "timestamp|--now=@0|--",
+        "timestamp|--now=@0|--now=@0|11:12",
+        "timestamp|--now=0|11:12",
+        "timestamp|--now=@7258211999|11:12",
+        "timestamp|--now=@0|--base-time=@0|11:12",
+        "timestamp|--now=@0|--iterations=1|11:12",
+        "timestamp|--now=@0|-5min",
+        "timestamp|11:12|--now=@0",
+        "timestamps|--now=@0|11:12",
         "timespan",
         "timespan|--",
         "timespan|--now=@1|5min",
+        "timespan|--base-time=@1|5min",
         "timespan|-5min",
     ] {
         assert_eq!(rt; shown(rt.alloc(), line)?.as_str(), "unknown", "{line}");
