@@ -4,13 +4,14 @@ ghost use Rattle.std.specs.Prelude.{◌≡◌, false};
 
 use crate::report::run;
 use crate::request::{Request, RunFault, Status, Verb};
-use cal_base::{Instant, Port, Rules, Sink, Zone, ZoneTable};
+use cal_base::{Instant, Port, Rules, Sink, Source, Zone, ZoneTable};
 use std::alloc::{AllocError, Global};
 use std::process::Abort;
 use std::test::Fail;
 
 mod base;
 mod calendar;
+mod timers;
 mod timespans;
 mod timestamps;
 mod writers;
@@ -33,6 +34,8 @@ struct Row<'a> {
     local: Zone<'a>,
     /// The zones that have a name; none but UTC where there is no table.
     zones: Option<&'a ZoneTable>,
+    /// The timer file.
+    input: &'a [u8],
 }
 
 /// A request for one elapse of each expression, in UTC.
@@ -45,6 +48,7 @@ fn calendar_row<'a>(texts: &'a [&'a str], now: i64) -> Row<'a> {
         now,
         local: Zone::utc(),
         zones: None,
+        input: b"",
     }
 }
 
@@ -114,7 +118,7 @@ fn check(rt: &(impl Abort + AllocGlobal), rows: &[Whole<'_>]) -> Result<(), Fail
 fn answered(rt: &(impl Abort + AllocGlobal), row: Row<'_>) -> Result<Outcome, Fail> {
     let mut out = Port::new(Vec::new(rt.alloc()));
     let mut err = Port::new(Vec::new(rt.alloc()));
-    let ended = run_row(rt, row, &mut out, &mut err)?;
+    let ended = run_row(rt, row, &mut Port::new(row.input), &mut out, &mut err)?;
     Ok(Outcome {
         out: out.into_inner(),
         err: err.into_inner(),
@@ -122,24 +126,26 @@ fn answered(rt: &(impl Abort + AllocGlobal), row: Row<'_>) -> Result<Outcome, Fa
     })
 }
 
-fn run_row<O: Sink, E: Sink>(
+fn run_row<R: Source, O: Sink, E: Sink>(
     rt: &(impl Abort + AllocGlobal),
     row: Row<'_>,
+    input: &mut R,
     out: &mut O,
     err: &mut E,
 ) -> Result<Result<Status, RunFault>, Fail>
+    requires input { R.is_failed input.old ≡ false }
     requires out { O.is_failed out.old ≡ false }
     requires err { E.is_failed err.old ≡ false }
 {
     let request = request(rt.alloc(), row)?;
     assert!(rt; request.iterations >= 1 && request.iterations <= 1_000_000);
     assert!(rt; request.verb.seeks_elapses() || request.base.is_none());
+    assert!(rt; !request.verb.is_timer() || request.texts.len() == 1);
     let now = Instant::new(row.now).ok_or("no instant")?;
-    let mut input = Port::new(b"".as_slice());
     let none = ZoneTable::new(rt.alloc());
     let zones = row.zones.unwrap_or(&none);
     let alloc = rt.alloc();
-    Ok(run(alloc, &request, &mut input, now, row.local, zones, out, err))
+    Ok(run(alloc, &request, input, now, row.local, zones, out, err))
 }
 
 fn request(alloc: Global, row: Row<'_>) -> Result<Request, AllocError> {

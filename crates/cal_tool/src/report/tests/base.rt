@@ -128,39 +128,29 @@ fn going_on_from_an_elapse(rt: HostRuntime) -> Result<(), Fail> {
     check(&rt, &rows)
 }
 
+/// A request with that base.
+fn based_row<'a>(texts: &'a [&'a str], base: &'a str) -> Row<'a> {
+    Row {
+        base: Some(base),
+        ..calendar_row(texts, NEW_YEAR)
+    }
+}
+
 /// A base that is refused is all that is told.
 #[test]
 fn refused_bases(rt: HostRuntime) -> Result<(), Fail> {
-    let wrong_weekday = Row {
-        base: Some("Mon 2012-11-23"),
-        ..calendar_row(&["daily"], NEW_YEAR)
-    };
     let rows = [
         refused(
-            wrong_weekday,
+            based_row(&["daily"], "Mon 2012-11-23"),
             "--base-time: weekday does not fit the date\n",
         ),
         refused(
-            Row {
-                texts: &["daily", "x", "weekly"],
-                base: Some("5x ago"),
-                ..wrong_weekday
-            },
+            based_row(&["daily", "x", "weekly"], "5x ago"),
             "--base-time: bad time span: unknown unit\n",
         ),
+        refused(based_row(&[], ""), "--base-time: empty timestamp\n"),
         refused(
-            Row {
-                texts: &[],
-                base: Some(""),
-                ..wrong_weekday
-            },
-            "--base-time: empty timestamp\n",
-        ),
-        refused(
-            Row {
-                base: Some("2024-01-01 Mars/One"),
-                ..wrong_weekday
-            },
+            based_row(&["daily"], "2024-01-01 Mars/One"),
             "--base-time: no such zone\n",
         ),
     ];

@@ -14,7 +14,7 @@ fn failing_writers(rt: HostRuntime) -> Result<(), Fail> {
         for then in [Then::Error, Then::Interrupted, Then::Zero] {
             let mut out = Port::new(Faulty::new(Vec::new(rt.alloc()), 3, limit, then));
             let mut err = Port::new(Vec::new(rt.alloc()));
-            let ended = run_row(&rt, row, &mut out, &mut err)?;
+            let ended = run_row(&rt, row, &mut Port::new(row.input), &mut out, &mut err)?;
             assert_eq!(rt; ended, Err(RunFault::OutFailed));
             assert!(rt; out.failed() && !err.failed());
             let faulty = out.into_inner();
@@ -23,7 +23,7 @@ fn failing_writers(rt: HostRuntime) -> Result<(), Fail> {
     }
     let mut out = Port::new(Vec::new(rt.alloc()));
     let mut err = Port::new(Faulty::new(Vec::new(rt.alloc()), 1, 4, Then::Error));
-    let ended = run_row(&rt, row, &mut out, &mut err)?;
+    let ended = run_row(&rt, row, &mut Port::new(row.input), &mut out, &mut err)?;
     assert_eq!(rt; ended, Err(RunFault::ErrFailed));
     assert_eq!(rt; out.into_inner().as_slice(), NOON_THIRTY.as_bytes());
     let faulty = err.into_inner();
@@ -48,7 +48,7 @@ fn cut_output(rt: HostRuntime) -> Result<(), Fail> {
     let limit = CUT.as_bytes().len();
     let mut out = Port::new(Faulty::new(Vec::new(rt.alloc()), 7, limit, Then::Error));
     let mut err = Port::new(Vec::new(rt.alloc()));
-    let ended = run_row(&rt, row, &mut out, &mut err)?;
+    let ended = run_row(&rt, row, &mut Port::new(row.input), &mut out, &mut err)?;
     assert_eq!(rt; ended, Err(RunFault::OutFailed));
     assert_eq!(rt; Faulty::bytes(&out.into_inner()), CUT.as_bytes());
     assert!(rt; err.into_inner().is_empty());
@@ -64,7 +64,7 @@ fn refusal_of_a_base_cut(rt: HostRuntime) -> Result<(), Fail> {
     };
     let mut out = Port::new(Vec::new(rt.alloc()));
     let mut err = Port::new(Faulty::new(Vec::new(rt.alloc()), 5, 11, Then::Zero));
-    let ended = run_row(&rt, row, &mut out, &mut err)?;
+    let ended = run_row(&rt, row, &mut Port::new(row.input), &mut out, &mut err)?;
     assert_eq!(rt; ended, Err(RunFault::ErrFailed));
     assert!(rt; out.into_inner().is_empty());
     assert_eq!(rt; Faulty::bytes(&err.into_inner()), b"--base-time".as_slice());

@@ -178,7 +178,7 @@ const BLOCK: [u8; 54] =
     *b"TZif2\0\0\0\0\0\0\0\0\0\0\0\0\0\0\0\0\0\0\0\0\0\0\0\0\0\0\0\0\0\0\0\0\0\0\x01\0\0\0\x04\0\0\x0e\x10\0\0CET\0";
 
 /// A table with the zone `Test/Fixed`, which comes from such a file with the footer `CET-1`.
-fn table_with_fixed(rt: &impl Abort, alloc: Global) -> Result<ZoneTable, Fail> {
+pub fn table_with_fixed(rt: &impl Abort, alloc: Global) -> Result<ZoneTable, Fail> {
     let mut file = Vec::from_slice(alloc, &BLOCK)?;
     file.extend_from_slice(&BLOCK)?;
     file.extend_from_slice(b"\nCET-1\n")?;
