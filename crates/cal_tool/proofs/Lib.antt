@@ -5,4 +5,3 @@ pub mod ReportLemmas
 pub mod TimelyLemmas
 pub mod TimerLemmas
 pub mod WorkedRows
-pub mod ZoneLemmas
