@@ -1,5 +1,5 @@
-//! The program `calendar-analyze`: when calendar expressions elapse, and how long time spans are
-//! (systemd-analyze(1), systemd.time(7)).
+//! The program `calendar-analyze`: when calendar expressions and timer files elapse, which instants timestamps mean,
+//! and how long time spans are (systemd-analyze(1), systemd.time(7), systemd.timer(5)).
 #![tactic(auto)]
 
 ghost use Rattle.std.specs.Prelude.{◌≡◌, false, map, option_map, string_bytes, IfOk};

@@ -1,5 +1,5 @@
-//! The report of a whole request: the reports of its texts on standard output, the refusals on standard
-//! error, and the status (systemd-analyze(1)).
+//! The report of a whole request: the reports of its texts or of its timer file on standard output, the refusals on
+//! standard error, and the status (systemd-analyze(1)).
 
 ghost use Rattle.std.specs.Prelude.{ℕ, List, Result, slice_index_or, length, map, true, ◌≡◌, [], ◌∷◌, None, false, is_err, codes, IfOk, IsErrOf};
 ghost use Rattle.std.specs.String.{string_bytes};
@@ -26,16 +26,18 @@ use cal_read::{StampFault, read_stamp};
 use itoa::Buffer;
 use std::alloc::Global;
 
-/// Answers a request: each accepted text gets a report on `out`, each refused one a line on `err`.
+/// Answers a request (systemd-analyze(1)): each accepted text gets a report on `out`, each refused one a line on `err`.
+/// The file of [`Verb::Timer`], whose name is the one text, gets one or the other; it is `input`, which isn't read for
+/// other verbs.
 ///
-/// The elapses shown are the first `iterations` (1 to 1,000,000) after the present. An expression is meant in the zone
-/// that it names, which has to be in the table, and otherwise in the local zone. Instants are printed in the local
-/// zone, and once more in UTC where that is another. `input` is the file of [`Verb::Timer`], whose name is the one text;
-/// for other verbs it isn't read.
+/// The elapses shown are the first `iterations` (1 to 1,000,000) after the base, a timestamp, or after the present
+/// where none is given; only verbs that seek elapses have a base. A base that is refused is one line on `err`, and
+/// nothing else is done. An expression is meant in the zone that it names, which has to be in the table, and otherwise
+/// in the local zone. Instants are printed in the local zone, and once more in UTC where that is another.
 ///
 /// [`RunFault::OutFailed`] and [`RunFault::ErrFailed`] come exactly where that writer failed in this call, and
 /// each writer has a prefix of its whole text then, as it has where memory is refused ([`RunFault::NoMemory`]).
-/// Time spans take no memory.
+/// Timestamps and time spans take no memory.
 #[tactic(auto, unfolding(crate::specs::Report::report))]
 pub fn run<R: Source, O: Sink, E: Sink>(
     alloc: Global,

@@ -1,6 +1,6 @@
 //! What the program is asked to do, and how a run ends.
 
-/// What is asked of each text (systemd-analyze(1)).
+/// What is asked of each text, or of a timer file (systemd-analyze(1)).
 #[derive(Clone, Copy, PartialEq, Eq, Debug)]
 pub enum Verb {
     /// The normal form of a calendar expression and its next elapses.
@@ -40,11 +40,11 @@ pub const MOST_ITERATIONS: u32 = 1_000_000;
 pub struct Request {
     /// What is asked of each text.
     pub verb: Verb,
-    /// The texts, in order.
+    /// The texts, in order; of a timer the file's name alone.
     pub texts: Vec<String>,
     /// How many elapses are shown at most: 1 to [`MOST_ITERATIONS`].
     pub iterations: u32,
-    /// The timestamp after which elapses are sought, or `None` for the present.
+    /// The timestamp after which elapses are sought, or `None` for the present. Only verbs that seek elapses have one.
     pub base: Option<String>,
 }
 
