@@ -1,5 +1,5 @@
 -- Lemmas on the report of a timer file: the merge of its elapses, line by line, and the texts of its lines.
-use Rattle.std.proofs.Common.{Result, Ok, ◌≡◌, ℕ, ◌+◌, ◌<◌, ◌++◌, Bool, true, false, List, [], ◌∷◌, length, map, take, drop, get_or, Option, None, ℤ, pos, ◌≤ℤ◌, refl, sym, subst, ap, ◌∙◌, inl, inr, string_bytes}
+use Rattle.std.proofs.Common.{◌≢◌, Result, Ok, Err, ◌≡◌, ℕ, ◌+◌, ◌<◌, ◌++◌, Bool, true, false, List, [], ◌∷◌, length, map, take, drop, get_or, Option, None, ℤ, pos, ◌≤ℤ◌, refl, sym, subst, ap, ◌∙◌, inl, inr, string_bytes}
 use Rattle.std.specs.List.{find, flat_map}
 use Rattle.std.proofs.lemmas.List.{append_assoc, take_more, map-append, take-append-drop}
 use Rattle.std.proofs.lemmas.List.Folds.{find-append, flat_map-map}
@@ -11,6 +11,8 @@ use Rattle.cal_elapse.proofs.ElapsesLemmas.{union-elapses_after}
 use Rattle.cal_elapse.proofs.InstantLemmas.{IsInstant-elapse}
 use Rattle.cal_elapse.proofs.RisingLemmas.{Has-union}
 use Rattle.cal_read.specs.TimerText.{Entry, timer_text}
+use Rattle.cal_read.specs.declared.timer_fault.TimerFault.{TimerFault}
+use Rattle.cal_read.specs.declared.timer_fault.TimerFault.TheVariants as timer
 use Rattle.cal_read.specs.TimerView.{shown}
 use Rattle.cal_read.specs.declared.timer.TimerLine.{TimerLine}
 use Rattle.cal_base.specs.declared.whole.WholeFault.{WholeFault}
@@ -19,7 +21,7 @@ use Rattle.cal_spec.specs.Fields.{Fields}
 use Rattle.cal_tool.specs.ElapseLines.{AreInstants}
 use Rattle.cal_tool.specs.Request.{Asked}
 use Rattle.cal_tool.specs.TimerPlan.{IsMergeOf, IsUnzoned, plan_text}
-use Rattle.cal_tool.specs.TimerReport.{headings_text, lacks_zone, timed_in, timer_answer, timer_report}
+use Rattle.cal_tool.specs.TimerReport.{IsHad, headings_text, lacks_zone, timed_in, timer_answer, timer_report}
 use Rattle.cal_tool.specs.CalendarReport.{heading_text}
 use Rattle.std.specs.Io.KnownBytes.{Appends}
 use Rattle.cal_base.specs.Bytes.{AppendsFront, Leaves}
@@ -111,3 +113,10 @@ pub plan_answers : (asked : Asked) (base : ℤ) (read : Result (List ℕ) WholeF
     → IsMergeOf asked base list merge → (name : List ℕ) → timer_answer asked base name read ≡ Ok (plan_text asked (record { timer = list; merge = merge }))
 unfolding timer_answer timer_report
 plan_answers asked base read list merge is m name = rw (is, m.found, merge_whole asked base list merge m) refl
+
+-- what was read where a list, or a fault other than want of memory, came of it
+pub had_list : (read : Result (List ℕ) WholeFault) (list : List (Entry Fields)) → timer_text expr_in read ≡ Ok list → IsHad read
+had_list read list is none = let never = rw none at is in cc
+
+pub had_fault : (read : Result (List ℕ) WholeFault) (fault : TimerFault) → timer_text expr_in read ≡ Err fault → fault ≢ timer.NoMemory → IsHad read
+had_fault read fault is other none = let same = rw none at is in other (cc)

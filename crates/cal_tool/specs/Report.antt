@@ -10,7 +10,7 @@ use Rattle.cal_read.specs.declared.stamp_fault.StampFault.{StampFault}
 use Rattle.cal_tool.specs.Answer.{Answer, refusal_line, reports_text, refusals_text, whole_status}
 use Rattle.cal_tool.specs.CalendarReport.{calendar_answer}
 use Rattle.cal_tool.specs.Request.{Asked, is_timer}
-use Rattle.cal_tool.specs.TimerReport.{timer_answer}
+use Rattle.cal_tool.specs.TimerReport.{IsHad, timer_answer}
 use Rattle.cal_tool.specs.TimespanReport.{timespan_answer}
 use Rattle.cal_tool.specs.TimestampReport.{second_of, stamp_in, timestamp_answer}
 use Rattle.cal_tool.specs.declared.request.RunFault.{RunFault}
@@ -94,15 +94,17 @@ abbrev pub ReadsIf : Bool → Option (List ℕ) → Option (List ℕ) → Result
 ReadsIf true old new read = ReadsWhole old new most_bytes read
 ReadsIf false old new read = (new ≡ old) × (read ≡ Ok [])
 
--- A run wrote the report, or a front of it where it ended with a fault, and ended as it says.
-pub record IsTold (result : Result Status RunFault) (out_old out_new err_old err_new : Option (List ℕ)) (report : Report) : Type 0 where
+-- A run wrote the report, or a front of it where it ended with a fault, and ended as it says. Where it ended well, no
+-- memory was refused to its reads.
+pub record IsTold (result : Result Status RunFault) (out_old out_new err_old err_new : Option (List ℕ)) (read : Result (List ℕ) WholeFault) (report : Report) : Type 0 where
   pub status : IfOk result (λ status. status ≡ report.status)
+  pub had : IfOk result (λ status. IsHad read)
   pub out : Writes out_old out_new result report.out
   pub err : Writes err_old err_new result report.err
 
 -- There is an answer of the reads for whose report this holds. The input has failed exactly where a read failed.
-pub record ByReading (asked : Asked) (old new : Option (List ℕ)) (failed : Bool) (told : Report → Type 0) : Type 0 where
+pub record ByReading (asked : Asked) (old new : Option (List ℕ)) (failed : Bool) (told : Result (List ℕ) WholeFault → Report → Type 0) : Type 0 where
   pub read : Result (List ℕ) WholeFault
   pub input : ReadsIf (reads_input asked) old new read
   pub fails : failed ≡ is_read_failed read
-  pub holds : told (report asked read)
+  pub holds : told read (report asked read)

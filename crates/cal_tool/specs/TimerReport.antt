@@ -1,10 +1,11 @@
 -- The report of a timer file: this project's own verb, after systemd.timer(5), OnCalendar=.
-use Rattle.std.specs.Prelude.{ℕ, ℤ, Bool, List, [], ◌∷◌, map, take, Option, None, Some, Result, Ok, Err, codes, decimal, is_none}
+use Rattle.std.specs.Prelude.{◌≢◌, ℕ, ℤ, Bool, List, [], ◌∷◌, map, take, Option, None, Some, Result, Ok, Err, codes, decimal, is_none}
 use Rattle.std.specs.List.{find, flat_map}
 use Rattle.std.specs.Option.{unwrap_or}
 use Rattle.jiff.specs.Types.{UTC}
 use Rattle.cal_base.specs.Bytes.{joined}
 use Rattle.cal_base.specs.declared.whole.WholeFault.{WholeFault}
+use Rattle.cal_base.specs.declared.whole.WholeFault.TheVariants.{NoMemory}
 use Rattle.cal_elapse.specs.Elapses.{Timed, elapses_after}
 use Rattle.cal_elapse.specs.Timed.{timed}
 use Rattle.cal_read.specs.TimerFault.{line_of, words_of}
@@ -47,6 +48,10 @@ answer_unless asked base name list (Some e) = Err (refusal_at name (Some e.numbe
 abbrev pub answer_of_timer : Asked → ℤ → List ℕ → Result (List (Entry Fields)) TimerFault → Result (List ℕ) (List ℕ)
 answer_of_timer asked base name (Ok list) = answer_unless asked base name list (find (lacks_zone asked) list)
 answer_of_timer asked base name (Err fault) = Err (refusal_at name (line_of fault) (words_of fault))
+
+-- memory wasn't refused to the reads
+abbrev pub IsHad : Result (List ℕ) WholeFault → Type 0
+IsHad read = read ≢ Err NoMemory
 
 -- the report of a file of that name, or the line of its refusal, by what the reads gave
 unfoldable pub timer_answer : Asked → ℤ → List ℕ → Result (List ℕ) WholeFault → Result (List ℕ) (List ℕ)

@@ -6,6 +6,7 @@ ghost use Rattle.std.specs.Io.KnownBytes.{Keeps, Appends};
 ghost use Rattle.cal_base.specs.Bytes.{Writes};
 ghost use Rattle.cal_tool.specs.Command.{asked_of};
 ghost use Rattle.cal_tool.specs.Report.{ByReading};
+ghost use Rattle.cal_tool.specs.TimerReport.{IsHad};
 ghost use Rattle.cal_tool.specs.RunFault.{is_err_failed};
 ghost use Rattle.cal_tool.specs.declared.request.RunFault.TheVariants.{OutFailed};
 
@@ -41,7 +42,7 @@ pub fn run_buffered<R: Source, W: Write + Drop, E: Sink>(
     requires err { E.is_failed err.old ≡ false }
     ensures reported { ByReading (asked_of command.entry.now)
         (R.remaining input.old) (R.remaining input.new) (R.is_failed input.new)
-        (λ report. IfOk result (λ finished. (finished.status ≡ report.status)
+        (λ read report. IfOk result (λ finished. IsHad read × (finished.status ≡ report.status)
         × Appends (W.contents out) (W.contents finished.out) report.out)
         × Writes (E.written err.old) (E.written err.new) result report.err) }
     ensures err_failed { E.is_failed err.new ≡ is_err_failed result }

@@ -179,7 +179,7 @@ fn answer_timer<R: Source, O: Sink, E: Sink>(
     ensures reported { (read : Result (List ℕ) WholeFault)
         × ReadsWhole (R.remaining input.old) (R.remaining input.new) most_bytes read
         × (R.is_failed input.new ≡ is_read_failed read)
-        × IsTold result (O.written out.old) (O.written out.new) (E.written err.old) (E.written err.new)
+        × IsTold result (O.written out.old) (O.written out.new) (E.written err.old) (E.written err.new) read
         (whole_report (timer_answer (asked_by context.entry) context.entry.base.secs (file_name (asked_by context.entry)) read)) }
     ensures out_failed { O.is_failed out.new ≡ is_out_failed result }
     ensures err_failed { E.is_failed err.new ≡ is_err_failed result }

@@ -16,7 +16,7 @@ ghost use Rattle.cal_tool.specs.Context.{asked_by};
 ghost use Rattle.cal_tool.specs.ElapseLines.{AreInstants, elapses_text};
 ghost use Rattle.cal_tool.specs.ReportFault.{is_failed_in};
 ghost use Rattle.cal_tool.specs.Request.{IsCount};
-ghost use Rattle.cal_tool.specs.TimerReport.{headings_text, lacks_zone, refusal_at, timed_in, timer_answer, timer_report};
+ghost use Rattle.cal_tool.specs.TimerReport.{IsHad, headings_text, lacks_zone, refusal_at, timed_in, timer_answer, timer_report};
 ghost use Rattle.cal_tool.specs.TimerPlan.{IsMergeOf, IsUnzoned, plan_text, refused_line, refused_words};
 ghost use Rattle.cal_tool.specs.declared.timer_report.TimerRefusal.TheVariants.{NoMemory};
 
@@ -84,10 +84,10 @@ pub fn read_plan<'a, R: Source>(
         × ReadsWhole (R.remaining input.old) (R.remaining input.new) most_bytes read
         × (R.is_failed input.new ≡ is_read_failed read)
         × MatchResult result
-        (λ plan. AreInstants (merged plan.merge) × ((name : List ℕ)
+        (λ plan. IsHad read × AreInstants (merged plan.merge) × ((name : List ℕ)
         → timer_answer (asked_by context.entry) context.entry.base.secs name read ≡ Ok (plan_text (asked_by context.entry) plan)))
-        (λ refusal. refusal ≢ NoMemory → (name : List ℕ)
-        → timer_answer (asked_by context.entry) context.entry.base.secs name read ≡ Err (refusal_at name (refused_line refusal) (refused_words refusal))) }
+        (λ refusal. refusal ≢ NoMemory → IsHad read × ((name : List ℕ)
+        → timer_answer (asked_by context.entry) context.entry.base.secs name read ≡ Err (refusal_at name (refused_line refusal) (refused_words refusal)))) }
 {
     let timer = match read_timer(alloc, input) {
         Ok(timer) => timer,

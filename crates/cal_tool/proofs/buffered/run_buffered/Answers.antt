@@ -2,7 +2,7 @@ use Rattle.cal_tool.proofs.ReportLemmas.{failed_late, nothing_front, refused_ear
 use Rattle.cal_tool.proofs.buffered.run_buffered.Goals as goal
 
 pub returns-in_default-clause-reported : goal.returns-in_default-clause-reported
-returns-in_default-clause-reported g c = refused_early _ _ _ _ c.requires.input (λ report. (tt, nothing_front _ _))
+returns-in_default-clause-reported g c = refused_early _ _ _ _ c.requires.input (λ read report. (tt, nothing_front _ _))
 
 pub returns-in_err-out-clause-reported : goal.returns-in_err-out-clause-reported
 returns-in_err-out-clause-reported g c =

@@ -2,7 +2,7 @@ use Rattle.std.proofs.Common.{◌≡◌, Err, Ok, false, refl, sym, rules}
 use Rattle.cal_tool.specs.Report.{base_in, texts_report}
 use Rattle.cal_tool.specs.Request.{asked, is_timer}
 use Rattle.cal_tool.specs.TimerReport.{refusal_at}
-use Rattle.cal_tool.proofs.ReportLemmas.{base_refused, texts_told, told_refusal}
+use Rattle.cal_tool.proofs.ReportLemmas.{base_refused, texts_told}
 use Rattle.cal_tool.proofs.report.run.Goals as goal
 
 pub returns-in-Err-clause-reported : goal.returns-in-Err-clause-reported
@@ -10,7 +10,7 @@ unfolding refusal_at
 returns-in-Err-clause-reported g c =
     let refused : base_in (asked c.args.request.now c.args.now.secs c.args.local c.args.table.now) ≡ Err c.in-Err.fault = sym c.in-Err.ensures in
     let line = rw c.words.ensures at c.refuse.ensures.err in
-    base_refused _ _ _ _ c.in-Err.fault refused c.requires.input (told_refusal _ _ _ _ _ _ refl c.refuse.ensures.status line)
+    base_refused _ _ _ _ _ _ _ c.in-Err.fault refused c.requires.input c.refuse.ensures.status line
 
 pub returns-in_default : goal.returns-in_default
 unfolding texts_report
@@ -18,8 +18,8 @@ returns-in_default g c =
     let base : base_in (asked c.args.request.now c.args.now.secs c.args.local c.args.table.now) ≡ Ok c.in-Ok.base.secs = sym c.in-Ok.ensures in
     let plain : is_timer c.args.request.now.verb ≡ false = search rules in
     record {
-      reported = texts_told _ _ _ _ c.in-Ok.base.secs base plain c.requires.input
-          (record { status = c.answer_all.ensures.status; out = c.answer_all.ensures.out; err = c.answer_all.ensures.err });
+      reported = texts_told _ _ _ _ _ _ _ _ c.in-Ok.base.secs base plain c.requires.input
+          c.answer_all.ensures.status c.answer_all.ensures.out c.answer_all.ensures.err;
       out_failed = c.answer_all.ensures.out_failed;
       err_failed = c.answer_all.ensures.err_failed;
       memory = c.answer_all.ensures.memory;

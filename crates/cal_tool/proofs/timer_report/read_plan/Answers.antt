@@ -1,4 +1,4 @@
-use Rattle.cal_tool.proofs.TimerLemmas.{merge_instants, plan_answers}
+use Rattle.cal_tool.proofs.TimerLemmas.{had_list, merge_instants, plan_answers}
 use Rattle.cal_tool.proofs.timer_report.read_plan.Goals as goal
 
 pub returns-in-Ok-merge_of : goal.returns-in-Ok-merge_of
@@ -9,6 +9,7 @@ returns-in-Ok-merge_of g c =
       list.1,
       list.2,
       (
+        had_list _ _ list.3,
         merge_instants _ _ _ _ merge c.args.context.base.in_range.0,
         λ name. plan_answers _ _ list.0 _ _ list.3 merge name,
       ),
