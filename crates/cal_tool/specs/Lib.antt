@@ -1,5 +1,6 @@
 pub mod Accepted
 pub mod Answer
+pub mod Ask
 pub mod CalendarReport
 pub mod Command
 pub mod Context

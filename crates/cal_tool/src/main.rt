@@ -6,9 +6,11 @@ ghost use Rattle.std.specs.Prelude.{◌≡◌, false, map, option_map, string_by
 ghost use Rattle.cal_tool.specs.Command.{texts_of, asked_in, asked_of};
 
 pub mod accepted;
+pub mod ask;
 pub mod buffered;
 pub mod calendar_report;
 pub mod command;
+pub mod command_fault;
 pub mod context;
 pub mod early_words;
 pub mod elapse_lines;
