@@ -1,9 +1,9 @@
 -- What the words of the command line ask for, without where it lies in memory: systemd-analyze(1), and this project's own
 -- options for the present and for zones.
-use Rattle.std.specs.Prelude.{ℕ, ℤ, ◌≡◌, ◌<◌, List, Option, Result, Ok, Err, map, ◌×◌}
+use Rattle.std.specs.Prelude.{ℕ, ℤ, List, Option, Result, Ok, Err, map}
+use Rattle.std.specs.Borrow.{Bor}
 use Rattle.std.specs.String.{string_bytes}
 use Rattle.std.specs.Option.{option_map}
-use Rattle.jiff.specs.Words.{IsOffsetSeconds}
 use Rattle.cal_tool.specs.declared.ask.Ask.{Ask}
 use Rattle.cal_tool.specs.declared.ask.LocalZone.{LocalZone}
 use Rattle.cal_tool.specs.declared.ask.LocalZone.TheVariants.{Utc, Offset, Posix, Name}
@@ -11,6 +11,10 @@ use Rattle.cal_tool.specs.declared.ask.ZoneItem.{ZoneItem}
 use Rattle.cal_tool.specs.declared.command_fault.CommandFault.{CommandFault}
 use Rattle.cal_tool.specs.declared.command_fault.CommandFault.TheVariants.{Usage, Help, BadIterations, BadNow, BadZones, BadLocal, NoMemory}
 use Rattle.cal_tool.specs.declared.request.Verb.{Verb}
+
+-- the bytes of each word
+abbrev pub texts_of : List (Bor (List ℕ)) → List (List ℕ)
+texts_of = map (λ word. word.now)
 
 -- what is said of the local zone: UTC itself, so many seconds ahead of it, a POSIX rule, or a name of the table
 pub data LocalSaid : Type 0 where
@@ -53,13 +57,6 @@ wanted_of ask = record {
   local = local_said ask.local;
   zones = map zone_said ask.zones.items;
 }
-
--- an offset that a local zone can have
-abbrev pub IsLocalOffset : LocalZone → Type 0
-IsLocalOffset Utc = Unit {0}
-IsLocalOffset (Offset seconds) = IsOffsetSeconds seconds
-IsLocalOffset (Posix rule) = Unit {0}
-IsLocalOffset (Name name) = Unit {0}
 
 -- why the words ask for nothing, by what is told: the text of `clap`, or which value is bad
 pub data CommandSaid : Type 0 where

@@ -7,6 +7,8 @@ use Rattle.std.specs.Str.Parse.{digits_value}
 use Rattle.std.specs.FinMap.{empty}
 use Rattle.cal_base.specs.Zone.{utc}
 use Rattle.cal_base.specs.declared.instant.TheConstants.Instant.{LAST}
+pub use Rattle.cal_tool.specs.Ask.{texts_of}
+use Rattle.cal_tool.specs.OptionValues.{count_in, present_in}
 use Rattle.cal_tool.specs.Request.{Asked, asked, is_timer, seeks_elapses}
 use Rattle.cal_tool.specs.declared.request.TheConstants.{MOST_ITERATIONS}
 use Rattle.cal_tool.specs.declared.request.Verb.{Verb}
@@ -14,26 +16,6 @@ use Rattle.cal_tool.specs.declared.request.Verb.TheVariants.{Calendar, Timer, Ti
 use Rattle.cal_tool.specs.declared.command.Command.{Command}
 use Rattle.cal_tool.specs.declared.early_words.Given.{Given}
 use Rattle.cal_tool.specs.declared.early_words.Given.TheVariants.{Never, Once, Twice}
-
--- The bytes of each word.
-abbrev pub texts_of : List (Bor (List ℕ)) → List (List ℕ)
-texts_of = map (λ word. word.now)
-
--- The number that a text of digits alone writes, where it is from least to most.
-unfoldable pub number_in : ℕ → ℕ → List ℕ → Option ℕ
-number_in least most text =
-    let number = digits_value 10 text in
-    if nat_lt 0 (length text) && all_ascii_digits text && nat_le least number && nat_le number most
-    then Some number else None
-
--- A number of elapses.
-unfoldable pub count_in : List ℕ → Option ℕ
-count_in = number_in 1 MOST_ITERATIONS
-
--- An instant: `@` and its seconds.
-unfoldable pub present_in : List ℕ → Option ℤ
-present_in [] = None
-present_in (byte ∷ bytes) = if byte == 64 then option_map pos (number_in 0 (unsigned_abs LAST) bytes) else None
 
 -- A word begins with `-`.
 abbrev pub is_dashed : List ℕ → Bool

@@ -8,6 +8,8 @@ pub mod ElapseLines
 pub mod ReportLines
 pub mod LoadFault
 pub mod LoadZone
+pub mod LocalZone
+pub mod OptionValues
 pub mod Report
 pub mod ReportFault
 pub mod Request

@@ -1,7 +1,7 @@
 //! What the words of the command line ask for (systemd-analyze(1)).
 
 ghost use Rattle.std.specs.Prelude.{◌≡◌, ◌<◌, None, true, false, vec_len};
-ghost use Rattle.cal_tool.specs.Ask.{IsLocalOffset};
+ghost use Rattle.cal_tool.specs.LocalZone.{IsLocalOffset};
 ghost use Rattle.cal_tool.specs.Request.{IsCount, is_timer, seeks_elapses};
 
 use crate::request::Request;

@@ -5,10 +5,11 @@ ghost use Rattle.std.specs.List.{list_all, list_any};
 ghost use Rattle.std.specs.FinMap.{empty};
 ghost use Rattle.cal_base.specs.Zone.{utc};
 ghost use Rattle.cal_tool.specs.Request.{IsCount, is_timer, seeks_elapses};
-ghost use Rattle.cal_tool.specs.Command.{texts_of, asked_in, asked_of, dated_in, timespan_in, texts_in as texts_among, texts_for as texts_among_for, settings_in, is_dashed, is_option, is_option_of, is_option_of_elapses, base_in, values_in, value_in, IsGiven, iterations_in, now_in, count_in, present_in, number_in};
+ghost use Rattle.cal_tool.specs.Command.{texts_of, asked_in, asked_of, dated_in, timespan_in, texts_in as texts_among, texts_for as texts_among_for, settings_in, is_dashed, is_option, is_option_of, is_option_of_elapses, base_in, values_in, value_in, IsGiven, iterations_in, now_in};
 
 use crate::command::Command;
-use crate::request::{MOST_ITERATIONS, Request, Verb};
+use crate::option_values::{count_in, owned, present_in};
+use crate::request::{Request, Verb};
 use cal_base::Instant;
 use std::alloc::{AllocError, Global};
 
@@ -302,48 +303,6 @@ fn value_in<'a>(word: &'a str, name: &str) -> Option<&'a str>
     ensures { option_copied result ≡ value_in name.now word.now }
 {
     word.strip_prefix(name)
-}
-
-/// A number of elapses: digits for 1 to [`MOST_ITERATIONS`].
-fn count_in(value: &str) -> Option<u32>
-    ensures value { result ≡ count_in value.now }
-    ensures range { IfSome result IsCount }
-{
-    let number = number_in(value, 1, MOST_ITERATIONS as u64)?;
-    Some(number as u32)
-}
-
-/// An instant: `@` and digits for 0 to [`Instant::LAST`].
-fn present_in(value: &str) -> Option<Instant>
-    ensures { option_map (λ instant. instant.secs) result ≡ present_in value.now }
-{
-    let number = number_in(value.strip_prefix('@')?, 0, Instant::LAST as u64)?;
-    Instant::new(number as i64)
-}
-
-/// The number that a text of digits alone writes, where it is from `least` to `most`.
-fn number_in(text: &str, least: u64, most: u64) -> Option<u64>
-    ensures { result ≡ number_in least most text.now }
-{
-    if text.starts_with('+') {
-        return None;
-    }
-    match text.parse() {
-        Ok(number) if least <= number && number <= most => Some(number),
-        _ => None,
-    }
-}
-
-/// The texts on the heap.
-fn owned(alloc: Global, texts: &[&str]) -> Result<Vec<String>, AllocError>
-    ensures texts { IfOk result (λ all. map string_bytes all.items ≡ texts_of texts.now) }
-    ensures count { IfOk result (λ all. vec_len all ≡ length texts.now) }
-{
-    let mut all = Vec::with_capacity(alloc, texts.len())?;
-    for text in texts {
-        all.push(String::from_str(alloc, text)?)?;
-    }
-    Ok(all)
 }
 
 #[cfg(test)]

@@ -15,6 +15,7 @@ pub mod context;
 pub mod early_words;
 pub mod elapse_lines;
 pub mod load_zone;
+pub mod option_values;
 pub mod report;
 pub mod report_fault;
 pub mod report_lines;

@@ -1,8 +1,8 @@
 use Rattle.std.proofs.Common.{◌∙◌, rules, sym}
-use Rattle.cal_tool.specs.Command.{count_in}
+use Rattle.cal_tool.specs.OptionValues.{count_in}
 use Rattle.cal_tool.specs.declared.request.TheConstants.{MOST_ITERATIONS}
-use Rattle.cal_tool.proofs.CommandLemmas.{number_in-range}
-use Rattle.cal_tool.proofs.early_words.count_in.Goals as goal
+use Rattle.cal_tool.proofs.OptionLemmas.{number_in-range}
+use Rattle.cal_tool.proofs.option_values.count_in.Goals as goal
 
 pub returns-in_err-number-clause-value : goal.returns-in_err-number-clause-value
 unfolding count_in

@@ -1,8 +1,8 @@
 use Rattle.std.proofs.Common.{◌∙◌, Some, None, lit<, sym, ap, arith, rules, w64}
 use Rattle.std.proofs.lemmas.Str.Pattern.{strip_prefix_char}
 use Rattle.std.proofs.lemmas.Int.{ints, to_z_pos}
-use Rattle.cal_tool.proofs.CommandLemmas.{present_in-none, present_in-some, number_in-range, instant_some}
-use Rattle.cal_tool.proofs.early_words.present_in.Goals as goal
+use Rattle.cal_tool.proofs.OptionLemmas.{present_in-none, present_in-some, number_in-range, instant_some}
+use Rattle.cal_tool.proofs.option_values.present_in.Goals as goal
 
 pub returns-in_err-strip_prefix : goal.returns-in_err-strip_prefix
 returns-in_err-strip_prefix c =

@@ -2,8 +2,8 @@ use Rattle.std.proofs.Common.{◌∙◌, lit<, refl, sym, arith}
 use Rattle.std.proofs.lemmas.Str.Pattern.{starts_char}
 use Rattle.std.proofs.lemmas.Bool.{le-leb}
 use Rattle.std.proofs.lemmas.Bool.Decides.{nat_tests}
-use Rattle.cal_tool.proofs.CommandLemmas.{number_in-plus, number_in-parsed}
-use Rattle.cal_tool.proofs.early_words.number_in.Goals as goal
+use Rattle.cal_tool.proofs.OptionLemmas.{number_in-plus, number_in-parsed}
+use Rattle.cal_tool.proofs.option_values.number_in.Goals as goal
 
 pub returns-then-starts_with : goal.returns-then-starts_with
 returns-then-starts_with c =
