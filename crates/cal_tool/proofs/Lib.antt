@@ -1,5 +1,6 @@
 pub mod AnswerLemmas
 pub mod CommandLemmas
+pub mod CommandLineLemmas
 pub mod ElapseTexts
 pub mod OptionLemmas
 pub mod ReportLemmas

@@ -3,9 +3,12 @@ pub mod Answer
 pub mod Ask
 pub mod CalendarReport
 pub mod Command
+pub mod CommandFault
+pub mod CommandLine
 pub mod Context
 pub mod ElapseLines
 pub mod ReportLines
+pub mod GivenView
 pub mod LoadFault
 pub mod LoadZone
 pub mod LocalZone

@@ -20,6 +20,13 @@ seeks_elapses Timestamp = false
 seeks_elapses Timespan = false
 seeks_elapses Timer = true
 
+-- whether a verb reads or shows instants: such a verb alone has a present and zones
+abbrev pub has_zones : Verb → Bool
+has_zones Calendar = true
+has_zones Timestamp = true
+has_zones Timespan = false
+has_zones Timer = true
+
 -- whether a verb has a file in place of texts
 abbrev pub is_timer : Verb → Bool
 is_timer Calendar = false

@@ -1,5 +1,10 @@
 //! Why the words of a command line ask for nothing that can be done.
 
+ghost use Rattle.std.specs.Prelude.{◌≡◌};
+ghost use Rattle.cal_tool.specs.declared.command_fault.CommandFault.TheVariants.{NoMemory};
+
+use std::alloc::AllocError;
+
 /// Why the words of a command line are refused, or that they ask for help alone.
 #[derive(Debug, Drop)]
 pub enum CommandFault {
@@ -17,4 +22,30 @@ pub enum CommandFault {
     BadLocal,
     /// Memory was refused. Its number is 7.
     NoMemory,
+}
+
+impl CommandFault {
+    ghost use Rattle.cal_tool.specs.CommandFault.{words_of};
+
+    /// What a user is told; for usage and help the whole text, with the end of its last line.
+    pub fn words(&self) -> &str
+        ensures { result.now ≡ words_of self.now }
+    {
+        match self {
+            CommandFault::Usage(text) | CommandFault::Help(text) => text.as_str(),
+            CommandFault::BadIterations => "bad iterations",
+            CommandFault::BadNow => "bad now",
+            CommandFault::BadZones => "bad zones",
+            CommandFault::BadLocal => "bad local zone",
+            CommandFault::NoMemory => "out of memory",
+        }
+    }
+}
+
+impl From<AllocError> for CommandFault {
+    ghost from_gives = { λ _ fault. fault ≡ NoMemory };
+
+    fn from(_refused: AllocError) -> CommandFault {
+        CommandFault::NoMemory
+    }
 }

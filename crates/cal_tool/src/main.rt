@@ -11,6 +11,8 @@ pub mod buffered;
 pub mod calendar_report;
 pub mod command;
 pub mod command_fault;
+pub mod command_laws;
+pub mod command_line;
 pub mod context;
 pub mod early_words;
 pub mod elapse_lines;

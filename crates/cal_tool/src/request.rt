@@ -15,13 +15,20 @@ pub enum Verb {
 
 impl Verb {
     ghost use Rattle.std.specs.Prelude.{◌≡◌};
-    ghost use Rattle.cal_tool.specs.Request.{is_timer, seeks_elapses};
+    ghost use Rattle.cal_tool.specs.Request.{has_zones, is_timer, seeks_elapses};
 
     /// Whether the verb seeks elapses: such a verb alone has a base, and takes memory.
     pub fn seeks_elapses(self) -> bool
         ensures { result ≡ seeks_elapses self }
     {
         matches!(self, Verb::Calendar | Verb::Timer)
+    }
+
+    /// Whether the verb reads or shows instants: such a verb alone has a present and zones.
+    pub fn has_zones(self) -> bool
+        ensures { result ≡ has_zones self }
+    {
+        !matches!(self, Verb::Timespan)
     }
 
     /// Whether the verb has a file in place of texts.
