@@ -5,6 +5,7 @@ pub mod Fill
 pub mod Instant
 pub mod InstantText
 pub mod Local
+pub mod Output
 pub mod Place
 pub mod Rules
 pub mod Scale

@@ -3,7 +3,7 @@
 
 ghost use Rattle.cal_base.specs.Bytes.{Offered, Fetched, Writes};
 ghost use Rattle.std.specs.List.{flat_map};
-ghost use Rattle.std.specs.Prelude.{◌≡◌, ℕ, List, Option, None, Bool, false, is_none, is_err};
+ghost use Rattle.std.specs.Prelude.{◌≡◌, ℕ, List, Option, None, Bool, true, false, is_none, is_err};
 
 /// What takes bytes.
 ///
@@ -25,7 +25,7 @@ pub trait Sink {
 
 /// What gives bytes.
 ///
-/// A contract sees the bytes still to come, where the type tells them, and whether it has failed.
+/// A contract sees the bytes still to come, where the type tells them, whether it has failed, and whether it ever may.
 pub trait Source {
     /// The bytes still to come, or `None` where the type doesn't tell them.
     ghost remaining: { Self → Option (List ℕ) } = { λ _. None };
@@ -33,12 +33,17 @@ pub trait Source {
     /// Whether a call has failed.
     ghost is_failed: { Self → Bool };
 
+    /// Whether a call may fail.
+    ghost may_fail: { Self → Bool } = { λ _. true };
+
     /// Puts the next bytes at the front of `into`, and answers how many: 0 for an `into` that isn't
     /// empty only at the end. `None` says that it failed in this call and gave nothing.
     fn fetch(&mut self, into: &mut [u8]) -> Option<usize>
         requires { is_failed self.old ≡ false }
         ensures failed { is_failed self.new ≡ is_none result }
-        ensures bytes { Fetched (remaining self.old) (remaining self.new) into.new result };
+        ensures bytes { Fetched (remaining self.old) (remaining self.new) into.new result }
+        ensures sure { may_fail self.old ≡ false → is_none result ≡ false }
+        ensures stays { may_fail self.new ≡ may_fail self.old };
 }
 
 /// Why a text was not written whole.

@@ -12,8 +12,8 @@ use std::io::{Read, Write};
 /// itself is its own: where that is refused, it is such an error.
 #[derive(Debug, Drop)]
 pub struct Port<T> {
-    inner: T,
-    has_failed: bool,
+    pub(crate) inner: T,
+    pub(crate) has_failed: bool,
 }
 
 impl<T> Port<T> {

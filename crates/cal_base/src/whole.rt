@@ -35,6 +35,7 @@ pub fn read_whole<R: Source>(
     ensures bytes { MatchResult result
         (λ bytes. GivesAll (R.remaining from.old) (R.remaining from.new) limit bytes.items)
         (IsWholeFault (R.remaining from.old) (R.remaining from.new) limit) }
+    ensures sure { R.may_fail from.old ≡ false → R.is_failed from.new ≡ false }
 {
     let mut bytes = Vec::new(alloc);
     let mut chunk = [0; CHUNK];

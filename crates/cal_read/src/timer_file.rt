@@ -25,6 +25,7 @@ use std::alloc::Global;
 pub fn read_timer<R: Source>(alloc: Global, input: &mut R) -> Result<Timer, TimerFault>
     requires { R.is_failed input.old ≡ false }
     ensures failed { IsTrue (R.is_failed input.new) ↔ IsErrOf result TimerFault.ReadFailed }
+    ensures sure { R.may_fail input.old ≡ false → R.is_failed input.new ≡ false }
     ensures list { (read : Result (List ℕ) WholeFault)
         × ReadsWhole (R.remaining input.old) (R.remaining input.new) most_bytes read
         × (R.is_failed input.new ≡ is_read_failed read)

@@ -7,6 +7,7 @@ abbrev pub invariant-loop-count : goal.invariant-loop-count
 invariant-loop-count g l =
     record {
       works : g.R.Source.is_failed l.from ≡ false;
+      stays : g.R.Source.may_fail l.from ≡ g.R.Source.may_fail l.fn.from;
       taken : Consumes (g.R.Source.remaining l.fn.from) (g.R.Source.remaining l.from) l.bytes.items;
       fits : length l.bytes.items ≤ l.limit;
     }

@@ -1,0 +1,9 @@
+-- What stands behind a buffer once it is settled.
+use Rattle.std.specs.Prelude.{ℕ, Bool, true, false, List, Option}
+use Rattle.std.specs.Io.KnownBytes.{Keeps, append_known}
+
+-- All that was written stands behind the buffer; where a call failed, what was written is that and what is still held
+-- back.
+abbrev pub Settles : Option (List ℕ) → Option (List ℕ) → Bool → Type 0
+Settles written behind true = Keeps written behind
+Settles written behind false = (held : List ℕ) × Keeps written (append_known behind held)
