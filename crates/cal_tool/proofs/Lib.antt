@@ -1,9 +1,10 @@
 pub mod AnswerLemmas
-pub mod CommandLemmas
+pub mod WorkLemmas
 pub mod CommandLineLemmas
 pub mod ElapseTexts
 pub mod OptionLemmas
 pub mod ReportLemmas
+pub mod TellLemmas
 pub mod TimelyLemmas
 pub mod TimerLemmas
 pub mod WorkedRows

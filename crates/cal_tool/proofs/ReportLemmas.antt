@@ -28,12 +28,12 @@ if_ok (Err e) P h = tt
 -- one report
 pub told_report : (r : Result Status RunFault) (a b e : Option (List ℕ)) (read : Result (List ℕ) WholeFault) (text : List ℕ) (answer : Result (List ℕ) (List ℕ))
     → answer ≡ Ok text → IfOk r (λ status. status ≡ Fine) → IsHad read → Writes a b r text → IsTold r a b e e read (whole_report answer)
-told_report r a b e read text answer is status had out = rw is (record { status = status; had = if_ok r (IsHad read) had; out = out; err = writes_nothing e r })
+told_report r a b e read text answer is status had out = rw is (record { status = status; had = if_ok r (IsHad read) had; out = out; err = writes_nothing e r; unread = λ h. absurd (had h) })
 
 -- one refusal
 pub told_refusal : (r : Result Status RunFault) (a d e : Option (List ℕ)) (read : Result (List ℕ) WholeFault) (line : List ℕ) (answer : Result (List ℕ) (List ℕ))
     → answer ≡ Err line → IfOk r (λ status. status ≡ Refused) → IsHad read → Writes d e r line → IsTold r a a d e read (whole_report answer)
-told_refusal r a d e read line answer is status had err = rw is (record { status = status; had = if_ok r (IsHad read) had; out = writes_nothing a r; err = err })
+told_refusal r a d e read line answer is status had err = rw is (record { status = status; had = if_ok r (IsHad read) had; out = writes_nothing a r; err = err; unread = λ h. absurd (had h) })
 
 -- By what was read
 
@@ -61,24 +61,8 @@ texts_told asked a b c d e failed r base is plain works status out err =
       read = Ok [];
       input = rw plain (refl, refl);
       fails = works;
-      holds = rw (is, plain) (record { status = status; had = if_ok r (IsHad (Ok [])) nothing_had; out = out; err = err });
+      holds = rw (is, plain) (record { status = status; had = if_ok r (IsHad (Ok [])) nothing_had; out = out; err = err; unread = λ h. absurd (nothing_had h) });
     }
-
--- nothing was read where memory was refused
-refused_by : (asked : Asked) (a : Option (List ℕ)) (failed : Bool) (told : Result (List ℕ) WholeFault → Report → Type 0) (b : Bool) → reads_input asked ≡ b → failed ≡ false
-    → ((read : Result (List ℕ) WholeFault) (r : Report) → told read r) → ByReading asked a a failed told
-refused_by asked a failed told true is works holds =
-    record { read = Err whole.NoMemory; input = rw is (record { front = []; taken = consumes-nil a; fits = omega arith }); fails = works; holds = holds _ _ }
-refused_by asked a failed told false is works holds = record { read = Ok []; input = rw is (refl, refl); fails = works; holds = holds _ _ }
-
-pub refused_early : (asked : Asked) (a : Option (List ℕ)) (failed : Bool) (told : Result (List ℕ) WholeFault → Report → Type 0) → failed ≡ false
-    → ((read : Result (List ℕ) WholeFault) (r : Report) → told read r) → ByReading asked a a failed told
-refused_early asked a failed told works holds = refused_by asked a failed told (reads_input asked) refl works holds
-
--- what follows of a report follows by what was read
-pub reported_more : (asked : Asked) (a b : Option (List ℕ)) (failed : Bool) (told other : Result (List ℕ) WholeFault → Report → Type 0)
-    → ((read : Result (List ℕ) WholeFault) (r : Report) → told read r → other read r) → ByReading asked a b failed told → ByReading asked a b failed other
-reported_more asked a b failed told other more by = record { read = by.read; input = by.input; fails = by.fails; holds = more _ _ by.holds }
 
 -- nothing written is a front of any text, and so is the whole of it
 pub nothing_front : (a : Option (List ℕ)) (text : List ℕ) → AppendsFront a a text
@@ -87,11 +71,7 @@ nothing_front a text = record { front = []; rest = text; whole = refl; written =
 pub whole_front : (a b : Option (List ℕ)) (text : List ℕ) → Appends a b text → AppendsFront a b text
 whole_front a b text h = record { front = text; rest = []; whole = sym (append-nil text); written = h }
 
-no_ok : {T E : Type 0} (r : Result T E) (P : T → Type 0) → IsErr r → IfOk r P
+-- nothing is asked of a value that isn't there
+pub no_ok : {T E : Type 0} (r : Result T E) (P : T → Type 0) → IsErr r → IfOk r P
 no_ok (Ok x) P h = absurd (false≢true h)
 no_ok (Err e) P h = tt
-
--- a run that wrote all of its text, and then ended with a fault
-pub failed_late : {T : Type 0} (r : Result T RunFault) (status : Status) (a b d e : Option (List ℕ)) (P : Result (List ℕ) WholeFault → Report → T → Type 0) → IsErr r
-    → (read : Result (List ℕ) WholeFault) (report : Report) → IsTold (Ok status) a b d e read report → IfOk r (P read report) × Writes d e r report.err
-failed_late r status a b d e P h read report told = (no_ok r (P read report) h, writes_err d e r report.err h (whole_front d e report.err told.err))

@@ -2,7 +2,6 @@ pub mod Accepted
 pub mod Answer
 pub mod Ask
 pub mod CalendarReport
-pub mod Command
 pub mod CommandFault
 pub mod CommandLine
 pub mod Context
@@ -11,6 +10,7 @@ pub mod ReportLines
 pub mod GivenView
 pub mod LoadFault
 pub mod LoadZone
+pub mod Outcome
 pub mod LocalZone
 pub mod OptionValues
 pub mod Report
@@ -19,7 +19,10 @@ pub mod Request
 pub mod RunFault
 pub mod Status
 pub mod Stop
+pub mod System
 pub mod TimerPlan
 pub mod TimerReport
 pub mod TimespanReport
 pub mod TimestampReport
+pub mod WorkSteps
+pub mod Works

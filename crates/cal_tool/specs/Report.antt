@@ -3,6 +3,7 @@ use Rattle.std.specs.Prelude.{◌≡◌, ℕ, ℤ, Bool, true, false, ◌&&◌, 
 use Rattle.cal_base.specs.Bytes.{Writes}
 use Rattle.cal_base.specs.Whole.{is_read_failed}
 use Rattle.cal_base.specs.declared.whole.WholeFault.{WholeFault}
+use Rattle.cal_base.specs.declared.whole.WholeFault.TheVariants.{NoMemory}
 use Rattle.cal_base.specs.declared.instant.Instant.{Instant}
 use Rattle.cal_read.specs.StampFault.{words_of}
 use Rattle.cal_read.specs.TimerText.{ReadsWhole, most_bytes}
@@ -95,12 +96,13 @@ ReadsIf true old new read = ReadsWhole old new most_bytes read
 ReadsIf false old new read = (new ≡ old) × (read ≡ Ok [])
 
 -- A run wrote the report, or a front of it where it ended with a fault, and ended as it says. Where it ended well, no
--- memory was refused to its reads.
+-- memory was refused to its reads; where it was, nothing is written.
 pub record IsTold (result : Result Status RunFault) (out_old out_new err_old err_new : Option (List ℕ)) (read : Result (List ℕ) WholeFault) (report : Report) : Type 0 where
   pub status : IfOk result (λ status. status ≡ report.status)
   pub had : IfOk result (λ status. IsHad read)
   pub out : Writes out_old out_new result report.out
   pub err : Writes err_old err_new result report.err
+  pub unread : read ≡ Err NoMemory → (out_new ≡ out_old) × (err_new ≡ err_old)
 
 -- There is an answer of the reads for whose report this holds. The input has failed exactly where a read failed.
 pub record ByReading (asked : Asked) (old new : Option (List ℕ)) (failed : Bool) (told : Result (List ℕ) WholeFault → Report → Type 0) : Type 0 where

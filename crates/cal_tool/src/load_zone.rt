@@ -47,6 +47,7 @@ pub fn load_zone<R: Source>(
         (λ _. IsLoaded (R.remaining from.old) (R.remaining from.new) table.old table.new name.now)
         (IsLoadFault (R.remaining from.old) (R.remaining from.new) table.old name.now) }
     ensures unchanged { OnErr result (table.new ≡ table.old) }
+    ensures sure { R.may_fail from.old ≡ false → R.is_failed from.new ≡ false }
 {
     if !is_zone_name(name.as_bytes()) {
         return Err(LoadFault::Zone(ZoneFault::BadName));

@@ -62,6 +62,7 @@ pub fn run<R: Source, O: Sink, E: Sink>(
     ensures err_failed { E.is_failed err.new ≡ is_err_failed result }
     ensures memory { seeks_elapses request.now.verb ≡ false → IsErrOf result NoMemory → ⊥ }
     ensures input { is_timer request.now.verb ≡ false → input.new ≡ input.old }
+    ensures sure { R.may_fail input.old ≡ false → R.is_failed input.new ≡ false }
 {
     let base = match read_base(request, now, local, table) {
         Ok(base) => base,
@@ -181,6 +182,7 @@ fn answer_timer<R: Source, O: Sink, E: Sink>(
         × (R.is_failed input.new ≡ is_read_failed read)
         × IsTold result (O.written out.old) (O.written out.new) (E.written err.old) (E.written err.new) read
         (whole_report (timer_answer (asked_by context.entry) context.entry.base.secs (file_name (asked_by context.entry)) read)) }
+    ensures sure { R.may_fail input.old ≡ false → R.is_failed input.new ≡ false }
     ensures out_failed { O.is_failed out.new ≡ is_out_failed result }
     ensures err_failed { E.is_failed err.new ≡ is_err_failed result }
 {

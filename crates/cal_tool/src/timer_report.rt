@@ -80,7 +80,8 @@ pub fn read_plan<'a, R: Source>(
     input: &mut R,
 ) -> Result<TimerPlan<'a>, TimerRefusal>
     requires { R.is_failed input.old ≡ false }
-    ensures { (read : Result (List ℕ) WholeFault)
+    ensures sure { R.may_fail input.old ≡ false → R.is_failed input.new ≡ false }
+    ensures plan { (read : Result (List ℕ) WholeFault)
         × ReadsWhole (R.remaining input.old) (R.remaining input.new) most_bytes read
         × (R.is_failed input.new ≡ is_read_failed read)
         × MatchResult result

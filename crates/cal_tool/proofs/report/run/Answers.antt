@@ -24,4 +24,5 @@ returns-in_default g c =
       err_failed = c.answer_all.ensures.err_failed;
       memory = c.answer_all.ensures.memory;
       input = λ _. refl;
+      sure = λ _. c.requires.input;
     }

@@ -1,0 +1,31 @@
+//! The real system: its files and its clock. Nothing is told of either.
+
+use crate::system::System;
+use cal_base::Port;
+use std::fs;
+use std::rt::Files;
+use std::time::{Clock, SystemTime, UNIX_EPOCH};
+
+/// What the program runs on.
+#[derive(Clone, Copy)]
+pub struct Machine<'a, R> {
+    /// What gives files and the time.
+    pub rt: &'a R,
+}
+
+impl<'a, R: Files + Clock> System for Machine<'a, R> {
+    type File = Port<R::File>;
+
+    fn open(&self, path: &str) -> Option<Port<R::File>> {
+        match fs::open(self.rt, path) {
+            Ok(file) => Some(Port::new(file)),
+            Err(_) => None,
+        }
+    }
+
+    fn clock(&self) -> Option<i64> {
+        let now = SystemTime::now(self.rt).ok()?;
+        let since = now.duration_since(UNIX_EPOCH).ok()?;
+        i64::try_from(since.as_secs()).ok()
+    }
+}
