@@ -6,7 +6,7 @@ use Rattle.cal_tool.proofs.work.read_zones.Goals as goal
 pub returns-in-Err : goal.returns-in-Err
 returns-in-Err g c =
     let next = items_next zone_said c.args.items.now c.loop-item.item-index c.item-item.result (omega arith) c.item-item.is in
-    let stop = rw c.as_str.ensures.value at c.zone_stop.ensures in
+    let stop = rw c.as_str.ensures.value at c.zone_stop-refused.ensures in
     next_stops (λ table. table) _ _ _ _ (zone_said c.item-item.result) _ _ c.in-Err.fault _ next c.loop-item.invariant c.in-Err.ensures stop
 
 pub loop-item-preserved : goal.loop-item-preserved
