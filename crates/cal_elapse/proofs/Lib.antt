@@ -1,3 +1,4 @@
+pub mod BitLemmas
 pub mod CountLemmas
 pub mod ElapsesLemmas
 pub mod InstantLemmas

@@ -1,3 +1,4 @@
+pub mod Bits
 pub mod Elapses
 pub mod Listed
 pub mod Masks

@@ -1,6 +1,7 @@
 //! The elapses of calendar expressions under every zone (systemd.time(7), Calendar Events).
 #![tactic(auto)]
 
+mod bits;
 mod branch;
 mod elapses;
 pub mod laws;
