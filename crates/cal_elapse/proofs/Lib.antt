@@ -1,10 +1,17 @@
+pub mod BitLemmas
+pub mod CarryLemmas
 pub mod CountLemmas
+pub mod DayLemmas
 pub mod ElapsesLemmas
 pub mod InstantLemmas
+pub mod LookLemmas
 pub mod MasksLemmas
 pub mod MergeLemmas
+pub mod MonthLemmas
 pub mod PendingLemmas
 pub mod ReadyLemmas
 pub mod RisingLemmas
 pub mod SearchLemmas
+pub mod TimeLemmas
 pub mod WindowLemmas
+pub mod YearWordLemmas

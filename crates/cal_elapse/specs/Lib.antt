@@ -1,11 +1,16 @@
+pub mod Bits
+pub mod Count
 pub mod Elapses
 pub mod Listed
+pub mod Looks
 pub mod Masks
 pub mod Merge
+pub mod Months
 pub mod Near
 pub mod Rest
 pub mod Rises
 pub mod RisingList
 pub mod Search
+pub mod Steps
 pub mod Timed
 pub mod Window

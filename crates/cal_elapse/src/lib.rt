@@ -1,17 +1,23 @@
 //! The elapses of calendar expressions under every zone (systemd.time(7), Calendar Events).
 #![tactic(auto)]
 
+mod bits;
 mod branch;
+mod day_search;
 mod elapses;
 pub mod laws;
 mod listed;
 mod masks;
 mod masks_of;
 mod merge;
+mod month;
+mod month_days;
+mod month_search;
 mod pending;
 mod rising;
 mod search;
 mod searcher;
+mod time_search;
 mod window;
 
 pub use elapses::Elapses;
