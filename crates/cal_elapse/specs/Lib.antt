@@ -6,7 +6,10 @@ pub mod Merge
 pub mod Near
 pub mod Rest
 pub mod Rises
+pub mod Ring
 pub mod RisingList
+pub mod Scan
 pub mod Search
+pub mod Searched
 pub mod Timed
 pub mod Window
