@@ -12,8 +12,8 @@ use std::marker::Model;
 
 /// A set of instants, empty at first. A contract sees them as a strictly rising list.
 ///
-/// Any two members differ by at most 187,199, so that a bit in a round of 187,200 cells tells each from the others. Only
-/// `new` takes memory.
+/// Any two members differ by at most 187,199, so that a bit in a round of 187,200 cells tells each from the others.
+/// Only `new` takes memory.
 #[derive(Drop)]
 pub struct Pending {
     /// One bit for each cell.

@@ -1,4 +1,5 @@
-//! A round of cells, one bit each, in words of 64 bits: an instant has the cell at its number modulo the count of cells.
+//! A round of cells, one bit each, in words of 64 bits: an instant has the cell at its number modulo the count of
+//! cells.
 
 ghost use Rattle.std.specs.Prelude.{◌≡◌, ◌≢◌, ◌+◌, ◌*◌, ◌<◌, ◌≤◌, ℕ, true, false, length};
 ghost use Rattle.cal_elapse.specs.Bits.{is_bit, is_in_words};

@@ -65,8 +65,8 @@ impl Refusal {
     }
 }
 
-/// Reads a text as the request's verb does. All memory that the text needs is taken here; timestamps and time spans take
-/// none.
+/// Reads a text as the request's verb does. All memory that the text needs is taken here; timestamps and time spans
+/// take none.
 #[tactic(auto, unfolding(crate::specs::TimespanReport::timespan_answer, crate::specs::TimestampReport::timestamp_answer))]
 pub fn read_text<'a>(
     alloc: Global,
