@@ -1,5 +1,6 @@
 pub mod BitLemmas
 pub mod CarryLemmas
+pub mod CellLemmas
 pub mod CountLemmas
 pub mod DayLemmas
 pub mod ElapsesLemmas
@@ -8,10 +9,12 @@ pub mod LookLemmas
 pub mod MasksLemmas
 pub mod MergeLemmas
 pub mod MonthLemmas
-pub mod PendingLemmas
 pub mod ReadyLemmas
+pub mod RingLemmas
 pub mod RisingLemmas
+pub mod ScanLemmas
 pub mod SearchLemmas
+pub mod SearchedLemmas
 pub mod TimeLemmas
 pub mod WindowLemmas
 pub mod YearWordLemmas

@@ -8,9 +8,12 @@ pub mod Merge
 pub mod Months
 pub mod Near
 pub mod Rest
+pub mod Ring
 pub mod Rises
 pub mod RisingList
+pub mod Scan
 pub mod Search
+pub mod Searched
 pub mod Steps
 pub mod Timed
 pub mod Window

@@ -14,7 +14,6 @@ pub mod Outcome
 pub mod LocalZone
 pub mod OptionValues
 pub mod Report
-pub mod ReportFault
 pub mod Request
 pub mod RunFault
 pub mod Status

@@ -16,7 +16,6 @@ pub mod load_zone;
 pub mod machine;
 pub mod option_values;
 pub mod report;
-pub mod report_fault;
 pub mod report_lines;
 pub mod request;
 pub mod stop;
