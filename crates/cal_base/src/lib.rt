@@ -39,7 +39,7 @@ pub use places::{place, settle};
 pub use port::Port;
 pub use rules::Rules;
 pub use scale::Scale;
-pub use short_text::{Fill, ROOM, ShortText, in_a_row, padding, push, push_all};
+pub use short_text::{Fill, ROOM, ShortText, padding, push, push_all};
 pub use span::Span;
 pub use span_fault::SpanFault;
 pub use span_number::{are_digits, fraction_of, whole_of};

@@ -22,16 +22,6 @@ pub const ROOM: usize = 512;
 /// A text of at most [`ROOM`] bytes.
 pub type ShortText = ArrayVec<u8, 512>;
 
-/// Pieces in a row, which have to fit.
-pub fn in_a_row(pieces: &[&[u8]]) -> ShortText
-    requires { length (flat_map (λ piece. piece.now) pieces.now) ≤ ROOM }
-    ensures { result.items ≡ flat_map (λ piece. piece.now) pieces.now }
-{
-    let mut text = ArrayVec::new();
-    push_all(&mut text, pieces);
-    text
-}
-
 /// Appends pieces in a row, which have to fit.
 pub fn push_all(text: &mut ShortText, pieces: &[&[u8]])
     requires { length text.old.items + length (flat_map (λ piece. piece.now) pieces.now) ≤ ROOM }
