@@ -187,12 +187,12 @@ below_and_above : (x i : ℤ) → x <ℤ i → i ≤ℤ x → ⊥
 below_and_above x i h k = omega (arith, ints)
 
 -- a list with no members has no first
-first-none : (xs : List ℤ) → ((i : ℤ) → Has xs i → ⊥) → first xs ≡ None
+pub first-none : (xs : List ℤ) → ((i : ℤ) → Has xs i → ⊥) → first xs ≡ None
 first-none [] h = refl
 first-none (x ∷ xs) h = absurd (h x (inl refl))
 
 -- the least member of a rising list is its first
-first-least : (xs : List ℤ) (i : ℤ) → IsRising xs → Has xs i → ((j : ℤ) → Has xs j → i ≤ℤ j) → first xs ≡ Some i
+pub first-least : (xs : List ℤ) (i : ℤ) → IsRising xs → Has xs i → ((j : ℤ) → Has xs j → i ≤ℤ j) → first xs ≡ Some i
 first-least [] i h m least = absurd m
 first-least (x ∷ xs) i h (inl e) least = ap Some e
 first-least (x ∷ xs) i h (inr n) least = absurd (below_and_above x i (above_has x i xs h.0 n) (least x (inl refl)))

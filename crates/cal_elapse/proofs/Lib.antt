@@ -1,10 +1,14 @@
+pub mod BitLemmas
+pub mod CellLemmas
 pub mod CountLemmas
 pub mod ElapsesLemmas
 pub mod InstantLemmas
 pub mod MasksLemmas
 pub mod MergeLemmas
-pub mod PendingLemmas
 pub mod ReadyLemmas
+pub mod RingLemmas
 pub mod RisingLemmas
+pub mod ScanLemmas
 pub mod SearchLemmas
+pub mod SearchedLemmas
 pub mod WindowLemmas

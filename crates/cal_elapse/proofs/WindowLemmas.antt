@@ -3,6 +3,7 @@ use Rattle.std.proofs.Common.{◌≡◌, ◌⊎◌, ℕ, ◌+◌, ◌<◌, ◌�
 use Rattle.std.proofs.lemmas.Bool.{cases_eq, cases_lt}
 use Rattle.std.proofs.lemmas.Int.{ints, to_z_pos}
 use Rattle.jiff.proofs.SpanFacts.{signed_arith}
+use Rattle.cal_base.specs.Instant.{IsInstant}
 use Rattle.cal_base.specs.Local.{seconds_in_all, seconds_in_all-is}
 use Rattle.cal_base.specs.declared.zone.Zone.{Zone}
 use Rattle.cal_base.specs.Place.{place_of}
@@ -60,7 +61,7 @@ not_above last p i h e k =
     let le : p ≤ℤ last = grind (arith, ints) in
     absurd (omega (arith, ints))
 
-is_above : (last p : ℤ) → int_lt last p ≡ true → last <ℤ p
+pub is_above : (last p : ℤ) → int_lt last p ≡ true → last <ℤ p
 is_above last p h = grind (arith, ints)
 
 put_none : (e : Timed) (from bound : ℕ) (last : ℤ) (xs : List ℤ) → Windowed e from bound last xs
@@ -176,7 +177,7 @@ no_more : {A : Type 0} (local : ℕ) → ◌≡◌ {A = Option ℕ} (Some local)
 no_more local h = absurd (cc)
 
 -- with nothing pending all is placed
-all_placed : (ahead : Option ℕ) → to_place ahead None ≡ None → ahead ≡ None
+pub all_placed : (ahead : Option ℕ) → to_place ahead None ≡ None → ahead ≡ None
 all_placed None h = refl
 all_placed (Some local) h = no_more local h
 
@@ -184,7 +185,7 @@ bound_in : (e : Timed) (ahead : Option ℕ) → IsMatchAhead e ahead → bound_o
 bound_in e None h = omega arith
 bound_in e (Some local) h = omega arith
 
-by_test : (b : Bool) (local : ℕ) → ◌≡◌ {A = Option ℕ} (cond b None (Some local)) None → b ≡ true
+pub by_test : (b : Bool) (local : ℕ) → ◌≡◌ {A = Option ℕ} (cond b None (Some local)) None → b ≡ true
 by_test true local h = refl
 by_test false local h = no_more local h
 
@@ -272,6 +273,13 @@ pub put_near : (tz : TimeZone) (local : ℕ) (place member : ℤ) → place_of t
 put_near tz local place member at low high =
     let near = within tz (pos local) place at in
     (omega (arith, signed_arith, near), omega (arith, signed_arith, near))
+
+-- the place of a local second that lies above an instant is one
+pub put_instant : (tz : TimeZone) (local : ℕ) (place last : ℤ) → place_of tz (pos local) ≡ Some place → local < seconds_in_all → pos 0 ≤ℤ last → last <ℤ place → IsInstant place
+put_instant tz local place last at inside low above =
+    let near = within tz (pos local) place at in
+    let count = seconds_in_all-is in
+    (omega (arith, ints), omega (arith, signed_arith, near))
 
 -- what is found at a local second is its place
 pub place_found : (tz : TimeZone) (local : ℕ) (found : Option ℤ) → local < seconds_in_all → found ≡ place_of tz (to_z w64 local) → place_of tz (pos local) ≡ found

@@ -1,3 +1,4 @@
+pub mod Bits
 pub mod Elapses
 pub mod Listed
 pub mod Masks
@@ -5,7 +6,10 @@ pub mod Merge
 pub mod Near
 pub mod Rest
 pub mod Rises
+pub mod Ring
 pub mod RisingList
+pub mod Scan
 pub mod Search
+pub mod Searched
 pub mod Timed
 pub mod Window

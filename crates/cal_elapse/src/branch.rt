@@ -1,10 +1,9 @@
 //! One source of a merge, with the number that was taken from it and not given yet.
 
-ghost use Rattle.std.specs.Prelude.{◌≡◌, None, OnOk};
+ghost use Rattle.std.specs.Prelude.{◌≡◌, None};
 ghost use Rattle.cal_elapse.specs.Merge.{HasHead, numbers, passed};
 
 use crate::Rising;
-use std::alloc::AllocError;
 use std::marker::Model;
 
 /// A source of numbers that rise, seen as the number taken from it, if there is one, and what is behind that.
@@ -33,17 +32,14 @@ impl<S: Rising> Branch<S> {
         Branch { head: None, source }
     }
 
-    /// Takes the first number of the source, unless one is taken already.
-    ///
-    /// Whether memory is refused or not, what there is to give stays the same.
-    pub fn fetch(&mut self) -> Result<(), AllocError>
+    /// Takes the first number of the source, unless one is taken already. What there is to give stays the same.
+    pub fn fetch(&mut self)
         ensures same { numbers self.new ≡ numbers self.old }
-        ensures taken { OnOk result (HasHead self.new) }
+        ensures taken { HasHead self.new }
     {
         if self.head.is_none() {
-            self.head = self.source.next()?;
+            self.head = self.source.next();
         }
-        Ok(())
     }
 
     /// The number that was taken and not given yet.

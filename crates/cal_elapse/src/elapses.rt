@@ -34,31 +34,59 @@ impl<'z> Elapses<'z> {
     ghost use Rattle.cal_elapse.specs.Elapses.{elapses_after};
     ghost use Rattle.cal_elapse.specs.Rest.{rest_of};
     ghost use Rattle.cal_elapse.specs.Timed.{timed};
+    ghost use Rattle.cal_elapse.specs.Window.{timed_in};
 
     /// The elapses of an expression in a zone that are later than the base.
+    ///
+    /// All memory is taken here.
     pub fn new(
         alloc: Global,
         expr: &Expr,
         zone: Zone<'z>,
         base: Instant,
     ) -> Result<Elapses<'z>, AllocError>
-        ensures { IfOk result (λ elapses. rest_of elapses
+        ensures rest { IfOk result (λ elapses. rest_of elapses
             ≡ elapses_after (timed expr.now (zone_of zone.entry) ∷ []) base.secs) }
+        ensures timed { IfOk result (λ elapses. timed_in elapses ≡ timed expr.now (zone_of zone.entry)) }
+        ensures base { IfOk result (λ elapses. elapses.base ≡ base.secs) }
+        ensures searched { IfOk result (λ elapses. elapses.searcher.searches ≡ 1) }
     {
         Ok(Elapses {
             window: Window::new(alloc, expr, zone, base)?,
         })
     }
+
+    /// How many searches were made so far: one by `new`, and then one for each match that `next` placed.
+    pub fn searches(&self) -> u64
+        ensures { result ≡ self.now.searcher.searches }
+    {
+        self.window.searches()
+    }
 }
 
 impl Rising for Elapses<'_> {
+    ghost use Rattle.std.specs.Prelude.{◌≡◌};
     ghost use Rattle.cal_elapse.specs.Rest.{rest_of, IsRising-rest_of};
+    ghost use Rattle.cal_elapse.specs.RisingList.{first, later};
+    ghost use Rattle.cal_elapse.specs.Searched.{IsSearched};
+    ghost use Rattle.cal_elapse.specs.Window.{timed_in};
 
     ghost rest = { rest_of };
 
-    fn next(&mut self) -> Result<Option<i64>, AllocError> {
-        self.window.fill()?;
-        Ok(self.window.take())
+    /// Gives the next elapse; `None` where there is none.
+    ///
+    /// Where it gives e, the searches made so far are one more than the local seconds that match from the base less
+    /// 93,599 to e plus 93,599; where it gives none, one more than all that match from there on.
+    fn next(&mut self) -> Option<i64>
+        ensures given { result ≡ first (rest_of self.old) }
+        ensures left { rest_of self.new ≡ later (rest_of self.old) }
+        ensures masks { self.new.searcher.masks ≡ self.old.searcher.masks }
+        ensures timed { timed_in self.new ≡ timed_in self.old }
+        ensures base { self.new.base ≡ self.old.base }
+        ensures searched { IsSearched (timed_in self.old) self.old.base result self.new.searcher.searches }
+    {
+        self.window.fill();
+        self.window.take()
     }
 
     ghost rises = { IsRising-rest_of };

@@ -1,6 +1,7 @@
 //! The elapses of calendar expressions under every zone (systemd.time(7), Calendar Events).
 #![tactic(auto)]
 
+mod bits;
 mod branch;
 mod elapses;
 pub mod laws;
@@ -9,7 +10,9 @@ mod masks;
 mod masks_of;
 mod merge;
 mod pending;
+mod ring;
 mod rising;
+mod scan;
 mod search;
 mod searcher;
 mod window;
@@ -20,4 +23,5 @@ pub use masks::Masks;
 pub use merge::Merge;
 pub use pending::Pending;
 pub use rising::Rising;
+pub use scan::first_set;
 pub use search::{Found, next_local};

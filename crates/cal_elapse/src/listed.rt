@@ -5,7 +5,6 @@ ghost use Rattle.cal_elapse.specs.Listed.{IsRising-prop};
 ghost use Rattle.cal_elapse.specs.RisingList.{IsRising};
 
 use crate::Rising;
-use std::alloc::AllocError;
 
 /// Numbers that rise, with the count of those that were given already.
 #[derive(Drop)]
@@ -28,13 +27,12 @@ impl Listed {
 impl Rising for Listed {
     ghost rest = { λ listed. drop listed.given listed.numbers.items };
 
-    /// Memory is never refused here.
-    fn next(&mut self) -> Result<Option<i64>, AllocError> {
+    fn next(&mut self) -> Option<i64> {
         let number = self.numbers.get(self.given).copied();
         if number.is_some() {
             self.given += 1;
         }
-        Ok(number)
+        number
     }
 
     ghost rises = { λ listed. listed.rising };

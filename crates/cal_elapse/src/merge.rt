@@ -1,6 +1,6 @@
 //! Several sources of rising numbers given as one, each number once.
 
-ghost use Rattle.std.specs.Prelude.{◌≡◌, ◌++◌, ◌∷◌, [], map, true, false, IfErr, IfOk, OnErr, OnOk};
+ghost use Rattle.std.specs.Prelude.{◌≡◌, ◌++◌, ◌∷◌, [], map, true, false, IfErr, OnErr, OnOk};
 ghost use Rattle.std.specs.List.{All};
 ghost use Rattle.cal_elapse.specs.Merge.{HasHead, lesser, merged, numbers, passed};
 ghost use Rattle.cal_elapse.specs.RisingList.{first, later, union};
@@ -61,21 +61,18 @@ impl<S: Rising> Rising for Merge<S> {
     ghost rest = { merged };
 
     /// Takes the first number of each source that lacks it, and gives the least of them.
-    ///
-    /// A refusal of memory comes before any number is given.
-    fn next(&mut self) -> Result<Option<i64>, AllocError>
-        ensures given { IfOk result (λ number. number ≡ first (merged self.old)) }
-        ensures left { OnOk result (merged self.new ≡ later (merged self.old)) }
-        ensures unchanged { OnErr result (self.new.lists ≡ self.old.lists) }
+    fn next(&mut self) -> Option<i64>
+        ensures given { result ≡ first (merged self.old) }
+        ensures left { merged self.new ≡ later (merged self.old) }
         ensures marked { self.new.started ≡ true }
     {
         self.started = true;
-        fetch_all(&mut self.branches)?;
+        fetch_all(&mut self.branches);
         let least = least_head(&self.branches);
         if let Some(number) = least {
             pass_all(&mut self.branches, number);
         }
-        Ok(least)
+        least
     }
 
     ghost use Rattle.cal_elapse.specs.Rises.{IsRising-union};
@@ -84,14 +81,13 @@ impl<S: Rising> Rising for Merge<S> {
 }
 
 /// Takes the first number of each source that lacks it.
-fn fetch_all<S: Rising>(branches: &mut Vec<Branch<S>>) -> Result<(), AllocError>
+fn fetch_all<S: Rising>(branches: &mut Vec<Branch<S>>)
     ensures same { map numbers branches.new.items ≡ map numbers branches.old.items }
-    ensures taken { OnOk result (All HasHead branches.new.items) }
+    ensures taken { All HasHead branches.new.items }
 {
     for branch in branches.iter_mut() {
-        branch.fetch()?;
+        branch.fetch();
     }
-    Ok(())
 }
 
 /// The least of the numbers that were taken.

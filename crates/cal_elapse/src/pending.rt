@@ -1,28 +1,36 @@
 //! The instants that were placed and not yet given.
 
-ghost use Rattle.std.specs.Prelude.{◌≡◌, [], ℤ, IfOk, OnOk, OnErr};
+ghost use Rattle.std.specs.Prelude.{◌≡◌, ◌≤◌, [], ℕ, ℤ, IfOk};
+ghost use Rattle.cal_base.specs.Instant.{IsInstant};
 ghost use Rattle.cal_elapse.specs.Near.{IsNear};
+ghost use Rattle.cal_elapse.specs.Ring.{IsRoundWith};
 ghost use Rattle.cal_elapse.specs.RisingList.{Has, IsRising, first, later, placed};
 
+use crate::ring::{CELLS, WORDS, clear_cell, first_held, set_cell};
 use std::alloc::{AllocError, Global};
-use std::collections::BTreeSet;
 use std::marker::Model;
 
 /// A set of instants, empty at first. A contract sees them as a strictly rising list.
+///
+/// Any two members differ by at most 187,199, so that a bit in a round of 187,200 cells tells each from the others. Only
+/// `new` takes memory.
 #[derive(Drop)]
 pub struct Pending {
-    set: BTreeSet<i64>,
+    /// One bit for each cell.
+    cells: Box<[u64; WORDS]>,
+    /// The first second of the round: no member is before it.
+    low: u64,
 }
 
 impl Model for Pending {
-    ghost use Rattle.std.specs.Prelude.{ℤ, List};
-    ghost use Rattle.cal_elapse.specs.RisingList.{IsRising};
+    ghost use Rattle.std.specs.Prelude.{ℤ, List, box_value};
+    ghost use Rattle.cal_elapse.specs.Ring.{IsRound, instants_in};
 
     ghost Value = { List ℤ };
 
-    ghost view = { λ p. p.set.keys };
+    ghost view = { λ p. instants_in (box_value p.cells) p.low };
 
-    ghost invariant = { λ p. IsRising p.set.keys };
+    ghost invariant = { λ p. IsRound (box_value p.cells) p.low };
 }
 
 impl Pending {
@@ -31,27 +39,32 @@ impl Pending {
         ensures { IfOk result (λ pending. pending ≡ []) }
     {
         Ok(Pending {
-            set: BTreeSet::new(alloc),
+            cells: Box::new(alloc, [0; WORDS])?,
+            low: 0,
         })
     }
 
-    /// Adds an instant, which differs from each member by at most 187,199. Where memory is refused, the set is as it
-    /// was.
-    pub fn put(&mut self, instant: i64) -> Result<(), AllocError>
-        requires { (member : ℤ) → Has self.old member → IsNear member instant }
-        ensures added { OnOk result (self.new ≡ placed instant self.old) }
-        ensures unchanged { OnErr result (self.new ≡ self.old) }
+    /// Adds an instant, which differs from each member by at most 187,199.
+    pub fn put(&mut self, instant: i64)
+        requires instant { IsInstant instant }
+        requires near { (member : ℤ) → Has self.old member → IsNear member instant }
+        ensures { self.new ≡ placed instant self.old }
     {
-        self.set.insert(instant)?;
-        Ok(())
+        let second = instant.unsigned_abs();
+        set_cell(self.cells.as_mut_slice(), second % CELLS);
+        self.low = low_with(self.low, second);
     }
 
     /// The least member; `None` where there is none.
     pub fn least(&self) -> Option<i64>
         ensures least { result ≡ first self.now }
         ensures rises { IsRising self.now }
+        ensures near { (one other : ℤ) → Has self.now one → Has self.now other → IsNear one other }
     {
-        self.set.first().copied()
+        match first_held(self.cells.as_slice(), self.low) {
+            Some(second) => Some(second as i64),
+            None => None,
+        }
     }
 
     /// Removes the least member and gives it; `None` where there is none.
@@ -59,7 +72,23 @@ impl Pending {
         ensures least { result ≡ first self.old }
         ensures left { self.new ≡ later self.old }
     {
-        self.set.pop_first()
+        let Some(second) = first_held(self.cells.as_slice(), self.low) else {
+            return None;
+        };
+        clear_cell(self.cells.as_mut_slice(), second % CELLS);
+        self.low = second;
+        Some(second as i64)
+    }
+}
+
+/// Where the round begins once an instant is put: it has that instant then, and each second that is near to it.
+fn low_with(low: u64, second: u64) -> u64
+    ensures { IsRoundWith low second result }
+{
+    if second < low {
+        second
+    } else {
+        low.max(second.saturating_sub(CELLS - 1))
     }
 }
 
@@ -71,13 +100,30 @@ mod tests {
     fn each_once_rising(rt: HostRuntime) -> Result<(), AllocError> {
         let mut pending = Pending::new(rt.alloc())?;
         assert_eq!(rt; pending.least(), None);
-        pending.put(100)?;
-        pending.put(50)?;
-        pending.put(100)?;
+        pending.put(100);
+        pending.put(50);
+        pending.put(100);
         assert_eq!(rt; pending.least(), Some(50));
         assert_eq!(rt; pending.take_least(), Some(50));
         assert_eq!(rt; pending.take_least(), Some(100));
         assert_eq!(rt; pending.take_least(), None);
+        Ok(())
+    }
+
+    /// Round the end of the cells, and back from a later instant.
+    #[test]
+    fn round_the_end(rt: HostRuntime) -> Result<(), AllocError> {
+        let mut pending = Pending::new(rt.alloc())?;
+        pending.put(187_199);
+        pending.put(187_201);
+        assert_eq!(rt; pending.take_least(), Some(187_199));
+        assert_eq!(rt; pending.take_least(), Some(187_201));
+        assert_eq!(rt; pending.take_least(), None);
+        let mut pending = Pending::new(rt.alloc())?;
+        pending.put(187_199);
+        pending.put(0);
+        assert_eq!(rt; pending.take_least(), Some(0));
+        assert_eq!(rt; pending.take_least(), Some(187_199));
         Ok(())
     }
 }

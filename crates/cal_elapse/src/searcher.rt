@@ -30,6 +30,13 @@ impl Searcher {
         }
     }
 
+    /// How often they were searched.
+    pub fn searches(&self) -> u64
+        ensures { result ≡ self.now.searches }
+    {
+        self.searches
+    }
+
     /// The least matching local second not below `from`, which is from 0 to 7,258,118,400; `None` where there is none.
     pub fn next_local(&mut self, from: u64) -> Option<u64>
         requires from_in { from ≤ seconds_in_all }

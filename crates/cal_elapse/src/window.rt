@@ -1,6 +1,6 @@
 //! The matches of an expression in a zone, placed one after another.
 
-ghost use Rattle.std.specs.Prelude.{◌≡◌, ◌<◌, ◌≤◌, ℤ, pos, ◌+ℤ◌, ◌-ℤ◌, ◌≤ℤ◌, IfSome, OnOk, OnErr};
+ghost use Rattle.std.specs.Prelude.{◌≡◌, ◌<◌, ◌≤◌, ℤ, pos, ◌+ℤ◌, ◌-ℤ◌, ◌≤ℤ◌, IfSome};
 ghost use Rattle.cal_base.specs.Local.{seconds_in_all};
 ghost use Rattle.cal_base.specs.Place.{place_of};
 ghost use Rattle.cal_base.specs.Zone.{zone_of};
@@ -32,10 +32,11 @@ pub struct Window<'z> {
 }
 
 impl<'z> Window<'z> {
-    ghost use Rattle.std.specs.Prelude.{◌≡◌, ◌<◌, [], ◌∷◌, ℤ, pos, ◌+ℤ◌, ◌≤ℤ◌, None, Some, IfOk, OnOk, OnErr};
+    ghost use Rattle.std.specs.Prelude.{◌≡◌, ◌<◌, [], ◌∷◌, ℤ, pos, ◌+ℤ◌, ◌≤ℤ◌, None, Some, IfOk};
     ghost use Rattle.cal_base.specs.Zone.{zone_of};
     ghost use Rattle.cal_elapse.specs.Elapses.{elapses_after};
     ghost use Rattle.cal_elapse.specs.RisingList.{Has, first, later};
+    ghost use Rattle.cal_elapse.specs.Searched.{IsSearched};
     ghost use Rattle.cal_elapse.specs.Timed.{timed};
     ghost use Rattle.cal_elapse.specs.Window.{IsReady, bound_of, timed_in, to_place};
 
@@ -49,6 +50,8 @@ impl<'z> Window<'z> {
         ensures ready { IfOk result IsReady }
         ensures timed { IfOk result (λ window. timed_in window ≡ timed expr.now (zone_of zone.entry)) }
         ensures last { IfOk result (λ window. window.last ≡ base.secs) }
+        ensures base { IfOk result (λ window. window.base ≡ base.secs) }
+        ensures searched { IfOk result (λ window. window.searcher.searches ≡ 1) }
     {
         let pending = Pending::new(alloc)?;
         let mut searcher = Searcher::of(expr);
@@ -65,17 +68,18 @@ impl<'z> Window<'z> {
     }
 
     /// Places matches until the least pending instant can be given.
-    pub fn fill(&mut self) -> Result<(), AllocError>
+    pub fn fill(&mut self)
         requires { IsReady self.old }
         ensures ready { IsReady self.new }
+        ensures masks { self.new.searcher.masks ≡ self.old.searcher.masks }
         ensures timed { timed_in self.new ≡ timed_in self.old }
+        ensures base { self.new.base ≡ self.old.base }
         ensures last { self.new.last ≡ self.old.last }
-        ensures full { OnOk result (to_place self.new.ahead (first self.new.pending) ≡ None) }
+        ensures full { to_place self.new.ahead (first self.new.pending) ≡ None }
     {
         while let Some(local) = next_to_place(self.ahead, self.pending.least()) {
-            self.place_one(local)?;
+            self.place_one(local);
         }
-        Ok(())
     }
 
     /// Gives the least pending instant.
@@ -83,7 +87,10 @@ impl<'z> Window<'z> {
         requires ready { IsReady self.old }
         requires full { to_place self.old.ahead (first self.old.pending) ≡ None }
         ensures ready { IsReady self.new }
+        ensures masks { self.new.searcher.masks ≡ self.old.searcher.masks }
         ensures timed { timed_in self.new ≡ timed_in self.old }
+        ensures base { self.new.base ≡ self.old.base }
+        ensures searched { IsSearched (timed_in self.old) self.old.base result self.new.searcher.searches }
         ensures given { result ≡ first (elapses_after (timed_in self.old ∷ []) self.old.last) }
         ensures left { elapses_after (timed_in self.new ∷ []) self.new.last
             ≡ later (elapses_after (timed_in self.old ∷ []) self.old.last) }
@@ -96,18 +103,26 @@ impl<'z> Window<'z> {
     }
 
     /// Places the match that was found, and finds the next.
-    fn place_one(&mut self, local: u64) -> Result<(), AllocError>
+    fn place_one(&mut self, local: u64)
         requires ready { IsReady self.old }
         requires ahead { self.old.ahead ≡ Some local }
         requires near { (i : ℤ) → Has self.old.pending i → pos local ≤ℤ (i +ℤ pos 93_599) }
         ensures ready { IsReady self.new }
+        ensures masks { self.new.searcher.masks ≡ self.old.searcher.masks }
         ensures timed { timed_in self.new ≡ timed_in self.old }
+        ensures base { self.new.base ≡ self.old.base }
         ensures last { self.new.last ≡ self.old.last }
-        ensures on { OnOk result (bound_of self.old.ahead < bound_of self.new.ahead) }
+        ensures on { bound_of self.old.ahead < bound_of self.new.ahead }
     {
-        put_place(&mut self.pending, self.zone, local, self.last)?;
+        put_place(&mut self.pending, self.zone, local, self.last);
         self.ahead = self.searcher.next_local(local + 1);
-        Ok(())
+    }
+
+    /// How often a match was searched so far.
+    pub fn searches(&self) -> u64
+        ensures { result ≡ self.now.searcher.searches }
+    {
+        self.searcher.searches()
     }
 }
 
@@ -143,18 +158,18 @@ fn earliest_place(local: u64) -> i64
 }
 
 /// Puts the place of a local second where it is above the last instant given.
-fn put_place(pending: &mut Pending, zone: Zone<'_>, local: u64, last: i64) -> Result<(), AllocError>
+fn put_place(pending: &mut Pending, zone: Zone<'_>, local: u64, last: i64)
     requires local_in { local < seconds_in_all }
+    requires last_in { pos 0 ≤ℤ last }
     requires before { (i : ℤ) → Has pending.old i → i ≤ℤ (pos local +ℤ pos 93_599) }
     requires near { (i : ℤ) → Has pending.old i → pos local ≤ℤ (i +ℤ pos 93_599) }
-    ensures put { OnOk result (pending.new ≡ with_place (place_of (zone_of zone.entry) (pos local)) last pending.old) }
-    ensures unchanged { OnErr result (pending.new ≡ pending.old) }
+    ensures { pending.new ≡ with_place (place_of (zone_of zone.entry) (pos local)) last pending.old }
 {
     let Some(instant) = place(zone, local as i64) else {
-        return Ok(());
+        return;
     };
     if instant <= last {
-        return Ok(());
+        return;
     }
-    pending.put(instant)
+    pending.put(instant);
 }

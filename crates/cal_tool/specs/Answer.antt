@@ -1,6 +1,7 @@
 -- What is answered to one text, and to texts in a row: the reports on standard output, the refusals on standard error,
 -- and the status.
-use Rattle.std.specs.Prelude.{ℕ, Bool, List, [], ◌∷◌, Result, Ok, Err, is_err, if◌then◌else◌, codes}
+use Rattle.std.specs.Prelude.{ℕ, ◌<◌, Bool, List, [], ◌∷◌, length, take, Option, Result, Ok, Err, is_err, if◌then◌else◌, codes}
+use Rattle.std.specs.Io.KnownBytes.{Appends}
 use Rattle.std.specs.List.{list_any, flat_map, join_by}
 use Rattle.cal_base.specs.Bytes.{joined}
 use Rattle.cal_tool.specs.declared.request.Status.{Status}
@@ -49,3 +50,10 @@ refusals_text answer = flat_map (λ text. refusal_in text (answer text))
 -- refused where some text was
 unfoldable pub whole_status : (List ℕ → Answer) → List (List ℕ) → Status
 whole_status answer texts = if list_any (λ text. is_err (answer text)) texts then Refused else Fine
+
+-- Where the answers ended before a text: those to the texts before it are written whole, and nothing more is.
+pub record IsAnsweredBefore (answer : List ℕ → Answer) (texts : List (List ℕ)) (out_old out_new err_old err_new : Option (List ℕ)) : Type 0 where
+  pub count : ℕ
+  pub before : count < length texts
+  pub out : Appends out_old out_new (reports_text answer (take count texts))
+  pub err : Appends err_old err_new (refusals_text answer (take count texts))

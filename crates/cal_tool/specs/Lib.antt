@@ -8,7 +8,6 @@ pub mod ReportLines
 pub mod LoadFault
 pub mod LoadZone
 pub mod Report
-pub mod ReportFault
 pub mod Request
 pub mod RunFault
 pub mod Status

@@ -7,7 +7,7 @@ use Rattle.cal_base.specs.declared.instant.Instant.{Instant}
 use Rattle.cal_read.specs.StampFault.{words_of}
 use Rattle.cal_read.specs.TimerText.{ReadsWhole, most_bytes}
 use Rattle.cal_read.specs.declared.stamp_fault.StampFault.{StampFault}
-use Rattle.cal_tool.specs.Answer.{Answer, refusal_line, reports_text, refusals_text, whole_status}
+use Rattle.cal_tool.specs.Answer.{Answer, IsAnsweredBefore, refusal_line, reports_text, refusals_text, whole_status}
 use Rattle.cal_tool.specs.CalendarReport.{calendar_answer}
 use Rattle.cal_tool.specs.Request.{Asked, is_timer}
 use Rattle.cal_tool.specs.TimerReport.{IsHad, timer_answer}
@@ -108,3 +108,10 @@ pub record ByReading (asked : Asked) (old new : Option (List ℕ)) (failed : Boo
   pub input : ReadsIf (reads_input asked) old new read
   pub fails : failed ≡ is_read_failed read
   pub holds : told read (report asked read)
+
+-- What a run has written that ended for want of memory: the whole answers to the texts before the one at which memory
+-- was refused, and nothing more. A timer's one text is its file, so that nothing is written there.
+pub record IsCut (asked : Asked) (out_old out_new err_old err_new : Option (List ℕ)) : Type 0 where
+  pub base : ℤ
+  pub sought : base_in asked ≡ Ok base
+  pub answered : IsAnsweredBefore (answer_to asked base) asked.texts out_old out_new err_old err_new

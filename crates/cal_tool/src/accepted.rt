@@ -9,14 +9,12 @@ ghost use Rattle.cal_tool.specs.Answer.{lead_text};
 ghost use Rattle.cal_tool.specs.CalendarReport.{calendar_answer, zone_for};
 ghost use Rattle.cal_tool.specs.Context.{asked_by};
 ghost use Rattle.cal_tool.specs.Report.{answer_to};
-ghost use Rattle.cal_tool.specs.ReportFault.{is_failed_in};
 ghost use Rattle.cal_tool.specs.TimestampReport.{stamp_in};
 ghost use Rattle.cal_tool.specs.declared.accepted.Refusal.TheVariants.{NoMemory};
 ghost use Rattle.cal_tool.specs.Request.{IsCount, is_timer, seeks_elapses};
 
 use crate::calendar_report::write_calendar;
 use crate::context::Context;
-use crate::report_fault::ReportFault;
 use crate::request::Verb;
 use crate::timespan_report::write_timespan;
 use crate::timestamp_report::write_timestamp;
@@ -67,8 +65,8 @@ impl Refusal {
     }
 }
 
-/// Reads a text as the request's verb does. All memory that the text needs is taken here, but for that of each elapse;
-/// timestamps and time spans take none.
+/// Reads a text as the request's verb does. All memory that the text needs is taken here; timestamps and time spans take
+/// none.
 #[tactic(auto, unfolding(crate::specs::TimespanReport::timespan_answer, crate::specs::TimestampReport::timestamp_answer))]
 pub fn read_text<'a>(
     alloc: Global,
@@ -153,14 +151,13 @@ pub fn put_report<W: Sink>(
     context: Context<'_>,
     text: &str,
     accepted: Accepted<'_>,
-) -> Result<(), ReportFault>
+) -> Result<(), WriteFault>
     requires iterations { IsCount context.request.now.iterations }
     requires timely { IsTimely accepted }
     requires out { W.is_failed out.old ≡ false }
-    ensures failed { W.is_failed out.new ≡ is_failed_in result }
+    ensures failed { W.is_failed out.new ≡ is_err result }
     ensures bytes { Writes (W.written out.old) (W.written out.new) result
         (joined (lead_text is_later ∷ report_text (asked_by context.entry) text.now accepted.entry ∷ [])) }
-    ensures memory { seeks_elapses (verb_of accepted.entry) ≡ false → IsErrOf result ReportFault.NoMemory → ⊥ }
 {
     put_lead(out, is_later)?;
     write_report(out, context, text, accepted)
@@ -172,21 +169,20 @@ pub fn write_report<W: Sink>(
     context: Context<'_>,
     text: &str,
     accepted: Accepted<'_>,
-) -> Result<(), ReportFault>
+) -> Result<(), WriteFault>
     requires iterations { IsCount context.request.now.iterations }
     requires timely { IsTimely accepted }
     requires out { W.is_failed out.old ≡ false }
-    ensures failed { W.is_failed out.new ≡ is_failed_in result }
+    ensures failed { W.is_failed out.new ≡ is_err result }
     ensures bytes { Writes (W.written out.old) (W.written out.new) result
         (report_text (asked_by context.entry) text.now accepted.entry) }
-    ensures memory { seeks_elapses (verb_of accepted.entry) ≡ false → IsErrOf result ReportFault.NoMemory → ⊥ }
 {
     match accepted {
         Accepted::Calendar(expr, mut elapses) => {
             write_calendar(out, context, text, &expr, &mut elapses)
         }
-        Accepted::Timestamp(moment) => Ok(write_timestamp(out, context, text, moment)?),
-        Accepted::Timespan(span) => Ok(write_timespan(out, text, span)?),
+        Accepted::Timestamp(moment) => write_timestamp(out, context, text, moment),
+        Accepted::Timespan(span) => write_timespan(out, text, span),
     }
 }
 

@@ -6,12 +6,10 @@ ghost use Rattle.cal_base.specs.Bytes.{Writes};
 ghost use Rattle.cal_tool.specs.CalendarReport.{report_of_elapses, heading_text, normal_line};
 ghost use Rattle.cal_tool.specs.Context.{asked_by};
 ghost use Rattle.cal_tool.specs.ElapseLines.{AreInstants};
-ghost use Rattle.cal_tool.specs.ReportFault.{is_failed_in};
 ghost use Rattle.cal_tool.specs.Request.{IsCount};
 
 use crate::context::Context;
 use crate::elapse_lines::put_elapses;
-use crate::report_fault::ReportFault;
 use crate::report_lines::put_original;
 use cal_base::{Sink, WriteFault, put_all};
 use cal_elapse::Rising;
@@ -26,11 +24,11 @@ pub fn write_calendar<W: Sink, S: Rising>(
     text: &str,
     expr: &Expr,
     elapses: &mut S,
-) -> Result<(), ReportFault>
+) -> Result<(), WriteFault>
     requires iterations { IsCount context.request.now.iterations }
     requires instants { AreInstants (S.rest elapses.old) }
     requires out { W.is_failed out.old ≡ false }
-    ensures failed { W.is_failed out.new ≡ is_failed_in result }
+    ensures failed { W.is_failed out.new ≡ is_err result }
     ensures bytes { Writes (W.written out.old) (W.written out.new) result
         (report_of_elapses (asked_by context.entry) text.now expr.now (S.rest elapses.old)) }
 {

@@ -1,14 +1,12 @@
 //! The lines of elapses in a report, each with the span between it and the present (systemd-analyze(1), calendar).
 
-ghost use Rattle.std.specs.Prelude.{◌≡◌, ◌+◌, ◌-◌, ◌≤◌, ◌++◌, length, false, is_err, IfOk, OnOk, option_map, take};
+ghost use Rattle.std.specs.Prelude.{◌≡◌, ◌+◌, ◌-◌, ◌≤◌, ◌++◌, length, false, is_err, option_map, take};
 ghost use Rattle.cal_base.specs.Bytes.{Writes};
 ghost use Rattle.cal_base.specs.declared.short_text.TheConstants.{ROOM};
 ghost use Rattle.cal_elapse.specs.RisingList.{first, later};
 ghost use Rattle.cal_tool.specs.ElapseLines.{AreInstants, label_text, elapse_text, elapse_texts, elapses_text};
 ghost use Rattle.cal_tool.specs.Request.{IsCount};
-ghost use Rattle.cal_tool.specs.ReportFault.{is_failed_in};
 
-use crate::report_fault::ReportFault;
 use crate::report_lines::{first_moment, push_distance, push_utc_line};
 use cal_base::{
     Fill, Instant, ShortText, Sink, WriteFault, Zone, padding, push, push_all, push_instant,
@@ -24,16 +22,16 @@ pub fn put_elapses<W: Sink, S: Rising>(
     iterations: u32,
     local: Zone<'_>,
     now: Instant,
-) -> Result<(), ReportFault>
+) -> Result<(), WriteFault>
     requires iterations { IsCount iterations }
     requires instants { AreInstants (S.rest elapses.old) }
     requires out { W.is_failed out.old ≡ false }
-    ensures failed { W.is_failed out.new ≡ is_failed_in result }
+    ensures failed { W.is_failed out.new ≡ is_err result }
     ensures bytes { Writes (W.written out.old) (W.written out.new) result
         (elapses_text local.entry now.secs (take iterations (S.rest elapses.old))) }
 {
-    match next_instant(elapses)? {
-        None => Ok(put_all(out, b"    Next elapse: never\n")?),
+    match next_instant(elapses) {
+        None => put_all(out, b"    Next elapse: never\n"),
         Some(first) => {
             put_elapse(out, 1, first, local, now)?;
             put_more(out, elapses, iterations, local, now)
@@ -48,16 +46,16 @@ fn put_more<W: Sink, S: Rising>(
     iterations: u32,
     local: Zone<'_>,
     now: Instant,
-) -> Result<(), ReportFault>
+) -> Result<(), WriteFault>
     requires iterations { IsCount iterations }
     requires instants { AreInstants (S.rest elapses.old) }
     requires out { W.is_failed out.old ≡ false }
-    ensures failed { W.is_failed out.new ≡ is_failed_in result }
+    ensures failed { W.is_failed out.new ≡ is_err result }
     ensures bytes { Writes (W.written out.old) (W.written out.new) result
         (elapse_texts local.entry now.secs 2 (take (iterations - 1) (S.rest elapses.old))) }
 {
     for number in 2..iterations + 1 {
-        let Some(elapse) = next_instant(elapses)? else {
+        let Some(elapse) = next_instant(elapses) else {
             return Ok(());
         };
         put_elapse(out, number, elapse, local, now)?;
@@ -66,20 +64,19 @@ fn put_more<W: Sink, S: Rising>(
 }
 
 /// The next elapse.
-fn next_instant<S: Rising>(elapses: &mut S) -> Result<Option<Instant>, ReportFault>
+fn next_instant<S: Rising>(elapses: &mut S) -> Option<Instant>
     requires { AreInstants (S.rest elapses.old) }
-    ensures given { IfOk result (λ elapse. option_map (λ instant. instant.secs) elapse ≡ first (S.rest elapses.old)) }
-    ensures left { OnOk result (S.rest elapses.new ≡ later (S.rest elapses.old)) }
-    ensures instants { OnOk result (AreInstants (S.rest elapses.new)) }
-    ensures fault { is_failed_in result ≡ false }
+    ensures given { option_map (λ instant. instant.secs) result ≡ first (S.rest elapses.old) }
+    ensures left { S.rest elapses.new ≡ later (S.rest elapses.old) }
+    ensures instants { AreInstants (S.rest elapses.new) }
 {
-    let Some(secs) = elapses.next()? else {
-        return Ok(None);
+    let Some(secs) = elapses.next() else {
+        return None;
     };
     let Some(instant) = Instant::new(secs) else {
         unreachable!()
     };
-    Ok(Some(instant))
+    Some(instant)
 }
 
 /// Writes one elapse, and how far it lies from the present.

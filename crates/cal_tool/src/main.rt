@@ -14,7 +14,6 @@ pub mod early_words;
 pub mod elapse_lines;
 pub mod load_zone;
 pub mod report;
-pub mod report_fault;
 pub mod report_lines;
 pub mod request;
 pub mod stop;

@@ -7,9 +7,9 @@ ghost use Rattle.cal_base.specs.Whole.{is_read_failed};
 ghost use Rattle.cal_base.specs.declared.whole.WholeFault.{WholeFault};
 ghost use Rattle.cal_read.specs.TimerText.{ReadsWhole, most_bytes};
 ghost use Rattle.cal_base.specs.Bytes.{Writes, joined};
-ghost use Rattle.cal_tool.specs.Answer.{refusal_in, refusal_line, later_text, status_in, reports_text, refusals_text, whole_status};
+ghost use Rattle.cal_tool.specs.Answer.{IsAnsweredBefore, refusal_in, refusal_line, later_text, status_in, reports_text, refusals_text, whole_status};
 ghost use Rattle.cal_tool.specs.Context.{asked_by};
-ghost use Rattle.cal_tool.specs.Report.{ByReading, IsTold, answer_to, base_in, file_name, secs_told, whole_report};
+ghost use Rattle.cal_tool.specs.Report.{ByReading, IsCut, IsTold, answer_to, base_in, file_name, secs_told, whole_report};
 ghost use Rattle.cal_tool.specs.Request.{IsCount, asked, is_timer, seeks_elapses};
 ghost use Rattle.cal_tool.specs.TimerReport.{refusal_at, timer_answer};
 ghost use Rattle.cal_tool.specs.RunFault.{is_out_failed, is_err_failed};
@@ -18,7 +18,6 @@ ghost use Rattle.cal_tool.specs.declared.request.Status.TheVariants.{Refused};
 
 use crate::accepted::{Refusal, put_report, read_text};
 use crate::context::Context;
-use crate::report_fault::ReportFault;
 use crate::request::{Request, RunFault, Status, Verb};
 use crate::timer_report::{TimerRefusal, read_plan, write_timer};
 use cal_base::{Instant, Sink, Source, WriteFault, Zone, ZoneTable, put_pieces};
@@ -36,8 +35,9 @@ use std::alloc::Global;
 /// in the local zone. Instants are printed in the local zone, and once more in UTC where that is another.
 ///
 /// [`RunFault::OutFailed`] and [`RunFault::ErrFailed`] come exactly where that writer failed in this call, and
-/// each writer has a prefix of its whole text then, as it has where memory is refused ([`RunFault::NoMemory`]).
-/// Timestamps and time spans take no memory.
+/// each writer has a prefix of its whole text then. All memory that a text needs is taken before the first byte of its
+/// answer: where it is refused ([`RunFault::NoMemory`]), the texts before that one are answered whole, and nothing of it
+/// is written. Timestamps and time spans take no memory.
 #[tactic(auto, unfolding(crate::specs::Report::report))]
 pub fn run<R: Source, O: Sink, E: Sink>(
     alloc: Global,
@@ -61,6 +61,8 @@ pub fn run<R: Source, O: Sink, E: Sink>(
     ensures out_failed { O.is_failed out.new ≡ is_out_failed result }
     ensures err_failed { E.is_failed err.new ≡ is_err_failed result }
     ensures memory { seeks_elapses request.now.verb ≡ false → IsErrOf result NoMemory → ⊥ }
+    ensures cut { IsErrOf result NoMemory → IsCut (asked request.now now.secs local.entry table.now)
+        (O.written out.old) (O.written out.new) (E.written err.old) (E.written err.new) }
     ensures input { is_timer request.now.verb ≡ false → input.new ≡ input.old }
 {
     let base = match read_base(request, now, local, table) {
@@ -97,7 +99,7 @@ fn read_base(
     Ok(moment.instant())
 }
 
-/// Answers the texts in order.
+/// Answers the texts in order, up to one at which memory is refused.
 fn answer_all<O: Sink, E: Sink>(
     alloc: Global,
     context: Context<'_>,
@@ -117,6 +119,9 @@ fn answer_all<O: Sink, E: Sink>(
     ensures out_failed { O.is_failed out.new ≡ is_out_failed result }
     ensures err_failed { E.is_failed err.new ≡ is_err_failed result }
     ensures memory { seeks_elapses context.entry.request.now.verb ≡ false → IsErrOf result NoMemory → ⊥ }
+    ensures cut { let asked = asked_by context.entry in
+        IsErrOf result NoMemory → IsAnsweredBefore (answer_to asked context.entry.base.secs) asked.texts
+        (O.written out.old) (O.written out.new) (E.written err.old) (E.written err.new) }
 {
     let mut status = Status::Fine;
     let mut is_later = false;
@@ -152,12 +157,13 @@ fn answer_one<O: Sink, E: Sink>(
     ensures out_failed { O.is_failed out.new ≡ is_out_failed result }
     ensures err_failed { E.is_failed err.new ≡ is_err_failed result }
     ensures memory { seeks_elapses context.entry.request.now.verb ≡ false → IsErrOf result NoMemory → ⊥ }
+    ensures unwritten { IsErrOf result NoMemory
+        → (O.written out.new ≡ O.written out.old) × (E.written err.new ≡ E.written err.old) }
 {
     match read_text(alloc, context, text) {
         Ok(accepted) => match put_report(out, is_later, context, text, accepted) {
             Ok(()) => Ok(Status::Fine),
-            Err(ReportFault::Failed) => Err(RunFault::OutFailed),
-            Err(ReportFault::NoMemory) => Err(RunFault::NoMemory),
+            Err(WriteFault::Failed) => Err(RunFault::OutFailed),
         },
         Err(Refusal::NoMemory) => Err(RunFault::NoMemory),
         Err(refusal) => refuse(err, text, None, refusal.words()),
@@ -183,12 +189,13 @@ fn answer_timer<R: Source, O: Sink, E: Sink>(
         (whole_report (timer_answer (asked_by context.entry) context.entry.base.secs (file_name (asked_by context.entry)) read)) }
     ensures out_failed { O.is_failed out.new ≡ is_out_failed result }
     ensures err_failed { E.is_failed err.new ≡ is_err_failed result }
+    ensures unwritten { IsErrOf result NoMemory
+        → (O.written out.new ≡ O.written out.old) × (E.written err.new ≡ E.written err.old) }
 {
     match read_plan(alloc, context, input) {
         Ok(plan) => match write_timer(out, context, plan) {
             Ok(()) => Ok(Status::Fine),
-            Err(ReportFault::Failed) => Err(RunFault::OutFailed),
-            Err(ReportFault::NoMemory) => Err(RunFault::NoMemory),
+            Err(WriteFault::Failed) => Err(RunFault::OutFailed),
         },
         Err(TimerRefusal::NoMemory) => Err(RunFault::NoMemory),
         Err(refusal) => refuse(

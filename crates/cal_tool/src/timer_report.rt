@@ -14,7 +14,6 @@ ghost use Rattle.cal_read.specs.TimerText.{ReadsWhole, most_bytes};
 ghost use Rattle.cal_read.specs.TimerView.{shown};
 ghost use Rattle.cal_tool.specs.Context.{asked_by};
 ghost use Rattle.cal_tool.specs.ElapseLines.{AreInstants, elapses_text};
-ghost use Rattle.cal_tool.specs.ReportFault.{is_failed_in};
 ghost use Rattle.cal_tool.specs.Request.{IsCount};
 ghost use Rattle.cal_tool.specs.TimerReport.{IsHad, headings_text, lacks_zone, refusal_at, timed_in, timer_answer, timer_report};
 ghost use Rattle.cal_tool.specs.TimerPlan.{IsMergeOf, IsUnzoned, plan_text, refused_line, refused_words};
@@ -24,7 +23,6 @@ use crate::accepted::zone_for;
 use crate::calendar_report::put_heading;
 use crate::context::Context;
 use crate::elapse_lines::put_elapses;
-use crate::report_fault::ReportFault;
 use cal_base::{Sink, Source, WriteFault};
 use cal_elapse::{Elapses, Merge};
 use cal_read::{Timer, TimerFault, TimerLine, read_timer};
@@ -72,7 +70,7 @@ impl TimerRefusal {
     }
 }
 
-/// Reads a timer file to its end. All memory that it needs is taken here, but for that of each elapse.
+/// Reads a timer file to its end. All memory that it needs is taken here.
 #[tactic(auto, unfolding(crate::specs::TimerReport::timer_answer))]
 pub fn read_plan<'a, R: Source>(
     alloc: Global,
@@ -151,11 +149,11 @@ pub fn write_timer<W: Sink>(
     out: &mut W,
     context: Context<'_>,
     plan: TimerPlan<'_>,
-) -> Result<(), ReportFault>
+) -> Result<(), WriteFault>
     requires iterations { IsCount context.request.now.iterations }
     requires instants { AreInstants (merged plan.merge) }
     requires out { W.is_failed out.old ≡ false }
-    ensures failed { W.is_failed out.new ≡ is_failed_in result }
+    ensures failed { W.is_failed out.new ≡ is_err result }
     ensures bytes { Writes (W.written out.old) (W.written out.new) result
         (plan_text (asked_by context.entry) plan.entry) }
 {

@@ -38,9 +38,9 @@ fn begin_with(
     let base = Instant::new(base).ok_or("no instant")?;
     let mut elapses = Elapses::new(rt.alloc(), &expr, zone, base)?;
     for instant in first {
-        assert_eq!(rt; elapses.next()?, Some(*instant), "{text}");
+        assert_eq!(rt; elapses.next(), Some(*instant), "{text}");
     }
-    assert_eq!(rt; elapses.next()?, after, "{text}");
+    assert_eq!(rt; elapses.next(), after, "{text}");
     Ok(())
 }
 
@@ -186,9 +186,9 @@ fn agree(
         let base = Instant::new(stretch.base.saturating_add(later)).ok_or("no instant")?;
         let mut elapses = Elapses::new(rt.alloc(), &expr, zone, base)?;
         for instant in all.iter().filter(|instant| **instant > base.secs()) {
-            assert_eq!(rt; elapses.next()?, Some(*instant), "{text}");
+            assert_eq!(rt; elapses.next(), Some(*instant), "{text}");
         }
-        let next = elapses.next()?.unwrap_or(i64::MAX);
+        let next = elapses.next().unwrap_or(i64::MAX);
         assert!(rt; next > stretch.limit, "{text}");
     }
     Ok(())

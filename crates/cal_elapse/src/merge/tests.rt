@@ -38,10 +38,10 @@ fn merge_two(alloc: Global, one: Vec<i64>, two: Vec<i64>) -> Result<Merge<Listed
 /// The source gives these numbers, and then nothing.
 fn expect_numbers<S: Rising>(rt: &impl Abort, source: &mut S, numbers: &[i64]) -> Result<(), Fail> {
     for number in numbers {
-        assert_eq!(rt; source.next()?, Some(*number));
+        assert_eq!(rt; source.next(), Some(*number));
     }
-    assert_eq!(rt; source.next()?, None);
-    assert_eq!(rt; source.next()?, None);
+    assert_eq!(rt; source.next(), None);
+    assert_eq!(rt; source.next(), None);
     Ok(())
 }
 
@@ -91,47 +91,6 @@ fn merge_of_merges(rt: HostRuntime) -> Result<(), Fail> {
     expect_numbers(&rt, &mut merge, &[1, 2, 3, 5])
 }
 
-/// A source that is refused memory so many times before it gives its numbers.
-#[derive(Drop)]
-struct Refused<S: Rising> {
-    times: u8,
-    source: S,
-}
-
-impl<S: Rising> Rising for Refused<S> {
-    ghost rest = { λ refused. S.rest refused.source };
-
-    fn next(&mut self) -> Result<Option<i64>, AllocError> {
-        if self.times > 0 {
-            self.times -= 1;
-            return Err(AllocError);
-        }
-        self.source.next()
-    }
-
-    ghost rises = { λ refused. S.rises refused.source };
-}
-
-/// No number is lost where a source is refused memory after another gave its first number.
-#[test]
-fn refused_fetches(rt: HostRuntime) -> Result<(), Fail> {
-    let alloc = rt.alloc();
-    let mut merge = Merge::new(alloc);
-    let at_once = Refused {
-        times: 0,
-        source: Listed::new(vec![in alloc; 1, 5]?),
-    };
-    let at_last = Refused {
-        times: 2,
-        source: Listed::new(vec![in alloc; 1, 3]?),
-    };
-    assert!(rt; merge.add(at_once).is_ok());
-    assert!(rt; merge.add(at_last).is_ok());
-    assert!(rt; merge.next().is_err());
-    assert!(rt; merge.next().is_err());
-    expect_numbers(&rt, &mut merge, &[1, 3, 5])
-}
-
 /// Whichever growth is refused, the merge has what it had, and the source is handed back. (A run of the tests in which
 /// each allocation is refused in turn shows the refusals.)
 #[test]
@@ -149,7 +108,7 @@ fn refused_growths(rt: HostRuntime) -> Result<(), Fail> {
         }
     }
     for _ in 0..added {
-        assert!(rt; merge.next()?.is_some());
+        assert!(rt; merge.next().is_some());
     }
     expect_numbers(&rt, &mut merge, &[])
 }

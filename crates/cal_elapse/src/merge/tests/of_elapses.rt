@@ -47,7 +47,7 @@ fn shared_instants(rt: HostRuntime) -> Result<(), Fail> {
     }
     let mut merge = merge_elapses(alloc, &exprs, Zone::utc(), base)?;
     for elapse in [1_704_110_400, 1_704_153_600, 1_704_196_800] {
-        assert_eq!(rt; merge.next()?, Some(elapse));
+        assert_eq!(rt; merge.next(), Some(elapse));
     }
     Ok(())
 }

@@ -6,19 +6,19 @@ use Rattle.cal_tool.proofs.elapse_lines.put_more.Goals as goal
 
 pub returns-in_err-put_elapse-clause-bytes : goal.returns-in_err-put_elapse-clause-bytes
 returns-in_err-put_elapse-clause-bytes g c =
-    let given = rw c.in-Some.is at c.in_ok-elapse.ensures.given in
+    let given = rw c.in-Some.is at c.next_instant.ensures.given in
     let split = texts_first c.args.local c.args.now.secs c.loop-number.number _ (c.args.iterations - c.loop-number.number) _ _ (omega arith) given in
-    writes_err _ _ _ _ c.from_residual-in_err-put_elapse.ensures.0
+    writes_err _ _ _ _ c.from_residual.ensures.0
     (stop _ _ _ (elapse_text c.args.local c.args.now.secs c.loop-number.number c.in-Some.elapse.secs) _ _ (respell _ _ _ _ _ c.loop-number.invariant.leaves split) c.in_err-put_elapse.ensures.bytes)
 
 pub loop-number-preserved : goal.loop-number-preserved
 loop-number-preserved g c =
-    let given = rw c.in-Some.is at c.in_ok-elapse.ensures.given in
+    let given = rw c.in-Some.is at c.next_instant.ensures.given in
     let split = texts_first c.args.local c.args.now.secs c.loop-number.number _ (c.args.iterations - c.loop-number.number) _ _ (omega arith) given in
     let count : c.args.iterations + 1 - (c.loop-number.number + 1) ≡ c.args.iterations - c.loop-number.number = omega arith in
     record {
       works = c.in_ok-put_elapse.ensures.failed;
-      instants = c.in_ok-elapse.ensures.instants;
-      leaves = rw (count, c.in_ok-elapse.ensures.left)
+      instants = c.next_instant.ensures.instants;
+      leaves = rw (count, c.next_instant.ensures.left)
           (step _ _ _ (elapse_text c.args.local c.args.now.secs c.loop-number.number c.in-Some.elapse.secs) _ _ (respell _ _ _ _ _ c.loop-number.invariant.leaves split) c.in_ok-put_elapse.ensures.bytes);
     }

@@ -22,4 +22,5 @@ returns-in-Err g c =
       out_failed = c.requires.out ∙ sym c.refuse.ensures.out_failed;
       err_failed = c.refuse.ensures.err_failed;
       memory = λ _ told. c.refuse.ensures.memory told;
+      unwritten = λ refused. absurd (c.refuse.ensures.memory refused);
     })

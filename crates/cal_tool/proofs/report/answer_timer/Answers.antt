@@ -10,11 +10,6 @@ returns-in-Err-Failed-clause-reported g c =
     let told = c.in-Ok.ensures in
     (told.0, told.1, told.2, told_report _ _ _ _ _ _ _ (told.3.2 (file_name (asked_by c.args.context))) tt told.3.0 c.in-Err-Failed.ensures.bytes)
 
-pub returns-in-Err-NoMemory-write_timer-clause-reported : goal.returns-in-Err-NoMemory-write_timer-clause-reported
-returns-in-Err-NoMemory-write_timer-clause-reported g c =
-    let told = c.in-Ok.ensures in
-    (told.0, told.1, told.2, told_report _ _ _ _ _ _ _ (told.3.2 (file_name (asked_by c.args.context))) tt told.3.0 c.in-Err-NoMemory-write_timer.ensures.bytes)
-
 pub returns-in-Err : goal.returns-in-Err
 returns-in-Err g c =
     let told = c.in-Err.ensures in
@@ -24,4 +19,5 @@ returns-in-Err g c =
       reported = (told.0, told.1, told.2, told_refusal _ _ _ _ _ _ _ ((told.3 other).1 (file_name (asked_by c.args.context))) c.refuse.ensures.status (told.3 other).0 line);
       out_failed = c.requires.out ∙ sym c.refuse.ensures.out_failed;
       err_failed = c.refuse.ensures.err_failed;
+      unwritten = λ refused. absurd (c.refuse.ensures.memory refused);
     }

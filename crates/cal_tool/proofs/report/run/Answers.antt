@@ -1,7 +1,10 @@
-use Rattle.std.proofs.Common.{◌≡◌, Err, Ok, false, refl, sym, rules}
+use Rattle.std.proofs.Common.{◌≡◌, Err, Ok, arith, false, refl, sym, true, rules}
 use Rattle.cal_tool.specs.Report.{base_in, texts_report}
 use Rattle.cal_tool.specs.Request.{asked, is_timer}
 use Rattle.cal_tool.specs.TimerReport.{refusal_at}
+use Rattle.std.proofs.lemmas.List.{length-map}
+use Rattle.std.specs.String.{string_bytes}
+use Rattle.cal_tool.proofs.AnswerLemmas.{unanswered}
 use Rattle.cal_tool.proofs.ReportLemmas.{base_refused, texts_told}
 use Rattle.cal_tool.proofs.report.run.Goals as goal
 
@@ -23,5 +26,18 @@ returns-in_default g c =
       out_failed = c.answer_all.ensures.out_failed;
       err_failed = c.answer_all.ensures.err_failed;
       memory = c.answer_all.ensures.memory;
+      cut = λ refused. record { base = c.in-Ok.base.secs; sought = base; answered = c.answer_all.ensures.cut refused };
       input = λ _. refl;
     }
+
+pub returns-in-Err-clause-cut : goal.returns-in-Err-clause-cut
+returns-in-Err-clause-cut g c = λ refused. absurd (c.refuse.ensures.memory refused)
+
+pub returns-in-Timer-clause-cut : goal.returns-in-Timer-clause-cut
+returns-in-Timer-clause-cut g c = λ refused.
+    let base : base_in (asked c.args.request.now c.args.now.secs c.args.local c.args.table.now) ≡ Ok c.in-Ok.base.secs = sym c.in-Ok.ensures in
+    let timer : is_timer c.args.request.now.verb ≡ true = search rules in
+    let one = c.requires.file timer in
+    let count = length-map c.args.request.now.texts.items string_bytes in
+    let same = c.answer_timer.ensures.unwritten refused in
+    record { base = c.in-Ok.base.secs; sought = base; answered = unanswered _ _ _ _ _ _ (omega (arith, count, one)) same.0 same.1 }

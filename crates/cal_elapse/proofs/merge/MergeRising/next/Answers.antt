@@ -9,5 +9,5 @@ pub returns-in-Some-clause-left : goal.returns-in-Some-clause-left
 returns-in-Some-clause-left g c =
     let fits : FitsSigned w64 c.in-Some.number = search rules in
     ap union (rw (to_z-of_z w64 c.in-Some.number fits) at c.pass_all.ensures)
-    ∙ union-passed c.in-Some.number c.fetch_all.new.branches.items c.in_ok-fetch_all.ensures.taken (sym c.least_head-least.ensures ∙ c.in-Some.is)
+    ∙ union-passed c.in-Some.number c.fetch_all.new.branches.items c.fetch_all.ensures.taken (sym c.least_head-least.ensures ∙ c.in-Some.is)
     ∙ ap (λ (xss : List (List ℤ)). later (union xss)) (c.fetch_all.ensures.same ∙ ap (λ (m : Merging). m.lists) c.self.view_is)

@@ -1,23 +1,28 @@
-use Rattle.std.proofs.Common.{◌≡◌, w64, ◌∙◌, ap, subst, sym}
-use Rattle.std.specs.Ordering.{int_cmp}
-use Rattle.std.specs.BTreeSet.{insert_key}
+use Rattle.std.proofs.Common.{◌≡◌, ◌∙◌, List, ap, length, pos, w64, ℕ}
 use Rattle.std.proofs.lemmas.Int.{to_z-of_z}
-use Rattle.cal_elapse.specs.RisingList.{IsRising, placed}
-use Rattle.cal_elapse.proofs.PendingLemmas.{insert_key-placed}
-use Rattle.cal_elapse.proofs.RisingLemmas.{IsRising-placed}
+use Rattle.cal_elapse.specs.Bits.{is_in_words}
+use Rattle.cal_elapse.proofs.RingLemmas.{near_there, put_answer, put_round, second_inside, second_is}
 use Rattle.cal_elapse.proofs.pending.Pending.put.Goals as goal
-use Rattle.cal_elapse.proofs.pending.Pending.put.Goals.{In_ok-insert}
 
--- the keys are the members with the instant placed among them
-keys : (c : In_ok-insert) → c.insert.new.self.keys ≡ placed c.args.instant c.self.inside.set.keys
-keys c =
-    c.in_ok-insert.ensures.keys
-    ∙ (ap (λ x. insert_key int_cmp c.self.inside.set.keys x) (to_z-of_z w64 c.args.instant c.ranges.instant)
-    ∙ insert_key-placed c.self.inside.set.keys c.args.instant)
+pub set_cell-requires-clause-whole : goal.set_cell-requires-clause-whole
+set_cell-requires-clause-whole c = ap length (c.as_mut_slice.ensures.value ∙ c.deref_mut.ensures.value) ∙ c.self.invariant.whole
 
-pub returns-clause-added : goal.returns-clause-added
-returns-clause-added c = keys c ∙ ap (placed c.args.instant) c.self.view_is
+pub invariant_of-self : goal.invariant_of-self
+invariant_of-self c =
+    let same = c.as_mut_slice.ensures.value ∙ c.deref_mut.ensures.value in
+    let second : pos c.unsigned_abs-second.result ≡ c.args.instant
+    = second_is c.args.instant c.unsigned_abs-second.result c.requires.instant (rw (to_z-of_z w64 c.args.instant c.ranges.instant) at c.unsigned_abs-second.ensures.value) in
+    put_round c.self.inside.cells.value c.set_cell.new.words c.self.inside.low c.unsigned_abs-second.result c.low_with-self-inside.result
+    (record { here = c.set_cell.ensures.set; others = λ cell other. c.set_cell.ensures.others cell other ∙ ap (λ (words : List ℕ). is_in_words words cell) same })
+    c.low_with-self-inside.ensures
+    (near_there _ c.self.inside.low c.unsigned_abs-second.result c.args.instant c.args.self.now c.self.view_is second c.requires.near)
+    (second_inside c.args.instant c.unsigned_abs-second.result c.requires.instant second) c.set_cell.ensures.whole c.self.invariant
 
-pub invariant_of-self-2 : goal.invariant_of-self-2
-invariant_of-self-2 c =
-    subst IsRising (sym (keys c)) (IsRising-placed c.args.instant c.self.inside.set.keys c.self.invariant)
+pub returns : goal.returns
+returns c =
+    let same = c.as_mut_slice.ensures.value ∙ c.deref_mut.ensures.value in
+    let second : pos c.unsigned_abs-second.result ≡ c.args.instant
+    = second_is c.args.instant c.unsigned_abs-second.result c.requires.instant (rw (to_z-of_z w64 c.args.instant c.ranges.instant) at c.unsigned_abs-second.ensures.value) in
+    put_answer c.self.inside.cells.value c.set_cell.new.words c.self.inside.low c.unsigned_abs-second.result c.low_with-self-inside.result c.args.instant c.args.self.now c.self.view_is second
+    (record { here = c.set_cell.ensures.set; others = λ cell other. c.set_cell.ensures.others cell other ∙ ap (λ (words : List ℕ). is_in_words words cell) same })
+    c.low_with-self-inside.ensures c.requires.near

@@ -6,6 +6,8 @@ use Rattle.cal_elapse.proofs.window.Window.fill.Given as goal
 abbrev pub invariant-loop-local : goal.invariant-loop-local
 invariant-loop-local l = record {
   ready : IsReady l.self;
+  masks : l.self.searcher.masks ≡ l.fn.self.searcher.masks;
+  base : l.self.base ≡ l.fn.self.base;
   timed : timed_in l.self ≡ timed_in l.fn.self;
   last : l.self.last ≡ l.fn.self.last;
 }

@@ -1,5 +1,5 @@
 use Rattle.std.proofs.Common.{FitsSigned, arith, ap, rules, w64}
-use Rattle.std.proofs.lemmas.Int.{to_z-of_z}
+use Rattle.std.proofs.lemmas.Int.{ints, to_z-of_z}
 use Rattle.cal_base.specs.Local.{seconds_in_all-is}
 use Rattle.cal_elapse.specs.Window.{timed_by}
 use Rattle.cal_elapse.proofs.ReadyLemmas.{ahead_inside, few_searches, placed_before, placed_ready}
@@ -7,6 +7,13 @@ use Rattle.cal_elapse.proofs.window.Window.place_one.Goals as goal
 
 pub put_place-requires-clause-before : goal.put_place-requires-clause-before
 put_place-requires-clause-before c = placed_before c.args.self.now c.args.local c.requires.ready c.requires.ahead
+
+pub put_place-requires-clause-last_in : goal.put_place-requires-clause-last_in
+put_place-requires-clause-last_in c =
+    let fits : FitsSigned w64 c.args.self.now.last = search rules in
+    let low = c.requires.ready.low in
+    let above = c.requires.ready.above in
+    rw (to_z-of_z w64 c.args.self.now.last fits) (omega (arith, ints))
 
 pub overflow_add-local : goal.overflow_add-local
 overflow_add-local c =
@@ -22,7 +29,7 @@ returns-clause-ready c =
     let fits : FitsSigned w64 c.args.self.now.last = search rules in
     placed_ready c.args.self.now c.args.local c.next_local-self.new.self c.next_local-self.result c.put_place.new.pending c.requires.ready c.requires.ahead c.requires.near
     c.next_local-self.ensures.masks c.next_local-self.ensures.counted c.next_local-self.ensures.first
-    (rw (to_z-of_z w64 c.args.self.now.last fits) at c.in_ok-put_place.ensures.put)
+    (rw (to_z-of_z w64 c.args.self.now.last fits) at c.put_place.ensures)
 
 pub returns-clause-timed : goal.returns-clause-timed
 returns-clause-timed c = ap (λ masks. timed_by masks c.args.self.now.zone) c.next_local-self.ensures.masks

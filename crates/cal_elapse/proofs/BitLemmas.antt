@@ -1,0 +1,63 @@
+-- The bits of a word.
+use Rattle.std.proofs.Common.{◌≡◌, ◌==◌, ℕ, ◌+◌, ◌-◌, ◌/◌, ◌%◌, ◌^◌, ◌<◌, ◌≤◌, true, false, Some, w64, ap, subst, inl, inr, sym, ◌∙◌, arith}
+use Rattle.std.specs.Int.{bit_at, trailing_zeros}
+use Rattle.std.proofs.lemmas.Bool.{cases_lt}
+use Rattle.std.proofs.lemmas.Nat.{shr-shr, shr_le}
+use Rattle.std.proofs.lemmas.Nat.Bits.{bit_at-trailing_zeros, bit_at-zero, bit_at_above}
+use Rattle.cal_elapse.specs.Bits.{is_bit}
+use Rattle.cal_elapse.specs.Search.{IsFirstPassing, NonePasses}
+
+pub is_bit-same : (m n i j : ℕ) → bit_at m i ≡ bit_at n j → is_bit m i ≡ is_bit n j
+unfolding is_bit
+is_bit-same m n i j h = ap (λ (b : ℕ). b == 1) h
+
+pub is_bit-one : (m i : ℕ) → bit_at m i ≡ 1 → is_bit m i ≡ true
+unfolding is_bit
+is_bit-one m i h = ap (λ (b : ℕ). b == 1) h
+
+pub is_bit-zero : (m i : ℕ) → bit_at m i ≡ 0 → is_bit m i ≡ false
+unfolding is_bit
+is_bit-zero m i h = ap (λ (b : ℕ). b == 1) h
+
+-- a word without its low bits has the others further down
+shifted : (m j k : ℕ) → bit_at (m / 2 ^ j) k ≡ bit_at m (j + k)
+shifted m j k = ap (λ (x : ℕ). x % 2) (shr-shr m j k)
+
+pub is_bit-shifted : (m j k : ℕ) → is_bit (m / 2 ^ j) k ≡ is_bit m (j + k)
+is_bit-shifted m j k = is_bit-same (m / 2 ^ j) m k (j + k) (shifted m j k)
+
+-- a word below 2 ^ k has no number from k on
+pub is_bit-above : (m k i : ℕ) → m < 2 ^ k → k ≤ i → is_bit m i ≡ false
+is_bit-above m k i small high = is_bit-zero m i (bit_at_above m k i small high)
+
+-- the lowest bit of a word that has one
+pub first_bit : (m : ℕ) → 0 < m → m < 2 ^ 64 → IsFirstPassing (is_bit m) 0 64 (Some (trailing_zeros w64 m))
+first_bit m some fits =
+    let h = bit_at-trailing_zeros w64 m some fits in
+    (omega arith, h.0, is_bit-one m (trailing_zeros w64 m) h.1, λ t low below. is_bit-zero m t (h.2 t below))
+
+-- the lowest bit from a number on
+pub next_none : (m from : ℕ) → m / 2 ^ from ≡ 0 → NonePasses (is_bit m) from 64
+next_none m from none = λ t low below.
+    let place : from + (t - from) ≡ t = omega arith in
+    is_bit-zero m t
+    (subst (λ (i : ℕ). bit_at m i ≡ 0) place (sym (shifted m from (t - from)) ∙ (ap (λ (n : ℕ). bit_at n (t - from)) none ∙ bit_at-zero (t - from))))
+
+inside : (m i : ℕ) → m < 2 ^ 64 → bit_at m i ≡ 1 → i < 64
+inside m i fits one =
+    elim (cases_lt i 64) [ inl low ↦ low | inr high ↦ (let zero : bit_at m i ≡ 0 = bit_at_above m 64 i fits high in absurd (omega (arith, zero, one))) ]
+
+pub next_some : (m from : ℕ) → m < 2 ^ 64 → 0 < m / 2 ^ from
+    → IsFirstPassing (is_bit m) from 64 (Some (from + trailing_zeros w64 (m / 2 ^ from)))
+next_some m from fits some =
+    let rest = m / 2 ^ from in
+    let less : m / 2 ^ from < 2 ^ 64 = omega (arith, shr_le m from) in
+    let h = bit_at-trailing_zeros w64 rest some less in
+    let one = sym (shifted m from (trailing_zeros w64 rest)) ∙ h.1 in (
+      omega arith,
+      inside m (from + trailing_zeros w64 rest) fits one,
+      is_bit-one m (from + trailing_zeros w64 rest) one,
+      λ t low below.
+          let place : from + (t - from) ≡ t = omega arith in
+          is_bit-zero m t (subst (λ (i : ℕ). bit_at m i ≡ 0) place (sym (shifted m from (t - from)) ∙ h.2 (t - from) (omega arith))),
+    )

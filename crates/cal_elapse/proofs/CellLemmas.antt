@@ -1,0 +1,186 @@
+-- The cells of a round, in words of 64 bits: which is the first that isn't empty, and what is there once one is changed.
+use Rattle.std.proofs.Common.{◌≡◌, ◌≢◌, ℕ, ◌+◌, ◌-◌, ◌*◌, ◌/◌, ◌%◌, ◌<◌, ◌≤◌, not, cond, Bool, true, false, List, Option, None, Some, length, get_or, drop, set, ltb, inl, inr, refl, sym, ap, ◌∙◌, subst, arith, get_or-set_same, get_or-set_other}
+use Rattle.std.specs.List.{position, position_or_len}
+use Rattle.std.proofs.lemmas.Bool.{cases_eq, cases_lt, eq-eqb, ne_eqb, not-true, not-false}
+use Rattle.std.proofs.lemmas.List.{get_or-drop}
+use Rattle.std.proofs.lemmas.List.Sums.{prefix_len_passes, prefix_len_stops}
+use Rattle.std.proofs.lemmas.Nat.Bits.{bit_at-zero}
+use Rattle.cal_elapse.specs.Bits.{is_bit, is_in_words}
+use Rattle.cal_elapse.specs.Ring.{is_held}
+use Rattle.cal_elapse.specs.Scan.{is_set}
+use Rattle.cal_elapse.specs.Search.{IsFirstPassing}
+use Rattle.cal_elapse.proofs.BitLemmas.{is_bit-zero}
+
+-- The first word that has a bit
+
+zero_of : (x : ℕ) → is_set x ≡ false → x ≡ 0
+zero_of x h = elim (cases_eq x 0) [ inl same ↦ same | inr other ↦ absurd (let no = ne_eqb x 0 other in cc) ]
+
+set_of : (x : ℕ) → is_set x ≡ true → 0 < x
+set_of x h = elim (cases_eq x 0) [ inl same ↦ absurd (let no = eq-eqb x 0 same in cc) | inr other ↦ omega arith ]
+
+-- the first word that has a bit, and those before it
+pub record IsFirstSet (xs : List ℕ) (k : ℕ) : Type 0 where
+  pub inside : k < length xs
+  pub some : 0 < get_or xs k 0
+  pub zeros : (j : ℕ) → j < k → get_or xs j 0 ≡ 0
+
+word_before : (xs : List ℕ) (j : ℕ) → j < position_or_len is_set xs → get_or xs j 0 ≡ 0
+word_before xs j h = zero_of (get_or xs j 0) (not-true _ (prefix_len_passes (λ x. not (is_set x)) xs j 0 h))
+
+word_there : (xs : List ℕ) → position_or_len is_set xs < length xs → 0 < get_or xs (position_or_len is_set xs) 0
+word_there xs h = set_of (get_or xs (position_or_len is_set xs) 0) (not-false _ (prefix_len_stops (λ x. not (is_set x)) xs 0 h))
+
+by_place : (n k len : ℕ) → ◌≡◌ {A = Option ℕ} (cond (ltb n len) (Some n) None) (Some k) → (n ≡ k) × (n < len)
+by_place n k len h =
+    elim (cases_lt n len) [
+      | inl inside ↦ (let e : ltb n len ≡ true = grind (arith) in let same = rw e at h in cc, inside)
+      | inr outside ↦ absurd (let e : ltb n len ≡ false = grind (arith) in let same = rw e at h in cc)
+    ]
+
+by_none : (n len : ℕ) → ◌≡◌ {A = Option ℕ} (cond (ltb n len) (Some n) None) None → len ≤ n
+by_none n len h =
+    elim (cases_lt n len) [
+      | inl inside ↦ absurd (let e : ltb n len ≡ true = grind (arith) in let same = rw e at h in cc)
+      | inr outside ↦ outside
+    ]
+
+pub position-first : (xs : List ℕ) (k : ℕ) → position is_set xs ≡ Some k → IsFirstSet xs k
+position-first xs k h =
+    let at = by_place (position_or_len is_set xs) k (length xs) h in
+    record {
+      inside = subst (λ (n : ℕ). n < length xs) at.0 at.1;
+      some = subst (λ (n : ℕ). 0 < get_or xs n 0) at.0 (word_there xs at.1);
+      zeros = λ j lt. word_before xs j (omega (arith, at.0));
+    }
+
+pub position-all : (xs : List ℕ) → position is_set xs ≡ None → (k : ℕ) → k < length xs → get_or xs k 0 ≡ 0
+position-all xs h k lt = let long = by_none (position_or_len is_set xs) (length xs) h in word_before xs k (omega arith)
+
+-- The first cell that isn't empty
+
+in_word : (words : List ℕ) (t word : ℕ) → t / 64 ≡ word → is_in_words words t ≡ is_bit (get_or words word 0) (t % 64)
+unfolding is_in_words
+in_word words t word same = ap (λ (w : ℕ). is_bit (get_or words w 0) (t % 64)) same
+
+no_bit : (i : ℕ) → is_bit 0 i ≡ false
+no_bit i = is_bit-zero 0 i (bit_at-zero i)
+
+in_zero : (words : List ℕ) (t word : ℕ) → t / 64 ≡ word → get_or words word 0 ≡ 0 → is_in_words words t ≡ false
+in_zero words t word same zero = in_word words t word same ∙ (ap (λ (w : ℕ). is_bit w (t % 64)) zero ∙ no_bit (t % 64))
+
+-- in the word of the cell that was begun with
+pub found_here : (words : List ℕ) (from bit cell : ℕ) → from < 187_200 → IsFirstPassing (is_bit (get_or words (from / 64) 0)) (from % 64) 64 (Some bit)
+    → cell ≡ from / 64 * 64 + bit → IsFirstPassing (is_in_words words) from 187_200 (Some cell)
+found_here words from bit cell inside found is =
+    let low = found.0 in
+    let high = found.1 in
+    let place : cell % 64 ≡ bit = omega arith in (
+      omega arith,
+      omega arith,
+      in_word words cell (from / 64) (omega arith) ∙ (ap (is_bit (get_or words (from / 64) 0)) place ∙ found.2),
+      λ t above below. in_word words t (from / 64) (omega arith) ∙ found.3 (t % 64) (omega arith) (omega arith),
+    )
+
+pub none_here : (words : List ℕ) (from t : ℕ) → IsFirstPassing (is_bit (get_or words (from / 64) 0)) (from % 64) 64 None → from ≤ t → t / 64 ≡ from / 64 → is_in_words words t ≡ false
+none_here words from t none above same = in_word words t (from / 64) same ∙ none (t % 64) (omega arith) (omega arith)
+
+-- in none of the words before a later one
+none_before : (words : List ℕ) (from later t : ℕ) → IsFirstPassing (is_bit (get_or words (from / 64) 0)) (from % 64) 64 None
+    → ((j : ℕ) → j < later → get_or (drop (from / 64 + 1) words) j 0 ≡ 0) → from ≤ t → t / 64 < from / 64 + 1 + later → is_in_words words t ≡ false
+none_before words from later t none zeros above below =
+    elim (cases_eq (t / 64) (from / 64)) [
+      | inl same ↦ none_here words from t none above same
+      | inr other ↦
+          let j = t / 64 - (from / 64 + 1) in
+          let at : from / 64 + 1 + j ≡ t / 64 = omega arith in
+          in_zero words t (t / 64) refl (subst (λ (k : ℕ). get_or words k 0 ≡ 0) at (sym (get_or-drop (from / 64 + 1) words j 0) ∙ zeros j (omega arith)))
+    ]
+
+-- in a later word
+pub found_later : (words : List ℕ) (from later bit cell : ℕ) → length words ≡ 2_925 → from < 187_200
+    → IsFirstPassing (is_bit (get_or words (from / 64) 0)) (from % 64) 64 None → IsFirstSet (drop (from / 64 + 1) words) later → from / 64 + 1 + later < 2_925
+    → IsFirstPassing (is_bit (get_or words (from / 64 + 1 + later) 0)) 0 64 (Some bit) → cell ≡ (from / 64 + 1 + later) * 64 + bit → IsFirstPassing (is_in_words words) from 187_200 (Some cell)
+found_later words from later bit cell long inside none first there found is =
+    let high = found.1 in
+    let place : cell % 64 ≡ bit = omega arith in
+    let word : cell / 64 ≡ from / 64 + 1 + later = omega arith in (
+      omega arith,
+      omega arith,
+      in_word words cell (from / 64 + 1 + later) word ∙ (ap (is_bit (get_or words (from / 64 + 1 + later) 0)) place ∙ found.2),
+      λ t above below.
+          elim (cases_lt (t / 64) (from / 64 + 1 + later)) [
+            | inl early ↦ none_before words from later t none first.zeros above early
+            | inr late ↦ in_word words t (from / 64 + 1 + later) (omega arith) ∙ found.3 (t % 64) (omega arith) (omega arith)
+          ],
+    )
+
+-- in no word at all
+pub found_nowhere : (words : List ℕ) (from : ℕ) → length words ≡ 2_925 → from < 187_200 → length (drop (from / 64 + 1) words) ≡ 2_925 - (from / 64 + 1)
+    → IsFirstPassing (is_bit (get_or words (from / 64) 0)) (from % 64) 64 None → position is_set (drop (from / 64 + 1) words) ≡ None
+    → IsFirstPassing (is_in_words words) from 187_200 None
+found_nowhere words from long inside behind none all = λ t above below.
+    none_before words from (2_925 - (from / 64 + 1)) t none (λ j lt. position-all (drop (from / 64 + 1) words) all j (omega arith)) above (omega arith)
+
+-- From cells to the seconds of a round
+
+held_at : (words : List ℕ) (t cell : ℕ) → t % 187_200 ≡ cell → is_held words t ≡ is_in_words words cell
+unfolding is_held
+held_at words t cell same = ap (is_in_words words) same
+
+pub held_first : (words : List ℕ) (low found : ℕ) → IsFirstPassing (is_in_words words) (low % 187_200) 187_200 (Some found)
+    → IsFirstPassing (is_held words) low (low + 187_200) (Some (low - low % 187_200 + found))
+held_first words low found first =
+    let above = first.0 in
+    let below = first.1 in (
+      omega arith,
+      omega arith,
+      held_at words (low - low % 187_200 + found) found (omega arith) ∙ first.2,
+      λ t late early. held_at words t (t % 187_200) refl ∙ first.3 (t % 187_200) (omega arith) (omega arith),
+    )
+
+-- round the end of the cells
+pub held_turned : (words : List ℕ) (low found : ℕ) → IsFirstPassing (is_in_words words) (low % 187_200) 187_200 None → IsFirstPassing (is_in_words words) 0 187_200 (Some found)
+    → IsFirstPassing (is_held words) low (low + 187_200) (Some (low - low % 187_200 + 187_200 + found))
+held_turned words low found none first =
+    let below = first.1 in
+    let early = before_low words low found none first in (
+      omega arith,
+      omega arith,
+      held_at words (low - low % 187_200 + 187_200 + found) found (omega arith) ∙ first.2,
+      λ t late sooner. held_at words t (t % 187_200) refl ∙ empty_cell words low found (t % 187_200) none first (omega arith) (omega arith),
+    )
+  where
+    before_low : (words : List ℕ) (low found : ℕ) → IsFirstPassing (is_in_words words) (low % 187_200) 187_200 None → IsFirstPassing (is_in_words words) 0 187_200 (Some found) → found < low % 187_200
+    before_low words low found none first =
+        elim (cases_lt found (low % 187_200)) [ inl h ↦ h | inr h ↦ absurd (let empty = none found h first.1 in let full = first.2 in cc) ]
+
+    empty_cell : (words : List ℕ) (low found cell : ℕ) → IsFirstPassing (is_in_words words) (low % 187_200) 187_200 None → IsFirstPassing (is_in_words words) 0 187_200 (Some found)
+        → cell < 187_200 → (cell < low % 187_200 → cell < found) → is_in_words words cell ≡ false
+    empty_cell words low found cell none first inside before =
+        elim (cases_lt cell (low % 187_200)) [ inl h ↦ first.3 cell (omega arith) (before h) | inr h ↦ none cell h inside ]
+
+pub held_never : (words : List ℕ) (low : ℕ) → IsFirstPassing (is_in_words words) 0 187_200 None → IsFirstPassing (is_held words) low (low + 187_200) None
+held_never words low none = λ t above below. held_at words t (t % 187_200) refl ∙ none (t % 187_200) (omega arith) (omega arith)
+
+-- A cell that is changed
+
+pub changed_here : (words : List ℕ) (cell word : ℕ) (b : Bool) → cell / 64 < length words → is_bit word (cell % 64) ≡ b → is_in_words (set words (cell / 64) word) cell ≡ b
+unfolding is_in_words
+changed_here words cell word b inside is = rw (get_or-set_same words (cell / 64) word 0 inside) is
+
+changed_word : (words : List ℕ) (cell word i : ℕ) → cell / 64 < length words → i / 64 ≡ cell / 64 → is_in_words (set words (cell / 64) word) i ≡ is_bit word (i % 64)
+changed_word words cell word i inside same =
+    in_word (set words (cell / 64) word) i (cell / 64) same ∙ ap (λ (w : ℕ). is_bit w (i % 64)) (get_or-set_same words (cell / 64) word 0 inside)
+
+pub changed_others : (words : List ℕ) (cell word : ℕ) → cell / 64 < length words → ((j : ℕ) → j < 64 → j ≢ cell % 64 → is_bit word j ≡ is_bit (get_or words (cell / 64) 0) j)
+    → (i : ℕ) → i ≢ cell → is_in_words (set words (cell / 64) word) i ≡ is_in_words words i
+changed_others words cell word inside others i other =
+    elim (cases_eq (i / 64) (cell / 64)) [
+      | inl same ↦
+          let apart : i % 64 ≢ cell % 64 = λ e. other (omega arith) in
+          changed_word words cell word i inside same ∙ (others (i % 64) (omega arith) apart ∙ sym (in_word words i (cell / 64) same))
+      | inr else_where ↦
+          in_word (set words (cell / 64) word) i (i / 64) refl
+          ∙ (ap (λ (w : ℕ). is_bit w (i % 64)) (get_or-set_other words (cell / 64) (i / 64) word 0 else_where) ∙ sym (in_word words i (i / 64) refl))
+    ]

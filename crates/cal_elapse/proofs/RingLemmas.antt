@@ -1,0 +1,389 @@
+-- A round of cells: its members, the first of them, and what is there once one is put or taken.
+use Rattle.std.proofs.Common.{◌≡◌, ◌≢◌, ◌⊎◌, ◌↔◌, ℕ, zero, suc, ◌+◌, ◌-◌, ◌%◌, ◌<◌, ◌≤◌, cond, Bool, true, false, List, [], ◌∷◌, length, get_or, replicate, inl, inr, None, Some, ◌/◌, negsuc, unsigned_abs, to_z, w64, ℤ, pos, ◌<ℤ◌, ◌≤ℤ◌, refl, sym, ap, ◌∙◌, subst, arith}
+use Rattle.std.proofs.lemmas.Bool.{cases_eq, cases_lt}
+use Rattle.std.proofs.lemmas.Int.{ints, to_z_pos}
+use Rattle.std.proofs.lemmas.List.{length-replicate}
+use Rattle.std.proofs.lemmas.Nat.Bits.{bit_at-zero}
+use Rattle.cal_base.specs.Instant.{IsInstant}
+use Rattle.cal_elapse.specs.Bits.{is_bit, is_in_words}
+use Rattle.cal_elapse.proofs.BitLemmas.{is_bit-zero}
+use Rattle.cal_elapse.specs.Near.{IsNear}
+use Rattle.cal_elapse.specs.Ring.{cells_in_all, cells_in_all-is, instants_in, is_held, rising_from, IsRound, IsRoundWith}
+use Rattle.cal_elapse.specs.RisingList.{Has, IsAbove, IsRising, first, later, placed}
+use Rattle.cal_elapse.specs.Search.{IsFirstPassing}
+use Rattle.cal_elapse.proofs.ElapsesLemmas.{first-least, first-none}
+use Rattle.cal_elapse.proofs.RisingLemmas.{Has-placed, IsRising-placed, later_members, list-first, list-no_first, same_rising}
+
+-- Numbers in a row
+
+-- the number is one of n in a row from `from` on, and passes
+record IsAmong (passes : ℕ → Bool) (from n : ℕ) (i : ℤ) : Type 0 where
+  at : ℕ
+  is : pos at ≡ i
+  above : from ≤ at
+  below : at < from + n
+  holds : passes at ≡ true
+
+Has-one : (b : Bool) (x i : ℤ) (rest : List ℤ) → Has (cond b (x ∷ rest) rest) i ↔ (((b ≡ true) × (x ≡ i)) ⊎ Has rest i)
+Has-one true x i rest = (λ m. elim m [ inl e ↦ inl (refl, e) | inr n ↦ inr n ], λ m. elim m [ inl p ↦ inl p.1 | inr n ↦ inr n ])
+Has-one false x i rest = (λ m. inr m, λ m. elim m [ inl p ↦ absurd (let e = p.0 in cc) | inr n ↦ n ])
+
+among_here : (passes : ℕ → Bool) (from n : ℕ) (i : ℤ) → passes from ≡ true → pos from ≡ i → IsAmong passes from (suc n) i
+among_here passes from n i holds is = record { at = from; is = is; above = omega arith; below = omega arith; holds = holds }
+
+among_later : (passes : ℕ → Bool) (from n : ℕ) (i : ℤ) → IsAmong passes (suc from) n i → IsAmong passes from (suc n) i
+among_later passes from n i a = record { at = a.at; is = a.is; above = omega (arith, a.above); below = omega (arith, a.below); holds = a.holds }
+
+among_split : (passes : ℕ → Bool) (from n : ℕ) (i : ℤ) → IsAmong passes from (suc n) i → ((passes from ≡ true) × (pos from ≡ i)) ⊎ IsAmong passes (suc from) n i
+among_split passes from n i a =
+    elim (cases_eq a.at from) [
+      | inl same ↦ inl (subst (λ (t : ℕ). passes t ≡ true) same a.holds, subst (λ (t : ℕ). pos t ≡ i) same a.is)
+      | inr other ↦ inr (record { at = a.at; is = a.is; above = omega (arith, a.above); below = omega (arith, a.below); holds = a.holds })
+    ]
+
+no_number : (passes : ℕ → Bool) (from : ℕ) (i : ℤ) → IsAmong passes from zero i → ⊥
+no_number passes from i a = let above = a.above in let below = a.below in omega arith
+
+Has-rising : (passes : ℕ → Bool) (from n : ℕ) (i : ℤ) → Has (rising_from passes from n) i ↔ IsAmong passes from n i
+Has-rising passes from zero i = (λ m. absurd m, λ a. no_number passes from i a)
+Has-rising passes from (suc n) i =
+    let rest = Has-rising passes (suc from) n i in
+    let one = Has-one (passes from) (pos from) i (rising_from passes (suc from) n) in (
+      λ m. elim (one.0 m) [ inl p ↦ among_here passes from n i p.0 p.1 | inr k ↦ among_later passes from n i (rest.0 k) ],
+      λ a. elim (among_split passes from n i a) [ inl p ↦ one.1 (inl p) | inr k ↦ one.1 (inr (rest.1 k)) ],
+    )
+
+above_if : (b : Bool) (low x : ℤ) (rest : List ℤ) → low <ℤ x → IsAbove low rest → IsAbove low (cond b (x ∷ rest) rest)
+above_if true low x rest h k = (h, k)
+above_if false low x rest h k = k
+
+next_above : (low : ℤ) (from : ℕ) → low <ℤ pos from → low <ℤ pos (suc from)
+next_above low from h = omega (arith, ints)
+
+IsAbove-rising : (passes : ℕ → Bool) (low : ℤ) (from n : ℕ) → low <ℤ pos from → IsAbove low (rising_from passes from n)
+IsAbove-rising passes low from zero h = tt
+IsAbove-rising passes low from (suc n) h =
+    above_if (passes from) low (pos from) (rising_from passes (suc from) n) h (IsAbove-rising passes low (suc from) n (next_above low from h))
+
+rising_if : (b : Bool) (x : ℤ) (rest : List ℤ) → IsAbove x rest → IsRising rest → IsRising (cond b (x ∷ rest) rest)
+rising_if true x rest h k = (h, k)
+rising_if false x rest h k = k
+
+one_above : (from : ℕ) → pos from <ℤ pos (suc from)
+one_above from = omega (arith, ints)
+
+IsRising-rising : (passes : ℕ → Bool) (from n : ℕ) → IsRising (rising_from passes from n)
+IsRising-rising passes from zero = tt
+IsRising-rising passes from (suc n) =
+    rising_if (passes from) (pos from) (rising_from passes (suc from) n) (IsAbove-rising passes (pos from) (suc from) n (one_above from)) (IsRising-rising passes (suc from) n)
+
+-- Members of a round
+
+-- the second lies in the round from `low` on, and its cell has it
+pub record IsIn (words : List ℕ) (low : ℕ) (i : ℤ) : Type 0 where
+  pub at : ℕ
+  pub is : pos at ≡ i
+  pub above : low ≤ at
+  pub below : at < low + 187_200
+  pub holds : is_held words at ≡ true
+
+pub Has-instants : (words : List ℕ) (low : ℕ) (i : ℤ) → Has (instants_in words low) i ↔ IsIn words low i
+unfolding instants_in
+Has-instants words low i =
+    let count = cells_in_all-is in
+    let all = Has-rising (is_held words) low cells_in_all i in (
+      λ m. let a = all.0 m in record { at = a.at; is = a.is; above = a.above; below = omega (arith, a.below); holds = a.holds },
+      λ a. all.1 (record { at = a.at; is = a.is; above = a.above; below = omega (arith, a.below); holds = a.holds }),
+    )
+
+pub IsRising-instants : (words : List ℕ) (low : ℕ) → IsRising (instants_in words low)
+unfolding instants_in
+IsRising-instants words low = IsRising-rising (is_held words) low cells_in_all
+
+near_in : (low a b : ℕ) (i j : ℤ) → pos a ≡ i → pos b ≡ j → low ≤ a → a < low + 187_200 → low ≤ b → b < low + 187_200 → IsNear i j
+near_in low a b i j p q al ah bl bh = (omega (arith, ints), omega (arith, ints))
+
+-- any two members are near to one another
+pub members_near : (words : List ℕ) (low : ℕ) (i j : ℤ) → Has (instants_in words low) i → Has (instants_in words low) j → IsNear i j
+members_near words low i j m n =
+    let a = (Has-instants words low i).0 m in
+    let b = (Has-instants words low j).0 n in
+    near_in low a.at b.at i j a.is b.is a.above a.below b.above b.below
+
+-- two seconds of one round with one cell are the same
+same_second : (low i j : ℕ) → low ≤ i → i < low + 187_200 → low ≤ j → j < low + 187_200 → i % 187_200 ≡ j % 187_200 → i ≡ j
+same_second low i j il ih jl jh same = omega arith
+
+-- the second of a round that has the cell of another second
+record Turned (low i : ℕ) : Type 0 where
+  at : ℕ
+  above : low ≤ at
+  below : at < low + 187_200
+  same : at % 187_200 ≡ i % 187_200
+
+turned : (low i : ℕ) → Turned low i
+turned low i =
+    elim (cases_lt (i % 187_200) (low % 187_200)) [
+      | inl early ↦ record { at = low - low % 187_200 + 187_200 + i % 187_200; above = omega arith; below = omega arith; same = omega arith }
+      | inr late ↦ record { at = low - low % 187_200 + i % 187_200; above = omega arith; below = omega arith; same = omega arith }
+    ]
+
+held_by : (words : List ℕ) (i j : ℕ) → i % 187_200 ≡ j % 187_200 → is_held words i ≡ is_held words j
+unfolding is_held
+held_by words i j same = ap (is_in_words words) same
+
+member : (words : List ℕ) (low at : ℕ) → low ≤ at → at < low + 187_200 → is_held words at ≡ true → Has (instants_in words low) (pos at)
+member words low at above below holds =
+    (Has-instants words low (pos at)).1 (record { at = at; is = refl; above = above; below = below; holds = holds })
+
+-- The first member
+
+at_most : (at t : ℕ) (j : ℤ) → pos t ≡ j → at ≤ t → pos at ≤ℤ j
+at_most at t j is h = omega (arith, ints)
+
+not_before : (words : List ℕ) (low at t : ℕ) → IsFirstPassing (is_held words) low (low + 187_200) (Some at) → low ≤ t → is_held words t ≡ true → at ≤ t
+not_before words low at t found above holds =
+    elim (cases_lt t at) [ inl early ↦ absurd (let none = found.3 t above early in cc) | inr late ↦ late ]
+
+pub first_found : (words : List ℕ) (low at : ℕ) → IsFirstPassing (is_held words) low (low + 187_200) (Some at) → first (instants_in words low) ≡ Some (pos at)
+first_found words low at found =
+    first-least (instants_in words low) (pos at) (IsRising-instants words low) (member words low at found.0 found.1 found.2)
+    (λ j m. let a = (Has-instants words low j).0 m in at_most at a.at j a.is (not_before words low at a.at found a.above a.holds))
+
+pub none_found : (words : List ℕ) (low : ℕ) → IsFirstPassing (is_held words) low (low + 187_200) None → first (instants_in words low) ≡ None
+none_found words low none =
+    first-none (instants_in words low) (λ i m. let a = (Has-instants words low i).0 m in let fails = none a.at a.above a.below in let holds = a.holds in cc)
+
+-- One more
+
+-- the cell of a second has it, and the others are as they were
+pub record HasMore (old new : List ℕ) (at : ℕ) : Type 0 where
+  pub here : is_in_words new (at % 187_200) ≡ true
+  pub others : (cell : ℕ) → cell ≢ at % 187_200 → is_in_words new cell ≡ is_in_words old cell
+
+near_low : (i : ℤ) (t at : ℕ) → pos t ≡ i → IsNear i (pos at) → t ≤ at + 187_199
+near_low i t at is near = let low = near.0 in omega (arith, ints)
+
+near_high : (i : ℤ) (t at : ℕ) → pos t ≡ i → IsNear i (pos at) → at ≤ t + 187_199
+near_high i t at is near = let high = near.1 in omega (arith, ints)
+
+still_held : (old new : List ℕ) (at t : ℕ) → HasMore old new at → is_held old t ≡ true → is_held new t ≡ true
+unfolding is_held
+still_held old new at t more holds =
+    elim (cases_eq (t % 187_200) (at % 187_200)) [
+      | inl same ↦ ap (is_in_words new) same ∙ more.here
+      | inr other ↦ more.others (t % 187_200) other ∙ holds
+    ]
+
+here_held : (old new : List ℕ) (at : ℕ) → HasMore old new at → is_held new at ≡ true
+unfolding is_held
+here_held old new at more = more.here
+
+was_held : (old new : List ℕ) (at t : ℕ) → HasMore old new at → t % 187_200 ≢ at % 187_200 → is_held new t ≡ true → is_held old t ≡ true
+unfolding is_held
+was_held old new at t more other holds = sym (more.others (t % 187_200) other) ∙ holds
+
+-- a second that was held stays in the round that is turned on
+kept_in : (old : List ℕ) (low at from t : ℕ) → IsRoundWith low at from → ((i : ℤ) → Has (instants_in old low) i → IsNear i (pos at))
+    → low ≤ t → t < low + 187_200 → is_held old t ≡ true → (from ≤ t) × (t < from + 187_200)
+kept_in old low at from t round near above below holds =
+    let there = near (pos t) (member old low t above below holds) in
+    round.near t above below (near_low (pos t) t at refl there) (near_high (pos t) t at refl there)
+
+old_second : (old : List ℕ) (low at from t : ℕ) → IsRoundWith low at from → ((i : ℤ) → Has (instants_in old low) i → IsNear i (pos at))
+    → from ≤ t → t < from + 187_200 → is_held old t ≡ true → Has (instants_in old low) (pos t)
+old_second old low at from t round near above below holds =
+    let j = turned low t in
+    let held = held_by old j.at t j.same ∙ holds in
+    let kept = kept_in old low at from j.at round near j.above j.below held in
+    let same = same_second from j.at t kept.0 kept.1 above below j.same in
+    subst (λ (s : ℕ). Has (instants_in old low) (pos s)) same (member old low j.at j.above j.below held)
+
+put_there : (old new : List ℕ) (low at from : ℕ) (i : ℤ) → HasMore old new at → IsRoundWith low at from → ((j : ℤ) → Has (instants_in old low) j → IsNear j (pos at))
+    → IsIn new from i → (pos at ≡ i) ⊎ Has (instants_in old low) i
+put_there old new low at from i more round near a =
+    elim (cases_eq (a.at % 187_200) (at % 187_200)) [
+      | inl same ↦ inl (subst (λ (s : ℕ). pos s ≡ i) (same_second from a.at at a.above a.below round.above round.below same) a.is)
+      | inr other ↦ inr (subst (Has (instants_in old low)) a.is (old_second old low at from a.at round near a.above a.below (was_held old new at a.at more other a.holds)))
+    ]
+
+put_back : (old new : List ℕ) (low at from : ℕ) (i : ℤ) → HasMore old new at → IsRoundWith low at from → ((j : ℤ) → Has (instants_in old low) j → IsNear j (pos at))
+    → (pos at ≡ i) ⊎ Has (instants_in old low) i → Has (instants_in new from) i
+put_back old new low at from i more round near (inl e) = subst (Has (instants_in new from)) e (member new from at round.above round.below (here_held old new at more))
+put_back old new low at from i more round near (inr m) =
+    let a = (Has-instants old low i).0 m in
+    let kept = kept_in old low at from a.at round near a.above a.below a.holds in
+    subst (Has (instants_in new from)) a.is (member new from a.at kept.0 kept.1 (still_held old new at a.at more a.holds))
+
+-- what is seen with one more is what was seen with that placed
+pub put_seen : (old new : List ℕ) (low at from : ℕ) → HasMore old new at → IsRoundWith low at from → ((i : ℤ) → Has (instants_in old low) i → IsNear i (pos at))
+    → instants_in new from ≡ placed (pos at) (instants_in old low)
+put_seen old new low at from more round near =
+    same_rising (instants_in new from) (placed (pos at) (instants_in old low)) (IsRising-instants new from) (IsRising-placed (pos at) (instants_in old low) (IsRising-instants old low))
+    (λ i. (
+      λ m. (Has-placed (pos at) (instants_in old low) i).1 (put_there old new low at from i more round near ((Has-instants new from i).0 m)),
+      λ m. put_back old new low at from i more round near ((Has-placed (pos at) (instants_in old low) i).0 m),
+    ))
+
+last_at : (at : ℕ) (i : ℤ) → pos at ≡ i → at ≤ 7_258_211_998 → i ≤ℤ pos 7_258_211_998
+last_at at i is h = omega (arith, ints)
+
+pub put_round : (old new : List ℕ) (low at from : ℕ) → HasMore old new at → IsRoundWith low at from → ((i : ℤ) → Has (instants_in old low) i → IsNear i (pos at))
+    → at ≤ 7_258_211_998 → length new ≡ 2_925 → IsRound old low → IsRound new from
+put_round old new low at from more round near high whole was =
+    record {
+      whole = whole;
+      begins = let above = round.above in omega arith;
+      members = λ i m. elim (put_there old new low at from i more round near ((Has-instants new from i).0 m)) [ inl e ↦ last_at at i e high | inr n ↦ was.members i n ];
+    }
+
+-- One less
+
+-- the cell of a second is empty, and the others are as they were
+pub record HasLess (old new : List ℕ) (at : ℕ) : Type 0 where
+  pub here : is_in_words new (at % 187_200) ≡ false
+  pub others : (cell : ℕ) → cell ≢ at % 187_200 → is_in_words new cell ≡ is_in_words old cell
+
+gone : (old new : List ℕ) (at t : ℕ) → HasLess old new at → t % 187_200 ≡ at % 187_200 → is_held new t ≡ false
+unfolding is_held
+gone old new at t less same = ap (is_in_words new) same ∙ less.here
+
+others_held : (old new : List ℕ) (at t : ℕ) → HasLess old new at → t % 187_200 ≢ at % 187_200 → is_held new t ≡ is_held old t
+unfolding is_held
+others_held old new at t less other = less.others (t % 187_200) other
+
+-- a second that is held from the first on is one of those that were, and not the first
+left_second : (old new : List ℕ) (low at t : ℕ) → IsFirstPassing (is_held old) low (low + 187_200) (Some at) → HasLess old new at
+    → at ≤ t → t < at + 187_200 → is_held new t ≡ true → (at < t) × Has (instants_in old low) (pos t)
+left_second old new low at t found less above below holds =
+    elim (cases_eq (t % 187_200) (at % 187_200)) [
+      | inl same ↦ absurd (let none = gone old new at t less same in cc)
+      | inr other ↦
+          let was = sym (others_held old new at t less other) ∙ holds in
+          let j = turned low t in
+          let held = held_by old j.at t j.same ∙ was in
+          let late = not_before old low at j.at found j.above held in
+          let inside = found.0 in
+          let ends = j.below in
+          let same = same_second at j.at t late (omega arith) above below j.same in
+          (later_one at t above other, subst (λ (s : ℕ). Has (instants_in old low) (pos s)) same (member old low j.at j.above j.below held))
+    ]
+  where
+    later_one : (at t : ℕ) → at ≤ t → t % 187_200 ≢ at % 187_200 → at < t
+    later_one at t above other = elim (cases_lt at t) [ inl h ↦ h | inr h ↦ absurd (other (let same : t ≡ at = omega arith in ap (λ (s : ℕ). s % 187_200) same)) ]
+
+lt_by : (at t : ℕ) (i : ℤ) → pos t ≡ i → at < t → pos at <ℤ i
+lt_by at t i is h = omega (arith, ints)
+
+by_lt : (at t : ℕ) (i : ℤ) → pos t ≡ i → pos at <ℤ i → at < t
+by_lt at t i is h = omega (arith, ints)
+
+left_in : (old new : List ℕ) (low at : ℕ) (i : ℤ) → IsFirstPassing (is_held old) low (low + 187_200) (Some at) → HasLess old new at
+    → IsIn new at i → (pos at <ℤ i) × Has (instants_in old low) i
+left_in old new low at i found less a =
+    let both = left_second old new low at a.at found less a.above a.below a.holds in
+    (lt_by at a.at i a.is both.0, subst (Has (instants_in old low)) a.is both.1)
+
+still_in : (old new : List ℕ) (low at : ℕ) (i : ℤ) → IsFirstPassing (is_held old) low (low + 187_200) (Some at) → HasLess old new at
+    → pos at <ℤ i → IsIn old low i → Has (instants_in new at) i
+still_in old new low at i found less above a =
+    let late = by_lt at a.at i a.is above in
+    let begins = found.0 in
+    let ends = a.below in
+    let start = a.above in
+    let first_below = found.1 in
+    let inside : a.at < at + 187_200 = omega arith in
+    let other : a.at % 187_200 ≢ at % 187_200 = λ same. let e = same_second low a.at at start ends begins first_below same in omega arith in
+    subst (Has (instants_in new at)) a.is (member new at a.at (omega arith) inside (others_held old new at a.at less other ∙ a.holds))
+
+-- what is seen with the first taken is what was seen behind it
+pub taken_seen : (old new : List ℕ) (low at : ℕ) → IsFirstPassing (is_held old) low (low + 187_200) (Some at) → HasLess old new at
+    → instants_in new at ≡ later (instants_in old low)
+taken_seen old new low at found less =
+    let split = list-first (instants_in old low) (pos at) (first_found old low at found) in
+    let rises = subst IsRising split (IsRising-instants old low) in
+    same_rising (instants_in new at) (later (instants_in old low)) (IsRising-instants new at) rises.1
+    (λ i.
+    let behind = later_members (pos at) (later (instants_in old low)) rises i in (
+      λ m.
+          let both = left_in old new low at i found less ((Has-instants new at i).0 m) in
+          behind.1 (both.0, subst (λ xs. Has xs i) split both.1),
+      λ m.
+          let both = behind.0 m in
+          still_in old new low at i found less both.0 ((Has-instants old low i).0 (subst (λ xs. Has xs i) (sym split) both.1)),
+    ))
+
+below_last : (at : ℕ) → pos at ≤ℤ pos 7_258_211_998 → at ≤ 7_258_211_998
+below_last at h = omega (arith, ints)
+
+pub found_inside : (words : List ℕ) (low at : ℕ) → IsRound words low → IsFirstPassing (is_held words) low (low + 187_200) (Some at) → at ≤ 7_258_211_998
+found_inside words low at was found = below_last at (was.members (pos at) (member words low at found.0 found.1 found.2))
+
+pub taken_round : (old new : List ℕ) (low at : ℕ) → IsFirstPassing (is_held old) low (low + 187_200) (Some at) → HasLess old new at → length new ≡ 2_925 → IsRound old low → IsRound new at
+taken_round old new low at found less whole was =
+    record {
+      whole = whole;
+      begins = found_inside old low at was found;
+      members = λ i m. was.members i (left_in old new low at i found less ((Has-instants new at i).0 m)).1;
+    }
+
+-- What a set of instants answers
+
+-- nothing is in empty cells
+no_word : (n i : ℕ) → get_or {A = ℕ} (replicate n 0) i 0 ≡ 0
+no_word zero i = refl
+no_word (suc n) zero = refl
+no_word (suc n) (suc i) = no_word n i
+
+nothing_held : (words : List ℕ) (n t : ℕ) → words ≡ replicate n 0 → is_held words t ≡ false
+unfolding is_held is_in_words
+nothing_held words n t empty = ap (λ (w : ℕ). is_bit w (t % 187_200 % 64)) (ap (λ (ws : List ℕ). get_or ws (t % 187_200 / 64) 0) empty ∙ no_word n (t % 187_200 / 64)) ∙ is_bit-zero 0 (t % 187_200 % 64) (bit_at-zero (t % 187_200 % 64))
+
+pub nothing_seen : (words : List ℕ) (n low : ℕ) → words ≡ replicate n 0 → instants_in words low ≡ []
+nothing_seen words n low empty = list-no_first (instants_in words low) (none_found words low (λ t above below. nothing_held words n t empty))
+
+pub empty_round : (words : List ℕ) (n : ℕ) → n ≡ 2_925 → words ≡ replicate n 0 → IsRound words 0
+empty_round words n count empty =
+    record {
+      whole = ap length empty ∙ (length-replicate n 0 ∙ count);
+      begins = omega arith;
+      members = λ i m. absurd (subst (λ (xs : List ℤ). Has xs i) (nothing_seen words n 0 empty) m);
+    }
+
+pub second_is : (instant : ℤ) (second : ℕ) → IsInstant instant → second ≡ unsigned_abs instant → pos second ≡ instant
+second_is (pos n) second h e = ap pos e
+second_is (negsuc n) second h e = absurd (omega (arith, ints, h.0))
+
+pub second_inside : (instant : ℤ) (second : ℕ) → IsInstant instant → pos second ≡ instant → second ≤ 7_258_211_998
+second_inside instant second h e = let high = h.1 in omega (arith, ints)
+
+pub near_there : (old : List ℕ) (low at : ℕ) (instant : ℤ) (members : List ℤ) → instants_in old low ≡ members → pos at ≡ instant → ((i : ℤ) → Has members i → IsNear i instant)
+    → (i : ℤ) → Has (instants_in old low) i → IsNear i (pos at)
+near_there old low at instant members view is near i m =
+    subst (IsNear i) (sym is) (near i (subst (λ (xs : List ℤ). Has xs i) view m))
+
+pub put_answer : (old new : List ℕ) (low at from : ℕ) (instant : ℤ) (members : List ℤ) → instants_in old low ≡ members → pos at ≡ instant → HasMore old new at → IsRoundWith low at from
+    → ((i : ℤ) → Has members i → IsNear i instant) → instants_in new from ≡ placed instant members
+put_answer old new low at from instant members view is more round near =
+    put_seen old new low at from more round (near_there old low at instant members view is near) ∙ (λ k. placed (is k) (view k))
+
+pub least_answer : (words : List ℕ) (low at : ℕ) (members : List ℤ) → instants_in words low ≡ members → IsRound words low
+    → IsFirstPassing (is_held words) low (low + 187_200) (Some at) → Some (to_z w64 at) ≡ first members
+least_answer words low at members view was found =
+    let inside = found_inside words low at was found in
+    let same : to_z w64 at ≡ pos at = to_z_pos w64 at (omega arith) in
+    ap Some same ∙ (sym (first_found words low at found) ∙ ap first view)
+
+pub none_answer : (words : List ℕ) (low : ℕ) (members : List ℤ) → instants_in words low ≡ members → IsFirstPassing (is_held words) low (low + 187_200) None → None ≡ first members
+none_answer words low members view none = sym (none_found words low none) ∙ ap first view
+
+pub none_left : (members : List ℤ) → None ≡ first members → members ≡ later members
+none_left [] h = refl
+none_left (x ∷ xs) h = absurd (cc)
+
+pub rises_answer : (words : List ℕ) (low : ℕ) (members : List ℤ) → instants_in words low ≡ members → IsRising members
+rises_answer words low members view = subst IsRising view (IsRising-instants words low)
+
+pub near_answer : (words : List ℕ) (low : ℕ) (members : List ℤ) → instants_in words low ≡ members → (one other : ℤ) → Has members one → Has members other → IsNear one other
+near_answer words low members view one other m n =
+    members_near words low one other (subst (λ (xs : List ℤ). Has xs one) (sym view) m) (subst (λ (xs : List ℤ). Has xs other) (sym view) n)

@@ -1,0 +1,55 @@
+-- The first word that has a bit.
+use Rattle.std.proofs.Common.{◌≡◌, ◌≢◌, inl, inr, ℕ, zero, suc, ◌+◌, ◌<◌, ◌≤◌, not, cond, Bool, true, false, List, [], ◌∷◌, None, Some, length, get_or, ltb, sym, ap, arith, refl}
+use Rattle.std.specs.List.{position, position_or_len}
+use lib.Lanes.{chunk}
+use Rattle.std.proofs.lemmas.Bool.{cases_lt, cond-true, eq-eqb, lt-ltb, ne_eqb}
+use Rattle.std.proofs.lemmas.Simd.{run_in_chunk_fails}
+use Rattle.cal_elapse.specs.Scan.{is_set}
+
+head_set : (b : Bool) (n : ℕ) → b ≡ true → cond (not b) (1 + n) 0 ≡ 0
+head_set true n e = refl
+head_set false n e = absurd (cc)
+
+head_zero : (b : Bool) (n k : ℕ) → b ≡ false → n ≡ k → cond (not b) (1 + n) 0 ≡ suc k
+head_zero true n k e f = absurd (cc)
+head_zero false n k e f = omega arith
+
+-- so many words are 0, and the next isn't
+at_first : (xs : List ℕ) (k : ℕ) → k < length xs → ((j : ℕ) → j < k → is_set (get_or xs j 0) ≡ false) → is_set (get_or xs k 0) ≡ true → position_or_len is_set xs ≡ k
+at_first [] k h zeros here = absurd (omega arith)
+at_first (x ∷ xs) zero h zeros here = head_set (is_set x) (position_or_len is_set xs) here
+at_first (x ∷ xs) (suc k) h zeros here =
+    head_zero (is_set x) (position_or_len is_set xs) k (zeros 0 (omega arith)) (at_first xs k (omega arith) (λ j lt. zeros (suc j) (omega arith)) here)
+
+all_zero : (xs : List ℕ) → ((j : ℕ) → j < length xs → is_set (get_or xs j 0) ≡ false) → position_or_len is_set xs ≡ length xs
+all_zero [] zeros = refl
+all_zero (x ∷ xs) zeros = head_zero (is_set x) (position_or_len is_set xs) (length xs) (zeros 0 (omega arith)) (all_zero xs (λ j lt. zeros (suc j) (omega arith)))
+
+pub position-found : (xs : List ℕ) (k : ℕ) → k < length xs → ((j : ℕ) → j < k → is_set (get_or xs j 0) ≡ false) → is_set (get_or xs k 0) ≡ true → Some k ≡ position is_set xs
+position-found xs k h zeros here =
+    let first = at_first xs k h zeros here in
+    rw first (sym (cond-true (ltb k (length xs)) (Some k) None (lt-ltb k (length xs) h)))
+
+pub position-none : (xs : List ℕ) → ((j : ℕ) → j < length xs → is_set (get_or xs j 0) ≡ false) → None ≡ position is_set xs
+position-none xs zeros =
+    let first = all_zero xs zeros in
+    rw first (sym (none_by (ltb (length xs) (length xs)) (length xs) (not_less (length xs))))
+  where
+    none_by : (b : Bool) (n : ℕ) → b ≡ false → cond b (Some n) None ≡ None
+    none_by true n e = absurd (cc)
+    none_by false n e = refl
+
+    not_less : (n : ℕ) → ltb n n ≡ false
+    not_less n = grind (arith)
+
+-- the words of one load more
+pub zeros_more : (xs : List ℕ) (at zeros : ℕ) → at + 8 ≤ length xs → zeros ≡ position_or_len is_set (chunk at 8 xs) → ((k : ℕ) → k < at → is_set (get_or xs k 0) ≡ false)
+    → (k : ℕ) → k < at + zeros → is_set (get_or xs k 0) ≡ false
+zeros_more xs at zeros room counted before k below =
+    elim (cases_lt k at) [ inl early ↦ before k early | inr late ↦ run_in_chunk_fails is_set xs at 8 zeros 0 room counted k late below ]
+
+pub set_word : (x : ℕ) → x ≢ 0 → is_set x ≡ true
+set_word x h = ap not (ne_eqb x 0 h)
+
+pub zero_word : (x : ℕ) → x ≡ 0 → is_set x ≡ false
+zero_word x h = ap not (eq-eqb x 0 h)

@@ -1,0 +1,92 @@
+-- How often the matches were searched, once an elapse was given or none was left.
+use Rattle.std.proofs.Common.{◌≡◌, ◌∙◌, ℕ, ◌+◌, ◌-◌, ◌<◌, ◌≤◌, nat_lt, Bool, true, false, ◌&&◌, Option, None, Some, ℤ, pos, negsuc, ◌<ℤ◌, ◌≤ℤ◌, ◌+ℤ◌, ◌-ℤ◌, int_lt, unsigned_abs, List, sym, ap, subst, arith, inl, inr, refl}
+use Rattle.std.proofs.lemmas.Bool.{cases_lt}
+use Rattle.std.proofs.lemmas.Int.{ints}
+use Rattle.cal_base.specs.Local.{seconds_in_all}
+use Rattle.cal_base.specs.declared.zone.Zone.{Zone}
+use Rattle.cal_elapse.specs.RisingList.{Has, first, later}
+use Rattle.cal_elapse.specs.Search.{NonePasses}
+use Rattle.cal_elapse.specs.Searched.{IsSearched}
+use Rattle.cal_elapse.specs.Window.{IsReady, bound_of, count_from, start_of, timed_by, timed_in, to_place}
+use Rattle.cal_elapse.specs.declared.masks.Masks.{Masks}
+use Rattle.cal_elapse.specs.declared.window.Window.{Window}
+use Rattle.cal_elapse.proofs.CountLemmas.{count_from-none}
+use Rattle.cal_elapse.proofs.RisingLemmas.{list-first}
+use Rattle.cal_elapse.proofs.WindowLemmas.{all_placed, by_test, is_above}
+use Rattle.cal_spec.specs.Match.{matches}
+
+false_by : (b : Bool) → (b ≡ true → ⊥) → b ≡ false
+false_by true h = absurd (h refl)
+false_by false h = refl
+
+-- as many pass below one bound as below a later one, where none passes between
+count_on : (passes : ℕ → Bool) (start a b : ℕ) → start ≤ a → a ≤ b → NonePasses passes a b → count_from passes start (b - start) ≡ count_from passes start (a - start)
+count_on passes start a b low high none =
+    let k = a - start in
+    let n = b - a in
+    let nothing = λ (t : ℕ) (above : start + k ≤ t) (below : t < start + k + n). none t (omega arith) (omega arith) in
+    ap (count_from passes start) (omega arith) ∙ count_from-none passes start k n nothing
+
+-- nothing matches past the last local second
+past_all : (b c : Bool) → b ≡ false → (b && c) ≡ false
+past_all true c h = absurd (cc)
+past_all false c h = refl
+
+none_past : (masks : Masks) (zone : Zone) (t : ℕ) → seconds_in_all ≤ t → (timed_by masks zone).matches t ≡ false
+unfolding timed_by matches
+none_past masks zone t late = past_all (nat_lt t seconds_in_all) _ (grind (arith))
+
+-- a match is below the bound
+matches_below : (v : Window) (i : ℤ) (top : ℕ) → IsReady v → Has v.pending i → (pos top) ≡ (i +ℤ pos 93_600) → start_of v.base ≤ top → (t : ℕ) → top ≤ t → t < bound_of v.ahead
+    → (timed_in v).matches t ≡ true → ⊥
+matches_below v i top h m is begun t late inside holds =
+    let near = h.windowed.reach i m t (omega arith) inside holds in
+    omega (arith, ints)
+
+count_down : (v : Window) (i : ℤ) (top : ℕ) → IsReady v → Has v.pending i → (pos top) ≡ (i +ℤ pos 93_600) → start_of v.base ≤ top → top ≤ bound_of v.ahead
+    → count_from (timed_in v).matches (start_of v.base) (bound_of v.ahead - start_of v.base) ≡ count_from (timed_in v).matches (start_of v.base) (top - start_of v.base)
+count_down v i top h m is begun inside =
+    count_on (timed_in v).matches (start_of v.base) top (bound_of v.ahead) begun inside
+    (λ t late below. false_by ((timed_in v).matches t) (matches_below v i top h m is begun t late below))
+
+late_bound : (ahead : Option ℕ) (i : ℤ) (top : ℕ) → to_place ahead (Some i) ≡ None → (pos top) ≡ (i +ℤ pos 93_600) → bound_of ahead < top → bound_of ahead ≡ seconds_in_all
+late_bound None i top full is late = refl
+late_bound (Some local) i top full is late =
+    let early : i <ℤ (pos local -ℤ pos 93_599) = is_above i (pos local -ℤ pos 93_599) (by_test (int_lt i (pos local -ℤ pos 93_599)) local full) in
+    absurd (omega (arith, ints))
+
+count_top : (v : Window) (i : ℤ) (top : ℕ) → IsReady v → Has v.pending i → to_place v.ahead (Some i) ≡ None → (pos top) ≡ (i +ℤ pos 93_600) → start_of v.base ≤ top
+    → count_from (timed_in v).matches (start_of v.base) (bound_of v.ahead - start_of v.base) ≡ count_from (timed_in v).matches (start_of v.base) (top - start_of v.base)
+count_top v i top h m full is begun =
+    elim (cases_lt (bound_of v.ahead) top) [
+      | inl late ↦
+          let all = late_bound v.ahead i top full is late in
+          sym (count_on (timed_in v).matches (start_of v.base) (bound_of v.ahead) top h.begun (omega arith)
+          (λ t above below. none_past v.searcher.masks v.zone t (omega arith)))
+      | inr inside ↦ count_down v i top h m is begun inside
+    ]
+
+start_below : (base last i : ℤ) → pos 0 ≤ℤ base → base ≤ℤ last → last <ℤ i → ((pos (unsigned_abs i + 93_600)) ≡ (i +ℤ pos 93_600)) × (start_of base ≤ unsigned_abs i + 93_600)
+start_below (negsuc b) last i low above later = absurd (omega (arith, ints))
+start_below (pos b) last (negsuc n) low above later = absurd (omega (arith, ints))
+start_below (pos b) last (pos n) low above later = (omega (arith, ints), omega (arith, ints))
+
+has_first : (xs : List ℤ) (i : ℤ) → first xs ≡ Some i → Has xs i
+has_first xs i at = subst (λ (ys : List ℤ). Has ys i) (sym (list-first xs i at)) (inl refl)
+
+pub searched_some : (v : Window) (i : ℤ) → IsReady v → to_place v.ahead (first v.pending) ≡ None → first v.pending ≡ Some i
+    → IsSearched (timed_in v) v.base (Some i) v.searcher.searches
+searched_some v i h full at =
+    let m = has_first v.pending i at in
+    let above = ((h.windowed.members i).0 m).0 in
+    let top = start_below v.base v.last i h.low h.above above in
+    let there = subst (λ (o : Option ℤ). to_place v.ahead o ≡ None) at full in
+    let same = count_top v i (unsigned_abs i + 93_600) h m there top.0 top.1 in
+    let counted = h.counted in
+    omega arith
+
+pub searched_none : (v : Window) → IsReady v → to_place v.ahead (first v.pending) ≡ None → first v.pending ≡ None
+    → IsSearched (timed_in v) v.base None v.searcher.searches
+searched_none v h full none =
+    let all : bound_of v.ahead ≡ seconds_in_all = ap bound_of (all_placed v.ahead (subst (λ (o : Option ℤ). to_place v.ahead o ≡ None) none full)) in
+    subst (λ (b : ℕ). v.searcher.searches ≡ count_from (timed_in v).matches (start_of v.base) (b - start_of v.base) + 1) all h.counted

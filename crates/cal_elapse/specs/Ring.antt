@@ -1,0 +1,38 @@
+-- A round of cells, one bit each: an instant has the cell at its number modulo the count of cells. Among as many seconds
+-- in a row as there are cells, each cell is that of one second alone.
+use Rattle.std.specs.Prelude.{◌≡◌, ◌+◌, ◌%◌, ◌≤◌, ◌<◌, cond, ℕ, zero, suc, Bool, List, [], ◌∷◌, length, ℤ, pos, ◌≤ℤ◌, refl}
+use Rattle.cal_elapse.specs.Bits.{is_in_words}
+use Rattle.cal_elapse.specs.RisingList.{Has}
+
+-- how many cells there are; the number is a law below, so that no proof unfolds a list of this length
+pub cells_in_all : ℕ
+cells_in_all = 187_200
+
+pub cells_in_all-is : cells_in_all ≡ 187_200
+unfolding cells_in_all
+cells_in_all-is = refl
+
+-- the bit in the cell of a second
+unfoldable pub is_held : List ℕ → ℕ → Bool
+is_held words second = is_in_words words (second % 187_200)
+
+-- those of n numbers in a row, the first of them `from`, that pass
+abbrev pub rising_from : (ℕ → Bool) → ℕ → ℕ → List ℤ
+rising_from passes from zero = []
+rising_from passes from (suc n) = cond (passes from) (pos from ∷ rising_from passes (suc from) n) (rising_from passes (suc from) n)
+
+-- the instants of a round whose first second is `low`
+unfoldable pub instants_in : List ℕ → ℕ → List ℤ
+instants_in words low = rising_from (is_held words) low cells_in_all
+
+-- there is a bit for each cell, the round begins with an instant, and each member is one
+pub record IsRound (words : List ℕ) (low : ℕ) : Type 0 where
+  pub whole : length words ≡ 2_925
+  pub begins : low ≤ 7_258_211_998
+  pub members : (i : ℤ) → Has (instants_in words low) i → i ≤ℤ pos 7_258_211_998
+
+-- the round from `from` on has each second of the round from `low` on that is near to this one, and this one
+pub record IsRoundWith (low at from : ℕ) : Type 0 where
+  pub above : from ≤ at
+  pub below : at < from + 187_200
+  pub near : (t : ℕ) → low ≤ t → t < low + 187_200 → t ≤ at + 187_199 → at ≤ t + 187_199 → (from ≤ t) × (t < from + 187_200)

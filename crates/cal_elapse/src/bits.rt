@@ -1,0 +1,43 @@
+//! Sets of numbers below 64, as the bits of a word.
+
+ghost use Rattle.std.specs.Prelude.{◌≡◌, ◌≢◌, ◌<◌, ℕ, true};
+ghost use Rattle.cal_elapse.specs.Bits.{is_bit};
+ghost use Rattle.cal_elapse.specs.Search.{IsFirstPassing};
+
+/// Whether a word has a number below 64.
+pub(crate) fn has_bit(mask: u64, place: u32) -> bool
+    requires { place < 64 }
+    ensures { result ≡ is_bit mask place }
+{
+    mask >> place & 1 == 1
+}
+
+/// A word with a number below 64 more, which it may have already.
+pub(crate) fn with_bit(mask: u64, place: u32) -> u64
+    requires { place < 64 }
+    ensures set { is_bit result place ≡ true }
+    ensures others { (i : ℕ) → i ≢ place → is_bit result i ≡ is_bit mask i }
+{
+    mask | 1 << place
+}
+
+/// The least number of a word that isn't below `from`, which is below 64; `None` where there is none.
+pub(crate) fn next_bit(mask: u64, from: u32) -> Option<u32>
+    requires { from < 64 }
+    ensures { IsFirstPassing (is_bit mask) from 64 result }
+{
+    let rest = mask >> from;
+    if rest == 0 {
+        None
+    } else {
+        Some(from + rest.trailing_zeros())
+    }
+}
+
+/// The least number of a word that has one.
+pub(crate) fn lowest_bit(mask: u64) -> u32
+    requires { 0 < mask }
+    ensures { IsFirstPassing (is_bit mask) 0 64 (Some result) }
+{
+    mask.trailing_zeros()
+}
