@@ -1,5 +1,5 @@
 -- A round of cells: its members, the first of them, and what is there once one is put or taken.
-use Rattle.std.proofs.Common.{◌≡◌, ◌≢◌, ◌⊎◌, ◌↔◌, ℕ, zero, suc, ◌+◌, ◌-◌, ◌%◌, ◌<◌, ◌≤◌, cond, Bool, true, false, List, [], ◌∷◌, length, get_or, replicate, inl, inr, None, Some, ◌/◌, negsuc, unsigned_abs, to_z, w64, ℤ, pos, ◌<ℤ◌, ◌≤ℤ◌, refl, sym, ap, ◌∙◌, subst, arith}
+use Rattle.std.proofs.Common.{◌+ℤ◌, ◌≡◌, ◌≢◌, ◌⊎◌, ◌↔◌, ℕ, zero, suc, ◌+◌, ◌-◌, ◌%◌, ◌<◌, ◌≤◌, cond, Bool, true, false, List, [], ◌∷◌, length, get_or, replicate, inl, inr, None, Some, ◌/◌, negsuc, unsigned_abs, to_z, w64, ℤ, pos, ◌<ℤ◌, ◌≤ℤ◌, refl, sym, ap, ◌∙◌, subst, arith}
 use Rattle.std.proofs.lemmas.Bool.{cases_eq, cases_lt}
 use Rattle.std.proofs.lemmas.Int.{ints, to_z_pos}
 use Rattle.std.proofs.lemmas.List.{length-replicate}
@@ -12,7 +12,7 @@ use Rattle.cal_elapse.specs.Ring.{cells_in_all, cells_in_all-is, instants_in, is
 use Rattle.cal_elapse.specs.RisingList.{Has, IsAbove, IsRising, first, later, placed}
 use Rattle.cal_elapse.specs.Search.{IsFirstPassing}
 use Rattle.cal_elapse.proofs.ElapsesLemmas.{first-least, first-none}
-use Rattle.cal_elapse.proofs.RisingLemmas.{Has-placed, IsRising-placed, later_members, list-first, list-no_first, same_rising}
+use Rattle.cal_elapse.proofs.RisingLemmas.{above_has, Has-placed, IsRising-placed, later_members, list-first, list-no_first, same_rising}
 
 -- Numbers in a row
 
@@ -387,3 +387,19 @@ rises_answer words low members view = subst IsRising view (IsRising-instants wor
 pub near_answer : (words : List ℕ) (low : ℕ) (members : List ℤ) → instants_in words low ≡ members → (one other : ℤ) → Has members one → Has members other → IsNear one other
 near_answer words low members view one other m n =
     members_near words low one other (subst (λ (xs : List ℤ). Has xs one) (sym view) m) (subst (λ (xs : List ℤ). Has xs other) (sym view) n)
+
+least_member : (x j : ℤ) (xs : List ℤ) → IsRising (x ∷ xs) → Has (x ∷ xs) j → x ≤ℤ j
+least_member x j xs h (inl e) = subst (λ (k : ℤ). x ≤ℤ k) e (omega (arith, ints))
+least_member x j xs h (inr m) = let up = above_has x j xs h.0 m in omega (arith, ints)
+
+near_by : (member least instant : ℤ) → IsNear member least → least ≤ℤ member → least ≤ℤ instant → instant ≤ℤ (least +ℤ pos 187_199) → IsNear member instant
+near_by member least instant near above low high = (let a = near.0 in omega (arith, ints), omega (arith, ints))
+
+-- an instant that is so near behind the least member is near to each
+pub near_later : (members : List ℤ) (least instant member : ℤ) → Some least ≡ first members → IsRising members
+    → ((one other : ℤ) → Has members one → Has members other → IsNear one other) → least ≤ℤ instant → instant ≤ℤ (least +ℤ pos 187_199) → Has members member → IsNear member instant
+near_later members least instant member at rises near low high m =
+    let split = list-first members least (sym at) in
+    let here = subst (λ (xs : List ℤ). Has xs least) (sym split) (inl refl) in
+    near_by member least instant (near member least m here)
+    (least_member least member (later members) (subst IsRising split rises) (subst (λ (xs : List ℤ). Has xs member) split m)) low high

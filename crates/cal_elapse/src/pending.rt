@@ -93,37 +93,4 @@ fn low_with(low: u64, second: u64) -> u64
 }
 
 #[cfg(test)]
-mod tests {
-    use super::*;
-
-    #[test]
-    fn each_once_rising(rt: HostRuntime) -> Result<(), AllocError> {
-        let mut pending = Pending::new(rt.alloc())?;
-        assert_eq!(rt; pending.least(), None);
-        pending.put(100);
-        pending.put(50);
-        pending.put(100);
-        assert_eq!(rt; pending.least(), Some(50));
-        assert_eq!(rt; pending.take_least(), Some(50));
-        assert_eq!(rt; pending.take_least(), Some(100));
-        assert_eq!(rt; pending.take_least(), None);
-        Ok(())
-    }
-
-    /// Round the end of the cells, and back from a later instant.
-    #[test]
-    fn round_the_end(rt: HostRuntime) -> Result<(), AllocError> {
-        let mut pending = Pending::new(rt.alloc())?;
-        pending.put(187_199);
-        pending.put(187_201);
-        assert_eq!(rt; pending.take_least(), Some(187_199));
-        assert_eq!(rt; pending.take_least(), Some(187_201));
-        assert_eq!(rt; pending.take_least(), None);
-        let mut pending = Pending::new(rt.alloc())?;
-        pending.put(187_199);
-        pending.put(0);
-        assert_eq!(rt; pending.take_least(), Some(0));
-        assert_eq!(rt; pending.take_least(), Some(187_199));
-        Ok(())
-    }
-}
+mod tests;

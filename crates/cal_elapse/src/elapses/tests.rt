@@ -289,3 +289,114 @@ fn around_changes(rt: HostRuntime) -> Result<(), Fail> {
     }
     Ok(())
 }
+
+/// One search by `new`, one for each of the seconds from the base less 93,599 to the third elapse plus 93,599, and so
+/// one more than these.
+#[test]
+fn searches_of_every_second(rt: HostRuntime) -> Result<(), Fail> {
+    let expr = expr(rt.alloc(), "*:*:*")?;
+    let base = Instant::new(1_704_067_200).ok_or("no instant")?;
+    let mut elapses = Elapses::new(rt.alloc(), &expr, Zone::utc(), base)?;
+    assert_eq!(rt; elapses.searches(), 1);
+    for _ in 0..3 {
+        let _elapse = elapses.next();
+    }
+    assert_eq!(rt; elapses.searches(), 187_203);
+    Ok(())
+}
+
+/// A search without a match is one, and a call after the last elapse makes none.
+#[test]
+fn searches_to_the_end(rt: HostRuntime) -> Result<(), Fail> {
+    let expr = expr(rt.alloc(), "2024-01-02")?;
+    let base = Instant::new(1_704_067_200).ok_or("no instant")?;
+    let mut elapses = Elapses::new(rt.alloc(), &expr, Zone::utc(), base)?;
+    assert_eq!(rt; elapses.next(), Some(1_704_153_600));
+    assert_eq!(rt; elapses.searches(), 2);
+    for _ in 0..2 {
+        assert_eq!(rt; elapses.next(), None);
+        assert_eq!(rt; elapses.searches(), 2);
+    }
+    Ok(())
+}
+
+/// Whether a local second matches.
+fn has_local(expr: &Expr, local: i64) -> bool
+    requires { IsLocalSecond local }
+{
+    expr.has(local)
+}
+
+/// How many local seconds from one to another match.
+fn matches_between(rt: &impl Abort, expr: &Expr, first: i64, last: i64) -> u64 {
+    let mut matches: u64 = 0;
+    for local in first.max(0)..=last.min(7_258_118_399) {
+        assert!(rt; local >= 0 && local <= 7_258_118_399);
+        matches = matches.saturating_add(u64::from(has_local(expr, local)));
+    }
+    matches
+}
+
+/// After each of the first 50 elapses, one search more than local seconds match up to it.
+fn searches_agree(
+    rt: &(impl Abort + AllocGlobal),
+    text: &str,
+    zone: Zone<'_>,
+    base: i64,
+) -> Result<(), Fail> {
+    let expr = expr(rt.alloc(), text)?;
+    let instant = Instant::new(base).ok_or("no instant")?;
+    let mut elapses = Elapses::new(rt.alloc(), &expr, zone, instant)?;
+    let mut counted: i64 = base.saturating_sub(93_599);
+    let mut want: u64 = 1;
+    for _ in 0..50 {
+        let elapse = elapses.next().ok_or("no elapse")?;
+        let last = elapse.saturating_add(93_599);
+        want = want.saturating_add(matches_between(rt, &expr, counted, last));
+        counted = last.saturating_add(1);
+        assert_eq!(rt; elapses.searches(), want, "{text}");
+    }
+    Ok(())
+}
+
+/// Expressions whose first 50 elapses lie within some days.
+const DENSE: [&str; 12] = [
+    "*:*:*",
+    "*:*",
+    "*:*:0/7",
+    "*:0/5",
+    "*:0/7:13",
+    "hourly",
+    "0/3:30",
+    "1..2:*:0/20",
+    "0,1,23:0,59:0,59",
+    "*:59:59",
+    "Sat,Sun *:*",
+    "2..3:*:*",
+];
+
+/// Zones by their rule, and UTC where there is none.
+const RULES: [Option<&str>; 6] = [
+    None,
+    Some("IST-5:30"),
+    Some("CET-1CEST,M3.5.0,M10.5.0/3"),
+    Some("AAA0BBB,M3.5.0/2,M3.5.0/3:10"),
+    Some("AAA12BBB-13,M3.5.0/2,M10.5.0/3"),
+    Some("AAA-13BBB12,M3.5.0/2,M10.5.0/3"),
+];
+
+/// From the evening before most of these zones' clocks are changed.
+#[test]
+fn searches_are_counted(rt: HostRuntime) -> Result<(), Fail> {
+    for rule in RULES {
+        for text in DENSE {
+            let Some(rule) = rule else {
+                searches_agree(&rt, text, Zone::utc(), 1_711_828_800)?;
+                continue;
+            };
+            let rules = posix(rt.alloc(), rule)?;
+            searches_agree(&rt, text, Zone::rules(&rules), 1_711_828_800)?;
+        }
+    }
+    Ok(())
+}
