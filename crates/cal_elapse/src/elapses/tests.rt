@@ -1,6 +1,8 @@
 //! Elapses under several zones. Expected instants are worked out by hand, or by a filter over all local seconds.
 
 ghost use Rattle.cal_base.specs.Local.{IsLocalSecond};
+ghost use Rattle.cal_elapse.specs.Searched.{IsSearched};
+ghost use Rattle.cal_elapse.specs.Window.{timed_in};
 
 use crate::{Elapses, Rising};
 use cal_base::{Instant, Rules, Zone, place};
@@ -305,17 +307,23 @@ fn searches_of_every_second(rt: HostRuntime) -> Result<(), Fail> {
     Ok(())
 }
 
+/// The next elapse, and how many searches were made by then: one more than the local seconds that match up to it.
+fn next_counted(elapses: &mut Elapses<'_>) -> (Option<i64>, u64)
+    ensures { IsSearched (timed_in elapses.old) elapses.old.base result.0 result.1 }
+{
+    let elapse = elapses.next();
+    (elapse, elapses.searches())
+}
+
 /// A search without a match is one, and a call after the last elapse makes none.
 #[test]
 fn searches_to_the_end(rt: HostRuntime) -> Result<(), Fail> {
     let expr = expr(rt.alloc(), "2024-01-02")?;
     let base = Instant::new(1_704_067_200).ok_or("no instant")?;
     let mut elapses = Elapses::new(rt.alloc(), &expr, Zone::utc(), base)?;
-    assert_eq!(rt; elapses.next(), Some(1_704_153_600));
-    assert_eq!(rt; elapses.searches(), 2);
+    assert_eq!(rt; next_counted(&mut elapses), (Some(1_704_153_600), 2));
     for _ in 0..2 {
-        assert_eq!(rt; elapses.next(), None);
-        assert_eq!(rt; elapses.searches(), 2);
+        assert_eq!(rt; next_counted(&mut elapses), (None, 2));
     }
     Ok(())
 }
