@@ -1,9 +1,9 @@
 -- The bits of a word.
-use Rattle.std.proofs.Common.{◌≡◌, ◌==◌, ℕ, ◌+◌, ◌-◌, ◌/◌, ◌%◌, ◌^◌, ◌<◌, ◌≤◌, true, false, Some, w64, ap, subst, inl, inr, sym, ◌∙◌, arith}
+use Rattle.std.proofs.Common.{◌≡◌, ◌==◌, ℕ, ◌+◌, ◌&&◌, bit_and, min, ◌-◌, ◌/◌, ◌%◌, ◌^◌, ◌<◌, ◌≤◌, true, false, Some, w64, ap, subst, inl, inr, sym, ◌∙◌, arith}
 use Rattle.std.specs.Int.{bit_at, trailing_zeros}
 use Rattle.std.proofs.lemmas.Bool.{cases_lt}
 use Rattle.std.proofs.lemmas.Nat.{shr-shr, shr_le}
-use Rattle.std.proofs.lemmas.Nat.Bits.{bit_at-trailing_zeros, bit_at-zero, bit_at_above}
+use Rattle.std.proofs.lemmas.Nat.Bits.{bit_at-lt, bit_at-trailing_zeros, bit_at-zero, bit_at_above, bit_at_and}
 use Rattle.cal_elapse.specs.Bits.{is_bit}
 use Rattle.cal_elapse.specs.Search.{IsFirstPassing, NonePasses}
 
@@ -61,3 +61,18 @@ next_some m from fits some =
           let place : from + (t - from) ≡ t = omega arith in
           is_bit-zero m t (subst (λ (i : ℕ). bit_at m i ≡ 0) place (sym (shifted m from (t - from)) ∙ h.2 (t - from) (omega arith))),
     )
+
+min_one : (x y : ℕ) → x < 2 → y < 2 → (min x y == 1) ≡ ((x == 1) && (y == 1))
+min_one x y p q =
+    elim (cases_lt x 1) [
+      | inl low ↦ (let none : x ≡ 0 = omega arith in let least : min x y ≡ 0 = omega arith in rw (least, none))
+      | inr high ↦ (let one : x ≡ 1 = omega arith in let same : min x y ≡ y = omega arith in rw (same, one))
+    ]
+
+-- what both words have
+pub is_bit-and : (m n i : ℕ) → is_bit (bit_and m n) i ≡ (is_bit m i && is_bit n i)
+unfolding is_bit
+is_bit-and m n i = ap (λ (b : ℕ). b == 1) (bit_at_and m n i) ∙ min_one (bit_at m i) (bit_at n i) (bit_at-lt m i) (bit_at-lt n i)
+
+pub is_bit-none : (i : ℕ) → is_bit 0 i ≡ false
+is_bit-none i = is_bit-zero 0 i (bit_at-zero i)

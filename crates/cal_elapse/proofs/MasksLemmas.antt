@@ -1,13 +1,15 @@
--- The members of a valid component lie in its field, so that a table of the field has them all.
-use Rattle.std.proofs.Common.{◌≡◌, ℕ, ◌+◌, ◌-◌, ◌<◌, ◌≤◌, Bool, true, false, nat_le, get_or, length, List, [], ◌∷◌, Option, None, Some, refl, ap, ◌∙◌, inl, inr, arith}
+-- The members of a valid component lie in its field, so that the bits of the field have them all, and each has one.
+use Rattle.std.proofs.Common.{◌≡◌, ◌≢◌, ◌&&◌, ◌||◌, ◌/◌, ◌%◌, nat_lt, if◌then◌else◌, mod-eq_of_lt, sym, ℕ, ◌+◌, ◌-◌, ◌<◌, ◌≤◌, Bool, true, false, nat_le, get_or, length, List, [], ◌∷◌, Option, None, Some, refl, ap, ◌∙◌, inl, inr, arith}
 use Rattle.std.specs.List.{AllByRecursion, list_any}
 use Rattle.std.proofs.Math.ListN.{get_or-eq_default}
 use Rattle.std.proofs.lemmas.Bool.{cases_lt, eqb-true, or_cases}
 use Rattle.std.proofs.lemmas.Bool.Decides.{nat_tests}
-use Rattle.cal_elapse.specs.Masks.{told}
+use Rattle.cal_elapse.specs.Bits.{is_bit, is_in_words}
+use Rattle.cal_elapse.specs.Masks.{day_place}
+use Rattle.cal_elapse.proofs.BitLemmas.{is_bit-none}
 use Rattle.cal_spec.specs.Members.{component_has, in_field, lies, lies_by, part_has, repeats, values}
 use Rattle.cal_spec.specs.Slot.{least, greatest, day_slot}
-use Rattle.cal_spec.specs.Sound.{AreSound, IsSound, IsEndWithin, IsWithin}
+use Rattle.cal_spec.specs.Sound.{AreSound, EndsAfter, IsSound, IsEndWithin, IsStep, IsWithin}
 use Rattle.cal_spec.specs.declared.part.Part.{Part}
 use Rattle.cal_spec.specs.declared.slot.Slot.{Slot}
 use Rattle.cal_spec.specs.declared.slot.Slot.TheVariants.{Year, Month, Day, DayFromEnd, Hour, Minute, Second}
@@ -83,37 +85,235 @@ not_true : (b : Bool) → (b ≡ true → ⊥) → false ≡ b
 not_true true h = absurd (h refl)
 not_true false h = refl
 
--- a table of all numbers at which something holds tells just that
-pub told_is : (table : List Bool) (first n : ℕ) (holds : ℕ → Bool) → length table ≡ n
-    → ((place : ℕ) → place < n → get_or table place false ≡ holds (first + place))
-    → ((v : ℕ) → holds v ≡ true → (first ≤ v) × (v < first + n)) → (v : ℕ) → told table first v ≡ holds v
-told_is table first n holds long same within v =
+less : (i n : ℕ) → i < n → nat_lt i n ≡ true
+less i n h = grind (arith, nat_tests)
+
+not_less : (i n : ℕ) → n ≤ i → nat_lt i n ≡ false
+not_less i n h = grind (arith, nat_tests)
+
+or_no : (b : Bool) → (b || false) ≡ b
+or_no true = refl
+or_no false = refl
+
+pub day_both : (from_end : Bool) (c : Option (List Part)) (v : ℕ) → AreSound (day_slot from_end) c → component_has (day_slot from_end) c v ≡ true
+    → (1 ≤ v) × (v < 1 + 31)
+day_both true c v sound h = let both = component_both DayFromEnd c v sound h in (both.0, omega (arith, both.1))
+day_both false c v sound h = let both = component_both Day c v sound h in (both.0, omega (arith, both.1))
+
+-- a word that is filled from its lowest bit on
+pub filled_none : (has : ℕ → Bool) (i : ℕ) → is_bit 0 i ≡ (nat_lt i 0 && has i)
+filled_none has i = let out = not_less i 0 (omega arith) in rw out (is_bit-none i)
+
+pub filled_more : (old new place : ℕ) (has : ℕ → Bool) → ((i : ℕ) → is_bit old i ≡ (nat_lt i place && has i))
+    → is_bit new place ≡ (has place || is_bit old place) → ((i : ℕ) → i ≢ place → is_bit new i ≡ is_bit old i)
+    → (i : ℕ) → is_bit new i ≡ (nat_lt i (place + 1) && has i)
+filled_more old new place has before here others i =
+    elim (cases_lt i place) [
+      | inl early ↦
+          (let was = less i place early in
+          let now = less i (place + 1) (omega arith) in
+          rw now (others i (λ same. omega (arith, same)) ∙ (before i ∙ rw was)))
+      | inr late ↦
+          elim (cases_lt i (place + 1)) [
+            | inl at ↦
+                (let same : i ≡ place = omega arith in
+                let was = not_less place place (omega arith) in
+                let now = less place (place + 1) (omega arith) in
+                let empty : is_bit old place ≡ false = before place ∙ rw was in
+                rw (same, now) (here ∙ (rw empty (or_no (has place)))))
+            | inr above ↦
+                (let was = not_less i place late in
+                let now = not_less i (place + 1) above in
+                rw now (others i (λ same. omega (arith, same)) ∙ (before i ∙ rw was)))
+          ]
+    ]
+
+-- above what was filled there is nothing
+pub filled_end : (mask n : ℕ) (has : ℕ → Bool) → ((i : ℕ) → is_bit mask i ≡ (nat_lt i n && has i)) → (i : ℕ) → n ≤ i → is_bit mask i ≡ false
+filled_end mask n has filled i high = let out = not_less i n high in filled i ∙ rw out
+
+-- a word that has a number isn't 0
+pub filled_some : (mask v : ℕ) → is_bit mask v ≡ true → 0 < mask
+filled_some mask v holds =
+    elim (cases_lt 0 mask) [
+      | inl some ↦ some
+      | inr none ↦
+          (let zero : mask ≡ 0 = omega arith in
+          let nothing : is_bit 0 v ≡ true = (rw zero at holds) in
+          let clash : true ≡ false = sym nothing ∙ is_bit-none v in absurd (cc))
+    ]
+
+cut_off : (n i : ℕ) (x y : Bool) → (i < n → x ≡ y) → (n ≤ i → false ≡ y) → (nat_lt i n && x) ≡ y
+cut_off n i x y inside outside =
+    elim (cases_lt i n) [
+      | inl low ↦ (let yes = less i n low in rw yes (inside low))
+      | inr high ↦ (let out = not_less i n high in rw out (outside high))
+    ]
+
+-- what was filled with all numbers at which something holds tells just that
+pub members_are : (mask n : ℕ) (holds : ℕ → Bool) → ((i : ℕ) → is_bit mask i ≡ (nat_lt i n && holds (0 + i)))
+    → ((v : ℕ) → holds v ≡ true → (0 ≤ v) × (v < n)) → (v : ℕ) → is_bit mask v ≡ holds v
+members_are mask n holds filled within v =
+    filled v ∙ cut_off n v (holds (0 + v)) (holds v) (λ low. ap holds (omega arith)) (λ high. not_true (holds v) (λ h. let both = within v h in omega arith))
+
+pub numbers_are : (bit : ℕ → Bool) (first n : ℕ) (holds : ℕ → Bool) → ((i : ℕ) → bit i ≡ (nat_lt i n && holds (first + i)))
+    → ((v : ℕ) → holds v ≡ true → (first ≤ v) × (v < first + n)) → (v : ℕ) → (nat_le first v && bit (v - first)) ≡ holds v
+numbers_are bit first n holds filled within v =
     elim (cases_lt v first) [
       | inl below ↦
-          (let no : nat_le first v ≡ false = grind (arith, nat_tests) in
-          rw no (not_true (holds v) (λ h. let both = within v h in omega arith)))
+          (let out : nat_le first v ≡ false = grind (arith, nat_tests) in
+          rw out (not_true (holds v) (λ h. let both = within v h in omega arith)))
       | inr above ↦
           (let yes : nat_le first v ≡ true = grind (arith, nat_tests) in
           rw yes
-          (elim (cases_lt (v - first) n) [
-            | inl inside ↦ same (v - first) inside ∙ ap holds (omega arith)
-            | inr outside ↦
-                (let past : length table ≤ v - first = omega arith in
-                get_or-eq_default table false past ∙ not_true (holds v) (λ h. let both = within v h in omega arith))
-          ]))
+          (filled (v - first)
+          ∙ cut_off n (v - first) (holds (first + (v - first))) (holds v) (λ low. ap holds (omega arith)) (λ high. not_true (holds v) (λ h. let both = within v h in omega arith))))
     ]
 
--- the same of a component whose numbers are in the table
-pub component_told : (slot : Slot) (c : Option (List Part)) (table : List Bool) (n : ℕ) → AreSound slot c → length table ≡ n
-    → n + least slot ≡ last_of slot + 1 → ((place : ℕ) → place < n → get_or table place false ≡ component_has slot c (least slot + place))
-    → (v : ℕ) → told table (least slot) v ≡ component_has slot c v
-component_told slot c table n sound long ends same =
-    told_is table (least slot) n (component_has slot c) long same
-    (λ v h. let both = component_both slot c v sound h in (both.0, omega arith))
+-- the days, upwards or as counts from the month's end
+pub days_are : (mask : ℕ) (from_end : Bool) (holds : ℕ → Bool)
+    → ((i : ℕ) → is_bit mask i ≡ (nat_lt i 31 && holds (if from_end then 31 - i else i + 1)))
+    → ((v : ℕ) → holds v ≡ true → (1 ≤ v) × (v < 1 + 31)) → (v : ℕ)
+    → ((nat_le 1 v && nat_le v 31) && is_bit mask (day_place from_end v)) ≡ holds v
+days_are mask from_end holds filled within v =
+    elim (cases_lt v 1) [
+      | inl below ↦
+          (let out : nat_le 1 v ≡ false = grind (arith, nat_tests) in
+          rw out (not_true (holds v) (λ h. let both = within v h in omega arith)))
+      | inr above ↦
+          elim (cases_lt 31 v) [
+            | inl beyond ↦
+                (let yes : nat_le 1 v ≡ true = grind (arith, nat_tests) in
+                let out : nat_le v 31 ≡ false = grind (arith, nat_tests) in
+                rw (yes, out) (not_true (holds v) (λ h. let both = within v h in omega arith)))
+            | inr inside ↦
+                (let yes : nat_le 1 v ≡ true = grind (arith, nat_tests) in
+                let upto : nat_le v 31 ≡ true = grind (arith, nat_tests) in
+                rw (yes, upto) (at_place from_end above inside filled))
+          ]
+    ]
+  where
+    at_place : (turned : Bool) → 1 ≤ v → v ≤ 31 → ((i : ℕ) → is_bit mask i ≡ (nat_lt i 31 && holds (if turned then 31 - i else i + 1)))
+        → is_bit mask (day_place turned v) ≡ holds v
+    at_place true low high told =
+        let below = less (31 - v) 31 (omega arith) in
+        told (31 - v) ∙ rw below (ap holds (omega arith))
+    at_place false low high told =
+        let below = less (v - 1) 31 (omega arith) in
+        told (v - 1) ∙ rw below (ap holds (omega arith))
 
--- the days are told in one table, whether or not they are counts from the month's end
-pub days_told : (from_end : Bool) (c : Option (List Part)) (table : List Bool) → AreSound (day_slot from_end) c → length table ≡ 31
-    → ((place : ℕ) → place < 31 → get_or table place false ≡ component_has (day_slot from_end) c (1 + place))
-    → (v : ℕ) → told table 1 v ≡ component_has (day_slot from_end) c v
-days_told true c table sound long same = component_told DayFromEnd c table 31 sound long refl same
-days_told false c table sound long same = component_told Day c table 31 sound long refl same
+-- the first week of six
+pub weekdays_are : (mask : ℕ) (days : List Bool) → length days ≡ 7 → ((i : ℕ) → is_bit mask i ≡ (nat_lt i 42 && get_or days (i % 7) false))
+    → (v : ℕ) → (nat_lt v 7 && is_bit mask v) ≡ get_or days v false
+weekdays_are mask days seven filled v =
+    cut_off 7 v (is_bit mask v) (get_or days v false)
+    (λ low. let inside = less v 42 (omega arith) in let same : v % 7 ≡ v = omega arith in filled v ∙ rw (inside, same))
+    (λ high. let past : length days ≤ v = omega arith in sym (get_or-eq_default days false past))
+
+pub weeks_repeat : (mask : ℕ) (days : List Bool) → ((i : ℕ) → is_bit mask i ≡ (nat_lt i 42 && get_or days (i % 7) false))
+    → (i : ℕ) → i < 42 → is_bit mask i ≡ is_bit mask (i % 7)
+weeks_repeat mask days filled i low =
+    let inside = less i 42 low in
+    let first = less (i % 7) 42 (omega arith) in
+    let same : i % 7 % 7 ≡ i % 7 = omega arith in
+    filled i ∙ (rw inside (sym (filled (i % 7) ∙ rw (first, same))))
+
+-- the years in four words
+year_word : (word first n i j : ℕ) (holds : ℕ → Bool) → ((p : ℕ) → is_bit word p ≡ (nat_lt p n && holds (first + p)))
+    → first + j ≡ 1_970 + i → j < n → i < 230 → is_bit word j ≡ (nat_lt i 230 && holds (1_970 + i))
+year_word word first n i j holds filled same low inside =
+    let here = less j n low in
+    let all = less i 230 inside in
+    filled j ∙ (rw (here, all) (ap holds same))
+
+year_past : (word first n i j : ℕ) (holds : ℕ → Bool) → ((p : ℕ) → is_bit word p ≡ (nat_lt p n && holds (first + p)))
+    → n ≤ j → 230 ≤ i → is_bit word j ≡ (nat_lt i 230 && holds (1_970 + i))
+year_past word first n i j holds filled past beyond =
+    let out = not_less j n past in
+    let all = not_less i 230 beyond in
+    filled j ∙ (rw (out, all))
+
+pub years_filled : (a b c d : ℕ) (holds : ℕ → Bool) → ((p : ℕ) → is_bit a p ≡ (nat_lt p 64 && holds (1_970 + p)))
+    → ((p : ℕ) → is_bit b p ≡ (nat_lt p 64 && holds (2_034 + p))) → ((p : ℕ) → is_bit c p ≡ (nat_lt p 64 && holds (2_098 + p)))
+    → ((p : ℕ) → is_bit d p ≡ (nat_lt p 38 && holds (2_162 + p))) → (i : ℕ)
+    → is_in_words (a ∷ b ∷ c ∷ d ∷ []) i ≡ (nat_lt i 230 && holds (1_970 + i))
+unfolding is_in_words
+years_filled a b c d holds first second third fourth i =
+    elim (cases_lt i 64) [
+      | inl low ↦
+          (let word : i / 64 ≡ 0 = omega arith in
+          rw word (year_word a 1_970 64 i (i % 64) holds first (omega arith) (omega arith) (omega arith)))
+      | inr high ↦
+          elim (cases_lt i 128) [
+            | inl low ↦
+                (let word : i / 64 ≡ 1 = omega arith in
+                rw word (year_word b 2_034 64 i (i % 64) holds second (omega arith) (omega arith) (omega arith)))
+            | inr high ↦
+                elim (cases_lt i 192) [
+                  | inl low ↦
+                      (let word : i / 64 ≡ 2 = omega arith in
+                      rw word (year_word c 2_098 64 i (i % 64) holds third (omega arith) (omega arith) (omega arith)))
+                  | inr high ↦
+                      elim (cases_lt i 256) [
+                        | inl low ↦
+                            (let word : i / 64 ≡ 3 = omega arith in
+                            rw word
+                            (elim (cases_lt i 230) [
+                              | inl inside ↦ year_word d 2_162 38 i (i % 64) holds fourth (omega arith) (omega arith) inside
+                              | inr beyond ↦ year_past d 2_162 38 i (i % 64) holds fourth (omega arith) beyond
+                            ]))
+                        | inr high ↦
+                            (let past : 4 ≤ i / 64 = omega arith in
+                            let nothing : get_or (a ∷ b ∷ c ∷ d ∷ []) (i / 64) 0 ≡ 0 = get_or-eq_default (a ∷ b ∷ c ∷ d ∷ []) 0 past in
+                            let all = not_less i 230 (omega arith) in
+                            rw (nothing, all) (is_bit-none (i % 64)))
+                      ]
+                ]
+          ]
+    ]
+
+pub years_end : (words : List ℕ) (holds : ℕ → Bool) → ((i : ℕ) → is_in_words words i ≡ (nat_lt i 230 && holds (1_970 + i)))
+    → (i : ℕ) → 230 ≤ i → is_in_words words i ≡ false
+years_end words holds filled i high = let out = not_less i 230 high in filled i ∙ rw out
+
+-- each part has the number that it begins with
+by_at : (low high r d v : ℕ) → d ≡ 0 → 0 < r → low ≤ v → v ≤ high → lies_by low high r d v ≡ true
+by_at low high r d v zero positive above below =
+    let least : nat_le low v ≡ true = grind (arith, nat_tests) in
+    let most : nat_le v high ≡ true = grind (arith, nat_tests) in
+    let multiple : 0 % r ≡ 0 = mod-eq_of_lt positive in
+    rw (zero, least, most, multiple)
+
+repeats_at : (slot : Slot) (a r : ℕ) → IsWithin slot a → 0 < r → repeats slot a r a ≡ true
+repeats_at DayFromEnd a r w some = by_at 1 a r (a - a) a (omega arith) some w.0 (omega arith)
+repeats_at Year a r w some = by_at a 2199 r (a - a) a (omega arith) some (omega arith) w.1
+repeats_at Month a r w some = by_at a 12 r (a - a) a (omega arith) some (omega arith) w.1
+repeats_at Day a r w some = by_at a 31 r (a - a) a (omega arith) some (omega arith) w.1
+repeats_at Hour a r w some = by_at a 23 r (a - a) a (omega arith) some (omega arith) w.1
+repeats_at Minute a r w some = by_at a 59 r (a - a) a (omega arith) some (omega arith) w.1
+repeats_at Second a r w some = by_at a 59 r (a - a) a (omega arith) some (omega arith) w.1
+
+values_at : (slot : Slot) (a : ℕ) (end step : Option ℕ) → IsWithin slot a → EndsAfter a end → IsStep step → values slot a end step a ≡ true
+values_at slot a None None w e s = grind (arith, nat_tests)
+values_at slot a None (Some r) w e s = repeats_at slot a r w s
+values_at slot a (Some b) None w e s = grind (arith, nat_tests)
+values_at slot a (Some b) (Some r) w e s = by_at a b r (a - a) a (omega arith) s (omega arith) e
+
+start_has : (slot : Slot) (p : Part) → IsSound slot p → part_has slot p p.start ≡ true
+unfolding part_has
+start_has slot p sound = values_at slot p.start p.end p.step sound.start_in sound.forward sound.some_step
+
+whole : (slot : Slot) → in_field slot (least slot) ≡ true
+whole Year = refl
+whole Month = refl
+whole Day = refl
+whole DayFromEnd = refl
+whole Hour = refl
+whole Minute = refl
+whole Second = refl
+
+-- so each valid component has a member
+pub component_some : (slot : Slot) (c : Option (List Part)) → AreSound slot c → (v : ℕ) × (component_has slot c v ≡ true)
+component_some slot None sound = (least slot, whole slot)
+component_some slot (Some []) sound = absurd (omega (arith, sound.0))
+component_some slot (Some (p ∷ ps)) sound = (p.start, (let begins = start_has slot p sound.1.0 in rw begins))

@@ -1,18 +1,14 @@
 -- The tests of a search, and its steps.
-use Rattle.std.proofs.Common.{◌≡◌, ℕ, ◌+◌, ◌*◌, ◌/◌, ◌%◌, ◌<◌, ◌≤◌, Bool, true, false, ◌&&◌, nat_lt, max, to_z, of_z, w64, negsuc, ◌^◌, unsigned_abs, ◌≤ℤ◌, None, Some, ℤ, pos, refl, inl, inr, arith}
+use Rattle.std.proofs.Common.{◌≡◌, ℕ, ◌+◌, ◌*◌, ◌/◌, ◌%◌, ◌<◌, ◌≤◌, Bool, true, false, ◌&&◌, nat_lt, ◌==◌, Option, ap, ◌∙◌, to_z, of_z, w64, negsuc, ◌^◌, unsigned_abs, ◌≤ℤ◌, None, Some, ℤ, pos, refl, inl, inr, arith}
 use Rattle.std.proofs.lemmas.Bool.{cases_lt}
+use Rattle.std.proofs.lemmas.Bool.Decides.{nat_tests}
 use Rattle.std.proofs.lemmas.Int.{ints, to_z_pos}
 use Rattle.cal_base.specs.Local.{civil_date, seconds_in_all, seconds_in_all-is}
 use Rattle.cal_spec.specs.Match.{Sets, date_in, time_in, matches}
+use Rattle.cal_elapse.proofs.CarryLemmas.{Splits, first_here, first_later, first_then, first_within, none_by_high, none_by_low, none_later}
+use Rattle.cal_elapse.specs.Months.{day_in}
+use Rattle.cal_elapse.specs.Steps.{day_to_start, second_on}
 use Rattle.cal_elapse.specs.Search.{IsFirstLocal, IsFirstPassing, NonePasses}
-
--- one second more with none
-pub NonePasses-one : (passes : ℕ → Bool) (from t : ℕ) → NonePasses passes from t → passes t ≡ false → NonePasses passes from (t + 1)
-NonePasses-one passes from t before here = λ k above below.
-    elim (cases_lt k t) [
-      | inl early ↦ before k above early
-      | inr late ↦ let same : k ≡ t = omega arith in rw same here
-    ]
 
 pub inside : (t : ℕ) → t < 7_258_118_400 → nat_lt t seconds_in_all ≡ true
 inside t h =
@@ -29,34 +25,54 @@ matches_on sets day t h low high =
     let within : nat_lt t seconds_in_all ≡ true = inside t (omega arith) in
     rw (within, same)
 
--- so none of a day matches whose date doesn't
-pub NonePasses-day : (sets : Sets) (day from : ℕ) → day < 84_006 → day * 86_400 ≤ from → date_in sets (civil_date day) ≡ false
-    → NonePasses (matches sets) from (day * 86_400 + 86_400)
-NonePasses-day sets day from h low no_date = λ t above below.
-    rw (matches_on sets day t h (omega arith) below, no_date)
+-- a local second is a day and a time of day
+pub locals_split : (sets : Sets) → Splits (matches sets) (day_in sets) (time_in sets) 86_400 84_006
+unfolding day_in
+locals_split sets = record {
+  positive = omega arith;
+  split = λ a b low small.
+      let time : (a * 86_400 + b) % 86_400 ≡ b = omega arith in
+      matches_on sets a (a * 86_400 + b) low (omega arith) (omega arith) ∙ ap (λ (n : ℕ). date_in sets (civil_date a) && time_in sets n) time;
+}
 
--- and on another day those do whose time does
-pub matches-time : (sets : Sets) (day t : ℕ) → day < 84_006 → day * 86_400 ≤ t → t < day * 86_400 + 86_400 → date_in sets (civil_date day) ≡ true
-    → matches sets t ≡ time_in sets (t % 86_400)
-matches-time sets day t h low high date = rw (matches_on sets day t h low high, date)
+-- nothing on the first day or on a later one
+pub none_of_all : (sets : Sets) (day r : ℕ) (today : Option ℕ) → day < 84_006 → r < 86_400 → IsFirstPassing (time_in sets) r 86_400 today
+    → NonePasses (day_in sets) (day_to_start day today) 84_006 → NonePasses (matches sets) (day * 86_400 + r) (84_006 * 86_400)
+none_of_all sets day r None inside small none later =
+    first_then (matches sets) (day * 86_400 + r) ((day + 1) * 86_400) (84_006 * 86_400) None
+    (none_by_low _ _ _ 86_400 84_006 (locals_split sets) day r 86_400 inside (omega arith) none) (omega arith)
+    (none_later _ _ _ 86_400 84_006 (locals_split sets) (day + 1) 84_006 (omega arith) later)
+none_of_all sets day r (Some s) inside small found later =
+    first_then (matches sets) (day * 86_400 + r) ((day + 1) * 86_400) (84_006 * 86_400) None
+    (none_by_high _ _ _ 86_400 84_006 (locals_split sets) day r inside (later day (omega arith) inside)) (omega arith)
+    (none_later _ _ _ 86_400 84_006 (locals_split sets) (day + 1) 84_006 (omega arith) (λ t above below. later t (omega arith) below))
 
--- the first of a day after days with none is the first of all
-pub IsFirstPassing-day : (passes : ℕ → Bool) (from day s : ℕ) → day < 84_006 → NonePasses passes from (day * 86_400)
-    → IsFirstPassing passes (max from (day * 86_400)) (day * 86_400 + 86_400) (Some s) → IsFirstPassing passes from seconds_in_all (Some s)
-IsFirstPassing-day passes from day s h before found =
-    let count = seconds_in_all-is in (
-      omega arith,
-      omega arith,
-      found.2,
-      λ t above below.
-          elim (cases_lt t (day * 86_400)) [ inl early ↦ before t above early | inr late ↦ found.3 t (omega arith) below ],
-    )
-
--- a day with none after days with none
-pub NonePasses-more : (passes : ℕ → Bool) (from day : ℕ) → NonePasses passes from (day * 86_400)
-    → NonePasses passes (max from (day * 86_400)) (day * 86_400 + 86_400) → NonePasses passes from ((day + 1) * 86_400)
-NonePasses-more passes from day before here = λ t above below.
-    elim (cases_lt t (day * 86_400)) [ inl early ↦ before t above early | inr late ↦ here t (omega arith) (omega arith) ]
+-- what is left of the first day, or the first time of a later day
+pub first_of_all : (sets : Sets) (day r f first : ℕ) (today : Option ℕ) → day < 84_006 → r < 86_400 → IsFirstPassing (time_in sets) r 86_400 today
+    → IsFirstPassing (day_in sets) (day_to_start day today) 84_006 (Some f) → IsFirstPassing (time_in sets) 0 86_400 (Some first)
+    → IsFirstPassing (matches sets) (day * 86_400 + r) (84_006 * 86_400) (Some (f * 86_400 + second_on f day today first))
+first_of_all sets day r f first None inside small none found begins =
+    first_then (matches sets) (day * 86_400 + r) ((day + 1) * 86_400) (84_006 * 86_400) (Some (f * 86_400 + first))
+    (none_by_low _ _ _ 86_400 84_006 (locals_split sets) day r 86_400 inside (omega arith) none) (omega arith)
+    (first_later _ _ _ 86_400 84_006 (locals_split sets) (day + 1) 84_006 f 86_400 first found.1 begins.1 found begins)
+first_of_all sets day r f first (Some s) inside small today found begins =
+    let low = found.0 in
+    elim (cases_lt day f) [
+      | inl later ↦
+          (let other : (f == day) ≡ false = grind (arith, nat_tests) in
+          rw other
+          (first_then (matches sets) (day * 86_400 + r) ((day + 1) * 86_400) (84_006 * 86_400) (Some (f * 86_400 + first))
+          (none_by_high _ _ _ 86_400 84_006 (locals_split sets) day r inside (found.3 day (omega arith) later)) (omega arith)
+          (first_later _ _ _ 86_400 84_006 (locals_split sets) (day + 1) 84_006 f 86_400 first found.1 begins.1
+          (omega arith, found.1, found.2, λ t above below. found.3 t (omega arith) below) begins)))
+      | inr here ↦
+          (let same : f ≡ day = omega arith in
+          let yes : (day == day) ≡ true = grind (arith, nat_tests) in
+          let holds : day_in sets day ≡ true = (rw same at found.2) in
+          rw (same, yes)
+          (first_within (matches sets) (day * 86_400 + r) ((day + 1) * 86_400) (84_006 * 86_400) (day * 86_400 + s) (omega arith)
+          (first_here _ _ _ 86_400 84_006 (locals_split sets) day r 86_400 s inside holds today.1 today)))
+    ]
 
 -- the same in signed numbers
 pub IsFirstLocal-None : (passes : ℕ → Bool) (from : ℤ) (start : ℕ) → pos start ≡ from → IsFirstPassing passes start seconds_in_all None → IsFirstLocal passes from None

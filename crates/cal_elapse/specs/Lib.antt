@@ -1,8 +1,11 @@
 pub mod Bits
+pub mod Count
 pub mod Elapses
 pub mod Listed
+pub mod Looks
 pub mod Masks
 pub mod Merge
+pub mod Months
 pub mod Near
 pub mod Rest
 pub mod Rises
@@ -11,5 +14,6 @@ pub mod RisingList
 pub mod Scan
 pub mod Search
 pub mod Searched
+pub mod Steps
 pub mod Timed
 pub mod Window

@@ -1,9 +1,10 @@
 -- What is pending of an expression's elapses in a zone, while its matching local seconds are placed one after another.
-use Rattle.std.specs.Prelude.{◌≡◌, ◌↔◌, ◌+◌, ◌-◌, ◌<◌, ◌≤◌, cond, ℕ, zero, suc, Bool, true, List, Option, None, Some, ℤ, pos, negsuc, ◌+ℤ◌, ◌-ℤ◌, ◌<ℤ◌, ◌≤ℤ◌, int_lt}
+use Rattle.std.specs.Prelude.{◌≡◌, ◌↔◌, ◌+◌, ◌-◌, ◌<◌, ◌≤◌, cond, ℕ, true, List, Option, None, Some, ℤ, pos, negsuc, ◌+ℤ◌, ◌-ℤ◌, ◌<ℤ◌, ◌≤ℤ◌, int_lt}
 use Rattle.cal_base.specs.Local.{seconds_in_all}
 use Rattle.cal_base.specs.Place.{place_of}
 use Rattle.cal_base.specs.Zone.{zone_of}
 use Rattle.cal_base.specs.declared.zone.Zone.{Zone}
+unfoldable pub use Rattle.cal_elapse.specs.Count.{count_from}
 use Rattle.cal_elapse.specs.Elapses.{Timed}
 use Rattle.cal_elapse.specs.Masks.{sets_in}
 use Rattle.cal_elapse.specs.RisingList.{Has, IsRising, placed}
@@ -39,11 +40,6 @@ bound_of (Some local) = local
 abbrev pub IsMatchAhead : Timed → Option ℕ → Type 0
 IsMatchAhead e None = Unit {0}
 IsMatchAhead e (Some local) = (local < seconds_in_all) × (e.matches local ≡ true)
-
--- how many of the k numbers from a on pass
-unfoldable pub count_from : (ℕ → Bool) → ℕ → ℕ → ℕ
-count_from passes a zero = 0
-count_from passes a (suc k) = count_from passes a k + cond (passes (a + k)) 1 0
 
 -- the match that is to be placed before the least member can be given
 abbrev pub to_place : Option ℕ → Option ℤ → Option ℕ

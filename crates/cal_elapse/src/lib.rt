@@ -3,18 +3,23 @@
 
 mod bits;
 mod branch;
+mod day_search;
 mod elapses;
 pub mod laws;
 mod listed;
 mod masks;
 mod masks_of;
 mod merge;
+mod month;
+mod month_days;
+mod month_search;
 mod pending;
 mod ring;
 mod rising;
 mod scan;
 mod search;
 mod searcher;
+mod time_search;
 mod window;
 
 pub use elapses::Elapses;

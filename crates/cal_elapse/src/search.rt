@@ -1,85 +1,94 @@
-//! The search for the next matching local second: day after day, and in the day second after second.
-ghost use Rattle.std.specs.Prelude.{◌≡◌, ◌+◌, ◌*◌, ◌<◌, ◌≤◌, pos, ◌≤ℤ◌};
+//! The search for the next matching local second: the next day that matches, and on it the next time of day.
+ghost use Rattle.std.specs.Prelude.{◌≡◌, ◌≤◌, ◌<◌, pos, ◌≤ℤ◌, unsigned_abs};
+ghost use Rattle.std.specs.Option.{option_map};
 ghost use Rattle.cal_base.specs.Local.{seconds_in_all};
+ghost use Rattle.cal_elapse.specs.Looks.{month_looks};
 ghost use Rattle.cal_elapse.specs.Masks.{sets_in};
 ghost use Rattle.cal_elapse.specs.Search.{IsFirstLocal, IsFirstPassing};
+ghost use Rattle.cal_elapse.specs.Steps.{day_to_start, second_on};
 ghost use Rattle.cal_spec.specs.Match.{matches};
 
 use crate::Masks;
-use cal_base::{DAY, DAYS, date_of_day};
+use crate::day_search::next_day;
+use crate::month::month_of_day;
+use crate::time_search::{first_second, next_second};
+use cal_base::{DAY, DAYS};
 
 /// What a search found.
 #[derive(Clone, Copy, Debug, PartialEq, Eq)]
 pub struct Found {
     /// The least matching local second; `None` where there is none.
     pub local: Option<i64>,
+    /// How many months the search looked at, at most 2,760: those, from the month of its start to the month of its
+    /// answer or else to the end of 2199, whose year and month number are both members.
+    pub months: u32,
 }
 
 /// The least local second of the years 1970 to 2199 that matches and isn't below `from`, which is from 0 to
-/// 7,258,118,400 (systemd.time(7), Calendar Events).
+/// 7,258,118,400 (systemd.time(7), Calendar Events), with the number of months looked at.
 pub fn next_local(masks: &Masks, from: i64) -> Found
     requires low { pos 0 ≤ℤ from }
     requires high { from ≤ℤ pos seconds_in_all }
-    ensures { IsFirstLocal (matches (sets_in masks.now)) from result.local }
+    ensures first { IsFirstLocal (matches (sets_in masks.now)) from result.local }
+    ensures counted { result.months
+        ≡ month_looks (sets_in masks.now) (unsigned_abs from) (option_map unsigned_abs result.local) }
+    ensures few { result.months ≤ 2_760 }
 {
-    match next_from(masks, from.unsigned_abs()) {
+    let mut months = 0;
+    match next_from(masks, from.unsigned_abs(), &mut months) {
         Some(local) => Found {
             local: Some(local as i64),
+            months,
         },
-        None => Found { local: None },
+        None => Found {
+            local: None,
+            months,
+        },
     }
 }
 
 /// The same, in whole numbers.
-fn next_from(masks: &Masks, from: u64) -> Option<u64>
-    requires { from ≤ seconds_in_all }
-    ensures { IsFirstPassing (matches (sets_in masks.now)) from seconds_in_all result }
+fn next_from(masks: &Masks, from: u64, months: &mut u32) -> Option<u64>
+    requires from_in { from ≤ seconds_in_all }
+    requires none { months.old ≡ 0 }
+    ensures first { IsFirstPassing (matches (sets_in masks.now)) from seconds_in_all result }
+    ensures counted { months.new ≡ month_looks (sets_in masks.now) from result }
+    ensures few { months.new ≤ 2_760 }
 {
-    for day in from / DAY..DAYS {
-        let start = from.max(day * DAY);
-        if let Some(local) = next_in_day(masks, day, start) {
-            return Some(local);
-        }
-    }
-    None
-}
-
-/// The first matching local second of that day that is not below `from`, a local second of the day or later.
-fn next_in_day(masks: &Masks, day: u64, from: u64) -> Option<u64>
-    requires day_in { day < DAYS }
-    requires from_in { day * 86_400 ≤ from }
-    ensures { IsFirstPassing (matches (sets_in masks.now)) from (day * 86_400 + 86_400) result }
-{
-    if !masks.has_date(date_of_day(day)) {
+    if from / DAY == DAYS {
         return None;
     }
-    for local in from..day * DAY + DAY {
-        if masks.has_time(local % DAY) {
-            return Some(local);
+    let day = (from / DAY) as u32;
+    let today = next_second(masks, (from % DAY) as u32);
+    match next_day(masks, month_of_day(day), day_to_start(day, today), months) {
+        Some(found) => {
+            let second = second_on(found, day, today, first_second(masks));
+            Some(u64::from(found) * DAY + u64::from(second))
         }
+        None => None,
     }
-    None
+}
+
+/// The day from which on days are sought: the first one, unless nothing of it is left.
+fn day_to_start(day: u32, today: Option<u32>) -> u32
+    requires { day < 84_006 }
+    ensures { result ≡ day_to_start day today }
+{
+    match today {
+        Some(_) => day,
+        None => day + 1,
+    }
+}
+
+/// The time of day on the day that was found: on the first day what is left of it, on a later one the first of all.
+fn second_on(found: u32, day: u32, today: Option<u32>, first: u32) -> u32
+    ensures { result ≡ second_on found day today first }
+{
+    match today {
+        Some(second) if found == day => second,
+        _ => first,
+    }
 }
 
 #[cfg(test)]
-mod tests {
-    use super::*;
-    use cal_spec::read_expr;
-    use std::test::Fail;
-
-    #[test]
-    fn leap_days(rt: HostRuntime) -> Result<(), Fail> {
-        let Ok(expr) = read_expr(rt.alloc(), "*-2-29 0:0:0") else {
-            return Err("an expression is refused".into());
-        };
-        let masks = Masks::of(&expr);
-        assert_eq!(rt; next_local(&masks, 0).local, Some(68_169_600));
-        assert_eq!(rt; next_local(&masks, 68_169_601).local, Some(194_400_000));
-        assert_eq!(rt;
-            next_local(&masks, 3_981_398_400).local,
-            Some(4_233_686_400)
-        );
-        assert_eq!(rt; next_local(&masks, 7_258_118_400).local, None);
-        Ok(())
-    }
-}
+mod tests;

@@ -1,35 +1,68 @@
-use Rattle.std.proofs.Common.{◌≡◌, ℕ, false, get_or, refl}
-use Rattle.cal_elapse.specs.Masks.{sets_in, told}
+use Rattle.std.proofs.Common.{◌≡◌, ◌&&◌, ◌+◌, ℕ, Bool, List, false, nat_le, get_or, length, ap, ◌∙◌, arith}
+use Rattle.cal_elapse.specs.Bits.{is_bit}
+use Rattle.cal_elapse.specs.Masks.{day_place, sets_in}
 use Rattle.cal_spec.specs.Members.{component_has, sets_of}
 use Rattle.cal_spec.specs.Slot.{day_slot}
 use Rattle.cal_spec.specs.declared.slot.Slot.TheVariants.{Year, Month, Hour, Minute, Second}
-use Rattle.cal_elapse.proofs.MasksLemmas.{component_told, days_told}
+use Rattle.cal_elapse.proofs.MasksLemmas.{component_both, component_some, day_both, days_are, filled_end, filled_some, members_are, numbers_are, weekdays_are, weeks_repeat, years_end, years_filled}
 use Rattle.cal_elapse.proofs.masks.Masks.of.Goals as goal
+
+pub invariant_of-result : goal.invariant_of-result
+unfolding sets_of
+invariant_of-result c =
+    let f = c.args.expr.now in
+    let valid = c.weekdays.ensures.expr.valid in
+    let years = years_filled c.members.result c.members-2.result c.members-3.result c.members-4.result (component_has Year f.year)
+    c.members.ensures c.members-2.ensures c.members-3.ensures c.members-4.ensures in
+    let hours = members_are c.members-6.result 24 (component_has Hour f.hour) c.members-6.ensures
+    (λ v h. let both = component_both Hour f.hour v valid.hour h in (both.0, omega (arith, both.1))) in
+    let minutes = members_are c.members-7.result 60 (component_has Minute f.minute) c.members-7.ensures
+    (λ v h. let both = component_both Minute f.minute v valid.minute h in (both.0, omega (arith, both.1))) in
+    let seconds = members_are c.members-8.result 60 (component_has Second f.second) c.members-8.ensures
+    (λ v h. let both = component_both Second f.second v valid.second h in (both.0, omega (arith, both.1))) in
+    let hour = component_some Hour f.hour valid.hour in
+    let minute = component_some Minute f.minute valid.minute in
+    let second = component_some Second f.second valid.second in
+    record {
+      weeks = weeks_repeat c.weeks.result c.weekdays.result c.weeks.ensures;
+      last_year = years_end _ (component_has Year f.year) years;
+      last_month = filled_end c.members-5.result 12 (λ i. component_has Month f.month (1 + i)) c.members-5.ensures;
+      last_hour = filled_end c.members-6.result 24 (λ i. component_has Hour f.hour (0 + i)) c.members-6.ensures;
+      last_minute = filled_end c.members-7.result 60 (λ i. component_has Minute f.minute (0 + i)) c.members-7.ensures;
+      last_second = filled_end c.members-8.result 60 (λ i. component_has Second f.second (0 + i)) c.members-8.ensures;
+      some_hour = filled_some c.members-6.result hour.0 (hours hour.0 ∙ hour.1);
+      some_minute = filled_some c.members-7.result minute.0 (minutes minute.0 ∙ minute.1);
+      some_second = filled_some c.members-8.result second.0 (seconds second.0 ∙ second.1);
+    }
 
 pub returns : goal.returns
 unfolding sets_in sets_of
 returns c =
     let f = c.args.expr.now in
     let valid = c.weekdays.ensures.expr.valid in
-    let year : (v : ℕ) → told c.table.result 1_970 v ≡ component_has Year f.year v =
-    component_told Year f.year c.table.result 230 valid.year c.table.ensures.all refl c.table.ensures.each in
-    let month : (v : ℕ) → told c.table-2.result 1 v ≡ component_has Month f.month v =
-    component_told Month f.month c.table-2.result 12 valid.month c.table-2.ensures.all refl c.table-2.ensures.each in
-    let day : (v : ℕ) → told c.table-3.result 1 v ≡ component_has (day_slot f.from_end) f.day v =
-    days_told f.from_end f.day c.table-3.result valid.day c.table-3.ensures.all c.table-3.ensures.each in
-    let hour : (v : ℕ) → told c.table-4.result 0 v ≡ component_has Hour f.hour v =
-    component_told Hour f.hour c.table-4.result 24 valid.hour c.table-4.ensures.all refl c.table-4.ensures.each in
-    let minute : (v : ℕ) → told c.table-5.result 0 v ≡ component_has Minute f.minute v =
-    component_told Minute f.minute c.table-5.result 60 valid.minute c.table-5.ensures.all refl c.table-5.ensures.each in
-    let second : (v : ℕ) → told c.table-6.result 0 v ≡ component_has Second f.second v =
-    component_told Second f.second c.table-6.result 60 valid.second c.table-6.ensures.all refl c.table-6.ensures.each in
+    let filled = years_filled c.members.result c.members-2.result c.members-3.result c.members-4.result (component_has Year f.year)
+    c.members.ensures c.members-2.ensures c.members-3.ensures c.members-4.ensures in
+    let years = numbers_are _ 1_970 230 (component_has Year f.year) filled
+    (λ v h. let both = component_both Year f.year v valid.year h in (both.0, omega (arith, both.1))) in
+    let months = numbers_are (is_bit c.members-5.result) 1 12 (component_has Month f.month) c.members-5.ensures
+    (λ v h. let both = component_both Month f.month v valid.month h in (both.0, omega (arith, both.1))) in
+    let hours = members_are c.members-6.result 24 (component_has Hour f.hour) c.members-6.ensures
+    (λ v h. let both = component_both Hour f.hour v valid.hour h in (both.0, omega (arith, both.1))) in
+    let minutes = members_are c.members-7.result 60 (component_has Minute f.minute) c.members-7.ensures
+    (λ v h. let both = component_both Minute f.minute v valid.minute h in (both.0, omega (arith, both.1))) in
+    let seconds = members_are c.members-8.result 60 (component_has Second f.second) c.members-8.ensures
+    (λ v h. let both = component_both Second f.second v valid.second h in (both.0, omega (arith, both.1))) in
+    let days : (v : ℕ) → ((nat_le 1 v && nat_le v 31) && is_bit c.days.result (day_place c.from_end-from_end.result v)) ≡ component_has (day_slot f.from_end) f.day v =
+    days_are c.days.result c.from_end-from_end.result (component_has (day_slot f.from_end) f.day) c.days.ensures (λ v. day_both f.from_end f.day v valid.day) in
+    let chosen : length c.weekdays.result ≡ 7 = ap length c.weekdays.ensures.chosen ∙ valid.seven in
+    let weekdays = weekdays_are c.weeks.result c.weekdays.result chosen c.weeks.ensures in
     λ i. record {
-      weekday = λ v. get_or (c.weekdays.ensures.chosen i) v false;
-      year = λ v. year v i;
-      month = λ v. month v i;
-      day = λ v. day v i;
-      hour = λ v. hour v i;
-      minute = λ v. minute v i;
-      second = λ v. second v i;
-      from_end = c.from_end.ensures i;
+      weekday = λ v. (weekdays v ∙ ap (λ (days : List Bool). get_or days v false) c.weekdays.ensures.chosen) i;
+      year = λ v. years v i;
+      month = λ v. months v i;
+      day = λ v. days v i;
+      hour = λ v. hours v i;
+      minute = λ v. minutes v i;
+      second = λ v. seconds v i;
+      from_end = c.from_end-from_end.ensures i;
     }

@@ -24,6 +24,6 @@ returns-in-Some-clause-first c =
     let count = seconds_in_all-is in
     let passes = matches (sets_in c.args.self.now.masks) in
     let start = to_z_pos w64 c.args.from (omega arith) in
-    let found = subst (IsFirstLocal passes (to_z w64 c.args.from)) c.in-Some.is c.next_local.ensures in
+    let found = subst (IsFirstLocal passes (to_z w64 c.args.from)) c.in-Some.is c.next_local.ensures.first in
     subst (λ (s : ℕ). IsFirstPassing passes c.args.from seconds_in_all (Some s)) (sym c.unsigned_abs.ensures.value)
     (IsFirstPassing-Some passes (to_z w64 c.args.from) c.args.from c.in-Some.local start found)

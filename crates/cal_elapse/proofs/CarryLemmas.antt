@@ -1,0 +1,127 @@
+-- The first number that passes, where a number is a high part and a low one, each with a test of its own: a search goes
+-- on with the low part, and then with the next high one and its first low one.
+use Rattle.std.proofs.Common.{◌≡◌, ℕ, ◌+◌, ◌*◌, ◌/◌, ◌%◌, ◌<◌, ◌≤◌, Bool, true, false, ◌&&◌, Option, None, Some, ap, sym, subst, inl, inr, ◌∙◌, refl, arith, add-mul, one-mul, mul-le-mul_right}
+use Rattle.std.proofs.lemmas.Bool.{cases_lt}
+use Rattle.std.proofs.lemmas.Nat.{div-add-mod', div_below, le-div, mod_below}
+use Rattle.cal_elapse.specs.Search.{IsFirstPassing, NonePasses}
+
+-- a search in two parts
+pub first_then : (passes : ℕ → Bool) (from mid end : ℕ) (r : Option ℕ) → NonePasses passes from mid → from ≤ mid → IsFirstPassing passes mid end r → IsFirstPassing passes from end r
+first_then passes from mid end None none low rest = λ t above below.
+    elim (cases_lt t mid) [ inl early ↦ none t above early | inr late ↦ rest t late below ]
+first_then passes from mid end (Some s) none low rest = (
+  omega (arith, rest.0),
+  rest.1,
+  rest.2,
+  λ t above below. elim (cases_lt t mid) [ inl early ↦ none t above early | inr late ↦ rest.3 t late below ],
+)
+
+-- the first up to some end is the first up to a later one
+pub first_within : (passes : ℕ → Bool) (from mid end s : ℕ) → mid ≤ end → IsFirstPassing passes from mid (Some s) → IsFirstPassing passes from end (Some s)
+first_within passes from mid end s low found = (found.0, omega (arith, found.1), found.2, found.3)
+
+-- what passes lies below a number from which on none does
+pub below_end : (passes : ℕ → Bool) (n s : ℕ) → ((i : ℕ) → n ≤ i → passes i ≡ false) → passes s ≡ true → s < n
+below_end passes n s none holds =
+    elim (cases_lt s n) [
+      | inl low ↦ low
+      | inr high ↦ (let no : passes s ≡ false = none s high in let clash : true ≡ false = sym holds ∙ no in absurd (cc))
+    ]
+
+pub first_narrow : (passes : ℕ → Bool) (from n end s : ℕ) → ((i : ℕ) → n ≤ i → passes i ≡ false) → IsFirstPassing passes from end (Some s) → IsFirstPassing passes from n (Some s)
+first_narrow passes from n end s none found = (found.0, below_end passes n s none found.2, found.2, found.3)
+
+-- a test of numbers a * size + b, for a below the limit and b below the size
+pub record Splits (passes high low : ℕ → Bool) (size limit : ℕ) : Type 0 where
+  pub positive : 0 < size
+  pub split : (a b : ℕ) → a < limit → b < size → passes (a * size + b) ≡ (high a && low b)
+
+-- the parts of a number between two multiples of the size
+high_part : (size a t : ℕ) → 0 < size → a * size ≤ t → t < (a + 1) * size → t / size ≡ a
+high_part size a t positive low high =
+    let least = le-div a t size positive low in
+    let most = div_below t size (a + 1) positive high in
+    omega (arith, least, most)
+
+low_part : (size a l t : ℕ) → t / size ≡ a → a * size + l ≤ t → l ≤ t % size
+low_part size a l t same low =
+    let parts : a * size + t % size ≡ t = (rw same at (div-add-mod' t size)) in
+    omega (arith, parts)
+
+low_end : (size a l t : ℕ) → t / size ≡ a → t < a * size + l → t % size < l
+low_end size a l t same low =
+    let parts : a * size + t % size ≡ t = (rw same at (div-add-mod' t size)) in
+    omega (arith, parts)
+
+both_true : (x y : Bool) → x ≡ true → y ≡ true → (x && y) ≡ true
+both_true x y p q = rw (p, q)
+
+first_false : (x y : Bool) → x ≡ false → (x && y) ≡ false
+first_false x y p = rw p
+
+pub last_false : (x y : Bool) → y ≡ false → (x && y) ≡ false
+last_false true y p = p
+last_false false y p = refl
+
+module _ (passes high low : ℕ → Bool) (size limit : ℕ) (s : Splits passes high low size limit) where
+  pub split_at : (a t : ℕ) → a < limit → t / size ≡ a → passes t ≡ (high a && low (t % size))
+  split_at a t inside same =
+      let parts : a * size + t % size ≡ t = (rw same at (div-add-mod' t size)) in
+      subst (λ (n : ℕ). passes n ≡ (high a && low (t % size))) parts (s.split a (t % size) inside (mod_below t size s.positive))
+
+  next_high : (a : ℕ) → (a + 1) * size ≡ a * size + size
+  next_high a = add-mul a 1 size ∙ ap (λ (n : ℕ). a * size + n) (one-mul size)
+
+  -- none with this high part
+  pub none_by_high : (a l : ℕ) → a < limit → high a ≡ false → NonePasses passes (a * size + l) ((a + 1) * size)
+  none_by_high a l inside fails = λ t above below.
+      let same = high_part size a t s.positive (omega (arith, above)) below in
+      split_at a t inside same ∙ first_false (high a) (low (t % size)) fails
+
+  pub none_by_low : (a l end : ℕ) → a < limit → size ≤ end → NonePasses low l end → NonePasses passes (a * size + l) ((a + 1) * size)
+  none_by_low a l end inside far none = λ t above below.
+      let same = high_part size a t s.positive (omega (arith, above)) below in
+      let small = mod_below t size s.positive in
+      split_at a t inside same ∙ last_false (high a) (low (t % size)) (none (t % size) (low_part size a l t same above) (omega (arith, small)))
+
+  -- the first with this high part
+  pub first_here : (a l end b : ℕ) → a < limit → high a ≡ true → b < size → IsFirstPassing low l end (Some b)
+      → IsFirstPassing passes (a * size + l) ((a + 1) * size) (Some (a * size + b))
+  first_here a l end b inside holds small found =
+      let next = next_high a in (
+        omega (arith, found.0),
+        omega (arith, next),
+        s.split a b inside small ∙ both_true (high a) (low b) holds found.2,
+        λ t above below.
+            let same = high_part size a t s.positive (omega (arith, above)) (omega (arith, below, next)) in
+            split_at a t inside same ∙ last_false (high a) (low (t % size)) (found.3 (t % size) (low_part size a l t same above) (low_end size a b t same below)),
+      )
+
+  -- none with a later high part
+  pub none_later : (a end : ℕ) → limit ≤ end → NonePasses high a end → NonePasses passes (a * size) (limit * size)
+  none_later a end far none = λ t above below.
+      let least = le-div a t size s.positive above in
+      let most = div_below t size limit s.positive below in
+      split_at (t / size) t most refl ∙ first_false (high (t / size)) (low (t % size)) (none (t / size) least (omega (arith, most)))
+
+  -- the first with a later high part
+  pub first_later : (a end h e b : ℕ) → h < limit → b < size → IsFirstPassing high a end (Some h) → IsFirstPassing low 0 e (Some b)
+      → IsFirstPassing passes (a * size) (limit * size) (Some (h * size + b))
+  first_later a end h e b inside small found first =
+      let next = next_high h in
+      let begin : a * size ≤ h * size = mul-le-mul_right size found.0 in
+      let last : (h + 1) * size ≤ limit * size = mul-le-mul_right size (omega arith) in (
+        omega (arith, begin),
+        omega (arith, next, last),
+        s.split h b inside small ∙ both_true (high h) (low b) found.2 first.2,
+        λ t above below.
+            elim (cases_lt t (h * size)) [
+              | inl early ↦
+                  (let least = le-div a t size s.positive above in
+                  let most = div_below t size h s.positive early in
+                  split_at (t / size) t (omega (arith, most, inside)) refl ∙ first_false (high (t / size)) (low (t % size)) (found.3 (t / size) least most))
+              | inr late ↦
+                  (let same = high_part size h t s.positive late (omega (arith, next, below)) in
+                  split_at h t inside same ∙ last_false (high h) (low (t % size)) (first.3 (t % size) (omega arith) (low_end size h b t same below)))
+            ],
+      )

@@ -1,0 +1,82 @@
+-- The days of a month that match, as a word.
+use Rattle.std.proofs.Common.{◌≡◌, ℕ, ◌+◌, ◌-◌, ◌*◌, ◌/◌, ◌%◌, ◌^◌, ◌<◌, ◌≤◌, Bool, true, false, ◌&&◌, nat_le, nat_lt, bit_and, if◌then◌else◌, ap, refl, sym, inl, inr, ◌∙◌, arith}
+use Rattle.std.proofs.lemmas.Bool.{cases_lt}
+use Rattle.std.proofs.lemmas.Bool.Decides.{nat_tests}
+use Rattle.std.proofs.lemmas.Nat.{one_shl}
+use Rattle.std.proofs.lemmas.Nat.Bits.{bit_at_ones, bit_at_ones_above}
+use Rattle.cal_elapse.specs.Bits.{is_bit}
+use Rattle.cal_elapse.specs.Masks.{day_place, sets_in}
+use Rattle.cal_elapse.specs.Months.{day_in, first_day, length_of, month_in}
+use Rattle.cal_elapse.specs.declared.masks.Masks.{Masks}
+use Rattle.cal_elapse.proofs.BitLemmas.{is_bit-and, is_bit-one, is_bit-shifted, is_bit-zero}
+use Rattle.cal_elapse.proofs.CarryLemmas.{last_false}
+use Rattle.cal_elapse.proofs.MonthLemmas.{day_in-month, length_bounds}
+
+-- as many bits as a month has days
+pub ones_are : (length k : ℕ) → length ≤ 31 → is_bit (1 * 2 ^ length % 2 ^ 64 - 1) k ≡ nat_lt k length
+ones_are length k short =
+    let power : 1 * 2 ^ length % 2 ^ 64 ≡ 2 ^ length = one_shl length 64 (omega arith) in
+    rw power
+    (elim (cases_lt k length) [
+      | inl low ↦ (let yes : nat_lt k length ≡ true = grind (arith, nat_tests) in rw yes (is_bit-one (2 ^ length - 1) k (bit_at_ones length k low)))
+      | inr high ↦ (let out : nat_lt k length ≡ false = grind (arith, nat_tests) in rw out (is_bit-zero (2 ^ length - 1) k (bit_at_ones_above length k high)))
+    ])
+
+-- a day's number stands as far above that of the month's first day as the day itself
+day_at : (days : ℕ) (from_end : Bool) (length k : ℕ) → length ≤ 31 → k < length
+    → ((nat_le 1 (if from_end then length - k else k + 1) && nat_le (if from_end then length - k else k + 1) 31)
+    && is_bit days (day_place from_end (if from_end then length - k else k + 1)))
+    ≡ is_bit days ((if from_end then 31 - length else 0) + k)
+day_at days true length k short small =
+    let least : nat_le 1 (length - k) ≡ true = grind (arith, nat_tests) in
+    let most : nat_le (length - k) 31 ≡ true = grind (arith, nat_tests) in
+    let place : 31 - (length - k) ≡ 31 - length + k = omega arith in
+    rw (least, most, place)
+day_at days false length k short small =
+    let least : nat_le 1 (k + 1) ≡ true = grind (arith, nat_tests) in
+    let most : nat_le (k + 1) 31 ≡ true = grind (arith, nat_tests) in
+    let place : k + 1 - 1 ≡ 0 + k = omega arith in
+    rw (least, most, place)
+
+in_order : (d w y m : Bool) → (y && m) ≡ true → ((d && w) && true) ≡ (w && (y && (m && d)))
+in_order true true true true h = refl
+in_order true false true true h = refl
+in_order false true true true h = refl
+in_order false false true true h = refl
+in_order d w true false h = absurd (cc)
+in_order d w false m h = absurd (cc)
+
+weekday_at : (m : Masks) (first k : ℕ) → k < 31 → is_bit m.weekdays ((first + 3) % 7 + k) ≡ (nat_lt ((first + k + 3) % 7) 7 && is_bit m.weekdays ((first + k + 3) % 7))
+weekday_at m first k small =
+    let same : ((first + 3) % 7 + k) % 7 ≡ (first + k + 3) % 7 = omega arith in
+    let week : nat_lt ((first + k + 3) % 7) 7 ≡ true = (let below : (first + k + 3) % 7 < 7 = omega arith in grind (arith, nat_tests)) in
+    rw week (m.weeks ((first + 3) % 7 + k) (omega arith) ∙ ap (is_bit m.weekdays) same)
+
+-- the day mask and the weekday mask, turned to the month's first day, have its days that match
+pub days_are : (m : Masks) (n first length lowest ones k : ℕ) → n < 2_760 → first ≡ first_day n → length ≡ length_of n
+    → lowest ≡ (if m.from_end then 31 - length else 0) → month_in (sets_in m) n ≡ true → k < length → is_bit ones k ≡ true
+    → is_bit (bit_and (bit_and (m.days / 2 ^ lowest) (m.weekdays / 2 ^ ((first + 3) % 7))) ones) k ≡ day_in (sets_in m) (first + k)
+unfolding sets_in month_in
+days_are m n first length lowest ones k within begins long place member small all =
+    let bounds = length_bounds n in
+    let day = day_in-month (sets_in m) n k (omega arith) (omega arith) in
+    let number = day_at m.days m.from_end (length_of n) k bounds.0 (omega arith) in
+    let weekday = weekday_at m (first_day n) k (omega arith) in
+    let days : is_bit (m.days / 2 ^ lowest) k ≡ is_bit m.days (lowest + k) = is_bit-shifted m.days lowest k in
+    let weekdays : is_bit (m.weekdays / 2 ^ ((first + 3) % 7)) k ≡ is_bit m.weekdays ((first + 3) % 7 + k) = is_bit-shifted m.weekdays ((first + 3) % 7) k in
+    is_bit-and (bit_and (m.days / 2 ^ lowest) (m.weekdays / 2 ^ ((first + 3) % 7))) ones k
+    ∙ (rw (is_bit-and (m.days / 2 ^ lowest) (m.weekdays / 2 ^ ((first + 3) % 7)) k, all, days, weekdays, place, begins, long)
+    (sym
+    (day ∙ (rw (number, ← weekday)
+    (sym (in_order (is_bit m.days ((if m.from_end then 31 - length_of n else 0) + k)) (is_bit m.weekdays ((first_day n + 3) % 7 + k)) _ _ member))))))
+
+-- and none behind its last day
+pub days_end : (bits ones length k : ℕ) → ((i : ℕ) → is_bit ones i ≡ nat_lt i length) → is_bit (bit_and bits ones) k ≡ true → k < length
+days_end bits ones length k all holds =
+    elim (cases_lt k length) [
+      | inl low ↦ low
+      | inr high ↦
+          (let out : nat_lt k length ≡ false = grind (arith, nat_tests) in
+          let none : is_bit (bit_and bits ones) k ≡ false = is_bit-and bits ones k ∙ last_false (is_bit bits k) (is_bit ones k) (all k ∙ out) in
+          let clash : true ≡ false = sym holds ∙ none in absurd (cc))
+    ]

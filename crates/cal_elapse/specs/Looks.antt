@@ -1,0 +1,17 @@
+-- How many months a search looks at: those, from the month of its start to the month of its answer, whose year and
+-- month number are both members; without an answer those to the end of 2199.
+use Rattle.std.specs.Prelude.{ℕ, suc, ◌-◌, ◌/◌, Option, None, Some}
+use Rattle.std.specs.Option.{option_map}
+use Rattle.cal_base.specs.Local.{civil_date}
+use Rattle.cal_spec.specs.Match.{Sets}
+use Rattle.cal_elapse.specs.Count.{count_from}
+use Rattle.cal_elapse.specs.Months.{month_in, month_of}
+
+-- from month n to the month of the day that was found
+abbrev pub looks_from : Sets → ℕ → Option ℕ → ℕ
+looks_from sets n None = count_from (month_in sets) n (2_760 - n)
+looks_from sets n (Some day) = count_from (month_in sets) n (suc (month_of (civil_date day)) - n)
+
+-- from a local second to the one that was found
+abbrev pub month_looks : Sets → ℕ → Option ℕ → ℕ
+month_looks sets from answer = looks_from sets (month_of (civil_date (from / 86_400))) (option_map (λ t. t / 86_400) answer)

@@ -1,0 +1,63 @@
+//! The next day that matches, month after month, each month that is looked at counted (systemd.time(7), Calendar
+//! Events).
+
+ghost use Rattle.std.specs.Prelude.{◌≡◌, ◌+◌, ◌<◌, ◌≤◌, cond};
+ghost use Rattle.cal_elapse.specs.Looks.{looks_from};
+ghost use Rattle.cal_elapse.specs.Masks.{sets_in};
+ghost use Rattle.cal_elapse.specs.Months.{day_in, first_day, month_in};
+ghost use Rattle.cal_elapse.specs.Search.{IsFirstPassing};
+
+use crate::Masks;
+use crate::month::{Month, month_at};
+use crate::month_days::MonthDays;
+use crate::month_search::{has_month, next_month};
+
+/// The first day that matches and isn't before `from`, a day of the month or the one after it; `None` where there is
+/// none. Counts the months that it looks at.
+pub(crate) fn next_day(masks: &Masks, month: Month, from: u32, looks: &mut u32) -> Option<u32>
+    requires low { month.first ≤ from }
+    requires high { from ≤ month.first + month.length }
+    requires none { looks.old ≡ 0 }
+    ensures first { IsFirstPassing (day_in (sets_in masks.now)) from 84_006 result }
+    ensures counted { looks.new ≡ looks_from (sets_in masks.now) month.index result }
+{
+    match next_in_month(masks, month, from, looks) {
+        Some(day) => Some(day),
+        None => next_from_month(masks, month.index + 1, looks),
+    }
+}
+
+/// The first one in the month.
+fn next_in_month(masks: &Masks, month: Month, from: u32, looks: &mut u32) -> Option<u32>
+    requires low { month.first ≤ from }
+    requires high { from ≤ month.first + month.length }
+    requires none { looks.old ≡ 0 }
+    ensures first { IsFirstPassing (day_in (sets_in masks.now)) from (month.first + month.length) result }
+    ensures counted { looks.new ≡ cond (month_in (sets_in masks.now) month.index) 1 0 }
+{
+    if !has_month(masks, month.index) {
+        return None;
+    }
+    match MonthDays::of(masks, month, looks).next(from - month.first) {
+        Some(place) => Some(month.first + place),
+        None => None,
+    }
+}
+
+/// The first one from a month's first day on.
+fn next_from_month(masks: &Masks, from: u32, looks: &mut u32) -> Option<u32>
+    requires from_in { from ≤ 2_760 }
+    requires few { looks.old ≤ from }
+    ensures first { IsFirstPassing (day_in (sets_in masks.now)) (first_day from) 84_006 result }
+    ensures counted { looks.new ≡ looks.old + looks_from (sets_in masks.now) from result }
+{
+    let mut index = from;
+    while let Some(next) = next_month(masks, index) {
+        let month = month_at(next);
+        if let Some(place) = MonthDays::of(masks, month, looks).next(0) {
+            return Some(month.first + place);
+        }
+        index = next + 1;
+    }
+    None
+}

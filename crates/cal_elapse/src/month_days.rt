@@ -1,0 +1,62 @@
+//! The days of a month that match: the one place where they are formed, and counted (systemd.time(7), Calendar Events).
+
+ghost use Rattle.std.specs.Prelude.{◌≡◌, ◌+◌, ◌-◌, ◌<◌, ◌≤◌, ℕ, true, nat_lt, if◌then◌else◌};
+ghost use Rattle.cal_elapse.specs.Bits.{is_bit};
+ghost use Rattle.cal_elapse.specs.Masks.{sets_in};
+ghost use Rattle.cal_elapse.specs.Months.{day_in, month_in};
+ghost use Rattle.cal_elapse.specs.Search.{IsFirstPassing};
+
+use crate::Masks;
+use crate::bits::next_bit;
+use crate::month::Month;
+
+/// The days of a month that match, the first of the month at the lowest bit. The field is private, so that each set of
+/// days is counted.
+#[derive(Clone, Copy, Debug)]
+pub(crate) struct MonthDays {
+    bits: u64,
+}
+
+impl MonthDays {
+    /// The days of a month whose year and number are members: the mask of days, and the mask of weekdays turned so
+    /// that it begins with that of the month's first day.
+    pub(crate) fn of(masks: &Masks, month: Month, looks: &mut u32) -> MonthDays
+        requires member { month_in (sets_in masks.now) month.index ≡ true }
+        requires few { looks.old < 2_760 }
+        ensures counted { looks.new ≡ looks.old + 1 }
+        ensures days { (k : ℕ) → k < month.length
+            → is_bit result.bits k ≡ day_in (sets_in masks.now) (month.first + k) }
+        ensures within { (k : ℕ) → is_bit result.bits k ≡ true → k < month.length }
+    {
+        *looks += 1;
+        let days = masks.days >> lowest_place(masks.from_end, month.length);
+        let weekdays = masks.weekdays >> ((month.first + 3) % 7);
+        MonthDays {
+            bits: days & weekdays & all_days(month.length),
+        }
+    }
+
+    /// The first of them from the `from`th on, which is counted from 0 and at most 31.
+    pub(crate) fn next(self, from: u32) -> Option<u32>
+        requires { from ≤ 31 }
+        ensures { IsFirstPassing (is_bit self.bits) from 64 result }
+    {
+        next_bit(self.bits, from)
+    }
+}
+
+/// Where a month's first day stands in the mask of days.
+fn lowest_place(from_end: bool, length: u32) -> u32
+    requires { length ≤ 31 }
+    ensures { result ≡ (if from_end then 31 - length else 0) }
+{
+    if from_end { 31 - length } else { 0 }
+}
+
+/// As many bits as a month has days.
+fn all_days(length: u32) -> u64
+    requires { length ≤ 31 }
+    ensures { (k : ℕ) → is_bit result k ≡ nat_lt k length }
+{
+    (1 << length) - 1
+}

@@ -1,0 +1,103 @@
+//! The next time of day whose hour, minute and second are members, by jumps from bit to bit (systemd.time(7), Calendar
+//! Events).
+
+ghost use Rattle.std.specs.Prelude.{◌≡◌, ◌+◌, ◌*◌, ◌/◌, ◌<◌, ◌≤◌};
+ghost use Rattle.cal_elapse.specs.Masks.{sets_in};
+ghost use Rattle.cal_elapse.specs.Months.{minute_in};
+ghost use Rattle.cal_elapse.specs.Search.{IsFirstPassing};
+ghost use Rattle.cal_spec.specs.Match.{time_in};
+
+use crate::Masks;
+use crate::bits::{has_bit, lowest_bit, next_bit};
+
+/// The first time of day that isn't before `from`, in seconds after midnight, below 86,400; `None` where there is none.
+pub(crate) fn next_second(masks: &Masks, from: u32) -> Option<u32>
+    requires { from < 86_400 }
+    ensures { IsFirstPassing (time_in (sets_in masks.now)) from 86_400 result }
+{
+    match second_here(masks, from) {
+        Some(second) => Some(second),
+        None => second_later(masks, from / 60 + 1),
+    }
+}
+
+/// The first time of day.
+pub(crate) fn first_second(masks: &Masks) -> u32
+    ensures { IsFirstPassing (time_in (sets_in masks.now)) 0 86_400 (Some result) }
+{
+    let minute = lowest_bit(masks.hours) * 60 + lowest_bit(masks.minutes);
+    minute * 60 + lowest_bit(masks.seconds)
+}
+
+/// The first one in the same minute.
+fn second_here(masks: &Masks, from: u32) -> Option<u32>
+    requires { from < 86_400 }
+    ensures { IsFirstPassing (time_in (sets_in masks.now)) from ((from / 60 + 1) * 60) result }
+{
+    if !has_minute(masks, from / 60) {
+        return None;
+    }
+    match next_bit(masks.seconds, from % 60) {
+        Some(second) => Some(from / 60 * 60 + second),
+        None => None,
+    }
+}
+
+/// The first one from a minute's begin on.
+fn second_later(masks: &Masks, minute: u32) -> Option<u32>
+    requires { minute ≤ 1_440 }
+    ensures { IsFirstPassing (time_in (sets_in masks.now)) (minute * 60) 86_400 result }
+{
+    match next_minute(masks, minute) {
+        Some(minute) => Some(minute * 60 + lowest_bit(masks.seconds)),
+        None => None,
+    }
+}
+
+/// The first minute of the day that isn't before `from` and whose hour and minute are members.
+fn next_minute(masks: &Masks, from: u32) -> Option<u32>
+    requires { from ≤ 1_440 }
+    ensures { IsFirstPassing (minute_in (sets_in masks.now)) from 1_440 result }
+{
+    if from == 1_440 {
+        return None;
+    }
+    match minute_here(masks, from) {
+        Some(minute) => Some(minute),
+        None => minute_later(masks, from / 60 + 1),
+    }
+}
+
+/// Whether the hour and the minute are members.
+#[tactic(auto, unfolding(crate::specs::Months::minute_in, crate::specs::Masks::sets_in))]
+fn has_minute(masks: &Masks, minute: u32) -> bool
+    requires { minute < 1_440 }
+    ensures { result ≡ minute_in (sets_in masks.now) minute }
+{
+    has_bit(masks.hours, minute / 60) && has_bit(masks.minutes, minute % 60)
+}
+
+/// The first one in the same hour.
+fn minute_here(masks: &Masks, from: u32) -> Option<u32>
+    requires { from < 1_440 }
+    ensures { IsFirstPassing (minute_in (sets_in masks.now)) from ((from / 60 + 1) * 60) result }
+{
+    if !has_bit(masks.hours, from / 60) {
+        return None;
+    }
+    match next_bit(masks.minutes, from % 60) {
+        Some(minute) => Some(from / 60 * 60 + minute),
+        None => None,
+    }
+}
+
+/// The first one from an hour's begin on.
+fn minute_later(masks: &Masks, hour: u32) -> Option<u32>
+    requires { hour ≤ 24 }
+    ensures { IsFirstPassing (minute_in (sets_in masks.now)) (hour * 60) 1_440 result }
+{
+    match next_bit(masks.hours, hour) {
+        Some(hour) => Some(hour * 60 + lowest_bit(masks.minutes)),
+        None => None,
+    }
+}
