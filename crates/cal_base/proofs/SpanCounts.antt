@@ -111,11 +111,12 @@ led_taken lead units i d size n within e fits =
     ∙ ap (led lead) (positive_taken (get_or units i d) (drop (i + 1) units) n (omega (arith, e)))
     ∙ led_first lead (record { number = n / size_of (get_or units i d); unit = get_or units i d }) (positive (counts_of (drop (i + 1) units) (n % size_of (get_or units i d)))))
 
-pub led_skipped : (lead : List ℕ) (units : List Scale) (i : ℕ) (d : Scale) (size n : ℕ) → i < length units → size ≡ size_of (get_or units i d) → n < size → led lead (positive (counts_of (drop i units) n)) ≡ led lead (positive (counts_of (drop (i + 1) units) (n % size)))
+pub led_skipped : (lead : List ℕ) (units : List Scale) (i : ℕ) (d : Scale) (size n : ℕ) → i < length units → size ≡ size_of (get_or units i d) → n < size → led lead (positive (counts_of (drop i units) n)) ≡ led lead (positive (counts_of (drop (i + 1) units) n))
 led_skipped lead units i d size n within e below =
-    rw e
-    (at_drop_more (λ (us : List Scale). led lead (positive (counts_of us n))) units i d within
-    ∙ ap (led lead) (positive_skipped (get_or units i d) (drop (i + 1) units) n (omega (arith, e))))
+    let small : n < size_of (get_or units i d) = omega (arith, e) in
+    at_drop_more (λ (us : List Scale). led lead (positive (counts_of us n))) units i d within
+    ∙ ap (led lead) (positive_skipped (get_or units i d) (drop (i + 1) units) n small)
+    ∙ ap (λ left. led lead (positive (counts_of (drop (i + 1) units) left))) (mod-eq_of_lt small)
 
 -- one count more, kept where it isn't zero
 weight-kept : (c : Count) (kept : List Count) (n : ℕ) → weight kept ≡ n → (b : Bool) → nat_lt 0 c.number ≡ b → weight (cond b (c ∷ kept) kept) ≡ c.number * size_of c.unit + n

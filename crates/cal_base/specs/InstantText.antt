@@ -48,13 +48,13 @@ offset_text offset =
 unfoldable pub zone_word : Bool → ℤ → List ℕ
 zone_word is_utc offset = if is_utc then codes "UTC" else offset_text offset
 
--- what a clock shows: weekday, date and time, and the word of its zone
-unfoldable pub civil_text : Civil → List ℕ → List ℕ
-civil_text c word =
-    joined (weekday_name c.weekday ∷ codes " " ∷ date_text c ∷ codes " " ∷ time_text c.hour c.minute c.second ∷ codes " " ∷ word ∷ [])
+-- what a clock shows: weekday, date and time, each with a space behind it
+unfoldable pub shown_text : Civil → List ℕ
+shown_text c =
+    joined (weekday_name c.weekday ∷ codes " " ∷ date_text c ∷ codes " " ∷ time_text c.hour c.minute c.second ∷ codes " " ∷ [])
 
 -- the instant as the zone's clock shows it
 unfoldable pub instant_text : Zone → ℤ → List ℕ
 instant_text zone second =
     let shown = civil_of (zone_of zone) second in
-    civil_text shown (zone_word (is_utc zone) shown.offset)
+    shown_text shown ++ zone_word (is_utc zone) shown.offset

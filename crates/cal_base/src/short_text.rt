@@ -1,8 +1,9 @@
-//! Short texts on the stack: each is formed whole, so that a layout is written in one call.
+//! Short texts on the stack: a layout is formed whole, piece behind piece, so that it is written in one call.
 
 ghost use Rattle.std.specs.Prelude.{◌≡◌, ◌+◌, ◌-◌, ◌≤◌, ◌++◌, length, replicate};
 ghost use Rattle.std.specs.List.{flat_map};
 ghost use Rattle.cal_base.specs.Fill.{byte_of};
+ghost use Rattle.cal_base.specs.declared.short_text.TheConstants.{ROOM};
 
 use arrayvec::ArrayVec;
 
@@ -15,24 +16,25 @@ pub enum Fill {
     Blank,
 }
 
-/// A text of at most 256 bytes.
-pub type ShortText = ArrayVec<u8, 256>;
+/// The most bytes of a short text.
+pub const ROOM: usize = 512;
 
-/// Pieces in a row, which have to fit.
-pub fn in_a_row(pieces: &[&[u8]]) -> ShortText
-    requires { length (flat_map (λ piece. piece.now) pieces.now) ≤ 256 }
-    ensures { result.items ≡ flat_map (λ piece. piece.now) pieces.now }
+/// A text of at most [`ROOM`] bytes.
+pub type ShortText = ArrayVec<u8, 512>;
+
+/// Appends pieces in a row, which have to fit.
+pub fn push_all(text: &mut ShortText, pieces: &[&[u8]])
+    requires { length text.old.items + length (flat_map (λ piece. piece.now) pieces.now) ≤ ROOM }
+    ensures { text.new.items ≡ text.old.items ++ flat_map (λ piece. piece.now) pieces.now }
 {
-    let mut text = ArrayVec::new();
     for piece in pieces {
-        push(&mut text, piece);
+        push(text, piece);
     }
-    text
 }
 
 /// Appends a piece, which has to fit.
 pub fn push(text: &mut ShortText, piece: &[u8])
-    requires { length text.old.items + length piece.now ≤ 256 }
+    requires { length text.old.items + length piece.now ≤ ROOM }
     ensures { text.new.items ≡ text.old.items ++ piece.now }
 {
     if text.try_extend_from_slice(piece).is_err() {

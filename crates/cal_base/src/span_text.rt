@@ -6,27 +6,38 @@ ghost use Rattle.cal_base.specs.Span.{limit};
 ghost use Rattle.cal_base.specs.SpanValue.{span_of};
 ghost use Rattle.cal_base.specs.Bytes.{Writes, joined};
 ghost use Rattle.cal_base.specs.Scale.{name_of};
+ghost use Rattle.cal_base.specs.declared.short_text.TheConstants.{ROOM};
 ghost use Rattle.cal_base.specs.SpanText.{IsSpanText, span_text, row_text, positive, counts_of};
 
 use crate::bytes::{Sink, WriteFault, put_all};
 use crate::scale::Scale;
-use crate::short_text::{ShortText, in_a_row, push};
+use crate::short_text::{ShortText, push};
 use crate::span::Span;
 use itoa::Buffer;
 
-/// The text of a span from the largest unit down, counts of zero left out, as `1h 30min`, or `0` where it is
-/// nothing (systemd.time(7), Parsing Time Spans).
-pub fn format_span(span: Span) -> ShortText
-    ensures text { result.items ≡ span_text span.micros }
-    ensures short { length result.items ≤ 234 }
+/// Appends the text of a span from the largest unit down, counts of zero left out, as `1h 30min`, or `0` where it is
+/// nothing (systemd.time(7), Parsing Time Spans). It takes at most 234 bytes.
+pub fn push_span(text: &mut ShortText, span: Span)
+    requires room { length text.old.items + 234 ≤ ROOM }
+    ensures text { text.new.items ≡ text.old.items ++ span_text span.micros }
+    ensures short { length text.new.items ≤ length text.old.items + 234 }
 {
     match span.micros() {
-        0 => in_a_row(&[b"0"]),
-        micros => format_counts(&Scale::ALL, micros),
+        0 => push(text, b"0"),
+        micros => push_counts(text, &Scale::ALL, micros),
     }
 }
 
-/// Writes the text of a span, as [`format_span`] forms it.
+/// The text of a span, as [`push_span`] forms it.
+pub fn format_span(span: Span) -> ShortText
+    ensures { result.items ≡ span_text span.micros }
+{
+    let mut text = ShortText::new();
+    push_span(&mut text, span);
+    text
+}
+
+/// Writes the text of a span, as [`push_span`] forms it.
 ///
 /// [`WriteFault::Failed`] comes exactly where the writer failed; it has a prefix of the text then.
 pub fn write_span<W: Sink>(out: &mut W, span: Span) -> Result<(), WriteFault>
@@ -49,30 +60,29 @@ pub fn text_reads_back()
     ensures { (n : ℕ) → n ≤ limit → span_of (span_text n) ≡ Ok n }
 {}
 
-/// The counts that aren't zero, one space between them.
-fn format_counts(scales: &[Scale], micros: u64) -> ShortText
-    requires { length scales.now ≤ 9 }
-    ensures text { result.items ≡ row_text (positive (counts_of scales.now micros)) }
-    ensures short { length result.items ≤ 234 }
+/// Appends the counts that aren't zero, one space between them.
+fn push_counts(text: &mut ShortText, scales: &[Scale], micros: u64)
+    requires few { length scales.now ≤ 9 }
+    requires room { length text.old.items + 234 ≤ ROOM }
+    ensures text { text.new.items ≡ text.old.items ++ row_text (positive (counts_of scales.now micros)) }
+    ensures short { length text.new.items ≤ length text.old.items + 234 }
 {
-    let mut text = ShortText::new();
     let mut lead: &[u8] = b"";
     let mut rest = micros;
     for scale in scales {
         let size = scale.micros();
         if rest >= size {
-            push_count(&mut text, lead, rest / size, *scale);
+            push_count(text, lead, rest / size, *scale);
             lead = b" ";
+            rest %= size;
         }
-        rest %= size;
     }
-    text
 }
 
 /// Appends one count, with what leads up to it in front.
 fn push_count(text: &mut ShortText, lead: &[u8], count: u64, unit: Scale)
     requires lead { length lead.now ≤ 1 }
-    requires room { length text.old.items + 26 ≤ 256 }
+    requires room { length text.old.items + 26 ≤ ROOM }
     ensures text { text.new.items ≡ text.old.items ++ joined (lead.now ∷ decimal count ∷ name_of unit ∷ []) }
     ensures short { length text.new.items ≤ length text.old.items + 26 }
 {

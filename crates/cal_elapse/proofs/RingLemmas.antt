@@ -1,6 +1,6 @@
 -- A round of cells: its members, the first of them, and what is there once one is put or taken.
-use Rattle.std.proofs.Common.{◌+ℤ◌, ◌≡◌, ◌≢◌, ◌⊎◌, ◌↔◌, ℕ, zero, suc, ◌+◌, ◌-◌, ◌%◌, ◌<◌, ◌≤◌, cond, Bool, true, false, List, [], ◌∷◌, length, get_or, replicate, inl, inr, None, Some, ◌/◌, negsuc, unsigned_abs, to_z, w64, ℤ, pos, ◌<ℤ◌, ◌≤ℤ◌, refl, sym, ap, ◌∙◌, subst, arith}
-use Rattle.std.proofs.lemmas.Bool.{cases_eq, cases_lt}
+use Rattle.std.proofs.Common.{◌+ℤ◌, ◌≡◌, ◌≢◌, ◌⊎◌, ◌↔◌, ℕ, zero, suc, ◌+◌, ◌-◌, ◌%◌, ◌<◌, ◌≤◌, cond, Bool, true, false, List, [], ◌∷◌, length, min, Option, get_or, replicate, inl, inr, None, Some, ◌/◌, negsuc, unsigned_abs, to_z, w64, ℤ, pos, ◌<ℤ◌, ◌≤ℤ◌, refl, sym, ap, ◌∙◌, subst, arith}
+use Rattle.std.proofs.lemmas.Bool.{cases_eq, cases_lt, false_from_ne_true}
 use Rattle.std.proofs.lemmas.Int.{ints, to_z_pos}
 use Rattle.std.proofs.lemmas.List.{length-replicate}
 use Rattle.std.proofs.lemmas.Nat.Bits.{bit_at-zero}
@@ -8,7 +8,7 @@ use Rattle.cal_base.specs.Instant.{IsInstant}
 use Rattle.cal_elapse.specs.Bits.{is_bit, is_in_words}
 use Rattle.cal_elapse.proofs.BitLemmas.{is_bit-zero}
 use Rattle.cal_elapse.specs.Near.{IsNear}
-use Rattle.cal_elapse.specs.Ring.{cells_in_all, cells_in_all-is, instants_in, is_held, rising_from, IsRound, IsRoundWith}
+use Rattle.cal_elapse.specs.Ring.{cells_in_all, cells_in_all-is, instants_in, is_held, least_with, rising_from, IsRound, IsRoundFrom, IsRoundWith}
 use Rattle.cal_elapse.specs.RisingList.{Has, IsAbove, IsRising, first, later, placed}
 use Rattle.cal_elapse.specs.Search.{IsFirstPassing}
 use Rattle.cal_elapse.proofs.ElapsesLemmas.{first-least, first-none}
@@ -237,6 +237,38 @@ put_round old new low at from more round near high whole was =
       members = λ i m. elim (put_there old new low at from i more round near ((Has-instants new from i).0 m)) [ inl e ↦ last_at at i e high | inr n ↦ was.members i n ];
     }
 
+-- the first once one more is put: a second that is seen, and that none of those seen is before
+first_put : (old new : List ℕ) (low at from m : ℕ) → HasMore old new at → IsRoundWith low at from → ((i : ℤ) → Has (instants_in old low) i → IsNear i (pos at))
+    → (pos at ≡ pos m) ⊎ Has (instants_in old low) (pos m) → m ≤ at → ((t : ℕ) → low ≤ t → t < low + 187_200 → is_held old t ≡ true → m ≤ t)
+    → IsFirstPassing (is_held new) from (from + 187_200) (Some m)
+first_put old new low at from m more round near seen before least =
+    let found = (Has-instants new from (pos m)).0 (put_back old new low at from (pos m) more round near seen) in
+    let same : found.at ≡ m = let is = found.is in omega (arith, ints) in
+    let inside : m < from + 187_200 = let below = found.below in omega arith in (
+      (let above = found.above in omega arith),
+      inside,
+      subst (λ (t : ℕ). is_held new t ≡ true) same found.holds,
+      (λ t above early. false_from_ne_true (is_held new t) (λ holds.
+      elim (put_there old new low at from (pos t) more round near (record { at = t; is = refl; above = above; below = omega arith; holds = holds })) [
+        | inl e ↦ (let is : at ≡ t = omega (arith, ints) in omega arith)
+        | inr n ↦ (let was = (Has-instants old low (pos t)).0 n in let is = was.is in let late = least was.at was.above was.below was.holds in omega (arith, ints))
+      ])),
+    )
+
+pub least_put : (old new : List ℕ) (low at from : ℕ) (least : Option ℕ) → HasMore old new at → IsRoundWith low at from → ((i : ℤ) → Has (instants_in old low) i → IsNear i (pos at))
+    → IsFirstPassing (is_held old) low (low + 187_200) least → IsFirstPassing (is_held new) from (from + 187_200) (Some (least_with least at))
+least_put old new low at from None more round near none =
+    first_put old new low at from at more round near (inl refl) (omega arith) (λ t above below holds. absurd (let fails = none t above below in cc))
+least_put old new low at from (Some least) more round near found =
+    elim (cases_lt at least) [
+      | inl early ↦ (let is : min least at ≡ at = omega arith in
+          rw is (first_put old new low at from at more round near (inl refl) (omega arith)
+          (λ t above below holds. let late = not_before old low least t found above holds in omega arith)))
+      | inr late ↦ (let is : min least at ≡ least = omega arith in
+          rw is (first_put old new low at from least more round near (inr (member old low least found.0 found.1 found.2)) late
+          (λ t above below holds. not_before old low least t found above holds)))
+    ]
+
 -- One less
 
 -- the cell of a second is empty, and the others are as they were
@@ -349,6 +381,9 @@ empty_round words n count empty =
       begins = omega arith;
       members = λ i m. absurd (subst (λ (xs : List ℤ). Has xs i) (nothing_seen words n 0 empty) m);
     }
+
+pub empty_from : (words : List ℕ) (n : ℕ) → n ≡ 2_925 → words ≡ replicate n 0 → IsRoundFrom words 0 None
+empty_from words n count empty = record { round = empty_round words n count empty; first = λ t above below. nothing_held words n t empty }
 
 pub second_is : (instant : ℤ) (second : ℕ) → IsInstant instant → second ≡ unsigned_abs instant → pos second ≡ instant
 second_is (pos n) second h e = ap pos e

@@ -1,8 +1,9 @@
 -- A round of cells, one bit each: an instant has the cell at its number modulo the count of cells. Among as many seconds
 -- in a row as there are cells, each cell is that of one second alone.
-use Rattle.std.specs.Prelude.{◌≡◌, ◌+◌, ◌%◌, ◌≤◌, ◌<◌, cond, ℕ, zero, suc, Bool, List, [], ◌∷◌, length, ℤ, pos, ◌≤ℤ◌, refl}
+use Rattle.std.specs.Prelude.{◌≡◌, ◌+◌, ◌%◌, ◌≤◌, ◌<◌, cond, ℕ, zero, suc, Bool, List, [], ◌∷◌, length, min, Option, None, Some, ℤ, pos, ◌≤ℤ◌, refl}
 use Rattle.cal_elapse.specs.Bits.{is_in_words}
 use Rattle.cal_elapse.specs.RisingList.{Has}
+use Rattle.cal_elapse.specs.Search.{IsFirstPassing}
 
 -- how many cells there are; the number is a law below, so that no proof unfolds a list of this length
 pub cells_in_all : ℕ
@@ -36,3 +37,13 @@ pub record IsRoundWith (low at from : ℕ) : Type 0 where
   pub above : from ≤ at
   pub below : at < from + 187_200
   pub near : (t : ℕ) → low ≤ t → t < low + 187_200 → t ≤ at + 187_199 → at ≤ t + 187_199 → (from ≤ t) × (t < from + 187_200)
+
+-- a round, and which of its seconds is the first that is held
+pub record IsRoundFrom (words : List ℕ) (low : ℕ) (least : Option ℕ) : Type 0 where
+  pub round : IsRound words low
+  pub first : IsFirstPassing (is_held words) low (low + 187_200) least
+
+-- the least second, once another one is put
+abbrev pub least_with : Option ℕ → ℕ → ℕ
+least_with None at = at
+least_with (Some least) at = min least at

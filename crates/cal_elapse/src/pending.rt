@@ -3,7 +3,7 @@
 ghost use Rattle.std.specs.Prelude.{◌≡◌, ◌≤◌, [], ℕ, ℤ, IfOk};
 ghost use Rattle.cal_base.specs.Instant.{IsInstant};
 ghost use Rattle.cal_elapse.specs.Near.{IsNear};
-ghost use Rattle.cal_elapse.specs.Ring.{IsRoundWith};
+ghost use Rattle.cal_elapse.specs.Ring.{IsRoundWith, least_with};
 ghost use Rattle.cal_elapse.specs.RisingList.{Has, IsRising, first, later, placed};
 
 use crate::ring::{CELLS, WORDS, clear_cell, first_held, set_cell};
@@ -20,17 +20,19 @@ pub struct Pending {
     cells: Box<[u64; WORDS]>,
     /// The first second of the round: no member is before it.
     low: u64,
+    /// The least member. It is kept, so that it is sought once for each that is taken.
+    least: Option<u64>,
 }
 
 impl Model for Pending {
     ghost use Rattle.std.specs.Prelude.{ℤ, List, box_value};
-    ghost use Rattle.cal_elapse.specs.Ring.{IsRound, instants_in};
+    ghost use Rattle.cal_elapse.specs.Ring.{IsRoundFrom, instants_in};
 
     ghost Value = { List ℤ };
 
     ghost view = { λ p. instants_in (box_value p.cells) p.low };
 
-    ghost invariant = { λ p. IsRound (box_value p.cells) p.low };
+    ghost invariant = { λ p. IsRoundFrom (box_value p.cells) p.low p.least };
 }
 
 impl Pending {
@@ -41,6 +43,7 @@ impl Pending {
         Ok(Pending {
             cells: Box::new(alloc, [0; WORDS])?,
             low: 0,
+            least: None,
         })
     }
 
@@ -53,6 +56,7 @@ impl Pending {
         let second = instant.unsigned_abs();
         set_cell(self.cells.as_mut_slice(), second % CELLS);
         self.low = low_with(self.low, second);
+        self.least = Some(least_with(self.least, second));
     }
 
     /// The least member; `None` where there is none.
@@ -61,7 +65,7 @@ impl Pending {
         ensures rises { IsRising self.now }
         ensures near { (one other : ℤ) → Has self.now one → Has self.now other → IsNear one other }
     {
-        match first_held(self.cells.as_slice(), self.low) {
+        match self.least {
             Some(second) => Some(second as i64),
             None => None,
         }
@@ -72,11 +76,12 @@ impl Pending {
         ensures least { result ≡ first self.old }
         ensures left { self.new ≡ later self.old }
     {
-        let Some(second) = first_held(self.cells.as_slice(), self.low) else {
+        let Some(second) = self.least else {
             return None;
         };
         clear_cell(self.cells.as_mut_slice(), second % CELLS);
         self.low = second;
+        self.least = first_held(self.cells.as_slice(), second);
         Some(second as i64)
     }
 }
@@ -89,6 +94,16 @@ fn low_with(low: u64, second: u64) -> u64
         second
     } else {
         low.max(second.saturating_sub(CELLS - 1))
+    }
+}
+
+/// The least second, once another one is put.
+fn least_with(least: Option<u64>, second: u64) -> u64
+    ensures { result ≡ least_with least second }
+{
+    match least {
+        Some(least) => least.min(second),
+        None => second,
     }
 }
 

@@ -1,15 +1,16 @@
 //! The lines of elapses in a report, each with the span between it and the present (systemd-analyze(1), calendar).
 
-ghost use Rattle.std.specs.Prelude.{◌≡◌, ◌-◌, ◌≤◌, false, is_err, option_map, take};
+ghost use Rattle.std.specs.Prelude.{◌≡◌, ◌+◌, ◌-◌, ◌≤◌, ◌++◌, length, false, is_err, option_map, take};
 ghost use Rattle.cal_base.specs.Bytes.{Writes};
+ghost use Rattle.cal_base.specs.declared.short_text.TheConstants.{ROOM};
 ghost use Rattle.cal_elapse.specs.RisingList.{first, later};
 ghost use Rattle.cal_tool.specs.ElapseLines.{AreInstants, label_text, elapse_text, elapse_texts, elapses_text};
 ghost use Rattle.cal_tool.specs.Request.{IsCount};
 
-use crate::report_lines::{first_moment, format_distance, format_utc_line};
+use crate::report_lines::{first_moment, push_distance, push_utc_line};
 use cal_base::{
-    Fill, Instant, ShortText, Sink, WriteFault, Zone, format_instant, in_a_row, padding, put_all,
-    put_pieces,
+    Fill, Instant, ShortText, Sink, WriteFault, Zone, padding, push, push_all, push_instant,
+    put_all,
 };
 use cal_elapse::Rising;
 use itoa::Buffer;
@@ -79,7 +80,6 @@ fn next_instant<S: Rising>(elapses: &mut S) -> Option<Instant>
 }
 
 /// Writes one elapse, and how far it lies from the present.
-#[tactic(auto, unfolding(crate::specs::ElapseLines::elapse_text))]
 fn put_elapse<W: Sink>(
     out: &mut W,
     number: u32,
@@ -92,38 +92,46 @@ fn put_elapse<W: Sink>(
     ensures bytes { Writes (W.written out.old) (W.written out.new) result
         (elapse_text local.entry now.secs number elapse.secs) }
 {
-    let label = format_label(number);
-    let instant = format_instant(local, elapse);
-    let utc_line = format_utc_line(local, elapse);
-    let distance = format_distance(now, first_moment(elapse));
-    put_pieces(
-        out,
-        &[
-            label.as_slice(),
-            instant.as_slice(),
-            b"\n",
-            utc_line.as_slice(),
-            b"       From now: ",
-            distance.as_slice(),
-            b"\n",
-        ],
-    )
+    let mut text = ShortText::new();
+    push_elapse(&mut text, number, elapse, local, now);
+    put_all(out, text.as_slice())
 }
 
-/// The label of the elapse with that number.
+/// Appends one elapse, and how far it lies from the present.
+#[tactic(auto, unfolding(crate::specs::ElapseLines::elapse_text))]
+fn push_elapse(text: &mut ShortText, number: u32, elapse: Instant, local: Zone<'_>, now: Instant)
+    requires { length text.old.items + 474 ≤ ROOM }
+    ensures { text.new.items ≡ text.old.items ++ elapse_text local.entry now.secs number elapse.secs }
+{
+    push_label(text, number);
+    push_instant(text, local, elapse);
+    push(text, b"\n");
+    push_utc_line(text, local, elapse);
+    push(text, b"       From now: ");
+    push_distance(text, now, first_moment(elapse));
+    push(text, b"\n");
+}
+
+/// Appends the label of the elapse with that number.
 #[tactic(auto, unfolding(crate::specs::ElapseLines::label_text))]
-fn format_label(number: u32) -> ShortText
-    ensures { result.items ≡ label_text number }
+fn push_label(text: &mut ShortText, number: u32)
+    requires room { length text.old.items + 30 ≤ ROOM }
+    ensures text { text.new.items ≡ text.old.items ++ label_text number }
+    ensures short { length text.new.items ≤ length text.old.items + 30 }
 {
     if number == 1 {
-        return in_a_row(&[b"    Next elapse: "]);
+        push(text, b"    Next elapse: ");
+        return;
     }
     let mut buffer = Buffer::new();
     let digits = buffer.format(number);
-    in_a_row(&[
-        padding(digits, 8, Fill::Blank),
-        b"Iter. #",
-        digits.as_bytes(),
-        b": ",
-    ])
+    push_all(
+        text,
+        &[
+            padding(digits, 8, Fill::Blank),
+            b"Iter. #",
+            digits.as_bytes(),
+            b": ",
+        ],
+    );
 }

@@ -1,12 +1,13 @@
 //! Lines of the reports (systemd-analyze(1), calendar and timestamp).
 
-ghost use Rattle.std.specs.Prelude.{◌≡◌, ◌≤◌, ◌-ℤ◌, false, is_err, length, unsigned_abs};
+ghost use Rattle.std.specs.Prelude.{◌≡◌, ◌+◌, ◌≤◌, ◌++◌, ◌-ℤ◌, false, is_err, length, unsigned_abs};
 ghost use Rattle.cal_base.specs.Bytes.{Writes};
+ghost use Rattle.cal_base.specs.declared.short_text.TheConstants.{ROOM};
 ghost use Rattle.cal_tool.specs.ReportLines.{direction_text, distance_text, micros_of, original_line, utc_line};
 
 use cal_base::{
-    Instant, Moment, ShortText, Sink, Span, WriteFault, Zone, format_instant, format_span,
-    in_a_row, put_pieces,
+    Instant, Moment, ShortText, Sink, Span, WriteFault, Zone, push, push_instant, push_span,
+    put_pieces,
 };
 
 /// Writes the line of the text as it was handed in, and the next label.
@@ -26,26 +27,30 @@ pub fn put_original<W: Sink>(out: &mut W, text: &str) -> Result<(), WriteFault>
     )
 }
 
-/// The line of the instant in UTC; empty where the local zone is UTC itself.
+/// Appends the line of the instant in UTC; nothing where the local zone is UTC itself. It takes at most 102 bytes.
 #[tactic(auto, unfolding(crate::specs::ReportLines::utc_line))]
-pub fn format_utc_line(local: Zone<'_>, instant: Instant) -> ShortText
-    ensures { result.items ≡ utc_line local.entry instant.secs }
+pub fn push_utc_line(text: &mut ShortText, local: Zone<'_>, instant: Instant)
+    requires room { length text.old.items + 102 ≤ ROOM }
+    ensures text { text.new.items ≡ text.old.items ++ utc_line local.entry instant.secs }
+    ensures short { length text.new.items ≤ length text.old.items + 102 }
 {
-    if local.is_utc() {
-        return in_a_row(&[]);
+    if !local.is_utc() {
+        push(text, b"       (in UTC): ");
+        push_instant(text, Zone::utc(), instant);
+        push(text, b"\n");
     }
-    let text = format_instant(Zone::utc(), instant);
-    in_a_row(&[b"       (in UTC): ", text.as_slice(), b"\n"])
 }
 
-/// The span between the present and a moment, and which of the two is later.
+/// Appends the span between the present and a moment, and which of the two is later. It takes at most 239 bytes.
 #[tactic(auto, unfolding(crate::specs::ReportLines::distance_text))]
-pub fn format_distance(now: Instant, moment: Moment) -> ShortText
-    ensures { result.items ≡ distance_text (micros_of now.secs) moment.micros }
+pub fn push_distance(text: &mut ShortText, now: Instant, moment: Moment)
+    requires room { length text.old.items + 239 ≤ ROOM }
+    ensures text { text.new.items ≡ text.old.items ++ distance_text (micros_of now.secs) moment.micros }
+    ensures short { length text.new.items ≤ length text.old.items + 239 }
 {
     let now = first_moment(now);
-    let span = format_span(distance(now, moment));
-    in_a_row(&[span.as_slice(), direction(now, moment)])
+    push_span(text, distance(now, moment));
+    push(text, direction(now, moment));
 }
 
 /// The first moment of an instant.

@@ -1,16 +1,17 @@
 //! The report of one timestamp (systemd-analyze(1), timestamp): its text, its instant in the local zone and in UTC,
 //! its Unix time, and the span between it and the present.
 
-ghost use Rattle.std.specs.Prelude.{◌≡◌, ◌≤◌, false, is_err, length, unsigned_abs};
+ghost use Rattle.std.specs.Prelude.{◌≡◌, ◌+◌, ◌≤◌, ◌++◌, false, is_err, length, unsigned_abs};
 ghost use Rattle.cal_base.specs.Bytes.{Writes};
+ghost use Rattle.cal_base.specs.declared.short_text.TheConstants.{ROOM};
 ghost use Rattle.cal_tool.specs.Context.{asked_by};
 ghost use Rattle.cal_tool.specs.TimestampReport.{moment_lines, timestamp_report, unix_text};
 
 use crate::context::Context;
-use crate::report_lines::{format_distance, format_utc_line, put_original};
+use crate::report_lines::{push_distance, push_utc_line, put_original};
 use cal_base::{
-    Fill, Instant, Moment, ShortText, Sink, WriteFault, Zone, format_instant, in_a_row, padding,
-    put_pieces,
+    Fill, Instant, Moment, ShortText, Sink, WriteFault, Zone, padding, push, push_all,
+    push_instant, put_all,
 };
 use itoa::Buffer;
 
@@ -32,7 +33,6 @@ pub fn write_timestamp<W: Sink>(
 }
 
 /// Writes what is said of a moment, behind the label of its first line.
-#[tactic(auto, unfolding(crate::specs::TimestampReport::moment_lines))]
 fn put_moment<W: Sink>(
     out: &mut W,
     local: Zone<'_>,
@@ -44,42 +44,43 @@ fn put_moment<W: Sink>(
     ensures bytes { Writes (W.written out.old) (W.written out.new) result
         (moment_lines local.entry now.secs moment.micros) }
 {
-    let instant = format_instant(local, moment.instant());
-    let utc_line = format_utc_line(local, moment.instant());
-    let unix = format_unix(moment);
-    let distance = format_distance(now, moment);
-    put_pieces(
-        out,
-        &[
-            instant.as_slice(),
-            b"\n",
-            utc_line.as_slice(),
-            b"   UNIX seconds: ",
-            unix.as_slice(),
-            b"\n       From now: ",
-            distance.as_slice(),
-            b"\n",
-        ],
-    )
+    let mut text = ShortText::new();
+    push_moment(&mut text, local, now, moment);
+    put_all(out, text.as_slice())
 }
 
-/// `@` and the seconds since 1970-01-01 00:00:00 UTC, with six digits of microseconds where they aren't 0.
+/// Appends what is said of a moment.
+#[tactic(auto, unfolding(crate::specs::TimestampReport::moment_lines))]
+fn push_moment(text: &mut ShortText, local: Zone<'_>, now: Instant, moment: Moment)
+    requires { length text.old.items + 512 ≤ ROOM }
+    ensures { text.new.items ≡ text.old.items ++ moment_lines local.entry now.secs moment.micros }
+{
+    push_instant(text, local, moment.instant());
+    push(text, b"\n");
+    push_utc_line(text, local, moment.instant());
+    push(text, b"   UNIX seconds: ");
+    push_unix(text, moment);
+    push(text, b"\n       From now: ");
+    push_distance(text, now, moment);
+    push(text, b"\n");
+}
+
+/// Appends `@` and the seconds since 1970-01-01 00:00:00 UTC, with six digits of microseconds where they aren't 0.
 #[tactic(auto, unfolding(crate::specs::TimestampReport::unix_text))]
-fn format_unix(moment: Moment) -> ShortText
-    ensures { result.items ≡ unix_text (unsigned_abs moment.micros) }
+fn push_unix(text: &mut ShortText, moment: Moment)
+    requires room { length text.old.items + 48 ≤ ROOM }
+    ensures text { text.new.items ≡ text.old.items ++ unix_text (unsigned_abs moment.micros) }
+    ensures short { length text.new.items ≤ length text.old.items + 48 }
 {
     let micros = moment.micros().unsigned_abs();
     let (mut seconds, mut fractions) = (Buffer::new(), Buffer::new());
     let second = seconds.format(micros / 1_000_000);
-    let fraction = fractions.format(micros % 1_000_000);
-    if micros % 1_000_000 == 0 {
-        return in_a_row(&[b"@", second.as_bytes()]);
+    push_all(text, &[b"@", second.as_bytes()]);
+    if micros % 1_000_000 != 0 {
+        let fraction = fractions.format(micros % 1_000_000);
+        push_all(
+            text,
+            &[b".", padding(fraction, 6, Fill::Zero), fraction.as_bytes()],
+        );
     }
-    in_a_row(&[
-        b"@",
-        second.as_bytes(),
-        b".",
-        padding(fraction, 6, Fill::Zero),
-        fraction.as_bytes(),
-    ])
 }

@@ -1,9 +1,9 @@
 use Rattle.std.proofs.Common.{refl}
-use Rattle.cal_elapse.proofs.RingLemmas.{empty_round, nothing_seen}
+use Rattle.cal_elapse.proofs.RingLemmas.{empty_from, nothing_seen}
 use Rattle.cal_elapse.proofs.pending.Pending.new.Goals as goal
 
 pub invariant_of-result : goal.invariant_of-result
-invariant_of-result c = empty_round _ 2_925 refl c.in_ok-new.ensures.ok
+invariant_of-result c = empty_from _ 2_925 refl c.in_ok-new.ensures.ok
 
 pub returns : goal.returns
 returns c = nothing_seen _ 2_925 0 c.in_ok-new.ensures.ok

@@ -2,14 +2,14 @@ use Rattle.std.proofs.Common.{◌∙◌, ◌++◌, ap, sym, arith}
 use Rattle.std.proofs.lemmas.List.{append-nil, drop_all}
 use Rattle.cal_base.proofs.SpanCounts.{led, led_taken, led_skipped, row_text-led, appended}
 use Rattle.cal_base.specs.SpanText.{positive, counts_of}
-use Rattle.cal_base.proofs.span_text.format_counts.Goals as goal
-use Rattle.cal_base.proofs.span_text.format_counts.Goals.{then-rest-size, else-rest-size}
+use Rattle.cal_base.proofs.span_text.push_counts.Goals as goal
+use Rattle.cal_base.proofs.span_text.push_counts.Goals.{then-rest-size, else-rest-size}
 
 pub loop-scale-init : goal.loop-scale-init
 loop-scale-init c = record {
   lead = omega arith;
-  short = rw c.new-text.ensures (omega arith);
-  whole = rw c.new-text.ensures (sym (row_text-led _));
+  short = omega arith;
+  whole = ap (λ row. c.args.text.now.items ++ row) (sym (row_text-led _));
 }
 
 pub loop-scale-preserved : goal.loop-scale-preserved
@@ -20,14 +20,14 @@ loop-scale-preserved c =
           record {
             lead = rw w.lead-is (omega arith);
             short = rw w.text-is (omega (arith, w.push_count.ensures.short));
-            whole = rw (w.text-is, w.lead-is, w.push_count.ensures.text) (appended _ _ _ _ _ taken c.loop-scale.invariant.whole);
+            whole = rw (w.text-is, w.lead-is, w.rest-is, w.push_count.ensures.text) (appended _ _ _ _ _ taken c.loop-scale.invariant.whole);
           })
       | else-rest-size w ↦
           (let skipped = led_skipped c.loop-scale.lead.now c.args.scales.now c.loop-scale.scale-index _ c.micros-size.result c.loop-scale.rest (omega arith) c.micros-size.ensures.value (omega arith) in
           record {
             lead = rw w.lead-is c.loop-scale.invariant.lead;
             short = rw w.text-is (omega arith);
-            whole = rw (w.text-is, w.lead-is) (ap (λ left. c.loop-scale.text.items ++ left) (sym skipped) ∙ c.loop-scale.invariant.whole);
+            whole = rw (w.text-is, w.lead-is, w.rest-is) (ap (λ left. c.loop-scale.text.items ++ left) (sym skipped) ∙ c.loop-scale.invariant.whole);
           })
     ]
 
