@@ -2,6 +2,7 @@ pub mod AnswerLemmas
 pub mod WorkLemmas
 pub mod CommandLineLemmas
 pub mod ElapseTexts
+pub mod LawLemmas
 pub mod OptionLemmas
 pub mod ReportLemmas
 pub mod TellLemmas

@@ -23,5 +23,6 @@ pub mod TimerPlan
 pub mod TimerReport
 pub mod TimespanReport
 pub mod TimestampReport
+pub mod WorkLaw
 pub mod WorkSteps
 pub mod Works

@@ -24,6 +24,7 @@ pub mod timer_report;
 pub mod timespan_report;
 pub mod timestamp_report;
 pub mod work;
+pub mod work_laws;
 
 use crate::command_fault::CommandFault;
 use crate::machine::Machine;
