@@ -181,7 +181,7 @@ fn told(alloc: Global, error: &Error) -> CommandFault
     if error.kind() == ErrorKind::OutOfMemory {
         return CommandFault::NoMemory;
     }
-    let Ok(text) = error.to_string(alloc) else {
+    let Some(text) = text_of(alloc, error) else {
         return CommandFault::NoMemory;
     };
     if is_of_help(error.kind()) {
@@ -189,6 +189,17 @@ fn told(alloc: Global, error: &Error) -> CommandFault
     } else {
         CommandFault::Usage(text)
     }
+}
+
+/// The text of `clap`, with a line feed at its end; of the version it has none. `None` where memory is refused.
+fn text_of(alloc: Global, error: &Error) -> Option<String> {
+    let Ok(mut text) = error.to_string(alloc) else {
+        return None;
+    };
+    if !text.as_str().ends_with('\n') && text.push('\n').is_err() {
+        return None;
+    }
+    Some(text)
 }
 
 /// Whether help or the version was asked for.

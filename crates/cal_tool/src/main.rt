@@ -38,6 +38,12 @@ use std::process::ExitCode;
 use std::rt::Env;
 use std::{env, io};
 
+/// What is said of words that aren't UTF-8, as `clap` says it.
+const NOT_UTF_8: &str = "error: invalid UTF-8 was detected in one or more arguments
+
+For more information, try '--help'.
+";
+
 fn main(rt: HostRuntime) -> ExitCode {
     let mut err = Port::new(rt.stderr());
     let words = match given_words(&rt) {
@@ -71,7 +77,7 @@ fn stop_of(alloc: Global, error: &io::Error) -> Stop {
     if error.kind() == ErrorKind::OutOfMemory {
         return Stop::Run(RunFault::NoMemory);
     }
-    match String::from_str(alloc, "calendar-analyze: usage\n") {
+    match String::from_str(alloc, NOT_UTF_8) {
         Ok(text) => Stop::Command(CommandFault::Usage(text)),
         Err(_) => Stop::Run(RunFault::NoMemory),
     }
