@@ -88,6 +88,10 @@ few_searches v local h at =
     let counted = h.counted in
     omega arith
 
+pub ahead_is_match : (v : Window) (local : ℕ) → IsReady v → v.ahead ≡ Some local → (local < seconds_in_all) × (matches (sets_in v.searcher.masks) local ≡ true)
+unfolding timed_by
+ahead_is_match v local h at = subst (IsMatchAhead (timed_in v)) at h.found
+
 pub ahead_inside : (v : Window) (local : ℕ) → IsReady v → v.ahead ≡ Some local → local < seconds_in_all
 ahead_inside v local h at = (subst (IsMatchAhead (timed_in v)) at h.found).0
 

@@ -249,10 +249,10 @@ first_put old new low at from m more round near seen before least =
       inside,
       subst (λ (t : ℕ). is_held new t ≡ true) same found.holds,
       (λ t above early. false_from_ne_true (is_held new t) (λ holds.
-      elim (put_there old new low at from (pos t) more round near (record { at = t; is = refl; above = above; below = omega arith; holds = holds })) [
-        | inl e ↦ (let is : at ≡ t = omega (arith, ints) in omega arith)
-        | inr n ↦ (let was = (Has-instants old low (pos t)).0 n in let is = was.is in let late = least was.at was.above was.below was.holds in omega (arith, ints))
-      ])),
+          elim (put_there old new low at from (pos t) more round near (record { at = t; is = refl; above = above; below = omega arith; holds = holds })) [
+            | inl e ↦ (let is : at ≡ t = omega (arith, ints) in omega arith)
+            | inr n ↦ (let was = (Has-instants old low (pos t)).0 n in let is = was.is in let late = least was.at was.above was.below was.holds in omega (arith, ints))
+          ])),
     )
 
 pub least_put : (old new : List ℕ) (low at from : ℕ) (least : Option ℕ) → HasMore old new at → IsRoundWith low at from → ((i : ℤ) → Has (instants_in old low) i → IsNear i (pos at))

@@ -1,11 +1,11 @@
 -- The tests of a search, and its steps.
-use Rattle.std.proofs.Common.{◌≡◌, ℕ, ◌+◌, ◌*◌, ◌/◌, ◌%◌, ◌<◌, ◌≤◌, Bool, true, false, ◌&&◌, nat_lt, ◌==◌, Option, ap, ◌∙◌, to_z, of_z, w64, negsuc, ◌^◌, unsigned_abs, ◌≤ℤ◌, None, Some, ℤ, pos, refl, inl, inr, arith}
-use Rattle.std.proofs.lemmas.Bool.{cases_lt}
+use Rattle.std.proofs.Common.{◌≡◌, ℕ, ◌+◌, ◌*◌, ◌/◌, ◌%◌, ◌<◌, ◌≤◌, Bool, true, false, ◌&&◌, nat_lt, ◌==◌, Option, ap, ◌∙◌, to_z, of_z, w64, negsuc, ◌^◌, unsigned_abs, ◌≤ℤ◌, None, Some, ℤ, pos, refl, sym, subst₂, inl, inr, arith}
+use Rattle.std.proofs.lemmas.Bool.{and_parts, cases_lt}
 use Rattle.std.proofs.lemmas.Bool.Decides.{nat_tests}
 use Rattle.std.proofs.lemmas.Int.{ints, to_z_pos}
 use Rattle.cal_base.specs.Local.{civil_date, seconds_in_all, seconds_in_all-is}
 use Rattle.cal_spec.specs.Match.{Sets, date_in, time_in, matches}
-use Rattle.cal_elapse.proofs.CarryLemmas.{Splits, first_here, first_later, first_then, first_within, none_by_high, none_by_low, none_later}
+use Rattle.cal_elapse.proofs.CarryLemmas.{Splits, first_here, first_later, first_then, first_within, none_by_high, none_by_low, none_later, split_at}
 use Rattle.cal_elapse.specs.Months.{day_in}
 use Rattle.cal_elapse.specs.Steps.{day_to_start, second_on}
 use Rattle.cal_elapse.specs.Search.{IsFirstLocal, IsFirstPassing, NonePasses}
@@ -73,6 +73,19 @@ first_of_all sets day r f first (Some s) inside small today found begins =
           (first_within (matches sets) (day * 86_400 + r) ((day + 1) * 86_400) (84_006 * 86_400) (day * 86_400 + s) (omega arith)
           (first_here _ _ _ 86_400 84_006 (locals_split sets) day r 86_400 s inside holds today.1 today)))
     ]
+
+-- behind a match, on its day
+pub later_today : (sets : Sets) (t second : ℕ) → t < seconds_in_all → matches sets t ≡ true → IsFirstPassing (time_in sets) (t % 86_400 + 1) 86_400 (Some second)
+    → IsFirstPassing (matches sets) (t + 1) seconds_in_all (Some (t / 86_400 * 86_400 + second))
+later_today sets t second below holds found =
+    let count = seconds_in_all-is in
+    let day : t / 86_400 < 84_006 = omega arith in
+    let parts : t / 86_400 * 86_400 + (t % 86_400 + 1) ≡ t + 1 = omega arith in
+    let ends : 84_006 * 86_400 ≡ seconds_in_all = sym count in
+    let both = sym (split_at _ _ _ 86_400 84_006 (locals_split sets) (t / 86_400) t day refl) ∙ holds in
+    subst₂ (λ (a b : ℕ). IsFirstPassing (matches sets) a b (Some (t / 86_400 * 86_400 + second))) parts ends
+    (first_within (matches sets) (t / 86_400 * 86_400 + (t % 86_400 + 1)) ((t / 86_400 + 1) * 86_400) (84_006 * 86_400) (t / 86_400 * 86_400 + second) (omega arith)
+    (first_here _ _ _ 86_400 84_006 (locals_split sets) (t / 86_400) (t % 86_400 + 1) 86_400 second day (and_parts _ _ both).0 found.1 found))
 
 -- the same in signed numbers
 pub IsFirstLocal-None : (passes : ℕ → Bool) (from : ℤ) (start : ℕ) → pos start ≡ from → IsFirstPassing passes start seconds_in_all None → IsFirstLocal passes from None

@@ -14,6 +14,7 @@ pub mod RisingList
 pub mod Scan
 pub mod Search
 pub mod Searched
+pub mod Start
 pub mod Steps
 pub mod Timed
 pub mod Window

@@ -1,12 +1,12 @@
 //! The search for the next matching local second: the next day that matches, and on it the next time of day.
-ghost use Rattle.std.specs.Prelude.{◌≡◌, ◌≤◌, ◌<◌, pos, ◌≤ℤ◌, unsigned_abs};
+ghost use Rattle.std.specs.Prelude.{◌≡◌, ◌+◌, ◌≤◌, ◌<◌, true, pos, ◌≤ℤ◌, unsigned_abs};
 ghost use Rattle.std.specs.Option.{option_map};
 ghost use Rattle.cal_base.specs.Local.{seconds_in_all};
 ghost use Rattle.cal_elapse.specs.Looks.{month_looks};
 ghost use Rattle.cal_elapse.specs.Masks.{sets_in};
 ghost use Rattle.cal_elapse.specs.Search.{IsFirstLocal, IsFirstPassing};
 ghost use Rattle.cal_elapse.specs.Steps.{day_to_start, second_on};
-ghost use Rattle.cal_spec.specs.Match.{matches};
+ghost use Rattle.cal_spec.specs.Match.{matches, time_in};
 
 use crate::Masks;
 use crate::day_search::next_day;
@@ -66,6 +66,39 @@ fn next_from(masks: &Masks, from: u64, months: &mut u32) -> Option<u64>
             Some(u64::from(found) * DAY + u64::from(second))
         }
         None => None,
+    }
+}
+
+/// The least matching local second not below `from`.
+pub(crate) fn next_at(masks: &Masks, from: u64) -> Option<u64>
+    requires { from ≤ seconds_in_all }
+    ensures { IsFirstPassing (matches (sets_in masks.now)) from seconds_in_all result }
+{
+    let mut months = 0;
+    next_from(masks, from, &mut months)
+}
+
+/// The next match behind a match: on its day, of which the date matches, or else by a search from there on.
+pub(crate) fn next_after(masks: &Masks, local: u64) -> Option<u64>
+    requires inside { local < seconds_in_all }
+    requires is_match { matches (sets_in masks.now) local ≡ true }
+    ensures { IsFirstPassing (matches (sets_in masks.now)) (local + 1) seconds_in_all result }
+{
+    match second_after(masks, (local % DAY) as u32) {
+        Some(second) => Some(local / DAY * DAY + u64::from(second)),
+        None => next_at(masks, local + 1),
+    }
+}
+
+/// The next time of day behind one; `None` where the day ends before.
+fn second_after(masks: &Masks, second: u32) -> Option<u32>
+    requires { second < 86_400 }
+    ensures { IsFirstPassing (time_in (sets_in masks.now)) (second + 1) 86_400 result }
+{
+    if second + 1 < 86_400 {
+        next_second(masks, second + 1)
+    } else {
+        None
     }
 }
 

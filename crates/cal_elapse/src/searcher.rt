@@ -4,11 +4,22 @@ ghost use Rattle.std.specs.Prelude.{◌≡◌, ◌+◌, ◌≤◌};
 ghost use Rattle.cal_base.specs.Local.{seconds_in_all};
 ghost use Rattle.cal_elapse.specs.Masks.{sets_in};
 ghost use Rattle.cal_elapse.specs.Search.{IsFirstPassing};
+ghost use Rattle.cal_elapse.specs.Start.{CanStart, begin_of};
 ghost use Rattle.cal_spec.specs.Match.{matches};
 ghost use Rattle.cal_spec.specs.Members.{sets_of};
 
-use crate::{Masks, next_local};
+use crate::Masks;
+use crate::search::{next_after, next_at};
 use cal_spec::Expr;
+
+/// Where a search begins.
+#[derive(Clone, Copy, Debug, PartialEq, Eq)]
+pub enum Start {
+    /// At a local second, from 0 to 7,258,118,400.
+    At(u64),
+    /// Behind a match. Its day matches, so that no day is sought where the next match lies on it too.
+    After(u64),
+}
 
 /// The masks of an expression, and how often they were searched. The fields are private, so that nothing is searched
 /// without being counted.
@@ -37,18 +48,18 @@ impl Searcher {
         self.searches
     }
 
-    /// The least matching local second not below `from`, which is from 0 to 7,258,118,400; `None` where there is none.
-    pub fn next_local(&mut self, from: u64) -> Option<u64>
-        requires from_in { from ≤ seconds_in_all }
+    /// The least matching local second from the start on; `None` where there is none.
+    pub fn search(&mut self, start: Start) -> Option<u64>
+        requires start { CanStart (matches (sets_in self.old.masks)) start }
         requires few { self.old.searches ≤ seconds_in_all }
-        ensures first { IsFirstPassing (matches (sets_in self.old.masks)) from seconds_in_all result }
+        ensures first { IsFirstPassing (matches (sets_in self.old.masks)) (begin_of start) seconds_in_all result }
         ensures masks { self.new.masks ≡ self.old.masks }
         ensures counted { self.new.searches ≡ self.old.searches + 1 }
     {
         self.searches += 1;
-        match next_local(&self.masks, from as i64).local {
-            Some(local) => Some(local.unsigned_abs()),
-            None => None,
+        match start {
+            Start::At(local) => next_at(&self.masks, local),
+            Start::After(local) => next_after(&self.masks, local),
         }
     }
 }

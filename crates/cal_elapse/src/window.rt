@@ -8,7 +8,7 @@ ghost use Rattle.cal_elapse.specs.RisingList.{Has};
 ghost use Rattle.cal_elapse.specs.Window.{start_of, to_place, with_place};
 
 use crate::Pending;
-use crate::searcher::Searcher;
+use crate::searcher::{Searcher, Start};
 use cal_base::{Instant, Zone, place};
 use cal_spec::Expr;
 use std::alloc::{AllocError, Global};
@@ -55,7 +55,7 @@ impl<'z> Window<'z> {
     {
         let pending = Pending::new(alloc)?;
         let mut searcher = Searcher::of(expr);
-        let ahead = searcher.next_local(first_local(base));
+        let ahead = searcher.search(Start::At(first_local(base)));
         let base = base.secs();
         Ok(Window {
             searcher,
@@ -115,7 +115,7 @@ impl<'z> Window<'z> {
         ensures on { bound_of self.old.ahead < bound_of self.new.ahead }
     {
         put_place(&mut self.pending, self.zone, local, self.last);
-        self.ahead = self.searcher.next_local(local + 1);
+        self.ahead = self.searcher.search(Start::After(local));
     }
 
     /// How often a match was searched so far.

@@ -14,10 +14,10 @@ returns-clause-ready c =
     let fits : FitsSigned w64 c.secs-base.result = search rules in
     let base : c.args.base.secs ≡ to_z w64 (of_z w64 c.secs-base.result) = sym (to_z-of_z w64 c.secs-base.result fits ∙ c.secs-base.ensures.value) in
     let begin = c.first_local.ensures.start ∙ ap start_of base in
-    begun_ready c.of-searcher.result c.next_local-ahead.new.self c.args.zone _ c.next_local-ahead.result c.in_ok-pending.pending (subst IsInstant base c.args.base.in_range) c.of-searcher.ensures.none
-    c.next_local-ahead.ensures.masks c.next_local-ahead.ensures.counted c.in_ok-pending.ensures
-    (subst (λ (from : ℕ). IsFirstPassing (matches (sets_in c.of-searcher.result.masks)) from seconds_in_all c.next_local-ahead.result) begin c.next_local-ahead.ensures.first)
+    begun_ready c.of-searcher.result c.search-ahead.new.self c.args.zone _ c.search-ahead.result c.in_ok-pending.pending (subst IsInstant base c.args.base.in_range) c.of-searcher.ensures.none
+    c.search-ahead.ensures.masks c.search-ahead.ensures.counted c.in_ok-pending.ensures
+    (subst (λ (from : ℕ). IsFirstPassing (matches (sets_in c.of-searcher.result.masks)) from seconds_in_all c.search-ahead.result) begin c.search-ahead.ensures.first)
 
 pub returns-clause-timed : goal.returns-clause-timed
 returns-clause-timed c =
-    timed_by-timed c.next_local-ahead.new.self.masks c.args.zone c.args.expr.now (ap sets_in c.next_local-ahead.ensures.masks ∙ c.of-searcher.ensures.masks)
+    timed_by-timed c.search-ahead.new.self.masks c.args.zone c.args.expr.now (ap sets_in c.search-ahead.ensures.masks ∙ c.of-searcher.ensures.masks)
