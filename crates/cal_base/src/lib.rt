@@ -1,56 +1,16 @@
 //! Spans, instants, zones, and bytes in and out: what every other crate of the project stands on.
 #![tactic(auto)]
 
-mod bytes;
-mod civil_fields;
-mod civil_time;
-mod faulty;
-mod instant;
-mod instant_text;
-pub mod laws;
-mod moment;
-mod output;
-mod places;
-mod port;
-mod rules;
-mod scale;
-mod short_text;
-mod span;
-mod span_fault;
-mod span_number;
-mod span_rule;
-mod span_text;
-mod span_value;
-mod span_word;
-mod weekday;
-mod whole;
-mod zone;
-mod zone_fault;
-mod zone_name;
-mod zone_table;
-
-pub use bytes::{Sink, Source, WriteFault, put_all, put_pieces};
-pub use civil_fields::Civil;
-pub use civil_time::{DAY, DAYS, civil, date_of_day};
-pub use faulty::{Faulty, Then};
-pub use instant::Instant;
-pub use instant_text::{push_instant, write_instant};
-pub use moment::Moment;
-pub use output::Output;
-pub use places::{place, settle};
-pub use port::Port;
-pub use rules::Rules;
-pub use scale::Scale;
-pub use short_text::{Fill, ROOM, ShortText, padding, push, push_all};
-pub use span::Span;
-pub use span_fault::SpanFault;
-pub use span_number::{are_digits, fraction_of, whole_of};
-pub use span_rule::one_value;
-pub use span_text::{format_span, one_text, push_span, text_reads_back, write_span};
-pub use span_value::read_span;
-pub use weekday::{WEEK, short_weekday_name, weekday_name};
-pub use whole::{WholeFault, read_whole};
-pub use zone::Zone;
-pub use zone_fault::ZoneFault;
-pub use zone_name::{begins_with_letter, is_zone_name};
-pub use zone_table::ZoneTable;
+pub use cal_bytes::{
+    Faulty, Fill, Output, Port, ROOM, ShortText, Sink, Source, Then, WholeFault, WriteFault,
+    padding, push, push_all, put_all, put_pieces, read_whole,
+};
+pub use cal_span::{
+    Scale, Span, SpanFault, are_digits, format_span, fraction_of, one_text, one_value, push_span,
+    read_span, text_reads_back, whole_of, write_span,
+};
+pub use cal_zone::{
+    Civil, DAY, DAYS, Instant, Moment, Rules, WEEK, Zone, ZoneFault, ZoneTable, begins_with_letter,
+    civil, date_of_day, is_zone_name, laws, place, push_instant, settle, short_weekday_name,
+    weekday_name, write_instant,
+};

@@ -4,10 +4,10 @@ use Rattle.std.specs.List.{filter, filter_map, cons_option, range_with_len, slic
 use Rattle.std.proofs.Math.Seq.{take-add}
 use Rattle.std.proofs.lemmas.Bool.{cases_eq}
 use Rattle.std.proofs.lemmas.Int.{ints}
-use Rattle.cal_base.specs.Local.{seconds_in_all}
+use Rattle.cal_zone.specs.Local.{seconds_in_all}
 use Rattle.cal_elapse.specs.Elapses.{Timed, places, elapses_after, IsPlace, IsElapse, AreElapses}
-use Rattle.cal_elapse.specs.RisingList.{Has, HasAny, IsRising, first, later, union}
-use Rattle.cal_elapse.proofs.RisingLemmas.{above_has, later_members, same_rising, Has-union, IsRising-union}
+use Rattle.cal_rising.specs.RisingList.{Has, HasAny, IsRising, first, later, union}
+use Rattle.cal_rising.proofs.RisingLemmas.{above_has, later_members, same_rising, Has-union, IsRising-union}
 
 -- a local second among n from a on that matches has its place here
 record IsPlaceFrom (e : Timed) (a n : ℕ) (i : ℤ) : Type 0 where

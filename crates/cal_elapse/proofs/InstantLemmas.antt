@@ -3,12 +3,12 @@ use Rattle.std.proofs.Common.{◌≡◌, List, [], ◌∷◌, inl, inr, Some, �
 use Rattle.std.proofs.lemmas.Int.{ints}
 use Rattle.jiff.proofs.SpanFacts.{signed_arith}
 use Rattle.jiff.specs.Types.{TimeZone}
-use Rattle.cal_base.specs.Instant.{IsInstant}
-use Rattle.cal_base.specs.Local.{seconds_in_all-is}
-use Rattle.cal_base.proofs.PlaceLemmas.{within}
+use Rattle.cal_zone.specs.Instant.{IsInstant}
+use Rattle.cal_zone.specs.Local.{seconds_in_all-is}
+use Rattle.cal_zone.proofs.PlaceLemmas.{within}
 use Rattle.cal_spec.specs.Fields.{Fields}
 use Rattle.cal_elapse.specs.Elapses.{IsPlace, elapses_after}
-use Rattle.cal_elapse.specs.RisingList.{Has, first}
+use Rattle.cal_rising.specs.RisingList.{Has, first}
 use Rattle.cal_elapse.specs.Timed.{timed}
 use Rattle.cal_elapse.proofs.ElapsesLemmas.{AreElapses-elapses_after}
 

@@ -7,11 +7,9 @@ pub mod ElapsesLemmas
 pub mod InstantLemmas
 pub mod LookLemmas
 pub mod MasksLemmas
-pub mod MergeLemmas
 pub mod MonthLemmas
 pub mod ReadyLemmas
 pub mod RingLemmas
-pub mod RisingLemmas
 pub mod ScanLemmas
 pub mod SearchLemmas
 pub mod SearchedLemmas

@@ -1,6 +1,6 @@
 -- The days of a month, and how many months were looked at.
 use Rattle.std.proofs.Common.{◌≡◌, ℕ, zero, suc, ◌+◌, ◌-◌, ◌*◌, ◌/◌, ◌<◌, ◌≤◌, cond, Bool, true, false, Option, None, Some, ap, subst, sym, ◌∙◌, arith}
-use Rattle.cal_base.specs.Local.{civil_date}
+use Rattle.cal_zone.specs.Local.{civil_date}
 use Rattle.cal_elapse.specs.Bits.{is_bit}
 use Rattle.cal_elapse.specs.Count.{count_from}
 use Rattle.cal_elapse.specs.Looks.{looks_from, month_looks}

@@ -2,18 +2,18 @@
 use Rattle.std.proofs.Common.{◌≡◌, ℕ, ◌+◌, ◌-◌, ◌<◌, ◌≤◌, List, Option, None, Some, ℤ, pos, ◌+ℤ◌, ◌≤ℤ◌, sym, ap, subst, arith, true, [], ◌^◌, unsigned_abs, to_z, of_z, w64, negsuc, refl}
 use Rattle.std.proofs.lemmas.Int.{ints, to_z_pos}
 use Rattle.jiff.proofs.SpanFacts.{signed_arith}
-use Rattle.cal_base.specs.Instant.{IsInstant}
+use Rattle.cal_zone.specs.Instant.{IsInstant}
 use Rattle.cal_spec.specs.Fields.{Fields}
 use Rattle.cal_spec.specs.Members.{sets_of}
 use Rattle.cal_elapse.specs.Timed.{timed}
-use Rattle.cal_base.specs.Local.{seconds_in_all, seconds_in_all-is}
-use Rattle.cal_base.specs.Place.{place_of}
-use Rattle.cal_base.specs.Zone.{zone_of}
-use Rattle.cal_base.specs.declared.zone.Zone.{Zone}
+use Rattle.cal_zone.specs.Local.{seconds_in_all, seconds_in_all-is}
+use Rattle.cal_zone.specs.Place.{place_of}
+use Rattle.cal_zone.specs.Zone.{zone_of}
+use Rattle.cal_zone.specs.declared.zone.Zone.{Zone}
 use Rattle.cal_elapse.specs.Elapses.{Timed}
 use Rattle.cal_elapse.specs.Masks.{sets_in}
 use Rattle.cal_elapse.specs.Rest.{rest_of}
-use Rattle.cal_elapse.specs.RisingList.{Has}
+use Rattle.cal_rising.specs.RisingList.{Has}
 use Rattle.cal_elapse.specs.Search.{IsFirstPassing, NonePasses}
 use Rattle.cal_elapse.specs.Window.{IsMatchAhead, IsReady, Windowed, bound_of, count_from, start_of, timed_by, timed_in, with_place}
 use Rattle.cal_elapse.specs.declared.masks.Masks.{Masks}

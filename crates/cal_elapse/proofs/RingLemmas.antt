@@ -4,15 +4,15 @@ use Rattle.std.proofs.lemmas.Bool.{cases_eq, cases_lt, false_from_ne_true}
 use Rattle.std.proofs.lemmas.Int.{ints, to_z_pos}
 use Rattle.std.proofs.lemmas.List.{length-replicate}
 use Rattle.std.proofs.lemmas.Nat.Bits.{bit_at-zero}
-use Rattle.cal_base.specs.Instant.{IsInstant}
+use Rattle.cal_zone.specs.Instant.{IsInstant}
 use Rattle.cal_elapse.specs.Bits.{is_bit, is_in_words}
 use Rattle.cal_elapse.proofs.BitLemmas.{is_bit-zero}
 use Rattle.cal_elapse.specs.Near.{IsNear}
 use Rattle.cal_elapse.specs.Ring.{cells_in_all, cells_in_all-is, instants_in, is_held, least_with, rising_from, IsRound, IsRoundFrom, IsRoundWith}
-use Rattle.cal_elapse.specs.RisingList.{Has, IsAbove, IsRising, first, later, placed}
+use Rattle.cal_rising.specs.RisingList.{Has, IsAbove, IsRising, first, later, placed}
 use Rattle.cal_elapse.specs.Search.{IsFirstPassing}
 use Rattle.cal_elapse.proofs.ElapsesLemmas.{first-least, first-none}
-use Rattle.cal_elapse.proofs.RisingLemmas.{above_has, Has-placed, IsRising-placed, later_members, list-first, list-no_first, same_rising}
+use Rattle.cal_rising.proofs.RisingLemmas.{above_has, Has-placed, IsRising-placed, later_members, list-first, list-no_first, same_rising}
 
 -- Numbers in a row
 

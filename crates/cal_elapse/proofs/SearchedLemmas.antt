@@ -2,16 +2,16 @@
 use Rattle.std.proofs.Common.{◌≡◌, ◌∙◌, ℕ, ◌+◌, ◌-◌, ◌<◌, ◌≤◌, nat_lt, Bool, true, false, ◌&&◌, Option, None, Some, ℤ, pos, negsuc, ◌<ℤ◌, ◌≤ℤ◌, ◌+ℤ◌, ◌-ℤ◌, int_lt, unsigned_abs, List, sym, ap, subst, arith, inl, inr, refl}
 use Rattle.std.proofs.lemmas.Bool.{cases_lt}
 use Rattle.std.proofs.lemmas.Int.{ints}
-use Rattle.cal_base.specs.Local.{seconds_in_all}
-use Rattle.cal_base.specs.declared.zone.Zone.{Zone}
-use Rattle.cal_elapse.specs.RisingList.{Has, first, later}
+use Rattle.cal_zone.specs.Local.{seconds_in_all}
+use Rattle.cal_zone.specs.declared.zone.Zone.{Zone}
+use Rattle.cal_rising.specs.RisingList.{Has, first, later}
 use Rattle.cal_elapse.specs.Search.{NonePasses}
 use Rattle.cal_elapse.specs.Searched.{IsSearched}
 use Rattle.cal_elapse.specs.Window.{IsReady, bound_of, count_from, start_of, timed_by, timed_in, to_place}
 use Rattle.cal_elapse.specs.declared.masks.Masks.{Masks}
 use Rattle.cal_elapse.specs.declared.window.Window.{Window}
 use Rattle.cal_elapse.proofs.CountLemmas.{count_from-none}
-use Rattle.cal_elapse.proofs.RisingLemmas.{list-first}
+use Rattle.cal_rising.proofs.RisingLemmas.{list-first}
 use Rattle.cal_elapse.proofs.WindowLemmas.{all_placed, by_test, is_above}
 use Rattle.cal_spec.specs.Match.{matches}
 

@@ -3,21 +3,21 @@ use Rattle.std.proofs.Common.{◌≡◌, ◌⊎◌, ℕ, ◌+◌, ◌<◌, ◌�
 use Rattle.std.proofs.lemmas.Bool.{cases_eq, cases_lt}
 use Rattle.std.proofs.lemmas.Int.{ints, to_z_pos}
 use Rattle.jiff.proofs.SpanFacts.{signed_arith}
-use Rattle.cal_base.specs.Instant.{IsInstant}
-use Rattle.cal_base.specs.Local.{seconds_in_all, seconds_in_all-is}
-use Rattle.cal_base.specs.declared.zone.Zone.{Zone}
-use Rattle.cal_base.specs.Place.{place_of}
+use Rattle.cal_zone.specs.Instant.{IsInstant}
+use Rattle.cal_zone.specs.Local.{seconds_in_all, seconds_in_all-is}
+use Rattle.cal_zone.specs.declared.zone.Zone.{Zone}
+use Rattle.cal_zone.specs.Place.{place_of}
 use Rattle.jiff.specs.Types.{TimeZone}
 use Rattle.cal_elapse.specs.Near.{IsNear}
-use Rattle.cal_base.proofs.PlaceLemmas.{within}
+use Rattle.cal_zone.proofs.PlaceLemmas.{within}
 use Rattle.cal_elapse.specs.declared.masks.Masks.{Masks}
 use Rattle.cal_elapse.specs.Elapses.{Timed, IsPlace, elapses_after}
-use Rattle.cal_elapse.specs.RisingList.{Has, IsRising, first, later, placed}
+use Rattle.cal_rising.specs.RisingList.{Has, IsRising, first, later, placed}
 use Rattle.cal_elapse.specs.Search.{NonePasses}
 use Rattle.cal_elapse.specs.Window.{IsMatchAhead, IsPlacedBelow, IsReady, Windowed, bound_of, start_of, timed_by, timed_in, to_place, with_place}
 use Rattle.cal_elapse.specs.declared.window.Window.{Window}
 use Rattle.cal_elapse.proofs.ElapsesLemmas.{elapses_after-first, first_elapse-least, first_elapse-none}
-use Rattle.cal_elapse.proofs.RisingLemmas.{Has-placed, IsRising-placed, above_has, later_members, list-first, lt_test, not_lt_test}
+use Rattle.cal_rising.proofs.RisingLemmas.{Has-placed, IsRising-placed, above_has, later_members, list-first, lt_test, not_lt_test}
 
 -- a place is near its local second
 abbrev pub AreNear : Timed → Type 0

@@ -1,8 +1,8 @@
 -- The elapses of calendar expressions: systemd.time(7), Calendar Events.
 use Rattle.std.specs.Prelude.{◌≡◌, ◌⊎◌, ◌↔◌, ◌<◌, ℕ, Bool, true, List, [], ◌∷◌, Option, Some, ℤ, ◌<ℤ◌, int_lt, map, filter}
 use Rattle.std.specs.List.{filter_map, range_with_len}
-use Rattle.cal_base.specs.Local.{seconds_in_all}
-use Rattle.cal_elapse.specs.RisingList.{Has, IsRising, union}
+use Rattle.cal_zone.specs.Local.{seconds_in_all}
+use Rattle.cal_rising.specs.RisingList.{Has, IsRising, union}
 
 -- what an expression in a zone means: the local seconds that match, and the place of a local second on the
 -- clock of Unix time, which it lacks where the zone's clock skips it

@@ -1,16 +1,13 @@
 pub mod Bits
 pub mod Count
 pub mod Elapses
-pub mod Listed
 pub mod Looks
 pub mod Masks
-pub mod Merge
+pub mod Merged
 pub mod Months
 pub mod Near
 pub mod Rest
 pub mod Ring
-pub mod Rises
-pub mod RisingList
 pub mod Scan
 pub mod Search
 pub mod Searched

@@ -2,7 +2,7 @@
 -- month number are both members; without an answer those to the end of 2199.
 use Rattle.std.specs.Prelude.{ℕ, suc, ◌-◌, ◌/◌, Option, None, Some}
 use Rattle.std.specs.Option.{option_map}
-use Rattle.cal_base.specs.Local.{civil_date}
+use Rattle.cal_zone.specs.Local.{civil_date}
 use Rattle.cal_spec.specs.Match.{Sets}
 use Rattle.cal_elapse.specs.Count.{count_from}
 use Rattle.cal_elapse.specs.Months.{month_in, month_of}

@@ -1,8 +1,8 @@
 -- The rest of an expression's elapses.
 use Rattle.std.specs.Prelude.{List, [], ◌∷◌, ℤ, int_lt, filter, map}
 use Rattle.cal_elapse.specs.Elapses.{elapses_after, places}
-use Rattle.cal_elapse.specs.Rises.{IsRising-union}
-use Rattle.cal_elapse.specs.RisingList.{IsRising}
+use Rattle.cal_rising.specs.Rises.{IsRising-union}
+use Rattle.cal_rising.specs.RisingList.{IsRising}
 use Rattle.cal_elapse.specs.Window.{timed_in}
 use Rattle.cal_elapse.specs.declared.window.Window.{Window}
 

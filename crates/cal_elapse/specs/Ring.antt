@@ -2,7 +2,7 @@
 -- in a row as there are cells, each cell is that of one second alone.
 use Rattle.std.specs.Prelude.{◌≡◌, ◌+◌, ◌%◌, ◌≤◌, ◌<◌, cond, ℕ, zero, suc, Bool, List, [], ◌∷◌, length, min, Option, None, Some, ℤ, pos, ◌≤ℤ◌, refl}
 use Rattle.cal_elapse.specs.Bits.{is_in_words}
-use Rattle.cal_elapse.specs.RisingList.{Has}
+use Rattle.cal_rising.specs.RisingList.{Has}
 use Rattle.cal_elapse.specs.Search.{IsFirstPassing}
 
 -- how many cells there are; the number is a law below, so that no proof unfolds a list of this length

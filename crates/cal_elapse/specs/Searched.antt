@@ -1,6 +1,6 @@
 -- How often the matches of an expression were searched.
 use Rattle.std.specs.Prelude.{◌≡◌, ◌+◌, ◌-◌, ℕ, Option, None, Some, ℤ, unsigned_abs}
-use Rattle.cal_base.specs.Local.{seconds_in_all}
+use Rattle.cal_zone.specs.Local.{seconds_in_all}
 use Rattle.cal_elapse.specs.Elapses.{Timed}
 use Rattle.cal_elapse.specs.Window.{count_from, start_of}
 

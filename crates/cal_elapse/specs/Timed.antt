@@ -1,7 +1,7 @@
 -- What a calendar expression in a zone means: systemd.time(7), Calendar Events.
 use Rattle.std.specs.Prelude.{pos}
 use Rattle.jiff.specs.Types.{TimeZone}
-use Rattle.cal_base.specs.Place.{place_of}
+use Rattle.cal_zone.specs.Place.{place_of}
 use Rattle.cal_elapse.specs.Elapses.{Timed}
 use Rattle.cal_spec.specs.Fields.{Fields}
 use Rattle.cal_spec.specs.Match.{matches}

@@ -1,13 +1,13 @@
 -- What is pending of an expression's elapses in a zone, while its matching local seconds are placed one after another.
 use Rattle.std.specs.Prelude.{◌≡◌, ◌↔◌, ◌+◌, ◌-◌, ◌<◌, ◌≤◌, cond, ℕ, true, List, Option, None, Some, ℤ, pos, negsuc, ◌+ℤ◌, ◌-ℤ◌, ◌<ℤ◌, ◌≤ℤ◌, int_lt}
-use Rattle.cal_base.specs.Local.{seconds_in_all}
-use Rattle.cal_base.specs.Place.{place_of}
-use Rattle.cal_base.specs.Zone.{zone_of}
-use Rattle.cal_base.specs.declared.zone.Zone.{Zone}
+use Rattle.cal_zone.specs.Local.{seconds_in_all}
+use Rattle.cal_zone.specs.Place.{place_of}
+use Rattle.cal_zone.specs.Zone.{zone_of}
+use Rattle.cal_zone.specs.declared.zone.Zone.{Zone}
 unfoldable pub use Rattle.cal_elapse.specs.Count.{count_from}
 use Rattle.cal_elapse.specs.Elapses.{Timed}
 use Rattle.cal_elapse.specs.Masks.{sets_in}
-use Rattle.cal_elapse.specs.RisingList.{Has, IsRising, placed}
+use Rattle.cal_rising.specs.RisingList.{Has, IsRising, placed}
 use Rattle.cal_elapse.specs.declared.masks.Masks.{Masks}
 use Rattle.cal_elapse.specs.declared.window.Window.{Window}
 use Rattle.cal_spec.specs.Match.{matches}

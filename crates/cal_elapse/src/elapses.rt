@@ -1,9 +1,9 @@
 //! The elapses of a calendar expression in a zone, one after another (systemd.time(7), Calendar Events).
 
-use crate::Rising;
 use crate::window::Window;
-use cal_base::{Instant, Zone};
+use cal_rising::Rising;
 use cal_spec::Expr;
+use cal_zone::{Instant, Zone};
 use std::alloc::{AllocError, Global};
 use std::marker::Model;
 
@@ -30,7 +30,7 @@ impl<'z> Model for Elapses<'z> {
 
 impl<'z> Elapses<'z> {
     ghost use Rattle.std.specs.Prelude.{◌≡◌, [], ◌∷◌, IfOk};
-    ghost use Rattle.cal_base.specs.Zone.{zone_of};
+    ghost use Rattle.cal_zone.specs.Zone.{zone_of};
     ghost use Rattle.cal_elapse.specs.Elapses.{elapses_after};
     ghost use Rattle.cal_elapse.specs.Rest.{rest_of};
     ghost use Rattle.cal_elapse.specs.Timed.{timed};
@@ -67,7 +67,7 @@ impl<'z> Elapses<'z> {
 impl Rising for Elapses<'_> {
     ghost use Rattle.std.specs.Prelude.{◌≡◌};
     ghost use Rattle.cal_elapse.specs.Rest.{rest_of, IsRising-rest_of};
-    ghost use Rattle.cal_elapse.specs.RisingList.{first, later};
+    ghost use Rattle.cal_rising.specs.RisingList.{first, later};
     ghost use Rattle.cal_elapse.specs.Searched.{IsSearched};
     ghost use Rattle.cal_elapse.specs.Window.{timed_in};
 
@@ -91,6 +91,3 @@ impl Rising for Elapses<'_> {
 
     ghost rises = { IsRising-rest_of };
 }
-
-#[cfg(test)]
-mod tests;

@@ -3,17 +3,11 @@
 
 ghost use Rattle.std.specs.Prelude.{◌≡◌, ◌+◌, ◌++◌, ◌∷◌, [], ℕ, ℤ, pos, ◌≤ℤ◌, List, Some, map, suc, take, drop, slice_get};
 ghost use Rattle.jiff.specs.Types.{TimeZone};
-ghost use Rattle.cal_base.specs.Instant.{IsInstant};
+ghost use Rattle.cal_zone.specs.Instant.{IsInstant};
 ghost use Rattle.cal_spec.specs.Fields.{Fields};
 ghost use Rattle.cal_elapse.specs.Elapses.{Timed, AreElapses, elapses_after};
-ghost use Rattle.cal_elapse.specs.RisingList.{first, Has, IsUnion, union};
+ghost use Rattle.cal_rising.specs.RisingList.{first, Has, IsUnion, union};
 ghost use Rattle.cal_elapse.specs.Timed.{timed};
-
-/// The union of lists is one list: it rises, has exactly the numbers of the lists, and no other list does.
-pub fn union_is_one_list()
-    ensures this { (lists : List (List ℤ)) → IsUnion lists (union lists) }
-    ensures only { (lists : List (List ℤ)) (list : List ℤ) → IsUnion lists list → list ≡ union lists }
-{}
 
 /// The elapses after a base are one list: it rises, has exactly the places of matching local seconds that lie
 /// above the base, and no other list does.

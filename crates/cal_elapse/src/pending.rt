@@ -1,10 +1,10 @@
 //! The instants that were placed and not yet given.
 
 ghost use Rattle.std.specs.Prelude.{◌≡◌, ◌≤◌, [], ℕ, ℤ, IfOk};
-ghost use Rattle.cal_base.specs.Instant.{IsInstant};
+ghost use Rattle.cal_zone.specs.Instant.{IsInstant};
 ghost use Rattle.cal_elapse.specs.Near.{IsNear};
 ghost use Rattle.cal_elapse.specs.Ring.{IsRoundWith, least_with};
-ghost use Rattle.cal_elapse.specs.RisingList.{Has, IsRising, first, later, placed};
+ghost use Rattle.cal_rising.specs.RisingList.{Has, IsRising, first, later, placed};
 
 use crate::ring::{CELLS, WORDS, clear_cell, first_held, set_cell};
 use std::alloc::{AllocError, Global};
@@ -106,6 +106,3 @@ fn least_with(least: Option<u64>, second: u64) -> u64
         None => second,
     }
 }
-
-#[cfg(test)]
-mod tests;

@@ -50,37 +50,3 @@ fn zeros_in_load(words: &[u64], at: usize) -> usize
         set.trailing_zeros() as usize
     }
 }
-
-#[cfg(test)]
-mod tests {
-    use super::*;
-    use std::alloc::AllocError;
-
-    #[test]
-    fn no_word(rt: HostRuntime) {
-        assert_eq!(rt; first_set(&[]), None);
-    }
-
-    #[test]
-    fn words_of_a_ring(rt: HostRuntime) {
-        let mut words = [0; 2_925];
-        assert_eq!(rt; first_set(&words), None);
-        words[2_924] = 1;
-        assert_eq!(rt; first_set(&words), Some(2_924));
-    }
-
-    /// One word that isn't 0, at each place of each length up to 70.
-    #[test]
-    fn each_place(rt: HostRuntime) -> Result<(), AllocError> {
-        for length in 0..=70 {
-            for place in 0..length {
-                let mut words: Vec<u64> = Vec::new(rt.alloc());
-                for at in 0..length {
-                    words.push(if at == place { 1 << (place % 64) } else { 0 })?;
-                }
-                assert_eq!(rt; first_set(&words), Some(place));
-            }
-        }
-        Ok(())
-    }
-}

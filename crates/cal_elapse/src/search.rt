@@ -1,7 +1,7 @@
 //! The search for the next matching local second: the next day that matches, and on it the next time of day.
 ghost use Rattle.std.specs.Prelude.{◌≡◌, ◌+◌, ◌≤◌, ◌<◌, true, pos, ◌≤ℤ◌, unsigned_abs};
 ghost use Rattle.std.specs.Option.{option_map};
-ghost use Rattle.cal_base.specs.Local.{seconds_in_all};
+ghost use Rattle.cal_zone.specs.Local.{seconds_in_all};
 ghost use Rattle.cal_elapse.specs.Looks.{month_looks};
 ghost use Rattle.cal_elapse.specs.Masks.{sets_in};
 ghost use Rattle.cal_elapse.specs.Search.{IsFirstLocal, IsFirstPassing};
@@ -12,7 +12,7 @@ use crate::Masks;
 use crate::day_search::next_day;
 use crate::month::month_of_day;
 use crate::time_search::{first_second, next_second};
-use cal_base::{DAY, DAYS};
+use cal_zone::{DAY, DAYS};
 
 /// What a search found.
 #[derive(Clone, Copy, Debug, PartialEq, Eq)]
@@ -122,6 +122,3 @@ fn second_on(found: u32, day: u32, today: Option<u32>, first: u32) -> u32
         _ => first,
     }
 }
-
-#[cfg(test)]
-mod tests;

@@ -1,7 +1,7 @@
 //! The search of an expression's matches, whose calls are counted.
 
 ghost use Rattle.std.specs.Prelude.{◌≡◌, ◌+◌, ◌≤◌};
-ghost use Rattle.cal_base.specs.Local.{seconds_in_all};
+ghost use Rattle.cal_zone.specs.Local.{seconds_in_all};
 ghost use Rattle.cal_elapse.specs.Masks.{sets_in};
 ghost use Rattle.cal_elapse.specs.Search.{IsFirstPassing};
 ghost use Rattle.cal_elapse.specs.Start.{CanStart, begin_of};

@@ -1,16 +1,16 @@
 //! The matches of an expression in a zone, placed one after another.
 
 ghost use Rattle.std.specs.Prelude.{◌≡◌, ◌<◌, ◌≤◌, ℤ, pos, ◌+ℤ◌, ◌-ℤ◌, ◌≤ℤ◌, IfSome};
-ghost use Rattle.cal_base.specs.Local.{seconds_in_all};
-ghost use Rattle.cal_base.specs.Place.{place_of};
-ghost use Rattle.cal_base.specs.Zone.{zone_of};
-ghost use Rattle.cal_elapse.specs.RisingList.{Has};
+ghost use Rattle.cal_zone.specs.Local.{seconds_in_all};
+ghost use Rattle.cal_zone.specs.Place.{place_of};
+ghost use Rattle.cal_zone.specs.Zone.{zone_of};
+ghost use Rattle.cal_rising.specs.RisingList.{Has};
 ghost use Rattle.cal_elapse.specs.Window.{start_of, to_place, with_place};
 
 use crate::Pending;
 use crate::searcher::{Searcher, Start};
-use cal_base::{Instant, Zone, place};
 use cal_spec::Expr;
+use cal_zone::{Instant, Zone, place};
 use std::alloc::{AllocError, Global};
 
 /// How far a place can lie from its local second.
@@ -33,9 +33,9 @@ pub struct Window<'z> {
 
 impl<'z> Window<'z> {
     ghost use Rattle.std.specs.Prelude.{◌≡◌, ◌<◌, [], ◌∷◌, ℤ, pos, ◌+ℤ◌, ◌≤ℤ◌, None, Some, IfOk};
-    ghost use Rattle.cal_base.specs.Zone.{zone_of};
+    ghost use Rattle.cal_zone.specs.Zone.{zone_of};
     ghost use Rattle.cal_elapse.specs.Elapses.{elapses_after};
-    ghost use Rattle.cal_elapse.specs.RisingList.{Has, first, later};
+    ghost use Rattle.cal_rising.specs.RisingList.{Has, first, later};
     ghost use Rattle.cal_elapse.specs.Searched.{IsSearched};
     ghost use Rattle.cal_elapse.specs.Timed.{timed};
     ghost use Rattle.cal_elapse.specs.Window.{IsReady, bound_of, timed_in, to_place};

@@ -1,5 +1,3 @@
-pub mod GroupLemmas
-pub mod LineLemmas
 pub mod ListedLemmas
 pub mod ResumedLemmas
 pub mod StampCivilRule
@@ -8,7 +6,6 @@ pub mod StampLemmas
 mod StampRows
 pub mod StampRule
 pub mod StampText
-pub mod TextEnds
 pub mod TimerLemmas
 pub mod TimerRows
 pub mod TimerRuleLemmas

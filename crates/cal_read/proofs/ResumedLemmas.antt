@@ -5,7 +5,7 @@ use Rattle.std.specs.Prelude.{nat_le}
 use Rattle.std.proofs.lemmas.Bool.Decides.{nat_tests}
 use Rattle.cal_spec.specs.declared.spec_fault.SpecFault.{SpecFault}
 use Rattle.cal_read.specs.Assignments.{Assigned, assignment_of, assignments_in, is_header, section_of, timer_lines, trimmed}
-use Rattle.cal_read.specs.Lines.{Line, trim}
+use Rattle.cal_lines.specs.Lines.{Line, trim}
 use Rattle.cal_read.specs.TimerText.{Entry, bad_line, entry_of, is_expression, is_reset, most_expressions, some_entries}
 use Rattle.cal_read.specs.TimerView.{resumed, with_read}
 use Rattle.cal_read.specs.declared.timer_fault.TimerFault.{TimerFault}

@@ -9,7 +9,7 @@ use Rattle.std.proofs.lemmas.Bool.Decides.{nat_tests}
 use Rattle.std.proofs.lemmas.List.Folds.{list_any-append}
 use Rattle.std.proofs.lemmas.List.Splits.{join_with_byte-slice_split}
 use Rattle.jiff.specs.Types.{TimeZone, Weekday}
-use Rattle.cal_base.specs.ZoneName.{begins_with_letter}
+use Rattle.cal_zone.specs.ZoneName.{begins_with_letter}
 use Rattle.cal_spec.specs.DateAndTime.{is_colon}
 use Rattle.cal_spec.specs.Weekdays.{day_named}
 use Rattle.cal_read.specs.Stamp.{◌>>=◌, Setting, Written, begins_with_digit, zone_in, zone_found, written_in, behind_date, behind_weekday, weekday_found, civil_time}

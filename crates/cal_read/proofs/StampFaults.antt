@@ -3,9 +3,9 @@ use Rattle.std.proofs.Common.{ℕ, ◌≡◌, Bool, true, false, inl, inr, List,
 use Rattle.std.specs.Prelude.{Result, if◌then◌else◌}
 use Rattle.std.specs.List.{list_any}
 use Rattle.jiff.specs.Types.{TimeZone, Weekday}
-use Rattle.cal_base.specs.declared.span_fault.SpanFault.{SpanFault}
-use Rattle.cal_base.specs.SpanValue.{span_of}
-use Rattle.cal_base.specs.ZoneName.{begins_with_letter}
+use Rattle.cal_span.specs.declared.span_fault.SpanFault.{SpanFault}
+use Rattle.cal_span.specs.SpanValue.{span_of}
+use Rattle.cal_zone.specs.ZoneName.{begins_with_letter}
 use Rattle.cal_spec.specs.DateAndTime.{is_colon}
 use Rattle.cal_spec.specs.Weekdays.{day_named}
 use Rattle.cal_read.specs.Stamp.{◌>>=◌, Setting, Written, in_moments, behind_second, before_second, settled, today, zone_in, zone_found, written_in, begins_with_digit, behind_date, behind_weekday, weekday_found, civil_time, moment_of_written, moment_of_form, moment_in}

@@ -4,13 +4,13 @@ use Rattle.std.specs.Prelude.{Result}
 use Rattle.jiff.specs.Types.{UTC}
 use Rattle.jiff.specs.Words.{offset_at, ambiguous_at}
 use Rattle.jiff_core.specs.Calendar.{weekday_number}
-use Rattle.cal_base.specs.declared.span_fault.SpanFault.TheVariants.{UnknownUnit, Empty as NoPair}
-use Rattle.cal_base.specs.Place.{datetime_of, settle_of}
-use Rattle.cal_base.specs.Scale.{words_for}
-use Rattle.cal_base.specs.SpanValue.{span_of, pairs_in, words_in, worth_of, is_number, number_worth, unit_named}
-use Rattle.cal_base.specs.Weekday.{name_of}
-use Rattle.cal_base.specs.Zone.{local_of}
-use Rattle.cal_base.specs.ZoneName.{is_utc_name}
+use Rattle.cal_span.specs.declared.span_fault.SpanFault.TheVariants.{UnknownUnit, Empty as NoPair}
+use Rattle.cal_zone.specs.Place.{datetime_of, settle_of}
+use Rattle.cal_span.specs.Scale.{words_for}
+use Rattle.cal_span.specs.SpanValue.{span_of, pairs_in, words_in, worth_of, is_number, number_worth, unit_named}
+use Rattle.cal_zone.specs.Weekday.{name_of}
+use Rattle.cal_zone.specs.Zone.{local_of}
+use Rattle.cal_zone.specs.ZoneName.{is_utc_name}
 use Rattle.cal_spec.specs.Weekdays.{day_named}
 use Rattle.cal_spec.specs.Words.{words}
 use Rattle.cal_read.specs.Stamp.{Setting, moment_in, in_moments, today, settled, moment_of_written}

@@ -6,7 +6,7 @@ use Rattle.std.specs.Str.{is_utf8, IsUtf8}
 use Rattle.std.proofs.lemmas.Str.{IsUtf8-from_is_utf8}
 use Rattle.cal_spec.specs.declared.spec_fault.SpecFault.{SpecFault}
 use Rattle.cal_read.specs.Assignments.{Assigned, assignments_in}
-use Rattle.cal_read.specs.Lines.{logical_lines}
+use Rattle.cal_lines.specs.Lines.{logical_lines}
 use Rattle.cal_read.specs.TimerText.{Entry, bad_line, broken_line, fault_behind, first_fault, is_expression, list_of, listed, most_expressions, some_entries, timer_in, timer_of, unless_fault, without_mark}
 use Rattle.cal_read.specs.declared.timer_fault.TimerFault.{TimerFault}
 use Rattle.cal_read.specs.declared.timer_fault.TimerFault.TheVariants.{BadLine, NoMemory, NothingToDo, NotUtf8, ReadFailed, TooLarge, TooMany}

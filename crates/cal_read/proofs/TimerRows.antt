@@ -7,7 +7,7 @@ use lib.Utf8.{encode}
 use Rattle.cal_spec.specs.declared.spec_fault.SpecFault.{SpecFault}
 use Rattle.cal_spec.specs.declared.spec_fault.SpecFault.TheVariants.{NoRepeat}
 use Rattle.cal_read.specs.Assignments.{assignment_of, assignments_in, timer_lines}
-use Rattle.cal_read.specs.Lines.{groups, is_continued, logical_lines, part_of, physical_lines, plain_lines, trim, trim_end, trim_start}
+use Rattle.cal_lines.specs.Lines.{groups, is_continued, logical_lines, part_of, physical_lines, plain_lines, trim, trim_end, trim_start}
 use Rattle.cal_read.specs.TimerText.{Entry, broken_line, entries, fault_behind, first_fault, is_expression, is_reset, list_of, listed, timer_in, timer_of, without_mark}
 use Rattle.cal_read.specs.declared.timer_fault.TimerFault.{TimerFault}
 use Rattle.cal_read.specs.declared.timer_fault.TimerFault.TheVariants.{BadLine, NothingToDo, NotUtf8}

@@ -1,6 +1,5 @@
+pub mod AssignmentView
 pub mod Assignments
-pub mod LineView
-pub mod Lines
 pub mod Stamp
 pub mod StampCivilRule
 pub mod StampDate

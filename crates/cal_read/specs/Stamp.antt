@@ -6,13 +6,13 @@ use Rattle.std.specs.Char.{is_ascii_digit}
 use Rattle.jiff.specs.Types.{TimeZone, Weekday}
 use Rattle.jiff_core.specs.Calendar.{weekday_number}
 use Rattle.jiff_core.specs.Weekday.{monday_zero}
-use Rattle.cal_base.specs.declared.moment.TheConstants.Moment.{LAST}
-use Rattle.cal_base.specs.declared.span_fault.SpanFault.{SpanFault}
-use Rattle.cal_base.specs.Local.{day_of}
-use Rattle.cal_base.specs.Place.{settle_of}
-use Rattle.cal_base.specs.SpanValue.{span_of}
-use Rattle.cal_base.specs.Zone.{local_of}
-use Rattle.cal_base.specs.ZoneName.{begins_with_letter}
+use Rattle.cal_zone.specs.declared.moment.TheConstants.Moment.{LAST}
+use Rattle.cal_span.specs.declared.span_fault.SpanFault.{SpanFault}
+use Rattle.cal_zone.specs.Local.{day_of}
+use Rattle.cal_zone.specs.Place.{settle_of}
+use Rattle.cal_span.specs.SpanValue.{span_of}
+use Rattle.cal_zone.specs.Zone.{local_of}
+use Rattle.cal_zone.specs.ZoneName.{begins_with_letter}
 use Rattle.cal_spec.specs.DateAndTime.{is_colon}
 use Rattle.cal_spec.specs.Weekdays.{day_named}
 use Rattle.cal_read.specs.StampForm.{Form, nothing, present, later, earlier, counted, from_today, civil, form_of}

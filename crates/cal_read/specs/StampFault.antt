@@ -1,6 +1,6 @@
 -- What is said of a text that is no timestamp.
 use Rattle.std.specs.Prelude.{ℕ, List, ◌++◌, codes}
-use Rattle.cal_base.specs.SpanFault.{words_of as span_words}
+use Rattle.cal_span.specs.SpanFault.{words_of as span_words}
 use Rattle.cal_read.specs.declared.stamp_fault.StampFault.{StampFault}
 use Rattle.cal_read.specs.declared.stamp_fault.StampFault.TheVariants.{Empty, BadWeekday, BadDate, BadTime, NoSuchDate, WrongWeekday, BadSpan, NoSuchZone, StrayWord, OutOfRange}
 

@@ -2,7 +2,7 @@
 use Rattle.std.specs.Prelude.{ℕ, ◌+◌, ◌*◌, nat_le, ◌&&◌, if◌then◌else◌, List, [], ◌∷◌, length, take, Option, None, Some, Result, Ok, Err}
 use Rattle.std.specs.Char.{is_ascii_digit}
 use Rattle.std.specs.List.{list_all, slice_split}
-use Rattle.cal_base.specs.SpanValue.{is_point, fraction_worth}
+use Rattle.cal_span.specs.SpanValue.{is_point, fraction_worth}
 use Rattle.cal_spec.specs.DateAndTime.{is_colon}
 use Rattle.cal_read.specs.StampDate.{number_in}
 use Rattle.cal_read.specs.declared.stamp_time.TheConstants.{KEPT_DIGITS}

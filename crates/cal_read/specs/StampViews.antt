@@ -1,9 +1,9 @@
 -- What contracts see of the answers of the calls that read a timestamp.
 use Rattle.std.specs.Prelude.{ℕ, ℤ, pos, neg_ℤ, List, Option, Result, Ok, Err}
 use Rattle.jiff.specs.Types.{TimeZone}
-use Rattle.cal_base.specs.declared.moment.Moment.{Moment}
-use Rattle.cal_base.specs.declared.zone.Zone.{Zone}
-use Rattle.cal_base.specs.Zone.{zone_of}
+use Rattle.cal_zone.specs.declared.moment.Moment.{Moment}
+use Rattle.cal_zone.specs.declared.zone.Zone.{Zone}
+use Rattle.cal_zone.specs.Zone.{zone_of}
 use Rattle.cal_spec.specs.Words.{words}
 use Rattle.cal_read.specs.Stamp as meaning
 use Rattle.cal_read.specs.StampForm as forms

@@ -6,10 +6,10 @@ use Rattle.std.specs.Option.{option_or}
 use Rattle.std.specs.Str.{bytes_eq, is_utf8}
 use Rattle.std.specs.Str.Lossy.{utf8_valid_len}
 use Rattle.cal_read.specs.Assignments.{Assigned, assignments_in}
-use Rattle.cal_read.specs.Lines.{logical_lines}
-use Rattle.cal_base.specs.Whole.{GivesAll, IsWholeFault}
-use Rattle.cal_base.specs.declared.whole.WholeFault.{WholeFault}
-use Rattle.cal_base.specs.declared.whole.WholeFault.TheVariants as whole
+use Rattle.cal_lines.specs.Lines.{logical_lines}
+use Rattle.cal_bytes.specs.Whole.{GivesAll, IsWholeFault}
+use Rattle.cal_bytes.specs.declared.whole.WholeFault.{WholeFault}
+use Rattle.cal_bytes.specs.declared.whole.WholeFault.TheVariants as whole
 use Rattle.cal_spec.specs.declared.spec_fault.SpecFault.{SpecFault}
 use Rattle.cal_read.specs.declared.timer_fault.TimerFault.{TimerFault}
 use Rattle.cal_read.specs.declared.timer_fault.TimerFault.TheVariants.{ReadFailed, TooLarge, NotUtf8, BadLine, TooMany, NothingToDo, NoMemory}

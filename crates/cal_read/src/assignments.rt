@@ -5,10 +5,11 @@ ghost use Rattle.std.specs.List.{list_any};
 ghost use Rattle.std.specs.Option.{option_map};
 ghost use Rattle.std.specs.Str.{bytes_eq};
 ghost use Rattle.cal_read.specs.Assignments.{assignment_of, is_header, section_of};
-ghost use Rattle.cal_read.specs.LineView.{line_at, shown_assignment};
+ghost use Rattle.cal_lines.specs.LineView.{line_at};
+ghost use Rattle.cal_read.specs.AssignmentView.{shown_assignment};
 ghost use Rattle.cal_read.specs.TimerText.{is_expression, is_reset};
 
-use crate::lines::trim;
+use cal_lines::trim;
 
 /// The keys that empty the list by an empty value.
 const TIMER_KEYS: [&[u8]; 6] = [

@@ -2,7 +2,6 @@
 #![tactic(auto)]
 
 mod assignments;
-mod lines;
 mod stamp;
 mod stamp_civil;
 mod stamp_date;

@@ -1,8 +1,8 @@
 //! Timestamps: the moment that a text means.
 
 ghost use Rattle.std.specs.Prelude.{◌≡◌};
-ghost use Rattle.cal_base.specs.Zone.{zone_of};
-ghost use Rattle.cal_base.specs.ZoneTable.{zone_named};
+ghost use Rattle.cal_zone.specs.Zone.{zone_of};
+ghost use Rattle.cal_zone.specs.ZoneTable.{zone_named};
 ghost use Rattle.cal_read.specs.Stamp.{moment_in};
 ghost use Rattle.cal_read.specs.StampViews.{setting, told};
 
@@ -12,7 +12,8 @@ use crate::stamp_form::{Form, form_of};
 use crate::stamp_moment::{before_second, behind_second, day_number, moment_of, settled};
 use crate::stamp_time::SECOND;
 use crate::stamp_zone::read_zone;
-use cal_base::{Instant, Moment, Zone, ZoneTable, read_span};
+use cal_span::read_span;
+use cal_zone::{Instant, Moment, Zone, ZoneTable};
 
 /// The moment that a text means (systemd.time(7), Parsing Timestamps), by the first form that fits: nothing; `now`; a
 /// span text behind `+`, `-` or `@`, or before `left` or `ago`; `today`, `yesterday` or `tomorrow` and a zone; or
@@ -45,6 +46,3 @@ pub fn read_stamp(
         }
     }
 }
-
-#[cfg(test)]
-mod tests;

@@ -3,8 +3,8 @@
 ghost use Rattle.std.specs.Prelude.{◌≡◌, ◌≤◌, pos, neg_ℤ, IfOk, IfSome};
 ghost use Rattle.std.specs.List.{list_any};
 ghost use Rattle.jiff.specs.Words.{IsBetween};
-ghost use Rattle.cal_base.specs.Zone.{zone_of};
-ghost use Rattle.cal_base.specs.ZoneTable.{zone_named};
+ghost use Rattle.cal_zone.specs.Zone.{zone_of};
+ghost use Rattle.cal_zone.specs.ZoneTable.{zone_named};
 ghost use Rattle.cal_spec.specs.DateAndTime.{is_colon};
 ghost use Rattle.cal_spec.specs.Words.{words};
 ghost use Rattle.cal_read.specs.Stamp.{begins_with_digit, behind_date, behind_weekday, civil_time, fits_weekday, moment_of_written, written_in};
@@ -17,8 +17,8 @@ use crate::stamp_text::first_word;
 use crate::stamp_time::read_time;
 use crate::stamp_written::Written;
 use crate::stamp_zone::read_zone;
-use cal_base::{Instant, Moment, Zone, ZoneTable, begins_with_letter};
 use cal_spec::find_day;
+use cal_zone::{Instant, Moment, Zone, ZoneTable, begins_with_letter};
 use jiff::civil::Weekday;
 use jiff_core::civil::Date;
 

@@ -7,7 +7,7 @@ ghost use Rattle.cal_read.specs.StampDate.{date_numbers, day_number, day_written
 ghost use Rattle.cal_read.specs.StampDateViews.{numbers_seen};
 
 use crate::StampFault;
-use cal_base::{are_digits, whole_of};
+use cal_span::{are_digits, whole_of};
 use cal_spec::{first_piece, with_century};
 use jiff_core::civil::Date;
 

@@ -1,33 +1,33 @@
 //! Why a text is no timestamp.
 
 ghost use Rattle.std.specs.Prelude.{◌≡◌, ◌++◌, codes};
-ghost use Rattle.cal_base.specs.SpanFault.{words_of as span_words_of};
+ghost use Rattle.cal_span.specs.SpanFault.{words_of as span_words_of};
 
-use cal_base::SpanFault;
+use cal_span::SpanFault;
 
 /// Why a text is no timestamp: what is wrong with the first of its words, from the left, that is at fault, and then
 /// with all of them together (systemd.time(7), Parsing Timestamps).
 #[derive(Clone, Copy, PartialEq, Eq, Debug)]
 pub enum StampFault {
-    /// There is no word at all.
+    /// There is no word at all. Its number is 1.
     Empty,
-    /// The first word begins with a letter and is no weekday's name.
+    /// The first word begins with a letter and is no weekday's name. Its number is 2.
     BadWeekday,
-    /// Where a date is due stands none.
+    /// Where a date is due stands none. Its number is 3.
     BadDate,
-    /// Where a time is due stands none.
+    /// Where a time is due stands none. Its number is 4.
     BadTime,
-    /// The date is no day from 1970-01-01 to 2199-12-31.
+    /// The date is no day from 1970-01-01 to 2199-12-31. Its number is 5.
     NoSuchDate,
-    /// The weekday named isn't the date's.
+    /// The weekday named isn't the date's. Its number is 6.
     WrongWeekday,
-    /// The text that is due a time span is none.
+    /// The text that is due a time span is none. Its number is 7.
     BadSpan(SpanFault),
-    /// There is no zone of that name.
+    /// There is no zone of that name. Its number is 8.
     NoSuchZone,
-    /// A word is left over.
+    /// A word is left over. Its number is 9.
     StrayWord,
-    /// The time lies before the first moment or behind the last.
+    /// The time lies before the first moment or behind the last. Its number is 10.
     OutOfRange,
 }
 

@@ -2,15 +2,16 @@
 
 ghost use Rattle.std.specs.Prelude.{◌≡◌, ◌≤◌, ◌<◌, ◌+ℤ◌, ◌-ℤ◌, ◌*ℤ◌, pos, neg_ℤ, Ok};
 ghost use Rattle.jiff.specs.Words.{IsBetween};
-ghost use Rattle.cal_base.specs.Instant.{IsInstant};
-ghost use Rattle.cal_base.specs.Zone.{local_of, zone_of};
+ghost use Rattle.cal_zone.specs.Instant.{IsInstant};
+ghost use Rattle.cal_zone.specs.Zone.{local_of, zone_of};
 ghost use Rattle.cal_read.specs.Stamp.{before_second, behind_second, in_moments, micros_of, settled, today};
 ghost use Rattle.cal_read.specs.StampViews.{shift_of, told};
 
 use crate::StampFault;
 use crate::stamp_form::NearDay;
 use crate::stamp_time::SECOND;
-use cal_base::{DAY, Instant, Moment, Span, Zone, civil, settle};
+use cal_span::Span;
+use cal_zone::{DAY, Instant, Moment, Zone, civil, settle};
 
 /// The moment of so many microseconds of Unix time, where there is one.
 #[tactic(auto, unfolding(crate::specs::Stamp::in_moments))]

@@ -5,7 +5,7 @@ ghost use Rattle.cal_read.specs.StampTime.{both, clock_number, fraction_in, seco
 
 use crate::StampFault;
 use crate::stamp_date::read_number;
-use cal_base::{are_digits, fraction_of};
+use cal_span::{are_digits, fraction_of};
 use cal_spec::first_piece;
 
 /// The microseconds of a second.

@@ -3,7 +3,7 @@
 ghost use Rattle.std.specs.Prelude.{◌≤◌, pos, IfSome};
 ghost use Rattle.jiff.specs.Words.{IsBetween};
 
-use cal_base::Zone;
+use cal_zone::Zone;
 use jiff::civil::Weekday;
 
 /// A civil time as it is written.

@@ -1,15 +1,15 @@
 //! The zone that the words of a timestamp name.
 
 ghost use Rattle.std.specs.Prelude.{◌≡◌};
-ghost use Rattle.cal_base.specs.Zone.{zone_of};
-ghost use Rattle.cal_base.specs.ZoneTable.{zone_named};
+ghost use Rattle.cal_zone.specs.Zone.{zone_of};
+ghost use Rattle.cal_zone.specs.ZoneTable.{zone_named};
 ghost use Rattle.cal_spec.specs.Words.{words};
 ghost use Rattle.cal_read.specs.Stamp.{zone_in};
 ghost use Rattle.cal_read.specs.StampViews.{setting, zone_told};
 
 use crate::StampFault;
 use crate::stamp_text::first_word;
-use cal_base::{Zone, ZoneTable, begins_with_letter};
+use cal_zone::{Zone, ZoneTable, begins_with_letter};
 
 /// The zone that the text names, or the local one where it has no word (systemd.time(7), Parsing Timestamps).
 /// `StrayWord` where the word doesn't begin with a letter or another one stands behind it, `NoSuchZone` where there is

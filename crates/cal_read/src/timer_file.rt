@@ -2,18 +2,18 @@
 
 ghost use Rattle.std.specs.Prelude.{◌≡◌, ◌≢◌, ◌+◌, ◌<◌, ◌≤◌, ◌^◌, ◌↔◌, ◌==◌, ℕ, List, Ok, Err, Result, MatchResult, IsTrue, false, length, map, count_by};
 ghost use Rattle.std.specs.Result.{IsErrOf};
-ghost use Rattle.cal_base.specs.Whole.{is_read_failed};
-ghost use Rattle.cal_base.specs.declared.whole.WholeFault.{WholeFault};
+ghost use Rattle.cal_bytes.specs.Whole.{is_read_failed};
+ghost use Rattle.cal_bytes.specs.declared.whole.WholeFault.{WholeFault};
 ghost use Rattle.cal_spec.specs.Expr.{expr_in};
 ghost use Rattle.cal_read.specs.Assignments.{assignments_in};
-ghost use Rattle.cal_read.specs.Lines.{logical_lines};
+ghost use Rattle.cal_lines.specs.Lines.{logical_lines};
 ghost use Rattle.cal_read.specs.TimerText.{most_bytes, list_of, some_entries, timer_in, timer_of, timer_text, without_mark, ReadsWhole};
 ghost use Rattle.cal_read.specs.TimerView.{shown};
 
-use crate::lines::first_logical;
 use crate::timer_list::take_line;
 use crate::{Timer, TimerFault, TimerLine};
-use cal_base::{Source, WholeFault, read_whole};
+use cal_bytes::{Source, WholeFault, read_whole};
+use cal_lines::first_logical;
 use std::alloc::Global;
 
 /// Reads a timer file to its end, and gives its calendar expressions (systemd.timer(5), OnCalendar=).
@@ -107,6 +107,3 @@ fn read_lines(alloc: Global, text: &str) -> Result<Vec<TimerLine>, TimerFault>
     }
     Ok(lines)
 }
-
-#[cfg(test)]
-mod tests;

@@ -7,18 +7,10 @@ ghost use Rattle.std.specs.Str.{bytes_eq};
 ghost use Rattle.cal_spec.specs.Fields.{Fields};
 ghost use Rattle.cal_spec.specs.declared.spec_fault.SpecFault.{SpecFault};
 ghost use Rattle.cal_read.specs.Assignments.{Assigned, is_header, section_of, timer_lines};
-ghost use Rattle.cal_read.specs.Lines.{Group, Line, groups};
-ghost use Rattle.cal_read.specs.TimerRule.{AreGroups, Judges, lines_of};
+ghost use Rattle.cal_lines.specs.Lines.{Line};
+ghost use Rattle.cal_read.specs.TimerRule.{Judges};
 ghost use Rattle.cal_read.specs.declared.timer_fault.TimerFault.{TimerFault};
 ghost use Rattle.cal_read.specs.TimerText.{Entry, is_expression, is_reset, list_of, listed};
-
-/// Lines are grouped in exactly one way: each group ends at the first line that isn't continued, the last one with the
-/// file.
-pub fn one_grouping()
-    ensures lines { (lines : List Line) → lines_of (groups lines) ≡ lines }
-    ensures some { (lines : List Line) → AreGroups (groups lines) }
-    ensures only { (all : List Group) → AreGroups all → groups (lines_of all) ≡ all }
-{}
 
 /// A line stands in the section `Timer` where the last header before it opens that section; a header stands in none.
 pub fn one_section()

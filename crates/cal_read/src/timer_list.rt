@@ -3,14 +3,15 @@
 ghost use Rattle.std.specs.Prelude.{◌≡◌, ◌≢◌, ◌∷◌, List, Some, Err, MatchResult, map};
 ghost use Rattle.cal_spec.specs.Expr.{expr_in};
 ghost use Rattle.cal_read.specs.Assignments.{Assigned, assignments_in};
-ghost use Rattle.cal_read.specs.LineView.{line_at, shown_assignment};
-ghost use Rattle.cal_read.specs.Lines.{Line};
+ghost use Rattle.cal_lines.specs.LineView.{line_at};
+ghost use Rattle.cal_read.specs.AssignmentView.{shown_assignment};
+ghost use Rattle.cal_lines.specs.Lines.{Line};
 ghost use Rattle.cal_read.specs.TimerText.{bad_line, entry_of};
 ghost use Rattle.cal_read.specs.TimerView.{resumed, shown};
 
 use crate::assignments::{Assignment, read_assignment, section};
-use crate::lines::trim;
 use crate::{TimerFault, TimerLine};
+use cal_lines::trim;
 use cal_spec::{SpecFault, read_expr};
 use std::alloc::Global;
 

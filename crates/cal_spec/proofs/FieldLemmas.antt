@@ -7,7 +7,7 @@ use Rattle.std.specs.Str.{str_eq_ignore_ascii_case}
 use Rattle.std.proofs.lemmas.Bool.{or_left, or_right, le-leb, ltb-false}
 use Rattle.jiff_core.specs.declared.civil.weekday.Weekday.{Weekday}
 use Rattle.jiff_core.specs.declared.civil.weekday.Weekday.TheVariants.{Monday, Tuesday, Wednesday, Thursday, Friday, Saturday, Sunday}
-use Rattle.cal_base.specs.Weekday.{week}
+use Rattle.cal_zone.specs.Weekday.{week}
 use Rattle.cal_spec.specs.Components.{most_counted, is_comma, counted, component_of}
 use Rattle.cal_spec.specs.DateAndTime.{DateTexts, TimeTexts, DateFields, TimeFields, date_texts, time_texts, date_fields, time_fields, date_due, time_due, room_behind, date_of, time_of}
 use Rattle.cal_spec.specs.Fields.{Fields, fields_of, parts_in, counted_parts}
@@ -19,7 +19,7 @@ use Rattle.cal_spec.specs.Slot.{day_slot}
 use Rattle.cal_spec.specs.ValidFields.{IsValidFields}
 use Rattle.cal_spec.specs.Weekdays.{day_named, leading_letters, days_until, is_covered, days_of, items_of, without_comma, set_of, listed_days, is_like_shorthand, weekdays_of, weekdays_in}
 use Rattle.cal_spec.specs.Words.{Places, words, places_of}
-use Rattle.cal_base.specs.ZoneName.{is_zone_name}
+use Rattle.cal_zone.specs.ZoneName.{is_zone_name}
 use Rattle.cal_spec.specs.ZoneName.{IsZoneOption, zone_name, zone_in}
 use Rattle.cal_spec.specs.declared.part.Part.{Part}
 use Rattle.cal_spec.specs.declared.slot.Slot.{Slot}

@@ -6,7 +6,7 @@ use Rattle.std.proofs.lemmas.Bool.{eqb-true, le-leb, or_cases, or_left, or_right
 use Rattle.std.proofs.lemmas.Bool.Decides.{nat_tests}
 use Rattle.jiff.specs.Types.{Date}
 use Rattle.jiff_core.proofs.CalendarLemmas.{days_in_month_bounds}
-use Rattle.cal_base.specs.Local.{civil_date}
+use Rattle.cal_zone.specs.Local.{civil_date}
 use Rattle.cal_spec.specs.Fields.{Fields}
 use Rattle.cal_spec.specs.Match.{date_in, day_number, matches, time_in}
 use Rattle.cal_spec.specs.Members.{component_has, lies, lies_by, part_has, sets_of, values}

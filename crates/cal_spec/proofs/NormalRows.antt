@@ -1,7 +1,7 @@
 -- Worked rows of the normal form and its text.
 use Rattle.std.proofs.Common.{◌≡◌, ℕ, true, false, [], ◌∷◌, Option, None, Some, refl, codes}
 use Rattle.std.specs.Fmt.{digits}
-use Rattle.cal_base.specs.Weekday.{name_of}
+use Rattle.cal_zone.specs.Weekday.{name_of}
 use Rattle.cal_spec.specs.declared.part.Part.{Part}
 use Rattle.cal_spec.specs.ExprText.{expr_text, fields_text, row_text, parts_text, part_text, number_text}
 use Rattle.cal_spec.specs.Fields.{Fields}

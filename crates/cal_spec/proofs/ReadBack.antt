@@ -6,7 +6,7 @@ use Rattle.std.specs.List.{list_all, list_any, slice_split}
 use Rattle.std.proofs.lemmas.Bool.{and_parts, le-ltb, lt-ltb, or_parts}
 use Rattle.std.proofs.lemmas.Bool.Decides.{nat_tests}
 use Rattle.std.proofs.lemmas.List.{append-nil, length-append}
-use Rattle.cal_base.specs.Bytes.{joined}
+use Rattle.cal_bytes.specs.Bytes.{joined}
 use Rattle.cal_spec.specs.Components.{counted}
 use Rattle.cal_spec.specs.DateAndTime.{DateFields, TimeFields, date_due, date_fields, date_of, date_texts, is_colon, is_date_sign, is_tilde, room_behind, time_due, time_fields, time_of, time_texts}
 use Rattle.cal_spec.specs.ExprText.{component_text, day_lead, expr_text, fields_text, row_text, zone_text}
@@ -18,7 +18,7 @@ use Rattle.cal_spec.specs.ValidFields.{IsValidFields}
 use Rattle.cal_spec.specs.WeekdayRuns.{runs_from, runs_text}
 use Rattle.cal_spec.specs.Weekdays.{weekdays_in}
 use Rattle.cal_spec.specs.Words.{Places, is_blank, places_of, words}
-use Rattle.cal_base.specs.ZoneName.{begins_with_letter, is_zone_byte, is_zone_name}
+use Rattle.cal_zone.specs.ZoneName.{begins_with_letter, is_zone_byte, is_zone_name}
 use Rattle.cal_spec.specs.ZoneName.{IsZoneOption, zone_in}
 use Rattle.cal_spec.specs.declared.part.Part.{Part}
 use Rattle.cal_spec.specs.declared.slot.Slot.TheVariants.{Year, Month, Hour, Minute, Second}

@@ -10,7 +10,7 @@ use Rattle.std.proofs.lemmas.Fmt.{decimal_is_IsNumeral}
 use Rattle.std.proofs.lemmas.List.{append-nil}
 use Rattle.std.proofs.lemmas.List.Folds.{list_all-append}
 use Rattle.std.proofs.lemmas.Str.Parse.{digit_from_value}
-use Rattle.cal_base.specs.InstantText.{zeros}
+use Rattle.cal_zone.specs.InstantText.{zeros}
 use Rattle.cal_spec.specs.Components.{component_of, counted, is_comma, is_star, listed, part_due, parts_of, room_in}
 use Rattle.cal_spec.specs.ExprText.{component_text, number_text, optional_text, part_text, parts_text}
 use Rattle.cal_spec.specs.Parts.{Sign, digits, slash, behind_end, behind_number, behind_start, is_second, is_time, number_due, part_at_end, part_of, signs, starts_with_point, with_century, with_step, with_values}

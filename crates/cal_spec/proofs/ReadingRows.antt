@@ -7,9 +7,9 @@ use Rattle.cal_spec.specs.Weekdays.{day_named, days_of, listed_days, weekdays_of
 use Rattle.cal_spec.specs.DateAndTime.{date_texts, time_texts, date_fields, time_fields, date_of, time_of}
 use Rattle.cal_spec.specs.Components.{part_due, listed, component_of}
 use Rattle.cal_spec.specs.Parts.{with_step, behind_end, behind_start, part_of, fault_of}
-use Rattle.cal_base.specs.ZoneName.{is_zone_name}
+use Rattle.cal_zone.specs.ZoneName.{is_zone_name}
 use Rattle.cal_spec.specs.declared.spec_fault.SpecFault.{SpecFault}
-use Rattle.cal_base.specs.Weekday.{name_of}
+use Rattle.cal_zone.specs.Weekday.{name_of}
 use Rattle.cal_spec.specs.declared.spec_fault.SpecFault.TheVariants.{Empty, BadWeekday, BadDate, BadTime, FractionalSecond, NumberTooLarge, OutOfField, BackwardRange, ZeroRepeat, NoRepeat, TooManyParts, StrayWord, UnknownShorthand}
 
 abbrev IsFault : List ℕ → SpecFault → Type 0

@@ -7,7 +7,7 @@ use Rattle.std.specs.Str.Parse.{digits_value}
 use Rattle.std.proofs.lemmas.Int.Digits.{digits_value_more}
 use Rattle.std.proofs.lemmas.Bool.{and_parts, and_from, leb-true, le-leb, ne_eqb}
 use Rattle.std.proofs.lemmas.List.{take-append-drop, at_drop_more}
-use Rattle.cal_base.proofs.SpanNumbers.{digit_at}
+use Rattle.cal_span.proofs.SpanNumbers.{digit_at}
 use Rattle.cal_spec.specs.Parts.{Sign, digits, dots, slash, point, other, is_point, is_slash, with_digit, with_byte, lone, signs}
 
 -- one more digit of a number that stays at the top

@@ -3,8 +3,8 @@ use Rattle.std.proofs.Common.{◌≡◌, ℕ, ◌+◌, ◌<◌, List, [], ◌∷
 use Rattle.std.proofs.lemmas.List.{nil_from_length}
 use Rattle.std.specs.Io.KnownBytes.{Appends}
 use Rattle.std.specs.List.{flat_map}
-use Rattle.cal_base.specs.Bytes.{AppendsFront, Leaves}
-use Rattle.cal_base.proofs.Pieces.{step_piece, stop_piece}
+use Rattle.cal_bytes.specs.Bytes.{AppendsFront, Leaves}
+use Rattle.cal_bytes.proofs.Pieces.{step_piece, stop_piece}
 use Rattle.cal_spec.specs.ExprText.{part_text, parts_text, number_text}
 use Rattle.cal_spec.specs.declared.part.Part.{Part}
 

@@ -6,7 +6,7 @@ use Rattle.std.proofs.lemmas.Bool.{eq-eqb, ne_eqb, eqb-true, eqb-false, le-leb, 
 use Rattle.std.proofs.lemmas.Bool.Decides.{nat_tests}
 use Rattle.cal_spec.specs.Members.{lies}
 use Rattle.std.proofs.lemmas.List.Sums.{prefix_len-le-length}
-use Rattle.cal_base.specs.Bytes.{joined}
+use Rattle.cal_bytes.specs.Bytes.{joined}
 use Rattle.cal_spec.specs.WeekdayRuns.{Run, AreApartFrom, AreRuns, is_in, with_day, runs_from, run_text, runs_text, weekdays_text, behind_first, day_name}
 
 run : ℕ → ℕ → Run

@@ -10,7 +10,7 @@ use Rattle.cal_spec.specs.DateAndTime.{TimeTexts, TimeFields, is_colon, time_tex
 use Rattle.cal_spec.specs.GrammarRule.{given, ArePlain, AreShort}
 use Rattle.cal_spec.specs.Shorthand.{any_date, midnight, meaning_of, shorthand_named}
 use Rattle.cal_spec.specs.Words.{Places, behind_date, behind_weekdays, places_by, places_of}
-use Rattle.cal_base.specs.ZoneName.{begins_with_letter, is_zone_byte, is_zone_name}
+use Rattle.cal_zone.specs.ZoneName.{begins_with_letter, is_zone_byte, is_zone_name}
 use Rattle.cal_spec.specs.ZoneName.{zone_name, zone_in}
 use Rattle.cal_spec.specs.declared.shorthand.Shorthand.{Shorthand}
 use Rattle.cal_spec.specs.declared.spec_fault.SpecFault.TheVariants.{StrayWord}

@@ -2,8 +2,8 @@
 -- other numbers two, steps no padding.
 use Rattle.std.specs.Prelude.{ℕ, Bool, if◌then◌else◌, List, [], ◌∷◌, Option, None, Some, codes, decimal}
 use Rattle.std.specs.List.{join_by}
-use Rattle.cal_base.specs.Bytes.{joined}
-use Rattle.cal_base.specs.InstantText.{zeros}
+use Rattle.cal_bytes.specs.Bytes.{joined}
+use Rattle.cal_zone.specs.InstantText.{zeros}
 use Rattle.cal_spec.specs.Fields.{Fields}
 use Rattle.cal_spec.specs.WeekdayRuns.{weekdays_text}
 use Rattle.cal_spec.specs.declared.part.Part.{Part}

@@ -5,7 +5,7 @@ use Rattle.std.specs.Option.{option_to_list, option_map, unwrap_or}
 use Rattle.std.specs.Char.{is_ascii_digit, to_ascii_lowercase}
 use Rattle.std.specs.Str.Parse.{digits_value}
 use Rattle.jiff_core.specs.declared.civil.weekday.Weekday.{Weekday}
-use Rattle.cal_base.specs.Weekday.{week, name_of, short_name_of}
+use Rattle.cal_zone.specs.Weekday.{week, name_of, short_name_of}
 use Rattle.cal_spec.specs.DateAndTime.{DateTexts, TimeTexts, is_colon}
 use Rattle.cal_spec.specs.Fields.{Fields, counted_parts}
 use Rattle.cal_spec.specs.Parts.{most, with_values}
@@ -14,7 +14,7 @@ use Rattle.cal_spec.specs.Slot.{day_slot}
 use Rattle.cal_spec.specs.Sound.{IsSound}
 use Rattle.cal_spec.specs.Weekdays.{set_of}
 use Rattle.cal_spec.specs.Words.{Places, is_blank, words}
-use Rattle.cal_base.specs.ZoneName.{begins_with_letter, is_zone_name}
+use Rattle.cal_zone.specs.ZoneName.{begins_with_letter, is_zone_name}
 use Rattle.cal_spec.specs.ZoneName.{zone_name}
 use Rattle.cal_spec.specs.declared.part.Part.{Part}
 use Rattle.cal_spec.specs.declared.shorthand.Shorthand.{Shorthand}

@@ -2,8 +2,8 @@
 use Rattle.std.specs.Prelude.{◌≡◌, ◌==◌, ℕ, ◌+◌, ◌≤◌, Bool, false, ◌||◌, if◌then◌else◌, List, [], ◌∷◌, codes, slice_index_or}
 use Rattle.std.specs.List.{join_by, list_all}
 use Rattle.jiff_core.specs.declared.civil.weekday.Weekday.TheVariants.{Monday}
-use Rattle.cal_base.specs.Bytes.{joined}
-use Rattle.cal_base.specs.Weekday.{week, short_name_of}
+use Rattle.cal_bytes.specs.Bytes.{joined}
+use Rattle.cal_zone.specs.Weekday.{week, short_name_of}
 use Rattle.cal_spec.specs.Members.{lies}
 
 -- days in a row

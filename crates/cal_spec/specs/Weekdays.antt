@@ -6,7 +6,7 @@ use Rattle.std.specs.Char.{is_ascii_alphabetic}
 use Rattle.std.specs.Str.{str_eq_ignore_ascii_case}
 use Rattle.jiff_core.specs.declared.civil.weekday.Weekday.{Weekday}
 use Rattle.jiff_core.specs.Weekday.{monday_zero}
-use Rattle.cal_base.specs.Weekday.{week, name_of, short_name_of}
+use Rattle.cal_zone.specs.Weekday.{week, name_of, short_name_of}
 use Rattle.cal_spec.specs.Components.{is_comma}
 use Rattle.cal_spec.specs.Reads.{◌>>=◌}
 use Rattle.cal_spec.specs.declared.weekdays.Days.{Days}

@@ -3,7 +3,7 @@ use Rattle.std.specs.Prelude.{ℕ, ◌==◌, nat_lt, Bool, ◌||◌, if◌then�
 use Rattle.std.specs.List.{list_any, slice_split}
 use Rattle.cal_spec.specs.DateAndTime.{is_colon}
 use Rattle.cal_spec.specs.Shorthand.{any_date, midnight, shorthand_named, meaning_of}
-use Rattle.cal_base.specs.ZoneName.{begins_with_letter}
+use Rattle.cal_zone.specs.ZoneName.{begins_with_letter}
 use Rattle.cal_spec.specs.declared.shorthand.Shorthand.{Shorthand}
 
 abbrev pub is_blank : ℕ → Bool

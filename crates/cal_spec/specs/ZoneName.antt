@@ -1,7 +1,7 @@
 -- The name of a zone at the end of a calendar expression: systemd.time(7), Calendar Events.
 use Rattle.std.specs.Prelude.{ℕ, ◌≡◌, true, if◌then◌else◌, List, [], ◌∷◌, codes, Option, None, Some, Result, Ok, Err}
 use Rattle.std.specs.Str.{str_eq_ignore_ascii_case}
-use Rattle.cal_base.specs.ZoneName.{is_zone_name}
+use Rattle.cal_zone.specs.ZoneName.{is_zone_name}
 use Rattle.cal_spec.specs.declared.spec_fault.SpecFault.{SpecFault}
 use Rattle.cal_spec.specs.declared.spec_fault.SpecFault.TheVariants.{StrayWord}
 

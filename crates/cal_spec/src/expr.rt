@@ -3,14 +3,12 @@
 ghost use Rattle.std.specs.Prelude.{◌≡◌, ◌<◌, ◌≤ℤ◌, ◌<ℤ◌, pos, unsigned_abs, option_copied, option_map};
 ghost use Rattle.cal_spec.specs.NormalForm.{AreParts, normal_component, normal_from_end, normal_second};
 
-use crate::matching::{day_slot, has_date, has_local, has_time};
+use crate::matching::{day_slot, has_local};
 use crate::members::component_has;
 use crate::normal_form::{normal_component, normal_second};
 use crate::raw::{Raw, RawDate, RawTime};
 use crate::slot::Slot;
 use crate::{Field, Part};
-use cal_base::DAY;
-use jiff::civil::Date;
 use std::marker::Model;
 
 /// A calendar expression (systemd.time(7), Calendar Events): valid, and in its normal form.
@@ -33,10 +31,10 @@ impl Model for Expr {
 }
 
 impl Expr {
-    ghost use Rattle.cal_base.specs.Local.{seconds_in_all};
+    ghost use Rattle.cal_zone.specs.Local.{seconds_in_all};
     ghost use Rattle.cal_spec.specs.Expr.{IsExpr, component};
     ghost use Rattle.cal_spec.specs.Fields.{fields_of};
-    ghost use Rattle.cal_spec.specs.Match.{date_in, matches, time_in};
+    ghost use Rattle.cal_spec.specs.Match.{matches};
     ghost use Rattle.cal_spec.specs.Members.{members_of, sets_of};
     ghost use Rattle.cal_spec.specs.NormalForm.{normal_fields};
     ghost use Rattle.cal_spec.specs.ValidFields.{IsValidFields};
@@ -70,21 +68,6 @@ impl Expr {
         ensures { result ≡ matches (sets_of self.now) (unsigned_abs local) }
     {
         has_local(&self.raw, local.unsigned_abs())
-    }
-
-    /// Whether the weekday, the year, the month and the day of a date are the expression's.
-    pub fn has_date(&self, date: Date) -> bool
-        ensures { result ≡ date_in (sets_of self.now) date }
-    {
-        has_date(&self.raw, date)
-    }
-
-    /// Whether so many seconds after midnight, fewer than a day has, are a time of the expression's.
-    pub fn has_time(&self, second: u64) -> bool
-        requires { second < DAY }
-        ensures { result ≡ time_in (sets_of self.now) second }
-    {
-        has_time(&self.raw, second)
     }
 
     /// Whether a number is a member of a field: of the day, whether it is a day of the month, or its count from the
@@ -191,6 +174,3 @@ fn normal_time(time: RawTime) -> RawTime
         second: normal_second(second),
     }
 }
-
-#[cfg(test)]
-mod tests;

@@ -2,13 +2,13 @@
 
 ghost use Rattle.std.specs.Prelude.{◌≡◌, ◌≤◌, [], ◌∷◌, codes, drop, false, is_err, option_copied};
 ghost use Rattle.std.specs.List.{flat_map};
-ghost use Rattle.cal_base.specs.Bytes.{Writes, joined};
+ghost use Rattle.cal_bytes.specs.Bytes.{Writes, joined};
 ghost use Rattle.cal_spec.specs.Expr.{component};
 ghost use Rattle.cal_spec.specs.ExprText.{component_text, day_lead, expr_text, fields_text, number_text, optional_text, part_text, parts_text, row_text, zone_text};
 
 use crate::weekday_runs::put_weekdays;
 use crate::{Expr, Field, Part};
-use cal_base::{Fill, Sink, WriteFault, padding, put_all, put_pieces};
+use cal_bytes::{Fill, Sink, WriteFault, padding, put_all, put_pieces};
 use itoa::Buffer;
 
 /// A component, the digits of its numbers, and what leads up to it.

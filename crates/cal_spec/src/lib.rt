@@ -1,8 +1,6 @@
 //! Calendar expressions: their grammar, their normal form, and what matches them (systemd.time(7), Calendar Events).
 #![tactic(auto)]
 
-#[cfg(test)]
-mod accepted_texts;
 mod components;
 mod date_and_time;
 mod expr;

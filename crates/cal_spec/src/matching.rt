@@ -2,7 +2,7 @@
 
 ghost use Rattle.std.specs.Prelude.{◌≡◌, ◌<◌, ◌≤◌, false, length, slice_index_or};
 ghost use Rattle.jiff.specs.Words.{monday_zero};
-ghost use Rattle.cal_base.specs.Local.{seconds_in_all};
+ghost use Rattle.cal_zone.specs.Local.{seconds_in_all};
 ghost use Rattle.cal_spec.specs.Fields.{fields_of};
 ghost use Rattle.cal_spec.specs.Match.{date_in, day_number, matches, time_in};
 ghost use Rattle.cal_spec.specs.Members.{sets_of};
@@ -11,7 +11,7 @@ ghost use Rattle.cal_spec.specs.Slot.{day_slot};
 use crate::members::component_has;
 use crate::raw::{Raw, RawTime};
 use crate::slot::Slot;
-use cal_base::{DAY, date_of_day};
+use cal_zone::{DAY, date_of_day};
 use jiff::civil::{Date, Weekday};
 
 /// Whether a local second of the years 1970 to 2199 matches: whether its weekday, date and time all do.
@@ -25,7 +25,7 @@ pub fn has_local(raw: &Raw, local: u64) -> bool
 
 /// Whether the date is one of the expression's.
 #[tactic(auto, unfolding(crate::specs::Match::date_in, crate::specs::Members::sets_of, crate::specs::Fields::fields_of))]
-pub fn has_date(raw: &Raw, date: Date) -> bool
+fn has_date(raw: &Raw, date: Date) -> bool
     ensures { result ≡ date_in (sets_of (fields_of raw.now)) date }
 {
     let day = day_number(raw.date.from_end, date);
@@ -47,7 +47,7 @@ fn has_weekday(weekdays: &[bool; 7], weekday: Weekday) -> bool
 
 /// Whether so many seconds after midnight are a time of the expression's.
 #[tactic(auto, unfolding(crate::specs::Match::time_in, crate::specs::Members::sets_of, crate::specs::Fields::fields_of))]
-pub fn has_time(raw: &Raw, second: u64) -> bool
+fn has_time(raw: &Raw, second: u64) -> bool
     requires { second < 86_400 }
     ensures { result ≡ time_in (sets_of (fields_of raw.now)) second }
 {

@@ -80,6 +80,3 @@ fn chosen_weekdays(alloc: Global, word: Option<&[u8]>) -> Result<[bool; 7], Spec
         None => Ok([true; 7]),
     }
 }
-
-#[cfg(test)]
-mod tests;

@@ -2,10 +2,11 @@
 
 ghost use Rattle.std.specs.Prelude.{◌≡◌, ◌+◌, ◌<◌, ◌≤◌, [], ◌∷◌, codes, drop, false, is_err, length};
 ghost use Rattle.std.specs.List.{list_all, prefix_len};
-ghost use Rattle.cal_base.specs.Bytes.{Writes, joined};
+ghost use Rattle.cal_bytes.specs.Bytes.{Writes, joined};
 ghost use Rattle.cal_spec.specs.WeekdayRuns.{day_name, run_text, runs_from, runs_text, weekdays_text};
 
-use cal_base::{Sink, WEEK, WriteFault, put_all, put_pieces, short_weekday_name};
+use cal_bytes::{Sink, WriteFault, put_all, put_pieces};
+use cal_zone::{WEEK, short_weekday_name};
 
 /// Writes the chosen weekdays with a space behind them, or nothing where all seven are chosen.
 pub fn put_weekdays<W: Sink>(out: &mut W, days: &[bool; 7]) -> Result<(), WriteFault>

@@ -4,7 +4,7 @@ ghost use Rattle.std.specs.Prelude.{◌≡◌, ◌≤◌, ◌||◌, length};
 ghost use Rattle.std.specs.List.{find, list_any, list_all, position, position_or_len, slice_split};
 ghost use Rattle.std.specs.Option.{option_copied};
 ghost use Rattle.std.specs.Str.{str_eq_ignore_ascii_case};
-ghost use Rattle.cal_base.specs.Weekday.{name_of, short_name_of};
+ghost use Rattle.cal_zone.specs.Weekday.{name_of, short_name_of};
 ghost use Rattle.cal_spec.specs.Components.{is_comma};
 ghost use Rattle.cal_spec.specs.Reads.{Gives, GivesUnlessNoMemory};
 ghost use Rattle.cal_spec.specs.Weekdays.{behind_joint, day_named, days_of, is_covered, is_like_shorthand, is_no_letter, items_of, set_of, weekdays_of, without_comma};
@@ -12,7 +12,7 @@ ghost use Rattle.cal_spec.specs.Weekdays.{behind_joint, day_named, days_of, is_c
 use crate::SpecFault;
 use crate::pieces::first_piece;
 use crate::same_word::is_same_word;
-use cal_base::{WEEK, short_weekday_name, weekday_name};
+use cal_zone::{WEEK, short_weekday_name, weekday_name};
 use jiff::civil::Weekday;
 use std::alloc::Global;
 

@@ -9,7 +9,7 @@ ghost use Rattle.cal_spec.specs.Words.{is_blank, words, behind_date, behind_week
 
 use crate::pieces::cut_at;
 use crate::shorthand::{ANY_DATE, MIDNIGHT, find_shorthand};
-use cal_base::begins_with_letter;
+use cal_zone::begins_with_letter;
 
 /// The texts at the places of an expression, and the words behind these.
 #[derive(Clone, Copy)]

@@ -4,13 +4,13 @@ ghost use Rattle.std.specs.Prelude.{◌≡◌, IsTrue, string_bytes};
 ghost use Rattle.std.specs.Option.{option_map};
 ghost use Rattle.cal_spec.specs.Reads.{GivesUnlessNoMemory};
 ghost use Rattle.cal_spec.specs.Words.{words};
-ghost use Rattle.cal_base.specs.ZoneName.{is_zone_name};
+ghost use Rattle.cal_zone.specs.ZoneName.{is_zone_name};
 ghost use Rattle.cal_spec.specs.ZoneName.{zone_name, zone_in};
 
 use crate::SpecFault;
 use crate::same_word::is_same_word;
 use crate::words::first_word;
-use cal_base::is_zone_name;
+use cal_zone::is_zone_name;
 use std::alloc::Global;
 
 /// The name of the zone, if there is one, in what stands behind the time (systemd.time(7), Calendar Events). Any other

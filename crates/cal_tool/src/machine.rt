@@ -1,7 +1,7 @@
 //! The real system: its files and its clock. Nothing is told of either.
 
-use crate::system::System;
-use cal_base::Port;
+use cal_bytes::Port;
+use cal_work::System;
 use std::fs;
 use std::rt::Files;
 use std::time::{Clock, SystemTime, UNIX_EPOCH};

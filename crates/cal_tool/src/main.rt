@@ -4,34 +4,14 @@
 
 ghost use Rattle.std.specs.Prelude.{◌≡◌, false};
 
-pub mod accepted;
-pub mod ask;
-pub mod calendar_report;
-pub mod command_fault;
-pub mod command_laws;
-pub mod command_line;
-pub mod context;
-pub mod elapse_lines;
-pub mod load_zone;
 pub mod machine;
-pub mod option_values;
-pub mod report;
-pub mod report_lines;
-pub mod request;
-pub mod stop;
-pub mod system;
-pub mod timer_report;
-pub mod timespan_report;
-pub mod timestamp_report;
-pub mod work;
-pub mod work_laws;
 
-use crate::command_fault::CommandFault;
 use crate::machine::Machine;
-use crate::request::RunFault;
-use crate::stop::{Stop, write_stop};
-use crate::work::work;
-use cal_base::{Port, Sink};
+use cal_bytes::{Port, Sink};
+pub use cal_command::{Ask, CommandFault, LocalZone, ZoneItem};
+pub use cal_report::run;
+pub use cal_request::{Request, RunFault, Status, Verb};
+pub use cal_work::{Ended, LoadFault, Stop, System, load_zone, work, write_stop};
 use std::alloc::{AllocError, Global};
 use std::io::{BufWriter, ErrorKind};
 use std::process::ExitCode;

@@ -1,11 +1,11 @@
 use Rattle.std.proofs.Common.{◌∙◌, FitsSigned, ap, arith, rules, subst, sym, w64, ℤ}
 use Rattle.std.proofs.lemmas.Int.{ints, to_z-of_z, to_z_pos}
 use Rattle.jiff.proofs.SpanFacts.{signed_arith}
-use Rattle.cal_base.specs.Instant.{IsInstant}
-use Rattle.cal_base.specs.Local.{seconds_in_all-is}
-use Rattle.cal_base.specs.Zone.{zone_of}
+use Rattle.cal_zone.specs.Instant.{IsInstant}
+use Rattle.cal_zone.specs.Local.{seconds_in_all-is}
+use Rattle.cal_zone.specs.Zone.{zone_of}
 use Rattle.cal_elapse.specs.Near.{IsNear}
-use Rattle.cal_elapse.specs.RisingList.{placed}
+use Rattle.cal_rising.specs.RisingList.{placed}
 use Rattle.cal_elapse.proofs.WindowLemmas.{place_found, put_instant, put_near, with_place-above, with_place-given, with_place-none}
 use Rattle.cal_elapse.proofs.window.put_place.Goals as goal
 

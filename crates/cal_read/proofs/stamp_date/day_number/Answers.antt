@@ -2,7 +2,7 @@ use Rattle.std.proofs.Common.{◌≡◌, ◌∙◌, arith, pos}
 use Rattle.std.proofs.lemmas.Int.{ints}
 use Rattle.jiff.specs.Words.{IsBetween}
 use Rattle.jiff.proofs.SpanFacts.{signed_arith}
-use Rattle.cal_base.proofs.YearLemmas.{day_of_year}
+use Rattle.cal_zone.proofs.YearLemmas.{day_of_year}
 use Rattle.cal_read.proofs.stamp_date.day_number.Goals as goal
 
 pub returns-in-Ok-clause-range : goal.returns-in-Ok-clause-range

@@ -1,6 +1,6 @@
 use Rattle.cal_spec.specs.Words.{is_blank}
 use Rattle.cal_read.proofs.StampText.{blank_ascii}
-use Rattle.cal_read.proofs.TextEnds.{front_boundary}
+use Rattle.cal_lines.proofs.TextEnds.{front_boundary}
 use Rattle.cal_read.proofs.stamp_text.from_solid.Goals as goal
 
 pub range_from-requires : goal.range_from-requires

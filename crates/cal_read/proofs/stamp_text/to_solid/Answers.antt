@@ -2,7 +2,7 @@ use Rattle.std.proofs.Common.{arith, ap, ◌∙◌, ◌-◌, length}
 use Rattle.std.specs.List.{suffix_len}
 use Rattle.cal_spec.specs.Words.{is_blank}
 use Rattle.cal_read.proofs.StampText.{blank_ascii, boundary_at}
-use Rattle.cal_read.proofs.TextEnds.{end_boundary}
+use Rattle.cal_lines.proofs.TextEnds.{end_boundary}
 use Rattle.cal_read.proofs.stamp_text.to_solid.Goals as goal
 
 pub range-requires-clause-end_boundary : goal.range-requires-clause-end_boundary

@@ -2,7 +2,7 @@ use Rattle.std.proofs.Common.{◌∙◌, ap, false, map, sym}
 use Rattle.std.proofs.lemmas.Result.{err_from_is_err_and}
 use Rattle.cal_spec.specs.Expr.{expr_in}
 use Rattle.cal_read.specs.Assignments.{assignments_in}
-use Rattle.cal_read.specs.Lines.{logical_lines}
+use Rattle.cal_lines.specs.Lines.{logical_lines}
 use Rattle.cal_read.specs.TimerView.{resumed, shown}
 use Rattle.cal_read.proofs.ListedLemmas.{resumed_is_list}
 use Rattle.cal_read.proofs.ResumedLemmas.{no_lines}

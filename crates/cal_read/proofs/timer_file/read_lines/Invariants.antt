@@ -4,7 +4,7 @@ use denote.Shadow.{shadow}
 use denote.Text.{Utf8}
 use Rattle.cal_spec.specs.Expr.{expr_in}
 use Rattle.cal_read.specs.Assignments.{assignments_in}
-use Rattle.cal_read.specs.Lines.{logical_lines}
+use Rattle.cal_lines.specs.Lines.{logical_lines}
 use Rattle.cal_read.specs.TimerView.{resumed, shown}
 use Rattle.cal_read.proofs.timer_file.read_lines.Given as goal
 

@@ -2,7 +2,7 @@ use Rattle.std.proofs.Common.{◌∙◌, ◌∷◌, [], ap, arith, map, sym}
 use Rattle.std.proofs.lemmas.List.{length-map, map-append}
 use Rattle.std.proofs.lemmas.Result.{err_from_is_err_and}
 use Rattle.cal_spec.specs.Expr.{expr_in}
-use Rattle.cal_read.specs.LineView.{shown_assignment}
+use Rattle.cal_read.specs.AssignmentView.{shown_assignment}
 use Rattle.cal_read.specs.TimerView.{resumed, shown}
 use Rattle.cal_read.proofs.ResumedLemmas.{resumed_bad, resumed_many, resumed_other, resumed_read, resumed_reset}
 use Rattle.cal_read.proofs.timer_list.assign.Goals as goal

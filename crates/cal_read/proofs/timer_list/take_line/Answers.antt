@@ -3,7 +3,8 @@ use Rattle.std.specs.Str.{bytes_eq}
 use Rattle.std.proofs.lemmas.Result.{err_from_is_err_and}
 use Rattle.cal_spec.specs.Expr.{expr_in}
 use Rattle.cal_read.specs.Assignments.{assignments_in}
-use Rattle.cal_read.specs.LineView.{line_at, shown_assignment}
+use Rattle.cal_lines.specs.LineView.{line_at}
+use Rattle.cal_read.specs.AssignmentView.{shown_assignment}
 use Rattle.cal_read.specs.TimerView.{resumed, shown}
 use Rattle.cal_read.proofs.ResumedLemmas.{assigned_here, header_here, nothing_here, outside_here}
 use Rattle.cal_read.proofs.timer_list.take_line.Goals as goal

@@ -1,7 +1,7 @@
 -- The writer works, and what is left to write is the parts from the index on, each behind a comma.
 use Rattle.std.proofs.Common.{◌≡◌, [], ◌++◌, false, drop, codes}
 use Rattle.std.specs.List.{flat_map}
-use Rattle.cal_base.specs.Bytes.{Leaves}
+use Rattle.cal_bytes.specs.Bytes.{Leaves}
 use Rattle.cal_spec.specs.ExprText.{part_text, parts_text}
 use Rattle.cal_spec.proofs.expr_text.put_parts.Given as goal
 

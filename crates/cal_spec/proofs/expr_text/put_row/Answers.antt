@@ -1,4 +1,4 @@
-use Rattle.cal_base.proofs.Pieces.{start, step, stop, finish_last, writes_err}
+use Rattle.cal_bytes.proofs.Pieces.{start, step, stop, finish_last, writes_err}
 use Rattle.std.specs.Option.{option_copied}
 use Rattle.cal_spec.specs.ExprText.{component_text, row_text}
 use Rattle.cal_spec.proofs.expr_text.put_row.Goals as goal

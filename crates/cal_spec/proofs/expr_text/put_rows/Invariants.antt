@@ -2,7 +2,7 @@
 use Rattle.std.proofs.Common.{◌≡◌, false, drop}
 use Rattle.std.specs.List.{flat_map}
 use Rattle.std.specs.Option.{option_copied}
-use Rattle.cal_base.specs.Bytes.{Leaves}
+use Rattle.cal_bytes.specs.Bytes.{Leaves}
 use Rattle.cal_spec.specs.ExprText.{row_text}
 use Rattle.cal_spec.proofs.expr_text.put_rows.Given as goal
 

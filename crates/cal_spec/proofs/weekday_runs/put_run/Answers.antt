@@ -1,5 +1,5 @@
 use Rattle.std.proofs.Common.{[], ◌∷◌, ◌++◌, ap, arith}
-use Rattle.cal_base.proofs.Pieces.{start, step_pieces, stop_pieces, respell, done, finish_last, writes_err}
+use Rattle.cal_bytes.proofs.Pieces.{start, step_pieces, stop_pieces, respell, done, finish_last, writes_err}
 use Rattle.cal_spec.specs.WeekdayRuns.{day_name, run_text, behind_first}
 use Rattle.cal_spec.proofs.WeekdayLemmas.{behind_first-none, behind_first-second, behind_first-more}
 use Rattle.cal_spec.proofs.weekday_runs.put_run.Goals as goal

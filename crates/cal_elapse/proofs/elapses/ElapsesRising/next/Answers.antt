@@ -1,6 +1,6 @@
 use Rattle.std.proofs.Common.{◌∙◌, ap}
 use Rattle.cal_elapse.specs.Rest.{rest_of}
-use Rattle.cal_elapse.specs.RisingList.{first, later}
+use Rattle.cal_rising.specs.RisingList.{first, later}
 use Rattle.cal_elapse.specs.Window.{timed_in}
 use Rattle.cal_elapse.specs.declared.window.Window.{Window}
 use Rattle.cal_elapse.proofs.ReadyLemmas.{rest_of-same}

@@ -1,7 +1,7 @@
 use Rattle.std.proofs.Common.{◌∙◌, ◌+◌, List, None, Some, Option, ap, length, subst, ℕ}
 use Rattle.cal_elapse.specs.Bits.{is_in_words}
 use Rattle.cal_elapse.specs.Ring.{is_held}
-use Rattle.cal_elapse.specs.RisingList.{later}
+use Rattle.cal_rising.specs.RisingList.{later}
 use Rattle.cal_elapse.specs.Search.{IsFirstPassing}
 use Rattle.cal_elapse.proofs.RingLemmas.{found_inside, least_answer, none_answer, none_left, taken_round, taken_seen}
 use Rattle.cal_elapse.proofs.pending.Pending.take_least.Goals as goal

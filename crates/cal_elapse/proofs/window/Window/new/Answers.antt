@@ -1,7 +1,7 @@
 use Rattle.std.proofs.Common.{◌≡◌, ◌∙◌, ℕ, FitsSigned, ap, of_z, rules, subst, sym, to_z, w64}
 use Rattle.std.proofs.lemmas.Int.{to_z-of_z}
-use Rattle.cal_base.specs.Instant.{IsInstant}
-use Rattle.cal_base.specs.Local.{seconds_in_all}
+use Rattle.cal_zone.specs.Instant.{IsInstant}
+use Rattle.cal_zone.specs.Local.{seconds_in_all}
 use Rattle.cal_elapse.specs.Masks.{sets_in}
 use Rattle.cal_elapse.specs.Search.{IsFirstPassing}
 use Rattle.cal_elapse.specs.Window.{start_of}

@@ -1,9 +1,0 @@
--- What stands in front of digits that have a width to fill.
-use Rattle.std.specs.Prelude.{ℕ}
-use Rattle.cal_base.specs.declared.short_text.Fill.{Fill}
-use Rattle.cal_base.specs.declared.short_text.Fill.TheVariants.{Zero, Blank}
-
--- the ASCII code of a zero, or of a space
-abbrev pub byte_of : Fill → ℕ
-byte_of Zero = 48
-byte_of Blank = 32

@@ -1,0 +1,19 @@
+use Rattle.std.proofs.Common.{◌++◌, take, arith}
+use Rattle.cal_bytes.proofs.WholeLemmas.{consumes-append, length-taken}
+use Rattle.cal_bytes.proofs.whole.read_whole.Goals as goal
+
+pub returns-then-count-limit-clause-bytes : goal.returns-then-count-limit-clause-bytes
+returns-then-count-limit-clause-bytes g c =
+    record {
+      front = c.loop-count.bytes.items ++ take c.in-Some.count c.fetch.new.into;
+      taken = consumes-append _ _ _ c.loop-count.bytes.items _ c.loop-count.invariant.taken c.in-Some.ensures.bytes.2;
+      is_more = omega (arith, c.len.ensures, length-taken c.loop-count.bytes.items c.fetch.new.into c.in-Some.count c.in-Some.ensures.bytes.0);
+    }
+
+pub returns-then-is_err-clause-bytes : goal.returns-then-is_err-clause-bytes
+returns-then-is_err-clause-bytes g c =
+    record {
+      front = c.loop-count.bytes.items ++ take c.in-Some.count c.fetch.new.into;
+      taken = consumes-append _ _ _ c.loop-count.bytes.items _ c.loop-count.invariant.taken c.in-Some.ensures.bytes.2;
+      fits = omega (arith, c.len.ensures, length-taken c.loop-count.bytes.items c.fetch.new.into c.in-Some.count c.in-Some.ensures.bytes.0);
+    }

@@ -1,0 +1,4 @@
+pub mod Bytes
+pub mod Fill
+pub mod Output
+pub mod Whole

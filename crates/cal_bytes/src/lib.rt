@@ -1,0 +1,16 @@
+//! Bytes out and in: writers, readers, and short texts on the stack.
+#![tactic(auto)]
+
+mod bytes;
+mod faulty;
+mod output;
+mod port;
+mod short_text;
+mod whole;
+
+pub use bytes::{Sink, Source, WriteFault, put_all, put_pieces};
+pub use faulty::{Faulty, Then};
+pub use output::Output;
+pub use port::Port;
+pub use short_text::{Fill, ROOM, ShortText, padding, push, push_all};
+pub use whole::{WholeFault, read_whole};

@@ -1,0 +1,110 @@
+-- The command of `clap`, and what it found.
+use Rattle.std.proofs.Common.{◌≡◌, ◌≢◌, ℕ, List, [], ◌∷◌, ◌++◌, append_assoc, Option, None, Some, unwrap_or, ap₂, Bool, true, false, refl, sym, ap, ◌∙◌, inl, inr, ◌⊎◌, option_map, length, take, map, Bor, ◌≤◌, arith, Result, Ok, Err}
+use Rattle.std.specs.Prelude.{not, ◌||◌}
+use Rattle.std.specs.List.{list_any}
+use Rattle.clap.specs.Words.{App, IsAmong, Kinds, Row, Rule, Text, is_simple, is_simple_and_free, with_rule}
+use Rattle.clap.specs.declared.error.kind.ErrorKind.{ErrorKind}
+use Rattle.clap.specs.declared.error.kind.ErrorKind.TheVariants.{OutOfMemory}
+use Rattle.clap.proofs.OnLiterals.{clap_on_literals}
+use Rattle.cal_command.specs.Ask.{CommandSaid, usage, help, bad_iterations, bad_now, bad_zones, bad_local, no_memory, Wanted}
+use Rattle.cal_command.specs.GivenView.{IsReadAs}
+use Rattle.cal_command.specs.CommandLine.{Given, parsed_in, read_options, IsAskOf, IsFaultOf, IsToldOf, asked_in, command_app, faults_in, is_of_help, takes_words, with_rules}
+
+pub with_three : (app : App) (a b d : Rule) → with_rule (with_rule (with_rule app a) b) d ≡ with_rules app (a ∷ b ∷ d ∷ [])
+with_three app a b d = ap (λ rules. record app { top = record app.top { rules = rules } })
+    (append_assoc (app.top.rules ++ a ∷ []) (b ∷ []) (d ∷ []) ∙ append_assoc app.top.rules (a ∷ []) (b ∷ d ∷ []))
+
+pub with_two_more : (app : App) (a b : Rule) (rules : List Rule) → with_rules (with_rule (with_rule app a) b) rules ≡ with_rules app (a ∷ b ∷ rules)
+with_two_more app a b rules = ap (λ rules. record app { top = record app.top { rules = rules } })
+    (append_assoc (app.top.rules ++ a ∷ []) (b ∷ []) rules ∙ append_assoc app.top.rules (a ∷ []) (b ∷ rules))
+
+pub is_free_command : is_simple_and_free command_app ≡ true
+unfolding clap_on_literals
+is_free_command = refl
+
+pub is_simple_command : is_simple command_app ≡ true
+unfolding clap_on_literals
+is_simple_command = refl
+
+any_step : (b : Bool) (rest : Bool) → b ≡ true → (b || rest) ≡ true
+any_step true rest h = refl
+any_step false rest h = absurd (cc)
+
+later_step : (b : Bool) (rest : Bool) → rest ≡ true → (b || rest) ≡ true
+later_step true rest h = refl
+later_step false rest h = h
+
+among : (p : ErrorKind → Bool) (kind : ErrorKind) (kinds : Kinds) → IsAmong kind kinds → p kind ≡ true → list_any p kinds ≡ true
+among p kind [] at holds = absurd at
+among p kind (k ∷ ks) (inl same) holds = any_step (p k) (list_any p ks) (ap p (sym same) ∙ holds)
+among p kind (k ∷ ks) (inr later) holds = later_step (p k) (list_any p ks) (among p kind ks later holds)
+
+not_taken : (b : Bool) (kind : ErrorKind) → (b ≡ true → kind ≡ OutOfMemory) → kind ≢ OutOfMemory → b ≡ false
+not_taken true kind h other = absurd (other (h refl))
+not_taken false kind h other = refl
+
+refused_by : (p : ErrorKind → Bool) (kind : ErrorKind) (kinds : Kinds) → (kind ≡ OutOfMemory) ⊎ IsAmong kind kinds → kind ≢ OutOfMemory → p kind ≡ true
+    → list_any p kinds ≡ true
+refused_by p kind kinds (inl memory) other holds = absurd (other memory)
+refused_by p kind kinds (inr at) other holds = among p kind kinds at holds
+
+-- what is told of a fault of `clap` is its fault
+pub told_fault : (words : List Text) (kind : ErrorKind) (said : CommandSaid) → (takes_words words ≡ true → kind ≡ OutOfMemory)
+    → (kind ≡ OutOfMemory) ⊎ IsAmong kind (faults_in words) → IsToldOf kind said → IsFaultOf words said
+told_fault words kind (usage text) passes kinds told =
+    (not_taken (takes_words words) kind passes told.1, refused_by (λ k. not (is_of_help k)) kind (faults_in words) kinds told.1 (ap not told.0))
+told_fault words kind (help text) passes kinds told =
+    (not_taken (takes_words words) kind passes told.1, refused_by is_of_help kind (faults_in words) kinds told.1 told.0)
+told_fault words kind no_memory passes kinds told = tt
+told_fault words kind bad_iterations passes kinds told = absurd told
+told_fault words kind bad_now passes kinds told = absurd told
+told_fault words kind bad_zones passes kinds told = absurd told
+told_fault words kind bad_local passes kinds told = absurd told
+
+pub map-first : {B X Y : Type 0} (f : B → X) (g : B → Y) (o : Option B)
+    → option_map f o ≡ option_map (λ (p : X × Y). p.0) (option_map (λ b. (f b, g b)) o)
+map-first f g None = refl
+map-first f g (Some b) = refl
+
+pub found_none : {X Y : Type 0} (o : Option (X × Y)) → None ≡ option_map (λ (p : X × Y). p.0) o → o ≡ None
+found_none None h = refl
+found_none (Some p) h = absurd (cc)
+
+pub found_some : {X Y : Type 0} (o : Option (X × Y)) (x : X) (y : Y) → Some x ≡ option_map (λ (p : X × Y). p.0) o
+    → Some y ≡ option_map (λ (p : X × Y). p.1) o → o ≡ Some (x, y)
+found_some None x y h k = absurd (cc)
+found_some (Some p) x y h k = ap₂ (λ a b. Some (a, b)) (sym (ap (λ o. unwrap_or o x) h)) (sym (ap (λ o. unwrap_or o y) k))
+
+pub one_kept : (texts : List (Bor Text)) → map (λ text. text.now) (take 1 texts) ≡ take 1 (map (λ text. text.now) texts)
+one_kept [] = refl
+one_kept (t ∷ ts) = refl
+
+pub few_kept : (texts : List (Bor Text)) → length texts ≤ 1 → map (λ text. text.now) texts ≡ take 1 (map (λ text. text.now) texts)
+few_kept [] few = refl
+few_kept (t ∷ []) few = refl
+few_kept (t ∷ u ∷ ts) few = absurd (omega (arith, few))
+
+-- what is read of the values that were parsed is what the words ask for
+pub read_said : (words : List Text) (given : Given) (said : Result Wanted CommandSaid) → faults_in words ≡ [] → Some given ≡ parsed_in words
+    → IsReadAs said (read_options given) → IsAskOf words said
+unfolding asked_in
+read_said words given (Ok wanted) none parsed is = (none, rw (← parsed) (sym is))
+read_said words given (Err (usage text)) none parsed is = absurd is
+read_said words given (Err (help text)) none parsed is = absurd is
+read_said words given (Err bad_iterations) none parsed is = (none, rw (← parsed) (sym is))
+read_said words given (Err bad_now) none parsed is = (none, rw (← parsed) (sym is))
+read_said words given (Err bad_zones) none parsed is = (none, rw (← parsed) (sym is))
+read_said words given (Err bad_local) none parsed is = (none, rw (← parsed) (sym is))
+read_said words given (Err no_memory) none parsed is = tt
+
+-- where `clap` takes the words, they are answered, or memory is refused
+pub taken_words : (words : List Text) (said : Result Wanted CommandSaid) → IsAskOf words said → takes_words words ≡ true
+    → (said ≡ Err no_memory) ⊎ (said ≡ asked_in words)
+taken_words words (Ok wanted) is takes = inr (sym is.1)
+taken_words words (Err (usage text)) is takes = let bad : true ≡ false = sym takes ∙ is.0 in absurd (cc)
+taken_words words (Err (help text)) is takes = let bad : true ≡ false = sym takes ∙ is.0 in absurd (cc)
+taken_words words (Err bad_iterations) is takes = inr (sym is.1)
+taken_words words (Err bad_now) is takes = inr (sym is.1)
+taken_words words (Err bad_zones) is takes = inr (sym is.1)
+taken_words words (Err bad_local) is takes = inr (sym is.1)
+taken_words words (Err no_memory) is takes = inl refl

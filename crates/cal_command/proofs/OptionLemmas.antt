@@ -1,0 +1,206 @@
+-- The values of options.
+use Rattle.std.proofs.Common.{◌≡◌, ◌≢◌, ℕ, ◌<◌, ◌≤◌, ◌^◌, List, [], ◌∷◌, length, Option, None, Some, Result, Ok, Err, Bool, true, false, cond, nat_le, ◌==◌, ◌&&◌, get_or, refl, ap, ap₂, sym, ◌∙◌, ◌+◌, ◌||◌, suc, lit<, Bor, ◌++◌, map, append-nil, append_assoc, neg_ℤ, arith, option_map, pos, ℤ, IsSome, IfSome, ◌↔◌}
+use Rattle.std.specs.Prelude.{nat_lt, not}
+use Rattle.std.specs.List.{list_any, position_or_len, slice_split}
+use Rattle.std.specs.Str.{all_ascii_digits}
+use Rattle.std.proofs.lemmas.List.Splits.{slice_split_first, slice_split_none}
+use Rattle.std.proofs.lemmas.List.Sums.{prefix_len_passes}
+use Rattle.std.proofs.lemmas.Str.Pattern.{IsSplitOnceResult, split_once_first}
+use Rattle.std.specs.Str.Parse.{digits_value, ParsesUnsigned}
+use Rattle.std.proofs.lemmas.Bool.{and_parts, not-true, ltb-true, lt-ltb, le-leb, leb-true}
+use Rattle.std.proofs.lemmas.Bool.Decides.{nat_tests}
+use Rattle.std.proofs.lemmas.Str.Parse.{IsNumeralModel, numerals_by_value, tells_all_ascii_digits, parse_plain}
+use Rattle.cal_zone.specs.Instant.{IsInstant}
+use Rattle.cal_zone.specs.declared.instant.Instant.{Instant}
+use Rattle.cal_command.specs.OptionValues.{clock_in, number_in, offset_in, present_in, is_comma, parts_at, zone_item_in, zone_items_in, zones_in}
+use Rattle.cal_command.specs.Ask.{ZoneSaid, zone_said}
+use Rattle.cal_command.specs.declared.ask.ZoneItem.{ZoneItem}
+use Rattle.std.proofs.lemmas.List.{map-append}
+
+own : IsNumeralModel (λ ds. all_ascii_digits ds ≡ true) (digits_value 10)
+own = numerals_by_value _ tells_all_ascii_digits
+
+guard-second : (a b c d : Bool) (n : ℕ) → b ≡ false → cond (a && b && c && d) (Some n) None ≡ None
+guard-second true b c d n h = rw h refl
+guard-second false b c d n h = refl
+
+guard-none : (b : Bool) (n : ℕ) → (b ≡ true → ⊥) → cond b (Some n) None ≡ None
+guard-none true n h = absurd (h refl)
+guard-none false n h = refl
+
+guard-some : (b : Bool) (n m : ℕ) → Some m ≡ cond b (Some n) None → (b ≡ true) × (m ≡ n)
+guard-some true n m h = (refl, cc)
+guard-some false n m h = absurd (cc)
+
+no_plus : (text : List ℕ) → get_or text 0 0 ≡ 43 → all_ascii_digits text ≡ false
+no_plus [] at = absurd (omega arith)
+no_plus (c ∷ cs) at = rw at refl
+
+-- a sign is no digit
+pub number_in-plus : (least most : ℕ) (text : List ℕ) → get_or text 0 0 ≡ 43 → number_in least most text ≡ None
+unfolding number_in
+number_in-plus least most text at = guard-second _ _ _ _ _ (no_plus text at)
+
+-- a number that was read, if it is in range
+abbrev pub within : {E : Type 0} → ℕ → ℕ → Result ℕ E → Option ℕ
+within least most (Ok n) = cond (nat_le least n && nat_le n most) (Some n) None
+within least most (Err e) = None
+
+-- the number that `parse` read, if it is in range
+pub number_in-parsed : (E : Type 0) (least most : ℕ) (text : List ℕ) (r : Result ℕ E) → ParsesUnsigned 64 10 text r → get_or text 0 0 ≢ 43
+    → most < 2 ^ 64 → number_in least most text ≡ within least most r
+unfolding number_in
+number_in-parsed E least most text (Ok n) read unsigned small =
+    let h = parse_plain own {E = E} 64 text (Ok n) read unsigned in
+    rw (lt-ltb 0 (length text) h.0.1, h.0.0, ← h.1) refl
+number_in-parsed E least most text (Err e) refused unsigned small =
+    let h = parse_plain own {E = E} 64 text (Err e) refused unsigned in
+    guard-none _ _ (λ holds.
+    let upper = and_parts _ _ holds in
+    let lower = and_parts _ _ upper.0 in
+    let digits = and_parts _ _ lower.0 in
+    let most_is : digits_value 10 text ≤ most = leb-true _ _ upper.1 in
+    h (digits.1, ltb-true _ _ digits.0, omega arith))
+
+-- a number in range is in range
+pub number_in-range : (least most n : ℕ) (text : List ℕ) → Some n ≡ number_in least most text → (least ≤ n) × (n ≤ most)
+unfolding number_in
+number_in-range least most n text is =
+    let h = guard-some _ _ _ is in
+    let upper = and_parts _ _ h.0 in
+    let lower = and_parts _ _ upper.0 in
+    rw h.1 (leb-true _ _ lower.1, leb-true _ _ upper.1)
+
+present_at : (b : ℕ) (bs : List ℕ) (t : Bool) → t ≡ (b == 64) → ((rest : List ℕ) → b ∷ bs ≢ 64 ∷ rest) → cond t (option_map pos (number_in 0 7_258_211_998 bs)) None ≡ None
+present_at b bs true is h = absurd (grind (arith, nat_tests, h bs))
+present_at b bs false is h = refl
+
+pub present_in-none : (text : List ℕ) → ((rest : List ℕ) → text ≢ 64 ∷ rest) → present_in text ≡ None
+unfolding present_in
+present_in-none [] h = refl
+present_in-none (b ∷ bs) h = present_at b bs _ refl h
+
+pub present_in-some : (text rest : List ℕ) → text ≡ 64 ∷ rest → present_in text ≡ option_map pos (number_in 0 7_258_211_998 rest)
+unfolding present_in
+present_in-some text rest at = rw at refl
+
+pub instant_some : (made : Option Instant) (secs : ℤ) → IsSome made ↔ IsInstant secs → IfSome made (λ instant. instant.secs ≡ secs) → IsInstant secs
+    → option_map (λ instant. instant.secs) made ≡ Some secs
+instant_some None secs variant value inside = absurd (cc (variant.1 inside))
+instant_some (Some instant) secs variant value inside = ap Some value
+
+below_step : (p : ℕ → Bool) (x : ℕ) (xs : List ℕ) (test : Bool) → (position_or_len p xs < length xs → list_any p xs ≡ true)
+    → cond (not test) (1 + position_or_len p xs) 0 < suc (length xs) → (test || list_any p xs) ≡ true
+below_step p x xs true rest within = refl
+below_step p x xs false rest within = rest (omega arith)
+
+any_below : (p : ℕ → Bool) (xs : List ℕ) → position_or_len p xs < length xs → list_any p xs ≡ true
+any_below p [] within = absurd (omega arith)
+any_below p (x ∷ xs) within = below_step p x xs (p x) (any_below p xs) within
+
+above_step : (p : ℕ → Bool) (x : ℕ) (xs : List ℕ) (test : Bool) → (length xs ≤ position_or_len p xs → list_any p xs ≡ false)
+    → suc (length xs) ≤ cond (not test) (1 + position_or_len p xs) 0 → (test || list_any p xs) ≡ false
+above_step p x xs true rest past = absurd (omega arith)
+above_step p x xs false rest past = rest (omega arith)
+
+none_above : (p : ℕ → Bool) (xs : List ℕ) → length xs ≤ position_or_len p xs → list_any p xs ≡ false
+none_above p [] past = refl
+none_above p (x ∷ xs) past = above_step p x xs (p x) (none_above p xs) past
+
+-- what `split_once` gives at a byte of ASCII
+pub parts_at-split : (c : ℕ) (text : List ℕ) (r : Option (Bor (List ℕ) × Bor (List ℕ))) → IsSplitOnceResult c text r → c < 128
+    → option_map (λ parts. (parts.0.now, parts.1.now)) r ≡ parts_at (λ byte. byte == c) text
+parts_at-split c text None h small =
+    let cut = split_once_first c text None h small in
+    rw (none_above (λ byte. byte == c) text (omega (arith, cut))) refl
+parts_at-split c text (Some x) h small =
+    let cut = split_once_first c text (Some x) h small in
+    rw (any_below (λ byte. byte == c) text cut.0, cut.1, cut.2) refl
+
+-- an item, and what stands behind its comma
+pub item_some : (text : List ℕ) (x : Bor (List ℕ) × Bor (List ℕ)) → IsSplitOnceResult 44 text (Some x)
+    → slice_split is_comma text ≡ x.0.now ∷ slice_split is_comma x.1.now
+item_some text x h =
+    let cut = split_once_first 44 text (Some x) h (lit< tt) in
+    slice_split_first is_comma text 0 cut.0 ∙ ap₂ (λ a b. a ∷ slice_split is_comma b) (sym cut.1) (sym cut.2)
+
+pub item_none : (text : List ℕ) → IsSplitOnceResult 44 text None → slice_split is_comma text ≡ text ∷ []
+item_none text h =
+    let cut = split_once_first 44 text None h (lit< tt) in
+    slice_split_none is_comma text (λ k d within. not-true _ (prefix_len_passes (λ x. not (is_comma x)) text k d (omega (arith, cut))))
+
+-- the items read so far, n of them, with those that are left
+abbrev pub ZonesRead : List ZoneSaid → ℕ → List (List ℕ) → List ℕ → Type 0
+ZonesRead done n left text =
+    (option_map (λ later. done ++ later) (zone_items_in left) ≡ zone_items_in (slice_split is_comma text))
+    × (n + length left ≡ length (slice_split is_comma text)) × (n ≤ 64)
+
+guard-zones : (b : Bool) (found : Option (List ZoneSaid)) → found ≡ None → cond b found None ≡ None
+guard-zones true found none = none
+guard-zones false found none = refl
+
+items-bad : (item : List ℕ) (items : List (List ℕ)) → None ≡ zone_item_in item → zone_items_in (item ∷ items) ≡ None
+unfolding zone_items_in
+items-bad item items bad = rw (← bad) refl
+
+items-good : (item : List ℕ) (items : List (List ℕ)) (zone : ZoneSaid) → Some zone ≡ zone_item_in item
+    → zone_items_in (item ∷ items) ≡ option_map (λ zones. zone ∷ zones) (zone_items_in items)
+unfolding zone_items_in
+items-good item items zone good = rw (← good) refl
+
+pub zones-bad : (text item : List ℕ) (left items : List (List ℕ)) (done : List ZoneSaid) (n : ℕ) → ZonesRead done n left text → left ≡ item ∷ items
+    → None ≡ zone_item_in item → None ≡ zones_in text
+unfolding zones_in
+zones-bad text item left items done n read is bad =
+    sym (guard-zones _ _ (sym read.0 ∙ ap (option_map (λ later. done ++ later)) (ap zone_items_in is ∙ items-bad item items bad)))
+
+above_most : (n : ℕ) → 64 < n → nat_le n 64 ≡ false
+above_most n more = grind (arith, nat_tests, more)
+
+pub zones-full : (text item : List ℕ) (left items : List (List ℕ)) (done : List ZoneSaid) (n : ℕ) → ZonesRead done n left text → left ≡ item ∷ items
+    → n ≡ 64 → None ≡ zones_in text
+unfolding zones_in
+zones-full text item left items done n read is full =
+    let more = ap length is in
+    rw (above_most (length (slice_split is_comma text)) (omega (arith, more, read.1))) refl
+
+pub zones-end : (text : List ℕ) (left : List (List ℕ)) (done : List ZoneSaid) (n : ℕ) → ZonesRead done n left text → left ≡ [] → Some done ≡ zones_in text
+unfolding zones_in zone_items_in
+zones-end text left done n read is =
+    let none = ap length is in
+    rw (le-leb (length (slice_split is_comma text)) 64 (omega (arith, none, read.1, read.2)), ← read.0, is) (ap Some (sym (append-nil done)))
+
+onto : (done : List ZoneSaid) (zone : ZoneSaid) (found : Option (List ZoneSaid))
+    → option_map (λ later. (done ++ zone ∷ []) ++ later) found ≡ option_map (λ later. done ++ later) (option_map (λ zones. zone ∷ zones) found)
+onto done zone None = refl
+onto done zone (Some later) = ap Some (append_assoc done (zone ∷ []) later)
+
+pub zones-more : (text item : List ℕ) (left items : List (List ℕ)) (before after : List ZoneItem) (zone : ZoneItem) (n : ℕ)
+    → ZonesRead (map zone_said before) n left text → left ≡ item ∷ items → Some (zone_said zone) ≡ zone_item_in item → after ≡ before ++ zone ∷ [] → n ≢ 64
+    → ZonesRead (map zone_said after) (n + 1) items text
+zones-more text item left items before after zone n read is good pushed below =
+    let more = ap length is in (
+      ap (λ done. option_map (λ later. done ++ later) (zone_items_in items)) (ap (map zone_said) pushed ∙ map-append zone_said before (zone ∷ []))
+          ∙ onto (map zone_said before) (zone_said zone) (zone_items_in items)
+          ∙ ap (option_map (λ later. map zone_said before ++ later)) (sym (ap zone_items_in is ∙ items-good item items (zone_said zone) good)) ∙ read.0,
+      omega (arith, more, read.1),
+      omega (arith, read.2, below),
+    )
+
+pub zones-pushed : (text item : List ℕ) (left items : List (List ℕ)) (before after : List ZoneItem) (zone : ZoneItem) (n count : ℕ)
+    → ZonesRead (map zone_said before) n left text → left ≡ item ∷ items → Some (zone_said zone) ≡ zone_item_in item → after ≡ before ++ zone ∷ [] → n ≢ 64
+    → count ≡ n + 1 → ZonesRead (map zone_said after) count items text
+zones-pushed text item left items before after zone n count read is good pushed below counted =
+    rw counted (zones-more text item left items before after zone n read is good pushed below)
+
+offset_at : (b : ℕ) (bs : List ℕ) (t u : Bool) → t ≡ (b == 43) → u ≡ (b == 45) → ((rest : List ℕ) → b ∷ bs ≢ 43 ∷ rest)
+    → ((rest : List ℕ) → b ∷ bs ≢ 45 ∷ rest) → cond t (option_map pos (clock_in bs)) (cond u (option_map (λ seconds. neg_ℤ (pos seconds)) (clock_in bs)) None) ≡ None
+offset_at b bs true u is other plus minus = absurd (grind (arith, nat_tests, plus bs))
+offset_at b bs false true is other plus minus = absurd (grind (arith, nat_tests, minus bs))
+offset_at b bs false false is other plus minus = refl
+
+-- a text without a sign is no offset
+pub offset_in-none : (text : List ℕ) → ((rest : List ℕ) → text ≢ 43 ∷ rest) → ((rest : List ℕ) → text ≢ 45 ∷ rest) → None ≡ offset_in text
+unfolding offset_in
+offset_in-none [] plus minus = refl
+offset_in-none (b ∷ bs) plus minus = sym (offset_at b bs _ _ refl refl plus minus)

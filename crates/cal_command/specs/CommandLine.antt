@@ -1,0 +1,178 @@
+-- The command line, and what its words ask for by what `clap` parses of them: systemd-analyze(1).
+use Rattle.std.specs.Prelude.{ℕ, ◌≡◌, ◌≢◌, ⊤, Bool, true, false, not, List, [], ◌∷◌, ◌++◌, map, take, Option, None, Some, Result, Ok, Err, codes, if◌then◌else◌, option_and_then, option_map}
+use Rattle.std.specs.List.{list_any}
+use Rattle.std.specs.Option.{option_map_or}
+use Rattle.std.specs.Str.{bytes_eq}
+use Rattle.clap.specs.Words.{App, Kinds, Row, Rule, Shape, Text, all_of, fault_of, first_of, new_app, new_rule, subcommand_of, takes}
+use Rattle.clap.specs.declared.builder.ArgAction.TheVariants.{Append, Set}
+use Rattle.clap.specs.declared.error.kind.ErrorKind.{ErrorKind}
+use Rattle.clap.specs.declared.error.kind.ErrorKind.TheVariants.{DisplayHelp, DisplayVersion, OutOfMemory}
+use Rattle.cal_command.specs.Ask.{CommandSaid, usage, help, bad_iterations, bad_now, bad_zones, bad_local, no_memory, Wanted, in_utc}
+use Rattle.cal_command.specs.OptionValues.{count_in, local_in, present_in, zones_in}
+use Rattle.cal_request.specs.Request.{has_zones, is_timer, seeks_elapses}
+use Rattle.cal_request.specs.declared.request.Verb.{Verb}
+use Rattle.cal_request.specs.declared.request.Verb.TheVariants.{Calendar, Timer, Timestamp, Timespan}
+
+-- ---- the command, as `clap` knows it
+
+-- an option with one value, which may be given once
+abbrev pub option_rule : Text → Rule
+option_rule name = record (new_rule name) { long = Some name; action = Some Set; value_names = 1 }
+
+-- one text or more
+abbrev pub texts_rule : Rule
+texts_rule = record (new_rule (codes "text")) { action = Some Append; value_names = 1; required = true }
+
+-- the one file of a timer
+abbrev pub file_rule : Rule
+file_rule = record (new_rule (codes "text")) { action = Some Set; value_names = 1; required = true }
+
+-- the options of the verbs that know instants, and of those that seek elapses
+abbrev pub zone_rules : List Rule
+zone_rules = option_rule (codes "local") ∷ option_rule (codes "zones") ∷ option_rule (codes "now") ∷ []
+
+abbrev pub elapse_rules : List Rule
+elapse_rules = option_rule (codes "iterations") ∷ option_rule (codes "base-time") ∷ zone_rules
+
+abbrev pub verb_shape : Text → List Rule → Rule → Shape
+verb_shape name options texts = record (new_app name).top { rules = options ++ texts ∷ [] }
+
+-- a subcommand for each verb
+abbrev pub command_app : App
+command_app = record {
+  top = record (new_app (codes "calendar-analyze")).top {
+    is_leaf = false;
+    no_binary_name = true;
+    disable_help_subcommand = true;
+    has_version = true;
+    subcommand_required = true;
+  };
+  subs = verb_shape (codes "calendar") elapse_rules texts_rule ∷ verb_shape (codes "timestamp") zone_rules texts_rule
+      ∷ verb_shape (codes "timespan") [] texts_rule ∷ verb_shape (codes "timer") elapse_rules file_rule ∷ [];
+}
+
+-- `clap` states that it takes the words
+unfoldable pub takes_words : List Text → Bool
+takes_words words = takes command_app words
+
+-- the kinds of fault that `clap` may find in the words: none where it parses them
+unfoldable pub faults_in : List Text → Kinds
+faults_in words = fault_of command_app words
+
+-- ---- what the words that it parses ask for
+
+abbrev pub verb_named : Text → Option Verb
+verb_named name =
+    if bytes_eq name (codes "calendar") then Some Calendar
+    else if bytes_eq name (codes "timestamp") then Some Timestamp
+    else if bytes_eq name (codes "timespan") then Some Timespan
+    else if bytes_eq name (codes "timer") then Some Timer else None
+
+-- the values that were given
+pub record Given : Type 0 where
+  pub verb : Verb
+  pub texts : List Text
+  pub iterations : Option Text
+  pub base : Option Text
+  pub now : Option Text
+  pub local : Option Text
+  pub zones : Option Text
+
+-- the value of an option that the verb has, where it is given
+abbrev pub value_given : Bool → Text → List Row → Option Text
+value_given has name rows = if has then first_of name rows else None
+
+-- the texts; of a timer one alone
+abbrev pub texts_kept : Verb → List Text → List Text
+texts_kept verb texts = if is_timer verb then take 1 texts else texts
+
+abbrev pub texts_given : Verb → List Row → Option (List Text)
+texts_given verb rows = option_map (texts_kept verb) (all_of (codes "text") rows)
+
+abbrev pub given_with : Verb → List Row → List Text → Given
+given_with verb rows texts = record {
+  verb = verb;
+  texts = texts;
+  iterations = value_given (seeks_elapses verb) (codes "iterations") rows;
+  base = value_given (seeks_elapses verb) (codes "base-time") rows;
+  now = value_given (has_zones verb) (codes "now") rows;
+  local = value_given (has_zones verb) (codes "local") rows;
+  zones = value_given (has_zones verb) (codes "zones") rows;
+}
+
+abbrev pub given_by : Verb → List Row → Option Given
+given_by verb rows = option_map (given_with verb rows) (texts_given verb rows)
+
+-- what is given for the verb of that name, by these values
+unfoldable pub given_in : Option (Text × List Row) → Option Given
+given_in = option_and_then (λ found. option_and_then (λ verb. given_by verb found.1) (verb_named found.0))
+
+-- what `clap` finds in the words
+unfoldable pub parsed_in : List Text → Option Given
+parsed_in words = given_in (subcommand_of command_app words)
+
+-- a bad value is this fault
+abbrev pub judged : {A : Type 0} → CommandSaid → Option A → (A → Result Wanted CommandSaid) → Result Wanted CommandSaid
+judged fault None next = Err fault
+judged fault (Some value) next = next value
+
+-- what the values ask for, or the first of them that is bad: one iteration, the clock's present, UTC and no zone file
+-- where nothing is given
+unfoldable pub read_options : Given → Result Wanted CommandSaid
+read_options given =
+    judged bad_iterations (option_map_or count_in given.iterations (Some 1)) (λ iterations.
+    judged bad_now (option_map_or (λ text. option_map Some (present_in text)) given.now (Some None)) (λ now.
+    judged bad_zones (option_map_or zones_in given.zones (Some [])) (λ zones.
+    judged bad_local (option_map_or local_in given.local (Some in_utc)) (λ local. Ok (record {
+      verb = given.verb;
+      texts = given.texts;
+      iterations = iterations;
+      base = given.base;
+      now = now;
+      local = local;
+      zones = zones;
+    })))))
+
+-- what the words ask for, where `clap` parses them: then there is a verb with its texts
+unfoldable pub asked_in : List Text → Result Wanted CommandSaid
+asked_in words = option_map_or read_options (parsed_in words) (Err (usage []))
+
+-- ---- command line is exact
+
+abbrev pub is_of_help : ErrorKind → Bool
+is_of_help DisplayHelp = true
+is_of_help DisplayVersion = true
+is_of_help _ = false
+
+-- `clap` parses the words, and this is what they ask for
+abbrev pub HasRead : List Text → Result Wanted CommandSaid → Type 0
+HasRead words said = (faults_in words ≡ []) × (asked_in words ≡ said)
+
+-- `clap` gives no matches, by a fault of this kind
+abbrev pub HasRefused : List Text → (ErrorKind → Bool) → Type 0
+HasRefused words is_kind = (takes_words words ≡ false) × (list_any is_kind (faults_in words) ≡ true)
+
+abbrev pub IsFaultOf : List Text → CommandSaid → Type 0
+IsFaultOf words (usage text) = HasRefused words (λ kind. not (is_of_help kind))
+IsFaultOf words (help text) = HasRefused words is_of_help
+IsFaultOf words bad_iterations = HasRead words (Err bad_iterations)
+IsFaultOf words bad_now = HasRead words (Err bad_now)
+IsFaultOf words bad_zones = HasRead words (Err bad_zones)
+IsFaultOf words bad_local = HasRead words (Err bad_local)
+IsFaultOf words no_memory = ⊤
+
+-- what the words ask for by what `clap` parses of them, or its text where it gives no matches; or memory was refused
+abbrev pub IsAskOf : List Text → Result Wanted CommandSaid → Type 0
+IsAskOf words (Ok wanted) = HasRead words (Ok wanted)
+IsAskOf words (Err fault) = IsFaultOf words fault
+
+-- the fault that is told of what `clap` answers in place of matches, by the kind of its answer
+abbrev pub IsToldOf : ErrorKind → CommandSaid → Type 0
+IsToldOf kind (usage text) = (is_of_help kind ≡ false) × (kind ≢ OutOfMemory)
+IsToldOf kind (help text) = (is_of_help kind ≡ true) × (kind ≢ OutOfMemory)
+IsToldOf kind no_memory = ⊤
+IsToldOf kind _ = ⊥
+
+-- the command with these arguments more
+abbrev pub with_rules : App → List Rule → App
+with_rules app rules = record app { top = record app.top { rules = app.top.rules ++ rules } }

@@ -1,0 +1,31 @@
+-- The values that `clap` found, without where they lie in memory, and what is read of them.
+use Rattle.std.specs.Prelude.{ℕ, ◌≡◌, ⊤, Result, Ok, Err}
+use Rattle.std.specs.Option.{option_copied}
+use Rattle.cal_command.specs.Ask.{CommandSaid, usage, help, bad_iterations, bad_now, bad_zones, bad_local, no_memory, Wanted, texts_of}
+use Rattle.cal_command.specs.CommandLine.{Given as Values}
+use Rattle.cal_command.specs.declared.command_line.Given.{Given}
+
+abbrev pub values_of : Given → Values
+values_of given = record {
+  verb = given.verb;
+  texts = texts_of given.texts.now;
+  iterations = option_copied given.iterations;
+  base = option_copied given.base;
+  now = option_copied given.now;
+  local = option_copied given.local;
+  zones = option_copied given.zones;
+}
+
+abbrev pub IsFaultRead : CommandSaid → Result Wanted CommandSaid → Type 0
+IsFaultRead (usage text) said = ⊥
+IsFaultRead (help text) said = ⊥
+IsFaultRead bad_iterations said = Err bad_iterations ≡ said
+IsFaultRead bad_now said = Err bad_now ≡ said
+IsFaultRead bad_zones said = Err bad_zones ≡ said
+IsFaultRead bad_local said = Err bad_local ≡ said
+IsFaultRead no_memory said = ⊤
+
+-- this is what was read, unless memory was refused
+abbrev pub IsReadAs : Result Wanted CommandSaid → Result Wanted CommandSaid → Type 0
+IsReadAs (Ok wanted) said = Ok wanted ≡ said
+IsReadAs (Err fault) said = IsFaultRead fault said

@@ -1,0 +1,6 @@
+pub mod Ask
+pub mod CommandFault
+pub mod CommandLine
+pub mod GivenView
+pub mod LocalZone
+pub mod OptionValues

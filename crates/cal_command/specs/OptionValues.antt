@@ -1,0 +1,88 @@
+-- What the text of each option says: systemd-analyze(1), `--iterations` and `--base-time`, and this project's own options
+-- for the present and for zones.
+use Rattle.std.specs.Prelude.{ℕ, ℤ, ◌+◌, ◌*◌, ◌&&◌, ◌==◌, Bool, pos, neg_ℤ, List, [], ◌∷◌, length, drop, Option, None, Some, codes, nat_eq, nat_lt, nat_le, if◌then◌else◌, unsigned_abs, option_and_then, option_map}
+use Rattle.std.specs.List.{after_first, before_first, list_any, slice_split, starts_with}
+use Rattle.std.specs.Str.{all_ascii_digits, str_eq_ignore_ascii_case}
+use Rattle.std.specs.Str.Parse.{digits_value}
+use Rattle.cal_zone.specs.ZoneName.{is_zone_name}
+use Rattle.cal_zone.specs.declared.instant.TheConstants.Instant.{LAST}
+use Rattle.cal_command.specs.Ask.{LocalSaid, in_utc, ahead, by_rule, of_name, ZoneSaid}
+use Rattle.cal_command.specs.declared.option_values.TheConstants.{MOST_ZONES}
+use Rattle.cal_request.specs.declared.request.TheConstants.{MOST_ITERATIONS}
+
+-- the number that a text of digits alone writes, where it is from least to most
+unfoldable pub number_in : ℕ → ℕ → List ℕ → Option ℕ
+number_in least most text =
+    let number = digits_value 10 text in
+    if nat_lt 0 (length text) && all_ascii_digits text && nat_le least number && nat_le number most
+    then Some number else None
+
+-- `--iterations`: a number of elapses
+unfoldable pub count_in : List ℕ → Option ℕ
+count_in = number_in 1 MOST_ITERATIONS
+
+-- `--now`: an instant, as `@` and its seconds
+unfoldable pub present_in : List ℕ → Option ℤ
+present_in [] = None
+present_in (byte ∷ bytes) = if byte == 64 then option_map pos (number_in 0 (unsigned_abs LAST) bytes) else None
+
+abbrev pub is_equals : ℕ → Bool
+is_equals byte = byte == 61
+
+abbrev pub is_comma : ℕ → Bool
+is_comma byte = byte == 44
+
+abbrev pub is_colon : ℕ → Bool
+is_colon byte = byte == 58
+
+-- what stands before and behind the first separator, where there is one
+abbrev pub parts_at : (ℕ → Bool) → List ℕ → Option (List ℕ × List ℕ)
+parts_at is_separator text =
+    if list_any is_separator text then Some (before_first is_separator text, after_first is_separator text) else None
+
+-- a zone's name and a file, where the name has a name's form and the file is not empty
+abbrev pub named_file : List ℕ × List ℕ → Option ZoneSaid
+named_file parts =
+    if is_zone_name parts.0 && nat_lt 0 (length parts.1) then Some (record { name = parts.0; path = parts.1 }) else None
+
+-- an item of `--zones`, `NAME=FILE`: the first `=` splits it
+unfoldable pub zone_item_in : List ℕ → Option ZoneSaid
+zone_item_in item = option_and_then named_file (parts_at is_equals item)
+
+-- each of the items
+unfoldable pub zone_items_in : List (List ℕ) → Option (List ZoneSaid)
+zone_items_in [] = Some []
+zone_items_in (item ∷ items) =
+    option_and_then (λ zone. option_map (λ zones. zone ∷ zones) (zone_items_in items)) (zone_item_in item)
+
+-- `--zones`: items between commas, at most 64
+unfoldable pub zones_in : List ℕ → Option (List ZoneSaid)
+zones_in text =
+    let items = slice_split is_comma text in if nat_le (length items) MOST_ZONES then zone_items_in items else None
+
+-- two digits of a number up to most
+unfoldable pub two_digits_in : ℕ → List ℕ → Option ℕ
+two_digits_in most text = if length text == 2 then number_in 0 most text else None
+
+-- the seconds of `hh:mm`
+unfoldable pub clock_in : List ℕ → Option ℕ
+clock_in text =
+    option_and_then (λ parts. option_and_then (λ hours.
+    option_map (λ minutes. hours * 3_600 + minutes * 60) (two_digits_in 59 parts.1))
+    (two_digits_in 25 parts.0)) (parts_at is_colon text)
+
+-- `+hh:mm`, or west of UTC `-hh:mm`
+unfoldable pub offset_in : List ℕ → Option ℤ
+offset_in [] = None
+offset_in (sign ∷ text) =
+    if sign == 43 then option_map pos (clock_in text)
+    else if sign == 45 then option_map (λ seconds. neg_ℤ (pos seconds)) (clock_in text)
+    else None
+
+-- `--local`: `UTC` in any case, `posix:` and a rule, an offset, or what has the form of a zone's name
+unfoldable pub local_in : List ℕ → Option LocalSaid
+local_in text =
+    if str_eq_ignore_ascii_case text (codes "UTC") then Some in_utc
+    else if starts_with nat_eq text (codes "posix:") then Some (by_rule (drop 6 text))
+    else if is_zone_name text then Some (of_name text)
+    else option_map ahead (offset_in text)

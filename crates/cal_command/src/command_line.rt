@@ -1,0 +1,363 @@
+//! The command line: a subcommand of `clap` for each verb, and what the words ask for by the values that it finds.
+
+ghost use Rattle.std.specs.Prelude.{◌≡◌, ◌<◌, ◌≤◌, [], None, IfSome, false, true, codes, length, IfOk, IfErr, option_map};
+ghost use Rattle.std.specs.Option.{option_copied};
+ghost use Rattle.clap.specs.Words.{app_of, found_of, kind_of, rows_of, rule_of, shape_of, subcommand_rows_of};
+ghost use Rattle.clap.specs.declared.builder.command.Command.TheViews.{out-Command as fields_of};
+ghost use Rattle.cal_command.specs.Ask.{ask_said, fault_said, texts_of};
+ghost use Rattle.cal_command.specs.CommandLine.{IsAskOf, IsFaultOf, IsToldOf, command_app, elapse_rules, faults_in, file_rule, given_by, given_in, is_of_help, option_rule, parsed_in, read_options, texts_given, texts_kept, texts_rule, value_given, verb_named, verb_shape, with_rules, zone_rules};
+ghost use Rattle.cal_command.specs.GivenView.{IsReadAs, values_of};
+ghost use Rattle.cal_request.specs.Request.{is_timer, seeks_elapses};
+
+use crate::ask::Ask;
+use crate::command_fault::CommandFault;
+use crate::option_values::{base_of, iterations_of, local_of, now_of, owned, zones_of};
+use cal_request::{Request, Verb};
+use clap::error::ErrorKind;
+use clap::{Arg, ArgAction, ArgMatches, Command, Error};
+use std::alloc::{AllocError, Global};
+
+impl Ask {
+    /// What the words after the program's name ask for (systemd-analyze(1)): a verb, its options and its texts in any
+    /// order, where words behind a `--` are texts.
+    ///
+    /// - `calendar TEXT..` and `timer FILE` have `--iterations`, `--base-time`, `--now`, `--zones` and `--local`,
+    ///   `timestamp TEXT..` has the last three, and `timespan TEXT..` none.
+    /// - `--iterations=N`: digits for 1 to 1,000,000, else [`CommandFault::BadIterations`]; 1 where it isn't given.
+    /// - `--now=@N`: digits for 0 to 7,258,211,998, else [`CommandFault::BadNow`].
+    /// - `--zones=NAME=FILE,..`: 1 to 64 items, each with the form of a zone's name and a file that isn't empty, else
+    ///   [`CommandFault::BadZones`].
+    /// - `--local=Z`: `UTC` in any case, `+hh:mm` or `-hh:mm` up to 25:59, `posix:` and a rule, or the form of a
+    ///   zone's name, else [`CommandFault::BadLocal`]; UTC where it isn't given.
+    ///
+    /// Words that `clap` doesn't parse, an option that is given twice among them, are [`CommandFault::Usage`], and a
+    /// call for help or the version is [`CommandFault::Help`]. Of several bad values the first in this order is told.
+    /// [`CommandFault::NoMemory`] comes where memory is refused.
+    pub fn of<'a>(alloc: Global, words: &'a [&'a str]) -> Result<Ask, CommandFault>
+        ensures exact { IsAskOf (texts_of words.now) (ask_said result) }
+    {
+        let matches = parse(alloc, words)?;
+        let Some(given) = found(&matches) else {
+            return Err(CommandFault::NoMemory);
+        };
+        if given.texts.is_empty() {
+            return Err(CommandFault::NoMemory);
+        }
+        asked(alloc, given)
+    }
+}
+
+/// The values that `clap` found for a verb.
+#[derive(Clone, Copy)]
+struct Given<'b, 'a> {
+    verb: Verb,
+    texts: &'b [&'a str],
+    iterations: Option<&'a str>,
+    base: Option<&'a str>,
+    now: Option<&'a str>,
+    local: Option<&'a str>,
+    zones: Option<&'a str>,
+}
+
+/// What the values ask for.
+#[tactic(auto, unfolding(crate::specs::CommandLine::read_options))]
+fn asked(alloc: Global, given: Given) -> Result<Ask, CommandFault>
+    requires some_text { 0 < length given.texts.now }
+    requires file { is_timer given.verb ≡ true → length given.texts.now ≡ 1 }
+    requires base { seeks_elapses given.verb ≡ false → given.base ≡ None }
+    ensures { IsReadAs (ask_said result) (read_options (values_of given.entry)) }
+{
+    let Some(iterations) = iterations_of(given.iterations) else {
+        return Err(CommandFault::BadIterations);
+    };
+    let Some(now) = now_of(given.now) else {
+        return Err(CommandFault::BadNow);
+    };
+    let Some(zones) = zones_of(alloc, given.zones)? else {
+        return Err(CommandFault::BadZones);
+    };
+    let Some(local) = local_of(alloc, given.local)? else {
+        return Err(CommandFault::BadLocal);
+    };
+    let request = Request {
+        verb: given.verb,
+        texts: owned(alloc, given.texts)?,
+        iterations,
+        base: base_of(alloc, given.base)?,
+    };
+    Ok(Ask {
+        request,
+        now,
+        local,
+        zones,
+    })
+}
+
+/// What `clap` found.
+fn found<'b, 'a>(matches: &'b ArgMatches<'a>) -> Option<Given<'b, 'a>>
+    ensures file { IfSome result (λ given. is_timer given.verb ≡ true → length given.texts.now ≤ 1) }
+    ensures base { IfSome result (λ given. seeks_elapses given.verb ≡ false → given.base ≡ None) }
+    ensures value { option_map values_of result ≡ given_in (subcommand_rows_of matches.now) }
+{
+    let (name, values) = matches.subcommand()?;
+    values_for(verb_named(name)?, values)
+}
+
+/// The values that `clap` found for the verb.
+fn values_for<'b, 'a>(verb: Verb, values: &'b ArgMatches<'a>) -> Option<Given<'b, 'a>>
+    ensures file { IfSome result (λ given. is_timer given.verb ≡ true → length given.texts.now ≤ 1) }
+    ensures base { IfSome result (λ given. seeks_elapses given.verb ≡ false → given.base ≡ None) }
+    ensures value { option_map values_of result ≡ given_by verb (rows_of (found_of values.now)) }
+{
+    let texts = texts_for(verb, values)?;
+    Some(Given {
+        verb,
+        texts,
+        iterations: value_of(values, verb.seeks_elapses(), "iterations"),
+        base: value_of(values, verb.seeks_elapses(), "base-time"),
+        now: value_of(values, verb.has_zones(), "now"),
+        local: value_of(values, verb.has_zones(), "local"),
+        zones: value_of(values, verb.has_zones(), "zones"),
+    })
+}
+
+/// The texts; of a timer one alone.
+fn texts_for<'b, 'a>(verb: Verb, values: &'b ArgMatches<'a>) -> Option<&'b [&'a str]>
+    ensures file { IfSome result (λ texts. is_timer verb ≡ true → length texts.now ≤ 1) }
+    ensures value { option_map (λ texts. texts_of texts.now) result ≡ texts_given verb (rows_of (found_of values.now)) }
+{
+    let texts = values.get_strs("text")?;
+    Some(texts_kept(verb, texts))
+}
+
+/// The texts; of a timer the first alone.
+fn texts_kept<'b, 'a>(verb: Verb, texts: &'b [&'a str]) -> &'b [&'a str]
+    ensures file { is_timer verb ≡ true → length result.now ≤ 1 }
+    ensures value { texts_of result.now ≡ texts_kept verb (texts_of texts.entry.now) }
+{
+    if verb.is_timer() && texts.len() > 1 {
+        &texts[..1]
+    } else {
+        texts
+    }
+}
+
+/// The value of an option that the verb has, where it is given.
+fn value_of<'a>(values: &ArgMatches<'a>, has: bool, name: &str) -> Option<&'a str>
+    ensures { option_copied result ≡ value_given has name.now (rows_of (found_of values.now)) }
+{
+    if has { values.get_str(name) } else { None }
+}
+
+/// The verb of that name.
+fn verb_named(name: &str) -> Option<Verb>
+    ensures { result ≡ verb_named name.now }
+{
+    match name {
+        "calendar" => Some(Verb::Calendar),
+        "timestamp" => Some(Verb::Timestamp),
+        "timespan" => Some(Verb::Timespan),
+        "timer" => Some(Verb::Timer),
+        _ => None,
+    }
+}
+
+/// What `clap` parses of the words.
+fn parse<'a>(alloc: Global, words: &'a [&'a str]) -> Result<ArgMatches<'a>, CommandFault>
+    ensures faults { IfOk result (λ _. faults_in (texts_of words.now) ≡ []) }
+    ensures found { IfOk result (λ matches. given_in (subcommand_rows_of matches) ≡ parsed_in (texts_of words.now)) }
+    ensures fault { IfErr result (λ fault. IsFaultOf (texts_of words.now) (fault_said fault)) }
+{
+    match command(alloc)?.try_get_matches_from(words) {
+        Ok(matches) => Ok(matches),
+        Err(error) => Err(told(alloc, &error)),
+    }
+}
+
+/// What is told where `clap` gives no matches.
+fn told(alloc: Global, error: &Error) -> CommandFault
+    ensures { IsToldOf (kind_of error.now) (fault_said result) }
+{
+    if error.kind() == ErrorKind::OutOfMemory {
+        return CommandFault::NoMemory;
+    }
+    let Some(text) = text_of(alloc, error) else {
+        return CommandFault::NoMemory;
+    };
+    if is_of_help(error.kind()) {
+        CommandFault::Help(text)
+    } else {
+        CommandFault::Usage(text)
+    }
+}
+
+/// The text of `clap`, with a line feed at its end; of the version it has none. `None` where memory is refused.
+fn text_of(alloc: Global, error: &Error) -> Option<String> {
+    let Ok(mut text) = error.to_string(alloc) else {
+        return None;
+    };
+    if !text.as_str().ends_with('\n') && text.push('\n').is_err() {
+        return None;
+    }
+    Some(text)
+}
+
+/// Whether help or the version was asked for.
+fn is_of_help(kind: ErrorKind) -> bool
+    ensures { result ≡ is_of_help kind }
+{
+    matches!(kind, ErrorKind::DisplayHelp | ErrorKind::DisplayVersion)
+}
+
+/// The command, with a subcommand for each verb.
+fn command<'a>(alloc: Global) -> Result<Command<'a>, AllocError>
+    ensures { IfOk result (λ command. app_of command ≡ command_app) }
+{
+    Command::new(alloc, "calendar-analyze")
+        .version("0.1.0")
+        .about("Calculates with calendar expressions, timestamps, time spans and timers")
+        .after_help(STATUSES)
+        .no_binary_name(true)
+        .disable_help_subcommand(true)
+        .subcommand_required(true)
+        .bin_name("calendar-analyze")?
+        .subcommand(calendar(alloc)?)?
+        .subcommand(timestamp(alloc)?)?
+        .subcommand(timespan(alloc)?)?
+        .subcommand(timer(alloc)?)
+}
+
+/// `calendar TEXT..`
+fn calendar<'a>(alloc: Global) -> Result<Command<'a>, AllocError>
+    ensures app { IfOk result (λ command. shape_of command ≡ verb_shape (codes "calendar") elapse_rules texts_rule) }
+    ensures local { IfOk result (λ command. (fields_of command).has_globals ≡ false) }
+{
+    let command = Command::new(alloc, "calendar")
+        .about("Show the normal form of expressions and when they elapse next")
+        .after_help(CALENDAR_EXAMPLE);
+    with_elapse_options(alloc, command)?.arg(texts_arg(
+        alloc,
+        "Calendar expression, as in systemd.time(7)",
+    ))
+}
+
+/// `timestamp TEXT..`
+fn timestamp<'a>(alloc: Global) -> Result<Command<'a>, AllocError>
+    ensures app { IfOk result (λ command. shape_of command ≡ verb_shape (codes "timestamp") zone_rules texts_rule) }
+    ensures local { IfOk result (λ command. (fields_of command).has_globals ≡ false) }
+{
+    let command = Command::new(alloc, "timestamp")
+        .about("Show the instants that timestamps mean")
+        .after_help(TIMESTAMP_EXAMPLE);
+    with_zone_options(alloc, command)?.arg(texts_arg(alloc, "Timestamp, as in systemd.time(7)"))
+}
+
+/// `timespan TEXT..`
+fn timespan<'a>(alloc: Global) -> Result<Command<'a>, AllocError>
+    ensures app { IfOk result (λ command. shape_of command ≡ verb_shape (codes "timespan") [] texts_rule) }
+    ensures local { IfOk result (λ command. (fields_of command).has_globals ≡ false) }
+{
+    Command::new(alloc, "timespan")
+        .about("Show how long time spans are")
+        .after_help(TIMESPAN_EXAMPLE)
+        .arg(texts_arg(alloc, "Time span, as in systemd.time(7)"))
+}
+
+/// `timer FILE`
+fn timer<'a>(alloc: Global) -> Result<Command<'a>, AllocError>
+    ensures app { IfOk result (λ command. shape_of command ≡ verb_shape (codes "timer") elapse_rules file_rule) }
+    ensures local { IfOk result (λ command. (fields_of command).has_globals ≡ false) }
+{
+    let command = Command::new(alloc, "timer")
+        .about("Show when the expressions of a timer file elapse next")
+        .after_help(TIMER_EXAMPLE);
+    let file = Arg::new(alloc, "text")
+        .value_name("FILE")
+        .help("Timer file, as in systemd.timer(5)")
+        .action(ArgAction::Set)
+        .required(true);
+    with_elapse_options(alloc, command)?.arg(file)
+}
+
+/// The command with the options of the verbs that seek elapses.
+fn with_elapse_options<'a>(alloc: Global, command: Command<'a>) -> Result<Command<'a>, AllocError>
+    requires { (fields_of command).has_globals ≡ false }
+    ensures app { IfOk result (λ changed. app_of changed ≡ with_rules (app_of command.entry) elapse_rules) }
+    ensures local { IfOk result (λ changed. (fields_of changed).has_globals ≡ false) }
+{
+    let command = command
+        .arg(option_arg(
+            alloc,
+            "iterations",
+            "N",
+            "Elapses to show, 1 to 1000000 [default: 1]",
+        ))?
+        .arg(option_arg(
+            alloc,
+            "base-time",
+            "STAMP",
+            "Elapses after this timestamp [default: now]",
+        ))?;
+    with_zone_options(alloc, command)
+}
+
+/// The command with the options of the verbs that know instants.
+fn with_zone_options<'a>(alloc: Global, command: Command<'a>) -> Result<Command<'a>, AllocError>
+    requires { (fields_of command).has_globals ≡ false }
+    ensures app { IfOk result (λ changed. app_of changed ≡ with_rules (app_of command.entry) zone_rules) }
+    ensures local { IfOk result (λ changed. (fields_of changed).has_globals ≡ false) }
+{
+    command
+        .arg(option_arg(alloc, "local", "ZONE", LOCAL_HELP))?
+        .arg(option_arg(
+            alloc,
+            "zones",
+            "NAME=FILE,..",
+            "Zone files to read, 1 to 64 [default: none]",
+        ))?
+        .arg(option_arg(
+            alloc,
+            "now",
+            "@N",
+            "The present in seconds [default: the clock]",
+        ))
+}
+
+/// An option with one value.
+fn option_arg<'a>(alloc: Global, name: &'a str, value: &'a str, help: &'a str) -> Arg<'a>
+    ensures rule { rule_of result ≡ option_rule name.entry.now }
+    ensures local { result.global ≡ false }
+{
+    Arg::new(alloc, name)
+        .long(name)
+        .value_name(value)
+        .help(help)
+        .action(ArgAction::Set)
+}
+
+/// One text or more.
+fn texts_arg<'a>(alloc: Global, help: &'a str) -> Arg<'a>
+    ensures rule { rule_of result ≡ texts_rule }
+    ensures local { result.global ≡ false }
+{
+    Arg::new(alloc, "text")
+        .value_name("TEXT")
+        .help(help)
+        .action(ArgAction::Append)
+        .required(true)
+}
+
+const LOCAL_HELP: &str = "UTC, +hh:mm, -hh:mm, posix:RULE or a name of{n}--zones [default: UTC]";
+
+const STATUSES: &str =
+    "Exit status:{n}  0  all was done{n}  1  a text, a file or a write was refused{n}  2  the command line, a zone or the clock was refused{n}{n}'calendar-analyze VERB --help' says more of a verb.";
+
+const CALENDAR_EXAMPLE: &str =
+    "A TEXT that begins with '-' stands behind '--'.{n}{n}Example:{n}  calendar-analyze calendar --iterations=3 'Mon..Fri 09:00'";
+
+const TIMESTAMP_EXAMPLE: &str =
+    "A TEXT that begins with '-' stands behind '--'.{n}{n}Example:{n}  calendar-analyze timestamp --local=+01:00 'today' '@1395716396' -- -5min";
+
+const TIMESPAN_EXAMPLE: &str = "Example:{n}  calendar-analyze timespan '1h 30min' 300s";
+
+const TIMER_EXAMPLE: &str = "Example:{n}  calendar-analyze timer --iterations=5 backup.timer";

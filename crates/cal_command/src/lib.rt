@@ -1,0 +1,11 @@
+//! The command line: what the words ask for.
+#![tactic(auto)]
+
+mod ask;
+mod command_fault;
+pub mod command_laws;
+mod command_line;
+mod option_values;
+
+pub use ask::{Ask, LocalZone, ZoneItem};
+pub use command_fault::CommandFault;

@@ -1,0 +1,239 @@
+//! The values of options: what the text of each says, or that it says nothing (systemd-analyze(1)).
+
+ghost use Rattle.std.specs.Prelude.{◌≡◌, ◌≤◌, ◌<◌, ◌==◌, ◌∷◌, [], None, Some, length, map, option_map, IfSome, IfOk, string_bytes, vec_len};
+ghost use Rattle.std.specs.List.{slice_split};
+ghost use Rattle.std.specs.Option.{option_copied, option_map_or};
+ghost use Rattle.jiff.specs.Words.{IsOffsetSeconds};
+ghost use Rattle.cal_spec.specs.Pieces.{left, pieces_behind};
+ghost use Rattle.cal_command.specs.Ask.{in_utc, local_said, texts_of, zone_said};
+ghost use Rattle.cal_command.specs.LocalZone.{IsLocalOffset};
+ghost use Rattle.cal_command.specs.OptionValues.{clock_in, count_in, is_comma, local_in, number_in, offset_in, parts_at, present_in, two_digits_in, zone_item_in, zones_in};
+ghost use Rattle.cal_request.specs.Request.{IsCount};
+
+use crate::ask::{LocalZone, ZoneItem};
+use cal_request::MOST_ITERATIONS;
+use cal_zone::{Instant, is_zone_name};
+use std::alloc::{AllocError, Global};
+
+/// How many zone files `--zones` names at most.
+pub const MOST_ZONES: usize = 64;
+
+/// What `--iterations` says: 1 where it isn't given.
+pub(crate) fn iterations_of(text: Option<&str>) -> Option<u32>
+    ensures value { result ≡ option_map_or count_in (option_copied text.entry) (Some 1) }
+    ensures range { IfSome result IsCount }
+{
+    match text {
+        Some(text) => count_in(text),
+        None => Some(1),
+    }
+}
+
+/// The base, which is read later, on the heap.
+pub(crate) fn base_of(alloc: Global, text: Option<&str>) -> Result<Option<String>, AllocError>
+    ensures value { IfOk result (λ base. option_map string_bytes base ≡ option_copied text.entry) }
+    ensures none { IfOk result (λ base. text.entry ≡ None → base ≡ None) }
+{
+    match text {
+        Some(text) => Ok(Some(String::from_str(alloc, text)?)),
+        None => Ok(None),
+    }
+}
+
+/// What `--now` says: the clock's present where it isn't given.
+pub(crate) fn now_of(text: Option<&str>) -> Option<Option<Instant>>
+    ensures { option_map (option_map (λ now. now.secs)) result
+        ≡ option_map_or (λ text. option_map Some (present_in text)) (option_copied text.entry) (Some None) }
+{
+    match text {
+        Some(text) => Some(Some(present_in(text)?)),
+        None => Some(None),
+    }
+}
+
+/// What `--zones` says: no file where it isn't given.
+pub(crate) fn zones_of(
+    alloc: Global,
+    text: Option<&str>,
+) -> Result<Option<Vec<ZoneItem>>, AllocError>
+    ensures { IfOk result (λ zones. option_map (λ items. map zone_said items.items) zones
+        ≡ option_map_or zones_in (option_copied text.entry) (Some [])) }
+{
+    match text {
+        Some(text) => zones_in(alloc, text),
+        None => Ok(Some(Vec::new(alloc))),
+    }
+}
+
+/// What `--local` says: UTC where it isn't given.
+pub(crate) fn local_of(alloc: Global, text: Option<&str>) -> Result<Option<LocalZone>, AllocError>
+    ensures value { IfOk result (λ local. option_map local_said local
+        ≡ option_map_or local_in (option_copied text.entry) (Some in_utc)) }
+    ensures offset { IfOk result (λ local. IfSome local IsLocalOffset) }
+{
+    match text {
+        Some(text) => local_in(alloc, text),
+        None => Ok(Some(LocalZone::Utc)),
+    }
+}
+
+/// A number of elapses: digits for 1 to [`MOST_ITERATIONS`].
+pub(crate) fn count_in(value: &str) -> Option<u32>
+    ensures value { result ≡ count_in value.now }
+    ensures range { IfSome result IsCount }
+{
+    let number = number_in(value, 1, MOST_ITERATIONS as u64)?;
+    Some(number as u32)
+}
+
+/// An instant: `@` and digits for 0 to [`Instant::LAST`].
+pub(crate) fn present_in(value: &str) -> Option<Instant>
+    ensures { option_map (λ instant. instant.secs) result ≡ present_in value.now }
+{
+    let number = number_in(value.strip_prefix('@')?, 0, Instant::LAST as u64)?;
+    Instant::new(number as i64)
+}
+
+/// The number that a text of digits alone writes, where it is from `least` to `most`.
+fn number_in(text: &str, least: u64, most: u64) -> Option<u64>
+    ensures { result ≡ number_in least most text.now }
+{
+    if text.starts_with('+') {
+        return None;
+    }
+    match text.parse() {
+        Ok(number) if least <= number && number <= most => Some(number),
+        _ => None,
+    }
+}
+
+/// Zone files, as items between commas.
+fn zones_in(alloc: Global, text: &str) -> Result<Option<Vec<ZoneItem>>, AllocError>
+    ensures { IfOk result (λ zones. option_map (λ items. map zone_said items.items) zones ≡ zones_in text.now) }
+{
+    let mut items = Vec::new(alloc);
+    let mut rest = Some(text);
+    while let Some(texts) = rest {
+        let (first, behind) = first_item(texts);
+        let Some((name, path)) = zone_item_in(first) else {
+            return Ok(None);
+        };
+        if items.len() == MOST_ZONES {
+            return Ok(None);
+        }
+        items.push(zone_item(alloc, name, path)?)?;
+        rest = behind;
+    }
+    Ok(Some(items))
+}
+
+/// The item before the first comma, and what stands behind it.
+fn first_item(text: &str) -> (&str, Option<&str>)
+    ensures items { slice_split is_comma text.now ≡ result.0.now ∷ pieces_behind is_comma (option_copied result.1) }
+    ensures shorter { left (option_copied result.1) ≤ length text.now }
+{
+    match text.split_once(',') {
+        Some((first, behind)) => (first, Some(behind)),
+        None => (text, None),
+    }
+}
+
+/// The name and the file of an item, where both have their form.
+#[tactic(auto, unfolding(crate::specs::OptionValues::zone_item_in))]
+fn zone_item_in(item: &str) -> Option<(&str, &str)>
+    ensures { option_map (λ parts. record { name = parts.0.now; path = parts.1.now }) result ≡ zone_item_in item.now }
+{
+    let (name, path) = parts_at(item, '=')?;
+    if is_zone_name(name.as_bytes()) && !path.is_empty() {
+        Some((name, path))
+    } else {
+        None
+    }
+}
+
+/// The item on the heap.
+fn zone_item(alloc: Global, name: &str, path: &str) -> Result<ZoneItem, AllocError>
+    ensures { IfOk result (λ item. zone_said item ≡ record { name = name.now; path = path.now }) }
+{
+    Ok(ZoneItem {
+        name: String::from_str(alloc, name)?,
+        path: String::from_str(alloc, path)?,
+    })
+}
+
+/// What stands before and behind the first separator, where there is one.
+fn parts_at(text: &str, separator: char) -> Option<(&str, &str)>
+    requires { separator < 128 }
+    ensures { option_map (λ parts. (parts.0.now, parts.1.now)) result ≡ parts_at (λ byte. byte == separator) text.now }
+{
+    text.split_once(separator)
+}
+
+/// A local zone.
+#[tactic(auto, unfolding(crate::specs::OptionValues::local_in))]
+fn local_in(alloc: Global, text: &str) -> Result<Option<LocalZone>, AllocError>
+    ensures value { IfOk result (λ local. option_map local_said local ≡ local_in text.now) }
+    ensures offset { IfOk result (λ local. IfSome local IsLocalOffset) }
+{
+    if text.eq_ignore_ascii_case("UTC") {
+        return Ok(Some(LocalZone::Utc));
+    }
+    if let Some(rule) = text.strip_prefix("posix:") {
+        return Ok(Some(LocalZone::Posix(String::from_str(alloc, rule)?)));
+    }
+    if is_zone_name(text.as_bytes()) {
+        return Ok(Some(LocalZone::Name(String::from_str(alloc, text)?)));
+    }
+    let Some(seconds) = offset_in(text) else {
+        return Ok(None);
+    };
+    Ok(Some(LocalZone::Offset(seconds)))
+}
+
+/// The seconds of `+hh:mm`, or west of UTC of `-hh:mm`.
+#[tactic(auto, unfolding(crate::specs::OptionValues::offset_in))]
+fn offset_in(text: &str) -> Option<i32>
+    ensures value { result ≡ offset_in text.now }
+    ensures range { IfSome result IsOffsetSeconds }
+{
+    if let Some(clock) = text.strip_prefix('+') {
+        return Some(clock_in(clock)? as i32);
+    }
+    let seconds = clock_in(text.strip_prefix('-')?)? as i32;
+    Some(-seconds)
+}
+
+/// The seconds of `hh:mm`.
+#[tactic(auto, unfolding(crate::specs::OptionValues::clock_in))]
+fn clock_in(text: &str) -> Option<u32>
+    ensures value { result ≡ clock_in text.now }
+    ensures range { IfSome result (λ seconds. seconds ≤ 93_540) }
+{
+    let (hours, minutes) = parts_at(text, ':')?;
+    Some(two_digits_in(hours, 25)? * 3_600 + two_digits_in(minutes, 59)? * 60)
+}
+
+/// Two digits of a number up to `most`.
+#[tactic(auto, unfolding(crate::specs::OptionValues::two_digits_in))]
+fn two_digits_in(text: &str, most: u32) -> Option<u32>
+    ensures value { result ≡ two_digits_in most text.now }
+    ensures range { IfSome result (λ number. number ≤ most) }
+{
+    if text.len() != 2 {
+        return None;
+    }
+    let number = number_in(text, 0, most as u64)?;
+    Some(number as u32)
+}
+
+/// The texts on the heap.
+pub(crate) fn owned(alloc: Global, texts: &[&str]) -> Result<Vec<String>, AllocError>
+    ensures texts { IfOk result (λ all. map string_bytes all.items ≡ texts_of texts.now) }
+    ensures count { IfOk result (λ all. vec_len all ≡ length texts.now) }
+{
+    let mut all = Vec::with_capacity(alloc, texts.len())?;
+    for text in texts {
+        all.push(String::from_str(alloc, text)?)?;
+    }
+    Ok(all)
+}

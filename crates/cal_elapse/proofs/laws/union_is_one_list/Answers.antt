@@ -1,5 +1,0 @@
-use Rattle.cal_elapse.proofs.RisingLemmas.{IsUnion-union, IsUnion-only}
-use Rattle.cal_elapse.proofs.laws.union_is_one_list.Goals as goal
-
-pub returns : goal.returns
-returns c = record { this = IsUnion-union; only = IsUnion-only }

@@ -1,8 +1,0 @@
-use Rattle.std.proofs.Common.{◌≡◌, map, take}
-use Rattle.cal_elapse.specs.Merge.{numbers}
-use Rattle.cal_elapse.specs.RisingList.{first, union}
-use Rattle.cal_elapse.proofs.merge.least_head.Given as goal
-
--- the least of the heads of the sources gone through
-abbrev pub invariant-loop-branch : goal.invariant-loop-branch
-invariant-loop-branch g l = l.least ≡ first (union (map numbers (take l.branch-index l.branch-items)))

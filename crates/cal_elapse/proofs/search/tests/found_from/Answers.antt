@@ -1,7 +1,0 @@
-use Rattle.std.proofs.Common.{arith}
-use Rattle.std.proofs.lemmas.Int.{ints}
-use Rattle.cal_base.specs.Local.{seconds_in_all-is}
-use Rattle.cal_elapse.proofs.search.tests.found_from.Goals as goal
-
-pub next_local-requires-clause-high : goal.next_local-requires-clause-high
-next_local-requires-clause-high c = let count = seconds_in_all-is in omega (arith, ints)

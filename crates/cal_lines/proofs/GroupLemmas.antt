@@ -1,0 +1,83 @@
+-- The logical lines of a file one after the other.
+use Rattle.std.proofs.Common.{◌≡◌, ℕ, ◌+◌, Bool, true, false, List, [], ◌∷◌, ◌++◌, map, refl, sym, ap, ◌∙◌, append_assoc, append-nil}
+use Rattle.std.specs.List.{flat_map}
+use Rattle.std.specs.Str.Lines.{lines}
+use Rattle.cal_lines.specs.Lines.{Group, Line, continued_by, groups, is_comment, is_continued, joined_line, logical_lines, part_of, physical_lines, plain_lines, trim_start}
+
+-- the lines of a text behind its first
+pub plain_here : (n : ℕ) (text line rest : List ℕ) → lines text ≡ line ∷ lines rest → is_comment (trim_start line) ≡ false → plain_lines n text ≡ record { number = n; text = trim_start line } ∷ plain_lines (n + 1) rest
+unfolding physical_lines plain_lines
+plain_here n text line rest e f = rw (e, f) refl
+
+pub plain_skipped : (n : ℕ) (text line rest : List ℕ) → lines text ≡ line ∷ lines rest → is_comment (trim_start line) ≡ true → plain_lines n text ≡ plain_lines (n + 1) rest
+unfolding physical_lines plain_lines
+plain_skipped n text line rest e f = rw (e, f) refl
+
+pub plain_none : (n : ℕ) (text : List ℕ) → lines text ≡ [] → plain_lines n text ≡ []
+unfolding physical_lines plain_lines
+plain_none n text e = rw e refl
+
+-- what a list of lines adds to a logical line
+abbrev pub parts_of : List Line → List ℕ
+parts_of = flat_map (λ line. part_of line.text)
+
+-- the logical lines where the first of them begins with this text
+abbrev pub behind : ℕ → List ℕ → List Group → List Line
+behind n front [] = record { number = n; text = front } ∷ []
+behind n front (group ∷ rest) = record { number = n; text = front ++ parts_of (group.first ∷ group.more) } ∷ map joined_line rest
+
+-- the logical lines from a text on that goes on in these lines or has ended
+abbrev pub goes_on_in : ℕ → List ℕ → Bool → List Line → List Line
+goes_on_in n front true ls = behind n front (groups ls)
+goes_on_in n front false ls = record { number = n; text = front } ∷ map joined_line (groups ls)
+
+-- the first line of a group
+pub joined_continued : (n : ℕ) (front : List ℕ) (line : Line) (gs : List Group) → behind n front (continued_by line gs) ≡ behind n (front ++ part_of line.text) gs
+joined_continued n front line [] = ap (λ text. record { number = n; text = text } ∷ []) (ap (λ xs. front ++ xs) (append-nil (part_of line.text)))
+joined_continued n front line (g ∷ gs) = ap (λ text. record { number = n; text = text } ∷ map joined_line gs) (sym (append_assoc front (part_of line.text) (parts_of (g.first ∷ g.more))))
+
+line_joined_as : (b : Bool) (n : ℕ) (front : List ℕ) (line : Line) (ls : List Line) → is_continued line.text ≡ b → goes_on_in n front true (line ∷ ls) ≡ goes_on_in n (front ++ part_of line.text) b ls
+unfolding groups
+line_joined_as true n front line ls e = rw e (joined_continued n front line (groups ls))
+line_joined_as false n front line ls e = rw e (ap (λ text. record { number = n; text = text } ∷ map joined_line (groups ls)) (ap (λ xs. front ++ xs) (append-nil (part_of line.text))))
+
+pub line_joined : (n : ℕ) (front : List ℕ) (line : Line) (ls : List Line) → goes_on_in n front true (line ∷ ls) ≡ goes_on_in n (front ++ part_of line.text) (is_continued line.text) ls
+line_joined n front line ls = line_joined_as (is_continued line.text) n front line ls refl
+
+continued_alone : (line : Line) (gs : List Group) → map joined_line (continued_by line gs) ≡ behind line.number (part_of line.text) gs
+continued_alone line [] = ap (λ text. record { number = line.number; text = text } ∷ []) (append-nil (part_of line.text))
+continued_alone line (g ∷ gs) = refl
+
+line_begins_as : (b : Bool) (line : Line) (ls : List Line) → is_continued line.text ≡ b → map joined_line (groups (line ∷ ls)) ≡ goes_on_in line.number (part_of line.text) b ls
+unfolding groups
+line_begins_as true line ls e = rw e (continued_alone line (groups ls))
+line_begins_as false line ls e = rw e (ap (λ text. record { number = line.number; text = text } ∷ map joined_line (groups ls)) (append-nil (part_of line.text)))
+
+-- a logical line begins with its first line
+pub line_begins : (line : Line) (ls : List Line) → map joined_line (groups (line ∷ ls)) ≡ goes_on_in line.number (part_of line.text) (is_continued line.text) ls
+line_begins line ls = line_begins_as (is_continued line.text) line ls refl
+
+-- and ends with the file
+pub line_ends : (n : ℕ) (front : List ℕ) (goes_on : Bool) → goes_on_in n front goes_on [] ≡ record { number = n; text = front } ∷ []
+unfolding groups
+line_ends n front true = refl
+line_ends n front false = refl
+
+-- the logical lines of a text, as they are found one after the other
+pub logical_none : (n : ℕ) (text : List ℕ) → plain_lines n text ≡ [] → logical_lines n text ≡ []
+unfolding logical_lines groups
+logical_none n text e = rw e refl
+
+pub logical_begins : (n : ℕ) (text : List ℕ) (line : Line) (rest : List Line) (joined : List ℕ) (goes_on : Bool) → plain_lines n text ≡ line ∷ rest → joined ≡ [] ++ part_of line.text → goes_on ≡ is_continued line.text → logical_lines n text ≡ goes_on_in line.number joined goes_on rest
+unfolding logical_lines
+logical_begins n text line rest joined goes_on e f h = rw (e, f, h) (line_begins line rest)
+
+pub logical_goes_on : (n : ℕ) (front : List ℕ) (goes_on : Bool) (all lines : List Line) (line : Line) (rest : List Line) (joined : List ℕ) (more : Bool) → all ≡ goes_on_in n front goes_on lines → goes_on ≡ true → lines ≡ line ∷ rest → joined ≡ front ++ part_of line.text → more ≡ is_continued line.text → all ≡ goes_on_in n joined more rest
+logical_goes_on n front goes_on all lines line rest joined more so_far e f g h = so_far ∙ rw (e, f, g, h) (line_joined n front line rest)
+
+pub logical_ends : (n : ℕ) (front : List ℕ) (goes_on : Bool) (all : List Line) (next : ℕ) (rest : List ℕ) → all ≡ goes_on_in n front goes_on (plain_lines next rest) → goes_on ≡ false → all ≡ record { number = n; text = front } ∷ logical_lines next rest
+unfolding logical_lines
+logical_ends n front goes_on all next rest so_far e = so_far ∙ rw e refl
+
+pub logical_stops : (n : ℕ) (front : List ℕ) (goes_on : Bool) (all : List Line) (next : ℕ) (rest : List ℕ) → all ≡ goes_on_in n front goes_on (plain_lines next rest) → plain_lines next rest ≡ [] → all ≡ record { number = n; text = front } ∷ logical_lines next rest
+logical_stops n front goes_on all next rest so_far e = so_far ∙ ap (goes_on_in n front goes_on) e ∙ line_ends n front goes_on ∙ ap (λ lines. record { number = n; text = front } ∷ lines) (sym (logical_none next rest e))

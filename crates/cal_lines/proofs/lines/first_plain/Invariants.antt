@@ -1,0 +1,17 @@
+-- What is left has all the lines that are no comments, and their numbers stay below the length of the whole.
+use Rattle.std.proofs.Common.{◌≡◌, ◌+◌, ◌≤◌, length}
+use denote.Shadow.{shadow}
+use denote.Text.{Utf8}
+use Rattle.cal_lines.specs.Lines.{plain_lines}
+use Rattle.cal_lines.proofs.lines.first_plain.Given as goal
+
+abbrev pub invariant-loop-line : goal.invariant-loop-line
+invariant-loop-line l = record {
+  utf8 : shadow (Utf8 l.rest);
+  lines : plain_lines l.at l.rest ≡ plain_lines l.fn.number l.fn.text;
+  bounds : l.at + length l.rest ≤ l.fn.number + length l.fn.text;
+  within : length l.rest ≤ length l.fn.text;
+}
+
+abbrev pub decreases-loop-line : goal.decreases-loop-line
+decreases-loop-line l = length l.rest

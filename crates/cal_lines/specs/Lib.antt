@@ -1,0 +1,3 @@
+pub mod LineRule
+pub mod LineView
+pub mod Lines

@@ -1,0 +1,15 @@
+-- Lines of a unit file without where they lie in memory.
+use Rattle.std.specs.Prelude.{ℕ, List, string_bytes}
+use Rattle.cal_lines.specs.Lines.{Line}
+use Rattle.cal_lines.specs.declared.lines.Logical.{Logical}
+use Rattle.cal_lines.specs.declared.lines.Plain.{Plain}
+
+-- a text in the line of this number
+abbrev pub line_at : ℕ → List ℕ → Line
+line_at number text = record { number = number; text = text }
+
+abbrev pub plain_line : Plain → Line
+plain_line plain = line_at plain.number plain.line.now
+
+abbrev pub logical_line : Logical → Line
+logical_line logical = line_at logical.number (string_bytes logical.text)

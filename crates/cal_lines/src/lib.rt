@@ -1,0 +1,7 @@
+//! The lines of unit files: physical lines, comments and logical lines (systemd.syntax(7)).
+#![tactic(auto)]
+
+pub mod laws;
+mod lines;
+
+pub use lines::{Logical, first_logical, trim};

@@ -1,0 +1,192 @@
+-- Lemmas on what is answered to one text, and to texts in a row.
+use Rattle.std.proofs.Common.{◌≡◌, ℕ, suc, ◌+◌, ◌<◌, ◌≤◌, Bool, true, false, ◌||◌, map, List, [], ◌∷◌, ◌++◌, length, drop, take, get_or, Option, Result, Ok, Err, refl, sym, subst, ap, ◌∙◌, arith, codes, add-one, drop-cons}
+use Rattle.std.specs.Prelude.{is_err, if◌then◌else◌}
+use Rattle.std.specs.List.{flat_map, join_by, list_any}
+use Rattle.std.proofs.lemmas.List.{append-nil, append_assoc, drop_all, length-map, map-append, take-map, take_more}
+use Rattle.std.proofs.lemmas.List.Concat.{flat_map-append}
+use Rattle.std.specs.Io.KnownBytes.{Appends}
+use Rattle.cal_bytes.specs.Bytes.{Leaves, AppendsFront, Writes}
+use Rattle.std.proofs.KnownBytes.{Appends-nil, Appends-trans}
+use Rattle.cal_bytes.proofs.Pieces.{step, stop, respell}
+use Rattle.cal_report.specs.Answer.{Answer, IsAnsweredBefore, report_in, refusal_in, later_text, status_in, reports_text, refusals_text, whole_status}
+use Rattle.cal_request.specs.Status.{is_fine, status_and}
+use Rattle.cal_request.specs.declared.request.Status.{Status}
+use Rattle.cal_request.specs.declared.request.Status.TheVariants.{Fine, Refused}
+
+-- reports that are left to write, behind an earlier one or before the first
+pub left_of : Bool → List (List ℕ) → List ℕ
+left_of true reports = flat_map (λ report. codes "\n" ++ report) reports
+left_of false reports = join_by (λ report. report) (codes "\n") reports
+
+left-next : (is_later : Bool) (a : Answer) (reports : List (List ℕ)) → left_of is_later (report_in a ++ reports) ≡ later_text is_later a ++ left_of (is_later || is_fine (status_in a)) reports
+unfolding left_of
+left-next true (Ok report) reports = rw (append-nil report) refl
+left-next false (Ok report) reports = rw (append-nil report) refl
+left-next true (Err words) reports = refl
+left-next false (Err words) reports = refl
+
+-- the reports of the texts that are left
+pub reports_left : Bool → (List ℕ → Answer) → List (List ℕ) → List ℕ
+reports_left is_later answer texts = left_of is_later (flat_map (λ text. report_in (answer text)) texts)
+
+pub reports_left-all : (answer : List ℕ → Answer) (texts : List (List ℕ)) → reports_text answer texts ≡ reports_left false answer texts
+unfolding reports_left left_of reports_text
+reports_left-all answer texts = refl
+
+pub reports_left-none : (is_later : Bool) (answer : List ℕ → Answer) → reports_left is_later answer [] ≡ []
+unfolding reports_left left_of
+reports_left-none true answer = refl
+reports_left-none false answer = refl
+
+-- the first text's report in its place, if it has one, and then the later ones
+pub reports_left-next : (is_later : Bool) (answer : List ℕ → Answer) (text : List ℕ) (texts : List (List ℕ)) → reports_left is_later answer (text ∷ texts) ≡ later_text is_later (answer text) ++ reports_left (is_later || is_fine (status_in (answer text))) answer texts
+unfolding reports_left
+reports_left-next is_later answer text texts = left-next is_later (answer text) (flat_map (λ t. report_in (answer t)) texts)
+
+-- the refusals of the texts that are left
+pub refusals-next : (answer : List ℕ → Answer) (text : List ℕ) (texts : List (List ℕ)) → refusals_text answer (text ∷ texts) ≡ refusal_in text (answer text) ++ refusals_text answer texts
+unfolding refusals_text
+refusals-next answer text texts = refl
+
+pub refusals-none : (answer : List ℕ → Answer) → refusals_text answer [] ≡ []
+unfolding refusals_text
+refusals-none answer = refl
+
+-- the status, from that of the texts so far and the texts that are left
+pub status_left : Status → (List ℕ → Answer) → List (List ℕ) → Status
+status_left Refused answer texts = Refused
+status_left Fine answer texts = whole_status answer texts
+
+status-next : (a : Answer) (later : Bool) → (if is_err a || later then Refused else Fine) ≡ (if is_fine (status_in a) then (if later then Refused else Fine) else Refused)
+status-next (Ok report) later = refl
+status-next (Err words) later = refl
+
+status_left-by : (s : Status) (answer : List ℕ → Answer) (texts : List (List ℕ)) → (if is_fine s then whole_status answer texts else Refused) ≡ status_left s answer texts
+unfolding status_left
+status_left-by Fine answer texts = refl
+status_left-by Refused answer texts = refl
+
+pub status_left-next : (s : Status) (answer : List ℕ → Answer) (text : List ℕ) (texts : List (List ℕ)) → status_left s answer (text ∷ texts) ≡ status_left (status_and s (status_in (answer text))) answer texts
+unfolding status_left whole_status
+status_left-next Refused answer text texts = refl
+status_left-next Fine answer text texts = status-next (answer text) (list_any (λ t. is_err (answer t)) texts) ∙ status_left-by (status_in (answer text)) answer texts
+
+pub status_left-all : (answer : List ℕ → Answer) (texts : List (List ℕ)) → status_left Fine answer texts ≡ whole_status answer texts
+unfolding status_left
+status_left-all answer texts = refl
+
+pub status_left-none : (s : Status) (answer : List ℕ → Answer) → status_left s answer [] ≡ s
+unfolding status_left whole_status
+status_left-none Refused answer = refl
+status_left-none Fine answer = refl
+
+-- One turn of answering texts in a row
+
+-- the texts from an index on begin with the text there
+pub texts-drop : {A : Type 0} (bytes_of : A → List ℕ) (xs : List A) (i : ℕ) (x : A) (text : List ℕ) → i < length xs → x ≡ get_or xs i x → text ≡ bytes_of x → map bytes_of (drop i xs) ≡ text ∷ map bytes_of (drop (i + 1) xs)
+texts-drop bytes_of xs i x text h is e =
+    rw (add-one, drop-cons xs i x h) (ap (λ y. bytes_of y ∷ map bytes_of (drop (suc i) xs)) (sym is) ∙ ap (λ t. t ∷ map bytes_of (drop (suc i) xs)) (sym e))
+
+pub out_next : (a b c : Option (List ℕ)) (answer : List ℕ → Answer) (is_later fine : Bool) (answered : Status) (text : List ℕ) (texts rest : List (List ℕ)) (all : List ℕ) → texts ≡ text ∷ rest → answered ≡ status_in (answer text) → fine ≡ is_fine answered → Leaves a b (reports_left is_later answer texts) all → Appends b c (later_text is_later (answer text)) → Leaves a c (reports_left (is_later || fine) answer rest) all
+out_next a b c answer is_later fine answered text texts rest all e s f l w =
+    rw (f, s) (step a b c (later_text is_later (answer text)) _ all (respell a b _ _ all l (ap (reports_left is_later answer) e ∙ reports_left-next is_later answer text rest)) w)
+
+pub out_stops : (a b c : Option (List ℕ)) (answer : List ℕ → Answer) (is_later : Bool) (text : List ℕ) (texts rest : List (List ℕ)) (all : List ℕ) → texts ≡ text ∷ rest → Leaves a b (reports_left is_later answer texts) all → AppendsFront b c (later_text is_later (answer text)) → AppendsFront a c all
+out_stops a b c answer is_later text texts rest all e l w =
+    stop a b c (later_text is_later (answer text)) _ all (respell a b _ _ all l (ap (reports_left is_later answer) e ∙ reports_left-next is_later answer text rest)) w
+
+pub err_next : (a b c : Option (List ℕ)) (answer : List ℕ → Answer) (text : List ℕ) (texts rest : List (List ℕ)) (all : List ℕ) → texts ≡ text ∷ rest → Leaves a b (refusals_text answer texts) all → Appends b c (refusal_in text (answer text)) → Leaves a c (refusals_text answer rest) all
+err_next a b c answer text texts rest all e l w =
+    step a b c (refusal_in text (answer text)) _ all (respell a b _ _ all l (ap (refusals_text answer) e ∙ refusals-next answer text rest)) w
+
+pub err_stops : (a b c : Option (List ℕ)) (answer : List ℕ → Answer) (text : List ℕ) (texts rest : List (List ℕ)) (all : List ℕ) → texts ≡ text ∷ rest → Leaves a b (refusals_text answer texts) all → AppendsFront b c (refusal_in text (answer text)) → AppendsFront a c all
+err_stops a b c answer text texts rest all e l w =
+    stop a b c (refusal_in text (answer text)) _ all (respell a b _ _ all l (ap (refusals_text answer) e ∙ refusals-next answer text rest)) w
+
+pub status_next : (answer : List ℕ → Answer) (s answered whole : Status) (text : List ℕ) (texts rest : List (List ℕ)) → texts ≡ text ∷ rest → answered ≡ status_in (answer text) → status_left s answer texts ≡ whole → status_left (status_and s answered) answer rest ≡ whole
+status_next answer s answered whole text texts rest e i h =
+    rw i (sym (status_left-next s answer text rest) ∙ ap (status_left s answer) (sym e) ∙ h)
+
+-- no text is left
+pub texts-end : {A : Type 0} (bytes_of : A → List ℕ) (xs : List A) (i : ℕ) → length xs ≤ i → map bytes_of (drop i xs) ≡ []
+texts-end bytes_of xs i h = ap (map bytes_of) (drop_all i xs h)
+
+-- a call that wrote nothing
+pub writes_nothing : {T E : Type 0} (a : Option (List ℕ)) (r : Result T E) → Writes a a r []
+writes_nothing a (Ok x) = Appends-nil a
+writes_nothing a (Err e) = record { front = []; rest = []; whole = refl; written = Appends-nil a }
+
+-- Texts that are answered, and one more
+
+-- the reports of these texts and of any later ones are those of these, and then of the later ones behind them
+abbrev pub GoesOn : (List ℕ → Answer) → Bool → List (List ℕ) → Type 0
+GoesOn answer is_later done = (rest : List (List ℕ)) → reports_text answer (done ++ rest) ≡ reports_text answer done ++ reports_left is_later answer rest
+
+pub goes_on-none : (answer : List ℕ → Answer) → GoesOn answer false []
+unfolding reports_text
+goes_on-none answer rest = reports_left-all answer rest
+
+pub reports_more : (answer : List ℕ → Answer) (is_later : Bool) (done : List (List ℕ)) (text : List ℕ) (rest : List (List ℕ)) → GoesOn answer is_later done
+    → reports_text answer (done ++ text ∷ rest) ≡ (reports_text answer done ++ later_text is_later (answer text)) ++ reports_left (is_later || is_fine (status_in (answer text))) answer rest
+reports_more answer is_later done text rest on =
+    on (text ∷ rest) ∙ (ap (λ (t : List ℕ). reports_text answer done ++ t) (reports_left-next is_later answer text rest)
+    ∙ sym (append_assoc (reports_text answer done) (later_text is_later (answer text)) (reports_left (is_later || is_fine (status_in (answer text))) answer rest)))
+
+pub reports_one : (answer : List ℕ → Answer) (is_later : Bool) (done : List (List ℕ)) (text : List ℕ) → GoesOn answer is_later done
+    → reports_text answer (done ++ text ∷ []) ≡ reports_text answer done ++ later_text is_later (answer text)
+reports_one answer is_later done text on =
+    reports_more answer is_later done text [] on
+    ∙ (ap (λ (t : List ℕ). (reports_text answer done ++ later_text is_later (answer text)) ++ t) (reports_left-none (is_later || is_fine (status_in (answer text))) answer) ∙ append-nil _)
+
+pub goes_on-more : (answer : List ℕ → Answer) (is_later fine : Bool) (answered : Status) (done next : List (List ℕ)) (text : List ℕ) → next ≡ done ++ text ∷ [] → answered ≡ status_in (answer text)
+    → fine ≡ is_fine answered → GoesOn answer is_later done → GoesOn answer (is_later || fine) next
+goes_on-more answer is_later fine answered done next text is status works on rest =
+    let flag : fine ≡ is_fine (status_in (answer text)) = works ∙ ap is_fine status in
+    rw (is, flag) (ap (reports_text answer) (append_assoc done (text ∷ []) rest) ∙ (reports_more answer is_later done text rest on
+    ∙ ap (λ (t : List ℕ). t ++ reports_left (is_later || is_fine (status_in (answer text))) answer rest) (sym (reports_one answer is_later done text on))))
+
+pub out_more : (a b c : Option (List ℕ)) (answer : List ℕ → Answer) (is_later : Bool) (done next : List (List ℕ)) (text : List ℕ) → next ≡ done ++ text ∷ [] → GoesOn answer is_later done
+    → Appends a b (reports_text answer done) → Appends b c (later_text is_later (answer text)) → Appends a c (reports_text answer next)
+out_more a b c answer is_later done next text is on before here =
+    subst (Appends a c) (sym (ap (reports_text answer) is ∙ reports_one answer is_later done text on)) (Appends-trans a b c _ _ before here)
+
+refusals_one : (answer : List ℕ → Answer) (done : List (List ℕ)) (text : List ℕ) → refusals_text answer (done ++ text ∷ []) ≡ refusals_text answer done ++ refusal_in text (answer text)
+unfolding refusals_text
+refusals_one answer done text = flat_map-append (λ t. refusal_in t (answer t)) done (text ∷ []) ∙ ap (λ (t : List ℕ). flat_map (λ t. refusal_in t (answer t)) done ++ t) (append-nil (refusal_in text (answer text)))
+
+pub err_more : (a b c : Option (List ℕ)) (answer : List ℕ → Answer) (done next : List (List ℕ)) (text : List ℕ) → next ≡ done ++ text ∷ []
+    → Appends a b (refusals_text answer done) → Appends b c (refusal_in text (answer text)) → Appends a c (refusals_text answer next)
+err_more a b c answer done next text is before here =
+    subst (Appends a c) (sym (ap (refusals_text answer) is ∙ refusals_one answer done text)) (Appends-trans a b c _ _ before here)
+
+pub out_none : (a : Option (List ℕ)) (answer : List ℕ → Answer) → Appends a a (reports_text answer [])
+unfolding reports_text
+out_none a answer = Appends-nil a
+
+pub err_none : (a : Option (List ℕ)) (answer : List ℕ → Answer) → Appends a a (refusals_text answer [])
+unfolding refusals_text
+err_none a answer = Appends-nil a
+
+-- the texts up to an index, and the one there
+pub texts-take : {A : Type 0} (bytes_of : A → List ℕ) (xs : List A) (i : ℕ) (x : A) (text : List ℕ) → i < length xs → x ≡ get_or xs i x → text ≡ bytes_of x
+    → map bytes_of (take (i + 1) xs) ≡ map bytes_of (take i xs) ++ text ∷ []
+texts-take bytes_of xs i x text h is e =
+    rw (take_more xs i x h) (map-append bytes_of (take i xs) (get_or xs i x ∷ []) ∙ ap (λ y. map bytes_of (take i xs) ++ bytes_of y ∷ []) (sym is) ∙ ap (λ t. map bytes_of (take i xs) ++ t ∷ []) (sym e))
+
+-- the answers end before the text at an index
+pub answered_before : {A : Type 0} (bytes_of : A → List ℕ) (xs : List A) (i : ℕ) (answer : List ℕ → Answer) (a b c d e f : Option (List ℕ)) → i < length xs
+    → Appends a b (reports_text answer (map bytes_of (take i xs))) → Appends d e (refusals_text answer (map bytes_of (take i xs))) → c ≡ b → f ≡ e
+    → IsAnsweredBefore answer (map bytes_of xs) a c d f
+answered_before bytes_of xs i answer a b c d e f h out err same_out same_err =
+    let texts = sym (take-map bytes_of i xs) in
+    record {
+      count = i;
+      before = omega (arith, length-map xs bytes_of);
+      out = rw same_out (subst (λ (done : List (List ℕ)). Appends a b (reports_text answer done)) texts out);
+      err = rw same_err (subst (λ (done : List (List ℕ)). Appends d e (refusals_text answer done)) texts err);
+    }
+
+-- nothing is answered of one text or more
+pub unanswered : (answer : List ℕ → Answer) (texts : List (List ℕ)) (a c d f : Option (List ℕ)) → 0 < length texts → c ≡ a → f ≡ d → IsAnsweredBefore answer texts a c d f
+unanswered answer texts a c d f h same_out same_err =
+    record { count = 0; before = h; out = rw same_out (out_none a answer); err = rw same_err (err_none d answer) }

@@ -1,0 +1,134 @@
+-- The definitions, tried on worked local seconds and on a whole request.
+use Rattle.jiff.specs.Types.{UTC}
+use Rattle.std.specs.FinMap.{empty}
+use Rattle.cal_zone.specs.Zone.{utc}
+use Rattle.std.proofs.Common.{nat_lt, ◌≡◌, ℕ, ◌<◌, [], ◌∷◌, ◌++◌, None, Some, Ok, codes, pos, ◌∙◌, ap, sym, inl, true, false, refl, rules, arith}
+use Rattle.std.specs.Fmt.{digits}
+use Rattle.jiff.specs.Types.{Date}
+use Rattle.jiff.specs.Words.{epoch_day, weekday_of}
+use Rattle.jiff_core.proofs.CalendarLemmas.{days_from_civil-day_count}
+use Rattle.jiff_core.proofs.MarchLemmas.{day_count-early}
+use Rattle.jiff.proofs.SpanFacts.{signed_arith}
+use Rattle.jiff_core.specs.Calendar.{weekday_number}
+use Rattle.cal_zone.specs.Days.{date_of, date_of-epoch_day}
+use Rattle.cal_zone.specs.Local.{civil_date, seconds_in_all, seconds_in_all-is}
+use Rattle.cal_span.specs.Scale.{words_for, name_of}
+use Rattle.cal_span.specs.SpanText.{units_text, row_text}
+use Rattle.cal_span.specs.SpanValue.{words_in, pairs_in, is_number, unit_named, number_worth, worth_of, span_of}
+use Rattle.cal_spec.specs.Fields.{Fields}
+use Rattle.cal_spec.specs.Match.{matches, date_in, time_in}
+use Rattle.cal_spec.specs.Members.{sets_of, part_has}
+use Rattle.cal_report.specs.Answer.{reports_text, refusals_text, whole_status}
+use Rattle.cal_elapse.specs.Elapses.{IsElapse}
+use Rattle.cal_report.specs.Report.{base_in, report, texts_report}
+use Rattle.cal_request.specs.Request.{Asked}
+use Rattle.cal_elapse.specs.Timed.{timed}
+use Rattle.cal_report.specs.TimespanReport.{timespan_answer, timespan_report}
+use Rattle.cal_request.specs.declared.request.Status.TheVariants.{Refused}
+use Rattle.cal_request.specs.declared.request.Verb.TheVariants.{Timespan}
+use Rattle.cal_zone.proofs.PlaceLemmas.{place_of-UTC}
+
+inside : (t : ℕ) → t < 7_258_118_400 → nat_lt t seconds_in_all ≡ true
+inside t h =
+    let count = seconds_in_all-is in
+    let below : t < seconds_in_all = omega arith in
+    grind arith
+
+-- `*-*-* 12:30:00`
+noon_thirty : Fields
+noon_thirty = record {
+  weekdays = true ∷ true ∷ true ∷ true ∷ true ∷ true ∷ true ∷ [];
+  year = None;
+  month = None;
+  day = None;
+  hour = Some (record { start = 12; end = None; step = None } ∷ []);
+  minute = Some (record { start = 30; end = None; step = None } ∷ []);
+  second = Some (record { start = 0; end = None; step = None } ∷ []);
+  from_end = false;
+  zone = None;
+}
+
+-- Mon 2024-01-01
+new_year : Date
+new_year = record { year = pos 2024; month = 1; day = 1; year_in = search rules; month_in = search rules; day_in = search rules }
+
+new_year-number : epoch_day new_year ≡ pos 19_723
+unfolding new_year
+new_year-number =
+    omega (arith, signed_arith, days_from_civil-day_count (pos 2024) 1 1, day_count-early (pos 2024) 12023 1 1 refl (omega arith) (omega arith) (omega arith))
+
+new_year-weekday : weekday_of new_year ≡ 0
+unfolding weekday_number
+new_year-weekday = rw new_year-number refl
+
+new_year-is : civil_date 19_723 ≡ new_year
+unfolding civil_date
+new_year-is = ap date_of (sym new_year-number) ∙ date_of-epoch_day new_year
+
+noon_thirty-on : date_in (sets_of noon_thirty) new_year ≡ true
+unfolding noon_thirty date_in sets_of
+noon_thirty-on = rw new_year-weekday (unfold new_year in refl)
+
+noon_thirty-at : time_in (sets_of noon_thirty) 45_000 ≡ true
+unfolding noon_thirty time_in sets_of part_has
+noon_thirty-at = refl
+
+-- Mon 2024-01-01 12:30:00
+noon_thirty-matches : matches (sets_of noon_thirty) 1_704_112_200 ≡ true
+unfolding matches
+noon_thirty-matches = rw (inside 1_704_112_200 (omega arith), new_year-is, noon_thirty-on, noon_thirty-at) refl
+
+-- Tue 2024-01-02
+day_after : Date
+day_after = record { year = pos 2024; month = 1; day = 2; year_in = search rules; month_in = search rules; day_in = search rules }
+
+day_after-number : epoch_day day_after ≡ pos 19_724
+unfolding day_after
+day_after-number =
+    omega (arith, signed_arith, days_from_civil-day_count (pos 2024) 1 2, day_count-early (pos 2024) 12023 1 2 refl (omega arith) (omega arith) (omega arith))
+
+day_after-weekday : weekday_of day_after ≡ 1
+unfolding weekday_number
+day_after-weekday = rw day_after-number refl
+
+day_after-is : civil_date 19_724 ≡ day_after
+unfolding civil_date
+day_after-is = ap date_of (sym day_after-number) ∙ date_of-epoch_day day_after
+
+noon_thirty-on_again : date_in (sets_of noon_thirty) day_after ≡ true
+unfolding noon_thirty date_in sets_of
+noon_thirty-on_again = rw day_after-weekday (unfold day_after in refl)
+
+-- Tue 2024-01-02 12:30:00
+noon_thirty-matches_again : matches (sets_of noon_thirty) 1_704_198_600 ≡ true
+unfolding matches
+noon_thirty-matches_again = rw (inside 1_704_198_600 (omega arith), day_after-is, noon_thirty-on_again, noon_thirty-at) refl
+
+-- so both are elapses in UTC
+elapse_at : (local : ℕ) → local < 7_258_118_400 → matches (sets_of noon_thirty) local ≡ true → IsElapse (timed noon_thirty UTC ∷ []) (pos local)
+unfolding timed
+elapse_at local h is =
+    inl (record { local = local; within = omega (arith, seconds_in_all-is); is_match = is; placed = place_of-UTC (pos local) })
+
+noon_thirty-elapses : IsElapse (timed noon_thirty UTC ∷ []) (pos 1_704_112_200)
+noon_thirty-elapses = elapse_at 1_704_112_200 (omega arith) noon_thirty-matches
+
+noon_thirty-elapses_again : IsElapse (timed noon_thirty UTC ∷ []) (pos 1_704_198_600)
+noon_thirty-elapses_again = elapse_at 1_704_198_600 (omega arith) noon_thirty-matches_again
+
+-- A report with a refusal
+
+two_spans : Asked
+two_spans = record { verb = Timespan; texts = codes "1h" ∷ codes "5x" ∷ []; iterations = 1; base = None; now = pos 0; local = utc; zones = empty }
+
+two_spans-out : (report two_spans (Ok [])).out ≡ codes "Original: 1h\n" ++ (codes "      " ++ (206 ∷ 188 ∷ codes "s: 3600000000\n   Human: 1h\n"))
+unfolding two_spans report texts_report base_in reports_text timespan_answer timespan_report units_text row_text span_of pairs_in words_in worth_of is_number unit_named number_worth words_for name_of digits
+two_spans-out = refl
+
+two_spans-err : (report two_spans (Ok [])).err ≡ codes "5x: unknown unit\n"
+unfolding two_spans report texts_report base_in refusals_text timespan_answer timespan_report units_text row_text span_of pairs_in words_in worth_of is_number unit_named number_worth words_for name_of digits
+two_spans-err = refl
+
+two_spans-status : (report two_spans (Ok [])).status ≡ Refused
+unfolding two_spans report texts_report base_in whole_status timespan_answer timespan_report units_text row_text span_of pairs_in words_in worth_of is_number unit_named number_worth words_for name_of digits
+two_spans-status = refl

@@ -1,0 +1,65 @@
+use Rattle.std.proofs.Common.{sym, ◌∙◌, ap, arith}
+use Rattle.std.specs.String.{string_bytes}
+use Rattle.cal_bytes.proofs.Pieces.{start, done, respell}
+use Rattle.cal_report.proofs.AnswerLemmas.{answered_before, err_more, err_none, goes_on-more, goes_on-none, out_more, out_none, reports_left, reports_left-all, reports_left-none, refusals-none, status_left, status_left-all, status_left-none, texts-drop, texts-end, texts-take, out_next, out_stops, err_next, err_stops, status_next}
+use Rattle.cal_report.specs.Answer.{refusals_text}
+use Rattle.cal_report.proofs.report.answer_all.Goals as goal
+
+pub loop-text-init : goal.loop-text-init
+loop-text-init g c =
+    record {
+      out_works = c.requires.out;
+      err_works = c.requires.err;
+      out = respell _ _ _ _ _ (start _ _) (reports_left-all _ _);
+      err = start _ _;
+      status = status_left-all _ _;
+      goes_on = goes_on-none _;
+      out_done = out_none _ _;
+      err_done = err_none _ _;
+    }
+
+pub loop-text-preserved : goal.loop-text-preserved
+loop-text-preserved g c =
+    let done = texts-take string_bytes c.args.context.request.now.texts.items c.loop-text.text-index c.text-item.result c.as_str.result.now (omega arith) (rw c.deref-text-items.ensures.value at c.text-item.is) c.as_str.ensures.value in
+    let next = texts-drop string_bytes c.args.context.request.now.texts.items c.loop-text.text-index c.text-item.result c.as_str.result.now (omega arith) (rw c.deref-text-items.ensures.value at c.text-item.is) c.as_str.ensures.value in
+    record {
+      out_works = c.in-Ok.ensures.out_failed;
+      err_works = c.in-Ok.ensures.err_failed;
+      out = out_next _ _ _ _ _ _ c.in-Ok.answered _ _ _ _ next c.in-Ok.ensures.status c.is_fine-is_later.ensures c.loop-text.invariant.out c.in-Ok.ensures.out;
+      err = err_next _ _ _ _ _ _ _ _ next c.loop-text.invariant.err c.in-Ok.ensures.err;
+      status = rw c.and-status.ensures (status_next _ _ _ _ _ _ _ next c.in-Ok.ensures.status c.loop-text.invariant.status);
+      goes_on = goes_on-more _ _ _ c.in-Ok.answered _ _ _ done c.in-Ok.ensures.status c.is_fine-is_later.ensures c.loop-text.invariant.goes_on;
+      out_done = out_more _ _ _ _ _ _ _ _ done c.loop-text.invariant.goes_on c.loop-text.invariant.out_done c.in-Ok.ensures.out;
+      err_done = err_more _ _ _ _ _ _ _ done c.loop-text.invariant.err_done c.in-Ok.ensures.err;
+    }
+
+pub returns-in-Err-clause-out : goal.returns-in-Err-clause-out
+returns-in-Err-clause-out g c =
+    let next = texts-drop string_bytes c.args.context.request.now.texts.items c.loop-text.text-index c.text-item.result c.as_str.result.now (omega arith) (rw c.deref-text-items.ensures.value at c.text-item.is) c.as_str.ensures.value in
+    out_stops _ _ _ _ _ _ _ _ _ next c.loop-text.invariant.out c.in-Err.ensures.out
+
+pub returns-in-Err-clause-err : goal.returns-in-Err-clause-err
+returns-in-Err-clause-err g c =
+    let next = texts-drop string_bytes c.args.context.request.now.texts.items c.loop-text.text-index c.text-item.result c.as_str.result.now (omega arith) (rw c.deref-text-items.ensures.value at c.text-item.is) c.as_str.ensures.value in
+    err_stops _ _ _ _ _ _ _ _ next c.loop-text.invariant.err c.in-Err.ensures.err
+
+pub returns-in-Err-clause-cut : goal.returns-in-Err-clause-cut
+returns-in-Err-clause-cut g c = λ refused.
+    let same = c.in-Err.ensures.unwritten refused in
+    answered_before string_bytes c.args.context.request.now.texts.items c.loop-text.text-index _ _ _ _ _ _ _ (omega arith)
+    c.loop-text.invariant.out_done c.loop-text.invariant.err_done same.0 same.1
+
+pub returns-clause-status : goal.returns-clause-status
+returns-clause-status g c =
+    let end = texts-end string_bytes c.args.context.request.now.texts.items c.loop-text.text-index (omega arith) in
+    sym (status_left-none _ _) ∙ ap (status_left _ _) (sym end) ∙ c.loop-text.invariant.status
+
+pub returns-clause-out : goal.returns-clause-out
+returns-clause-out g c =
+    let end = texts-end string_bytes c.args.context.request.now.texts.items c.loop-text.text-index (omega arith) in
+    done _ _ _ (respell _ _ _ _ _ c.loop-text.invariant.out (ap (reports_left _ _) end ∙ reports_left-none _ _))
+
+pub returns-clause-err : goal.returns-clause-err
+returns-clause-err g c =
+    let end = texts-end string_bytes c.args.context.request.now.texts.items c.loop-text.text-index (omega arith) in
+    done _ _ _ (respell _ _ _ _ _ c.loop-text.invariant.err (ap (refusals_text _) end ∙ refusals-none _))

@@ -1,0 +1,28 @@
+-- Both writers work, what is left to write is what is answered to the texts from the index on, and so is
+-- what is left to know of the status. The answers to the texts before the index are written whole.
+use Rattle.std.proofs.Common.{◌≡◌, false, drop, map, take}
+use Rattle.std.specs.String.{string_bytes}
+use Rattle.std.specs.Io.KnownBytes.{Appends}
+use Rattle.cal_bytes.specs.Bytes.{Leaves}
+use Rattle.cal_report.specs.Answer.{reports_text, refusals_text, whole_status}
+use Rattle.cal_report.specs.Report.{answer_to}
+use Rattle.cal_report.specs.Context.{asked_by}
+use Rattle.cal_report.proofs.AnswerLemmas.{GoesOn, reports_left, status_left}
+use Rattle.cal_report.proofs.report.answer_all.Given as goal
+
+abbrev pub invariant-loop-text : goal.invariant-loop-text
+invariant-loop-text g l =
+    let answer = answer_to (asked_by l.context) l.context.base.secs in
+    let all = map string_bytes l.context.request.now.texts.items in
+    let done = map string_bytes (take l.text-index l.context.request.now.texts.items) in
+    let rest = map string_bytes (drop l.text-index l.context.request.now.texts.items) in
+    record {
+      out_works : g.O.Sink.is_failed l.out ≡ false;
+      err_works : g.E.Sink.is_failed l.err ≡ false;
+      out : Leaves (g.O.Sink.written l.fn.out) (g.O.Sink.written l.out) (reports_left l.is_later answer rest) (reports_text answer all);
+      err : Leaves (g.E.Sink.written l.fn.err) (g.E.Sink.written l.err) (refusals_text answer rest) (refusals_text answer all);
+      status : status_left l.status answer rest ≡ whole_status answer all;
+      goes_on : GoesOn answer l.is_later done;
+      out_done : Appends (g.O.Sink.written l.fn.out) (g.O.Sink.written l.out) (reports_text answer done);
+      err_done : Appends (g.E.Sink.written l.fn.err) (g.E.Sink.written l.err) (refusals_text answer done);
+    }

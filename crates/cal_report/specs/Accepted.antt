@@ -1,0 +1,42 @@
+-- What is reported of a text that a verb accepted, and what is said of one that it refused.
+use Rattle.std.specs.Prelude.{ℕ, List, [], codes}
+use Rattle.cal_span.specs.SpanFault.{words_of as span_words}
+use Rattle.cal_elapse.specs.Rest.{rest_of}
+use Rattle.cal_read.specs.StampFault.{words_of as stamp_words}
+use Rattle.cal_spec.specs.SpecFault.{words_of as spec_words}
+use Rattle.cal_report.specs.CalendarReport.{report_of_elapses}
+use Rattle.cal_report.specs.ElapseLines.{AreInstants}
+use Rattle.cal_request.specs.Request.{Asked}
+use Rattle.cal_report.specs.TimespanReport.{timespan_report}
+use Rattle.cal_report.specs.TimestampReport.{timestamp_report}
+use Rattle.cal_report.specs.declared.accepted.Accepted.{Accepted}
+use Rattle.cal_report.specs.declared.accepted.Accepted.TheVariants.{Calendar, Timestamp, Timespan}
+use Rattle.cal_report.specs.declared.accepted.Refusal.{Refusal}
+use Rattle.cal_request.specs.declared.request.Verb.{Verb}
+use Rattle.cal_report.specs.declared.accepted.Refusal.TheVariants.{Spec, NoSuchZone, Stamp, Span, NoMemory}
+
+-- the verb by which it was read
+abbrev pub verb_of : Accepted → Verb
+verb_of (Calendar expr elapses) = Verb.Calendar
+verb_of (Timestamp moment) = Verb.Timestamp
+verb_of (Timespan span) = Verb.Timespan
+
+-- its elapses are instants
+abbrev pub IsTimely : Accepted → Type 0
+IsTimely (Calendar expr elapses) = AreInstants (rest_of elapses)
+IsTimely (Timestamp moment) = Unit {0}
+IsTimely (Timespan span) = Unit {0}
+
+-- the report of what was read from the text
+abbrev pub report_text : Asked → List ℕ → Accepted → List ℕ
+report_text asked text (Calendar expr elapses) = report_of_elapses asked text expr (rest_of elapses)
+report_text asked text (Timestamp moment) = timestamp_report asked text moment.micros
+report_text asked text (Timespan span) = timespan_report text span.micros
+
+-- the words of a refusal
+abbrev pub refusal_words : Refusal → List ℕ
+refusal_words (Spec fault) = spec_words fault
+refusal_words NoSuchZone = codes "no such zone"
+refusal_words (Stamp fault) = stamp_words fault
+refusal_words (Span fault) = span_words fault
+refusal_words NoMemory = []

@@ -1,0 +1,11 @@
+pub mod Accepted
+pub mod Answer
+pub mod CalendarReport
+pub mod Context
+pub mod ElapseLines
+pub mod Report
+pub mod ReportLines
+pub mod TimerPlan
+pub mod TimerReport
+pub mod TimespanReport
+pub mod TimestampReport

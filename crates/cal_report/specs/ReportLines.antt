@@ -1,0 +1,30 @@
+-- Lines of the reports (systemd-analyze(1), calendar and timestamp): the text as it was handed in, an instant in UTC, and
+-- how far it lies from the present.
+use Rattle.std.specs.Prelude.{ℕ, ℤ, pos, ◌-ℤ◌, ◌*ℤ◌, int_lt, unsigned_abs, List, [], ◌∷◌, if◌then◌else◌, codes}
+use Rattle.cal_bytes.specs.Bytes.{joined}
+use Rattle.cal_zone.specs.InstantText.{instant_text}
+use Rattle.cal_span.specs.SpanText.{span_text}
+use Rattle.cal_zone.specs.Zone.{is_utc, utc}
+use Rattle.cal_zone.specs.declared.zone.Zone.{Zone}
+
+-- the line of a text as it was handed in, and the label of the next
+unfoldable pub original_line : List ℕ → List ℕ
+original_line text = joined (codes "  Original form: " ∷ text ∷ codes "\nNormalized form: " ∷ [])
+
+-- the microseconds of an instant
+abbrev pub micros_of : ℤ → ℤ
+micros_of secs = secs *ℤ pos 1_000_000
+
+-- the line of the instant in UTC, which stands where the local zone isn't UTC itself
+unfoldable pub utc_line : Zone → ℤ → List ℕ
+utc_line local secs =
+    if is_utc local then []
+    else joined (codes "       (in UTC): " ∷ instant_text utc secs ∷ codes "\n" ∷ [])
+
+-- `left` where the moment isn't before the present, `ago` where it is
+abbrev pub direction_text : ℤ → ℤ → List ℕ
+direction_text now micros = if int_lt micros now then codes " ago" else codes " left"
+
+-- the span between the present and a moment, both in microseconds
+unfoldable pub distance_text : ℤ → ℤ → List ℕ
+distance_text now micros = joined (span_text (unsigned_abs (micros -ℤ now)) ∷ direction_text now micros ∷ [])

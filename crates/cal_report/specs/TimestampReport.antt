@@ -1,0 +1,47 @@
+-- The report of one timestamp (systemd-analyze(1), timestamp).
+use Rattle.std.specs.Prelude.{ℕ, ◌/◌, ◌%◌, ◌==◌, ℤ, pos, unsigned_abs, List, [], ◌∷◌, Result, Ok, Err, if◌then◌else◌, codes, decimal}
+use Rattle.cal_bytes.specs.Bytes.{joined}
+use Rattle.cal_zone.specs.InstantText.{instant_text, zeros}
+use Rattle.cal_zone.specs.Zone.{zone_of}
+use Rattle.cal_zone.specs.ZoneTable.{zone_named}
+use Rattle.cal_zone.specs.declared.zone.Zone.{Zone}
+use Rattle.cal_read.specs.Stamp.{moment_in}
+use Rattle.cal_read.specs.StampFault.{words_of}
+use Rattle.cal_read.specs.StampViews.{setting}
+use Rattle.cal_read.specs.declared.stamp_fault.StampFault.{StampFault}
+use Rattle.cal_report.specs.Answer.{Answer}
+use Rattle.cal_report.specs.ReportLines.{distance_text, micros_of, original_line, utc_line}
+use Rattle.cal_request.specs.Request.{Asked}
+
+-- the second that a moment lies in
+abbrev pub second_of : ℤ → ℤ
+second_of micros = pos (unsigned_abs micros / 1_000_000)
+
+-- `@` and the seconds, and behind a point six digits of microseconds where they aren't 0
+unfoldable pub unix_text : ℕ → List ℕ
+unix_text micros =
+    let fraction = micros % 1_000_000 in
+    if fraction == 0 then joined (codes "@" ∷ decimal (micros / 1_000_000) ∷ [])
+    else joined (codes "@" ∷ decimal (micros / 1_000_000) ∷ codes "." ∷ zeros 6 fraction ∷ decimal fraction ∷ [])
+
+-- what is said of a moment, behind the label of its first line: its instant in the local zone and in UTC, its Unix time,
+-- and how far it lies from the present
+unfoldable pub moment_lines : Zone → ℤ → ℤ → List ℕ
+moment_lines local now micros =
+    joined (instant_text local (second_of micros) ∷ codes "\n" ∷ utc_line local (second_of micros) ∷ codes "   UNIX seconds: " ∷ unix_text (unsigned_abs micros) ∷ codes "\n       From now: " ∷ distance_text (micros_of now) micros ∷ codes "\n" ∷ [])
+
+-- the text as it was handed in, and its moment
+unfoldable pub timestamp_report : Asked → List ℕ → ℤ → List ℕ
+timestamp_report asked text micros = joined (original_line text ∷ moment_lines asked.local asked.now micros ∷ [])
+
+-- the microseconds of the moment that a text means, or its fault
+unfoldable pub stamp_in : Asked → List ℕ → Result ℤ StampFault
+stamp_in asked text = moment_in asked.now (setting (zone_of asked.local) (zone_named asked.zones)) text
+
+-- the report, or the words of the refusal
+abbrev pub stamp_answer : Asked → List ℕ → Result ℤ StampFault → Answer
+stamp_answer asked text (Ok micros) = Ok (timestamp_report asked text micros)
+stamp_answer asked text (Err fault) = Err (words_of fault)
+
+unfoldable pub timestamp_answer : Asked → List ℕ → Answer
+timestamp_answer asked text = stamp_answer asked text (stamp_in asked text)

@@ -1,0 +1,202 @@
+//! What each verb reads from a text, and why it refuses one.
+
+ghost use Rattle.std.specs.Prelude.{◌≡◌, [], ◌∷◌, ℤ, Ok, Err, IfOk, IfErr, IsErrOf, false, is_err, option_map};
+ghost use Rattle.cal_bytes.specs.Bytes.{Writes, joined};
+ghost use Rattle.cal_zone.specs.Zone.{zone_of};
+ghost use Rattle.cal_read.specs.StampViews.{told};
+ghost use Rattle.cal_report.specs.Accepted.{IsTimely, report_text, refusal_words, verb_of};
+ghost use Rattle.cal_report.specs.Answer.{lead_text};
+ghost use Rattle.cal_report.specs.CalendarReport.{calendar_answer, zone_for};
+ghost use Rattle.cal_report.specs.Context.{asked_by};
+ghost use Rattle.cal_report.specs.Report.{answer_to};
+ghost use Rattle.cal_report.specs.TimestampReport.{stamp_in};
+ghost use Rattle.cal_report.specs.declared.accepted.Refusal.TheVariants.{NoMemory};
+ghost use Rattle.cal_request.specs.Request.{IsCount, is_timer, seeks_elapses};
+
+use crate::calendar_report::write_calendar;
+use crate::context::Context;
+use crate::timespan_report::write_timespan;
+use crate::timestamp_report::write_timestamp;
+use cal_bytes::{Sink, WriteFault, put_all};
+use cal_elapse::Elapses;
+use cal_read::{StampFault, read_stamp};
+use cal_request::Verb;
+use cal_span::{Span, SpanFault, read_span};
+use cal_spec::{Expr, SpecFault, read_expr};
+use cal_zone::{Moment, Zone};
+use std::alloc::{AllocError, Global};
+
+/// What was read from a text: one variant for each verb.
+#[derive(Drop)]
+pub enum Accepted<'a> {
+    /// A calendar expression, and its elapses.
+    Calendar(Expr, Elapses<'a>),
+    /// A timestamp, by its moment.
+    Timestamp(Moment),
+    /// A time span.
+    Timespan(Span),
+}
+
+/// Why a text is refused.
+#[derive(Clone, Copy, PartialEq, Eq, Debug)]
+pub enum Refusal {
+    /// It is no calendar expression.
+    Spec(SpecFault),
+    /// It is a calendar expression in a zone that isn't there.
+    NoSuchZone,
+    /// It is no timestamp.
+    Stamp(StampFault),
+    /// It is no time span.
+    Span(SpanFault),
+    /// Memory was refused.
+    NoMemory,
+}
+
+impl Refusal {
+    /// What a user is told; nothing where memory was refused.
+    pub fn words(&self) -> &str
+        ensures { result.now ≡ refusal_words self.now }
+    {
+        match self {
+            Refusal::Spec(fault) => fault.words(),
+            Refusal::NoSuchZone => "no such zone",
+            Refusal::Stamp(fault) => fault.words(),
+            Refusal::Span(fault) => fault.words(),
+            Refusal::NoMemory => "",
+        }
+    }
+}
+
+/// Reads a text as the request's verb does. All memory that the text needs is taken here; timestamps and time spans
+/// take none.
+#[tactic(auto, unfolding(crate::specs::TimespanReport::timespan_answer, crate::specs::TimestampReport::timestamp_answer))]
+pub fn read_text<'a>(
+    alloc: Global,
+    context: Context<'a>,
+    text: &str,
+) -> Result<Accepted<'a>, Refusal>
+    requires texts { is_timer context.request.now.verb ≡ false }
+    ensures accepted { IfOk result (λ accepted. answer_to (asked_by context.entry) context.entry.base.secs text.now
+        ≡ Ok (report_text (asked_by context.entry) text.now accepted)) }
+    ensures refused { IfErr result (λ refusal. (refusal ≡ NoMemory → ⊥)
+        → answer_to (asked_by context.entry) context.entry.base.secs text.now ≡ Err (refusal_words refusal)) }
+    ensures verb { IfOk result (λ accepted. verb_of accepted ≡ context.entry.request.now.verb) }
+    ensures timely { IfOk result IsTimely }
+    ensures memory { seeks_elapses context.entry.request.now.verb ≡ false → IsErrOf result NoMemory → ⊥ }
+{
+    match context.request.verb {
+        Verb::Calendar => read_calendar(alloc, context, text),
+        Verb::Timer => unreachable!(),
+        Verb::Timestamp => match read_moment(context, text) {
+            Ok(moment) => Ok(Accepted::Timestamp(moment)),
+            Err(fault) => Err(Refusal::Stamp(fault)),
+        },
+        Verb::Timespan => match read_span(text) {
+            Ok(span) => Ok(Accepted::Timespan(span)),
+            Err(fault) => Err(Refusal::Span(fault)),
+        },
+    }
+}
+
+/// The moment that a text means at the present, in the local zone.
+#[tactic(auto, unfolding(crate::specs::TimestampReport::stamp_in))]
+fn read_moment(context: Context<'_>, text: &str) -> Result<Moment, StampFault>
+    ensures { told result ≡ stamp_in (asked_by context.entry) text.now }
+{
+    read_stamp(text, context.now, context.local, context.table)
+}
+
+/// Reads a calendar expression whose zone, if it names one, is there.
+#[tactic(auto, using(crate::proofs::TimelyLemmas::elapses_are_instants), unfolding(crate::specs::CalendarReport::calendar_answer, crate::specs::CalendarReport::calendar_report))]
+fn read_calendar<'a>(
+    alloc: Global,
+    context: Context<'a>,
+    text: &str,
+) -> Result<Accepted<'a>, Refusal>
+    ensures accepted { IfOk result (λ accepted. calendar_answer (asked_by context.entry) context.entry.base.secs text.now
+        ≡ Ok (report_text (asked_by context.entry) text.now accepted)) }
+    ensures refused { IfErr result (λ refusal. (refusal ≡ NoMemory → ⊥)
+        → calendar_answer (asked_by context.entry) context.entry.base.secs text.now ≡ Err (refusal_words refusal)) }
+    ensures verb { IfOk result (λ accepted. verb_of accepted ≡ Verb.Calendar) }
+    ensures timely { IfOk result IsTimely }
+{
+    let expr = match read_expr(alloc, text) {
+        Ok(expr) => expr,
+        Err(SpecFault::NoMemory) => return Err(Refusal::NoMemory),
+        Err(fault) => return Err(Refusal::Spec(fault)),
+    };
+    let Some(zone) = zone_for(context, &expr) else {
+        return Err(Refusal::NoSuchZone);
+    };
+    match Elapses::new(alloc, &expr, zone, context.base) {
+        Ok(elapses) => Ok(Accepted::Calendar(expr, elapses)),
+        Err(AllocError) => Err(Refusal::NoMemory),
+    }
+}
+
+/// The zone of an expression: the one that it names, which may not be there, or else the local one.
+#[tactic(auto, unfolding(crate::specs::CalendarReport::zone_for))]
+pub fn zone_for<'a>(context: Context<'a>, expr: &Expr) -> Option<Zone<'a>>
+    ensures { option_map zone_of result ≡ zone_for (asked_by context.entry) expr.now.zone }
+{
+    match expr.zone_name() {
+        Some(name) => context.table.find(name),
+        None => Some(context.local),
+    }
+}
+
+/// Writes the report of what was read from the text, in its place among the others.
+#[tactic(auto, using(cal_bytes::proofs::Pieces::first_fails, cal_bytes::proofs::Pieces::second_ends))]
+pub fn put_report<W: Sink>(
+    out: &mut W,
+    is_later: bool,
+    context: Context<'_>,
+    text: &str,
+    accepted: Accepted<'_>,
+) -> Result<(), WriteFault>
+    requires iterations { IsCount context.request.now.iterations }
+    requires timely { IsTimely accepted }
+    requires out { W.is_failed out.old ≡ false }
+    ensures failed { W.is_failed out.new ≡ is_err result }
+    ensures bytes { Writes (W.written out.old) (W.written out.new) result
+        (joined (lead_text is_later ∷ report_text (asked_by context.entry) text.now accepted.entry ∷ [])) }
+{
+    put_lead(out, is_later)?;
+    write_report(out, context, text, accepted)
+}
+
+/// Writes the report of what was read from the text.
+pub fn write_report<W: Sink>(
+    out: &mut W,
+    context: Context<'_>,
+    text: &str,
+    accepted: Accepted<'_>,
+) -> Result<(), WriteFault>
+    requires iterations { IsCount context.request.now.iterations }
+    requires timely { IsTimely accepted }
+    requires out { W.is_failed out.old ≡ false }
+    ensures failed { W.is_failed out.new ≡ is_err result }
+    ensures bytes { Writes (W.written out.old) (W.written out.new) result
+        (report_text (asked_by context.entry) text.now accepted.entry) }
+{
+    match accepted {
+        Accepted::Calendar(expr, mut elapses) => {
+            write_calendar(out, context, text, &expr, &mut elapses)
+        }
+        Accepted::Timestamp(moment) => write_timestamp(out, context, text, moment),
+        Accepted::Timespan(span) => write_timespan(out, text, span),
+    }
+}
+
+/// Writes the empty line that parts a report from the one before it.
+fn put_lead<W: Sink>(out: &mut W, is_later: bool) -> Result<(), WriteFault>
+    requires { W.is_failed out.old ≡ false }
+    ensures failed { W.is_failed out.new ≡ is_err result }
+    ensures bytes { Writes (W.written out.old) (W.written out.new) result (lead_text is_later) }
+{
+    if is_later {
+        put_all(out, b"\n")
+    } else {
+        put_all(out, b"")
+    }
+}

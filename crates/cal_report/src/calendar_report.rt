@@ -1,0 +1,67 @@
+//! The report of one calendar expression (systemd-analyze(1), calendar): its text, its normal form, and
+//! its next elapses with the span until each.
+
+ghost use Rattle.std.specs.Prelude.{◌≡◌, [], ◌∷◌, false, is_err};
+ghost use Rattle.cal_bytes.specs.Bytes.{Writes};
+ghost use Rattle.cal_report.specs.CalendarReport.{report_of_elapses, heading_text, normal_line};
+ghost use Rattle.cal_report.specs.Context.{asked_by};
+ghost use Rattle.cal_report.specs.ElapseLines.{AreInstants};
+ghost use Rattle.cal_request.specs.Request.{IsCount};
+
+use crate::context::Context;
+use crate::elapse_lines::put_elapses;
+use crate::report_lines::put_original;
+use cal_bytes::{Sink, WriteFault, put_all};
+use cal_elapse::Rising;
+use cal_spec::{Expr, write_expr};
+
+/// Writes the report of an expression: its text, its normal form, and as many of its elapses as are asked for, each
+/// with the span between it and the present.
+#[tactic(auto, using(cal_bytes::proofs::Pieces::first_fails, cal_bytes::proofs::Pieces::second_ends))]
+pub fn write_calendar<W: Sink, S: Rising>(
+    out: &mut W,
+    context: Context<'_>,
+    text: &str,
+    expr: &Expr,
+    elapses: &mut S,
+) -> Result<(), WriteFault>
+    requires iterations { IsCount context.request.now.iterations }
+    requires instants { AreInstants (S.rest elapses.old) }
+    requires out { W.is_failed out.old ≡ false }
+    ensures failed { W.is_failed out.new ≡ is_err result }
+    ensures bytes { Writes (W.written out.old) (W.written out.new) result
+        (report_of_elapses (asked_by context.entry) text.now expr.now (S.rest elapses.old)) }
+{
+    put_heading(out, text, expr)?;
+    put_elapses(
+        out,
+        elapses,
+        context.request.iterations,
+        context.local,
+        context.now,
+    )
+}
+
+/// Writes the text as it was handed in, and its normal form.
+#[tactic(auto, using(cal_bytes::proofs::Pieces::first_fails, cal_bytes::proofs::Pieces::second_ends), unfolding(crate::specs::CalendarReport::heading_text))]
+pub fn put_heading<W: Sink>(out: &mut W, text: &str, expr: &Expr) -> Result<(), WriteFault>
+    requires { W.is_failed out.old ≡ false }
+    ensures failed { W.is_failed out.new ≡ is_err result }
+    ensures bytes { Writes (W.written out.old) (W.written out.new) result
+        (heading_text text.now expr.now) }
+{
+    put_original(out, text)?;
+    put_normal(out, expr)
+}
+
+/// Writes the rest of the line of the normal form.
+#[tactic(auto, using(cal_bytes::proofs::Pieces::first_fails, cal_bytes::proofs::Pieces::second_ends), unfolding(crate::specs::CalendarReport::normal_line))]
+fn put_normal<W: Sink>(out: &mut W, expr: &Expr) -> Result<(), WriteFault>
+    requires { W.is_failed out.old ≡ false }
+    ensures failed { W.is_failed out.new ≡ is_err result }
+    ensures bytes { Writes (W.written out.old) (W.written out.new) result
+        (normal_line expr.now) }
+{
+    write_expr(out, expr)?;
+    put_all(out, b"\n")
+}

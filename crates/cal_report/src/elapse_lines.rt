@@ -1,0 +1,135 @@
+//! The lines of elapses in a report, each with the span between it and the present (systemd-analyze(1), calendar).
+
+ghost use Rattle.std.specs.Prelude.{◌≡◌, ◌+◌, ◌-◌, ◌≤◌, ◌++◌, length, false, is_err, option_map, take};
+ghost use Rattle.cal_bytes.specs.Bytes.{Writes};
+ghost use Rattle.cal_bytes.specs.declared.short_text.TheConstants.{ROOM};
+ghost use Rattle.cal_rising.specs.RisingList.{first, later};
+ghost use Rattle.cal_report.specs.ElapseLines.{AreInstants, label_text, elapse_text, elapse_texts, elapses_text};
+ghost use Rattle.cal_request.specs.Request.{IsCount};
+
+use crate::report_lines::{first_moment, push_distance, push_utc_line};
+use cal_bytes::{Fill, ShortText, Sink, WriteFault, padding, push, push_all, put_all};
+use cal_elapse::Rising;
+use cal_zone::{Instant, Zone, push_instant};
+use itoa::Buffer;
+
+/// Writes the first of the elapses that are left, as many as are asked for, or `never` where there is none.
+pub fn put_elapses<W: Sink, S: Rising>(
+    out: &mut W,
+    elapses: &mut S,
+    iterations: u32,
+    local: Zone<'_>,
+    now: Instant,
+) -> Result<(), WriteFault>
+    requires iterations { IsCount iterations }
+    requires instants { AreInstants (S.rest elapses.old) }
+    requires out { W.is_failed out.old ≡ false }
+    ensures failed { W.is_failed out.new ≡ is_err result }
+    ensures bytes { Writes (W.written out.old) (W.written out.new) result
+        (elapses_text local.entry now.secs (take iterations (S.rest elapses.old))) }
+{
+    match next_instant(elapses) {
+        None => put_all(out, b"    Next elapse: never\n"),
+        Some(first) => {
+            put_elapse(out, 1, first, local, now)?;
+            put_more(out, elapses, iterations, local, now)
+        }
+    }
+}
+
+/// Writes the elapses after the first, from the second on.
+fn put_more<W: Sink, S: Rising>(
+    out: &mut W,
+    elapses: &mut S,
+    iterations: u32,
+    local: Zone<'_>,
+    now: Instant,
+) -> Result<(), WriteFault>
+    requires iterations { IsCount iterations }
+    requires instants { AreInstants (S.rest elapses.old) }
+    requires out { W.is_failed out.old ≡ false }
+    ensures failed { W.is_failed out.new ≡ is_err result }
+    ensures bytes { Writes (W.written out.old) (W.written out.new) result
+        (elapse_texts local.entry now.secs 2 (take (iterations - 1) (S.rest elapses.old))) }
+{
+    for number in 2..iterations + 1 {
+        let Some(elapse) = next_instant(elapses) else {
+            return Ok(());
+        };
+        put_elapse(out, number, elapse, local, now)?;
+    }
+    Ok(())
+}
+
+/// The next elapse.
+fn next_instant<S: Rising>(elapses: &mut S) -> Option<Instant>
+    requires { AreInstants (S.rest elapses.old) }
+    ensures given { option_map (λ instant. instant.secs) result ≡ first (S.rest elapses.old) }
+    ensures left { S.rest elapses.new ≡ later (S.rest elapses.old) }
+    ensures instants { AreInstants (S.rest elapses.new) }
+{
+    let Some(secs) = elapses.next() else {
+        return None;
+    };
+    let Some(instant) = Instant::new(secs) else {
+        unreachable!()
+    };
+    Some(instant)
+}
+
+/// Writes one elapse, and how far it lies from the present.
+fn put_elapse<W: Sink>(
+    out: &mut W,
+    number: u32,
+    elapse: Instant,
+    local: Zone<'_>,
+    now: Instant,
+) -> Result<(), WriteFault>
+    requires { W.is_failed out.old ≡ false }
+    ensures failed { W.is_failed out.new ≡ is_err result }
+    ensures bytes { Writes (W.written out.old) (W.written out.new) result
+        (elapse_text local.entry now.secs number elapse.secs) }
+{
+    let mut text = ShortText::new();
+    push_elapse(&mut text, number, elapse, local, now);
+    put_all(out, text.as_slice())
+}
+
+/// Appends one elapse, and how far it lies from the present.
+#[tactic(auto, unfolding(crate::specs::ElapseLines::elapse_text))]
+fn push_elapse(text: &mut ShortText, number: u32, elapse: Instant, local: Zone<'_>, now: Instant)
+    requires { length text.old.items + 474 ≤ ROOM }
+    ensures { text.new.items ≡ text.old.items ++ elapse_text local.entry now.secs number elapse.secs }
+{
+    push_label(text, number);
+    push_instant(text, local, elapse);
+    push(text, b"\n");
+    push_utc_line(text, local, elapse);
+    push(text, b"       From now: ");
+    push_distance(text, now, first_moment(elapse));
+    push(text, b"\n");
+}
+
+/// Appends the label of the elapse with that number.
+#[tactic(auto, unfolding(crate::specs::ElapseLines::label_text))]
+fn push_label(text: &mut ShortText, number: u32)
+    requires room { length text.old.items + 30 ≤ ROOM }
+    ensures text { text.new.items ≡ text.old.items ++ label_text number }
+    ensures short { length text.new.items ≤ length text.old.items + 30 }
+{
+    if number == 1 {
+        push(text, b"    Next elapse: ");
+        return;
+    }
+    let mut buffer = Buffer::new();
+    let digits = buffer.format(number);
+    push_all(
+        text,
+        &[
+            padding(digits, 8, Fill::Blank),
+            b"Iter. #",
+            digits.as_bytes(),
+            b": ",
+        ],
+    );
+}

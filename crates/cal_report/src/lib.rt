@@ -1,0 +1,14 @@
+//! The reports of a request.
+#![tactic(auto)]
+
+mod accepted;
+mod calendar_report;
+mod context;
+mod elapse_lines;
+mod report;
+mod report_lines;
+mod timer_report;
+mod timespan_report;
+mod timestamp_report;
+
+pub use report::{file_name, run};

@@ -1,0 +1,85 @@
+//! Lines of the reports (systemd-analyze(1), calendar and timestamp).
+
+ghost use Rattle.std.specs.Prelude.{◌≡◌, ◌+◌, ◌≤◌, ◌++◌, ◌-ℤ◌, false, is_err, length, unsigned_abs};
+ghost use Rattle.cal_bytes.specs.Bytes.{Writes};
+ghost use Rattle.cal_bytes.specs.declared.short_text.TheConstants.{ROOM};
+ghost use Rattle.cal_report.specs.ReportLines.{direction_text, distance_text, micros_of, original_line, utc_line};
+
+use cal_bytes::{ShortText, Sink, WriteFault, push, put_pieces};
+use cal_span::{Span, push_span};
+use cal_zone::{Instant, Moment, Zone, push_instant};
+
+/// Writes the line of the text as it was handed in, and the next label.
+#[tactic(auto, unfolding(crate::specs::ReportLines::original_line))]
+pub fn put_original<W: Sink>(out: &mut W, text: &str) -> Result<(), WriteFault>
+    requires { W.is_failed out.old ≡ false }
+    ensures failed { W.is_failed out.new ≡ is_err result }
+    ensures bytes { Writes (W.written out.old) (W.written out.new) result (original_line text.now) }
+{
+    put_pieces(
+        out,
+        &[
+            b"  Original form: ",
+            text.as_bytes(),
+            b"\nNormalized form: ",
+        ],
+    )
+}
+
+/// Appends the line of the instant in UTC; nothing where the local zone is UTC itself. It takes at most 102 bytes.
+#[tactic(auto, unfolding(crate::specs::ReportLines::utc_line))]
+pub fn push_utc_line(text: &mut ShortText, local: Zone<'_>, instant: Instant)
+    requires room { length text.old.items + 102 ≤ ROOM }
+    ensures text { text.new.items ≡ text.old.items ++ utc_line local.entry instant.secs }
+    ensures short { length text.new.items ≤ length text.old.items + 102 }
+{
+    if !local.is_utc() {
+        push(text, b"       (in UTC): ");
+        push_instant(text, Zone::utc(), instant);
+        push(text, b"\n");
+    }
+}
+
+/// Appends the span between the present and a moment, and which of the two is later. It takes at most 239 bytes.
+#[tactic(auto, unfolding(crate::specs::ReportLines::distance_text))]
+pub fn push_distance(text: &mut ShortText, now: Instant, moment: Moment)
+    requires room { length text.old.items + 239 ≤ ROOM }
+    ensures text { text.new.items ≡ text.old.items ++ distance_text (micros_of now.secs) moment.micros }
+    ensures short { length text.new.items ≤ length text.old.items + 239 }
+{
+    let now = first_moment(now);
+    push_span(text, distance(now, moment));
+    push(text, direction(now, moment));
+}
+
+/// The first moment of an instant.
+pub fn first_moment(instant: Instant) -> Moment
+    ensures { result.micros ≡ micros_of instant.secs }
+{
+    let Some(moment) = Moment::new(instant.secs() * 1_000_000) else {
+        unreachable!()
+    };
+    moment
+}
+
+/// ` left` where the moment isn't before the present, and ` ago` where it is.
+fn direction<'a>(now: Moment, moment: Moment) -> &'a [u8]
+    ensures text { result.now ≡ direction_text now.micros moment.micros }
+    ensures short { length result.now ≤ 5 }
+{
+    if moment.micros() < now.micros() {
+        b" ago"
+    } else {
+        b" left"
+    }
+}
+
+/// The span between two moments.
+fn distance(now: Moment, moment: Moment) -> Span
+    ensures { result.micros ≡ unsigned_abs (moment.micros -ℤ now.micros) }
+{
+    let Some(span) = Span::new((moment.micros() - now.micros()).unsigned_abs()) else {
+        unreachable!()
+    };
+    span
+}

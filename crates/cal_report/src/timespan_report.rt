@@ -1,0 +1,35 @@
+//! The report of one time span (systemd-analyze(1), timespan): its text, its microseconds, and the span
+//! as it is printed.
+
+ghost use Rattle.std.specs.Prelude.{◌≡◌, false, is_err};
+ghost use Rattle.cal_bytes.specs.Bytes.{Writes};
+ghost use Rattle.cal_report.specs.TimespanReport.{timespan_report};
+
+use cal_bytes::{Sink, WriteFault, put_pieces};
+use cal_span::{Span, format_span};
+use itoa::Buffer;
+
+/// Writes the report of a span that was read from the text.
+#[tactic(auto, unfolding(crate::specs::TimespanReport::timespan_report))]
+pub fn write_timespan<W: Sink>(out: &mut W, text: &str, span: Span) -> Result<(), WriteFault>
+    requires { W.is_failed out.old ≡ false }
+    ensures failed { W.is_failed out.new ≡ is_err result }
+    ensures bytes { Writes (W.written out.old) (W.written out.new) result
+        (timespan_report text.now span.micros) }
+{
+    let mut buffer = Buffer::new();
+    let micros = buffer.format(span.micros());
+    let human = format_span(span);
+    put_pieces(
+        out,
+        &[
+            b"Original: ",
+            text.as_bytes(),
+            b"\n      \xce\xbcs: ",
+            micros.as_bytes(),
+            b"\n   Human: ",
+            human.as_slice(),
+            b"\n",
+        ],
+    )
+}

@@ -1,0 +1,84 @@
+//! The report of one timestamp (systemd-analyze(1), timestamp): its text, its instant in the local zone and in UTC,
+//! its Unix time, and the span between it and the present.
+
+ghost use Rattle.std.specs.Prelude.{◌≡◌, ◌+◌, ◌≤◌, ◌++◌, false, is_err, length, unsigned_abs};
+ghost use Rattle.cal_bytes.specs.Bytes.{Writes};
+ghost use Rattle.cal_bytes.specs.declared.short_text.TheConstants.{ROOM};
+ghost use Rattle.cal_report.specs.Context.{asked_by};
+ghost use Rattle.cal_report.specs.TimestampReport.{moment_lines, timestamp_report, unix_text};
+
+use crate::context::Context;
+use crate::report_lines::{push_distance, push_utc_line, put_original};
+use cal_bytes::{Fill, ShortText, Sink, WriteFault, padding, push, push_all, put_all};
+use cal_zone::{Instant, Moment, Zone, push_instant};
+use itoa::Buffer;
+
+/// Writes the report of a moment that was read from the text.
+#[tactic(auto, using(cal_bytes::proofs::Pieces::first_fails, cal_bytes::proofs::Pieces::second_ends), unfolding(crate::specs::TimestampReport::timestamp_report))]
+pub fn write_timestamp<W: Sink>(
+    out: &mut W,
+    context: Context<'_>,
+    text: &str,
+    moment: Moment,
+) -> Result<(), WriteFault>
+    requires { W.is_failed out.old ≡ false }
+    ensures failed { W.is_failed out.new ≡ is_err result }
+    ensures bytes { Writes (W.written out.old) (W.written out.new) result
+        (timestamp_report (asked_by context.entry) text.now moment.micros) }
+{
+    put_original(out, text)?;
+    put_moment(out, context.local, context.now, moment)
+}
+
+/// Writes what is said of a moment, behind the label of its first line.
+fn put_moment<W: Sink>(
+    out: &mut W,
+    local: Zone<'_>,
+    now: Instant,
+    moment: Moment,
+) -> Result<(), WriteFault>
+    requires { W.is_failed out.old ≡ false }
+    ensures failed { W.is_failed out.new ≡ is_err result }
+    ensures bytes { Writes (W.written out.old) (W.written out.new) result
+        (moment_lines local.entry now.secs moment.micros) }
+{
+    let mut text = ShortText::new();
+    push_moment(&mut text, local, now, moment);
+    put_all(out, text.as_slice())
+}
+
+/// Appends what is said of a moment.
+#[tactic(auto, unfolding(crate::specs::TimestampReport::moment_lines))]
+fn push_moment(text: &mut ShortText, local: Zone<'_>, now: Instant, moment: Moment)
+    requires { length text.old.items + 512 ≤ ROOM }
+    ensures { text.new.items ≡ text.old.items ++ moment_lines local.entry now.secs moment.micros }
+{
+    push_instant(text, local, moment.instant());
+    push(text, b"\n");
+    push_utc_line(text, local, moment.instant());
+    push(text, b"   UNIX seconds: ");
+    push_unix(text, moment);
+    push(text, b"\n       From now: ");
+    push_distance(text, now, moment);
+    push(text, b"\n");
+}
+
+/// Appends `@` and the seconds since 1970-01-01 00:00:00 UTC, with six digits of microseconds where they aren't 0.
+#[tactic(auto, unfolding(crate::specs::TimestampReport::unix_text))]
+fn push_unix(text: &mut ShortText, moment: Moment)
+    requires room { length text.old.items + 48 ≤ ROOM }
+    ensures text { text.new.items ≡ text.old.items ++ unix_text (unsigned_abs moment.micros) }
+    ensures short { length text.new.items ≤ length text.old.items + 48 }
+{
+    let micros = moment.micros().unsigned_abs();
+    let (mut seconds, mut fractions) = (Buffer::new(), Buffer::new());
+    let second = seconds.format(micros / 1_000_000);
+    push_all(text, &[b"@", second.as_bytes()]);
+    if micros % 1_000_000 != 0 {
+        let fraction = fractions.format(micros % 1_000_000);
+        push_all(
+            text,
+            &[b".", padding(fraction, 6, Fill::Zero), fraction.as_bytes()],
+        );
+    }
+}

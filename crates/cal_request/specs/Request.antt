@@ -1,0 +1,56 @@
+-- What contracts see of a request.
+use Rattle.std.specs.Prelude.{ℕ, ◌≤◌, Bool, true, false, ℤ, List, Option, map}
+use Rattle.std.specs.String.{string_bytes}
+use Rattle.std.specs.Option.{option_map}
+use Rattle.cal_zone.specs.ZoneMap.{ZoneMap}
+use Rattle.cal_zone.specs.declared.zone.Zone.{Zone}
+use Rattle.cal_request.specs.declared.request.TheConstants.{MOST_ITERATIONS}
+use Rattle.cal_request.specs.declared.request.Request.{Request}
+use Rattle.cal_request.specs.declared.request.Verb.{Verb}
+use Rattle.cal_request.specs.declared.request.Verb.TheVariants.{Calendar, Timer, Timestamp, Timespan}
+
+-- a number of elapses that a request can ask for
+abbrev pub IsCount : ℕ → Type 0
+IsCount n = (1 ≤ n) × (n ≤ MOST_ITERATIONS)
+
+-- whether a verb seeks elapses: such a verb alone has a base, and takes memory
+abbrev pub seeks_elapses : Verb → Bool
+seeks_elapses Calendar = true
+seeks_elapses Timestamp = false
+seeks_elapses Timespan = false
+seeks_elapses Timer = true
+
+-- whether a verb reads or shows instants: such a verb alone has a present and zones
+abbrev pub has_zones : Verb → Bool
+has_zones Calendar = true
+has_zones Timestamp = true
+has_zones Timespan = false
+has_zones Timer = true
+
+-- whether a verb has a file in place of texts
+abbrev pub is_timer : Verb → Bool
+is_timer Calendar = false
+is_timer Timestamp = false
+is_timer Timespan = false
+is_timer Timer = true
+
+-- what is asked: a request without where its texts lie in memory, the present instant, and the zones
+pub record Asked : Type 0 where
+  pub verb : Verb
+  pub texts : List (List ℕ)
+  pub iterations : ℕ
+  pub base : Option (List ℕ)
+  pub now : ℤ
+  pub local : Zone
+  pub zones : ZoneMap
+
+abbrev pub asked : Request → ℤ → Zone → ZoneMap → Asked
+asked request now local zones = record {
+  verb = request.verb;
+  texts = map string_bytes request.texts.items;
+  iterations = request.iterations;
+  base = option_map string_bytes request.base;
+  now = now;
+  local = local;
+  zones = zones;
+}

@@ -1,0 +1,17 @@
+-- Which writer failed where a run ended with a fault.
+use Rattle.std.specs.Prelude.{Bool, true, false, Result, Ok, Err}
+use Rattle.cal_request.specs.declared.request.RunFault.{RunFault}
+use Rattle.cal_request.specs.declared.request.RunFault.TheVariants.{OutFailed, ErrFailed, NoMemory}
+
+-- whether a run ended with the fault of the writer of the reports, or of the refusals
+abbrev pub is_out_failed : {T : Type 0} → Result T RunFault → Bool
+is_out_failed (Ok ended) = false
+is_out_failed (Err OutFailed) = true
+is_out_failed (Err ErrFailed) = false
+is_out_failed (Err NoMemory) = false
+
+abbrev pub is_err_failed : {T : Type 0} → Result T RunFault → Bool
+is_err_failed (Ok ended) = false
+is_err_failed (Err OutFailed) = false
+is_err_failed (Err ErrFailed) = true
+is_err_failed (Err NoMemory) = false

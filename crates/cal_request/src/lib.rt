@@ -1,0 +1,6 @@
+//! What the program is asked to do, and how a run ends.
+#![tactic(auto)]
+
+mod request;
+
+pub use request::{MOST_ITERATIONS, Request, RunFault, Status, Verb};

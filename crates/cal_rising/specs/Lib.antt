@@ -1,0 +1,4 @@
+pub mod Listed
+pub mod Merge
+pub mod Rises
+pub mod RisingList

@@ -1,0 +1,41 @@
+-- Several rising lists given as one, each number once: systemd.timer(5), OnCalendar=, where a timer with several
+-- expressions elapses whenever one of them does.
+use Rattle.std.specs.Prelude.{◌≡◌, cond, Bool, false, map, List, [], ◌∷◌, Option, None, Some, ℤ, int_lt}
+use Rattle.cal_rising.specs.RisingList.{IsRising, first, union}
+
+-- what is left of a merge: whether a number was asked for already, and what each source has to give
+pub record Merging : Type 0 where
+  pub started : Bool
+  pub lists : List (List ℤ)
+
+-- the rest of a merge: the numbers of all its sources
+abbrev pub merged : Merging → List ℤ
+merged m = union m.lists
+
+-- one source of a merge: the number taken from it that was not given yet, and what is behind that number
+pub record Stream : Type 0 where
+  pub head : Option ℤ
+  pub behind : List ℤ
+
+-- what a source has to give
+abbrev pub numbers_by : Option ℤ → List ℤ → List ℤ
+numbers_by None xs = xs
+numbers_by (Some x) xs = x ∷ xs
+
+abbrev pub numbers : Stream → List ℤ
+numbers s = numbers_by s.head s.behind
+
+-- the first number is taken, if there is one
+abbrev pub HasHead : Stream → Type 0
+HasHead s = (s.head ≡ first (numbers s)) × IsRising (numbers s)
+
+-- what a rising list has to give once a number was given that is none above its first
+abbrev pub passed : ℤ → List ℤ → List ℤ
+passed x [] = []
+passed x (y ∷ ys) = cond (int_lt x y) (y ∷ ys) ys
+
+-- the lesser of two numbers, of which either may be missing
+abbrev pub lesser : Option ℤ → Option ℤ → Option ℤ
+lesser None b = b
+lesser (Some x) None = Some x
+lesser (Some x) (Some y) = cond (int_lt y x) (Some y) (Some x)

@@ -1,0 +1,42 @@
+-- A rising list with numbers more rises, and so does a union, whatever its lists are: what laws of rising sources cite.
+use Rattle.std.specs.Prelude.{◌≡◌, cond, Bool, true, false, List, [], ◌∷◌, ℤ, ◌<ℤ◌, int_lt}
+use Rattle.std.proofs.Common.{arith, refl}
+use Rattle.std.proofs.lemmas.Int.{ints}
+use Rattle.cal_rising.specs.RisingList.{IsAbove, IsRising, placed, placed_all, union}
+
+-- a list above a number is above what is below that number
+pub IsAbove-lower : (a b : ℤ) (xs : List ℤ) → a <ℤ b → IsAbove b xs → IsAbove a xs
+IsAbove-lower a b [] h k = tt
+IsAbove-lower a b (x ∷ xs) h k = (omega (arith, ints, k.0), IsAbove-lower a b xs h k.1)
+
+below : (a b : ℤ) → int_lt a b ≡ true → a <ℤ b
+below a b h = grind (arith, ints)
+
+above_by : (b x y : ℤ) (ys zs : List ℤ) (p q : Bool) → b <ℤ x → IsAbove b (y ∷ ys) → IsAbove b zs
+    → IsAbove b (cond p (x ∷ y ∷ ys) (cond q (y ∷ zs) (y ∷ ys)))
+above_by b x y ys zs true q h k m = (h, k)
+above_by b x y ys zs false true h k m = (k.0, m)
+above_by b x y ys zs false false h k m = k
+
+IsAbove-placed : (b x : ℤ) (ys : List ℤ) → b <ℤ x → IsAbove b ys → IsAbove b (placed x ys)
+IsAbove-placed b x [] h k = (h, tt)
+IsAbove-placed b x (y ∷ ys) h k = above_by b x y ys (placed x ys) (int_lt x y) (int_lt y x) h k (IsAbove-placed b x ys h k.1)
+
+rising_by : (x y : ℤ) (ys : List ℤ) (p q : Bool) → int_lt x y ≡ p → int_lt y x ≡ q → IsRising (y ∷ ys) → IsRising (placed x ys)
+    → IsRising (cond p (x ∷ y ∷ ys) (cond q (y ∷ placed x ys) (y ∷ ys)))
+rising_by x y ys true q low high h k = ((below x y low, IsAbove-lower x y ys (below x y low) h.0), h)
+rising_by x y ys false true low high h k = (IsAbove-placed y x ys (below y x high) h.0, k)
+rising_by x y ys false false low high h k = h
+
+pub IsRising-placed : (x : ℤ) (ys : List ℤ) → IsRising ys → IsRising (placed x ys)
+IsRising-placed x [] h = (tt, tt)
+IsRising-placed x (y ∷ ys) h = rising_by x y ys (int_lt x y) (int_lt y x) refl refl h (IsRising-placed x ys h.1)
+
+pub IsRising-placed_all : (xs ys : List ℤ) → IsRising ys → IsRising (placed_all xs ys)
+IsRising-placed_all [] ys h = h
+IsRising-placed_all (x ∷ xs) ys h = IsRising-placed x (placed_all xs ys) (IsRising-placed_all xs ys h)
+
+pub IsRising-union : (xss : List (List ℤ)) → IsRising (union xss)
+unfolding union
+IsRising-union [] = tt
+IsRising-union (xs ∷ xss) = IsRising-placed_all xs (union xss) (IsRising-union xss)

@@ -1,0 +1,61 @@
+//! One source of a merge, with the number that was taken from it and not given yet.
+
+ghost use Rattle.std.specs.Prelude.{◌≡◌, None};
+ghost use Rattle.cal_rising.specs.Merge.{HasHead, numbers, passed};
+
+use crate::Rising;
+use std::marker::Model;
+
+/// A source of numbers that rise, seen as the number taken from it, if there is one, and what is behind that.
+#[derive(Drop)]
+pub struct Branch<S: Rising> {
+    head: Option<i64>,
+    source: S,
+}
+
+impl<S: Rising> Model for Branch<S> {
+    ghost use Rattle.cal_rising.specs.Merge.{Stream, numbers_by};
+    ghost use Rattle.cal_rising.specs.RisingList.{IsRising};
+
+    ghost Value = { Stream };
+
+    ghost view = { λ branch. record { head = branch.head; behind = S.rest branch.source } };
+
+    ghost invariant = { λ branch. IsRising (numbers_by branch.head (S.rest branch.source)) };
+}
+
+impl<S: Rising> Branch<S> {
+    /// The source, of which no number was taken yet.
+    pub fn new(source: S) -> Self
+        ensures { result ≡ record { head = None; behind = S.rest source } }
+    {
+        Branch { head: None, source }
+    }
+
+    /// Takes the first number of the source, unless one is taken already. What there is to give stays the same.
+    pub fn fetch(&mut self)
+        ensures same { numbers self.new ≡ numbers self.old }
+        ensures taken { HasHead self.new }
+    {
+        if self.head.is_none() {
+            self.head = self.source.next();
+        }
+    }
+
+    /// The number that was taken and not given yet.
+    pub fn head(&self) -> Option<i64>
+        ensures { result ≡ self.now.head }
+    {
+        self.head
+    }
+
+    /// Gives the number that was taken, where it is not above this one.
+    pub fn pass(&mut self, number: i64)
+        requires { HasHead self.old }
+        ensures { numbers self.new ≡ passed number (numbers self.old) }
+    {
+        if self.head.is_some_and(|head| head <= number) {
+            self.head = None;
+        }
+    }
+}

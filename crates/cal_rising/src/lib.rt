@@ -1,0 +1,12 @@
+//! Sources of numbers that rise, and several of them given as one.
+#![tactic(auto)]
+
+mod branch;
+pub mod laws;
+mod listed;
+mod merge;
+mod rising;
+
+pub use listed::Listed;
+pub use merge::Merge;
+pub use rising::Rising;

@@ -1,0 +1,39 @@
+//! A list of numbers that is given one after another.
+
+ghost use Rattle.std.specs.Prelude.{◌≡◌, drop};
+ghost use Rattle.cal_rising.specs.Listed.{IsRising-prop};
+ghost use Rattle.cal_rising.specs.RisingList.{IsRising};
+
+use crate::Rising;
+
+/// Numbers that rise, with the count of those that were given already.
+#[derive(Drop)]
+pub struct Listed {
+    numbers: Vec<i64>,
+    given: usize,
+    ghost rising: { IsRising (drop given numbers.items) } by { IsRising-prop (drop given numbers.items) },
+}
+
+impl Listed {
+    /// The source that gives these numbers, which have to rise strictly.
+    pub fn new(numbers: Vec<i64>) -> Self
+        requires { IsRising numbers.items }
+        ensures { ⟦<Listed as Rising>⟧.rest result ≡ numbers.items }
+    {
+        Listed { numbers, given: 0 }
+    }
+}
+
+impl Rising for Listed {
+    ghost rest = { λ listed. drop listed.given listed.numbers.items };
+
+    fn next(&mut self) -> Option<i64> {
+        let number = self.numbers.get(self.given).copied();
+        if number.is_some() {
+            self.given += 1;
+        }
+        number
+    }
+
+    ghost rises = { λ listed. listed.rising };
+}

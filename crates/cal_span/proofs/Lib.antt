@@ -1,0 +1,10 @@
+pub mod SpanCounts
+pub mod SpanDigits
+pub mod SpanNumbers
+pub mod SpanPairRule
+pub mod SpanPairs
+pub mod SpanReadBack
+pub mod SpanRule
+pub mod SpanRuns
+pub mod SpanWords
+pub mod WorkedRows

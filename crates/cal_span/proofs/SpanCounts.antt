@@ -1,0 +1,156 @@
+-- Lemmas on counts of units: those that division finds are the counts of a span, and there are no others.
+use Rattle.std.proofs.Common.{◌≡◌, ℕ, ◌+◌, ◌*◌, ◌/◌, ◌%◌, ◌<◌, ◌≤◌, List, [], ◌∷◌, ◌++◌, codes, length, drop, get_or, Bool, true, false, cond, nat_lt, refl, sym, ap, ◌∙◌, subst, lit<, arith}
+use Rattle.std.proofs.Math.Nat.{div-eq_of_lt, mod-eq_of_lt}
+use Rattle.std.proofs.lemmas.Bool.{lt-ltb, le-ltb, ltb-false}
+use Rattle.std.proofs.lemmas.List.{append_assoc, at_drop_more}
+use Rattle.std.proofs.lemmas.Nat.{div-mul-add, mod-mul-add, div-add-mod', mod_below, le-div}
+use Rattle.std.specs.Prelude.{decimal}
+use Rattle.std.specs.List.{flat_map}
+use Rattle.cal_span.specs.declared.scale.Scale.{Scale}
+use Rattle.cal_span.specs.declared.scale.Scale.TheVariants.{Year, Month, Week, Day, Hour, Minute, Second, Millisecond, Microsecond}
+use Rattle.cal_bytes.specs.Bytes.{joined}
+use Rattle.cal_span.specs.Scale.{size_of, scales, name_of}
+use Rattle.cal_span.specs.SpanText.{Count, weight, AreReduced, AreCounts, IsSpanText, count_text, row_text, counts_text, positive, counts_of, units_text, span_text}
+
+-- no unit is empty
+pub size_of_positive : (unit : Scale) → 0 < size_of unit
+size_of_positive Year = lit< tt
+size_of_positive Month = lit< tt
+size_of_positive Week = lit< tt
+size_of_positive Day = lit< tt
+size_of_positive Hour = lit< tt
+size_of_positive Minute = lit< tt
+size_of_positive Second = lit< tt
+size_of_positive Millisecond = lit< tt
+size_of_positive Microsecond = lit< tt
+
+-- what no unit has counted
+abbrev remainder : List Scale → ℕ → ℕ
+remainder [] n = n
+remainder (unit ∷ units) n = remainder units (n % size_of unit)
+
+-- the counts and what is left are the whole
+weight-counts_of-remainder : (units : List Scale) (n : ℕ) → weight (counts_of units n) + remainder units n ≡ n
+weight-counts_of-remainder [] n = omega arith
+weight-counts_of-remainder (unit ∷ units) n =
+    omega (arith, weight-counts_of-remainder units (n % size_of unit), div-add-mod' n (size_of unit))
+
+-- what follows a count is a remainder by its unit, so below it
+reduced-counts_of : (units : List Scale) (n : ℕ) → AreReduced units (counts_of units n)
+reduced-counts_of [] n = tt
+reduced-counts_of (unit ∷ units) n =
+    (refl, omega (arith, weight-counts_of-remainder units (n % size_of unit), mod_below n (size_of unit) (size_of_positive unit)), reduced-counts_of units (n % size_of unit))
+
+-- the microsecond leaves nothing
+remainder-scales : (n : ℕ) → remainder scales n ≡ 0
+remainder-scales n = omega arith
+
+-- division finds the counts of a span
+pub are_counts_of : (n : ℕ) → AreCounts n (counts_of scales n)
+are_counts_of n = record {
+  sum = omega (arith, weight-counts_of-remainder scales n, remainder-scales n);
+  reduced = reduced-counts_of scales n;
+}
+
+-- reduced counts are those that division finds
+pub counts_of-weight : (units : List Scale) (cs : List Count) → AreReduced units cs → cs ≡ counts_of units (weight cs)
+counts_of-weight [] [] h = refl
+counts_of-weight [] (c ∷ cs) h = absurd h
+counts_of-weight (unit ∷ units) [] h = absurd h
+counts_of-weight (unit ∷ units) (c ∷ cs) h =
+    subst (λ (u : Scale). (c ∷ cs) ≡ counts_of (u ∷ units) (weight (c ∷ cs))) h.0
+    (let below : weight cs < size_of c.unit = subst (λ (u : Scale). weight cs < size_of u) (sym h.0) h.1 in
+    rw (div-mul-add c.number (size_of c.unit) (weight cs) below, mod-mul-add c.number (size_of c.unit) (weight cs) below)
+    (ap (λ (rest : List Count). c ∷ rest) (counts_of-weight units cs h.2)))
+
+-- the function gives a span text, and there is no other
+pub is_span_text : (n : ℕ) → IsSpanText n (span_text n)
+unfolding units_text
+is_span_text n = (counts_of scales n, are_counts_of n, refl)
+
+pub span_text_only : (n : ℕ) (text : List ℕ) → IsSpanText n text → text ≡ span_text n
+unfolding units_text
+span_text_only n text h =
+    h.2 ∙ ap (λ (cs : List Count). counts_text (positive cs)) (counts_of-weight scales h.0 h.1.reduced ∙ ap (counts_of scales) h.1.sum)
+
+-- a unit that fits has a count, and one that doesn't fit has none
+positive_taken : (unit : Scale) (units : List Scale) (n : ℕ) → size_of unit ≤ n → positive (counts_of (unit ∷ units) n) ≡ record { number = n / size_of unit; unit = unit } ∷ positive (counts_of units (n % size_of unit))
+positive_taken unit units n fits =
+    ap (λ (b : Bool). cond b (record { number = n / size_of unit; unit = unit } ∷ positive (counts_of units (n % size_of unit))) (positive (counts_of units (n % size_of unit))))
+    (lt-ltb 0 (n / size_of unit) (omega (arith, le-div 1 n (size_of unit) (size_of_positive unit) (omega arith))))
+
+positive_skipped : (unit : Scale) (units : List Scale) (n : ℕ) → n < size_of unit → positive (counts_of (unit ∷ units) n) ≡ positive (counts_of units (n % size_of unit))
+positive_skipped unit units n below =
+    ap (λ (b : Bool). cond b (record { number = n / size_of unit; unit = unit } ∷ positive (counts_of units (n % size_of unit))) (positive (counts_of units (n % size_of unit))))
+    (le-ltb 0 (n / size_of unit) (omega (arith, div-eq_of_lt below)))
+
+-- counts in a row with this in front of the first and a space in front of each other one
+abbrev pub led : List ℕ → List Count → List ℕ
+led lead [] = []
+led lead (c ∷ cs) = lead ++ (count_text c ++ flat_map (λ d. codes " " ++ count_text d) cs)
+
+led_space : (cs : List Count) → flat_map (λ d. codes " " ++ count_text d) cs ≡ led (codes " ") cs
+led_space [] = refl
+led_space (c ∷ cs) = refl
+
+led_first : (lead : List ℕ) (c : Count) (cs : List Count) → led lead (c ∷ cs) ≡ joined (lead ∷ decimal c.number ∷ name_of c.unit ∷ []) ++ led (codes " ") cs
+led_first lead c cs =
+    ap (λ (text : List ℕ). lead ++ (count_text c ++ text)) (led_space cs) ∙ sym (append_assoc lead (count_text c) (led (codes " ") cs))
+
+-- at first all counts are left, with nothing in front
+pub row_text-led : (cs : List Count) → row_text cs ≡ led [] cs
+unfolding row_text
+row_text-led [] = refl
+row_text-led (c ∷ cs) = refl
+
+-- what is left at the i-th unit is its count, where it fits, and what is left after it
+pub led_taken : (lead : List ℕ) (units : List Scale) (i : ℕ) (d : Scale) (size n : ℕ) → i < length units → size ≡ size_of (get_or units i d) → size ≤ n → led lead (positive (counts_of (drop i units) n)) ≡ joined (lead ∷ decimal (n / size) ∷ name_of (get_or units i d) ∷ []) ++ led (codes " ") (positive (counts_of (drop (i + 1) units) (n % size)))
+led_taken lead units i d size n within e fits =
+    rw e
+    (at_drop_more (λ (us : List Scale). led lead (positive (counts_of us n))) units i d within
+    ∙ ap (led lead) (positive_taken (get_or units i d) (drop (i + 1) units) n (omega (arith, e)))
+    ∙ led_first lead (record { number = n / size_of (get_or units i d); unit = get_or units i d }) (positive (counts_of (drop (i + 1) units) (n % size_of (get_or units i d)))))
+
+pub led_skipped : (lead : List ℕ) (units : List Scale) (i : ℕ) (d : Scale) (size n : ℕ) → i < length units → size ≡ size_of (get_or units i d) → n < size → led lead (positive (counts_of (drop i units) n)) ≡ led lead (positive (counts_of (drop (i + 1) units) n))
+led_skipped lead units i d size n within e below =
+    let small : n < size_of (get_or units i d) = omega (arith, e) in
+    at_drop_more (λ (us : List Scale). led lead (positive (counts_of us n))) units i d within
+    ∙ ap (led lead) (positive_skipped (get_or units i d) (drop (i + 1) units) n small)
+    ∙ ap (λ left. led lead (positive (counts_of (drop (i + 1) units) left))) (mod-eq_of_lt small)
+
+-- one count more, kept where it isn't zero
+weight-kept : (c : Count) (kept : List Count) (n : ℕ) → weight kept ≡ n → (b : Bool) → nat_lt 0 c.number ≡ b → weight (cond b (c ∷ kept) kept) ≡ c.number * size_of c.unit + n
+weight-kept c kept n e true t = ap (λ (m : ℕ). c.number * size_of c.unit + m) e
+weight-kept c kept n e false t =
+    let none : c.number ≡ 0 = omega (arith, ltb-false 0 c.number t) in
+    rw none (omega (arith, e))
+
+-- the counts that aren't zero are worth as much as all
+pub weight-positive : (cs : List Count) → weight (positive cs) ≡ weight cs
+weight-positive [] = refl
+weight-positive (c ∷ cs) = weight-kept c (positive cs) (weight cs) (weight-positive cs) (nat_lt 0 c.number) refl
+
+-- the text of nothing, and of any other span
+positive-counts_of_zero : (units : List Scale) → positive (counts_of units 0) ≡ []
+positive-counts_of_zero [] = refl
+positive-counts_of_zero (unit ∷ units) =
+    positive_skipped unit units 0 (size_of_positive unit)
+    ∙ ap (λ (m : ℕ). positive (counts_of units m)) (mod-eq_of_lt (size_of_positive unit))
+    ∙ positive-counts_of_zero units
+
+pub span_text_zero : span_text 0 ≡ codes "0"
+unfolding units_text
+span_text_zero = ap counts_text (positive-counts_of_zero scales)
+
+counts_text-row : (cs : List Count) → 0 < weight cs → counts_text cs ≡ row_text cs
+counts_text-row [] some = absurd (omega arith)
+counts_text-row (c ∷ cs) some = refl
+
+pub span_text_row : (n : ℕ) → 0 < n → row_text (positive (counts_of scales n)) ≡ span_text n
+unfolding units_text
+span_text_row n some =
+    sym (counts_text-row (positive (counts_of scales n)) (omega (arith, weight-positive (counts_of scales n), (are_counts_of n).sum)))
+
+-- a text so far with what is left behind it, once more of it has been appended
+pub appended : (text piece left later whole : List ℕ) → left ≡ piece ++ later → text ++ left ≡ whole → (text ++ piece) ++ later ≡ whole
+appended text piece left later whole e h = append_assoc text piece later ∙ ap (λ rest. text ++ rest) (sym e) ∙ h

@@ -1,0 +1,140 @@
+-- Numbers, by the digits before and behind the point.
+use Rattle.std.proofs.Common.{ℕ, suc, ◌+◌, ◌-◌, ◌*◌, ◌^◌, ◌/◌, ◌<◌, ◌≤◌, ◌≡◌, Bool, true, false, cond, not, ◌&&◌, ◌||◌, leb, List, [], ◌∷◌, length, take, drop, get_or, min, refl, sym, ap, ◌∙◌, arith, zero-add, add-one, ⊎_elim}
+use Rattle.std.specs.Prelude.{count_by, nat_le, nat_lt}
+use Rattle.std.specs.List.{list_all, list_any, position_or_len, before_first, after_first}
+use Rattle.std.specs.Char.{is_ascii_digit, digit_value}
+use Rattle.std.specs.Str.Parse.{digits_value}
+use Rattle.std.proofs.Math.Nat.{pow-suc, one-le-pow, min-eq_left, min-eq_right, div-eq_of_lt, mul-le-mul}
+use Rattle.std.proofs.lemmas.Str.{digit_value_digit}
+use Rattle.std.proofs.lemmas.Int.Digits.{digits_value_more}
+use Rattle.std.proofs.lemmas.List.Recursion.{and_at}
+use Rattle.std.proofs.lemmas.List.{nil_from_length, at_drop_more}
+use Rattle.std.proofs.lemmas.List.Sums.{sum_by-cons}
+use Rattle.std.proofs.lemmas.Bool.{false≢true, leb-true, cases_lt, lt-leb, and_parts, lt-ltb, eqb-true}
+use Rattle.std.proofs.lemmas.Bool.Decides.{nat_tests}
+use Rattle.cal_span.specs.SpanValue.{is_point, is_number, fraction_worth}
+
+abbrev is_digit_or_point : ℕ → Bool
+is_digit_or_point b = is_ascii_digit b || is_point b
+
+-- a point is no digit
+point_no_digit : (x : ℕ) → is_point x ≡ true → is_ascii_digit x ≡ false
+point_no_digit x test = rw (eqb-true x 46 test) refl
+
+take_one_more : (x : ℕ) (xs : List ℕ) (point : Bool) (n : ℕ) → take (cond (not point) (1 + n) 0) (x ∷ xs) ≡ cond point [] (x ∷ take n xs)
+take_one_more x xs true n = refl
+take_one_more x xs false n = let e : 1 + n ≡ suc n = omega arith in rw e refl
+
+drop_one_more : (x : ℕ) (xs : List ℕ) (point : Bool) (n : ℕ) → drop (cond (not point) (1 + n) 0 + 1) (x ∷ xs) ≡ cond point xs (drop (n + 1) xs)
+drop_one_more x xs true n = refl
+drop_one_more x xs false n = let e : 1 + n + 1 ≡ suc (n + 1) = omega arith in rw e refl
+
+pub before_first-cons : (x : ℕ) (xs : List ℕ) → before_first is_point (x ∷ xs) ≡ cond (is_point x) [] (x ∷ before_first is_point xs)
+before_first-cons x xs = take_one_more x xs (is_point x) (position_or_len is_point xs)
+
+pub after_first-cons : (x : ℕ) (xs : List ℕ) → after_first is_point (x ∷ xs) ≡ cond (is_point x) xs (after_first is_point xs)
+after_first-cons x xs = drop_one_more x xs (is_point x) (position_or_len is_point xs)
+
+-- digits and points without a point are digits
+no_point_step : (digit point rest all : Bool) (n : ℕ) → (point ≡ true → digit ≡ false) → (rest && nat_le n 0) ≡ all → (((digit || point) && rest) && nat_le (cond point 1 0 + n) 0) ≡ (digit && all)
+no_point_step true true rest all n apart h = absurd (false≢true (sym (apart refl)))
+no_point_step true false rest all n apart h = rw zero-add h
+no_point_step false true true all n apart h = lt-leb (1 + n) 0 (omega arith)
+no_point_step false true false all n apart h = refl
+no_point_step false false rest all n apart h = refl
+
+no_point : (xs : List ℕ) → (list_all is_digit_or_point xs && nat_le (count_by is_point xs) 0) ≡ list_all is_ascii_digit xs
+no_point [] = refl
+no_point (x ∷ xs) =
+    rw sum_by-cons (no_point_step (is_ascii_digit x) (is_point x) (list_all is_digit_or_point xs) (list_all is_ascii_digit xs) (count_by is_point xs) (point_no_digit x) (no_point xs))
+
+at_most_one : (n : ℕ) → leb (1 + n) 1 ≡ leb n 0
+at_most_one n = grind (arith, nat_tests)
+
+-- digits with at most one point are the digits before it and those behind it
+one_point_step : (x : ℕ) (xs before behind : List ℕ) (digit point rest : Bool) (n : ℕ) → is_ascii_digit x ≡ digit → (point ≡ true → digit ≡ false) → (rest && nat_le n 0) ≡ list_all is_ascii_digit xs → (rest && nat_le n 1) ≡ (list_all is_ascii_digit before && list_all is_ascii_digit behind) → (((digit || point) && rest) && nat_le (cond point 1 0 + n) 1) ≡ (list_all is_ascii_digit (cond point [] (x ∷ before)) && list_all is_ascii_digit (cond point xs behind))
+one_point_step x xs before behind true true rest n is apart none one =
+    absurd (false≢true (sym (apart refl)))
+one_point_step x xs before behind true false rest n is apart none one = rw (is, zero-add) one
+one_point_step x xs before behind false true rest n is apart none one =
+    rw at_most_one none
+one_point_step x xs before behind false false rest n is apart none one = rw is refl
+
+one_point : (xs : List ℕ) → (list_all is_digit_or_point xs && nat_le (count_by is_point xs) 1) ≡ (list_all is_ascii_digit (before_first is_point xs) && list_all is_ascii_digit (after_first is_point xs))
+one_point [] = refl
+one_point (x ∷ xs) =
+    rw (sum_by-cons, before_first-cons x xs, after_first-cons x xs) (one_point_step x xs (before_first is_point xs) (after_first is_point xs) (is_ascii_digit x) (is_point x) (list_all is_digit_or_point xs) (count_by is_point xs) refl (point_no_digit x) (no_point xs) (one_point xs))
+
+-- digits before the point or behind it are some digits
+some_digit_step : (x : ℕ) (xs before behind : List ℕ) (point : Bool) → (point ≡ true → is_ascii_digit x ≡ false) → list_all is_ascii_digit (cond point [] (x ∷ before)) ≡ true → list_all is_ascii_digit (cond point xs behind) ≡ true → list_any is_ascii_digit (x ∷ xs) ≡ nat_lt 0 (length (cond point [] (x ∷ before)) + length (cond point xs behind))
+some_digit_step x [] before behind true apart all_before all_behind = rw (apart refl) refl
+some_digit_step x (y ∷ xs) before behind true apart all_before all_behind =
+    let first = (and_parts (is_ascii_digit y) (list_all is_ascii_digit xs) all_behind).0 in
+    rw (apart refl, first) (sym (lt-ltb 0 (0 + suc (length xs)) (omega arith)))
+some_digit_step x xs before behind false apart all_before all_behind =
+    let first = (and_parts (is_ascii_digit x) (list_all is_ascii_digit before) all_before).0 in
+    rw first (sym (lt-ltb 0 (suc (length before) + length behind) (omega arith)))
+
+some_digit : (xs : List ℕ) → list_all is_ascii_digit (before_first is_point xs) ≡ true → list_all is_ascii_digit (after_first is_point xs) ≡ true → list_any is_ascii_digit xs ≡ nat_lt 0 (length (before_first is_point xs) + length (after_first is_point xs))
+some_digit [] all_before all_behind = refl
+some_digit (x ∷ xs) all_before all_behind =
+    rw (before_first-cons x xs, after_first-cons x xs) (some_digit_step x xs (before_first is_point xs) (after_first is_point xs) (is_point x) (point_no_digit x) (rw (before_first-cons x xs) at all_before) (rw (after_first-cons x xs) at all_behind))
+
+-- a number by its digits before the point and those behind it
+number_parts : (xs before behind : List ℕ) → before ≡ before_first is_point xs → behind ≡ after_first is_point xs → list_all is_ascii_digit before ≡ true → list_all is_ascii_digit behind ≡ true → is_number xs ≡ nat_lt 0 (length before + length behind)
+unfolding is_number
+number_parts xs before behind at_before at_behind all_before all_behind =
+    rw (one_point xs, ← at_before, ← at_behind, all_before, all_behind) (rw (at_before, at_behind) (some_digit xs (ap (list_all is_ascii_digit) (sym at_before) ∙ all_before) (ap (list_all is_ascii_digit) (sym at_behind) ∙ all_behind)))
+
+pub is_number_from_parts : (xs before behind : List ℕ) → before ≡ before_first is_point xs → behind ≡ after_first is_point xs → list_all is_ascii_digit before ≡ true → list_all is_ascii_digit behind ≡ true → 0 < length before + length behind → is_number xs ≡ true
+is_number_from_parts xs before behind at_before at_behind all_before all_behind some =
+    number_parts xs before behind at_before at_behind all_before all_behind ∙ lt-ltb 0 _ some
+
+pub no_number_from_empty : (xs before behind : List ℕ) → before ≡ before_first is_point xs → behind ≡ after_first is_point xs → length before ≡ 0 → length behind ≡ 0 → is_number xs ≡ false
+no_number_from_empty xs before behind at_before at_behind none_before none_behind =
+    number_parts xs [] [] (sym (nil_from_length before none_before) ∙ at_before) (sym (nil_from_length behind none_behind) ∙ at_behind) refl refl
+
+pub no_number_from_parts : (xs before behind : List ℕ) → before ≡ before_first is_point xs → behind ≡ after_first is_point xs → (list_all is_ascii_digit before && list_all is_ascii_digit behind) ≡ false → is_number xs ≡ false
+unfolding is_number
+no_number_from_parts xs before behind at_before at_behind some = rw (one_point xs, ← at_before, ← at_behind, some) refl
+
+-- each byte of digits is a digit
+pub digit_at : (digits : List ℕ) (i : ℕ) → i < length digits → list_all is_ascii_digit digits ≡ true → (48 ≤ get_or digits i 0) × (get_or digits i 0 ≤ 57) × (digit_value (get_or digits i 0) + 48 ≡ get_or digits i 0)
+digit_at digits i within all =
+    let is = and_at (list_all is_ascii_digit) is_ascii_digit refl (λ _ _. refl) digits i 0 within all in
+    let range = and_parts (leb 48 (get_or digits i 0)) (leb (get_or digits i 0) 57) is in
+    let low = leb-true 48 (get_or digits i 0) range.0 in
+    let high = leb-true (get_or digits i 0) 57 range.1 in
+    (low, high, digit_value_digit (get_or digits i 0) (low, high))
+
+-- the top of a `u64`, where sums and products stay
+abbrev pub top : ℕ
+top = 2 ^ 64 - 1
+
+-- one more digit of a number that stays at the top
+pub whole_more : (digits : List ℕ) (i whole : ℕ) → i < length digits → list_all is_ascii_digit digits ≡ true → whole ≡ min (digits_value 10 (take i digits)) top → min (min (whole * 10) top + (get_or digits i 0 - 48)) top ≡ min (digits_value 10 (take (i + 1) digits)) top
+whole_more digits i whole within all so_far =
+    let digit = (digit_at digits i within all).2 in
+    rw (digits_value_more 10 digits i within) (omega arith)
+
+-- a number below the top, divided by a power that stays at the top
+quotient_at_top : (n divisor : ℕ) → n < top → 0 < divisor → n / min divisor top ≡ n / divisor
+quotient_at_top n divisor below positive = ⊎_elim (λ (h : divisor < top). rw (min-eq_left {n = divisor} {m = top} (omega arith)) refl) (λ (h : top ≤ divisor). rw (min-eq_right {n = top} {m = divisor} h) (div-eq_of_lt below ∙ sym (div-eq_of_lt {n = n} {m = divisor} (omega arith)))) (cases_lt divisor top)
+
+pub divisor_more : (i divisor : ℕ) → divisor ≡ min (10 ^ i) top → min (divisor * 10) top ≡ min (10 ^ (i + 1)) top
+divisor_more i divisor so_far = rw (add-one, pow-suc) (omega arith)
+
+-- the term of a digit in a unit of at most a year
+pub term_is : (digits : List ℕ) (i divisor size : ℕ) → i < length digits → list_all is_ascii_digit digits ≡ true → size ≤ 31557600000000 → divisor ≡ min (10 ^ (i + 1)) top → (get_or digits i 0 - 48) * size / divisor ≡ digit_value (get_or digits i 0) * size / 10 ^ (i + 1)
+term_is digits i divisor size within all small at_power =
+    let digit = digit_at digits i within all in
+    let value : get_or digits i 0 - 48 ≡ digit_value (get_or digits i 0) = omega (arith, digit.2) in
+    let nine : get_or digits i 0 - 48 ≤ 9 = omega (arith, digit.1) in
+    let bound : (get_or digits i 0 - 48) * size ≤ 9 * 31557600000000 = mul-le-mul nine small in
+    let positive : 0 < 10 ^ (i + 1) = omega (arith, one-le-pow (i + 1) 10 (omega arith)) in
+    rw at_power (quotient_at_top ((get_or digits i 0 - 48) * size) (10 ^ (i + 1)) (omega arith) positive ∙ ap (λ d. d * size / 10 ^ (i + 1)) value)
+
+-- one more digit behind the point
+pub fraction_more : (digits : List ℕ) (i sum size : ℕ) → i < length digits → min (sum + fraction_worth size (i + 1) (drop i digits)) top ≡ min (fraction_worth size 1 digits) top → min (min (sum + digit_value (get_or digits i 0) * size / 10 ^ (i + 1)) top + fraction_worth size (i + 1 + 1) (drop (i + 1) digits)) top ≡ min (fraction_worth size 1 digits) top
+fraction_more digits i sum size within so_far =
+    let step = at_drop_more (fraction_worth size (i + 1)) digits i 0 within in omega (arith, step)

@@ -1,0 +1,70 @@
+-- The first pair of a text, and the sum with it.
+use Rattle.std.proofs.Common.{ℕ, ◌+◌, ◌<◌, ◌≤◌, ◌≡◌, true, false, min, List, [], ◌∷◌, Option, Some, None, Result, Ok, Err, MatchOption, MatchResult, refl, sym, ap, ◌∙◌, arith}
+use Rattle.std.specs.Option.{ok_or}
+use Rattle.std.proofs.lemmas.Bool.{false_from_ne_true, le-leb, lt-leb}
+use Rattle.cal_span.specs.declared.scale.Scale.{Scale}
+use Rattle.cal_span.specs.declared.span.Span.{Span}
+use Rattle.cal_span.specs.declared.span_fault.SpanFault.{SpanFault}
+use Rattle.cal_span.specs.declared.span_fault.SpanFault.TheVariants.{BadNumber, UnknownUnit, TooLarge}
+use Rattle.cal_span.specs.declared.span_word.Kind.{Kind}
+use Rattle.cal_span.specs.declared.span_word.Kind.TheVariants.{Numeric, Letter}
+use Rattle.cal_span.specs.Scale.{size_of}
+use Rattle.cal_span.specs.Span.{limit}
+use Rattle.cal_span.specs.SpanValue.{Piece, Pair, is_kind, words_in, pairs_of, pairs_in, is_number, unit_in, number_worth, worth_of, sum_with}
+use Rattle.cal_span.proofs.SpanWords.{same_from_is_kind}
+use Rattle.cal_span.proofs.SpanNumbers.{top}
+
+pub no_kind : (j k : Kind) → (k ≡ j → ⊥) → is_kind j k ≡ false
+no_kind j k differs = false_from_ne_true (is_kind j k) (λ e. differs (sym (same_from_is_kind j k e)))
+
+-- a word that is no number, where one is due
+pub stray_first : (w : Piece) (ws : List Piece) → is_kind Numeric w.kind ≡ false → pairs_of (w ∷ ws) ≡ record { number = []; unit = None } ∷ pairs_of ws
+stray_first w [] other = rw other refl
+stray_first w (v ∷ ws) other = rw other refl
+
+pub stray_is : (bytes text rest : List ℕ) (kind : Kind) → words_in bytes ≡ record { kind = kind; text = text } ∷ words_in rest → (kind ≡ Numeric → ⊥) → pairs_in bytes ≡ record { number = []; unit = None } ∷ pairs_in rest
+unfolding pairs_in
+stray_is bytes text rest kind words other =
+    ap pairs_of words ∙ stray_first (record { kind = kind; text = text }) (words_in rest) (no_kind Numeric kind other)
+
+-- a number with no unit word behind it
+pub last_is : (bytes text rest : List ℕ) → words_in bytes ≡ record { kind = Numeric; text = text } ∷ words_in rest → words_in rest ≡ [] → pairs_in bytes ≡ record { number = text; unit = None } ∷ pairs_in rest
+unfolding pairs_in
+last_is bytes text rest words none = ap pairs_of words ∙ rw none refl
+
+pub bare_is : (bytes text rest next after : List ℕ) (kind : Kind) → words_in bytes ≡ record { kind = Numeric; text = text } ∷ words_in rest → words_in rest ≡ record { kind = kind; text = next } ∷ words_in after → (kind ≡ Letter → ⊥) → pairs_in bytes ≡ record { number = text; unit = None } ∷ pairs_in rest
+unfolding pairs_in
+bare_is bytes text rest next after kind words behind other =
+    ap pairs_of words ∙ rw behind (rw (no_kind Letter kind other) refl)
+
+-- a number with its unit word
+pub unit_is : (bytes text rest next after : List ℕ) → words_in bytes ≡ record { kind = Numeric; text = text } ∷ words_in rest → words_in rest ≡ record { kind = Letter; text = next } ∷ words_in after → pairs_in bytes ≡ record { number = text; unit = Some next } ∷ pairs_in after
+unfolding pairs_in
+unit_is bytes text rest next after words behind = ap pairs_of words ∙ rw behind refl
+
+pub no_pair : (bytes : List ℕ) → words_in bytes ≡ [] → pairs_in bytes ≡ []
+unfolding pairs_in
+no_pair bytes none = ap pairs_of none
+
+-- the worth of a pair by what the code found
+pub worth_bad_number : (p : Pair) → is_number p.number ≡ false → worth_of p ≡ Err BadNumber
+unfolding worth_of
+worth_bad_number p bad = rw bad refl
+
+pub worth_unknown_unit : (p : Pair) → is_number p.number ≡ true → unit_in p.unit ≡ None → worth_of p ≡ Err UnknownUnit
+unfolding worth_of
+worth_unknown_unit p good none = rw (good, none) refl
+
+pub worth_good : (p : Pair) (unit : Scale) → is_number p.number ≡ true → unit_in p.unit ≡ Some unit → worth_of p ≡ Ok (number_worth p.number (size_of unit))
+unfolding worth_of
+worth_good p unit good some = rw (good, some) refl
+
+-- the sum with one more pair, which stays at the top
+added_by : (sum m x : ℕ) (r : Option Span) → x ≡ min (sum + min m top) top → MatchOption r (limit < x) (λ span. (span.micros ≡ x) × (x ≤ limit)) → MatchResult (ok_or r TooLarge) (λ span. sum_with sum (Ok m) ≡ Ok span.micros) (λ fault. sum_with sum (Ok m) ≡ Err fault)
+added_by sum m x None at_top beyond = rw (lt-leb (sum + m) limit (omega arith)) refl
+added_by sum m x (Some span) at_top (is, small) =
+    rw (le-leb (sum + m) limit (omega arith)) (let e : sum + m ≡ span.micros = omega arith in ap (λ n. Ok n) e)
+
+pub added_is : (sum m x : ℕ) (worth : Result ℕ SpanFault) (r : Option Span) (out : Result Span SpanFault) → worth ≡ Ok m → x ≡ min (sum + min m top) top → MatchOption r (limit < x) (λ span. (span.micros ≡ x) × (x ≤ limit)) → out ≡ ok_or r TooLarge → MatchResult out (λ span. sum_with sum worth ≡ Ok span.micros) (λ fault. sum_with sum worth ≡ Err fault)
+added_is sum m x worth r out at_worth at_top found at_out =
+    rw (at_out, at_worth) (added_by sum m x r at_top found)

@@ -1,0 +1,205 @@
+-- A span text that was written is read again: the text of counts splits into these counts, each is worth
+-- its number times its unit, and the sum is the span.
+use Rattle.std.proofs.Common.{◌≡◌, ℕ, zero, suc, ◌+◌, ◌*◌, ◌^◌, ◌<◌, ◌≤◌, List, [], ◌∷◌, ◌++◌, codes, length, true, false, nat_le, Some, Ok, map, refl, sym, ap, ◌∙◌, subst, lit<, arith}
+use Rattle.std.proofs.lemmas.Bool.{le-leb}
+use Rattle.std.proofs.lemmas.Fmt.{decimal_nonempty}
+use Rattle.std.proofs.lemmas.List.{append_assoc, append-nil}
+use Rattle.std.proofs.lemmas.Bool.Decides.{nat_tests}
+use Rattle.std.proofs.Math.Nat.{le-mul_of_pos_right}
+use Rattle.std.specs.List.{flat_map}
+use Rattle.std.specs.Prelude.{decimal, not, filter}
+use Rattle.cal_span.specs.declared.scale.Scale.{Scale}
+use Rattle.cal_span.specs.declared.scale.Scale.TheVariants.{Year, Month, Week, Day, Hour, Minute, Second, Millisecond, Microsecond}
+use Rattle.cal_span.specs.declared.span_word.Kind.{Kind}
+use Rattle.cal_span.specs.declared.span_word.Kind.TheVariants.{Blank, Numeric, Letter, Other}
+use Rattle.cal_span.specs.Scale.{size_of, scales, words_for, name_of}
+use Rattle.cal_span.specs.Span.{limit}
+use Rattle.cal_span.specs.SpanText.{Count, weight, count_text, row_text, positive, counts_of, span_text}
+use Rattle.cal_span.specs.SpanValue.{is_micro, kind_of, is_kind, Piece, symbols, with_front, runs, words_in, Pair, pairs_of, pairs_in, is_number, unit_named, number_worth, worth_of, judged, value_of_pairs, span_of}
+use Rattle.cal_span.proofs.SpanCounts.{size_of_positive, are_counts_of, weight-positive, span_text_zero, span_text_row}
+use Rattle.cal_span.proofs.SpanDigits.{AreDigits, are_digits-decimal, kind_of_digit, is_number-decimal, number_worth-decimal}
+
+-- Words
+
+-- a symbol of one ASCII byte
+symbols-ascii : (b : ℕ) (bytes : List ℕ) → b < 128 → symbols (b ∷ bytes) ≡ record { kind = kind_of b; text = b ∷ [] } ∷ symbols bytes
+symbols-ascii b [] small = refl
+symbols-ascii b (c ∷ bytes) small =
+    let plain : is_micro b c ≡ false = grind (arith, nat_tests, small) in rw plain refl
+
+-- each byte is an ASCII character of this kind
+abbrev pub AllOfKind : Kind → List ℕ → Type 0
+AllOfKind kind [] = Unit {0}
+AllOfKind kind (b ∷ bytes) = (b < 128) × (kind_of b ≡ kind) × AllOfKind kind bytes
+
+-- the first piece, if any, is of another kind
+abbrev pub IsApart : Kind → List Piece → Type 0
+IsApart kind [] = Unit {0}
+IsApart kind (p ∷ ps) = is_kind kind p.kind ≡ false
+
+is_kind_self : (kind : Kind) → is_kind kind kind ≡ true
+is_kind_self Blank = refl
+is_kind_self Numeric = refl
+is_kind_self Letter = refl
+is_kind_self Other = refl
+
+with_front-apart : (kind : Kind) (text : List ℕ) (ps : List Piece) → IsApart kind ps → with_front (record { kind = kind; text = text }) ps ≡ record { kind = kind; text = text } ∷ ps
+with_front-apart kind text [] apart = refl
+with_front-apart kind text (p ∷ ps) apart = rw apart refl
+
+with_front-same : (kind : Kind) (b : ℕ) (text : List ℕ) (ps : List Piece) → with_front (record { kind = kind; text = b ∷ [] }) (record { kind = kind; text = text } ∷ ps) ≡ record { kind = kind; text = b ∷ text } ∷ ps
+with_front-same kind b text ps = rw (is_kind_self kind) refl
+
+-- bytes of one kind are one run, where another kind or nothing follows
+pub runs-of_kind : (kind : Kind) (b : ℕ) (front rest : List ℕ) → AllOfKind kind (b ∷ front) → IsApart kind (runs (symbols rest)) → runs (symbols ((b ∷ front) ++ rest)) ≡ record { kind = kind; text = b ∷ front } ∷ runs (symbols rest)
+runs-of_kind kind b [] rest same apart =
+    ap runs (symbols-ascii b rest same.0)
+    ∙ ap (λ (k : Kind). with_front (record { kind = k; text = b ∷ [] }) (runs (symbols rest))) same.1
+    ∙ with_front-apart kind (b ∷ []) (runs (symbols rest)) apart
+runs-of_kind kind b (c ∷ front) rest same apart =
+    ap runs (symbols-ascii b ((c ∷ front) ++ rest) same.0)
+    ∙ ap (λ (k : Kind). with_front (record { kind = k; text = b ∷ [] }) (runs (symbols ((c ∷ front) ++ rest)))) same.1
+    ∙ ap (with_front (record { kind = kind; text = b ∷ [] })) (runs-of_kind kind c front rest same.2 apart)
+    ∙ with_front-same kind b (c ∷ front) (runs (symbols rest))
+
+runs-of_kind_front : (kind : Kind) (front rest : List ℕ) → 0 < length front → AllOfKind kind front → IsApart kind (runs (symbols rest)) → runs (symbols (front ++ rest)) ≡ record { kind = kind; text = front } ∷ runs (symbols rest)
+runs-of_kind_front kind [] rest some same apart = absurd (omega arith)
+runs-of_kind_front kind (b ∷ front) rest some same apart = runs-of_kind kind b front rest same apart
+
+numeric_digits : (ds : List ℕ) → AreDigits ds → AllOfKind Numeric ds
+numeric_digits [] h = tt
+numeric_digits (c ∷ cs) h = (h.0.ascii, kind_of_digit c h.0, numeric_digits cs h.1)
+
+letters-name_of : (unit : Scale) → AllOfKind Letter (name_of unit)
+unfolding name_of
+letters-name_of Year = (lit< tt, refl, tt)
+letters-name_of Month = (lit< tt, refl, (lit< tt, refl, (lit< tt, refl, (lit< tt, refl, (lit< tt, refl, tt)))))
+letters-name_of Week = (lit< tt, refl, tt)
+letters-name_of Day = (lit< tt, refl, tt)
+letters-name_of Hour = (lit< tt, refl, tt)
+letters-name_of Minute = (lit< tt, refl, (lit< tt, refl, (lit< tt, refl, tt)))
+letters-name_of Second = (lit< tt, refl, tt)
+letters-name_of Millisecond = (lit< tt, refl, (lit< tt, refl, tt))
+letters-name_of Microsecond = (lit< tt, refl, (lit< tt, refl, tt))
+
+name_of_nonempty : (unit : Scale) → 0 < length (name_of unit)
+unfolding name_of
+name_of_nonempty Year = lit< tt
+name_of_nonempty Month = lit< tt
+name_of_nonempty Week = lit< tt
+name_of_nonempty Day = lit< tt
+name_of_nonempty Hour = lit< tt
+name_of_nonempty Minute = lit< tt
+name_of_nonempty Second = lit< tt
+name_of_nonempty Millisecond = lit< tt
+name_of_nonempty Microsecond = lit< tt
+
+-- the words of counts: of each its digits and its unit
+abbrev pub count_words : List Count → List Piece
+count_words [] = []
+count_words (c ∷ cs) =
+    record { kind = Numeric; text = decimal c.number } ∷ record { kind = Letter; text = name_of c.unit } ∷ count_words cs
+
+-- a count is two runs, where no letter follows
+runs-count : (c : Count) (rest : List ℕ) → c.number < 2 ^ 64 → IsApart Letter (runs (symbols rest)) → runs (symbols (count_text c ++ rest)) ≡ record { kind = Numeric; text = decimal c.number } ∷ record { kind = Letter; text = name_of c.unit } ∷ runs (symbols rest)
+runs-count c rest small apart =
+    let unit = runs-of_kind_front Letter (name_of c.unit) rest (name_of_nonempty c.unit) (letters-name_of c.unit) apart in
+    let grouped : count_text c ++ rest ≡ decimal c.number ++ (name_of c.unit ++ rest) = append_assoc (decimal c.number) (name_of c.unit ++ []) rest ∙ ap (λ (name : List ℕ). decimal c.number ++ (name ++ rest)) (append-nil (name_of c.unit)) in
+    ap (λ (bytes : List ℕ). runs (symbols bytes)) grouped
+    ∙ runs-of_kind_front Numeric (decimal c.number) (name_of c.unit ++ rest) (decimal_nonempty c.number small) (numeric_digits (decimal c.number) (are_digits-decimal c.number small)) (subst (IsApart Numeric) (sym unit) refl)
+    ∙ ap (λ (ps : List Piece). record { kind = Numeric; text = decimal c.number } ∷ ps) unit
+
+small_number : (c : Count) (cs : List Count) → weight (c ∷ cs) ≤ limit → c.number < 2 ^ 64
+small_number c cs within = omega (arith, le-mul_of_pos_right c.number (size_of_positive c.unit))
+
+-- counts with a space in front of each, and their runs
+abbrev spaced : List Count → List ℕ
+spaced = flat_map (λ c. codes " " ++ count_text c)
+
+abbrev spaced_runs : List Count → List Piece
+spaced_runs [] = []
+spaced_runs (c ∷ cs) =
+    record { kind = Blank; text = codes " " } ∷ record { kind = Numeric; text = decimal c.number } ∷ record { kind = Letter; text = name_of c.unit } ∷ spaced_runs cs
+
+spaced_runs-apart : (cs : List Count) → IsApart Letter (spaced_runs cs)
+spaced_runs-apart [] = tt
+spaced_runs-apart (c ∷ cs) = refl
+
+runs-spaced : (cs : List Count) → weight cs ≤ limit → runs (symbols (spaced cs)) ≡ spaced_runs cs
+runs-spaced [] within = refl
+runs-spaced (c ∷ cs) within =
+    let others = runs-spaced cs (omega arith) in
+    let first = runs-count c (spaced cs) (small_number c cs within) (subst (IsApart Letter) (sym others) (spaced_runs-apart cs)) in
+    runs-of_kind Blank 32 [] (count_text c ++ spaced cs) (lit< tt, refl, tt) (subst (IsApart Blank) (sym first) refl)
+    ∙ ap (λ (ps : List Piece). record { kind = Blank; text = codes " " } ∷ ps) first
+    ∙ ap (λ (ps : List Piece). record { kind = Blank; text = codes " " } ∷ record { kind = Numeric; text = decimal c.number } ∷ record { kind = Letter; text = name_of c.unit } ∷ ps) others
+
+words-spaced : (cs : List Count) → filter (λ w. not (is_kind Blank w.kind)) (spaced_runs cs) ≡ count_words cs
+words-spaced [] = refl
+words-spaced (c ∷ cs) =
+    ap (λ (ps : List Piece). record { kind = Numeric; text = decimal c.number } ∷ record { kind = Letter; text = name_of c.unit } ∷ ps) (words-spaced cs)
+
+words-row : (c : Count) (cs : List Count) → weight (c ∷ cs) ≤ limit → words_in (row_text (c ∷ cs)) ≡ count_words (c ∷ cs)
+unfolding words_in row_text
+words-row c cs within =
+    let others = runs-spaced cs (omega arith) in
+    let first = runs-count c (spaced cs) (small_number c cs within) (subst (IsApart Letter) (sym others) (spaced_runs-apart cs)) in
+    ap (filter (λ w. not (is_kind Blank w.kind))) first
+    ∙ ap (λ (ps : List Piece). record { kind = Numeric; text = decimal c.number } ∷ record { kind = Letter; text = name_of c.unit } ∷ filter (λ w. not (is_kind Blank w.kind)) ps) others
+    ∙ ap (λ (ps : List Piece). record { kind = Numeric; text = decimal c.number } ∷ record { kind = Letter; text = name_of c.unit } ∷ ps) (words-spaced cs)
+
+-- Pairs and their worth
+
+abbrev pub pair_of : Count → Pair
+pair_of c = record { number = decimal c.number; unit = Some (name_of c.unit) }
+
+pairs-count_words : (cs : List Count) → pairs_of (count_words cs) ≡ map pair_of cs
+pairs-count_words [] = refl
+pairs-count_words (c ∷ cs) = ap (λ (ps : List Pair). pair_of c ∷ ps) (pairs-count_words cs)
+
+unit_named-name_of : (unit : Scale) → unit_named (name_of unit) ≡ Some unit
+unfolding unit_named words_for name_of
+unit_named-name_of Year = refl
+unit_named-name_of Month = refl
+unit_named-name_of Week = refl
+unit_named-name_of Day = refl
+unit_named-name_of Hour = refl
+unit_named-name_of Minute = refl
+unit_named-name_of Second = refl
+unit_named-name_of Millisecond = refl
+unit_named-name_of Microsecond = refl
+
+worth-pair_of : (c : Count) → c.number < 2 ^ 64 → worth_of (pair_of c) ≡ Ok (c.number * size_of c.unit)
+unfolding worth_of
+worth-pair_of c small =
+    rw (is_number-decimal c.number small, unit_named-name_of c.unit, number_worth-decimal c.number (size_of c.unit) small) refl
+
+judged-counts : (sum : ℕ) (cs : List Count) → sum + weight cs ≤ limit → judged sum (map pair_of cs) ≡ Ok (sum + weight cs)
+judged-counts sum [] within = ap Ok (omega arith)
+judged-counts sum (c ∷ cs) within =
+    let worth = worth-pair_of c (small_number c cs (omega arith)) in
+    let fits : nat_le (sum + c.number * size_of c.unit) limit ≡ true = le-leb (sum + c.number * size_of c.unit) limit (omega arith) in
+    rw (worth, fits) (judged-counts (sum + c.number * size_of c.unit) cs (omega arith) ∙ ap Ok (omega arith))
+
+-- The value of a span text
+
+span_of-row : (cs : List Count) → 0 < weight cs → weight cs ≤ limit → span_of (row_text cs) ≡ Ok (weight cs)
+unfolding span_of pairs_in
+span_of-row [] some within = absurd (omega arith)
+span_of-row (c ∷ cs) some within =
+    ap (λ (ws : List Piece). value_of_pairs (pairs_of ws)) (words-row c cs within)
+    ∙ ap value_of_pairs (pairs-count_words (c ∷ cs))
+    ∙ judged-counts 0 (c ∷ cs) (omega arith)
+    ∙ ap Ok (omega arith)
+
+span_of_zero : span_of (codes "0") ≡ Ok 0
+unfolding span_of pairs_in words_in worth_of is_number number_worth
+span_of_zero = refl
+
+pub span_of-span_text : (n : ℕ) → n ≤ limit → span_of (span_text n) ≡ Ok n
+span_of-span_text zero within = ap span_of span_text_zero ∙ span_of_zero
+span_of-span_text (suc m) within =
+    let whole : weight (positive (counts_of scales (suc m))) ≡ suc m = weight-positive (counts_of scales (suc m)) ∙ (are_counts_of (suc m)).sum in
+    ap span_of (sym (span_text_row (suc m) (omega arith)))
+    ∙ span_of-row (positive (counts_of scales (suc m))) (omega (arith, whole)) (omega (arith, whole))
+    ∙ ap Ok whole

@@ -1,0 +1,7 @@
+pub mod Scale
+pub mod Span
+pub mod SpanFault
+pub mod SpanRule
+pub mod SpanText
+pub mod SpanValue
+pub mod SpanWord

@@ -1,0 +1,11 @@
+-- What is said of a text that is no time span.
+use Rattle.std.specs.Prelude.{ℕ, List, codes}
+use Rattle.cal_span.specs.declared.span_fault.SpanFault.{SpanFault}
+use Rattle.cal_span.specs.declared.span_fault.SpanFault.TheVariants.{Empty, BadNumber, UnknownUnit, TooLarge}
+
+-- the words that tell a user of the fault
+abbrev pub words_of : SpanFault → List ℕ
+words_of Empty = codes "empty time span"
+words_of BadNumber = codes "bad number"
+words_of UnknownUnit = codes "unknown unit"
+words_of TooLarge = codes "time span too large"

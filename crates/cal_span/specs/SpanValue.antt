@@ -1,0 +1,170 @@
+-- The value of a text as a time span (systemd.time(7), Parsing Time Spans): the text is split into
+-- words, the words are taken as pairs of a number and a unit, and the pairs are judged from the left.
+use Rattle.std.specs.Prelude.{ℕ, ◌+◌, ◌*◌, ◌/◌, ◌^◌, ◌==◌, nat_le, Bool, true, false, not, ◌&&◌, ◌||◌, if◌then◌else◌, List, [], ◌∷◌, ◌++◌, filter, count_by, Option, Some, None, Result, Ok, Err}
+use Rattle.std.specs.List.{list_any, list_all, find, before_first, after_first}
+use Rattle.std.specs.Str.{bytes_eq}
+use Rattle.std.specs.Char.{digit_value, is_ascii_digit, is_ascii_alphabetic}
+use Rattle.std.specs.Str.Parse.{digits_value}
+use Rattle.cal_span.specs.declared.scale.Scale.{Scale}
+use Rattle.cal_span.specs.declared.scale.Scale.TheVariants.{Second}
+use Rattle.cal_span.specs.declared.span_fault.SpanFault.{SpanFault}
+use Rattle.cal_span.specs.declared.span_fault.SpanFault.TheVariants.{Empty, BadNumber, UnknownUnit, TooLarge}
+use Rattle.cal_span.specs.declared.span_word.Kind.{Kind}
+use Rattle.cal_span.specs.declared.span_word.Kind.TheVariants.{Blank, Numeric, Letter, Other}
+use Rattle.cal_span.specs.Scale.{size_of, scales, words_for}
+use Rattle.cal_span.specs.Span.{limit}
+
+-- Characters
+
+-- a blank is a space or a tab
+abbrev pub is_blank : ℕ → Bool
+is_blank b = (b == 32) || (b == 9)
+
+-- the point of a number
+abbrev pub is_point : ℕ → Bool
+is_point b = b == 46
+
+-- the UTF-8 of the micro sign, U+00B5, or of the Greek letter mu, U+03BC
+abbrev pub is_micro : ℕ → ℕ → Bool
+is_micro b c = ((b == 194) && (c == 181)) || ((b == 206) && (c == 188))
+
+-- the kind of a byte that begins no mu
+abbrev pub kind_of : ℕ → Kind
+kind_of b =
+    if is_blank b then Blank
+    else (if is_ascii_digit b || is_point b then Numeric
+    else (if is_ascii_alphabetic b then Letter else Other))
+
+-- whether two kinds are one
+abbrev pub is_kind : Kind → Kind → Bool
+is_kind Blank Blank = true
+is_kind Numeric Numeric = true
+is_kind Letter Letter = true
+is_kind Other Other = true
+is_kind _ _ = false
+
+-- a character, or a piece of several characters, of one kind
+pub record Piece : Type 0 where
+  pub kind : Kind
+  pub text : List ℕ
+
+-- the characters of a text: a mu is a letter, and each byte of any other character stands alone
+abbrev pub symbols : List ℕ → List Piece
+symbols [] = []
+symbols (b ∷ []) = record { kind = kind_of b; text = b ∷ [] } ∷ []
+symbols (b ∷ c ∷ bytes) =
+    if is_micro b c then record { kind = Letter; text = b ∷ c ∷ [] } ∷ symbols bytes
+    else record { kind = kind_of b; text = b ∷ [] } ∷ symbols (c ∷ bytes)
+
+-- Words (systemd.time(7), Parsing Time Spans: blanks may stand before, between and behind them)
+
+-- a piece in front of others: it joins the first of them where that is of its kind
+abbrev pub with_front : Piece → List Piece → List Piece
+with_front s [] = s ∷ []
+with_front s (w ∷ ws) =
+    if is_kind s.kind w.kind then record { kind = s.kind; text = s.text ++ w.text } ∷ ws
+    else s ∷ w ∷ ws
+
+-- the longest runs of one kind
+abbrev pub runs : List Piece → List Piece
+runs [] = []
+runs (s ∷ ss) = with_front s (runs ss)
+
+-- the words of a text: its runs without the blanks between them
+unfoldable pub words_in : List ℕ → List Piece
+words_in bytes = filter (λ w. not (is_kind Blank w.kind)) (runs (symbols bytes))
+
+-- Pairs (systemd.time(7), Parsing Time Spans)
+
+-- a number and its unit word, if it has one; where a number is due and none stands, the number is []
+pub record Pair : Type 0 where
+  pub number : List ℕ
+  pub unit : Option (List ℕ)
+
+-- what stands where a number is due: the word itself, where it is one of digits and points
+abbrev pub number_in : Piece → List ℕ
+number_in w = if is_kind Numeric w.kind then w.text else []
+
+-- whether the second word is the unit of the first
+abbrev pub is_unit_of : Piece → Piece → Bool
+is_unit_of w v = is_kind Numeric w.kind && is_kind Letter v.kind
+
+-- A number and the unit word behind it, if any, are a pair. Any other word stands where a number is
+-- due, and is a pair with no number.
+abbrev pub pairs_of : List Piece → List Pair
+pairs_of [] = []
+pairs_of (w ∷ []) = record { number = number_in w; unit = None } ∷ []
+pairs_of (w ∷ v ∷ ws) =
+    if is_unit_of w v then record { number = number_in w; unit = Some v.text } ∷ pairs_of ws
+    else record { number = number_in w; unit = None } ∷ pairs_of (v ∷ ws)
+
+-- the pairs of a text
+unfoldable pub pairs_in : List ℕ → List Pair
+pairs_in bytes = pairs_of (words_in bytes)
+
+-- The worth of a pair (systemd.time(7), Parsing Time Spans)
+
+-- digits and points with at most one point and at least one digit
+unfoldable pub is_number : List ℕ → Bool
+is_number number =
+    list_all (λ b. is_ascii_digit b || is_point b) number && nat_le (count_by is_point number) 1 && list_any is_ascii_digit number
+
+-- the unit with this spelling
+unfoldable pub unit_named : List ℕ → Option Scale
+unit_named word = find (λ scale. list_any (bytes_eq word) (words_for scale)) scales
+
+-- the unit of a pair: without a unit word it is the second
+abbrev pub unit_in : Option (List ℕ) → Option Scale
+unit_in None = Some Second
+unit_in (Some word) = unit_named word
+
+-- what the digits behind the point add, where the first of them has this place: each digit times the
+-- unit divided by 10 to its place, rounded down by itself
+abbrev pub fraction_worth : ℕ → ℕ → List ℕ → ℕ
+fraction_worth size place [] = 0
+fraction_worth size place (digit ∷ digits) =
+    digit_value digit * size / 10 ^ place + fraction_worth size (place + 1) digits
+
+-- these digits before the point and those behind it, in a unit of this size, in microseconds
+abbrev pub digits_worth : List ℕ → List ℕ → ℕ → ℕ
+digits_worth whole fraction size = digits_value 10 whole * size + fraction_worth size 1 fraction
+
+-- the number in a unit of this size, in microseconds
+unfoldable pub number_worth : List ℕ → ℕ → ℕ
+number_worth number size =
+    digits_worth (before_first is_point number) (after_first is_point number) size
+
+-- a number in a unit, where there is such a unit
+abbrev pub worth_in : List ℕ → Option Scale → Result ℕ SpanFault
+worth_in number None = Err UnknownUnit
+worth_in number (Some scale) = Ok (number_worth number (size_of scale))
+
+-- the microseconds of a pair, or its fault: the number is judged before the unit
+unfoldable pub worth_of : Pair → Result ℕ SpanFault
+worth_of p = if is_number p.number then worth_in p.number (unit_in p.unit) else Err BadNumber
+
+-- The value of a text (systemd.time(7), Parsing Time Spans)
+
+-- what follows where there was no fault
+infixl 10 ◌>>=◌
+abbrev pub ◌>>=◌ : {A B : Type 0} → Result A SpanFault → (A → Result B SpanFault) → Result B SpanFault
+(Ok x) >>= f = f x
+(Err e) >>= f = Err e
+
+-- the sum with one more pair
+abbrev pub sum_with : ℕ → Result ℕ SpanFault → Result ℕ SpanFault
+sum_with sum worth = worth >>= λ m. if nat_le (sum + m) limit then Ok (sum + m) else Err TooLarge
+
+-- the sum so far with the pairs that are left, or the fault of the first that has one
+abbrev pub judged : ℕ → List Pair → Result ℕ SpanFault
+judged sum [] = Ok sum
+judged sum (p ∷ ps) = sum_with sum (worth_of p) >>= λ more. judged more ps
+
+-- no pair at all is a fault too
+abbrev pub value_of_pairs : List Pair → Result ℕ SpanFault
+value_of_pairs [] = Err Empty
+value_of_pairs (p ∷ ps) = judged 0 (p ∷ ps)
+
+-- the value of a text in microseconds, or its fault
+unfoldable pub span_of : List ℕ → Result ℕ SpanFault
+span_of text = value_of_pairs (pairs_in text)

@@ -1,0 +1,6 @@
+use Rattle.std.proofs.Common.{◌≡◌, false}
+use Rattle.cal_tests.proofs.elapses.merges.merge_elapses.Given as goal
+
+-- no number was asked for
+abbrev pub invariant-loop-text : goal.invariant-loop-text
+invariant-loop-text g l = l.merge.started ≡ false

@@ -1,0 +1,186 @@
+//! Readers and writers that end, fail or never end, and what is read and written through them.
+
+use cal_bytes::{
+    Faulty, Output, Port, Sink, Source, Then, WholeFault, WriteFault, put_all, read_whole,
+};
+use std::alloc::Global;
+use std::io::BufWriter;
+use std::process::Abort;
+use std::test::Fail;
+
+/// A reader's bytes, how many it gives a call, what it does from their end on, the limit of the reading, its fault,
+/// and how many calls are made: one for each piece, and one that finds the end or the failure.
+type Reading = (&'static str, usize, Then, usize, Option<WholeFault>, u64);
+
+const READINGS: [Reading; 14] = [
+    ("abcde", 1, Then::Zero, 5, None, 6),
+    ("abcde", 2, Then::Zero, 5, None, 4),
+    ("abcde", 3, Then::Zero, 9, None, 3),
+    ("abcde", 5, Then::Zero, 6, None, 2),
+    ("abcde", 9, Then::Zero, 5, None, 2),
+    // An empty reader at limit 0.
+    ("", 1, Then::Zero, 0, None, 1),
+    // Exactly as many bytes as the limit.
+    ("0123456789", 1, Then::Zero, 10, None, 11),
+    // The reader fails at its third call, whatever the limit is.
+    ("xx", 1, Then::Error, 9, Some(WholeFault::ReadFailed), 3),
+    (
+        "xx",
+        1,
+        Then::Interrupted,
+        2,
+        Some(WholeFault::ReadFailed),
+        3,
+    ),
+    // One byte more than the limit came before it would have failed.
+    ("xx", 1, Then::Error, 1, Some(WholeFault::TooLarge), 2),
+    ("xxxxx", 1, Then::Zero, 4, Some(WholeFault::TooLarge), 5),
+    // A reader that never ends is called at most once more than the limit.
+    ("", 1, Then::Endless, 5, Some(WholeFault::TooLarge), 6),
+    ("", 1, Then::Endless, 10, Some(WholeFault::TooLarge), 11),
+    ("xxx", 1, Then::Endless, 0, Some(WholeFault::TooLarge), 1),
+];
+
+/// Reads the whole of a reader; gives the bytes or the fault, and how many calls were made.
+fn read(alloc: Global, reader: Faulty, limit: usize) -> (Result<Vec<u8>, WholeFault>, u64) {
+    let mut port = Port::new(reader);
+    let whole = read_whole(alloc, &mut port, limit);
+    (whole, port.into_inner().calls())
+}
+
+/// The reading gives the reader's bytes or the fault, after so many calls.
+fn expect_reading(rt: &(impl Abort + AllocGlobal), reading: Reading) -> Result<(), Fail> {
+    let (text, step, then, limit, wanted, calls) = reading;
+    assert!(rt; step > 0);
+    let bytes = text.as_bytes().to_vec(rt.alloc())?;
+    let (whole, made) = read(
+        rt.alloc(),
+        Faulty::new(bytes, step, text.len(), then),
+        limit,
+    );
+    assert!(rt;
+        made == calls && whole.is_ok() == wanted.is_none(),
+        "{text} by {step} at {limit}"
+    );
+    match whole {
+        Ok(whole) => assert_eq!(rt; whole.as_slice(), text.as_bytes(), "by {step}"),
+        Err(fault) => assert_eq!(rt; Some(fault), wanted, "{text} by {step} at {limit}"),
+    }
+    Ok(())
+}
+
+/// Each reading is as its row says.
+fn expect_readings(rt: &(impl Abort + AllocGlobal), readings: &[Reading]) -> Result<(), Fail> {
+    for reading in readings {
+        expect_reading(rt, *reading)?;
+    }
+    Ok(())
+}
+
+#[test]
+fn reads_whole(rt: HostRuntime) -> Result<(), Fail> {
+    expect_readings(&rt, &READINGS)
+}
+
+/// Makes the next call of a reader, which has to give so many bytes, and then to hold these; or to fail.
+fn expect_fetch(
+    rt: &impl Abort,
+    reader: &mut Port<Faulty>,
+    into: &mut [u8],
+    count: Option<usize>,
+    held: &str,
+) {
+    assert!(rt; !reader.failed());
+    assert_eq!(rt; reader.fetch(into), count, "for {held}");
+    assert_eq!(rt; &*into, held.as_bytes());
+    assert!(rt; reader.failed() == count.is_none(), "for {held}");
+}
+
+#[test]
+fn reads_until_it_fails(rt: HostRuntime) -> Result<(), Fail> {
+    let bytes = b"abc".to_vec(rt.alloc())?;
+    let mut port = Port::new(Faulty::new(bytes, 2, 3, Then::Interrupted));
+    let mut into = *b"####";
+    expect_fetch(&rt, &mut port, &mut into, Some(2), "ab##");
+    expect_fetch(&rt, &mut port, &mut into, Some(1), "cb##");
+    expect_fetch(&rt, &mut port, &mut into, None, "cb##");
+    assert_eq!(rt; port.into_inner().calls(), 3);
+    Ok(())
+}
+
+#[test]
+fn readers_end_or_go_on(rt: HostRuntime) {
+    let mut into = *b"\0\0";
+    let mut used_up = Port::new(Faulty::new(Vec::new(rt.alloc()), 1, 9, Then::Error));
+    expect_fetch(&rt, &mut used_up, &mut into, Some(0), "\0\0");
+    let mut endless = Port::new(Faulty::new(Vec::new(rt.alloc()), 9, 0, Then::Endless));
+    for _ in 0..3 {
+        expect_fetch(&rt, &mut endless, &mut into, Some(2), "##");
+    }
+}
+
+/// How many bytes of `abc` a writer takes a call and in all, what it does from there on, the bytes that it has then,
+/// and how many calls are made.
+type Writer = (usize, usize, Then, &'static str, u64);
+
+const WRITERS: [Writer; 8] = [
+    (1, 3, Then::Error, "abc", 3),
+    (2, 9, Then::Error, "abc", 2),
+    (1, 2, Then::Error, "ab", 3),
+    (3, 1, Then::Interrupted, "a", 2),
+    (1, 0, Then::Interrupted, "", 1),
+    // That nothing is taken is a failure.
+    (1, 0, Then::Zero, "", 1),
+    (1, 2, Then::Zero, "ab", 3),
+    (9, 2, Then::Endless, "ab", 2),
+];
+
+/// The fault of writing `abc` to a writer, and the writer.
+fn write(writer: Faulty) -> (Option<WriteFault>, Faulty) {
+    let mut port = Port::new(writer);
+    let fault = put_all(&mut port, b"abc").err();
+    (fault, port.into_inner())
+}
+
+/// A text is written by as many calls as it takes, and where the writer fails, its front was written.
+fn expect_written(rt: &(impl Abort + AllocGlobal), writers: &[Writer]) {
+    for (step, limit, then, written, calls) in writers {
+        assert!(rt; *step > 0);
+        let (fault, writer) = write(Faulty::new(Vec::new(rt.alloc()), *step, *limit, *then));
+        assert_eq!(rt; writer.bytes(), written.as_bytes());
+        assert!(rt;
+            writer.calls() == *calls && fault.is_some() == (*written != "abc"),
+            "at {limit}"
+        );
+    }
+}
+
+#[test]
+fn writes_until_it_fails(rt: HostRuntime) {
+    expect_written(&rt, &WRITERS);
+}
+
+/// What a buffer holds back goes out when it is settled, as far as the writer takes it.
+#[test]
+fn held_back_until_settled(rt: HostRuntime) -> Result<(), Fail> {
+    for (limit, is_settled, written) in [(3, true, "abc"), (2, false, "ab")] {
+        let writer = Faulty::new(Vec::new(rt.alloc()), 2, limit, Then::Error);
+        let mut port = Port::new(BufWriter::new(rt.alloc(), writer)?);
+        let answers = (port.offer(b"abc"), port.settle(), port.failed());
+        assert_eq!(rt; answers, (Some(3), is_settled, !is_settled), "at {limit}");
+        let (writer, _) = port.into_inner().into_parts();
+        assert_eq!(rt; writer.bytes(), written.as_bytes(), "at {limit}");
+    }
+    Ok(())
+}
+
+#[test]
+fn numbers_of_faults(rt: HostRuntime) {
+    let numbers = [
+        WriteFault::Failed as u8,
+        WholeFault::ReadFailed as u8,
+        WholeFault::TooLarge as u8,
+        WholeFault::NoMemory as u8,
+    ];
+    assert_eq!(rt; numbers, [1, 1, 2, 3]);
+}

@@ -1,0 +1,401 @@
+//! Command lines: which words ask for what, and what is told of the others.
+
+use cal_command::{Ask, CommandFault, LocalZone, ZoneItem};
+use cal_request::Verb;
+use std::alloc::Global;
+use std::process::Abort;
+use std::test::Fail;
+
+/// What the words of a line, which are joined by `|`, come to.
+fn read(alloc: Global, line: &str) -> Result<Result<Ask, CommandFault>, Fail> {
+    let words: Vec<&str> = line.split('|').collect(alloc)?;
+    Ok(Ask::of(alloc, words.as_slice()))
+}
+
+/// One line for what the words come to.
+fn shown(alloc: Global, line: &str) -> Result<String, Fail> {
+    match read(alloc, line)? {
+        Ok(ask) => asked(alloc, &ask),
+        Err(CommandFault::Usage(_)) => Ok(String::from_str(alloc, "usage")?),
+        Err(CommandFault::Help(_)) => Ok(String::from_str(alloc, "help")?),
+        Err(fault) => Ok(String::from_str(alloc, fault.words())?),
+    }
+}
+
+/// One line for what is asked: the verb, the iterations, what was given, and the texts.
+fn asked(alloc: Global, ask: &Ask) -> Result<String, Fail> {
+    let verb = match ask.request.verb {
+        Verb::Calendar => "calendar",
+        Verb::Timer => "timer",
+        Verb::Timestamp => "timestamp",
+        Verb::Timespan => "timespan",
+    };
+    let count = ask.request.iterations;
+    let mut line = format!(in alloc; "{verb} {count}")?;
+    if let Some(base) = &ask.request.base {
+        line.push_str(" after ")?;
+        line.push_str(base.as_str())?;
+    }
+    if let Some(now) = ask.now {
+        let seconds = now.secs();
+        line.push_str(format!(in alloc; " now {seconds}")?.as_str())?;
+    }
+    push_local(alloc, &mut line, &ask.local)?;
+    push_zones(&mut line, ask.zones.as_slice())?;
+    for text in &ask.request.texts {
+        line.push('|')?;
+        line.push_str(text.as_str())?;
+    }
+    Ok(line)
+}
+
+/// Adds what is said of the local zone; of UTC nothing.
+fn push_local(alloc: Global, line: &mut String, local: &LocalZone) -> Result<(), Fail> {
+    match local {
+        LocalZone::Utc => {}
+        LocalZone::Offset(seconds) => {
+            line.push_str(format!(in alloc; " ahead {seconds}")?.as_str())?;
+        }
+        LocalZone::Posix(rule) => {
+            line.push_str(" rule ")?;
+            line.push_str(rule.as_str())?;
+        }
+        LocalZone::Name(name) => {
+            line.push_str(" in ")?;
+            line.push_str(name.as_str())?;
+        }
+    }
+    Ok(())
+}
+
+/// Adds the zone files.
+fn push_zones(line: &mut String, zones: &[ZoneItem]) -> Result<(), Fail> {
+    for zone in zones {
+        line.push_str(" with ")?;
+        line.push_str(zone.name.as_str())?;
+        line.push_str(" of ")?;
+        line.push_str(zone.path.as_str())?;
+    }
+    Ok(())
+}
+
+/// Each line of words comes to what stands beside it.
+fn check(rt: &(impl Abort + AllocGlobal), rows: &[(&str, &str)]) -> Result<(), Fail> {
+    for (line, want) in rows {
+        let found = shown(rt.alloc(), line)?;
+        assert_eq!(rt; found.as_str(), *want, "at {line}");
+    }
+    Ok(())
+}
+
+static WORDS_OF_EACH_VERB: [(&str, &str); 10] = [
+    // Noon thirty, twice.
+    (
+        "calendar|--iterations=2|--now=@1704067200|*-*-* 12:30:00",
+        "calendar 2 now 1704067200|*-*-* 12:30:00",
+    ),
+    ("calendar|a", "calendar 1|a"),
+    (
+        "calendar|--base-time=today|a|b",
+        "calendar 1 after today|a|b",
+    ),
+    ("calendar||b", "calendar 1||b"),
+    (
+        "timer|--iterations=3|--base-time=@5|f",
+        "timer 3 after @5|f",
+    ),
+    ("timer|", "timer 1|"),
+    (
+        "timestamp|--now=@7|--local=utc|a|b",
+        "timestamp 1 now 7|a|b",
+    ),
+    // A text that begins with a minus sign.
+    ("timestamp|--|-5min", "timestamp 1|-5min"),
+    ("timespan|1h|2h", "timespan 1|1h|2h"),
+    ("timespan|--|-1h|--help", "timespan 1|-1h|--help"),
+];
+
+#[test]
+fn words_of_each_verb(rt: HostRuntime) -> Result<(), Fail> {
+    check(&rt, &WORDS_OF_EACH_VERB)
+}
+
+static OPTIONS_BETWEEN_TEXTS: [(&str, &str); 9] = [
+    (
+        "calendar|a|--iterations=2|b|--now=@3|c",
+        "calendar 2 now 3|a|b|c",
+    ),
+    ("calendar|a|--iterations|2|b", "calendar 2|a|b"),
+    ("timer|f|--iterations=2", "timer 2|f"),
+    (
+        "calendar|--now=@3|--|a|--iterations=2",
+        "calendar 1 now 3|a|--iterations=2",
+    ),
+    ("calendar|a|--|b", "calendar 1|a|b"),
+    ("calendar|a|--|--|b", "calendar 1|a|--|b"),
+    ("calendar|a|--", "calendar 1|a"),
+    ("timer|--|-f", "timer 1|-f"),
+    ("timestamp|help|calendar", "timestamp 1|help|calendar"),
+];
+
+#[test]
+fn options_between_texts(rt: HostRuntime) -> Result<(), Fail> {
+    check(&rt, &OPTIONS_BETWEEN_TEXTS)
+}
+
+/// Lines whose words aren't those of a command.
+static NO_COMMANDS: [&str; 29] = [
+    "",
+    "frobnicate|a",
+    "help",
+    "--",
+    "calendar",
+    "calendar|--",
+    "calendar|--now=@3",
+    "timer",
+    "timer|a|b",
+    "timer|a|--|b",
+    "--now=@3|calendar|a",
+    "calendar|--nope=1|a",
+    "calendar|-5min",
+    "calendar|-n|a",
+    "calendar|a|--now",
+    "timestamp|--iterations=2|a",
+    "timestamp|--base-time=a|a",
+    "timespan|--iterations=2|a",
+    "timespan|--base-time=a|a",
+    "timespan|--now=@1|a",
+    "timespan|--local=UTC|a",
+    "timespan|--zones=A=f|a",
+    "calendar|--iterations=1|--iterations=1|a",
+    "calendar|--base-time=a|--base-time=a|a",
+    "calendar|--now=@1|a|--now=@1",
+    "calendar|--local=UTC|--local=UTC|a",
+    "calendar|--zones=A=f|--zones=B=g|a",
+    "calendar|--version",
+    "Calendar|a",
+];
+
+#[test]
+fn words_that_are_no_command(rt: HostRuntime) -> Result<(), Fail> {
+    for line in &NO_COMMANDS {
+        check(&rt, &[(*line, "usage")])?;
+    }
+    Ok(())
+}
+
+/// A line without any word, which isn't one with an empty word.
+#[test]
+fn no_word(rt: HostRuntime) {
+    assert!(rt; matches!(Ask::of(rt.alloc(), &[]), Err(CommandFault::Usage(_))));
+}
+
+/// Each of the values, which are joined by `|`, is refused by these words where it is that option's.
+fn check_values(
+    rt: &(impl Abort + AllocGlobal),
+    option: &str,
+    values: &str,
+    want: &str,
+) -> Result<(), Fail> {
+    for value in values.split('|') {
+        let line = format!(in rt.alloc(); "calendar|--{option}={value}|daily")?;
+        check(rt, &[(line.as_str(), want)])?;
+    }
+    Ok(())
+}
+
+/// Options with bad values of theirs, which are joined by `|`, and the words that refuse them.
+static BAD_VALUES: [(&str, &str, &str); 4] = [
+    (
+        "iterations",
+        "|0|1000001|+1|-1| 1|1 |1.5|x|1x|٣|99999999999999999999",
+        "bad iterations",
+    ),
+    (
+        "now",
+        "|5|@|@-1|@+1|@ 1|@1 |@7258211999|@1.5|now|@٣|@99999999999999999999",
+        "bad now",
+    ),
+    (
+        "zones",
+        "|x|A|A=|=f|A=f,|,A=f|A=f,,B=g|1x=f|A b=f|A=f,B|A= ,",
+        "bad zones",
+    ),
+    (
+        "local",
+        "|5x|+1:00|+01:0|+01:60|+26:00|-26:00|+0100|01:00|+01:00:00|+ 1:00|++1:00|+01-00|+01:٣|POSIX:CET-1|é",
+        "bad local zone",
+    ),
+];
+
+#[test]
+fn bad_values(rt: HostRuntime) -> Result<(), Fail> {
+    for (option, values, want) in &BAD_VALUES {
+        check_values(&rt, option, values, want)?;
+    }
+    Ok(())
+}
+
+static GOOD_COUNTS_AND_PRESENTS: [(&str, &str); 6] = [
+    ("calendar|--iterations=1|a", "calendar 1|a"),
+    ("calendar|--iterations=1000000|a", "calendar 1000000|a"),
+    ("calendar|--iterations=007|a", "calendar 7|a"),
+    ("calendar|--now=@0|a", "calendar 1 now 0|a"),
+    ("calendar|--now=@00001|a", "calendar 1 now 1|a"),
+    (
+        "calendar|--now=@7258211998|a",
+        "calendar 1 now 7258211998|a",
+    ),
+];
+
+#[test]
+fn good_counts_and_presents(rt: HostRuntime) -> Result<(), Fail> {
+    check(&rt, &GOOD_COUNTS_AND_PRESENTS)
+}
+
+static GOOD_ZONES: [(&str, &str); 13] = [
+    ("calendar|--local=UTC|a", "calendar 1|a"),
+    ("calendar|--local=uTc|a", "calendar 1|a"),
+    // The farthest offsets that can be said.
+    (
+        "calendar|--local=+25:59|daily",
+        "calendar 1 ahead 93540|daily",
+    ),
+    (
+        "calendar|--local=-25:59|daily",
+        "calendar 1 ahead -93540|daily",
+    ),
+    ("calendar|--local=+00:00|a", "calendar 1 ahead 0|a"),
+    ("calendar|--local=-00:30|a", "calendar 1 ahead -1800|a"),
+    ("calendar|--local=posix:|daily", "calendar 1 rule |daily"),
+    ("calendar|--local=posix:CET-1|a", "calendar 1 rule CET-1|a"),
+    (
+        "calendar|--local=Mars/One|daily",
+        "calendar 1 in Mars/One|daily",
+    ),
+    ("calendar|--local=posix|a", "calendar 1 in posix|a"),
+    (
+        "calendar|--zones=A=f,A=f|daily",
+        "calendar 1 with A of f with A of f|daily",
+    ),
+    (
+        "calendar|--zones=Test/Fixed=a=b|a",
+        "calendar 1 with Test/Fixed of a=b|a",
+    ),
+    ("timestamp|--zones=A==|a", "timestamp 1 with A of =|a"),
+];
+
+#[test]
+fn good_zones(rt: HostRuntime) -> Result<(), Fail> {
+    check(&rt, &GOOD_ZONES)
+}
+
+static THE_FIRST_BAD_VALUE_IS_TOLD: [(&str, &str); 7] = [
+    ("calendar|--iterations=0|--now=5|daily", "bad iterations"),
+    (
+        "calendar|--local=5x|--zones=x|--now=5|--iterations=0|daily",
+        "bad iterations",
+    ),
+    ("calendar|--iterations=1000001|daily", "bad iterations"),
+    ("calendar|--local=5x|--zones=x|--now=5|daily", "bad now"),
+    ("calendar|--local=5x|--zones=x|daily", "bad zones"),
+    ("calendar|--local=5x|daily", "bad local zone"),
+    ("calendar|--local=5x", "usage"),
+];
+
+#[test]
+fn the_first_bad_value_is_told(rt: HostRuntime) -> Result<(), Fail> {
+    check(&rt, &THE_FIRST_BAD_VALUE_IS_TOLD)
+}
+
+/// A line with so many zone files.
+fn with_zones(alloc: Global, count: usize) -> Result<String, Fail> {
+    let mut line = String::from_str(alloc, "calendar|--zones=A=f")?;
+    for _ in 1..count {
+        line.push_str(",A=f")?;
+    }
+    line.push_str("|a")?;
+    Ok(line)
+}
+
+#[test]
+fn at_most_sixty_four_zone_files(rt: HostRuntime) -> Result<(), Fail> {
+    let most = with_zones(rt.alloc(), 64)?;
+    let Ok(ask) = read(rt.alloc(), most.as_str())? else {
+        return Err("64 zone files are refused".into());
+    };
+    assert_eq!(rt; ask.zones.len(), 64);
+    let more = with_zones(rt.alloc(), 65)?;
+    check(&rt, &[(more.as_str(), "bad zones")])
+}
+
+static CALLS_FOR_HELP: [(&str, &str); 9] = [
+    ("--help", "help"),
+    ("-h", "help"),
+    ("--version", "help"),
+    ("-V", "help"),
+    ("calendar|--help", "help"),
+    ("timestamp|-h", "help"),
+    ("timespan|a|--help", "help"),
+    ("timer|--help|--nope", "help"),
+    ("calendar|--|--help", "calendar 1|--help"),
+];
+
+#[test]
+fn calls_for_help(rt: HostRuntime) -> Result<(), Fail> {
+    check(&rt, &CALLS_FOR_HELP)
+}
+
+/// The text of help or usage that the words call for.
+fn told(alloc: Global, line: &str) -> Result<String, Fail> {
+    match read(alloc, line)? {
+        Err(CommandFault::Usage(text) | CommandFault::Help(text)) => Ok(text),
+        _ => Err("no text".into()),
+    }
+}
+
+/// Lines that call for the text of help or usage.
+static TOLD: [&str; 11] = [
+    "--help",
+    "--version",
+    "calendar|--help",
+    "timestamp|--help",
+    "timespan|--help",
+    "timer|--help",
+    "x",
+    "",
+    "calendar",
+    "timer|a|b",
+    "calendar|--nope|a",
+];
+
+/// Texts of help and usage end with one line feed, and have no line of more than 80 bytes.
+#[test]
+fn texts_fit_a_terminal(rt: HostRuntime) -> Result<(), Fail> {
+    for line in &TOLD {
+        let told = told(rt.alloc(), line)?;
+        let text = told.as_str();
+        let ends = text.ends_with('\n') && !text.ends_with("\n\n");
+        let fits = text.lines().all(|row| row.len() <= 80);
+        assert!(rt; ends && fits, "{text}");
+    }
+    Ok(())
+}
+
+#[test]
+fn words_of_faults(rt: HostRuntime) -> Result<(), Fail> {
+    let text = String::from_str(rt.alloc(), "error: x\n")?;
+    let help = String::from_str(rt.alloc(), "Usage\n")?;
+    for (fault, words) in &[
+        (CommandFault::Usage(text), "error: x\n"),
+        (CommandFault::Help(help), "Usage\n"),
+        (CommandFault::BadIterations, "bad iterations"),
+        (CommandFault::BadNow, "bad now"),
+        (CommandFault::BadZones, "bad zones"),
+        (CommandFault::BadLocal, "bad local zone"),
+        (CommandFault::NoMemory, ""),
+    ] {
+        assert_eq!(rt; fault.words(), *words);
+    }
+    Ok(())
+}

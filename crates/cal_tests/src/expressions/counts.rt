@@ -1,0 +1,213 @@
+//! How many bytes and how many parts a text may have.
+
+use super::{expect_fault, expect_normal_text};
+use cal_spec::SpecFault::{self, *};
+use std::alloc::{AllocError, Global};
+use std::process::Abort;
+use std::test::Fail;
+
+/// Long texts. Each line begins with a count, and in what follows `#` stands for the piece so many times.
+struct Table {
+    piece: &'static str,
+    /// After the text an arrow and its normal text.
+    accepted: &'static str,
+    refused: &'static [(SpecFault, &'static str)],
+}
+
+/// 4,096 bytes may stand, and no more; one too many is told before all other faults.
+const BYTES: [Table; 4] = [
+    Table {
+        piece: " ",
+        accepted: "4091: 12:00# -> *-*-* 12:00:00",
+        refused: &[(Empty, "4096: #"), (TextTooLong, "4092: 12:00#\n4097: #")],
+    },
+    Table {
+        piece: "\t",
+        accepted: "4091: #daily -> *-*-* 00:00:00",
+        refused: &[(TextTooLong, "4092: #daily")],
+    },
+    Table {
+        piece: "0",
+        accepted: "4091: #1-1-1 -> 2001-01-01 00:00:00",
+        refused: &[(TextTooLong, "4092: #1-1-1")],
+    },
+    Table {
+        piece: "!",
+        accepted: "",
+        refused: &[(TextTooLong, "4092: Mon,,#")],
+    },
+];
+
+/// A zone name of 255 bytes may stand, and no longer one.
+const ZONE_NAMES: [Table; 2] = [
+    Table {
+        piece: "b",
+        accepted: "254: daily A# -> *-*-* 00:00:00 A#",
+        refused: &[(StrayWord, "255: daily A#")],
+    },
+    Table {
+        piece: "/",
+        accepted: "254: 12:00 A# -> *-*-* 12:00:00 A#",
+        refused: &[(StrayWord, "255: 12:00 A#")],
+    },
+];
+
+/// The 240th part of a component of a date may stand, and the next not. Of a component of a time it is the 241st,
+/// since the first one isn't counted.
+const PARTS_OF_A_COMPONENT: Table = Table {
+    piece: ",1",
+    accepted: "\
+237: 1#-1-1 -> 2001-01-01 00:00:00
+239: 1#-*-* -> 2001-*-* 00:00:00
+239: *-1#-* -> *-01-* 00:00:00
+239: *-*-1# -> *-*-01 00:00:00
+239: *-*~1# -> *-*~01 00:00:00
+240: 1#:0 -> *-*-* 01:00:00
+240: *:1# -> *-*-* *:01:00
+240: *:1#:0 -> *-*-* *:01:00
+240: *:*:1# -> *-*-* *:*:01
+240: *-*-* *:*:1# UTC -> *-*-* *:*:01 UTC
+",
+    refused: &[(
+        TooManyParts,
+        "\
+238: 1#-1-1
+240: 1#-*-*
+240: *-1#-*
+240: *-*-1#
+240: *-*~1#
+241: 1#:0
+241: *:1#
+241: *:1#:0
+241: *:*:1#
+241: *-*-* *:*:1# UTC
+",
+    )],
+};
+
+/// The first part too many is a fault where it is due: before its shape, and before the values of its component.
+const PARTS_IN_ALL: Table = Table {
+    piece: ",1",
+    accepted: "\
+239: 1#-*-* 0:0:0 -> 2001-*-* 00:00:00
+239: 1#-*~* *:*:* -> 2001-*-* *:*:*
+237: 1#-1-1 23:59:59 -> 2001-01-01 23:59:59
+236: 1#-*-* 0,0:0,0:0,0 UTC -> 2001-*-* 00:00:00 UTC
+239: 1,1:1#:1 -> *-*-* 01:01:01
+",
+    refused: &[
+        (
+            TooManyParts,
+            "\
+239: 1#,-1-1
+239: 1#,10000-1-1
+239: 1#-1x-1
+239: 1#--1
+239: 1#-*x-1
+238: 1#-1-1
+240: 1969#-1-1
+239: 1#-*-* 0,0:0
+239: 1#-*-* 0:0,0
+239: 1#-*-* 0:0:0,0
+239: 1#-*-* 0,:0
+240: *:1#,
+240: *:*:1#,1.5
+240: 1:1#:1,1
+239: 1,1:1#:1,1
+",
+        ),
+        (
+            BadDate,
+            "\
+238: 1#,-1-1
+238: 1#-1x-1
+240: 1x#-1-1
+",
+        ),
+        (OutOfField, "239: 1969#-1-1\n239: 1#-*-* 24:0,0"),
+        (BadTime, "239: 1#-*-* 0x,1:0\n239: *:1#,"),
+        (FractionalSecond, "239: *:*:1#,1.5"),
+    ],
+};
+
+/// The text with its mark, where it has one, written out.
+fn written_out(alloc: Global, text: &str, piece: &str, count: u16) -> Result<String, AllocError> {
+    let Some((front, back)) = text.split_once("#") else {
+        return String::from_str(alloc, text);
+    };
+    let mut whole = String::from_str(alloc, front)?;
+    for _ in 0..count {
+        whole.push_str(piece)?;
+    }
+    whole.push_str(back)?;
+    Ok(whole)
+}
+
+/// The count and the rest of a line.
+fn counted(line: &str) -> Result<(u16, &str), Fail> {
+    let (count, text) = line.split_once(": ").ok_or("no count")?;
+    Ok((count.parse()?, text))
+}
+
+/// Each line is a text with its normal text.
+fn expect_accepted(rt: &impl Abort, alloc: Global, piece: &str, lines: &str) -> Result<(), Fail> {
+    for line in lines.lines() {
+        let (count, rest) = counted(line)?;
+        let (text, normal) = rest.split_once(" -> ").ok_or("no arrow")?;
+        let text = written_out(alloc, text, piece, count)?;
+        let normal = written_out(alloc, normal, piece, count)?;
+        expect_normal_text(rt, alloc, &text, &normal);
+    }
+    Ok(())
+}
+
+/// Each line is a text with this fault.
+fn expect_refused(
+    rt: &impl Abort,
+    alloc: Global,
+    piece: &str,
+    fault: SpecFault,
+    lines: &str,
+) -> Result<(), Fail> {
+    for line in lines.lines() {
+        let (count, text) = counted(line)?;
+        let text = written_out(alloc, text, piece, count)?;
+        expect_fault(rt, alloc, &text, fault);
+    }
+    Ok(())
+}
+
+/// Each text of the table has the normal text or the fault beside it.
+fn expect_table(rt: &impl Abort, alloc: Global, table: &Table) -> Result<(), Fail> {
+    expect_accepted(rt, alloc, table.piece, table.accepted)?;
+    for (fault, lines) in table.refused {
+        expect_refused(rt, alloc, table.piece, *fault, lines)?;
+    }
+    Ok(())
+}
+
+#[test]
+fn bytes(rt: HostRuntime) -> Result<(), Fail> {
+    for table in &BYTES {
+        expect_table(&rt, rt.alloc(), table)?;
+    }
+    Ok(())
+}
+
+#[test]
+fn bytes_of_zone_names(rt: HostRuntime) -> Result<(), Fail> {
+    for table in &ZONE_NAMES {
+        expect_table(&rt, rt.alloc(), table)?;
+    }
+    Ok(())
+}
+
+#[test]
+fn parts_of_a_component(rt: HostRuntime) -> Result<(), Fail> {
+    expect_table(&rt, rt.alloc(), &PARTS_OF_A_COMPONENT)
+}
+
+#[test]
+fn parts_in_all(rt: HostRuntime) -> Result<(), Fail> {
+    expect_table(&rt, rt.alloc(), &PARTS_IN_ALL)
+}

@@ -1,0 +1,59 @@
+//! The numbers and the words of the faults of expressions.
+
+use cal_spec::SpecFault;
+use std::alloc::Global;
+use std::process::Abort;
+use std::test::Fail;
+
+/// Each fault with its number and its words.
+const FAULTS: [(SpecFault, u8, &str); 15] = [
+    (SpecFault::Empty, 1, "empty expression"),
+    (
+        SpecFault::TextTooLong,
+        2,
+        "expression longer than 4096 bytes",
+    ),
+    (SpecFault::BadWeekday, 3, "bad weekday"),
+    (SpecFault::BadDate, 4, "bad date"),
+    (SpecFault::BadTime, 5, "bad time"),
+    (
+        SpecFault::FractionalSecond,
+        6,
+        "fractions of a second are not supported",
+    ),
+    (SpecFault::NumberTooLarge, 7, "number above 9999"),
+    (SpecFault::OutOfField, 8, "value out of range"),
+    (SpecFault::BackwardRange, 9, "range runs backwards"),
+    (SpecFault::ZeroRepeat, 10, "repetition of zero"),
+    (
+        SpecFault::NoRepeat,
+        11,
+        "repetition reaches no further value",
+    ),
+    (SpecFault::TooManyParts, 12, "more than 240 parts"),
+    (SpecFault::StrayWord, 13, "stray word"),
+    (SpecFault::UnknownShorthand, 14, "unknown shorthand"),
+    (SpecFault::NoMemory, 15, ""),
+];
+
+/// The fault shows these words.
+fn expect_shown(rt: &impl Abort, alloc: Global, fault: SpecFault, words: &str) -> Result<(), Fail> {
+    let shown = format!(in alloc; "{fault}")?;
+    assert_eq!(rt; shown.as_str(), words);
+    Ok(())
+}
+
+#[test]
+fn numbers_and_words(rt: HostRuntime) {
+    for (fault, number, words) in FAULTS {
+        assert_eq!(rt; (fault as u8, fault.words()), (number, words));
+    }
+}
+
+#[test]
+fn shown_words(rt: HostRuntime) -> Result<(), Fail> {
+    for (fault, _, words) in FAULTS {
+        expect_shown(&rt, rt.alloc(), fault, words)?;
+    }
+    Ok(())
+}

@@ -1,0 +1,204 @@
+//! Whole outputs of `run`, over memory. The expected texts are typed from the layouts.
+
+ghost use Rattle.std.specs.Prelude.{◌≡◌, false};
+
+mod base;
+mod calendar;
+mod timers;
+mod timespans;
+mod timestamps;
+mod writers;
+mod zones;
+
+use crate::shared::{NEW_YEAR, SUMMER_TIME, instant, posix, zone_file};
+use cal_bytes::{Port, Sink, Source};
+use cal_report::{file_name, run};
+use cal_request::{MOST_ITERATIONS, Request, RunFault, Status, Verb};
+use cal_zone::{Rules, Zone, ZoneTable};
+use std::alloc::{AllocError, Global};
+use std::process::Abort;
+use std::test::Fail;
+
+/// A request, what is told beside it, and the whole texts that it must write. The run ends well, and has refused
+/// something where there is a text on standard error.
+#[derive(Clone, Copy)]
+struct Row<'a> {
+    /// What the row is about.
+    about: &'a str,
+    verb: Verb,
+    texts: &'a [&'a str],
+    iterations: u32,
+    base: Option<&'a str>,
+    now: i64,
+    local: Local,
+    /// The timer file.
+    input: &'a [u8],
+    out: &'a str,
+    err: &'a str,
+}
+
+/// The local zone of a row.
+#[derive(Clone, Copy)]
+enum Local {
+    Utc,
+    /// So many seconds ahead of UTC.
+    Offset(i32),
+    /// By the rule of a clock that goes forward an hour in summer.
+    Summer,
+}
+
+/// What the rows have where they say nothing else: one elapse of each expression, from the turn of the year on, in UTC.
+const CALENDAR: Row<'static> = Row {
+    about: "",
+    verb: Verb::Calendar,
+    texts: &[],
+    iterations: 1,
+    base: None,
+    now: NEW_YEAR,
+    local: Local::Utc,
+    input: b"",
+    out: "",
+    err: "",
+};
+
+/// Two elapses of one time of day.
+const NOON_THIRTY: Row<'static> = Row {
+    about: "noon thirty",
+    texts: &["*-*-* 12:30:00"],
+    iterations: 2,
+    out: "  Original form: *-*-* 12:30:00
+Normalized form: *-*-* 12:30:00
+    Next elapse: Mon 2024-01-01 12:30:00 UTC
+       From now: 12h 30min left
+       Iter. #2: Tue 2024-01-02 12:30:00 UTC
+       From now: 1d 12h 30min left
+",
+    ..CALENDAR
+};
+
+/// The zones that rows are run with.
+#[derive(Drop)]
+struct KnownZones {
+    summer: Rules,
+    /// `Test/Fixed` by a zone file, and `Test/Summer` by a rule.
+    table: ZoneTable,
+}
+
+/// Makes the zones.
+fn known_zones(alloc: Global) -> Result<KnownZones, Fail> {
+    let file = zone_file(alloc)?;
+    let Ok(fixed) = Rules::file(alloc, "Test/Fixed", file.as_slice()) else {
+        return Err("a zone file is refused".into());
+    };
+    let mut table = ZoneTable::new(alloc);
+    let added = table.add("Test/Fixed", fixed).is_ok();
+    if added && table.add("Test/Summer", posix(alloc, SUMMER_TIME)?).is_ok() {
+        let summer = posix(alloc, SUMMER_TIME)?;
+        Ok(KnownZones { summer, table })
+    } else {
+        Err("a name is refused".into())
+    }
+}
+
+/// Each row writes its texts.
+fn check(rt: &(impl Abort + AllocGlobal), rows: &[Row<'_>]) -> Result<(), Fail> {
+    let zones = known_zones(rt.alloc())?;
+    for row in rows {
+        let mut out = Port::new(Vec::new(rt.alloc()));
+        let mut err = Port::new(Vec::new(rt.alloc()));
+        let mut input = Port::new(row.input);
+        let ended = run_row(rt, *row, &zones, &mut input, &mut out, &mut err)?;
+        let (out, err) = (out.into_inner(), err.into_inner());
+        assert_eq!(rt;
+            (out.as_slice(), err.as_slice(), ended),
+            (row.out.as_bytes(), row.err.as_bytes(), Ok(status(*row))),
+            "at {}",
+            row.about
+        );
+    }
+    Ok(())
+}
+
+/// How the run of a row ends.
+fn status(row: Row<'_>) -> Status {
+    if row.err.is_empty() {
+        Status::Fine
+    } else {
+        Status::Refused
+    }
+}
+
+/// Runs a row's request, over that timer file and these writers.
+fn run_row<R: Source, O: Sink, E: Sink>(
+    rt: &(impl Abort + AllocGlobal),
+    row: Row<'_>,
+    zones: &KnownZones,
+    input: &mut R,
+    out: &mut O,
+    err: &mut E,
+) -> Result<Result<Status, RunFault>, Fail>
+    requires input { R.is_failed input.old ≡ false }
+    requires out { O.is_failed out.old ≡ false }
+    requires err { E.is_failed err.old ≡ false }
+{
+    let alloc = rt.alloc();
+    let request = request(alloc, row)?;
+    assert!(rt; request.iterations >= 1 && request.iterations <= MOST_ITERATIONS);
+    assert!(rt; request.verb.seeks_elapses() || request.base.is_none());
+    assert!(rt; !request.verb.is_timer() || request.texts.len() == 1);
+    let now = instant(row.now)?;
+    let local = local_zone(rt, row.local, zones);
+    let table = &zones.table;
+    Ok(run(alloc, &request, input, now, local, table, out, err))
+}
+
+/// A row's local zone.
+fn local_zone<'z>(rt: &impl Abort, local: Local, zones: &'z KnownZones) -> Zone<'z> {
+    match local {
+        Local::Utc => Zone::utc(),
+        Local::Offset(seconds) => {
+            assert!(rt; seconds >= -93_599 && seconds <= 93_599);
+            Zone::offset(seconds)
+        }
+        Local::Summer => Zone::rules(&zones.summer),
+    }
+}
+
+/// A row's request.
+fn request(alloc: Global, row: Row<'_>) -> Result<Request, AllocError> {
+    let mut texts = Vec::new(alloc);
+    for text in row.texts {
+        texts.push(String::from_str(alloc, text)?)?;
+    }
+    Ok(Request {
+        verb: row.verb,
+        texts,
+        iterations: row.iterations,
+        base: match row.base {
+            Some(text) => Some(String::from_str(alloc, text)?),
+            None => None,
+        },
+    })
+}
+
+/// The texts of a request, and the name of the file that a timer is read from: the first, or none.
+const NAMES: [(&[&str], &str); 3] = [(&["t"], "t"), (&["a/b", "c"], "a/b"), (&[], "")];
+
+#[test]
+fn names_of_files(rt: HostRuntime) -> Result<(), Fail> {
+    for (texts, name) in NAMES {
+        let request = request(rt.alloc(), Row { texts, ..CALENDAR })?;
+        assert_eq!(rt; file_name(&request), name);
+    }
+    Ok(())
+}
+
+#[test]
+fn numbers_of_faults(rt: HostRuntime) {
+    let numbers = [
+        RunFault::OutFailed as u8,
+        RunFault::ErrFailed as u8,
+        RunFault::NoMemory as u8,
+    ];
+    assert_eq!(rt; numbers, [1, 2, 3]);
+}

@@ -1,0 +1,249 @@
+//! Reports of timer files.
+
+use super::{CALENDAR, KnownZones, Local, Row, check, known_zones, run_row};
+use crate::shared::NEW_YEAR;
+use cal_bytes::{Faulty, Port, Then};
+use cal_request::{Status, Verb};
+use std::alloc::{AllocError, Global};
+use std::process::Abort;
+use std::test::Fail;
+
+/// A request for the first elapse of the file `t`.
+const TIMER: Row<'static> = Row {
+    verb: Verb::Timer,
+    texts: &["t"],
+    ..CALENDAR
+};
+
+/// The elapses of two expressions, of which both have 11:00.
+const SHARED: &str = "  Original form: *:0/15
+Normalized form: *-*-* *:00/15:00
+  Original form: *:0/20
+Normalized form: *-*-* *:00/20:00
+    Next elapse: Mon 2024-01-01 10:15:00 UTC
+       From now: 15min left
+       Iter. #2: Mon 2024-01-01 10:20:00 UTC
+       From now: 20min left
+       Iter. #3: Mon 2024-01-01 10:30:00 UTC
+       From now: 30min left
+       Iter. #4: Mon 2024-01-01 10:40:00 UTC
+       From now: 40min left
+       Iter. #5: Mon 2024-01-01 10:45:00 UTC
+       From now: 45min left
+       Iter. #6: Mon 2024-01-01 11:00:00 UTC
+       From now: 1h left
+";
+
+/// A comment stands in a continued line, and a key of another timer empties the list.
+const CONTINUED_FILE: &[u8] = b"[Unit]
+Description=x
+[Timer]
+OnCalendar=daily
+OnBootSec=
+OnCalendar=Mon \\
+# the minutes
+  *:0/30
+OnCalendar=hourly
+";
+
+const CONTINUED: &str = "  Original form: Mon  *:0/30
+Normalized form: Mon *-*-* *:00/30:00
+  Original form: hourly
+Normalized form: *-*-* *:00:00
+    Next elapse: Mon 2024-01-01 00:30:00 UTC
+       From now: 30min left
+       Iter. #2: Mon 2024-01-01 01:00:00 UTC
+       From now: 1h left
+";
+
+/// The timer file whose elapses are those of its last two lists.
+pub(super) const CONTINUED_TIMER: Row<'static> = Row {
+    about: "timer file",
+    iterations: 2,
+    input: CONTINUED_FILE,
+    out: CONTINUED,
+    ..TIMER
+};
+
+const NEVER: &str = "  Original form: 2100-02-29
+Normalized form: 2100-02-29 00:00:00
+    Next elapse: never
+";
+
+static ELAPSES_OF_ALL_EXPRESSIONS: [Row<'static>; 3] = [
+    Row {
+        about: "shared instants",
+        iterations: 6,
+        now: NEW_YEAR + 36_000,
+        input: b"[Timer]\nOnCalendar=*:0/15\nOnCalendar=*:0/20\n",
+        out: SHARED,
+        ..TIMER
+    },
+    CONTINUED_TIMER,
+    Row {
+        about: "a timer that never elapses",
+        input: b"[Timer]\nOnCalendar=2100-02-29",
+        out: NEVER,
+        ..TIMER
+    },
+];
+
+#[test]
+fn elapses_of_all_expressions(rt: HostRuntime) -> Result<(), Fail> {
+    check(&rt, &ELAPSES_OF_ALL_EXPRESSIONS)
+}
+
+/// Each expression is meant in its own zone, or in the local one.
+const ZONES_FILE: &[u8] =
+    b"[Timer]\nOnCalendar=daily Test/Fixed\nOnCalendar=daily\nOnCalendar=daily utc\n";
+
+const ZONES: &str = "  Original form: daily Test/Fixed
+Normalized form: *-*-* 00:00:00 Test/Fixed
+  Original form: daily
+Normalized form: *-*-* 00:00:00
+  Original form: daily utc
+Normalized form: *-*-* 00:00:00 UTC
+    Next elapse: Mon 2024-01-01 05:30:00 +05:30
+       (in UTC): Mon 2024-01-01 00:00:00 UTC
+       From now: 0 left
+       Iter. #2: Tue 2024-01-02 00:00:00 +05:30
+       (in UTC): Mon 2024-01-01 18:30:00 UTC
+       From now: 18h 30min left
+       Iter. #3: Tue 2024-01-02 04:30:00 +05:30
+       (in UTC): Mon 2024-01-01 23:00:00 UTC
+       From now: 23h left
+";
+
+static ZONES_OF_A_TIMER: [Row<'static>; 1] = [Row {
+    about: "a timer whose expressions name zones",
+    iterations: 3,
+    base: Some("@1704067199"),
+    local: Local::Offset(19_800),
+    input: ZONES_FILE,
+    out: ZONES,
+    ..TIMER
+}];
+
+#[test]
+fn zones_of_a_timer(rt: HostRuntime) -> Result<(), Fail> {
+    check(&rt, &ZONES_OF_A_TIMER)
+}
+
+/// A file is refused as a whole, by one line.
+static REFUSED_TIMERS: [Row<'static>; 6] = [
+    Row {
+        about: "a refused expression",
+        input: b"[Timer]\nOnCalendar=20/4:00\n",
+        err: "t:2: repetition reaches no further value\n",
+        ..TIMER
+    },
+    Row {
+        about: "the empty file",
+        input: b"",
+        err: "t: no calendar expression\n",
+        ..TIMER
+    },
+    Row {
+        about: "a byte that is no text",
+        input: b"[Timer]\nOnCalendar=daily\n#\xff\n",
+        err: "t:3: not UTF-8\n",
+        ..TIMER
+    },
+    Row {
+        about: "zones that aren't there",
+        input: b"[Timer]\nOnCalendar=daily\nOnCalendar=daily Test/West\nOnCalendar=daily Mars/One\n",
+        err: "t:3: no such zone\n",
+        ..TIMER
+    },
+    Row {
+        about: "the whole file is read before a zone is looked up",
+        input: b"[Timer]\nOnCalendar=daily Mars/One\nOnCalendar=7\n",
+        err: "t:3: bad date\n",
+        ..TIMER
+    },
+    Row {
+        about: "a base is judged before the file is read",
+        base: Some("Mon 2012-11-23"),
+        input: b"\xff",
+        err: "--base-time: weekday does not fit the date\n",
+        ..TIMER
+    },
+];
+
+#[test]
+fn refused_timers(rt: HostRuntime) -> Result<(), Fail> {
+    check(&rt, &REFUSED_TIMERS)
+}
+
+/// A timer file with so many times `OnCalendar=daily` before a reset.
+fn many(alloc: Global, count: usize) -> Result<Vec<u8>, AllocError> {
+    let mut file = Vec::new(alloc);
+    file.extend_from_slice(b"[Timer]\n")?;
+    for _ in 0..count {
+        file.extend_from_slice(b"OnCalendar=daily\n")?;
+    }
+    file.extend_from_slice(b"OnCalendar=\nOnCalendar=hourly\n")?;
+    Ok(file)
+}
+
+/// What is left after a reset.
+const HOURLY: &str = "  Original form: hourly
+Normalized form: *-*-* *:00:00
+    Next elapse: Mon 2024-01-01 01:00:00 UTC
+       From now: 1h left
+";
+
+static MANY: [(usize, &str, &str); 2] = [
+    (256, HOURLY, ""),
+    (257, "", "t:258: more than 256 expressions\n"),
+];
+
+#[test]
+fn as_many_expressions_as_there_may_be(rt: HostRuntime) -> Result<(), Fail> {
+    for (count, out, err) in &MANY {
+        let file = many(rt.alloc(), *count)?;
+        let row = Row {
+            about: "many expressions and a reset",
+            input: file.as_slice(),
+            out,
+            err,
+            ..TIMER
+        };
+        check(&rt, &[row])?;
+    }
+    Ok(())
+}
+
+const TWO_EXPRESSIONS: &[u8] = b"[Timer]\nOnCalendar=daily\nOnCalendar=hourly\n";
+
+/// Where a reader of that file does so after so many bytes, the file is refused by this line.
+fn check_reader(
+    rt: &(impl Abort + AllocGlobal),
+    zones: &KnownZones,
+    limit: usize,
+    then: Then,
+    want: &str,
+) -> Result<(), Fail> {
+    let bytes = Vec::from_slice(rt.alloc(), TWO_EXPRESSIONS)?;
+    let mut input = Port::new(Faulty::new(bytes, 1_024, limit, then));
+    let mut out = Port::new(Vec::new(rt.alloc()));
+    let mut err = Port::new(Vec::new(rt.alloc()));
+    let ended = run_row(rt, TIMER, zones, &mut input, &mut out, &mut err)?;
+    let (out, err) = (out.into_inner(), err.into_inner());
+    assert_eq!(rt;
+        (ended, out.is_empty(), err.as_slice()),
+        (Ok(Status::Refused), true, want.as_bytes()),
+        "at {limit}"
+    );
+    Ok(())
+}
+
+/// Readers that fail, and one that never ends.
+#[test]
+fn faulty_readers(rt: HostRuntime) -> Result<(), Fail> {
+    let zones = known_zones(rt.alloc())?;
+    check_reader(&rt, &zones, 0, Then::Error, "t: cannot be read\n")?;
+    check_reader(&rt, &zones, 40, Then::Error, "t: cannot be read\n")?;
+    let endless = "t: larger than 1048576 bytes\n";
+    check_reader(&rt, &zones, 40, Then::Endless, endless)
+}

@@ -1,0 +1,211 @@
+//! Calendar reports in zones other than UTC.
+
+use super::{CALENDAR, Local, Row, check};
+use std::test::Fail;
+
+/// A local time that is skipped once a year has no elapse there.
+const GAP: &str = "  Original form: 02:30
+Normalized form: *-*-* 02:30:00
+    Next elapse: Sat 2024-03-30 02:30:00 +01:00
+       (in UTC): Sat 2024-03-30 01:30:00 UTC
+       From now: 1h 30min left
+       Iter. #2: Mon 2024-04-01 02:30:00 +02:00
+       (in UTC): Mon 2024-04-01 00:30:00 UTC
+       From now: 2d 30min left
+";
+
+/// A local time that comes twice elapses the first time.
+const FOLD: &str = "  Original form: 02:30
+Normalized form: *-*-* 02:30:00
+    Next elapse: Sun 2024-10-27 02:30:00 +02:00
+       (in UTC): Sun 2024-10-27 00:30:00 UTC
+       From now: 30min left
+       Iter. #2: Mon 2024-10-28 02:30:00 +01:00
+       (in UTC): Mon 2024-10-28 01:30:00 UTC
+       From now: 1d 1h 30min left
+";
+
+const FOLD_SECOND_PASS: &str = "  Original form: 02:30
+Normalized form: *-*-* 02:30:00
+    Next elapse: Mon 2024-10-28 02:30:00 +01:00
+       (in UTC): Mon 2024-10-28 01:30:00 UTC
+       From now: 1d 20min left
+";
+
+const BEFORE_THE_GAP: Row<'static> = Row {
+    about: "gap",
+    texts: &["02:30"],
+    iterations: 2,
+    now: 1_711_756_800,
+    local: Local::Summer,
+    out: GAP,
+    ..CALENDAR
+};
+
+static CHANGES_OF_THE_OFFSET: [Row<'static>; 3] = [
+    BEFORE_THE_GAP,
+    Row {
+        about: "fold",
+        now: 1_729_987_200,
+        out: FOLD,
+        ..BEFORE_THE_GAP
+    },
+    Row {
+        about: "fold, from its second pass on",
+        iterations: 1,
+        now: 1_729_991_400,
+        out: FOLD_SECOND_PASS,
+        ..BEFORE_THE_GAP
+    },
+];
+
+#[test]
+fn changes_of_the_offset(rt: HostRuntime) -> Result<(), Fail> {
+    check(&rt, &CHANGES_OF_THE_OFFSET)
+}
+
+const LAST_SECOND_WEST: &str = "  Original form: *-*-* 23:59:59
+Normalized form: *-*-* 23:59:59
+    Next elapse: Tue 2199-12-31 23:59:59 -10:00
+       (in UTC): Wed 2200-01-01 09:59:59 UTC
+       From now: 10h 1s left
+";
+
+const FARTHEST_WEST: &str = "  Original form: *:*:*
+Normalized form: *-*-* *:*:*
+    Next elapse: Tue 2199-12-31 23:59:59 -25:59:59
+       (in UTC): Thu 2200-01-02 01:59:58 UTC
+       From now: 1s left
+";
+
+const FARTHEST_EAST: &str = "  Original form: *-*-* 00:00:00
+Normalized form: *-*-* 00:00:00
+    Next elapse: Sat 1970-01-03 00:00:00 +25:59:59
+       (in UTC): Thu 1970-01-01 22:00:01 UTC
+       From now: 22h 1s left
+";
+
+/// A zone of offset 0 isn't UTC.
+const OFFSET_0: &str = "  Original form: *-*-* 12:30:00
+Normalized form: *-*-* 12:30:00
+    Next elapse: Mon 2024-01-01 12:30:00 +00:00
+       (in UTC): Mon 2024-01-01 12:30:00 UTC
+       From now: 12h 30min left
+";
+
+/// Three elapses where the clock is 5 hours and 30 minutes ahead of UTC.
+pub(super) const EVERY_SECOND: Row<'static> = Row {
+    about: "every second",
+    texts: &["*:*:*"],
+    iterations: 3,
+    local: Local::Offset(19_800),
+    out: "  Original form: *:*:*
+Normalized form: *-*-* *:*:*
+    Next elapse: Mon 2024-01-01 05:30:01 +05:30
+       (in UTC): Mon 2024-01-01 00:00:01 UTC
+       From now: 1s left
+       Iter. #2: Mon 2024-01-01 05:30:02 +05:30
+       (in UTC): Mon 2024-01-01 00:00:02 UTC
+       From now: 2s left
+       Iter. #3: Mon 2024-01-01 05:30:03 +05:30
+       (in UTC): Mon 2024-01-01 00:00:03 UTC
+       From now: 3s left
+",
+    ..CALENDAR
+};
+
+static OFFSETS: [Row<'static>; 5] = [
+    Row {
+        about: "last second west",
+        texts: &["*-*-* 23:59:59"],
+        iterations: 2,
+        now: 7_258_118_398,
+        local: Local::Offset(-36_000),
+        out: LAST_SECOND_WEST,
+        ..CALENDAR
+    },
+    Row {
+        about: "last second of the farthest zone west",
+        texts: &["*:*:*"],
+        iterations: 2,
+        now: 7_258_211_997,
+        local: Local::Offset(-93_599),
+        out: FARTHEST_WEST,
+        ..CALENDAR
+    },
+    Row {
+        about: "first midnight of the farthest zone east",
+        texts: &["*-*-* 00:00:00"],
+        now: 0,
+        local: Local::Offset(93_599),
+        out: FARTHEST_EAST,
+        ..CALENDAR
+    },
+    Row {
+        about: "offset 0",
+        texts: &["*-*-* 12:30:00"],
+        local: Local::Offset(0),
+        out: OFFSET_0,
+        ..CALENDAR
+    },
+    EVERY_SECOND,
+];
+
+#[test]
+fn offsets(rt: HostRuntime) -> Result<(), Fail> {
+    check(&rt, &OFFSETS)
+}
+
+/// An expression is meant in the zone that it names, and printed in the local one.
+const OWN_ZONES: &str = "  Original form: daily utc
+Normalized form: *-*-* 00:00:00 UTC
+    Next elapse: Tue 2024-01-02 05:30:00 +05:30
+       (in UTC): Tue 2024-01-02 00:00:00 UTC
+       From now: 1d left
+
+  Original form: daily
+Normalized form: *-*-* 00:00:00
+    Next elapse: Tue 2024-01-02 00:00:00 +05:30
+       (in UTC): Mon 2024-01-01 18:30:00 UTC
+       From now: 18h 30min left
+
+  Original form: daily Test/Fixed
+Normalized form: *-*-* 00:00:00 Test/Fixed
+    Next elapse: Tue 2024-01-02 04:30:00 +05:30
+       (in UTC): Mon 2024-01-01 23:00:00 UTC
+       From now: 23h left
+";
+
+const FIXED_IN_UTC: &str = "  Original form: daily Test/Fixed
+Normalized form: *-*-* 00:00:00 Test/Fixed
+    Next elapse: Mon 2024-01-01 23:00:00 UTC
+       From now: 23h left
+";
+
+static ZONES_OF_EXPRESSIONS: [Row<'static>; 3] = [
+    Row {
+        about: "zone file, and a zone that isn't there",
+        texts: &["daily Test/West", "daily Test/Fixed"],
+        out: FIXED_IN_UTC,
+        err: "daily Test/West: no such zone\n",
+        ..CALENDAR
+    },
+    Row {
+        about: "zones of expressions, shown in another",
+        texts: &["daily utc", "daily", "daily Test/Fixed"],
+        local: Local::Offset(19_800),
+        out: OWN_ZONES,
+        ..CALENDAR
+    },
+    Row {
+        about: "a zone's name in another case",
+        texts: &["daily test/fixed"],
+        err: "daily test/fixed: no such zone\n",
+        ..CALENDAR
+    },
+];
+
+#[test]
+fn zones_of_expressions(rt: HostRuntime) -> Result<(), Fail> {
+    check(&rt, &ZONES_OF_EXPRESSIONS)
+}

@@ -1,0 +1,83 @@
+//! Timer files: the expressions that a file has in the end, and why a file is refused.
+
+use cal_bytes::Port;
+use cal_read::{Timer, TimerFault, read_timer};
+use cal_spec::{Expr, write_expr};
+use std::alloc::Global;
+use std::process::Abort;
+use std::test::Fail;
+
+mod assignments;
+mod bytes;
+mod counts;
+mod faults;
+mod lines;
+mod readers;
+
+/// The first two sections of a unit file; the first expression is dropped, and the second one is continued.
+const UNIT: &str = "\
+[Unit]
+Description=x
+[Timer]
+OnCalendar=daily
+OnBootSec=
+OnCalendar=Mon \\
+# the minutes
+  *:0/30
+OnCalendar=hourly
+";
+
+/// The expressions of that file.
+const UNIT_LINES: Lines = &[(6, "Mon  *:0/30"), (9, "hourly")];
+
+/// The expressions of a file: the number of each one's line, and its text.
+type Lines = &'static [(u32, &'static str)];
+
+/// A file with its expressions, or with the fault for which it is refused.
+type Row = (&'static str, Result<Lines, TimerFault>);
+
+/// What a file of these bytes is read as.
+fn read(alloc: Global, file: &[u8]) -> Result<Timer, TimerFault> {
+    read_timer(alloc, &mut Port::new(file))
+}
+
+/// The timer has these expressions.
+fn expect_lines(rt: &impl Abort, timer: &Timer, expected: Lines, file: &str) {
+    let lines = timer.lines().iter();
+    let found = lines.map(|line| (line.number, line.text.as_str()));
+    assert!(rt; found.eq(expected.iter().copied()), "in {file:?}");
+}
+
+/// The file has these expressions, or it is refused for this fault.
+fn expect_file(rt: &impl Abort, alloc: Global, file: &str, expected: &Result<Lines, TimerFault>) {
+    match (read(alloc, file.as_bytes()), expected) {
+        (Ok(timer), Ok(lines)) => expect_lines(rt, &timer, lines, file),
+        (found, _) => assert_eq!(rt; found.err(), expected.err(), "in {file:?}"),
+    }
+}
+
+/// Each file has the expressions beside it, or is refused for the fault beside it.
+fn expect_files(rt: &impl Abort, alloc: Global, rows: &[Row]) {
+    for (file, expected) in rows {
+        expect_file(rt, alloc, file, expected);
+    }
+}
+
+/// The expression has this normal text.
+fn expect_normal_text(rt: &impl Abort, alloc: Global, expr: &Expr, normal: &str) {
+    let mut out = Port::new(Vec::new(alloc));
+    assert!(rt; write_expr(&mut out, expr).is_ok());
+    assert_eq!(rt; out.into_inner().as_slice(), normal.as_bytes());
+}
+
+/// The timer file of nine lines.
+#[test]
+fn timer_file(rt: HostRuntime) -> Result<(), Fail> {
+    let timer = read(rt.alloc(), UNIT.as_bytes())?;
+    expect_lines(&rt, &timer, UNIT_LINES, UNIT);
+    let normal_texts = ["Mon *-*-* *:00/30:00", "*-*-* *:00:00"];
+    for (line, normal) in timer.lines().iter().zip(&normal_texts) {
+        expect_normal_text(&rt, rt.alloc(), &line.expr, normal);
+    }
+    Ok(())
+}

@@ -1,0 +1,210 @@
+//! Sections, keys, values and resets.
+
+use super::{Lines, Row, expect_file, expect_files};
+use cal_read::TimerFault;
+use cal_spec::SpecFault;
+use std::alloc::Global;
+use std::process::Abort;
+use std::test::Fail;
+
+/// Sections.
+const SECTIONS: [Row; 15] = [
+    // The empty file.
+    ("", Err(TimerFault::NothingToDo)),
+    (
+        "OnCalendar=hourly\n[Timer]\nOnCalendar=daily\n[Unit]\nOnCalendar=weekly",
+        Ok(&[(3, "daily")]),
+    ),
+    (
+        "[Timer]\nOnCalendar=daily\n[Unit]\nOnBootSec=\n[Timer]\nOnCalendar=hourly",
+        Ok(&[(2, "daily"), (6, "hourly")]),
+    ),
+    (" \t[Timer] \t\nOnCalendar=daily", Ok(&[(2, "daily")])),
+    (
+        "[Timer]\n[]\n[Timer]\nOnCalendar=daily",
+        Ok(&[(4, "daily")]),
+    ),
+    // A line that only begins or only ends like a header is none.
+    (
+        "[Timer]\n[Unit\nUnit]\n[\n]\nOnCalendar=daily",
+        Ok(&[(6, "daily")]),
+    ),
+    // A header may hold `=`.
+    (
+        "[Timer]\n[a=b]\nOnCalendar=hourly\n[Timer]\nOnCalendar=daily",
+        Ok(&[(5, "daily")]),
+    ),
+    ("OnCalendar=daily", Err(TimerFault::NothingToDo)),
+    ("[timer]\nOnCalendar=daily", Err(TimerFault::NothingToDo)),
+    ("[TIMER]\nOnCalendar=daily", Err(TimerFault::NothingToDo)),
+    ("[ Timer ]\nOnCalendar=daily", Err(TimerFault::NothingToDo)),
+    ("[Timers]\nOnCalendar=daily", Err(TimerFault::NothingToDo)),
+    ("[[Timer]]\nOnCalendar=daily", Err(TimerFault::NothingToDo)),
+    (
+        "[Timer]\n[Unit]\nOnCalendar=daily",
+        Err(TimerFault::NothingToDo),
+    ),
+    (
+        "[Timer]\n]\n[]\nOnCalendar=x!",
+        Err(TimerFault::NothingToDo),
+    ),
+];
+
+/// Keys and values.
+const KEYS_AND_VALUES: [Row; 12] = [
+    // A whole character that isn't ASCII.
+    ("[Timer]\nx=\u{E9}\nOnCalendar=daily\n", Ok(&[(3, "daily")])),
+    // A repetition that reaches no further value.
+    (
+        "[Timer]\nOnCalendar=20/4:00",
+        Err(TimerFault::BadLine(2, SpecFault::NoRepeat)),
+    ),
+    (
+        "[Timer]\n\t OnCalendar \t=\t daily \t\n",
+        Ok(&[(2, "daily")]),
+    ),
+    (
+        "[Timer]\n\rOnCalendar\r=\rdaily\r \r\n",
+        Ok(&[(2, "daily")]),
+    ),
+    ("[Timer]\nOnCalendar=Mon\t 12:00", Ok(&[(2, "Mon\t 12:00")])),
+    // Other keys, lines without `=`, and keys that only look alike.
+    (
+        "[Timer]\noncalendar=x\nONCALENDAR=x\nOnCalendars=x\nX-OnCalendar=x\nOn Calendar=x\nOnCalendar=daily",
+        Ok(&[(7, "daily")]),
+    ),
+    (
+        "[Timer]\nOnCalendar\nx\n=\n=x\nOnCalendar=daily\nAccuracySec=\nPersistent=a=b",
+        Ok(&[(6, "daily")]),
+    ),
+    // The first `=` ends the key.
+    (
+        "[Timer]\nOnCalendar==",
+        Err(TimerFault::BadLine(2, SpecFault::BadDate)),
+    ),
+    (
+        "[Timer]\nOnCalendar=a=b",
+        Err(TimerFault::BadLine(2, SpecFault::BadWeekday)),
+    ),
+    (
+        "[Timer]\nOnCalendar=fortnightly",
+        Err(TimerFault::BadLine(2, SpecFault::UnknownShorthand)),
+    ),
+    // The first bad line counts, also where a later reset drops it.
+    (
+        "[Timer]\nOnCalendar=25:00\nOnCalendar=\nOnCalendar=7",
+        Err(TimerFault::BadLine(2, SpecFault::OutOfField)),
+    ),
+    (
+        "[Timer]\nOnCalendar=daily\nOnBootSec=\n",
+        Err(TimerFault::NothingToDo),
+    ),
+];
+
+/// The keys that empty the list by an empty value; that of the calendar comes first.
+const KEYS: [&str; 6] = [
+    "OnCalendar",
+    "OnActiveSec",
+    "OnBootSec",
+    "OnStartupSec",
+    "OnUnitActiveSec",
+    "OnUnitInactiveSec",
+];
+
+/// A file in which `KEY` stands for a key, and its expressions.
+type RowOfKey = (&'static str, Lines);
+
+/// An empty value of a key empties the list.
+const RESETS: [RowOfKey; 4] = [
+    (
+        "[Timer]\nOnCalendar=daily\nKEY=\n[Timer]\nOnCalendar=hourly",
+        &[(5, "hourly")],
+    ),
+    (
+        "[Timer]\nOnCalendar=daily\nKEY = \n[Timer]\nOnCalendar=hourly",
+        &[(5, "hourly")],
+    ),
+    (
+        "[Timer]\nOnCalendar=daily\nKEY=\t\r\n[Timer]\nOnCalendar=hourly",
+        &[(5, "hourly")],
+    ),
+    (
+        "[Timer]\nOnCalendar=daily\nKEY=\\\n\n[Timer]\nOnCalendar=hourly",
+        &[(6, "hourly")],
+    ),
+];
+
+/// Neither another name, nor a name alone, nor another section, nor a comment empties it.
+const NO_RESETS: [RowOfKey; 5] = [
+    ("[Timer]\nOnCalendar=daily\nX-KEY=\n", &[(2, "daily")]),
+    ("[Timer]\nOnCalendar=daily\nKEYs=\n", &[(2, "daily")]),
+    ("[Timer]\nOnCalendar=daily\nKEY\n", &[(2, "daily")]),
+    (
+        "[Timer]\nOnCalendar=daily\n[Unit]\nKEY=\n[Timer]\n",
+        &[(2, "daily")],
+    ),
+    ("[Timer]\nOnCalendar=daily\n#KEY=\n", &[(2, "daily")]),
+];
+
+/// Nor does a value of a key that isn't that of the calendar.
+const VALUES: [RowOfKey; 1] = [(
+    "[Timer]\nOnCalendar=daily\nKEY=5min\nOnCalendar=hourly",
+    &[(2, "daily"), (4, "hourly")],
+)];
+
+/// The file with its mark written out as this key.
+fn file_with_key(alloc: Global, file: &str, key: &str) -> Result<String, Fail> {
+    let (before, after) = file.split_once("KEY").ok_or("no key")?;
+    let mut whole = String::from_str(alloc, before)?;
+    whole.push_str(key)?;
+    whole.push_str(after)?;
+    Ok(whole)
+}
+
+/// Each file with the key has the expressions beside it.
+fn expect_with_key(
+    rt: &impl Abort,
+    alloc: Global,
+    key: &str,
+    rows: &[RowOfKey],
+) -> Result<(), Fail> {
+    for (file, lines) in rows {
+        let file = file_with_key(alloc, file, key)?;
+        expect_file(rt, alloc, &file, &Ok(*lines));
+    }
+    Ok(())
+}
+
+#[test]
+fn sections(rt: HostRuntime) {
+    expect_files(&rt, rt.alloc(), &SECTIONS);
+}
+
+#[test]
+fn keys_and_values(rt: HostRuntime) {
+    expect_files(&rt, rt.alloc(), &KEYS_AND_VALUES);
+}
+
+#[test]
+fn resets(rt: HostRuntime) -> Result<(), Fail> {
+    for key in KEYS {
+        expect_with_key(&rt, rt.alloc(), key, &RESETS)?;
+    }
+    Ok(())
+}
+
+#[test]
+fn no_resets(rt: HostRuntime) -> Result<(), Fail> {
+    for key in KEYS {
+        expect_with_key(&rt, rt.alloc(), key, &NO_RESETS)?;
+    }
+    Ok(())
+}
+
+#[test]
+fn values(rt: HostRuntime) -> Result<(), Fail> {
+    for key in &KEYS[1..] {
+        expect_with_key(&rt, rt.alloc(), key, &VALUES)?;
+    }
+    Ok(())
+}

@@ -1,0 +1,132 @@
+//! Ends of lines, marks, comments and continued lines.
+
+use super::{Row, expect_files};
+use cal_read::TimerFault;
+use cal_spec::SpecFault;
+
+/// Ends of lines, and byte order marks.
+const ENDS_OF_LINES_AND_MARKS: [Row; 11] = [
+    ("[Timer]\nOnCalendar=daily", Ok(&[(2, "daily")])),
+    ("[Timer]\r\nOnCalendar=daily\r\n", Ok(&[(2, "daily")])),
+    ("[Timer]\r\nOnCalendar=daily\r", Ok(&[(2, "daily")])),
+    (
+        "[Timer]\r\r\n\r\nOnCalendar=Mon \\\r\n 12:00\r\n",
+        Ok(&[(3, "Mon  12:00")]),
+    ),
+    ("\n\n[Timer]\n\nOnCalendar=daily\n\n", Ok(&[(5, "daily")])),
+    ("\u{FEFF}[Timer]\nOnCalendar=daily\n", Ok(&[(2, "daily")])),
+    ("\u{FEFF}\n[Timer]\nOnCalendar=daily\n", Ok(&[(3, "daily")])),
+    ("\u{FEFF}", Err(TimerFault::NothingToDo)),
+    (
+        "\u{FEFF}\u{FEFF}[Timer]\nOnCalendar=daily",
+        Err(TimerFault::NothingToDo),
+    ),
+    (
+        "\n\u{FEFF}[Timer]\nOnCalendar=daily",
+        Err(TimerFault::NothingToDo),
+    ),
+    ("[Timer]\rOnCalendar=daily", Err(TimerFault::NothingToDo)),
+];
+
+/// Comments.
+const COMMENTS: [Row; 6] = [
+    (
+        "# x\n[Timer]\n; x\n \t # x\nOnCalendar=daily",
+        Ok(&[(5, "daily")]),
+    ),
+    (
+        "[Timer]\n#OnCalendar=hourly\n;OnCalendar=\nOnCalendar=daily",
+        Ok(&[(4, "daily")]),
+    ),
+    // A comment continues nothing.
+    ("[Timer]\n# x \\\nOnCalendar=daily", Ok(&[(3, "daily")])),
+    (
+        "[Timer]\nOnCalendar=Mon \\\n; x \\\n12:00\nOnCalendar=daily",
+        Ok(&[(2, "Mon  12:00"), (5, "daily")]),
+    ),
+    // A mark after other characters begins none.
+    (
+        "[Timer]\nOnCalendar=daily # x",
+        Err(TimerFault::BadLine(2, SpecFault::StrayWord)),
+    ),
+    (
+        "[Timer]\nOnCalendar=;",
+        Err(TimerFault::BadLine(2, SpecFault::BadDate)),
+    ),
+];
+
+/// Continued lines.
+const CONTINUED_LINES: [Row; 17] = [
+    ("[Timer]\nOnCalendar=Mon\\\n12:00", Ok(&[(2, "Mon 12:00")])),
+    (
+        "[Timer]\nOnCalendar=Mon \\\n \t12:00",
+        Ok(&[(2, "Mon  12:00")]),
+    ),
+    (
+        "[Timer]\nOnCalendar=Mon\\\n12:00\\\nUTC\nOnCalendar=daily",
+        Ok(&[(2, "Mon 12:00 UTC"), (5, "daily")]),
+    ),
+    (
+        "[Timer]\nOnCalendar=Mon \\\n# x\n; y\n12:00\n",
+        Ok(&[(2, "Mon  12:00")]),
+    ),
+    (
+        "[Timer]\nOnCalendar\\\n=\\\ndaily\nOnCalendar=hourly",
+        Ok(&[(2, "daily"), (5, "hourly")]),
+    ),
+    (
+        "[Timer]\nOnCalendar=daily \\\n\nOnCalendar=hourly",
+        Ok(&[(2, "daily"), (4, "hourly")]),
+    ),
+    // A line of blanks and a backslash adds a space, whatever stands before it.
+    (
+        "[Timer]\nOnCalendar=Mon\\\n \\\n12:00",
+        Ok(&[(2, "Mon  12:00")]),
+    ),
+    ("[Timer]\n\\\nOnCalendar=daily", Ok(&[(2, "daily")])),
+    // At the end of the file a line just ends.
+    ("[Timer]\nOnCalendar=daily\\", Ok(&[(2, "daily")])),
+    ("[Timer]\nOnCalendar=daily\\\n# x\n", Ok(&[(2, "daily")])),
+    (
+        "[Ti\\\nmer]\n[Timer]\nOnCalendar=daily",
+        Ok(&[(4, "daily")]),
+    ),
+    // An even number of backslashes continues nothing; of an odd number the last becomes a space.
+    (
+        "[Timer]\nOnCalendar=daily\\\\\nOnCalendar=daily",
+        Err(TimerFault::BadLine(2, SpecFault::BadWeekday)),
+    ),
+    (
+        "[Timer]\nOnCalendar=12:00 \\\\\\\n5",
+        Err(TimerFault::BadLine(2, SpecFault::StrayWord)),
+    ),
+    (
+        "[Timer]\nOnCalendar=daily\\ \n",
+        Err(TimerFault::BadLine(2, SpecFault::BadWeekday)),
+    ),
+    // The number is that of the first line.
+    (
+        "[Timer]\n\nOnCalendar=Mon \\\n\\\n25:00",
+        Err(TimerFault::BadLine(3, SpecFault::OutOfField)),
+    ),
+    ("[Timer]\\\nOnCalendar=daily", Err(TimerFault::NothingToDo)),
+    (
+        "[Ti\\\nmer]\nOnCalendar=daily",
+        Err(TimerFault::NothingToDo),
+    ),
+];
+
+#[test]
+fn ends_of_lines_and_marks(rt: HostRuntime) {
+    expect_files(&rt, rt.alloc(), &ENDS_OF_LINES_AND_MARKS);
+}
+
+#[test]
+fn comments(rt: HostRuntime) {
+    expect_files(&rt, rt.alloc(), &COMMENTS);
+}
+
+#[test]
+fn continued_lines(rt: HostRuntime) {
+    expect_files(&rt, rt.alloc(), &CONTINUED_LINES);
+}

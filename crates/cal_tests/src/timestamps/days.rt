@@ -1,0 +1,262 @@
+//! `today`, `yesterday` and `tomorrow`, and the present day where no date is written.
+
+use super::{PRESENT, Setting, Table, expect_in_utc, expect_moments, expect_settings};
+use crate::shared::posix;
+use cal_read::StampFault::*;
+use cal_zone::{Zone, ZoneTable};
+use std::test::Fail;
+
+/// The days beside the present one, with and without blanks.
+const NEAR_DAYS: [Setting; 2] = [
+    Setting {
+        now: PRESENT,
+        east: 0,
+        table: Table {
+            moments: "\
+today -> 1353628800000000
+yesterday -> 1353542400000000
+tomorrow -> 1353715200000000
+\x20today\t -> 1353628800000000
+\ttomorrow  utc\x20 -> 1353715200000000
+yesterday\tUTC -> 1353542400000000
+",
+            refusals: &[],
+        },
+    },
+    Setting {
+        now: PRESENT,
+        east: 50_400,
+        table: Table {
+            moments: "\
+today -> 1353664800000000
+yesterday -> 1353578400000000
+tomorrow -> 1353751200000000
+today utc -> 1353628800000000
+yesterday Utc -> 1353542400000000
+tomorrow UTC -> 1353715200000000
+12:00 -> 1353708000000000
+12:00 UTC -> 1353672000000000
+Sat 0:0 -> 1353664800000000
+Fri 0:0 UTC -> 1353628800000000
+",
+            refusals: &[(WrongWeekday, "Fri 0:0\nSat 0:0 UTC")],
+        },
+    },
+];
+
+/// Other cases, and what may not stand after a day.
+const REFUSED_DAYS: Table = Table {
+    moments: "",
+    refusals: &[
+        (
+            BadWeekday,
+            "\
+Today
+TODAY
+todays
+Yesterday
+Tomorrow UTC
+",
+        ),
+        (
+            StrayWord,
+            "\
+today 12:00
+today 2012-11-23
+today +08:00
+today /
+today UTC x
+today UTC UTC
+today UTC 5
+",
+        ),
+        (
+            NoSuchZone,
+            "\
+today Mars/One
+yesterday Fri
+tomorrow today
+today U!
+12:00 today
+2012-11-23 today
+",
+        ),
+        (BadDate, "Fri today"),
+    ],
+};
+
+/// What texts mean at these presents, by a clock whose midnight is skipped on 2024-03-10, and shown twice on 2024-11-03.
+const DAYS_OF_A_CHANGE: [(i64, Table); 4] = [
+    // On the day whose midnight is skipped.
+    (
+        1_710_086_400,
+        Table {
+            moments: "\
+today -> 1710046800000000
+yesterday -> 1709960400000000
+tomorrow -> 1710129600000000
+0:30 -> 1710048600000000
+1:00 -> 1710046800000000
+Sun 0:0 -> 1710046800000000
+",
+            refusals: &[],
+        },
+    ),
+    // On the day before it.
+    (
+        1_710_003_600,
+        Table {
+            moments: "\
+tomorrow -> 1710046800000000
+today -> 1709960400000000
+23:59:59.999999 -> 1710046799999999
+2024-3-10 -> 1710046800000000
+",
+            refusals: &[],
+        },
+    ),
+    // On the day whose midnight is shown twice.
+    (
+        1_730_653_200,
+        Table {
+            moments: "\
+today -> 1730606400000000
+yesterday -> 1730520000000000
+tomorrow -> 1730696400000000
+0:30 -> 1730608200000000
+1:00 -> 1730613600000000
+",
+            refusals: &[],
+        },
+    ),
+    // On the day before it.
+    (
+        1_730_563_200,
+        Table {
+            moments: "\
+tomorrow -> 1730606400000000
+today UTC -> 1730505600000000
+",
+            refusals: &[],
+        },
+    ),
+];
+
+/// The days at both ends of the range of instants.
+const FIRST_AND_LAST_DAYS: [Setting; 7] = [
+    Setting {
+        now: 0,
+        east: 0,
+        table: Table {
+            moments: "\
+today -> 0
+tomorrow -> 86400000000
+Thu 0:0 -> 0
+Thursday 23:59:59.9999999 -> 86399999999
+",
+            refusals: &[(OutOfRange, "yesterday"), (WrongWeekday, "Wed 0:0")],
+        },
+    },
+    Setting {
+        now: 0,
+        east: -3_600,
+        table: Table {
+            moments: "\
+tomorrow -> 3600000000
+Wed 23:00 -> 0
+",
+            refusals: &[
+                (OutOfRange, "today\nWed 22:59:59.999999"),
+                (WrongWeekday, "Thu 23:00"),
+            ],
+        },
+    },
+    Setting {
+        now: 0,
+        east: 93_599,
+        table: Table {
+            moments: "\
+tomorrow -> 79201000000
+Fri 23:59:59 -> 79200000000
+",
+            refusals: &[(OutOfRange, "today\nyesterday")],
+        },
+    },
+    Setting {
+        now: 0,
+        east: -93_599,
+        table: Table {
+            moments: "\
+tomorrow -> 7199000000
+",
+            refusals: &[
+                (OutOfRange, "yesterday\ntoday\nTue 12:00"),
+                (WrongWeekday, "Wed 12:00"),
+            ],
+        },
+    },
+    Setting {
+        now: 7_258_211_998,
+        east: 0,
+        table: Table {
+            moments: "\
+today -> 7258204800000000
+yesterday -> 7258118400000000
+1:59:58.999999 -> 7258211998999999
+Thu 0:0 -> 7258204800000000
+",
+            refusals: &[(OutOfRange, "tomorrow\n1:59:59"), (WrongWeekday, "Fri 0:0")],
+        },
+    },
+    Setting {
+        now: 7_258_211_998,
+        east: -93_599,
+        table: Table {
+            moments: "\
+today -> 7258125599000000
+yesterday -> 7258039199000000
+23:59:59.999999 -> 7258211998999999
+2199-12-31 23:59:59 -> 7258211998000000
+Tue 2199-12-31 -> 7258125599000000
+",
+            refusals: &[(OutOfRange, "tomorrow")],
+        },
+    },
+    Setting {
+        now: 7_258_211_998,
+        east: 93_599,
+        table: Table {
+            moments: "\
+today -> 7258197601000000
+yesterday -> 7258111201000000
+3:59:57.999999 -> 7258211998999999
+",
+            refusals: &[(OutOfRange, "tomorrow\n3:59:58")],
+        },
+    },
+];
+
+#[test]
+fn near_days(rt: HostRuntime) -> Result<(), Fail> {
+    expect_settings(&rt, rt.alloc(), &NEAR_DAYS)
+}
+
+#[test]
+fn refused_days(rt: HostRuntime) -> Result<(), Fail> {
+    expect_in_utc(&rt, rt.alloc(), &REFUSED_DAYS)
+}
+
+#[test]
+fn days_of_a_change(rt: HostRuntime) -> Result<(), Fail> {
+    let zones = ZoneTable::new(rt.alloc());
+    let rules = posix(rt.alloc(), "CST5CDT,M3.2.0/0,M11.1.0/1")?;
+    for (now, table) in &DAYS_OF_A_CHANGE {
+        expect_moments(&rt, *now, Zone::rules(&rules), &zones, table)?;
+    }
+    Ok(())
+}
+
+#[test]
+fn first_and_last_days(rt: HostRuntime) -> Result<(), Fail> {
+    expect_settings(&rt, rt.alloc(), &FIRST_AND_LAST_DAYS)
+}

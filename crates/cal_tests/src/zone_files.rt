@@ -1,0 +1,203 @@
+//! Zone files that are loaded into the table of zones, and refused ones.
+
+use crate::shared::zone_file;
+use cal_bytes::{Faulty, Port, Then};
+use cal_work::{LoadFault, load_zone};
+use cal_zone::{ZoneFault, ZoneTable, place};
+use std::process::Abort;
+use std::test::Fail;
+
+/// The place of local midnight of 2024-01-01 in the zone of that name.
+fn midnight(table: &ZoneTable, name: &str) -> Option<i64> {
+    place(table.find(name)?, 1_704_067_200)
+}
+
+/// The places of that midnight in the zones `UTC`, `Test/Fixed`, `Test/A` and `1x`.
+fn midnights(table: &ZoneTable) -> [Option<i64>; 4] {
+    [
+        midnight(table, "UTC"),
+        midnight(table, "Test/Fixed"),
+        midnight(table, "Test/A"),
+        midnight(table, "1x"),
+    ]
+}
+
+/// In UTC, and where the clock is an hour ahead of it.
+const IN_UTC: Option<i64> = Some(1_704_067_200);
+
+const HOUR_AHEAD: Option<i64> = Some(1_704_063_600);
+
+/// An attempt to load a file under a name, and what is in the table afterwards.
+#[derive(Clone, Copy)]
+struct Row<'a> {
+    name: &'a str,
+    bytes: &'a [u8],
+    /// After how many bytes the reader does what `then` says.
+    limit: usize,
+    then: Then,
+    want: Result<(), LoadFault>,
+    midnights: [Option<i64>; 4],
+}
+
+/// Each row in turn, over one table.
+fn check(rt: &(impl Abort + AllocGlobal), rows: &[Row<'_>]) -> Result<(), Fail> {
+    let mut table = ZoneTable::new(rt.alloc());
+    for row in rows {
+        let bytes = row.bytes.to_vec(rt.alloc())?;
+        let mut from = Port::new(Faulty::new(bytes, 50, row.limit, row.then));
+        let loaded = load_zone(rt.alloc(), &mut table, row.name, &mut from);
+        let failed = row.want == Err(LoadFault::ReadFailed);
+        assert_eq!(rt;
+            (loaded, from.failed(), midnights(&table)),
+            (row.want, failed, row.midnights),
+            "at {} {:?}",
+            row.name,
+            row.want
+        );
+    }
+    Ok(())
+}
+
+/// A zone file that is loaded under the name `Test/Fixed`.
+fn loaded(bytes: &[u8]) -> Row<'_> {
+    Row {
+        name: "Test/Fixed",
+        bytes,
+        limit: WHOLE,
+        then: Then::Error,
+        want: Ok(()),
+        midnights: [IN_UTC, HOUR_AHEAD, None, None],
+    }
+}
+
+#[test]
+fn one_name_more(rt: HostRuntime) -> Result<(), Fail> {
+    let bytes = zone_file(rt.alloc())?;
+    let first = loaded(bytes.as_slice());
+    let second = Row {
+        name: "Test/A",
+        midnights: [IN_UTC, HOUR_AHEAD, HOUR_AHEAD, None],
+        ..first
+    };
+    check(&rt, &[first, second])
+}
+
+/// The reader of a zone file that is cut, and of a whole one.
+const CUT: usize = 9;
+
+const WHOLE: usize = 999;
+
+/// A name, after how many bytes the reader does what, and the fault. The first fault is told: a name that is none, then
+/// what the reader does, then the bytes, and last of all a name that is taken.
+static REFUSALS: [(&str, usize, Then, LoadFault); 11] = [
+    ("1x", CUT, Then::Error, LoadFault::Zone(ZoneFault::BadName)),
+    (
+        "1x",
+        CUT,
+        Then::Endless,
+        LoadFault::Zone(ZoneFault::BadName),
+    ),
+    ("Test/A", CUT, Then::Error, LoadFault::ReadFailed),
+    ("utc", CUT, Then::Error, LoadFault::ReadFailed),
+    ("Test/Fixed", CUT, Then::Interrupted, LoadFault::ReadFailed),
+    (
+        "Test/A",
+        CUT,
+        Then::Endless,
+        LoadFault::Zone(ZoneFault::TooLarge),
+    ),
+    (
+        "utc",
+        CUT,
+        Then::Endless,
+        LoadFault::Zone(ZoneFault::TooLarge),
+    ),
+    (
+        "Test/A",
+        CUT,
+        Then::Zero,
+        LoadFault::Zone(ZoneFault::BadFile),
+    ),
+    ("utc", CUT, Then::Zero, LoadFault::Zone(ZoneFault::BadFile)),
+    (
+        "utc",
+        WHOLE,
+        Then::Error,
+        LoadFault::Zone(ZoneFault::NameTaken),
+    ),
+    (
+        "Test/Fixed",
+        WHOLE,
+        Then::Error,
+        LoadFault::Zone(ZoneFault::NameTaken),
+    ),
+];
+
+/// Files that can't be loaded beside the one that is there leave the table as it was.
+#[test]
+fn refusals_in_order(rt: HostRuntime) -> Result<(), Fail> {
+    let bytes = zone_file(rt.alloc())?;
+    let first = loaded(bytes.as_slice());
+    for (name, limit, then, fault) in &REFUSALS {
+        let second = Row {
+            name,
+            limit: *limit,
+            then: *then,
+            want: Err(*fault),
+            ..first
+        };
+        check(&rt, &[first, second])?;
+    }
+    Ok(())
+}
+
+/// Bytes that are no zone file are refused by this fault.
+fn check_bytes(
+    rt: &(impl Abort + AllocGlobal),
+    bytes: &[u8],
+    fault: ZoneFault,
+) -> Result<(), Fail> {
+    let row = Row {
+        name: "Test/A",
+        bytes,
+        limit: bytes.len(),
+        then: Then::Zero,
+        want: Err(LoadFault::Zone(fault)),
+        midnights: [IN_UTC, None, None, None],
+    };
+    check(rt, &[row])
+}
+
+static LENGTHS: [(usize, ZoneFault); 2] = [
+    (1_048_576, ZoneFault::BadFile),
+    (1_048_577, ZoneFault::TooLarge),
+];
+
+/// Up to the most bytes that are read, and one byte more.
+#[test]
+fn bytes_that_are_no_zone_file(rt: HostRuntime) -> Result<(), Fail> {
+    check_bytes(&rt, b"hello", ZoneFault::BadFile)?;
+    for (count, fault) in &LENGTHS {
+        let zeros: Vec<u8> = vec![in rt.alloc(); 0; *count]?;
+        check_bytes(&rt, zeros.as_slice(), *fault)?;
+    }
+    Ok(())
+}
+
+#[test]
+fn words_of_faults(rt: HostRuntime) {
+    for (fault, words) in [
+        (LoadFault::ReadFailed, "cannot be read"),
+        (LoadFault::Zone(ZoneFault::BadName), "bad zone name"),
+        (LoadFault::Zone(ZoneFault::BadRule), "bad rule"),
+        (LoadFault::Zone(ZoneFault::BadFile), "bad zone file"),
+        (
+            LoadFault::Zone(ZoneFault::TooLarge),
+            "larger than 1048576 bytes",
+        ),
+        (LoadFault::Zone(ZoneFault::NoMemory), ""),
+        (LoadFault::Zone(ZoneFault::NameTaken), "zone name taken"),
+    ] {
+        assert_eq!(rt; fault.words(), words);
+    }
+}

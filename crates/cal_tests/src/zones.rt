@@ -1,0 +1,23 @@
+//! Zones: the places of local seconds, the rules that are read and refused, and zones by name. What a rule says is
+//! worked out by hand.
+
+mod names;
+mod places;
+mod rules;
+
+use cal_zone::ZoneFault;
+
+#[test]
+fn tells_of_each_fault(rt: HostRuntime) {
+    for (fault, number, words) in [
+        (ZoneFault::BadName, 1, "bad zone name"),
+        (ZoneFault::BadRule, 2, "bad rule"),
+        (ZoneFault::BadFile, 3, "bad zone file"),
+        (ZoneFault::TooLarge, 4, "larger than 1048576 bytes"),
+        // Want of memory has no words.
+        (ZoneFault::NoMemory, 5, ""),
+        (ZoneFault::NameTaken, 6, "zone name taken"),
+    ] {
+        assert_eq!(rt; (fault as u8, fault.words()), (number, words));
+    }
+}

@@ -1,7 +1,0 @@
-use Rattle.cal_base.proofs.Pieces.{writes_respelled}
-use Rattle.cal_tool.specs.Stop.{unread_line}
-use Rattle.cal_tool.proofs.stop.write_unread.Goals as goal
-
-pub returns-clause-bytes : goal.returns-clause-bytes
-unfolding unread_line
-returns-clause-bytes g c = writes_respelled _ _ _ _ _ c.put_pieces.ensures.bytes (cc)

@@ -1,7 +1,0 @@
-use Rattle.cal_base.proofs.Pieces.{writes_respelled}
-use Rattle.cal_tool.specs.TimespanReport.{timespan_report}
-use Rattle.cal_tool.proofs.timespan_report.write_timespan.Goals as goal
-
-pub returns-clause-bytes : goal.returns-clause-bytes
-unfolding timespan_report
-returns-clause-bytes g c = writes_respelled _ _ _ _ _ c.put_pieces.ensures.bytes (cc)

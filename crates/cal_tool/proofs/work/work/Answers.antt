@@ -1,7 +1,0 @@
-use Rattle.cal_tool.proofs.TellLemmas.{works}
-use Rattle.cal_tool.proofs.work.work.Goals as goal
-
-pub returns-clause-works : goal.returns-clause-works
-returns-clause-works g c =
-    works _ _ c.answer_words-answered.result _ _ _ _ _ _ _ _ _ c.tell-told.result.written c.settled-written.result c.tell-told.result.status _
-    c.answer_words-answered.ensures.answered c.tell-told.ensures.told c.settled-written.ensures.bytes c.settled-written.ensures.same c.tell_fault.ensures.line c.status_by.ensures

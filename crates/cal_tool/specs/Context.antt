@@ -1,6 +1,0 @@
--- What is asked in a run, as the parts of a run hand it on.
-use Rattle.cal_tool.specs.Request.{Asked, asked}
-use Rattle.cal_tool.specs.declared.context.Context.{Context}
-
-abbrev pub asked_by : Context → Asked
-asked_by context = asked context.request.now context.now.secs context.local context.table.now

@@ -1,0 +1,136 @@
+-- Where a system tells all, what is seen is what is told.
+use Rattle.std.proofs.Common.{◌≡◌, ◌⊎◌, inl, inr, ℕ, ℤ, ◌<◌, ◌≤◌, Bool, true, false, List, [], ◌∷◌, length, Option, None, Some, Result, Ok, Err, IfOk, IfNone, refl, sym, ap, ◌∙◌, arith, nat_le}
+use Rattle.std.specs.Prelude.{IsSome, is_some}
+use Rattle.std.specs.FinMap.{empty}
+use Rattle.std.proofs.lemmas.Bool.{false≢true}
+use Rattle.std.proofs.lemmas.Bool.Decides.{nat_tests}
+use Rattle.cal_zone.specs.ZoneFile.{file_limit}
+use Rattle.cal_zone.specs.ZoneMap.{ZoneMap}
+use Rattle.cal_zone.specs.ZoneName.{is_zone_name}
+use Rattle.cal_bytes.specs.declared.whole.WholeFault.{WholeFault}
+use Rattle.cal_bytes.specs.declared.whole.WholeFault.TheVariants as whole
+use Rattle.cal_zone.specs.declared.zone.Zone.{Zone as LocalTime}
+use Rattle.cal_zone.specs.declared.zone_fault.ZoneFault.TheVariants as zone
+use Rattle.cal_read.specs.TimerText.{most_bytes}
+use Rattle.cal_command.specs.Ask.{Wanted, CommandSaid, ZoneSaid, no_memory}
+use Rattle.cal_command.specs.CommandLine.{IsAskOf, asked_in, takes_words}
+use Rattle.cal_work.specs.Outcome.{World, ZoneFound, and_then, loaded, or_load_stop, table_by, local_by, present_by, input_if, run_by, asked_at, outcome, outcome_of}
+use Rattle.cal_report.specs.Report.{Report, file_name, report}
+use Rattle.cal_request.specs.Request.{Asked, is_timer}
+use Rattle.cal_work.specs.Stop.{Said, command_stop, load_stop, memory_stop}
+use Rattle.cal_work.specs.System.{Told, Seen, IsTime, SeesBytes, Sees, is_cut}
+use Rattle.cal_work.specs.WorkLaw.{TellsAll, taken_of, told_seen, told_time, told_zones, told_world, told_outcome, IsOr}
+use Rattle.cal_work.specs.Works.{SeesZone, SeesZones, SeesIf, SeesFile, FitsAt, Fits, FitsWords}
+use Rattle.cal_work.specs.declared.zone_files.LoadFault.{LoadFault}
+use Rattle.cal_work.specs.declared.zone_files.LoadFault.TheVariants.{ReadFailed, Zone}
+use Rattle.cal_command.proofs.CommandLineLemmas.{taken_words}
+
+-- What is seen of one file
+
+fits_limit : (b : Bool) (all : List ℕ) (limit : ℕ) → nat_le (length all) limit ≡ b → length all ≤ limit → taken_of b all ≡ Ok all
+fits_limit true all limit is h = refl
+fits_limit false all limit is h = let e : ⊥ = grind (arith, nat_tests) in absurd e
+
+past_limit : (b : Bool) (all : List ℕ) (limit : ℕ) → nat_le (length all) limit ≡ b → limit < length all → taken_of b all ≡ Err whole.TooLarge
+past_limit true all limit is h = let e : ⊥ = grind (arith, nat_tests) in absurd e
+past_limit false all limit is h = refl
+
+seen_told : (limit : ℕ) (told : Option (Option (List ℕ))) (seen : Seen) → IsSome told → SeesBytes told limit seen → is_cut seen ≡ false → (seen ≡ told_seen limit told) ⊎ (seen ≡ Some (Err whole.NoMemory))
+unfolding told_seen
+seen_told limit None seen some h sure = absurd (false≢true some)
+seen_told limit (Some None) seen some h sure = inl h
+seen_told limit (Some (Some all)) None some h sure = absurd h
+seen_told limit (Some (Some all)) (Some (Ok bytes)) some h sure =
+    let within = rw h.1 at h.0 in
+    inl (rw (h.1, fits_limit (nat_le (length all) limit) all limit refl within) refl)
+seen_told limit (Some (Some all)) (Some (Err whole.ReadFailed)) some h sure = absurd (false≢true (sym sure))
+seen_told limit (Some (Some all)) (Some (Err whole.TooLarge)) some h sure = inl (rw (past_limit (nat_le (length all) limit) all limit refl h) refl)
+seen_told limit (Some (Some all)) (Some (Err whole.NoMemory)) some h sure = inr refl
+
+some_none : {A : Type 0} (x : A) → Some x ≡ None → ⊥
+some_none x h = cc
+
+-- a file that is open is told as one
+told_open : (limit : ℕ) (told : Option (Option (List ℕ))) (came : Result (List ℕ) WholeFault) → IsSome told → SeesBytes told limit (Some came) → (c : Result (List ℕ) WholeFault) × (told_seen limit told ≡ Some c)
+unfolding told_seen
+told_open limit None came some h = absurd (false≢true some)
+told_open limit (Some None) came some h = absurd (some_none came h)
+told_open limit (Some (Some all)) came some h = (taken_of (nat_le (length all) limit) all, refl)
+
+-- Steps in a row
+
+and_then_or : {A B : Type 0} (next other : A → Result B Said) (r s : Result A Said) → IsOr r s → ((x : A) → r ≡ Ok x → IsOr (next x) (other x)) → IsOr (and_then next r) (and_then other s)
+and_then_or next other (Ok x) s (inl e) h = rw (sym e) (h x refl)
+and_then_or next other (Err said) s (inl e) h = rw (sym e) (inl refl)
+and_then_or next other r s (inr e) h = rw e (inr refl)
+
+-- Zone files
+
+after_load : (told : Told) (items : List ZoneSaid) (found : List ZoneFound) (name : List ℕ)
+    → ((more : ZoneMap) → SeesZones told more items found → IsOr (table_by more items found) (table_by more items (told_zones told items found)))
+    → (r : Result ZoneMap LoadFault) → IfOk r (λ more. SeesZones told more items found)
+    → IsOr (and_then (λ more. table_by more items found) (or_load_stop name r)) (and_then (λ more. table_by more items (told_zones told items found)) (or_load_stop name r))
+after_load told items found name later (Ok more) h = later more h
+after_load told items found name later (Err fault) h = inl refl
+
+-- memory was refused to the reads of a file, whose name may be refused before
+zone_unread : {A : Type 0} (next other : ZoneMap → Result A Said) (table : ZoneMap) (item : ZoneSaid) (f : ZoneFound) (c : Result (List ℕ) WholeFault) (seen : Seen) (b : Bool) → is_zone_name item.name ≡ b → f.seen ≡ Some (Err whole.NoMemory) → seen ≡ Some c
+    → IsOr (and_then next (or_load_stop item.name (loaded table item f))) (and_then other (or_load_stop item.name (loaded table item (record { seen = seen; zone = f.zone }))))
+unfolding loaded
+zone_unread next other table item f c seen true named e o = rw (e, named) (inr refl)
+zone_unread next other table item f c seen false named e o = rw (e, o, named) (inl refl)
+
+zones_told : (told : Told) (table : ZoneMap) (items : List ZoneSaid) (found : List ZoneFound) → TellsAll told → SeesZones told table items found → IsOr (table_by table items found) (table_by table items (told_zones told items found))
+unfolding table_by told_zones
+zones_told told table [] found all h = inl refl
+zones_told told table (item ∷ items) [] all h = absurd h
+zones_told told table (item ∷ items) (f ∷ found) all h =
+    elim (seen_told file_limit (told.file item.path) f.seen (all.files item.path) h.0.sees.bytes (h.0.sees.sure (all.sure item.path))) [
+      | inl e ↦ rw (sym e) (after_load told items found item.name (λ more rest. zones_told told more items found all rest) (loaded table item f) h.1)
+      | inr e ↦
+          let open_file = told_open file_limit (told.file item.path) (Err whole.NoMemory) (all.files item.path) (rw e at h.0.sees.bytes) in
+          zone_unread (λ more. table_by more items found) (λ more. table_by more items (told_zones told items found)) table item f open_file.0 _ (is_zone_name item.name) refl e open_file.1
+    ]
+
+-- The clock and the file of a timer
+
+present_told : (given clock : Option ℤ) (time : Option (Option ℤ)) → IsSome time → IfNone given (IsTime time clock) → present_by given clock ≡ present_by given (told_time time)
+unfolding present_by
+present_told (Some now) clock time some h = refl
+present_told None clock None some h = absurd (false≢true some)
+present_told None clock (Some t) some h = rw h refl
+
+run_told : (told : Told) (asked : Asked) (seen : Seen) (t : Bool) → is_timer asked.verb ≡ t → TellsAll told → SeesIf t told (file_name asked) seen
+    → IsOr (run_by asked seen) (run_by asked (told_seen most_bytes (told.file (file_name asked))))
+unfolding run_by
+run_told told asked seen false is all h = rw is (inl refl)
+run_told told asked seen true is all h =
+    elim (seen_told most_bytes (told.file (file_name asked)) seen (all.files (file_name asked)) h.bytes (h.sure (all.sure (file_name asked)))) [
+      | inl e ↦ rw e (inl refl)
+      | inr e ↦ rw (e, is) (inr refl)
+    ]
+
+-- The whole
+
+wanted_told : (told : Told) (wanted : Wanted) (world : World) → TellsAll told → Fits told wanted world → IsOr (outcome_of wanted world) (outcome (told_world told wanted world))
+unfolding outcome outcome_of told_world
+wanted_told told wanted world all fits =
+    and_then_or _ _ _ _ (zones_told told empty wanted.zones world.zones all fits.zones) (λ table is_table.
+    let behind = rw is_table at fits.behind in
+    and_then_or _ _ (local_by wanted.local table world.local) (local_by wanted.local table world.local) (inl refl) (λ local is_local.
+    let later = rw is_local at behind in
+    and_then_or _ _ (present_by wanted.now world.clock) (present_by wanted.now (told_time told.time)) (inl (present_told wanted.now world.clock told.time all.time later.1)) (λ now is_now.
+    run_told told (asked_at wanted table local now) world.file (is_timer wanted.verb) refl all (rw is_now at later.2))))
+
+said_told : (told : Told) (world : World) (said : Result Wanted CommandSaid) → TellsAll told → world.said ≡ said → IfOk said (λ wanted. Fits told wanted world) → IsOr (outcome world) (told_outcome told said world)
+unfolding outcome outcome_of told_world
+said_told told world (Ok wanted) all is fits = rw is (wanted_told told wanted world all fits)
+said_told told world (Err said) all is fits = rw is (inl refl)
+
+pub told_decides : (told : Told) (words : List (List ℕ)) (world : World) → TellsAll told → takes_words words ≡ true → FitsWords told words world → IsOr (outcome world) (told_outcome told (asked_in words) world)
+unfolding outcome
+told_decides told words world all takes fits =
+    elim (taken_words words world.said fits.said takes) [
+      | inl e ↦ rw e (inr refl)
+      | inr e ↦ rw (sym e) (said_told told world world.said all refl fits.fits)
+    ]

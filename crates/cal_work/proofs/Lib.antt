@@ -1,0 +1,3 @@
+pub mod LawLemmas
+pub mod TellLemmas
+pub mod WorkLemmas

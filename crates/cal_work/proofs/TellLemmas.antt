@@ -1,0 +1,164 @@
+-- Lemmas on what is told of an end: the texts and lines on both outputs, the buffer, and the status.
+use Rattle.std.proofs.Common.{◌≡◌, ℕ, Bool, true, false, List, [], Option, None, Some, Result, Ok, Err, refl, sym, ap, ◌∙◌, append-nil}
+use Rattle.std.specs.Io.KnownBytes.{Keeps, Appends, append_known}
+use Rattle.std.proofs.KnownBytes.{Appends-nil, Appends-kept}
+use Rattle.std.proofs.lemmas.Bool.{false≢true}
+use Rattle.cal_bytes.specs.Bytes.{AppendsFront, Writes}
+use Rattle.cal_bytes.specs.Output.{Settles}
+use Rattle.cal_work.specs.Outcome.{World, outcome, out_text, err_text, whole_status, ended_status}
+use Rattle.cal_report.specs.Report.{Report}
+use Rattle.cal_work.specs.Stop.{Said, exit_status, fault_stop, outlet_of, said_of, text_of}
+use Rattle.cal_work.specs.System.{Told}
+use Rattle.cal_work.specs.WorkSteps.{StopsAs, StopEnds, EndsAs, AnsweredWords, IsSettled, TellsOn, TellsStop, status_by, WritesOf}
+use Rattle.cal_work.specs.Works.{FitsWords, Reaches, TellsFault, Tells, Works}
+use Rattle.cal_request.specs.declared.request.RunFault.{RunFault}
+use Rattle.cal_request.specs.declared.request.RunFault.TheVariants.{OutFailed, ErrFailed, NoMemory}
+use Rattle.cal_request.specs.declared.request.Status.{Status}
+use Rattle.cal_command.specs.declared.command_fault.CommandFault.{CommandFault}
+use Rattle.cal_command.specs.declared.command_fault.CommandFault.TheVariants as command
+use Rattle.cal_work.specs.declared.zone_files.LoadFault.TheVariants.{ReadFailed, Zone}
+use Rattle.cal_zone.specs.declared.zone_fault.ZoneFault.TheVariants as zone
+use Rattle.cal_work.specs.declared.stop.Outlet.{Outlet}
+use Rattle.cal_work.specs.declared.stop.Outlet.TheVariants.{OnOut, OnErr, Later}
+use Rattle.cal_work.specs.declared.stop.Stop.{Stop}
+use Rattle.cal_work.specs.declared.stop.Stop.TheVariants.{Command, Zones, LocalRule, LocalName, Clock, Open, Run}
+use Rattle.cal_work.specs.declared.words_to_bytes.Ended.{Ended}
+use Rattle.cal_report.proofs.AnswerLemmas.{writes_nothing}
+use Rattle.cal_report.proofs.ReportLemmas.{nothing_front, whole_front}
+
+-- What was written of a stop
+
+-- a run that was cut
+fault_written : (fault : RunFault) (come : Result Report Said) (out out' err err' : Option (List ℕ)) → ended_status {T = Unit} (Err fault) come ≡ 1 → AppendsFront out out' (out_text come) → AppendsFront err err' (err_text come)
+    → WritesOf {T = Unit} (Err fault) (fault_stop fault).status come out out' err err'
+fault_written OutFailed come out out' err err' status o e = record { by_status = refl; out_bytes = o; err_bytes = e }
+fault_written ErrFailed come out out' err err' status o e = record { by_status = status; out_bytes = o; err_bytes = e }
+fault_written NoMemory come out out' err err' status o e = record { by_status = refl; out_bytes = o; err_bytes = e }
+
+same_status : (r : Result Unit RunFault) (said : Said) → ended_status r (Err said) ≡ status_by r said.status
+same_status (Ok done) said = refl
+same_status (Err OutFailed) said = refl
+same_status (Err ErrFailed) said = refl
+same_status (Err NoMemory) said = refl
+
+-- what is written of a stop is what is said of it
+TextsFit : Outlet → Stop → Type 0
+TextsFit OnOut stop = ((said_of stop).out ≡ text_of stop) × ((said_of stop).err ≡ [])
+TextsFit OnErr stop = ((said_of stop).out ≡ []) × ((said_of stop).err ≡ text_of stop)
+TextsFit (Later fault) stop = Unit {0}
+
+command_fits : (fault : CommandFault) → TextsFit (outlet_of (Command fault)) (Command fault)
+unfolding TextsFit
+command_fits (command.Usage text) = (refl, refl)
+command_fits (command.Help text) = (refl, refl)
+command_fits command.BadIterations = (refl, refl)
+command_fits command.BadNow = (refl, refl)
+command_fits command.BadZones = (refl, refl)
+command_fits command.BadLocal = (refl, refl)
+command_fits command.NoMemory = tt
+
+texts_fit : (stop : Stop) → TextsFit (outlet_of stop) stop
+unfolding TextsFit
+texts_fit (Command fault) = command_fits fault
+texts_fit (Zones name ReadFailed) = (refl, refl)
+texts_fit (Zones name (Zone zone.BadName)) = (refl, refl)
+texts_fit (Zones name (Zone zone.BadRule)) = (refl, refl)
+texts_fit (Zones name (Zone zone.BadFile)) = (refl, refl)
+texts_fit (Zones name (Zone zone.TooLarge)) = (refl, refl)
+texts_fit (Zones name (Zone zone.NoMemory)) = tt
+texts_fit (Zones name (Zone zone.NameTaken)) = (refl, refl)
+texts_fit LocalRule = (refl, refl)
+texts_fit LocalName = (refl, refl)
+texts_fit Clock = (refl, refl)
+texts_fit (Open path) = (refl, refl)
+texts_fit (Run fault) = tt
+
+module _ (stop : Stop) (r : Result Unit RunFault) (come : Result Report Said) (out out1 out' err err1 err' : Option (List ℕ)) (s : StopsAs stop come) (at_out : out1 ≡ out) (at_err : err1 ≡ err) where
+  -- a stop before any run, by its outlet
+  early_written : (outlet : Outlet) → outlet_of stop ≡ outlet → TextsFit outlet stop → TellsOn outlet (text_of stop) r out1 out' err1 err' → WritesOf r (said_of stop).status come out out' err err'
+  unfolding TextsFit
+  early_written OnOut is fits (w, same) =
+      let told : come ≡ Err (said_of stop) = s.said (rw is refl) in
+      rw told (record {
+        by_status = same_status r (said_of stop);
+        out_bytes = rw fits.0 (rw at_out at w);
+        err_bytes = rw (fits.1, same ∙ at_err) (writes_nothing err r);
+      })
+  early_written OnErr is fits (w, same) =
+      let told : come ≡ Err (said_of stop) = s.said (rw is refl) in
+      rw told (record {
+        by_status = same_status r (said_of stop);
+        out_bytes = rw (fits.0, same ∙ at_out) (writes_nothing out r);
+        err_bytes = rw fits.1 (rw at_err at w);
+      })
+  early_written (Later OutFailed) is fits t = let before = rw is at s.before_out in absurd (false≢true (sym before))
+  early_written (Later ErrFailed) is fits t = let before = rw is at s.before_err in absurd (false≢true (sym before))
+  early_written (Later NoMemory) is fits (none, same_out, same_err) =
+      rw none (record {
+        by_status = refl;
+        out_bytes = rw (same_out ∙ at_out) (nothing_front out (out_text come));
+        err_bytes = rw (same_err ∙ at_err) (nothing_front err (err_text come));
+      })
+
+pub tells_stop : (stop : Stop) (r : Result Unit RunFault) (out1 out' err1 err' : Option (List ℕ)) → TellsStop stop r out1 out' err1 err' → (come : Result Report Said) (out err : Option (List ℕ)) → StopEnds stop come out out1 err err1
+    → WritesOf r (said_of stop).status come out out' err err'
+tells_stop (Run fault) r out1 out' err1 err' t come out err s =
+    rw (t.0, t.1, t.2) (fault_written fault come out out1 err err1 s.0 s.1 s.2)
+tells_stop (Command fault) r out1 out' err1 err' t come out err s = early_written (Command fault) r come out out1 out' err err1 err' s.0 s.1 s.2 (outlet_of (Command fault)) refl (texts_fit (Command fault)) t
+tells_stop (Zones name fault) r out1 out' err1 err' t come out err s = early_written (Zones name fault) r come out out1 out' err err1 err' s.0 s.1 s.2 (outlet_of (Zones name fault)) refl (texts_fit (Zones name fault)) t
+tells_stop LocalRule r out1 out' err1 err' t come out err s = early_written LocalRule r come out out1 out' err err1 err' s.0 s.1 s.2 OnErr refl (texts_fit LocalRule) t
+tells_stop LocalName r out1 out' err1 err' t come out err s = early_written LocalName r come out out1 out' err err1 err' s.0 s.1 s.2 OnErr refl (texts_fit LocalName) t
+tells_stop Clock r out1 out' err1 err' t come out err s = early_written Clock r come out out1 out' err err1 err' s.0 s.1 s.2 OnErr refl (texts_fit Clock) t
+tells_stop (Open path) r out1 out' err1 err' t come out err s = early_written (Open path) r come out out1 out' err err1 err' s.0 s.1 s.2 OnErr refl (texts_fit (Open path)) t
+
+-- The buffer
+
+append_nothing : (b : Option (List ℕ)) → append_known b [] ≡ b
+append_nothing None = refl
+append_nothing (Some xs) = ap (λ l. Some l) (append-nil xs)
+
+-- where a call failed, a front of the text stands behind the buffer, and what it still holds
+reaches_front : (before written behind : Option (List ℕ)) (text : List ℕ) (b : Bool) → AppendsFront before written text → Settles written behind b → (held : List ℕ) × AppendsFront before (append_known behind held) text
+reaches_front before written behind text true w s =
+    ([], record { front = w.front; rest = w.rest; whole = w.whole; written = rw (append_nothing behind) (Appends-kept before written behind w.front w.written s) })
+reaches_front before written behind text false w s =
+    (s.0, record { front = w.front; rest = w.rest; whole = w.whole; written = Appends-kept before written (append_known behind s.0) w.front w.written s.1 })
+
+pub reaches_fault : (fault : RunFault) (before written behind : Option (List ℕ)) (text : List ℕ) (b : Bool) → Writes {T = Unit} before written (Err fault) text → Settles written behind b → Reaches {T = Unit} before behind (Err fault) text
+reaches_fault fault before written behind text b w s = reaches_front before written behind text b w s
+
+pub reaches_settled : (r : Result Unit RunFault) (before written behind : Option (List ℕ)) (text : List ℕ) → Writes before written r text → Settles written behind true → Reaches before behind r text
+reaches_settled (Ok done) before written behind text w s = Appends-kept before written behind text w s
+reaches_settled (Err fault) before written behind text w s = reaches_front before written behind text true w s
+
+pub reaches_unsettled : (before written behind : Option (List ℕ)) (text : List ℕ) → Writes {T = Unit} {E = RunFault} before written (Ok tt) text → Settles written behind false → Reaches {T = Unit} before behind (Err OutFailed) text
+reaches_unsettled before written behind text w s = reaches_front before written behind text false (whole_front before written text w) s
+
+-- The whole
+
+-- what was written before the line of the fault, also where the buffer couldn't be written out
+err_before : (r settled : Result Unit RunFault) (a b : Option (List ℕ)) (text : List ℕ) → IsSettled r settled → Writes a b r text → Writes a b settled text
+err_before (Ok done) (Ok settled) a b text is w = w
+err_before (Ok done) (Err fault) a b text is w = whole_front a b text w
+err_before (Err fault) settled a b text is w = rw is w
+
+settled_status : (r settled : Result Unit RunFault) (status : ℕ) (come : Result Report Said) → IsSettled r settled → ended_status r come ≡ status_by r status → status_by settled status ≡ ended_status settled come
+settled_status (Ok done) (Ok settled) status come is same = sym same
+settled_status (Ok done) (Err fault) status come is same = rw is refl
+settled_status (Err fault) settled status come is same = rw is (sym same)
+
+pub works : (told : Told) (words : List (List ℕ)) (answered : Result Status Stop) (out out1 out2 behind err err1 err2 err3 : Option (List ℕ)) (failed : Bool) (written settled : Result Unit RunFault) (status last : ℕ)
+    → AnsweredWords told words answered out out1 err err1
+    → ((come : Result Report Said) (a b : Option (List ℕ)) → EndsAs answered come a out1 b err1 → WritesOf written status come a out2 b err2)
+    → ((before : Option (List ℕ)) (text : List ℕ) → Writes before out2 written text → Reaches before behind settled text)
+    → IsSettled written settled → TellsFault err2 err3 failed settled → last ≡ status_by settled status
+    → Works told words out behind err err3 failed (record { status = last; written = settled })
+works told words answered out out1 out2 behind err err1 err2 err3 failed written settled status last a tells reaches is line same =
+    let w = tells (outcome a.world) out err a.ends in
+    record {
+      world = a.world;
+      fits = a.fits;
+      status = same ∙ settled_status written settled status (outcome a.world) is w.by_status;
+      out_bytes = reaches out (out_text (outcome a.world)) w.out_bytes;
+      err_bytes = record { before = err2; text_bytes = err_before written settled err err2 (err_text (outcome a.world)) is w.err_bytes; line = line };
+    }

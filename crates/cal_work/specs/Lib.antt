@@ -1,0 +1,8 @@
+pub mod LoadFault
+pub mod LoadZone
+pub mod Outcome
+pub mod Stop
+pub mod System
+pub mod WorkLaw
+pub mod WorkSteps
+pub mod Works

@@ -1,0 +1,59 @@
+-- What it is to load a zone file: this project's own option, over zone files (RFC 8536).
+use Rattle.std.specs.Prelude.{◌≡◌, ℕ, Bool, true, false, List, Option, Result, Ok, Err}
+use Rattle.std.specs.FinMap.{insert}
+use Rattle.jiff.specs.Types.{TimeZone}
+use Rattle.cal_bytes.specs.Whole.{CameBeyond, CameWithin, GivesAll}
+use Rattle.cal_zone.specs.ZoneFile.{file_limit, IsFileFault, IsFileZone}
+use Rattle.cal_zone.specs.ZoneMap.{ZoneMap}
+use Rattle.cal_zone.specs.ZoneName.{is_zone_name}
+use Rattle.cal_zone.specs.ZoneTable.{IsAddable, IsAddFault}
+use Rattle.cal_zone.specs.declared.zone_fault.ZoneFault.{ZoneFault}
+use Rattle.cal_zone.specs.declared.zone_fault.ZoneFault.TheVariants.{BadName, BadRule, BadFile, TooLarge, NoMemory, NameTaken}
+use Rattle.cal_work.specs.declared.zone_files.LoadFault.{LoadFault}
+use Rattle.cal_work.specs.declared.zone_files.LoadFault.TheVariants.{ReadFailed, Zone}
+
+-- the reader's bytes are a zone's, and the table has that zone more under a name that was free
+pub record IsLoaded (old new : Option (List ℕ)) (before after : ZoneMap) (name : List ℕ) : Type 0 where
+  pub bytes : List ℕ
+  pub given : GivesAll old new file_limit bytes
+  pub zone : TimeZone
+  pub is_zone : IsFileZone name bytes zone
+  pub addable : IsAddable before name
+  pub added : after ≡ insert before name zone
+
+-- the reader's bytes are no zone file
+pub record HasBadFile (old new : Option (List ℕ)) (name : List ℕ) : Type 0 where
+  pub bytes : List ℕ
+  pub given : GivesAll old new file_limit bytes
+  pub is_bad : IsFileFault name bytes BadFile
+
+-- the reader's bytes are a zone's, but the name is taken
+pub record HasTakenName (old new : Option (List ℕ)) (table : ZoneMap) (name : List ℕ) : Type 0 where
+  pub bytes : List ℕ
+  pub given : GivesAll old new file_limit bytes
+  pub zone : TimeZone
+  pub is_zone : IsFileZone name bytes zone
+  pub is_taken : IsAddFault table name NameTaken
+
+-- Why a file can't be loaded. The name is judged first, and then the file is read; its bytes are judged once all of
+-- them have come, and last of all whether the name is free.
+abbrev pub IsZoneLoadFault : Option (List ℕ) → Option (List ℕ) → ZoneMap → List ℕ → ZoneFault → Type 0
+IsZoneLoadFault old new table name BadName = (is_zone_name name ≡ false) × (new ≡ old)
+IsZoneLoadFault old new table name BadRule = ⊥
+IsZoneLoadFault old new table name BadFile = HasBadFile old new name
+IsZoneLoadFault old new table name TooLarge = (is_zone_name name ≡ true) × CameBeyond old new file_limit
+IsZoneLoadFault old new table name NoMemory = (is_zone_name name ≡ true) × CameWithin old new file_limit
+IsZoneLoadFault old new table name NameTaken = HasTakenName old new table name
+
+abbrev pub IsLoadFault : Option (List ℕ) → Option (List ℕ) → ZoneMap → List ℕ → LoadFault → Type 0
+IsLoadFault old new table name ReadFailed = (is_zone_name name ≡ true) × CameWithin old new file_limit
+IsLoadFault old new table name (Zone fault) = IsZoneLoadFault old new table name fault
+
+-- whether the reader is what failed
+abbrev pub is_read_failed_fault : LoadFault → Bool
+is_read_failed_fault ReadFailed = true
+is_read_failed_fault (Zone fault) = false
+
+abbrev pub is_read_failed : {T : Type 0} → Result T LoadFault → Bool
+is_read_failed (Ok x) = false
+is_read_failed (Err fault) = is_read_failed_fault fault

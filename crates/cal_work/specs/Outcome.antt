@@ -1,0 +1,175 @@
+-- What the program's words come to in a world: the report, or the one stop that comes first.
+use Rattle.std.specs.Prelude.{ℕ, ℤ, pos, Bool, true, false, not, ◌&&◌, int_lt, List, [], ◌∷◌, Option, None, Some, is_some, Result, Ok, Err, if◌then◌else◌}
+use Rattle.std.specs.FinMap.{insert, empty}
+use Rattle.jiff.specs.Types.{TimeZone}
+use Rattle.jiff.specs.Words.{read_whole}
+use Rattle.cal_zone.specs.Zone.{utc}
+use Rattle.cal_zone.specs.ZoneMap.{ZoneMap}
+use Rattle.cal_zone.specs.ZoneName.{is_zone_name}
+use Rattle.cal_zone.specs.ZoneTable.{is_taken, zone_named}
+use Rattle.cal_zone.specs.declared.instant.TheConstants.Instant.{LAST}
+use Rattle.cal_bytes.specs.declared.whole.WholeFault.{WholeFault}
+use Rattle.cal_bytes.specs.declared.whole.WholeFault.TheVariants as whole
+use Rattle.cal_zone.specs.declared.zone.Zone.{Zone as LocalTime}
+use Rattle.cal_zone.specs.declared.zone_fault.ZoneFault.TheVariants.{BadName, BadFile, TooLarge, NoMemory, NameTaken}
+use Rattle.cal_command.specs.Ask.{Wanted, LocalSaid, in_utc, ahead, by_rule, of_name, ZoneSaid, CommandSaid}
+use Rattle.cal_report.specs.Report.{Report, file_name, report}
+use Rattle.cal_request.specs.Request.{Asked, is_timer}
+use Rattle.cal_work.specs.Stop.{Said, command_stop, load_stop, rule_stop, name_stop, clock_stop, unread_stop, memory_stop, exit_status}
+use Rattle.cal_work.specs.System.{Seen}
+use Rattle.cal_work.specs.declared.zone_files.LoadFault.{LoadFault}
+use Rattle.cal_work.specs.declared.zone_files.LoadFault.TheVariants.{ReadFailed, Zone}
+use Rattle.cal_request.specs.declared.request.RunFault.{RunFault}
+use Rattle.cal_request.specs.declared.request.RunFault.TheVariants as run
+
+-- what is seen of a zone file, and the zone that `jiff` reads from it, if it reads one
+pub record ZoneFound : Type 0 where
+  pub seen : Seen
+  pub zone : Option TimeZone
+
+-- What the outcome takes from outside: what the words came to, what is found of each zone file in order, the local
+-- zone, the seconds of the clock, and what is seen of the file of a timer.
+pub record World : Type 0 where
+  pub said : Result Wanted CommandSaid
+  pub zones : List ZoneFound
+  pub local : LocalTime
+  pub clock : Option ℤ
+  pub file : Seen
+
+-- the next step, unless it stopped
+abbrev pub and_then : {A B F : Type 0} → (A → Result B F) → Result A F → Result B F
+and_then next (Ok value) = next value
+and_then next (Err stop) = Err stop
+
+-- The zone files
+
+-- the table with the zone of that name, if `jiff` reads one and the name is free
+abbrev pub with_zone : ZoneMap → List ℕ → Option TimeZone → Result ZoneMap LoadFault
+with_zone table name None = Err (Zone BadFile)
+with_zone table name (Some zone) = if is_taken table name then Err (Zone NameTaken) else Ok (insert table name zone)
+
+abbrev pub with_bytes : ZoneMap → List ℕ → Option TimeZone → Result (List ℕ) WholeFault → Result ZoneMap LoadFault
+with_bytes table name read (Ok bytes) = with_zone table name read
+with_bytes table name read (Err whole.ReadFailed) = Err ReadFailed
+with_bytes table name read (Err whole.TooLarge) = Err (Zone TooLarge)
+with_bytes table name read (Err whole.NoMemory) = Err (Zone NoMemory)
+
+-- the name is judged before the file is read
+abbrev pub with_file : ZoneMap → List ℕ → Option TimeZone → Seen → Result ZoneMap LoadFault
+with_file table name read None = Err ReadFailed
+with_file table name read (Some came) = if is_zone_name name then with_bytes table name read came else Err (Zone BadName)
+
+unfoldable pub loaded : ZoneMap → ZoneSaid → ZoneFound → Result ZoneMap LoadFault
+loaded table item found = with_file table item.name found.zone found.seen
+
+abbrev pub or_load_stop : List ℕ → Result ZoneMap LoadFault → Result ZoneMap Said
+or_load_stop name (Ok table) = Ok table
+or_load_stop name (Err fault) = Err (load_stop name fault)
+
+-- the table of all zone files, in order, or the first that can't be loaded
+unfoldable pub table_by : ZoneMap → List ZoneSaid → List ZoneFound → Result ZoneMap Said
+table_by table [] found = Ok table
+table_by table (item ∷ items) [] = Ok table
+table_by table (item ∷ items) (f ∷ found) =
+    and_then (λ more. table_by more items found) (or_load_stop item.name (loaded table item f))
+
+-- The local zone
+
+unfoldable pub local_by : LocalSaid → ZoneMap → LocalTime → Result LocalTime Said
+local_by in_utc table zone = Ok utc
+local_by (ahead seconds) table zone = Ok zone
+local_by (by_rule rule) table zone = if is_some (read_whole rule) then Ok zone else Err rule_stop
+local_by (of_name name) table zone = if is_some (zone_named table name) then Ok zone else Err name_stop
+
+-- The present instant
+
+-- the instant of so many seconds, where there is one
+unfoldable pub instant_in : ℤ → Option ℤ
+instant_in secs = if not (int_lt secs (pos 0)) && not (int_lt LAST secs) then Some secs else None
+
+abbrev pub or_clock_stop : Option ℤ → Result ℤ Said
+or_clock_stop None = Err clock_stop
+or_clock_stop (Some now) = Ok now
+
+abbrev pub clock_by : Option ℤ → Result ℤ Said
+clock_by None = Err clock_stop
+clock_by (Some secs) = or_clock_stop (instant_in secs)
+
+-- that of the words, or else the clock's
+unfoldable pub present_by : Option ℤ → Option ℤ → Result ℤ Said
+present_by (Some now) clock = Ok now
+present_by None clock = clock_by clock
+
+-- The run
+
+-- what is read of the file of a timer
+abbrev pub input_by : List ℕ → Seen → Result (Result (List ℕ) WholeFault) Said
+input_by path None = Err (unread_stop path)
+input_by path (Some (Ok bytes)) = Ok (Ok bytes)
+input_by path (Some (Err whole.ReadFailed)) = Ok (Err whole.ReadFailed)
+input_by path (Some (Err whole.TooLarge)) = Ok (Err whole.TooLarge)
+input_by path (Some (Err whole.NoMemory)) = Err memory_stop
+
+-- other verbs have no file
+abbrev pub input_if : Bool → List ℕ → Seen → Result (Result (List ℕ) WholeFault) Said
+input_if true path seen = input_by path seen
+input_if false path seen = Ok (Ok [])
+
+unfoldable pub run_by : Asked → Seen → Result Report Said
+run_by asked seen = and_then (λ read. Ok (report asked read)) (input_if (is_timer asked.verb) (file_name asked) seen)
+
+-- The whole
+
+abbrev pub asked_at : Wanted → ZoneMap → LocalTime → ℤ → Asked
+asked_at wanted table local now = record {
+  verb = wanted.verb;
+  texts = wanted.texts;
+  iterations = wanted.iterations;
+  base = wanted.base;
+  now = now;
+  local = local;
+  zones = table;
+}
+
+-- the report of what is wanted, or the first stop: the zone files in order, the local zone, the clock, the file
+unfoldable pub outcome_of : Wanted → World → Result Report Said
+outcome_of wanted world =
+    and_then (λ table.
+    and_then (λ local.
+    and_then (λ now. run_by (asked_at wanted table local now) world.file)
+    (present_by wanted.now world.clock))
+    (local_by wanted.local table world.local))
+    (table_by empty wanted.zones world.zones)
+
+abbrev pub outcome_said : Result Wanted CommandSaid → World → Result Report Said
+outcome_said (Ok wanted) world = outcome_of wanted world
+outcome_said (Err said) world = Err (command_stop said)
+
+unfoldable pub outcome : World → Result Report Said
+outcome world = outcome_said world.said world
+
+-- What an outcome writes, and its status
+
+abbrev pub out_text : Result Report Said → List ℕ
+out_text (Ok report) = report.out
+out_text (Err said) = said.out
+
+abbrev pub err_text : Result Report Said → List ℕ
+err_text (Ok report) = report.err
+err_text (Err said) = said.err
+
+abbrev pub whole_status : Result Report Said → ℕ
+whole_status (Ok report) = exit_status report.status
+whole_status (Err said) = said.status
+
+-- a report that couldn't be written whole has status 1; a stop keeps its own where its line couldn't be written
+abbrev pub cut_status : Result Report Said → ℕ
+cut_status (Ok report) = 1
+cut_status (Err said) = said.status
+
+-- the status, by what couldn't be written
+abbrev pub ended_status : {T : Type 0} → Result T RunFault → Result Report Said → ℕ
+ended_status (Ok all) outcome = whole_status outcome
+ended_status (Err run.OutFailed) outcome = 1
+ended_status (Err run.ErrFailed) outcome = cut_status outcome
+ended_status (Err run.NoMemory) outcome = 1

@@ -1,0 +1,388 @@
+//! All of the program's work: from the words of the command line to the bytes on both outputs and the status
+//! (systemd-analyze(1)).
+//!
+//! The order is the command line, the zone files in order, the local zone, the clock, opening the file of a timer, the
+//! run. The first that stops is the only one that is told of.
+
+ghost use Rattle.std.specs.Prelude.{◌≡◌, ℕ, List, Option, Result, Ok, Err, Some, None, true, false, is_err, length, map, option_map, IfOk, IfErr};
+ghost use Rattle.cal_bytes.specs.Bytes.{Writes};
+ghost use Rattle.cal_command.specs.Ask.{local_said, texts_of, wanted_of, zone_said};
+ghost use Rattle.cal_command.specs.LocalZone.{IsLocalOffset};
+ghost use Rattle.cal_work.specs.Outcome.{instant_in};
+ghost use Rattle.cal_report.specs.Report.{Report};
+ghost use Rattle.cal_request.specs.Request.{IsCount, asked, is_timer, seeks_elapses};
+ghost use Rattle.cal_request.specs.RunFault.{is_out_failed, is_err_failed};
+ghost use Rattle.cal_work.specs.Stop.{Said, is_out_stop, is_err_stop, load_stop, rule_stop, unread_stop};
+ghost use Rattle.cal_work.specs.System.{Opens};
+ghost use Rattle.cal_work.specs.WorkSteps.{is_out_cut, is_err_cut, ran, status_by, Answered, AnsweredWords, EndsAs, FindsLocal, HasRules, IsSettled, IsUnread, Loads, Presents, Reads, ReadsZones, Runs, StopsAs, TellsStop, WritesOf};
+ghost use Rattle.cal_work.specs.Works.{Reaches, TellsFault, Works};
+
+use crate::stop::{Outlet, Stop, exit_status, write_stop};
+use crate::system::System;
+use crate::zone_files::{LoadFault, load_zone};
+use cal_bytes::{Output, Port, Sink};
+use cal_command::{Ask, CommandFault, LocalZone, ZoneItem};
+use cal_report::{file_name, run};
+use cal_request::{Request, RunFault, Status, Verb};
+use cal_zone::{Instant, Rules, Zone, ZoneFault, ZoneTable};
+use std::alloc::Global;
+
+/// How the work ended.
+#[derive(Clone, Copy, PartialEq, Eq, Debug)]
+pub struct Ended {
+    /// The exit status.
+    pub status: u8,
+    /// Whether all of the text was written; else the cause is told on standard error, where that works.
+    pub written: Result<(), RunFault>,
+}
+
+/// Does what the words of the command line ask for. Reports and the text of help go to `out`, which is settled at the
+/// end; refusals and the line of a stop go to `err`.
+///
+/// The status is that of the report or of the stop; it is 1 where `out` fails or memory is refused, and where `err`
+/// fails in a report. Where it failed, each output has a front of its whole text, and `err` the line of the fault
+/// behind it.
+pub fn work<S: System, O: Output, E: Sink>(
+    alloc: Global,
+    system: &S,
+    words: &[&str],
+    out: &mut O,
+    err: &mut E,
+) -> Ended
+    requires out { O.is_failed out.old ≡ false }
+    requires err { E.is_failed err.old ≡ false }
+    ensures works { Works (S.tells system.now) (texts_of words.now) (O.written out.old) (O.behind out.new)
+        (E.written err.old) (E.written err.new) (E.is_failed err.new) result }
+    ensures out_fault { is_out_failed result.written ≡ true → O.is_failed out.new ≡ true }
+    ensures out_failed { O.is_failed out.new ≡ true → is_err result.written ≡ true }
+    ensures err_fault { is_err_failed result.written ≡ true → E.is_failed err.new ≡ true }
+{
+    let answered = answer_words(alloc, system, words, out, err);
+    let told = tell(&answered, out, err);
+    let written = settled(told.written, out);
+    tell_fault(written, err);
+    Ended {
+        status: status_by(written, told.status),
+        written,
+    }
+}
+
+/// The status that goes with what was written: its own where all of it or all but standard error was written.
+fn status_by(written: Result<(), RunFault>, status: u8) -> u8
+    ensures { result ≡ status_by written status }
+{
+    match written {
+        Ok(()) | Err(RunFault::ErrFailed) => status,
+        Err(RunFault::OutFailed) | Err(RunFault::NoMemory) => 1,
+    }
+}
+
+// The work, up to the first stop
+
+/// Answers what the words ask for.
+fn answer_words<S: System, O: Sink, E: Sink>(
+    alloc: Global,
+    system: &S,
+    words: &[&str],
+    out: &mut O,
+    err: &mut E,
+) -> Result<Status, Stop>
+    requires out { O.is_failed out.old ≡ false }
+    requires err { E.is_failed err.old ≡ false }
+    ensures answered { AnsweredWords (S.tells system.now) (texts_of words.now) result
+        (O.written out.old) (O.written out.new) (E.written err.old) (E.written err.new) }
+    ensures out_failed { O.is_failed out.new ≡ is_out_cut result }
+    ensures err_failed { E.is_failed err.new ≡ is_err_cut result }
+{
+    match Ask::of(alloc, words) {
+        Ok(ask) => answer(alloc, system, &ask, out, err),
+        Err(fault) => Err(Stop::Command(fault)),
+    }
+}
+
+/// Answers what is asked.
+fn answer<S: System, O: Sink, E: Sink>(
+    alloc: Global,
+    system: &S,
+    ask: &Ask,
+    out: &mut O,
+    err: &mut E,
+) -> Result<Status, Stop>
+    requires out { O.is_failed out.old ≡ false }
+    requires err { E.is_failed err.old ≡ false }
+    ensures answered { Answered (S.tells system.now) (wanted_of ask.entry.now) result
+        (O.written out.old) (O.written out.new) (E.written err.old) (E.written err.new) }
+    ensures out_failed { O.is_failed out.new ≡ is_out_cut result }
+    ensures err_failed { E.is_failed err.new ≡ is_err_cut result }
+{
+    let table = match read_zones(alloc, system, ask.zones.as_slice()) {
+        Ok(table) => table,
+        Err(stop) => return Err(stop),
+    };
+    let rules = match read_rules(alloc, &ask.local) {
+        Ok(rules) => rules,
+        Err(stop) => return Err(stop),
+    };
+    let local = match local_zone(&ask.local, &rules, &table) {
+        Ok(local) => local,
+        Err(stop) => return Err(stop),
+    };
+    let now = match present(system, ask.now) {
+        Ok(now) => now,
+        Err(stop) => return Err(stop),
+    };
+    run_request(alloc, system, &ask.request, now, local, &table, out, err)
+}
+
+// The steps
+
+/// The table of the zone files, which are read in order.
+fn read_zones<S: System>(alloc: Global, system: &S, items: &[ZoneItem]) -> Result<ZoneTable, Stop>
+    ensures { ReadsZones (λ table. table) (S.tells system.now) (map zone_said items.now) result }
+{
+    let mut table = ZoneTable::new(alloc);
+    for item in items {
+        match load_item(alloc, system, &mut table, item) {
+            Ok(()) => {}
+            Err(fault) => {
+                let refused = zone_stop(alloc, item.name.as_str(), fault);
+                return Err(refused);
+            }
+        }
+    }
+    Ok(table)
+}
+
+/// Reads a zone file into the table. One that can't be opened is one that can't be read.
+fn load_item<S: System>(
+    alloc: Global,
+    system: &S,
+    table: &mut ZoneTable,
+    item: &ZoneItem,
+) -> Result<(), LoadFault>
+    ensures { Loads (S.tells system.now) table.old table.new (zone_said item.now) result }
+{
+    match system.open(item.path.as_str()) {
+        Some(mut file) => load_zone(alloc, table, item.name.as_str(), &mut file),
+        None => Err(LoadFault::ReadFailed),
+    }
+}
+
+/// The stop of a zone file that can't be loaded.
+fn zone_stop(alloc: Global, name: &str, fault: LoadFault) -> Stop
+    ensures { StopsAs {X = Unit} result (Err (load_stop name.now fault)) }
+{
+    match String::from_str(alloc, name) {
+        Ok(name) => Stop::Zones(name, fault),
+        Err(_) => Stop::Run(RunFault::NoMemory),
+    }
+}
+
+/// The rules of the local zone, where it is said by a rule.
+fn read_rules(alloc: Global, local: &LocalZone) -> Result<Option<Rules>, Stop>
+    ensures rules { IfOk result (HasRules (local_said local.now)) }
+    ensures refused { IfErr result (λ stop. StopsAs {X = Unit} stop (Err rule_stop) × IsUnread (local_said local.now)) }
+{
+    let LocalZone::Posix(rule) = local else {
+        return Ok(None);
+    };
+    match Rules::posix(alloc, rule.as_str()) {
+        Ok(rules) => Ok(Some(rules)),
+        Err(ZoneFault::NoMemory) => Err(Stop::Run(RunFault::NoMemory)),
+        Err(_) => Err(Stop::LocalRule),
+    }
+}
+
+/// The local zone: the one that is said, by its rules where it has any.
+fn local_zone<'t>(
+    local: &LocalZone,
+    rules: &'t Option<Rules>,
+    table: &'t ZoneTable,
+) -> Result<Zone<'t>, Stop>
+    requires rules { HasRules (local_said local.now) rules.now }
+    requires offset { IsLocalOffset local.now }
+    ensures { FindsLocal (λ zone. zone) (local_said local.now) table.now result }
+{
+    match local {
+        LocalZone::Utc => Ok(Zone::utc()),
+        LocalZone::Offset(seconds) => Ok(Zone::offset(*seconds)),
+        LocalZone::Posix(_) => match rules {
+            Some(rules) => Ok(Zone::rules(rules)),
+            None => unreachable!(),
+        },
+        LocalZone::Name(name) => match table.find(name.as_str()) {
+            Some(zone) => Ok(zone),
+            None => Err(Stop::LocalName),
+        },
+    }
+}
+
+/// The present instant: the one that is given, or the clock's.
+fn present<S: System>(system: &S, given: Option<Instant>) -> Result<Instant, Stop>
+    ensures { Presents (λ now. now.secs) (S.tells system.now) (option_map (λ now. now.secs) given) result }
+{
+    match given {
+        Some(now) => Ok(now),
+        None => read_clock(system),
+    }
+}
+
+/// The instant of the clock.
+fn read_clock<S: System>(system: &S) -> Result<Instant, Stop>
+    ensures { Reads (λ now. now.secs) (S.tells system.now) result }
+{
+    let Some(secs) = system.clock() else {
+        return Err(Stop::Clock);
+    };
+    match instant_in(secs) {
+        Some(instant) => Ok(instant),
+        None => Err(Stop::Clock),
+    }
+}
+
+/// The instant of so many seconds, where there is one.
+#[tactic(auto, unfolding(crate::specs::Outcome::instant_in))]
+fn instant_in(secs: i64) -> Option<Instant>
+    ensures { option_map (λ now. now.secs) result ≡ instant_in secs }
+{
+    Instant::new(secs)
+}
+
+/// Runs a request; the file of a timer is opened before.
+fn run_request<S: System, O: Sink, E: Sink>(
+    alloc: Global,
+    system: &S,
+    request: &Request,
+    now: Instant,
+    local: Zone<'_>,
+    table: &ZoneTable,
+    out: &mut O,
+    err: &mut E,
+) -> Result<Status, Stop>
+    requires iterations { IsCount request.now.iterations }
+    requires file { is_timer request.now.verb ≡ true → length request.now.texts.items ≡ 1 }
+    requires base { seeks_elapses request.now.verb ≡ false → request.now.base ≡ None }
+    requires out { O.is_failed out.old ≡ false }
+    requires err { E.is_failed err.old ≡ false }
+    ensures runs { Runs (S.tells system.now) (asked request.now now.secs local.entry table.now) result
+        (O.written out.old) (O.written out.new) (E.written err.old) (E.written err.new) }
+    ensures out_failed { O.is_failed out.new ≡ is_out_cut result }
+    ensures err_failed { E.is_failed err.new ≡ is_err_cut result }
+{
+    match request.verb {
+        Verb::Timer => match open_file(alloc, system, file_name(request)) {
+            Ok(mut file) => after_run(run(alloc, request, &mut file, now, local, table, out, err)),
+            Err(stop) => Err(stop),
+        },
+        _ => {
+            let mut none = Port::new(b"".as_slice());
+            after_run(run(alloc, request, &mut none, now, local, table, out, err))
+        }
+    }
+}
+
+/// The end of a run as the end of the work.
+fn after_run(run: Result<Status, RunFault>) -> Result<Status, Stop>
+    ensures { result ≡ ran run }
+{
+    match run {
+        Ok(status) => Ok(status),
+        Err(fault) => Err(Stop::Run(fault)),
+    }
+}
+
+/// Opens the file of a timer.
+fn open_file<S: System>(alloc: Global, system: &S, path: &str) -> Result<S::File, Stop>
+    ensures opened { IfOk result (λ file. Opens ((S.tells system.now).file path.now) (Some (S.File.remaining file))) }
+    ensures sure { IfOk result (λ file. S.File.may_fail file ≡ (S.tells system.now).may_fail path.now) }
+    ensures works { IfOk result (λ file. S.File.is_failed file ≡ false) }
+    ensures refused { IfErr result (λ stop. StopsAs {X = Unit} stop (Err (unread_stop path.now))
+        × Opens ((S.tells system.now).file path.now) None) }
+{
+    match system.open(path) {
+        Some(file) => Ok(file),
+        None => match String::from_str(alloc, path) {
+            Ok(path) => Err(Stop::Open(path)),
+            Err(_) => Err(Stop::Run(RunFault::NoMemory)),
+        },
+    }
+}
+
+// What is told of a stop
+
+/// Writes what is said of a stop, and answers the status beside whether it could be written. Want of memory and what
+/// couldn't be written are told at the end.
+fn tell<O: Sink, E: Sink>(answered: &Result<Status, Stop>, out: &mut O, err: &mut E) -> Ended
+    requires out { O.is_failed out.old ≡ is_out_cut answered.now }
+    requires err { E.is_failed err.old ≡ is_err_cut answered.now }
+    ensures told { (come : Result Report Said) (before_out before_err : Option (List ℕ))
+        → EndsAs answered.now come before_out (O.written out.old) before_err (E.written err.old)
+        → WritesOf result.written result.status come before_out (O.written out.new) before_err (E.written err.new) }
+    ensures out_failed { O.is_failed out.new ≡ is_out_failed result.written }
+    ensures err_failed { E.is_failed err.new ≡ is_err_failed result.written }
+{
+    match answered {
+        Ok(status) => Ended {
+            status: exit_status(*status),
+            written: Ok(()),
+        },
+        Err(stop) => Ended {
+            status: stop.status(),
+            written: tell_stop(stop, out, err),
+        },
+    }
+}
+
+/// Writes what is said of a stop that is neither a run's nor for want of memory: help on `out`, and else on `err`.
+fn tell_stop<O: Sink, E: Sink>(stop: &Stop, out: &mut O, err: &mut E) -> Result<(), RunFault>
+    requires out { O.is_failed out.old ≡ is_out_stop stop.now }
+    requires err { E.is_failed err.old ≡ is_err_stop stop.now }
+    ensures told { TellsStop stop.now result (O.written out.old) (O.written out.new) (E.written err.old) (E.written err.new) }
+    ensures out_failed { O.is_failed out.new ≡ is_out_failed result }
+    ensures err_failed { E.is_failed err.new ≡ is_err_failed result }
+{
+    match stop.outlet() {
+        Outlet::Later(fault) => Err(fault),
+        Outlet::OnOut => match write_stop(out, stop) {
+            Ok(()) => Ok(()),
+            Err(_) => Err(RunFault::OutFailed),
+        },
+        Outlet::OnErr => match write_stop(err, stop) {
+            Ok(()) => Ok(()),
+            Err(_) => Err(RunFault::ErrFailed),
+        },
+    }
+}
+
+/// Settles the output, also where something failed, so that what stands before the fault goes out.
+fn settled<O: Output>(written: Result<(), RunFault>, out: &mut O) -> Result<(), RunFault>
+    requires { O.is_failed out.old ≡ is_out_failed written }
+    ensures bytes { (before : Option (List ℕ)) (text : List ℕ) → Writes before (O.written out.old) written text
+        → Reaches before (O.behind out.new) result text }
+    ensures same { IsSettled written result }
+    ensures out_fault { is_out_failed result ≡ true → O.is_failed out.new ≡ true }
+    ensures out_failed { O.is_failed out.new ≡ true → is_err result ≡ true }
+{
+    if out.settle() {
+        return written;
+    }
+    match written {
+        Ok(()) => Err(RunFault::OutFailed),
+        Err(fault) => Err(fault),
+    }
+}
+
+/// Tells why not all could be written, unless standard error is what failed.
+fn tell_fault<E: Sink>(written: Result<(), RunFault>, err: &mut E)
+    requires { E.is_failed err.old ≡ is_err_failed written }
+    ensures line { TellsFault (E.written err.old) (E.written err.new) (E.is_failed err.new) written }
+    ensures fault { is_err_failed written ≡ true → E.is_failed err.new ≡ true }
+{
+    match written {
+        Ok(()) | Err(RunFault::ErrFailed) => {}
+        Err(fault) => {
+            // Where this line can't be written, the status alone tells.
+            let _ = write_stop(err, &Stop::Run(fault));
+        }
+    }
+}

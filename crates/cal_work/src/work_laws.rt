@@ -1,0 +1,16 @@
+//! Laws of the program's whole work. Each is a function that does nothing, and whose contract is the law.
+
+ghost use Rattle.std.specs.Prelude.{◌≡◌, true, List, ℕ};
+ghost use Rattle.cal_command.specs.CommandLine.{asked_in, takes_words};
+ghost use Rattle.cal_work.specs.Outcome.{World, outcome};
+ghost use Rattle.cal_work.specs.System.{Told};
+ghost use Rattle.cal_work.specs.WorkLaw.{IsOr, TellsAll, told_outcome};
+ghost use Rattle.cal_work.specs.Works.{FitsWords};
+
+/// Where the system tells all of its files and its clock, no read fails and `clap` takes the words, the outcome in any
+/// world that fits is the one that goes by the words and what is told, and by the zones that `jiff` reads there; or
+/// memory was refused.
+pub fn told_systems_decide()
+    ensures { (told : Told) (words : List (List ℕ)) (world : World) → TellsAll told → takes_words words ≡ true
+        → FitsWords told words world → IsOr (outcome world) (told_outcome told (asked_in words) world) }
+{}

@@ -1,0 +1,70 @@
+//! Zone files that are read into the table of zones.
+
+ghost use Rattle.std.specs.Prelude.{◌≡◌, false, MatchResult, OnErr};
+ghost use Rattle.cal_work.specs.LoadZone.{is_read_failed, IsLoaded, IsLoadFault};
+
+use cal_bytes::{Source, WholeFault, read_whole};
+use cal_zone::{Rules, ZoneFault, ZoneTable, is_zone_name};
+use std::alloc::Global;
+
+/// Why a zone file can't be loaded.
+#[derive(Clone, Copy, PartialEq, Eq, Debug)]
+pub enum LoadFault {
+    /// The reader failed. Its number is 1.
+    ReadFailed,
+    /// The name or the file is refused. Its number is 2.
+    Zone(ZoneFault),
+}
+
+impl LoadFault {
+    ghost use Rattle.cal_work.specs.LoadFault.{words_of};
+
+    /// What a user is told; for a refused name or file these are the words of that fault.
+    pub fn words(&self) -> &str
+        ensures { result.now ≡ words_of self.now }
+    {
+        match self {
+            LoadFault::ReadFailed => "cannot be read",
+            LoadFault::Zone(fault) => fault.words(),
+        }
+    }
+}
+
+/// Reads a zone file (RFC 8536) and adds its rules to the table under that name.
+///
+/// A refusal leaves the table as it was. The faults are, in this order: [`ZoneFault::BadName`], for which nothing is
+/// read; [`LoadFault::ReadFailed`] where the reader failed, or [`ZoneFault::TooLarge`] where more than 1,048,576
+/// bytes came; [`ZoneFault::BadFile`]; [`ZoneFault::NameTaken`]. [`ZoneFault::NoMemory`] comes where memory is
+/// refused.
+pub fn load_zone<R: Source>(
+    alloc: Global,
+    table: &mut ZoneTable,
+    name: &str,
+    from: &mut R,
+) -> Result<(), LoadFault>
+    requires { R.is_failed from.old ≡ false }
+    ensures failed { R.is_failed from.new ≡ is_read_failed result }
+    ensures loaded { MatchResult result
+        (λ _. IsLoaded (R.remaining from.old) (R.remaining from.new) table.old table.new name.now)
+        (IsLoadFault (R.remaining from.old) (R.remaining from.new) table.old name.now) }
+    ensures unchanged { OnErr result (table.new ≡ table.old) }
+    ensures sure { R.may_fail from.old ≡ false → R.is_failed from.new ≡ false }
+{
+    if !is_zone_name(name.as_bytes()) {
+        return Err(LoadFault::Zone(ZoneFault::BadName));
+    }
+    let bytes = match read_whole(alloc, from, Rules::FILE_LIMIT) {
+        Ok(bytes) => bytes,
+        Err(WholeFault::ReadFailed) => return Err(LoadFault::ReadFailed),
+        Err(WholeFault::TooLarge) => return Err(LoadFault::Zone(ZoneFault::TooLarge)),
+        Err(WholeFault::NoMemory) => return Err(LoadFault::Zone(ZoneFault::NoMemory)),
+    };
+    let rules = match Rules::file(alloc, name, bytes.as_slice()) {
+        Ok(rules) => rules,
+        Err(fault) => return Err(LoadFault::Zone(fault)),
+    };
+    match table.add(name, rules) {
+        Ok(()) => Ok(()),
+        Err((_, fault)) => Err(LoadFault::Zone(fault)),
+    }
+}

@@ -1,0 +1,7 @@
+pub mod CivilLemmas
+pub mod OffsetLemmas
+pub mod PlaceLemmas
+pub mod WeekdayLemmas
+pub mod YearLemmas
+pub mod ZoneLemmas
+pub mod ZoneMapLemmas

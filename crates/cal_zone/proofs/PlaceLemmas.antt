@@ -1,0 +1,132 @@
+-- Places of local seconds.
+use Rattle.std.proofs.Common.{◌≡◌, ◌∙◌, ℤ, pos, ◌+ℤ◌, ◌-ℤ◌, Bool, Option, Some, None, refl, sym, ap, arith, int_eq, true, false, if◌then◌else◌}
+use Rattle.std.proofs.lemmas.Int.{ints}
+use Rattle.jiff.specs.Types.{AmbiguousOffset, DateTime, Fixed, Offset, TimeZone, UTC}
+use Rattle.jiff.specs.Words.{ambiguous_at, compatible_offset, civil_nanos, fixed_zone, instant_of, nanos_of_seconds, offset_at, picked_instant, IsEpochDay, IsOffsetSeconds}
+use Rattle.jiff.proofs.SpanFacts.{signed_arith}
+use Rattle.jiff.proofs.ZoneFacts.{offset_at-fixed_zone}
+use Rattle.cal_zone.specs.Local.{day_of}
+use Rattle.cal_zone.specs.Place.{datetime_of, place_at, place_of, settle_of, civil_nanos-datetime_of}
+use Rattle.cal_zone.specs.Zone.{local_of}
+use Rattle.cal_zone.proofs.ZoneLemmas.{offset_at-in_range}
+
+same_test : (a b : ℤ) → a ≡ b → int_eq a b ≡ true
+same_test a b e = grind (arith, ints)
+
+pub settle_of-UTC : (local : ℤ) → settle_of UTC local ≡ local
+unfolding settle_of ambiguous_at
+settle_of-UTC local = omega (arith, ints)
+
+local_of-UTC : (second : ℤ) → local_of UTC second ≡ second
+unfolding local_of offset_at
+local_of-UTC second = omega (arith, ints)
+
+-- the civil clock of UTC is the Unix clock
+pub place_of-UTC : (local : ℤ) → place_of UTC local ≡ Some local
+unfolding place_of
+place_of-UTC local = rw (settle_of-UTC local, local_of-UTC local, same_test local local refl)
+
+-- the second that a local second settles at is `jiff`'s own instant
+pub picked_instant-settle_of : (tz : TimeZone) (local : ℤ) → IsEpochDay (day_of local) → picked_instant tz (datetime_of local) ≡ nanos_of_seconds (settle_of tz local)
+unfolding settle_of
+picked_instant-settle_of tz local h = omega (arith, signed_arith, civil_nanos-datetime_of local h)
+
+-- a zone of fixed offset has that offset for every civil time, whether or not it is UTC to `jiff`
+picked_by : (o : Offset) (shown : DateTime) (b : Bool) → int_eq o.seconds (pos 0) ≡ b
+    → (compatible_offset (ambiguous_at (if b then UTC else Fixed o) shown)).seconds ≡ o.seconds
+unfolding ambiguous_at
+picked_by o shown true e = grind (arith, ints, e)
+picked_by o shown false e = refl
+
+pub settle_of-fixed_zone : (o : Offset) (local : ℤ) → settle_of (fixed_zone o) local ≡ local -ℤ o.seconds
+unfolding settle_of
+settle_of-fixed_zone o local = ap (λ s. local -ℤ s) (picked_by o (datetime_of local) _ refl)
+
+local_of-fixed_zone : (o : Offset) (local : ℤ) → local_of (fixed_zone o) (local -ℤ o.seconds) ≡ local
+unfolding local_of
+local_of-fixed_zone o local = omega (arith, signed_arith, offset_at-fixed_zone o (nanos_of_seconds (local -ℤ o.seconds)))
+
+-- such a zone places each local second at itself less the offset
+pub place_of-fixed_zone : (o : Offset) (local : ℤ) → place_of (fixed_zone o) local ≡ Some (local -ℤ o.seconds)
+unfolding place_of
+place_of-fixed_zone o local = rw (settle_of-fixed_zone o local, local_of-fixed_zone o local, same_test local local refl)
+
+-- the instant that `jiff` picks for a local second is where it settles
+pub instant_of-settled : (tz : TimeZone) (offsets : AmbiguousOffset) (shown : DateTime) (local : ℤ) → IsEpochDay (day_of local)
+    → shown ≡ datetime_of local → offsets ≡ ambiguous_at tz shown → instant_of shown (compatible_offset offsets) ≡ nanos_of_seconds (settle_of tz local)
+unfolding settle_of
+instant_of-settled tz offsets shown local day e f =
+    let whole : civil_nanos shown ≡ nanos_of_seconds local = ap civil_nanos e ∙ civil_nanos-datetime_of local day in
+    let same = ap (λ o. (compatible_offset o).seconds) (f ∙ ap (ambiguous_at tz) e) in
+    omega (arith, signed_arith)
+
+-- a local second settles near itself
+pub settle_of-near : (tz : TimeZone) (local : ℤ) → IsOffsetSeconds (local -ℤ settle_of tz local)
+unfolding settle_of
+settle_of-near tz local =
+    let bound = (compatible_offset (ambiguous_at tz (datetime_of local))).in_range in
+    (omega (arith, signed_arith), omega (arith, signed_arith))
+
+-- the place is where a local second settles, if the clock shows it there
+pub place_of-shown : (tz : TimeZone) (local second : ℤ) → second ≡ settle_of tz local → local_of tz second ≡ local → place_of tz local ≡ Some second
+unfolding place_of
+place_of-shown tz local second settled shown =
+    rw (← settled, same_test (local_of tz second) local shown)
+
+other_test : (a b : ℤ) → (a ≡ b → ⊥) → int_eq a b ≡ false
+other_test a b e = grind (arith, ints)
+
+pub place_of-skipped : (tz : TimeZone) (local second : ℤ) → second ≡ settle_of tz local → (local_of tz second ≡ local → ⊥) → place_of tz local ≡ None
+unfolding place_of
+place_of-skipped tz local second settled skipped =
+    rw (← settled, other_test (local_of tz second) local skipped)
+
+by_test : (b : Bool) (s place : ℤ) → ◌≡◌ {A = Option ℤ} (if b then Some s else None) (Some place) → (b ≡ true) × (s ≡ place)
+by_test true s place e = (refl, cc)
+by_test false s place e = cc
+
+test_true : (a b : ℤ) → int_eq a b ≡ true → a ≡ b
+test_true a b e = grind (arith, ints)
+
+-- a place is where its local second settles, and the clock shows the local second there
+pub place_of-Some : (tz : TimeZone) (local place : ℤ) → place_of tz local ≡ Some place → (settle_of tz local ≡ place) × (local_of tz place ≡ local)
+unfolding place_of
+place_of-Some tz local place e =
+    let h = by_test _ (settle_of tz local) place e in
+    (h.1, ap (local_of tz) (sym h.1) ∙ test_true (local_of tz (settle_of tz local)) local h.0)
+
+pub by_the_offset : (tz : TimeZone) (local place : ℤ) → place_of tz local ≡ Some place → local -ℤ place ≡ offset_at tz (nanos_of_seconds place)
+unfolding local_of
+by_the_offset tz local place e =
+    let shown = (place_of-Some tz local place e).1 in
+    omega (arith, signed_arith)
+
+pub within : (tz : TimeZone) (local place : ℤ) → place_of tz local ≡ Some place → IsOffsetSeconds (local -ℤ place)
+within tz local place e = rw (by_the_offset tz local place e) (offset_at-in_range tz (nanos_of_seconds place))
+
+pub one_local_second : (tz : TimeZone) (a b place : ℤ) → place_of tz a ≡ Some place → place_of tz b ≡ Some place → a ≡ b
+one_local_second tz a b place e f = sym (place_of-Some tz a place e).1 ∙ (place_of-Some tz b place f).1
+
+same_tests : (a b c d : ℤ) → (a ≡ b → c ≡ d) → (c ≡ d → a ≡ b) → int_eq a b ≡ int_eq c d
+same_tests a b c d to from = grind (arith, ints)
+
+-- where one offset is tried, the place is what is found at it
+pub place_of-tried : (tz : TimeZone) (local : ℤ) (offsets : AmbiguousOffset) → ambiguous_at tz (datetime_of local) ≡ offsets
+    → place_of tz local ≡ place_at tz local (compatible_offset offsets)
+unfolding place_of place_at settle_of local_of
+place_of-tried tz local offsets e =
+    let second = local -ℤ (compatible_offset offsets).seconds in
+    rw e
+    (ap (λ b. if b then Some second else None)
+    (same_tests (second +ℤ offset_at tz (nanos_of_seconds second)) local (offset_at tz (nanos_of_seconds second)) (compatible_offset offsets).seconds
+    (λ f. omega (arith, signed_arith)) (λ f. omega (arith, signed_arith))))
+
+pub place_at-there : (tz : TimeZone) (local : ℤ) (offset : Offset) → offset_at tz (nanos_of_seconds (local -ℤ offset.seconds)) ≡ offset.seconds
+    → place_at tz local offset ≡ Some (local -ℤ offset.seconds)
+unfolding place_at
+place_at-there tz local offset e = rw (same_test (offset_at tz (nanos_of_seconds (local -ℤ offset.seconds))) offset.seconds e)
+
+pub place_at-elsewhere : (tz : TimeZone) (local : ℤ) (offset : Offset) → (offset_at tz (nanos_of_seconds (local -ℤ offset.seconds)) ≡ offset.seconds → ⊥)
+    → place_at tz local offset ≡ None
+unfolding place_at
+place_at-elsewhere tz local offset e = rw (other_test (offset_at tz (nanos_of_seconds (local -ℤ offset.seconds))) offset.seconds e)

@@ -1,0 +1,34 @@
+-- Zones of each kind.
+use Rattle.std.proofs.Common.{◌≡◌, ℤ, ap}
+use Rattle.std.specs.Borrow.{Bor}
+use Rattle.jiff.specs.Types.{Fixed, Posix, TimeZone, Tzif, UTC, Unknown}
+use Rattle.jiff.specs.Words.{fixed_zone, offset_at, IsOffsetSeconds}
+use Rattle.jiff_tz.specs.PosixRule as PosixRule
+use Rattle.jiff_tz.specs.Tzif as Table
+use Rattle.jiff_tz.specs.Zone.{zero_in_range}
+use Rattle.cal_zone.specs.declared.rules.Rules.{Rules}
+use Rattle.cal_zone.specs.declared.zone.Ahead.{Ahead}
+use Rattle.cal_zone.specs.declared.zone.Kind.TheVariants.{Utc, Offset as AtOffset, Rules as ByRules}
+use Rattle.cal_zone.specs.declared.zone.Zone.{Zone}
+use Rattle.cal_zone.specs.Zone.{offset_of, zone_of, zone_of_kind}
+
+pub zone_of-utc : (zone : Zone) → zone.kind ≡ Utc → zone_of zone ≡ UTC
+unfolding zone_of
+zone_of-utc zone e = ap zone_of_kind e
+
+pub zone_of-offset : (zone : Zone) (ahead : Ahead) → zone.kind ≡ AtOffset ahead → zone_of zone ≡ fixed_zone (offset_of ahead)
+unfolding zone_of
+zone_of-offset zone ahead e = ap zone_of_kind e
+
+pub zone_of-rules : (zone : Zone) (rules : Bor Rules) → zone.kind ≡ ByRules rules → zone_of zone ≡ rules.now
+unfolding zone_of
+zone_of-rules zone rules e = ap zone_of_kind e
+
+-- the offset of a zone is one of `jiff`'s at every instant
+pub offset_at-in_range : (tz : TimeZone) (n : ℤ) → IsOffsetSeconds (offset_at tz n)
+unfolding offset_at
+offset_at-in_range UTC n = zero_in_range
+offset_at-in_range Unknown n = zero_in_range
+offset_at-in_range (Fixed o) n = o.in_range
+offset_at-in_range (Posix rule) n = (PosixRule.offset_at rule n).in_range
+offset_at-in_range (Tzif table) n = (Table.offset_at table.now n).in_range

@@ -1,0 +1,72 @@
+-- Zone tables, seen as finite maps.
+use Rattle.std.proofs.Common.{◌≡◌, ℕ, List, [], ◌∷◌, map, Option, refl, ap, sym, ◌∙◌, cond, true, false}
+use Rattle.std.specs.BTreeMap.{BTreeMap, get_by_text, is_at, UpdatesBy}
+use Rattle.std.specs.Cmp.{eq_by_cmp_equiv}
+use Rattle.std.specs.Cmp.Lexicographic.{slice_cmp, nat_list_cmp_total}
+use Rattle.std.specs.FinMap.{find, get, get-from_entries, insert, get-insert, same_map, slice_cmp-IsAntisymmetric, nat_cmp-IsAntisymmetric}
+use Rattle.std.specs.Map.{lookup}
+use Rattle.std.specs.Ordering.{nat_cmp, eq_by_cmp, is_eq}
+use Rattle.std.specs.Prelude.{String, Some, None, is_some, option_map}
+use Rattle.std.specs.Str.{bytes_eq}
+use Rattle.std.specs.String.{string_bytes, string_cmp}
+use Rattle.std.specs.declared.alloc.Global.{Global}
+use Rattle.std.proofs.lemmas.Bool.{false_from_ne_true}
+use Rattle.std.proofs.lemmas.Slice.Eq.{bytes_eq-Decides}
+use Rattle.std.proofs.lemmas.Map.Text.{btree_map_updates_text, is_eq-slice_cmp}
+use Rattle.jiff.specs.Types.{TimeZone, UTC}
+use Rattle.cal_zone.specs.ZoneMap.{ZoneMap, zones_in}
+use Rattle.cal_zone.specs.ZoneName.{is_utc_name}
+use Rattle.cal_zone.specs.ZoneTable.{zone_named}
+
+find-lookup : (q : List ℕ) (es : List (String Global × TimeZone))
+    → find (slice_cmp nat_cmp) q (map (λ entry. (string_bytes entry.0, entry.1)) es) ≡ lookup (is_at (λ key. slice_cmp nat_cmp q (string_bytes key))) es
+find-lookup q [] = refl
+find-lookup q (e ∷ es) = ap (cond (is_eq (slice_cmp nat_cmp q (string_bytes e.0))) (Some e.1)) (find-lookup q es)
+
+-- the map has at a name what the tree has at a text of these bytes
+pub get-zones_in : (zones : BTreeMap (String Global) TimeZone) (q : List ℕ) → get (zones_in zones) q ≡ get_by_text zones q
+get-zones_in zones q = get-from_entries nat_list_cmp_total _ q ∙ find-lookup q zones.entries
+
+-- what a name other than that of UTC gives
+pub zone_named-zones_in : (zones : BTreeMap (String Global) TimeZone) (table : ZoneMap) (name : List ℕ) → zones_in zones ≡ table → is_utc_name name ≡ false
+    → zone_named table name ≡ get_by_text zones name
+unfolding zone_named
+zone_named-zones_in zones table name view other =
+    ap (λ b. cond b (Some UTC) (get table name)) other ∙ ap (λ t. get t name) (sym view) ∙ get-zones_in zones name
+
+pub is_some-option_map : {A B : Type 0} (f : A → B) (o : Option A) → is_some (option_map f o) ≡ is_some o
+is_some-option_map f None = refl
+is_some-option_map f (Some x) = refl
+
+-- the two ways to ask whether a name is that one
+same_test : (name q : List ℕ) → bytes_eq name q ≡ eq_by_cmp (slice_cmp nat_cmp) q name
+same_test name q = sym (is_eq-slice_cmp name q) ∙ (eq_by_cmp_equiv nat_list_cmp_total).symm name q
+
+-- where the tree changes at one text, the map changes at that name
+pub zones_in-insert : (old new : BTreeMap (String Global) TimeZone) (name : List ℕ) (zone : TimeZone)
+    → UpdatesBy string_cmp (λ key. slice_cmp nat_cmp name (string_bytes key)) old new (Some zone)
+    → zones_in new ≡ insert (zones_in old) name zone
+zones_in-insert old new name zone updates =
+    same_map nat_list_cmp_total (slice_cmp-IsAntisymmetric nat_cmp-IsAntisymmetric) _ _
+    (λ q. get-zones_in new q ∙ btree_map_updates_text name old new (Some zone) updates q
+    ∙ ap (λ b. cond b (Some zone) (get_by_text old q)) (same_test name q)
+    ∙ ap (λ o. cond (eq_by_cmp (slice_cmp nat_cmp) q name) (Some zone) o) (sym (get-zones_in old q))
+    ∙ sym (get-insert nat_list_cmp_total (zones_in old) name zone q))
+
+differ : (xs ys : List ℕ) → (xs ≡ ys → ⊥) → eq_by_cmp (slice_cmp nat_cmp) xs ys ≡ false
+differ xs ys h = is_eq-slice_cmp xs ys ∙ false_from_ne_true _ (λ e. h ((bytes_eq-Decides xs ys).0 e))
+
+same : (xs : List ℕ) → eq_by_cmp (slice_cmp nat_cmp) xs xs ≡ true
+same xs = is_eq-slice_cmp xs xs ∙ (bytes_eq-Decides xs xs).1 refl
+
+pub zone_named-here : (table : ZoneMap) (name : List ℕ) (zone : TimeZone) → is_utc_name name ≡ false → zone_named (insert table name zone) name ≡ Some zone
+unfolding zone_named
+zone_named-here table name zone other =
+    ap (λ b. cond b (Some UTC) (get (insert table name zone) name)) other
+    ∙ get-insert nat_list_cmp_total table name zone name ∙ ap (λ b. cond b (Some zone) (get table name)) (same name)
+
+pub zone_named-elsewhere : (table : ZoneMap) (name other : List ℕ) (zone : TimeZone) → (other ≡ name → ⊥) → zone_named (insert table name zone) other ≡ zone_named table other
+unfolding zone_named
+zone_named-elsewhere table name other zone apart =
+    ap (λ o. cond (is_utc_name other) (Some UTC) o)
+    (get-insert nat_list_cmp_total table name zone other ∙ ap (λ b. cond b (Some zone) (get table other)) (differ other name apart))

@@ -1,0 +1,14 @@
+pub mod Civil
+pub mod Days
+pub mod Instant
+pub mod InstantText
+pub mod Local
+pub mod Place
+pub mod Rules
+pub mod Weekday
+pub mod Zone
+pub mod ZoneFault
+pub mod ZoneFile
+pub mod ZoneMap
+pub mod ZoneName
+pub mod ZoneTable

@@ -1,0 +1,40 @@
+-- Zone files: RFC 8536, as `jiff` reads them.
+use Rattle.std.specs.Prelude.{◌≡◌, ◌⊎◌, ◌<◌, ◌≤◌, ℕ, true, false, List, length, Ok, IsOk, IsErr}
+use Rattle.jiff.specs.Types.{TimeZone, UTC, Unknown, Fixed, Posix, Tzif}
+use Rattle.jiff_tz.specs.Tzif.{tzif_view, HasBadRule, RuleAgrees}
+use Rattle.jiff_tz.specs.TzifReader.{read_tzif}
+use Rattle.cal_zone.specs.ZoneName.{is_zone_name}
+use Rattle.cal_zone.specs.declared.rules.TheConstants.Rules.{FILE_LIMIT}
+use Rattle.cal_zone.specs.declared.zone_fault.ZoneFault.{ZoneFault}
+use Rattle.cal_zone.specs.declared.zone_fault.ZoneFault.TheVariants.{BadName, BadRule, BadFile, TooLarge, NoMemory, NameTaken}
+
+-- the most bytes that a zone file may have
+abbrev pub file_limit : ℕ
+file_limit = FILE_LIMIT
+
+-- the zone is what `jiff` reads from the bytes
+abbrev pub IsReadFrom : List ℕ → TimeZone → Type 0
+IsReadFrom bytes UTC = ⊥
+IsReadFrom bytes Unknown = ⊥
+IsReadFrom bytes (Fixed offset) = ⊥
+IsReadFrom bytes (Posix rule) = ⊥
+IsReadFrom bytes (Tzif table) = (read_tzif bytes ≡ Ok (tzif_view table.now)) × RuleAgrees table.now
+
+-- the name and the size of a file that is read at all
+pub record IsReadable (name bytes : List ℕ) : Type 0 where
+  pub named : is_zone_name name ≡ true
+  pub fits : length bytes ≤ file_limit
+
+-- the zone of a file
+abbrev pub IsFileZone : List ℕ → List ℕ → TimeZone → Type 0
+IsFileZone name bytes zone = IsReadable name bytes × IsReadFrom bytes zone
+
+-- Why a file gives no zone. The name is judged first, then the size, then the bytes, which are refused where
+-- they are no such file or where the rule in them disagrees with their table.
+abbrev pub IsFileFault : List ℕ → List ℕ → ZoneFault → Type 0
+IsFileFault name bytes BadName = is_zone_name name ≡ false
+IsFileFault name bytes BadRule = ⊥
+IsFileFault name bytes BadFile = IsReadable name bytes × (IsErr (read_tzif bytes) ⊎ HasBadRule (read_tzif bytes))
+IsFileFault name bytes TooLarge = (is_zone_name name ≡ true) × (file_limit < length bytes)
+IsFileFault name bytes NoMemory = IsReadable name bytes × IsOk (read_tzif bytes)
+IsFileFault name bytes NameTaken = ⊥

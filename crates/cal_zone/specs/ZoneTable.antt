@@ -1,0 +1,30 @@
+-- What a zone table answers: this project's own rule, where systemd.time(7) has the zones of the machine.
+use Rattle.std.specs.Prelude.{◌≡◌, ℕ, Bool, true, false, List, Option, Some, is_some, if◌then◌else◌}
+use Rattle.std.specs.FinMap.{get}
+use Rattle.jiff.specs.Types.{TimeZone, UTC}
+use Rattle.cal_zone.specs.ZoneMap.{ZoneMap}
+use Rattle.cal_zone.specs.ZoneName.{is_utc_name, is_zone_name}
+use Rattle.cal_zone.specs.declared.zone_fault.ZoneFault.{ZoneFault}
+use Rattle.cal_zone.specs.declared.zone_fault.ZoneFault.TheVariants.{BadName, BadRule, BadFile, TooLarge, NoMemory, NameTaken}
+
+-- the zone of a name: UTC for `UTC` in any case, and else what the map has at exactly that name
+unfoldable pub zone_named : ZoneMap → List ℕ → Option TimeZone
+zone_named table name = if is_utc_name name then Some UTC else get table name
+
+-- the table has a zone of that name
+abbrev pub is_taken : ZoneMap → List ℕ → Bool
+is_taken table name = is_some (zone_named table name)
+
+-- a name that a zone can be added under
+pub record IsAddable (table : ZoneMap) (name : List ℕ) : Type 0 where
+  pub named : is_zone_name name ≡ true
+  pub free : is_taken table name ≡ false
+
+-- why a zone can't be added: the form of the name is judged first, then whether it is free
+abbrev pub IsAddFault : ZoneMap → List ℕ → ZoneFault → Type 0
+IsAddFault table name BadName = is_zone_name name ≡ false
+IsAddFault table name BadRule = ⊥
+IsAddFault table name BadFile = ⊥
+IsAddFault table name TooLarge = ⊥
+IsAddFault table name NoMemory = IsAddable table name
+IsAddFault table name NameTaken = (is_zone_name name ≡ true) × (is_taken table name ≡ true)

@@ -1,0 +1,86 @@
+//! The civil time that a zone's clocks show at an instant.
+ghost use Rattle.std.specs.Prelude.{◌≡◌, ◌<◌, ◌≤◌, pos};
+ghost use Rattle.std.specs.Int.{IsInRange};
+ghost use Rattle.jiff.specs.Words.{offset_at, IsBetween, IsOffsetSeconds};
+ghost use Rattle.cal_zone.specs.Civil.{civil_of, shown_at};
+ghost use Rattle.cal_zone.specs.Local.{civil_date};
+ghost use Rattle.cal_zone.specs.Zone.{offset_of, zone_of};
+
+use crate::zone::{Ahead, Kind};
+use crate::{Civil, Instant, Zone};
+use jiff::Timestamp;
+use jiff::civil::{Date, DateTime};
+use jiff::tz::Offset;
+
+/// The seconds of a day.
+pub const DAY: u64 = 86_400;
+
+/// The days of the years 1970 to 2199.
+pub const DAYS: u64 = 84_006;
+
+/// What a clock in the zone shows at the instant.
+pub fn civil(zone: Zone, instant: Instant) -> Civil
+    ensures value { result ≡ civil_of (zone_of zone.entry) instant.secs }
+    ensures year { IsBetween (pos 1969) (pos 2200) result.year }
+    ensures month { IsInRange 1 12 result.month }
+    ensures day { IsInRange 1 31 result.day }
+    ensures weekday { IsInRange 1 7 result.weekday }
+    ensures hour { result.hour ≤ 23 }
+    ensures minute { result.minute ≤ 59 }
+    ensures second { result.second ≤ 59 }
+    ensures offset { IsOffsetSeconds result.offset }
+{
+    let Ok(timestamp) = Timestamp::from_second(instant.secs()) else {
+        unreachable!()
+    };
+    let offset = offset_in(zone, timestamp);
+    fields(offset.to_datetime(timestamp), offset)
+}
+
+/// How far the zone's clock is ahead of UTC at the instant.
+fn offset_in(zone: Zone, timestamp: Timestamp) -> Offset
+    ensures { result.seconds ≡ offset_at (zone_of zone.entry) timestamp.nanosecond }
+{
+    match zone.kind {
+        Kind::Utc => Offset::UTC,
+        Kind::Offset(ahead) => fixed_offset(ahead),
+        Kind::Rules(rules) => rules.offset(timestamp),
+    }
+}
+
+/// The offset of a clock that is always so far ahead.
+fn fixed_offset(ahead: Ahead) -> Offset
+    ensures { result ≡ offset_of ahead }
+{
+    let Ok(offset) = Offset::from_seconds(ahead.seconds) else {
+        unreachable!()
+    };
+    offset
+}
+
+/// The date of a day of the years 1970 to 2199, by its number from 1970-01-01 on, which is below [`DAYS`].
+pub fn date_of_day(day: u64) -> Date
+    requires { day < DAYS }
+    ensures { result ≡ civil_date day }
+{
+    let Ok(timestamp) = Timestamp::from_second((day * DAY) as i64) else {
+        unreachable!()
+    };
+    Offset::UTC.to_datetime(timestamp).date()
+}
+
+/// The fields of what a clock at the offset shows.
+fn fields(shown: DateTime, offset: Offset) -> Civil
+    ensures { result ≡ shown_at offset.seconds shown }
+{
+    Civil {
+        year: shown.year(),
+        month: shown.month() as u8,
+        day: shown.day() as u8,
+        weekday: shown.weekday().index() + 1,
+        hour: shown.hour() as u8,
+        minute: shown.minute() as u8,
+        second: shown.second() as u8,
+        offset: offset.seconds(),
+    }
+}

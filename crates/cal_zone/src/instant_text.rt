@@ -1,0 +1,145 @@
+//! Instants as text.
+
+ghost use Rattle.std.specs.Prelude.{◌≡◌, ◌+◌, ◌≤◌, ◌++◌, false, is_err, length};
+ghost use Rattle.std.specs.Int.{IsInRange};
+ghost use Rattle.cal_bytes.specs.Bytes.{Writes};
+ghost use Rattle.cal_zone.specs.InstantText.{weekday_name, instant_text, offset_text, shown_text, sign_text, zone_word};
+ghost use Rattle.cal_bytes.specs.declared.short_text.TheConstants.{ROOM};
+
+use crate::{Civil, Instant, Zone, civil, short_weekday_name};
+use cal_bytes::{Fill, ShortText, Sink, WriteFault, padding, push_all, put_all};
+use itoa::Buffer;
+use jiff::civil::Weekday;
+
+/// Appends the text of the instant as the zone's clock shows it: weekday, date and time, and then `UTC` for
+/// [`Zone::utc`] alone and otherwise how far the clock is ahead of UTC, with seconds where they aren't 0
+/// (systemd.time(7), Displaying Timestamps). So it is `Sat 2020-02-29 00:00:00 UTC` or
+/// `Thu 1970-01-01 00:53:28 +00:53:28`. It takes at most 84 bytes.
+#[tactic(auto, unfolding(crate::specs::InstantText::instant_text))]
+pub fn push_instant(text: &mut ShortText, zone: Zone, instant: Instant)
+    requires room { length text.old.items + 84 ≤ ROOM }
+    ensures text { text.new.items ≡ text.old.items ++ instant_text zone.entry instant.secs }
+    ensures short { length text.new.items ≤ length text.old.items + 84 }
+{
+    let shown = civil(zone, instant);
+    push_civil(text, &shown);
+    push_zone(text, zone.is_utc(), shown.offset);
+}
+
+/// Writes the text of the instant, as [`push_instant`] forms it.
+pub fn write_instant<W: Sink>(out: &mut W, zone: Zone, instant: Instant) -> Result<(), WriteFault>
+    requires { W.is_failed out.old ≡ false }
+    ensures failed { W.is_failed out.new ≡ is_err result }
+    ensures bytes { Writes (W.written out.old) (W.written out.new) result
+        (instant_text zone.entry instant.secs) }
+{
+    let mut text = ShortText::new();
+    push_instant(&mut text, zone, instant);
+    put_all(out, text.as_slice())
+}
+
+/// Appends what a clock shows, up to the word of its zone.
+#[tactic(auto, unfolding(crate::specs::InstantText::shown_text, crate::specs::InstantText::date_text, crate::specs::InstantText::time_text))]
+fn push_civil(text: &mut ShortText, shown: &Civil)
+    requires weekday { IsInRange 1 7 shown.now.weekday }
+    requires room { length text.old.items + 44 ≤ ROOM }
+    ensures text { text.new.items ≡ text.old.items ++ shown_text shown.now }
+    ensures short { length text.new.items ≤ length text.old.items + 44 }
+{
+    let mut years = Buffer::new();
+    let (mut months, mut days) = (Buffer::new(), Buffer::new());
+    let (mut hours, mut minutes, mut seconds) = (Buffer::new(), Buffer::new(), Buffer::new());
+    let year = years.format(shown.year.unsigned_abs());
+    let month = months.format(shown.month);
+    let day = days.format(shown.day);
+    let hour = hours.format(shown.hour);
+    let minute = minutes.format(shown.minute);
+    let second = seconds.format(shown.second);
+    push_all(
+        text,
+        &[
+            short_name(shown.weekday),
+            b" ",
+            padding(year, 4, Fill::Zero),
+            year.as_bytes(),
+            b"-",
+            padding(month, 2, Fill::Zero),
+            month.as_bytes(),
+            b"-",
+            padding(day, 2, Fill::Zero),
+            day.as_bytes(),
+            b" ",
+            padding(hour, 2, Fill::Zero),
+            hour.as_bytes(),
+            b":",
+            padding(minute, 2, Fill::Zero),
+            minute.as_bytes(),
+            b":",
+            padding(second, 2, Fill::Zero),
+            second.as_bytes(),
+            b" ",
+        ],
+    );
+}
+
+/// Appends the word of a zone behind a time: `UTC` for UTC itself, and otherwise how far its clock is ahead.
+#[tactic(auto, unfolding(crate::specs::InstantText::zone_word))]
+fn push_zone(text: &mut ShortText, is_utc: bool, offset: i32)
+    requires room { length text.old.items + 40 ≤ ROOM }
+    ensures text { text.new.items ≡ text.old.items ++ zone_word is_utc offset }
+    ensures short { length text.new.items ≤ length text.old.items + 40 }
+{
+    if is_utc {
+        push_all(text, &[b"UTC"]);
+    } else {
+        push_offset(text, offset);
+    }
+}
+
+/// Appends how far a clock is ahead, as `+02:00`, or as `+00:53:28` where the seconds aren't 0.
+#[tactic(auto, unfolding(crate::specs::InstantText::offset_text))]
+fn push_offset(text: &mut ShortText, offset: i32)
+    requires room { length text.old.items + 40 ≤ ROOM }
+    ensures text { text.new.items ≡ text.old.items ++ offset_text offset }
+    ensures short { length text.new.items ≤ length text.old.items + 40 }
+{
+    let ahead = offset.unsigned_abs();
+    let (mut hours, mut minutes, mut seconds) = (Buffer::new(), Buffer::new(), Buffer::new());
+    let hour = hours.format(ahead / 3_600);
+    let minute = minutes.format(ahead / 60 % 60);
+    push_all(
+        text,
+        &[
+            sign(offset),
+            padding(hour, 2, Fill::Zero),
+            hour.as_bytes(),
+            b":",
+            padding(minute, 2, Fill::Zero),
+            minute.as_bytes(),
+        ],
+    );
+    if ahead % 60 != 0 {
+        let second = seconds.format(ahead % 60);
+        push_all(
+            text,
+            &[b":", padding(second, 2, Fill::Zero), second.as_bytes()],
+        );
+    }
+}
+
+/// `-` for a clock behind UTC, and otherwise `+`.
+fn sign<'a>(offset: i32) -> &'a [u8]
+    ensures { result.now ≡ sign_text offset }
+{
+    if offset < 0 { b"-" } else { b"+" }
+}
+
+/// The short English name of a weekday, Monday being 1.
+#[tactic(auto, using(crate::proofs::WeekdayLemmas::numbered))]
+fn short_name<'a>(weekday: u8) -> &'a [u8]
+    requires { IsInRange 1 7 weekday }
+    ensures name { result.now ≡ weekday_name weekday }
+    ensures short { length result.now ≤ 3 }
+{
+    short_weekday_name(Weekday::from_index(weekday - 1))
+}

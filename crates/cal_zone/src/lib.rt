@@ -1,0 +1,29 @@
+//! Instants, zones, and what a clock shows.
+#![tactic(auto)]
+
+mod civil_fields;
+mod civil_time;
+mod instant;
+mod instant_text;
+pub mod laws;
+mod moment;
+mod places;
+mod rules;
+mod weekday;
+mod zone;
+mod zone_fault;
+mod zone_name;
+mod zone_table;
+
+pub use civil_fields::Civil;
+pub use civil_time::{DAY, DAYS, civil, date_of_day};
+pub use instant::Instant;
+pub use instant_text::{push_instant, write_instant};
+pub use moment::Moment;
+pub use places::{place, settle};
+pub use rules::Rules;
+pub use weekday::{WEEK, short_weekday_name, weekday_name};
+pub use zone::Zone;
+pub use zone_fault::ZoneFault;
+pub use zone_name::{begins_with_letter, is_zone_name};
+pub use zone_table::ZoneTable;

@@ -1,0 +1,47 @@
+//! Moments: whole microseconds of Unix time.
+
+ghost use Rattle.std.specs.Prelude.{◌≡◌, ◌↔◌, ◌/◌, pos, unsigned_abs, IsSome, IfSome};
+ghost use Rattle.cal_zone.specs.Instant.{IsMoment};
+
+use crate::Instant;
+
+/// A number of whole microseconds of Unix time, from 0 to 7,258,211,998,999,999: those of the instants.
+#[derive(Clone, Copy, Debug, PartialEq, Eq)]
+pub struct Moment {
+    micros: i64,
+    ghost in_range: { IsMoment micros },
+}
+
+impl Moment {
+    /// The microseconds of the last moment, the last of the last instant.
+    pub const LAST: i64 = 7_258_211_998_999_999;
+
+    /// The moment of that many microseconds, or `None` outside 0 to 7,258,211,998,999,999.
+    pub fn new(micros: i64) -> Option<Moment>
+        ensures some { IsSome result ↔ IsMoment micros }
+        ensures value { IfSome result (λ moment. moment.micros ≡ micros) }
+    {
+        if micros < 0 || micros > Self::LAST {
+            return None;
+        }
+        Some(Moment { micros })
+    }
+
+    /// The microseconds since 1970-01-01 00:00:00 UTC.
+    pub fn micros(self) -> i64
+        ensures value { result ≡ self.micros }
+        ensures range { IsMoment result }
+    {
+        self.micros
+    }
+
+    /// The instant of the second that the moment lies in.
+    pub fn instant(self) -> Instant
+        ensures { result.secs ≡ pos (unsigned_abs self.micros / 1_000_000) }
+    {
+        match Instant::new((self.micros.unsigned_abs() / 1_000_000) as i64) {
+            Some(instant) => instant,
+            None => unreachable!(),
+        }
+    }
+}

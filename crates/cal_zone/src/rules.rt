@@ -1,0 +1,102 @@
+//! Rules of zones that go forward and back: a POSIX rule, or the table of a zone file.
+
+ghost use Rattle.std.specs.Prelude.{◌≡◌, ◌↔◌, ℤ, IsOk, IsSome, IfOk, IfErr, MatchResult};
+ghost use Rattle.jiff.specs.Placed.{IsPosixZone};
+ghost use Rattle.jiff.specs.Types.{DateTime};
+ghost use Rattle.jiff.specs.Words.{ambiguous_at, offset_at, plain_zone, read_whole};
+ghost use Rattle.cal_zone.specs.ZoneFile.{IsFileFault, IsFileZone};
+ghost use Rattle.cal_zone.specs.declared.zone_fault.ZoneFault.TheVariants.{BadRule};
+
+use crate::{ZoneFault, is_zone_name};
+use jiff::tz::{Offset, TimeZone, Tzif};
+use jiff::{Error, Timestamp};
+use std::alloc::Global;
+use std::marker::Model;
+
+/// The rules by which a zone's clock goes: those of a POSIX rule or of a zone file, as `jiff` reads them.
+#[derive(Debug, Drop)]
+pub struct Rules {
+    kind: Kind,
+}
+
+#[derive(Debug, Drop)]
+enum Kind {
+    Posix(TimeZone<'static>),
+    File(Tzif),
+}
+
+impl Model for Rules {
+    ghost use Rattle.jiff.specs.Types.{TimeZone};
+
+    ghost Value = { TimeZone };
+
+    ghost use Rattle.cal_zone.specs.Rules.{zone_in};
+
+    ghost view = { λ rules. zone_in rules.kind };
+}
+
+impl Rules {
+    /// The most bytes that a zone file may have.
+    pub const FILE_LIMIT: usize = 1_048_576;
+
+    /// The rules of a POSIX rule, as `CET-1CEST,M3.5.0,M10.5.0/3`.
+    ///
+    /// [`ZoneFault::BadRule`] comes exactly where `jiff` reads no rule. Today this takes no memory.
+    pub fn posix(alloc: Global, rule: &str) -> Result<Rules, ZoneFault>
+        ensures read { IsOk result ↔ IsSome (read_whole rule.now) }
+        ensures zone { IfOk result (IsPosixZone rule.now) }
+        ensures fault { IfErr result (λ fault. fault ≡ BadRule) }
+    {
+        let _ = alloc;
+        match TimeZone::posix(rule) {
+            Ok(zone) => Ok(Rules {
+                kind: Kind::Posix(zone),
+            }),
+            Err(_) => Err(ZoneFault::BadRule),
+        }
+    }
+
+    /// The rules of a zone file (RFC 8536) of that name.
+    ///
+    /// The faults are, in this order: [`ZoneFault::BadName`] where the name isn't of the form of a zone's name,
+    /// [`ZoneFault::TooLarge`] where the file has more than 1,048,576 bytes, [`ZoneFault::BadFile`] where `jiff`
+    /// refuses the bytes for another cause than memory, and [`ZoneFault::NoMemory`].
+    pub fn file(alloc: Global, name: &str, bytes: &[u8]) -> Result<Rules, ZoneFault>
+        ensures { MatchResult result
+            (IsFileZone name.now bytes.now)
+            (IsFileFault name.now bytes.now) }
+    {
+        if !is_zone_name(name.as_bytes()) {
+            return Err(ZoneFault::BadName);
+        }
+        if bytes.len() > Self::FILE_LIMIT {
+            return Err(ZoneFault::TooLarge);
+        }
+        match Tzif::parse(alloc, Some(name), bytes) {
+            Ok(table) => Ok(Rules {
+                kind: Kind::File(table),
+            }),
+            Err(Error::OutOfMemory) => Err(ZoneFault::NoMemory),
+            Err(_) => Err(ZoneFault::BadFile),
+        }
+    }
+
+    /// The zone of these rules, as `jiff` has it.
+    pub(crate) fn time_zone(&self) -> TimeZone<'_>
+        ensures at { (n : ℤ) → offset_at (plain_zone result) n ≡ offset_at self.now n }
+        ensures of { (shown : DateTime) → ambiguous_at (plain_zone result) shown ≡ ambiguous_at self.now shown }
+    {
+        match &self.kind {
+            Kind::Posix(zone) => *zone,
+            Kind::File(table) => TimeZone::tzif(table),
+        }
+    }
+
+    /// How far the clock is ahead of UTC at an instant.
+    pub(crate) fn offset(&self, timestamp: Timestamp) -> Offset
+        ensures { result.seconds ≡ offset_at self.now timestamp.nanosecond }
+    {
+        let time_zone = self.time_zone();
+        time_zone.to_offset(timestamp)
+    }
+}

@@ -1,0 +1,42 @@
+//! The English names of the weekdays, which texts are read and printed by.
+
+ghost use Rattle.std.specs.Prelude.{◌≡◌, ◌≤◌, length};
+ghost use Rattle.cal_zone.specs.Weekday.{name_of, short_name_of};
+
+use jiff::civil::Weekday;
+
+/// The week, from Monday on.
+pub const WEEK: [Weekday; 7] = [
+    Weekday::Monday,
+    Weekday::Tuesday,
+    Weekday::Wednesday,
+    Weekday::Thursday,
+    Weekday::Friday,
+    Weekday::Saturday,
+    Weekday::Sunday,
+];
+
+/// The English name of a weekday (systemd.time(7), Calendar Events).
+#[tactic(auto, unfolding(crate::specs::Weekday::name_of))]
+pub fn weekday_name(weekday: Weekday) -> &'static [u8]
+    ensures { result.now ≡ name_of weekday }
+{
+    match weekday {
+        Weekday::Monday => b"Monday",
+        Weekday::Tuesday => b"Tuesday",
+        Weekday::Wednesday => b"Wednesday",
+        Weekday::Thursday => b"Thursday",
+        Weekday::Friday => b"Friday",
+        Weekday::Saturday => b"Saturday",
+        Weekday::Sunday => b"Sunday",
+    }
+}
+
+/// The first three letters of a weekday's name, in which it is printed.
+#[tactic(auto, unfolding(crate::specs::Weekday::name_of))]
+pub fn short_weekday_name(weekday: Weekday) -> &'static [u8]
+    ensures name { result.now ≡ short_name_of weekday }
+    ensures short { length result.now ≤ 3 }
+{
+    weekday_name(weekday).split_at(3).0
+}

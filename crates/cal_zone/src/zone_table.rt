@@ -1,0 +1,94 @@
+//! The table of the zones that have a name.
+
+ghost use Rattle.std.specs.Prelude.{◌≡◌, option_map, IfSome, IfErr, OnErr, MatchResult};
+ghost use Rattle.std.specs.FinMap as map;
+
+use crate::zone_name::is_utc_name;
+use crate::{Rules, Zone, ZoneFault, is_zone_name};
+use std::alloc::Global;
+use std::collections::BTreeMap;
+use std::marker::Model;
+
+/// Zones by name: a finite map from names to rules. `UTC`, in any case, is always there beside them.
+#[derive(Drop)]
+pub struct ZoneTable {
+    alloc: Global,
+    zones: BTreeMap<String, Rules>,
+}
+
+impl Model for ZoneTable {
+    ghost use Rattle.std.specs.Coded.{coded_list, coded_ℕ};
+    ghost use Rattle.std.specs.FinMap as map;
+    ghost use Rattle.cal_zone.specs.ZoneMap.{ZoneMap};
+    ghost use Rattle.cal_zone.specs.contracts.rules.Rules.{the_row};
+
+    ghost Value = { ZoneMap };
+
+    ghost coded = { map.code (coded_list coded_ℕ) the_row.coded };
+
+    ghost use Rattle.cal_zone.specs.ZoneMap.{zones_in};
+
+    ghost view = { λ table. zones_in table.zones };
+}
+
+impl ZoneTable {
+    ghost use Rattle.cal_zone.specs.Zone.{is_utc, zone_of};
+    ghost use Rattle.cal_zone.specs.ZoneName.{is_utc_name};
+    ghost use Rattle.cal_zone.specs.ZoneTable.{zone_named, IsAddable, IsAddFault};
+
+    /// The table with no zone.
+    pub fn new(alloc: Global) -> Self
+        ensures { result ≡ map.empty }
+    {
+        ZoneTable {
+            alloc,
+            zones: BTreeMap::new(alloc),
+        }
+    }
+
+    /// Adds the rules under a name.
+    ///
+    /// A refusal leaves the table as it was and hands the rules back: [`ZoneFault::BadName`] where the name isn't
+    /// of the form of a zone's name, [`ZoneFault::NameTaken`] where the table has a zone of that name, as it has
+    /// for `UTC` in any case, and [`ZoneFault::NoMemory`].
+    pub fn add(&mut self, name: &str, rules: Rules) -> Result<(), (Rules, ZoneFault)>
+        ensures added { MatchResult result
+            (λ _. IsAddable self.old name.now × (self.new ≡ map.insert self.old name.now rules))
+            (λ refused. IsAddFault self.old name.now refused.1) }
+        ensures unchanged { OnErr result (self.new ≡ self.old) }
+        ensures handed_back { IfErr result (λ refused. refused.0 ≡ rules) }
+    {
+        if !is_zone_name(name.as_bytes()) {
+            return Err((rules, ZoneFault::BadName));
+        }
+        if self.find(name).is_some() {
+            return Err((rules, ZoneFault::NameTaken));
+        }
+        let Ok(key) = String::from_str(self.alloc, name) else {
+            return Err((rules, ZoneFault::NoMemory));
+        };
+        match self.zones.insert(key, rules) {
+            Ok(_) => Ok(()),
+            Err(refused) => {
+                let (_, rules) = refused.value;
+                Err((rules, ZoneFault::NoMemory))
+            }
+        }
+    }
+
+    /// The zone of that name: UTC for `UTC` in any case, and otherwise the zone of exactly that name, if there is
+    /// one.
+    #[tactic(auto, unfolding(crate::specs::Zone::zone_of, crate::specs::ZoneTable::zone_named))]
+    pub fn find(&self, name: &str) -> Option<Zone<'_>>
+        ensures zone { option_map zone_of result ≡ zone_named self.now name.now }
+        ensures told { IfSome result (λ zone. is_utc zone ≡ is_utc_name name.now) }
+    {
+        if is_utc_name(name) {
+            return Some(Zone::utc());
+        }
+        match self.zones.get(name) {
+            Some(rules) => Some(Zone::rules(rules)),
+            None => None,
+        }
+    }
+}
