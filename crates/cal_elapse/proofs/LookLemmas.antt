@@ -1,5 +1,5 @@
 -- The days of a month, and how many months were looked at.
-use Rattle.std.proofs.Common.{◌≡◌, ℕ, zero, suc, ◌+◌, ◌-◌, ◌*◌, ◌/◌, ◌<◌, ◌≤◌, cond, Bool, true, false, Option, None, Some, ap, subst, sym, ◌∙◌, arith}
+use Rattle.std.proofs.Common.{◌≡◌, ℕ, zero, suc, ◌+◌, ◌-◌, ◌*◌, ◌/◌, ◌%◌, ◌<◌, ◌≤◌, cond, Bool, true, false, Option, None, Some, ap, subst, sym, ◌∙◌, refl, arith}
 use Rattle.cal_zone.specs.Local.{civil_date}
 use Rattle.cal_elapse.specs.Bits.{is_bit}
 use Rattle.cal_elapse.specs.Count.{count_from}
@@ -7,7 +7,7 @@ use Rattle.cal_elapse.specs.Looks.{looks_from, month_looks}
 use Rattle.cal_elapse.specs.Months.{day_in, first_day, first_day-suc, length_of, month_in, month_of}
 use Rattle.cal_elapse.specs.Search.{IsFirstPassing, NonePasses}
 use Rattle.cal_elapse.proofs.CountLemmas.{count_from-most, count_from-none, count_from-one}
-use Rattle.cal_elapse.proofs.MonthLemmas.{first_day-end, length_bounds, located, month_low, month_of-is, months_none}
+use Rattle.cal_elapse.proofs.MonthLemmas.{first_day-end, length_bounds, located, month_low, month_of-is, months_none, no_day}
 use Rattle.cal_spec.specs.Match.{Sets}
 
 -- no day of a month whose year or number is no member
@@ -124,6 +124,30 @@ looks_end sets =
     let place : first_day 2_760 + 0 ≡ 84_006 = omega (arith, first_day-end) in
     let last : month_of (civil_date 84_006) ≡ 2_760 = subst (λ (t : ℕ). month_of (civil_date t) ≡ 2_760) place month in
     rw last
+
+true_by : (b : Bool) → (b ≡ false → ⊥) → b ≡ true
+true_by true h = refl
+true_by false h = absurd (h refl)
+
+-- a day that matches is of a month whose year and number are members
+month_of_match : (sets : Sets) (day : ℕ) → day < 84_006 → day_in sets day ≡ true → month_in sets (month_of (civil_date day)) ≡ true
+month_of_match sets day within holds = true_by (month_in sets (month_of (civil_date day))) (λ fails. let none = no_day sets day within fails in cc)
+
+-- a search that ends on the day of its start looks at one month
+one_look : (sets : Sets) (day : ℕ) → day < 84_006 → day_in sets day ≡ true → looks_from sets (month_of (civil_date day)) (Some day) ≡ 1
+unfolding count_from
+one_look sets day within holds =
+    let m = month_of (civil_date day) in
+    let one : suc m - m ≡ suc 0 = omega arith in
+    let here : m + 0 ≡ m = omega arith in
+    rw (one, here, month_of_match sets day within holds)
+
+pub looks_today : (sets : Sets) (t second : ℕ) → t / 86_400 < 84_006 → day_in sets (t / 86_400) ≡ true → t % 86_400 + 1 ≤ second → second < 86_400
+    → month_looks sets (t + 1) (Some (t / 86_400 * 86_400 + second)) ≡ 1
+looks_today sets t second within holds later small =
+    let start : (t + 1) / 86_400 ≡ t / 86_400 = omega arith in
+    let end : (t / 86_400 * 86_400 + second) / 86_400 ≡ t / 86_400 = omega arith in
+    rw (start, end) (one_look sets (t / 86_400) within holds)
 
 -- the months of a search in local seconds are those of its days
 pub looks_of_days : (sets : Sets) (n from found second : ℕ) → n ≡ month_of (civil_date (from / 86_400)) → second < 86_400

@@ -3,12 +3,16 @@ use Rattle.std.proofs.Common.{◌≡◌, ℕ, ◌+◌, ◌*◌, ◌/◌, ◌%◌
 use Rattle.std.proofs.lemmas.Bool.{and_parts, cases_lt}
 use Rattle.std.proofs.lemmas.Bool.Decides.{nat_tests}
 use Rattle.std.proofs.lemmas.Int.{ints, to_z_pos}
+use Rattle.std.specs.Option.{option_map}
 use Rattle.cal_zone.specs.Local.{civil_date, seconds_in_all, seconds_in_all-is}
 use Rattle.cal_spec.specs.Match.{Sets, date_in, time_in, matches}
 use Rattle.cal_elapse.proofs.CarryLemmas.{Splits, first_here, first_later, first_then, first_within, none_by_high, none_by_low, none_later, split_at}
+use Rattle.cal_elapse.proofs.LookLemmas.{looks_today}
+use Rattle.cal_elapse.specs.Looks.{IsSearch, month_looks}
 use Rattle.cal_elapse.specs.Months.{day_in}
 use Rattle.cal_elapse.specs.Steps.{day_to_start, second_on}
 use Rattle.cal_elapse.specs.Search.{IsFirstLocal, IsFirstPassing, NonePasses}
+use Rattle.cal_elapse.specs.declared.search.Found.{Found}
 
 pub inside : (t : ℕ) → t < 7_258_118_400 → nat_lt t seconds_in_all ≡ true
 inside t h =
@@ -107,10 +111,32 @@ begins (pos n) low high =
 begins (negsuc n) low high = absurd (omega (arith, ints))
 
 -- and back
-pub IsFirstPassing-Some : (passes : ℕ → Bool) (from : ℤ) (start : ℕ) (s : ℤ) → from ≡ pos start → IsFirstLocal passes from (Some s)
-    → IsFirstPassing passes start seconds_in_all (Some (unsigned_abs (to_z w64 (of_z w64 s))))
-IsFirstPassing-Some passes from start (pos n) same found =
+pub passing_of : (passes : ℕ → Bool) (from : ℕ) (found : Option ℤ) → IsFirstLocal passes (pos from) found → IsFirstPassing passes from seconds_in_all (option_map unsigned_abs found)
+passing_of passes from None none = λ t above below. none t (omega (arith, ints)) below
+passing_of passes from (Some (pos n)) found =
+    (omega (arith, ints), omega (arith, ints), found.2, λ t above below. found.3 t (omega (arith, ints)) (omega (arith, ints)))
+passing_of passes from (Some (negsuc n)) found = absurd (omega (arith, ints))
+
+-- a search from a machine's number on
+pub search_from : (sets : Sets) (from : ℕ) (found : Found) → from ≤ seconds_in_all → IsFirstLocal (matches sets) (to_z w64 from) found.local
+    → found.months ≡ month_looks sets (unsigned_abs (to_z w64 from)) (option_map unsigned_abs found.local) → found.months ≤ 2_760 → IsSearch sets from found
+search_from sets from found within first counted few =
     let count = seconds_in_all-is in
-    let fits = to_z_pos w64 n (omega (arith, ints)) in
-    rw fits (omega (arith, ints), omega (arith, ints), found.2, λ t above below. found.3 t (omega (arith, ints)) (omega (arith, ints)))
-IsFirstPassing-Some passes from start (negsuc n) same found = absurd (omega (arith, ints))
+    let same : to_z w64 from ≡ pos from = to_z_pos w64 from (omega arith) in
+    record { first = rw same at first; counted = rw same at counted; few = few }
+
+-- a search after a match that ends on its day
+pub search_today : (sets : Sets) (t second found : ℕ) → t < seconds_in_all → matches sets t ≡ true → IsFirstPassing (time_in sets) (t % 86_400 + 1) 86_400 (Some second)
+    → found ≡ t / 86_400 * 86_400 + second → IsSearch sets (t + 1) (record { local = Some (to_z w64 found); months = 1 })
+search_today sets t second found below holds time same =
+    let count = seconds_in_all-is in
+    let day : t / 86_400 < 84_006 = omega arith in
+    let both = sym (split_at _ _ _ 86_400 84_006 (locals_split sets) (t / 86_400) t day refl) ∙ holds in
+    let small = time.1 in
+    let word : to_z w64 found ≡ pos found = to_z_pos w64 found (omega arith) in
+    let first : IsFirstPassing (matches sets) (t + 1) seconds_in_all (Some found) = rw same (later_today sets t second below holds time) in
+    record {
+      first = IsFirstLocal-Some (matches sets) (pos (t + 1)) (t + 1) found refl first;
+      counted = rw (word, same) (sym (looks_today sets t second day (and_parts _ _ both).0 time.0 small));
+      few = omega arith;
+    }

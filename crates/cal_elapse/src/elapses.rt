@@ -29,7 +29,7 @@ impl<'z> Model for Elapses<'z> {
 }
 
 impl<'z> Elapses<'z> {
-    ghost use Rattle.std.specs.Prelude.{◌≡◌, [], ◌∷◌, IfOk};
+    ghost use Rattle.std.specs.Prelude.{◌≡◌, ◌≤◌, [], ◌∷◌, IfOk};
     ghost use Rattle.cal_zone.specs.Zone.{zone_of};
     ghost use Rattle.cal_elapse.specs.Elapses.{elapses_after};
     ghost use Rattle.cal_elapse.specs.Rest.{rest_of};
@@ -50,22 +50,32 @@ impl<'z> Elapses<'z> {
         ensures timed { IfOk result (λ elapses. timed_in elapses ≡ timed expr.now (zone_of zone.entry)) }
         ensures base { IfOk result (λ elapses. elapses.base ≡ base.secs) }
         ensures searched { IfOk result (λ elapses. elapses.searcher.searches ≡ 1) }
+        ensures looked { IfOk result (λ elapses. elapses.searcher.most_months ≤ 2_760) }
     {
         Ok(Elapses {
             window: Window::new(alloc, expr, zone, base)?,
         })
     }
 
-    /// How many searches were made so far: one by `new`, and then one for each match that `next` placed.
+    /// How many searches were made so far: one by `new`, and then one for each match that `next` placed. A search is
+    /// one call that seeks the least match from a local second on, as `next_local` does.
     pub fn searches(&self) -> u64
         ensures { result ≡ self.now.searcher.searches }
     {
         self.window.searches()
     }
+
+    /// The most months that one of the searches made so far looked at.
+    pub fn most_months(&self) -> u32
+        ensures kept { result ≡ self.now.searcher.most_months }
+        ensures few { result ≤ 2_760 }
+    {
+        self.window.most_months()
+    }
 }
 
 impl Rising for Elapses<'_> {
-    ghost use Rattle.std.specs.Prelude.{◌≡◌};
+    ghost use Rattle.std.specs.Prelude.{◌≡◌, ◌≤◌};
     ghost use Rattle.cal_elapse.specs.Rest.{rest_of, IsRising-rest_of};
     ghost use Rattle.cal_rising.specs.RisingList.{first, later};
     ghost use Rattle.cal_elapse.specs.Searched.{IsSearched};
@@ -76,7 +86,8 @@ impl Rising for Elapses<'_> {
     /// Gives the next elapse; `None` where there is none.
     ///
     /// Where it gives e, the searches made so far are one more than the local seconds that match from the base less
-    /// 93,599 to e plus 93,599; where it gives none, one more than all that match from there on.
+    /// 93,599 to e plus 93,599; where it gives none, one more than all that match from there on. None of these searches
+    /// looked at more than 2,760 months.
     fn next(&mut self) -> Option<i64>
         ensures given { result ≡ first (rest_of self.old) }
         ensures left { rest_of self.new ≡ later (rest_of self.old) }
@@ -84,6 +95,7 @@ impl Rising for Elapses<'_> {
         ensures timed { timed_in self.new ≡ timed_in self.old }
         ensures base { self.new.base ≡ self.old.base }
         ensures searched { IsSearched (timed_in self.old) self.old.base result self.new.searcher.searches }
+        ensures looked { self.new.searcher.most_months ≤ 2_760 }
     {
         self.window.fill();
         self.window.take()

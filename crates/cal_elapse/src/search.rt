@@ -2,7 +2,7 @@
 ghost use Rattle.std.specs.Prelude.{◌≡◌, ◌+◌, ◌≤◌, ◌<◌, true, pos, ◌≤ℤ◌, unsigned_abs};
 ghost use Rattle.std.specs.Option.{option_map};
 ghost use Rattle.cal_zone.specs.Local.{seconds_in_all};
-ghost use Rattle.cal_elapse.specs.Looks.{month_looks};
+ghost use Rattle.cal_elapse.specs.Looks.{IsSearch, month_looks};
 ghost use Rattle.cal_elapse.specs.Masks.{sets_in};
 ghost use Rattle.cal_elapse.specs.Search.{IsFirstLocal, IsFirstPassing};
 ghost use Rattle.cal_elapse.specs.Steps.{day_to_start, second_on};
@@ -22,6 +22,18 @@ pub struct Found {
     /// How many months the search looked at, at most 2,760: those, from the month of its start to the month of its
     /// answer or else to the end of 2199, whose year and month number are both members.
     pub months: u32,
+}
+
+impl Found {
+    /// The local second, which isn't below 0, as a whole number.
+    pub(crate) fn whole(self) -> Option<u64>
+        ensures { result ≡ option_map unsigned_abs self.local }
+    {
+        match self.local {
+            Some(local) => Some(local.unsigned_abs()),
+            None => None,
+        }
+    }
 }
 
 /// The least local second of the years 1970 to 2199 that matches and isn't below `from`, which is from 0 to
@@ -47,7 +59,7 @@ pub fn next_local(masks: &Masks, from: i64) -> Found
     }
 }
 
-/// The same, in whole numbers.
+/// What it finds, in whole numbers.
 fn next_from(masks: &Masks, from: u64, months: &mut u32) -> Option<u64>
     requires from_in { from ≤ seconds_in_all }
     requires none { months.old ≡ 0 }
@@ -69,23 +81,26 @@ fn next_from(masks: &Masks, from: u64, months: &mut u32) -> Option<u64>
     }
 }
 
-/// The least matching local second not below `from`.
-pub(crate) fn next_at(masks: &Masks, from: u64) -> Option<u64>
+/// The same, from a whole number on.
+pub(crate) fn next_at(masks: &Masks, from: u64) -> Found
     requires { from ≤ seconds_in_all }
-    ensures { IsFirstPassing (matches (sets_in masks.now)) from seconds_in_all result }
+    ensures { IsSearch (sets_in masks.now) from result }
 {
-    let mut months = 0;
-    next_from(masks, from, &mut months)
+    next_local(masks, from as i64)
 }
 
-/// The next match behind a match: on its day, of which the date matches, or else by a search from there on.
-pub(crate) fn next_after(masks: &Masks, local: u64) -> Option<u64>
+/// The next match after a match. Where it lies on the same day, the one month looked at is that of the match, whose
+/// year and number are members.
+pub(crate) fn next_after(masks: &Masks, local: u64) -> Found
     requires inside { local < seconds_in_all }
     requires is_match { matches (sets_in masks.now) local ≡ true }
-    ensures { IsFirstPassing (matches (sets_in masks.now)) (local + 1) seconds_in_all result }
+    ensures { IsSearch (sets_in masks.now) (local + 1) result }
 {
     match second_after(masks, (local % DAY) as u32) {
-        Some(second) => Some(local / DAY * DAY + u64::from(second)),
+        Some(second) => Found {
+            local: Some((local / DAY * DAY + u64::from(second)) as i64),
+            months: 1,
+        },
         None => next_at(masks, local + 1),
     }
 }

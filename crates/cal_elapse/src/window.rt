@@ -55,7 +55,7 @@ impl<'z> Window<'z> {
     {
         let pending = Pending::new(alloc)?;
         let mut searcher = Searcher::of(expr);
-        let ahead = searcher.search(Start::At(first_local(base)));
+        let ahead = searcher.search(Start::At(first_local(base))).whole();
         let base = base.secs();
         Ok(Window {
             searcher,
@@ -115,7 +115,7 @@ impl<'z> Window<'z> {
         ensures on { bound_of self.old.ahead < bound_of self.new.ahead }
     {
         put_place(&mut self.pending, self.zone, local, self.last);
-        self.ahead = self.searcher.search(Start::After(local));
+        self.ahead = self.searcher.search(Start::After(local)).whole();
     }
 
     /// How often a match was searched so far.
@@ -123,6 +123,14 @@ impl<'z> Window<'z> {
         ensures { result ≡ self.now.searcher.searches }
     {
         self.searcher.searches()
+    }
+
+    /// The most months that one of the searches made so far looked at.
+    pub fn most_months(&self) -> u32
+        ensures kept { result ≡ self.now.searcher.most_months }
+        ensures few { result ≤ 2_760 }
+    {
+        self.searcher.most_months()
     }
 }
 

@@ -12,7 +12,7 @@ use std::process::Abort;
 use std::test::Fail;
 
 /// One search by `new`, one for each of the seconds from the base less 93,599 to the third elapse plus 93,599, and so
-/// one more than these.
+/// one more than these. Each ends in the month in which it begins, and looks at that one alone.
 #[test]
 fn searches_of_every_second(rt: HostRuntime) -> Result<(), Fail> {
     let mut elapses = elapses_of(rt.alloc(), "*:*:*", Zone::utc(), NEW_YEAR)?;
@@ -21,6 +21,7 @@ fn searches_of_every_second(rt: HostRuntime) -> Result<(), Fail> {
         let _elapse = elapses.next();
     }
     assert_eq!(rt; elapses.searches(), 187_203);
+    assert_eq!(rt; elapses.most_months(), 1);
     Ok(())
 }
 

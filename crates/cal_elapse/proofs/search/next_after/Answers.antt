@@ -1,11 +1,19 @@
-use Rattle.std.proofs.Common.{arith}
+use Rattle.std.proofs.Common.{◌≡◌, ◌+◌, ◌*◌, ◌/◌, ap, arith}
 use Rattle.cal_zone.specs.Local.{seconds_in_all-is}
 use Rattle.cal_elapse.specs.Masks.{sets_in}
-use Rattle.cal_elapse.proofs.SearchLemmas.{later_today}
+use Rattle.cal_elapse.proofs.SearchLemmas.{search_today}
 use Rattle.cal_elapse.proofs.search.next_after.Goals as goal
 
 pub overflow_add-result : goal.overflow_add-result
 overflow_add-result c =
+    let count = seconds_in_all-is in
+    let inside = c.requires.inside in
+    let small = c.in-Some.ensures.1 in
+    let second = c.from.ensures in
+    omega arith
+
+pub overflow_cast-result : goal.overflow_cast-result
+overflow_cast-result c =
     let count = seconds_in_all-is in
     let inside = c.requires.inside in
     let small = c.in-Some.ensures.1 in
@@ -20,4 +28,6 @@ overflow_add-local c =
 
 pub returns-in-Some : goal.returns-in-Some
 returns-in-Some c =
-    rw c.from.ensures (later_today (sets_in c.args.masks.now) c.args.local c.in-Some.second c.requires.inside c.requires.is_match c.in-Some.ensures)
+    let found : c.args.local / 86_400 * 86_400 + c.from.result ≡ c.args.local / 86_400 * 86_400 + c.in-Some.second =
+    ap (λ second. c.args.local / 86_400 * 86_400 + second) c.from.ensures in
+    search_today (sets_in c.args.masks.now) c.args.local c.in-Some.second _ c.requires.inside c.requires.is_match c.in-Some.ensures found

@@ -2,6 +2,7 @@ use Rattle.std.proofs.Common.{FitsSigned, arith, ap, rules, w64}
 use Rattle.std.proofs.lemmas.Int.{ints, to_z-of_z}
 use Rattle.cal_elapse.specs.Window.{timed_by}
 use Rattle.cal_elapse.proofs.ReadyLemmas.{ahead_is_match, few_searches, placed_before, placed_ready}
+use Rattle.cal_elapse.proofs.SearchLemmas.{passing_of}
 use Rattle.cal_elapse.proofs.window.Window.place_one.Goals as goal
 
 pub put_place-requires-clause-before : goal.put_place-requires-clause-before
@@ -14,18 +15,18 @@ put_place-requires-clause-last_in c =
     let above = c.requires.ready.above in
     rw (to_z-of_z w64 c.args.self.now.last fits) (omega (arith, ints))
 
-pub search-self-requires-clause-start : goal.search-self-requires-clause-start
-search-self-requires-clause-start c = ahead_is_match c.args.self.now c.args.local c.requires.ready c.requires.ahead
+pub search-requires-clause-start : goal.search-requires-clause-start
+search-requires-clause-start c = ahead_is_match c.args.self.now c.args.local c.requires.ready c.requires.ahead
 
-pub search-self-requires-clause-few : goal.search-self-requires-clause-few
-search-self-requires-clause-few c = few_searches c.args.self.now c.args.local c.requires.ready c.requires.ahead
+pub search-requires-clause-few : goal.search-requires-clause-few
+search-requires-clause-few c = few_searches c.args.self.now c.args.local c.requires.ready c.requires.ahead
 
 pub returns-clause-ready : goal.returns-clause-ready
 returns-clause-ready c =
     let fits : FitsSigned w64 c.args.self.now.last = search rules in
-    placed_ready c.args.self.now c.args.local c.search-self.new.self c.search-self.result c.put_place.new.pending c.requires.ready c.requires.ahead c.requires.near
-    c.search-self.ensures.masks c.search-self.ensures.counted c.search-self.ensures.first
+    placed_ready c.args.self.now c.args.local c.search.new.self c.whole-self.result c.put_place.new.pending c.requires.ready c.requires.ahead c.requires.near
+    c.search.ensures.masks c.search.ensures.counted (rw (c.whole-self.ensures) (passing_of _ _ _ c.search.ensures.found.first))
     (rw (to_z-of_z w64 c.args.self.now.last fits) at c.put_place.ensures)
 
 pub returns-clause-timed : goal.returns-clause-timed
-returns-clause-timed c = ap (λ masks. timed_by masks c.args.self.now.zone) c.search-self.ensures.masks
+returns-clause-timed c = ap (λ masks. timed_by masks c.args.self.now.zone) c.search.ensures.masks
