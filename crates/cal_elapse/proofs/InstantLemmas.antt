@@ -1,5 +1,5 @@
 -- Each elapse after a base of 0 or more is an instant.
-use Rattle.std.proofs.Common.{◌≡◌, List, [], ◌∷◌, inl, inr, Some, ℤ, pos, ◌<ℤ◌, ◌≤ℤ◌, arith}
+use Rattle.std.proofs.Common.{◌≡◌, List, [], ◌∷◌, map, inl, inr, Some, ℤ, pos, ◌<ℤ◌, ◌≤ℤ◌, arith}
 use Rattle.std.proofs.lemmas.Int.{ints}
 use Rattle.jiff.proofs.SpanFacts.{signed_arith}
 use Rattle.jiff.specs.Types.{TimeZone}
@@ -7,7 +7,7 @@ use Rattle.cal_zone.specs.Instant.{IsInstant}
 use Rattle.cal_zone.specs.Local.{seconds_in_all-is}
 use Rattle.cal_zone.proofs.PlaceLemmas.{within}
 use Rattle.cal_spec.specs.Fields.{Fields}
-use Rattle.cal_elapse.specs.Elapses.{IsPlace, elapses_after}
+use Rattle.cal_elapse.specs.Elapses.{IsElapse, IsPlace, elapses_after}
 use Rattle.cal_rising.specs.RisingList.{Has, first}
 use Rattle.cal_elapse.specs.Timed.{timed}
 use Rattle.cal_elapse.proofs.ElapsesLemmas.{AreElapses-elapses_after}
@@ -23,14 +23,25 @@ place_in fields tz i low p =
 above_zero : (base i : ℤ) → pos 0 ≤ℤ base → base <ℤ i → pos 0 ≤ℤ i
 above_zero base i low above = omega (arith, ints)
 
-pub IsInstant-elapse : (fields : Fields) (tz : TimeZone) (base i : ℤ) → pos 0 ≤ℤ base → Has (elapses_after (timed fields tz ∷ []) base) i → IsInstant i
-IsInstant-elapse fields tz base i low m =
-    let here = ((AreElapses-elapses_after (timed fields tz ∷ []) base).members i).0 m in
-    place_in fields tz i (above_zero base i low here.0) (elim here.1 [ inl p ↦ p | inr n ↦ absurd n ])
+places_in : {A : Type 0} (fields : A → Fields) (tz : A → TimeZone) (xs : List A) (i : ℤ) → pos 0 ≤ℤ i → IsElapse (map (λ x. timed (fields x) (tz x)) xs) i → IsInstant i
+places_in fields tz [] i low h = absurd h
+places_in fields tz (x ∷ xs) i low (inl here) = place_in (fields x) (tz x) i low here
+places_in fields tz (x ∷ xs) i low (inr there) = places_in fields tz xs i low there
+
+pub IsInstant-elapse : {A : Type 0} (fields : A → Fields) (tz : A → TimeZone) (xs : List A) (base i : ℤ) → pos 0 ≤ℤ base
+    → Has (elapses_after (map (λ x. timed (fields x) (tz x)) xs) base) i → IsInstant i
+IsInstant-elapse fields tz xs base i low m =
+    let here = ((AreElapses-elapses_after (map (λ x. timed (fields x) (tz x)) xs) base).members i).0 m in
+    places_in fields tz xs i (above_zero base i low here.0) here.1
+
+-- of expressions in zones, as pairs of both
+pub IsInstant-pairs : (pairs : List (Fields × TimeZone)) (base i : ℤ) → pos 0 ≤ℤ base → Has (elapses_after (map (λ (p : Fields × TimeZone). timed p.0 p.1) pairs) base) i → IsInstant i
+IsInstant-pairs pairs base i low m = IsInstant-elapse (λ (p : Fields × TimeZone). p.0) (λ (p : Fields × TimeZone). p.1) pairs base i low m
 
 first_has : (xs : List ℤ) (i : ℤ) → first xs ≡ Some i → Has xs i
 first_has [] i e = absurd (cc)
 first_has (x ∷ xs) i e = inl (cc)
 
-pub IsInstant-first : (fields : Fields) (tz : TimeZone) (base i : ℤ) → pos 0 ≤ℤ base → first (elapses_after (timed fields tz ∷ []) base) ≡ Some i → IsInstant i
-IsInstant-first fields tz base i low e = IsInstant-elapse fields tz base i low (first_has (elapses_after (timed fields tz ∷ []) base) i e)
+pub IsInstant-first : (pairs : List (Fields × TimeZone)) (base i : ℤ) → pos 0 ≤ℤ base → first (elapses_after (map (λ (p : Fields × TimeZone). timed p.0 p.1) pairs) base) ≡ Some i → IsInstant i
+IsInstant-first pairs base i low e =
+    IsInstant-pairs pairs base i low (first_has (elapses_after (map (λ (p : Fields × TimeZone). timed p.0 p.1) pairs) base) i e)

@@ -36,10 +36,11 @@ pub fn elapses_in_parts()
         ≡ take (suc k + m) (elapses_after es base) }
 {}
 
-/// Each elapse after a base of 0 or more is an instant, so that it can be a base.
+/// Each elapse after a base of 0 or more is an instant, so that it can be a base: of any list of expressions, each in a
+/// zone.
 pub fn elapses_are_instants()
-    ensures each { (fields : Fields) (tz : TimeZone) (base elapse : ℤ) → pos 0 ≤ℤ base
-        → Has (elapses_after (timed fields tz ∷ []) base) elapse → IsInstant elapse }
-    ensures first { (fields : Fields) (tz : TimeZone) (base elapse : ℤ) → pos 0 ≤ℤ base
-        → first (elapses_after (timed fields tz ∷ []) base) ≡ Some elapse → IsInstant elapse }
+    ensures each { (list : List (Fields × TimeZone)) (base elapse : ℤ) → pos 0 ≤ℤ base
+        → Has (elapses_after (map (λ e. timed e.0 e.1) list) base) elapse → IsInstant elapse }
+    ensures first { (list : List (Fields × TimeZone)) (base elapse : ℤ) → pos 0 ≤ℤ base
+        → first (elapses_after (map (λ e. timed e.0 e.1) list) base) ≡ Some elapse → IsInstant elapse }
 {}

@@ -1,15 +1,14 @@
 -- Lemmas on the report of a timer file: the merge of its elapses, line by line, and the texts of its lines.
-use Rattle.std.proofs.Common.{◌≢◌, Result, Ok, Err, ◌≡◌, ℕ, ◌+◌, ◌<◌, ◌++◌, Bool, true, false, List, [], ◌∷◌, length, map, take, drop, get_or, Option, None, ℤ, pos, ◌≤ℤ◌, refl, sym, subst, ap, ◌∙◌, inl, inr, string_bytes}
+use Rattle.std.proofs.Common.{◌≢◌, Result, Ok, Err, ◌≡◌, ℕ, ◌+◌, ◌<◌, ◌++◌, Bool, true, false, List, [], ◌∷◌, length, map, take, drop, get_or, Option, None, ℤ, pos, ◌≤ℤ◌, refl, sym, subst, ap, ◌∙◌, string_bytes}
 use Rattle.std.specs.List.{find, flat_map}
+use Rattle.std.specs.Option.{unwrap_or}
 use Rattle.std.proofs.lemmas.List.{append_assoc, take_more, map-append, take-append-drop}
 use Rattle.std.proofs.lemmas.List.Folds.{find-append, flat_map-map}
-use Rattle.cal_zone.specs.Instant.{IsInstant}
+use Rattle.jiff.specs.Types.{UTC}
 use Rattle.cal_elapse.specs.Elapses.{Timed, elapses_after}
 use Rattle.cal_rising.specs.Merge.{Merging, merged}
-use Rattle.cal_rising.specs.RisingList.{HasAny}
 use Rattle.cal_elapse.proofs.ElapsesLemmas.{union-elapses_after}
 use Rattle.cal_elapse.proofs.InstantLemmas.{IsInstant-elapse}
-use Rattle.cal_rising.proofs.RisingLemmas.{Has-union}
 use Rattle.cal_read.specs.TimerText.{Entry, timer_text}
 use Rattle.cal_read.specs.declared.timer_fault.TimerFault.{TimerFault}
 use Rattle.cal_read.specs.declared.timer_fault.TimerFault.TheVariants as timer
@@ -22,7 +21,7 @@ use Rattle.cal_report.specs.ElapseLines.{AreInstants}
 use Rattle.cal_request.specs.Request.{Asked}
 use Rattle.cal_report.specs.TimerPlan.{IsMergeOf, IsUnzoned, plan_text}
 use Rattle.cal_report.specs.TimerReport.{IsHad, headings_text, lacks_zone, timed_in, timer_answer, timer_report}
-use Rattle.cal_report.specs.CalendarReport.{heading_text}
+use Rattle.cal_report.specs.CalendarReport.{heading_text, zone_for}
 use Rattle.std.specs.Io.KnownBytes.{Appends}
 use Rattle.cal_bytes.specs.Bytes.{AppendsFront, Leaves}
 use Rattle.cal_bytes.proofs.Pieces.{step_piece, stop_piece}
@@ -74,16 +73,10 @@ pub merge_whole : (asked : Asked) (base : ℤ) (list : List (Entry Fields)) (mer
 merge_whole asked base list merge m = ap merged m.lists ∙ union-elapses_after (map (timed_in asked) list) base
 
 -- which are instants
-each_instant : (asked : Asked) (base : ℤ) (list : List (Entry Fields)) (i : ℤ) → pos 0 ≤ℤ base
-    → HasAny (map (λ e. elapses_after (e ∷ []) base) (map (timed_in asked) list)) i → IsInstant i
-unfolding timed_in
-each_instant asked base [] i low h = absurd h
-each_instant asked base (e ∷ es) i low (inl here) = IsInstant-elapse _ _ base i low here
-each_instant asked base (e ∷ es) i low (inr there) = each_instant asked base es i low there
-
 pub merge_instants : (asked : Asked) (base : ℤ) (list : List (Entry Fields)) (merge : Merging) → IsMergeOf asked base list merge → pos 0 ≤ℤ base → AreInstants (merged merge)
+unfolding timed_in
 merge_instants asked base list merge m low i h =
-    each_instant asked base list i low ((Has-union (map (λ e. elapses_after (e ∷ []) base) (map (timed_in asked) list)) i).0 (rw m.lists at h))
+    IsInstant-elapse (λ (e : Entry Fields). e.expr) (λ (e : Entry Fields). unwrap_or (zone_for asked e.expr.zone) UTC) list base i low (rw (merge_whole asked base list merge m) at h)
 
 -- the text of one line
 pub line_text : TimerLine → List ℕ
