@@ -1,8 +1,9 @@
 //! Laws of the definitions that the contracts cite. Each is a function that does nothing, and whose contract is the law.
 
-ghost use Rattle.std.specs.Prelude.{◌≡◌, List};
+ghost use Rattle.std.specs.Prelude.{◌≡◌, ℕ, List};
 ghost use Rattle.cal_lines.specs.LineRule.{AreGroups, lines_of};
-ghost use Rattle.cal_lines.specs.Lines.{Group, Line, groups};
+ghost use Rattle.cal_lines.specs.Lines.{Group, Line, groups, logical_lines};
+ghost use Rattle.cal_lines.specs.LogicalRule.{AreLogical};
 
 /// Lines are grouped in exactly one way: each group ends at the first line that isn't continued, the last one with the
 /// file.
@@ -10,4 +11,12 @@ pub fn one_grouping()
     ensures lines { (lines : List Line) → lines_of (groups lines) ≡ lines }
     ensures some { (lines : List Line) → AreGroups (groups lines) }
     ensures only { (all : List Group) → AreGroups all → groups (lines_of all) ≡ all }
+{}
+
+/// The logical lines of a text are those of the rule, and no others: its physical lines without the blanks at their
+/// starts and without the comments, each group of them joined, each last backslash that continues a line a space.
+pub fn logical_lines_are_those_of_the_rule()
+    ensures these { (number : ℕ) (text : List ℕ) → AreLogical number text (logical_lines number text) }
+    ensures only { (number : ℕ) (text : List ℕ) (all : List Line) → AreLogical number text all
+        → all ≡ logical_lines number text }
 {}

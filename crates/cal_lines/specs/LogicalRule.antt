@@ -1,0 +1,62 @@
+-- What the logical lines of a text are, in the rule's own words: systemd.syntax(7). These relations don't go by the
+-- functions of `Lines` that compute the lines; they share with them what a blank, a comment and a continued line is.
+use Rattle.std.specs.Prelude.{◌≡◌, ◌⊎◌, ◌+◌, ℕ, true, false, not, List, [], ◌∷◌, ◌++◌, filter}
+use Rattle.std.specs.List.{AllByRecursion}
+use Rattle.std.specs.Str.Lines.{lines}
+use Rattle.cal_lines.specs.LineRule.{AreGroups, lines_of}
+use Rattle.cal_lines.specs.Lines.{Group, Line, is_blank, is_comment, is_continued}
+
+-- it is empty, or its first character is no blank
+abbrev pub IsFlush : List ℕ → Type 0
+IsFlush [] = Unit {0}
+IsFlush (b ∷ bs) = is_blank b ≡ false
+
+-- the text of a line without the blanks at its start; those at its end stay
+pub record IsUnindented (line text : List ℕ) : Type 0 where
+  pub indent : List ℕ
+  pub blanks : AllByRecursion (λ b. is_blank b ≡ true) indent
+  pub whole : line ≡ indent ++ text
+  pub flush : IsFlush text
+
+-- the physical lines, counted from this number on
+abbrev pub ArePhysical : ℕ → List (List ℕ) → List Line → Type 0
+ArePhysical number [] [] = Unit {0}
+ArePhysical number (text ∷ texts) (line ∷ lines) = (line.number ≡ number) × IsUnindented text line.text × ArePhysical (number + 1) texts lines
+ArePhysical number [] (line ∷ lines) = ⊥
+ArePhysical number (text ∷ texts) [] = ⊥
+
+-- a continued line ends in a backslash, in the place of which the part has a space
+pub record IsContinuedPart (text part : List ℕ) : Type 0 where
+  pub continued : is_continued text ≡ true
+  pub front : List ℕ
+  pub line : text ≡ front ++ 92 ∷ []
+  pub said : part ≡ front ++ 32 ∷ []
+
+-- what a line adds to its logical line; one that isn't continued adds itself
+abbrev pub IsPart : List ℕ → List ℕ → Type 0
+IsPart text part = ((is_continued text ≡ false) × (part ≡ text)) ⊎ IsContinuedPart text part
+
+-- the parts of these lines, one right after the other
+abbrev pub AreJoined : List Line → List ℕ → Type 0
+AreJoined [] text = text ≡ []
+AreJoined (line ∷ lines) text = (part : List ℕ) × (rest : List ℕ) × IsPart line.text part × AreJoined lines rest × (text ≡ part ++ rest)
+
+-- the logical line of a group: its number is that of the first line
+pub record IsLogical (group : Group) (line : Line) : Type 0 where
+  pub number : line.number ≡ group.first.number
+  pub text : AreJoined (group.first ∷ group.more) line.text
+
+abbrev pub EachIsLogical : List Group → List Line → Type 0
+EachIsLogical [] [] = Unit {0}
+EachIsLogical (group ∷ groups) (line ∷ lines) = IsLogical group line × EachIsLogical groups lines
+EachIsLogical [] (line ∷ lines) = ⊥
+EachIsLogical (group ∷ groups) [] = ⊥
+
+-- the logical lines of a text: those of the groups of its physical lines that are no comments
+pub record AreLogical (number : ℕ) (text : List ℕ) (logical : List Line) : Type 0 where
+  pub physical : List Line
+  pub are_physical : ArePhysical number (lines text) physical
+  pub groups : List Group
+  pub plain : lines_of groups ≡ filter (λ line. not (is_comment line.text)) physical
+  pub are_groups : AreGroups groups
+  pub each : EachIsLogical groups logical
