@@ -1,6 +1,6 @@
 -- What the logical lines of a text are, in the rule's own words: systemd.syntax(7). These relations don't go by the
 -- functions of `Lines` that compute the lines; they share with them what a blank, a comment and a continued line is.
-use Rattle.std.specs.Prelude.{◌≡◌, ◌⊎◌, ◌+◌, ℕ, true, false, not, List, [], ◌∷◌, ◌++◌, filter}
+use Rattle.std.specs.Prelude.{◌≡◌, ◌⊎◌, ◌+◌, ℕ, true, false, not, List, [], ◌∷◌, ◌++◌, filter, reverse}
 use Rattle.std.specs.List.{AllByRecursion}
 use Rattle.std.specs.Str.Lines.{lines}
 use Rattle.cal_lines.specs.LineRule.{AreGroups, lines_of}
@@ -17,6 +17,16 @@ pub record IsUnindented (line text : List ℕ) : Type 0 where
   pub blanks : AllByRecursion (λ b. is_blank b ≡ true) indent
   pub whole : line ≡ indent ++ text
   pub flush : IsFlush text
+
+-- the text without the blanks at both its ends
+pub record IsTrimmed (text trimmed : List ℕ) : Type 0 where
+  pub front : List ℕ
+  pub back : List ℕ
+  pub blanks : AllByRecursion (λ b. is_blank b ≡ true) front
+  pub blanks_after : AllByRecursion (λ b. is_blank b ≡ true) back
+  pub whole : text ≡ front ++ (trimmed ++ back)
+  pub flush : IsFlush trimmed
+  pub flush_end : IsFlush (reverse trimmed)
 
 -- the physical lines, counted from this number on
 abbrev pub ArePhysical : ℕ → List (List ℕ) → List Line → Type 0

@@ -2,8 +2,8 @@
 
 ghost use Rattle.std.specs.Prelude.{◌≡◌, ℕ, List};
 ghost use Rattle.cal_lines.specs.LineRule.{AreGroups, lines_of};
-ghost use Rattle.cal_lines.specs.Lines.{Group, Line, groups, logical_lines};
-ghost use Rattle.cal_lines.specs.LogicalRule.{AreLogical};
+ghost use Rattle.cal_lines.specs.Lines.{Group, Line, groups, logical_lines, trim};
+ghost use Rattle.cal_lines.specs.LogicalRule.{AreLogical, IsTrimmed};
 
 /// Lines are grouped in exactly one way: each group ends at the first line that isn't continued, the last one with the
 /// file.
@@ -19,4 +19,11 @@ pub fn logical_lines_are_those_of_the_rule()
     ensures these { (number : ℕ) (text : List ℕ) → AreLogical number text (logical_lines number text) }
     ensures only { (number : ℕ) (text : List ℕ) (all : List Line) → AreLogical number text all
         → all ≡ logical_lines number text }
+{}
+
+/// What `trim` leaves of a text has blanks alone before and after it, neither begins nor ends with one, and is the only
+/// such part.
+pub fn one_trimmed_text()
+    ensures this { (text : List ℕ) → IsTrimmed text (trim text) }
+    ensures only { (text trimmed : List ℕ) → IsTrimmed text trimmed → trimmed ≡ trim text }
 {}
