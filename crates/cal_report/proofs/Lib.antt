@@ -1,5 +1,8 @@
 pub mod AnswerLemmas
 pub mod ElapseTexts
+pub mod HeadlineAccepted
+pub mod HeadlineElapses
+pub mod HeadlineLemmas
 pub mod ReportLemmas
 pub mod TimelyLemmas
 pub mod TimerLemmas

@@ -1,7 +1,7 @@
 -- The definitions, tried on worked local seconds and on a whole request.
 use Rattle.jiff.specs.Types.{UTC}
 use Rattle.std.specs.FinMap.{empty}
-use Rattle.cal_zone.specs.Zone.{utc}
+use Rattle.cal_zone.specs.Zone.{utc, zone_of}
 use Rattle.std.proofs.Common.{nat_lt, ◌≡◌, ℕ, ◌<◌, [], ◌∷◌, ◌++◌, None, Some, Ok, codes, pos, ◌∙◌, ap, sym, inl, true, false, refl, rules, arith}
 use Rattle.std.specs.Fmt.{digits}
 use Rattle.jiff.specs.Types.{Date}
@@ -19,14 +19,34 @@ use Rattle.cal_spec.specs.Fields.{Fields}
 use Rattle.cal_spec.specs.Match.{matches, date_in, time_in}
 use Rattle.cal_spec.specs.Members.{sets_of, part_has}
 use Rattle.cal_report.specs.Answer.{reports_text, refusals_text, whole_status}
-use Rattle.cal_elapse.specs.Elapses.{IsElapse}
+use Rattle.cal_elapse.specs.Elapses.{AreElapses, IsElapse}
 use Rattle.cal_report.specs.Report.{base_in, report, texts_report}
 use Rattle.cal_request.specs.Request.{Asked}
 use Rattle.cal_elapse.specs.Timed.{timed}
 use Rattle.cal_report.specs.TimespanReport.{timespan_answer, timespan_report}
 use Rattle.cal_request.specs.declared.request.Status.TheVariants.{Refused}
-use Rattle.cal_request.specs.declared.request.Verb.TheVariants.{Timespan}
+use Rattle.cal_request.specs.declared.request.Verb.TheVariants.{Calendar, Timespan}
 use Rattle.cal_zone.proofs.PlaceLemmas.{place_of-UTC}
+use Rattle.std.proofs.lemmas.Int.{ints}
+use lib.Utf8.{encode}
+use Rattle.std.specs.Str.{chars, is_utf8}
+use Rattle.cal_lines.specs.Lines.{groups, is_continued, logical_lines, part_of as part_of_line, physical_lines, plain_lines, trim, trim_end, trim_start}
+use Rattle.cal_read.specs.Assignments.{Assigned, assignment_of, assignments_in, timer_lines}
+use Rattle.cal_read.specs.TimerText.{is_expression, is_reset, listed as listed_in, most_expressions, without_mark}
+use Rattle.std.specs.Prelude.{ℤ, ◌<ℤ◌, ◌≤ℤ◌, List, length, map}
+use Rattle.cal_zone.specs.Weekday as weekday
+use Rattle.cal_zone.specs.ZoneName.{is_zone_name}
+use Rattle.cal_spec.specs.Components.{part_due, listed, component_of}
+use Rattle.cal_spec.specs.DateAndTime.{date_texts, time_texts, date_fields, time_fields, date_of as date_in_word, time_of}
+use Rattle.cal_spec.specs.Grammar.{fields_in, fields_at}
+use Rattle.cal_spec.specs.Parts.{with_step, behind_end, behind_start, part_of, fault_of}
+use Rattle.cal_spec.specs.Shorthand.{shorthand_named}
+use Rattle.cal_spec.specs.Weekdays.{day_named, days_of, listed_days, weekdays_of}
+use Rattle.cal_spec.specs.Words.{words, places_of}
+use Rattle.cal_spec.proofs.WholeRule.{valid_found}
+use Rattle.cal_rising.specs.RisingList.{first}
+use Rattle.cal_elapse.proofs.ElapsesLemmas.{AreElapses-only, first_elapse-least}
+use Rattle.cal_report.specs.Headline.{AreSpelled, Expression, IsAccepted, IsFileOf, Spells, assigned_in, meaning}
 
 inside : (t : ℕ) → t < 7_258_118_400 → nat_lt t seconds_in_all ≡ true
 inside t h =
@@ -132,3 +152,115 @@ two_spans-err = refl
 two_spans-status : (report two_spans (Ok [])).status ≡ Refused
 unfolding two_spans report texts_report base_in whole_status timespan_answer timespan_report units_text row_text span_of pairs_in words_in worth_of is_number unit_named number_worth words_for name_of digits
 two_spans-status = refl
+
+-- A request that is accepted, so that the headline speaks of it
+
+-- `*:*:*`
+every_second : Fields
+every_second = record {
+  weekdays = true ∷ true ∷ true ∷ true ∷ true ∷ true ∷ true ∷ [];
+  year = None;
+  month = None;
+  day = None;
+  hour = None;
+  minute = None;
+  second = None;
+  from_end = false;
+  zone = None;
+}
+
+every_second-read : fields_in (codes "*:*:*") ≡ Ok every_second
+unfolding every_second fields_in fields_at words places_of shorthand_named day_named days_of listed_days weekdays_of date_texts time_texts date_fields time_fields date_in_word time_of part_due listed component_of with_step behind_end behind_start part_of fault_of is_zone_name weekday.name_of
+every_second-read = refl
+
+every_second-spelled : Spells (codes "*:*:*") every_second
+unfolding every_second
+every_second-spelled = record {
+  raw = every_second;
+  valid = valid_found (codes "*:*:*") every_second every_second-read;
+  normal = record { weekdays = refl; year = refl; month = refl; day = refl; hour = refl; minute = refl; second = refl; from_end = refl; name = refl };
+}
+
+-- Mon 2024-01-01 12:30:00 is the present
+two_seconds : Asked
+two_seconds = record { verb = Calendar; texts = codes "*:*:*" ∷ []; iterations = 2; base = None; now = pos 1_704_112_200; local = utc; zones = empty }
+
+every : Expression
+every = record { text = codes "*:*:*"; fields = every_second; tz = UTC }
+
+every-accepted : IsAccepted two_seconds every
+unfolding every every_second two_seconds zone_of
+every-accepted = record { spelled = every_second-spelled; zone = refl }
+
+every_second-on : date_in (sets_of every_second) new_year ≡ true
+unfolding every_second date_in sets_of
+every_second-on = rw new_year-weekday (unfold new_year in refl)
+
+every_second-at : time_in (sets_of every_second) 45_001 ≡ true
+unfolding every_second time_in sets_of
+every_second-at = refl
+
+every_second-matches : matches (sets_of every_second) 1_704_112_201 ≡ true
+unfolding matches
+every_second-matches = rw (inside 1_704_112_201 (omega arith), new_year-is, every_second-on, every_second-at) refl
+
+every-elapses : IsElapse (map meaning (every ∷ [])) (pos 1_704_112_201)
+unfolding every timed
+every-elapses =
+    inl (record { local = 1_704_112_201; within = omega (arith, seconds_in_all-is); is_match = every_second-matches; placed = place_of-UTC (pos 1_704_112_201) })
+
+next_is_least : (j : ℤ) → pos 1_704_112_200 <ℤ j → pos 1_704_112_201 ≤ℤ j
+next_is_least j h = omega (arith, ints)
+
+-- so the first elapse is a second after the present, whatever list has them
+every-first : (xs : List ℤ) → AreElapses (map meaning (every ∷ [])) (pos 1_704_112_200) xs → first xs ≡ Some (pos 1_704_112_201)
+every-first xs h =
+    rw (AreElapses-only (map meaning (every ∷ [])) (pos 1_704_112_200) xs h)
+    (first_elapse-least (map meaning (every ∷ [])) (pos 1_704_112_200) (pos 1_704_112_201) (omega (arith, ints)) every-elapses (λ j above _. next_is_least j above))
+
+-- A file of this one expression
+every_file : List ℕ
+every_file = codes "[Timer]\nOnCalendar=*:*:*\n"
+
+one_line : Assigned
+one_line = record { number = 2; key = codes "OnCalendar"; value = codes "*:*:*" }
+
+every_file-assigned : assigned_in every_file ≡ one_line ∷ []
+unfolding every_file one_line assignments_in timer_lines assignment_of logical_lines groups plain_lines physical_lines part_of_line is_continued trim trim_end trim_start without_mark is_utf8 chars encode
+every_file-assigned = refl
+
+every_file-utf8 : is_utf8 every_file ≡ true
+unfolding every_file is_utf8 chars encode
+every_file-utf8 = refl
+
+nothing_there : (before : List Assigned) (a : Assigned) (after : List Assigned) → [] ≡ before ++ (a ∷ after) → ⊥
+nothing_there [] a after split = cc
+nothing_there (b ∷ before) a after split = cc
+
+only_split : (x : Assigned) (before : List Assigned) (a : Assigned) (after : List Assigned) → x ∷ [] ≡ before ++ (a ∷ after) → (before ≡ []) × (a ≡ x)
+only_split x [] a after split = (refl, cc)
+only_split x (b ∷ before) a after split =
+    let rest : [] ≡ before ++ (a ∷ after) = cc in
+    absurd (nothing_there before a after rest)
+
+none_listed : length (listed_in []) < most_expressions
+unfolding listed_in
+none_listed = omega arith
+
+every_file-spelled : AreSpelled (one_line ∷ [])
+unfolding one_line
+every_file-spelled before a after split is =
+    let parts = only_split one_line before a after split in
+    rw (parts.0, parts.1) (none_listed, (every_second, every_second-spelled))
+
+every_file-listed : map (λ (a : Assigned). a.value) (listed_in (one_line ∷ [])) ≡ map (λ (e : Expression). e.text) (every ∷ [])
+unfolding one_line every listed_in is_reset is_expression
+every_file-listed = refl
+
+every_file-is : IsFileOf every_file (every ∷ [])
+every_file-is = record {
+  utf8 = every_file-utf8;
+  spelled = rw every_file-assigned every_file-spelled;
+  list = rw every_file-assigned every_file-listed;
+  some = omega arith;
+}

@@ -3,6 +3,7 @@ pub mod Answer
 pub mod CalendarReport
 pub mod Context
 pub mod ElapseLines
+pub mod Headline
 pub mod Report
 pub mod ReportLines
 pub mod TimerPlan

@@ -5,6 +5,7 @@ mod accepted;
 mod calendar_report;
 mod context;
 mod elapse_lines;
+pub mod laws;
 mod report;
 mod report_lines;
 mod timer_report;

@@ -9,7 +9,7 @@ pub mod machine;
 use crate::machine::Machine;
 use cal_bytes::{Port, Sink};
 pub use cal_command::{Ask, CommandFault, LocalZone, ZoneItem};
-pub use cal_report::run;
+pub use cal_report::{laws, run};
 pub use cal_request::{Request, RunFault, Status, Verb};
 pub use cal_work::{Ended, LoadFault, Stop, System, load_zone, work, write_stop};
 use std::alloc::{AllocError, Global};

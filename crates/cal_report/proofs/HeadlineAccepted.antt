@@ -1,0 +1,231 @@
+-- The headline's law: a run that ends well has accepted what was asked.
+use Rattle.std.proofs.Common.{◌≡◌, ◌<◌, ◌-◌, ◌++◌, ◌∙◌, ℕ, suc, ℤ, Bool, true, false, not, cond, ◌||◌, List, [], ◌∷◌, Option, None, Some, Result, Ok, Err, map, take, drop, filter, length, refl, sym, ap, subst, arith, append_assoc}
+use Rattle.std.proofs.lemmas.List.{take-append-drop}
+use Rattle.std.specs.Prelude.{is_err, is_none, nat_le, if◌then◌else◌}
+use Rattle.std.specs.List.{AllByRecursion, filter_map, find, list_any, suffix_len}
+use Rattle.std.specs.Str.{is_utf8}
+use Rattle.jiff.specs.Types.{TimeZone}
+use Rattle.cal_bytes.specs.declared.whole.WholeFault.{WholeFault}
+use Rattle.cal_zone.specs.Zone.{zone_of}
+use Rattle.cal_spec.specs.Expr.{expr_in}
+use Rattle.cal_spec.specs.Fields.{Fields}
+use Rattle.cal_spec.specs.Grammar.{fields_in}
+use Rattle.cal_spec.specs.NormalForm.{IsNormalFieldsOf, normal_fields}
+use Rattle.cal_spec.specs.Reads.{◌>>=◌}
+use Rattle.cal_spec.specs.ValidFields.{IsValidFields}
+use Rattle.cal_spec.specs.declared.spec_fault.SpecFault.{SpecFault}
+use Rattle.cal_spec.proofs.FieldLemmas.{valid_fields}
+use Rattle.cal_spec.proofs.WholeRule.{valid_found}
+use Rattle.cal_read.specs.Assignments.{Assigned}
+use Rattle.cal_read.specs.TimerRule.{AreFine, Judges}
+use Rattle.cal_read.specs.TimerText.{Entry, bad_line, entries, entry_of, fault_behind, is_expression, is_reset, listed, most_expressions, timer_in, timer_of}
+use Rattle.cal_read.specs.declared.timer_fault.TimerFault.{TimerFault}
+use Rattle.cal_read.specs.declared.timer_fault.TimerFault.TheVariants.{TooMany}
+use Rattle.cal_read.proofs.TimerRuleLemmas.{judged}
+use Rattle.cal_report.specs.Answer.{whole_status}
+use Rattle.cal_report.specs.CalendarReport.{answer_in, answer_with, calendar_answer, zone_for}
+use Rattle.cal_report.specs.Headline.{AreAccepted, AreSpelled, Expression, IsAccepted, IsAcceptedFile, IsZoneFor, Spells, assigned_in}
+use Rattle.cal_report.specs.Report.{Report, answer_by, answer_to, base_in, file_name, report, texts_report, whole_report}
+use Rattle.cal_report.specs.TimerReport.{answer_of_timer, answer_unless, lacks_zone, timer_answer}
+use Rattle.cal_request.specs.Request.{Asked, is_timer}
+use Rattle.cal_request.specs.declared.request.Status.TheVariants.{Fine, Refused}
+use Rattle.cal_request.specs.declared.request.Verb.TheVariants.{Calendar, Timer}
+use Rattle.cal_report.proofs.HeadlineLemmas.{HaveOneNormalForm, report_of_texts, spelled_is_read, text_of}
+
+-- What ends well was accepted
+
+-- the other part of that law
+abbrev pub AreNormalForms : Type 0
+AreNormalForms = (f : Fields) → IsValidFields f → IsNormalFieldsOf f (normal_fields f)
+
+spelled_by : AreNormalForms → (text : List ℕ) (fields : Fields) (r : Result Fields SpecFault) → fields_in text ≡ r
+    → ◌≡◌ {A = Result Fields SpecFault} (r >>= (λ f. Ok (normal_fields f))) (Ok fields) → Spells text fields
+spelled_by some text fields (Ok raw) found h =
+    let same : normal_fields raw ≡ fields = cc in
+    record { raw = raw; valid = valid_found text raw found; normal = subst (IsNormalFieldsOf raw) same (some raw (valid_fields text raw found)) }
+spelled_by some text fields (Err fault) found h = cc
+
+read_is_spelled : AreNormalForms → (text : List ℕ) (fields : Fields) → expr_in text ≡ Ok fields → Spells text fields
+unfolding expr_in
+read_is_spelled some text fields h = spelled_by some text fields (fields_in text) refl h
+
+found_is_zone : (asked : Asked) (name : Option (List ℕ)) (tz : TimeZone) → zone_for asked name ≡ Some tz → IsZoneFor asked name tz
+unfolding zone_for
+found_is_zone asked None tz h = let same : zone_of asked.local ≡ tz = cc in sym same
+found_is_zone asked (Some name) tz h = h
+
+-- a text that is accepted
+record IsAcceptedText (asked : Asked) (text : List ℕ) : Type 0 where
+  expression : Expression
+  same : text ≡ expression.text
+  accepted : IsAccepted asked expression
+
+accepted_in : AreNormalForms → (asked : Asked) (base : ℤ) (text : List ℕ) (fields : Fields) (o : Option TimeZone) → expr_in text ≡ Ok fields
+    → zone_for asked fields.zone ≡ o → is_err (answer_in asked base text fields o) ≡ false → IsAcceptedText asked text
+accepted_in some asked base text fields None read found h = cc
+accepted_in some asked base text fields (Some tz) read found h = record {
+  expression = record { text = text; fields = fields; tz = tz };
+  same = refl;
+  accepted = record { spelled = read_is_spelled some text fields read; zone = found_is_zone asked fields.zone tz found };
+}
+
+accepted_with : AreNormalForms → (asked : Asked) (base : ℤ) (text : List ℕ) (r : Result Fields SpecFault) → expr_in text ≡ r
+    → is_err (answer_with asked base text r) ≡ false → IsAcceptedText asked text
+accepted_with some asked base text (Ok fields) read h = accepted_in some asked base text fields (zone_for asked fields.zone) read refl h
+accepted_with some asked base text (Err fault) read h = cc
+
+text_accepted : AreNormalForms → (asked : Asked) (base : ℤ) (text : List ℕ) → asked.verb ≡ Calendar
+    → is_err (answer_to asked base text) ≡ false → IsAcceptedText asked text
+unfolding calendar_answer
+text_accepted some asked base text verb h =
+    accepted_with some asked base text (expr_in text) refl (sym (ap (λ v. is_err (answer_by v asked base text)) verb) ∙ h)
+
+both_false : (a b : Bool) → (a || b) ≡ false → (a ≡ false) × (b ≡ false)
+both_false true b h = cc
+both_false false b h = (refl, h)
+
+texts_accepted : AreNormalForms → (asked : Asked) (base : ℤ) (texts : List (List ℕ)) → asked.verb ≡ Calendar
+    → list_any (λ text. is_err (answer_to asked base text)) texts ≡ false → AreAccepted asked texts
+texts_accepted some asked base [] verb h = record { expressions = []; same = refl; each = tt }
+texts_accepted some asked base (text ∷ texts) verb h =
+    let parts = both_false (is_err (answer_to asked base text)) (list_any (λ text. is_err (answer_to asked base text)) texts) h in
+    let here = text_accepted some asked base text verb parts.0 in
+    let rest = texts_accepted some asked base texts verb parts.1 in
+    let same : text ∷ texts ≡ here.expression.text ∷ map text_of rest.expressions = let first = here.same in let later = rest.same in cc in
+    record { expressions = here.expression ∷ rest.expressions; same = same; each = (here.accepted, rest.each) }
+
+none_by_status : (b : Bool) → (if b then Refused else Fine) ≡ Fine → b ≡ false
+none_by_status true h = cc
+none_by_status false h = refl
+
+pub fine_texts_are_accepted : AreNormalForms → (asked : Asked) (read : Result (List ℕ) WholeFault) (base : ℤ) → asked.verb ≡ Calendar → base_in asked ≡ Ok base
+    → (report asked read).status ≡ Fine → AreAccepted asked asked.texts
+unfolding texts_report whole_status
+fine_texts_are_accepted some asked read base verb sought h =
+    let fine = sym (ap (λ (r : Report). r.status) (report_of_texts asked read base verb sought)) ∙ h in
+    texts_accepted some asked base asked.texts verb (none_by_status _ fine)
+
+-- The same of a file
+
+spelled_unless : AreNormalForms → (number : ℕ) (text : List ℕ) (r : Result Fields SpecFault) → expr_in text ≡ r → bad_line number r ≡ None
+    → (fields : Fields) × Spells text fields
+spelled_unless some number text (Ok fields) read h = (fields, read_is_spelled some text fields read)
+spelled_unless some number text (Err fault) read h = cc
+
+fine_by : AreNormalForms → (before : List Assigned) (a : Assigned) (many : Bool) → nat_le most_expressions (length (listed before)) ≡ many
+    → (if many then Some (TooMany a.number) else bad_line a.number (expr_in a.value)) ≡ None
+    → (length (listed before) < most_expressions) × ((fields : Fields) × Spells a.value fields)
+fine_by some before a true few h = cc
+fine_by some before a false few h = (grind (arith, few), spelled_unless some a.number a.value (expr_in a.value) refl h)
+
+fine_spelled : AreNormalForms → (all : List Assigned) → AreFine expr_in all → AreSpelled all
+unfolding fault_behind
+fine_spelled some all fine before a after split is =
+    let none = rw is at (fine before a after split) in
+    fine_by some before a (nat_le most_expressions (length (listed before))) refl none
+
+-- the text of an assignment is one
+abbrev IsSpelled : Assigned → Type 0
+IsSpelled a = (fields : Fields) × Spells a.value fields
+
+kept_spelled : (a : Assigned) (rest : List Assigned) (is : Bool) → (is ≡ true → IsSpelled a) → AllByRecursion IsSpelled (filter is_expression rest)
+    → AllByRecursion IsSpelled (cond is (a ∷ filter is_expression rest) (filter is_expression rest))
+kept_spelled a rest true here later = (here refl, later)
+kept_spelled a rest false here later = later
+
+each_spelled : (all front rest : List Assigned) → all ≡ front ++ rest → AreSpelled all → AllByRecursion IsSpelled (filter is_expression rest)
+each_spelled all front [] split h = tt
+each_spelled all front (a ∷ rest) split h =
+    kept_spelled a rest (is_expression a) (λ is. (h front a rest split is).1)
+    (each_spelled all (front ++ a ∷ []) rest (split ∙ sym (append_assoc front (a ∷ []) rest)) h)
+
+listed_spelled : (all : List Assigned) → AreSpelled all → AllByRecursion IsSpelled (listed all)
+unfolding listed
+listed_spelled all h =
+    let before = length all - suffix_len (λ a. not (is_reset a)) all in
+    each_spelled all (take before all) (drop before all) (sym (take-append-drop before all)) h
+
+-- the expressions of assignments
+record AreExpressionsOf (asked : Asked) (list : List Assigned) : Type 0 where
+  expressions : List Expression
+  same : map (λ (a : Assigned). a.value) list ≡ map text_of expressions
+  each : AllByRecursion (IsAccepted asked) expressions
+  many : length expressions ≡ length (filter_map (λ a. entry_of a (expr_in a.value)) list)
+
+no_expressions : (asked : Asked) → AreExpressionsOf asked []
+no_expressions asked = record { expressions = []; same = refl; each = tt; many = refl }
+
+found_by : {A : Type 0} (o : Option A) → is_none o ≡ false → (x : A) × (o ≡ Some x)
+found_by None h = cc
+found_by (Some x) h = (x, refl)
+
+found_none : (p : Entry Fields → Bool) (x : Entry Fields) (xs : List (Entry Fields)) (here : Bool) → p x ≡ here → find p (x ∷ xs) ≡ None → (p x ≡ false) × (find p xs ≡ None)
+found_none p x xs true is h = absurd (let never : ◌≡◌ {A = Option (Entry Fields)} (Some x) None = rw is at h in cc)
+found_none p x xs false is h = (is, rw is at h)
+
+one_more : (asked : Asked) (a : Assigned) (list : List Assigned) (spelled : IsSpelled a) → expr_in a.value ≡ Ok spelled.0 → lacks_zone asked (record { number = a.number; text = a.value; expr = spelled.0 }) ≡ false
+    → AreExpressionsOf asked list → AreExpressionsOf asked (a ∷ list)
+one_more asked a list spelled read there rest =
+    let zone = found_by (zone_for asked (spelled.0).zone) there in
+    record {
+      expressions = record { text = a.value; fields = spelled.0; tz = zone.0 } ∷ rest.expressions;
+      same = ap (λ (ts : List (List ℕ)). a.value ∷ ts) rest.same;
+      each = (record { spelled = spelled.1; zone = found_is_zone asked (spelled.0).zone zone.0 zone.1 }, rest.each);
+      many = rw read (ap suc rest.many);
+    }
+
+expressions_of : HaveOneNormalForm → (asked : Asked) (list : List Assigned) → AllByRecursion IsSpelled list
+    → find (lacks_zone asked) (filter_map (λ a. entry_of a (expr_in a.value)) list) ≡ None → AreExpressionsOf asked list
+expressions_of one asked [] spelled h = no_expressions asked
+expressions_of one asked (a ∷ list) spelled h =
+    let read = spelled_is_read one a.value (spelled.0).0 (spelled.0).1 in
+    let entry : Entry Fields = record { number = a.number; text = a.value; expr = (spelled.0).0 } in
+    let rest = filter_map (λ a. entry_of a (expr_in a.value)) list in
+    let parts = found_none (lacks_zone asked) entry rest (lacks_zone asked entry) refl (rw read at h) in
+    one_more asked a list spelled.0 read parts.0 (expressions_of one asked list spelled.1 parts.1)
+
+read_parts : (utf8 : Bool) (good bad : Result (List (Entry Fields)) TimerFault) (list : List (Entry Fields)) (fault : TimerFault) → bad ≡ Err fault
+    → (if utf8 then good else bad) ≡ Ok list → (utf8 ≡ true) × (good ≡ Ok list)
+read_parts true good bad list fault is h = (refl, h)
+read_parts false good bad list fault is h = absurd (let never : ◌≡◌ {A = Result (List (Entry Fields)) TimerFault} (Err fault) (Ok list) = sym is ∙ h in cc)
+
+list_accepted : HaveOneNormalForm → AreNormalForms → (asked : Asked) (bytes : List ℕ) (list : List (Entry Fields)) → timer_in expr_in bytes ≡ Ok list
+    → find (lacks_zone asked) list ≡ None → IsAcceptedFile asked bytes
+unfolding timer_in timer_of entries
+list_accepted one some asked bytes list read there =
+    let parts = read_parts (is_utf8 bytes) _ _ list _ refl read in
+    let all = assigned_in bytes in
+    let judges : Judges expr_in all (Ok list) = subst (Judges expr_in all) parts.1 (judged expr_in all) in
+    let spelled = fine_spelled some all judges.0 in
+    let none : find (lacks_zone asked) (entries expr_in all) ≡ None = rw judges.1 there in
+    let found = expressions_of one asked (listed all) (listed_spelled all spelled) none in
+    let many : length found.expressions ≡ length list = found.many ∙ ap length judges.1 in
+    record {
+      expressions = found.expressions;
+      list = record { utf8 = parts.0; spelled = spelled; list = found.same; some = omega (arith, many, judges.2) };
+      each = found.each;
+    }
+
+accepted_unless : HaveOneNormalForm → AreNormalForms → (asked : Asked) (bytes name : List ℕ) (base : ℤ) (list : List (Entry Fields)) (o : Option (Entry Fields))
+    → timer_in expr_in bytes ≡ Ok list → find (lacks_zone asked) list ≡ o → (whole_report (answer_unless asked base name list o)).status ≡ Fine → IsAcceptedFile asked bytes
+accepted_unless one some asked bytes name base list None read there h = list_accepted one some asked bytes list read there
+accepted_unless one some asked bytes name base list (Some e) read there h = cc
+
+accepted_of : HaveOneNormalForm → AreNormalForms → (asked : Asked) (bytes name : List ℕ) (base : ℤ) (r : Result (List (Entry Fields)) TimerFault)
+    → timer_in expr_in bytes ≡ r → (whole_report (answer_of_timer asked base name r)).status ≡ Fine → IsAcceptedFile asked bytes
+accepted_of one some asked bytes name base (Ok list) read h = accepted_unless one some asked bytes name base list (find (lacks_zone asked) list) read refl h
+accepted_of one some asked bytes name base (Err fault) read h = cc
+
+report_of_timer : (asked : Asked) (bytes : List ℕ) (base : ℤ) → asked.verb ≡ Timer → base_in asked ≡ Ok base
+    → report asked (Ok bytes) ≡ whole_report (timer_answer asked base (file_name asked) (Ok bytes))
+unfolding report
+report_of_timer asked bytes base verb sought =
+    let timer : is_timer asked.verb ≡ true = ap is_timer verb in
+    rw (sought, timer) refl
+
+pub fine_file_is_accepted : HaveOneNormalForm → AreNormalForms → (asked : Asked) (bytes : List ℕ) (base : ℤ) → asked.verb ≡ Timer → base_in asked ≡ Ok base
+    → (report asked (Ok bytes)).status ≡ Fine → IsAcceptedFile asked bytes
+unfolding timer_answer
+fine_file_is_accepted one some asked bytes base verb sought h =
+    accepted_of one some asked bytes (file_name asked) base (timer_in expr_in bytes) refl
+    (sym (ap (λ (r : Report). r.status) (report_of_timer asked bytes base verb sought)) ∙ h)

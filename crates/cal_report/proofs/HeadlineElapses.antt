@@ -1,0 +1,97 @@
+-- The headline's law: what elapses are, how they go on, and what the zone's clock shows there.
+use Rattle.std.proofs.Common.{◌≡◌, ◌<◌, ◌+◌, ◌++◌, ◌∙◌, ℕ, suc, ℤ, pos, ◌≤ℤ◌, ◌<ℤ◌, ◌-ℤ◌, true, List, [], ◌∷◌, Option, None, Some, Result, Ok, Err, map, take, drop, inl, inr, refl, sym, ap, subst, arith}
+use Rattle.std.proofs.Math.Seq.{take-add}
+use Rattle.std.proofs.lemmas.Int.{ints}
+use Rattle.std.specs.List.{slice_get}
+use Rattle.jiff.proofs.SpanFacts.{signed_arith}
+use Rattle.jiff.specs.Types.{Fold, Offset, TimeZone}
+use Rattle.jiff.specs.Words.{ambiguous_at, compatible_offset}
+use Rattle.cal_zone.specs.Instant.{IsInstant}
+use Rattle.cal_zone.specs.Local.{seconds_in_all-is}
+use Rattle.cal_zone.specs.Place.{datetime_of, place_of, settle_of}
+use Rattle.cal_zone.specs.Zone.{local_of}
+use Rattle.cal_zone.proofs.PlaceLemmas.{place_of-Some}
+use Rattle.cal_spec.specs.Fields.{Fields}
+use Rattle.cal_spec.specs.Match.{matches}
+use Rattle.cal_spec.specs.Members.{sets_of}
+use Rattle.cal_elapse.specs.Elapses.{AreElapses, IsElapse, IsPlace, Timed, elapses_after}
+use Rattle.cal_elapse.specs.Timed.{timed}
+use Rattle.cal_elapse.proofs.ElapsesLemmas.{AreElapses-elapses_after, AreElapses-only, elapses_after-later}
+use Rattle.cal_elapse.proofs.InstantLemmas.{IsInstant-elapse}
+use Rattle.cal_read.specs.declared.stamp_fault.StampFault.{StampFault}
+use Rattle.cal_report.specs.ElapseLines.{AreInstants}
+use Rattle.cal_report.specs.Headline.{Expression, meaning}
+use Rattle.cal_report.specs.Report.{base_from, base_in, second_told}
+use Rattle.cal_report.specs.TimestampReport.{second_of, stamp_in}
+use Rattle.cal_request.specs.Request.{Asked}
+use Rattle.cal_report.proofs.HeadlineLemmas.{one_elapses}
+
+-- Instants
+
+told_low : (stamp : Result ℤ StampFault) (base : ℤ) → second_told stamp ≡ Ok base → pos 0 ≤ℤ base
+told_low (Ok micros) base h =
+    let same : second_of micros ≡ base = cc in
+    subst (λ (b : ℤ). pos 0 ≤ℤ b) same (omega (arith, ints))
+told_low (Err fault) base h = cc
+
+base_from_low : (asked : Asked) (text : Option (List ℕ)) (base : ℤ) → pos 0 ≤ℤ asked.now → base_from asked text ≡ Ok base → pos 0 ≤ℤ base
+base_from_low asked None base low h = subst (λ (b : ℤ). pos 0 ≤ℤ b) (let same : asked.now ≡ base = cc in same) low
+base_from_low asked (Some text) base low h = told_low (stamp_in asked text) base h
+
+pub base_low : (asked : Asked) (base : ℤ) → IsInstant asked.now → base_in asked ≡ Ok base → pos 0 ≤ℤ base
+unfolding base_in
+base_low asked base now h = base_from_low asked asked.base base now.0 h
+
+pub elapses_are_instants : (asked : Asked) (base : ℤ) (es : List Expression) (xs : List ℤ) → IsInstant asked.now → base_in asked ≡ Ok base
+    → AreElapses (map meaning es) base xs → AreInstants xs
+elapses_are_instants asked base es xs now sought h i there =
+    let elapse = ((AreElapses-elapses_after (map meaning es) base).members i).1 ((h.members i).0 there) in
+    IsInstant-elapse (λ (e : Expression). e.fields) (λ (e : Expression). e.tz) es base i (base_low asked base now sought) elapse
+
+-- Starting again
+
+pub goes_on : (ts : List Timed) (base e : ℤ) (xs : List ℤ) (k : ℕ) → AreElapses ts base xs → slice_get xs k ≡ Some e → AreElapses ts e (drop (suc k) xs)
+goes_on ts base e xs k h at =
+    let same = AreElapses-only ts base xs h in
+    let at_all : slice_get (elapses_after ts base) k ≡ Some e = subst (λ (ys : List ℤ). slice_get ys k ≡ Some e) same at in
+    subst (AreElapses ts e) (elapses_after-later ts base e k at_all ∙ ap (drop (suc k)) (sym same)) (AreElapses-elapses_after ts e)
+
+pub in_parts : (ts : List Timed) (base e : ℤ) (xs ys : List ℤ) (k m : ℕ) → AreElapses ts base xs → slice_get xs k ≡ Some e → AreElapses ts e ys
+    → take (suc k) xs ++ take m ys ≡ take (suc k + m) xs
+in_parts ts base e xs ys k m h at more =
+    let rest : ys ≡ drop (suc k) xs = one_elapses ts e ys (drop (suc k) xs) more (goes_on ts base e xs k h at) in
+    rw rest (sym (take-add (suc k) m xs))
+
+-- What a zone's clock shows
+
+pub is_shown : (fields : Fields) (tz : TimeZone) (i : ℤ) → IsPlace (timed fields tz) i
+    → (local : ℕ) × (local < 7_258_118_400) × (matches (sets_of fields) local ≡ true) × (local_of tz i ≡ pos local)
+unfolding timed
+is_shown fields tz i h =
+    (h.local, omega (arith, seconds_in_all-is, h.within), h.is_match, (place_of-Some tz (pos h.local) i h.placed).1)
+
+pub is_alone : (fields : Fields) (tz : TimeZone) (i j : ℤ) → IsPlace (timed fields tz) i → IsPlace (timed fields tz) j → local_of tz i ≡ local_of tz j → i ≡ j
+unfolding timed
+is_alone fields tz i j h k same =
+    let one : pos h.local ≡ pos k.local = sym (place_of-Some tz (pos h.local) i h.placed).1 ∙ (same ∙ (place_of-Some tz (pos k.local) j k.placed).1) in
+    let both : Some i ≡ Some j = sym h.placed ∙ (ap (place_of tz) one ∙ k.placed) in
+    cc
+
+none_shown : (tz : TimeZone) (local : ℤ) (o : Option ℤ) → ((second : ℤ) → local_of tz second ≡ local → ⊥) → place_of tz local ≡ o → o ≡ None
+none_shown tz local None never e = refl
+none_shown tz local (Some second) never e = absurd (never second (place_of-Some tz local second e).1)
+
+pub gap_has_no_place : (tz : TimeZone) (local : ℤ) → ((second : ℤ) → local_of tz second ≡ local → ⊥) → place_of tz local ≡ None
+gap_has_no_place tz local never = none_shown tz local (place_of tz local) never refl
+
+-- the second of the lesser offset is the later one
+later_by : (local i before after : ℤ) → i ≡ local -ℤ before → after <ℤ before → i <ℤ (local -ℤ after)
+later_by local i before after is less = omega (arith, signed_arith)
+
+pub fold_has_its_first : (tz : TimeZone) (local i : ℤ) (before after : Offset) → ambiguous_at tz (datetime_of local) ≡ Fold before after → place_of tz local ≡ Some i
+    → (i ≡ local -ℤ before.seconds) × (after.seconds <ℤ before.seconds → i <ℤ (local -ℤ after.seconds))
+unfolding settle_of
+fold_has_its_first tz local i before after fold at =
+    let settled = (place_of-Some tz local i at).0 in
+    let is : i ≡ local -ℤ before.seconds = sym settled ∙ ap (λ o. local -ℤ (compatible_offset o).seconds) fold in
+    (is, λ less. later_by local i before.seconds after.seconds is less)

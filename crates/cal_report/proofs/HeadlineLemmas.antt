@@ -1,0 +1,304 @@
+-- The headline's law: what is printed of accepted expressions, and nothing else.
+use Rattle.std.proofs.Common.{◌≡◌, ◌<◌, ◌++◌, ◌∙◌, ℕ, ℤ, Bool, true, false, List, [], ◌∷◌, Option, None, Some, Result, Ok, map, take, length, codes, refl, sym, ap, subst, arith, append-nil}
+use Rattle.std.specs.Prelude.{is_err, nat_le, if◌then◌else◌}
+use Rattle.std.specs.Io.KnownBytes.{Appends}
+use Rattle.std.specs.List.{AllByRecursion, AllZip, filter_map, find, flat_map, join_by, list_any}
+use Rattle.jiff.specs.Types.{TimeZone}
+use Rattle.cal_bytes.specs.declared.whole.WholeFault.{WholeFault}
+use Rattle.cal_spec.specs.Expr.{expr_in}
+use Rattle.cal_spec.specs.Fields.{Fields}
+use Rattle.cal_spec.specs.NormalForm.{IsNormalFieldsOf, normal_fields}
+use Rattle.cal_spec.specs.ValidFields.{IsValidFields}
+use Rattle.cal_spec.specs.declared.spec_fault.SpecFault.{SpecFault}
+use Rattle.cal_spec.proofs.FieldLemmas.{valid_fields}
+use Rattle.cal_spec.proofs.WholeRule.{valid_only}
+use Rattle.cal_elapse.specs.Elapses.{AreElapses, Timed, elapses_after}
+use Rattle.cal_elapse.proofs.ElapsesLemmas.{AreElapses-elapses_after, AreElapses-only}
+use Rattle.cal_read.specs.Assignments.{Assigned}
+use Rattle.cal_read.specs.TimerRule.{AreFine}
+use Rattle.cal_read.specs.TimerText.{Entry, entries, entry_of, fault_behind, is_expression, listed, most_expressions, timer_in, timer_of}
+use Rattle.cal_read.proofs.TimerRuleLemmas.{only_judged}
+use Rattle.cal_report.specs.Answer.{refusals_text, report_in, reports_text, whole_status}
+use Rattle.cal_report.specs.CalendarReport.{answer_in, answer_with, calendar_answer, calendar_report, heading_text, zone_for}
+use Rattle.cal_report.specs.ElapseLines.{elapses_text}
+use Rattle.cal_report.specs.Headline.{AreReportsOf, AreSpelled, Expression, IsAccepted, IsFileOf, IsFine, IsReportOf, IsZoneFor, Spells, assigned_in, headings, meaning}
+use Rattle.cal_report.specs.Report.{ByReading, IsTold, answer_by, answer_to, base_in, file_name, report, texts_report}
+use Rattle.cal_report.specs.TimerReport.{headings_text, lacks_zone, timed_in, timer_answer, timer_report}
+use Rattle.cal_request.specs.Request.{Asked, is_timer}
+use Rattle.cal_request.specs.declared.request.Status.{Status}
+use Rattle.cal_request.specs.declared.request.Status.TheVariants.{Fine, Refused}
+use Rattle.cal_request.specs.declared.request.Verb.TheVariants.{Calendar, Timer}
+
+-- What is accepted is read so
+
+-- the law of `cal_spec` that the lemmas below are handed: valid fields have one normal form
+abbrev pub HaveOneNormalForm : Type 0
+HaveOneNormalForm = (f g : Fields) → IsValidFields f → IsNormalFieldsOf f g → g ≡ normal_fields f
+
+pub spelled_is_read : HaveOneNormalForm → (text : List ℕ) (fields : Fields) → Spells text fields → expr_in text ≡ Ok fields
+unfolding expr_in
+spelled_is_read one text fields h =
+    let found = valid_only text h.raw h.valid in
+    rw found (ap Ok (sym (one h.raw fields (valid_fields text h.raw found) h.normal)))
+
+zone_is_found : (asked : Asked) (name : Option (List ℕ)) (tz : TimeZone) → IsZoneFor asked name tz → zone_for asked name ≡ Some tz
+unfolding zone_for
+zone_is_found asked None tz h = ap Some (sym h)
+zone_is_found asked (Some name) tz h = h
+
+-- Texts
+
+-- the report of an accepted expression
+abbrev report_of : Asked → ℤ → Expression → List ℕ
+report_of asked base e = calendar_report asked base e.text e.fields e.tz
+
+is_answered : HaveOneNormalForm → (asked : Asked) (base : ℤ) (e : Expression) → asked.verb ≡ Calendar → IsAccepted asked e
+    → answer_to asked base e.text ≡ Ok (report_of asked base e)
+unfolding calendar_answer
+is_answered one asked base e verb h =
+    ap (λ v. answer_by v asked base e.text) verb
+    ∙ ap (answer_with asked base e.text) (spelled_is_read one e.text e.fields h.spelled)
+    ∙ ap (answer_in asked base e.text e.fields) (zone_is_found asked e.fields.zone e.tz h.zone)
+
+is_report : (asked : Asked) (base : ℤ) (e : Expression) → IsReportOf asked base (e ∷ []) (report_of asked base e)
+unfolding calendar_report
+is_report asked base e = record {
+  elapses = elapses_after (meaning e ∷ []) base;
+  these = AreElapses-elapses_after (meaning e ∷ []) base;
+  layout = rw (append-nil (heading_text e.text e.fields)) (ap (λ (t : List ℕ). heading_text e.text e.fields ++ t) (append-nil _));
+}
+
+each_report : (asked : Asked) (base : ℤ) (es : List Expression)
+    → AllZip (λ e report. IsReportOf asked base (e ∷ []) report) es (map (report_of asked base) es)
+each_report asked base [] = tt
+each_report asked base (e ∷ es) = (is_report asked base e, each_report asked base es)
+
+-- the text of an expression
+abbrev pub text_of : Expression → List ℕ
+text_of e = e.text
+
+reports_are : HaveOneNormalForm → (asked : Asked) (base : ℤ) (es : List Expression) → asked.verb ≡ Calendar → AllByRecursion (IsAccepted asked) es
+    → flat_map (λ text. report_in (answer_to asked base text)) (map text_of es) ≡ map (report_of asked base) es
+reports_are one asked base [] verb all = refl
+reports_are one asked base (e ∷ es) verb all =
+    rw (is_answered one asked base e verb all.0) (ap (λ (rs : List (List ℕ)). report_of asked base e ∷ rs) (reports_are one asked base es verb all.1))
+
+none_refused : HaveOneNormalForm → (asked : Asked) (base : ℤ) (es : List Expression) → asked.verb ≡ Calendar → AllByRecursion (IsAccepted asked) es
+    → refusals_text (answer_to asked base) (map text_of es) ≡ []
+unfolding refusals_text
+none_refused one asked base [] verb all = refl
+none_refused one asked base (e ∷ es) verb all =
+    rw (is_answered one asked base e verb all.0) (none_refused one asked base es verb all.1)
+
+none_fails : HaveOneNormalForm → (asked : Asked) (base : ℤ) (es : List Expression) → asked.verb ≡ Calendar → AllByRecursion (IsAccepted asked) es
+    → list_any (λ text. is_err (answer_to asked base text)) (map text_of es) ≡ false
+none_fails one asked base [] verb all = refl
+none_fails one asked base (e ∷ es) verb all =
+    rw (is_answered one asked base e verb all.0) (none_fails one asked base es verb all.1)
+
+-- what is reported of texts, where the base isn't refused
+pub report_of_texts : (asked : Asked) (read : Result (List ℕ) WholeFault) (base : ℤ) → asked.verb ≡ Calendar → base_in asked ≡ Ok base
+    → report asked read ≡ texts_report asked base
+unfolding report
+report_of_texts asked read base verb sought =
+    let plain : is_timer asked.verb ≡ false = ap is_timer verb in
+    rw (sought, plain) refl
+
+texts_report_is : HaveOneNormalForm → (asked : Asked) (base : ℤ) (es : List Expression) → asked.verb ≡ Calendar
+    → asked.texts ≡ map text_of es → AllByRecursion (IsAccepted asked) es
+    → AreReportsOf asked base es (texts_report asked base).out × IsFine (texts_report asked base)
+unfolding texts_report reports_text whole_status
+texts_report_is one asked base es verb texts all =
+    let answer = answer_to asked base in (
+      record {
+        reports = map (report_of asked base) es;
+        each = each_report asked base es;
+        layout = ap (reports_text answer) texts ∙ ap (join_by (λ report. report) (codes "\n")) (reports_are one asked base es verb all);
+      },
+      record {
+        err = ap (refusals_text answer) texts ∙ none_refused one asked base es verb all;
+        status = ap (whole_status answer) texts ∙ ap (λ b. if b then Refused else Fine) (none_fails one asked base es verb all);
+      },
+    )
+
+pub calendar_report_is : HaveOneNormalForm → (asked : Asked) (read : Result (List ℕ) WholeFault) (base : ℤ) (es : List Expression)
+    → asked.verb ≡ Calendar → base_in asked ≡ Ok base → asked.texts ≡ map (λ (e : Expression). e.text) es → AllByRecursion (IsAccepted asked) es
+    → AreReportsOf asked base es (report asked read).out × IsFine (report asked read)
+calendar_report_is one asked read base es verb sought texts all =
+    rw (report_of_texts asked read base verb sought) (texts_report_is one asked base es verb texts all)
+
+-- Timer files
+
+-- an assignment of an expression by the rule has no fault
+no_fault : HaveOneNormalForm → (before : List Assigned) (a : Assigned) (is : Bool) → is_expression a ≡ is
+    → (is_expression a ≡ true → (length (listed before) < most_expressions) × ((fields : Fields) × Spells a.value fields))
+    → fault_behind expr_in before a ≡ None
+unfolding fault_behind
+no_fault one before a false is h = rw is refl
+no_fault one before a true is h =
+    let spelled = h is in
+    let few : nat_le most_expressions (length (listed before)) ≡ false = grind (arith, spelled.0) in
+    rw (is, few, spelled_is_read one a.value spelled.1.0 spelled.1.1) refl
+
+all_fine : HaveOneNormalForm → (all : List Assigned) → AreSpelled all → AreFine expr_in all
+all_fine one all h before a after split = no_fault one before a (is_expression a) refl (h before a after split)
+
+-- the entry of an expression
+record IsEntryOf (asked : Asked) (entry : Entry Fields) (e : Expression) : Type 0 where
+  text : entry.text ≡ e.text
+  expr : entry.expr ≡ e.fields
+  zone : zone_for asked e.fields.zone ≡ Some e.tz
+
+entries_are : HaveOneNormalForm → (asked : Asked) (list : List Assigned) (es : List Expression)
+    → map (λ (a : Assigned). a.value) list ≡ map text_of es → AllByRecursion (IsAccepted asked) es
+    → AllZip (IsEntryOf asked) (filter_map (λ a. entry_of a (expr_in a.value)) list) es
+entries_are one asked [] [] same all = tt
+entries_are one asked [] (e ∷ es) same all = cc
+entries_are one asked (a ∷ list) [] same all = cc
+entries_are one asked (a ∷ list) (e ∷ es) same all =
+    let text : a.value ≡ e.text = cc in
+    let rest : map (λ (a : Assigned). a.value) list ≡ map text_of es = cc in
+    let read : expr_in a.value ≡ Ok e.fields = ap expr_in text ∙ spelled_is_read one e.text e.fields all.0.spelled in
+    rw read (
+      record { text = text; expr = refl; zone = zone_is_found asked e.fields.zone e.tz all.0.zone },
+      entries_are one asked list es rest all.1,
+    )
+
+none_lacks : (asked : Asked) (list : List (Entry Fields)) (es : List Expression) → AllZip (IsEntryOf asked) list es
+    → find (lacks_zone asked) list ≡ None
+none_lacks asked [] [] h = refl
+none_lacks asked [] (e ∷ es) h = absurd h
+none_lacks asked (entry ∷ list) [] h = absurd h
+none_lacks asked (entry ∷ list) (e ∷ es) h =
+    rw (h.0.expr, h.0.zone) (none_lacks asked list es h.1)
+
+meanings_are : (asked : Asked) (list : List (Entry Fields)) (es : List Expression) → AllZip (IsEntryOf asked) list es
+    → map (timed_in asked) list ≡ map meaning es
+unfolding timed_in
+meanings_are asked [] [] h = refl
+meanings_are asked [] (e ∷ es) h = absurd h
+meanings_are asked (entry ∷ list) [] h = absurd h
+meanings_are asked (entry ∷ list) (e ∷ es) h =
+    rw (h.0.expr, h.0.zone) (ap (λ (ts : List Timed). meaning e ∷ ts) (meanings_are asked list es h.1))
+
+headings_are : (asked : Asked) (list : List (Entry Fields)) (es : List Expression) → AllZip (IsEntryOf asked) list es
+    → headings_text list ≡ headings es
+unfolding headings_text
+headings_are asked [] [] h = refl
+headings_are asked [] (e ∷ es) h = absurd h
+headings_are asked (entry ∷ list) [] h = absurd h
+headings_are asked (entry ∷ list) (e ∷ es) h =
+    rw (h.0.text, h.0.expr) (ap (λ (t : List ℕ). heading_text e.text e.fields ++ t) (headings_are asked list es h.1))
+
+as_many : (asked : Asked) (list : List (Entry Fields)) (es : List Expression) → AllZip (IsEntryOf asked) list es → 0 < length es → 0 < length list
+as_many asked [] [] h some = some
+as_many asked [] (e ∷ es) h some = absurd h
+as_many asked (entry ∷ list) es h some = omega arith
+
+-- the entries of a file's list
+abbrev entries_in : List ℕ → List (Entry Fields)
+entries_in bytes = entries expr_in (assigned_in bytes)
+
+file_entries : HaveOneNormalForm → (asked : Asked) (bytes : List ℕ) (es : List Expression) → IsFileOf bytes es → AllByRecursion (IsAccepted asked) es
+    → AllZip (IsEntryOf asked) (entries_in bytes) es
+unfolding entries
+file_entries one asked bytes es file all = entries_are one asked (listed (assigned_in bytes)) es file.list all
+
+file_is_read : HaveOneNormalForm → (asked : Asked) (bytes : List ℕ) (es : List Expression) → IsFileOf bytes es → AllByRecursion (IsAccepted asked) es
+    → timer_in expr_in bytes ≡ Ok (entries_in bytes)
+unfolding timer_in timer_of
+file_is_read one asked bytes es file all =
+    let some = as_many asked (entries_in bytes) es (file_entries one asked bytes es file all) file.some in
+    rw file.utf8 (sym (only_judged expr_in (assigned_in bytes) (Ok (entries_in bytes)) (all_fine one (assigned_in bytes) file.spelled, refl, some)))
+
+-- what is reported of a file's bytes, where the base isn't refused
+report_of_file : (asked : Asked) (bytes : List ℕ) (base : ℤ) (text : List ℕ) → asked.verb ≡ Timer → base_in asked ≡ Ok base
+    → timer_answer asked base (file_name asked) (Ok bytes) ≡ Ok text → report asked (Ok bytes) ≡ record { out = text; err = []; status = Fine }
+unfolding report
+report_of_file asked bytes base text verb sought answered =
+    let timer : is_timer asked.verb ≡ true = ap is_timer verb in
+    rw (sought, timer, answered) refl
+
+file_is_answered : HaveOneNormalForm → (asked : Asked) (bytes name : List ℕ) (base : ℤ) (es : List Expression) → IsFileOf bytes es
+    → AllByRecursion (IsAccepted asked) es → timer_answer asked base name (Ok bytes) ≡ Ok (timer_report asked base (entries_in bytes))
+unfolding timer_answer
+file_is_answered one asked bytes name base es file all =
+    rw (file_is_read one asked bytes es file all, none_lacks asked (entries_in bytes) es (file_entries one asked bytes es file all)) refl
+
+timer_is_report : (asked : Asked) (base : ℤ) (list : List (Entry Fields)) (es : List Expression) → AllZip (IsEntryOf asked) list es
+    → IsReportOf asked base es (timer_report asked base list)
+unfolding timer_report
+timer_is_report asked base list es h = record {
+  elapses = elapses_after (map meaning es) base;
+  these = AreElapses-elapses_after (map meaning es) base;
+  layout = rw (headings_are asked list es h, meanings_are asked list es h) (ap (λ (t : List ℕ). headings es ++ t) (append-nil _));
+}
+
+pub timer_report_is : HaveOneNormalForm → (asked : Asked) (bytes : List ℕ) (base : ℤ) (es : List Expression)
+    → asked.verb ≡ Timer → base_in asked ≡ Ok base → IsFileOf bytes es → AllByRecursion (IsAccepted asked) es
+    → IsReportOf asked base es (report asked (Ok bytes)).out × IsFine (report asked (Ok bytes))
+timer_report_is one asked bytes base es verb sought file all =
+    rw (report_of_file asked bytes base _ verb sought (file_is_answered one asked bytes (file_name asked) base es file all))
+    (timer_is_report asked base (entries_in bytes) es (file_entries one asked bytes es file all), record { err = refl; status = refl })
+
+-- What a run has written that ended without a fault
+
+pub calendar_is_written : HaveOneNormalForm → (asked : Asked) (base : ℤ) (es : List Expression) (old new : Option (List ℕ)) (failed : Bool) (status : Status)
+    (out_old out_new err_old err_new : Option (List ℕ)) → asked.verb ≡ Calendar → base_in asked ≡ Ok base → asked.texts ≡ map (λ (e : Expression). e.text) es
+    → AllByRecursion (IsAccepted asked) es → ByReading asked old new failed (IsTold (Ok status) out_old out_new err_old err_new)
+    → (text : List ℕ) × AreReportsOf asked base es text × Appends out_old out_new text × Appends err_old err_new [] × (status ≡ Fine)
+calendar_is_written one asked base es old new failed status out_old out_new err_old err_new verb sought texts all run =
+    let printed = calendar_report_is one asked run.read base es verb sought texts all in
+    ((report asked run.read).out, printed.0, run.holds.out, subst (Appends err_old err_new) printed.1.err run.holds.err, run.holds.status ∙ printed.1.status)
+
+pub timer_is_written : HaveOneNormalForm → (asked : Asked) (base : ℤ) (bytes : List ℕ) (es : List Expression) (old new : Option (List ℕ)) (failed : Bool) (status : Status)
+    (out_old out_new err_old err_new : Option (List ℕ)) → asked.verb ≡ Timer → base_in asked ≡ Ok base → IsFileOf bytes es
+    → AllByRecursion (IsAccepted asked) es → (run : ByReading asked old new failed (IsTold (Ok status) out_old out_new err_old err_new)) → run.read ≡ Ok bytes
+    → (text : List ℕ) × IsReportOf asked base es text × Appends out_old out_new text × Appends err_old err_new [] × (status ≡ Fine)
+timer_is_written one asked base bytes es old new failed status out_old out_new err_old err_new verb sought file all run read =
+    let printed : IsReportOf asked base es (report asked run.read).out × IsFine (report asked run.read)
+    = subst (λ (r : Result (List ℕ) WholeFault). IsReportOf asked base es (report asked r).out × IsFine (report asked r)) (sym read) (timer_report_is one asked bytes base es verb sought file all) in
+    ((report asked run.read).out, printed.0, run.holds.out, subst (Appends err_old err_new) printed.1.err run.holds.err, run.holds.status ∙ printed.1.status)
+
+-- Only one
+
+pub one_elapses : (ts : List Timed) (base : ℤ) (xs ys : List ℤ) → AreElapses ts base xs → AreElapses ts base ys → xs ≡ ys
+one_elapses ts base xs ys h k = AreElapses-only ts base xs h ∙ sym (AreElapses-only ts base ys k)
+
+pub one_report : (asked : Asked) (base : ℤ) (es : List Expression) (a b : List ℕ) → IsReportOf asked base es a → IsReportOf asked base es b → a ≡ b
+one_report asked base es a b h k =
+    h.layout
+    ∙ (ap (λ (xs : List ℤ). headings es ++ elapses_text asked.local asked.now (take asked.iterations xs))
+    (one_elapses (map meaning es) base h.elapses k.elapses h.these k.these)
+    ∙ sym k.layout)
+
+same_reports : (asked : Asked) (base : ℤ) (es : List Expression) (rs bs : List (List ℕ))
+    → AllZip (λ e report. IsReportOf asked base (e ∷ []) report) es rs → AllZip (λ e report. IsReportOf asked base (e ∷ []) report) es bs → rs ≡ bs
+same_reports asked base [] [] [] h k = refl
+same_reports asked base [] [] (b ∷ bs) h k = absurd k
+same_reports asked base [] (a ∷ rs) bs h k = absurd h
+same_reports asked base (e ∷ es) [] bs h k = absurd h
+same_reports asked base (e ∷ es) (a ∷ rs) [] h k = absurd k
+same_reports asked base (e ∷ es) (a ∷ rs) (b ∷ bs) h k =
+    let here = one_report asked base (e ∷ []) a b h.0 k.0 in
+    let rest = same_reports asked base es rs bs h.1 k.1 in
+    cc
+
+pub one_text : (asked : Asked) (base : ℤ) (es : List Expression) (a b : List ℕ) → AreReportsOf asked base es a → AreReportsOf asked base es b → a ≡ b
+one_text asked base es a b h k =
+    h.layout ∙ (ap (join_by (λ report. report) (codes "\n")) (same_reports asked base es h.reports k.reports h.each k.each) ∙ sym k.layout)
+
+same_expression : (e f : Expression) → e.text ≡ f.text → e.fields ≡ f.fields → e.tz ≡ f.tz → e ≡ f
+same_expression e f text fields tz =
+    let same : ◌≡◌ {A = Expression} (record { text = e.text; fields = e.fields; tz = e.tz }) (record { text = f.text; fields = f.fields; tz = f.tz }) = cc in
+    same
+
+pub one_meaning : HaveOneNormalForm → (asked : Asked) (e f : Expression) → IsAccepted asked e → IsAccepted asked f → e.text ≡ f.text → e ≡ f
+one_meaning one asked e f h k text =
+    let here = spelled_is_read one e.text e.fields h.spelled in
+    let there = spelled_is_read one f.text f.fields k.spelled in
+    let read : ◌≡◌ {A = Result Fields SpecFault} (Ok e.fields) (Ok f.fields) = sym here ∙ (ap expr_in text ∙ there) in
+    let fields : e.fields ≡ f.fields = cc in
+    let zone : Some e.tz ≡ Some f.tz
+    = sym (zone_is_found asked e.fields.zone e.tz h.zone) ∙ (ap (λ (g : Fields). zone_for asked g.zone) fields ∙ zone_is_found asked f.fields.zone f.tz k.zone) in
+    same_expression e f text fields (cc)

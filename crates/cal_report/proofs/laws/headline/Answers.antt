@@ -1,0 +1,55 @@
+use Rattle.cal_report.proofs.HeadlineAccepted.{fine_file_is_accepted, fine_texts_are_accepted}
+use Rattle.cal_report.proofs.HeadlineElapses.{elapses_are_instants, fold_has_its_first, gap_has_no_place, goes_on, in_parts, is_alone, is_shown}
+use Rattle.cal_report.proofs.HeadlineLemmas.{calendar_is_written, calendar_report_is, one_elapses, one_meaning, one_report, one_text, timer_is_written, timer_report_is}
+use Rattle.cal_report.proofs.laws.headline.Goals as goal
+
+pub returns-clause-calendar : goal.returns-clause-calendar
+returns-clause-calendar c = calendar_report_is c.one_normal_form_of_fields.ensures.only
+
+pub returns-clause-timer : goal.returns-clause-timer
+returns-clause-timer c = timer_report_is c.one_normal_form_of_fields.ensures.only
+
+pub returns-clause-written : goal.returns-clause-written
+returns-clause-written c = calendar_is_written c.one_normal_form_of_fields.ensures.only
+
+pub returns-clause-written_file : goal.returns-clause-written_file
+returns-clause-written_file c = timer_is_written c.one_normal_form_of_fields.ensures.only
+
+pub returns-clause-accepted : goal.returns-clause-accepted
+returns-clause-accepted c = fine_texts_are_accepted c.one_normal_form_of_fields.ensures.some
+
+pub returns-clause-accepted_file : goal.returns-clause-accepted_file
+returns-clause-accepted_file c = fine_file_is_accepted c.one_normal_form_of_fields.ensures.only c.one_normal_form_of_fields.ensures.some
+
+pub returns-clause-one_meaning : goal.returns-clause-one_meaning
+returns-clause-one_meaning c = one_meaning c.one_normal_form_of_fields.ensures.only
+
+pub returns-clause-one_text : goal.returns-clause-one_text
+returns-clause-one_text c = one_text
+
+pub returns-clause-one_report : goal.returns-clause-one_report
+returns-clause-one_report c = one_report
+
+pub returns-clause-one_list : goal.returns-clause-one_list
+returns-clause-one_list c = one_elapses
+
+pub returns-clause-instants : goal.returns-clause-instants
+returns-clause-instants c = elapses_are_instants
+
+pub returns-clause-again : goal.returns-clause-again
+returns-clause-again c = goes_on
+
+pub returns-clause-in_parts : goal.returns-clause-in_parts
+returns-clause-in_parts c = in_parts
+
+pub returns-clause-shown : goal.returns-clause-shown
+returns-clause-shown c = is_shown
+
+pub returns-clause-alone : goal.returns-clause-alone
+returns-clause-alone c = is_alone
+
+pub returns-clause-gap : goal.returns-clause-gap
+returns-clause-gap c = gap_has_no_place
+
+pub returns-clause-fold : goal.returns-clause-fold
+returns-clause-fold c = fold_has_its_first

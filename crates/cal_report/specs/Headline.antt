@@ -1,0 +1,98 @@
+-- What is printed of accepted expressions and of an accepted timer file, with no function that computes elapses:
+-- systemd-analyze(1), calendar; systemd.time(7), Calendar Events; systemd.timer(5), OnCalendar=.
+use Rattle.std.specs.Prelude.{◌≡◌, ◌<◌, ◌++◌, ℕ, ℤ, true, false, List, [], ◌∷◌, Option, None, Some, map, take, length, codes}
+use Rattle.std.specs.List.{AllByRecursion, AllZip, flat_map, join_by}
+use Rattle.std.specs.Str.{is_utf8}
+use Rattle.jiff.specs.Types.{TimeZone}
+use Rattle.cal_zone.specs.Zone.{zone_of}
+use Rattle.cal_zone.specs.ZoneTable.{zone_named}
+use Rattle.cal_lines.specs.Lines.{logical_lines}
+use Rattle.cal_spec.specs.Fields.{Fields}
+use Rattle.cal_spec.specs.GrammarRule.{IsValid}
+use Rattle.cal_spec.specs.NormalForm.{IsNormalFieldsOf}
+use Rattle.cal_elapse.specs.Elapses.{AreElapses, Timed}
+use Rattle.cal_elapse.specs.Timed.{timed}
+use Rattle.cal_read.specs.Assignments.{Assigned, assignments_in}
+use Rattle.cal_read.specs.TimerText.{is_expression, listed, most_expressions, without_mark}
+use Rattle.cal_report.specs.CalendarReport.{heading_text}
+use Rattle.cal_report.specs.ElapseLines.{elapses_text}
+use Rattle.cal_report.specs.Report.{Report}
+use Rattle.cal_request.specs.Request.{Asked}
+use Rattle.cal_request.specs.declared.request.Status.TheVariants.{Fine}
+
+-- an expression that is asked for: its text, its fields in their normal form, and the zone in which it is meant
+pub record Expression : Type 0 where
+  pub text : List ℕ
+  pub fields : Fields
+  pub tz : TimeZone
+
+-- what it means: the local seconds that match, and their places on the zone's clock
+abbrev pub meaning : Expression → Timed
+meaning e = timed e.fields e.tz
+
+-- the zone is the one of that name in the table, or the local one where none is named
+abbrev pub IsZoneFor : Asked → Option (List ℕ) → TimeZone → Type 0
+IsZoneFor asked None tz = tz ≡ zone_of asked.local
+IsZoneFor asked (Some name) tz = zone_named asked.zones name ≡ Some tz
+
+-- the text is an expression by the grammar's rule, and the fields are the normal form of those that the rule gives it
+pub record Spells (text : List ℕ) (fields : Fields) : Type 0 where
+  pub raw : Fields
+  pub valid : IsValid text raw
+  pub normal : IsNormalFieldsOf raw fields
+
+-- the expression is accepted: its text spells its fields, and its zone is there
+pub record IsAccepted (asked : Asked) (e : Expression) : Type 0 where
+  pub spelled : Spells e.text e.fields
+  pub zone : IsZoneFor asked e.fields.zone e.tz
+
+-- the text and the normal form of each
+abbrev pub headings : List Expression → List ℕ
+headings = flat_map (λ e. heading_text e.text e.fields)
+
+-- The text is the report of these expressions: a heading for each, and then the first n, as many as are asked for, of
+-- the one rising list that has exactly the elapses of all of them above the base.
+pub record IsReportOf (asked : Asked) (base : ℤ) (es : List Expression) (text : List ℕ) : Type 0 where
+  pub elapses : List ℤ
+  pub these : AreElapses (map meaning es) base elapses
+  pub layout : text ≡ headings es ++ elapses_text asked.local asked.now (take asked.iterations elapses)
+
+-- the text is the report of each of these expressions alone, in their order, with an empty line between each two
+pub record AreReportsOf (asked : Asked) (base : ℤ) (es : List Expression) (text : List ℕ) : Type 0 where
+  pub reports : List (List ℕ)
+  pub each : AllZip (λ e report. IsReportOf asked base (e ∷ []) report) es reports
+  pub layout : text ≡ join_by (λ report. report) (codes "\n") reports
+
+-- the run says nothing on standard error, and its status is Fine
+pub record IsFine (report : Report) : Type 0 where
+  pub err : report.err ≡ []
+  pub status : report.status ≡ Fine
+
+-- the assignments of the section `Timer` of a file, in their order
+abbrev pub assigned_in : List ℕ → List Assigned
+assigned_in bytes = assignments_in false (logical_lines 1 (without_mark bytes))
+
+-- each assignment of an expression is one by the grammar's rule, and isn't one too many where it stands
+abbrev pub AreSpelled : List Assigned → Type 0
+AreSpelled all =
+    (before : List Assigned) (a : Assigned) (after : List Assigned) → all ≡ before ++ (a ∷ after) → is_expression a ≡ true
+    → (length (listed before) < most_expressions) × ((fields : Fields) × Spells a.value fields)
+
+-- the bytes are a text whose list has the texts of these expressions, of which there is one at least
+pub record IsFileOf (bytes : List ℕ) (es : List Expression) : Type 0 where
+  pub utf8 : is_utf8 bytes ≡ true
+  pub spelled : AreSpelled (assigned_in bytes)
+  pub list : map (λ (a : Assigned). a.value) (listed (assigned_in bytes)) ≡ map (λ (e : Expression). e.text) es
+  pub some : 0 < length es
+
+-- the texts are accepted, each as an expression
+pub record AreAccepted (asked : Asked) (texts : List (List ℕ)) : Type 0 where
+  pub expressions : List Expression
+  pub same : texts ≡ map (λ (e : Expression). e.text) expressions
+  pub each : AllByRecursion (IsAccepted asked) expressions
+
+-- the bytes are accepted, as the file of a list of expressions
+pub record IsAcceptedFile (asked : Asked) (bytes : List ℕ) : Type 0 where
+  pub expressions : List Expression
+  pub list : IsFileOf bytes expressions
+  pub each : AllByRecursion (IsAccepted asked) expressions

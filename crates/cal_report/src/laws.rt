@@ -1,0 +1,95 @@
+//! The headline of the program, as one law: a function that does nothing, and whose contract is the law.
+
+ghost use Rattle.std.specs.Prelude.{◌≡◌, ◌+◌, ◌++◌, ◌∷◌, [], ℕ, ℤ, pos, ◌<ℤ◌, ◌-ℤ◌, ◌<◌, Bool, List, Ok, None, Option, Some, Result, map, suc, take, drop, slice_get, true};
+ghost use Rattle.std.specs.Io.KnownBytes.{Appends};
+ghost use Rattle.std.specs.List.{AllByRecursion};
+ghost use Rattle.jiff.specs.Types.{Fold, Offset, TimeZone};
+ghost use Rattle.jiff.specs.Words.{ambiguous_at};
+ghost use Rattle.cal_bytes.specs.declared.whole.WholeFault.{WholeFault};
+ghost use Rattle.cal_zone.specs.Instant.{IsInstant};
+ghost use Rattle.cal_zone.specs.Place.{datetime_of, place_of};
+ghost use Rattle.cal_zone.specs.Zone.{local_of};
+ghost use Rattle.cal_spec.specs.Fields.{Fields};
+ghost use Rattle.cal_spec.specs.Match.{matches};
+ghost use Rattle.cal_spec.specs.Members.{sets_of};
+ghost use Rattle.cal_elapse.specs.Elapses.{AreElapses, IsPlace, Timed};
+ghost use Rattle.cal_elapse.specs.Timed.{timed};
+ghost use Rattle.cal_report.specs.ElapseLines.{AreInstants};
+ghost use Rattle.cal_report.specs.Headline.{AreAccepted, AreReportsOf, Expression, IsAccepted, IsAcceptedFile, IsFileOf, IsFine, IsReportOf, meaning};
+ghost use Rattle.cal_report.specs.Report.{ByReading, IsTold, base_in, report};
+ghost use Rattle.cal_request.specs.Request.{Asked};
+ghost use Rattle.cal_request.specs.declared.request.Status.{Status};
+ghost use Rattle.cal_request.specs.declared.request.Status.TheVariants.{Fine};
+ghost use Rattle.cal_request.specs.declared.request.Verb.TheVariants.{Calendar, Timer};
+
+use cal_spec::laws::one_normal_form_of_fields;
+
+/// For every list of accepted expressions, base instant and zones, the elapses printed are exactly the matching instants
+/// after the base through 2199, each once, rising: the first n where n are asked for, or all where there are fewer. A
+/// matching instant is the place of a local second that matches. Starting again at any of them gives exactly those
+/// after it.
+pub fn headline()
+    // The report of each text is its heading and the first of its elapses.
+    ensures calendar { (asked : Asked) (read : Result (List ℕ) WholeFault) (base : ℤ) (es : List Expression)
+        → asked.verb ≡ Calendar → base_in asked ≡ Ok base
+        → asked.texts ≡ map (λ (e : Expression). e.text) es → AllByRecursion (IsAccepted asked) es
+        → AreReportsOf asked base es (report asked read).out × IsFine (report asked read) }
+    // The report of a timer file is its headings and the first of the elapses of all of its expressions.
+    ensures timer { (asked : Asked) (bytes : List ℕ) (base : ℤ) (es : List Expression)
+        → asked.verb ≡ Timer → base_in asked ≡ Ok base → IsFileOf bytes es → AllByRecursion (IsAccepted asked) es
+        → IsReportOf asked base es (report asked (Ok bytes)).out × IsFine (report asked (Ok bytes)) }
+
+    // These are the bytes that a run adds which ended without a fault, so with memory and writers that took them all:
+    // the premise `ByReading` is what the contract of `run` says of it.
+    ensures written { (asked : Asked) (base : ℤ) (es : List Expression) (old new : Option (List ℕ)) (failed : Bool)
+        (status : Status) (out_old out_new err_old err_new : Option (List ℕ)) → asked.verb ≡ Calendar
+        → base_in asked ≡ Ok base → asked.texts ≡ map (λ (e : Expression). e.text) es → AllByRecursion (IsAccepted asked) es
+        → ByReading asked old new failed (IsTold (Ok status) out_old out_new err_old err_new)
+        → (text : List ℕ) × AreReportsOf asked base es text × Appends out_old out_new text
+        × Appends err_old err_new [] × (status ≡ Fine) }
+    ensures written_file { (asked : Asked) (base : ℤ) (bytes : List ℕ) (es : List Expression) (old new : Option (List ℕ))
+        (failed : Bool) (status : Status) (out_old out_new err_old err_new : Option (List ℕ)) → asked.verb ≡ Timer
+        → base_in asked ≡ Ok base → IsFileOf bytes es → AllByRecursion (IsAccepted asked) es
+        → (run : ByReading asked old new failed (IsTold (Ok status) out_old out_new err_old err_new)) → run.read ≡ Ok bytes
+        → (text : List ℕ) × IsReportOf asked base es text × Appends out_old out_new text
+        × Appends err_old err_new [] × (status ≡ Fine) }
+
+    // A run that ends well has accepted all of it.
+    ensures accepted { (asked : Asked) (read : Result (List ℕ) WholeFault) (base : ℤ) → asked.verb ≡ Calendar
+        → base_in asked ≡ Ok base → (report asked read).status ≡ Fine → AreAccepted asked asked.texts }
+    ensures accepted_file { (asked : Asked) (bytes : List ℕ) (base : ℤ) → asked.verb ≡ Timer
+        → base_in asked ≡ Ok base → (report asked (Ok bytes)).status ≡ Fine → IsAcceptedFile asked bytes }
+
+    // Nothing else could be printed.
+    ensures one_meaning { (asked : Asked) (e f : Expression) → IsAccepted asked e → IsAccepted asked f
+        → e.text ≡ f.text → e ≡ f }
+    ensures one_text { (asked : Asked) (base : ℤ) (es : List Expression) (a b : List ℕ)
+        → AreReportsOf asked base es a → AreReportsOf asked base es b → a ≡ b }
+    ensures one_report { (asked : Asked) (base : ℤ) (es : List Expression) (a b : List ℕ)
+        → IsReportOf asked base es a → IsReportOf asked base es b → a ≡ b }
+    ensures one_list { (ts : List Timed) (base : ℤ) (xs ys : List ℤ)
+        → AreElapses ts base xs → AreElapses ts base ys → xs ≡ ys }
+
+    // Each elapse is an instant, so that it can be a base. From there on the rest follows, and nothing else.
+    ensures instants { (asked : Asked) (base : ℤ) (es : List Expression) (xs : List ℤ) → IsInstant asked.now
+        → base_in asked ≡ Ok base → AreElapses (map meaning es) base xs → AreInstants xs }
+    ensures again { (ts : List Timed) (base e : ℤ) (xs : List ℤ) (k : ℕ) → AreElapses ts base xs
+        → slice_get xs k ≡ Some e → AreElapses ts e (drop (suc k) xs) }
+    ensures in_parts { (ts : List Timed) (base e : ℤ) (xs ys : List ℤ) (k m : ℕ) → AreElapses ts base xs
+        → slice_get xs k ≡ Some e → AreElapses ts e ys → take (suc k) xs ++ take m ys ≡ take (suc k + m) xs }
+
+    // At an elapse the zone's clock shows a local second that matches, and at no other elapse the same one.
+    ensures shown { (fields : Fields) (tz : TimeZone) (i : ℤ) → IsPlace (timed fields tz) i
+        → (local : ℕ) × (local < 7_258_118_400) × (matches (sets_of fields) local ≡ true)
+        × (local_of tz i ≡ pos local) }
+    ensures alone { (fields : Fields) (tz : TimeZone) (i j : ℤ) → IsPlace (timed fields tz) i
+        → IsPlace (timed fields tz) j → local_of tz i ≡ local_of tz j → i ≡ j }
+    // A local second that the clock never shows has no place. One that `jiff` finds shown twice has, if any, the first.
+    ensures gap { (tz : TimeZone) (local : ℤ) → ((second : ℤ) → local_of tz second ≡ local → ⊥)
+        → place_of tz local ≡ None }
+    ensures fold { (tz : TimeZone) (local i : ℤ) (before after : Offset)
+        → ambiguous_at tz (datetime_of local) ≡ Fold before after → place_of tz local ≡ Some i
+        → (i ≡ local -ℤ before.seconds) × (after.seconds <ℤ before.seconds → i <ℤ (local -ℤ after.seconds)) }
+{
+    one_normal_form_of_fields();
+}
