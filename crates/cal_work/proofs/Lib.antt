@@ -1,3 +1,4 @@
 pub mod LawLemmas
 pub mod TellLemmas
 pub mod WorkLemmas
+pub mod WorkedRows

@@ -6,3 +6,4 @@ pub mod System
 pub mod WorkLaw
 pub mod WorkSteps
 pub mod Works
+pub mod WorkedSystem

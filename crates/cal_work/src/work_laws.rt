@@ -2,9 +2,11 @@
 
 ghost use Rattle.std.specs.Prelude.{◌≡◌, true, List, ℕ};
 ghost use Rattle.cal_command.specs.CommandLine.{asked_in, takes_words};
+ghost use Rattle.cal_command.specs.WorkedWords.{daily_words};
 ghost use Rattle.cal_work.specs.Outcome.{World, outcome};
 ghost use Rattle.cal_work.specs.System.{Told};
 ghost use Rattle.cal_work.specs.WorkLaw.{IsOr, TellsAll, told_outcome};
+ghost use Rattle.cal_work.specs.WorkedSystem.{bare_system, daily_world};
 ghost use Rattle.cal_work.specs.Works.{FitsWords};
 
 /// Where the system tells all of its files and its clock, no read fails and `clap` takes the words, the outcome in any
@@ -13,4 +15,12 @@ ghost use Rattle.cal_work.specs.Works.{FitsWords};
 pub fn told_systems_decide()
     ensures { (told : Told) (words : List (List ℕ)) (world : World) → TellsAll told → takes_words words ≡ true
         → FitsWords told words world → IsOr (outcome world) (told_outcome told (asked_in words) world) }
+{}
+
+/// What that law asks for can be: by a system without files whose clock gives 0, by the words `calendar daily`, and by
+/// a world that fits these.
+pub fn bare_systems_decide()
+    ensures all { TellsAll bare_system }
+    ensures taken { takes_words daily_words ≡ true }
+    ensures fits { FitsWords bare_system daily_words daily_world }
 {}
