@@ -9,21 +9,21 @@ use std::io::{BufWriter, Write};
 
 /// A [`Sink`] that may hold bytes back until it is settled.
 ///
-/// A contract sees the bytes that stand behind it, where the type tells them; what it holds back isn't among them.
+/// A contract sees the bytes that have gone through it, where the type tells them; what it holds back isn't among them.
 pub trait Output: Sink {
-    /// The bytes behind it, or `None` where the type doesn't tell them.
-    ghost behind: { Self → Option (List ℕ) } = { λ _. None };
+    /// The bytes that have gone through it, or `None` where the type doesn't tell them.
+    ghost reached: { Self → Option (List ℕ) } = { λ _. None };
 
     /// Writes out what is held back, and answers whether no call has failed, this one among them. Then all bytes
-    /// written so far stand behind it, and else the front of them.
+    /// written so far have gone through it, and else the front of them.
     fn settle(&mut self) -> bool
         ensures answer { result ≡ not (Self.is_failed self.new) }
         ensures failed { Self.is_failed self.old ≡ true → Self.is_failed self.new ≡ true }
-        ensures bytes { Settles (Self.written self.old) (behind self.new) result };
+        ensures bytes { Settles (Self.written self.old) (reached self.new) result };
 }
 
 impl<W: Write + Drop> Output for Port<BufWriter<W>> {
-    ghost behind = { λ port. W.contents (writer_inner port.inner) };
+    ghost reached = { λ port. W.contents (writer_inner port.inner) };
 
     fn settle(&mut self) -> bool {
         let Ok(()) = self.inner.flush() else {

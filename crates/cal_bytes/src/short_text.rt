@@ -1,4 +1,4 @@
-//! Short texts on the stack: a layout is formed whole, piece behind piece, so that it is written in one call.
+//! Short texts on the stack: a layout is formed whole, piece after piece, so that it is written in one call.
 
 ghost use Rattle.std.specs.Prelude.{◌≡◌, ◌+◌, ◌-◌, ◌≤◌, ◌++◌, length, replicate};
 ghost use Rattle.std.specs.List.{flat_map};

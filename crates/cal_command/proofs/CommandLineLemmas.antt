@@ -8,7 +8,7 @@ use Rattle.clap.specs.declared.error.kind.ErrorKind.TheVariants.{OutOfMemory}
 use Rattle.clap.proofs.OnLiterals.{clap_on_literals}
 use Rattle.cal_command.specs.Ask.{CommandSaid, usage, help, bad_iterations, bad_now, bad_zones, bad_local, no_memory, Wanted}
 use Rattle.cal_command.specs.GivenView.{IsReadAs}
-use Rattle.cal_command.specs.CommandLine.{Given, parsed_in, read_options, IsAskOf, IsFaultOf, IsToldOf, asked_in, command_app, faults_in, is_of_help, takes_words, with_rules}
+use Rattle.cal_command.specs.CommandLine.{Given, parsed_in, read_options, IsAskOf, IsFaultOf, IsReportedOf, asked_in, command_app, faults_in, is_of_help, takes_words, with_rules}
 
 pub with_three : (app : App) (a b d : Rule) → with_rule (with_rule (with_rule app a) b) d ≡ with_rules app (a ∷ b ∷ d ∷ [])
 with_three app a b d = ap (λ rules. record app { top = record app.top { rules = rules } })
@@ -49,17 +49,17 @@ refused_by p kind kinds (inl memory) other holds = absurd (other memory)
 refused_by p kind kinds (inr at) other holds = among p kind kinds at holds
 
 -- what is told of a fault of `clap` is its fault
-pub told_fault : (words : List Text) (kind : ErrorKind) (said : CommandSaid) → (takes_words words ≡ true → kind ≡ OutOfMemory)
-    → (kind ≡ OutOfMemory) ⊎ IsAmong kind (faults_in words) → IsToldOf kind said → IsFaultOf words said
-told_fault words kind (usage text) passes kinds told =
-    (not_taken (takes_words words) kind passes told.1, refused_by (λ k. not (is_of_help k)) kind (faults_in words) kinds told.1 (ap not told.0))
-told_fault words kind (help text) passes kinds told =
-    (not_taken (takes_words words) kind passes told.1, refused_by is_of_help kind (faults_in words) kinds told.1 told.0)
-told_fault words kind no_memory passes kinds told = tt
-told_fault words kind bad_iterations passes kinds told = absurd told
-told_fault words kind bad_now passes kinds told = absurd told
-told_fault words kind bad_zones passes kinds told = absurd told
-told_fault words kind bad_local passes kinds told = absurd told
+pub reported_fault : (words : List Text) (kind : ErrorKind) (said : CommandSaid) → (takes_words words ≡ true → kind ≡ OutOfMemory)
+    → (kind ≡ OutOfMemory) ⊎ IsAmong kind (faults_in words) → IsReportedOf kind said → IsFaultOf words said
+reported_fault words kind (usage text) passes kinds reported =
+    (not_taken (takes_words words) kind passes reported.1, refused_by (λ k. not (is_of_help k)) kind (faults_in words) kinds reported.1 (ap not reported.0))
+reported_fault words kind (help text) passes kinds reported =
+    (not_taken (takes_words words) kind passes reported.1, refused_by is_of_help kind (faults_in words) kinds reported.1 reported.0)
+reported_fault words kind no_memory passes kinds reported = tt
+reported_fault words kind bad_iterations passes kinds reported = absurd reported
+reported_fault words kind bad_now passes kinds reported = absurd reported
+reported_fault words kind bad_zones passes kinds reported = absurd reported
+reported_fault words kind bad_local passes kinds reported = absurd reported
 
 pub map-first : {B X Y : Type 0} (f : B → X) (g : B → Y) (o : Option B)
     → option_map f o ≡ option_map (λ (p : X × Y). p.0) (option_map (λ b. (f b, g b)) o)

@@ -12,7 +12,7 @@ use Rattle.std.proofs.lemmas.Bool.Decides.{nat_tests}
 use Rattle.std.proofs.lemmas.Str.Parse.{IsNumeralModel, numerals_by_value, tells_all_ascii_digits, parse_plain}
 use Rattle.cal_zone.specs.Instant.{IsInstant}
 use Rattle.cal_zone.specs.declared.instant.Instant.{Instant}
-use Rattle.cal_command.specs.OptionValues.{clock_in, number_in, offset_in, present_in, is_comma, parts_at, zone_item_in, zone_items_in, zones_in}
+use Rattle.cal_command.specs.OptionValues.{clock_in, number_between, offset_in, present_in, is_comma, parts_at, zone_item_in, zone_items_in, zones_in}
 use Rattle.cal_command.specs.Ask.{ZoneSaid, zone_said}
 use Rattle.cal_command.specs.declared.ask.ZoneItem.{ZoneItem}
 use Rattle.std.proofs.lemmas.List.{map-append}
@@ -37,9 +37,9 @@ no_plus [] at = absurd (omega arith)
 no_plus (c ∷ cs) at = rw at refl
 
 -- a sign is no digit
-pub number_in-plus : (least most : ℕ) (text : List ℕ) → get_or text 0 0 ≡ 43 → number_in least most text ≡ None
-unfolding number_in
-number_in-plus least most text at = guard-second _ _ _ _ _ (no_plus text at)
+pub number_between-plus : (least most : ℕ) (text : List ℕ) → get_or text 0 0 ≡ 43 → number_between least most text ≡ None
+unfolding number_between
+number_between-plus least most text at = guard-second _ _ _ _ _ (no_plus text at)
 
 -- a number that was read, if it is in range
 abbrev pub within : {E : Type 0} → ℕ → ℕ → Result ℕ E → Option ℕ
@@ -47,13 +47,13 @@ within least most (Ok n) = cond (nat_le least n && nat_le n most) (Some n) None
 within least most (Err e) = None
 
 -- the number that `parse` read, if it is in range
-pub number_in-parsed : (E : Type 0) (least most : ℕ) (text : List ℕ) (r : Result ℕ E) → ParsesUnsigned 64 10 text r → get_or text 0 0 ≢ 43
-    → most < 2 ^ 64 → number_in least most text ≡ within least most r
-unfolding number_in
-number_in-parsed E least most text (Ok n) read unsigned small =
+pub number_between-parsed : (E : Type 0) (least most : ℕ) (text : List ℕ) (r : Result ℕ E) → ParsesUnsigned 64 10 text r → get_or text 0 0 ≢ 43
+    → most < 2 ^ 64 → number_between least most text ≡ within least most r
+unfolding number_between
+number_between-parsed E least most text (Ok n) read unsigned small =
     let h = parse_plain own {E = E} 64 text (Ok n) read unsigned in
     rw (lt-ltb 0 (length text) h.0.1, h.0.0, ← h.1) refl
-number_in-parsed E least most text (Err e) refused unsigned small =
+number_between-parsed E least most text (Err e) refused unsigned small =
     let h = parse_plain own {E = E} 64 text (Err e) refused unsigned in
     guard-none _ _ (λ holds.
     let upper = and_parts _ _ holds in
@@ -63,15 +63,15 @@ number_in-parsed E least most text (Err e) refused unsigned small =
     h (digits.1, ltb-true _ _ digits.0, omega arith))
 
 -- a number in range is in range
-pub number_in-range : (least most n : ℕ) (text : List ℕ) → Some n ≡ number_in least most text → (least ≤ n) × (n ≤ most)
-unfolding number_in
-number_in-range least most n text is =
+pub number_between-range : (least most n : ℕ) (text : List ℕ) → Some n ≡ number_between least most text → (least ≤ n) × (n ≤ most)
+unfolding number_between
+number_between-range least most n text is =
     let h = guard-some _ _ _ is in
     let upper = and_parts _ _ h.0 in
     let lower = and_parts _ _ upper.0 in
     rw h.1 (leb-true _ _ lower.1, leb-true _ _ upper.1)
 
-present_at : (b : ℕ) (bs : List ℕ) (t : Bool) → t ≡ (b == 64) → ((rest : List ℕ) → b ∷ bs ≢ 64 ∷ rest) → cond t (option_map pos (number_in 0 7_258_211_998 bs)) None ≡ None
+present_at : (b : ℕ) (bs : List ℕ) (t : Bool) → t ≡ (b == 64) → ((rest : List ℕ) → b ∷ bs ≢ 64 ∷ rest) → cond t (option_map pos (number_between 0 7_258_211_998 bs)) None ≡ None
 present_at b bs true is h = absurd (grind (arith, nat_tests, h bs))
 present_at b bs false is h = refl
 
@@ -80,7 +80,7 @@ unfolding present_in
 present_in-none [] h = refl
 present_in-none (b ∷ bs) h = present_at b bs _ refl h
 
-pub present_in-some : (text rest : List ℕ) → text ≡ 64 ∷ rest → present_in text ≡ option_map pos (number_in 0 7_258_211_998 rest)
+pub present_in-some : (text rest : List ℕ) → text ≡ 64 ∷ rest → present_in text ≡ option_map pos (number_between 0 7_258_211_998 rest)
 unfolding present_in
 present_in-some text rest at = rw at refl
 
@@ -117,7 +117,7 @@ parts_at-split c text (Some x) h small =
     let cut = split_once_first c text (Some x) h small in
     rw (any_below (λ byte. byte == c) text cut.0, cut.1, cut.2) refl
 
--- an item, and what stands behind its comma
+-- an item, and what stands after its comma
 pub item_some : (text : List ℕ) (x : Bor (List ℕ) × Bor (List ℕ)) → IsSplitOnceResult 44 text (Some x)
     → slice_split is_comma text ≡ x.0.now ∷ slice_split is_comma x.1.now
 item_some text x h =

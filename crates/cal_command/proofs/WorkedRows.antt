@@ -3,7 +3,7 @@ use Rattle.std.proofs.Common.{◌≡◌, ℕ, true, List, [], ◌∷◌, Some, O
 use Rattle.clap.proofs.OnLiterals.{clap_on_literals}
 use Rattle.cal_command.specs.Ask.{bad_iterations, help, usage}
 use Rattle.cal_command.specs.CommandLine.{IsAskOf, asked_in, faults_in, given_in, parsed_in, read_options, takes_words}
-use Rattle.cal_command.specs.OptionValues.{count_in, local_in, number_in, present_in, zone_item_in, zone_items_in, zones_in}
+use Rattle.cal_command.specs.OptionValues.{count_in, local_in, number_between, present_in, zone_item_in, zone_items_in, zones_in}
 use Rattle.cal_zone.specs.ZoneName.{is_zone_name}
 use Rattle.cal_command.specs.WorkedWords.{daily_given, daily_wanted, daily_words, help_words, none_words, options_wanted, options_words, stray_words}
 
@@ -24,11 +24,11 @@ unfolding takes_words clap_on_literals
 options_taken = refl
 
 pub options_asked : IsAskOf options_words (Ok options_wanted)
-unfolding faults_in asked_in parsed_in given_in read_options count_in number_in present_in zones_in zone_items_in zone_item_in local_in is_zone_name clap_on_literals
+unfolding faults_in asked_in parsed_in given_in read_options count_in number_between present_in zones_in zone_items_in zone_item_in local_in is_zone_name clap_on_literals
 options_asked = (refl, refl)
 
 pub none_asked : IsAskOf none_words (Err bad_iterations)
-unfolding faults_in asked_in parsed_in given_in read_options count_in number_in clap_on_literals
+unfolding faults_in asked_in parsed_in given_in read_options count_in number_between clap_on_literals
 none_asked = (refl, refl)
 
 pub help_asked : (text : List ℕ) → IsAskOf help_words (Err (help text))

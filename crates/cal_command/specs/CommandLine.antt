@@ -167,11 +167,11 @@ IsAskOf words (Ok wanted) = HasRead words (Ok wanted)
 IsAskOf words (Err fault) = IsFaultOf words fault
 
 -- the fault that is told of what `clap` answers in place of matches, by the kind of its answer
-abbrev pub IsToldOf : ErrorKind → CommandSaid → Type 0
-IsToldOf kind (usage text) = (is_of_help kind ≡ false) × (kind ≢ OutOfMemory)
-IsToldOf kind (help text) = (is_of_help kind ≡ true) × (kind ≢ OutOfMemory)
-IsToldOf kind no_memory = ⊤
-IsToldOf kind _ = ⊥
+abbrev pub IsReportedOf : ErrorKind → CommandSaid → Type 0
+IsReportedOf kind (usage text) = (is_of_help kind ≡ false) × (kind ≢ OutOfMemory)
+IsReportedOf kind (help text) = (is_of_help kind ≡ true) × (kind ≢ OutOfMemory)
+IsReportedOf kind no_memory = ⊤
+IsReportedOf kind _ = ⊥
 
 -- the command with these arguments more
 abbrev pub with_rules : App → List Rule → App

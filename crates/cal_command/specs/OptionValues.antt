@@ -11,20 +11,20 @@ use Rattle.cal_command.specs.declared.option_values.TheConstants.{MOST_ZONES}
 use Rattle.cal_request.specs.declared.request.TheConstants.{MOST_ITERATIONS}
 
 -- the number that a text of digits alone writes, where it is from least to most
-unfoldable pub number_in : ℕ → ℕ → List ℕ → Option ℕ
-number_in least most text =
+unfoldable pub number_between : ℕ → ℕ → List ℕ → Option ℕ
+number_between least most text =
     let number = digits_value 10 text in
     if nat_lt 0 (length text) && all_ascii_digits text && nat_le least number && nat_le number most
     then Some number else None
 
 -- `--iterations`: a number of elapses
 unfoldable pub count_in : List ℕ → Option ℕ
-count_in = number_in 1 MOST_ITERATIONS
+count_in = number_between 1 MOST_ITERATIONS
 
 -- `--now`: an instant, as `@` and its seconds
 unfoldable pub present_in : List ℕ → Option ℤ
 present_in [] = None
-present_in (byte ∷ bytes) = if byte == 64 then option_map pos (number_in 0 (unsigned_abs LAST) bytes) else None
+present_in (byte ∷ bytes) = if byte == 64 then option_map pos (number_between 0 (unsigned_abs LAST) bytes) else None
 
 abbrev pub is_equals : ℕ → Bool
 is_equals byte = byte == 61
@@ -35,7 +35,7 @@ is_comma byte = byte == 44
 abbrev pub is_colon : ℕ → Bool
 is_colon byte = byte == 58
 
--- what stands before and behind the first separator, where there is one
+-- what stands before and after the first separator, where there is one
 abbrev pub parts_at : (ℕ → Bool) → List ℕ → Option (List ℕ × List ℕ)
 parts_at is_separator text =
     if list_any is_separator text then Some (before_first is_separator text, after_first is_separator text) else None
@@ -62,7 +62,7 @@ zones_in text =
 
 -- two digits of a number up to most
 unfoldable pub two_digits_in : ℕ → List ℕ → Option ℕ
-two_digits_in most text = if length text == 2 then number_in 0 most text else None
+two_digits_in most text = if length text == 2 then number_between 0 most text else None
 
 -- the seconds of `hh:mm`
 unfoldable pub clock_in : List ℕ → Option ℕ

@@ -5,7 +5,7 @@ ghost use Rattle.std.specs.Option.{option_copied};
 ghost use Rattle.clap.specs.Words.{app_of, found_of, kind_of, rows_of, rule_of, shape_of, subcommand_rows_of};
 ghost use Rattle.clap.specs.declared.builder.command.Command.TheViews.{out-Command as fields_of};
 ghost use Rattle.cal_command.specs.Ask.{ask_said, fault_said, texts_of};
-ghost use Rattle.cal_command.specs.CommandLine.{IsAskOf, IsFaultOf, IsToldOf, command_app, elapse_rules, faults_in, file_rule, given_by, given_in, is_of_help, option_rule, parsed_in, read_options, texts_given, texts_kept, texts_rule, value_given, verb_named, verb_shape, with_rules, zone_rules};
+ghost use Rattle.cal_command.specs.CommandLine.{IsAskOf, IsFaultOf, IsReportedOf, command_app, elapse_rules, faults_in, file_rule, given_by, given_in, is_of_help, option_rule, parsed_in, read_options, texts_given, texts_kept, texts_rule, value_given, verb_named, verb_shape, with_rules, zone_rules};
 ghost use Rattle.cal_command.specs.GivenView.{IsReadAs, values_of};
 ghost use Rattle.cal_request.specs.Request.{is_timer, seeks_elapses};
 
@@ -19,7 +19,7 @@ use std::alloc::{AllocError, Global};
 
 impl Ask {
     /// What the words after the program's name ask for (systemd-analyze(1)): a verb, its options and its texts in any
-    /// order, where words behind a `--` are texts.
+    /// order, where words after a `--` are texts.
     ///
     /// - `calendar TEXT..` and `timer FILE` have `--iterations`, `--base-time`, `--now`, `--zones` and `--local`,
     ///   `timestamp TEXT..` has the last three, and `timespan TEXT..` none.
@@ -170,13 +170,13 @@ fn parse<'a>(alloc: Global, words: &'a [&'a str]) -> Result<ArgMatches<'a>, Comm
 {
     match command(alloc)?.try_get_matches_from(words) {
         Ok(matches) => Ok(matches),
-        Err(error) => Err(told(alloc, &error)),
+        Err(error) => Err(reported(alloc, &error)),
     }
 }
 
 /// What is told where `clap` gives no matches.
-fn told(alloc: Global, error: &Error) -> CommandFault
-    ensures { IsToldOf (kind_of error.now) (fault_said result) }
+fn reported(alloc: Global, error: &Error) -> CommandFault
+    ensures { IsReportedOf (kind_of error.now) (fault_said result) }
 {
     if error.kind() == ErrorKind::OutOfMemory {
         return CommandFault::NoMemory;
@@ -353,10 +353,10 @@ const STATUSES: &str =
     "Exit status:{n}  0  all was done{n}  1  a text, a file or a write was refused{n}  2  the command line, a zone or the clock was refused{n}{n}'calendar-analyze VERB --help' says more of a verb.";
 
 const CALENDAR_EXAMPLE: &str =
-    "A TEXT that begins with '-' stands behind '--'.{n}{n}Example:{n}  calendar-analyze calendar --iterations=3 'Mon..Fri 09:00'";
+    "A TEXT that begins with '-' goes after '--'.{n}{n}Example:{n}  calendar-analyze calendar --iterations=3 'Mon..Fri 09:00'";
 
 const TIMESTAMP_EXAMPLE: &str =
-    "A TEXT that begins with '-' stands behind '--'.{n}{n}Example:{n}  calendar-analyze timestamp --local=+01:00 'today' '@1395716396' -- -5min";
+    "A TEXT that begins with '-' goes after '--'.{n}{n}Example:{n}  calendar-analyze timestamp --local=+01:00 'today' '@1395716396' -- -5min";
 
 const TIMESPAN_EXAMPLE: &str = "Example:{n}  calendar-analyze timespan '1h 30min' 300s";
 

@@ -4,10 +4,10 @@ ghost use Rattle.std.specs.Prelude.{◌≡◌, ◌≤◌, ◌<◌, ◌==◌, ◌
 ghost use Rattle.std.specs.List.{slice_split};
 ghost use Rattle.std.specs.Option.{option_copied, option_map_or};
 ghost use Rattle.jiff.specs.Words.{IsOffsetSeconds};
-ghost use Rattle.cal_spec.specs.Pieces.{left, pieces_behind};
+ghost use Rattle.cal_spec.specs.Pieces.{left, pieces_after};
 ghost use Rattle.cal_command.specs.Ask.{in_utc, local_said, texts_of, zone_said};
 ghost use Rattle.cal_command.specs.LocalZone.{IsLocalOffset};
-ghost use Rattle.cal_command.specs.OptionValues.{clock_in, count_in, is_comma, local_in, number_in, offset_in, parts_at, present_in, two_digits_in, zone_item_in, zones_in};
+ghost use Rattle.cal_command.specs.OptionValues.{clock_in, count_in, is_comma, local_in, number_between, offset_in, parts_at, present_in, two_digits_in, zone_item_in, zones_in};
 ghost use Rattle.cal_request.specs.Request.{IsCount};
 
 use crate::ask::{LocalZone, ZoneItem};
@@ -82,7 +82,7 @@ pub(crate) fn count_in(value: &str) -> Option<u32>
     ensures value { result ≡ count_in value.now }
     ensures range { IfSome result IsCount }
 {
-    let number = number_in(value, 1, MOST_ITERATIONS as u64)?;
+    let number = number_between(value, 1, MOST_ITERATIONS as u64)?;
     Some(number as u32)
 }
 
@@ -90,13 +90,13 @@ pub(crate) fn count_in(value: &str) -> Option<u32>
 pub(crate) fn present_in(value: &str) -> Option<Instant>
     ensures { option_map (λ instant. instant.secs) result ≡ present_in value.now }
 {
-    let number = number_in(value.strip_prefix('@')?, 0, Instant::LAST as u64)?;
+    let number = number_between(value.strip_prefix('@')?, 0, Instant::LAST as u64)?;
     Instant::new(number as i64)
 }
 
 /// The number that a text of digits alone writes, where it is from `least` to `most`.
-fn number_in(text: &str, least: u64, most: u64) -> Option<u64>
-    ensures { result ≡ number_in least most text.now }
+fn number_between(text: &str, least: u64, most: u64) -> Option<u64>
+    ensures { result ≡ number_between least most text.now }
 {
     if text.starts_with('+') {
         return None;
@@ -114,7 +114,7 @@ fn zones_in(alloc: Global, text: &str) -> Result<Option<Vec<ZoneItem>>, AllocErr
     let mut items = Vec::new(alloc);
     let mut rest = Some(text);
     while let Some(texts) = rest {
-        let (first, behind) = first_item(texts);
+        let (first, after) = first_item(texts);
         let Some((name, path)) = zone_item_in(first) else {
             return Ok(None);
         };
@@ -122,18 +122,18 @@ fn zones_in(alloc: Global, text: &str) -> Result<Option<Vec<ZoneItem>>, AllocErr
             return Ok(None);
         }
         items.push(zone_item(alloc, name, path)?)?;
-        rest = behind;
+        rest = after;
     }
     Ok(Some(items))
 }
 
-/// The item before the first comma, and what stands behind it.
+/// The item before the first comma, and what stands after it.
 fn first_item(text: &str) -> (&str, Option<&str>)
-    ensures items { slice_split is_comma text.now ≡ result.0.now ∷ pieces_behind is_comma (option_copied result.1) }
+    ensures items { slice_split is_comma text.now ≡ result.0.now ∷ pieces_after is_comma (option_copied result.1) }
     ensures shorter { left (option_copied result.1) ≤ length text.now }
 {
     match text.split_once(',') {
-        Some((first, behind)) => (first, Some(behind)),
+        Some((first, after)) => (first, Some(after)),
         None => (text, None),
     }
 }
@@ -161,7 +161,7 @@ fn zone_item(alloc: Global, name: &str, path: &str) -> Result<ZoneItem, AllocErr
     })
 }
 
-/// What stands before and behind the first separator, where there is one.
+/// What stands before and after the first separator, where there is one.
 fn parts_at(text: &str, separator: char) -> Option<(&str, &str)>
     requires { separator < 128 }
     ensures { option_map (λ parts. (parts.0.now, parts.1.now)) result ≡ parts_at (λ byte. byte == separator) text.now }
@@ -222,7 +222,7 @@ fn two_digits_in(text: &str, most: u32) -> Option<u32>
     if text.len() != 2 {
         return None;
     }
-    let number = number_in(text, 0, most as u64)?;
+    let number = number_between(text, 0, most as u64)?;
     Some(number as u32)
 }
 

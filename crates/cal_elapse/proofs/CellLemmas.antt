@@ -119,7 +119,7 @@ found_later words from later bit cell long inside none first there found is =
 pub found_nowhere : (words : List ℕ) (from : ℕ) → length words ≡ 2_925 → from < 187_200 → length (drop (from / 64 + 1) words) ≡ 2_925 - (from / 64 + 1)
     → IsFirstPassing (is_bit (get_or words (from / 64) 0)) (from % 64) 64 None → position is_set (drop (from / 64 + 1) words) ≡ None
     → IsFirstPassing (is_in_words words) from 187_200 None
-found_nowhere words from long inside behind none all = λ t above below.
+found_nowhere words from long inside after none all = λ t above below.
     none_before words from (2_925 - (from / 64 + 1)) t none (λ j lt. position-all (drop (from / 64 + 1) words) all j (omega arith)) above (omega arith)
 
 -- From cells to the seconds of a round

@@ -70,7 +70,7 @@ days_are m n first length lowest ones k within begins long place member small al
     (day ∙ (rw (number, ← weekday)
     (sym (in_order (is_bit m.days ((if m.from_end then 31 - length_of n else 0) + k)) (is_bit m.weekdays ((first_day n + 3) % 7 + k)) _ _ member))))))
 
--- and none behind its last day
+-- and none after its last day
 pub days_end : (bits ones length k : ℕ) → ((i : ℕ) → is_bit ones i ≡ nat_lt i length) → is_bit (bit_and bits ones) k ≡ true → k < length
 days_end bits ones length k all holds =
     elim (cases_lt k length) [

@@ -115,7 +115,7 @@ looks_most sets n from (Some day) found =
     let most = count_from-most (month_in sets) n (suc m - n) in
     omega arith
 
--- behind the last month there is none
+-- after the last month there is none
 pub looks_end : (sets : Sets) → looks_from sets (month_of (civil_date 84_006)) None ≡ 0
 unfolding count_from
 looks_end sets =

@@ -195,12 +195,12 @@ days_are mask from_end holds filled within v =
   where
     at_place : (turned : Bool) → 1 ≤ v → v ≤ 31 → ((i : ℕ) → is_bit mask i ≡ (nat_lt i 31 && holds (if turned then 31 - i else i + 1)))
         → is_bit mask (day_place turned v) ≡ holds v
-    at_place true low high told =
+    at_place true low high known =
         let below = less (31 - v) 31 (omega arith) in
-        told (31 - v) ∙ rw below (ap holds (omega arith))
-    at_place false low high told =
+        known (31 - v) ∙ rw below (ap holds (omega arith))
+    at_place false low high known =
         let below = less (v - 1) 31 (omega arith) in
-        told (v - 1) ∙ rw below (ap holds (omega arith))
+        known (v - 1) ∙ rw below (ap holds (omega arith))
 
 -- the first week of six
 pub weekdays_are : (mask : ℕ) (days : List Bool) → length days ≡ 7 → ((i : ℕ) → is_bit mask i ≡ (nat_lt i 42 && get_or days (i % 7) false))

@@ -15,7 +15,7 @@ use Rattle.cal_elapse.specs.Masks.{sets_in}
 use Rattle.cal_elapse.specs.Rest.{rest_of}
 use Rattle.cal_rising.specs.RisingList.{Has}
 use Rattle.cal_elapse.specs.Search.{IsFirstPassing, NonePasses}
-use Rattle.cal_elapse.specs.Window.{IsMatchAhead, IsReady, Windowed, bound_of, count_from, start_of, timed_by, timed_in, with_place}
+use Rattle.cal_elapse.specs.Window.{IsMatchAhead, IsReady, Windowed, bound_of, count_from, start_of, timed_by, timed_of, with_place}
 use Rattle.cal_elapse.specs.declared.masks.Masks.{Masks}
 use Rattle.cal_elapse.specs.declared.searcher.Searcher.{Searcher}
 use Rattle.cal_elapse.specs.declared.window.Window.{Window}
@@ -40,11 +40,11 @@ is_next masks zone from found h first = next_by (timed_by masks zone) from found
 
 -- the same masks after a search
 pub ready_after : (v : Window) (searcher : Searcher) (ahead : Option ℕ) (pending : List ℤ) → searcher.masks ≡ v.searcher.masks → pos 0 ≤ℤ v.base → v.base ≤ℤ v.last
-    → Windowed (timed_in v) (start_of v.base) (bound_of ahead) v.last pending → IsMatchAhead (timed_in v) ahead → start_of v.base ≤ bound_of ahead
-    → searcher.searches ≡ count_from (timed_in v).matches (start_of v.base) (bound_of ahead - start_of v.base) + 1
+    → Windowed (timed_of v) (start_of v.base) (bound_of ahead) v.last pending → IsMatchAhead (timed_of v) ahead → start_of v.base ≤ bound_of ahead
+    → searcher.searches ≡ count_from (timed_of v).matches (start_of v.base) (bound_of ahead - start_of v.base) + 1
     → IsReady (record v { searcher = searcher; ahead = ahead; pending = pending })
 ready_after v searcher ahead pending masks low above windowed found begun counted =
-    let same : timed_in v ≡ timed_by searcher.masks v.zone = ap (λ m. timed_by m v.zone) (sym masks) in
+    let same : timed_of v ≡ timed_by searcher.masks v.zone = ap (λ m. timed_by m v.zone) (sym masks) in
     record {
       windowed = subst (λ (e : Timed). Windowed e (start_of v.base) (bound_of ahead) v.last pending) same windowed;
       found = subst (λ (e : Timed). IsMatchAhead e ahead) same found;
@@ -65,7 +65,7 @@ pub placed_ready : (v : Window) (local : ℕ) (searcher : Searcher) (ahead : Opt
     → IsFirstPassing (matches (sets_in v.searcher.masks)) (local + 1) seconds_in_all ahead → pending ≡ with_place (place_of (zone_of v.zone) (pos local)) v.last v.pending
     → IsReady (record v { searcher = searcher; ahead = ahead; pending = pending })
 placed_ready v local searcher ahead pending h at near masks more first put =
-    let e = timed_in v in
+    let e = timed_of v in
     let start = start_of v.base in
     let here = subst (λ (o : Option ℕ). Windowed e start (bound_of o) v.last v.pending) at h.windowed in
     let match_here = subst (IsMatchAhead e) at h.found in
@@ -80,7 +80,7 @@ placed_ready v local searcher ahead pending h at near masks more first put =
 -- so few searches were made
 pub few_searches : (v : Window) (local : ℕ) → IsReady v → v.ahead ≡ Some local → v.searcher.searches ≤ seconds_in_all
 few_searches v local h at =
-    let e = timed_in v in
+    let e = timed_of v in
     let start = start_of v.base in
     let match_here = subst (IsMatchAhead e) at h.found in
     let most = count_from-most e.matches start (bound_of v.ahead - start) in
@@ -90,10 +90,10 @@ few_searches v local h at =
 
 pub ahead_is_match : (v : Window) (local : ℕ) → IsReady v → v.ahead ≡ Some local → (local < seconds_in_all) × (matches (sets_in v.searcher.masks) local ≡ true)
 unfolding timed_by
-ahead_is_match v local h at = subst (IsMatchAhead (timed_in v)) at h.found
+ahead_is_match v local h at = subst (IsMatchAhead (timed_of v)) at h.found
 
 pub ahead_inside : (v : Window) (local : ℕ) → IsReady v → v.ahead ≡ Some local → local < seconds_in_all
-ahead_inside v local h at = (subst (IsMatchAhead (timed_in v)) at h.found).0
+ahead_inside v local h at = (subst (IsMatchAhead (timed_of v)) at h.found).0
 
 -- the members are the places of earlier local seconds
 pub placed_before : (v : Window) (local : ℕ) → IsReady v → v.ahead ≡ Some local → (i : ℤ) → Has v.pending i → i ≤ℤ (pos local +ℤ pos 93_599)
@@ -135,6 +135,6 @@ unfolding timed_by timed
 timed_by-timed masks zone fields same = λ i. record { matches = matches (same i); place = λ local. place_of (zone_of zone) (pos local) }
 
 -- the same rest
-pub rest_of-same : (v w : Window) → timed_in v ≡ timed_in w → v.last ≡ w.last → rest_of v ≡ rest_of w
+pub rest_of-same : (v w : Window) → timed_of v ≡ timed_of w → v.last ≡ w.last → rest_of v ≡ rest_of w
 unfolding rest_of
 rest_of-same v w timed last = rw (timed, last)

@@ -328,7 +328,7 @@ still_in old new low at i found less above a =
     let other : a.at % 187_200 ≢ at % 187_200 = λ same. let e = same_second low a.at at start ends begins first_below same in omega arith in
     subst (Has (instants_in new at)) a.is (member new at a.at (omega arith) inside (others_held old new at a.at less other ∙ a.holds))
 
--- what is seen with the first taken is what was seen behind it
+-- what is seen with the first taken is what was seen after it
 pub taken_seen : (old new : List ℕ) (low at : ℕ) → IsFirstPassing (is_held old) low (low + 187_200) (Some at) → HasLess old new at
     → instants_in new at ≡ later (instants_in old low)
 taken_seen old new low at found less =
@@ -336,12 +336,12 @@ taken_seen old new low at found less =
     let rises = subst IsRising split (IsRising-instants old low) in
     same_rising (instants_in new at) (later (instants_in old low)) (IsRising-instants new at) rises.1
     (λ i.
-    let behind = later_members (pos at) (later (instants_in old low)) rises i in (
+    let after = later_members (pos at) (later (instants_in old low)) rises i in (
       λ m.
           let both = left_in old new low at i found less ((Has-instants new at i).0 m) in
-          behind.1 (both.0, subst (λ xs. Has xs i) split both.1),
+          after.1 (both.0, subst (λ xs. Has xs i) split both.1),
       λ m.
-          let both = behind.0 m in
+          let both = after.0 m in
           still_in old new low at i found less both.0 ((Has-instants old low i).0 (subst (λ xs. Has xs i) (sym split) both.1)),
     ))
 
@@ -430,7 +430,7 @@ least_member x j xs h (inr m) = let up = above_has x j xs h.0 m in omega (arith,
 near_by : (member least instant : ℤ) → IsNear member least → least ≤ℤ member → least ≤ℤ instant → instant ≤ℤ (least +ℤ pos 187_199) → IsNear member instant
 near_by member least instant near above low high = (let a = near.0 in omega (arith, ints), omega (arith, ints))
 
--- an instant that is so near behind the least member is near to each
+-- an instant that is so near after the least member is near to each
 pub near_later : (members : List ℤ) (least instant member : ℤ) → Some least ≡ first members → IsRising members
     → ((one other : ℤ) → Has members one → Has members other → IsNear one other) → least ≤ℤ instant → instant ≤ℤ (least +ℤ pos 187_199) → Has members member → IsNear member instant
 near_later members least instant member at rises near low high m =

@@ -78,7 +78,7 @@ first_of_all sets day r f first (Some s) inside small today found begins =
           (first_here _ _ _ 86_400 84_006 (locals_split sets) day r 86_400 s inside holds today.1 today)))
     ]
 
--- behind a match, on its day
+-- after a match, on its day
 pub later_today : (sets : Sets) (t second : ℕ) → t < seconds_in_all → matches sets t ≡ true → IsFirstPassing (time_in sets) (t % 86_400 + 1) 86_400 (Some second)
     → IsFirstPassing (matches sets) (t + 1) seconds_in_all (Some (t / 86_400 * 86_400 + second))
 later_today sets t second below holds found =

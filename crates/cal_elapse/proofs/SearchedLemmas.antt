@@ -7,7 +7,7 @@ use Rattle.cal_zone.specs.declared.zone.Zone.{Zone}
 use Rattle.cal_rising.specs.RisingList.{Has, first, later}
 use Rattle.cal_elapse.specs.Search.{NonePasses}
 use Rattle.cal_elapse.specs.Searched.{IsSearched}
-use Rattle.cal_elapse.specs.Window.{IsReady, bound_of, count_from, start_of, timed_by, timed_in, to_place}
+use Rattle.cal_elapse.specs.Window.{IsReady, bound_of, count_from, start_of, timed_by, timed_of, to_place}
 use Rattle.cal_elapse.specs.declared.masks.Masks.{Masks}
 use Rattle.cal_elapse.specs.declared.window.Window.{Window}
 use Rattle.cal_elapse.proofs.CountLemmas.{count_from-none}
@@ -38,16 +38,16 @@ none_past masks zone t late = past_all (nat_lt t seconds_in_all) _ (grind (arith
 
 -- a match is below the bound
 matches_below : (v : Window) (i : ℤ) (top : ℕ) → IsReady v → Has v.pending i → (pos top) ≡ (i +ℤ pos 93_600) → start_of v.base ≤ top → (t : ℕ) → top ≤ t → t < bound_of v.ahead
-    → (timed_in v).matches t ≡ true → ⊥
+    → (timed_of v).matches t ≡ true → ⊥
 matches_below v i top h m is begun t late inside holds =
     let near = h.windowed.reach i m t (omega arith) inside holds in
     omega (arith, ints)
 
 count_down : (v : Window) (i : ℤ) (top : ℕ) → IsReady v → Has v.pending i → (pos top) ≡ (i +ℤ pos 93_600) → start_of v.base ≤ top → top ≤ bound_of v.ahead
-    → count_from (timed_in v).matches (start_of v.base) (bound_of v.ahead - start_of v.base) ≡ count_from (timed_in v).matches (start_of v.base) (top - start_of v.base)
+    → count_from (timed_of v).matches (start_of v.base) (bound_of v.ahead - start_of v.base) ≡ count_from (timed_of v).matches (start_of v.base) (top - start_of v.base)
 count_down v i top h m is begun inside =
-    count_on (timed_in v).matches (start_of v.base) top (bound_of v.ahead) begun inside
-    (λ t late below. false_by ((timed_in v).matches t) (matches_below v i top h m is begun t late below))
+    count_on (timed_of v).matches (start_of v.base) top (bound_of v.ahead) begun inside
+    (λ t late below. false_by ((timed_of v).matches t) (matches_below v i top h m is begun t late below))
 
 late_bound : (ahead : Option ℕ) (i : ℤ) (top : ℕ) → to_place ahead (Some i) ≡ None → (pos top) ≡ (i +ℤ pos 93_600) → bound_of ahead < top → bound_of ahead ≡ seconds_in_all
 late_bound None i top full is late = refl
@@ -56,12 +56,12 @@ late_bound (Some local) i top full is late =
     absurd (omega (arith, ints))
 
 count_top : (v : Window) (i : ℤ) (top : ℕ) → IsReady v → Has v.pending i → to_place v.ahead (Some i) ≡ None → (pos top) ≡ (i +ℤ pos 93_600) → start_of v.base ≤ top
-    → count_from (timed_in v).matches (start_of v.base) (bound_of v.ahead - start_of v.base) ≡ count_from (timed_in v).matches (start_of v.base) (top - start_of v.base)
+    → count_from (timed_of v).matches (start_of v.base) (bound_of v.ahead - start_of v.base) ≡ count_from (timed_of v).matches (start_of v.base) (top - start_of v.base)
 count_top v i top h m full is begun =
     elim (cases_lt (bound_of v.ahead) top) [
       | inl late ↦
           let all = late_bound v.ahead i top full is late in
-          sym (count_on (timed_in v).matches (start_of v.base) (bound_of v.ahead) top h.begun (omega arith)
+          sym (count_on (timed_of v).matches (start_of v.base) (bound_of v.ahead) top h.begun (omega arith)
           (λ t above below. none_past v.searcher.masks v.zone t (omega arith)))
       | inr inside ↦ count_down v i top h m is begun inside
     ]
@@ -75,7 +75,7 @@ has_first : (xs : List ℤ) (i : ℤ) → first xs ≡ Some i → Has xs i
 has_first xs i at = subst (λ (ys : List ℤ). Has ys i) (sym (list-first xs i at)) (inl refl)
 
 pub searched_some : (v : Window) (i : ℤ) → IsReady v → to_place v.ahead (first v.pending) ≡ None → first v.pending ≡ Some i
-    → IsSearched (timed_in v) v.base (Some i) v.searcher.searches
+    → IsSearched (timed_of v) v.base (Some i) v.searcher.searches
 searched_some v i h full at =
     let m = has_first v.pending i at in
     let above = ((h.windowed.members i).0 m).0 in
@@ -86,7 +86,7 @@ searched_some v i h full at =
     omega arith
 
 pub searched_none : (v : Window) → IsReady v → to_place v.ahead (first v.pending) ≡ None → first v.pending ≡ None
-    → IsSearched (timed_in v) v.base None v.searcher.searches
+    → IsSearched (timed_of v) v.base None v.searcher.searches
 searched_none v h full none =
     let all : bound_of v.ahead ≡ seconds_in_all = ap bound_of (all_placed v.ahead (subst (λ (o : Option ℤ). to_place v.ahead o ≡ None) none full)) in
-    subst (λ (b : ℕ). v.searcher.searches ≡ count_from (timed_in v).matches (start_of v.base) (b - start_of v.base) + 1) all h.counted
+    subst (λ (b : ℕ). v.searcher.searches ≡ count_from (timed_of v).matches (start_of v.base) (b - start_of v.base) + 1) all h.counted

@@ -14,7 +14,7 @@ use Rattle.cal_elapse.specs.declared.masks.Masks.{Masks}
 use Rattle.cal_elapse.specs.Elapses.{Timed, IsPlace, elapses_after}
 use Rattle.cal_rising.specs.RisingList.{Has, IsRising, first, later, placed}
 use Rattle.cal_elapse.specs.Search.{NonePasses}
-use Rattle.cal_elapse.specs.Window.{IsMatchAhead, IsPlacedBelow, IsReady, Windowed, bound_of, start_of, timed_by, timed_in, to_place, with_place}
+use Rattle.cal_elapse.specs.Window.{IsMatchAhead, IsPlacedBelow, IsReady, Windowed, bound_of, start_of, timed_by, timed_of, to_place, with_place}
 use Rattle.cal_elapse.specs.declared.window.Window.{Window}
 use Rattle.cal_elapse.proofs.ElapsesLemmas.{elapses_after-first, first_elapse-least, first_elapse-none}
 use Rattle.cal_rising.proofs.RisingLemmas.{Has-placed, IsRising-placed, above_has, later_members, list-first, lt_test, not_lt_test}
@@ -229,10 +229,10 @@ pub taken_ready : (v : Window) (i last : ℤ) (xs : List ℤ) → IsReady v → 
     → IsReady (record v { last = last; pending = xs })
 taken_ready v i last xs h at same rest =
     let all : v.pending ≡ last ∷ xs = list-first v.pending i at ∙ (λ k. sym same k ∷ sym rest k) in
-    let here = subst (Windowed (timed_in v) (start_of v.base) (bound_of v.ahead) v.last) all h.windowed in
+    let here = subst (Windowed (timed_of v) (start_of v.base) (bound_of v.ahead) v.last) all h.windowed in
     let up = ((here.members last).0 (inl refl)).0 in
     record {
-      windowed = windowed_later (timed_in v) (start_of v.base) (bound_of v.ahead) v.last last xs here;
+      windowed = windowed_later (timed_of v) (start_of v.base) (bound_of v.ahead) v.last last xs here;
       found = h.found;
       low = h.low;
       above = omega (arith, ints, up, h.above);
@@ -241,21 +241,21 @@ taken_ready v i last xs h at same rest =
     }
 
 -- the member given is the first elapse
-pub first_given : (v : Window) → IsReady v → to_place v.ahead (first v.pending) ≡ None → first (elapses_after (timed_in v ∷ []) v.last) ≡ first v.pending
-first_given v h full = full_first (timed_in v) (start_of v.base) v.ahead v.last v.pending (timed_by-near v.searcher.masks v.zone) h.windowed h.found full
+pub first_given : (v : Window) → IsReady v → to_place v.ahead (first v.pending) ≡ None → first (elapses_after (timed_of v ∷ []) v.last) ≡ first v.pending
+first_given v h full = full_first (timed_of v) (start_of v.base) v.ahead v.last v.pending (timed_by-near v.searcher.masks v.zone) h.windowed h.found full
 
 pub later_given : (v : Window) (i last : ℤ) → IsReady v → to_place v.ahead (first v.pending) ≡ None → first v.pending ≡ Some i → last ≡ i
-    → elapses_after (timed_in v ∷ []) last ≡ later (elapses_after (timed_in v ∷ []) v.last)
+    → elapses_after (timed_of v ∷ []) last ≡ later (elapses_after (timed_of v ∷ []) v.last)
 later_given v i last h full at same =
-    elapses_after-first (timed_in v ∷ []) v.last last (first_given v h full ∙ (at ∙ ap Some (sym same)))
+    elapses_after-first (timed_of v ∷ []) v.last last (first_given v h full ∙ (at ∙ ap Some (sym same)))
 
 none_later : (xs : List ℤ) → first xs ≡ None → xs ≡ later xs
 none_later [] h = refl
 none_later (x ∷ xs) h = absurd (cc)
 
 pub none_given : (v : Window) → IsReady v → to_place v.ahead (first v.pending) ≡ None → first v.pending ≡ None
-    → elapses_after (timed_in v ∷ []) v.last ≡ later (elapses_after (timed_in v ∷ []) v.last)
-none_given v h full none = none_later (elapses_after (timed_in v ∷ []) v.last) (first_given v h full ∙ none)
+    → elapses_after (timed_of v ∷ []) v.last ≡ later (elapses_after (timed_of v ∷ []) v.last)
+none_given v h full none = none_later (elapses_after (timed_of v ∷ []) v.last) (first_given v h full ∙ none)
 
 -- what is put, by the place that was found
 pub with_place-none : (o : Option ℤ) (last : ℤ) (xs : List ℤ) → o ≡ None → xs ≡ with_place o last xs

@@ -56,14 +56,14 @@ with_place (Some i) last xs = cond (int_lt last i) (placed i xs) xs
 unfoldable pub timed_by : Masks → Zone → Timed
 timed_by masks zone = record { matches = matches (sets_in masks); place = λ local. place_of (zone_of zone) (pos local) }
 
-abbrev pub timed_in : Window → Timed
-timed_in w = timed_by w.searcher.masks w.zone
+abbrev pub timed_of : Window → Timed
+timed_of w = timed_by w.searcher.masks w.zone
 
 -- all matching local seconds below the one ahead are placed, and each search found one of them or the one ahead
 pub record IsReady (w : Window) : Type 0 where
-  pub windowed : Windowed (timed_in w) (start_of w.base) (bound_of w.ahead) w.last w.pending
-  pub found : IsMatchAhead (timed_in w) w.ahead
+  pub windowed : Windowed (timed_of w) (start_of w.base) (bound_of w.ahead) w.last w.pending
+  pub found : IsMatchAhead (timed_of w) w.ahead
   pub low : pos 0 ≤ℤ w.base
   pub above : w.base ≤ℤ w.last
   pub begun : start_of w.base ≤ bound_of w.ahead
-  pub counted : w.searcher.searches ≡ count_from (timed_in w).matches (start_of w.base) (bound_of w.ahead - start_of w.base) + 1
+  pub counted : w.searcher.searches ≡ count_from (timed_of w).matches (start_of w.base) (bound_of w.ahead - start_of w.base) + 1

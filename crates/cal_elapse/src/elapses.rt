@@ -34,7 +34,7 @@ impl<'z> Elapses<'z> {
     ghost use Rattle.cal_elapse.specs.Elapses.{elapses_after};
     ghost use Rattle.cal_elapse.specs.Rest.{rest_of};
     ghost use Rattle.cal_elapse.specs.Timed.{timed};
-    ghost use Rattle.cal_elapse.specs.Window.{timed_in};
+    ghost use Rattle.cal_elapse.specs.Window.{timed_of};
 
     /// The elapses of an expression in a zone that are later than the base.
     ///
@@ -47,7 +47,7 @@ impl<'z> Elapses<'z> {
     ) -> Result<Elapses<'z>, AllocError>
         ensures rest { IfOk result (λ elapses. rest_of elapses
             ≡ elapses_after (timed expr.now (zone_of zone.entry) ∷ []) base.secs) }
-        ensures timed { IfOk result (λ elapses. timed_in elapses ≡ timed expr.now (zone_of zone.entry)) }
+        ensures timed { IfOk result (λ elapses. timed_of elapses ≡ timed expr.now (zone_of zone.entry)) }
         ensures base { IfOk result (λ elapses. elapses.base ≡ base.secs) }
         ensures searched { IfOk result (λ elapses. elapses.searcher.searches ≡ 1) }
         ensures looked { IfOk result (λ elapses. elapses.searcher.most_months ≤ 2_760) }
@@ -79,7 +79,7 @@ impl Rising for Elapses<'_> {
     ghost use Rattle.cal_elapse.specs.Rest.{rest_of, IsRising-rest_of};
     ghost use Rattle.cal_rising.specs.RisingList.{first, later};
     ghost use Rattle.cal_elapse.specs.Searched.{IsSearched};
-    ghost use Rattle.cal_elapse.specs.Window.{timed_in};
+    ghost use Rattle.cal_elapse.specs.Window.{timed_of};
 
     ghost rest = { rest_of };
 
@@ -92,9 +92,9 @@ impl Rising for Elapses<'_> {
         ensures given { result ≡ first (rest_of self.old) }
         ensures left { rest_of self.new ≡ later (rest_of self.old) }
         ensures masks { self.new.searcher.masks ≡ self.old.searcher.masks }
-        ensures timed { timed_in self.new ≡ timed_in self.old }
+        ensures timed { timed_of self.new ≡ timed_of self.old }
         ensures base { self.new.base ≡ self.old.base }
-        ensures searched { IsSearched (timed_in self.old) self.old.base result self.new.searcher.searches }
+        ensures searched { IsSearched (timed_of self.old) self.old.base result self.new.searcher.searches }
         ensures looked { self.new.searcher.most_months ≤ 2_760 }
     {
         self.window.fill();

@@ -105,7 +105,7 @@ pub(crate) fn next_after(masks: &Masks, local: u64) -> Found
     }
 }
 
-/// The next time of day behind one; `None` where the day ends before.
+/// The next time of day after one; `None` where the day ends before.
 fn second_after(masks: &Masks, second: u32) -> Option<u32>
     requires { second < 86_400 }
     ensures { IsFirstPassing (time_in (sets_in masks.now)) (second + 1) 86_400 result }

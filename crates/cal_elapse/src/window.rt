@@ -38,7 +38,7 @@ impl<'z> Window<'z> {
     ghost use Rattle.cal_rising.specs.RisingList.{Has, first, later};
     ghost use Rattle.cal_elapse.specs.Searched.{IsSearched};
     ghost use Rattle.cal_elapse.specs.Timed.{timed};
-    ghost use Rattle.cal_elapse.specs.Window.{IsReady, bound_of, timed_in, to_place};
+    ghost use Rattle.cal_elapse.specs.Window.{IsReady, bound_of, timed_of, to_place};
 
     /// Before anything is placed. The first search begins where a place can be above the base.
     pub fn new(
@@ -48,7 +48,7 @@ impl<'z> Window<'z> {
         base: Instant,
     ) -> Result<Window<'z>, AllocError>
         ensures ready { IfOk result IsReady }
-        ensures timed { IfOk result (λ window. timed_in window ≡ timed expr.now (zone_of zone.entry)) }
+        ensures timed { IfOk result (λ window. timed_of window ≡ timed expr.now (zone_of zone.entry)) }
         ensures last { IfOk result (λ window. window.last ≡ base.secs) }
         ensures base { IfOk result (λ window. window.base ≡ base.secs) }
         ensures searched { IfOk result (λ window. window.searcher.searches ≡ 1) }
@@ -72,7 +72,7 @@ impl<'z> Window<'z> {
         requires { IsReady self.old }
         ensures ready { IsReady self.new }
         ensures masks { self.new.searcher.masks ≡ self.old.searcher.masks }
-        ensures timed { timed_in self.new ≡ timed_in self.old }
+        ensures timed { timed_of self.new ≡ timed_of self.old }
         ensures base { self.new.base ≡ self.old.base }
         ensures last { self.new.last ≡ self.old.last }
         ensures full { to_place self.new.ahead (first self.new.pending) ≡ None }
@@ -88,12 +88,12 @@ impl<'z> Window<'z> {
         requires full { to_place self.old.ahead (first self.old.pending) ≡ None }
         ensures ready { IsReady self.new }
         ensures masks { self.new.searcher.masks ≡ self.old.searcher.masks }
-        ensures timed { timed_in self.new ≡ timed_in self.old }
+        ensures timed { timed_of self.new ≡ timed_of self.old }
         ensures base { self.new.base ≡ self.old.base }
-        ensures searched { IsSearched (timed_in self.old) self.old.base result self.new.searcher.searches }
-        ensures given { result ≡ first (elapses_after (timed_in self.old ∷ []) self.old.last) }
-        ensures left { elapses_after (timed_in self.new ∷ []) self.new.last
-            ≡ later (elapses_after (timed_in self.old ∷ []) self.old.last) }
+        ensures searched { IsSearched (timed_of self.old) self.old.base result self.new.searcher.searches }
+        ensures given { result ≡ first (elapses_after (timed_of self.old ∷ []) self.old.last) }
+        ensures left { elapses_after (timed_of self.new ∷ []) self.new.last
+            ≡ later (elapses_after (timed_of self.old ∷ []) self.old.last) }
     {
         let instant = self.pending.take_least();
         if let Some(instant) = instant {
@@ -109,7 +109,7 @@ impl<'z> Window<'z> {
         requires near { (i : ℤ) → Has self.old.pending i → pos local ≤ℤ (i +ℤ pos 93_599) }
         ensures ready { IsReady self.new }
         ensures masks { self.new.searcher.masks ≡ self.old.searcher.masks }
-        ensures timed { timed_in self.new ≡ timed_in self.old }
+        ensures timed { timed_of self.new ≡ timed_of self.old }
         ensures base { self.new.base ≡ self.old.base }
         ensures last { self.new.last ≡ self.old.last }
         ensures on { bound_of self.old.ahead < bound_of self.new.ahead }

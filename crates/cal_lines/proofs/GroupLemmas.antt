@@ -4,7 +4,7 @@ use Rattle.std.specs.List.{flat_map}
 use Rattle.std.specs.Str.Lines.{lines}
 use Rattle.cal_lines.specs.Lines.{Group, Line, continued_by, groups, is_comment, is_continued, joined_line, logical_lines, part_of, physical_lines, plain_lines, trim_start}
 
--- the lines of a text behind its first
+-- the lines of a text after its first
 pub plain_here : (n : ℕ) (text line rest : List ℕ) → lines text ≡ line ∷ lines rest → is_comment (trim_start line) ≡ false → plain_lines n text ≡ record { number = n; text = trim_start line } ∷ plain_lines (n + 1) rest
 unfolding physical_lines plain_lines
 plain_here n text line rest e f = rw (e, f) refl
@@ -22,17 +22,17 @@ abbrev pub parts_of : List Line → List ℕ
 parts_of = flat_map (λ line. part_of line.text)
 
 -- the logical lines where the first of them begins with this text
-abbrev pub behind : ℕ → List ℕ → List Group → List Line
-behind n front [] = record { number = n; text = front } ∷ []
-behind n front (group ∷ rest) = record { number = n; text = front ++ parts_of (group.first ∷ group.more) } ∷ map joined_line rest
+abbrev pub after : ℕ → List ℕ → List Group → List Line
+after n front [] = record { number = n; text = front } ∷ []
+after n front (group ∷ rest) = record { number = n; text = front ++ parts_of (group.first ∷ group.more) } ∷ map joined_line rest
 
 -- the logical lines from a text on that goes on in these lines or has ended
 abbrev pub goes_on_in : ℕ → List ℕ → Bool → List Line → List Line
-goes_on_in n front true ls = behind n front (groups ls)
+goes_on_in n front true ls = after n front (groups ls)
 goes_on_in n front false ls = record { number = n; text = front } ∷ map joined_line (groups ls)
 
 -- the first line of a group
-pub joined_continued : (n : ℕ) (front : List ℕ) (line : Line) (gs : List Group) → behind n front (continued_by line gs) ≡ behind n (front ++ part_of line.text) gs
+pub joined_continued : (n : ℕ) (front : List ℕ) (line : Line) (gs : List Group) → after n front (continued_by line gs) ≡ after n (front ++ part_of line.text) gs
 joined_continued n front line [] = ap (λ text. record { number = n; text = text } ∷ []) (ap (λ xs. front ++ xs) (append-nil (part_of line.text)))
 joined_continued n front line (g ∷ gs) = ap (λ text. record { number = n; text = text } ∷ map joined_line gs) (sym (append_assoc front (part_of line.text) (parts_of (g.first ∷ g.more))))
 
@@ -44,7 +44,7 @@ line_joined_as false n front line ls e = rw e (ap (λ text. record { number = n;
 pub line_joined : (n : ℕ) (front : List ℕ) (line : Line) (ls : List Line) → goes_on_in n front true (line ∷ ls) ≡ goes_on_in n (front ++ part_of line.text) (is_continued line.text) ls
 line_joined n front line ls = line_joined_as (is_continued line.text) n front line ls refl
 
-continued_alone : (line : Line) (gs : List Group) → map joined_line (continued_by line gs) ≡ behind line.number (part_of line.text) gs
+continued_alone : (line : Line) (gs : List Group) → map joined_line (continued_by line gs) ≡ after line.number (part_of line.text) gs
 continued_alone line [] = ap (λ text. record { number = line.number; text = text } ∷ []) (append-nil (part_of line.text))
 continued_alone line (g ∷ gs) = refl
 

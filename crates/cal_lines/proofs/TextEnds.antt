@@ -6,7 +6,7 @@ use Rattle.std.proofs.lemmas.List.{get_or-reverse}
 use Rattle.std.proofs.lemmas.List.Sums.{prefix_len_passes, prefix_len-le-length, suffix_len-le-length}
 use Rattle.std.proofs.lemmas.Str.{IsCharBoundary-start, IsCharBoundary-end, IsCharBoundary-before_ascii, IsCharBoundary-after_ascii}
 
--- behind ASCII at the start a text may be cut
+-- after ASCII at the start a text may be cut
 front_boundary_at : (p : ℕ → Bool) (bs : List ℕ) (n : ℕ) → ((b : ℕ) → p b ≡ true → b < 128) → IsUtf8 bs → prefix_len p bs ≡ n → IsCharBoundary bs n
 front_boundary_at p bs zero ascii utf8 e = IsCharBoundary-start bs utf8
 front_boundary_at p bs (suc n) ascii utf8 e =

@@ -56,7 +56,7 @@ pub record Group : Type 0 where
   pub first : Line
   pub more : List Line
 
--- a line that is continued belongs to the group behind it; at the end it just ends
+-- a line that is continued belongs to the group after it; at the end it just ends
 abbrev pub continued_by : Line → List Group → List Group
 continued_by line [] = record { first = line; more = [] } ∷ []
 continued_by line (group ∷ groups) = record { first = line; more = group.first ∷ group.more } ∷ groups

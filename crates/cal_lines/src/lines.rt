@@ -69,7 +69,7 @@ fn without_return(line: &str) -> &str
     }
 }
 
-/// The first physical line of a text without its end, and what stands behind it.
+/// The first physical line of a text without its end, and what stands after it.
 fn first_line(text: &str) -> Option<(&str, &str)>
     ensures lines { MatchOption result (lines text.now ≡ [])
         (λ found. lines text.now ≡ found.0.now ∷ lines found.1.now) }
@@ -96,9 +96,9 @@ fn is_comment(line: &str) -> bool
 struct Plain<'t> {
     number: u32,
     line: &'t str,
-    /// The number of the line behind it.
+    /// The number of the line after it.
     next: u32,
-    /// What stands behind it.
+    /// What stands after it.
     rest: &'t str,
 }
 
@@ -113,18 +113,18 @@ fn first_plain(number: u32, text: &str) -> Option<Plain<'_>>
 {
     let mut at = number;
     let mut rest = text;
-    while let Some((line, behind)) = first_line(rest) {
+    while let Some((line, after)) = first_line(rest) {
         let line = trim_start(line);
         if !is_comment(line) {
             return Some(Plain {
                 number: at,
                 line,
                 next: at + 1,
-                rest: behind,
+                rest: after,
             });
         }
         at += 1;
-        rest = behind;
+        rest = after;
     }
     None
 }
@@ -179,9 +179,9 @@ pub struct Logical<'t> {
     pub number: u32,
     /// Its text, blanks at its ends included.
     pub text: String,
-    /// The number of the line behind it.
+    /// The number of the line after it.
     pub next: u32,
-    /// What stands behind it.
+    /// What stands after it.
     pub rest: &'t str,
 }
 

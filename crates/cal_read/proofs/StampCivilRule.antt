@@ -12,11 +12,11 @@ use Rattle.jiff.specs.Types.{TimeZone, Weekday}
 use Rattle.cal_zone.specs.ZoneName.{begins_with_letter}
 use Rattle.cal_spec.specs.DateAndTime.{is_colon}
 use Rattle.cal_spec.specs.Weekdays.{day_named}
-use Rattle.cal_read.specs.Stamp.{◌>>=◌, Setting, Written, begins_with_digit, zone_in, zone_found, written_in, behind_date, behind_weekday, weekday_found, civil_time}
+use Rattle.cal_read.specs.Stamp.{◌>>=◌, Setting, Written, begins_with_digit, zone_by_words, zone_found, written_in, after_date, after_weekday, weekday_found, civil_time}
 use Rattle.cal_read.specs.StampCivilRule.{IsCivilTime, NamesWeekday, WritesDate, WritesTime, NamesZone}
-use Rattle.cal_read.specs.StampDate.{DateNumbers, is_hyphen, number_in, date_by, date_of_pieces, date_numbers, day_due, day_written}
+use Rattle.cal_read.specs.StampDate.{DateNumbers, is_hyphen, digits_number, date_by, date_of_pieces, date_numbers, day_due, day_written}
 use Rattle.cal_read.specs.StampTime.{up_to, clock_number, time_by, time_of_pieces, time_numbers, time_due, time_written}
-use Rattle.cal_read.specs.declared.stamp_fault.StampFault.{StampFault}
+use Rattle.cal_read.specs.declared.stamp.fault.StampFault.{StampFault}
 
 -- What words look like
 
@@ -24,8 +24,8 @@ record IsNumber (word : List ℕ) : Type 0 where
   some : 0 < length word
   digits : list_all is_ascii_digit word ≡ true
 
-number_by : (most : ℕ) (word : List ℕ) (n : ℕ) (test : Bool) → (nat_le 1 (length word) && nat_le (length word) most && list_all is_ascii_digit word) ≡ test → number_in most word ≡ Some n → IsNumber word
-unfolding number_in
+number_by : (most : ℕ) (word : List ℕ) (n : ℕ) (test : Bool) → (nat_le 1 (length word) && nat_le (length word) most && list_all is_ascii_digit word) ≡ test → digits_number most word ≡ Some n → IsNumber word
+unfolding digits_number
 number_by most word n true e h =
     let parts = and_parts (nat_le 1 (length word) && nat_le (length word) most) (list_all is_ascii_digit word) e in
     let long = (and_parts (nat_le 1 (length word)) (nat_le (length word) most) parts.0).0 in
@@ -70,7 +70,7 @@ record AreDatePieces (word : List ℕ) : Type 0 where
   is_month : IsNumber month
   is_day : IsNumber day
 
-by_numbers : (year month day : List ℕ) (y m d : Option ℕ) (date : DateNumbers) → number_in 4 year ≡ y → number_in 2 month ≡ m → number_in 2 day ≡ d → date_by y m d ≡ Some date → IsNumber year × IsNumber month × IsNumber day
+by_numbers : (year month day : List ℕ) (y m d : Option ℕ) (date : DateNumbers) → digits_number 4 year ≡ y → digits_number 2 month ≡ m → digits_number 2 day ≡ d → date_by y m d ≡ Some date → IsNumber year × IsNumber month × IsNumber day
 by_numbers year month day None m d date ey em ed h = cc
 by_numbers year month day (Some y) None d date ey em ed h = cc
 by_numbers year month day (Some y) (Some m) None date ey em ed h = cc
@@ -104,14 +104,14 @@ date_begins word day h =
     let p = date_word word _ day refl h in
     rw p.whole (no_letter_first (p.year ++ (45 ∷ (p.month ++ (45 ∷ p.day)))) (digit_first p.year (45 ∷ (p.month ++ (45 ∷ p.day))) p.is_year))
 
--- the hour of a time, and what stands behind it
+-- the hour of a time, and what stands after it
 record AreTimePieces (word : List ℕ) : Type 0 where
   hour : List ℕ
-  behind : List ℕ
-  whole : word ≡ hour ++ (58 ∷ behind)
+  after : List ℕ
+  whole : word ≡ hour ++ (58 ∷ after)
   is_hour : IsNumber hour
 
-hour_by : (hour : List ℕ) (n minute micros : Option ℕ) (all : ℕ) → number_in 2 hour ≡ n → time_by (up_to 23 n) minute micros ≡ Some all → IsNumber hour
+hour_by : (hour : List ℕ) (n minute micros : Option ℕ) (all : ℕ) → digits_number 2 hour ≡ n → time_by (up_to 23 n) minute micros ≡ Some all → IsNumber hour
 hour_by hour None minute micros all e h = cc
 hour_by hour (Some n) minute micros all e h = number_by 2 hour n _ refl e
 
@@ -120,9 +120,9 @@ unfolding clock_number
 time_pieces word [] micros whole h = cc
 time_pieces word (hour ∷ []) micros whole h = cc
 time_pieces word (hour ∷ minute ∷ []) micros whole h =
-    record { hour = hour; behind = minute; whole = whole; is_hour = hour_by hour _ _ _ micros refl h }
+    record { hour = hour; after = minute; whole = whole; is_hour = hour_by hour _ _ _ micros refl h }
 time_pieces word (hour ∷ minute ∷ second ∷ []) micros whole h =
-    record { hour = hour; behind = minute ++ (58 ∷ second); whole = whole; is_hour = hour_by hour _ _ _ micros refl h }
+    record { hour = hour; after = minute ++ (58 ∷ second); whole = whole; is_hour = hour_by hour _ _ _ micros refl h }
 time_pieces word (hour ∷ minute ∷ second ∷ more ∷ pieces) micros whole h = cc
 
 time_word : (word : List ℕ) (numbers : Option ℕ) (micros : ℕ) → time_numbers word ≡ numbers → time_due numbers ≡ Ok micros → AreTimePieces word
@@ -135,16 +135,16 @@ time_has_colon : (word : List ℕ) (micros : ℕ) → time_written word ≡ Ok m
 unfolding time_written
 time_has_colon word micros h =
     let p = time_word word _ micros refl h in
-    rw (p.whole, list_any-append is_colon p.hour (58 ∷ p.behind), no_colon p.hour p.is_hour.digits) refl
+    rw (p.whole, list_any-append is_colon p.hour (58 ∷ p.after), no_colon p.hour p.is_hour.digits) refl
 
 time_begins : (word : List ℕ) (micros : ℕ) → time_written word ≡ Ok micros → begins_with_digit word ≡ true
 unfolding time_written
 time_begins word micros h =
-    let p = time_word word _ micros refl h in rw p.whole (digit_first p.hour (58 ∷ p.behind) p.is_hour)
+    let p = time_word word _ micros refl h in rw p.whole (digit_first p.hour (58 ∷ p.after) p.is_hour)
 
 -- Words of the rule are read
 
-zone_from : (at : Setting) (name : Option (List ℕ)) (zone : TimeZone) → NamesZone at name zone → zone_in at (option_to_list name) ≡ Ok zone
+zone_from : (at : Setting) (name : Option (List ℕ)) (zone : TimeZone) → NamesZone at name zone → zone_by_words at (option_to_list name) ≡ Ok zone
 zone_from at None zone h = ap Ok (sym h)
 zone_from at (Some word) zone h = rw (h.0, h.1) refl
 
@@ -152,31 +152,31 @@ written_from : (at : Setting) (weekday : Option Weekday) (day : Option ℤ) (mic
     → written_in at weekday day micros (option_to_list name) ≡ Ok (record { weekday = weekday; day = day; micros = micros; zone = zone })
 written_from at weekday day micros name zone h = rw (zone_from at name zone h) refl
 
-behind_date_from : (at : Setting) (weekday : Option Weekday) (day : ℤ) (time name : Option (List ℕ)) (micros : ℕ) (zone : TimeZone) → WritesTime time micros → NamesZone at name zone
-    → behind_date at weekday day (option_to_list time ++ option_to_list name) ≡ Ok (record { weekday = weekday; day = Some day; micros = micros; zone = zone })
-behind_date_from at weekday day None None micros zone t z =
+after_date_from : (at : Setting) (weekday : Option Weekday) (day : ℤ) (time name : Option (List ℕ)) (micros : ℕ) (zone : TimeZone) → WritesTime time micros → NamesZone at name zone
+    → after_date at weekday day (option_to_list time ++ option_to_list name) ≡ Ok (record { weekday = weekday; day = Some day; micros = micros; zone = zone })
+after_date_from at weekday day None None micros zone t z =
     rw t (written_from at weekday (Some day) 0 None zone z)
-behind_date_from at weekday day None (Some word) micros zone t z =
+after_date_from at weekday day None (Some word) micros zone t z =
     rw (t, no_digit_first word z.0) (written_from at weekday (Some day) 0 (Some word) zone z)
-behind_date_from at weekday day (Some word) name micros zone t z =
+after_date_from at weekday day (Some word) name micros zone t z =
     rw (time_begins word micros t, t) (written_from at weekday (Some day) micros name zone z)
 
-behind_weekday_from : (at : Setting) (weekday : Option Weekday) (date time name : Option (List ℕ)) (day : Option ℤ) (micros : ℕ) (zone : TimeZone) → (is_some date || is_some time) ≡ true → WritesDate date day → WritesTime time micros → NamesZone at name zone
-    → behind_weekday at weekday (option_to_list date ++ (option_to_list time ++ option_to_list name)) ≡ Ok (record { weekday = weekday; day = day; micros = micros; zone = zone })
-behind_weekday_from at weekday None None name day micros zone some d t z = cc
-behind_weekday_from at weekday None (Some word) name day micros zone some d t z =
+after_weekday_from : (at : Setting) (weekday : Option Weekday) (date time name : Option (List ℕ)) (day : Option ℤ) (micros : ℕ) (zone : TimeZone) → (is_some date || is_some time) ≡ true → WritesDate date day → WritesTime time micros → NamesZone at name zone
+    → after_weekday at weekday (option_to_list date ++ (option_to_list time ++ option_to_list name)) ≡ Ok (record { weekday = weekday; day = day; micros = micros; zone = zone })
+after_weekday_from at weekday None None name day micros zone some d t z = cc
+after_weekday_from at weekday None (Some word) name day micros zone some d t z =
     rw (time_has_colon word micros t, t, d) (written_from at weekday None micros name zone z)
-behind_weekday_from at weekday (Some word) time name day micros zone some d t z =
-    rw (date_no_colon word d.0 d.1, d.1, d.2) (behind_date_from at weekday d.0 time name micros zone t z)
+after_weekday_from at weekday (Some word) time name day micros zone some d t z =
+    rw (date_no_colon word d.0 d.1, d.1, d.2) (after_date_from at weekday d.0 time name micros zone t z)
 
 civil_from : (at : Setting) (first date time name : Option (List ℕ)) (c : Written) → (is_some date || is_some time) ≡ true → NamesWeekday first c.weekday → WritesDate date c.day → WritesTime time c.micros → NamesZone at name c.zone
     → civil_time at (option_to_list first ++ (option_to_list date ++ (option_to_list time ++ option_to_list name))) ≡ Ok c
 civil_from at (Some word) date time name c some w d t z =
-    rw (w.1, w.2) (behind_weekday_from at (Some w.0) date time name c.day c.micros c.zone some d t z ∙ ap (λ weekday. Ok (record { weekday = weekday; day = c.day; micros = c.micros; zone = c.zone })) (sym w.3))
+    rw (w.1, w.2) (after_weekday_from at (Some w.0) date time name c.day c.micros c.zone some d t z ∙ ap (λ weekday. Ok (record { weekday = weekday; day = c.day; micros = c.micros; zone = c.zone })) (sym w.3))
 civil_from at None (Some word) time name c some w d t z =
-    rw (date_begins word d.0 d.1) (behind_weekday_from at None (Some word) time name c.day c.micros c.zone some d t z ∙ ap (λ weekday. Ok (record { weekday = weekday; day = c.day; micros = c.micros; zone = c.zone })) (sym w))
+    rw (date_begins word d.0 d.1) (after_weekday_from at None (Some word) time name c.day c.micros c.zone some d t z ∙ ap (λ weekday. Ok (record { weekday = weekday; day = c.day; micros = c.micros; zone = c.zone })) (sym w))
 civil_from at None None (Some word) name c some w d t z =
-    rw (no_letter_first word (time_begins word c.micros t)) (behind_weekday_from at None None (Some word) name c.day c.micros c.zone some d t z ∙ ap (λ weekday. Ok (record { weekday = weekday; day = c.day; micros = c.micros; zone = c.zone })) (sym w))
+    rw (no_letter_first word (time_begins word c.micros t)) (after_weekday_from at None None (Some word) name c.day c.micros c.zone some d t z ∙ ap (λ weekday. Ok (record { weekday = weekday; day = c.day; micros = c.micros; zone = c.zone })) (sym w))
 civil_from at None None None name c some w d t z = cc
 
 pub only : (at : Setting) (ws : List (List ℕ)) (c : Written) → IsCivilTime at ws c → civil_time at ws ≡ Ok c
@@ -196,22 +196,22 @@ zone_alone at w [] zone (Some z) letter e h =
     let same : z ≡ zone = cc in record { name = Some w; whole = refl; names = (letter, e ∙ ap Some same) }
 zone_alone at w (v ∷ vs) zone (Some z) letter e h = cc
 
-zone_by : (at : Setting) (w : List ℕ) (ws : List (List ℕ)) (zone : TimeZone) (test : Bool) → begins_with_letter w ≡ test → zone_in at (w ∷ ws) ≡ Ok zone → HasZone at (w ∷ ws) zone
+zone_by : (at : Setting) (w : List ℕ) (ws : List (List ℕ)) (zone : TimeZone) (test : Bool) → begins_with_letter w ≡ test → zone_by_words at (w ∷ ws) ≡ Ok zone → HasZone at (w ∷ ws) zone
 zone_by at w ws zone true e h = zone_alone at w ws zone _ e refl (rw e at h)
 zone_by at w ws zone false e h = let none = rw e at h in cc
 
-zone_of_words : (at : Setting) (ws : List (List ℕ)) (zone : TimeZone) → zone_in at ws ≡ Ok zone → HasZone at ws zone
+zone_of_words : (at : Setting) (ws : List (List ℕ)) (zone : TimeZone) → zone_by_words at ws ≡ Ok zone → HasZone at ws zone
 zone_of_words at [] zone h = let same : at.local ≡ zone = cc in record { name = None; whole = refl; names = sym same }
 zone_of_words at (w ∷ ws) zone h = zone_by at w ws zone _ refl h
 
--- what is written, and a zone behind it
+-- what is written, and a zone after it
 record IsWritten (at : Setting) (weekday : Option Weekday) (day : Option ℤ) (micros : ℕ) (ws : List (List ℕ)) (c : Written) : Type 0 where
   zone : HasZone at ws c.zone
   is_weekday : c.weekday ≡ weekday
   is_day : c.day ≡ day
   is_micros : c.micros ≡ micros
 
-written_by : (at : Setting) (weekday : Option Weekday) (day : Option ℤ) (micros : ℕ) (ws : List (List ℕ)) (c : Written) (zone : Result TimeZone StampFault) → zone_in at ws ≡ zone → written_in at weekday day micros ws ≡ Ok c → IsWritten at weekday day micros ws c
+written_by : (at : Setting) (weekday : Option Weekday) (day : Option ℤ) (micros : ℕ) (ws : List (List ℕ)) (c : Written) (zone : Result TimeZone StampFault) → zone_by_words at ws ≡ zone → written_in at weekday day micros ws ≡ Ok c → IsWritten at weekday day micros ws c
 written_by at weekday day micros ws c (Err fault) e h = let none = rw e at h in cc
 written_by at weekday day micros ws c (Ok zone) e h =
     let same : ◌≡◌ {A = Written} (record { weekday = weekday; day = day; micros = micros; zone = zone }) c = (let all = rw e at h in cc) in
@@ -222,7 +222,7 @@ written_by at weekday day micros ws c (Ok zone) e h =
       is_micros = sym (ap (λ (w : Written). w.micros) same);
     }
 
--- the words behind the weekday
+-- the words after the weekday
 record IsBody (at : Setting) (weekday : Option Weekday) (ws : List (List ℕ)) (c : Written) : Type 0 where
   date : Option (List ℕ)
   time : Option (List ℕ)
@@ -278,27 +278,27 @@ time_read at weekday d w ws c day (Err fault) e f h = cc
 time_read at weekday d w ws c day (Ok micros) e f h =
     date_and_time at weekday d w ws c day micros e f (written_by at weekday (Some day) micros ws c _ refl h)
 
-behind_date_by : (at : Setting) (weekday : Option Weekday) (d w : List ℕ) (ws : List (List ℕ)) (c : Written) (day : ℤ) (test : Bool) → begins_with_digit w ≡ test → day_written d ≡ Ok day → behind_date at weekday day (w ∷ ws) ≡ Ok c → IsBody at weekday (d ∷ w ∷ ws) c
-behind_date_by at weekday d w ws c day true digit e h = time_read at weekday d w ws c day _ e refl (rw digit at h)
-behind_date_by at weekday d w ws c day false digit e h =
+after_date_by : (at : Setting) (weekday : Option Weekday) (d w : List ℕ) (ws : List (List ℕ)) (c : Written) (day : ℤ) (test : Bool) → begins_with_digit w ≡ test → day_written d ≡ Ok day → after_date at weekday day (w ∷ ws) ≡ Ok c → IsBody at weekday (d ∷ w ∷ ws) c
+after_date_by at weekday d w ws c day true digit e h = time_read at weekday d w ws c day _ e refl (rw digit at h)
+after_date_by at weekday d w ws c day false digit e h =
     date_alone at weekday d (w ∷ ws) c day e (written_by at weekday (Some day) 0 (w ∷ ws) c _ refl (rw digit at h))
 
-date_read : (at : Setting) (weekday : Option Weekday) (d : List ℕ) (ws : List (List ℕ)) (c : Written) (day : Result ℤ StampFault) → day_written d ≡ day → (day >>= λ n. behind_date at weekday n ws) ≡ Ok c → IsBody at weekday (d ∷ ws) c
+date_read : (at : Setting) (weekday : Option Weekday) (d : List ℕ) (ws : List (List ℕ)) (c : Written) (day : Result ℤ StampFault) → day_written d ≡ day → (day >>= λ n. after_date at weekday n ws) ≡ Ok c → IsBody at weekday (d ∷ ws) c
 date_read at weekday d ws c (Err fault) e h = cc
 date_read at weekday d [] c (Ok day) e h =
     date_alone at weekday d [] c day e (written_by at weekday (Some day) 0 [] c _ refl h)
-date_read at weekday d (w ∷ ws) c (Ok day) e h = behind_date_by at weekday d w ws c day _ refl e h
+date_read at weekday d (w ∷ ws) c (Ok day) e h = after_date_by at weekday d w ws c day _ refl e h
 
 first_time : (at : Setting) (weekday : Option Weekday) (w : List ℕ) (ws : List (List ℕ)) (c : Written) (micros : Result ℕ StampFault) → time_written w ≡ micros → (micros >>= λ n. written_in at weekday None n ws) ≡ Ok c → IsBody at weekday (w ∷ ws) c
 first_time at weekday w ws c (Err fault) e h = cc
 first_time at weekday w ws c (Ok micros) e h =
     time_alone at weekday w ws c micros e (written_by at weekday None micros ws c _ refl h)
 
-body_by : (at : Setting) (weekday : Option Weekday) (w : List ℕ) (ws : List (List ℕ)) (c : Written) (test : Bool) → list_any is_colon w ≡ test → behind_weekday at weekday (w ∷ ws) ≡ Ok c → IsBody at weekday (w ∷ ws) c
+body_by : (at : Setting) (weekday : Option Weekday) (w : List ℕ) (ws : List (List ℕ)) (c : Written) (test : Bool) → list_any is_colon w ≡ test → after_weekday at weekday (w ∷ ws) ≡ Ok c → IsBody at weekday (w ∷ ws) c
 body_by at weekday w ws c true e h = first_time at weekday w ws c _ refl (rw e at h)
 body_by at weekday w ws c false e h = date_read at weekday w ws c _ refl (rw e at h)
 
-body : (at : Setting) (weekday : Option Weekday) (ws : List (List ℕ)) (c : Written) → behind_weekday at weekday ws ≡ Ok c → IsBody at weekday ws c
+body : (at : Setting) (weekday : Option Weekday) (ws : List (List ℕ)) (c : Written) → after_weekday at weekday ws ≡ Ok c → IsBody at weekday ws c
 body at weekday [] c h = cc
 body at weekday (w ∷ ws) c h = body_by at weekday w ws c _ refl h
 

@@ -3,18 +3,18 @@ use Rattle.std.proofs.Common.{ℕ, ◌≡◌, Bool, true, false, inl, inr, List,
 use Rattle.std.specs.Prelude.{Result, if◌then◌else◌}
 use Rattle.std.specs.List.{list_any}
 use Rattle.jiff.specs.Types.{TimeZone, Weekday}
-use Rattle.cal_span.specs.declared.span_fault.SpanFault.{SpanFault}
+use Rattle.cal_span.specs.declared.span.fault.SpanFault.{SpanFault}
 use Rattle.cal_span.specs.SpanValue.{span_of}
 use Rattle.cal_zone.specs.ZoneName.{begins_with_letter}
 use Rattle.cal_spec.specs.DateAndTime.{is_colon}
 use Rattle.cal_spec.specs.Weekdays.{day_named}
-use Rattle.cal_read.specs.Stamp.{◌>>=◌, Setting, Written, in_moments, behind_second, before_second, settled, today, zone_in, zone_found, written_in, begins_with_digit, behind_date, behind_weekday, weekday_found, civil_time, moment_of_written, moment_of_form, moment_in}
+use Rattle.cal_read.specs.Stamp.{◌>>=◌, Setting, Written, in_moments, after_second, before_second, settled, today, zone_by_words, zone_found, written_in, begins_with_digit, after_date, after_weekday, weekday_found, civil_time, moment_of_written, moment_of_form, moment_in}
 use Rattle.cal_read.specs.StampCivilRule.{HasNoSuchDate}
 use Rattle.cal_read.specs.StampDate.{day_written}
 use Rattle.cal_read.specs.StampForm.{Form, nothing, present, later, earlier, counted, from_today, civil, form_of}
 use Rattle.cal_read.specs.StampTime.{time_numbers, time_due, time_written}
-use Rattle.cal_read.specs.declared.stamp_fault.StampFault.{StampFault}
-use Rattle.cal_read.specs.declared.stamp_fault.StampFault.TheVariants.{NoSuchDate, OutOfRange, WrongWeekday}
+use Rattle.cal_read.specs.declared.stamp.fault.StampFault.{StampFault}
+use Rattle.cal_read.specs.declared.stamp.fault.StampFault.TheVariants.{NoSuchDate, OutOfRange, WrongWeekday}
 
 -- What is never that fault
 
@@ -30,9 +30,9 @@ no_settled : (zone : TimeZone) (day : ℤ) (micros : ℕ) → settled zone day m
 unfolding settled
 no_settled zone day micros h = no_moment _ h
 
-no_behind : (second : ℤ) (span : Result ℕ SpanFault) → behind_second second span ≡ Err NoSuchDate → ⊥
-no_behind second (Ok n) h = no_moment _ h
-no_behind second (Err fault) h = cc
+no_after : (second : ℤ) (span : Result ℕ SpanFault) → after_second second span ≡ Err NoSuchDate → ⊥
+no_after second (Ok n) h = no_moment _ h
+no_after second (Err fault) h = cc
 
 no_before : (second : ℤ) (span : Result ℕ SpanFault) → before_second second span ≡ Err NoSuchDate → ⊥
 no_before second (Ok n) h = no_moment _ h
@@ -51,11 +51,11 @@ no_zone_found None ws h = cc
 no_zone_found (Some zone) [] h = cc
 no_zone_found (Some zone) (w ∷ ws) h = cc
 
-no_zone_by : (at : Setting) (w : List ℕ) (ws : List (List ℕ)) (test : Bool) → begins_with_letter w ≡ test → zone_in at (w ∷ ws) ≡ Err NoSuchDate → ⊥
+no_zone_by : (at : Setting) (w : List ℕ) (ws : List (List ℕ)) (test : Bool) → begins_with_letter w ≡ test → zone_by_words at (w ∷ ws) ≡ Err NoSuchDate → ⊥
 no_zone_by at w ws true e h = no_zone_found (at.find w) ws (rw e at h)
 no_zone_by at w ws false e h = let other = rw e at h in cc
 
-no_zone : (at : Setting) (ws : List (List ℕ)) → zone_in at ws ≡ Err NoSuchDate → ⊥
+no_zone : (at : Setting) (ws : List (List ℕ)) → zone_by_words at ws ≡ Err NoSuchDate → ⊥
 no_zone at [] h = cc
 no_zone at (w ∷ ws) h = no_zone_by at w ws _ refl h
 
@@ -65,20 +65,20 @@ no_written_by weekday day micros (Ok zone) never h = cc
 no_written_by weekday day micros (Err fault) never h = let same : fault ≡ NoSuchDate = cc in never (ap Err same)
 
 no_written : (at : Setting) (weekday : Option Weekday) (day : Option ℤ) (micros : ℕ) (ws : List (List ℕ)) → written_in at weekday day micros ws ≡ Err NoSuchDate → ⊥
-no_written at weekday day micros ws h = no_written_by weekday day micros (zone_in at ws) (no_zone at ws) h
+no_written at weekday day micros ws h = no_written_by weekday day micros (zone_by_words at ws) (no_zone at ws) h
 
 no_time_then : (f : ℕ → Result Written StampFault) (micros : Result ℕ StampFault) → (micros ≡ Err NoSuchDate → ⊥) → ((n : ℕ) → f n ≡ Err NoSuchDate → ⊥) → (micros >>= f) ≡ Err NoSuchDate → ⊥
 no_time_then f (Ok n) never more h = more n h
 no_time_then f (Err fault) never more h = let same : fault ≡ NoSuchDate = cc in never (ap Err same)
 
-no_behind_date_by : (at : Setting) (weekday : Option Weekday) (day : ℤ) (w : List ℕ) (ws : List (List ℕ)) (test : Bool) → begins_with_digit w ≡ test → behind_date at weekday day (w ∷ ws) ≡ Err NoSuchDate → ⊥
-no_behind_date_by at weekday day w ws true e h =
+no_after_date_by : (at : Setting) (weekday : Option Weekday) (day : ℤ) (w : List ℕ) (ws : List (List ℕ)) (test : Bool) → begins_with_digit w ≡ test → after_date at weekday day (w ∷ ws) ≡ Err NoSuchDate → ⊥
+no_after_date_by at weekday day w ws true e h =
     no_time_then (λ n. written_in at weekday (Some day) n ws) (time_written w) (no_time_written w) (λ n. no_written at weekday (Some day) n ws) (rw e at h)
-no_behind_date_by at weekday day w ws false e h = no_written at weekday (Some day) 0 (w ∷ ws) (rw e at h)
+no_after_date_by at weekday day w ws false e h = no_written at weekday (Some day) 0 (w ∷ ws) (rw e at h)
 
-no_behind_date : (at : Setting) (weekday : Option Weekday) (day : ℤ) (ws : List (List ℕ)) → behind_date at weekday day ws ≡ Err NoSuchDate → ⊥
-no_behind_date at weekday day [] h = no_written at weekday (Some day) 0 [] h
-no_behind_date at weekday day (w ∷ ws) h = no_behind_date_by at weekday day w ws _ refl h
+no_after_date : (at : Setting) (weekday : Option Weekday) (day : ℤ) (ws : List (List ℕ)) → after_date at weekday day ws ≡ Err NoSuchDate → ⊥
+no_after_date at weekday day [] h = no_written at weekday (Some day) 0 [] h
+no_after_date at weekday day (w ∷ ws) h = no_after_date_by at weekday day w ws _ refl h
 
 no_moment_by : (zone : TimeZone) (day : ℤ) (micros : ℕ) (test : Bool) → (if test then settled zone day micros else Err WrongWeekday) ≡ Err NoSuchDate → ⊥
 no_moment_by zone day micros true h = no_settled zone day micros h
@@ -90,16 +90,16 @@ no_moment_of_written now c h = no_moment_by c.zone _ c.micros _ h
 
 -- Where it comes from
 
-date_read : (at : Setting) (weekday : Option Weekday) (w : List ℕ) (ws : List (List ℕ)) (day : Result ℤ StampFault) → day_written w ≡ day → (day >>= λ n. behind_date at weekday n ws) ≡ Err NoSuchDate → day_written w ≡ Err NoSuchDate
-date_read at weekday w ws (Ok day) e h = absurd (no_behind_date at weekday day ws h)
+date_read : (at : Setting) (weekday : Option Weekday) (w : List ℕ) (ws : List (List ℕ)) (day : Result ℤ StampFault) → day_written w ≡ day → (day >>= λ n. after_date at weekday n ws) ≡ Err NoSuchDate → day_written w ≡ Err NoSuchDate
+date_read at weekday w ws (Ok day) e h = absurd (no_after_date at weekday day ws h)
 date_read at weekday w ws (Err fault) e h = let same : fault ≡ NoSuchDate = cc in e ∙ ap Err same
 
-body_by : (at : Setting) (weekday : Option Weekday) (w : List ℕ) (ws : List (List ℕ)) (test : Bool) → list_any is_colon w ≡ test → behind_weekday at weekday (w ∷ ws) ≡ Err NoSuchDate → HasNoSuchDate (w ∷ ws)
+body_by : (at : Setting) (weekday : Option Weekday) (w : List ℕ) (ws : List (List ℕ)) (test : Bool) → list_any is_colon w ≡ test → after_weekday at weekday (w ∷ ws) ≡ Err NoSuchDate → HasNoSuchDate (w ∷ ws)
 body_by at weekday w ws true e h =
     absurd (no_time_then (λ n. written_in at weekday None n ws) (time_written w) (no_time_written w) (λ n. no_written at weekday None n ws) (rw e at h))
 body_by at weekday w ws false e h = inl (date_read at weekday w ws _ refl (rw e at h))
 
-body : (at : Setting) (weekday : Option Weekday) (ws : List (List ℕ)) → behind_weekday at weekday ws ≡ Err NoSuchDate → HasNoSuchDate ws
+body : (at : Setting) (weekday : Option Weekday) (ws : List (List ℕ)) → after_weekday at weekday ws ≡ Err NoSuchDate → HasNoSuchDate ws
 body at weekday [] h = cc
 body at weekday (w ∷ ws) h = body_by at weekday w ws _ refl h
 
@@ -126,10 +126,10 @@ no_midnight now shift (Err fault) never h = let same : fault ≡ NoSuchDate = cc
 by_form : (now : ℤ) (at : Setting) (form : Form) → moment_of_form now at form ≡ Err NoSuchDate → (ws : List (List ℕ)) × (form ≡ civil ws) × HasNoSuchDate ws
 by_form now at nothing h = cc
 by_form now at present h = absurd (no_moment _ h)
-by_form now at (later span) h = absurd (no_behind now (span_of span) h)
+by_form now at (later span) h = absurd (no_after now (span_of span) h)
 by_form now at (earlier span) h = absurd (no_before now (span_of span) h)
-by_form now at (counted span) h = absurd (no_behind (pos 0) (span_of span) h)
-by_form now at (from_today shift ws) h = absurd (no_midnight now shift (zone_in at ws) (no_zone at ws) h)
+by_form now at (counted span) h = absurd (no_after (pos 0) (span_of span) h)
+by_form now at (from_today shift ws) h = absurd (no_midnight now shift (zone_by_words at ws) (no_zone at ws) h)
 by_form now at (civil ws) h = (ws, refl, by_civil now at ws _ refl h)
 
 pub written_date : (now : ℤ) (at : Setting) (text : List ℕ) → moment_in now at text ≡ Err NoSuchDate → (ws : List (List ℕ)) × (form_of text ≡ civil ws) × HasNoSuchDate ws

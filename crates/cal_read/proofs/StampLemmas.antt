@@ -19,7 +19,7 @@ use Rattle.cal_spec.proofs.PieceLemmas.{some_piece}
 use Rattle.cal_read.specs.Stamp.{in_moments}
 use Rattle.cal_read.specs.StampDate.{is_hyphen, date_numbers}
 use Rattle.cal_read.specs.StampTime.{second_written, time_numbers}
-use Rattle.cal_read.specs.declared.stamp_fault.StampFault.TheVariants.{OutOfRange}
+use Rattle.cal_read.specs.declared.stamp.fault.StampFault.TheVariants.{OutOfRange}
 
 -- Numbers
 
@@ -39,7 +39,7 @@ short_number ds all short =
     let most : 10 ^ length ds ≤ 10 ^ 4 = pow-le-pow_right (omega arith) short in
     omega (arith, fits, most)
 
--- what digits behind a point add is at most nine times the unit for each
+-- what digits after a point add is at most nine times the unit for each
 pub fraction_bound : (size place : ℕ) (ds : List ℕ) → list_all is_ascii_digit ds ≡ true → fraction_worth size place ds ≤ length ds * (9 * size)
 fraction_bound size place [] h = omega arith
 fraction_bound size place (d ∷ ds) h =

@@ -32,8 +32,8 @@ one_nothing core f g p q = p.1 ∙ sym q.1
 one_present : IsOne IsPresent
 one_present core f g p q = p.1 ∙ sym q.1
 
-one_behind_sign : (sign : List ℕ) (means : List ℕ → Form) → IsOne (IsBehindSign sign means)
-one_behind_sign sign means core f g p q =
+one_after_sign : (sign : List ℕ) (means : List ℕ → Form) → IsOne (IsBehindSign sign means)
+one_after_sign sign means core f g p q =
     p.2 ∙ ap means (append_cancel_left sign p.0 q.0 (sym p.1 ∙ q.1)) ∙ sym q.2
 
 same_front : (word s t : List ℕ) (b c : ℕ) → s ++ (b ∷ word) ≡ t ++ (c ∷ word) → s ≡ t
@@ -67,9 +67,9 @@ one_by_end =
 
 one_by_sign : IsOne FitsBySign
 one_by_sign =
-    or_else _ (OrElse (IsBehindSign (codes "-") earlier) (OrElse (IsBehindSign (codes "@") counted) FitsByEnd)) (one_behind_sign (codes "+") later)
-    (or_else _ (OrElse (IsBehindSign (codes "@") counted) FitsByEnd) (one_behind_sign (codes "-") earlier)
-    (or_else _ FitsByEnd (one_behind_sign (codes "@") counted) one_by_end))
+    or_else _ (OrElse (IsBehindSign (codes "-") earlier) (OrElse (IsBehindSign (codes "@") counted) FitsByEnd)) (one_after_sign (codes "+") later)
+    (or_else _ (OrElse (IsBehindSign (codes "@") counted) FitsByEnd) (one_after_sign (codes "-") earlier)
+    (or_else _ FitsByEnd (one_after_sign (codes "@") counted) one_by_end))
 
 one_fits : IsOne FitsFirst
 one_fits = or_else IsNothing (OrElse IsPresent FitsBySign) one_nothing (or_else IsPresent FitsBySign one_present one_by_sign)
@@ -124,7 +124,7 @@ between-solid text = record {
   back = drop (length (from_solid text) - suffix_len is_blank (from_solid text)) (from_solid text);
   whole = whole_solid text;
   before = all_in_front is_blank text;
-  behind = all_at_end is_blank (from_solid text);
+  after = all_at_end is_blank (from_solid text);
   begins = begins_solid text;
   ends = ends_solid text;
 }
@@ -162,7 +162,7 @@ core_between (b ∷ bs) back blanks begins ends =
 pub solid-between : (text core : List ℕ) → IsBetweenBlanks text core → core ≡ solid text
 unfolding solid
 solid-between text core h =
-    core_between core h.back h.behind h.begins h.ends
+    core_between core h.back h.after h.begins h.ends
     ∙ sym (ap to_solid (ap from_solid h.whole ∙ from_solid-front h.front (core ++ h.back) h.before))
 
 -- The first form that fits
@@ -221,8 +221,8 @@ split_at_word word text e =
     let blank = get_or text (start - 1) 0 in
     let inside : start - 1 < length text = omega arith in
     let next : suc (start - 1) ≡ start = omega arith in
-    let behind = drop-cons text (start - 1) 0 inside ∙ ap (λ n. blank ∷ drop n text) next ∙ ap (λ ws. blank ∷ ws) ((bytes_eq-Decides (after_last is_blank text) word).0 parts.1) in
-    (blank, last_blank text within, sym (take-append-drop (start - 1) text) ∙ ap (λ ws. take (start - 1) text ++ ws) behind)
+    let after = drop-cons text (start - 1) 0 inside ∙ ap (λ n. blank ∷ drop n text) next ∙ ap (λ ws. blank ∷ ws) ((bytes_eq-Decides (after_last is_blank text) word).0 parts.1) in
+    (blank, last_blank text within, sym (take-append-drop (start - 1) text) ∙ ap (λ ws. take (start - 1) text ++ ws) after)
 
 last_of : (word span : List ℕ) (blank : ℕ) → list_all is_solid word ≡ true → is_blank blank ≡ true → suffix_len is_solid (span ++ (blank ∷ word)) ≡ length word
 last_of word span blank solid is =
@@ -246,8 +246,8 @@ ends_in_word word span blank solid is =
     let long = length-append span (blank ∷ word) in
     let some = list_any_at is_blank text n 0 (omega (arith, long)) (rw (get_or-append_seam span blank word 0) is) in
     let start : length text - suffix_len is_solid text ≡ n + 1 = omega (arith, long, last_of word span blank solid is) in
-    let behind = ap (λ k. drop k text) start ∙ drop-append-add span (blank ∷ word) 1 in
-    rw (some, (bytes_eq-Decides (after_last is_blank text) word).1 behind) refl
+    let after = ap (λ k. drop k text) start ∙ drop-append-add span (blank ∷ word) 1 in
+    rw (some, (bytes_eq-Decides (after_last is_blank text) word).1 after) refl
 
 no_word : (word text : List ℕ) (means : List ℕ → Form) (other : Form) → list_all is_solid word ≡ true → (list_any is_blank text && bytes_eq (after_last is_blank text) word) ≡ false → IsBeforeWord word means text other → ⊥
 no_word word text means other solid e p =

@@ -7,9 +7,9 @@ use Rattle.std.proofs.lemmas.Str.{IsUtf8-from_is_utf8}
 use Rattle.cal_spec.specs.declared.spec_fault.SpecFault.{SpecFault}
 use Rattle.cal_read.specs.Assignments.{Assigned, assignments_in}
 use Rattle.cal_lines.specs.Lines.{logical_lines}
-use Rattle.cal_read.specs.TimerText.{Entry, bad_line, broken_line, fault_behind, first_fault, is_expression, list_of, listed, most_expressions, some_entries, timer_in, timer_of, unless_fault, without_mark}
-use Rattle.cal_read.specs.declared.timer_fault.TimerFault.{TimerFault}
-use Rattle.cal_read.specs.declared.timer_fault.TimerFault.TheVariants.{BadLine, NoMemory, NothingToDo, NotUtf8, ReadFailed, TooLarge, TooMany}
+use Rattle.cal_read.specs.TimerText.{Entry, bad_line, broken_line, fault_following, first_fault, is_expression, list_of, listed, most_expressions, some_entries, timer_in, timer_of, unless_fault, without_mark}
+use Rattle.cal_read.specs.declared.timer.fault.TimerFault.{TimerFault}
+use Rattle.cal_read.specs.declared.timer.fault.TimerFault.TheVariants.{BadLine, NoMemory, NothingToDo, NotUtf8, ReadFailed, TooLarge, TooMany}
 
 -- the faults that a line can have
 abbrev pub is_of_line : TimerFault → Bool
@@ -25,8 +25,8 @@ text_is_of_line : {E : Type 0} (number : ℕ) (r : Result E SpecFault) (fault : 
 text_is_of_line number (Ok expr) fault e = cc
 text_is_of_line number (Err f) fault e = let same : BadLine number f ≡ fault = cc in rw (← same) refl
 
-one_is_of_line : {E : Type 0} (read : List ℕ → Result E SpecFault) (before : List Assigned) (a : Assigned) (fault : TimerFault) (expresses many : Bool) → is_expression a ≡ expresses → nat_le most_expressions (length (listed before)) ≡ many → fault_behind read before a ≡ Some fault → is_of_line fault ≡ true
-unfolding fault_behind
+one_is_of_line : {E : Type 0} (read : List ℕ → Result E SpecFault) (before : List Assigned) (a : Assigned) (fault : TimerFault) (expresses many : Bool) → is_expression a ≡ expresses → nat_le most_expressions (length (listed before)) ≡ many → fault_following read before a ≡ Some fault → is_of_line fault ≡ true
+unfolding fault_following
 one_is_of_line read before a fault false many e f = rw e (λ h. cc)
 one_is_of_line read before a fault true true e f = rw (e, f) (λ h. let same : TooMany a.number ≡ fault = cc in rw (← same) refl)
 one_is_of_line read before a fault true false e f = rw (e, f) (text_is_of_line a.number (read a.value) fault)
@@ -35,11 +35,11 @@ either_is_of_line : (o p : Option TimerFault) (fault : TimerFault) → (o ≡ So
 either_is_of_line None p fault first rest h = rest h
 either_is_of_line (Some f) p fault first rest h = first h
 
-pub first_is_of_line : {E : Type 0} (read : List ℕ → Result E SpecFault) (before behind : List Assigned) (fault : TimerFault) → first_fault read before behind ≡ Some fault → is_of_line fault ≡ true
+pub first_is_of_line : {E : Type 0} (read : List ℕ → Result E SpecFault) (before after : List Assigned) (fault : TimerFault) → first_fault read before after ≡ Some fault → is_of_line fault ≡ true
 unfolding first_fault
 first_is_of_line read before [] fault h = cc
-first_is_of_line read before (a ∷ behind) fault h =
-    either_is_of_line (fault_behind read before a) (first_fault read (before ++ a ∷ []) behind) fault (one_is_of_line read before a fault (is_expression a) (nat_le most_expressions (length (listed before))) refl refl) (first_is_of_line read (before ++ a ∷ []) behind fault) h
+first_is_of_line read before (a ∷ after) fault h =
+    either_is_of_line (fault_following read before a) (first_fault read (before ++ a ∷ []) after) fault (one_is_of_line read before a fault (is_expression a) (nat_le most_expressions (length (listed before))) refl refl) (first_is_of_line read (before ++ a ∷ []) after fault) h
 
 never_of_line : is_of_line ReadFailed ≡ true → ⊥
 never_of_line h = cc

@@ -8,9 +8,9 @@ use Rattle.cal_spec.specs.declared.spec_fault.SpecFault.{SpecFault}
 use Rattle.cal_spec.specs.declared.spec_fault.SpecFault.TheVariants.{NoRepeat}
 use Rattle.cal_read.specs.Assignments.{assignment_of, assignments_in, timer_lines}
 use Rattle.cal_lines.specs.Lines.{groups, is_continued, logical_lines, part_of, physical_lines, plain_lines, trim, trim_end, trim_start}
-use Rattle.cal_read.specs.TimerText.{Entry, broken_line, entries, fault_behind, first_fault, is_expression, is_reset, list_of, listed, timer_in, timer_of, without_mark}
-use Rattle.cal_read.specs.declared.timer_fault.TimerFault.{TimerFault}
-use Rattle.cal_read.specs.declared.timer_fault.TimerFault.TheVariants.{BadLine, NothingToDo, NotUtf8}
+use Rattle.cal_read.specs.TimerText.{Entry, broken_line, entries, fault_following, first_fault, is_expression, is_reset, list_of, listed, timer_in, timer_of, without_mark}
+use Rattle.cal_read.specs.declared.timer.fault.TimerFault.{TimerFault}
+use Rattle.cal_read.specs.declared.timer.fault.TimerFault.TheVariants.{BadLine, NothingToDo, NotUtf8}
 
 -- lines, each with its line feed
 abbrev file : List (List ℕ) → List ℕ
@@ -35,47 +35,47 @@ IsRefused bytes fault = timer_in refused bytes ≡ Err fault
 
 -- the worked file
 worked_file : Gives (file (codes "[Unit]" ∷ codes "Description=x" ∷ codes "[Timer]" ∷ codes "OnCalendar=daily" ∷ codes "OnBootSec=" ∷ continued (codes "OnCalendar=Mon ") ∷ codes "# the minutes" ∷ codes "  *:0/30" ∷ codes "OnCalendar=hourly" ∷ [])) (entry 6 (codes "Mon  *:0/30") ∷ entry 9 (codes "hourly") ∷ [])
-unfolding timer_in timer_of list_of first_fault fault_behind listed entries is_reset is_expression assignments_in timer_lines assignment_of logical_lines groups plain_lines physical_lines part_of is_continued trim trim_end trim_start without_mark broken_line is_utf8 chars encode
+unfolding timer_in timer_of list_of first_fault fault_following listed entries is_reset is_expression assignments_in timer_lines assignment_of logical_lines groups plain_lines physical_lines part_of is_continued trim trim_end trim_start without_mark broken_line is_utf8 chars encode
 worked_file = refl
 
 -- refusals
 empty_file : IsRefused [] NothingToDo
-unfolding timer_in timer_of list_of first_fault fault_behind listed entries is_reset is_expression assignments_in timer_lines assignment_of logical_lines groups plain_lines physical_lines part_of is_continued trim trim_end trim_start without_mark broken_line is_utf8 chars encode
+unfolding timer_in timer_of list_of first_fault fault_following listed entries is_reset is_expression assignments_in timer_lines assignment_of logical_lines groups plain_lines physical_lines part_of is_continued trim trim_end trim_start without_mark broken_line is_utf8 chars encode
 empty_file = refl
 
 bad_text : IsRefused (codes "[Timer]" ++ 10 ∷ codes "OnCalendar=20/4:00") (BadLine 2 NoRepeat)
-unfolding timer_in timer_of list_of first_fault fault_behind listed entries is_reset is_expression assignments_in timer_lines assignment_of logical_lines groups plain_lines physical_lines part_of is_continued trim trim_end trim_start without_mark broken_line is_utf8 chars encode
+unfolding timer_in timer_of list_of first_fault fault_following listed entries is_reset is_expression assignments_in timer_lines assignment_of logical_lines groups plain_lines physical_lines part_of is_continued trim trim_end trim_start without_mark broken_line is_utf8 chars encode
 bad_text = refl
 
 bad_byte : IsRefused (file (codes "[Timer]" ∷ codes "OnCalendar=daily" ∷ (codes "x" ++ 255 ∷ []) ∷ [])) (NotUtf8 3)
-unfolding timer_in timer_of list_of first_fault fault_behind listed entries is_reset is_expression assignments_in timer_lines assignment_of logical_lines groups plain_lines physical_lines part_of is_continued trim trim_end trim_start without_mark broken_line is_utf8 chars encode utf8_valid_len
+unfolding timer_in timer_of list_of first_fault fault_following listed entries is_reset is_expression assignments_in timer_lines assignment_of logical_lines groups plain_lines physical_lines part_of is_continued trim trim_end trim_start without_mark broken_line is_utf8 chars encode utf8_valid_len
 bad_byte = refl
 
 broken_off : IsRefused (10 ∷ 195 ∷ 10 ∷ []) (NotUtf8 2)
-unfolding timer_in timer_of list_of first_fault fault_behind listed entries is_reset is_expression assignments_in timer_lines assignment_of logical_lines groups plain_lines physical_lines part_of is_continued trim trim_end trim_start without_mark broken_line is_utf8 chars encode utf8_valid_len
+unfolding timer_in timer_of list_of first_fault fault_following listed entries is_reset is_expression assignments_in timer_lines assignment_of logical_lines groups plain_lines physical_lines part_of is_continued trim trim_end trim_start without_mark broken_line is_utf8 chars encode utf8_valid_len
 broken_off = refl
 
 bad_before_reset : IsRefused (file (codes "[Timer]" ∷ codes "OnCalendar=x" ∷ codes "OnCalendar=" ∷ codes "OnCalendar=y" ∷ [])) (BadLine 2 NoRepeat)
-unfolding timer_in timer_of list_of first_fault fault_behind listed entries is_reset is_expression assignments_in timer_lines assignment_of logical_lines groups plain_lines physical_lines part_of is_continued trim trim_end trim_start without_mark broken_line is_utf8 chars encode
+unfolding timer_in timer_of list_of first_fault fault_following listed entries is_reset is_expression assignments_in timer_lines assignment_of logical_lines groups plain_lines physical_lines part_of is_continued trim trim_end trim_start without_mark broken_line is_utf8 chars encode
 bad_before_reset = refl
 
 -- ends of lines, marks, sections, and backslashes
 mark_and_returns : Gives (239 ∷ 187 ∷ 191 ∷ codes "[Timer]" ++ 13 ∷ 10 ∷ codes "OnCalendar= a " ++ 13 ∷ 13 ∷ 10 ∷ []) (entry 2 (codes "a") ∷ [])
-unfolding timer_in timer_of list_of first_fault fault_behind listed entries is_reset is_expression assignments_in timer_lines assignment_of logical_lines groups plain_lines physical_lines part_of is_continued trim trim_end trim_start without_mark broken_line is_utf8 chars encode
+unfolding timer_in timer_of list_of first_fault fault_following listed entries is_reset is_expression assignments_in timer_lines assignment_of logical_lines groups plain_lines physical_lines part_of is_continued trim trim_end trim_start without_mark broken_line is_utf8 chars encode
 mark_and_returns = refl
 
 other_sections : Gives (file (codes "OnCalendar=a" ∷ codes " [Timer] " ∷ codes "OnCalendar=b" ∷ codes "[Unit]" ∷ codes "OnCalendar=" ∷ [])) (entry 3 (codes "b") ∷ [])
-unfolding timer_in timer_of list_of first_fault fault_behind listed entries is_reset is_expression assignments_in timer_lines assignment_of logical_lines groups plain_lines physical_lines part_of is_continued trim trim_end trim_start without_mark broken_line is_utf8 chars encode
+unfolding timer_in timer_of list_of first_fault fault_following listed entries is_reset is_expression assignments_in timer_lines assignment_of logical_lines groups plain_lines physical_lines part_of is_continued trim trim_end trim_start without_mark broken_line is_utf8 chars encode
 other_sections = refl
 
 ends_continued : Gives (codes "[Timer]" ++ 10 ∷ continued (codes "OnCalendar=a")) (entry 2 (codes "a") ∷ [])
-unfolding timer_in timer_of list_of first_fault fault_behind listed entries is_reset is_expression assignments_in timer_lines assignment_of logical_lines groups plain_lines physical_lines part_of is_continued trim trim_end trim_start without_mark broken_line is_utf8 chars encode
+unfolding timer_in timer_of list_of first_fault fault_following listed entries is_reset is_expression assignments_in timer_lines assignment_of logical_lines groups plain_lines physical_lines part_of is_continued trim trim_end trim_start without_mark broken_line is_utf8 chars encode
 ends_continued = refl
 
 even_backslashes : Gives (file (codes "[Timer]" ∷ continued (continued (codes "OnCalendar=a")) ∷ codes "OnCalendar=b" ∷ [])) (entry 2 (codes "a" ++ 92 ∷ 92 ∷ []) ∷ entry 3 (codes "b") ∷ [])
-unfolding timer_in timer_of list_of first_fault fault_behind listed entries is_reset is_expression assignments_in timer_lines assignment_of logical_lines groups plain_lines physical_lines part_of is_continued trim trim_end trim_start without_mark broken_line is_utf8 chars encode
+unfolding timer_in timer_of list_of first_fault fault_following listed entries is_reset is_expression assignments_in timer_lines assignment_of logical_lines groups plain_lines physical_lines part_of is_continued trim trim_end trim_start without_mark broken_line is_utf8 chars encode
 even_backslashes = refl
 
 comment_continues_nothing : Gives (file (codes "[Timer]" ∷ continued (codes "; x ") ∷ codes "OnCalendar=a=b" ∷ [])) (entry 3 (codes "a=b") ∷ [])
-unfolding timer_in timer_of list_of first_fault fault_behind listed entries is_reset is_expression assignments_in timer_lines assignment_of logical_lines groups plain_lines physical_lines part_of is_continued trim trim_end trim_start without_mark broken_line is_utf8 chars encode
+unfolding timer_in timer_of list_of first_fault fault_following listed entries is_reset is_expression assignments_in timer_lines assignment_of logical_lines groups plain_lines physical_lines part_of is_continued trim trim_end trim_start without_mark broken_line is_utf8 chars encode
 comment_continues_nothing = refl

@@ -8,9 +8,9 @@ use Rattle.cal_spec.specs.declared.spec_fault.SpecFault.{SpecFault}
 use Rattle.cal_read.specs.Assignments.{Assigned, is_header, section_of, timer_lines}
 use Rattle.cal_lines.specs.Lines.{Line}
 use Rattle.cal_read.specs.TimerRule.{AreFine, IsFirstFault, Judges}
-use Rattle.cal_read.specs.TimerText.{Entry, entries, fault_behind, first_fault, is_expression, is_reset, list_of, listed, some_entries, unless_fault}
-use Rattle.cal_read.specs.declared.timer_fault.TimerFault.{TimerFault}
-use Rattle.cal_read.specs.declared.timer_fault.TimerFault.TheVariants.{ReadFailed, TooLarge, NotUtf8, BadLine, TooMany, NothingToDo, NoMemory}
+use Rattle.cal_read.specs.TimerText.{Entry, entries, fault_following, first_fault, is_expression, is_reset, list_of, listed, some_entries, unless_fault}
+use Rattle.cal_read.specs.declared.timer.fault.TimerFault.{TimerFault}
+use Rattle.cal_read.specs.declared.timer.fault.TimerFault.TheVariants.{ReadFailed, TooLarge, NotUtf8, BadLine, TooMany, NothingToDo, NoMemory}
 use Rattle.cal_read.proofs.ListedLemmas.{after_last_here, after_last_more}
 use Rattle.cal_read.proofs.TimerLemmas.{first_is_of_line, is_of_line}
 
@@ -30,7 +30,7 @@ no_header false (line ∷ lines) h =
     let parts = or_parts (is_header line.text) (list_any (λ line. is_header line.text) lines) h in
     rw parts.0 (no_header false lines parts.1)
 
--- what stands behind the last header
+-- what stands after the last header
 abbrev opened : Line → List Line → List Line
 opened header rest = if bytes_eq (section_of header.text) (codes "Timer") then rest else []
 
@@ -45,107 +45,107 @@ unfolding timer_lines
 last_header inside [] rest header e none = rw e (no_header (bytes_eq (section_of header.text) (codes "Timer")) rest none)
 last_header inside (line ∷ front) rest header e none = header_passed (is_header line.text) inside line front rest header refl (λ inside. last_header inside front rest header e none)
 
--- The list behind the last reset
-after_last_behind : {X : Type 0} (p : X → Bool) (xs ys : List X) → list_any p ys ≡ false → after_last p (xs ++ ys) ≡ after_last p xs ++ ys
-after_last_behind p xs [] none = ap (after_last p) (append-nil xs) ∙ sym (append-nil (after_last p xs))
-after_last_behind p xs (y ∷ ys) none =
+-- The list after the last reset
+after_last_after : {X : Type 0} (p : X → Bool) (xs ys : List X) → list_any p ys ≡ false → after_last p (xs ++ ys) ≡ after_last p xs ++ ys
+after_last_after p xs [] none = ap (after_last p) (append-nil xs) ∙ sym (append-nil (after_last p xs))
+after_last_after p xs (y ∷ ys) none =
     let parts = or_parts (p y) (list_any p ys) none in
     ap (after_last p) (sym (append_assoc xs (y ∷ []) ys))
-    ∙ after_last_behind p (xs ++ y ∷ []) ys parts.1
+    ∙ after_last_after p (xs ++ y ∷ []) ys parts.1
     ∙ ap (λ front. front ++ ys) (after_last_more p xs y parts.0)
     ∙ append_assoc (after_last p xs) (y ∷ []) ys
 
-pub listed_behind_reset : (front rest : List Assigned) (reset : Assigned) → is_reset reset ≡ true → list_any is_reset rest ≡ false → listed (front ++ (reset ∷ rest)) ≡ filter is_expression rest
+pub listed_after_reset : (front rest : List Assigned) (reset : Assigned) → is_reset reset ≡ true → list_any is_reset rest ≡ false → listed (front ++ (reset ∷ rest)) ≡ filter is_expression rest
 unfolding listed
-listed_behind_reset front rest reset e none =
+listed_after_reset front rest reset e none =
     ap (λ all. filter is_expression (after_last is_reset all)) (sym (append_assoc front (reset ∷ []) rest))
-    ∙ ap (filter is_expression) (after_last_behind is_reset (front ++ reset ∷ []) rest none ∙ ap (λ before. before ++ rest) (after_last_here is_reset front reset e))
+    ∙ ap (filter is_expression) (after_last_after is_reset (front ++ reset ∷ []) rest none ∙ ap (λ before. before ++ rest) (after_last_here is_reset front reset e))
 
 pub listed_without_reset : (all : List Assigned) → list_any is_reset all ≡ false → listed all ≡ filter is_expression all
 unfolding listed
-listed_without_reset all none = ap (filter is_expression) (after_last_behind is_reset [] all none)
+listed_without_reset all none = ap (filter is_expression) (after_last_after is_reset [] all none)
 
 -- The first fault. Where these stand before, no assignment of the others has a fault.
 abbrev AreFineBehind : {E : Type 0} → (List ℕ → Result E SpecFault) → List Assigned → List Assigned → Type 0
-AreFineBehind read first all = (before : List Assigned) (a : Assigned) (behind : List Assigned) → all ≡ before ++ (a ∷ behind) → fault_behind read (first ++ before) a ≡ None
+AreFineBehind read first all = (before : List Assigned) (a : Assigned) (after : List Assigned) → all ≡ before ++ (a ∷ after) → fault_following read (first ++ before) a ≡ None
 
 option_parts : (o p : Option TimerFault) → option_or o p ≡ None → (o ≡ None) × (p ≡ None)
 option_parts None p h = (refl, h)
 option_parts (Some fault) p h = cc
 
-no_split : (before : List Assigned) (a : Assigned) (behind : List Assigned) → [] ≡ before ++ (a ∷ behind) → ⊥
-no_split [] a behind e = cc
-no_split (b ∷ before) a behind e = cc
+no_split : (before : List Assigned) (a : Assigned) (after : List Assigned) → [] ≡ before ++ (a ∷ after) → ⊥
+no_split [] a after e = cc
+no_split (b ∷ before) a after e = cc
 
-fine_more : {E : Type 0} (read : List ℕ → Result E SpecFault) (first : List Assigned) (x : Assigned) (xs : List Assigned) → fault_behind read first x ≡ None → AreFineBehind read (first ++ x ∷ []) xs → AreFineBehind read first (x ∷ xs)
-fine_more read first x xs here fine [] a behind split =
+fine_more : {E : Type 0} (read : List ℕ → Result E SpecFault) (first : List Assigned) (x : Assigned) (xs : List Assigned) → fault_following read first x ≡ None → AreFineBehind read (first ++ x ∷ []) xs → AreFineBehind read first (x ∷ xs)
+fine_more read first x xs here fine [] a after split =
     let same : x ≡ a = cc in
     rw (append-nil first, ← same) here
-fine_more read first x xs here fine (b ∷ before) a behind split =
+fine_more read first x xs here fine (b ∷ before) a after split =
     let same : x ≡ b = cc in
-    let rest : xs ≡ before ++ (a ∷ behind) = cc in
-    rw (← same) (subst (λ (front : List Assigned). fault_behind read front a ≡ None) (append_assoc first (x ∷ []) before) (fine before a behind rest))
+    let rest : xs ≡ before ++ (a ∷ after) = cc in
+    rw (← same) (subst (λ (front : List Assigned). fault_following read front a ≡ None) (append_assoc first (x ∷ []) before) (fine before a after rest))
 
 fine_from_none : {E : Type 0} (read : List ℕ → Result E SpecFault) (first all : List Assigned) → first_fault read first all ≡ None → AreFineBehind read first all
 unfolding first_fault
-fine_from_none read first [] h = λ before a behind split. absurd (no_split before a behind split)
+fine_from_none read first [] h = λ before a after split. absurd (no_split before a after split)
 fine_from_none read first (x ∷ xs) h =
-    let parts = option_parts (fault_behind read first x) (first_fault read (first ++ x ∷ []) xs) h in
+    let parts = option_parts (fault_following read first x) (first_fault read (first ++ x ∷ []) xs) h in
     fine_more read first x xs parts.0 (fine_from_none read (first ++ x ∷ []) xs parts.1)
 
 none_from_fine : {E : Type 0} (read : List ℕ → Result E SpecFault) (first all : List Assigned) → AreFineBehind read first all → first_fault read first all ≡ None
 unfolding first_fault
 none_from_fine read first [] fine = refl
 none_from_fine read first (x ∷ xs) fine =
-    let here : fault_behind read first x ≡ None = subst (λ (front : List Assigned). fault_behind read front x ≡ None) (append-nil first) (fine [] x xs refl) in
-    let rest : first_fault read (first ++ x ∷ []) xs ≡ None = none_from_fine read (first ++ x ∷ []) xs (λ before a behind e. subst (λ (front : List Assigned). fault_behind read front a ≡ None) (sym (append_assoc first (x ∷ []) before)) (fine (x ∷ before) a behind (ap (λ ys. x ∷ ys) e))) in
+    let here : fault_following read first x ≡ None = subst (λ (front : List Assigned). fault_following read front x ≡ None) (append-nil first) (fine [] x xs refl) in
+    let rest : first_fault read (first ++ x ∷ []) xs ≡ None = none_from_fine read (first ++ x ∷ []) xs (λ before a after e. subst (λ (front : List Assigned). fault_following read front a ≡ None) (sym (append_assoc first (x ∷ []) before)) (fine (x ∷ before) a after (ap (λ ys. x ∷ ys) e))) in
     rw here rest
 
--- an assignment with a fault, behind fine ones
+-- an assignment with a fault, after fine ones
 record FirstFault {E : Type 0} (read : List ℕ → Result E SpecFault) (first all : List Assigned) (fault : TimerFault) : Type 0 where
   before : List Assigned
   at : Assigned
-  behind : List Assigned
-  whole : all ≡ before ++ (at ∷ behind)
-  is_fault : fault_behind read (first ++ before) at ≡ Some fault
+  after : List Assigned
+  whole : all ≡ before ++ (at ∷ after)
+  is_fault : fault_following read (first ++ before) at ≡ Some fault
   fine : AreFineBehind read first before
 
-fault_at : {E : Type 0} (read : List ℕ → Result E SpecFault) (first : List Assigned) (x : Assigned) (xs : List Assigned) (fault : TimerFault) (o : Option TimerFault) → fault_behind read first x ≡ o → option_or o (first_fault read (first ++ x ∷ []) xs) ≡ Some fault → (first_fault read (first ++ x ∷ []) xs ≡ Some fault → FirstFault read (first ++ x ∷ []) xs fault) → FirstFault read first (x ∷ xs) fault
+fault_at : {E : Type 0} (read : List ℕ → Result E SpecFault) (first : List Assigned) (x : Assigned) (xs : List Assigned) (fault : TimerFault) (o : Option TimerFault) → fault_following read first x ≡ o → option_or o (first_fault read (first ++ x ∷ []) xs) ≡ Some fault → (first_fault read (first ++ x ∷ []) xs ≡ Some fault → FirstFault read (first ++ x ∷ []) xs fault) → FirstFault read first (x ∷ xs) fault
 fault_at read first x xs fault (Some found) e h next = record {
   before = [];
   at = x;
-  behind = xs;
+  after = xs;
   whole = refl;
   is_fault = rw (append-nil first, e) h;
-  fine = λ before a behind split. absurd (no_split before a behind split);
+  fine = λ before a after split. absurd (no_split before a after split);
 }
 fault_at read first x xs fault None e h next =
     let found = next h in
     record {
       before = x ∷ found.before;
       at = found.at;
-      behind = found.behind;
+      after = found.after;
       whole = ap (λ ys. x ∷ ys) found.whole;
-      is_fault = subst (λ (front : List Assigned). fault_behind read front found.at ≡ Some fault) (append_assoc first (x ∷ []) found.before) found.is_fault;
-      fine = λ before a behind split. fine_more read first x found.before e found.fine before a behind split;
+      is_fault = subst (λ (front : List Assigned). fault_following read front found.at ≡ Some fault) (append_assoc first (x ∷ []) found.before) found.is_fault;
+      fine = λ before a after split. fine_more read first x found.before e found.fine before a after split;
     }
 
 fault_from_some : {E : Type 0} (read : List ℕ → Result E SpecFault) (first all : List Assigned) (fault : TimerFault) → first_fault read first all ≡ Some fault → FirstFault read first all fault
 unfolding first_fault
 fault_from_some read first [] fault h = cc
-fault_from_some read first (x ∷ xs) fault h = fault_at read first x xs fault (fault_behind read first x) refl h (fault_from_some read (first ++ x ∷ []) xs fault)
+fault_from_some read first (x ∷ xs) fault h = fault_at read first x xs fault (fault_following read first x) refl h (fault_from_some read (first ++ x ∷ []) xs fault)
 
--- the first of all faults, where an assignment behind fine ones has one
-some_from_fault : {E : Type 0} (read : List ℕ → Result E SpecFault) (first before : List Assigned) (a : Assigned) (behind : List Assigned) (fault : TimerFault) → AreFineBehind read first before → fault_behind read (first ++ before) a ≡ Some fault → first_fault read first (before ++ (a ∷ behind)) ≡ Some fault
+-- the first of all faults, where an assignment after fine ones has one
+some_from_fault : {E : Type 0} (read : List ℕ → Result E SpecFault) (first before : List Assigned) (a : Assigned) (after : List Assigned) (fault : TimerFault) → AreFineBehind read first before → fault_following read (first ++ before) a ≡ Some fault → first_fault read first (before ++ (a ∷ after)) ≡ Some fault
 unfolding first_fault
-some_from_fault read first [] a behind fault fine e =
-    let here : fault_behind read first a ≡ Some fault = subst (λ (front : List Assigned). fault_behind read front a ≡ Some fault) (append-nil first) e in
+some_from_fault read first [] a after fault fine e =
+    let here : fault_following read first a ≡ Some fault = subst (λ (front : List Assigned). fault_following read front a ≡ Some fault) (append-nil first) e in
     rw here refl
-some_from_fault read first (x ∷ before) a behind fault fine e =
-    let here : fault_behind read first x ≡ None = subst (λ (front : List Assigned). fault_behind read front x ≡ None) (append-nil first) (fine [] x before refl) in
-    let fine_behind : AreFineBehind read (first ++ x ∷ []) before = λ bs b cs split. subst (λ (front : List Assigned). fault_behind read front b ≡ None) (sym (append_assoc first (x ∷ []) bs)) (fine (x ∷ bs) b cs (ap (λ ys. x ∷ ys) split)) in
-    let there : fault_behind read ((first ++ x ∷ []) ++ before) a ≡ Some fault = subst (λ (front : List Assigned). fault_behind read front a ≡ Some fault) (sym (append_assoc first (x ∷ []) before)) e in
-    rw here (some_from_fault read (first ++ x ∷ []) before a behind fault fine_behind there)
+some_from_fault read first (x ∷ before) a after fault fine e =
+    let here : fault_following read first x ≡ None = subst (λ (front : List Assigned). fault_following read front x ≡ None) (append-nil first) (fine [] x before refl) in
+    let fine_after : AreFineBehind read (first ++ x ∷ []) before = λ bs b cs split. subst (λ (front : List Assigned). fault_following read front b ≡ None) (sym (append_assoc first (x ∷ []) bs)) (fine (x ∷ bs) b cs (ap (λ ys. x ∷ ys) split)) in
+    let there : fault_following read ((first ++ x ∷ []) ++ before) a ≡ Some fault = subst (λ (front : List Assigned). fault_following read front a ≡ Some fault) (sym (append_assoc first (x ∷ []) before)) e in
+    rw here (some_from_fault read (first ++ x ∷ []) before a after fault fine_after there)
 
 -- The one result
 judged_fault : {E : Type 0} (read : List ℕ → Result E SpecFault) (all : List Assigned) (fault : TimerFault) → is_of_line fault ≡ true → IsFirstFault read all fault → Judges read all (Err fault)
@@ -168,7 +168,7 @@ judged_as read all (Some fault) e =
     judged_fault read all fault (first_is_of_line read [] all fault e) (record {
       before = found.before;
       at = found.at;
-      behind = found.behind;
+      after = found.after;
       whole = found.whole;
       is_fault = found.is_fault;
       fine = found.fine;
@@ -181,7 +181,7 @@ judged read all = judged_as read all (first_fault read [] all) refl
 faulted : {E : Type 0} (read : List ℕ → Result E SpecFault) (all : List Assigned) (fault : TimerFault) → IsFirstFault read all fault → Err fault ≡ list_of read all
 unfolding list_of
 faulted read all fault h =
-    let first : first_fault read [] all ≡ Some fault = rw h.whole (some_from_fault read [] h.before h.at h.behind fault h.fine h.is_fault) in
+    let first : first_fault read [] all ≡ Some fault = rw h.whole (some_from_fault read [] h.before h.at h.after fault h.fine h.is_fault) in
     rw first refl
 
 some_if_any : {E : Type 0} (es : List (Entry E)) → 0 < length es → some_entries es ≡ Ok es

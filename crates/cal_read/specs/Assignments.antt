@@ -32,7 +32,7 @@ pub record Assigned : Type 0 where
 abbrev pub is_equals : ℕ → Bool
 is_equals b = b == 61
 
--- the key stands before the first `=`, and the value behind it; a line without one assigns nothing
+-- the key stands before the first `=`, and the value after it; a line without one assigns nothing
 unfoldable pub assignment_of : Line → Option Assigned
 assignment_of line =
     if list_any is_equals line.text

@@ -7,7 +7,7 @@ use Rattle.jiff.specs.Types.{TimeZone, Weekday}
 use Rattle.jiff_core.specs.Calendar.{weekday_number}
 use Rattle.jiff_core.specs.Weekday.{monday_zero}
 use Rattle.cal_zone.specs.declared.moment.TheConstants.Moment.{LAST}
-use Rattle.cal_span.specs.declared.span_fault.SpanFault.{SpanFault}
+use Rattle.cal_span.specs.declared.span.fault.SpanFault.{SpanFault}
 use Rattle.cal_zone.specs.Local.{day_of}
 use Rattle.cal_zone.specs.Place.{settle_of}
 use Rattle.cal_span.specs.SpanValue.{span_of}
@@ -18,8 +18,8 @@ use Rattle.cal_spec.specs.Weekdays.{day_named}
 use Rattle.cal_read.specs.StampForm.{Form, nothing, present, later, earlier, counted, from_today, civil, form_of}
 use Rattle.cal_read.specs.StampDate.{day_written}
 use Rattle.cal_read.specs.StampTime.{time_written}
-use Rattle.cal_read.specs.declared.stamp_fault.StampFault.{StampFault}
-use Rattle.cal_read.specs.declared.stamp_fault.StampFault.TheVariants.{Empty, BadWeekday, BadDate, WrongWeekday, BadSpan, NoSuchZone, StrayWord, OutOfRange}
+use Rattle.cal_read.specs.declared.stamp.fault.StampFault.{StampFault}
+use Rattle.cal_read.specs.declared.stamp.fault.StampFault.TheVariants.{Empty, BadWeekday, BadDate, WrongWeekday, BadSpan, NoSuchZone, StrayWord, OutOfRange}
 
 -- what a text is read by, aside from the present: the local zone, and the zone that a name has
 pub record Setting : Type 0 where
@@ -43,10 +43,10 @@ in_moments micros =
 abbrev pub micros_of : ℤ → ℤ
 micros_of second = second *ℤ pos 1_000_000
 
--- the moment a span behind the second, or before it
-abbrev pub behind_second : ℤ → Result ℕ SpanFault → Result ℤ StampFault
-behind_second second (Ok span) = in_moments (micros_of second +ℤ pos span)
-behind_second second (Err fault) = Err (BadSpan fault)
+-- the moment a span after the second, or before it
+abbrev pub after_second : ℤ → Result ℕ SpanFault → Result ℤ StampFault
+after_second second (Ok span) = in_moments (micros_of second +ℤ pos span)
+after_second second (Err fault) = Err (BadSpan fault)
 
 abbrev pub before_second : ℤ → Result ℕ SpanFault → Result ℤ StampFault
 before_second second (Ok span) = in_moments (micros_of second -ℤ pos span)
@@ -72,9 +72,9 @@ zone_found None ws = Err NoSuchZone
 zone_found (Some zone) [] = Ok zone
 zone_found (Some zone) (w ∷ ws) = Err StrayWord
 
-abbrev pub zone_in : Setting → List (List ℕ) → Result TimeZone StampFault
-zone_in at [] = Ok at.local
-zone_in at (w ∷ ws) = if begins_with_letter w then zone_found (at.find w) ws else Err StrayWord
+abbrev pub zone_by_words : Setting → List (List ℕ) → Result TimeZone StampFault
+zone_by_words at [] = Ok at.local
+zone_by_words at (w ∷ ws) = if begins_with_letter w then zone_found (at.find w) ws else Err StrayWord
 
 -- a civil time as it is written
 pub record Written : Type 0 where
@@ -83,38 +83,38 @@ pub record Written : Type 0 where
   pub micros : ℕ
   pub zone : TimeZone
 
--- with the zone that the words behind it name
+-- with the zone that the words after it name
 abbrev pub written_in : Setting → Option Weekday → Option ℤ → ℕ → List (List ℕ) → Result Written StampFault
 written_in at weekday day micros ws =
-    zone_in at ws >>= λ zone. Ok (record { weekday = weekday; day = day; micros = micros; zone = zone })
+    zone_by_words at ws >>= λ zone. Ok (record { weekday = weekday; day = day; micros = micros; zone = zone })
 
 abbrev pub begins_with_digit : List ℕ → Bool
 begins_with_digit [] = false
 begins_with_digit (b ∷ bs) = is_ascii_digit b
 
--- behind a date, a word that begins with a digit is the time
-abbrev pub behind_date : Setting → Option Weekday → ℤ → List (List ℕ) → Result Written StampFault
-behind_date at weekday day [] = written_in at weekday (Some day) 0 []
-behind_date at weekday day (w ∷ ws) =
+-- after a date, a word that begins with a digit is the time
+abbrev pub after_date : Setting → Option Weekday → ℤ → List (List ℕ) → Result Written StampFault
+after_date at weekday day [] = written_in at weekday (Some day) 0 []
+after_date at weekday day (w ∷ ws) =
     if begins_with_digit w then (time_written w >>= λ micros. written_in at weekday (Some day) micros ws)
     else written_in at weekday (Some day) 0 (w ∷ ws)
 
--- behind the weekday, a word with a colon is the time, any other the date
-abbrev pub behind_weekday : Setting → Option Weekday → List (List ℕ) → Result Written StampFault
-behind_weekday at weekday [] = Err BadDate
-behind_weekday at weekday (w ∷ ws) =
+-- after the weekday, a word with a colon is the time, any other the date
+abbrev pub after_weekday : Setting → Option Weekday → List (List ℕ) → Result Written StampFault
+after_weekday at weekday [] = Err BadDate
+after_weekday at weekday (w ∷ ws) =
     if list_any is_colon w then (time_written w >>= λ micros. written_in at weekday None micros ws)
-    else (day_written w >>= λ day. behind_date at weekday day ws)
+    else (day_written w >>= λ day. after_date at weekday day ws)
 
 abbrev pub weekday_found : Setting → Option Weekday → List (List ℕ) → Result Written StampFault
 weekday_found at None ws = Err BadWeekday
-weekday_found at (Some weekday) ws = behind_weekday at (Some weekday) ws
+weekday_found at (Some weekday) ws = after_weekday at (Some weekday) ws
 
 -- a first word that begins with a letter is the weekday
 abbrev pub civil_time : Setting → List (List ℕ) → Result Written StampFault
 civil_time at [] = Err BadDate
 civil_time at (w ∷ ws) =
-    if begins_with_letter w then weekday_found at (day_named w) ws else behind_weekday at None (w ∷ ws)
+    if begins_with_letter w then weekday_found at (day_named w) ws else after_weekday at None (w ∷ ws)
 
 -- whether the day is one of these weekdays
 abbrev pub fits_weekday : Option Weekday → ℤ → Bool
@@ -132,10 +132,10 @@ moment_of_written now c =
 abbrev pub moment_of_form : ℤ → Setting → Form → Result ℤ StampFault
 moment_of_form now at nothing = Err Empty
 moment_of_form now at present = in_moments (micros_of now)
-moment_of_form now at (later span) = behind_second now (span_of span)
+moment_of_form now at (later span) = after_second now (span_of span)
 moment_of_form now at (earlier span) = before_second now (span_of span)
-moment_of_form now at (counted span) = behind_second (pos 0) (span_of span)
-moment_of_form now at (from_today shift ws) = zone_in at ws >>= λ zone. settled zone (today now zone +ℤ shift) 0
+moment_of_form now at (counted span) = after_second (pos 0) (span_of span)
+moment_of_form now at (from_today shift ws) = zone_by_words at ws >>= λ zone. settled zone (today now zone +ℤ shift) 0
 moment_of_form now at (civil ws) = civil_time at ws >>= λ written. moment_of_written now written
 
 -- the microseconds of the moment that a text means, by the present second and the zones, or the text's fault

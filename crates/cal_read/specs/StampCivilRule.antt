@@ -8,7 +8,7 @@ use Rattle.cal_spec.specs.Weekdays.{day_named}
 use Rattle.cal_read.specs.Stamp.{Setting, Written}
 use Rattle.cal_read.specs.StampDate.{day_written}
 use Rattle.cal_read.specs.StampTime.{time_written}
-use Rattle.cal_read.specs.declared.stamp_fault.StampFault.TheVariants.{NoSuchDate}
+use Rattle.cal_read.specs.declared.stamp.fault.StampFault.TheVariants.{NoSuchDate}
 
 -- no word, or a weekday's name
 abbrev pub NamesWeekday : Option (List ℕ) → Option Weekday → Type 0

@@ -6,12 +6,12 @@ use Rattle.std.specs.Str.Parse.{digits_value}
 use Rattle.jiff.specs.Words.{days_in_month}
 use Rattle.jiff_core.specs.Calendar.{days_from_civil}
 use Rattle.cal_spec.specs.Parts.{with_century}
-use Rattle.cal_read.specs.declared.stamp_fault.StampFault.{StampFault}
-use Rattle.cal_read.specs.declared.stamp_fault.StampFault.TheVariants.{BadDate, NoSuchDate}
+use Rattle.cal_read.specs.declared.stamp.fault.StampFault.{StampFault}
+use Rattle.cal_read.specs.declared.stamp.fault.StampFault.TheVariants.{BadDate, NoSuchDate}
 
 -- the number that one or more digits write, at most so many
-unfoldable pub number_in : ℕ → List ℕ → Option ℕ
-number_in most word =
+unfoldable pub digits_number : ℕ → List ℕ → Option ℕ
+digits_number most word =
     if nat_le 1 (length word) && nat_le (length word) most && list_all is_ascii_digit word then Some (digits_value 10 word)
     else None
 
@@ -30,7 +30,7 @@ date_by year month day = None
 
 -- the year of one to four digits, the others of one or two
 abbrev pub date_of_pieces : List (List ℕ) → Option DateNumbers
-date_of_pieces (year ∷ month ∷ day ∷ []) = date_by (number_in 4 year) (number_in 2 month) (number_in 2 day)
+date_of_pieces (year ∷ month ∷ day ∷ []) = date_by (digits_number 4 year) (digits_number 2 month) (digits_number 2 day)
 date_of_pieces pieces = None
 
 unfoldable pub date_numbers : List ℕ → Option DateNumbers

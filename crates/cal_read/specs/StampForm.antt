@@ -16,8 +16,8 @@ to_solid text = take (length text - suffix_len is_blank text) text
 unfoldable pub solid : List ℕ → List ℕ
 solid text = to_solid (from_solid text)
 
--- what a text asks for: nothing at all, the present, a span text behind the present, before it or behind 0, so many
--- days from the present day with the words behind, or the words of a civil time
+-- what a text asks for: nothing at all, the present, a span text after the present, before it or after 0, so many
+-- days from the present day with the words after, or the words of a civil time
 pub data Form : Type 0 where
   nothing : Form
   present : Form
@@ -27,12 +27,12 @@ pub data Form : Type 0 where
   from_today : ℤ → List (List ℕ) → Form
   civil : List (List ℕ) → Form
 
--- what stands before the last blank, where this word stands behind it
+-- what stands before the last blank, where this word stands after it
 abbrev pub before_word : List ℕ → List ℕ → Option (List ℕ)
 before_word word text =
     if list_any is_blank text && bytes_eq (after_last is_blank text) word then Some (before_last is_blank text) else None
 
--- how many days behind the present day the word names
+-- how many days after the present day the word names
 unfoldable pub day_shift : List ℕ → Option ℤ
 day_shift word =
     if bytes_eq word (codes "today") then Some (pos 0)
@@ -47,7 +47,7 @@ abbrev pub form_of_words : List (List ℕ) → Form
 form_of_words [] = civil []
 form_of_words (w ∷ ws) = form_by_day (day_shift w) w ws
 
--- a text that ends in `left` is meant behind the present, one that ends in `ago` before it
+-- a text that ends in `left` is meant after the present, one that ends in `ago` before it
 abbrev pub form_by_ago : Option (List ℕ) → List ℕ → Form
 form_by_ago None text = form_of_words (words text)
 form_by_ago (Some span) text = earlier span

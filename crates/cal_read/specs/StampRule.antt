@@ -11,7 +11,7 @@ pub record IsBetweenBlanks (text core : List ℕ) : Type 0 where
   pub back : List ℕ
   pub whole : text ≡ front ++ (core ++ back)
   pub before : list_all is_blank front ≡ true
-  pub behind : list_all is_blank back ≡ true
+  pub after : list_all is_blank back ≡ true
   pub begins : 0 < length core → is_blank (slice_index core 0) ≡ false
   pub ends : 0 < length core → is_blank (slice_index core (length core - 1)) ≡ false
 
@@ -32,10 +32,10 @@ abbrev pub IsBeforeWord : List ℕ → (List ℕ → Form) → List ℕ → Form
 IsBeforeWord word means core form =
     (span : List ℕ) × (blank : ℕ) × (is_blank blank ≡ true) × (core ≡ span ++ (blank ∷ word)) × (form ≡ means span)
 
--- 6: a day's word, and the words behind it
+-- 6: a day's word, and the words after it
 abbrev pub IsNearDay : List ℕ → ℤ → List ℕ → Form → Type 0
 IsNearDay word shift core form =
-    (behind : List (List ℕ)) × (words core ≡ word ∷ behind) × (form ≡ from_today shift behind)
+    (after : List (List ℕ)) × (words core ≡ word ∷ after) × (form ≡ from_today shift after)
 
 -- 7: any words
 abbrev pub IsCivil : List ℕ → Form → Type 0

@@ -7,30 +7,30 @@ use Rattle.cal_zone.specs.Zone.{zone_of}
 use Rattle.cal_spec.specs.Words.{words}
 use Rattle.cal_read.specs.Stamp as meaning
 use Rattle.cal_read.specs.StampForm as forms
-use Rattle.cal_read.specs.declared.stamp_fault.StampFault.{StampFault}
-use Rattle.cal_read.specs.declared.stamp_form.Form as declared
-use Rattle.cal_read.specs.declared.stamp_form.Form.TheVariants.{Nothing, Present, Later, Earlier, Counted, Midnight, Civil}
-use Rattle.cal_read.specs.declared.stamp_form.NearDay.{NearDay}
-use Rattle.cal_read.specs.declared.stamp_form.NearDay.TheVariants.{Yesterday, Today, Tomorrow}
-use Rattle.cal_read.specs.declared.stamp_written.Written as written
+use Rattle.cal_read.specs.declared.stamp.fault.StampFault.{StampFault}
+use Rattle.cal_read.specs.declared.stamp.form.Form as declared
+use Rattle.cal_read.specs.declared.stamp.form.Form.TheVariants.{Nothing, Present, Later, Earlier, Counted, Midnight, Civil}
+use Rattle.cal_read.specs.declared.stamp.form.NearDay.{NearDay}
+use Rattle.cal_read.specs.declared.stamp.form.NearDay.TheVariants.{Yesterday, Today, Tomorrow}
+use Rattle.cal_read.specs.declared.stamp.written.Written as written
 
 -- an answer, by the microseconds of its moment
-abbrev pub told : Result Moment StampFault → Result ℤ StampFault
-told (Ok moment) = Ok moment.micros
-told (Err fault) = Err fault
+abbrev pub micros_or_fault : Result Moment StampFault → Result ℤ StampFault
+micros_or_fault (Ok moment) = Ok moment.micros
+micros_or_fault (Err fault) = Err fault
 
-abbrev pub zone_told : Result Zone StampFault → Result TimeZone StampFault
-zone_told (Ok zone) = Ok (zone_of zone)
-zone_told (Err fault) = Err fault
+abbrev pub zone_or_fault : Result Zone StampFault → Result TimeZone StampFault
+zone_or_fault (Ok zone) = Ok (zone_of zone)
+zone_or_fault (Err fault) = Err fault
 
 abbrev pub written_seen : written.Written → meaning.Written
 written_seen w = record { weekday = w.weekday; day = w.day; micros = w.micros; zone = zone_of w.zone }
 
-abbrev pub written_told : Result written.Written StampFault → Result meaning.Written StampFault
-written_told (Ok w) = Ok (written_seen w)
-written_told (Err fault) = Err fault
+abbrev pub written_or_fault : Result written.Written StampFault → Result meaning.Written StampFault
+written_or_fault (Ok w) = Ok (written_seen w)
+written_or_fault (Err fault) = Err fault
 
--- how many days behind the present day
+-- how many days after the present day
 abbrev pub shift_of : NearDay → ℤ
 shift_of Yesterday = neg_ℤ (pos 1)
 shift_of Today = pos 0
@@ -42,7 +42,7 @@ form_seen Present = forms.present
 form_seen (Later span) = forms.later span.now
 form_seen (Earlier span) = forms.earlier span.now
 form_seen (Counted span) = forms.counted span.now
-form_seen (Midnight near behind) = forms.from_today (shift_of near) (words behind.now)
+form_seen (Midnight near after) = forms.from_today (shift_of near) (words after.now)
 form_seen (Civil text) = forms.civil (words text.now)
 
 -- the zones by which a text is read

@@ -2,21 +2,21 @@
 use Rattle.std.specs.Prelude.{◌≡◌, ◌<◌, ℕ, true, false, List, [], ◌∷◌, ◌++◌, length, None, Some, Result, Ok, Err}
 use Rattle.cal_spec.specs.declared.spec_fault.SpecFault.{SpecFault}
 use Rattle.cal_read.specs.Assignments.{Assigned}
-use Rattle.cal_read.specs.TimerText.{Entry, entries, fault_behind}
-use Rattle.cal_read.specs.declared.timer_fault.TimerFault.{TimerFault}
-use Rattle.cal_read.specs.declared.timer_fault.TimerFault.TheVariants.{NothingToDo}
+use Rattle.cal_read.specs.TimerText.{Entry, entries, fault_following}
+use Rattle.cal_read.specs.declared.timer.fault.TimerFault.{TimerFault}
+use Rattle.cal_read.specs.declared.timer.fault.TimerFault.TheVariants.{NothingToDo}
 
 -- none of the assignments has a fault
 abbrev pub AreFine : {E : Type 0} → (List ℕ → Result E SpecFault) → List Assigned → Type 0
-AreFine read all = (before : List Assigned) (a : Assigned) (behind : List Assigned) → all ≡ before ++ (a ∷ behind) → fault_behind read before a ≡ None
+AreFine read all = (before : List Assigned) (a : Assigned) (after : List Assigned) → all ≡ before ++ (a ∷ after) → fault_following read before a ≡ None
 
 -- it is the fault of an assignment before which none has one
 pub record IsFirstFault {E : Type 0} (read : List ℕ → Result E SpecFault) (all : List Assigned) (fault : TimerFault) : Type 0 where
   pub before : List Assigned
   pub at : Assigned
-  pub behind : List Assigned
-  pub whole : all ≡ before ++ (at ∷ behind)
-  pub is_fault : fault_behind read before at ≡ Some fault
+  pub after : List Assigned
+  pub whole : all ≡ before ++ (at ∷ after)
+  pub is_fault : fault_following read before at ≡ Some fault
   pub fine : AreFine read before
 
 -- the result is the list of assignments without a fault, of which there is one at least; or the first fault; or that

@@ -11,8 +11,8 @@ use Rattle.cal_bytes.specs.Whole.{GivesAll, IsWholeFault}
 use Rattle.cal_bytes.specs.declared.whole.WholeFault.{WholeFault}
 use Rattle.cal_bytes.specs.declared.whole.WholeFault.TheVariants as whole
 use Rattle.cal_spec.specs.declared.spec_fault.SpecFault.{SpecFault}
-use Rattle.cal_read.specs.declared.timer_fault.TimerFault.{TimerFault}
-use Rattle.cal_read.specs.declared.timer_fault.TimerFault.TheVariants.{ReadFailed, TooLarge, NotUtf8, BadLine, TooMany, NothingToDo, NoMemory}
+use Rattle.cal_read.specs.declared.timer.fault.TimerFault.{TimerFault}
+use Rattle.cal_read.specs.declared.timer.fault.TimerFault.TheVariants.{ReadFailed, TooLarge, NotUtf8, BadLine, TooMany, NothingToDo, NoMemory}
 
 -- the keys that empty the list by an empty value
 abbrev pub timer_keys : List (List ℕ)
@@ -49,18 +49,18 @@ abbrev pub bad_line : {E : Type 0} → ℕ → Result E SpecFault → Option Tim
 bad_line number (Ok expr) = None
 bad_line number (Err fault) = Some (BadLine number fault)
 
--- The fault of an assignment behind others. An expression is one too many where the list holds the most already; else
+-- The fault of an assignment after others. An expression is one too many where the list holds the most already; else
 -- its text is judged, also where a later reset drops it.
-unfoldable pub fault_behind : {E : Type 0} → (List ℕ → Result E SpecFault) → List Assigned → Assigned → Option TimerFault
-fault_behind read before a =
+unfoldable pub fault_following : {E : Type 0} → (List ℕ → Result E SpecFault) → List Assigned → Assigned → Option TimerFault
+fault_following read before a =
     if is_expression a
     then (if nat_le most_expressions (length (listed before)) then Some (TooMany a.number) else bad_line a.number (read a.value))
     else None
 
--- the first fault of assignments behind others
+-- the first fault of assignments after others
 unfoldable pub first_fault : {E : Type 0} → (List ℕ → Result E SpecFault) → List Assigned → List Assigned → Option TimerFault
 first_fault read before [] = None
-first_fault read before (a ∷ behind) = option_or (fault_behind read before a) (first_fault read (before ++ a ∷ []) behind)
+first_fault read before (a ∷ after) = option_or (fault_following read before a) (first_fault read (before ++ a ∷ []) after)
 
 -- the entry of an assignment whose text reads so
 abbrev pub entry_of : {E : Type 0} → Assigned → Result E SpecFault → Option (Entry E)
@@ -116,8 +116,8 @@ timer_text read (Ok bytes) = timer_in read bytes
 timer_text read (Err fault) = Err (input_fault fault)
 
 -- the most bytes that a timer file may have
-abbrev pub most_bytes : ℕ
-most_bytes = 1_048_576
+abbrev pub most_file_bytes : ℕ
+most_file_bytes = 1_048_576
 
 -- what reading to the end gives: all the bytes, or the cause why they can't be had
 abbrev pub ReadsWhole : Option (List ℕ) → Option (List ℕ) → ℕ → Result (List ℕ) WholeFault → Type 0

@@ -6,8 +6,8 @@ use Rattle.cal_spec.specs.declared.spec_fault.SpecFault.{SpecFault}
 use Rattle.cal_read.specs.Assignments.{Assigned}
 use Rattle.cal_read.specs.TimerText.{Entry, is_expression, is_reset, most_expressions, some_entries}
 use Rattle.cal_read.specs.declared.timer.TimerLine.{TimerLine}
-use Rattle.cal_read.specs.declared.timer_fault.TimerFault.{TimerFault}
-use Rattle.cal_read.specs.declared.timer_fault.TimerFault.TheVariants.{BadLine, TooMany}
+use Rattle.cal_read.specs.declared.timer.fault.TimerFault.{TimerFault}
+use Rattle.cal_read.specs.declared.timer.fault.TimerFault.TheVariants.{BadLine, TooMany}
 
 -- an expression of the list
 abbrev pub shown : TimerLine → Entry Fields
@@ -22,9 +22,9 @@ with_read a (Err fault) next = Err (BadLine a.number fault)
 -- private contracts alone; the lemma `resumed_is_list` says that this is `list_of`.
 unfoldable pub resumed : {E : Type 0} → (List ℕ → Result E SpecFault) → List (Entry E) → List Assigned → Result (List (Entry E)) TimerFault
 resumed read es [] = some_entries es
-resumed read es (a ∷ behind) =
-    if is_reset a then resumed read [] behind
+resumed read es (a ∷ after) =
+    if is_reset a then resumed read [] after
     else (if is_expression a
     then (if nat_le most_expressions (length es) then Err (TooMany a.number)
-    else with_read a (read a.value) (λ e. resumed read (es ++ e ∷ []) behind))
-    else resumed read es behind)
+    else with_read a (read a.value) (λ e. resumed read (es ++ e ∷ []) after))
+    else resumed read es after)

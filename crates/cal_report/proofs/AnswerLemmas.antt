@@ -8,12 +8,12 @@ use Rattle.std.specs.Io.KnownBytes.{Appends}
 use Rattle.cal_bytes.specs.Bytes.{Leaves, AppendsFront, Writes}
 use Rattle.std.proofs.KnownBytes.{Appends-nil, Appends-trans}
 use Rattle.cal_bytes.proofs.Pieces.{step, stop, respell}
-use Rattle.cal_report.specs.Answer.{Answer, IsAnsweredBefore, report_in, refusal_in, later_text, status_in, reports_text, refusals_text, whole_status}
+use Rattle.cal_report.specs.Answer.{Answer, IsAnsweredBefore, report_in, refusal_in, later_text, status_in, reports_text, refusals_text, texts_status}
 use Rattle.cal_request.specs.Status.{is_fine, status_and}
 use Rattle.cal_request.specs.declared.request.Status.{Status}
 use Rattle.cal_request.specs.declared.request.Status.TheVariants.{Fine, Refused}
 
--- reports that are left to write, behind an earlier one or before the first
+-- reports that are left to write, after an earlier one or before the first
 pub left_of : Bool → List (List ℕ) → List ℕ
 left_of true reports = flat_map (λ report. codes "\n" ++ report) reports
 left_of false reports = join_by (λ report. report) (codes "\n") reports
@@ -55,28 +55,28 @@ refusals-none answer = refl
 -- the status, from that of the texts so far and the texts that are left
 pub status_left : Status → (List ℕ → Answer) → List (List ℕ) → Status
 status_left Refused answer texts = Refused
-status_left Fine answer texts = whole_status answer texts
+status_left Fine answer texts = texts_status answer texts
 
 status-next : (a : Answer) (later : Bool) → (if is_err a || later then Refused else Fine) ≡ (if is_fine (status_in a) then (if later then Refused else Fine) else Refused)
 status-next (Ok report) later = refl
 status-next (Err words) later = refl
 
-status_left-by : (s : Status) (answer : List ℕ → Answer) (texts : List (List ℕ)) → (if is_fine s then whole_status answer texts else Refused) ≡ status_left s answer texts
+status_left-by : (s : Status) (answer : List ℕ → Answer) (texts : List (List ℕ)) → (if is_fine s then texts_status answer texts else Refused) ≡ status_left s answer texts
 unfolding status_left
 status_left-by Fine answer texts = refl
 status_left-by Refused answer texts = refl
 
 pub status_left-next : (s : Status) (answer : List ℕ → Answer) (text : List ℕ) (texts : List (List ℕ)) → status_left s answer (text ∷ texts) ≡ status_left (status_and s (status_in (answer text))) answer texts
-unfolding status_left whole_status
+unfolding status_left texts_status
 status_left-next Refused answer text texts = refl
 status_left-next Fine answer text texts = status-next (answer text) (list_any (λ t. is_err (answer t)) texts) ∙ status_left-by (status_in (answer text)) answer texts
 
-pub status_left-all : (answer : List ℕ → Answer) (texts : List (List ℕ)) → status_left Fine answer texts ≡ whole_status answer texts
+pub status_left-all : (answer : List ℕ → Answer) (texts : List (List ℕ)) → status_left Fine answer texts ≡ texts_status answer texts
 unfolding status_left
 status_left-all answer texts = refl
 
 pub status_left-none : (s : Status) (answer : List ℕ → Answer) → status_left s answer [] ≡ s
-unfolding status_left whole_status
+unfolding status_left texts_status
 status_left-none Refused answer = refl
 status_left-none Fine answer = refl
 
@@ -118,7 +118,7 @@ writes_nothing a (Err e) = record { front = []; rest = []; whole = refl; written
 
 -- Texts that are answered, and one more
 
--- the reports of these texts and of any later ones are those of these, and then of the later ones behind them
+-- the reports of these texts and of any later ones are those of these, and then of the later ones after them
 abbrev pub GoesOn : (List ℕ → Answer) → Bool → List (List ℕ) → Type 0
 GoesOn answer is_later done = (rest : List (List ℕ)) → reports_text answer (done ++ rest) ≡ reports_text answer done ++ reports_left is_later answer rest
 

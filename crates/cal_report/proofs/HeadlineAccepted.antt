@@ -18,11 +18,11 @@ use Rattle.cal_spec.proofs.FieldLemmas.{valid_fields}
 use Rattle.cal_spec.proofs.WholeRule.{valid_found}
 use Rattle.cal_read.specs.Assignments.{Assigned}
 use Rattle.cal_read.specs.TimerRule.{AreFine, Judges}
-use Rattle.cal_read.specs.TimerText.{Entry, bad_line, entries, entry_of, fault_behind, is_expression, is_reset, listed, most_expressions, timer_in, timer_of}
-use Rattle.cal_read.specs.declared.timer_fault.TimerFault.{TimerFault}
-use Rattle.cal_read.specs.declared.timer_fault.TimerFault.TheVariants.{TooMany}
+use Rattle.cal_read.specs.TimerText.{Entry, bad_line, entries, entry_of, fault_following, is_expression, is_reset, listed, most_expressions, timer_in, timer_of}
+use Rattle.cal_read.specs.declared.timer.fault.TimerFault.{TimerFault}
+use Rattle.cal_read.specs.declared.timer.fault.TimerFault.TheVariants.{TooMany}
 use Rattle.cal_read.proofs.TimerRuleLemmas.{judged}
-use Rattle.cal_report.specs.Answer.{whole_status}
+use Rattle.cal_report.specs.Answer.{texts_status}
 use Rattle.cal_report.specs.CalendarReport.{answer_in, answer_with, calendar_answer, zone_for}
 use Rattle.cal_report.specs.Headline.{AreAccepted, AreSpelled, Expression, IsAccepted, IsAcceptedFile, IsZoneFor, Spells, assigned_in}
 use Rattle.cal_report.specs.Report.{Report, answer_by, answer_to, base_in, file_name, report, texts_report, whole_report}
@@ -100,7 +100,7 @@ none_by_status false h = refl
 
 pub fine_texts_are_accepted : AreNormalForms → (asked : Asked) (read : Result (List ℕ) WholeFault) (base : ℤ) → asked.verb ≡ Calendar → base_in asked ≡ Ok base
     → (report asked read).status ≡ Fine → AreAccepted asked asked.texts
-unfolding texts_report whole_status
+unfolding texts_report texts_status
 fine_texts_are_accepted some asked read base verb sought h =
     let fine = sym (ap (λ (r : Report). r.status) (report_of_texts asked read base verb sought)) ∙ h in
     texts_accepted some asked base asked.texts verb (none_by_status _ fine)
@@ -119,7 +119,7 @@ fine_by some before a true few h = cc
 fine_by some before a false few h = (grind (arith, few), spelled_unless some a.number a.value (expr_in a.value) refl h)
 
 fine_spelled : AreNormalForms → (all : List Assigned) → AreFine expr_in all → AreSpelled all
-unfolding fault_behind
+unfolding fault_following
 fine_spelled some all fine before a after split is =
     let none = rw is at (fine before a after split) in
     fine_by some before a (nat_le most_expressions (length (listed before))) refl none

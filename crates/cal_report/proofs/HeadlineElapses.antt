@@ -18,25 +18,25 @@ use Rattle.cal_elapse.specs.Elapses.{AreElapses, IsElapse, IsPlace, Timed, elaps
 use Rattle.cal_elapse.specs.Timed.{timed}
 use Rattle.cal_elapse.proofs.ElapsesLemmas.{AreElapses-elapses_after, AreElapses-only, elapses_after-later}
 use Rattle.cal_elapse.proofs.InstantLemmas.{IsInstant-elapse}
-use Rattle.cal_read.specs.declared.stamp_fault.StampFault.{StampFault}
+use Rattle.cal_read.specs.declared.stamp.fault.StampFault.{StampFault}
 use Rattle.cal_report.specs.ElapseLines.{AreInstants}
 use Rattle.cal_report.specs.Headline.{Expression, meaning}
-use Rattle.cal_report.specs.Report.{base_from, base_in, second_told}
-use Rattle.cal_report.specs.TimestampReport.{second_of, stamp_in}
+use Rattle.cal_report.specs.Report.{base_from, base_in, second_or_fault}
+use Rattle.cal_report.specs.TimestampReport.{second_at, stamp_in}
 use Rattle.cal_request.specs.Request.{Asked}
 use Rattle.cal_report.proofs.HeadlineLemmas.{one_elapses}
 
 -- Instants
 
-told_low : (stamp : Result ℤ StampFault) (base : ℤ) → second_told stamp ≡ Ok base → pos 0 ≤ℤ base
-told_low (Ok micros) base h =
-    let same : second_of micros ≡ base = cc in
+second_low : (stamp : Result ℤ StampFault) (base : ℤ) → second_or_fault stamp ≡ Ok base → pos 0 ≤ℤ base
+second_low (Ok micros) base h =
+    let same : second_at micros ≡ base = cc in
     subst (λ (b : ℤ). pos 0 ≤ℤ b) same (omega (arith, ints))
-told_low (Err fault) base h = cc
+second_low (Err fault) base h = cc
 
 base_from_low : (asked : Asked) (text : Option (List ℕ)) (base : ℤ) → pos 0 ≤ℤ asked.now → base_from asked text ≡ Ok base → pos 0 ≤ℤ base
 base_from_low asked None base low h = subst (λ (b : ℤ). pos 0 ≤ℤ b) (let same : asked.now ≡ base = cc in same) low
-base_from_low asked (Some text) base low h = told_low (stamp_in asked text) base h
+base_from_low asked (Some text) base low h = second_low (stamp_in asked text) base h
 
 pub base_low : (asked : Asked) (base : ℤ) → IsInstant asked.now → base_in asked ≡ Ok base → pos 0 ≤ℤ base
 unfolding base_in

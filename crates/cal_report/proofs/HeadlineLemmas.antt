@@ -16,14 +16,14 @@ use Rattle.cal_elapse.specs.Elapses.{AreElapses, Timed, elapses_after}
 use Rattle.cal_elapse.proofs.ElapsesLemmas.{AreElapses-elapses_after, AreElapses-only}
 use Rattle.cal_read.specs.Assignments.{Assigned}
 use Rattle.cal_read.specs.TimerRule.{AreFine}
-use Rattle.cal_read.specs.TimerText.{Entry, entries, entry_of, fault_behind, is_expression, listed, most_expressions, timer_in, timer_of}
+use Rattle.cal_read.specs.TimerText.{Entry, entries, entry_of, fault_following, is_expression, listed, most_expressions, timer_in, timer_of}
 use Rattle.cal_read.proofs.TimerRuleLemmas.{only_judged}
-use Rattle.cal_report.specs.Answer.{refusals_text, report_in, reports_text, whole_status}
+use Rattle.cal_report.specs.Answer.{refusals_text, report_in, reports_text, texts_status}
 use Rattle.cal_report.specs.CalendarReport.{answer_in, answer_with, calendar_answer, calendar_report, heading_text, zone_for}
 use Rattle.cal_report.specs.ElapseLines.{elapses_text}
 use Rattle.cal_report.specs.Headline.{AreReportsOf, AreSpelled, Expression, IsAccepted, IsFileOf, IsFine, IsReportOf, IsZoneFor, Spells, assigned_in, headings, meaning}
-use Rattle.cal_report.specs.Report.{ByReading, IsTold, answer_by, answer_to, base_in, file_name, report, texts_report}
-use Rattle.cal_report.specs.TimerReport.{headings_text, lacks_zone, timed_in, timer_answer, timer_report}
+use Rattle.cal_report.specs.Report.{ByReading, IsReported, answer_by, answer_to, base_in, file_name, report, texts_report}
+use Rattle.cal_report.specs.TimerReport.{headings_text, lacks_zone, timed_entry, timer_answer, timer_report}
 use Rattle.cal_request.specs.Request.{Asked, is_timer}
 use Rattle.cal_request.specs.declared.request.Status.{Status}
 use Rattle.cal_request.specs.declared.request.Status.TheVariants.{Fine, Refused}
@@ -107,7 +107,7 @@ report_of_texts asked read base verb sought =
 texts_report_is : HaveOneNormalForm → (asked : Asked) (base : ℤ) (es : List Expression) → asked.verb ≡ Calendar
     → asked.texts ≡ map text_of es → AllByRecursion (IsAccepted asked) es
     → AreReportsOf asked base es (texts_report asked base).out × IsFine (texts_report asked base)
-unfolding texts_report reports_text whole_status
+unfolding texts_report reports_text texts_status
 texts_report_is one asked base es verb texts all =
     let answer = answer_to asked base in (
       record {
@@ -117,7 +117,7 @@ texts_report_is one asked base es verb texts all =
       },
       record {
         err = ap (refusals_text answer) texts ∙ none_refused one asked base es verb all;
-        status = ap (whole_status answer) texts ∙ ap (λ b. if b then Refused else Fine) (none_fails one asked base es verb all);
+        status = ap (texts_status answer) texts ∙ ap (λ b. if b then Refused else Fine) (none_fails one asked base es verb all);
       },
     )
 
@@ -132,8 +132,8 @@ calendar_report_is one asked read base es verb sought texts all =
 -- an assignment of an expression by the rule has no fault
 no_fault : HaveOneNormalForm → (before : List Assigned) (a : Assigned) (is : Bool) → is_expression a ≡ is
     → (is_expression a ≡ true → (length (listed before) < most_expressions) × ((fields : Fields) × Spells a.value fields))
-    → fault_behind expr_in before a ≡ None
-unfolding fault_behind
+    → fault_following expr_in before a ≡ None
+unfolding fault_following
 no_fault one before a false is h = rw is refl
 no_fault one before a true is h =
     let spelled = h is in
@@ -173,8 +173,8 @@ none_lacks asked (entry ∷ list) (e ∷ es) h =
     rw (h.0.expr, h.0.zone) (none_lacks asked list es h.1)
 
 meanings_are : (asked : Asked) (list : List (Entry Fields)) (es : List Expression) → AllZip (IsEntryOf asked) list es
-    → map (timed_in asked) list ≡ map meaning es
-unfolding timed_in
+    → map (timed_entry asked) list ≡ map meaning es
+unfolding timed_entry
 meanings_are asked [] [] h = refl
 meanings_are asked [] (e ∷ es) h = absurd h
 meanings_are asked (entry ∷ list) [] h = absurd h
@@ -245,7 +245,7 @@ timer_report_is one asked bytes base es verb sought file all =
 
 pub calendar_is_written : HaveOneNormalForm → (asked : Asked) (base : ℤ) (es : List Expression) (old new : Option (List ℕ)) (failed : Bool) (status : Status)
     (out_old out_new err_old err_new : Option (List ℕ)) → asked.verb ≡ Calendar → base_in asked ≡ Ok base → asked.texts ≡ map (λ (e : Expression). e.text) es
-    → AllByRecursion (IsAccepted asked) es → ByReading asked old new failed (IsTold (Ok status) out_old out_new err_old err_new)
+    → AllByRecursion (IsAccepted asked) es → ByReading asked old new failed (IsReported (Ok status) out_old out_new err_old err_new)
     → (text : List ℕ) × AreReportsOf asked base es text × Appends out_old out_new text × Appends err_old err_new [] × (status ≡ Fine)
 calendar_is_written one asked base es old new failed status out_old out_new err_old err_new verb sought texts all run =
     let printed = calendar_report_is one asked run.read base es verb sought texts all in
@@ -253,7 +253,7 @@ calendar_is_written one asked base es old new failed status out_old out_new err_
 
 pub timer_is_written : HaveOneNormalForm → (asked : Asked) (base : ℤ) (bytes : List ℕ) (es : List Expression) (old new : Option (List ℕ)) (failed : Bool) (status : Status)
     (out_old out_new err_old err_new : Option (List ℕ)) → asked.verb ≡ Timer → base_in asked ≡ Ok base → IsFileOf bytes es
-    → AllByRecursion (IsAccepted asked) es → (run : ByReading asked old new failed (IsTold (Ok status) out_old out_new err_old err_new)) → run.read ≡ Ok bytes
+    → AllByRecursion (IsAccepted asked) es → (run : ByReading asked old new failed (IsReported (Ok status) out_old out_new err_old err_new)) → run.read ≡ Ok bytes
     → (text : List ℕ) × IsReportOf asked base es text × Appends out_old out_new text × Appends err_old err_new [] × (status ≡ Fine)
 timer_is_written one asked base bytes es old new failed status out_old out_new err_old err_new verb sought file all run read =
     let printed : IsReportOf asked base es (report asked run.read).out × IsFine (report asked run.read)

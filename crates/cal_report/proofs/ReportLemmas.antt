@@ -9,13 +9,13 @@ use Rattle.cal_bytes.proofs.Pieces.{writes_err}
 use Rattle.cal_bytes.proofs.WholeLemmas.{consumes-nil}
 use Rattle.cal_bytes.specs.declared.whole.WholeFault.TheVariants as whole
 use Rattle.cal_read.specs.StampFault.{words_of}
-use Rattle.cal_read.specs.declared.stamp_fault.StampFault.{StampFault}
+use Rattle.cal_read.specs.declared.stamp.fault.StampFault.{StampFault}
 use Rattle.cal_report.specs.Answer.{refusal_line}
 use Rattle.cal_bytes.specs.declared.whole.WholeFault.{WholeFault}
 use Rattle.cal_report.specs.TimerReport.{IsHad}
 use Rattle.cal_request.specs.Request.{Asked, is_timer}
 use Rattle.cal_bytes.specs.Bytes.{AppendsFront, Writes}
-use Rattle.cal_report.specs.Report.{ByReading, IsTold, ReadsIf, Report, base_in, reads_input, report, texts_report, whole_report}
+use Rattle.cal_report.specs.Report.{ByReading, IsReported, ReadsIf, Report, base_in, reads_input, report, texts_report, whole_report}
 use Rattle.cal_request.specs.declared.request.RunFault.{RunFault}
 use Rattle.cal_request.specs.declared.request.Status.{Status}
 use Rattle.cal_request.specs.declared.request.Status.TheVariants.{Fine, Refused}
@@ -26,14 +26,14 @@ if_ok (Ok x) P h = h
 if_ok (Err e) P h = tt
 
 -- one report
-pub told_report : (r : Result Status RunFault) (a b e : Option (List ℕ)) (read : Result (List ℕ) WholeFault) (text : List ℕ) (answer : Result (List ℕ) (List ℕ))
-    → answer ≡ Ok text → IfOk r (λ status. status ≡ Fine) → IsHad read → Writes a b r text → IsTold r a b e e read (whole_report answer)
-told_report r a b e read text answer is status had out = rw is (record { status = status; had = if_ok r (IsHad read) had; out = out; err = writes_nothing e r; unread = λ h. absurd (had h) })
+pub report_reported : (r : Result Status RunFault) (a b e : Option (List ℕ)) (read : Result (List ℕ) WholeFault) (text : List ℕ) (answer : Result (List ℕ) (List ℕ))
+    → answer ≡ Ok text → IfOk r (λ status. status ≡ Fine) → IsHad read → Writes a b r text → IsReported r a b e e read (whole_report answer)
+report_reported r a b e read text answer is status had out = rw is (record { status = status; had = if_ok r (IsHad read) had; out = out; err = writes_nothing e r; unread = λ h. absurd (had h) })
 
 -- one refusal
-pub told_refusal : (r : Result Status RunFault) (a d e : Option (List ℕ)) (read : Result (List ℕ) WholeFault) (line : List ℕ) (answer : Result (List ℕ) (List ℕ))
-    → answer ≡ Err line → IfOk r (λ status. status ≡ Refused) → IsHad read → Writes d e r line → IsTold r a a d e read (whole_report answer)
-told_refusal r a d e read line answer is status had err = rw is (record { status = status; had = if_ok r (IsHad read) had; out = writes_nothing a r; err = err; unread = λ h. absurd (had h) })
+pub refusal_reported : (r : Result Status RunFault) (a d e : Option (List ℕ)) (read : Result (List ℕ) WholeFault) (line : List ℕ) (answer : Result (List ℕ) (List ℕ))
+    → answer ≡ Err line → IfOk r (λ status. status ≡ Refused) → IsHad read → Writes d e r line → IsReported r a a d e read (whole_report answer)
+refusal_reported r a d e read line answer is status had err = rw is (record { status = status; had = if_ok r (IsHad read) had; out = writes_nothing a r; err = err; unread = λ h. absurd (had h) })
 
 -- By what was read
 
@@ -46,17 +46,17 @@ unread_if false a = (refl, refl)
 
 -- a base that is refused
 pub base_refused : (asked : Asked) (a b d e : Option (List ℕ)) (failed : Bool) (r : Result Status RunFault) (fault : StampFault) → base_in asked ≡ Err fault → failed ≡ false
-    → IfOk r (λ status. status ≡ Refused) → Writes d e r (refusal_line (codes "--base-time") (words_of fault)) → ByReading asked a a failed (IsTold r b b d e)
+    → IfOk r (λ status. status ≡ Refused) → Writes d e r (refusal_line (codes "--base-time") (words_of fault)) → ByReading asked a a failed (IsReported r b b d e)
 unfolding report
 base_refused asked a b d e failed r fault is works status err =
-    record { read = Ok []; input = rw is (unread_if (is_timer asked.verb) a); fails = works; holds = rw is (told_refusal r b d e (Ok []) _ _ refl status nothing_had err) }
+    record { read = Ok []; input = rw is (unread_if (is_timer asked.verb) a); fails = works; holds = rw is (refusal_reported r b d e (Ok []) _ _ refl status nothing_had err) }
 
 -- texts
-pub texts_told : (asked : Asked) (a b c d e : Option (List ℕ)) (failed : Bool) (r : Result Status RunFault) (base : ℤ) → base_in asked ≡ Ok base → is_timer asked.verb ≡ false
+pub texts_reported : (asked : Asked) (a b c d e : Option (List ℕ)) (failed : Bool) (r : Result Status RunFault) (base : ℤ) → base_in asked ≡ Ok base → is_timer asked.verb ≡ false
     → failed ≡ false → IfOk r (λ status. status ≡ (texts_report asked base).status) → Writes b c r (texts_report asked base).out → Writes d e r (texts_report asked base).err
-    → ByReading asked a a failed (IsTold r b c d e)
+    → ByReading asked a a failed (IsReported r b c d e)
 unfolding report
-texts_told asked a b c d e failed r base is plain works status out err =
+texts_reported asked a b c d e failed r base is plain works status out err =
     record {
       read = Ok [];
       input = rw plain (refl, refl);

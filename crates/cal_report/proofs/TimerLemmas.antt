@@ -10,8 +10,8 @@ use Rattle.cal_rising.specs.Merge.{Merging, merged}
 use Rattle.cal_elapse.proofs.ElapsesLemmas.{union-elapses_after}
 use Rattle.cal_elapse.proofs.InstantLemmas.{IsInstant-elapse}
 use Rattle.cal_read.specs.TimerText.{Entry, timer_text}
-use Rattle.cal_read.specs.declared.timer_fault.TimerFault.{TimerFault}
-use Rattle.cal_read.specs.declared.timer_fault.TimerFault.TheVariants as timer
+use Rattle.cal_read.specs.declared.timer.fault.TimerFault.{TimerFault}
+use Rattle.cal_read.specs.declared.timer.fault.TimerFault.TheVariants as timer
 use Rattle.cal_read.specs.TimerView.{shown}
 use Rattle.cal_read.specs.declared.timer.TimerLine.{TimerLine}
 use Rattle.cal_bytes.specs.declared.whole.WholeFault.{WholeFault}
@@ -20,7 +20,7 @@ use Rattle.cal_spec.specs.Fields.{Fields}
 use Rattle.cal_report.specs.ElapseLines.{AreInstants}
 use Rattle.cal_request.specs.Request.{Asked}
 use Rattle.cal_report.specs.TimerPlan.{IsMergeOf, IsUnzoned, plan_text}
-use Rattle.cal_report.specs.TimerReport.{IsHad, headings_text, lacks_zone, timed_in, timer_answer, timer_report}
+use Rattle.cal_report.specs.TimerReport.{IsHad, headings_text, lacks_zone, timed_entry, timer_answer, timer_report}
 use Rattle.cal_report.specs.CalendarReport.{heading_text, zone_for}
 use Rattle.std.specs.Io.KnownBytes.{Appends}
 use Rattle.cal_bytes.specs.Bytes.{AppendsFront, Leaves}
@@ -35,23 +35,23 @@ found_more : (p : Entry Fields → Bool) (xs : List (Entry Fields)) (x : Entry F
 found_more p xs x none fails = rw (find-append p xs (x ∷ []), none, fails) refl
 
 pub merge_more : (asked : Asked) (base : ℤ) (lines : List TimerLine) (i : ℕ) (line : TimerLine) (merge next : Merging) (elapses : List ℤ) → i < length lines
-    → line ≡ get_or lines i line → lacks_zone asked (shown line) ≡ false → elapses ≡ elapses_after (timed_in asked (shown line) ∷ []) base
+    → line ≡ get_or lines i line → lacks_zone asked (shown line) ≡ false → elapses ≡ elapses_after (timed_entry asked (shown line) ∷ []) base
     → next ≡ record { started = false; lists = merge.lists ++ elapses ∷ [] }
     → IsMergeOf asked base (map shown (take i lines)) merge → IsMergeOf asked base (map shown (take (i + 1) lines)) next
 merge_more asked base lines i line merge next elapses h is there so added m =
     let more : map shown (take (i + 1) lines) ≡ map shown (take i lines) ++ shown line ∷ [] = shown_more lines i line h ∙ ap (λ x. map shown (take i lines) ++ shown x ∷ []) (sym is) in
     let list = map shown (take i lines) in
     let each = λ (t : Timed). elapses_after (t ∷ []) base in
-    let before : merge.lists ≡ map each (map (timed_in asked) list) = ap (λ (x : Merging). x.lists) m.lists in
-    let behind : map each (map (timed_in asked) (list ++ shown line ∷ [])) ≡ map each (map (timed_in asked) list) ++ each (timed_in asked (shown line)) ∷ []
-    = ap (map each) (map-append (timed_in asked) list (shown line ∷ [])) ∙ map-append each (map (timed_in asked) list) (timed_in asked (shown line) ∷ []) in
+    let before : merge.lists ≡ map each (map (timed_entry asked) list) = ap (λ (x : Merging). x.lists) m.lists in
+    let after : map each (map (timed_entry asked) (list ++ shown line ∷ [])) ≡ map each (map (timed_entry asked) list) ++ each (timed_entry asked (shown line)) ∷ []
+    = ap (map each) (map-append (timed_entry asked) list (shown line ∷ [])) ∙ map-append each (map (timed_entry asked) list) (timed_entry asked (shown line) ∷ []) in
     rw more (record {
       found = found_more (lacks_zone asked) list (shown line) m.found there;
       lists = added ∙ ap (λ (l : List (List ℤ)). record { started = false; lists = l })
-          (ap (λ (l : List (List ℤ)). l ++ elapses ∷ []) before ∙ ap (λ (l : List ℤ). map each (map (timed_in asked) list) ++ l ∷ []) so ∙ sym behind);
+          (ap (λ (l : List (List ℤ)). l ++ elapses ∷ []) before ∙ ap (λ (l : List ℤ). map each (map (timed_entry asked) list) ++ l ∷ []) so ∙ sym after);
     })
 
--- a line whose zone isn't there, behind lines whose zones are
+-- a line whose zone isn't there, after lines whose zones are
 unzoned_at : (asked : Asked) (before after : List (Entry Fields)) (e : Entry Fields) → find (lacks_zone asked) before ≡ None → lacks_zone asked e ≡ true
     → IsUnzoned (find (lacks_zone asked) (before ++ e ∷ after)) (NoSuchZone e.number)
 unzoned_at asked before after e none lacks = rw (find-append (lacks_zone asked) before (e ∷ after), none, lacks) refl
@@ -69,12 +69,12 @@ merge_stops asked base lines i line merge h is lacks m =
 
 -- the elapses of all of them
 pub merge_whole : (asked : Asked) (base : ℤ) (list : List (Entry Fields)) (merge : Merging) → IsMergeOf asked base list merge
-    → merged merge ≡ elapses_after (map (timed_in asked) list) base
-merge_whole asked base list merge m = ap merged m.lists ∙ union-elapses_after (map (timed_in asked) list) base
+    → merged merge ≡ elapses_after (map (timed_entry asked) list) base
+merge_whole asked base list merge m = ap merged m.lists ∙ union-elapses_after (map (timed_entry asked) list) base
 
 -- which are instants
 pub merge_instants : (asked : Asked) (base : ℤ) (list : List (Entry Fields)) (merge : Merging) → IsMergeOf asked base list merge → pos 0 ≤ℤ base → AreInstants (merged merge)
-unfolding timed_in
+unfolding timed_entry
 merge_instants asked base list merge m low i h =
     IsInstant-elapse (λ (e : Entry Fields). e.expr) (λ (e : Entry Fields). unwrap_or (zone_for asked e.expr.zone) UTC) list base i low (rw (merge_whole asked base list merge m) at h)
 

@@ -18,7 +18,7 @@ use Rattle.cal_span.specs.SpanValue.{words_in, pairs_in, is_number, unit_named, 
 use Rattle.cal_spec.specs.Fields.{Fields}
 use Rattle.cal_spec.specs.Match.{matches, date_in, time_in}
 use Rattle.cal_spec.specs.Members.{sets_of, part_has}
-use Rattle.cal_report.specs.Answer.{reports_text, refusals_text, whole_status}
+use Rattle.cal_report.specs.Answer.{reports_text, refusals_text, texts_status}
 use Rattle.cal_elapse.specs.Elapses.{AreElapses, IsElapse}
 use Rattle.cal_report.specs.Report.{base_in, report, texts_report}
 use Rattle.cal_request.specs.Request.{Asked}
@@ -39,7 +39,7 @@ use Rattle.cal_zone.specs.ZoneName.{is_zone_name}
 use Rattle.cal_spec.specs.Components.{part_due, listed, component_of}
 use Rattle.cal_spec.specs.DateAndTime.{date_texts, time_texts, date_fields, time_fields, date_of as date_in_word, time_of}
 use Rattle.cal_spec.specs.Grammar.{fields_in, fields_at}
-use Rattle.cal_spec.specs.Parts.{with_step, behind_end, behind_start, part_of, fault_of}
+use Rattle.cal_spec.specs.Parts.{with_step, after_end, after_start, part_of, fault_of}
 use Rattle.cal_spec.specs.Shorthand.{shorthand_named}
 use Rattle.cal_spec.specs.Weekdays.{day_named, days_of, listed_days, weekdays_of}
 use Rattle.cal_spec.specs.Words.{words, places_of}
@@ -150,7 +150,7 @@ unfolding two_spans report texts_report base_in refusals_text timespan_answer ti
 two_spans-err = refl
 
 two_spans-status : (report two_spans (Ok [])).status ≡ Refused
-unfolding two_spans report texts_report base_in whole_status timespan_answer timespan_report units_text row_text span_of pairs_in words_in worth_of is_number unit_named number_worth words_for name_of digits
+unfolding two_spans report texts_report base_in texts_status timespan_answer timespan_report units_text row_text span_of pairs_in words_in worth_of is_number unit_named number_worth words_for name_of digits
 two_spans-status = refl
 
 -- A request that is accepted, so that the headline speaks of it
@@ -170,7 +170,7 @@ every_second = record {
 }
 
 every_second-read : fields_in (codes "*:*:*") ≡ Ok every_second
-unfolding every_second fields_in fields_at words places_of shorthand_named day_named days_of listed_days weekdays_of date_texts time_texts date_fields time_fields date_in_word time_of part_due listed component_of with_step behind_end behind_start part_of fault_of is_zone_name weekday.name_of
+unfolding every_second fields_in fields_at words places_of shorthand_named day_named days_of listed_days weekdays_of date_texts time_texts date_fields time_fields date_in_word time_of part_due listed component_of with_step after_end after_start part_of fault_of is_zone_name weekday.name_of
 every_second-read = refl
 
 every_second-spelled : Spells (codes "*:*:*") every_second

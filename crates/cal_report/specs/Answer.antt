@@ -48,8 +48,8 @@ unfoldable pub refusals_text : (List ℕ → Answer) → List (List ℕ) → Lis
 refusals_text answer = flat_map (λ text. refusal_in text (answer text))
 
 -- refused where some text was
-unfoldable pub whole_status : (List ℕ → Answer) → List (List ℕ) → Status
-whole_status answer texts = if list_any (λ text. is_err (answer text)) texts then Refused else Fine
+unfoldable pub texts_status : (List ℕ → Answer) → List (List ℕ) → Status
+texts_status answer texts = if list_any (λ text. is_err (answer text)) texts then Refused else Fine
 
 -- Where the answers ended before a text: those to the texts before it are written whole, and nothing more is.
 pub record IsAnsweredBefore (answer : List ℕ → Answer) (texts : List (List ℕ)) (out_old out_new err_old err_new : Option (List ℕ)) : Type 0 where

@@ -16,7 +16,7 @@ use Rattle.cal_report.specs.ElapseLines.{elapses_text}
 use Rattle.cal_report.specs.ReportLines.{original_line}
 use Rattle.cal_request.specs.Request.{Asked}
 
--- the line of the normal form, behind its label
+-- the line of the normal form, after its label
 unfoldable pub normal_line : Fields → List ℕ
 normal_line fields = joined (expr_text fields ∷ codes "\n" ∷ [])
 

@@ -6,14 +6,14 @@ use Rattle.cal_bytes.specs.declared.whole.WholeFault.{WholeFault}
 use Rattle.cal_bytes.specs.declared.whole.WholeFault.TheVariants.{NoMemory}
 use Rattle.cal_zone.specs.declared.instant.Instant.{Instant}
 use Rattle.cal_read.specs.StampFault.{words_of}
-use Rattle.cal_read.specs.TimerText.{ReadsWhole, most_bytes}
-use Rattle.cal_read.specs.declared.stamp_fault.StampFault.{StampFault}
-use Rattle.cal_report.specs.Answer.{Answer, IsAnsweredBefore, refusal_line, reports_text, refusals_text, whole_status}
+use Rattle.cal_read.specs.TimerText.{ReadsWhole, most_file_bytes}
+use Rattle.cal_read.specs.declared.stamp.fault.StampFault.{StampFault}
+use Rattle.cal_report.specs.Answer.{Answer, IsAnsweredBefore, refusal_line, reports_text, refusals_text, texts_status}
 use Rattle.cal_report.specs.CalendarReport.{calendar_answer}
 use Rattle.cal_request.specs.Request.{Asked, is_timer}
 use Rattle.cal_report.specs.TimerReport.{IsHad, timer_answer}
 use Rattle.cal_report.specs.TimespanReport.{timespan_answer}
-use Rattle.cal_report.specs.TimestampReport.{second_of, stamp_in, timestamp_answer}
+use Rattle.cal_report.specs.TimestampReport.{second_at, stamp_in, timestamp_answer}
 use Rattle.cal_request.specs.declared.request.RunFault.{RunFault}
 use Rattle.cal_request.specs.declared.request.Status.{Status}
 use Rattle.cal_request.specs.declared.request.Status.TheVariants.{Fine, Refused}
@@ -39,18 +39,18 @@ abbrev pub answer_to : Asked → ℤ → List ℕ → Answer
 answer_to asked base = answer_by asked.verb asked base
 
 -- the base: the instant of a timestamp's moment, or else the present
-abbrev pub second_told : Result ℤ StampFault → Result ℤ StampFault
-second_told (Ok micros) = Ok (second_of micros)
-second_told (Err fault) = Err fault
+abbrev pub second_or_fault : Result ℤ StampFault → Result ℤ StampFault
+second_or_fault (Ok micros) = Ok (second_at micros)
+second_or_fault (Err fault) = Err fault
 
 abbrev pub base_from : Asked → Option (List ℕ) → Result ℤ StampFault
 base_from asked None = Ok asked.now
-base_from asked (Some text) = second_told (stamp_in asked text)
+base_from asked (Some text) = second_or_fault (stamp_in asked text)
 
 -- the base as it was read, by its seconds
-abbrev pub secs_told : Result Instant StampFault → Result ℤ StampFault
-secs_told (Ok instant) = Ok instant.secs
-secs_told (Err fault) = Err fault
+abbrev pub secs_or_fault : Result Instant StampFault → Result ℤ StampFault
+secs_or_fault (Ok instant) = Ok instant.secs
+secs_or_fault (Err fault) = Err fault
 
 unfoldable pub base_in : Asked → Result ℤ StampFault
 base_in asked = base_from asked asked.base
@@ -60,7 +60,7 @@ unfoldable pub texts_report : Asked → ℤ → Report
 texts_report asked base = record {
   out = reports_text (answer_to asked base) asked.texts;
   err = refusals_text (answer_to asked base) asked.texts;
-  status = whole_status (answer_to asked base) asked.texts;
+  status = texts_status (answer_to asked base) asked.texts;
 }
 
 -- one report, or the line of one refusal
@@ -86,18 +86,18 @@ report_from asked read (Ok base) = report_after asked base read
 unfoldable pub report : Asked → Result (List ℕ) WholeFault → Report
 report asked read = report_from asked read (base_in asked)
 
--- the input is read for a timer alone, and only behind a base that isn't refused
+-- the input is read for a timer alone, and only after a base that isn't refused
 abbrev pub reads_input : Asked → Bool
 reads_input asked = is_timer asked.verb && is_ok (base_in asked)
 
 -- what was read: all of the input, or the cause why it can't be had; and nothing where none is read
 abbrev pub ReadsIf : Bool → Option (List ℕ) → Option (List ℕ) → Result (List ℕ) WholeFault → Type 0
-ReadsIf true old new read = ReadsWhole old new most_bytes read
+ReadsIf true old new read = ReadsWhole old new most_file_bytes read
 ReadsIf false old new read = (new ≡ old) × (read ≡ Ok [])
 
 -- A run wrote the report, or a front of it where it ended with a fault, and ended as it says. Where it ended well, no
 -- memory was refused to its reads; where it was, nothing is written.
-pub record IsTold (result : Result Status RunFault) (out_old out_new err_old err_new : Option (List ℕ)) (read : Result (List ℕ) WholeFault) (report : Report) : Type 0 where
+pub record IsReported (result : Result Status RunFault) (out_old out_new err_old err_new : Option (List ℕ)) (read : Result (List ℕ) WholeFault) (report : Report) : Type 0 where
   pub status : IfOk result (λ status. status ≡ report.status)
   pub had : IfOk result (λ status. IsHad read)
   pub out : Writes out_old out_new result report.out
@@ -105,11 +105,11 @@ pub record IsTold (result : Result Status RunFault) (out_old out_new err_old err
   pub unread : read ≡ Err NoMemory → (out_new ≡ out_old) × (err_new ≡ err_old)
 
 -- There is an answer of the reads for whose report this holds. The input has failed exactly where a read failed.
-pub record ByReading (asked : Asked) (old new : Option (List ℕ)) (failed : Bool) (told : Result (List ℕ) WholeFault → Report → Type 0) : Type 0 where
+pub record ByReading (asked : Asked) (old new : Option (List ℕ)) (failed : Bool) (holds_of : Result (List ℕ) WholeFault → Report → Type 0) : Type 0 where
   pub read : Result (List ℕ) WholeFault
   pub input : ReadsIf (reads_input asked) old new read
   pub fails : failed ≡ is_read_failed read
-  pub holds : told read (report asked read)
+  pub holds : holds_of read (report asked read)
 
 -- What a run has written that ended for want of memory: the whole answers to the texts before the one at which memory
 -- was refused, and nothing more. A timer's one text is its file, so that nothing is written there.

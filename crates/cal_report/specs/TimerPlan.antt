@@ -9,7 +9,7 @@ use Rattle.cal_read.specs.TimerText.{Entry}
 use Rattle.cal_spec.specs.Fields.{Fields}
 use Rattle.cal_report.specs.ElapseLines.{elapses_text}
 use Rattle.cal_request.specs.Request.{Asked}
-use Rattle.cal_report.specs.TimerReport.{headings_text, lacks_zone, timed_in}
+use Rattle.cal_report.specs.TimerReport.{headings_text, lacks_zone, timed_entry}
 use Rattle.cal_report.specs.declared.timer_report.TimerPlan.{TimerPlan}
 use Rattle.cal_report.specs.declared.timer_report.TimerRefusal.{TimerRefusal}
 use Rattle.cal_report.specs.declared.timer_report.TimerRefusal.TheVariants.{Timer, NoSuchZone, NoMemory}
@@ -38,4 +38,4 @@ IsUnzoned (Some e) refusal = refusal ≡ NoSuchZone e.number
 -- the merge has the elapses of each expression of the list, whose zones are all there, and nothing was taken from it
 pub record IsMergeOf (asked : Asked) (base : ℤ) (list : List (Entry Fields)) (merge : Merging) : Type 0 where
   pub found : find (lacks_zone asked) list ≡ None
-  pub lists : merge ≡ merge_of (map (timed_in asked) list) base
+  pub lists : merge ≡ merge_of (map (timed_entry asked) list) base

@@ -10,7 +10,7 @@ use Rattle.cal_elapse.specs.Elapses.{Timed, elapses_after}
 use Rattle.cal_elapse.specs.Timed.{timed}
 use Rattle.cal_read.specs.TimerFault.{line_of, words_of}
 use Rattle.cal_read.specs.TimerText.{Entry, timer_text}
-use Rattle.cal_read.specs.declared.timer_fault.TimerFault.{TimerFault}
+use Rattle.cal_read.specs.declared.timer.fault.TimerFault.{TimerFault}
 use Rattle.cal_spec.specs.Expr.{expr_in}
 use Rattle.cal_spec.specs.Fields.{Fields}
 use Rattle.cal_report.specs.Answer.{refusal_line}
@@ -28,8 +28,8 @@ abbrev pub lacks_zone : Asked → Entry Fields → Bool
 lacks_zone asked e = is_none (zone_for asked e.expr.zone)
 
 -- what an expression of the list means, in its zone
-unfoldable pub timed_in : Asked → Entry Fields → Timed
-timed_in asked e = timed e.expr (unwrap_or (zone_for asked e.expr.zone) UTC)
+unfoldable pub timed_entry : Asked → Entry Fields → Timed
+timed_entry asked e = timed e.expr (unwrap_or (zone_for asked e.expr.zone) UTC)
 
 -- the texts and normal forms of the list, in the order of the file
 unfoldable pub headings_text : List (Entry Fields) → List ℕ
@@ -38,7 +38,7 @@ headings_text = flat_map (λ e. heading_text e.text e.expr)
 -- the report of a list: its texts, and as many of the elapses of all of them as are asked for
 unfoldable pub timer_report : Asked → ℤ → List (Entry Fields) → List ℕ
 timer_report asked base list =
-    joined (headings_text list ∷ elapses_text asked.local asked.now (take asked.iterations (elapses_after (map (timed_in asked) list) base)) ∷ [])
+    joined (headings_text list ∷ elapses_text asked.local asked.now (take asked.iterations (elapses_after (map (timed_entry asked) list) base)) ∷ [])
 
 -- the report of a list whose zones are all there, or the line of the first whose zone isn't
 abbrev pub answer_unless : Asked → ℤ → List ℕ → List (Entry Fields) → Option (Entry Fields) → Result (List ℕ) (List ℕ)

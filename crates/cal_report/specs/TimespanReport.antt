@@ -4,7 +4,7 @@ use Rattle.cal_bytes.specs.Bytes.{joined}
 use Rattle.cal_span.specs.SpanFault.{words_of}
 use Rattle.cal_span.specs.SpanText.{span_text}
 use Rattle.cal_span.specs.SpanValue.{span_of}
-use Rattle.cal_span.specs.declared.span_fault.SpanFault.{SpanFault}
+use Rattle.cal_span.specs.declared.span.fault.SpanFault.{SpanFault}
 use Rattle.cal_report.specs.Answer.{Answer}
 
 -- the label of the microseconds, in which μ is U+03BC

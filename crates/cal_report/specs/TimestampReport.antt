@@ -8,27 +8,27 @@ use Rattle.cal_zone.specs.declared.zone.Zone.{Zone}
 use Rattle.cal_read.specs.Stamp.{moment_in}
 use Rattle.cal_read.specs.StampFault.{words_of}
 use Rattle.cal_read.specs.StampViews.{setting}
-use Rattle.cal_read.specs.declared.stamp_fault.StampFault.{StampFault}
+use Rattle.cal_read.specs.declared.stamp.fault.StampFault.{StampFault}
 use Rattle.cal_report.specs.Answer.{Answer}
 use Rattle.cal_report.specs.ReportLines.{distance_text, micros_of, original_line, utc_line}
 use Rattle.cal_request.specs.Request.{Asked}
 
 -- the second that a moment lies in
-abbrev pub second_of : ℤ → ℤ
-second_of micros = pos (unsigned_abs micros / 1_000_000)
+abbrev pub second_at : ℤ → ℤ
+second_at micros = pos (unsigned_abs micros / 1_000_000)
 
--- `@` and the seconds, and behind a point six digits of microseconds where they aren't 0
+-- `@` and the seconds, and after a point six digits of microseconds where they aren't 0
 unfoldable pub unix_text : ℕ → List ℕ
 unix_text micros =
     let fraction = micros % 1_000_000 in
     if fraction == 0 then joined (codes "@" ∷ decimal (micros / 1_000_000) ∷ [])
     else joined (codes "@" ∷ decimal (micros / 1_000_000) ∷ codes "." ∷ zeros 6 fraction ∷ decimal fraction ∷ [])
 
--- what is said of a moment, behind the label of its first line: its instant in the local zone and in UTC, its Unix time,
+-- what is said of a moment, after the label of its first line: its instant in the local zone and in UTC, its Unix time,
 -- and how far it lies from the present
 unfoldable pub moment_lines : Zone → ℤ → ℤ → List ℕ
 moment_lines local now micros =
-    joined (instant_text local (second_of micros) ∷ codes "\n" ∷ utc_line local (second_of micros) ∷ codes "   UNIX seconds: " ∷ unix_text (unsigned_abs micros) ∷ codes "\n       From now: " ∷ distance_text (micros_of now) micros ∷ codes "\n" ∷ [])
+    joined (instant_text local (second_at micros) ∷ codes "\n" ∷ utc_line local (second_at micros) ∷ codes "   UNIX seconds: " ∷ unix_text (unsigned_abs micros) ∷ codes "\n       From now: " ∷ distance_text (micros_of now) micros ∷ codes "\n" ∷ [])
 
 -- the text as it was handed in, and its moment
 unfoldable pub timestamp_report : Asked → List ℕ → ℤ → List ℕ

@@ -3,7 +3,7 @@
 ghost use Rattle.std.specs.Prelude.{◌≡◌, [], ◌∷◌, ℤ, Ok, Err, IfOk, IfErr, IsErrOf, false, is_err, option_map};
 ghost use Rattle.cal_bytes.specs.Bytes.{Writes, joined};
 ghost use Rattle.cal_zone.specs.Zone.{zone_of};
-ghost use Rattle.cal_read.specs.StampViews.{told};
+ghost use Rattle.cal_read.specs.StampViews.{micros_or_fault};
 ghost use Rattle.cal_report.specs.Accepted.{IsTimely, report_text, refusal_words, verb_of};
 ghost use Rattle.cal_report.specs.Answer.{lead_text};
 ghost use Rattle.cal_report.specs.CalendarReport.{calendar_answer, zone_for};
@@ -101,7 +101,7 @@ pub fn read_text<'a>(
 /// The moment that a text means at the present, in the local zone.
 #[tactic(auto, unfolding(crate::specs::TimestampReport::stamp_in))]
 fn read_moment(context: Context<'_>, text: &str) -> Result<Moment, StampFault>
-    ensures { told result ≡ stamp_in (asked_by context.entry) text.now }
+    ensures { micros_or_fault result ≡ stamp_in (asked_by context.entry) text.now }
 {
     read_stamp(text, context.now, context.local, context.table)
 }

@@ -3,7 +3,7 @@
 use cal_request::Request;
 use cal_zone::{Instant, Zone, ZoneTable};
 
-/// A request, and what is told beside it.
+/// A request, and what goes with it.
 #[derive(Clone, Copy)]
 pub struct Context<'a> {
     /// What is asked.

@@ -16,7 +16,7 @@ ghost use Rattle.cal_elapse.specs.Elapses.{AreElapses, IsPlace, Timed};
 ghost use Rattle.cal_elapse.specs.Timed.{timed};
 ghost use Rattle.cal_report.specs.ElapseLines.{AreInstants};
 ghost use Rattle.cal_report.specs.Headline.{AreAccepted, AreReportsOf, Expression, IsAccepted, IsAcceptedFile, IsFileOf, IsFine, IsReportOf, meaning};
-ghost use Rattle.cal_report.specs.Report.{ByReading, IsTold, base_in, report};
+ghost use Rattle.cal_report.specs.Report.{ByReading, IsReported, base_in, report};
 ghost use Rattle.cal_request.specs.Request.{Asked};
 ghost use Rattle.cal_request.specs.declared.request.Status.{Status};
 ghost use Rattle.cal_request.specs.declared.request.Status.TheVariants.{Fine};
@@ -44,13 +44,13 @@ pub fn headline()
     ensures written { (asked : Asked) (base : ℤ) (es : List Expression) (old new : Option (List ℕ)) (failed : Bool)
         (status : Status) (out_old out_new err_old err_new : Option (List ℕ)) → asked.verb ≡ Calendar
         → base_in asked ≡ Ok base → asked.texts ≡ map (λ (e : Expression). e.text) es → AllByRecursion (IsAccepted asked) es
-        → ByReading asked old new failed (IsTold (Ok status) out_old out_new err_old err_new)
+        → ByReading asked old new failed (IsReported (Ok status) out_old out_new err_old err_new)
         → (text : List ℕ) × AreReportsOf asked base es text × Appends out_old out_new text
         × Appends err_old err_new [] × (status ≡ Fine) }
     ensures written_file { (asked : Asked) (base : ℤ) (bytes : List ℕ) (es : List Expression) (old new : Option (List ℕ))
         (failed : Bool) (status : Status) (out_old out_new err_old err_new : Option (List ℕ)) → asked.verb ≡ Timer
         → base_in asked ≡ Ok base → IsFileOf bytes es → AllByRecursion (IsAccepted asked) es
-        → (run : ByReading asked old new failed (IsTold (Ok status) out_old out_new err_old err_new)) → run.read ≡ Ok bytes
+        → (run : ByReading asked old new failed (IsReported (Ok status) out_old out_new err_old err_new)) → run.read ≡ Ok bytes
         → (text : List ℕ) × IsReportOf asked base es text × Appends out_old out_new text
         × Appends err_old err_new [] × (status ≡ Fine) }
 

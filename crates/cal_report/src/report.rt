@@ -5,11 +5,11 @@ ghost use Rattle.std.specs.Prelude.{ℕ, List, Result, slice_index_or, length, m
 ghost use Rattle.std.specs.String.{string_bytes};
 ghost use Rattle.cal_bytes.specs.Whole.{is_read_failed};
 ghost use Rattle.cal_bytes.specs.declared.whole.WholeFault.{WholeFault};
-ghost use Rattle.cal_read.specs.TimerText.{ReadsWhole, most_bytes};
+ghost use Rattle.cal_read.specs.TimerText.{ReadsWhole, most_file_bytes};
 ghost use Rattle.cal_bytes.specs.Bytes.{Writes, joined};
-ghost use Rattle.cal_report.specs.Answer.{IsAnsweredBefore, refusal_in, refusal_line, later_text, status_in, reports_text, refusals_text, whole_status};
+ghost use Rattle.cal_report.specs.Answer.{IsAnsweredBefore, refusal_in, refusal_line, later_text, status_in, reports_text, refusals_text, texts_status};
 ghost use Rattle.cal_report.specs.Context.{asked_by};
-ghost use Rattle.cal_report.specs.Report.{ByReading, IsCut, IsTold, answer_to, base_in, file_name, secs_told, whole_report};
+ghost use Rattle.cal_report.specs.Report.{ByReading, IsCut, IsReported, answer_to, base_in, file_name, secs_or_fault, whole_report};
 ghost use Rattle.cal_request.specs.Request.{IsCount, asked, is_timer, seeks_elapses};
 ghost use Rattle.cal_report.specs.TimerReport.{refusal_at, timer_answer};
 ghost use Rattle.cal_request.specs.RunFault.{is_out_failed, is_err_failed};
@@ -58,7 +58,7 @@ pub fn run<R: Source, O: Sink, E: Sink>(
     requires err { E.is_failed err.old ≡ false }
     ensures reported { ByReading (asked request.now now.secs local.entry table.now)
         (R.remaining input.old) (R.remaining input.new) (R.is_failed input.new)
-        (IsTold result (O.written out.old) (O.written out.new) (E.written err.old) (E.written err.new)) }
+        (IsReported result (O.written out.old) (O.written out.new) (E.written err.old) (E.written err.new)) }
     ensures out_failed { O.is_failed out.new ≡ is_out_failed result }
     ensures err_failed { E.is_failed err.new ≡ is_err_failed result }
     ensures memory { seeks_elapses request.now.verb ≡ false → IsErrOf result NoMemory → ⊥ }
@@ -92,7 +92,7 @@ fn read_base(
     local: Zone<'_>,
     table: &ZoneTable,
 ) -> Result<Instant, StampFault>
-    ensures { secs_told result ≡ base_in (asked request.now now.secs local.entry table.now) }
+    ensures { secs_or_fault result ≡ base_in (asked request.now now.secs local.entry table.now) }
 {
     let Some(text) = &request.base else {
         return Ok(now);
@@ -113,7 +113,7 @@ fn answer_all<O: Sink, E: Sink>(
     requires out { O.is_failed out.old ≡ false }
     requires err { E.is_failed err.old ≡ false }
     ensures status { let asked = asked_by context.entry in
-        IfOk result (λ status. status ≡ whole_status (answer_to asked context.entry.base.secs) asked.texts) }
+        IfOk result (λ status. status ≡ texts_status (answer_to asked context.entry.base.secs) asked.texts) }
     ensures out { let asked = asked_by context.entry in
         Writes (O.written out.old) (O.written out.new) result (reports_text (answer_to asked context.entry.base.secs) asked.texts) }
     ensures err { let asked = asked_by context.entry in
@@ -185,9 +185,9 @@ fn answer_timer<R: Source, O: Sink, E: Sink>(
     requires out { O.is_failed out.old ≡ false }
     requires err { E.is_failed err.old ≡ false }
     ensures reported { (read : Result (List ℕ) WholeFault)
-        × ReadsWhole (R.remaining input.old) (R.remaining input.new) most_bytes read
+        × ReadsWhole (R.remaining input.old) (R.remaining input.new) most_file_bytes read
         × (R.is_failed input.new ≡ is_read_failed read)
-        × IsTold result (O.written out.old) (O.written out.new) (E.written err.old) (E.written err.new) read
+        × IsReported result (O.written out.old) (O.written out.new) (E.written err.old) (E.written err.new) read
         (whole_report (timer_answer (asked_by context.entry) context.entry.base.secs (file_name (asked_by context.entry)) read)) }
     ensures sure { R.may_fail input.old ≡ false → R.is_failed input.new ≡ false }
     ensures out_failed { O.is_failed out.new ≡ is_out_failed result }

@@ -10,12 +10,12 @@ ghost use Rattle.cal_bytes.specs.declared.whole.WholeFault.{WholeFault};
 ghost use Rattle.cal_elapse.specs.Elapses.{elapses_after};
 ghost use Rattle.cal_rising.specs.Merge.{merged};
 ghost use Rattle.cal_elapse.specs.Rest.{rest_of};
-ghost use Rattle.cal_read.specs.TimerText.{ReadsWhole, most_bytes};
+ghost use Rattle.cal_read.specs.TimerText.{ReadsWhole, most_file_bytes};
 ghost use Rattle.cal_read.specs.TimerView.{shown};
 ghost use Rattle.cal_report.specs.Context.{asked_by};
 ghost use Rattle.cal_report.specs.ElapseLines.{AreInstants, elapses_text};
 ghost use Rattle.cal_request.specs.Request.{IsCount};
-ghost use Rattle.cal_report.specs.TimerReport.{IsHad, headings_text, lacks_zone, refusal_at, timed_in, timer_answer, timer_report};
+ghost use Rattle.cal_report.specs.TimerReport.{IsHad, headings_text, lacks_zone, refusal_at, timed_entry, timer_answer, timer_report};
 ghost use Rattle.cal_report.specs.TimerPlan.{IsMergeOf, IsUnzoned, plan_text, refused_line, refused_words};
 ghost use Rattle.cal_report.specs.declared.timer_report.TimerRefusal.TheVariants.{NoMemory};
 
@@ -80,7 +80,7 @@ pub fn read_plan<'a, R: Source>(
     requires { R.is_failed input.old ≡ false }
     ensures sure { R.may_fail input.old ≡ false → R.is_failed input.new ≡ false }
     ensures plan { (read : Result (List ℕ) WholeFault)
-        × ReadsWhole (R.remaining input.old) (R.remaining input.new) most_bytes read
+        × ReadsWhole (R.remaining input.old) (R.remaining input.new) most_file_bytes read
         × (R.is_failed input.new ≡ is_read_failed read)
         × MatchResult result
         (λ plan. IsHad read × AreInstants (merged plan.merge) × ((name : List ℕ)
@@ -123,7 +123,7 @@ fn merge_of<'a>(
 }
 
 /// The elapses of an expression in its zone.
-#[tactic(auto, unfolding(crate::specs::TimerReport::timed_in))]
+#[tactic(auto, unfolding(crate::specs::TimerReport::timed_entry))]
 fn elapses_of<'a>(
     alloc: Global,
     context: Context<'a>,
@@ -131,7 +131,7 @@ fn elapses_of<'a>(
 ) -> Result<Elapses<'a>, TimerRefusal>
     ensures { MatchResult result
         (λ elapses. (lacks_zone (asked_by context.entry) (shown line.now) ≡ false)
-        × (rest_of elapses ≡ elapses_after (timed_in (asked_by context.entry) (shown line.now) ∷ []) context.entry.base.secs))
+        × (rest_of elapses ≡ elapses_after (timed_entry (asked_by context.entry) (shown line.now) ∷ []) context.entry.base.secs))
         (λ refusal. refusal ≢ NoMemory → (lacks_zone (asked_by context.entry) (shown line.now) ≡ true)
         × (refusal ≡ TimerRefusal.NoSuchZone line.now.number)) }
 {

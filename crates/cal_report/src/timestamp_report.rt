@@ -30,7 +30,7 @@ pub fn write_timestamp<W: Sink>(
     put_moment(out, context.local, context.now, moment)
 }
 
-/// Writes what is said of a moment, behind the label of its first line.
+/// Writes what is said of a moment, after the label of its first line.
 fn put_moment<W: Sink>(
     out: &mut W,
     local: Zone<'_>,

@@ -12,10 +12,10 @@ pub record Merging : Type 0 where
 abbrev pub merged : Merging → List ℤ
 merged m = union m.lists
 
--- one source of a merge: the number taken from it that was not given yet, and what is behind that number
+-- one source of a merge: the number taken from it that was not given yet, and what is after that number
 pub record Stream : Type 0 where
   pub head : Option ℤ
-  pub behind : List ℤ
+  pub after : List ℤ
 
 -- what a source has to give
 abbrev pub numbers_by : Option ℤ → List ℤ → List ℤ
@@ -23,7 +23,7 @@ numbers_by None xs = xs
 numbers_by (Some x) xs = x ∷ xs
 
 abbrev pub numbers : Stream → List ℤ
-numbers s = numbers_by s.head s.behind
+numbers s = numbers_by s.head s.after
 
 -- the first number is taken, if there is one
 abbrev pub HasHead : Stream → Type 0

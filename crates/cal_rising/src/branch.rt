@@ -6,7 +6,7 @@ ghost use Rattle.cal_rising.specs.Merge.{HasHead, numbers, passed};
 use crate::Rising;
 use std::marker::Model;
 
-/// A source of numbers that rise, seen as the number taken from it, if there is one, and what is behind that.
+/// A source of numbers that rise, seen as the number taken from it, if there is one, and what is after that.
 #[derive(Drop)]
 pub struct Branch<S: Rising> {
     head: Option<i64>,
@@ -19,7 +19,7 @@ impl<S: Rising> Model for Branch<S> {
 
     ghost Value = { Stream };
 
-    ghost view = { λ branch. record { head = branch.head; behind = S.rest branch.source } };
+    ghost view = { λ branch. record { head = branch.head; after = S.rest branch.source } };
 
     ghost invariant = { λ branch. IsRising (numbers_by branch.head (S.rest branch.source)) };
 }
@@ -27,7 +27,7 @@ impl<S: Rising> Model for Branch<S> {
 impl<S: Rising> Branch<S> {
     /// The source, of which no number was taken yet.
     pub fn new(source: S) -> Self
-        ensures { result ≡ record { head = None; behind = S.rest source } }
+        ensures { result ≡ record { head = None; after = S.rest source } }
     {
         Branch { head: None, source }
     }

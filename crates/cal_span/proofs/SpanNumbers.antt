@@ -1,4 +1,4 @@
--- Numbers, by the digits before and behind the point.
+-- Numbers, by the digits before and after the point.
 use Rattle.std.proofs.Common.{ℕ, suc, ◌+◌, ◌-◌, ◌*◌, ◌^◌, ◌/◌, ◌<◌, ◌≤◌, ◌≡◌, Bool, true, false, cond, not, ◌&&◌, ◌||◌, leb, List, [], ◌∷◌, length, take, drop, get_or, min, refl, sym, ap, ◌∙◌, arith, zero-add, add-one, ⊎_elim}
 use Rattle.std.specs.Prelude.{count_by, nat_le, nat_lt}
 use Rattle.std.specs.List.{list_all, list_any, position_or_len, before_first, after_first}
@@ -51,52 +51,52 @@ no_point (x ∷ xs) =
 at_most_one : (n : ℕ) → leb (1 + n) 1 ≡ leb n 0
 at_most_one n = grind (arith, nat_tests)
 
--- digits with at most one point are the digits before it and those behind it
-one_point_step : (x : ℕ) (xs before behind : List ℕ) (digit point rest : Bool) (n : ℕ) → is_ascii_digit x ≡ digit → (point ≡ true → digit ≡ false) → (rest && nat_le n 0) ≡ list_all is_ascii_digit xs → (rest && nat_le n 1) ≡ (list_all is_ascii_digit before && list_all is_ascii_digit behind) → (((digit || point) && rest) && nat_le (cond point 1 0 + n) 1) ≡ (list_all is_ascii_digit (cond point [] (x ∷ before)) && list_all is_ascii_digit (cond point xs behind))
-one_point_step x xs before behind true true rest n is apart none one =
+-- digits with at most one point are the digits before it and those after it
+one_point_step : (x : ℕ) (xs before after : List ℕ) (digit point rest : Bool) (n : ℕ) → is_ascii_digit x ≡ digit → (point ≡ true → digit ≡ false) → (rest && nat_le n 0) ≡ list_all is_ascii_digit xs → (rest && nat_le n 1) ≡ (list_all is_ascii_digit before && list_all is_ascii_digit after) → (((digit || point) && rest) && nat_le (cond point 1 0 + n) 1) ≡ (list_all is_ascii_digit (cond point [] (x ∷ before)) && list_all is_ascii_digit (cond point xs after))
+one_point_step x xs before after true true rest n is apart none one =
     absurd (false≢true (sym (apart refl)))
-one_point_step x xs before behind true false rest n is apart none one = rw (is, zero-add) one
-one_point_step x xs before behind false true rest n is apart none one =
+one_point_step x xs before after true false rest n is apart none one = rw (is, zero-add) one
+one_point_step x xs before after false true rest n is apart none one =
     rw at_most_one none
-one_point_step x xs before behind false false rest n is apart none one = rw is refl
+one_point_step x xs before after false false rest n is apart none one = rw is refl
 
 one_point : (xs : List ℕ) → (list_all is_digit_or_point xs && nat_le (count_by is_point xs) 1) ≡ (list_all is_ascii_digit (before_first is_point xs) && list_all is_ascii_digit (after_first is_point xs))
 one_point [] = refl
 one_point (x ∷ xs) =
     rw (sum_by-cons, before_first-cons x xs, after_first-cons x xs) (one_point_step x xs (before_first is_point xs) (after_first is_point xs) (is_ascii_digit x) (is_point x) (list_all is_digit_or_point xs) (count_by is_point xs) refl (point_no_digit x) (no_point xs) (one_point xs))
 
--- digits before the point or behind it are some digits
-some_digit_step : (x : ℕ) (xs before behind : List ℕ) (point : Bool) → (point ≡ true → is_ascii_digit x ≡ false) → list_all is_ascii_digit (cond point [] (x ∷ before)) ≡ true → list_all is_ascii_digit (cond point xs behind) ≡ true → list_any is_ascii_digit (x ∷ xs) ≡ nat_lt 0 (length (cond point [] (x ∷ before)) + length (cond point xs behind))
-some_digit_step x [] before behind true apart all_before all_behind = rw (apart refl) refl
-some_digit_step x (y ∷ xs) before behind true apart all_before all_behind =
-    let first = (and_parts (is_ascii_digit y) (list_all is_ascii_digit xs) all_behind).0 in
+-- digits before the point or after it are some digits
+some_digit_step : (x : ℕ) (xs before after : List ℕ) (point : Bool) → (point ≡ true → is_ascii_digit x ≡ false) → list_all is_ascii_digit (cond point [] (x ∷ before)) ≡ true → list_all is_ascii_digit (cond point xs after) ≡ true → list_any is_ascii_digit (x ∷ xs) ≡ nat_lt 0 (length (cond point [] (x ∷ before)) + length (cond point xs after))
+some_digit_step x [] before after true apart all_before all_after = rw (apart refl) refl
+some_digit_step x (y ∷ xs) before after true apart all_before all_after =
+    let first = (and_parts (is_ascii_digit y) (list_all is_ascii_digit xs) all_after).0 in
     rw (apart refl, first) (sym (lt-ltb 0 (0 + suc (length xs)) (omega arith)))
-some_digit_step x xs before behind false apart all_before all_behind =
+some_digit_step x xs before after false apart all_before all_after =
     let first = (and_parts (is_ascii_digit x) (list_all is_ascii_digit before) all_before).0 in
-    rw first (sym (lt-ltb 0 (suc (length before) + length behind) (omega arith)))
+    rw first (sym (lt-ltb 0 (suc (length before) + length after) (omega arith)))
 
 some_digit : (xs : List ℕ) → list_all is_ascii_digit (before_first is_point xs) ≡ true → list_all is_ascii_digit (after_first is_point xs) ≡ true → list_any is_ascii_digit xs ≡ nat_lt 0 (length (before_first is_point xs) + length (after_first is_point xs))
-some_digit [] all_before all_behind = refl
-some_digit (x ∷ xs) all_before all_behind =
-    rw (before_first-cons x xs, after_first-cons x xs) (some_digit_step x xs (before_first is_point xs) (after_first is_point xs) (is_point x) (point_no_digit x) (rw (before_first-cons x xs) at all_before) (rw (after_first-cons x xs) at all_behind))
+some_digit [] all_before all_after = refl
+some_digit (x ∷ xs) all_before all_after =
+    rw (before_first-cons x xs, after_first-cons x xs) (some_digit_step x xs (before_first is_point xs) (after_first is_point xs) (is_point x) (point_no_digit x) (rw (before_first-cons x xs) at all_before) (rw (after_first-cons x xs) at all_after))
 
--- a number by its digits before the point and those behind it
-number_parts : (xs before behind : List ℕ) → before ≡ before_first is_point xs → behind ≡ after_first is_point xs → list_all is_ascii_digit before ≡ true → list_all is_ascii_digit behind ≡ true → is_number xs ≡ nat_lt 0 (length before + length behind)
+-- a number by its digits before the point and those after it
+number_parts : (xs before after : List ℕ) → before ≡ before_first is_point xs → after ≡ after_first is_point xs → list_all is_ascii_digit before ≡ true → list_all is_ascii_digit after ≡ true → is_number xs ≡ nat_lt 0 (length before + length after)
 unfolding is_number
-number_parts xs before behind at_before at_behind all_before all_behind =
-    rw (one_point xs, ← at_before, ← at_behind, all_before, all_behind) (rw (at_before, at_behind) (some_digit xs (ap (list_all is_ascii_digit) (sym at_before) ∙ all_before) (ap (list_all is_ascii_digit) (sym at_behind) ∙ all_behind)))
+number_parts xs before after at_before at_after all_before all_after =
+    rw (one_point xs, ← at_before, ← at_after, all_before, all_after) (rw (at_before, at_after) (some_digit xs (ap (list_all is_ascii_digit) (sym at_before) ∙ all_before) (ap (list_all is_ascii_digit) (sym at_after) ∙ all_after)))
 
-pub is_number_from_parts : (xs before behind : List ℕ) → before ≡ before_first is_point xs → behind ≡ after_first is_point xs → list_all is_ascii_digit before ≡ true → list_all is_ascii_digit behind ≡ true → 0 < length before + length behind → is_number xs ≡ true
-is_number_from_parts xs before behind at_before at_behind all_before all_behind some =
-    number_parts xs before behind at_before at_behind all_before all_behind ∙ lt-ltb 0 _ some
+pub is_number_from_parts : (xs before after : List ℕ) → before ≡ before_first is_point xs → after ≡ after_first is_point xs → list_all is_ascii_digit before ≡ true → list_all is_ascii_digit after ≡ true → 0 < length before + length after → is_number xs ≡ true
+is_number_from_parts xs before after at_before at_after all_before all_after some =
+    number_parts xs before after at_before at_after all_before all_after ∙ lt-ltb 0 _ some
 
-pub no_number_from_empty : (xs before behind : List ℕ) → before ≡ before_first is_point xs → behind ≡ after_first is_point xs → length before ≡ 0 → length behind ≡ 0 → is_number xs ≡ false
-no_number_from_empty xs before behind at_before at_behind none_before none_behind =
-    number_parts xs [] [] (sym (nil_from_length before none_before) ∙ at_before) (sym (nil_from_length behind none_behind) ∙ at_behind) refl refl
+pub no_number_from_empty : (xs before after : List ℕ) → before ≡ before_first is_point xs → after ≡ after_first is_point xs → length before ≡ 0 → length after ≡ 0 → is_number xs ≡ false
+no_number_from_empty xs before after at_before at_after none_before none_after =
+    number_parts xs [] [] (sym (nil_from_length before none_before) ∙ at_before) (sym (nil_from_length after none_after) ∙ at_after) refl refl
 
-pub no_number_from_parts : (xs before behind : List ℕ) → before ≡ before_first is_point xs → behind ≡ after_first is_point xs → (list_all is_ascii_digit before && list_all is_ascii_digit behind) ≡ false → is_number xs ≡ false
+pub no_number_from_parts : (xs before after : List ℕ) → before ≡ before_first is_point xs → after ≡ after_first is_point xs → (list_all is_ascii_digit before && list_all is_ascii_digit after) ≡ false → is_number xs ≡ false
 unfolding is_number
-no_number_from_parts xs before behind at_before at_behind some = rw (one_point xs, ← at_before, ← at_behind, some) refl
+no_number_from_parts xs before after at_before at_after some = rw (one_point xs, ← at_before, ← at_after, some) refl
 
 -- each byte of digits is a digit
 pub digit_at : (digits : List ℕ) (i : ℕ) → i < length digits → list_all is_ascii_digit digits ≡ true → (48 ≤ get_or digits i 0) × (get_or digits i 0 ≤ 57) × (digit_value (get_or digits i 0) + 48 ≡ get_or digits i 0)
@@ -134,7 +134,7 @@ term_is digits i divisor size within all small at_power =
     let positive : 0 < 10 ^ (i + 1) = omega (arith, one-le-pow (i + 1) 10 (omega arith)) in
     rw at_power (quotient_at_top ((get_or digits i 0 - 48) * size) (10 ^ (i + 1)) (omega arith) positive ∙ ap (λ d. d * size / 10 ^ (i + 1)) value)
 
--- one more digit behind the point
+-- one more digit after the point
 pub fraction_more : (digits : List ℕ) (i sum size : ℕ) → i < length digits → min (sum + fraction_worth size (i + 1) (drop i digits)) top ≡ min (fraction_worth size 1 digits) top → min (min (sum + digit_value (get_or digits i 0) * size / 10 ^ (i + 1)) top + fraction_worth size (i + 1 + 1) (drop (i + 1) digits)) top ≡ min (fraction_worth size 1 digits) top
 fraction_more digits i sum size within so_far =
     let step = at_drop_more (fraction_worth size (i + 1)) digits i 0 within in omega (arith, step)

@@ -1,8 +1,8 @@
 -- The pairs of words are those of the rule, and nothing else is.
 use Rattle.std.proofs.Common.{◌≡◌, ◌⊎◌, ◌&&◌, Bool, true, false, cond, List, [], ◌∷◌, Some, None, refl, sym, ap, ◌∙◌, inl, inr}
 use Rattle.std.proofs.lemmas.Bool.{false≢true}
-use Rattle.cal_span.specs.declared.span_word.Kind.{Kind}
-use Rattle.cal_span.specs.declared.span_word.Kind.TheVariants.{Numeric, Letter}
+use Rattle.cal_span.specs.declared.span.word.CharKind.{CharKind}
+use Rattle.cal_span.specs.declared.span.word.CharKind.TheVariants.{Numeric, Letter}
 use Rattle.cal_span.proofs.SpanPairs.{no_kind, stray_first}
 use Rattle.cal_span.proofs.SpanWords.{is_kind-same, same_from_is_kind}
 use Rattle.cal_span.specs.SpanValue.{Piece, Pair, is_kind, pairs_of}
@@ -11,10 +11,10 @@ use Rattle.cal_span.specs.SpanRule.{BeginsWithNoUnit, IsWithUnit, IsWithoutUnit,
 abbrev IsFirst : List Piece → Pair → List Piece → Type 0
 IsFirst ws p rest = IsWithUnit ws p rest ⊎ (IsWithoutUnit ws p rest ⊎ IsNoNumber ws p rest)
 
-another : (j k : Kind) → is_kind j k ≡ false → k ≡ j → ⊥
+another : (j k : CharKind) → is_kind j k ≡ false → k ≡ j → ⊥
 another j k test same = false≢true (sym test ∙ ap (is_kind j) same ∙ is_kind-same j)
 
--- a word with no unit word behind it
+-- a word with no unit word after it
 first_alone : (w : Piece) (ws : List Piece) (numeric : Bool) → is_kind Numeric w.kind ≡ numeric → BeginsWithNoUnit ws → IsFirst (w ∷ ws) (record { number = cond numeric w.text []; unit = None }) ws
 first_alone w ws true test no_unit =
     inr (inl (record { number = w; words = refl; is_number = sym (same_from_is_kind Numeric w.kind test); no_unit = no_unit; pair = refl }))

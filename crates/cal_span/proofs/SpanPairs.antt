@@ -4,17 +4,17 @@ use Rattle.std.specs.Option.{ok_or}
 use Rattle.std.proofs.lemmas.Bool.{false_from_ne_true, le-leb, lt-leb}
 use Rattle.cal_span.specs.declared.scale.Scale.{Scale}
 use Rattle.cal_span.specs.declared.span.Span.{Span}
-use Rattle.cal_span.specs.declared.span_fault.SpanFault.{SpanFault}
-use Rattle.cal_span.specs.declared.span_fault.SpanFault.TheVariants.{BadNumber, UnknownUnit, TooLarge}
-use Rattle.cal_span.specs.declared.span_word.Kind.{Kind}
-use Rattle.cal_span.specs.declared.span_word.Kind.TheVariants.{Numeric, Letter}
+use Rattle.cal_span.specs.declared.span.fault.SpanFault.{SpanFault}
+use Rattle.cal_span.specs.declared.span.fault.SpanFault.TheVariants.{BadNumber, UnknownUnit, TooLarge}
+use Rattle.cal_span.specs.declared.span.word.CharKind.{CharKind}
+use Rattle.cal_span.specs.declared.span.word.CharKind.TheVariants.{Numeric, Letter}
 use Rattle.cal_span.specs.Scale.{size_of}
 use Rattle.cal_span.specs.Span.{limit}
 use Rattle.cal_span.specs.SpanValue.{Piece, Pair, is_kind, words_in, pairs_of, pairs_in, is_number, unit_in, number_worth, worth_of, sum_with}
 use Rattle.cal_span.proofs.SpanWords.{same_from_is_kind}
 use Rattle.cal_span.proofs.SpanNumbers.{top}
 
-pub no_kind : (j k : Kind) → (k ≡ j → ⊥) → is_kind j k ≡ false
+pub no_kind : (j k : CharKind) → (k ≡ j → ⊥) → is_kind j k ≡ false
 no_kind j k differs = false_from_ne_true (is_kind j k) (λ e. differs (sym (same_from_is_kind j k e)))
 
 -- a word that is no number, where one is due
@@ -22,25 +22,25 @@ pub stray_first : (w : Piece) (ws : List Piece) → is_kind Numeric w.kind ≡ f
 stray_first w [] other = rw other refl
 stray_first w (v ∷ ws) other = rw other refl
 
-pub stray_is : (bytes text rest : List ℕ) (kind : Kind) → words_in bytes ≡ record { kind = kind; text = text } ∷ words_in rest → (kind ≡ Numeric → ⊥) → pairs_in bytes ≡ record { number = []; unit = None } ∷ pairs_in rest
+pub stray_is : (bytes text rest : List ℕ) (kind : CharKind) → words_in bytes ≡ record { kind = kind; text = text } ∷ words_in rest → (kind ≡ Numeric → ⊥) → pairs_in bytes ≡ record { number = []; unit = None } ∷ pairs_in rest
 unfolding pairs_in
 stray_is bytes text rest kind words other =
     ap pairs_of words ∙ stray_first (record { kind = kind; text = text }) (words_in rest) (no_kind Numeric kind other)
 
--- a number with no unit word behind it
+-- a number with no unit word after it
 pub last_is : (bytes text rest : List ℕ) → words_in bytes ≡ record { kind = Numeric; text = text } ∷ words_in rest → words_in rest ≡ [] → pairs_in bytes ≡ record { number = text; unit = None } ∷ pairs_in rest
 unfolding pairs_in
 last_is bytes text rest words none = ap pairs_of words ∙ rw none refl
 
-pub bare_is : (bytes text rest next after : List ℕ) (kind : Kind) → words_in bytes ≡ record { kind = Numeric; text = text } ∷ words_in rest → words_in rest ≡ record { kind = kind; text = next } ∷ words_in after → (kind ≡ Letter → ⊥) → pairs_in bytes ≡ record { number = text; unit = None } ∷ pairs_in rest
+pub bare_is : (bytes text rest next after : List ℕ) (kind : CharKind) → words_in bytes ≡ record { kind = Numeric; text = text } ∷ words_in rest → words_in rest ≡ record { kind = kind; text = next } ∷ words_in after → (kind ≡ Letter → ⊥) → pairs_in bytes ≡ record { number = text; unit = None } ∷ pairs_in rest
 unfolding pairs_in
-bare_is bytes text rest next after kind words behind other =
-    ap pairs_of words ∙ rw behind (rw (no_kind Letter kind other) refl)
+bare_is bytes text rest next after kind words next_words other =
+    ap pairs_of words ∙ rw next_words (rw (no_kind Letter kind other) refl)
 
 -- a number with its unit word
 pub unit_is : (bytes text rest next after : List ℕ) → words_in bytes ≡ record { kind = Numeric; text = text } ∷ words_in rest → words_in rest ≡ record { kind = Letter; text = next } ∷ words_in after → pairs_in bytes ≡ record { number = text; unit = Some next } ∷ pairs_in after
 unfolding pairs_in
-unit_is bytes text rest next after words behind = ap pairs_of words ∙ rw behind refl
+unit_is bytes text rest next after words next_words = ap pairs_of words ∙ rw next_words refl
 
 pub no_pair : (bytes : List ℕ) → words_in bytes ≡ [] → pairs_in bytes ≡ []
 unfolding pairs_in

@@ -10,8 +10,8 @@ use Rattle.std.specs.List.{flat_map}
 use Rattle.std.specs.Prelude.{decimal, not, filter}
 use Rattle.cal_span.specs.declared.scale.Scale.{Scale}
 use Rattle.cal_span.specs.declared.scale.Scale.TheVariants.{Year, Month, Week, Day, Hour, Minute, Second, Millisecond, Microsecond}
-use Rattle.cal_span.specs.declared.span_word.Kind.{Kind}
-use Rattle.cal_span.specs.declared.span_word.Kind.TheVariants.{Blank, Numeric, Letter, Other}
+use Rattle.cal_span.specs.declared.span.word.CharKind.{CharKind}
+use Rattle.cal_span.specs.declared.span.word.CharKind.TheVariants.{Blank, Numeric, Letter, Other}
 use Rattle.cal_span.specs.Scale.{size_of, scales, words_for, name_of}
 use Rattle.cal_span.specs.Span.{limit}
 use Rattle.cal_span.specs.SpanText.{Count, weight, count_text, row_text, positive, counts_of, span_text}
@@ -28,41 +28,41 @@ symbols-ascii b (c ∷ bytes) small =
     let plain : is_micro b c ≡ false = grind (arith, nat_tests, small) in rw plain refl
 
 -- each byte is an ASCII character of this kind
-abbrev pub AllOfKind : Kind → List ℕ → Type 0
+abbrev pub AllOfKind : CharKind → List ℕ → Type 0
 AllOfKind kind [] = Unit {0}
 AllOfKind kind (b ∷ bytes) = (b < 128) × (kind_of b ≡ kind) × AllOfKind kind bytes
 
 -- the first piece, if any, is of another kind
-abbrev pub IsApart : Kind → List Piece → Type 0
+abbrev pub IsApart : CharKind → List Piece → Type 0
 IsApart kind [] = Unit {0}
 IsApart kind (p ∷ ps) = is_kind kind p.kind ≡ false
 
-is_kind_self : (kind : Kind) → is_kind kind kind ≡ true
+is_kind_self : (kind : CharKind) → is_kind kind kind ≡ true
 is_kind_self Blank = refl
 is_kind_self Numeric = refl
 is_kind_self Letter = refl
 is_kind_self Other = refl
 
-with_front-apart : (kind : Kind) (text : List ℕ) (ps : List Piece) → IsApart kind ps → with_front (record { kind = kind; text = text }) ps ≡ record { kind = kind; text = text } ∷ ps
+with_front-apart : (kind : CharKind) (text : List ℕ) (ps : List Piece) → IsApart kind ps → with_front (record { kind = kind; text = text }) ps ≡ record { kind = kind; text = text } ∷ ps
 with_front-apart kind text [] apart = refl
 with_front-apart kind text (p ∷ ps) apart = rw apart refl
 
-with_front-same : (kind : Kind) (b : ℕ) (text : List ℕ) (ps : List Piece) → with_front (record { kind = kind; text = b ∷ [] }) (record { kind = kind; text = text } ∷ ps) ≡ record { kind = kind; text = b ∷ text } ∷ ps
+with_front-same : (kind : CharKind) (b : ℕ) (text : List ℕ) (ps : List Piece) → with_front (record { kind = kind; text = b ∷ [] }) (record { kind = kind; text = text } ∷ ps) ≡ record { kind = kind; text = b ∷ text } ∷ ps
 with_front-same kind b text ps = rw (is_kind_self kind) refl
 
 -- bytes of one kind are one run, where another kind or nothing follows
-pub runs-of_kind : (kind : Kind) (b : ℕ) (front rest : List ℕ) → AllOfKind kind (b ∷ front) → IsApart kind (runs (symbols rest)) → runs (symbols ((b ∷ front) ++ rest)) ≡ record { kind = kind; text = b ∷ front } ∷ runs (symbols rest)
+pub runs-of_kind : (kind : CharKind) (b : ℕ) (front rest : List ℕ) → AllOfKind kind (b ∷ front) → IsApart kind (runs (symbols rest)) → runs (symbols ((b ∷ front) ++ rest)) ≡ record { kind = kind; text = b ∷ front } ∷ runs (symbols rest)
 runs-of_kind kind b [] rest same apart =
     ap runs (symbols-ascii b rest same.0)
-    ∙ ap (λ (k : Kind). with_front (record { kind = k; text = b ∷ [] }) (runs (symbols rest))) same.1
+    ∙ ap (λ (k : CharKind). with_front (record { kind = k; text = b ∷ [] }) (runs (symbols rest))) same.1
     ∙ with_front-apart kind (b ∷ []) (runs (symbols rest)) apart
 runs-of_kind kind b (c ∷ front) rest same apart =
     ap runs (symbols-ascii b ((c ∷ front) ++ rest) same.0)
-    ∙ ap (λ (k : Kind). with_front (record { kind = k; text = b ∷ [] }) (runs (symbols ((c ∷ front) ++ rest)))) same.1
+    ∙ ap (λ (k : CharKind). with_front (record { kind = k; text = b ∷ [] }) (runs (symbols ((c ∷ front) ++ rest)))) same.1
     ∙ ap (with_front (record { kind = kind; text = b ∷ [] })) (runs-of_kind kind c front rest same.2 apart)
     ∙ with_front-same kind b (c ∷ front) (runs (symbols rest))
 
-runs-of_kind_front : (kind : Kind) (front rest : List ℕ) → 0 < length front → AllOfKind kind front → IsApart kind (runs (symbols rest)) → runs (symbols (front ++ rest)) ≡ record { kind = kind; text = front } ∷ runs (symbols rest)
+runs-of_kind_front : (kind : CharKind) (front rest : List ℕ) → 0 < length front → AllOfKind kind front → IsApart kind (runs (symbols rest)) → runs (symbols (front ++ rest)) ≡ record { kind = kind; text = front } ∷ runs (symbols rest)
 runs-of_kind_front kind [] rest some same apart = absurd (omega arith)
 runs-of_kind_front kind (b ∷ front) rest some same apart = runs-of_kind kind b front rest same apart
 

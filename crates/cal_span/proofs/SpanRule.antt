@@ -3,8 +3,8 @@ use Rattle.std.proofs.Common.{ℕ, ◌+◌, ◌≤◌, ◌≡◌, Bool, true, fa
 use Rattle.std.specs.Prelude.{nat_le}
 use Rattle.std.proofs.lemmas.Bool.{leb-true, leb-false, le-leb, lt-leb}
 use Rattle.cal_span.specs.declared.scale.Scale.{Scale}
-use Rattle.cal_span.specs.declared.span_fault.SpanFault.{SpanFault}
-use Rattle.cal_span.specs.declared.span_fault.SpanFault.TheVariants.{Empty, BadNumber, UnknownUnit, TooLarge}
+use Rattle.cal_span.specs.declared.span.fault.SpanFault.{SpanFault}
+use Rattle.cal_span.specs.declared.span.fault.SpanFault.TheVariants.{Empty, BadNumber, UnknownUnit, TooLarge}
 use Rattle.cal_span.specs.declared.scale.Scale.TheVariants.{Year, Month, Week, Day, Hour, Minute, Second, Millisecond, Microsecond}
 use Rattle.cal_span.specs.Scale.{words_for}
 use Rattle.cal_span.specs.Span.{limit}

@@ -2,7 +2,7 @@
 use Rattle.std.proofs.Common.{ℕ, ◌<◌, ◌≡◌, Bool, true, false, cond, List, [], ◌∷◌, ◌++◌, length, refl, sym, ap, ◌∙◌, subst, arith}
 use Rattle.std.specs.List.{AllByRecursion, flat_map}
 use Rattle.std.proofs.lemmas.List.{append-nil}
-use Rattle.cal_span.specs.declared.span_word.Kind.{Kind}
+use Rattle.cal_span.specs.declared.span.word.CharKind.{CharKind}
 use Rattle.cal_span.proofs.SpanWords.{is_kind-same, same_from_is_kind}
 use Rattle.cal_span.specs.SpanValue.{Piece, is_kind, symbols, with_front, runs}
 use Rattle.cal_span.specs.SpanRule.{IsRun, AreRuns, AreApart}
@@ -11,8 +11,8 @@ use Rattle.cal_span.specs.SpanRule.{IsRun, AreRuns, AreApart}
 run_alone : (s : Piece) → IsRun (s ∷ []) s
 run_alone s = record { some = omega arith; kinds = (refl, tt); text = sym (append-nil s.text) }
 
-kinds_as : (j k : Kind) (ss : List Piece) → k ≡ j → AllByRecursion (λ (s : Piece). s.kind ≡ k) ss → AllByRecursion (λ (s : Piece). s.kind ≡ j) ss
-kinds_as j k ss e h = subst (λ (i : Kind). AllByRecursion (λ (s : Piece). s.kind ≡ i) ss) e h
+kinds_as : (j k : CharKind) (ss : List Piece) → k ≡ j → AllByRecursion (λ (s : Piece). s.kind ≡ k) ss → AllByRecursion (λ (s : Piece). s.kind ≡ j) ss
+kinds_as j k ss e h = subst (λ (i : CharKind). AllByRecursion (λ (s : Piece). s.kind ≡ i) ss) e h
 
 -- and a run with a character of its kind in front is one
 run_longer : (s w : Piece) (front : List Piece) → is_kind s.kind w.kind ≡ true → IsRun front w → IsRun (s ∷ front) (record { kind = s.kind; text = s.text ++ w.text })
@@ -59,7 +59,7 @@ runs_longest text = runs_apart (symbols text)
 -- Only these are
 
 -- a run of this kind may not stand in front of them
-BeginsApart : Kind → List Piece → Type 0
+BeginsApart : CharKind → List Piece → Type 0
 BeginsApart k [] = Unit {0}
 BeginsApart k (v ∷ ws) = is_kind k v.kind ≡ false
 
@@ -68,26 +68,26 @@ unfolding BeginsApart
 apart_before w [] apart = tt
 apart_before w (v ∷ ws) (first, rest) = first
 
-apart_behind : (w : Piece) (ws : List Piece) → AreApart (w ∷ ws) → AreApart ws
-apart_behind w [] apart = tt
-apart_behind w (v ∷ ws) (first, rest) = rest
+apart_after : (w : Piece) (ws : List Piece) → AreApart (w ∷ ws) → AreApart ws
+apart_after w [] apart = tt
+apart_after w (v ∷ ws) (first, rest) = rest
 
 -- a character in front of a run of another kind
-first_apart : (s : Piece) (k : Kind) (ws : List Piece) → s.kind ≡ k → BeginsApart k ws → with_front s ws ≡ s ∷ ws
+first_apart : (s : Piece) (k : CharKind) (ws : List Piece) → s.kind ≡ k → BeginsApart k ws → with_front s ws ≡ s ∷ ws
 unfolding BeginsApart
 first_apart s k [] kind apart = refl
 first_apart s k (v ∷ ws) kind apart = rw kind (rw apart refl)
 
 -- and in front of one of its own
-first_joined : (s : Piece) (k : Kind) (text : List ℕ) (ws : List Piece) → s.kind ≡ k → with_front s (record { kind = k; text = text } ∷ ws) ≡ record { kind = k; text = s.text ++ text } ∷ ws
+first_joined : (s : Piece) (k : CharKind) (text : List ℕ) (ws : List Piece) → s.kind ≡ k → with_front s (record { kind = k; text = text } ∷ ws) ≡ record { kind = k; text = s.text ++ text } ∷ ws
 first_joined s k text ws kind = rw kind (rw (is_kind-same k) refl)
 
-piece_is : (s : Piece) (k : Kind) → s.kind ≡ k → s ≡ record { kind = k; text = s.text ++ [] }
+piece_is : (s : Piece) (k : CharKind) → s.kind ≡ k → s ≡ record { kind = k; text = s.text ++ [] }
 piece_is s k kind =
     let same : record { kind = s.kind; text = s.text } ≡ record { kind = k; text = s.text ++ [] } = cc (kind, append-nil s.text) in
     same
 
-run_front : (front rest : List Piece) (k : Kind) (ws : List Piece) → 0 < length front → AllByRecursion (λ (s : Piece). s.kind ≡ k) front → BeginsApart k ws → runs rest ≡ ws → runs (front ++ rest) ≡ record { kind = k; text = flat_map (λ (s : Piece). s.text) front } ∷ ws
+run_front : (front rest : List Piece) (k : CharKind) (ws : List Piece) → 0 < length front → AllByRecursion (λ (s : Piece). s.kind ≡ k) front → BeginsApart k ws → runs rest ≡ ws → runs (front ++ rest) ≡ record { kind = k; text = flat_map (λ (s : Piece). s.text) front } ∷ ws
 run_front [] rest k ws some kinds apart e = absurd (omega arith)
 run_front (s ∷ []) rest k ws some (kind, none) apart e =
     ap (with_front s) e ∙ first_apart s k ws kind apart ∙ ap (λ w. w ∷ ws) (piece_is s k kind)
@@ -102,7 +102,7 @@ run_is front w ws run =
 only_runs : (ss ws : List Piece) → AreRuns ss ws → AreApart ws → ws ≡ runs ss
 only_runs ss [] none apart = rw none refl
 only_runs ss (w ∷ ws) (front, rest, split, run, more) apart =
-    let later = only_runs rest ws more (apart_behind w ws apart) in
+    let later = only_runs rest ws more (apart_after w ws apart) in
     sym (ap runs split ∙ run_front front rest w.kind ws run.some run.kinds (apart_before w ws apart) (sym later) ∙ run_is front w ws run)
 
 pub runs_only : (text : List ℕ) (ws : List Piece) → AreRuns (symbols text) ws → AreApart ws → ws ≡ runs (symbols text)

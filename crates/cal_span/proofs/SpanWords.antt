@@ -2,18 +2,18 @@
 use Rattle.std.proofs.Common.{ℕ, ◌+◌, ◌≡◌, ◌≤◌, length, take, drop, Bool, true, false, cond, List, [], ◌∷◌, ◌++◌, refl, sym, ap, ◌∙◌, arith}
 use Rattle.std.specs.Prelude.{filter, not}
 use Rattle.std.proofs.lemmas.List.{append-nil, drop-drop, length-append, length-take-le}
-use Rattle.cal_span.specs.declared.span_word.Kind.{Kind}
-use Rattle.cal_span.specs.declared.span_word.Kind.TheVariants.{Blank, Numeric, Letter, Other}
+use Rattle.cal_span.specs.declared.span.word.CharKind.{CharKind}
+use Rattle.cal_span.specs.declared.span.word.CharKind.TheVariants.{Blank, Numeric, Letter, Other}
 use Rattle.cal_span.specs.SpanValue.{Piece, is_kind, with_front, runs, symbols, words_in}
-use Rattle.cal_span.specs.SpanWord.{front_of, behind_front}
+use Rattle.cal_span.specs.SpanWord.{front_of, after_front}
 
-pub is_kind-same : (j : Kind) → is_kind j j ≡ true
+pub is_kind-same : (j : CharKind) → is_kind j j ≡ true
 is_kind-same Blank = refl
 is_kind-same Numeric = refl
 is_kind-same Letter = refl
 is_kind-same Other = refl
 
-pub same_from_is_kind : (j k : Kind) → is_kind j k ≡ true → j ≡ k
+pub same_from_is_kind : (j k : CharKind) → is_kind j k ≡ true → j ≡ k
 same_from_is_kind Blank Blank e = refl
 same_from_is_kind Blank Numeric e = cc
 same_from_is_kind Blank Letter e = cc
@@ -35,70 +35,70 @@ abbrev pub without_blanks : List Piece → List Piece
 without_blanks ws = filter (λ (w : Piece). not (is_kind Blank w.kind)) ws
 
 -- the first run, where the second character is or is not of the first one's kind
-runs_second : (s t : Piece) (ss : List Piece) (same : Bool) → is_kind s.kind t.kind ≡ same → runs (t ∷ ss) ≡ record { kind = t.kind; text = t.text ++ front_of t.kind ss } ∷ runs (behind_front t.kind ss) → cond same (record { kind = s.kind; text = s.text ++ (t.text ++ front_of t.kind ss) } ∷ runs (behind_front t.kind ss)) (s ∷ record { kind = t.kind; text = t.text ++ front_of t.kind ss } ∷ runs (behind_front t.kind ss)) ≡ record { kind = s.kind; text = s.text ++ cond same (t.text ++ front_of s.kind ss) [] } ∷ runs (cond same (behind_front s.kind ss) (t ∷ ss))
+runs_second : (s t : Piece) (ss : List Piece) (same : Bool) → is_kind s.kind t.kind ≡ same → runs (t ∷ ss) ≡ record { kind = t.kind; text = t.text ++ front_of t.kind ss } ∷ runs (after_front t.kind ss) → cond same (record { kind = s.kind; text = s.text ++ (t.text ++ front_of t.kind ss) } ∷ runs (after_front t.kind ss)) (s ∷ record { kind = t.kind; text = t.text ++ front_of t.kind ss } ∷ runs (after_front t.kind ss)) ≡ record { kind = s.kind; text = s.text ++ cond same (t.text ++ front_of s.kind ss) [] } ∷ runs (cond same (after_front s.kind ss) (t ∷ ss))
 runs_second s t ss true test by_rest =
-    let at : Kind → List Piece = λ k. record { kind = s.kind; text = s.text ++ (t.text ++ front_of k ss) } ∷ runs (behind_front k ss) in
+    let at : CharKind → List Piece = λ k. record { kind = s.kind; text = s.text ++ (t.text ++ front_of k ss) } ∷ runs (after_front k ss) in
     ap at (sym (same_from_is_kind s.kind t.kind test))
 runs_second s t ss false test by_rest = rw append-nil (ap (λ ws. s ∷ ws) (sym by_rest))
 
 -- the first run of characters is the front of the first one's kind
-pub runs_first : (s : Piece) (ss : List Piece) → runs (s ∷ ss) ≡ record { kind = s.kind; text = s.text ++ front_of s.kind ss } ∷ runs (behind_front s.kind ss)
+pub runs_first : (s : Piece) (ss : List Piece) → runs (s ∷ ss) ≡ record { kind = s.kind; text = s.text ++ front_of s.kind ss } ∷ runs (after_front s.kind ss)
 runs_first s [] = rw append-nil refl
 runs_first s (t ∷ ss) =
     ap (with_front s) (runs_first t ss) ∙ runs_second s t ss (is_kind s.kind t.kind) refl (runs_first t ss)
 
 -- one more character of the front's kind
-pub front_more : (kind : Kind) (bytes : List ℕ) (len width : ℕ) (rest : List ℕ) → rest ≡ drop len bytes → symbols rest ≡ record { kind = kind; text = take width rest } ∷ symbols (drop width rest) → front_of kind (symbols (drop len bytes)) ≡ take width (drop len bytes) ++ front_of kind (symbols (drop (len + width) bytes))
+pub front_more : (kind : CharKind) (bytes : List ℕ) (len width : ℕ) (rest : List ℕ) → rest ≡ drop len bytes → symbols rest ≡ record { kind = kind; text = take width rest } ∷ symbols (drop width rest) → front_of kind (symbols (drop len bytes)) ≡ take width (drop len bytes) ++ front_of kind (symbols (drop (len + width) bytes))
 front_more kind bytes len width rest at first =
     ap (λ s. front_of kind (symbols s)) (sym at) ∙ ap (front_of kind) first ∙ rw (is_kind-same kind) (rw at (rw drop-drop refl))
 
-pub behind_more : (kind : Kind) (bytes : List ℕ) (len width : ℕ) (rest : List ℕ) → rest ≡ drop len bytes → symbols rest ≡ record { kind = kind; text = take width rest } ∷ symbols (drop width rest) → behind_front kind (symbols (drop len bytes)) ≡ behind_front kind (symbols (drop (len + width) bytes))
-behind_more kind bytes len width rest at first =
-    ap (λ s. behind_front kind (symbols s)) (sym at) ∙ ap (behind_front kind) first ∙ rw (is_kind-same kind) (rw at (rw drop-drop refl))
+pub after_more : (kind : CharKind) (bytes : List ℕ) (len width : ℕ) (rest : List ℕ) → rest ≡ drop len bytes → symbols rest ≡ record { kind = kind; text = take width rest } ∷ symbols (drop width rest) → after_front kind (symbols (drop len bytes)) ≡ after_front kind (symbols (drop (len + width) bytes))
+after_more kind bytes len width rest at first =
+    ap (λ s. after_front kind (symbols s)) (sym at) ∙ ap (after_front kind) first ∙ rw (is_kind-same kind) (rw at (rw drop-drop refl))
 
 -- blanks at the front are in no word
-without_blanks_first : (s : Piece) (ss : List Piece) (blank : Bool) → is_kind Blank s.kind ≡ blank → without_blanks (runs (s ∷ ss)) ≡ without_blanks (runs (cond blank (behind_front Blank ss) (s ∷ ss)))
+without_blanks_first : (s : Piece) (ss : List Piece) (blank : Bool) → is_kind Blank s.kind ≡ blank → without_blanks (runs (s ∷ ss)) ≡ without_blanks (runs (cond blank (after_front Blank ss) (s ∷ ss)))
 without_blanks_first s ss true test =
     let same : Blank ≡ s.kind = same_from_is_kind Blank s.kind test in
-    ap without_blanks (runs_first s ss) ∙ rw test (ap (λ k. without_blanks (runs (behind_front k ss))) (sym same))
+    ap without_blanks (runs_first s ss) ∙ rw test (ap (λ k. without_blanks (runs (after_front k ss))) (sym same))
 without_blanks_first s ss false test = refl
 
-without_blanks_behind : (ss : List Piece) → without_blanks (runs ss) ≡ without_blanks (runs (behind_front Blank ss))
-without_blanks_behind [] = refl
-without_blanks_behind (s ∷ ss) = without_blanks_first s ss (is_kind Blank s.kind) refl
+without_blanks_after : (ss : List Piece) → without_blanks (runs ss) ≡ without_blanks (runs (after_front Blank ss))
+without_blanks_after [] = refl
+without_blanks_after (s ∷ ss) = without_blanks_first s ss (is_kind Blank s.kind) refl
 
--- what stands behind the blanks is none
-behind_blanks_step : (t : Piece) (ts : List Piece) (s : Piece) (rest : List Piece) (blank : Bool) → is_kind Blank t.kind ≡ blank → (behind_front Blank ts ≡ s ∷ rest → is_kind Blank s.kind ≡ false) → cond blank (behind_front Blank ts) (t ∷ ts) ≡ s ∷ rest → is_kind Blank s.kind ≡ false
-behind_blanks_step t ts s rest true test further at = further at
-behind_blanks_step t ts s rest false test further at =
+-- what stands after the blanks is none
+after_blanks_step : (t : Piece) (ts : List Piece) (s : Piece) (rest : List Piece) (blank : Bool) → is_kind Blank t.kind ≡ blank → (after_front Blank ts ≡ s ∷ rest → is_kind Blank s.kind ≡ false) → cond blank (after_front Blank ts) (t ∷ ts) ≡ s ∷ rest → is_kind Blank s.kind ≡ false
+after_blanks_step t ts s rest true test further at = further at
+after_blanks_step t ts s rest false test further at =
     let same : t ≡ s = cc in ap (λ (p : Piece). is_kind Blank p.kind) (sym same) ∙ test
 
-behind_blanks : (ss : List Piece) (s : Piece) (rest : List Piece) → behind_front Blank ss ≡ s ∷ rest → is_kind Blank s.kind ≡ false
-behind_blanks [] s rest at = cc
-behind_blanks (t ∷ ts) s rest at =
-    behind_blanks_step t ts s rest (is_kind Blank t.kind) refl (behind_blanks ts s rest) at
+after_blanks : (ss : List Piece) (s : Piece) (rest : List Piece) → after_front Blank ss ≡ s ∷ rest → is_kind Blank s.kind ≡ false
+after_blanks [] s rest at = cc
+after_blanks (t ∷ ts) s rest at =
+    after_blanks_step t ts s rest (is_kind Blank t.kind) refl (after_blanks ts s rest) at
 
 -- the first word, where the text has one
-word_first : (ss : List Piece) (s : Piece) (rest : List Piece) → behind_front Blank ss ≡ s ∷ rest → without_blanks (runs ss) ≡ record { kind = s.kind; text = front_of s.kind (s ∷ rest) } ∷ without_blanks (runs (behind_front s.kind (s ∷ rest)))
+word_first : (ss : List Piece) (s : Piece) (rest : List Piece) → after_front Blank ss ≡ s ∷ rest → without_blanks (runs ss) ≡ record { kind = s.kind; text = front_of s.kind (s ∷ rest) } ∷ without_blanks (runs (after_front s.kind (s ∷ rest)))
 word_first ss s rest at =
-    let solid = behind_blanks ss s rest at in
-    without_blanks_behind ss ∙ ap (λ ts. without_blanks (runs ts)) at ∙ ap without_blanks (runs_first s rest) ∙ rw solid (rw (is_kind-same s.kind) refl)
+    let solid = after_blanks ss s rest at in
+    without_blanks_after ss ∙ ap (λ ts. without_blanks (runs ts)) at ∙ ap without_blanks (runs_first s rest) ∙ rw solid (rw (is_kind-same s.kind) refl)
 
--- the first word of a text by what the code found: the bytes behind the blanks, the kind of the
+-- the first word of a text by what the code found: the bytes after the blanks, the kind of the
 -- first of them, and the front of that kind
-pub first_word_is : (bytes solid : List ℕ) (kind : Kind) (width : ℕ) (text rest : List ℕ) → symbols solid ≡ behind_front Blank (symbols bytes) → symbols solid ≡ record { kind = kind; text = take width solid } ∷ symbols (drop width solid) → text ≡ front_of kind (symbols solid) → symbols rest ≡ behind_front kind (symbols solid) → words_in bytes ≡ record { kind = kind; text = text } ∷ words_in rest
+pub first_word_is : (bytes solid : List ℕ) (kind : CharKind) (width : ℕ) (text rest : List ℕ) → symbols solid ≡ after_front Blank (symbols bytes) → symbols solid ≡ record { kind = kind; text = take width solid } ∷ symbols (drop width solid) → text ≡ front_of kind (symbols solid) → symbols rest ≡ after_front kind (symbols solid) → words_in bytes ≡ record { kind = kind; text = text } ∷ words_in rest
 unfolding words_in
-first_word_is bytes solid kind width text rest at first front behind =
+first_word_is bytes solid kind width text rest at first front after =
     let by_front = word_first (symbols bytes) _ _ (sym at ∙ first) in
-    by_front ∙ ap (λ (ts : List Piece). record { kind = kind; text = front_of kind ts } ∷ without_blanks (runs (behind_front kind ts))) (sym first) ∙ ap (λ (t : List ℕ). record { kind = kind; text = t } ∷ without_blanks (runs (behind_front kind (symbols solid)))) (sym front) ∙ ap (λ (ts : List Piece). record { kind = kind; text = text } ∷ without_blanks (runs ts)) (sym behind)
+    by_front ∙ ap (λ (ts : List Piece). record { kind = kind; text = front_of kind ts } ∷ without_blanks (runs (after_front kind ts))) (sym first) ∙ ap (λ (t : List ℕ). record { kind = kind; text = t } ∷ without_blanks (runs (after_front kind (symbols solid)))) (sym front) ∙ ap (λ (ts : List Piece). record { kind = kind; text = text } ∷ without_blanks (runs ts)) (sym after)
 
 -- a word has at least the bytes of its first character
-pub word_length : (solid : List ℕ) (kind : Kind) (width : ℕ) (text : List ℕ) → symbols solid ≡ record { kind = kind; text = take width solid } ∷ symbols (drop width solid) → text ≡ front_of kind (symbols solid) → width ≤ length solid → width ≤ length text
+pub word_length : (solid : List ℕ) (kind : CharKind) (width : ℕ) (text : List ℕ) → symbols solid ≡ record { kind = kind; text = take width solid } ∷ symbols (drop width solid) → text ≡ front_of kind (symbols solid) → width ≤ length solid → width ≤ length text
 word_length solid kind width text first front fits =
     let parts : text ≡ take width solid ++ front_of kind (symbols (drop width solid)) = front ∙ ap (front_of kind) first ∙ rw (is_kind-same kind) refl in
     omega (arith, ap length parts, length-append (take width solid) (front_of kind (symbols (drop width solid))), length-take-le width solid fits)
 
-pub no_word_is : (bytes solid : List ℕ) → symbols solid ≡ behind_front Blank (symbols bytes) → solid ≡ [] → words_in bytes ≡ []
+pub no_word_is : (bytes solid : List ℕ) → symbols solid ≡ after_front Blank (symbols bytes) → solid ≡ [] → words_in bytes ≡ []
 unfolding words_in
 no_word_is bytes solid at none =
-    without_blanks_behind (symbols bytes) ∙ ap (λ ts. without_blanks (runs ts)) (sym at ∙ ap symbols none)
+    without_blanks_after (symbols bytes) ∙ ap (λ ts. without_blanks (runs ts)) (sym at ∙ ap symbols none)

@@ -4,7 +4,7 @@ use Rattle.std.specs.Fmt.{digits}
 use Rattle.cal_span.specs.Scale.{words_for, name_of}
 use Rattle.cal_span.specs.SpanText.{units_text, row_text, span_text}
 use Rattle.cal_span.specs.SpanValue.{words_in, pairs_in, is_number, unit_named, number_worth, worth_of, span_of}
-use Rattle.cal_span.specs.declared.span_fault.SpanFault.TheVariants.{Empty, BadNumber, UnknownUnit, TooLarge}
+use Rattle.cal_span.specs.declared.span.fault.SpanFault.TheVariants.{Empty, BadNumber, UnknownUnit, TooLarge}
 
 one_and_a_half : span_of (codes "1.5h") ≡ Ok 5_400_000_000
 unfolding span_of pairs_in words_in worth_of is_number unit_named number_worth words_for

@@ -1,7 +1,7 @@
 -- What is said of a text that is no time span.
 use Rattle.std.specs.Prelude.{ℕ, List, codes}
-use Rattle.cal_span.specs.declared.span_fault.SpanFault.{SpanFault}
-use Rattle.cal_span.specs.declared.span_fault.SpanFault.TheVariants.{Empty, BadNumber, UnknownUnit, TooLarge}
+use Rattle.cal_span.specs.declared.span.fault.SpanFault.{SpanFault}
+use Rattle.cal_span.specs.declared.span.fault.SpanFault.TheVariants.{Empty, BadNumber, UnknownUnit, TooLarge}
 
 -- the words that tell a user of the fault
 abbrev pub words_of : SpanFault → List ℕ

@@ -2,9 +2,9 @@
 -- `one_value` ties it to what `SpanValue` computes.
 use Rattle.std.specs.Prelude.{ℕ, ◌⊎◌, ◌+◌, ◌<◌, ◌≤◌, ◌≡◌, ⊤, false, List, [], ◌∷◌, ◌++◌, length, Some, None, Result, Ok, Err}
 use Rattle.std.specs.List.{AllByRecursion, flat_map}
-use Rattle.cal_span.specs.declared.span_fault.SpanFault.{SpanFault}
-use Rattle.cal_span.specs.declared.span_fault.SpanFault.TheVariants.{Empty, TooLarge}
-use Rattle.cal_span.specs.declared.span_word.Kind.TheVariants.{Numeric, Letter}
+use Rattle.cal_span.specs.declared.span.fault.SpanFault.{SpanFault}
+use Rattle.cal_span.specs.declared.span.fault.SpanFault.TheVariants.{Empty, TooLarge}
+use Rattle.cal_span.specs.declared.span.word.CharKind.TheVariants.{Numeric, Letter}
 use Rattle.cal_span.specs.Span.{limit}
 use Rattle.cal_span.specs.SpanValue.{Piece, Pair, is_kind, worth_of}
 
@@ -70,7 +70,7 @@ abbrev pub AreWorth : List Pair → ℕ → Type 0
 AreWorth [] n = n ≡ 0
 AreWorth (p ∷ ps) n = (m : ℕ) × (k : ℕ) × (worth_of p ≡ Ok m) × AreWorth ps k × (n ≡ m + k)
 
--- behind pairs with this sum, the pair p is at fault: the sum with it exceeds the limit, or it has no worth
+-- after pairs with this sum, the pair p is at fault: the sum with it exceeds the limit, or it has no worth
 abbrev pub IsFaultAfter : ℕ → Pair → SpanFault → Type 0
 IsFaultAfter sum p TooLarge = (m : ℕ) × (worth_of p ≡ Ok m) × (limit < sum + m)
 IsFaultAfter sum p fault = worth_of p ≡ Err fault

@@ -7,10 +7,10 @@ use Rattle.std.specs.Char.{digit_value, is_ascii_digit, is_ascii_alphabetic}
 use Rattle.std.specs.Str.Parse.{digits_value}
 use Rattle.cal_span.specs.declared.scale.Scale.{Scale}
 use Rattle.cal_span.specs.declared.scale.Scale.TheVariants.{Second}
-use Rattle.cal_span.specs.declared.span_fault.SpanFault.{SpanFault}
-use Rattle.cal_span.specs.declared.span_fault.SpanFault.TheVariants.{Empty, BadNumber, UnknownUnit, TooLarge}
-use Rattle.cal_span.specs.declared.span_word.Kind.{Kind}
-use Rattle.cal_span.specs.declared.span_word.Kind.TheVariants.{Blank, Numeric, Letter, Other}
+use Rattle.cal_span.specs.declared.span.fault.SpanFault.{SpanFault}
+use Rattle.cal_span.specs.declared.span.fault.SpanFault.TheVariants.{Empty, BadNumber, UnknownUnit, TooLarge}
+use Rattle.cal_span.specs.declared.span.word.CharKind.{CharKind}
+use Rattle.cal_span.specs.declared.span.word.CharKind.TheVariants.{Blank, Numeric, Letter, Other}
 use Rattle.cal_span.specs.Scale.{size_of, scales, words_for}
 use Rattle.cal_span.specs.Span.{limit}
 
@@ -29,14 +29,14 @@ abbrev pub is_micro : ℕ → ℕ → Bool
 is_micro b c = ((b == 194) && (c == 181)) || ((b == 206) && (c == 188))
 
 -- the kind of a byte that begins no mu
-abbrev pub kind_of : ℕ → Kind
+abbrev pub kind_of : ℕ → CharKind
 kind_of b =
     if is_blank b then Blank
     else (if is_ascii_digit b || is_point b then Numeric
     else (if is_ascii_alphabetic b then Letter else Other))
 
 -- whether two kinds are one
-abbrev pub is_kind : Kind → Kind → Bool
+abbrev pub is_kind : CharKind → CharKind → Bool
 is_kind Blank Blank = true
 is_kind Numeric Numeric = true
 is_kind Letter Letter = true
@@ -45,7 +45,7 @@ is_kind _ _ = false
 
 -- a character, or a piece of several characters, of one kind
 pub record Piece : Type 0 where
-  pub kind : Kind
+  pub kind : CharKind
   pub text : List ℕ
 
 -- the characters of a text: a mu is a letter, and each byte of any other character stands alone
@@ -56,7 +56,7 @@ symbols (b ∷ c ∷ bytes) =
     if is_micro b c then record { kind = Letter; text = b ∷ c ∷ [] } ∷ symbols bytes
     else record { kind = kind_of b; text = b ∷ [] } ∷ symbols (c ∷ bytes)
 
--- Words (systemd.time(7), Parsing Time Spans: blanks may stand before, between and behind them)
+-- Words (systemd.time(7), Parsing Time Spans: blanks may stand before, between and after them)
 
 -- a piece in front of others: it joins the first of them where that is of its kind
 abbrev pub with_front : Piece → List Piece → List Piece
@@ -82,21 +82,21 @@ pub record Pair : Type 0 where
   pub unit : Option (List ℕ)
 
 -- what stands where a number is due: the word itself, where it is one of digits and points
-abbrev pub number_in : Piece → List ℕ
-number_in w = if is_kind Numeric w.kind then w.text else []
+abbrev pub numeral_in : Piece → List ℕ
+numeral_in w = if is_kind Numeric w.kind then w.text else []
 
 -- whether the second word is the unit of the first
 abbrev pub is_unit_of : Piece → Piece → Bool
 is_unit_of w v = is_kind Numeric w.kind && is_kind Letter v.kind
 
--- A number and the unit word behind it, if any, are a pair. Any other word stands where a number is
+-- A number and the unit word after it, if any, are a pair. Any other word stands where a number is
 -- due, and is a pair with no number.
 abbrev pub pairs_of : List Piece → List Pair
 pairs_of [] = []
-pairs_of (w ∷ []) = record { number = number_in w; unit = None } ∷ []
+pairs_of (w ∷ []) = record { number = numeral_in w; unit = None } ∷ []
 pairs_of (w ∷ v ∷ ws) =
-    if is_unit_of w v then record { number = number_in w; unit = Some v.text } ∷ pairs_of ws
-    else record { number = number_in w; unit = None } ∷ pairs_of (v ∷ ws)
+    if is_unit_of w v then record { number = numeral_in w; unit = Some v.text } ∷ pairs_of ws
+    else record { number = numeral_in w; unit = None } ∷ pairs_of (v ∷ ws)
 
 -- the pairs of a text
 unfoldable pub pairs_in : List ℕ → List Pair
@@ -118,14 +118,14 @@ abbrev pub unit_in : Option (List ℕ) → Option Scale
 unit_in None = Some Second
 unit_in (Some word) = unit_named word
 
--- what the digits behind the point add, where the first of them has this place: each digit times the
+-- what the digits after the point add, where the first of them has this place: each digit times the
 -- unit divided by 10 to its place, rounded down by itself
 abbrev pub fraction_worth : ℕ → ℕ → List ℕ → ℕ
 fraction_worth size place [] = 0
 fraction_worth size place (digit ∷ digits) =
     digit_value digit * size / 10 ^ place + fraction_worth size (place + 1) digits
 
--- these digits before the point and those behind it, in a unit of this size, in microseconds
+-- these digits before the point and those after it, in a unit of this size, in microseconds
 abbrev pub digits_worth : List ℕ → List ℕ → ℕ → ℕ
 digits_worth whole fraction size = digits_value 10 whole * size + fraction_worth size 1 fraction
 

@@ -3,17 +3,11 @@
 
 mod scale;
 mod span;
-mod span_fault;
-mod span_number;
-mod span_rule;
-mod span_text;
-mod span_value;
-mod span_word;
 
 pub use scale::Scale;
 pub use span::Span;
-pub use span_fault::SpanFault;
-pub use span_number::{are_digits, fraction_of, whole_of};
-pub use span_rule::one_value;
-pub use span_text::{format_span, one_text, push_span, text_reads_back, write_span};
-pub use span_value::read_span;
+pub use span::fault::SpanFault;
+pub use span::number::{are_digits, fraction_of, whole_of};
+pub use span::rule::one_value;
+pub use span::text::{format_span, one_text, push_span, text_reads_back, write_span};
+pub use span::value::read_span;

@@ -6,7 +6,7 @@ use Rattle.std.proofs.lemmas.Bool.{or_cases, eqb-true, false≢true}
 use Rattle.std.proofs.lemmas.Bool.Decides.{nat_tests}
 use Rattle.std.proofs.lemmas.List.Splits.{join_with_byte-slice_split}
 use Rattle.cal_spec.specs.Components.{most_counted, counted}
-use Rattle.cal_spec.specs.DateAndTime.{DateTexts, TimeTexts, DateFields, TimeFields, is_tilde, is_date_sign, is_colon, date_by, time_by, date_texts, time_texts, date_fields, time_fields, room_behind, date_of, time_of}
+use Rattle.cal_spec.specs.DateAndTime.{DateTexts, TimeTexts, DateFields, TimeFields, is_tilde, is_date_sign, is_colon, date_by, time_by, date_texts, time_texts, date_fields, time_fields, room_after, date_of, time_of}
 use Rattle.cal_spec.specs.Fields.{Fields, counted_parts}
 use Rattle.cal_spec.specs.GrammarRule.{last_sign, IsDateShape, IsTimeShape, IsDate, IsTime, IsComponent}
 use Rattle.cal_spec.specs.Slot.{day_slot}
@@ -201,11 +201,11 @@ date_only word f few is =
     let day = component_only (day_slot f.from_end) (240 - counted Year f.year - counted Month f.month) t.day f.day is.day few.day in
     rw (shape, is.from_end, year, month, day) refl
 
-pub time_only : (word : List ℕ) (f : Fields) → AreFew f → IsTime word f → time_of (room_behind (date_with f)) word ≡ Ok (time_with f)
+pub time_only : (word : List ℕ) (f : Fields) → AreFew f → IsTime word f → time_of (room_after (date_with f)) word ≡ Ok (time_with f)
 unfolding time_of time_fields
 time_only word f few is =
     let t = is.texts in
-    let room = room_behind (date_with f) in
+    let room = room_after (date_with f) in
     let shape = time_shape_only word t (clear_of is_colon Hour t.hour f.hour component_no_colon is.hour) (clear_of is_colon Minute t.minute f.minute component_no_colon is.minute) (clear_of is_colon Second t.second f.second component_no_colon is.second) is.shape in
     let hour = component_only Hour room t.hour f.hour is.hour few.hour in
     let minute = component_only Minute (room - counted Hour f.hour) t.minute f.minute is.minute few.minute in

@@ -5,15 +5,15 @@ use Rattle.std.specs.Result.{result_err}
 use Rattle.std.proofs.lemmas.Bool.{eqb-false}
 use Rattle.std.proofs.lemmas.Bool.Decides.{nat_tests}
 use Rattle.cal_spec.specs.Components.{most_counted, is_star, counted, room_in, part_due, parts_of, first_fault, listed, component_of}
-use Rattle.cal_spec.specs.DateAndTime.{DateTexts, TimeTexts, DateFields, date_texts, time_texts, date_fields, time_fields, date_due, time_due, room_behind, date_of, time_of}
+use Rattle.cal_spec.specs.DateAndTime.{DateTexts, TimeTexts, DateFields, date_texts, time_texts, date_fields, time_fields, date_due, time_due, room_after, date_of, time_of}
 use Rattle.cal_spec.specs.Faults.{pieces_of, numbered, first_number, shape_fault, shape_faults, value_fault, component_faults, numbered_in, date_faults, time_faults, faults_at, faults_in}
-use Rattle.cal_spec.specs.Grammar.{most_bytes, fields_at, fields_due, fields_in}
+use Rattle.cal_spec.specs.Grammar.{most_text_bytes, fields_at, fields_due, fields_in}
 use Rattle.cal_spec.specs.Parts.{is_time, part_of, with_values}
 use Rattle.cal_spec.specs.Reads.{◌>>=◌, unless, first_of}
 use Rattle.cal_spec.specs.Slot.{day_slot}
 use Rattle.cal_spec.specs.Weekdays.{weekdays_in}
 use Rattle.cal_spec.specs.Words.{Places, words, places_of}
-use Rattle.cal_spec.specs.ZoneName.{zone_in}
+use Rattle.cal_spec.specs.ZoneName.{zone_name_in}
 use Rattle.cal_spec.specs.declared.part.Part.{Part}
 use Rattle.cal_spec.specs.declared.slot.Slot.{Slot}
 use Rattle.cal_spec.specs.declared.slot.Slot.TheVariants.{Year, Month, Hour, Minute, Second}
@@ -80,16 +80,16 @@ unless_fault : (o : Option SpecFault) (ps : List Part) → result_err (unless o 
 unless_fault None ps = refl
 unless_fault (Some e) ps = refl
 
-number_in : (time : Bool) (before room : ℕ) → before + room ≡ 240 → cond time before (before + 1) + cond time (room + 1) room ≡ 241
-number_in true before room sum = omega arith
-number_in false before room sum = omega arith
+room_sum : (time : Bool) (before room : ℕ) → before + room ≡ 240 → cond time before (before + 1) + cond time (room + 1) room ≡ 241
+room_sum true before room sum = omega arith
+room_sum false before room sum = omega arith
 
 listed_fault : (slot : Slot) (before room : ℕ) (text : List ℕ) → before + room ≡ 240 → result_err (listed slot room text) ≡ first_of (shape_faults slot (first_number slot before) (pieces_of text) ++ map (λ t. value_fault slot (part_of slot t)) (pieces_of text))
 unfolding listed
 listed_fault slot before room text sum =
     let shapes = shape_faults slot (first_number slot before) (pieces_of text) in
     let values = map (λ t. value_fault slot (part_of slot t)) (pieces_of text) in
-    err_of_bind (parts_of slot (room_in slot room) (pieces_of text)) (λ ps. unless (first_fault slot ps) ps) (first_of shapes) (first_of values) (shapes_fault slot (room_in slot room) (first_number slot before) (pieces_of text) (number_in (is_time slot) before room sum)) (λ ps at. unless_fault (first_fault slot ps) ps ∙ values_fault slot (room_in slot room) (pieces_of text) ps at) ∙ sym (first_of-append shapes values)
+    err_of_bind (parts_of slot (room_in slot room) (pieces_of text)) (λ ps. unless (first_fault slot ps) ps) (first_of shapes) (first_of values) (shapes_fault slot (room_in slot room) (first_number slot before) (pieces_of text) (room_sum (is_time slot) before room sum)) (λ ps at. unless_fault (first_fault slot ps) ps ∙ values_fault slot (room_in slot room) (pieces_of text) ps at) ∙ sym (first_of-append shapes values)
 
 star_fault : (slot : Slot) (before room : ℕ) (text : List ℕ) (star : Bool) → before + room ≡ 240 → result_err (cond star (Ok None) (listed slot room text >>= λ ps. Ok (Some ps))) ≡ first_of (cond star [] (shape_faults slot (first_number slot before) (pieces_of text) ++ map (λ t. value_fault slot (part_of slot t)) (pieces_of text)))
 star_fault slot before room text true sum = refl
@@ -122,8 +122,8 @@ unfolding component_of
 component_counted slot room text c at = counted_by slot room text (is_star text) c at
 
 -- one component more
-left_behind : (slot : Slot) (before room : ℕ) (text : List ℕ) (c : Option (List Part)) → before + room ≡ 240 → component_of slot room text ≡ Ok c → before + numbered slot text + (room - counted slot c) ≡ 240
-left_behind slot before room text c sum at =
+left_after : (slot : Slot) (before room : ℕ) (text : List ℕ) (c : Option (List Part)) → before + room ≡ 240 → component_of slot room text ≡ Ok c → before + numbered slot text + (room - counted slot c) ≡ 240
+left_after slot before room text c sum at =
     omega (arith, component_counted slot room text c at, (component_read slot room text c at).few)
 
 -- Dates and times
@@ -138,9 +138,9 @@ first_of_three xs ys zs = sym (first_of-append xs (ys ++ zs) ∙ ap (option_or (
 components_fault : {D : Type 0} (a b c : Slot) (before room : ℕ) (x y z : List ℕ) (make : Option (List Part) → Option (List Part) → Option (List Part) → D) → before + room ≡ 240 → result_err (component_of a room x >>= λ u. component_of b (room - counted a u) y >>= λ v. component_of c (room - counted a u - counted b v) z >>= λ w. Ok (make u v w)) ≡ three_faults (component_faults a before x) (component_faults b (before + numbered a x) y) (component_faults c (before + numbered a x + numbered b y) z)
 components_fault a b c before room x y z make sum =
     err_of_bind (component_of a room x) (λ u. component_of b (room - counted a u) y >>= λ v. component_of c (room - counted a u - counted b v) z >>= λ w. Ok (make u v w)) (first_of (component_faults a before x)) (option_or (first_of (component_faults b (before + numbered a x) y)) (first_of (component_faults c (before + numbered a x + numbered b y) z))) (component_fault a before room x sum) (λ u first.
-    let behind = left_behind a before room x u sum first in
-    err_of_bind (component_of b (room - counted a u) y) (λ v. component_of c (room - counted a u - counted b v) z >>= λ w. Ok (make u v w)) (first_of (component_faults b (before + numbered a x) y)) (first_of (component_faults c (before + numbered a x + numbered b y) z)) (component_fault b (before + numbered a x) (room - counted a u) y behind) (λ v second.
-    err_of_map (component_of c (room - counted a u - counted b v) z) (make u v) ∙ component_fault c (before + numbered a x + numbered b y) (room - counted a u - counted b v) z (left_behind b (before + numbered a x) (room - counted a u) y v behind second)))
+    let after = left_after a before room x u sum first in
+    err_of_bind (component_of b (room - counted a u) y) (λ v. component_of c (room - counted a u - counted b v) z >>= λ w. Ok (make u v w)) (first_of (component_faults b (before + numbered a x) y)) (first_of (component_faults c (before + numbered a x + numbered b y) z)) (component_fault b (before + numbered a x) (room - counted a u) y after) (λ v second.
+    err_of_map (component_of c (room - counted a u - counted b v) z) (make u v) ∙ component_fault c (before + numbered a x + numbered b y) (room - counted a u - counted b v) z (left_after b (before + numbered a x) (room - counted a u) y v after second)))
 
 date_fault : (o : Option DateTexts) → result_err (date_due o) ≡ first_of (date_faults o)
 unfolding date_fields
@@ -155,14 +155,14 @@ time_fault before room (Some t) sum =
     components_fault Hour Minute Second before room t.hour t.minute t.second (λ hour minute second. record { hour = hour; minute = minute; second = second }) sum ∙ first_of_three (component_faults Hour before t.hour) (component_faults Minute (before + numbered Hour t.hour) t.minute) (component_faults Second (before + numbered Hour t.hour + numbered Minute t.minute) t.second)
 
 -- what a date that was read leaves
-date_left : (t : DateTexts) (d : DateFields) → DateRead t d → numbered Year t.year + numbered Month t.month + numbered (day_slot t.from_end) t.day + room_behind d ≡ 240
+date_left : (t : DateTexts) (d : DateFields) → DateRead t d → numbered Year t.year + numbered Month t.month + numbered (day_slot t.from_end) t.day + room_after d ≡ 240
 date_left t d read =
-    let one = left_behind Year 0 240 t.year d.year refl read.year in
-    let two = left_behind Month (0 + numbered Year t.year) (240 - counted Year d.year) t.month d.month one read.month in
-    let three = left_behind (day_slot t.from_end) (0 + numbered Year t.year + numbered Month t.month) (240 - counted Year d.year - counted Month d.month) t.day d.day two read.day in
+    let one = left_after Year 0 240 t.year d.year refl read.year in
+    let two = left_after Month (0 + numbered Year t.year) (240 - counted Year d.year) t.month d.month one read.month in
+    let three = left_after (day_slot t.from_end) (0 + numbered Year t.year + numbered Month t.month) (240 - counted Year d.year - counted Month d.month) t.day d.day two read.day in
     rw (← read.from_end) (omega (arith, three))
 
-date_room : (word : List ℕ) (d : DateFields) → date_of word ≡ Ok d → numbered_in (date_texts word) + room_behind d ≡ 240
+date_room : (word : List ℕ) (d : DateFields) → date_of word ≡ Ok d → numbered_in (date_texts word) + room_after d ≡ 240
 date_room word d at = let found = date_found word d at in rw found.shape (date_left found.texts d found.read)
 
 date_of_fault : (word : List ℕ) → result_err (date_of word) ≡ first_of (date_faults (date_texts word))
@@ -184,11 +184,11 @@ unfolding fields_at
 fields_fault p =
     let dates = date_faults (date_texts p.date) in
     let times = time_faults (numbered_in (date_texts p.date)) (time_texts p.time) in
-    let zones = result_err (zone_in p.rest) ∷ [] in
-    err_of_bind (weekdays_in p.weekdays) (λ weekdays. date_of p.date >>= λ date. time_of (room_behind date) p.time >>= λ time. zone_in p.rest >>= λ name. Ok (fields_with weekdays date time name)) (result_err (weekdays_in p.weekdays)) (option_or (first_of dates) (option_or (first_of times) (first_of zones))) refl (λ weekdays _.
-    err_of_bind (date_of p.date) (λ date. time_of (room_behind date) p.time >>= λ time. zone_in p.rest >>= λ name. Ok (fields_with weekdays date time name)) (first_of dates) (option_or (first_of times) (first_of zones)) (date_of_fault p.date) (λ date at.
-    err_of_bind (time_of (room_behind date) p.time) (λ time. zone_in p.rest >>= λ name. Ok (fields_with weekdays date time name)) (first_of times) (first_of zones) (time_of_fault (numbered_in (date_texts p.date)) (room_behind date) p.time (date_room p.date date at)) (λ time _.
-    zone_fault (zone_in p.rest) (λ name. fields_with weekdays date time name)))) ∙ ap (option_or (result_err (weekdays_in p.weekdays))) (first_of_three dates times zones)
+    let zones = result_err (zone_name_in p.rest) ∷ [] in
+    err_of_bind (weekdays_in p.weekdays) (λ weekdays. date_of p.date >>= λ date. time_of (room_after date) p.time >>= λ time. zone_name_in p.rest >>= λ name. Ok (fields_with weekdays date time name)) (result_err (weekdays_in p.weekdays)) (option_or (first_of dates) (option_or (first_of times) (first_of zones))) refl (λ weekdays _.
+    err_of_bind (date_of p.date) (λ date. time_of (room_after date) p.time >>= λ time. zone_name_in p.rest >>= λ name. Ok (fields_with weekdays date time name)) (first_of dates) (option_or (first_of times) (first_of zones)) (date_of_fault p.date) (λ date at.
+    err_of_bind (time_of (room_after date) p.time) (λ time. zone_name_in p.rest >>= λ name. Ok (fields_with weekdays date time name)) (first_of times) (first_of zones) (time_of_fault (numbered_in (date_texts p.date)) (room_after date) p.time (date_room p.date date at)) (λ time _.
+    zone_fault (zone_name_in p.rest) (λ name. fields_with weekdays date time name)))) ∙ ap (option_or (result_err (weekdays_in p.weekdays))) (first_of_three dates times zones)
 
 due_faults : (o : Option Places) → result_err (fields_due o) ≡ first_of (faults_at o)
 due_faults None = refl
@@ -200,4 +200,4 @@ long_fault false o = due_faults o
 
 pub first_fault_of_text : (text : List ℕ) → result_err (fields_in text) ≡ first_of (faults_in text)
 unfolding fields_in faults_in
-first_fault_of_text text = long_fault (ltb most_bytes (length text)) (places_of (words text))
+first_fault_of_text text = long_fault (ltb most_text_bytes (length text)) (places_of (words text))

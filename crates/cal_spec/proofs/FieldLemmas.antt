@@ -9,10 +9,10 @@ use Rattle.jiff_core.specs.declared.civil.weekday.Weekday.{Weekday}
 use Rattle.jiff_core.specs.declared.civil.weekday.Weekday.TheVariants.{Monday, Tuesday, Wednesday, Thursday, Friday, Saturday, Sunday}
 use Rattle.cal_zone.specs.Weekday.{week}
 use Rattle.cal_spec.specs.Components.{most_counted, is_comma, counted, component_of}
-use Rattle.cal_spec.specs.DateAndTime.{DateTexts, TimeTexts, DateFields, TimeFields, date_texts, time_texts, date_fields, time_fields, date_due, time_due, room_behind, date_of, time_of}
+use Rattle.cal_spec.specs.DateAndTime.{DateTexts, TimeTexts, DateFields, TimeFields, date_texts, time_texts, date_fields, time_fields, date_due, time_due, room_after, date_of, time_of}
 use Rattle.cal_spec.specs.Fields.{Fields, fields_of, parts_in, counted_parts}
 use Rattle.cal_spec.specs.Parts.{is_time}
-use Rattle.cal_spec.specs.Grammar.{most_bytes, fields_at, fields_due, fields_in}
+use Rattle.cal_spec.specs.Grammar.{most_text_bytes, fields_at, fields_due, fields_in}
 use Rattle.cal_spec.specs.Reads.{◌>>=◌, GivesUnlessNoMemory}
 use Rattle.cal_spec.specs.declared.raw.Raw.{Raw}
 use Rattle.cal_spec.specs.Slot.{day_slot}
@@ -20,7 +20,7 @@ use Rattle.cal_spec.specs.ValidFields.{IsValidFields}
 use Rattle.cal_spec.specs.Weekdays.{day_named, leading_letters, days_until, is_covered, days_of, items_of, without_comma, set_of, listed_days, is_like_shorthand, weekdays_of, weekdays_in}
 use Rattle.cal_spec.specs.Words.{Places, words, places_of}
 use Rattle.cal_zone.specs.ZoneName.{is_zone_name}
-use Rattle.cal_spec.specs.ZoneName.{IsZoneOption, zone_name, zone_in}
+use Rattle.cal_spec.specs.ZoneName.{IsZoneOption, zone_name, zone_name_in}
 use Rattle.cal_spec.specs.declared.part.Part.{Part}
 use Rattle.cal_spec.specs.declared.slot.Slot.{Slot}
 use Rattle.cal_spec.specs.declared.slot.Slot.TheVariants.{Year, Month, Hour, Minute, Second}
@@ -191,7 +191,7 @@ zone_by word true (Some name) is at =
     subst (λ n. (is_zone_name n ≡ true) × (zone_name n ≡ n)) same (zone_kept word utc is, zone_twice word utc refl)
 zone_by word false name is at = cc
 
-pub is_zone : (ws : List (List ℕ)) (name : Option (List ℕ)) → zone_in ws ≡ Ok name → IsZoneOption name
+pub is_zone : (ws : List (List ℕ)) (name : Option (List ℕ)) → zone_name_in ws ≡ Ok name → IsZoneOption name
 is_zone [] None at = tt
 is_zone [] (Some name) at = cc
 is_zone (w ∷ []) name at = zone_by w (is_zone_name w) name refl at
@@ -219,14 +219,14 @@ pub record FieldsFound (p : Places) (f : Fields) : Type 0 where
   pub name : Option (List ℕ)
   pub weekdays_is : weekdays_in p.weekdays ≡ Ok weekdays
   pub date_is : date_of p.date ≡ Ok date
-  pub time_is : time_of (room_behind date) p.time ≡ Ok time
-  pub name_is : zone_in p.rest ≡ Ok name
+  pub time_is : time_of (room_after date) p.time ≡ Ok time
+  pub name_is : zone_name_in p.rest ≡ Ok name
   pub is : fields_with weekdays date time name ≡ f
 
 pub fields_found : (p : Places) (f : Fields) → fields_at p ≡ Ok f → FieldsFound p f
 unfolding fields_at
 fields_found p f at =
-    let read = four_ok (weekdays_in p.weekdays) (date_of p.date) (λ date. time_of (room_behind date) p.time) (zone_in p.rest) fields_with f at in
+    let read = four_ok (weekdays_in p.weekdays) (date_of p.date) (λ date. time_of (room_after date) p.time) (zone_name_in p.rest) fields_with f at in
     record {
       weekdays = read.a;
       date = read.b;
@@ -240,12 +240,12 @@ fields_found p f at =
     }
 
 pub record TextFound (text : List ℕ) (f : Fields) : Type 0 where
-  pub short : length text ≤ most_bytes
+  pub short : length text ≤ most_text_bytes
   pub places : Places
   pub placed : places_of (words text) ≡ Some places
   pub fields : FieldsFound places f
 
-text_found_by : (text : List ℕ) (o : Option Places) (f : Fields) → length text ≤ most_bytes → places_of (words text) ≡ o → fields_due o ≡ Ok f → TextFound text f
+text_found_by : (text : List ℕ) (o : Option Places) (f : Fields) → length text ≤ most_text_bytes → places_of (words text) ≡ o → fields_due o ≡ Ok f → TextFound text f
 text_found_by text None f short is at = cc
 text_found_by text (Some p) f short is at =
     record { short = short; places = p; placed = is; fields = fields_found p f at }
@@ -253,8 +253,8 @@ text_found_by text (Some p) f short is at =
 pub text_found : (text : List ℕ) (f : Fields) → fields_in text ≡ Ok f → TextFound text f
 unfolding fields_in
 text_found text f at =
-    let read = cond_ok (ltb most_bytes (length text)) TextTooLong (fields_due (places_of (words text))) f at in
-    text_found_by text (places_of (words text)) f (ltb-false most_bytes (length text) read.0) refl read.1
+    let read = cond_ok (ltb most_text_bytes (length text)) TextTooLong (fields_due (places_of (words text))) f at in
+    text_found_by text (places_of (words text)) f (ltb-false most_text_bytes (length text) read.0) refl read.1
 
 -- how many counted parts
 
@@ -302,12 +302,12 @@ time_read room t h read = record {
 pub is_time_read : (room : ℕ) (word : List ℕ) (h : TimeFields) → time_of room word ≡ Ok h → IsTimeRead room h
 is_time_read room word h at = let found = time_found room word h at in time_read room found.texts h found.read
 
-few_parts : (weekdays : List Bool) (d : DateFields) (h : TimeFields) (name : Option (List ℕ)) → IsDateRead d → IsTimeRead (room_behind d) h → counted_parts (fields_with weekdays d h name) ≤ 240
+few_parts : (weekdays : List Bool) (d : DateFields) (h : TimeFields) (name : Option (List ℕ)) → IsDateRead d → IsTimeRead (room_after d) h → counted_parts (fields_with weekdays d h name) ≤ 240
 unfolding counted_parts
 few_parts weekdays d h name date time =
     omega (arith, counted_date Year d.year refl, counted_date Month d.month refl, counted_date (day_slot d.from_end) d.day (day_no_time d.from_end), counted_time Hour h.hour refl, counted_time Minute h.minute refl, counted_time Second h.second refl, date.year.few, date.month.few, date.day.few, time.hour.few, time.minute.few, time.second.few)
 
-valid_with : (weekdays : List Bool) (d : DateFields) (h : TimeFields) (name : Option (List ℕ)) → IsWeek weekdays → IsDateRead d → IsTimeRead (room_behind d) h → IsZoneOption name → IsValidFields (fields_with weekdays d h name)
+valid_with : (weekdays : List Bool) (d : DateFields) (h : TimeFields) (name : Option (List ℕ)) → IsWeek weekdays → IsDateRead d → IsTimeRead (room_after d) h → IsZoneOption name → IsValidFields (fields_with weekdays d h name)
 valid_with weekdays d h name week date time zone_is = record {
   seven = week.seven;
   chosen = week.chosen;
@@ -327,7 +327,7 @@ valid_fields text f at =
     let found = text_found text f at in
     let read = found.fields in
     let p = found.places in
-    rw read.is at (valid_with read.weekdays read.date read.time read.name (is_week p.weekdays read.weekdays read.weekdays_is) (is_date_read p.date read.date read.date_is) (is_time_read (room_behind read.date) p.time read.time read.time_is) (is_zone p.rest read.name read.name_is))
+    rw read.is at (valid_with read.weekdays read.date read.time read.name (is_week p.weekdays read.weekdays read.weekdays_is) (is_date_read p.date read.date read.date_is) (is_time_read (room_after read.date) p.time read.time read.time_is) (is_zone p.rest read.name read.name_is))
 
 -- what a call gives that reads a text
 pub gives_valid : (text : List ℕ) (r : Result Raw SpecFault) → GivesUnlessNoMemory fields_of r (fields_in text) → IfOk r (λ raw. IsValidFields (fields_of raw))

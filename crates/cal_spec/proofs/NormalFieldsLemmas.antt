@@ -153,10 +153,10 @@ starred_one ps None (Some qs) h k = absurd (k.1 h)
 starred_one ps (Some rs) None h k = absurd (h.1 k)
 starred_one ps (Some rs) (Some qs) h k = ap Some (h.0 ∙ sym k.0)
 
-pub second_of : (c : Option (List Part)) → AreParts c → IsNormalSecondOf c (normal_second c)
+pub second_normal_of : (c : Option (List Part)) → AreParts c → IsNormalSecondOf c (normal_second c)
 unfolding normal_second
-second_of None h = refl
-second_of (Some ps) h = (normal_parts ps, normal_is_of ps h, starred_is (normal_parts ps))
+second_normal_of None h = refl
+second_normal_of (Some ps) h = (normal_parts ps, normal_is_of ps h, starred_is (normal_parts ps))
 
 pub second_only : (c normal : Option (List Part)) → AreParts c → IsNormalSecondOf c normal → normal ≡ normal_second c
 unfolding normal_second
@@ -258,7 +258,7 @@ fields_are f valid = record {
   day = component_of f.day (parts_from_sound (day_slot f.from_end) f.day valid.day);
   hour = component_of f.hour (parts_from_sound Hour f.hour valid.hour);
   minute = component_of f.minute (parts_from_sound Minute f.minute valid.minute);
-  second = second_of f.second (parts_from_sound Second f.second valid.second);
+  second = second_normal_of f.second (parts_from_sound Second f.second valid.second);
   from_end = refl;
   name = refl;
 }

@@ -6,7 +6,7 @@ use Rattle.std.specs.Str.Parse.{digits_value}
 use Rattle.std.proofs.lemmas.Bool.{ltb-false, le-ltb, and_parts, and_right, eqb-true}
 use Rattle.std.proofs.lemmas.List.{append-nil}
 use Rattle.cal_spec.specs.GrammarRule.{IsNumber, IsNext, IsPartText}
-use Rattle.cal_spec.specs.Parts.{Sign, digits, dots, slash, point, other, is_point, is_slash, with_digit, with_byte, lone, signs, starts_with_point, most, is_second, Counted, behind_number, number_due, part_at_end, with_step, behind_end, behind_start, part_of}
+use Rattle.cal_spec.specs.Parts.{Sign, digits, dots, slash, point, other, is_point, is_slash, with_digit, with_byte, lone, signs, starts_with_point, most, is_second, Counted, after_number, number_due, part_at_end, with_step, after_end, after_start, part_of}
 use Rattle.cal_spec.specs.Reads.{◌>>=◌}
 use Rattle.cal_spec.specs.declared.part.Part.{Part}
 use Rattle.cal_spec.specs.declared.slot.Slot.{Slot}
@@ -59,17 +59,17 @@ written-signs (b ∷ c ∷ bs) =
 
 pub record NumberRead (ss : List Sign) (r : Counted) : Type 0 where
   pub text : List ℕ
-  pub is : ss ≡ digits text ∷ r.behind
+  pub is : ss ≡ digits text ∷ r.after
   pub number : IsNumber text r.number
 
-counted_is : (n : ℕ) (ss : List Sign) (r : Counted) → record { number = n; behind = ss } ≡ r → (n ≡ r.number) × (ss ≡ r.behind)
-counted_is n ss r is = (ap (λ (c : Counted). c.number) is, ap (λ (c : Counted). c.behind) is)
+counted_is : (n : ℕ) (ss : List Sign) (r : Counted) → record { number = n; after = ss } ≡ r → (n ≡ r.number) × (ss ≡ r.after)
+counted_is n ss r is = (ap (λ (c : Counted). c.number) is, ap (λ (c : Counted). c.after) is)
 
-digits_read : (slot : Slot) (ds : List ℕ) (ss : List Sign) (r : Counted) → IsSign (digits ds) → behind_number slot (digits_value 10 ds) ss ≡ Ok r → NumberRead (digits ds ∷ ss) r
+digits_read : (slot : Slot) (ds : List ℕ) (ss : List Sign) (r : Counted) → IsSign (digits ds) → after_number slot (digits_value 10 ds) ss ≡ Ok r → NumberRead (digits ds ∷ ss) r
 digits_read slot ds ss r sound at =
-    let small = cond_ok (ltb most (digits_value 10 ds)) NumberTooLarge (cond (is_second slot && starts_with_point ss) (Err FractionalSecond) (Ok (record { number = digits_value 10 ds; behind = ss }))) r at in
-    let whole = cond_ok (is_second slot && starts_with_point ss) FractionalSecond (Ok (record { number = digits_value 10 ds; behind = ss })) r small.1 in
-    let same : record { number = digits_value 10 ds; behind = ss } ≡ r = let e = whole.1 in cc in
+    let small = cond_ok (ltb most (digits_value 10 ds)) NumberTooLarge (cond (is_second slot && starts_with_point ss) (Err FractionalSecond) (Ok (record { number = digits_value 10 ds; after = ss }))) r at in
+    let whole = cond_ok (is_second slot && starts_with_point ss) FractionalSecond (Ok (record { number = digits_value 10 ds; after = ss })) r small.1 in
+    let same : record { number = digits_value 10 ds; after = ss } ≡ r = let e = whole.1 in cc in
     let parts = counted_is (digits_value 10 ds) ss r same in
     record {
       text = ds;
@@ -90,14 +90,14 @@ number_read slot (slash ∷ ss) r sound at = cc
 number_read slot (point ∷ ss) r sound at = cc
 number_read slot (other b ∷ ss) r sound at = cc
 
-behind_sound : (ss : List Sign) (r : Counted) → AllByRecursion IsSign ss → NumberRead ss r → AllByRecursion IsSign r.behind
-behind_sound ss r sound read = (rw read.is at sound).1
+after_sound : (ss : List Sign) (r : Counted) → AllByRecursion IsSign ss → NumberRead ss r → AllByRecursion IsSign r.after
+after_sound ss r sound read = (rw read.is at sound).1
 
 at_end_is : (slot : Slot) (p : Part) (ss : List Sign) (q : Part) → part_at_end slot p ss ≡ Ok q → (ss ≡ []) × (p ≡ q)
 at_end_is slot p [] q at = (refl, cc)
 at_end_is slot p (s ∷ ss) q at = cc
 
--- what stands behind a number of a part
+-- what stands after a number of a part
 pub record IsBehind (ss : List Sign) (a : ℕ) (last : Option ℕ) (p : Part) : Type 0 where
   pub step : Option ℕ
   pub back : IsNext (codes "/") (written ss) step
@@ -106,9 +106,9 @@ pub record IsBehind (ss : List Sign) (a : ℕ) (last : Option ℕ) (p : Part) : 
 step_read : (slot : Slot) (a : ℕ) (last : Option ℕ) (ss : List Sign) (p : Part) → AllByRecursion IsSign ss → with_step slot a last ss ≡ Ok p → IsBehind (slash ∷ ss) a last p
 unfolding with_step
 step_read slot a last ss p sound at =
-    let one = bind_ok (number_due slot ss) (λ r. part_at_end slot (record { start = a; end = last; step = Some r.number }) r.behind) p at in
+    let one = bind_ok (number_due slot ss) (λ r. part_at_end slot (record { start = a; end = last; step = Some r.number }) r.after) p at in
     let read = number_read slot ss one.value sound one.first in
-    let ends = at_end_is slot (record { start = a; end = last; step = Some one.value.number }) one.value.behind p one.next in
+    let ends = at_end_is slot (record { start = a; end = last; step = Some one.value.number }) one.value.after p one.next in
     let alone : ss ≡ digits read.text ∷ [] = read.is ∙ ap (λ more. digits read.text ∷ more) ends.0 in
     record {
       step = Some one.value.number;
@@ -116,8 +116,8 @@ step_read slot a last ss p sound at =
       is = ends.1;
     }
 
-end_read : (slot : Slot) (a b : ℕ) (ss : List Sign) (p : Part) → AllByRecursion IsSign ss → behind_end slot a b ss ≡ Ok p → IsBehind ss a (Some b) p
-unfolding behind_end
+end_read : (slot : Slot) (a b : ℕ) (ss : List Sign) (p : Part) → AllByRecursion IsSign ss → after_end slot a b ss ≡ Ok p → IsBehind ss a (Some b) p
+unfolding after_end
 end_read slot a b [] p sound at = record { step = None; back = refl; is = cc }
 end_read slot a b (slash ∷ ss) p sound at = step_read slot a (Some b) ss p sound.1 at
 end_read slot a b (digits ds ∷ ss) p sound at = cc
@@ -125,7 +125,7 @@ end_read slot a b (dots ∷ ss) p sound at = cc
 end_read slot a b (point ∷ ss) p sound at = cc
 end_read slot a b (other c ∷ ss) p sound at = cc
 
--- what stands behind the first number of a part
+-- what stands after the first number of a part
 pub record IsRest (text : List ℕ) (a : ℕ) (p : Part) : Type 0 where
   pub middle : List ℕ
   pub back : List ℕ
@@ -136,36 +136,36 @@ pub record IsRest (text : List ℕ) (a : ℕ) (p : Part) : Type 0 where
   pub step_is : IsNext (codes "/") back step
   pub is : record { start = a; end = last; step = step } ≡ p
 
-range_read : (slot : Slot) (a : ℕ) (ss : List Sign) (p : Part) → AllByRecursion IsSign ss → (number_due slot ss >>= λ b. behind_end slot a b.number b.behind) ≡ Ok p → IsRest (46 ∷ 46 ∷ written ss) a p
+range_read : (slot : Slot) (a : ℕ) (ss : List Sign) (p : Part) → AllByRecursion IsSign ss → (number_due slot ss >>= λ b. after_end slot a b.number b.after) ≡ Ok p → IsRest (46 ∷ 46 ∷ written ss) a p
 range_read slot a ss p sound at =
-    let one = bind_ok (number_due slot ss) (λ b. behind_end slot a b.number b.behind) p at in
+    let one = bind_ok (number_due slot ss) (λ b. after_end slot a b.number b.after) p at in
     let read = number_read slot ss one.value sound one.first in
-    let behind = end_read slot a one.value.number one.value.behind p (behind_sound ss one.value sound read) one.next in
+    let after = end_read slot a one.value.number one.value.after p (after_sound ss one.value sound read) one.next in
     record {
       middle = 46 ∷ 46 ∷ read.text;
-      back = written one.value.behind;
+      back = written one.value.after;
       last = Some one.value.number;
-      step = behind.step;
+      step = after.step;
       whole = ap (λ (more : List Sign). 46 ∷ 46 ∷ written more) read.is;
       end_is = (read.text, refl, read.number);
-      step_is = behind.back;
-      is = behind.is;
+      step_is = after.back;
+      is = after.is;
     }
 
 rest_from_step : (ss : List Sign) (a : ℕ) (p : Part) → IsBehind ss a None p → IsRest (written ss) a p
-rest_from_step ss a p behind = record {
+rest_from_step ss a p after = record {
   middle = [];
   back = written ss;
   last = None;
-  step = behind.step;
+  step = after.step;
   whole = refl;
   end_is = refl;
-  step_is = behind.back;
-  is = behind.is;
+  step_is = after.back;
+  is = after.is;
 }
 
-start_read : (slot : Slot) (a : ℕ) (ss : List Sign) (p : Part) → AllByRecursion IsSign ss → behind_start slot a ss ≡ Ok p → IsRest (written ss) a p
-unfolding behind_start
+start_read : (slot : Slot) (a : ℕ) (ss : List Sign) (p : Part) → AllByRecursion IsSign ss → after_start slot a ss ≡ Ok p → IsRest (written ss) a p
+unfolding after_start
 start_read slot a [] p sound at = rest_from_step [] a p (record { step = None; back = refl; is = cc })
 start_read slot a (dots ∷ ss) p sound at = range_read slot a ss p sound.1 at
 start_read slot a (slash ∷ ss) p sound at = rest_from_step (slash ∷ ss) a p (step_read slot a None ss p sound.1 at)
@@ -181,15 +181,15 @@ part_by text front middle back a last step p is whole start_is end_is step_is =
 pub part_found : (slot : Slot) (text : List ℕ) (p : Part) → part_of slot text ≡ Ok p → IsPartText text p
 unfolding part_of
 part_found slot text p at =
-    let one = bind_ok (number_due slot (signs text)) (λ a. behind_start slot a.number a.behind) p at in
+    let one = bind_ok (number_due slot (signs text)) (λ a. after_start slot a.number a.after) p at in
     let read = number_read slot (signs text) one.value (signs_sound text) one.first in
-    let rest = start_read slot one.value.number one.value.behind p (behind_sound (signs text) one.value (signs_sound text) read) one.next in
+    let rest = start_read slot one.value.number one.value.after p (after_sound (signs text) one.value (signs_sound text) read) one.next in
     let whole : text ≡ read.text ++ (rest.middle ++ rest.back) = sym (written-signs text) ∙ ap written read.is ∙ ap (λ more. read.text ++ more) rest.whole in
     part_by text read.text rest.middle rest.back one.value.number rest.last rest.step p rest.is whole read.number rest.end_is rest.step_is
 
 -- What the rule writes is read
 
-number_due_is : (slot : Slot) (ds : List ℕ) (n : ℕ) (ss : List Sign) → IsNumber ds n → starts_with_point ss ≡ false → number_due slot (digits ds ∷ ss) ≡ Ok (record { number = n; behind = ss })
+number_due_is : (slot : Slot) (ds : List ℕ) (n : ℕ) (ss : List Sign) → IsNumber ds n → starts_with_point ss ≡ false → number_due slot (digits ds ∷ ss) ≡ Ok (record { number = n; after = ss })
 number_due_is slot ds n ss number apart =
     rw (number.value, le-ltb most n number.small, and_right (is_second slot) (starts_with_point ss) apart) refl
 
@@ -204,24 +204,24 @@ number_signs (d ∷ ds) n rest number apart =
 slash_signs : (bs : List ℕ) → signs (47 ∷ bs) ≡ slash ∷ signs bs
 slash_signs bs = signs_lone 47 bs refl refl
 
--- behind the end of a range, or behind the first number
+-- after the end of a range, or after the first number
 step_only : (slot : Slot) (a : ℕ) (last : Option ℕ) (rs : List ℕ) (r : ℕ) → IsNumber rs r → with_step slot a last (signs rs) ≡ Ok (record { start = a; end = last; step = Some r })
 unfolding with_step
 step_only slot a last rs r number =
     let alone : signs rs ≡ digits rs ∷ [] = ap signs (sym (append-nil rs)) ∙ number_signs rs r [] number refl in
     rw (alone, number_due_is slot rs r [] number refl) refl
 
-end_only : (slot : Slot) (a b : ℕ) (back : List ℕ) (step : Option ℕ) → IsNext (codes "/") back step → behind_end slot a b (signs back) ≡ Ok (record { start = a; end = Some b; step = step })
-unfolding behind_end
+end_only : (slot : Slot) (a b : ℕ) (back : List ℕ) (step : Option ℕ) → IsNext (codes "/") back step → after_end slot a b (signs back) ≡ Ok (record { start = a; end = Some b; step = step })
+unfolding after_end
 end_only slot a b back None none = rw none refl
 end_only slot a b back (Some r) next = rw (next.1, slash_signs next.0) (step_only slot a (Some b) next.0 r next.2)
 
-start_only : (slot : Slot) (a : ℕ) (back : List ℕ) (step : Option ℕ) → IsNext (codes "/") back step → behind_start slot a (signs back) ≡ Ok (record { start = a; end = None; step = step })
-unfolding behind_start
+start_only : (slot : Slot) (a : ℕ) (back : List ℕ) (step : Option ℕ) → IsNext (codes "/") back step → after_start slot a (signs back) ≡ Ok (record { start = a; end = None; step = step })
+unfolding after_start
 start_only slot a back None none = rw none refl
 start_only slot a back (Some r) next = rw (next.1, slash_signs next.0) (step_only slot a None next.0 r next.2)
 
--- what stands behind a number begins with no digit, and with no lone point
+-- what stands after a number begins with no digit, and with no lone point
 back_no_digit : (back : List ℕ) (step : Option ℕ) → IsNext (codes "/") back step → begins_with is_ascii_digit back ≡ false
 back_no_digit back None none = rw none refl
 back_no_digit back (Some r) next = rw next.1 refl
@@ -238,12 +238,12 @@ middle_no_point : (middle back : List ℕ) (last step : Option ℕ) → IsNext (
 middle_no_point middle back None step none next = rw none (back_no_point back step next)
 middle_no_point middle back (Some b) step some next = rw some.1 refl
 
-range_only : (slot : Slot) (a b : ℕ) (number back : List ℕ) (step : Option ℕ) → IsNumber number b → IsNext (codes "/") back step → behind_start slot a (dots ∷ signs (number ++ back)) ≡ Ok (record { start = a; end = Some b; step = step })
-unfolding behind_start
+range_only : (slot : Slot) (a b : ℕ) (number back : List ℕ) (step : Option ℕ) → IsNumber number b → IsNext (codes "/") back step → after_start slot a (dots ∷ signs (number ++ back)) ≡ Ok (record { start = a; end = Some b; step = step })
+unfolding after_start
 range_only slot a b number back step is next =
     rw (number_signs number b back is (back_no_digit back step next), number_due_is slot number b (signs back) is (back_no_point back step next)) (end_only slot a b back step next)
 
-rest_only : (slot : Slot) (a : ℕ) (middle back : List ℕ) (last step : Option ℕ) → IsNext (codes "..") middle last → IsNext (codes "/") back step → behind_start slot a (signs (middle ++ back)) ≡ Ok (record { start = a; end = last; step = step })
+rest_only : (slot : Slot) (a : ℕ) (middle back : List ℕ) (last step : Option ℕ) → IsNext (codes "..") middle last → IsNext (codes "/") back step → after_start slot a (signs (middle ++ back)) ≡ Ok (record { start = a; end = last; step = step })
 rest_only slot a middle back None step none next = rw none (start_only slot a back step next)
 rest_only slot a middle back (Some b) step some next = rw some.1 (range_only slot a b some.0 back step some.2 next)
 

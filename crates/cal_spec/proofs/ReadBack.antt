@@ -8,7 +8,7 @@ use Rattle.std.proofs.lemmas.Bool.Decides.{nat_tests}
 use Rattle.std.proofs.lemmas.List.{append-nil, length-append}
 use Rattle.cal_bytes.specs.Bytes.{joined}
 use Rattle.cal_spec.specs.Components.{counted}
-use Rattle.cal_spec.specs.DateAndTime.{DateFields, TimeFields, date_due, date_fields, date_of, date_texts, is_colon, is_date_sign, is_tilde, room_behind, time_due, time_fields, time_of, time_texts}
+use Rattle.cal_spec.specs.DateAndTime.{DateFields, TimeFields, date_due, date_fields, date_of, date_texts, is_colon, is_date_sign, is_tilde, room_after, time_due, time_fields, time_of, time_texts}
 use Rattle.cal_spec.specs.ExprText.{component_text, day_lead, expr_text, fields_text, row_text, zone_text}
 use Rattle.cal_spec.specs.Fields.{Fields, counted_parts, parts_in}
 use Rattle.cal_spec.specs.Grammar.{fields_at, fields_in}
@@ -19,7 +19,7 @@ use Rattle.cal_spec.specs.WeekdayRuns.{runs_from, runs_text}
 use Rattle.cal_spec.specs.Weekdays.{weekdays_in}
 use Rattle.cal_spec.specs.Words.{Places, is_blank, places_of, words}
 use Rattle.cal_zone.specs.ZoneName.{begins_with_letter, is_zone_byte, is_zone_name}
-use Rattle.cal_spec.specs.ZoneName.{IsZoneOption, zone_in}
+use Rattle.cal_spec.specs.ZoneName.{IsZoneOption, zone_name_in}
 use Rattle.cal_spec.specs.declared.part.Part.{Part}
 use Rattle.cal_spec.specs.declared.slot.Slot.TheVariants.{Year, Month, Hour, Minute, Second}
 use Rattle.cal_spec.proofs.LengthLemmas.{AreSmall, expr_length, small_component, small_second}
@@ -248,11 +248,11 @@ date_back f h =
     let day = component_back (day_slot f.from_end) (240 - counted Year f.year - counted Month f.month) 2 f.day (omega arith) h.valid.day h.day in
     ap date_due (date_texts_back f h) ∙ rw (year, month, day) refl
 
-time_back : (f : Fields) → IsReadable f → time_of (room_behind (date_in f)) (time_word f) ≡ Ok (time_in f)
+time_back : (f : Fields) → IsReadable f → time_of (room_after (date_in f)) (time_word f) ≡ Ok (time_in f)
 unfolding time_of time_fields
 time_back f h =
     let few = few_counted f h in
-    let room = room_behind (date_in f) in
+    let room = room_after (date_in f) in
     let hour = component_back Hour room 2 f.hour (omega arith) h.valid.hour h.hour in
     let minute = component_back Minute (room - counted Hour f.hour) 2 f.minute (omega arith) h.valid.minute h.minute in
     let second = component_back Second (room - counted Hour f.hour - counted Minute f.minute) 2 f.second (omega arith) h.valid.second h.second in
@@ -293,10 +293,10 @@ words_to_zone w (Some name) clear some h =
 
 words_of_fields : (f : Fields) → IsReadable f → words (fields_text f ++ (zone_text f.zone ++ [])) ≡ date_word f ∷ time_word f ∷ zone_words f.zone
 words_of_fields f h =
-    let behind = zone_text f.zone ++ [] in
-    ap (λ t. words (t ++ behind)) (fields_printed f)
-    ∙ ap words (append_assoc (date_word f) (32 ∷ time_word f) behind)
-    ∙ word_first (date_word f) (time_word f ++ behind) (clear_of is_date_byte is_blank (date_word f) date_no_blank (date_bytes f h)) (date_some f h)
+    let after = zone_text f.zone ++ [] in
+    ap (λ t. words (t ++ after)) (fields_printed f)
+    ∙ ap words (append_assoc (date_word f) (32 ∷ time_word f) after)
+    ∙ word_first (date_word f) (time_word f ++ after) (clear_of is_date_byte is_blank (date_word f) date_no_blank (date_bytes f h)) (date_some f h)
     ∙ ap (λ ws. date_word f ∷ ws) (words_to_zone (time_word f) f.zone (clear_of is_time_byte is_blank (time_word f) time_no_blank (time_bytes f h)) (time_some f h) h.valid.zone)
 
 -- Places
@@ -320,7 +320,7 @@ places_some f word h days =
     let no_zone = no_letter_first is_time_byte (time_word f) time_no_letter (time_bytes f h) in
     rw (days.plain, days.letter, plain, no_time, no_zone) refl
 
-zone_back : (name : Option (List ℕ)) → IsZoneOption name → zone_in (zone_words name) ≡ Ok name
+zone_back : (name : Option (List ℕ)) → IsZoneOption name → zone_name_in (zone_words name) ≡ Ok name
 zone_back None h = refl
 zone_back (Some name) h = rw h.0 (ap (λ n. Ok (Some n)) h.1)
 

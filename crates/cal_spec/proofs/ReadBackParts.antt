@@ -13,7 +13,7 @@ use Rattle.std.proofs.lemmas.Str.Parse.{digit_from_value}
 use Rattle.cal_zone.specs.InstantText.{zeros}
 use Rattle.cal_spec.specs.Components.{component_of, counted, is_comma, is_star, listed, part_due, parts_of, room_in}
 use Rattle.cal_spec.specs.ExprText.{component_text, number_text, optional_text, part_text, parts_text}
-use Rattle.cal_spec.specs.Parts.{Sign, digits, slash, behind_end, behind_number, behind_start, is_second, is_time, number_due, part_at_end, part_of, signs, starts_with_point, with_century, with_step, with_values}
+use Rattle.cal_spec.specs.Parts.{Sign, digits, slash, after_end, after_number, after_start, is_second, is_time, number_due, part_at_end, part_of, signs, starts_with_point, with_century, with_step, with_values}
 use Rattle.cal_spec.specs.Reads.{◌>>=◌}
 use Rattle.cal_spec.specs.Sound.{AreSound, IsEndWithin, IsSound}
 use Rattle.cal_spec.specs.declared.part.Part.{Part}
@@ -75,16 +75,16 @@ no_second_point true u h = h
 no_second_point false u h = refl
 
 -- and it is read where a number is due
-due_by : (slot : Slot) (n : ℕ) (ss : List Sign) → n < 10_000 → starts_with_point ss ≡ false → behind_number slot n ss ≡ Ok (record { number = n; behind = ss })
+due_by : (slot : Slot) (n : ℕ) (ss : List Sign) → n < 10_000 → starts_with_point ss ≡ false → after_number slot n ss ≡ Ok (record { number = n; after = ss })
 due_by slot n ss small whole =
     let fits : nat_lt 9_999 n ≡ false = le-ltb 9_999 n (omega arith) in
     rw (fits, no_second_point (is_second slot) (starts_with_point ss) whole) refl
 
 due : (slot : Slot) (n : ℕ) (ds rest : List ℕ) → IsPrinted n ds → n < 10_000 → begins_with is_ascii_digit rest ≡ false → starts_with_point (signs rest) ≡ false
-    → number_due slot (signs (ds ++ rest)) ≡ Ok (record { number = n; behind = signs rest })
+    → number_due slot (signs (ds ++ rest)) ≡ Ok (record { number = n; after = signs rest })
 due slot n ds rest printed small apart whole =
     ap (number_due slot) (signs_of_number ds rest printed.all printed.some apart)
-    ∙ ap (λ k. behind_number slot k (signs rest)) printed.value
+    ∙ ap (λ k. after_number slot k (signs rest)) printed.value
     ∙ due_by slot n (signs rest) small whole
 
 -- Parts
@@ -92,7 +92,7 @@ due slot n ds rest printed small apart whole =
 slash_signs : (rest : List ℕ) → signs (47 ∷ rest) ≡ slash ∷ signs rest
 slash_signs rest = signs_lone 47 rest refl refl
 
--- the text behind a number
+-- the text after a number
 step_text : Option ℕ → List ℕ
 step_text None = []
 step_text (Some r) = 47 ∷ padded 0 r
@@ -115,25 +115,25 @@ with_step_back : (slot : Slot) (a : ℕ) (last : Option ℕ) (r : ℕ) → r < 1
 unfolding with_step
 with_step_back slot a last r small =
     let read = due slot r (padded 0 r) [] (number_printed 0 r small) small refl refl in
-    let whole : number_due slot (signs (padded 0 r)) ≡ Ok (record { number = r; behind = [] }) = ap (λ t. number_due slot (signs t)) (sym (append-nil (padded 0 r))) ∙ read in
-    ap (λ o. o >>= λ c. part_at_end slot (record { start = a; end = last; step = Some c.number }) c.behind) whole
+    let whole : number_due slot (signs (padded 0 r)) ≡ Ok (record { number = r; after = [] }) = ap (λ t. number_due slot (signs t)) (sym (append-nil (padded 0 r))) ∙ read in
+    ap (λ o. o >>= λ c. part_at_end slot (record { start = a; end = last; step = Some c.number }) c.after) whole
 
-behind_end_back : (slot : Slot) (a b : ℕ) (step : Option ℕ) → IsBelow 10_000 step → behind_end slot a b (signs (step_text step)) ≡ Ok (record { start = a; end = Some b; step = step })
-unfolding behind_end step_text
-behind_end_back slot a b None small = refl
-behind_end_back slot a b (Some r) small = ap (behind_end slot a b) (slash_signs (padded 0 r)) ∙ with_step_back slot a (Some b) r small
+after_end_back : (slot : Slot) (a b : ℕ) (step : Option ℕ) → IsBelow 10_000 step → after_end slot a b (signs (step_text step)) ≡ Ok (record { start = a; end = Some b; step = step })
+unfolding after_end step_text
+after_end_back slot a b None small = refl
+after_end_back slot a b (Some r) small = ap (after_end slot a b) (slash_signs (padded 0 r)) ∙ with_step_back slot a (Some b) r small
 
-behind_start_back : (slot : Slot) (width a : ℕ) (end step : Option ℕ) → IsBelow 10_000 end → IsBelow 10_000 step
-    → behind_start slot a (signs (end_text width end step)) ≡ Ok (record { start = a; end = end; step = step })
-unfolding behind_start end_text step_text
-behind_start_back slot width a None None below small = refl
-behind_start_back slot width a None (Some r) below small = ap (behind_start slot a) (slash_signs (padded 0 r)) ∙ with_step_back slot a None r small
-behind_start_back slot width a (Some b) step below small =
+after_start_back : (slot : Slot) (width a : ℕ) (end step : Option ℕ) → IsBelow 10_000 end → IsBelow 10_000 step
+    → after_start slot a (signs (end_text width end step)) ≡ Ok (record { start = a; end = end; step = step })
+unfolding after_start end_text step_text
+after_start_back slot width a None None below small = refl
+after_start_back slot width a None (Some r) below small = ap (after_start slot a) (slash_signs (padded 0 r)) ∙ with_step_back slot a None r small
+after_start_back slot width a (Some b) step below small =
     let apart = no_digit_step step in
     let read = due slot b (padded width b) (step_text step) (number_printed width b below) below apart.0 apart.1 in
-    ap (λ o. o >>= λ c. behind_end slot a c.number c.behind) read ∙ behind_end_back slot a b step small
+    ap (λ o. o >>= λ c. after_end slot a c.number c.after) read ∙ after_end_back slot a b step small
 
--- the text of a part is that of its first number and what is behind it
+-- the text of a part is that of its first number and what is after it
 step_printed : (step : Option ℕ) → optional_text (codes "/") 0 step ++ [] ≡ step_text step
 unfolding step_text number_text
 step_printed None = refl
@@ -158,9 +158,9 @@ unfolding part_of
 part_back slot width p small =
     let apart = no_digit_end width p.end p.step in
     let read = due slot p.start (padded width p.start) (end_text width p.end p.step) (number_printed width p.start small.start) small.start apart.0 apart.1 in
-    ap (λ t. number_due slot (signs t) >>= λ a. behind_start slot a.number a.behind) (part_printed width p)
-    ∙ ap (λ o. o >>= λ a. behind_start slot a.number a.behind) read
-    ∙ behind_start_back slot width p.start p.end p.step small.end (step_small p.step small.step)
+    ap (λ t. number_due slot (signs t) >>= λ a. after_start slot a.number a.after) (part_printed width p)
+    ∙ ap (λ o. o >>= λ a. after_start slot a.number a.after) read
+    ∙ after_start_back slot width p.start p.end p.step small.end (step_small p.step small.step)
     ∙ ap Ok (same_part _ p refl refl refl)
 
 -- Values

@@ -24,7 +24,7 @@ begins_with p (b ∷ bs) = p b
 pub digit_no_point : (b : ℕ) → is_ascii_digit b ≡ true → is_point b ≡ false
 digit_no_point b digit = ne_eqb b 46 (λ e. omega (arith, leb-true 48 b (and_parts (leb 48 b) (leb b 57) digit).0))
 
--- a digit joins the signs behind it
+-- a digit joins the signs after it
 pub signs_digit : (b : ℕ) (bs : List ℕ) → is_ascii_digit b ≡ true → signs (b ∷ bs) ≡ with_digit b (signs bs)
 signs_digit b [] digit = rw digit refl
 signs_digit b (c ∷ bs) digit = rw (digit_no_point b digit, digit) refl
@@ -66,20 +66,20 @@ front_is_digits : (bs : List ℕ) → list_all is_ascii_digit (take (prefix_len 
 front_is_digits [] = refl
 front_is_digits (b ∷ bs) = front_step b bs (is_ascii_digit b) refl (front_is_digits bs)
 
-behind_step : (b : ℕ) (bs : List ℕ) (digit : Bool) → is_ascii_digit b ≡ digit → begins_with is_ascii_digit (drop (prefix_len is_ascii_digit bs) bs) ≡ false → begins_with is_ascii_digit (drop (cond digit (1 + prefix_len is_ascii_digit bs) 0) (b ∷ bs)) ≡ false
-behind_step b bs true is none = let e : 1 + prefix_len is_ascii_digit bs ≡ suc (prefix_len is_ascii_digit bs) = omega arith in rw e none
-behind_step b bs false is none = is
+after_step : (b : ℕ) (bs : List ℕ) (digit : Bool) → is_ascii_digit b ≡ digit → begins_with is_ascii_digit (drop (prefix_len is_ascii_digit bs) bs) ≡ false → begins_with is_ascii_digit (drop (cond digit (1 + prefix_len is_ascii_digit bs) 0) (b ∷ bs)) ≡ false
+after_step b bs true is none = let e : 1 + prefix_len is_ascii_digit bs ≡ suc (prefix_len is_ascii_digit bs) = omega arith in rw e none
+after_step b bs false is none = is
 
-behind_is_none : (bs : List ℕ) → begins_with is_ascii_digit (drop (prefix_len is_ascii_digit bs) bs) ≡ false
-behind_is_none [] = refl
-behind_is_none (b ∷ bs) = behind_step b bs (is_ascii_digit b) refl (behind_is_none bs)
+after_is_none : (bs : List ℕ) → begins_with is_ascii_digit (drop (prefix_len is_ascii_digit bs) bs) ≡ false
+after_is_none [] = refl
+after_is_none (b ∷ bs) = after_step b bs (is_ascii_digit b) refl (after_is_none bs)
 
 -- the first sign of a text that begins with a digit
 pub digits_first : (b : ℕ) (bs : List ℕ) → is_ascii_digit b ≡ true → signs (b ∷ bs) ≡ digits (take (prefix_len is_ascii_digit (b ∷ bs)) (b ∷ bs)) ∷ signs (drop (prefix_len is_ascii_digit (b ∷ bs)) (b ∷ bs))
 digits_first b bs digit =
     let n = prefix_len is_ascii_digit bs in
     let e : 1 + n ≡ suc n = omega arith in
-    rw (digit, e) (ap (λ cs. signs (b ∷ cs)) (sym (take-append-drop n bs)) ∙ signs_number b (take n bs) (drop n bs) digit (front_is_digits bs) (behind_is_none bs))
+    rw (digit, e) (ap (λ cs. signs (b ∷ cs)) (sym (take-append-drop n bs)) ∙ signs_number b (take n bs) (drop n bs) digit (front_is_digits bs) (after_is_none bs))
 
 -- a number has digits
 abbrev pub IsSign : Sign → Type 0

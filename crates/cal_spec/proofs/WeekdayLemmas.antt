@@ -7,7 +7,7 @@ use Rattle.std.proofs.lemmas.Bool.Decides.{nat_tests}
 use Rattle.cal_spec.specs.Members.{lies}
 use Rattle.std.proofs.lemmas.List.Sums.{prefix_len-le-length}
 use Rattle.cal_bytes.specs.Bytes.{joined}
-use Rattle.cal_spec.specs.WeekdayRuns.{Run, AreApartFrom, AreRuns, is_in, with_day, runs_from, run_text, runs_text, weekdays_text, behind_first, day_name}
+use Rattle.cal_spec.specs.WeekdayRuns.{Run, AreApartFrom, AreRuns, is_in, with_day, runs_from, run_text, runs_text, weekdays_text, text_after_first, day_name}
 
 run : ℕ → ℕ → Run
 run first last = record { first = first; last = last }
@@ -74,7 +74,7 @@ runs_front (suc m) day (true ∷ bs) h =
     let next : day + suc m + 2 ≡ day + suc m + 2 = refl in
     rw (inner, last) (with_day-joins day (day + suc m) (runs_from (day + suc m + 2) (drop (suc (suc m)) bs)))
 
--- the first run behind what leads up to it, and the others behind commas
+-- the first run after what leads up to it, and the others after commas
 abbrev pub led : List ℕ → List Run → List ℕ
 led lead [] = []
 led lead (r ∷ rs) = run_text lead r ++ flat_map (λ q. codes "," ++ run_text [] q) rs
@@ -89,7 +89,7 @@ unfolding run_text
 led-comma [] = refl
 led-comma (r ∷ rs) = refl
 
--- what is left at a day that is chosen: the run that it begins, and what follows the day behind that
+-- what is left at a day that is chosen: the run that it begins, and what follows the day after that
 pub led-front : (lead : List ℕ) (day last next n : ℕ) (days : List Bool) → n ≡ front (drop day days) → 0 < n → last ≡ day + n - 1 → next ≡ day + (n + 1)
     → led lead (runs_from day (drop day days)) ≡ run_text lead (record { first = day; last = last }) ++ led (codes ",") (runs_from next (drop next days))
 led-front lead day last next zero days e positive at_last at_next = absurd (omega arith)
@@ -97,19 +97,19 @@ led-front lead day last next (suc m) days e positive at_last at_next =
     let bs = drop day days in
     let here = runs_front m day bs (sym e) in
     let at_end : last ≡ day + m = omega arith in
-    let behind : day + m + 2 ≡ next = omega arith in
+    let after : day + m + 2 ≡ next = omega arith in
     let dropped : drop (suc (suc m)) bs ≡ drop next days = drop-drop (suc (suc m)) day days ∙ ap (λ k. drop k days) (omega arith) in
     ap (led lead) here
     ∙ ap (λ t. run_text lead (record { first = day; last = day + m }) ++ t) (led-comma (runs_from (day + m + 2) (drop (suc (suc m)) bs)))
-    ∙ rw (at_end, behind, dropped) refl
+    ∙ rw (at_end, after, dropped) refl
 
 -- at another day it is what follows that day
 pub led-skip : (lead : List ℕ) (day next n : ℕ) (days : List Bool) → n ≡ front (drop day days) → n ≡ 0 → next ≡ day + (n + 1)
     → led lead (runs_from day (drop day days)) ≡ led lead (runs_from next (drop next days))
 led-skip lead day next n days e none at_next =
-    let behind : day + 1 ≡ next = omega arith in
-    let dropped : drop 1 (drop day days) ≡ drop next days = drop-drop 1 day days ∙ ap (λ k. drop k days) behind in
-    ap (led lead) (runs_skip day (drop day days) (sym e ∙ none)) ∙ rw (behind, dropped) refl
+    let after : day + 1 ≡ next = omega arith in
+    let dropped : drop 1 (drop day days) ≡ drop next days = drop-drop 1 day days ∙ ap (λ k. drop k days) after in
+    ap (led lead) (runs_skip day (drop day days) (sym e ∙ none)) ∙ rw (after, dropped) refl
 
 pub weekdays_text-all : (days : List Bool) → list_all (λ day. day) days ≡ true → weekdays_text days ≡ []
 unfolding weekdays_text
@@ -120,16 +120,16 @@ unfolding weekdays_text
 weekdays_text-some days h = rw h
 
 -- what follows the first day of a run
-pub behind_first-none : (first last : ℕ) → first ≡ last → behind_first first last ≡ []
-behind_first-none first last h = rw (eq-eqb first last h)
+pub text_after_first-none : (first last : ℕ) → first ≡ last → text_after_first first last ≡ []
+text_after_first-none first last h = rw (eq-eqb first last h)
 
-pub behind_first-second : (first last : ℕ) → first + 1 ≡ last → behind_first first last ≡ joined (codes "," ∷ day_name last ∷ [])
-behind_first-second first last h =
+pub text_after_first-second : (first last : ℕ) → first + 1 ≡ last → text_after_first first last ≡ joined (codes "," ∷ day_name last ∷ [])
+text_after_first-second first last h =
     let other : nat_eq first last ≡ false = ne_eqb first last (λ e. absurd (omega arith)) in
     rw (other, eq-eqb (first + 1) last h)
 
-pub behind_first-more : (first last : ℕ) → first + 1 < last → behind_first first last ≡ joined (codes ".." ∷ day_name last ∷ [])
-behind_first-more first last h =
+pub text_after_first-more : (first last : ℕ) → first + 1 < last → text_after_first first last ≡ joined (codes ".." ∷ day_name last ∷ [])
+text_after_first-more first last h =
     let other : nat_eq first last ≡ false = ne_eqb first last (λ e. absurd (omega arith)) in
     let no_second : nat_eq (first + 1) last ≡ false = ne_eqb (first + 1) last (λ e. absurd (omega arith)) in
     rw (other, no_second)

@@ -15,7 +15,7 @@ use Rattle.jiff_core.specs.declared.civil.weekday.Weekday.TheVariants.{Monday, T
 use Rattle.cal_zone.specs.Weekday.{week, name_of, short_name_of}
 use Rattle.cal_spec.specs.Components.{is_comma}
 use Rattle.cal_spec.specs.GrammarRule.{IsName, IsItem, AreWeekdays, HasWeekdays}
-use Rattle.cal_spec.specs.Weekdays.{day_named, is_no_letter, leading_letters, behind_letters, behind_joint, days_to, days_by, days_of, items_of, without_comma, set_of, listed_days, weekdays_of, weekdays_in}
+use Rattle.cal_spec.specs.Weekdays.{day_named, is_no_letter, leading_letters, after_letters, after_joint, days_to, days_by, days_of, items_of, without_comma, set_of, listed_days, weekdays_of, weekdays_in}
 use Rattle.cal_zone.specs.ZoneName.{begins_with_letter}
 use Rattle.cal_spec.specs.declared.weekdays.Days.{Days}
 use Rattle.cal_spec.proofs.CleanLemmas.{IsClear, Apart, clear_from, list_all-append, split_joined, some_pieces}
@@ -123,12 +123,12 @@ drop_front : (xs ys : List ℕ) → drop (length xs) (xs ++ ys) ≡ ys
 drop_front [] ys = refl
 drop_front (x ∷ xs) ys = drop_front xs ys
 
-pub letters_at : (xs : List ℕ) (c : ℕ) (ys : List ℕ) → list_all is_ascii_alphabetic xs ≡ true → is_ascii_alphabetic c ≡ false → (leading_letters (xs ++ (c ∷ ys)) ≡ xs) × (behind_letters (xs ++ (c ∷ ys)) ≡ c ∷ ys)
+pub letters_at : (xs : List ℕ) (c : ℕ) (ys : List ℕ) → list_all is_ascii_alphabetic xs ≡ true → is_ascii_alphabetic c ≡ false → (leading_letters (xs ++ (c ∷ ys)) ≡ xs) × (after_letters (xs ++ (c ∷ ys)) ≡ c ∷ ys)
 letters_at xs c ys all stop =
     let len = front_len xs c ys all stop in
     (ap (λ n. take n (xs ++ (c ∷ ys))) len ∙ take_front xs (c ∷ ys), ap (λ n. drop n (xs ++ (c ∷ ys))) len ∙ drop_front xs (c ∷ ys))
 
-pub letters_alone : (xs : List ℕ) → list_all is_ascii_alphabetic xs ≡ true → (leading_letters xs ≡ xs) × (behind_letters xs ≡ [])
+pub letters_alone : (xs : List ℕ) → list_all is_ascii_alphabetic xs ≡ true → (leading_letters xs ≡ xs) × (after_letters xs ≡ [])
 letters_alone xs all =
     let len = whole_len xs all in
     (ap (λ n. take n xs) len ∙ ap (take (length xs)) (sym (append-nil xs)) ∙ take_front xs [], ap (λ n. drop n xs) len ∙ ap (drop (length xs)) (sym (append-nil xs)) ∙ drop_front xs [])
@@ -156,7 +156,7 @@ two_joint b c bs name false true is points at =
     rw (← same) (record { joint = codes ".."; joint_is = inl refl; whole = ap (λ d. d ∷ c ∷ bs) (eqb-true b 46 both.0) ∙ ap (λ d. 46 ∷ d ∷ bs) (eqb-true c 46 both.1) })
 two_joint b c bs name false false is points at = cc
 
-joint_read : (text name : List ℕ) → behind_joint text ≡ Some name → JointRead text name
+joint_read : (text name : List ℕ) → after_joint text ≡ Some name → JointRead text name
 joint_read [] name at = cc
 joint_read (b ∷ []) name at = one_joint b name (b == 45) refl at
 joint_read (b ∷ c ∷ bs) name at = two_joint b c bs name (b == 45) ((b == 46) && (c == 46)) refl refl at
@@ -175,26 +175,26 @@ last_read first letters text name (Some last) days named read is at =
       last_name = name_found name last is;
     }))
 
-to_read : (first : Weekday) (letters text : List ℕ) (o : Option (List ℕ)) (days : Days) → IsName letters first → behind_joint text ≡ o → days_to first o ≡ Some days → IsItem (letters ++ text) days
+to_read : (first : Weekday) (letters text : List ℕ) (o : Option (List ℕ)) (days : Days) → IsName letters first → after_joint text ≡ o → days_to first o ≡ Some days → IsItem (letters ++ text) days
 to_read first letters text None days named is at = cc
 to_read first letters text (Some name) days named is at =
     last_read first letters text name (day_named name) days named (joint_read text name is) refl at
 
-item_by : (letters behind : List ℕ) (o : Option Weekday) (days : Days) → day_named letters ≡ o → days_by o behind ≡ Some days → IsItem (letters ++ behind) days
-item_by letters behind None days is at = cc
+item_by : (letters after : List ℕ) (o : Option Weekday) (days : Days) → day_named letters ≡ o → days_by o after ≡ Some days → IsItem (letters ++ after) days
+item_by letters after None days is at = cc
 item_by letters [] (Some first) days is at =
     let same : record { first = first; last = first } ≡ days = cc in
     rw (← same, append-nil letters) (inl (name_found letters first is, refl))
-item_by letters (b ∷ bs) (Some first) days is at = to_read first letters (b ∷ bs) (behind_joint (b ∷ bs)) days (name_found letters first is) refl at
+item_by letters (b ∷ bs) (Some first) days is at = to_read first letters (b ∷ bs) (after_joint (b ∷ bs)) days (name_found letters first is) refl at
 
 pub item_found : (item : List ℕ) (days : Days) → days_of item ≡ Some days → IsItem item days
 unfolding days_of
 item_found item days at =
-    rw take-append-drop at (item_by (leading_letters item) (behind_letters item) (day_named (leading_letters item)) days refl at)
+    rw take-append-drop at (item_by (leading_letters item) (after_letters item) (day_named (leading_letters item)) days refl at)
 
 -- what the rule writes is an item
 
-dash_joint : (name : List ℕ) → 0 < length name → behind_joint (codes "-" ++ name) ≡ Some name
+dash_joint : (name : List ℕ) → 0 < length name → after_joint (codes "-" ++ name) ≡ Some name
 dash_joint [] some = absurd (omega arith)
 dash_joint (b ∷ bs) some = refl
 
@@ -331,7 +331,7 @@ items_only [] (d ∷ items) zip = absurd zip
 items_only (t ∷ ts) [] zip = absurd zip
 items_only (t ∷ ts) (d ∷ items) zip = rw (item_only t d zip.0, items_only ts items zip.1) refl
 
--- a text that ends in a letter loses nothing, and one comma behind it is taken off
+-- a text that ends in a letter loses nothing, and one comma after it is taken off
 
 pub record EndsInLetter (text : List ℕ) : Type 0 where
   pub front : List ℕ
@@ -346,8 +346,8 @@ letters_end b (c ∷ bs) letter all =
     let rest = letters_end c bs parts.0 parts.1 in
     record { front = b ∷ rest.front; last = rest.last; whole = ap (λ more. b ∷ more) rest.whole; letter = rest.letter }
 
-behind_ends : (front text : List ℕ) → EndsInLetter text → EndsInLetter (front ++ text)
-behind_ends front text ends = record {
+after_ends : (front text : List ℕ) → EndsInLetter text → EndsInLetter (front ++ text)
+after_ends front text ends = record {
   front = front ++ ends.front;
   last = ends.last;
   whole = ap (λ more. front ++ more) ends.whole ∙ sym (append_assoc front ends.front (ends.last ∷ []));
@@ -365,13 +365,13 @@ name_ends text day is = some_end text (some_name text day is) (name_letters text
 item_ends : (text : List ℕ) (days : Days) → IsItem text days → EndsInLetter text
 item_ends text days (inl one) = name_ends text days.first one.0
 item_ends text days (inr two) =
-    rw two.whole (behind_ends two.first (two.joint ++ two.last) (behind_ends two.joint two.last (name_ends two.last days.last two.last_name)))
+    rw two.whole (after_ends two.first (two.joint ++ two.last) (after_ends two.joint two.last (name_ends two.last days.last two.last_name)))
 
 joined_ends : (t : List ℕ) (ts : List (List ℕ)) (items : List Days) → AllZip IsItem (t ∷ ts) items → EndsInLetter (join_with_byte 44 (t ∷ ts))
 joined_ends t ts [] zip = absurd zip
 joined_ends t [] (d ∷ items) zip = item_ends t d zip.0
 joined_ends t (u ∷ ts) (d ∷ items) zip =
-    behind_ends t (44 ∷ join_with_byte 44 (u ∷ ts)) (behind_ends (44 ∷ []) (join_with_byte 44 (u ∷ ts)) (joined_ends u ts items zip.1))
+    after_ends t (44 ∷ join_with_byte 44 (u ∷ ts)) (after_ends (44 ∷ []) (join_with_byte 44 (u ∷ ts)) (joined_ends u ts items zip.1))
 
 last_at : (front : List ℕ) (b : ℕ) → get_or (front ++ (b ∷ [])) (length front) 0 ≡ b
 last_at [] b = refl

@@ -2,28 +2,28 @@
 use Rattle.std.proofs.Common.{ℕ, ◌≡◌, ◌⊎◌, inl, inr, List, Bool, length, Option, Some, Ok, sym, ap, ◌∙◌}
 use Rattle.std.specs.Option.{option_map}
 use Rattle.std.proofs.lemmas.Bool.{le-ltb}
-use Rattle.cal_spec.specs.DateAndTime.{DateFields, TimeFields, room_behind, date_of, time_of}
+use Rattle.cal_spec.specs.DateAndTime.{DateFields, TimeFields, room_after, date_of, time_of}
 use Rattle.cal_spec.specs.Fields.{Fields}
-use Rattle.cal_spec.specs.Grammar.{most_bytes, fields_at, fields_in}
+use Rattle.cal_spec.specs.Grammar.{most_text_bytes, fields_at, fields_in}
 use Rattle.cal_spec.specs.GrammarRule.{given, ArePlain, AreShort, IsExpression, IsValid}
 use Rattle.cal_spec.specs.Weekdays.{weekdays_in}
 use Rattle.cal_spec.specs.Words.{Places, words, places_of}
-use Rattle.cal_spec.specs.ZoneName.{zone_name, zone_in}
+use Rattle.cal_spec.specs.ZoneName.{zone_name, zone_name_in}
 use Rattle.cal_spec.proofs.DateRule.{is_date, is_time, AreFew, are_few, date_with, time_with, date_only, time_only}
 use Rattle.cal_spec.proofs.FieldLemmas.{fields_with, text_found, valid_fields}
 use Rattle.cal_spec.proofs.WeekdayRule.{weekdays_by_rule, weekdays_only}
 use Rattle.cal_spec.proofs.WordRule.{zone_read, zone_only, name_begins, time_colon, places_found, places_only}
 
-expression_with : (text : List ℕ) (p : Places) (weekdays : List Bool) (d : DateFields) (h : TimeFields) (kept : Option (List ℕ)) → places_of (words text) ≡ Some p → weekdays_in p.weekdays ≡ Ok weekdays → date_of p.date ≡ Ok d → time_of (room_behind d) p.time ≡ Ok h → zone_in p.rest ≡ Ok kept → IsExpression text (fields_with weekdays d h kept)
+expression_with : (text : List ℕ) (p : Places) (weekdays : List Bool) (d : DateFields) (h : TimeFields) (kept : Option (List ℕ)) → places_of (words text) ≡ Some p → weekdays_in p.weekdays ≡ Ok weekdays → date_of p.date ≡ Ok d → time_of (room_after d) p.time ≡ Ok h → zone_name_in p.rest ≡ Ok kept → IsExpression text (fields_with weekdays d h kept)
 expression_with text p weekdays d h kept placed week date time last =
     let read = zone_read p.rest kept last in
     record {
       places = p;
       name = read.name;
-      placed = places_found (words text) p read.name placed read.rest_is (time_colon (room_behind d) p.time h time);
+      placed = places_found (words text) p read.name placed read.rest_is (time_colon (room_after d) p.time h time);
       weekdays = weekdays_by_rule p.weekdays weekdays week;
       date = is_date p.date weekdays d h kept date;
-      time = is_time (room_behind d) p.time weekdays d h kept time;
+      time = is_time (room_after d) p.time weekdays d h kept time;
       name_is = read.good;
       zone_is = read.is;
     }
@@ -47,7 +47,7 @@ fields_only : (text : List ℕ) (f : Fields) (e : IsExpression text f) → AreFe
 unfolding fields_at
 fields_only text f e few =
     let p = e.places in
-    let last : zone_in p.rest ≡ Ok (option_map zone_name e.name) = ap zone_in (rest_of (words text) p e.name e.placed) ∙ zone_only e.name e.name_is in
+    let last : zone_name_in p.rest ≡ Ok (option_map zone_name e.name) = ap zone_name_in (rest_of (words text) p e.name e.placed) ∙ zone_only e.name e.name_is in
     rw (weekdays_only p.weekdays f.weekdays e.weekdays, date_only p.date f few e.date, time_only p.time f few e.time, last) (ap Ok (with_zone f (option_map zone_name e.name) e.zone_is))
 
 -- an expression by the rule is read
@@ -56,7 +56,7 @@ unfolding fields_in
 valid_only text f valid =
     let e = valid.expression in
     let placed = places_only (words text) e.places e.name (name_begins e.name e.name_is) e.placed in
-    rw (le-ltb most_bytes (length text) valid.short, placed) (fields_only text f e (are_few f valid.few))
+    rw (le-ltb most_text_bytes (length text) valid.short, placed) (fields_only text f e (are_few f valid.few))
 
 -- a text is at most one expression
 pub one_expression : (text : List ℕ) (f g : Fields) → IsValid text f → IsValid text g → f ≡ g

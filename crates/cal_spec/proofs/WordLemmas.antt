@@ -3,22 +3,22 @@ use Rattle.std.proofs.Common.{ℕ, ◌<◌, ◌≡◌, List, [], ◌∷◌, leng
 use Rattle.std.specs.List.{slice_split}
 use Rattle.std.specs.Option.{unwrap_or}
 use Rattle.std.proofs.lemmas.Bool.{lt-ltb, le-ltb}
-use Rattle.cal_spec.specs.Pieces.{pieces_behind}
+use Rattle.cal_spec.specs.Pieces.{pieces_after}
 use Rattle.cal_spec.specs.Words.{is_blank, words}
 
 -- the words of what is left of a text
-abbrev pub words_behind : Option (List ℕ) → List (List ℕ)
-words_behind None = []
-words_behind (Some text) = words text
+abbrev pub words_after : Option (List ℕ) → List (List ℕ)
+words_after None = []
+words_after (Some text) = words text
 
 -- a piece that isn't empty is a word
-pub word_here : (text piece : List ℕ) (rest : Option (List ℕ)) → slice_split is_blank text ≡ piece ∷ pieces_behind is_blank rest → 0 < length piece → words text ≡ piece ∷ words (unwrap_or rest [])
+pub word_here : (text piece : List ℕ) (rest : Option (List ℕ)) → slice_split is_blank text ≡ piece ∷ pieces_after is_blank rest → 0 < length piece → words text ≡ piece ∷ words (unwrap_or rest [])
 unfolding words
 word_here text piece None at some = rw (at, lt-ltb 0 (length piece) some) refl
-word_here text piece (Some behind) at some = rw (at, lt-ltb 0 (length piece) some) refl
+word_here text piece (Some after) at some = rw (at, lt-ltb 0 (length piece) some) refl
 
 -- an empty one is none
-pub word_skipped : (text piece : List ℕ) (rest : Option (List ℕ)) → slice_split is_blank text ≡ piece ∷ pieces_behind is_blank rest → length piece ≡ 0 → words_behind rest ≡ words text
+pub word_skipped : (text piece : List ℕ) (rest : Option (List ℕ)) → slice_split is_blank text ≡ piece ∷ pieces_after is_blank rest → length piece ≡ 0 → words_after rest ≡ words text
 unfolding words
 word_skipped text piece None at none = rw (at, le-ltb 0 (length piece) (omega arith)) refl
-word_skipped text piece (Some behind) at none = rw (at, le-ltb 0 (length piece) (omega arith)) refl
+word_skipped text piece (Some after) at none = rw (at, le-ltb 0 (length piece) (omega arith)) refl

@@ -18,7 +18,7 @@ blank_before c text [] blank are = and_from (is_blank c) (list_all is_blank text
 blank_before c text (w ∷ ws) blank are =
     (c ∷ are.0, are.1, ap (λ more. c ∷ more) are.2, and_from (is_blank c) (list_all is_blank are.0) blank are.3, are.4, are.5, are.6)
 
--- the first piece of a text, and the words behind it
+-- the first piece of a text, and the words after it
 record Spread (text part : List ℕ) (parts : List (List ℕ)) : Type 0 where
   rest : List ℕ
   whole : text ≡ part ++ rest

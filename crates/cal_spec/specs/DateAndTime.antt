@@ -73,9 +73,9 @@ date_fields t =
     >>= λ month. component_of (day_slot t.from_end) (most_counted - counted Year year - counted Month month) t.day
     >>= λ day. Ok (record { year = year; month = month; day = day; from_end = t.from_end })
 
--- how many counted parts may stand behind the date
-abbrev pub room_behind : DateFields → ℕ
-room_behind d =
+-- how many counted parts may stand after the date
+abbrev pub room_after : DateFields → ℕ
+room_after d =
     most_counted - counted Year d.year - counted Month d.month - counted (day_slot d.from_end) d.day
 
 -- the components of a time from the left, where so many counted parts may stand

@@ -5,12 +5,12 @@ use Rattle.std.specs.List.{slice_split}
 use Rattle.std.specs.Result.{result_err}
 use Rattle.cal_spec.specs.Components.{most_counted, is_comma, is_star}
 use Rattle.cal_spec.specs.DateAndTime.{DateTexts, TimeTexts, date_texts, time_texts}
-use Rattle.cal_spec.specs.Grammar.{most_bytes}
+use Rattle.cal_spec.specs.Grammar.{most_text_bytes}
 use Rattle.cal_spec.specs.Parts.{is_time, part_of, with_values, fault_of}
 use Rattle.cal_spec.specs.Slot.{day_slot}
 use Rattle.cal_spec.specs.Weekdays.{weekdays_in}
 use Rattle.cal_spec.specs.Words.{Places, words, places_of}
-use Rattle.cal_spec.specs.ZoneName.{zone_in}
+use Rattle.cal_spec.specs.ZoneName.{zone_name_in}
 use Rattle.cal_spec.specs.declared.part.Part.{Part}
 use Rattle.cal_spec.specs.declared.slot.Slot.{Slot}
 use Rattle.cal_spec.specs.declared.slot.Slot.TheVariants.{Year, Month, Hour, Minute, Second}
@@ -76,8 +76,8 @@ faults_at (Some p) =
     result_err (weekdays_in p.weekdays)
     ∷ (date_faults (date_texts p.date)
     ++ (time_faults (numbered_in (date_texts p.date)) (time_texts p.time)
-    ++ (result_err (zone_in p.rest) ∷ [])))
+    ++ (result_err (zone_name_in p.rest) ∷ [])))
 
 -- all judgements of a text
 unfoldable pub faults_in : List ℕ → List (Option SpecFault)
-faults_in text = (if nat_lt most_bytes (length text) then Some TextTooLong else None) ∷ faults_at (places_of (words text))
+faults_in text = (if nat_lt most_text_bytes (length text) then Some TextTooLong else None) ∷ faults_at (places_of (words text))

@@ -1,26 +1,26 @@
 -- The fields of a calendar expression, or the fault of a text that is none: systemd.time(7), Calendar Events. The words
 -- are judged from the left.
 use Rattle.std.specs.Prelude.{ℕ, nat_lt, if◌then◌else◌, List, length, Option, None, Some, Result, Ok, Err}
-use Rattle.cal_spec.specs.DateAndTime.{date_of, time_of, room_behind}
+use Rattle.cal_spec.specs.DateAndTime.{date_of, time_of, room_after}
 use Rattle.cal_spec.specs.Fields.{Fields}
 use Rattle.cal_spec.specs.Reads.{◌>>=◌}
 use Rattle.cal_spec.specs.Weekdays.{weekdays_in}
 use Rattle.cal_spec.specs.Words.{Places, words, places_of}
-use Rattle.cal_spec.specs.ZoneName.{zone_in}
+use Rattle.cal_spec.specs.ZoneName.{zone_name_in}
 use Rattle.cal_spec.specs.declared.spec_fault.SpecFault.{SpecFault}
 use Rattle.cal_spec.specs.declared.spec_fault.SpecFault.TheVariants.{Empty, TextTooLong}
 
 -- the most bytes that a text may have
-abbrev pub most_bytes : ℕ
-most_bytes = 4096
+abbrev pub most_text_bytes : ℕ
+most_text_bytes = 4096
 
 -- the fields of the texts at their places
 unfoldable pub fields_at : Places → Result Fields SpecFault
 fields_at p =
     weekdays_in p.weekdays
     >>= λ weekdays. date_of p.date
-    >>= λ date. time_of (room_behind date) p.time
-    >>= λ time. zone_in p.rest
+    >>= λ date. time_of (room_after date) p.time
+    >>= λ time. zone_name_in p.rest
     >>= λ name. Ok (record {
       weekdays = weekdays;
       year = date.year;
@@ -40,4 +40,4 @@ fields_due (Some p) = fields_at p
 
 -- the fields of a text, or its fault
 unfoldable pub fields_in : List ℕ → Result Fields SpecFault
-fields_in text = if nat_lt most_bytes (length text) then Err TextTooLong else fields_due (places_of (words text))
+fields_in text = if nat_lt most_text_bytes (length text) then Err TextTooLong else fields_due (places_of (words text))

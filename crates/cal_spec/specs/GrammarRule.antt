@@ -31,7 +31,7 @@ pub record IsNumber (text : List ℕ) (n : ℕ) : Type 0 where
   pub value : digits_value 10 text ≡ n
   pub small : n ≤ most
 
--- nothing, or a number behind a mark
+-- nothing, or a number after a mark
 abbrev pub IsNext : List ℕ → List ℕ → Option ℕ → Type 0
 IsNext mark text None = text ≡ []
 IsNext mark text (Some n) = (number : List ℕ) × (text ≡ mark ++ number) × IsNumber number n

@@ -8,7 +8,7 @@ abbrev pub Has : {A : Type 0} → List A → A → Type 0
 Has [] x = ⊥
 Has (y ∷ ys) x = (y ≡ x) ⊎ Has ys x
 
--- x before y, in the place of y, or behind y, where `more` is what follows y once x is placed there
+-- x before y, in the place of y, or after y, where `more` is what follows y once x is placed there
 abbrev pub placed_by : {A : Type 0} → Ordering → A → A → List A → List A → List A
 placed_by Less x y ys more = x ∷ y ∷ ys
 placed_by Equal x y ys more = y ∷ ys

@@ -81,48 +81,48 @@ starts_with_point ss = false
 abbrev pub most : ℕ
 most = 9999
 
--- a number with the signs behind it
+-- a number with the signs after it
 pub record Counted : Type 0 where
   pub number : ℕ
-  pub behind : List Sign
+  pub after : List Sign
 
--- a number is judged at its last digit, and in the seconds the point of a fraction behind it
-abbrev pub behind_number : Slot → ℕ → List Sign → Result Counted SpecFault
-behind_number slot n ss =
+-- a number is judged at its last digit, and in the seconds the point of a fraction after it
+abbrev pub after_number : Slot → ℕ → List Sign → Result Counted SpecFault
+after_number slot n ss =
     if nat_lt most n then Err NumberTooLarge
     else (if is_second slot && starts_with_point ss then Err FractionalSecond
-    else Ok (record { number = n; behind = ss }))
+    else Ok (record { number = n; after = ss }))
 
 -- where a number is due
 abbrev pub number_due : Slot → List Sign → Result Counted SpecFault
-number_due slot (digits ds ∷ ss) = behind_number slot (digits_value 10 ds) ss
+number_due slot (digits ds ∷ ss) = after_number slot (digits_value 10 ds) ss
 number_due slot ss = Err (bad slot)
 
 abbrev pub part_at_end : Slot → Part → List Sign → Result Part SpecFault
 part_at_end slot p [] = Ok p
 part_at_end slot p ss = Err (bad slot)
 
--- behind a slash
+-- after a slash
 unfoldable pub with_step : Slot → ℕ → Option ℕ → List Sign → Result Part SpecFault
 with_step slot a last ss =
-    number_due slot ss >>= λ r. part_at_end slot (record { start = a; end = last; step = Some r.number }) r.behind
+    number_due slot ss >>= λ r. part_at_end slot (record { start = a; end = last; step = Some r.number }) r.after
 
--- behind the end of a range
-unfoldable pub behind_end : Slot → ℕ → ℕ → List Sign → Result Part SpecFault
-behind_end slot a b [] = Ok (record { start = a; end = Some b; step = None })
-behind_end slot a b (slash ∷ ss) = with_step slot a (Some b) ss
-behind_end slot a b ss = Err (bad slot)
+-- after the end of a range
+unfoldable pub after_end : Slot → ℕ → ℕ → List Sign → Result Part SpecFault
+after_end slot a b [] = Ok (record { start = a; end = Some b; step = None })
+after_end slot a b (slash ∷ ss) = with_step slot a (Some b) ss
+after_end slot a b ss = Err (bad slot)
 
--- behind the first number
-unfoldable pub behind_start : Slot → ℕ → List Sign → Result Part SpecFault
-behind_start slot a [] = Ok (record { start = a; end = None; step = None })
-behind_start slot a (dots ∷ ss) = number_due slot ss >>= λ b. behind_end slot a b.number b.behind
-behind_start slot a (slash ∷ ss) = with_step slot a None ss
-behind_start slot a ss = Err (bad slot)
+-- after the first number
+unfoldable pub after_start : Slot → ℕ → List Sign → Result Part SpecFault
+after_start slot a [] = Ok (record { start = a; end = None; step = None })
+after_start slot a (dots ∷ ss) = number_due slot ss >>= λ b. after_end slot a b.number b.after
+after_start slot a (slash ∷ ss) = with_step slot a None ss
+after_start slot a ss = Err (bad slot)
 
 -- the part that the text writes, or the fault of its shape
 unfoldable pub part_of : Slot → List ℕ → Result Part SpecFault
-part_of slot text = number_due slot (signs text) >>= λ a. behind_start slot a.number a.behind
+part_of slot text = number_due slot (signs text) >>= λ a. after_start slot a.number a.after
 
 -- Values
 

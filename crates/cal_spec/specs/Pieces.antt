@@ -2,10 +2,10 @@
 use Rattle.std.specs.Prelude.{ℕ, ◌+◌, Bool, List, [], length, Option, None, Some}
 use Rattle.std.specs.List.{slice_split}
 
--- the pieces that stand behind the first separator, where there is one
-abbrev pub pieces_behind : (ℕ → Bool) → Option (List ℕ) → List (List ℕ)
-pieces_behind p None = []
-pieces_behind p (Some text) = slice_split p text
+-- the pieces that stand after the first separator, where there is one
+abbrev pub pieces_after : (ℕ → Bool) → Option (List ℕ) → List (List ℕ)
+pieces_after p None = []
+pieces_after p (Some text) = slice_split p text
 
 -- how much is left to read
 abbrev pub left : Option (List ℕ) → ℕ

@@ -44,13 +44,13 @@ abbrev pub day_name : ℕ → List ℕ
 day_name day = short_name_of (slice_index_or week day Monday)
 
 -- what follows the first day of a run: nothing, `,` and the second of two days, `..` and the last of more
-abbrev pub behind_first : ℕ → ℕ → List ℕ
-behind_first first last =
+abbrev pub text_after_first : ℕ → ℕ → List ℕ
+text_after_first first last =
     if first == last then [] else joined ((if first + 1 == last then codes "," else codes "..") ∷ day_name last ∷ [])
 
 -- a run, with what leads up to it in front
 unfoldable pub run_text : List ℕ → Run → List ℕ
-run_text lead r = joined (lead ∷ day_name r.first ∷ behind_first r.first r.last ∷ [])
+run_text lead r = joined (lead ∷ day_name r.first ∷ text_after_first r.first r.last ∷ [])
 
 unfoldable pub runs_text : List Run → List ℕ
 runs_text = join_by (run_text []) (codes ",")

@@ -28,36 +28,36 @@ is_covered day days = nat_le (days_until days.first day) (days_until days.first 
 abbrev pub is_no_letter : ℕ → Bool
 is_no_letter b = not (is_ascii_alphabetic b)
 
--- the letters at the front, and what stands behind them
+-- the letters at the front, and what stands after them
 abbrev pub leading_letters : List ℕ → List ℕ
 leading_letters word = take (position_or_len is_no_letter word) word
 
-abbrev pub behind_letters : List ℕ → List ℕ
-behind_letters word = drop (position_or_len is_no_letter word) word
+abbrev pub after_letters : List ℕ → List ℕ
+after_letters word = drop (position_or_len is_no_letter word) word
 
--- what stands behind `-` or `..`
-abbrev pub behind_joint : List ℕ → Option (List ℕ)
-behind_joint [] = None
-behind_joint (b ∷ []) = if b == 45 then Some [] else None
-behind_joint (b ∷ c ∷ bs) =
+-- what stands after `-` or `..`
+abbrev pub after_joint : List ℕ → Option (List ℕ)
+after_joint [] = None
+after_joint (b ∷ []) = if b == 45 then Some [] else None
+after_joint (b ∷ c ∷ bs) =
     if b == 45 then Some (c ∷ bs) else (if (b == 46) && (c == 46) then Some bs else None)
 
--- the days from the first one to the one that stands behind a joint
+-- the days from the first one to the one that stands after a joint
 abbrev pub days_to : Weekday → Option (List ℕ) → Option Days
 days_to first None = None
 days_to first (Some name) = option_map (λ last. record { first = first; last = last }) (day_named name)
 
 abbrev pub days_from : Weekday → List ℕ → Option Days
 days_from first [] = Some (record { first = first; last = first })
-days_from first (b ∷ bs) = days_to first (behind_joint (b ∷ bs))
+days_from first (b ∷ bs) = days_to first (after_joint (b ∷ bs))
 
 abbrev pub days_by : Option Weekday → List ℕ → Option Days
-days_by None behind = None
-days_by (Some first) behind = days_from first behind
+days_by None after = None
+days_by (Some first) after = days_from first after
 
 -- an item: a name, or two names joined by `..` or `-`
 unfoldable pub days_of : List ℕ → Option Days
-days_of item = days_by (day_named (leading_letters item)) (behind_letters item)
+days_of item = days_by (day_named (leading_letters item)) (after_letters item)
 
 abbrev pub items_of : List (List ℕ) → Result (List Days) SpecFault
 items_of [] = Ok []

@@ -13,7 +13,7 @@ is_blank b = (b == 32) || (b == 9)
 unfoldable pub words : List ℕ → List (List ℕ)
 words text = filter (λ word. nat_lt 0 (length word)) (slice_split is_blank text)
 
--- the texts of the weekdays, of the date and of the time, and the words behind these; a missing date is the text
+-- the texts of the weekdays, of the date and of the time, and the words after these; a missing date is the text
 -- `*-*-*`, and a missing time `00:00:00`
 pub record Places : Type 0 where
   pub weekdays : Option (List ℕ)
@@ -21,25 +21,25 @@ pub record Places : Type 0 where
   pub time : List ℕ
   pub rest : List (List ℕ)
 
--- behind a date, a word that begins with a letter is a zone; any other is the time
-abbrev pub behind_date : Option (List ℕ) → List ℕ → List (List ℕ) → Places
-behind_date weekdays date [] = record { weekdays = weekdays; date = date; time = midnight; rest = [] }
-behind_date weekdays date (w ∷ ws) =
+-- after a date, a word that begins with a letter is a zone; any other is the time
+abbrev pub after_date : Option (List ℕ) → List ℕ → List (List ℕ) → Places
+after_date weekdays date [] = record { weekdays = weekdays; date = date; time = midnight; rest = [] }
+after_date weekdays date (w ∷ ws) =
     if begins_with_letter w then record { weekdays = weekdays; date = date; time = midnight; rest = w ∷ ws }
     else record { weekdays = weekdays; date = date; time = w; rest = ws }
 
--- behind the weekdays, a word that begins with a letter is a zone; another one with a colon is the time; any other is
+-- after the weekdays, a word that begins with a letter is a zone; another one with a colon is the time; any other is
 -- the date
-abbrev pub behind_weekdays : Option (List ℕ) → List (List ℕ) → Places
-behind_weekdays weekdays [] = record { weekdays = weekdays; date = any_date; time = midnight; rest = [] }
-behind_weekdays weekdays (w ∷ ws) =
+abbrev pub after_weekdays : Option (List ℕ) → List (List ℕ) → Places
+after_weekdays weekdays [] = record { weekdays = weekdays; date = any_date; time = midnight; rest = [] }
+after_weekdays weekdays (w ∷ ws) =
     if begins_with_letter w then record { weekdays = weekdays; date = any_date; time = midnight; rest = w ∷ ws }
     else (if list_any is_colon w then record { weekdays = weekdays; date = any_date; time = w; rest = ws }
-    else behind_date weekdays w ws)
+    else after_date weekdays w ws)
 
 -- a first word that begins with a letter is the weekday list
 abbrev pub places_in : List ℕ → List (List ℕ) → Places
-places_in w ws = if begins_with_letter w then behind_weekdays (Some w) ws else behind_weekdays None (w ∷ ws)
+places_in w ws = if begins_with_letter w then after_weekdays (Some w) ws else after_weekdays None (w ∷ ws)
 
 -- a shorthand stands for the texts of its meaning
 abbrev pub places_by : Option Shorthand → List ℕ → List (List ℕ) → Places

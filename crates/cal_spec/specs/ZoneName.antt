@@ -14,8 +14,8 @@ abbrev pub IsZoneOption : Option (List ℕ) → Type 0
 IsZoneOption None = Unit {0}
 IsZoneOption (Some name) = (is_zone_name name ≡ true) × (zone_name name ≡ name)
 
--- the words behind the time: none, or the name of a zone
-abbrev pub zone_in : List (List ℕ) → Result (Option (List ℕ)) SpecFault
-zone_in [] = Ok None
-zone_in (word ∷ []) = if is_zone_name word then Ok (Some (zone_name word)) else Err StrayWord
-zone_in words = Err StrayWord
+-- the words after the time: none, or the name of a zone
+abbrev pub zone_name_in : List (List ℕ) → Result (Option (List ℕ)) SpecFault
+zone_name_in [] = Ok None
+zone_name_in (word ∷ []) = if is_zone_name word then Ok (Some (zone_name word)) else Err StrayWord
+zone_name_in words = Err StrayWord

@@ -67,11 +67,11 @@ fn read_parts(alloc: Global, slot: Slot, room: usize, text: &[u8]) -> Result<Vec
     let mut room = room;
     let mut rest = Some(text);
     while let Some(texts) = rest {
-        let (first, behind) = first_piece(texts, b',');
+        let (first, after) = first_piece(texts, b',');
         let part = part_due(slot, room, first)?;
         parts.push(part)?;
         room = room.saturating_sub(1);
-        rest = behind;
+        rest = after;
     }
     Ok(parts)
 }

@@ -4,7 +4,7 @@ ghost use Rattle.std.specs.Prelude.{◌≡◌, ◌≤◌, ◌∷◌, [], MatchOp
 ghost use Rattle.std.specs.List.{position, slice_split};
 ghost use Rattle.std.specs.Option.{option_map};
 ghost use Rattle.cal_spec.specs.Components.{most_counted};
-ghost use Rattle.cal_spec.specs.DateAndTime.{is_date_sign, date_texts, time_texts, date_of, time_of, date_fields, time_fields, room_behind};
+ghost use Rattle.cal_spec.specs.DateAndTime.{is_date_sign, date_texts, time_texts, date_of, time_of, date_fields, time_fields, room_after};
 ghost use Rattle.cal_spec.specs.DateAndTimeViews.{date_in, time_in, date_texts_in, time_texts_in};
 ghost use Rattle.cal_spec.specs.Reads.{GivesUnlessNoMemory};
 ghost use Rattle.cal_spec.specs.Slot.{day_slot};
@@ -45,9 +45,9 @@ pub(crate) fn read_time(alloc: Global, room: usize, word: &[u8]) -> Result<RawTi
     }
 }
 
-/// How many counted parts may stand behind the date.
-pub(crate) fn room_behind(date: &RawDate) -> usize
-    ensures value { result ≡ room_behind (date_in date.now) }
+/// How many counted parts may stand after the date.
+pub(crate) fn room_after(date: &RawDate) -> usize
+    ensures value { result ≡ room_after (date_in date.now) }
     ensures bound { result ≤ most_counted }
 {
     MOST_COUNTED
@@ -78,12 +78,12 @@ struct TimeWords<'a> {
 fn date_words(word: &[u8]) -> Option<DateWords<'_>>
     ensures { option_map date_texts_in result ≡ date_texts word.now }
 {
-    let (first, sign, behind) = cut_at_sign(word)?;
-    let Some((second, last_sign, third)) = cut_at_sign(behind) else {
+    let (first, sign, after) = cut_at_sign(word)?;
+    let Some((second, last_sign, third)) = cut_at_sign(after) else {
         return Some(DateWords {
             year: b"*",
             month: first,
-            day: behind,
+            day: after,
             from_end: sign == b'~',
         });
     };
@@ -98,7 +98,7 @@ fn date_words(word: &[u8]) -> Option<DateWords<'_>>
     })
 }
 
-/// What stands before the first `-` or `~`, that sign, and what stands behind it.
+/// What stands before the first `-` or `~`, that sign, and what stands after it.
 fn cut_at_sign(word: &[u8]) -> Option<(&[u8], u8, &[u8])>
     ensures { MatchOption result
         ((slice_split is_date_sign word.now ≡ word.now ∷ []) × (filter is_date_sign word.now ≡ []))
@@ -121,17 +121,17 @@ fn sign_place(word: &[u8]) -> Option<usize>
 fn time_words(word: &[u8]) -> Option<TimeWords<'_>>
     ensures { option_map time_texts_in result ≡ time_texts word.now }
 {
-    let (hour, behind) = first_piece(word, b':');
-    let (minute, behind) = first_piece(behind?, b':');
-    let Some(behind) = behind else {
+    let (hour, after) = first_piece(word, b':');
+    let (minute, after) = first_piece(after?, b':');
+    let Some(after) = after else {
         return Some(TimeWords {
             hour,
             minute,
             second: b"00",
         });
     };
-    let (second, behind) = first_piece(behind, b':');
-    match behind {
+    let (second, after) = first_piece(after, b':');
+    match after {
         Some(_) => None,
         None => Some(TimeWords {
             hour,

@@ -21,21 +21,21 @@ pub(crate) enum Symbol<'a> {
     Other(u8),
 }
 
-/// The first symbol of the text and what stands behind it.
+/// The first symbol of the text and what stands after it.
 pub(crate) fn first_symbol(text: &[u8]) -> Option<(Symbol<'_>, &[u8])>
     ensures { MatchOption result (text.now ≡ [])
         (λ found. signs text.now ≡ sign_of found.0 ∷ signs found.1.now) }
 {
     match text {
         [] => None,
-        [b'.', b'.', behind @ ..] => Some((Symbol::Dots, behind)),
-        [b'.', behind @ ..] => Some((Symbol::Point, behind)),
-        [b'/', behind @ ..] => Some((Symbol::Slash, behind)),
+        [b'.', b'.', after @ ..] => Some((Symbol::Dots, after)),
+        [b'.', after @ ..] => Some((Symbol::Point, after)),
+        [b'/', after @ ..] => Some((Symbol::Slash, after)),
         [b'0'..=b'9', ..] => {
-            let (digits, behind) = text.split_at(digits_len(text));
-            Some((Symbol::Digits(digits), behind))
+            let (digits, after) = text.split_at(digits_len(text));
+            Some((Symbol::Digits(digits), after))
         }
-        [other, behind @ ..] => Some((Symbol::Other(*other), behind)),
+        [other, after @ ..] => Some((Symbol::Other(*other), after)),
     }
 }
 

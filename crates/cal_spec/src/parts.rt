@@ -2,7 +2,7 @@
 
 ghost use Rattle.std.specs.Prelude.{◌≡◌};
 ghost use Rattle.std.specs.Option.{option_map};
-ghost use Rattle.cal_spec.specs.Parts.{signs, starts_with_point, bad, is_time, number_due, with_step, behind_end, behind_start, part_of, with_century, with_values, is_within, is_outside, is_backward, is_zero, is_idle, fault_of};
+ghost use Rattle.cal_spec.specs.Parts.{signs, starts_with_point, bad, is_time, number_due, with_step, after_end, after_start, part_of, with_century, with_values, is_within, is_outside, is_backward, is_zero, is_idle, fault_of};
 ghost use Rattle.cal_spec.specs.Reads.{Gives};
 
 use crate::numbers::{Symbol, first_symbol, value_of};
@@ -18,8 +18,8 @@ const MOST: u16 = 9999;
 pub(crate) fn read_part(slot: Slot, text: &[u8]) -> Result<Part, SpecFault>
     ensures { Gives (λ part. part) result (part_of slot text.now) }
 {
-    let (start, behind) = read_number(slot, text)?;
-    behind_start(slot, start, behind)
+    let (start, after) = read_number(slot, text)?;
+    after_start(slot, start, after)
 }
 
 /// The part with the numbers that are meant: a year below 100 gets its century.
@@ -72,22 +72,22 @@ fn bad_shape(slot: Slot) -> SpecFault
     }
 }
 
-/// The number that is due here, and what stands behind it.
+/// The number that is due here, and what stands after it.
 fn read_number(slot: Slot, text: &[u8]) -> Result<(u16, &[u8]), SpecFault>
-    ensures { Gives (λ found. record { number = found.0; behind = signs found.1.now }) result
+    ensures { Gives (λ found. record { number = found.0; after = signs found.1.now }) result
         (number_due slot (signs text.now)) }
 {
-    let Some((Symbol::Digits(digits), behind)) = first_symbol(text) else {
+    let Some((Symbol::Digits(digits), after)) = first_symbol(text) else {
         return Err(bad_shape(slot));
     };
     let number = value_of(digits);
     if number > MOST {
         return Err(SpecFault::NumberTooLarge);
     }
-    if slot == Slot::Second && begins_with_point(behind) {
+    if slot == Slot::Second && begins_with_point(after) {
         return Err(SpecFault::FractionalSecond);
     }
-    Ok((number, behind))
+    Ok((number, after))
 }
 
 /// Whether the text begins with a point that is followed by none.
@@ -97,10 +97,10 @@ fn begins_with_point(text: &[u8]) -> bool
     matches!(first_symbol(text), Some((Symbol::Point, _)))
 }
 
-/// What stands behind the first number.
-#[tactic(auto, unfolding(crate::specs::Parts::behind_start))]
-fn behind_start(slot: Slot, start: u16, text: &[u8]) -> Result<Part, SpecFault>
-    ensures { Gives (λ part. part) result (behind_start slot start (signs text.now)) }
+/// What stands after the first number.
+#[tactic(auto, unfolding(crate::specs::Parts::after_start))]
+fn after_start(slot: Slot, start: u16, text: &[u8]) -> Result<Part, SpecFault>
+    ensures { Gives (λ part. part) result (after_start slot start (signs text.now)) }
 {
     match first_symbol(text) {
         None => Ok(Part {
@@ -108,19 +108,19 @@ fn behind_start(slot: Slot, start: u16, text: &[u8]) -> Result<Part, SpecFault>
             end: None,
             step: None,
         }),
-        Some((Symbol::Dots, behind)) => {
-            let (end, behind) = read_number(slot, behind)?;
-            behind_end(slot, start, end, behind)
+        Some((Symbol::Dots, after)) => {
+            let (end, after) = read_number(slot, after)?;
+            after_end(slot, start, end, after)
         }
-        Some((Symbol::Slash, behind)) => with_step(slot, start, None, behind),
+        Some((Symbol::Slash, after)) => with_step(slot, start, None, after),
         Some(_) => Err(bad_shape(slot)),
     }
 }
 
-/// What stands behind the end of a range.
-#[tactic(auto, unfolding(crate::specs::Parts::behind_end))]
-fn behind_end(slot: Slot, start: u16, end: u16, text: &[u8]) -> Result<Part, SpecFault>
-    ensures { Gives (λ part. part) result (behind_end slot start end (signs text.now)) }
+/// What stands after the end of a range.
+#[tactic(auto, unfolding(crate::specs::Parts::after_end))]
+fn after_end(slot: Slot, start: u16, end: u16, text: &[u8]) -> Result<Part, SpecFault>
+    ensures { Gives (λ part. part) result (after_end slot start end (signs text.now)) }
 {
     match first_symbol(text) {
         None => Ok(Part {
@@ -128,18 +128,18 @@ fn behind_end(slot: Slot, start: u16, end: u16, text: &[u8]) -> Result<Part, Spe
             end: Some(end),
             step: None,
         }),
-        Some((Symbol::Slash, behind)) => with_step(slot, start, Some(end), behind),
+        Some((Symbol::Slash, after)) => with_step(slot, start, Some(end), after),
         Some(_) => Err(bad_shape(slot)),
     }
 }
 
-/// What stands behind a slash: the step, and nothing else.
+/// What stands after a slash: the step, and nothing else.
 #[tactic(auto, unfolding(crate::specs::Parts::with_step))]
 fn with_step(slot: Slot, start: u16, end: Option<u16>, text: &[u8]) -> Result<Part, SpecFault>
     ensures { Gives (λ part. part) result (with_step slot start end (signs text.now)) }
 {
-    let (step, behind) = read_number(slot, text)?;
-    if first_symbol(behind).is_some() {
+    let (step, after) = read_number(slot, text)?;
+    if first_symbol(after).is_some() {
         return Err(bad_shape(slot));
     }
     Ok(Part {

@@ -3,7 +3,7 @@
 ghost use Rattle.std.specs.Prelude.{◌≡◌, ◌≤◌, ◌<◌, ◌==◌, ◌∷◌, ℕ, Bool, IfSome, length};
 ghost use Rattle.std.specs.List.{position, slice_split};
 ghost use Rattle.std.specs.Option.{option_copied};
-ghost use Rattle.cal_spec.specs.Pieces.{left, pieces_behind};
+ghost use Rattle.cal_spec.specs.Pieces.{left, pieces_after};
 
 /// The place of the first byte that is this one.
 pub(crate) fn place_of(text: &[u8], separator: u8) -> Option<usize>
@@ -12,11 +12,11 @@ pub(crate) fn place_of(text: &[u8], separator: u8) -> Option<usize>
     text.iter().position(|byte| *byte == separator)
 }
 
-/// What stands before the first separator, and what stands behind it, where there is one.
+/// What stands before the first separator, and what stands after it, where there is one.
 pub(crate) fn cut_at(text: &[u8], place: Option<usize>) -> (&[u8], Option<&[u8]>)
     requires { IfSome place (λ index. index < length text.now) }
     ensures pieces { (p : ℕ → Bool) → place ≡ position p text.now
-        → slice_split p text.now ≡ result.0.now ∷ pieces_behind p (option_copied result.1) }
+        → slice_split p text.now ≡ result.0.now ∷ pieces_after p (option_copied result.1) }
     ensures shorter { left (option_copied result.1) ≤ length text.now }
 {
     match place {
@@ -25,10 +25,10 @@ pub(crate) fn cut_at(text: &[u8], place: Option<usize>) -> (&[u8], Option<&[u8]>
     }
 }
 
-/// The text before the first separator of this kind, and what stands behind it.
+/// The text before the first separator of this kind, and what stands after it.
 pub fn first_piece(text: &[u8], separator: u8) -> (&[u8], Option<&[u8]>)
     ensures pieces { slice_split (λ byte. byte == separator) text.now
-        ≡ result.0.now ∷ pieces_behind (λ byte. byte == separator) (option_copied result.1) }
+        ≡ result.0.now ∷ pieces_after (λ byte. byte == separator) (option_copied result.1) }
     ensures shorter { left (option_copied result.1) ≤ length text.now }
 {
     cut_at(text, place_of(text, separator))

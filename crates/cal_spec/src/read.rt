@@ -10,7 +10,7 @@ ghost use Rattle.cal_spec.specs.Reads.{GivesUnlessNoMemory};
 ghost use Rattle.cal_spec.specs.ValidFields.{IsValidFields};
 ghost use Rattle.cal_spec.specs.Weekdays.{weekdays_in};
 
-use crate::date_and_time::{read_date, read_time, room_behind};
+use crate::date_and_time::{read_date, read_time, room_after};
 use crate::raw::Raw;
 use crate::weekdays::read_weekdays;
 use crate::words::{Places, find_places};
@@ -19,7 +19,7 @@ use crate::{Expr, SpecFault};
 use std::alloc::Global;
 
 /// The most bytes that a text may have.
-const MOST_BYTES: usize = 4096;
+const MOST_TEXT_BYTES: usize = 4096;
 
 /// Reads a calendar expression, `[weekdays] [date] [time] [zone]` or `shorthand [zone]` (systemd.time(7), Calendar
 /// Events), and gives it in its normal form.
@@ -45,7 +45,7 @@ fn read_fields(alloc: Global, text: &str) -> Result<Raw, SpecFault>
     ensures fields { GivesUnlessNoMemory fields_of result (fields_in text.now) }
     ensures valid { IfOk result (λ raw. IsValidFields (fields_of raw)) }
 {
-    if text.len() > MOST_BYTES {
+    if text.len() > MOST_TEXT_BYTES {
         return Err(SpecFault::TextTooLong);
     }
     match find_places(text.as_bytes()) {
@@ -61,7 +61,7 @@ fn read_places(alloc: Global, places: Places<'_>) -> Result<Raw, SpecFault>
 {
     let weekdays = chosen_weekdays(alloc, places.weekdays)?;
     let date = read_date(alloc, places.date)?;
-    let time = read_time(alloc, room_behind(&date), places.time)?;
+    let time = read_time(alloc, room_after(&date), places.time)?;
     let zone = read_zone(alloc, places.rest)?;
     Ok(Raw {
         weekdays,

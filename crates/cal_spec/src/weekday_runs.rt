@@ -8,7 +8,7 @@ ghost use Rattle.cal_spec.specs.WeekdayRuns.{day_name, run_text, runs_from, runs
 use cal_bytes::{Sink, WriteFault, put_all, put_pieces};
 use cal_zone::{WEEK, short_weekday_name};
 
-/// Writes the chosen weekdays with a space behind them, or nothing where all seven are chosen.
+/// Writes the chosen weekdays with a space after them, or nothing where all seven are chosen.
 pub fn put_weekdays<W: Sink>(out: &mut W, days: &[bool; 7]) -> Result<(), WriteFault>
     requires { W.is_failed out.old ≡ false }
     ensures failed { W.is_failed out.new ≡ is_err result }

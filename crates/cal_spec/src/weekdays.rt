@@ -7,7 +7,7 @@ ghost use Rattle.std.specs.Str.{str_eq_ignore_ascii_case};
 ghost use Rattle.cal_zone.specs.Weekday.{name_of, short_name_of};
 ghost use Rattle.cal_spec.specs.Components.{is_comma};
 ghost use Rattle.cal_spec.specs.Reads.{Gives, GivesUnlessNoMemory};
-ghost use Rattle.cal_spec.specs.Weekdays.{behind_joint, day_named, days_of, is_covered, is_like_shorthand, is_no_letter, items_of, set_of, weekdays_of, without_comma};
+ghost use Rattle.cal_spec.specs.Weekdays.{after_joint, day_named, days_of, is_covered, is_like_shorthand, is_no_letter, items_of, set_of, weekdays_of, without_comma};
 
 use crate::SpecFault;
 use crate::pieces::first_piece;
@@ -50,10 +50,10 @@ fn read_items(alloc: Global, list: &[u8]) -> Result<Vec<Days>, SpecFault>
     let mut items = Vec::new(alloc);
     let mut rest = Some(list);
     while let Some(texts) = rest {
-        let (first, behind) = first_piece(texts, b',');
+        let (first, after) = first_piece(texts, b',');
         let days = read_days(first).ok_or(SpecFault::BadWeekday)?;
         items.push(days)?;
-        rest = behind;
+        rest = after;
     }
     Ok(items)
 }
@@ -63,18 +63,18 @@ fn read_items(alloc: Global, list: &[u8]) -> Result<Vec<Days>, SpecFault>
 fn read_days(item: &[u8]) -> Option<Days>
     ensures { result ≡ days_of item.now }
 {
-    let (letters, behind) = item.split_at(letters_len(item));
+    let (letters, after) = item.split_at(letters_len(item));
     let first = find_day(letters)?;
-    if behind.is_empty() {
+    if after.is_empty() {
         return Some(Days { first, last: first });
     }
-    let last = find_day(behind_joint(behind)?)?;
+    let last = find_day(after_joint(after)?)?;
     Some(Days { first, last })
 }
 
-/// What stands behind `..` or `-`.
-fn behind_joint(text: &[u8]) -> Option<&[u8]>
-    ensures { option_copied result ≡ behind_joint text.now }
+/// What stands after `..` or `-`.
+fn after_joint(text: &[u8]) -> Option<&[u8]>
+    ensures { option_copied result ≡ after_joint text.now }
 {
     match text {
         [b'-', name @ ..] | [b'.', b'.', name @ ..] => Some(name),
@@ -108,14 +108,14 @@ fn letters_len(word: &[u8]) -> usize
     ensures value { result ≡ position_or_len is_no_letter word.now }
     ensures within { result ≤ length word.now }
 {
-    match place_behind_letters(word) {
+    match place_after_letters(word) {
         Some(index) => index,
         None => word.len(),
     }
 }
 
 /// The place of the first byte that is no letter.
-fn place_behind_letters(word: &[u8]) -> Option<usize>
+fn place_after_letters(word: &[u8]) -> Option<usize>
     ensures { result ≡ position is_no_letter word.now }
 {
     word.iter().position(|byte| !byte.is_ascii_alphabetic())

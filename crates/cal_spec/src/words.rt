@@ -5,13 +5,13 @@ ghost use Rattle.std.specs.List.{list_any, position};
 ghost use Rattle.std.specs.Option.{option_copied, option_map, unwrap_or};
 ghost use Rattle.cal_spec.specs.DateAndTime.{is_colon};
 ghost use Rattle.cal_spec.specs.PlacesView.{places_seen};
-ghost use Rattle.cal_spec.specs.Words.{is_blank, words, behind_date, behind_weekdays, places_of};
+ghost use Rattle.cal_spec.specs.Words.{is_blank, words, after_date, after_weekdays, places_of};
 
 use crate::pieces::cut_at;
 use crate::shorthand::{ANY_DATE, MIDNIGHT, find_shorthand};
 use cal_zone::begins_with_letter;
 
-/// The texts at the places of an expression, and the words behind these.
+/// The texts at the places of an expression, and the words after these.
 #[derive(Clone, Copy)]
 pub(crate) struct Places<'a> {
     /// The weekday list, if there is one.
@@ -20,7 +20,7 @@ pub(crate) struct Places<'a> {
     pub(crate) date: &'a [u8],
     /// The time, or `00:00:00`.
     pub(crate) time: &'a [u8],
-    /// What stands behind the time.
+    /// What stands after the time.
     pub(crate) rest: &'a [u8],
 }
 
@@ -30,34 +30,34 @@ pub(crate) struct Places<'a> {
 pub(crate) fn find_places(text: &[u8]) -> Option<Places<'_>>
     ensures { option_map places_seen result ≡ places_of (words text.now) }
 {
-    let (word, behind) = first_word(text)?;
+    let (word, after) = first_word(text)?;
     if let Some(shorthand) = find_shorthand(word) {
         let meaning = shorthand.meaning();
         return Some(Places {
             weekdays: meaning.weekdays,
             date: meaning.date,
             time: meaning.time,
-            rest: behind,
+            rest: after,
         });
     }
     if begins_with_letter(word) {
-        return Some(behind_weekdays(Some(word), behind));
+        return Some(after_weekdays(Some(word), after));
     }
-    Some(behind_weekdays(None, text))
+    Some(after_weekdays(None, text))
 }
 
-/// The first word of the text and what stands behind it, or `None` where there are only blanks.
+/// The first word of the text and what stands after it, or `None` where there are only blanks.
 pub(crate) fn first_word(text: &[u8]) -> Option<(&[u8], &[u8])>
     ensures { MatchOption result (words text.now ≡ [])
         (λ found. words text.now ≡ found.0.now ∷ words found.1.now) }
 {
     let mut rest = Some(text);
     while let Some(texts) = rest {
-        let (piece, behind) = cut_at(texts, blank_place(texts));
+        let (piece, after) = cut_at(texts, blank_place(texts));
         if !piece.is_empty() {
-            return Some((piece, or_empty(behind)));
+            return Some((piece, or_empty(after)));
         }
-        rest = behind;
+        rest = after;
     }
     None
 }
@@ -79,10 +79,10 @@ fn or_empty(text: Option<&[u8]>) -> &[u8]
     }
 }
 
-/// The places behind the weekdays: a word that begins with a letter is a zone, another one with a colon is the time, and
+/// The places after the weekdays: a word that begins with a letter is a zone, another one with a colon is the time, and
 /// any other is the date.
-fn behind_weekdays<'a>(weekdays: Option<&'a [u8]>, text: &'a [u8]) -> Places<'a>
-    ensures { places_seen result ≡ behind_weekdays (option_copied weekdays.entry) (words text.now) }
+fn after_weekdays<'a>(weekdays: Option<&'a [u8]>, text: &'a [u8]) -> Places<'a>
+    ensures { places_seen result ≡ after_weekdays (option_copied weekdays.entry) (words text.now) }
 {
     match first_word(text) {
         Some((word, rest)) if !begins_with_letter(word) => {
@@ -94,7 +94,7 @@ fn behind_weekdays<'a>(weekdays: Option<&'a [u8]>, text: &'a [u8]) -> Places<'a>
                     rest,
                 }
             } else {
-                behind_date(weekdays, word, rest)
+                after_date(weekdays, word, rest)
             }
         }
         _ => Places {
@@ -106,10 +106,10 @@ fn behind_weekdays<'a>(weekdays: Option<&'a [u8]>, text: &'a [u8]) -> Places<'a>
     }
 }
 
-/// The places behind the date: a word that begins with a letter is a zone, and any other is the time.
-fn behind_date<'a>(weekdays: Option<&'a [u8]>, date: &'a [u8], text: &'a [u8]) -> Places<'a>
+/// The places after the date: a word that begins with a letter is a zone, and any other is the time.
+fn after_date<'a>(weekdays: Option<&'a [u8]>, date: &'a [u8], text: &'a [u8]) -> Places<'a>
     ensures { places_seen result
-        ≡ behind_date (option_copied weekdays.entry) date.now (words text.now) }
+        ≡ after_date (option_copied weekdays.entry) date.now (words text.now) }
 {
     match first_word(text) {
         Some((time, rest)) if !begins_with_letter(time) => Places {

@@ -5,7 +5,7 @@ ghost use Rattle.std.specs.Option.{option_map};
 ghost use Rattle.cal_spec.specs.Reads.{GivesUnlessNoMemory};
 ghost use Rattle.cal_spec.specs.Words.{words};
 ghost use Rattle.cal_zone.specs.ZoneName.{is_zone_name};
-ghost use Rattle.cal_spec.specs.ZoneName.{zone_name, zone_in};
+ghost use Rattle.cal_spec.specs.ZoneName.{zone_name, zone_name_in};
 
 use crate::SpecFault;
 use crate::same_word::is_same_word;
@@ -13,15 +13,15 @@ use crate::words::first_word;
 use cal_zone::is_zone_name;
 use std::alloc::Global;
 
-/// The name of the zone, if there is one, in what stands behind the time (systemd.time(7), Calendar Events). Any other
+/// The name of the zone, if there is one, in what stands after the time (systemd.time(7), Calendar Events). Any other
 /// word there is a `StrayWord`.
 pub(crate) fn read_zone(alloc: Global, text: &[u8]) -> Result<Option<String>, SpecFault>
-    ensures { GivesUnlessNoMemory (λ name. option_map string_bytes name) result (zone_in (words text.now)) }
+    ensures { GivesUnlessNoMemory (λ name. option_map string_bytes name) result (zone_name_in (words text.now)) }
 {
-    let Some((word, behind)) = first_word(text) else {
+    let Some((word, after)) = first_word(text) else {
         return Ok(None);
     };
-    if first_word(behind).is_some() || !is_zone_name(word) {
+    if first_word(after).is_some() || !is_zone_name(word) {
         return Err(SpecFault::StrayWord);
     }
     let name = String::from_str(alloc, name_of(word))?;

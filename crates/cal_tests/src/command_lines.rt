@@ -347,7 +347,7 @@ fn calls_for_help(rt: HostRuntime) -> Result<(), Fail> {
 }
 
 /// The text of help or usage that the words call for.
-fn told(alloc: Global, line: &str) -> Result<String, Fail> {
+fn fault_text(alloc: Global, line: &str) -> Result<String, Fail> {
     match read(alloc, line)? {
         Err(CommandFault::Usage(text) | CommandFault::Help(text)) => Ok(text),
         _ => Err("no text".into()),
@@ -373,8 +373,8 @@ static TOLD: [&str; 11] = [
 #[test]
 fn texts_fit_a_terminal(rt: HostRuntime) -> Result<(), Fail> {
     for line in &TOLD {
-        let told = told(rt.alloc(), line)?;
-        let text = told.as_str();
+        let fault_text = fault_text(rt.alloc(), line)?;
+        let text = fault_text.as_str();
         let ends = text.ends_with('\n') && !text.ends_with("\n\n");
         let fits = text.lines().all(|row| row.len() <= 80);
         assert!(rt; ends && fits, "{text}");

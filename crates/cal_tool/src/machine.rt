@@ -1,4 +1,4 @@
-//! The real system: its files and its clock. Nothing is told of either.
+//! The real system: its files and its clock. Nothing is known of either.
 
 use cal_bytes::Port;
 use cal_work::System;

@@ -9,17 +9,17 @@ use Rattle.cal_zone.specs.ZoneMap.{ZoneMap}
 use Rattle.cal_zone.specs.ZoneName.{is_zone_name}
 use Rattle.cal_bytes.specs.declared.whole.WholeFault.{WholeFault}
 use Rattle.cal_bytes.specs.declared.whole.WholeFault.TheVariants as whole
-use Rattle.cal_zone.specs.declared.zone.Zone.{Zone as LocalTime}
+use Rattle.cal_zone.specs.declared.zone.Zone.{Zone as ClockZone}
 use Rattle.cal_zone.specs.declared.zone_fault.ZoneFault.TheVariants as zone
-use Rattle.cal_read.specs.TimerText.{most_bytes}
+use Rattle.cal_read.specs.TimerText.{most_file_bytes}
 use Rattle.cal_command.specs.Ask.{Wanted, CommandSaid, ZoneSaid, no_memory}
 use Rattle.cal_command.specs.CommandLine.{IsAskOf, asked_in, takes_words}
 use Rattle.cal_work.specs.Outcome.{World, ZoneFound, and_then, loaded, or_load_stop, table_by, local_by, present_by, input_if, run_by, asked_at, outcome, outcome_of}
 use Rattle.cal_report.specs.Report.{Report, file_name, report}
 use Rattle.cal_request.specs.Request.{Asked, is_timer}
 use Rattle.cal_work.specs.Stop.{Said, command_stop, load_stop, memory_stop}
-use Rattle.cal_work.specs.System.{Told, Seen, IsTime, SeesBytes, Sees, is_cut}
-use Rattle.cal_work.specs.WorkLaw.{TellsAll, taken_of, told_seen, told_time, told_zones, told_world, told_outcome, IsOr}
+use Rattle.cal_work.specs.System.{Known, Seen, IsTime, SeesBytes, Sees, is_cut}
+use Rattle.cal_work.specs.WorkLaw.{TellsAll, taken_of, known_seen, known_time, known_zones, known_world, known_outcome, IsOr}
 use Rattle.cal_work.specs.Works.{SeesZone, SeesZones, SeesIf, SeesFile, FitsAt, Fits, FitsWords}
 use Rattle.cal_work.specs.declared.zone_files.LoadFault.{LoadFault}
 use Rattle.cal_work.specs.declared.zone_files.LoadFault.TheVariants.{ReadFailed, Zone}
@@ -35,27 +35,27 @@ past_limit : (b : Bool) (all : List ℕ) (limit : ℕ) → nat_le (length all) l
 past_limit true all limit is h = let e : ⊥ = grind (arith, nat_tests) in absurd e
 past_limit false all limit is h = refl
 
-seen_told : (limit : ℕ) (told : Option (Option (List ℕ))) (seen : Seen) → IsSome told → SeesBytes told limit seen → is_cut seen ≡ false → (seen ≡ told_seen limit told) ⊎ (seen ≡ Some (Err whole.NoMemory))
-unfolding told_seen
-seen_told limit None seen some h sure = absurd (false≢true some)
-seen_told limit (Some None) seen some h sure = inl h
-seen_told limit (Some (Some all)) None some h sure = absurd h
-seen_told limit (Some (Some all)) (Some (Ok bytes)) some h sure =
+seen_known : (limit : ℕ) (known : Option (Option (List ℕ))) (seen : Seen) → IsSome known → SeesBytes known limit seen → is_cut seen ≡ false → (seen ≡ known_seen limit known) ⊎ (seen ≡ Some (Err whole.NoMemory))
+unfolding known_seen
+seen_known limit None seen some h sure = absurd (false≢true some)
+seen_known limit (Some None) seen some h sure = inl h
+seen_known limit (Some (Some all)) None some h sure = absurd h
+seen_known limit (Some (Some all)) (Some (Ok bytes)) some h sure =
     let within = rw h.1 at h.0 in
     inl (rw (h.1, fits_limit (nat_le (length all) limit) all limit refl within) refl)
-seen_told limit (Some (Some all)) (Some (Err whole.ReadFailed)) some h sure = absurd (false≢true (sym sure))
-seen_told limit (Some (Some all)) (Some (Err whole.TooLarge)) some h sure = inl (rw (past_limit (nat_le (length all) limit) all limit refl h) refl)
-seen_told limit (Some (Some all)) (Some (Err whole.NoMemory)) some h sure = inr refl
+seen_known limit (Some (Some all)) (Some (Err whole.ReadFailed)) some h sure = absurd (false≢true (sym sure))
+seen_known limit (Some (Some all)) (Some (Err whole.TooLarge)) some h sure = inl (rw (past_limit (nat_le (length all) limit) all limit refl h) refl)
+seen_known limit (Some (Some all)) (Some (Err whole.NoMemory)) some h sure = inr refl
 
 some_none : {A : Type 0} (x : A) → Some x ≡ None → ⊥
 some_none x h = cc
 
 -- a file that is open is told as one
-told_open : (limit : ℕ) (told : Option (Option (List ℕ))) (came : Result (List ℕ) WholeFault) → IsSome told → SeesBytes told limit (Some came) → (c : Result (List ℕ) WholeFault) × (told_seen limit told ≡ Some c)
-unfolding told_seen
-told_open limit None came some h = absurd (false≢true some)
-told_open limit (Some None) came some h = absurd (some_none came h)
-told_open limit (Some (Some all)) came some h = (taken_of (nat_le (length all) limit) all, refl)
+known_open : (limit : ℕ) (known : Option (Option (List ℕ))) (came : Result (List ℕ) WholeFault) → IsSome known → SeesBytes known limit (Some came) → (c : Result (List ℕ) WholeFault) × (known_seen limit known ≡ Some c)
+unfolding known_seen
+known_open limit None came some h = absurd (false≢true some)
+known_open limit (Some None) came some h = absurd (some_none came h)
+known_open limit (Some (Some all)) came some h = (taken_of (nat_le (length all) limit) all, refl)
 
 -- Steps in a row
 
@@ -66,12 +66,12 @@ and_then_or next other r s (inr e) h = rw e (inr refl)
 
 -- Zone files
 
-after_load : (told : Told) (items : List ZoneSaid) (found : List ZoneFound) (name : List ℕ)
-    → ((more : ZoneMap) → SeesZones told more items found → IsOr (table_by more items found) (table_by more items (told_zones told items found)))
-    → (r : Result ZoneMap LoadFault) → IfOk r (λ more. SeesZones told more items found)
-    → IsOr (and_then (λ more. table_by more items found) (or_load_stop name r)) (and_then (λ more. table_by more items (told_zones told items found)) (or_load_stop name r))
-after_load told items found name later (Ok more) h = later more h
-after_load told items found name later (Err fault) h = inl refl
+after_load : (known : Known) (items : List ZoneSaid) (found : List ZoneFound) (name : List ℕ)
+    → ((more : ZoneMap) → SeesZones known more items found → IsOr (table_by more items found) (table_by more items (known_zones known items found)))
+    → (r : Result ZoneMap LoadFault) → IfOk r (λ more. SeesZones known more items found)
+    → IsOr (and_then (λ more. table_by more items found) (or_load_stop name r)) (and_then (λ more. table_by more items (known_zones known items found)) (or_load_stop name r))
+after_load known items found name later (Ok more) h = later more h
+after_load known items found name later (Err fault) h = inl refl
 
 -- memory was refused to the reads of a file, whose name may be refused before
 zone_unread : {A : Type 0} (next other : ZoneMap → Result A Said) (table : ZoneMap) (item : ZoneSaid) (f : ZoneFound) (c : Result (List ℕ) WholeFault) (seen : Seen) (b : Bool) → is_zone_name item.name ≡ b → f.seen ≡ Some (Err whole.NoMemory) → seen ≡ Some c
@@ -80,57 +80,57 @@ unfolding loaded
 zone_unread next other table item f c seen true named e o = rw (e, named) (inr refl)
 zone_unread next other table item f c seen false named e o = rw (e, o, named) (inl refl)
 
-zones_told : (told : Told) (table : ZoneMap) (items : List ZoneSaid) (found : List ZoneFound) → TellsAll told → SeesZones told table items found → IsOr (table_by table items found) (table_by table items (told_zones told items found))
-unfolding table_by told_zones
-zones_told told table [] found all h = inl refl
-zones_told told table (item ∷ items) [] all h = absurd h
-zones_told told table (item ∷ items) (f ∷ found) all h =
-    elim (seen_told file_limit (told.file item.path) f.seen (all.files item.path) h.0.sees.bytes (h.0.sees.sure (all.sure item.path))) [
-      | inl e ↦ rw (sym e) (after_load told items found item.name (λ more rest. zones_told told more items found all rest) (loaded table item f) h.1)
+zones_known : (known : Known) (table : ZoneMap) (items : List ZoneSaid) (found : List ZoneFound) → TellsAll known → SeesZones known table items found → IsOr (table_by table items found) (table_by table items (known_zones known items found))
+unfolding table_by known_zones
+zones_known known table [] found all h = inl refl
+zones_known known table (item ∷ items) [] all h = absurd h
+zones_known known table (item ∷ items) (f ∷ found) all h =
+    elim (seen_known file_limit (known.file item.path) f.seen (all.files item.path) h.0.sees.bytes (h.0.sees.sure (all.sure item.path))) [
+      | inl e ↦ rw (sym e) (after_load known items found item.name (λ more rest. zones_known known more items found all rest) (loaded table item f) h.1)
       | inr e ↦
-          let open_file = told_open file_limit (told.file item.path) (Err whole.NoMemory) (all.files item.path) (rw e at h.0.sees.bytes) in
-          zone_unread (λ more. table_by more items found) (λ more. table_by more items (told_zones told items found)) table item f open_file.0 _ (is_zone_name item.name) refl e open_file.1
+          let open_file = known_open file_limit (known.file item.path) (Err whole.NoMemory) (all.files item.path) (rw e at h.0.sees.bytes) in
+          zone_unread (λ more. table_by more items found) (λ more. table_by more items (known_zones known items found)) table item f open_file.0 _ (is_zone_name item.name) refl e open_file.1
     ]
 
 -- The clock and the file of a timer
 
-present_told : (given clock : Option ℤ) (time : Option (Option ℤ)) → IsSome time → IfNone given (IsTime time clock) → present_by given clock ≡ present_by given (told_time time)
+present_known : (given clock : Option ℤ) (time : Option (Option ℤ)) → IsSome time → IfNone given (IsTime time clock) → present_by given clock ≡ present_by given (known_time time)
 unfolding present_by
-present_told (Some now) clock time some h = refl
-present_told None clock None some h = absurd (false≢true some)
-present_told None clock (Some t) some h = rw h refl
+present_known (Some now) clock time some h = refl
+present_known None clock None some h = absurd (false≢true some)
+present_known None clock (Some t) some h = rw h refl
 
-run_told : (told : Told) (asked : Asked) (seen : Seen) (t : Bool) → is_timer asked.verb ≡ t → TellsAll told → SeesIf t told (file_name asked) seen
-    → IsOr (run_by asked seen) (run_by asked (told_seen most_bytes (told.file (file_name asked))))
+run_known : (known : Known) (asked : Asked) (seen : Seen) (t : Bool) → is_timer asked.verb ≡ t → TellsAll known → SeesIf t known (file_name asked) seen
+    → IsOr (run_by asked seen) (run_by asked (known_seen most_file_bytes (known.file (file_name asked))))
 unfolding run_by
-run_told told asked seen false is all h = rw is (inl refl)
-run_told told asked seen true is all h =
-    elim (seen_told most_bytes (told.file (file_name asked)) seen (all.files (file_name asked)) h.bytes (h.sure (all.sure (file_name asked)))) [
+run_known known asked seen false is all h = rw is (inl refl)
+run_known known asked seen true is all h =
+    elim (seen_known most_file_bytes (known.file (file_name asked)) seen (all.files (file_name asked)) h.bytes (h.sure (all.sure (file_name asked)))) [
       | inl e ↦ rw e (inl refl)
       | inr e ↦ rw (e, is) (inr refl)
     ]
 
 -- The whole
 
-wanted_told : (told : Told) (wanted : Wanted) (world : World) → TellsAll told → Fits told wanted world → IsOr (outcome_of wanted world) (outcome (told_world told wanted world))
-unfolding outcome outcome_of told_world
-wanted_told told wanted world all fits =
-    and_then_or _ _ _ _ (zones_told told empty wanted.zones world.zones all fits.zones) (λ table is_table.
-    let behind = rw is_table at fits.behind in
+wanted_known : (known : Known) (wanted : Wanted) (world : World) → TellsAll known → Fits known wanted world → IsOr (outcome_of wanted world) (outcome (known_world known wanted world))
+unfolding outcome outcome_of known_world
+wanted_known known wanted world all fits =
+    and_then_or _ _ _ _ (zones_known known empty wanted.zones world.zones all fits.zones) (λ table is_table.
+    let after = rw is_table at fits.after in
     and_then_or _ _ (local_by wanted.local table world.local) (local_by wanted.local table world.local) (inl refl) (λ local is_local.
-    let later = rw is_local at behind in
-    and_then_or _ _ (present_by wanted.now world.clock) (present_by wanted.now (told_time told.time)) (inl (present_told wanted.now world.clock told.time all.time later.1)) (λ now is_now.
-    run_told told (asked_at wanted table local now) world.file (is_timer wanted.verb) refl all (rw is_now at later.2))))
+    let later = rw is_local at after in
+    and_then_or _ _ (present_by wanted.now world.clock) (present_by wanted.now (known_time known.time)) (inl (present_known wanted.now world.clock known.time all.time later.1)) (λ now is_now.
+    run_known known (asked_at wanted table local now) world.file (is_timer wanted.verb) refl all (rw is_now at later.2))))
 
-said_told : (told : Told) (world : World) (said : Result Wanted CommandSaid) → TellsAll told → world.said ≡ said → IfOk said (λ wanted. Fits told wanted world) → IsOr (outcome world) (told_outcome told said world)
-unfolding outcome outcome_of told_world
-said_told told world (Ok wanted) all is fits = rw is (wanted_told told wanted world all fits)
-said_told told world (Err said) all is fits = rw is (inl refl)
+said_known : (known : Known) (world : World) (said : Result Wanted CommandSaid) → TellsAll known → world.said ≡ said → IfOk said (λ wanted. Fits known wanted world) → IsOr (outcome world) (known_outcome known said world)
+unfolding outcome outcome_of known_world
+said_known known world (Ok wanted) all is fits = rw is (wanted_known known wanted world all fits)
+said_known known world (Err said) all is fits = rw is (inl refl)
 
-pub told_decides : (told : Told) (words : List (List ℕ)) (world : World) → TellsAll told → takes_words words ≡ true → FitsWords told words world → IsOr (outcome world) (told_outcome told (asked_in words) world)
+pub known_decides : (known : Known) (words : List (List ℕ)) (world : World) → TellsAll known → takes_words words ≡ true → FitsWords known words world → IsOr (outcome world) (known_outcome known (asked_in words) world)
 unfolding outcome
-told_decides told words world all takes fits =
+known_decides known words world all takes fits =
     elim (taken_words words world.said fits.said takes) [
       | inl e ↦ rw e (inr refl)
-      | inr e ↦ rw (sym e) (said_told told world world.said all refl fits.fits)
+      | inr e ↦ rw (sym e) (said_known known world world.said all refl fits.fits)
     ]

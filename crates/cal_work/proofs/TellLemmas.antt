@@ -5,10 +5,10 @@ use Rattle.std.proofs.KnownBytes.{Appends-nil, Appends-kept}
 use Rattle.std.proofs.lemmas.Bool.{false≢true}
 use Rattle.cal_bytes.specs.Bytes.{AppendsFront, Writes}
 use Rattle.cal_bytes.specs.Output.{Settles}
-use Rattle.cal_work.specs.Outcome.{World, outcome, out_text, err_text, whole_status, ended_status}
+use Rattle.cal_work.specs.Outcome.{World, outcome, out_text, err_text, outcome_status, ended_status}
 use Rattle.cal_report.specs.Report.{Report}
 use Rattle.cal_work.specs.Stop.{Said, exit_status, fault_stop, outlet_of, said_of, text_of}
-use Rattle.cal_work.specs.System.{Told}
+use Rattle.cal_work.specs.System.{Known}
 use Rattle.cal_work.specs.WorkSteps.{StopsAs, StopEnds, EndsAs, AnsweredWords, IsSettled, TellsOn, TellsStop, status_by, WritesOf}
 use Rattle.cal_work.specs.Works.{FitsWords, Reaches, TellsFault, Tells, Works}
 use Rattle.cal_request.specs.declared.request.RunFault.{RunFault}
@@ -78,15 +78,15 @@ module _ (stop : Stop) (r : Result Unit RunFault) (come : Result Report Said) (o
   early_written : (outlet : Outlet) → outlet_of stop ≡ outlet → TextsFit outlet stop → TellsOn outlet (text_of stop) r out1 out' err1 err' → WritesOf r (said_of stop).status come out out' err err'
   unfolding TextsFit
   early_written OnOut is fits (w, same) =
-      let told : come ≡ Err (said_of stop) = s.said (rw is refl) in
-      rw told (record {
+      let stopped : come ≡ Err (said_of stop) = s.said (rw is refl) in
+      rw stopped (record {
         by_status = same_status r (said_of stop);
         out_bytes = rw fits.0 (rw at_out at w);
         err_bytes = rw (fits.1, same ∙ at_err) (writes_nothing err r);
       })
   early_written OnErr is fits (w, same) =
-      let told : come ≡ Err (said_of stop) = s.said (rw is refl) in
-      rw told (record {
+      let stopped : come ≡ Err (said_of stop) = s.said (rw is refl) in
+      rw stopped (record {
         by_status = same_status r (said_of stop);
         out_bytes = rw (fits.0, same ∙ at_out) (writes_nothing out r);
         err_bytes = rw fits.1 (rw at_err at w);
@@ -117,22 +117,22 @@ append_nothing : (b : Option (List ℕ)) → append_known b [] ≡ b
 append_nothing None = refl
 append_nothing (Some xs) = ap (λ l. Some l) (append-nil xs)
 
--- where a call failed, a front of the text stands behind the buffer, and what it still holds
-reaches_front : (before written behind : Option (List ℕ)) (text : List ℕ) (b : Bool) → AppendsFront before written text → Settles written behind b → (held : List ℕ) × AppendsFront before (append_known behind held) text
-reaches_front before written behind text true w s =
-    ([], record { front = w.front; rest = w.rest; whole = w.whole; written = rw (append_nothing behind) (Appends-kept before written behind w.front w.written s) })
-reaches_front before written behind text false w s =
-    (s.0, record { front = w.front; rest = w.rest; whole = w.whole; written = Appends-kept before written (append_known behind s.0) w.front w.written s.1 })
+-- where a call failed, a front of the text has gone through the buffer, and what it still holds
+reaches_front : (before written reached : Option (List ℕ)) (text : List ℕ) (b : Bool) → AppendsFront before written text → Settles written reached b → (held : List ℕ) × AppendsFront before (append_known reached held) text
+reaches_front before written reached text true w s =
+    ([], record { front = w.front; rest = w.rest; whole = w.whole; written = rw (append_nothing reached) (Appends-kept before written reached w.front w.written s) })
+reaches_front before written reached text false w s =
+    (s.0, record { front = w.front; rest = w.rest; whole = w.whole; written = Appends-kept before written (append_known reached s.0) w.front w.written s.1 })
 
-pub reaches_fault : (fault : RunFault) (before written behind : Option (List ℕ)) (text : List ℕ) (b : Bool) → Writes {T = Unit} before written (Err fault) text → Settles written behind b → Reaches {T = Unit} before behind (Err fault) text
-reaches_fault fault before written behind text b w s = reaches_front before written behind text b w s
+pub reaches_fault : (fault : RunFault) (before written reached : Option (List ℕ)) (text : List ℕ) (b : Bool) → Writes {T = Unit} before written (Err fault) text → Settles written reached b → Reaches {T = Unit} before reached (Err fault) text
+reaches_fault fault before written reached text b w s = reaches_front before written reached text b w s
 
-pub reaches_settled : (r : Result Unit RunFault) (before written behind : Option (List ℕ)) (text : List ℕ) → Writes before written r text → Settles written behind true → Reaches before behind r text
-reaches_settled (Ok done) before written behind text w s = Appends-kept before written behind text w s
-reaches_settled (Err fault) before written behind text w s = reaches_front before written behind text true w s
+pub reaches_settled : (r : Result Unit RunFault) (before written reached : Option (List ℕ)) (text : List ℕ) → Writes before written r text → Settles written reached true → Reaches before reached r text
+reaches_settled (Ok done) before written reached text w s = Appends-kept before written reached text w s
+reaches_settled (Err fault) before written reached text w s = reaches_front before written reached text true w s
 
-pub reaches_unsettled : (before written behind : Option (List ℕ)) (text : List ℕ) → Writes {T = Unit} {E = RunFault} before written (Ok tt) text → Settles written behind false → Reaches {T = Unit} before behind (Err OutFailed) text
-reaches_unsettled before written behind text w s = reaches_front before written behind text false (whole_front before written text w) s
+pub reaches_unsettled : (before written reached : Option (List ℕ)) (text : List ℕ) → Writes {T = Unit} {E = RunFault} before written (Ok tt) text → Settles written reached false → Reaches {T = Unit} before reached (Err OutFailed) text
+reaches_unsettled before written reached text w s = reaches_front before written reached text false (whole_front before written text w) s
 
 -- The whole
 
@@ -147,13 +147,13 @@ settled_status (Ok done) (Ok settled) status come is same = sym same
 settled_status (Ok done) (Err fault) status come is same = rw is refl
 settled_status (Err fault) settled status come is same = rw is (sym same)
 
-pub works : (told : Told) (words : List (List ℕ)) (answered : Result Status Stop) (out out1 out2 behind err err1 err2 err3 : Option (List ℕ)) (failed : Bool) (written settled : Result Unit RunFault) (status last : ℕ)
-    → AnsweredWords told words answered out out1 err err1
+pub works : (known : Known) (words : List (List ℕ)) (answered : Result Status Stop) (out out1 out2 reached err err1 err2 err3 : Option (List ℕ)) (failed : Bool) (written settled : Result Unit RunFault) (status last : ℕ)
+    → AnsweredWords known words answered out out1 err err1
     → ((come : Result Report Said) (a b : Option (List ℕ)) → EndsAs answered come a out1 b err1 → WritesOf written status come a out2 b err2)
-    → ((before : Option (List ℕ)) (text : List ℕ) → Writes before out2 written text → Reaches before behind settled text)
+    → ((before : Option (List ℕ)) (text : List ℕ) → Writes before out2 written text → Reaches before reached settled text)
     → IsSettled written settled → TellsFault err2 err3 failed settled → last ≡ status_by settled status
-    → Works told words out behind err err3 failed (record { status = last; written = settled })
-works told words answered out out1 out2 behind err err1 err2 err3 failed written settled status last a tells reaches is line same =
+    → Works known words out reached err err3 failed (record { status = last; written = settled })
+works known words answered out out1 out2 reached err err1 err2 err3 failed written settled status last a tells reaches is line same =
     let w = tells (outcome a.world) out err a.ends in
     record {
       world = a.world;

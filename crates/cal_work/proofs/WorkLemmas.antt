@@ -9,7 +9,7 @@ use Rattle.std.proofs.lemmas.Bool.{false≢true}
 use Rattle.std.proofs.lemmas.Bool.Decides.{nat_tests}
 use Rattle.jiff.specs.Placed.{IsPosixZone}
 use Rattle.jiff.specs.Types.{TimeZone}
-use Rattle.jiff.specs.Words.{read_whole}
+use Rattle.jiff.specs.Words.{read_whole as rule_read}
 use Rattle.cal_bytes.specs.Bytes.{AppendsFront, Writes}
 use Rattle.cal_bytes.specs.Whole.{GivesAll, CameBeyond, is_read_failed}
 use Rattle.cal_zone.specs.Zone.{is_utc, utc, zone_of}
@@ -19,19 +19,19 @@ use Rattle.cal_zone.specs.ZoneName.{is_utc_name, is_zone_name}
 use Rattle.cal_zone.specs.ZoneTable.{zone_named}
 use Rattle.cal_bytes.specs.declared.whole.WholeFault.{WholeFault}
 use Rattle.cal_bytes.specs.declared.whole.WholeFault.TheVariants as whole
-use Rattle.cal_zone.specs.declared.zone.Zone.{Zone as LocalTime}
+use Rattle.cal_zone.specs.declared.zone.Zone.{Zone as ClockZone}
 use Rattle.cal_zone.specs.declared.zone_fault.ZoneFault.TheVariants as zone
 use Rattle.cal_read.specs.StampFault.{words_of}
-use Rattle.cal_read.specs.TimerText.{ReadsWhole, most_bytes}
-use Rattle.cal_read.specs.declared.stamp_fault.StampFault.{StampFault}
+use Rattle.cal_read.specs.TimerText.{ReadsWhole, most_file_bytes}
+use Rattle.cal_read.specs.declared.stamp.fault.StampFault.{StampFault}
 use Rattle.cal_command.specs.Ask.{Wanted, CommandSaid, LocalSaid, in_utc, ahead, by_rule, of_name, ZoneSaid, fault_said, bad_iterations, bad_now, bad_zones, bad_local, no_memory}
 use Rattle.cal_command.specs.CommandLine.{IsAskOf}
-use Rattle.cal_work.specs.LoadZone.{IsLoaded, IsLoadFault, is_read_failed as is_load_cut}
-use Rattle.cal_work.specs.Outcome.{World, ZoneFound, and_then, loaded, or_load_stop, table_by, local_by, clock_by, present_by, input_if, run_by, asked_at, outcome, outcome_of, out_text, err_text, whole_status, ended_status}
-use Rattle.cal_report.specs.Report.{ByReading, IsTold, ReadsIf, Report, base_in, file_name, reads_input, report, report_from}
+use Rattle.cal_work.specs.LoadZone.{IsLoaded, IsLoadFault, is_load_unread}
+use Rattle.cal_work.specs.Outcome.{World, ZoneFound, and_then, loaded, or_load_stop, table_by, local_by, clock_by, present_by, input_if, run_by, asked_at, outcome, outcome_of, out_text, err_text, outcome_status, ended_status}
+use Rattle.cal_report.specs.Report.{ByReading, IsReported, ReadsIf, Report, base_in, file_name, reads_input, report, report_from}
 use Rattle.cal_request.specs.Request.{Asked, is_timer}
 use Rattle.cal_work.specs.Stop.{Said, command_stop, exit_status, load_stop, name_stop, rule_stop, said_of, unread_stop, memory_stop, is_for_memory, is_out_stop, is_err_stop}
-use Rattle.cal_work.specs.System.{Told, Seen, Opens, IsTime, Comes, SeesBytes, Sees}
+use Rattle.cal_work.specs.System.{Known, Seen, Opens, IsTime, Comes, SeesBytes, Sees}
 use Rattle.cal_work.specs.WorkSteps.{StopsAs, Answers, Loads, ReadsZones, FindsLocal, IsUnread, Presents, StopEnds, EndsAs, Runs, Answered, AnsweredWords, ran}
 use Rattle.cal_work.specs.Works.{SeesZone, SeesZones, ReadsZone, IsLocal, SeesIf, SeesFile, FitsAt, Fits, FitsWords}
 use Rattle.cal_command.specs.declared.command_fault.CommandFault.{CommandFault}
@@ -55,7 +55,7 @@ is_stop stop said out err is = record { before_out = out; before_err = err; stop
 pub memory_stops : {X : Type 0} (said : Said) → StopsAs {X = X} (Run NoMemory) (Err said)
 memory_stops said = record { before_out = refl; before_err = refl; stopped = refl; said = λ h. absurd (false≢true (sym h)) }
 
--- a step that stopped is the stop of all that would come behind it
+-- a step that stopped is the stop of all that would come after it
 pub stops : {A B : Type 0} (stop : Stop) (next : A → Result B Said) (come : Result A Said) → StopsAs stop come → StopsAs stop (and_then next come)
 stops stop next (Ok value) s = absurd (false≢true s.stopped)
 stops stop next (Err said) s = record { before_out = s.before_out; before_err = s.before_err; stopped = refl; said = λ h. ap (λ r. and_then next r) (s.said h) }
@@ -79,18 +79,18 @@ some_inside : {A : Type 0} (x y : A) → Some x ≡ Some y → x ≡ y
 some_inside x y h = cc
 
 -- what comes of a file fits where nothing is told of it
-untold_comes : (old : Option (List ℕ)) (limit : ℕ) (came : Result (List ℕ) WholeFault) → Comes old limit came → Comes None limit came
-untold_comes old limit (Ok bytes) c = (c.0, tt)
-untold_comes old limit (Err whole.ReadFailed) c = tt
-untold_comes old limit (Err whole.TooLarge) c = tt
-untold_comes old limit (Err whole.NoMemory) c = tt
+unknown_comes : (old : Option (List ℕ)) (limit : ℕ) (came : Result (List ℕ) WholeFault) → Comes old limit came → Comes None limit came
+unknown_comes old limit (Ok bytes) c = (c.0, tt)
+unknown_comes old limit (Err whole.ReadFailed) c = tt
+unknown_comes old limit (Err whole.TooLarge) c = tt
+unknown_comes old limit (Err whole.NoMemory) c = tt
 
-pub sees_opened : (told : Option (Option (List ℕ))) (limit : ℕ) (old : Option (List ℕ)) (came : Result (List ℕ) WholeFault) → Opens told (Some old) → Comes old limit came → SeesBytes told limit (Some came)
-sees_opened None limit old came h c = untold_comes old limit came c
+pub sees_opened : (known : Option (Option (List ℕ))) (limit : ℕ) (old : Option (List ℕ)) (came : Result (List ℕ) WholeFault) → Opens known (Some old) → Comes old limit came → SeesBytes known limit (Some came)
+sees_opened None limit old came h c = unknown_comes old limit came c
 sees_opened (Some None) limit old came h c = absurd (some_none old h)
 sees_opened (Some (Some bytes)) limit old came h c = subst (λ o. Comes o limit came) (some_inside old (Some bytes) h) c
 
-pub sees_none : (told : Option (Option (List ℕ))) (limit : ℕ) → Opens told None → SeesBytes told limit None
+pub sees_none : (known : Option (Option (List ℕ))) (limit : ℕ) → Opens known None → SeesBytes known limit None
 sees_none None limit h = tt
 sees_none (Some None) limit h = refl
 sees_none (Some (Some bytes)) limit h = absurd (none_some (Some bytes) h)
@@ -149,10 +149,10 @@ reads_unnamed name (Ok bytes) h = λ named. absurd (false≢true (sym h ∙ name
 reads_unnamed name (Err fault) h = tt
 
 -- a file that was opened and loaded, or refused
-pub loads : (told : Told) (before after : ZoneMap) (item : ZoneSaid) (r : Result Unit LoadFault) (old new : Option (List ℕ)) (may failed : Bool) → Opens (told.file item.path) (Some old) → may ≡ told.may_fail item.path
-    → failed ≡ is_load_cut r → MatchResult r (λ done. IsLoaded old new before after item.name) (IsLoadFault old new before item.name) → (may ≡ false → failed ≡ false) → Loads told before after item r
+pub loads : (known : Known) (before after : ZoneMap) (item : ZoneSaid) (r : Result Unit LoadFault) (old new : Option (List ℕ)) (may failed : Bool) → Opens (known.file item.path) (Some old) → may ≡ known.may_fail item.path
+    → failed ≡ is_load_unread r → MatchResult r (λ done. IsLoaded old new before after item.name) (IsLoadFault old new before item.name) → (may ≡ false → failed ≡ false) → Loads known before after item r
 unfolding loaded
-loads told before after item (Ok done) old new may failed opens mays fails h sure = record {
+loads known before after item (Ok done) old new may failed opens mays fails h sure = record {
   found = record { seen = Some (Ok h.bytes); zone = Some h.zone };
   sees = record {
     sees = record { bytes = sees_opened _ _ old (Ok h.bytes) opens (comes_all old new _ h.bytes h.given); sure = λ e. refl };
@@ -160,7 +160,7 @@ loads told before after item (Ok done) old new may failed opens mays fails h sur
   };
   loads = rw (h.addable.named, h.addable.free) (ap (λ m. Ok m) (sym h.added));
 }
-loads told before after item (Err ReadFailed) old new may failed opens mays fails h sure = record {
+loads known before after item (Err ReadFailed) old new may failed opens mays fails h sure = record {
   found = record { seen = Some (Err whole.ReadFailed); zone = None };
   sees = record {
     sees = record { bytes = sees_opened _ _ old (Err whole.ReadFailed) opens tt; sure = λ e. sym fails ∙ sure (mays ∙ e) };
@@ -168,7 +168,7 @@ loads told before after item (Err ReadFailed) old new may failed opens mays fail
   };
   loads = rw h.0 refl;
 }
-loads told before after item (Err (Zone zone.BadName)) old new may failed opens mays fails h sure = record {
+loads known before after item (Err (Zone zone.BadName)) old new may failed opens mays fails h sure = record {
   found = record { seen = Some (came_of old file_limit); zone = None };
   sees = record {
     sees = record { bytes = sees_opened _ _ old (came_of old file_limit) opens (came_fits old file_limit); sure = λ e. came_uncut old file_limit };
@@ -176,8 +176,8 @@ loads told before after item (Err (Zone zone.BadName)) old new may failed opens 
   };
   loads = rw h.0 refl;
 }
-loads told before after item (Err (Zone zone.BadRule)) old new may failed opens mays fails h sure = absurd h
-loads told before after item (Err (Zone zone.BadFile)) old new may failed opens mays fails h sure = record {
+loads known before after item (Err (Zone zone.BadRule)) old new may failed opens mays fails h sure = absurd h
+loads known before after item (Err (Zone zone.BadFile)) old new may failed opens mays fails h sure = record {
   found = record { seen = Some (Ok h.bytes); zone = None };
   sees = record {
     sees = record { bytes = sees_opened _ _ old (Ok h.bytes) opens (comes_all old new _ h.bytes h.given); sure = λ e. refl };
@@ -185,7 +185,7 @@ loads told before after item (Err (Zone zone.BadFile)) old new may failed opens 
   };
   loads = rw h.is_bad.0.named refl;
 }
-loads told before after item (Err (Zone zone.TooLarge)) old new may failed opens mays fails h sure = record {
+loads known before after item (Err (Zone zone.TooLarge)) old new may failed opens mays fails h sure = record {
   found = record { seen = Some (Err whole.TooLarge); zone = None };
   sees = record {
     sees = record { bytes = sees_opened _ _ old (Err whole.TooLarge) opens (comes_beyond old new _ h.1); sure = λ e. refl };
@@ -193,7 +193,7 @@ loads told before after item (Err (Zone zone.TooLarge)) old new may failed opens
   };
   loads = rw h.0 refl;
 }
-loads told before after item (Err (Zone zone.NoMemory)) old new may failed opens mays fails h sure = record {
+loads known before after item (Err (Zone zone.NoMemory)) old new may failed opens mays fails h sure = record {
   found = record { seen = Some (Err whole.NoMemory); zone = None };
   sees = record {
     sees = record { bytes = sees_opened _ _ old (Err whole.NoMemory) opens tt; sure = λ e. refl };
@@ -201,7 +201,7 @@ loads told before after item (Err (Zone zone.NoMemory)) old new may failed opens
   };
   loads = rw h.0 refl;
 }
-loads told before after item (Err (Zone zone.NameTaken)) old new may failed opens mays fails h sure = record {
+loads known before after item (Err (Zone zone.NameTaken)) old new may failed opens mays fails h sure = record {
   found = record { seen = Some (Ok h.bytes); zone = Some h.zone };
   sees = record {
     sees = record { bytes = sees_opened _ _ old (Ok h.bytes) opens (comes_all old new _ h.bytes h.given); sure = λ e. refl };
@@ -211,40 +211,40 @@ loads told before after item (Err (Zone zone.NameTaken)) old new may failed open
 }
 
 -- a file that can't be opened
-pub loads_none : (told : Told) (table : ZoneMap) (item : ZoneSaid) → Opens (told.file item.path) None → Loads told table table item (Err ReadFailed)
+pub loads_none : (known : Known) (table : ZoneMap) (item : ZoneSaid) → Opens (known.file item.path) None → Loads known table table item (Err ReadFailed)
 unfolding loaded
-loads_none told table item opens = record {
+loads_none known table item opens = record {
   found = record { seen = None; zone = None };
   sees = record { sees = record { bytes = sees_none _ _ opens; sure = λ e. refl }; reads = tt };
   loads = refl;
 }
 
 -- The files in order: what was found so far goes on with whatever is found of those that are left.
-pub record Continues (told : Told) (items : List ZoneSaid) (table : ZoneMap) (left : List ZoneSaid) (rest : List ZoneFound) : Type 0 where
+pub record Continues (known : Known) (items : List ZoneSaid) (table : ZoneMap) (left : List ZoneSaid) (rest : List ZoneFound) : Type 0 where
   pub found : List ZoneFound
-  pub sees : SeesZones told empty items found
+  pub sees : SeesZones known empty items found
   pub same : table_by empty items found ≡ table_by table left rest
 
-abbrev pub GoesOn : Told → List ZoneSaid → ZoneMap → List ZoneSaid → Type 0
-GoesOn told items table left = (rest : List ZoneFound) → SeesZones told table left rest → Continues told items table left rest
+abbrev pub GoesOn : Known → List ZoneSaid → ZoneMap → List ZoneSaid → Type 0
+GoesOn known items table left = (rest : List ZoneFound) → SeesZones known table left rest → Continues known items table left rest
 
-pub begin : (told : Told) (items : List ZoneSaid) → GoesOn told items empty items
-begin told items rest h = record { found = rest; sees = h; same = refl }
+pub begin : (known : Known) (items : List ZoneSaid) → GoesOn known items empty items
+begin known items rest h = record { found = rest; sees = h; same = refl }
 
 -- the next of those that are left is loaded
-pub next_loaded : (told : Told) (items left more : List ZoneSaid) (item : ZoneSaid) (table after : ZoneMap) → left ≡ item ∷ more → GoesOn told items table left → Loads told table after item (Ok tt) → GoesOn told items after more
+pub next_loaded : (known : Known) (items left more : List ZoneSaid) (item : ZoneSaid) (table after : ZoneMap) → left ≡ item ∷ more → GoesOn known items table left → Loads known table after item (Ok tt) → GoesOn known items after more
 unfolding table_by
-next_loaded told items left more item table after is goes l rest h =
+next_loaded known items left more item table after is goes l rest h =
     let first = rw is at goes in
     let is_loaded : loaded table item l.found ≡ Ok after = l.loads in
     let on = first (l.found ∷ rest) (l.sees, rw is_loaded h) in
     record { found = on.found; sees = on.sees; same = on.same ∙ (rw is_loaded refl) }
 
 -- or it stops the work
-pub next_stops : {T : Type 0} (view : T → ZoneMap) (told : Told) (items left more : List ZoneSaid) (item : ZoneSaid) (table after : ZoneMap) (fault : LoadFault) (stop : Stop) → left ≡ item ∷ more
-    → GoesOn told items table left → Loads told table after item (Err fault) → StopsAs {X = Unit} stop (Err (load_stop item.name fault)) → ReadsZones view told items (Err stop)
+pub next_stops : {T : Type 0} (view : T → ZoneMap) (known : Known) (items left more : List ZoneSaid) (item : ZoneSaid) (table after : ZoneMap) (fault : LoadFault) (stop : Stop) → left ≡ item ∷ more
+    → GoesOn known items table left → Loads known table after item (Err fault) → StopsAs {X = Unit} stop (Err (load_stop item.name fault)) → ReadsZones view known items (Err stop)
 unfolding table_by
-next_stops view told items left more item table after fault stop is goes l s =
+next_stops view known items left more item table after fault stop is goes l s =
     let first = rw is at goes in
     let is_refused : loaded table item l.found ≡ Err fault = l.loads in
     let on = first (l.found ∷ []) (l.sees, rw is_refused tt) in
@@ -252,27 +252,27 @@ next_stops view told items left more item table after fault stop is goes l s =
     record { found = on.found; sees = on.sees; answers = rw same (stops_other stop (load_stop item.name fault) s) }
 
 -- none is left
-pub none_left : {T : Type 0} (view : T → ZoneMap) (told : Told) (items left : List ZoneSaid) (table : ZoneMap) (result : T) → left ≡ [] → table ≡ view result → GoesOn told items table left → ReadsZones view told items (Ok result)
+pub none_left : {T : Type 0} (view : T → ZoneMap) (known : Known) (items left : List ZoneSaid) (table : ZoneMap) (result : T) → left ≡ [] → table ≡ view result → GoesOn known items table left → ReadsZones view known items (Ok result)
 unfolding table_by
-none_left view told items left table result is same goes =
+none_left view known items left table result is same goes =
     let on = (rw is at goes) [] tt in
     record { found = on.found; sees = on.sees; answers = on.same ∙ ap (λ m. Ok m) same }
 
 -- The local zone
 
-pub finds_rule : (rule : List ℕ) (table : ZoneMap) (zone : LocalTime) (rules : TimeZone) → IsSome (read_whole rule) → IsPosixZone rule rules → zone_of zone ≡ rules → is_utc zone ≡ false → FindsLocal (λ z. z) (by_rule rule) table (Ok zone)
+pub finds_rule : (rule : List ℕ) (table : ZoneMap) (zone : ClockZone) (rules : TimeZone) → IsSome (rule_read rule) → IsPosixZone rule rules → zone_of zone ≡ rules → is_utc zone ≡ false → FindsLocal (λ z. z) (by_rule rule) table (Ok zone)
 unfolding local_by
-finds_rule rule table zone rules some posix is told = record {
+finds_rule rule table zone rules some posix is known = record {
   zone = zone;
-  is_local = rw some (told, rw is posix);
+  is_local = rw some (known, rw is posix);
   answers = rw some refl;
 }
 
-pub finds_name : (name : List ℕ) (table : ZoneMap) (zone : LocalTime) → Some (zone_of zone) ≡ zone_named table name → is_utc zone ≡ is_utc_name name → FindsLocal (λ z. z) (of_name name) table (Ok zone)
+pub finds_name : (name : List ℕ) (table : ZoneMap) (zone : ClockZone) → Some (zone_of zone) ≡ zone_named table name → is_utc zone ≡ is_utc_name name → FindsLocal (λ z. z) (of_name name) table (Ok zone)
 unfolding local_by
-finds_name name table zone is told =
+finds_name name table zone is known =
     let there : zone_named table name ≡ Some (zone_of zone) = sym is in
-    record { zone = zone; is_local = rw there (told, there); answers = rw there refl }
+    record { zone = zone; is_local = rw there (known, there); answers = rw there refl }
 
 pub finds_no_name : (name : List ℕ) (table : ZoneMap) → None ≡ zone_named table name → FindsLocal (λ z. z) (of_name name) table (Err LocalName)
 unfolding local_by
@@ -280,7 +280,7 @@ finds_no_name name table is =
     let none : zone_named table name ≡ None = sym is in
     record { zone = utc; is_local = rw none tt; answers = rw none (is_stop LocalName name_stop refl refl refl) }
 
-unread_rule : (rule : List ℕ) (table : ZoneMap) (b : Bool) → is_some (read_whole rule) ≡ b → (IsSome (read_whole rule) → ⊥) → local_by (by_rule rule) table utc ≡ Err rule_stop
+unread_rule : (rule : List ℕ) (table : ZoneMap) (b : Bool) → is_some (rule_read rule) ≡ b → (IsSome (rule_read rule) → ⊥) → local_by (by_rule rule) table utc ≡ Err rule_stop
 unfolding local_by
 unread_rule rule table true is h = absurd (h is)
 unread_rule rule table false is h = rw is refl
@@ -289,7 +289,7 @@ unread_rule rule table false is h = rw is refl
 pub local_refused : (said : LocalSaid) (table : ZoneMap) → IsUnread said → local_by said table utc ≡ Err rule_stop
 local_refused in_utc table h = absurd h
 local_refused (ahead seconds) table h = absurd h
-local_refused (by_rule rule) table h = unread_rule rule table (is_some (read_whole rule)) refl h
+local_refused (by_rule rule) table h = unread_rule rule table (is_some (rule_read rule)) refl h
 local_refused (of_name name) table h = absurd h
 
 -- Ends
@@ -307,7 +307,7 @@ early (Run ErrFailed) come out err s = absurd (false≢true (sym s.before_err))
 early (Run NoMemory) come out err s = (refl, nothing_front out (out_text come), nothing_front err (err_text come))
 
 -- a run
-run_ends : (r : Result Status RunFault) (read : Result (List ℕ) WholeFault) (report : Report) (out out' err err' : Option (List ℕ)) → IsTold r out out' err err' read report → EndsAs (ran r) (Ok report) out out' err err'
+run_ends : (r : Result Status RunFault) (read : Result (List ℕ) WholeFault) (report : Report) (out out' err err' : Option (List ℕ)) → IsReported r out out' err err' read report → EndsAs (ran r) (Ok report) out out' err err'
 run_ends (Ok status) read report out out' err err' t = (ap exit_status (sym t.status), t.out, t.err)
 run_ends (Err OutFailed) read report out out' err err' t = (refl, t.out, t.err)
 run_ends (Err ErrFailed) read report out out' err err' t = (refl, t.out, t.err)
@@ -317,7 +317,7 @@ still_front : (a b : Option (List ℕ)) (text : List ℕ) → b ≡ a → Append
 still_front a b text is = rw is (nothing_front a text)
 
 -- a run to whose reads memory was refused
-unread_ends : (r : Result Status RunFault) (report : Report) (out out' err err' : Option (List ℕ)) → IsTold r out out' err err' (Err whole.NoMemory) report → EndsAs (ran r) (Err memory_stop) out out' err err'
+unread_ends : (r : Result Status RunFault) (report : Report) (out out' err err' : Option (List ℕ)) → IsReported r out out' err err' (Err whole.NoMemory) report → EndsAs (ran r) (Err memory_stop) out out' err err'
 unread_ends (Ok status) report out out' err err' t = absurd (t.had refl)
 unread_ends (Err OutFailed) report out out' err err' t = (refl, still_front out out' _ (t.unread refl).0, still_front err err' _ (t.unread refl).1)
 unread_ends (Err ErrFailed) report out out' err err' t = (refl, still_front out out' _ (t.unread refl).0, still_front err err' _ (t.unread refl).1)
@@ -346,59 +346,59 @@ report_had asked None limit h timer = rw timer refl
 report_had asked (Some all) limit h timer = rw timer (within_had asked all (nat_le (length all) limit) h)
 
 -- the run of a timer whose file was opened, by what was read of it
-timer_by : (told : Told) (asked : Asked) (r : Result Status RunFault) (old new : Option (List ℕ)) (may failed : Bool) (out out' err err' : Option (List ℕ)) (read : Result (List ℕ) WholeFault) (b : Bool)
-    → reads_input asked ≡ b → is_timer asked.verb ≡ true → Opens (told.file (file_name asked)) (Some old) → may ≡ told.may_fail (file_name asked) → (may ≡ false → failed ≡ false)
-    → failed ≡ is_read_failed read → ReadsIf b old new read → IsTold r out out' err err' read (report asked read) → Runs told asked (ran r) out out' err err'
+timer_by : (known : Known) (asked : Asked) (r : Result Status RunFault) (old new : Option (List ℕ)) (may failed : Bool) (out out' err err' : Option (List ℕ)) (read : Result (List ℕ) WholeFault) (b : Bool)
+    → reads_input asked ≡ b → is_timer asked.verb ≡ true → Opens (known.file (file_name asked)) (Some old) → may ≡ known.may_fail (file_name asked) → (may ≡ false → failed ≡ false)
+    → failed ≡ is_read_failed read → ReadsIf b old new read → IsReported r out out' err err' read (report asked read) → Runs known asked (ran r) out out' err err'
 unfolding run_by
-timer_by told asked r old new may failed out out' err err' (Ok bytes) true reads timer opens mays sure fails input t = record {
+timer_by known asked r old new may failed out out' err err' (Ok bytes) true reads timer opens mays sure fails input t = record {
   seen = Some (Ok bytes);
   sees = rw timer (record { bytes = sees_opened _ _ old (Ok bytes) opens (comes_all old new _ bytes input); sure = λ e. refl });
   ends = rw timer (run_ends r (Ok bytes) _ out out' err err' t);
 }
-timer_by told asked r old new may failed out out' err err' (Err whole.ReadFailed) true reads timer opens mays sure fails input t = record {
+timer_by known asked r old new may failed out out' err err' (Err whole.ReadFailed) true reads timer opens mays sure fails input t = record {
   seen = Some (Err whole.ReadFailed);
   sees = rw timer (record { bytes = sees_opened _ _ old (Err whole.ReadFailed) opens tt; sure = λ e. sym fails ∙ sure (mays ∙ e) });
   ends = rw timer (run_ends r (Err whole.ReadFailed) _ out out' err err' t);
 }
-timer_by told asked r old new may failed out out' err err' (Err whole.TooLarge) true reads timer opens mays sure fails input t = record {
+timer_by known asked r old new may failed out out' err err' (Err whole.TooLarge) true reads timer opens mays sure fails input t = record {
   seen = Some (Err whole.TooLarge);
   sees = rw timer (record { bytes = sees_opened _ _ old (Err whole.TooLarge) opens (comes_beyond old new _ input); sure = λ e. refl });
   ends = rw timer (run_ends r (Err whole.TooLarge) _ out out' err err' t);
 }
-timer_by told asked r old new may failed out out' err err' (Err whole.NoMemory) true reads timer opens mays sure fails input t = record {
+timer_by known asked r old new may failed out out' err err' (Err whole.NoMemory) true reads timer opens mays sure fails input t = record {
   seen = Some (Err whole.NoMemory);
   sees = rw timer (record { bytes = sees_opened _ _ old (Err whole.NoMemory) opens tt; sure = λ e. refl });
   ends = rw timer (unread_ends r _ out out' err err' t);
 }
-timer_by told asked r old new may failed out out' err err' read false reads timer opens mays sure fails input t = record {
-  seen = Some (came_of old most_bytes);
-  sees = rw timer (record { bytes = sees_opened _ _ old (came_of old most_bytes) opens (came_fits old most_bytes); sure = λ e. came_uncut old most_bytes });
-  ends = rw (report_had asked old most_bytes reads timer) (run_ends r (Ok []) _ out out' err err' (rw input.1 at t));
+timer_by known asked r old new may failed out out' err err' read false reads timer opens mays sure fails input t = record {
+  seen = Some (came_of old most_file_bytes);
+  sees = rw timer (record { bytes = sees_opened _ _ old (came_of old most_file_bytes) opens (came_fits old most_file_bytes); sure = λ e. came_uncut old most_file_bytes });
+  ends = rw (report_had asked old most_file_bytes reads timer) (run_ends r (Ok []) _ out out' err err' (rw input.1 at t));
 }
 
-pub timer_runs : (told : Told) (asked : Asked) (r : Result Status RunFault) (old new : Option (List ℕ)) (may failed : Bool) (out out' err err' : Option (List ℕ))
-    → is_timer asked.verb ≡ true → Opens (told.file (file_name asked)) (Some old) → may ≡ told.may_fail (file_name asked) → (may ≡ false → failed ≡ false)
-    → ByReading asked old new failed (IsTold r out out' err err') → Runs told asked (ran r) out out' err err'
-timer_runs told asked r old new may failed out out' err err' timer opens mays sure by =
-    timer_by told asked r old new may failed out out' err err' by.read (reads_input asked) refl timer opens mays sure by.fails by.input by.holds
+pub timer_runs : (known : Known) (asked : Asked) (r : Result Status RunFault) (old new : Option (List ℕ)) (may failed : Bool) (out out' err err' : Option (List ℕ))
+    → is_timer asked.verb ≡ true → Opens (known.file (file_name asked)) (Some old) → may ≡ known.may_fail (file_name asked) → (may ≡ false → failed ≡ false)
+    → ByReading asked old new failed (IsReported r out out' err err') → Runs known asked (ran r) out out' err err'
+timer_runs known asked r old new may failed out out' err err' timer opens mays sure by =
+    timer_by known asked r old new may failed out out' err err' by.read (reads_input asked) refl timer opens mays sure by.fails by.input by.holds
 
 plain_unread : (t : Bool) (x : Bool) → t ≡ false → (t && x) ≡ false
 plain_unread true x h = absurd (false≢true (sym h))
 plain_unread false x h = refl
 
 -- the run of another verb
-pub texts_run : (told : Told) (asked : Asked) (r : Result Status RunFault) (old new : Option (List ℕ)) (failed : Bool) (out out' err err' : Option (List ℕ))
-    → is_timer asked.verb ≡ false → ByReading asked old new failed (IsTold r out out' err err') → Runs told asked (ran r) out out' err err'
+pub texts_run : (known : Known) (asked : Asked) (r : Result Status RunFault) (old new : Option (List ℕ)) (failed : Bool) (out out' err err' : Option (List ℕ))
+    → is_timer asked.verb ≡ false → ByReading asked old new failed (IsReported r out out' err err') → Runs known asked (ran r) out out' err err'
 unfolding run_by
-texts_run told asked r old new failed out out' err err' plain by =
+texts_run known asked r old new failed out out' err err' plain by =
     let same : report asked by.read ≡ report asked (Ok []) = unread_same asked by.read (Ok []) (plain_unread (is_timer asked.verb) (is_ok (base_in asked)) plain) in
     record { seen = None; sees = rw plain tt; ends = rw plain (rw (sym same) (run_ends r by.read _ out out' err err' by.holds)) }
 
 -- the file of a timer can't be opened
-pub file_stops : (told : Told) (asked : Asked) (stop : Stop) (out err : Option (List ℕ)) → is_timer asked.verb ≡ true → Opens (told.file (file_name asked)) None → StopsAs {X = Unit} stop (Err (unread_stop (file_name asked)))
-    → Runs told asked (Err stop) out out err err
+pub file_stops : (known : Known) (asked : Asked) (stop : Stop) (out err : Option (List ℕ)) → is_timer asked.verb ≡ true → Opens (known.file (file_name asked)) None → StopsAs {X = Unit} stop (Err (unread_stop (file_name asked)))
+    → Runs known asked (Err stop) out out err err
 unfolding run_by
-file_stops told asked stop out err timer opens s = record {
+file_stops known asked stop out err timer opens s = record {
   seen = None;
   sees = rw timer (record { bytes = sees_none _ _ opens; sure = λ e. refl });
   ends = rw timer (early stop (Err (unread_stop (file_name asked))) out err (stops_other stop (unread_stop (file_name asked)) s));
@@ -406,53 +406,53 @@ file_stops told asked stop out err timer opens s = record {
 
 -- The whole, by how far it came
 
-module _ (told : Told) (wanted : Wanted) (stop : Stop) (out err : Option (List ℕ)) where
-  pub zones_stop : ReadsZones (λ table. table) told wanted.zones (Err stop) → Answered told wanted (Err stop) out out err err
+module _ (known : Known) (wanted : Wanted) (stop : Stop) (out err : Option (List ℕ)) where
+  pub zones_stop : ReadsZones (λ table. table) known wanted.zones (Err stop) → Answered known wanted (Err stop) out out err err
   unfolding outcome_of
   zones_stop z = record {
     world = record { said = Ok wanted; zones = z.found; local = utc; clock = None; file = None };
-    fits = record { zones = z.sees; behind = no_ok (table_by empty wanted.zones z.found) _ z.answers.stopped };
+    fits = record { zones = z.sees; after = no_ok (table_by empty wanted.zones z.found) _ z.answers.stopped };
     ends = early stop _ out err (stops stop _ (table_by empty wanted.zones z.found) z.answers);
   }
 
-  pub local_stops : (table : ZoneMap) (zone : LocalTime) → ReadsZones (λ table. table) told wanted.zones (Ok table) → StopsAs stop (local_by wanted.local table zone) → Answered told wanted (Err stop) out out err err
+  pub local_stops : (table : ZoneMap) (zone : ClockZone) → ReadsZones (λ table. table) known wanted.zones (Ok table) → StopsAs stop (local_by wanted.local table zone) → Answered known wanted (Err stop) out out err err
   unfolding outcome_of
   local_stops table zone z s = record {
     world = record { said = Ok wanted; zones = z.found; local = zone; clock = None; file = None };
-    fits = record { zones = z.sees; behind = rw z.answers (no_ok (local_by wanted.local table zone) _ s.stopped) };
+    fits = record { zones = z.sees; after = rw z.answers (no_ok (local_by wanted.local table zone) _ s.stopped) };
     ends = early stop _ out err (rw z.answers (stops stop _ (local_by wanted.local table zone) s));
   }
 
-  pub clock_stops : (table : ZoneMap) (local : LocalTime) → ReadsZones (λ table. table) told wanted.zones (Ok table) → FindsLocal (λ zone. zone) wanted.local table (Ok local)
-      → (clock : Option ℤ) → IfNone wanted.now (IsTime told.time clock) → StopsAs stop (present_by wanted.now clock) → Answered told wanted (Err stop) out out err err
+  pub clock_stops : (table : ZoneMap) (local : ClockZone) → ReadsZones (λ table. table) known wanted.zones (Ok table) → FindsLocal (λ zone. zone) wanted.local table (Ok local)
+      → (clock : Option ℤ) → IfNone wanted.now (IsTime known.time clock) → StopsAs stop (present_by wanted.now clock) → Answered known wanted (Err stop) out out err err
   unfolding outcome_of
   clock_stops table local z l clock is_time s =
       let found = rw l.answers at l.is_local in
       record {
         world = record { said = Ok wanted; zones = z.found; local = l.zone; clock = clock; file = None };
-        fits = record { zones = z.sees; behind = rw (z.answers, l.answers) (found, is_time, no_ok (present_by wanted.now clock) _ s.stopped) };
+        fits = record { zones = z.sees; after = rw (z.answers, l.answers) (found, is_time, no_ok (present_by wanted.now clock) _ s.stopped) };
         ends = early stop _ out err (rw (z.answers, l.answers) (stops stop _ (present_by wanted.now clock) s));
       }
 
-pub ran_whole : (told : Told) (wanted : Wanted) (result : Result Status Stop) (out out' err err' : Option (List ℕ)) (table : ZoneMap) (local : LocalTime) (now : ℤ)
-    → ReadsZones (λ table. table) told wanted.zones (Ok table) → FindsLocal (λ zone. zone) wanted.local table (Ok local)
-    → (clock : Option ℤ) → IfNone wanted.now (IsTime told.time clock) → present_by wanted.now clock ≡ Ok now
-    → Runs told (asked_at wanted table local now) result out out' err err' → Answered told wanted result out out' err err'
+pub ran_whole : (known : Known) (wanted : Wanted) (result : Result Status Stop) (out out' err err' : Option (List ℕ)) (table : ZoneMap) (local : ClockZone) (now : ℤ)
+    → ReadsZones (λ table. table) known wanted.zones (Ok table) → FindsLocal (λ zone. zone) wanted.local table (Ok local)
+    → (clock : Option ℤ) → IfNone wanted.now (IsTime known.time clock) → present_by wanted.now clock ≡ Ok now
+    → Runs known (asked_at wanted table local now) result out out' err err' → Answered known wanted result out out' err err'
 unfolding outcome_of
-ran_whole told wanted result out out' err err' table local now z l clock is_time is_now r =
+ran_whole known wanted result out out' err err' table local now z l clock is_time is_now r =
     let found = rw l.answers at l.is_local in
     record {
       world = record { said = Ok wanted; zones = z.found; local = l.zone; clock = clock; file = r.seen };
-      fits = record { zones = z.sees; behind = rw (z.answers, l.answers) (found, is_time, rw is_now r.sees) };
+      fits = record { zones = z.sees; after = rw (z.answers, l.answers) (found, is_time, rw is_now r.sees) };
       ends = rw (z.answers, l.answers, is_now) r.ends;
     }
 
 -- the words came to what is wanted
-pub words_answered : (told : Told) (words : List (List ℕ)) (wanted : Wanted) (result : Result Status Stop) (out out' err err' : Option (List ℕ)) → IsAskOf words (Ok wanted) → Answered told wanted result out out' err err' → AnsweredWords told words result out out' err err'
+pub words_answered : (known : Known) (words : List (List ℕ)) (wanted : Wanted) (result : Result Status Stop) (out out' err err' : Option (List ℕ)) → IsAskOf words (Ok wanted) → Answered known wanted result out out' err err' → AnsweredWords known words result out out' err err'
 unfolding outcome outcome_of
-words_answered told words wanted result out out' err err' asks a = record {
+words_answered known words wanted result out out' err err' asks a = record {
   world = record { said = Ok wanted; zones = a.world.zones; local = a.world.local; clock = a.world.clock; file = a.world.file };
-  fits = record { said = asks; fits = record { zones = a.fits.zones; behind = a.fits.behind } };
+  fits = record { said = asks; fits = record { zones = a.fits.zones; after = a.fits.after } };
   ends = a.ends;
 }
 
@@ -466,9 +466,9 @@ command_stops command.BadLocal = is_stop (Command command.BadLocal) (command_sto
 command_stops command.NoMemory = is_stop (Command command.NoMemory) (command_stop no_memory) refl refl refl
 
 -- or to nothing that can be done
-pub words_refused : (told : Told) (words : List (List ℕ)) (fault : CommandFault) (out err : Option (List ℕ)) → IsAskOf words (Err (fault_said fault)) → AnsweredWords told words (Err (Command fault)) out out err err
+pub words_refused : (known : Known) (words : List (List ℕ)) (fault : CommandFault) (out err : Option (List ℕ)) → IsAskOf words (Err (fault_said fault)) → AnsweredWords known words (Err (Command fault)) out out err err
 unfolding outcome
-words_refused told words fault out err asks = record {
+words_refused known words fault out err asks = record {
   world = record { said = Err (fault_said fault); zones = []; local = utc; clock = None; file = None };
   fits = record { said = asks; fits = tt };
   ends = (command_stops fault, refl, refl);

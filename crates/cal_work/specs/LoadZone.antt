@@ -50,10 +50,10 @@ IsLoadFault old new table name ReadFailed = (is_zone_name name ≡ true) × Came
 IsLoadFault old new table name (Zone fault) = IsZoneLoadFault old new table name fault
 
 -- whether the reader is what failed
-abbrev pub is_read_failed_fault : LoadFault → Bool
-is_read_failed_fault ReadFailed = true
-is_read_failed_fault (Zone fault) = false
+abbrev pub is_reader_fault : LoadFault → Bool
+is_reader_fault ReadFailed = true
+is_reader_fault (Zone fault) = false
 
-abbrev pub is_read_failed : {T : Type 0} → Result T LoadFault → Bool
-is_read_failed (Ok x) = false
-is_read_failed (Err fault) = is_read_failed_fault fault
+abbrev pub is_load_unread : {T : Type 0} → Result T LoadFault → Bool
+is_load_unread (Ok x) = false
+is_load_unread (Err fault) = is_reader_fault fault

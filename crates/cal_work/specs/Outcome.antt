@@ -2,7 +2,7 @@
 use Rattle.std.specs.Prelude.{ℕ, ℤ, pos, Bool, true, false, not, ◌&&◌, int_lt, List, [], ◌∷◌, Option, None, Some, is_some, Result, Ok, Err, if◌then◌else◌}
 use Rattle.std.specs.FinMap.{insert, empty}
 use Rattle.jiff.specs.Types.{TimeZone}
-use Rattle.jiff.specs.Words.{read_whole}
+use Rattle.jiff.specs.Words.{read_whole as rule_read}
 use Rattle.cal_zone.specs.Zone.{utc}
 use Rattle.cal_zone.specs.ZoneMap.{ZoneMap}
 use Rattle.cal_zone.specs.ZoneName.{is_zone_name}
@@ -10,7 +10,7 @@ use Rattle.cal_zone.specs.ZoneTable.{is_taken, zone_named}
 use Rattle.cal_zone.specs.declared.instant.TheConstants.Instant.{LAST}
 use Rattle.cal_bytes.specs.declared.whole.WholeFault.{WholeFault}
 use Rattle.cal_bytes.specs.declared.whole.WholeFault.TheVariants as whole
-use Rattle.cal_zone.specs.declared.zone.Zone.{Zone as LocalTime}
+use Rattle.cal_zone.specs.declared.zone.Zone.{Zone as ClockZone}
 use Rattle.cal_zone.specs.declared.zone_fault.ZoneFault.TheVariants.{BadName, BadFile, TooLarge, NoMemory, NameTaken}
 use Rattle.cal_command.specs.Ask.{Wanted, LocalSaid, in_utc, ahead, by_rule, of_name, ZoneSaid, CommandSaid}
 use Rattle.cal_report.specs.Report.{Report, file_name, report}
@@ -32,7 +32,7 @@ pub record ZoneFound : Type 0 where
 pub record World : Type 0 where
   pub said : Result Wanted CommandSaid
   pub zones : List ZoneFound
-  pub local : LocalTime
+  pub local : ClockZone
   pub clock : Option ℤ
   pub file : Seen
 
@@ -75,10 +75,10 @@ table_by table (item ∷ items) (f ∷ found) =
 
 -- The local zone
 
-unfoldable pub local_by : LocalSaid → ZoneMap → LocalTime → Result LocalTime Said
+unfoldable pub local_by : LocalSaid → ZoneMap → ClockZone → Result ClockZone Said
 local_by in_utc table zone = Ok utc
 local_by (ahead seconds) table zone = Ok zone
-local_by (by_rule rule) table zone = if is_some (read_whole rule) then Ok zone else Err rule_stop
+local_by (by_rule rule) table zone = if is_some (rule_read rule) then Ok zone else Err rule_stop
 local_by (of_name name) table zone = if is_some (zone_named table name) then Ok zone else Err name_stop
 
 -- The present instant
@@ -120,7 +120,7 @@ run_by asked seen = and_then (λ read. Ok (report asked read)) (input_if (is_tim
 
 -- The whole
 
-abbrev pub asked_at : Wanted → ZoneMap → LocalTime → ℤ → Asked
+abbrev pub asked_at : Wanted → ZoneMap → ClockZone → ℤ → Asked
 asked_at wanted table local now = record {
   verb = wanted.verb;
   texts = wanted.texts;
@@ -158,9 +158,9 @@ abbrev pub err_text : Result Report Said → List ℕ
 err_text (Ok report) = report.err
 err_text (Err said) = said.err
 
-abbrev pub whole_status : Result Report Said → ℕ
-whole_status (Ok report) = exit_status report.status
-whole_status (Err said) = said.status
+abbrev pub outcome_status : Result Report Said → ℕ
+outcome_status (Ok report) = exit_status report.status
+outcome_status (Err said) = said.status
 
 -- a report that couldn't be written whole has status 1; a stop keeps its own where its line couldn't be written
 abbrev pub cut_status : Result Report Said → ℕ
@@ -169,7 +169,7 @@ cut_status (Err said) = said.status
 
 -- the status, by what couldn't be written
 abbrev pub ended_status : {T : Type 0} → Result T RunFault → Result Report Said → ℕ
-ended_status (Ok all) outcome = whole_status outcome
+ended_status (Ok all) outcome = outcome_status outcome
 ended_status (Err run.OutFailed) outcome = 1
 ended_status (Err run.ErrFailed) outcome = cut_status outcome
 ended_status (Err run.NoMemory) outcome = 1

@@ -4,22 +4,22 @@ use Rattle.cal_bytes.specs.Whole.{is_read_failed}
 use Rattle.cal_bytes.specs.declared.whole.WholeFault.{WholeFault}
 use Rattle.cal_bytes.specs.declared.whole.WholeFault.TheVariants.{ReadFailed, TooLarge, NoMemory}
 
--- What is told of a system, where `None` is nothing: of the file of each path its bytes, or that it can't be opened,
+-- What is known of a system, where `None` is nothing: of the file of each path its bytes, or that it can't be opened,
 -- and whether reading it may fail; of the clock its seconds of Unix time, or that it gives none.
-pub record Told : Type 0 where
+pub record Known : Type 0 where
   pub file : List ℕ → Option (Option (List ℕ))
   pub may_fail : List ℕ → Bool
   pub time : Option (Option ℤ)
 
-abbrev pub nothing_told : Told
-nothing_told = record { file = λ path. None; may_fail = λ path. true; time = None }
+abbrev pub nothing_known : Known
+nothing_known = record { file = λ path. None; may_fail = λ path. true; time = None }
 
--- the clock gave what is told of it
+-- the clock gave what is known of it
 abbrev pub IsTime : Option (Option ℤ) → Option ℤ → Type 0
 IsTime None came = Unit {0}
 IsTime (Some time) came = came ≡ time
 
--- a file was opened, with these bytes to come where they are told, or couldn't be, as is told of it
+-- a file was opened, with these bytes to come where they are known, or couldn't be, as is known of it
 abbrev pub Opens : Option (Option (List ℕ)) → Option (Option (List ℕ)) → Type 0
 Opens None opened = Unit {0}
 Opens (Some None) opened = opened ≡ None
@@ -31,12 +31,12 @@ Seen = Option (Result (List ℕ) WholeFault)
 
 -- what comes of a file that is open, where at most so many bytes are taken
 abbrev pub Comes : Option (List ℕ) → ℕ → Result (List ℕ) WholeFault → Type 0
-Comes told limit (Ok bytes) = (length bytes ≤ limit) × IfSome told (λ all. bytes ≡ all)
-Comes told limit (Err ReadFailed) = Unit {0}
-Comes told limit (Err TooLarge) = IfSome told (λ all. limit < length all)
-Comes told limit (Err NoMemory) = Unit {0}
+Comes known limit (Ok bytes) = (length bytes ≤ limit) × IfSome known (λ all. bytes ≡ all)
+Comes known limit (Err ReadFailed) = Unit {0}
+Comes known limit (Err TooLarge) = IfSome known (λ all. limit < length all)
+Comes known limit (Err NoMemory) = Unit {0}
 
--- what is seen fits what is told
+-- what is seen fits what is known
 abbrev pub SeesBytes : Option (Option (List ℕ)) → ℕ → Seen → Type 0
 SeesBytes None limit None = Unit {0}
 SeesBytes None limit (Some came) = Comes None limit came
@@ -49,7 +49,7 @@ abbrev pub is_cut : Seen → Bool
 is_cut None = false
 is_cut (Some came) = is_read_failed came
 
--- The file of a path is seen so. No read fails of which it is told that it can't.
-pub record Sees (told : Told) (limit : ℕ) (path : List ℕ) (seen : Seen) : Type 0 where
-  pub bytes : SeesBytes (told.file path) limit seen
-  pub sure : told.may_fail path ≡ false → is_cut seen ≡ false
+-- The file of a path is seen so. No read fails of which it is known that it can't.
+pub record Sees (known : Known) (limit : ℕ) (path : List ℕ) (seen : Seen) : Type 0 where
+  pub bytes : SeesBytes (known.file path) limit seen
+  pub sure : known.may_fail path ≡ false → is_cut seen ≡ false

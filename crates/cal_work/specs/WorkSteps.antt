@@ -3,18 +3,18 @@ use Rattle.std.specs.Prelude.{◌≡◌, ℕ, ℤ, Bool, true, false, List, Opti
 use Rattle.std.specs.FinMap.{empty}
 use Rattle.std.specs.Io.KnownBytes.{Appends}
 use Rattle.jiff.specs.Types.{TimeZone}
-use Rattle.jiff.specs.Words.{read_whole}
+use Rattle.jiff.specs.Words.{read_whole as rule_read}
 use Rattle.jiff.specs.Placed.{IsPosixZone}
 use Rattle.cal_bytes.specs.Bytes.{AppendsFront, Writes}
 use Rattle.cal_zone.specs.ZoneMap.{ZoneMap}
 use Rattle.cal_zone.specs.declared.instant.Instant.{Instant}
-use Rattle.cal_zone.specs.declared.zone.Zone.{Zone as LocalTime}
+use Rattle.cal_zone.specs.declared.zone.Zone.{Zone as ClockZone}
 use Rattle.cal_command.specs.Ask.{Wanted, LocalSaid, in_utc, ahead, by_rule, of_name, ZoneSaid}
-use Rattle.cal_work.specs.Outcome.{World, ZoneFound, loaded, table_by, local_by, clock_by, present_by, outcome, outcome_of, run_by, out_text, err_text, whole_status, ended_status}
+use Rattle.cal_work.specs.Outcome.{World, ZoneFound, loaded, table_by, local_by, clock_by, present_by, outcome, outcome_of, run_by, out_text, err_text, outcome_status, ended_status}
 use Rattle.cal_report.specs.Report.{Report}
 use Rattle.cal_request.specs.Request.{Asked}
 use Rattle.cal_work.specs.Stop.{Said, exit_status, is_for_memory, is_out_stop, is_err_stop, outlet_of, said_of, text_of}
-use Rattle.cal_work.specs.System.{Told, Seen, IsTime}
+use Rattle.cal_work.specs.System.{Known, Seen, IsTime}
 use Rattle.cal_work.specs.Works.{Fits, FitsWords, IsLocal, SeesFile, SeesZone, SeesZones}
 use Rattle.cal_work.specs.declared.zone_files.LoadFault.{LoadFault}
 use Rattle.cal_request.specs.declared.request.RunFault.{RunFault}
@@ -53,15 +53,15 @@ abbrev pub LoadsAs : Result Unit LoadFault → ZoneMap → Result ZoneMap LoadFa
 LoadsAs (Ok done) table come = come ≡ Ok table
 LoadsAs (Err fault) table come = come ≡ Err fault
 
-pub record Loads (told : Told) (before after : ZoneMap) (item : ZoneSaid) (result : Result Unit LoadFault) : Type 0 where
+pub record Loads (known : Known) (before after : ZoneMap) (item : ZoneSaid) (result : Result Unit LoadFault) : Type 0 where
   pub found : ZoneFound
-  pub sees : SeesZone told item found
+  pub sees : SeesZone known item found
   pub loads : LoadsAs result after (loaded before item found)
 
 -- all zone files
-pub record ReadsZones {T : Type 0} (view : T → ZoneMap) (told : Told) (items : List ZoneSaid) (result : Result T Stop) : Type 0 where
+pub record ReadsZones {T : Type 0} (view : T → ZoneMap) (known : Known) (items : List ZoneSaid) (result : Result T Stop) : Type 0 where
   pub found : List ZoneFound
-  pub sees : SeesZones told empty items found
+  pub sees : SeesZones known empty items found
   pub answers : Answers view result (table_by empty items found)
 
 -- the rule of the local zone, where there is one
@@ -69,32 +69,32 @@ abbrev pub HasRules : LocalSaid → Option TimeZone → Type 0
 HasRules in_utc rules = Unit {0}
 HasRules (ahead seconds) rules = Unit {0}
 HasRules (by_rule rule) None = ⊥
-HasRules (by_rule rule) (Some zone) = IsSome (read_whole rule) × IsPosixZone rule zone
+HasRules (by_rule rule) (Some zone) = IsSome (rule_read rule) × IsPosixZone rule zone
 HasRules (of_name name) rules = Unit {0}
 
 -- a rule that `jiff` doesn't read
 abbrev pub IsUnread : LocalSaid → Type 0
 IsUnread in_utc = ⊥
 IsUnread (ahead seconds) = ⊥
-IsUnread (by_rule rule) = IsSome (read_whole rule) → ⊥
+IsUnread (by_rule rule) = IsSome (rule_read rule) → ⊥
 IsUnread (of_name name) = ⊥
 
 -- the local zone
-pub record FindsLocal {T : Type 0} (view : T → LocalTime) (said : LocalSaid) (table : ZoneMap) (result : Result T Stop) : Type 0 where
-  pub zone : LocalTime
+pub record FindsLocal {T : Type 0} (view : T → ClockZone) (said : LocalSaid) (table : ZoneMap) (result : Result T Stop) : Type 0 where
+  pub zone : ClockZone
   pub is_local : IfOk (local_by said table zone) (IsLocal said table)
   pub answers : Answers view result (local_by said table zone)
 
 -- the clock
-pub record Reads {T : Type 0} (view : T → ℤ) (told : Told) (result : Result T Stop) : Type 0 where
+pub record Reads {T : Type 0} (view : T → ℤ) (known : Known) (result : Result T Stop) : Type 0 where
   pub clock : Option ℤ
-  pub is_time : IsTime told.time clock
+  pub is_time : IsTime known.time clock
   pub answers : Answers view result (clock_by clock)
 
 -- the present instant
-pub record Presents {T : Type 0} (view : T → ℤ) (told : Told) (given : Option ℤ) (result : Result T Stop) : Type 0 where
+pub record Presents {T : Type 0} (view : T → ℤ) (known : Known) (given : Option ℤ) (result : Result T Stop) : Type 0 where
   pub clock : Option ℤ
-  pub asked : IfNone given (IsTime told.time clock)
+  pub asked : IfNone given (IsTime known.time clock)
   pub answers : Answers view result (present_by given clock)
 
 -- How the work for what is wanted ended
@@ -112,23 +112,23 @@ StopEnds stop come out out' err err' = StopsAs stop come × (out' ≡ out) × (e
 
 abbrev pub EndsAs : Result Status Stop → Result Report Said → Option (List ℕ) → Option (List ℕ) → Option (List ℕ) → Option (List ℕ) → Type 0
 EndsAs (Ok status) come out out' err err' =
-    (whole_status come ≡ exit_status status) × Appends out out' (out_text come) × Appends err err' (err_text come)
+    (outcome_status come ≡ exit_status status) × Appends out out' (out_text come) × Appends err err' (err_text come)
 EndsAs (Err stop) come out out' err err' = StopEnds stop come out out' err err'
 
 -- the run of a request, with what was seen of its file
-pub record Runs (told : Told) (asked : Asked) (result : Result Status Stop) (out out' err err' : Option (List ℕ)) : Type 0 where
+pub record Runs (known : Known) (asked : Asked) (result : Result Status Stop) (out out' err err' : Option (List ℕ)) : Type 0 where
   pub seen : Seen
-  pub sees : SeesFile told asked seen
+  pub sees : SeesFile known asked seen
   pub ends : EndsAs result (run_by asked seen) out out' err err'
 
-pub record Answered (told : Told) (wanted : Wanted) (result : Result Status Stop) (out out' err err' : Option (List ℕ)) : Type 0 where
+pub record Answered (known : Known) (wanted : Wanted) (result : Result Status Stop) (out out' err err' : Option (List ℕ)) : Type 0 where
   pub world : World
-  pub fits : Fits told wanted world
+  pub fits : Fits known wanted world
   pub ends : EndsAs result (outcome_of wanted world) out out' err err'
 
-pub record AnsweredWords (told : Told) (words : List (List ℕ)) (result : Result Status Stop) (out out' err err' : Option (List ℕ)) : Type 0 where
+pub record AnsweredWords (known : Known) (words : List (List ℕ)) (result : Result Status Stop) (out out' err err' : Option (List ℕ)) : Type 0 where
   pub world : World
-  pub fits : FitsWords told words world
+  pub fits : FitsWords known words world
   pub ends : EndsAs result (outcome world) out out' err err'
 
 -- What is written of it

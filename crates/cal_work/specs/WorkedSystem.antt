@@ -2,10 +2,10 @@
 use Rattle.std.specs.Prelude.{false, [], None, Some, Ok, pos}
 use Rattle.cal_command.specs.WorkedWords.{daily_wanted}
 use Rattle.cal_work.specs.Outcome.{World}
-use Rattle.cal_work.specs.System.{Told}
+use Rattle.cal_work.specs.System.{Known}
 use Rattle.cal_zone.specs.Zone.{utc}
 
-abbrev pub bare_system : Told
+abbrev pub bare_system : Known
 bare_system = record { file = λ path. Some None; may_fail = λ path. false; time = Some (Some (pos 0)) }
 
 -- what the work takes from it

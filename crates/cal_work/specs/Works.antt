@@ -5,7 +5,7 @@ use Rattle.std.specs.FinMap.{empty}
 use Rattle.std.specs.Io.KnownBytes.{Keeps, Appends, append_known}
 use Rattle.jiff.specs.Placed.{IsPosixZone}
 use Rattle.jiff.specs.Types.{TimeZone, Offset}
-use Rattle.jiff.specs.Words.{fixed_zone, read_whole}
+use Rattle.jiff.specs.Words.{fixed_zone, read_whole as rule_read}
 use Rattle.cal_bytes.specs.Bytes.{AppendsFront, Writes}
 use Rattle.cal_zone.specs.Zone.{is_utc, utc, zone_of}
 use Rattle.cal_zone.specs.ZoneFile.{file_limit, IsFileFault, IsFileZone}
@@ -13,20 +13,20 @@ use Rattle.cal_zone.specs.ZoneMap.{ZoneMap}
 use Rattle.cal_zone.specs.ZoneName.{is_utc_name, is_zone_name}
 use Rattle.cal_zone.specs.ZoneTable.{zone_named}
 use Rattle.cal_bytes.specs.declared.whole.WholeFault.{WholeFault}
-use Rattle.cal_zone.specs.declared.zone.Zone.{Zone as LocalTime}
+use Rattle.cal_zone.specs.declared.zone.Zone.{Zone as ClockZone}
 use Rattle.cal_zone.specs.declared.zone_fault.ZoneFault.TheVariants.{BadFile}
-use Rattle.cal_read.specs.TimerText.{most_bytes}
+use Rattle.cal_read.specs.TimerText.{most_file_bytes}
 use Rattle.cal_command.specs.Ask.{Wanted, LocalSaid, in_utc, ahead, by_rule, of_name, ZoneSaid, CommandSaid}
 use Rattle.cal_command.specs.CommandLine.{IsAskOf}
 use Rattle.cal_work.specs.Outcome.{World, ZoneFound, loaded, table_by, local_by, present_by, asked_at, outcome, out_text, err_text, ended_status}
 use Rattle.cal_report.specs.Report.{file_name}
 use Rattle.cal_request.specs.Request.{Asked, is_timer}
 use Rattle.cal_work.specs.Stop.{Said, fault_stop}
-use Rattle.cal_work.specs.System.{Told, Seen, Sees, IsTime}
+use Rattle.cal_work.specs.System.{Known, Seen, Sees, IsTime}
 use Rattle.cal_request.specs.declared.request.RunFault.{RunFault}
 use Rattle.cal_work.specs.declared.words_to_bytes.Ended.{Ended}
 
--- The world fits what is told, as far as it was asked
+-- The world fits what is known, as far as it was asked
 
 -- the zone that `jiff` reads from a zone file, or that it reads none
 abbrev pub IsReadZone : List ℕ → List ℕ → Option TimeZone → Type 0
@@ -38,19 +38,19 @@ ReadsZone name None read = Unit {0}
 ReadsZone name (Some (Err fault)) read = Unit {0}
 ReadsZone name (Some (Ok bytes)) read = is_zone_name name ≡ true → IsReadZone name bytes read
 
-pub record SeesZone (told : Told) (item : ZoneSaid) (found : ZoneFound) : Type 0 where
-  pub sees : Sees told file_limit item.path found.seen
+pub record SeesZone (known : Known) (item : ZoneSaid) (found : ZoneFound) : Type 0 where
+  pub sees : Sees known file_limit item.path found.seen
   pub reads : ReadsZone item.name found.seen found.zone
 
 -- each zone file in order is found so, up to the first that can't be loaded
-abbrev pub SeesZones : Told → ZoneMap → List ZoneSaid → List ZoneFound → Type 0
-SeesZones told table [] found = Unit {0}
-SeesZones told table (item ∷ items) [] = ⊥
-SeesZones told table (item ∷ items) (f ∷ found) =
-    SeesZone told item f × IfOk (loaded table item f) (λ more. SeesZones told more items found)
+abbrev pub SeesZones : Known → ZoneMap → List ZoneSaid → List ZoneFound → Type 0
+SeesZones known table [] found = Unit {0}
+SeesZones known table (item ∷ items) [] = ⊥
+SeesZones known table (item ∷ items) (f ∷ found) =
+    SeesZone known item f × IfOk (loaded table item f) (λ more. SeesZones known more items found)
 
 -- the local zone is the one that is said, as `jiff` has it
-abbrev pub IsLocal : LocalSaid → ZoneMap → LocalTime → Type 0
+abbrev pub IsLocal : LocalSaid → ZoneMap → ClockZone → Type 0
 IsLocal in_utc table zone = zone ≡ utc
 IsLocal (ahead seconds) table zone =
     (is_utc zone ≡ false) × ((offset : Offset) → offset.seconds ≡ seconds → zone_of zone ≡ fixed_zone offset)
@@ -58,34 +58,34 @@ IsLocal (by_rule rule) table zone = (is_utc zone ≡ false) × IsPosixZone rule 
 IsLocal (of_name name) table zone = (is_utc zone ≡ is_utc_name name) × (zone_named table name ≡ Some (zone_of zone))
 
 -- the file of a timer is seen so
-abbrev pub SeesIf : Bool → Told → List ℕ → Seen → Type 0
-SeesIf true told path seen = Sees told most_bytes path seen
-SeesIf false told path seen = Unit {0}
+abbrev pub SeesIf : Bool → Known → List ℕ → Seen → Type 0
+SeesIf true known path seen = Sees known most_file_bytes path seen
+SeesIf false known path seen = Unit {0}
 
-abbrev pub SeesFile : Told → Asked → Seen → Type 0
-SeesFile told asked seen = SeesIf (is_timer asked.verb) told (file_name asked) seen
+abbrev pub SeesFile : Known → Asked → Seen → Type 0
+SeesFile known asked seen = SeesIf (is_timer asked.verb) known (file_name asked) seen
 
-abbrev pub FitsAt : Told → Wanted → World → ZoneMap → Type 0
-FitsAt told wanted world table =
+abbrev pub FitsAt : Known → Wanted → World → ZoneMap → Type 0
+FitsAt known wanted world table =
     IfOk (local_by wanted.local table world.local) (λ local. IsLocal wanted.local table local
-    × IfNone wanted.now (IsTime told.time world.clock)
-    × IfOk (present_by wanted.now world.clock) (λ now. SeesFile told (asked_at wanted table local now) world.file))
+    × IfNone wanted.now (IsTime known.time world.clock)
+    × IfOk (present_by wanted.now world.clock) (λ now. SeesFile known (asked_at wanted table local now) world.file))
 
-pub record Fits (told : Told) (wanted : Wanted) (world : World) : Type 0 where
-  pub zones : SeesZones told empty wanted.zones world.zones
-  pub behind : IfOk (table_by empty wanted.zones world.zones) (FitsAt told wanted world)
+pub record Fits (known : Known) (wanted : Wanted) (world : World) : Type 0 where
+  pub zones : SeesZones known empty wanted.zones world.zones
+  pub after : IfOk (table_by empty wanted.zones world.zones) (FitsAt known wanted world)
 
 -- and so do the words
-pub record FitsWords (told : Told) (words : List (List ℕ)) (world : World) : Type 0 where
+pub record FitsWords (known : Known) (words : List (List ℕ)) (world : World) : Type 0 where
   pub said : IsAskOf words world.said
-  pub fits : IfOk world.said (λ wanted. Fits told wanted world)
+  pub fits : IfOk world.said (λ wanted. Fits known wanted world)
 
 -- What is written
 
--- all of a text, or a front of it and no more behind a buffer that couldn't be written out
+-- all of a text, or a front of it and no more through a buffer that couldn't be written out
 abbrev pub Reaches : {T : Type 0} → Option (List ℕ) → Option (List ℕ) → Result T RunFault → List ℕ → Type 0
-Reaches old behind (Ok all) text = Appends old behind text
-Reaches old behind (Err fault) text = (held : List ℕ) × AppendsFront old (append_known behind held) text
+Reaches old reached (Ok all) text = Appends old reached text
+Reaches old reached (Err fault) text = (held : List ℕ) × AppendsFront old (append_known reached held) text
 
 -- the line of a fault, or a front of it where standard error fails
 abbrev pub TellsFault : {T : Type 0} → Option (List ℕ) → Option (List ℕ) → Bool → Result T RunFault → Type 0
@@ -100,9 +100,9 @@ pub record Tells {T : Type 0} (old new : Option (List ℕ)) (failed : Bool) (wri
   pub line : TellsFault before new failed written
 
 -- the whole of the program's work
-pub record Works (told : Told) (words : List (List ℕ)) (out behind err err' : Option (List ℕ)) (err_failed : Bool) (ended : Ended) : Type 0 where
+pub record Works (known : Known) (words : List (List ℕ)) (out reached err err' : Option (List ℕ)) (err_failed : Bool) (ended : Ended) : Type 0 where
   pub world : World
-  pub fits : FitsWords told words world
+  pub fits : FitsWords known words world
   pub status : ended.status ≡ ended_status ended.written (outcome world)
-  pub out_bytes : Reaches out behind ended.written (out_text (outcome world))
+  pub out_bytes : Reaches out reached ended.written (out_text (outcome world))
   pub err_bytes : Tells err err' err_failed ended.written (err_text (outcome world))

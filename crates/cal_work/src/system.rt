@@ -1,7 +1,7 @@
 //! What the program takes from outside beside its words: files and the clock.
 
 ghost use Rattle.std.specs.Prelude.{◌≡◌, false, option_map, IfSome};
-ghost use Rattle.cal_work.specs.System.{nothing_told, IsTime, Opens, Told};
+ghost use Rattle.cal_work.specs.System.{nothing_known, IsTime, Opens, Known};
 
 use cal_bytes::Source;
 
@@ -12,12 +12,12 @@ pub trait System {
     /// A file that is open.
     type File: Source + Drop;
 
-    /// What is told.
-    ghost tells: { Self → Told } = { λ _. nothing_told };
+    /// What is known.
+    ghost tells: { Self → Known } = { λ _. nothing_known };
 
     /// Opens the file of that path, or answers `None` where it can't be opened.
     fn open(&self, path: &str) -> Option<Self::File>
-        ensures told { Opens ((tells self.now).file path.now) (option_map Self.File.remaining result) }
+        ensures known { Opens ((tells self.now).file path.now) (option_map Self.File.remaining result) }
         ensures sure { IfSome result (λ file. Self.File.may_fail file ≡ (tells self.now).may_fail path.now) }
         ensures works { IfSome result (λ file. Self.File.is_failed file ≡ false) };
 

@@ -41,7 +41,7 @@ pub struct Ended {
 ///
 /// The status is that of the report or of the stop; it is 1 where `out` fails or memory is refused, and where `err`
 /// fails in a report. Where it failed, each output has a front of its whole text, and `err` the line of the fault
-/// behind it.
+/// after it.
 pub fn work<S: System, O: Output, E: Sink>(
     alloc: Global,
     system: &S,
@@ -51,18 +51,18 @@ pub fn work<S: System, O: Output, E: Sink>(
 ) -> Ended
     requires out { O.is_failed out.old ≡ false }
     requires err { E.is_failed err.old ≡ false }
-    ensures works { Works (S.tells system.now) (texts_of words.now) (O.written out.old) (O.behind out.new)
+    ensures works { Works (S.tells system.now) (texts_of words.now) (O.written out.old) (O.reached out.new)
         (E.written err.old) (E.written err.new) (E.is_failed err.new) result }
     ensures out_fault { is_out_failed result.written ≡ true → O.is_failed out.new ≡ true }
     ensures out_failed { O.is_failed out.new ≡ true → is_err result.written ≡ true }
     ensures err_fault { is_err_failed result.written ≡ true → E.is_failed err.new ≡ true }
 {
     let answered = answer_words(alloc, system, words, out, err);
-    let told = tell(&answered, out, err);
-    let written = settled(told.written, out);
+    let reported = tell(&answered, out, err);
+    let written = settled(reported.written, out);
     tell_fault(written, err);
     Ended {
-        status: status_by(written, told.status),
+        status: status_by(written, reported.status),
         written,
     }
 }
@@ -315,7 +315,7 @@ fn open_file<S: System>(alloc: Global, system: &S, path: &str) -> Result<S::File
 fn tell<O: Sink, E: Sink>(answered: &Result<Status, Stop>, out: &mut O, err: &mut E) -> Ended
     requires out { O.is_failed out.old ≡ is_out_cut answered.now }
     requires err { E.is_failed err.old ≡ is_err_cut answered.now }
-    ensures told { (come : Result Report Said) (before_out before_err : Option (List ℕ))
+    ensures reported { (come : Result Report Said) (before_out before_err : Option (List ℕ))
         → EndsAs answered.now come before_out (O.written out.old) before_err (E.written err.old)
         → WritesOf result.written result.status come before_out (O.written out.new) before_err (E.written err.new) }
     ensures out_failed { O.is_failed out.new ≡ is_out_failed result.written }
@@ -337,7 +337,7 @@ fn tell<O: Sink, E: Sink>(answered: &Result<Status, Stop>, out: &mut O, err: &mu
 fn tell_stop<O: Sink, E: Sink>(stop: &Stop, out: &mut O, err: &mut E) -> Result<(), RunFault>
     requires out { O.is_failed out.old ≡ is_out_stop stop.now }
     requires err { E.is_failed err.old ≡ is_err_stop stop.now }
-    ensures told { TellsStop stop.now result (O.written out.old) (O.written out.new) (E.written err.old) (E.written err.new) }
+    ensures reported { TellsStop stop.now result (O.written out.old) (O.written out.new) (E.written err.old) (E.written err.new) }
     ensures out_failed { O.is_failed out.new ≡ is_out_failed result }
     ensures err_failed { E.is_failed err.new ≡ is_err_failed result }
 {
@@ -358,7 +358,7 @@ fn tell_stop<O: Sink, E: Sink>(stop: &Stop, out: &mut O, err: &mut E) -> Result<
 fn settled<O: Output>(written: Result<(), RunFault>, out: &mut O) -> Result<(), RunFault>
     requires { O.is_failed out.old ≡ is_out_failed written }
     ensures bytes { (before : Option (List ℕ)) (text : List ℕ) → Writes before (O.written out.old) written text
-        → Reaches before (O.behind out.new) result text }
+        → Reaches before (O.reached out.new) result text }
     ensures same { IsSettled written result }
     ensures out_fault { is_out_failed result ≡ true → O.is_failed out.new ≡ true }
     ensures out_failed { O.is_failed out.new ≡ true → is_err result ≡ true }

@@ -4,17 +4,17 @@ ghost use Rattle.std.specs.Prelude.{◌≡◌, true, List, ℕ};
 ghost use Rattle.cal_command.specs.CommandLine.{asked_in, takes_words};
 ghost use Rattle.cal_command.specs.WorkedWords.{daily_words};
 ghost use Rattle.cal_work.specs.Outcome.{World, outcome};
-ghost use Rattle.cal_work.specs.System.{Told};
-ghost use Rattle.cal_work.specs.WorkLaw.{IsOr, TellsAll, told_outcome};
+ghost use Rattle.cal_work.specs.System.{Known};
+ghost use Rattle.cal_work.specs.WorkLaw.{IsOr, TellsAll, known_outcome};
 ghost use Rattle.cal_work.specs.WorkedSystem.{bare_system, daily_world};
 ghost use Rattle.cal_work.specs.Works.{FitsWords};
 
 /// Where the system tells all of its files and its clock, no read fails and `clap` takes the words, the outcome in any
-/// world that fits is the one that goes by the words and what is told, and by the zones that `jiff` reads there; or
+/// world that fits is the one that goes by the words and what is known, and by the zones that `jiff` reads there; or
 /// memory was refused.
-pub fn told_systems_decide()
-    ensures { (told : Told) (words : List (List ℕ)) (world : World) → TellsAll told → takes_words words ≡ true
-        → FitsWords told words world → IsOr (outcome world) (told_outcome told (asked_in words) world) }
+pub fn known_systems_decide()
+    ensures { (known : Known) (words : List (List ℕ)) (world : World) → TellsAll known → takes_words words ≡ true
+        → FitsWords known words world → IsOr (outcome world) (known_outcome known (asked_in words) world) }
 {}
 
 /// What that law asks for can be: by a system without files whose clock gives 0, by the words `calendar daily`, and by

@@ -1,7 +1,7 @@
 //! Zone files that are read into the table of zones.
 
 ghost use Rattle.std.specs.Prelude.{◌≡◌, false, MatchResult, OnErr};
-ghost use Rattle.cal_work.specs.LoadZone.{is_read_failed, IsLoaded, IsLoadFault};
+ghost use Rattle.cal_work.specs.LoadZone.{is_load_unread, IsLoaded, IsLoadFault};
 
 use cal_bytes::{Source, WholeFault, read_whole};
 use cal_zone::{Rules, ZoneFault, ZoneTable, is_zone_name};
@@ -43,7 +43,7 @@ pub fn load_zone<R: Source>(
     from: &mut R,
 ) -> Result<(), LoadFault>
     requires { R.is_failed from.old ≡ false }
-    ensures failed { R.is_failed from.new ≡ is_read_failed result }
+    ensures failed { R.is_failed from.new ≡ is_load_unread result }
     ensures loaded { MatchResult result
         (λ _. IsLoaded (R.remaining from.old) (R.remaining from.new) table.old table.new name.now)
         (IsLoadFault (R.remaining from.old) (R.remaining from.new) table.old name.now) }

@@ -8,7 +8,7 @@ use Rattle.jiff_tz.specs.Tzif as Table
 use Rattle.jiff_tz.specs.Zone.{zero_in_range}
 use Rattle.cal_zone.specs.declared.rules.Rules.{Rules}
 use Rattle.cal_zone.specs.declared.zone.Ahead.{Ahead}
-use Rattle.cal_zone.specs.declared.zone.Kind.TheVariants.{Utc, Offset as AtOffset, Rules as ByRules}
+use Rattle.cal_zone.specs.declared.zone.ZoneKind.TheVariants.{Utc, Offset as AtOffset, Rules as ByRules}
 use Rattle.cal_zone.specs.declared.zone.Zone.{Zone}
 use Rattle.cal_zone.specs.Zone.{offset_of, zone_of, zone_of_kind}
 

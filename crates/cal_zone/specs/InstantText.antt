@@ -27,7 +27,7 @@ unfoldable pub time_text : ℕ → ℕ → ℕ → List ℕ
 time_text hour minute second =
     joined (zeros 2 hour ∷ decimal hour ∷ codes ":" ∷ zeros 2 minute ∷ decimal minute ∷ codes ":" ∷ zeros 2 second ∷ decimal second ∷ [])
 
--- `-` for a clock behind UTC, and else `+`
+-- `-` for a clock after UTC, and else `+`
 abbrev pub sign_text : ℤ → List ℕ
 sign_text offset = if int_lt offset (pos 0) then codes "-" else codes "+"
 
@@ -44,11 +44,11 @@ offset_text offset =
     if second == 0 then joined (minutes_pieces offset)
     else joined (minutes_pieces offset ++ (codes ":" ∷ zeros 2 second ∷ decimal second ∷ []))
 
--- the word of a zone behind a time: `UTC` for UTC itself, and else how far its clock is ahead
+-- the word of a zone after a time: `UTC` for UTC itself, and else how far its clock is ahead
 unfoldable pub zone_word : Bool → ℤ → List ℕ
 zone_word is_utc offset = if is_utc then codes "UTC" else offset_text offset
 
--- what a clock shows: weekday, date and time, each with a space behind it
+-- what a clock shows: weekday, date and time, each with a space after it
 unfoldable pub shown_text : Civil → List ℕ
 shown_text c =
     joined (weekday_name c.weekday ∷ codes " " ∷ date_text c ∷ codes " " ∷ time_text c.hour c.minute c.second ∷ codes " " ∷ [])

@@ -6,7 +6,7 @@ ghost use Rattle.cal_zone.specs.Civil.{civil_of, shown_at};
 ghost use Rattle.cal_zone.specs.Local.{civil_date};
 ghost use Rattle.cal_zone.specs.Zone.{offset_of, zone_of};
 
-use crate::zone::{Ahead, Kind};
+use crate::zone::{Ahead, ZoneKind};
 use crate::{Civil, Instant, Zone};
 use jiff::Timestamp;
 use jiff::civil::{Date, DateTime};
@@ -42,9 +42,9 @@ fn offset_in(zone: Zone, timestamp: Timestamp) -> Offset
     ensures { result.seconds ≡ offset_at (zone_of zone.entry) timestamp.nanosecond }
 {
     match zone.kind {
-        Kind::Utc => Offset::UTC,
-        Kind::Offset(ahead) => fixed_offset(ahead),
-        Kind::Rules(rules) => rules.offset(timestamp),
+        ZoneKind::Utc => Offset::UTC,
+        ZoneKind::Offset(ahead) => fixed_offset(ahead),
+        ZoneKind::Rules(rules) => rules.offset(timestamp),
     }
 }
 

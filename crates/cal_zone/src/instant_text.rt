@@ -82,7 +82,7 @@ fn push_civil(text: &mut ShortText, shown: &Civil)
     );
 }
 
-/// Appends the word of a zone behind a time: `UTC` for UTC itself, and otherwise how far its clock is ahead.
+/// Appends the word of a zone after a time: `UTC` for UTC itself, and otherwise how far its clock is ahead.
 #[tactic(auto, unfolding(crate::specs::InstantText::zone_word))]
 fn push_zone(text: &mut ShortText, is_utc: bool, offset: i32)
     requires room { length text.old.items + 40 ≤ ROOM }
@@ -127,7 +127,7 @@ fn push_offset(text: &mut ShortText, offset: i32)
     }
 }
 
-/// `-` for a clock behind UTC, and otherwise `+`.
+/// `-` for a clock after UTC, and otherwise `+`.
 fn sign<'a>(offset: i32) -> &'a [u8]
     ensures { result.now ≡ sign_text offset }
 {

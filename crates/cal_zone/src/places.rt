@@ -6,7 +6,7 @@ ghost use Rattle.cal_zone.specs.Local.{CanSettle, IsLocalSecond, IsNearSettled};
 ghost use Rattle.cal_zone.specs.Place.{datetime_of, place_of, settle_of};
 ghost use Rattle.cal_zone.specs.Zone.{local_of, zone_of};
 
-use crate::zone::{Ahead, Kind};
+use crate::zone::{Ahead, ZoneKind};
 use crate::{Rules, Zone};
 use jiff::Timestamp;
 use jiff::civil::DateTime;
@@ -23,9 +23,9 @@ pub fn place(zone: Zone, local: i64) -> Option<i64>
     ensures { result ≡ place_of (zone_of zone.entry) local }
 {
     match zone.kind {
-        Kind::Utc => Some(local),
-        Kind::Offset(ahead) => Some(unix_second(ahead, local)),
-        Kind::Rules(rules) => place_by(rules, local),
+        ZoneKind::Utc => Some(local),
+        ZoneKind::Offset(ahead) => Some(unix_second(ahead, local)),
+        ZoneKind::Rules(rules) => place_by(rules, local),
     }
 }
 
@@ -38,9 +38,9 @@ pub fn settle(zone: Zone, local: i64) -> i64
     ensures near { IsOffsetSeconds (local -ℤ result) }
 {
     match zone.kind {
-        Kind::Utc => local,
-        Kind::Offset(ahead) => unix_second(ahead, local),
-        Kind::Rules(rules) => settle_by(rules, local),
+        ZoneKind::Utc => local,
+        ZoneKind::Offset(ahead) => unix_second(ahead, local),
+        ZoneKind::Rules(rules) => settle_by(rules, local),
     }
 }
 

@@ -16,11 +16,11 @@ use std::marker::Model;
 /// The rules by which a zone's clock goes: those of a POSIX rule or of a zone file, as `jiff` reads them.
 #[derive(Debug, Drop)]
 pub struct Rules {
-    kind: Kind,
+    kind: RulesKind,
 }
 
 #[derive(Debug, Drop)]
-enum Kind {
+enum RulesKind {
     Posix(TimeZone<'static>),
     File(Tzif),
 }
@@ -30,9 +30,9 @@ impl Model for Rules {
 
     ghost Value = { TimeZone };
 
-    ghost use Rattle.cal_zone.specs.Rules.{zone_in};
+    ghost use Rattle.cal_zone.specs.Rules.{zone_of_rules};
 
-    ghost view = { λ rules. zone_in rules.kind };
+    ghost view = { λ rules. zone_of_rules rules.kind };
 }
 
 impl Rules {
@@ -50,7 +50,7 @@ impl Rules {
         let _ = alloc;
         match TimeZone::posix(rule) {
             Ok(zone) => Ok(Rules {
-                kind: Kind::Posix(zone),
+                kind: RulesKind::Posix(zone),
             }),
             Err(_) => Err(ZoneFault::BadRule),
         }
@@ -74,7 +74,7 @@ impl Rules {
         }
         match Tzif::parse(alloc, Some(name), bytes) {
             Ok(table) => Ok(Rules {
-                kind: Kind::File(table),
+                kind: RulesKind::File(table),
             }),
             Err(Error::OutOfMemory) => Err(ZoneFault::NoMemory),
             Err(_) => Err(ZoneFault::BadFile),
@@ -87,8 +87,8 @@ impl Rules {
         ensures of { (shown : DateTime) → ambiguous_at (plain_zone result) shown ≡ ambiguous_at self.now shown }
     {
         match &self.kind {
-            Kind::Posix(zone) => *zone,
-            Kind::File(table) => TimeZone::tzif(table),
+            RulesKind::Posix(zone) => *zone,
+            RulesKind::File(table) => TimeZone::tzif(table),
         }
     }
 

@@ -9,11 +9,11 @@ use crate::Rules;
 /// How a civil clock is reckoned: as UTC, at a fixed offset, or by rules.
 #[derive(Clone, Copy)]
 pub struct Zone<'t> {
-    pub(crate) kind: Kind<'t>,
+    pub(crate) kind: ZoneKind<'t>,
 }
 
 #[derive(Clone, Copy)]
-pub(crate) enum Kind<'t> {
+pub(crate) enum ZoneKind<'t> {
     Utc,
     Offset(Ahead),
     Rules(&'t Rules),
@@ -33,27 +33,29 @@ impl<'t> Zone<'t> {
     pub fn utc() -> Zone<'static>
         ensures { result ≡ utc }
     {
-        Zone { kind: Kind::Utc }
+        Zone {
+            kind: ZoneKind::Utc,
+        }
     }
 
-    /// The zone whose clock is always that many seconds ahead of UTC. It is told from UTC also where these are 0.
+    /// The zone whose clock is always that many seconds ahead of UTC. It is distinguished from UTC also where these are 0.
     pub fn offset(seconds: i32) -> Zone<'static>
         requires { IsOffsetSeconds seconds }
         ensures zone { (offset : Offset) → offset.seconds ≡ seconds → zone_of result ≡ fixed_zone offset }
-        ensures told { is_utc result ≡ false }
+        ensures distinct { is_utc result ≡ false }
     {
         Zone {
-            kind: Kind::Offset(Ahead { seconds }),
+            kind: ZoneKind::Offset(Ahead { seconds }),
         }
     }
 
     /// The zone whose clock goes by these rules.
     pub fn rules(rules: &'t Rules) -> Zone<'t>
         ensures zone { zone_of result ≡ rules.now }
-        ensures told { is_utc result ≡ false }
+        ensures distinct { is_utc result ≡ false }
     {
         Zone {
-            kind: Kind::Rules(rules),
+            kind: ZoneKind::Rules(rules),
         }
     }
 
@@ -61,6 +63,6 @@ impl<'t> Zone<'t> {
     pub fn is_utc(self) -> bool
         ensures { result ≡ is_utc self.entry }
     {
-        matches!(self.kind, Kind::Utc)
+        matches!(self.kind, ZoneKind::Utc)
     }
 }

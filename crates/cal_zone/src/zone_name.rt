@@ -5,7 +5,7 @@ ghost use Rattle.std.specs.List.{list_all};
 ghost use Rattle.cal_zone.specs.ZoneName.{begins_with_letter, is_utc_name, is_zone_byte, is_zone_name};
 
 /// The most bytes that the name of a zone may have.
-const MOST_BYTES: usize = 255;
+const MOST_NAME_BYTES: usize = 255;
 
 /// Whether the text has the form of a zone's name (systemd.time(7), Calendar Events): a letter followed by letters,
 /// digits, `/`, `_`, `+` and `-`, at most 255 bytes in all.
@@ -13,7 +13,7 @@ const MOST_BYTES: usize = 255;
 pub fn is_zone_name(text: &[u8]) -> bool
     ensures { result ≡ is_zone_name text.now }
 {
-    begins_with_letter(text) && are_zone_bytes(text) && text.len() <= MOST_BYTES
+    begins_with_letter(text) && are_zone_bytes(text) && text.len() <= MOST_NAME_BYTES
 }
 
 /// Whether the text begins with a letter.

@@ -81,7 +81,7 @@ impl ZoneTable {
     #[tactic(auto, unfolding(crate::specs::Zone::zone_of, crate::specs::ZoneTable::zone_named))]
     pub fn find(&self, name: &str) -> Option<Zone<'_>>
         ensures zone { option_map zone_of result ≡ zone_named self.now name.now }
-        ensures told { IfSome result (λ zone. is_utc zone ≡ is_utc_name name.now) }
+        ensures distinct { IfSome result (λ zone. is_utc zone ≡ is_utc_name name.now) }
     {
         if is_utc_name(name) {
             return Some(Zone::utc());

@@ -1,7 +1,7 @@
 //! How often elapses search: once at first, and once for each match that is placed.
 
 ghost use Rattle.cal_elapse.specs.Searched.{IsSearched};
-ghost use Rattle.cal_elapse.specs.Window.{timed_in};
+ghost use Rattle.cal_elapse.specs.Window.{timed_of};
 
 use super::{elapses_of, has_local};
 use crate::shared::{FORWARD_AND_BACK, NEW_YEAR, SUMMER_TIME, expr, posix};
@@ -27,7 +27,7 @@ fn searches_of_every_second(rt: HostRuntime) -> Result<(), Fail> {
 
 /// The next elapse, and how many searches were made by then: one more than the local seconds that match up to it.
 fn next_counted(elapses: &mut Elapses<'_>) -> (Option<i64>, u64)
-    ensures { IsSearched (timed_in elapses.old) elapses.old.base result.0 result.1 }
+    ensures { IsSearched (timed_of elapses.old) elapses.old.base result.0 result.1 }
 {
     let elapse = elapses.next();
     (elapse, elapses.searches())

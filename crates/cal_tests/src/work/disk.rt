@@ -203,12 +203,12 @@ fn check_cut_out(
         status: 1,
         written: Err(RunFault::OutFailed),
     };
-    let told = "calendar-analyze: output failed\n";
+    let line = "calendar-analyze: output failed\n";
     let err = err.into_inner();
     let (writer, _left) = out.into_inner().into_parts();
     assert_eq!(rt;
         (ended, Some(writer.bytes()), err.as_slice()),
-        (want, whole.get(..3), told.as_bytes()),
+        (want, whole.get(..3), line.as_bytes()),
         "at {words:?}"
     );
     Ok(())

@@ -2,7 +2,7 @@ use Rattle.std.proofs.Common.{◌∙◌, ap, sym, rules}
 use Rattle.clap.specs.Words.{fault_of, is_simple, is_simple_and_free, kind_of, subcommand_of, takes}
 use Rattle.cal_command.specs.Ask.{fault_said, texts_of}
 use Rattle.cal_command.specs.CommandLine.{faults_in, given_in, parsed_in, takes_words}
-use Rattle.cal_command.proofs.CommandLineLemmas.{is_free_command, is_simple_command, told_fault}
+use Rattle.cal_command.proofs.CommandLineLemmas.{is_free_command, is_simple_command, reported_fault}
 use Rattle.cal_command.proofs.command_line.parse.Goals as goal
 
 pub returns-in-Ok-clause-faults : goal.returns-in-Ok-clause-faults
@@ -22,5 +22,5 @@ unfolding faults_in takes_words
 returns-in-Err-clause-fault c =
     let app = c.in_ok-command.ensures in
     let words = texts_of c.args.words.now in
-    told_fault words (kind_of c.in-Err.error) (fault_said c.told.result) (λ taken. c.in-Err.ensures.passes (ap (λ a. takes a words) app ∙ taken))
-    (rw (ap (λ a. fault_of a words) app) at (c.in-Err.ensures.kinds (ap is_simple_and_free app ∙ is_free_command))) c.told.ensures
+    reported_fault words (kind_of c.in-Err.error) (fault_said c.reported.result) (λ taken. c.in-Err.ensures.passes (ap (λ a. takes a words) app ∙ taken))
+    (rw (ap (λ a. fault_of a words) app) at (c.in-Err.ensures.kinds (ap is_simple_and_free app ∙ is_free_command))) c.reported.ensures

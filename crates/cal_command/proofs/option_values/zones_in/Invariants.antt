@@ -1,6 +1,6 @@
 use Rattle.std.proofs.Common.{map, vec_len}
 use Rattle.std.specs.Option.{option_copied}
-use Rattle.cal_spec.specs.Pieces.{left, pieces_behind}
+use Rattle.cal_spec.specs.Pieces.{left, pieces_after}
 use Rattle.cal_command.specs.Ask.{zone_said}
 use Rattle.cal_command.specs.OptionValues.{is_comma}
 use Rattle.cal_command.proofs.OptionLemmas.{ZonesRead}
@@ -8,7 +8,7 @@ use Rattle.cal_command.proofs.option_values.zones_in.Given as goal
 
 -- the items so far with those that are left
 abbrev pub invariant-loop-rest : goal.invariant-loop-rest
-invariant-loop-rest l = ZonesRead (map zone_said l.items.items) (vec_len l.items) (pieces_behind is_comma (option_copied l.rest)) l.fn.text
+invariant-loop-rest l = ZonesRead (map zone_said l.items.items) (vec_len l.items) (pieces_after is_comma (option_copied l.rest)) l.fn.text
 
 abbrev pub decreases-loop-rest : goal.decreases-loop-rest
 decreases-loop-rest l = left (option_copied l.rest)

@@ -13,8 +13,8 @@ returns-in_default-first_set c =
     let n = c.args.from / 64 + 1 in
     let none : position is_set (drop n c.args.words.now) ≡ None = ap (position is_set) (sym c.split_at.ensures.back) ∙ (sym c.first_set.ensures ∙ c.in_default-first_set.is) in
     let long = c.requires.whole in
-    let behind = length-drop n c.args.words.now in
-    found_nowhere c.args.words.now c.args.from c.requires.whole c.requires.inside (omega (arith, behind, long)) c.in_default.ensures none
+    let after = length-drop n c.args.words.now in
+    found_nowhere c.args.words.now c.args.from c.requires.whole c.requires.inside (omega (arith, after, long)) c.in_default.ensures none
 
 pub lowest_bit-requires : goal.lowest_bit-requires
 lowest_bit-requires c =
@@ -29,7 +29,7 @@ returns c =
     let some : position is_set (drop n c.args.words.now) ≡ Some c.in-Some-first_set.later = ap (position is_set) (sym c.split_at.ensures.back) ∙ (sym c.first_set.ensures ∙ c.in-Some-first_set.is) in
     let first = position-first (drop n c.args.words.now) c.in-Some-first_set.later some in
     let long = c.requires.whole in
-    let behind = length-drop n c.args.words.now in
+    let after = length-drop n c.args.words.now in
     let inside = first.inside in
     found_later c.args.words.now c.args.from c.in-Some-first_set.later c.lowest_bit.result c.cell_at-2.result long c.requires.inside c.in_default.ensures first
-    (omega (arith, behind, long, inside)) c.lowest_bit.ensures c.cell_at-2.ensures
+    (omega (arith, after, long, inside)) c.lowest_bit.ensures c.cell_at-2.ensures

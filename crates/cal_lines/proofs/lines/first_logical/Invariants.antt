@@ -1,4 +1,4 @@
--- The logical lines are the one begun, which goes on in what is left or has ended, and those behind it.
+-- The logical lines are the one begun, which goes on in what is left or has ended, and those after it.
 use Rattle.std.proofs.Common.{◌≡◌, ◌+◌, ◌≤◌, ◌<◌, length, string_bytes}
 use denote.Shadow.{shadow}
 use denote.Text.{Utf8}

@@ -21,6 +21,6 @@ returns-in-Err g c =
       err = line;
       out_failed = c.requires.out ∙ sym c.refuse.ensures.out_failed;
       err_failed = c.refuse.ensures.err_failed;
-      memory = λ _ told. c.refuse.ensures.memory told;
+      memory = λ _ refused. c.refuse.ensures.memory refused;
       unwritten = λ refused. absurd (c.refuse.ensures.memory refused);
     })

@@ -5,7 +5,7 @@ use Rattle.cal_report.specs.TimerReport.{refusal_at}
 use Rattle.std.proofs.lemmas.List.{length-map}
 use Rattle.std.specs.String.{string_bytes}
 use Rattle.cal_report.proofs.AnswerLemmas.{unanswered}
-use Rattle.cal_report.proofs.ReportLemmas.{base_refused, texts_told}
+use Rattle.cal_report.proofs.ReportLemmas.{base_refused, texts_reported}
 use Rattle.cal_report.proofs.report.run.Goals as goal
 
 pub returns-in-Err-clause-reported : goal.returns-in-Err-clause-reported
@@ -21,7 +21,7 @@ returns-in_default g c =
     let base : base_in (asked c.args.request.now c.args.now.secs c.args.local c.args.table.now) ≡ Ok c.in-Ok.base.secs = sym c.in-Ok.ensures in
     let plain : is_timer c.args.request.now.verb ≡ false = search rules in
     record {
-      reported = texts_told _ _ _ _ _ _ _ _ c.in-Ok.base.secs base plain c.requires.input
+      reported = texts_reported _ _ _ _ _ _ _ _ c.in-Ok.base.secs base plain c.requires.input
           c.answer_all.ensures.status c.answer_all.ensures.out c.answer_all.ensures.err;
       out_failed = c.answer_all.ensures.out_failed;
       err_failed = c.answer_all.ensures.err_failed;

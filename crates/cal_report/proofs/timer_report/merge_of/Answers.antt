@@ -9,5 +9,5 @@ loop-line-preserved c =
 
 pub returns-in-Err : goal.returns-in-Err
 returns-in-Err c = λ other.
-    let told = c.in-Err.ensures other in
-    rw told.1 (merge_stops _ _ c.args.lines.now c.loop-line.line-index c.line-item.result c.loop-line.merge (omega arith) c.line-item.is told.0 c.loop-line.invariant)
+    let stopped = c.in-Err.ensures other in
+    rw stopped.1 (merge_stops _ _ c.args.lines.now c.loop-line.line-index c.line-item.result c.loop-line.merge (omega arith) c.line-item.is stopped.0 c.loop-line.invariant)

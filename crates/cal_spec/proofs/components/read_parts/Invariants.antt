@@ -2,14 +2,14 @@ use Rattle.std.proofs.Common.{◌≡◌, ◌++◌, Ok}
 use Rattle.std.specs.List.{slice_split}
 use Rattle.std.specs.Option.{option_copied}
 use Rattle.cal_spec.specs.Components.{is_comma, parts_of}
-use Rattle.cal_spec.specs.Pieces.{left, pieces_behind}
+use Rattle.cal_spec.specs.Pieces.{left, pieces_after}
 use Rattle.cal_spec.specs.Reads.{◌>>=◌}
 use Rattle.cal_spec.proofs.components.read_parts.Given as goal
 
 -- the parts so far with those that are left
 abbrev pub invariant-loop-rest : goal.invariant-loop-rest
 invariant-loop-rest l =
-    (parts_of l.slot l.room (pieces_behind is_comma (option_copied l.rest)) >>= λ parts. Ok (l.parts.items ++ parts)) ≡ parts_of l.slot l.fn.room (slice_split is_comma l.fn.text)
+    (parts_of l.slot l.room (pieces_after is_comma (option_copied l.rest)) >>= λ parts. Ok (l.parts.items ++ parts)) ≡ parts_of l.slot l.fn.room (slice_split is_comma l.fn.text)
 
 abbrev pub decreases-loop-rest : goal.decreases-loop-rest
 decreases-loop-rest l = left (option_copied l.rest)

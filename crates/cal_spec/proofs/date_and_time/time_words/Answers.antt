@@ -1,6 +1,6 @@
 use Rattle.cal_spec.proofs.PieceLemmas.{no_time}
 use Rattle.cal_spec.proofs.date_and_time.time_words.Goals as goal
 
-pub returns-in-Some-behind : goal.returns-in-Some-behind
-returns-in-Some-behind c =
-    no_time c.args.word.now _ _ _ c.in_ok-behind.field-0.now c.in-Some.behind.now c.in-Some-behind.field-0.now (rw c.in_ok-behind.was at c.first_piece.ensures.pieces) (rw c.in-Some.is at c.first_piece-2.ensures.pieces) (rw c.in-Some-behind.is at c.first_piece-3.ensures.pieces)
+pub returns-in-Some-after : goal.returns-in-Some-after
+returns-in-Some-after c =
+    no_time c.args.word.now _ _ _ c.in_ok-after.field-0.now c.in-Some.after.now c.in-Some-after.field-0.now (rw c.in_ok-after.was at c.first_piece.ensures.pieces) (rw c.in-Some.is at c.first_piece-2.ensures.pieces) (rw c.in-Some-after.is at c.first_piece-3.ensures.pieces)

@@ -10,4 +10,4 @@ returns-in-Some c =
 
 pub returns-in-None-clause-value : goal.returns-in-None-clause-value
 returns-in-None-clause-value c =
-    place_none is_no_letter c.args.word.now (sym c.place_behind_letters.ensures ∙ c.in-None.is)
+    place_none is_no_letter c.args.word.now (sym c.place_after_letters.ensures ∙ c.in-None.is)

@@ -2,7 +2,7 @@ use Rattle.std.proofs.Common.{◌≡◌, ◌++◌, Ok}
 use Rattle.std.specs.List.{slice_split}
 use Rattle.std.specs.Option.{option_copied}
 use Rattle.cal_spec.specs.Components.{is_comma}
-use Rattle.cal_spec.specs.Pieces.{left, pieces_behind}
+use Rattle.cal_spec.specs.Pieces.{left, pieces_after}
 use Rattle.cal_spec.specs.Reads.{◌>>=◌}
 use Rattle.cal_spec.specs.Weekdays.{items_of}
 use Rattle.cal_spec.proofs.weekdays.read_items.Given as goal
@@ -10,7 +10,7 @@ use Rattle.cal_spec.proofs.weekdays.read_items.Given as goal
 -- the items so far with those that are left
 abbrev pub invariant-loop-rest : goal.invariant-loop-rest
 invariant-loop-rest l =
-    (items_of (pieces_behind is_comma (option_copied l.rest)) >>= λ items. Ok (l.items.items ++ items)) ≡ items_of (slice_split is_comma l.fn.list)
+    (items_of (pieces_after is_comma (option_copied l.rest)) >>= λ items. Ok (l.items.items ++ items)) ≡ items_of (slice_split is_comma l.fn.list)
 
 abbrev pub decreases-loop-rest : goal.decreases-loop-rest
 decreases-loop-rest l = left (option_copied l.rest)

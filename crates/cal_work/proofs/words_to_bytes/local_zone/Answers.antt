@@ -15,17 +15,17 @@ unfolding local_by
 returns-in-Offset c =
     let zone : (offset : Offset) → offset.seconds ≡ c.in-Offset.seconds → zone_of c.offset.result ≡ fixed_zone offset =
     λ offset is. c.offset.ensures.zone offset (search (rules, is)) in
-    rw c.in-Offset.is (record { zone = c.offset.result; is_local = (c.offset.ensures.told, zone); answers = refl })
+    rw c.in-Offset.is (record { zone = c.offset.result; is_local = (c.offset.ensures.distinct, zone); answers = refl })
 
 pub returns-in-Some : goal.returns-in-Some
 returns-in-Some c =
     let rule = rw (c.in-Posix.is, c.in-Some.is) at c.requires.rules in
-    rw c.in-Posix.is (finds_rule _ _ _ _ rule.0 rule.1 c.rules.ensures.zone c.rules.ensures.told)
+    rw c.in-Posix.is (finds_rule _ _ _ _ rule.0 rule.1 c.rules.ensures.zone c.rules.ensures.distinct)
 
 pub returns-in-Some-find : goal.returns-in-Some-find
 returns-in-Some-find c =
     let named = rw c.as_str.ensures.value at c.in-Some-find.ensures in
-    rw c.in-Name.is (finds_name _ _ _ named.zone named.told)
+    rw c.in-Name.is (finds_name _ _ _ named.zone named.distinct)
 
 pub returns-in-None-find : goal.returns-in-None-find
 returns-in-None-find c =

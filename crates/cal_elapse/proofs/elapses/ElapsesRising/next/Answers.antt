@@ -1,7 +1,7 @@
 use Rattle.std.proofs.Common.{◌∙◌, ap}
 use Rattle.cal_elapse.specs.Rest.{rest_of}
 use Rattle.cal_rising.specs.RisingList.{first, later}
-use Rattle.cal_elapse.specs.Window.{timed_in}
+use Rattle.cal_elapse.specs.Window.{timed_of}
 use Rattle.cal_elapse.specs.declared.window.Window.{Window}
 use Rattle.cal_elapse.proofs.ReadyLemmas.{rest_of-same}
 use Rattle.cal_elapse.proofs.elapses.ElapsesRising.next.Goals as goal
@@ -20,11 +20,11 @@ pub returns-clause-masks : goal.returns-clause-masks
 returns-clause-masks c = c.take.ensures.masks ∙ c.fill.ensures.masks ∙ ap (λ (w : Window). w.searcher.masks) c.self.view_is
 
 pub returns-clause-timed : goal.returns-clause-timed
-returns-clause-timed c = c.take.ensures.timed ∙ c.fill.ensures.timed ∙ ap timed_in c.self.view_is
+returns-clause-timed c = c.take.ensures.timed ∙ c.fill.ensures.timed ∙ ap timed_of c.self.view_is
 
 pub returns-clause-base : goal.returns-clause-base
 returns-clause-base c = c.take.ensures.base ∙ c.fill.ensures.base ∙ ap (λ (w : Window). w.base) c.self.view_is
 
 pub returns-clause-searched : goal.returns-clause-searched
 returns-clause-searched c =
-    rw (c.fill.ensures.timed ∙ ap timed_in c.self.view_is, c.fill.ensures.base ∙ ap (λ (w : Window). w.base) c.self.view_is) at c.take.ensures.searched
+    rw (c.fill.ensures.timed ∙ ap timed_of c.self.view_is, c.fill.ensures.base ∙ ap (λ (w : Window). w.base) c.self.view_is) at c.take.ensures.searched

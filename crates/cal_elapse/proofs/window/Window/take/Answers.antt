@@ -1,7 +1,7 @@
 use Rattle.std.proofs.Common.{◌∙◌, FitsSigned, Option, ℤ, rules, subst, sym, w64}
 use Rattle.std.proofs.lemmas.Int.{to_z-of_z}
 use Rattle.cal_elapse.specs.Searched.{IsSearched}
-use Rattle.cal_elapse.specs.Window.{timed_in}
+use Rattle.cal_elapse.specs.Window.{timed_of}
 use Rattle.cal_elapse.proofs.WindowLemmas.{first_given, later_given, none_given, taken_ready}
 use Rattle.cal_elapse.proofs.SearchedLemmas.{searched_none, searched_some}
 use Rattle.cal_elapse.proofs.window.Window.take.Goals as goal
@@ -34,5 +34,5 @@ returns-in-Some-clause-searched c =
 
 pub returns-in_default-clause-searched : goal.returns-in_default-clause-searched
 returns-in_default-clause-searched c =
-    subst (λ (o : Option ℤ). IsSearched (timed_in c.args.self.now) c.args.self.now.base o c.args.self.now.searcher.searches) (sym c.in_default.is)
+    subst (λ (o : Option ℤ). IsSearched (timed_of c.args.self.now) c.args.self.now.base o c.args.self.now.searcher.searches) (sym c.in_default.is)
     (searched_none c.args.self.now c.requires.ready c.requires.full (sym c.take_least-instant.ensures.least ∙ c.in_default.is))

@@ -1,0 +1,27 @@
+use Rattle.std.proofs.Common.{◌≡◌, ◌<◌, ap, sym, ◌∙◌, arith, length}
+use Rattle.std.specs.List.{position_or_len}
+use Rattle.std.proofs.lemmas.Bool.Decides.{nat_tests}
+use Rattle.std.proofs.lemmas.List.{nil_from_length}
+use Rattle.cal_spec.specs.Words.{is_blank, words}
+use Rattle.cal_read.proofs.StampText.{boundary_at, word_boundary, first_word, begins_with_word, words-from_solid, words-nil}
+use Rattle.cal_read.proofs.stamp.text.first_word.Goals as goal
+
+pub returns-then-is_empty : goal.returns-then-is_empty
+returns-then-is_empty c =
+    let none : length c.from_solid-text.result.now ≡ 0 = grind (arith, nat_tests, c.if-is_empty.ensures) in
+    sym (words-from_solid c.args.text.now) ∙ ap words (sym c.from_solid-text.ensures ∙ nil_from_length c.from_solid-text.result.now none) ∙ words-nil
+
+pub split_at-requires : goal.split_at-requires
+split_at-requires c =
+    let text = c.from_solid-text.result.now in
+    let n = c.word_len.ensures.value ∙ ap (position_or_len is_blank) c.as_bytes.ensures.value in
+    boundary_at text (position_or_len is_blank text) c.word_len.result (sym n) (word_boundary text c.from_solid-text.utf8)
+
+pub returns : goal.returns
+returns c =
+    let text = c.from_solid-text.result.now in
+    let n = c.word_len.ensures.value ∙ ap (position_or_len is_blank) c.as_bytes.ensures.value in
+    let some : 0 < length text = grind (arith, nat_tests, c.if-is_empty.ensures) in
+    let begins : 0 < position_or_len is_blank text = rw c.from_solid-text.ensures (begins_with_word c.args.text.now (rw c.from_solid-text.ensures at some)) in
+    rw (c.split_at.ensures.front, c.split_at.ensures.back, n)
+    (sym (words-from_solid c.args.text.now) ∙ ap words (sym c.from_solid-text.ensures) ∙ first_word text begins)

@@ -1,0 +1,147 @@
+//! The civil time that the words of a timestamp write.
+
+ghost use Rattle.std.specs.Prelude.{◌≡◌, ◌≤◌, pos, neg_ℤ, IfOk, IfSome};
+ghost use Rattle.std.specs.List.{list_any};
+ghost use Rattle.jiff.specs.Words.{IsBetween};
+ghost use Rattle.cal_zone.specs.Zone.{zone_of};
+ghost use Rattle.cal_zone.specs.ZoneTable.{zone_named};
+ghost use Rattle.cal_spec.specs.DateAndTime.{is_colon};
+ghost use Rattle.cal_spec.specs.Words.{words};
+ghost use Rattle.cal_read.specs.Stamp.{begins_with_digit, after_date, after_weekday, civil_time, fits_weekday, moment_of_written, written_in};
+ghost use Rattle.cal_read.specs.StampViews.{setting, micros_or_fault, written_seen, written_or_fault};
+
+use crate::StampFault;
+use crate::stamp::date::read_date;
+use crate::stamp::moment::{settled, today};
+use crate::stamp::text::first_word;
+use crate::stamp::time::read_time;
+use crate::stamp::written::Written;
+use crate::stamp::zone::read_zone;
+use cal_spec::find_day;
+use cal_zone::{Instant, Moment, Zone, ZoneTable, begins_with_letter};
+use jiff::civil::Weekday;
+use jiff_core::civil::Date;
+
+/// The civil time that the text writes: `[weekday] [date] [time] [zone]`, of which date or time must be there
+/// (systemd.time(7), Parsing Timestamps). The words are judged from the left.
+pub(crate) fn read_civil<'t>(
+    text: &str,
+    local: Zone<'t>,
+    table: &'t ZoneTable,
+) -> Result<Written<'t>, StampFault>
+    ensures { written_or_fault result
+        ≡ civil_time (setting (zone_of local.entry) (zone_named table.now)) (words text.now) }
+{
+    match first_word(text) {
+        Some((word, after)) if begins_with_letter(word.as_bytes()) => {
+            let weekday = find_day(word.as_bytes()).ok_or(StampFault::BadWeekday)?;
+            after_weekday(Some(weekday), after, local, table)
+        }
+        _ => after_weekday(None, text, local, table),
+    }
+}
+
+/// What stands after the weekday: a word with a colon is the time, any other the date.
+fn after_weekday<'t>(
+    weekday: Option<Weekday>,
+    text: &str,
+    local: Zone<'t>,
+    table: &'t ZoneTable,
+) -> Result<Written<'t>, StampFault>
+    ensures { written_or_fault result
+        ≡ after_weekday (setting (zone_of local.entry) (zone_named table.now)) weekday (words text.now) }
+{
+    let (word, after) = first_word(text).ok_or(StampFault::BadDate)?;
+    if has_colon(word.as_bytes()) {
+        let micros = read_time(word.as_bytes())?;
+        let zone = read_zone(after, local, table)?;
+        return Ok(Written {
+            weekday,
+            day: None,
+            micros,
+            zone,
+        });
+    }
+    let day = read_date(word.as_bytes())?;
+    after_date(weekday, day, after, local, table)
+}
+
+/// What stands after the date: a word that begins with a digit is the time.
+fn after_date<'t>(
+    weekday: Option<Weekday>,
+    day: i64,
+    text: &str,
+    local: Zone<'t>,
+    table: &'t ZoneTable,
+) -> Result<Written<'t>, StampFault>
+    requires { IsBetween (pos 0) (pos 84_005) day }
+    ensures { written_or_fault result
+        ≡ after_date (setting (zone_of local.entry) (zone_named table.now)) weekday day (words text.now) }
+{
+    match first_word(text) {
+        Some((word, after)) if begins_with_digit(word.as_bytes()) => {
+            let micros = read_time(word.as_bytes())?;
+            let zone = read_zone(after, local, table)?;
+            Ok(Written {
+                weekday,
+                day: Some(day),
+                micros,
+                zone,
+            })
+        }
+        _ => {
+            let zone = read_zone(text, local, table)?;
+            Ok(Written {
+                weekday,
+                day: Some(day),
+                micros: 0,
+                zone,
+            })
+        }
+    }
+}
+
+/// Whether the word has a colon.
+fn has_colon(word: &[u8]) -> bool
+    ensures { result ≡ list_any is_colon word.now }
+{
+    word.contains(&b':')
+}
+
+/// Whether the word begins with a digit.
+fn begins_with_digit(word: &[u8]) -> bool
+    ensures { result ≡ begins_with_digit word.now }
+{
+    match word {
+        [first, ..] => first.is_ascii_digit(),
+        [] => false,
+    }
+}
+
+/// The moment of the civil time: a missing date is the present day in its zone. `WrongWeekday` where the weekday named
+/// isn't the day's, and then `OutOfRange` where there is no such moment.
+#[tactic(auto, unfolding(crate::specs::Stamp::moment_of_written))]
+pub(crate) fn moment_of_written(now: Instant, written: Written) -> Result<Moment, StampFault>
+    ensures { micros_or_fault result ≡ moment_of_written now.secs (written_seen written.entry) }
+{
+    let day = match written.day {
+        Some(day) => day,
+        None => today(now, written.zone),
+    };
+    if !fits_weekday(written.weekday, day) {
+        return Err(StampFault::WrongWeekday);
+    }
+    settled(written.zone, day, written.micros)
+}
+
+/// Whether the day has the weekday, if one is named.
+fn fits_weekday(weekday: Option<Weekday>, day: i64) -> bool
+    requires { IsBetween (neg_ℤ (pos 2)) (pos 84_008) day }
+    ensures { result ≡ fits_weekday weekday day }
+{
+    let Some(weekday) = weekday else { return true };
+    let Ok(date) = Date::from_unix_epoch_day(day) else {
+        unreachable!()
+    };
+    date.weekday().index() == weekday.index()
+}

@@ -1,0 +1,31 @@
+//! That texts are read by the rule in its own words. Each law is a function that does nothing, and whose contract is the
+//! law.
+
+ghost use Rattle.std.specs.Prelude.{◌≡◌, ℕ, ℤ, List, Ok, Err};
+ghost use Rattle.cal_read.specs.Stamp.{Setting, Written, civil_time, moment_in};
+ghost use Rattle.cal_read.specs.StampCivilRule.{HasNoSuchDate, IsCivilTime};
+ghost use Rattle.cal_read.specs.StampForm.{Form, civil, form_of};
+ghost use Rattle.cal_read.specs.StampRule.{HasForm};
+ghost use Rattle.cal_read.specs.declared.stamp.fault.StampFault.TheVariants.{NoSuchDate};
+
+/// Each text has exactly one form by the rule of systemd.time(7), Parsing Timestamps: that of the first that fits the
+/// text without the blanks at its ends. It is the one by which `read_stamp` reads the text.
+pub fn one_form()
+    ensures found { (text : List ℕ) → HasForm text (form_of text) }
+    ensures only { (text : List ℕ) (form : Form) → HasForm text form → form ≡ form_of text }
+{}
+
+/// Words are a civil time exactly where they are `[weekday] [date] [time] [zone]` with a date or a time (systemd.time(7),
+/// Parsing Timestamps), and it is the one by which `read_stamp` reads them.
+pub fn one_civil_time()
+    ensures found { (at : Setting) (ws : List (List ℕ)) (c : Written)
+        → civil_time at ws ≡ Ok c → IsCivilTime at ws c }
+    ensures only { (at : Setting) (ws : List (List ℕ)) (c : Written)
+        → IsCivilTime at ws c → civil_time at ws ≡ Ok c }
+{}
+
+/// Only a written date can be no date: a day that is reckoned from the present never is.
+pub fn only_written_dates_are_none()
+    ensures { (now : ℤ) (at : Setting) (text : List ℕ) → moment_in now at text ≡ Err NoSuchDate
+        → (ws : List (List ℕ)) × (form_of text ≡ civil ws) × HasNoSuchDate ws }
+{}

@@ -1,0 +1,59 @@
+//! Timestamps: the moment that a text means.
+
+ghost use Rattle.std.specs.Prelude.{◌≡◌};
+ghost use Rattle.cal_zone.specs.Zone.{zone_of};
+ghost use Rattle.cal_zone.specs.ZoneTable.{zone_named};
+ghost use Rattle.cal_read.specs.Stamp.{moment_in};
+ghost use Rattle.cal_read.specs.StampViews.{setting, micros_or_fault};
+
+pub(crate) mod civil;
+pub(crate) mod date;
+pub(crate) mod fault;
+pub(crate) mod form;
+pub mod laws;
+pub(crate) mod moment;
+pub(crate) mod text;
+pub(crate) mod time;
+pub(crate) mod written;
+pub(crate) mod zone;
+
+use crate::StampFault;
+use crate::stamp::civil::{moment_of_written, read_civil};
+use crate::stamp::form::{Form, form_of};
+use crate::stamp::moment::{after_second, before_second, day_number, moment_of, settled};
+use crate::stamp::time::SECOND;
+use crate::stamp::zone::read_zone;
+use cal_span::read_span;
+use cal_zone::{Instant, Moment, Zone, ZoneTable};
+
+/// The moment that a text means (systemd.time(7), Parsing Timestamps), by the first form that fits: nothing; `now`; a
+/// span text after `+`, `-` or `@`, or before `left` or `ago`; `today`, `yesterday` or `tomorrow` and a zone; or
+/// `[weekday] [date] [time] [zone]`.
+///
+/// The fault is that of the first word at fault, from the left; then comes `WrongWeekday`, and then `OutOfRange`.
+#[tactic(auto, unfolding(crate::specs::Stamp::moment_in))]
+pub fn read_stamp(
+    text: &str,
+    now: Instant,
+    local: Zone<'_>,
+    table: &ZoneTable,
+) -> Result<Moment, StampFault>
+    ensures { micros_or_fault result
+        ≡ moment_in now.secs (setting (zone_of local.entry) (zone_named table.now)) text.now }
+{
+    match form_of(text) {
+        Form::Nothing => Err(StampFault::Empty),
+        Form::Present => moment_of(now.secs() * SECOND as i64),
+        Form::Later(span) => after_second(now.secs(), read_span(span)?),
+        Form::Earlier(span) => before_second(now.secs(), read_span(span)?),
+        Form::Counted(span) => after_second(0, read_span(span)?),
+        Form::Midnight(day, after) => {
+            let zone = read_zone(after, local, table)?;
+            settled(zone, day_number(now, zone, day), 0)
+        }
+        Form::Civil(text) => {
+            let written = read_civil(text, local, table)?;
+            moment_of_written(now, written)
+        }
+    }
+}

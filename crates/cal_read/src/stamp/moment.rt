@@ -1,0 +1,102 @@
+//! Moments after or before a second, and of a civil time.
+
+ghost use Rattle.std.specs.Prelude.{◌≡◌, ◌≤◌, ◌<◌, ◌+ℤ◌, ◌-ℤ◌, ◌*ℤ◌, pos, neg_ℤ, Ok};
+ghost use Rattle.jiff.specs.Words.{IsBetween};
+ghost use Rattle.cal_zone.specs.Instant.{IsInstant};
+ghost use Rattle.cal_zone.specs.Zone.{local_of, zone_of};
+ghost use Rattle.cal_read.specs.Stamp.{before_second, after_second, in_moments, micros_of, settled, today};
+ghost use Rattle.cal_read.specs.StampViews.{shift_of, micros_or_fault};
+
+use crate::StampFault;
+use crate::stamp::form::NearDay;
+use crate::stamp::time::SECOND;
+use cal_span::Span;
+use cal_zone::{DAY, Instant, Moment, Zone, civil, settle};
+
+/// The moment of so many microseconds of Unix time, where there is one.
+#[tactic(auto, unfolding(crate::specs::Stamp::in_moments))]
+pub(crate) fn moment_of(micros: i64) -> Result<Moment, StampFault>
+    ensures { micros_or_fault result ≡ in_moments micros }
+{
+    Moment::new(micros).ok_or(StampFault::OutOfRange)
+}
+
+/// The moment a span after the second of Unix time.
+pub(crate) fn after_second(second: i64, span: Span) -> Result<Moment, StampFault>
+    requires { IsInstant second }
+    ensures { micros_or_fault result ≡ after_second second (Ok span.micros) }
+{
+    if span.micros() > Moment::LAST as u64 {
+        return Err(StampFault::OutOfRange);
+    }
+    moment_of(second * SECOND as i64 + span.micros() as i64)
+}
+
+/// The moment a span before the second of Unix time.
+pub(crate) fn before_second(second: i64, span: Span) -> Result<Moment, StampFault>
+    requires { IsInstant second }
+    ensures { micros_or_fault result ≡ before_second second (Ok span.micros) }
+{
+    moment_of(second * SECOND as i64 - span.micros() as i64)
+}
+
+/// The number, from 1970-01-01 on, of the present day in the zone.
+#[tactic(auto, unfolding(crate::specs::Stamp::today))]
+pub(crate) fn today(now: Instant, zone: Zone) -> i64
+    ensures value { result ≡ today now.secs (zone_of zone.entry) }
+    ensures range { IsBetween (neg_ℤ (pos 2)) (pos 84_008) result }
+{
+    local_second(now, zone).div_euclid(DAY as i64)
+}
+
+/// What the zone's clock shows at the instant, as a local second.
+fn local_second(now: Instant, zone: Zone) -> i64
+    ensures value { result ≡ local_of (zone_of zone.entry) now.secs }
+    ensures range { IsBetween (neg_ℤ (pos 93_599)) (pos 7_258_305_597) result }
+{
+    now.secs() + i64::from(civil(zone, now).offset)
+}
+
+/// The moment of so many microseconds after midnight of the day. A local time that the zone's clock skips is moved on
+/// by what is skipped, and of one that it shows twice this is the first (systemd.time(7), Parsing Timestamps).
+#[tactic(auto, unfolding(crate::specs::Stamp::settled))]
+pub(crate) fn settled(zone: Zone, day: i64, micros: u64) -> Result<Moment, StampFault>
+    requires day { IsBetween (neg_ℤ (pos 3)) (pos 84_009) day }
+    requires micros { micros ≤ 90_000_000_000 }
+    ensures { micros_or_fault result ≡ settled (zone_of zone.entry) day micros }
+{
+    let second = settle(zone, local_time(day, micros / SECOND));
+    moment_of(with_micros(second, micros % SECOND))
+}
+
+/// The local second so many seconds after midnight of the day.
+fn local_time(day: i64, seconds: u64) -> i64
+    requires day { IsBetween (neg_ℤ (pos 3)) (pos 84_009) day }
+    requires seconds { seconds ≤ 90_000 }
+    ensures { result ≡ day *ℤ pos 86_400 +ℤ pos seconds }
+{
+    day * DAY as i64 + seconds as i64
+}
+
+/// The microseconds of Unix time so many after the second, which lies near the instants.
+fn with_micros(second: i64, micros: u64) -> i64
+    requires second { IsBetween (neg_ℤ (pos 400_000)) (pos 7_259_000_000) second }
+    requires micros { micros < 1_000_000 }
+    ensures { result ≡ micros_of second +ℤ pos micros }
+{
+    second * SECOND as i64 + micros as i64
+}
+
+/// The number of the day beside the present one, or of that day itself, in the zone.
+#[tactic(auto, unfolding(crate::specs::Stamp::today))]
+pub(crate) fn day_number(now: Instant, zone: Zone, day: NearDay) -> i64
+    ensures value { result ≡ today now.secs (zone_of zone.entry) +ℤ shift_of day }
+    ensures range { IsBetween (neg_ℤ (pos 3)) (pos 84_009) result }
+{
+    let today = today(now, zone);
+    match day {
+        NearDay::Yesterday => today - 1,
+        NearDay::Today => today,
+        NearDay::Tomorrow => today + 1,
+    }
+}

@@ -1,0 +1,108 @@
+//! The time of day of a timestamp.
+
+ghost use Rattle.std.specs.Prelude.{◌≡◌, ◌≤◌, IfSome, IfOk};
+ghost use Rattle.cal_read.specs.StampTime.{both, clock_number, fraction_in, second_written, time_by, time_numbers, time_written};
+
+use crate::StampFault;
+use crate::stamp::date::read_number;
+use cal_span::{are_digits, fraction_of};
+use cal_spec::first_piece;
+
+/// The microseconds of a second.
+pub(crate) const SECOND: u64 = 1_000_000;
+
+/// How many digits of a fraction are kept.
+const KEPT_DIGITS: usize = 6;
+
+/// The microseconds after midnight of the time that the word writes: `H:M`, `H:M:S` or `H:M:S.` and one or more
+/// digits, of which six are kept (systemd.time(7), Parsing Timestamps). H is 0 to 23, M and S are 0 to 59, each of one
+/// or two digits; anything else is `BadTime`.
+#[tactic(auto, unfolding(crate::specs::StampTime::time_written))]
+pub(crate) fn read_time(word: &[u8]) -> Result<u64, StampFault>
+    ensures value { result ≡ time_written word.now }
+    ensures bound { IfOk result (λ micros. micros ≤ 90_000_000_000) }
+{
+    time_numbers(word).ok_or(StampFault::BadTime)
+}
+
+/// The microseconds after midnight, or `None` where the word is no time.
+#[tactic(auto, unfolding(crate::specs::StampTime::time_numbers))]
+fn time_numbers(word: &[u8]) -> Option<u64>
+    ensures value { result ≡ time_numbers word.now }
+    ensures bound { IfSome result (λ micros. micros ≤ 90_000_000_000) }
+{
+    let (hour, after) = first_piece(word, b':');
+    let (minute, after) = first_piece(after?, b':');
+    let Some(after) = after else {
+        return time_of(hour, minute, Some(0));
+    };
+    let (second, after) = first_piece(after, b':');
+    match after {
+        Some(_) => None,
+        None => time_of(hour, minute, read_second(second)),
+    }
+}
+
+/// The microseconds after midnight at this hour and minute, and so many microseconds after them.
+fn time_of(hour: &[u8], minute: &[u8], micros: Option<u64>) -> Option<u64>
+    requires { IfSome micros (λ micros. micros ≤ 120_000_000) }
+    ensures value { result ≡ time_by (clock_number 23 hour.now) (clock_number 59 minute.now) micros }
+    ensures bound { IfSome result (λ micros. micros ≤ 90_000_000_000) }
+{
+    let hour = clock_number(hour, 23)?;
+    let minute = clock_number(minute, 59)?;
+    Some((hour * 3_600 + minute * 60) * SECOND + micros?)
+}
+
+/// The microseconds of the seconds, `S` or `S.` with digits.
+#[tactic(auto, unfolding(crate::specs::StampTime::second_written))]
+fn read_second(word: &[u8]) -> Option<u64>
+    ensures value { result ≡ second_written word.now }
+    ensures bound { IfSome result (λ micros. micros ≤ 120_000_000) }
+{
+    let (whole, after) = first_piece(word, b'.');
+    let Some(after) = after else {
+        return both(clock_number(whole, 59), Some(0));
+    };
+    let (digits, after) = first_piece(after, b'.');
+    match after {
+        Some(_) => None,
+        None => both(clock_number(whole, 59), read_fraction(digits)),
+    }
+}
+
+/// So many seconds and microseconds, in microseconds.
+fn both(seconds: Option<u64>, micros: Option<u64>) -> Option<u64>
+    requires seconds { IfSome seconds (λ seconds. seconds ≤ 59) }
+    requires micros { IfSome micros (λ micros. micros ≤ 60_000_000) }
+    ensures value { result ≡ both seconds micros }
+    ensures bound { IfSome result (λ micros. micros ≤ 120_000_000) }
+{
+    Some(seconds? * SECOND + micros?)
+}
+
+/// The number of one or two digits, up to the greatest.
+#[tactic(auto, unfolding(crate::specs::StampTime::clock_number))]
+fn clock_number(word: &[u8], greatest: u16) -> Option<u64>
+    ensures value { result ≡ clock_number greatest word.now }
+    ensures bound { IfSome result (λ number. number ≤ greatest) }
+{
+    let number = read_number(word, 2)?;
+    if number > greatest {
+        return None;
+    }
+    Some(u64::from(number))
+}
+
+/// The microseconds of one or more digits after the point: six digits are kept, the rest is dropped.
+#[tactic(auto, unfolding(crate::specs::StampTime::fraction_in))]
+fn read_fraction(digits: &[u8]) -> Option<u64>
+    ensures value { result ≡ fraction_in digits.now }
+    ensures bound { IfSome result (λ micros. micros ≤ 60_000_000) }
+{
+    if digits.is_empty() || !are_digits(digits) {
+        return None;
+    }
+    let kept = &digits[..digits.len().min(KEPT_DIGITS)];
+    Some(fraction_of(kept, SECOND))
+}

@@ -1,0 +1,109 @@
+//! Timer files: reading one whole (systemd.timer(5), OnCalendar=; systemd.syntax(7)).
+
+ghost use Rattle.std.specs.Prelude.{◌≡◌, ◌≢◌, ◌+◌, ◌<◌, ◌≤◌, ◌^◌, ◌↔◌, ◌==◌, ℕ, List, Ok, Err, Result, MatchResult, IsTrue, false, length, map, count_by};
+ghost use Rattle.std.specs.Result.{IsErrOf};
+ghost use Rattle.cal_bytes.specs.Whole.{is_read_failed};
+ghost use Rattle.cal_bytes.specs.declared.whole.WholeFault.{WholeFault};
+ghost use Rattle.cal_spec.specs.Expr.{expr_in};
+ghost use Rattle.cal_read.specs.Assignments.{assignments_in};
+ghost use Rattle.cal_lines.specs.Lines.{logical_lines};
+ghost use Rattle.cal_read.specs.TimerText.{most_file_bytes, list_of, some_entries, timer_in, timer_of, timer_text, without_mark, ReadsWhole};
+ghost use Rattle.cal_read.specs.TimerView.{shown};
+
+use crate::timer::list::take_line;
+use crate::{Timer, TimerFault, TimerLine};
+use cal_bytes::{Source, WholeFault, read_whole};
+use cal_lines::first_logical;
+use std::alloc::Global;
+
+/// Reads a timer file to its end, and gives its calendar expressions (systemd.timer(5), OnCalendar=).
+///
+/// The fault is the first one: [`TimerFault::ReadFailed`], exactly where the reader failed, or [`TimerFault::TooLarge`]
+/// where more than 1,048,576 bytes came; then [`TimerFault::NotUtf8`]; then, from one logical line to the next,
+/// [`TimerFault::TooMany`] and [`TimerFault::BadLine`]; then [`TimerFault::NothingToDo`].
+/// [`TimerFault::NoMemory`] comes only where memory was refused.
+pub fn read_timer<R: Source>(alloc: Global, input: &mut R) -> Result<Timer, TimerFault>
+    requires { R.is_failed input.old ≡ false }
+    ensures failed { IsTrue (R.is_failed input.new) ↔ IsErrOf result TimerFault.ReadFailed }
+    ensures sure { R.may_fail input.old ≡ false → R.is_failed input.new ≡ false }
+    ensures list { (read : Result (List ℕ) WholeFault)
+        × ReadsWhole (R.remaining input.old) (R.remaining input.new) most_file_bytes read
+        × (R.is_failed input.new ≡ is_read_failed read)
+        × MatchResult result
+        (λ timer. timer_text expr_in read ≡ Ok timer)
+        (λ fault. fault ≢ TimerFault.NoMemory → timer_text expr_in read ≡ Err fault) }
+{
+    let bytes = match read_whole(alloc, input, Timer::FILE_LIMIT) {
+        Ok(bytes) => bytes,
+        Err(WholeFault::ReadFailed) => return Err(TimerFault::ReadFailed),
+        Err(WholeFault::TooLarge) => return Err(TimerFault::TooLarge),
+        Err(WholeFault::NoMemory) => return Err(TimerFault::NoMemory),
+    };
+    read_bytes(alloc, bytes.as_slice())
+}
+
+/// The expressions of a file of these bytes.
+#[tactic(auto, unfolding(crate::specs::TimerText::timer_in, crate::specs::TimerText::broken_line))]
+fn read_bytes(alloc: Global, bytes: &[u8]) -> Result<Timer, TimerFault>
+    requires { length bytes.now ≤ most_file_bytes }
+    ensures { MatchResult result
+        (λ timer. timer_in expr_in bytes.now ≡ Ok timer)
+        (λ fault. fault ≢ TimerFault.NoMemory → timer_in expr_in bytes.now ≡ Err fault) }
+{
+    match str::from_utf8(bytes) {
+        Ok(text) => read_text(alloc, text),
+        Err(error) => Err(TimerFault::NotUtf8(line_after(&bytes[..error.valid_up_to()]))),
+    }
+}
+
+/// The number of the physical line that goes on after these bytes, the first of a file.
+fn line_after(bytes: &[u8]) -> u32
+    requires { length bytes.now ≤ most_file_bytes }
+    ensures { result ≡ count_by (λ b. b == 10) bytes.now + 1 }
+{
+    bytes.iter().filter(|byte| **byte == b'\n').count() as u32 + 1
+}
+
+/// The expressions of a file of this text.
+#[tactic(auto, unfolding(crate::specs::TimerText::timer_of))]
+fn read_text(alloc: Global, text: &str) -> Result<Timer, TimerFault>
+    requires { length text.now ≤ most_file_bytes }
+    ensures { MatchResult result
+        (λ timer. timer_of expr_in text.now ≡ Ok timer)
+        (λ fault. fault ≢ TimerFault.NoMemory → timer_of expr_in text.now ≡ Err fault) }
+{
+    let lines = read_lines(alloc, without_mark(text))?;
+    if lines.is_empty() {
+        return Err(TimerFault::NothingToDo);
+    }
+    Ok(Timer::new(lines))
+}
+
+/// The text without a byte order mark at its very start.
+#[tactic(auto, unfolding(crate::specs::TimerText::without_mark))]
+fn without_mark(text: &str) -> &str
+    ensures mark { result.now ≡ without_mark text.now }
+    ensures shorter { length result.now ≤ length text.now }
+{
+    text.strip_prefix("\u{FEFF}").unwrap_or(text)
+}
+
+/// The expressions in the logical lines of a text; an empty list is no fault here.
+fn read_lines(alloc: Global, text: &str) -> Result<Vec<TimerLine>, TimerFault>
+    requires { length text.now ≤ most_file_bytes }
+    ensures { MatchResult result
+        (λ lines. list_of expr_in (assignments_in false (logical_lines 1 text.now)) ≡ some_entries (map shown lines.items))
+        (λ fault. fault ≢ TimerFault.NoMemory
+        → list_of expr_in (assignments_in false (logical_lines 1 text.now)) ≡ Err fault) }
+{
+    let mut lines = Vec::new(alloc);
+    let mut inside = false;
+    let mut number = 1;
+    let mut rest = text;
+    while let Some(line) = first_logical(alloc, number, rest)? {
+        inside = take_line(alloc, &mut lines, inside, line.number, line.text.as_str())?;
+        number = line.next;
+        rest = line.rest;
+    }
+    Ok(lines)
+}

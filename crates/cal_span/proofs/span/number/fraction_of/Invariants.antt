@@ -1,0 +1,12 @@
+use Rattle.std.proofs.Common.{◌≡◌, ◌≤◌, ◌+◌, ◌^◌, min, drop}
+use Rattle.cal_span.specs.SpanValue.{fraction_worth}
+use Rattle.cal_span.proofs.SpanNumbers.{top}
+use Rattle.cal_span.proofs.span.number.fraction_of.Given as goal
+
+-- the sum so far with what the rest adds is the whole
+abbrev pub invariant-loop-digit : goal.invariant-loop-digit
+invariant-loop-digit l = record {
+  divisor : l.divisor ≡ min (10 ^ l.digit-index) top;
+  in_range : l.sum ≤ top;
+  whole : min (l.sum + fraction_worth l.size (l.digit-index + 1) (drop l.digit-index l.digits)) top ≡ min (fraction_worth l.size 1 l.digits) top;
+}

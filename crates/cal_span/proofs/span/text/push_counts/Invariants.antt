@@ -1,0 +1,13 @@
+-- The text and the counts of the units from the index on are the whole.
+use Rattle.std.proofs.Common.{◌≡◌, ◌+◌, ◌*◌, ◌≤◌, ◌++◌, length, drop}
+use Rattle.cal_span.specs.SpanText.{row_text, positive, counts_of}
+use Rattle.cal_span.proofs.SpanCounts.{led}
+use Rattle.cal_span.proofs.span.text.push_counts.Given as goal
+
+abbrev pub invariant-loop-scale : goal.invariant-loop-scale
+invariant-loop-scale l =
+    record {
+      lead : length l.lead ≤ 1;
+      short : length l.text.items ≤ length l.fn.text.items + 26 * l.scale-index;
+      whole : l.text.items ++ led l.lead (positive (counts_of (drop l.scale-index l.scales) l.rest)) ≡ l.fn.text.items ++ row_text (positive (counts_of l.fn.scales l.fn.micros));
+    }

@@ -1,0 +1,15 @@
+use Rattle.std.proofs.Common.{◌≡◌, ◌≤◌, ◌-◌, ◌++◌, length, take, drop}
+use Rattle.cal_span.specs.SpanValue.{symbols}
+use Rattle.cal_span.specs.SpanWord.{front_of, after_front}
+use Rattle.cal_span.proofs.span.word.front_len.Given as goal
+
+-- so far all is of the kind, and the rest gives what is left of the front
+abbrev pub invariant-loop-found : goal.invariant-loop-found
+invariant-loop-found l = record {
+  in_range : l.len ≤ length l.bytes;
+  front : front_of l.kind (symbols l.bytes) ≡ take l.len l.bytes ++ front_of l.kind (symbols (drop l.len l.bytes));
+  rest : after_front l.kind (symbols l.bytes) ≡ after_front l.kind (symbols (drop l.len l.bytes));
+}
+
+abbrev pub decreases-loop-found : goal.decreases-loop-found
+decreases-loop-found l = length l.bytes - l.len

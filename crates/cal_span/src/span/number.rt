@@ -1,0 +1,107 @@
+//! The numbers of a span text, whole ones and ones with a point (systemd.time(7), Parsing Time
+//! Spans). What passes `u64::MAX` stays there, which is far beyond the longest span.
+
+ghost use Rattle.std.specs.Prelude.{◌≡◌, ◌≤◌, IsTrue, MatchOption, min, false, true};
+ghost use Rattle.std.specs.List.{list_all, position, before_first, after_first};
+ghost use Rattle.std.specs.Char.{is_ascii_digit};
+ghost use Rattle.std.specs.Str.Parse.{digits_value};
+ghost use Rattle.cal_span.specs.Scale.{size_of};
+ghost use Rattle.cal_span.specs.SpanValue.{is_point, is_number, fraction_worth, digits_worth};
+
+use crate::Scale;
+
+/// A number: the digits before its point and those after it.
+#[derive(Clone, Copy)]
+pub(crate) struct Number<'a> {
+    whole: &'a [u8],
+    fraction: &'a [u8],
+    ghost digits_before: { IsTrue (list_all is_ascii_digit whole.now) },
+    ghost digits_after: { IsTrue (list_all is_ascii_digit fraction.now) },
+}
+
+impl<'a> Number<'a> {
+    /// The number that the word is, or `None` where it isn't made of digits and at most one point,
+    /// with at least one digit.
+    pub(crate) fn new(word: &'a [u8]) -> Option<Number<'a>>
+        ensures { MatchOption result (is_number word.now ≡ false) (λ number.
+            (is_number word.now ≡ true)
+            × (number.whole.now ≡ before_first is_point word.now)
+            × (number.fraction.now ≡ after_first is_point word.now)) }
+    {
+        let (whole, fraction) = split_at_point(word);
+        if !are_digits(whole) || !are_digits(fraction) {
+            return None;
+        }
+        if whole.is_empty() && fraction.is_empty() {
+            return None;
+        }
+        Some(Number { whole, fraction })
+    }
+
+    /// So much of the unit, in microseconds.
+    pub(crate) fn worth(self, unit: Scale) -> u64
+        ensures { result
+            ≡ min (digits_worth self.entry.whole.now self.entry.fraction.now (size_of unit)) u64.MAX }
+    {
+        let size = unit.micros();
+        whole_of(self.whole)
+            .saturating_mul(size)
+            .saturating_add(fraction_of(self.fraction, size))
+    }
+}
+
+/// The bytes before the first point and those after it.
+fn split_at_point(word: &[u8]) -> (&[u8], &[u8])
+    ensures before { result.0.now ≡ before_first is_point word.now }
+    ensures after { result.1.now ≡ after_first is_point word.now }
+{
+    match point_index(word) {
+        Some(point) => (&word[..point], &word[point + 1..]),
+        None => (word, &[]),
+    }
+}
+
+/// The place of the first point.
+fn point_index(word: &[u8]) -> Option<usize>
+    ensures { result ≡ position is_point word.now }
+{
+    word.iter().position(|byte| *byte == b'.')
+}
+
+/// Whether each byte is a digit.
+pub fn are_digits(bytes: &[u8]) -> bool
+    ensures { result ≡ list_all is_ascii_digit bytes.now }
+{
+    bytes.iter().all(|byte| byte.is_ascii_digit())
+}
+
+/// The number that the digits write, or `u64::MAX` where that is less.
+pub fn whole_of(digits: &[u8]) -> u64
+    requires { IsTrue (list_all is_ascii_digit digits.now) }
+    ensures { result ≡ min (digits_value 10 digits.now) u64.MAX }
+{
+    let mut whole = 0_u64;
+    for digit in digits {
+        whole = whole
+            .saturating_mul(10)
+            .saturating_add(u64::from(*digit - b'0'));
+    }
+    whole
+}
+
+/// What the digits after a point add in a unit of this size: the term of each is rounded down by
+/// itself.
+pub fn fraction_of(digits: &[u8], size: u64) -> u64
+    requires digits { IsTrue (list_all is_ascii_digit digits.now) }
+    requires size { size ≤ size_of Scale.Year }
+    ensures { result ≡ min (fraction_worth size 1 digits.now) u64.MAX }
+{
+    let mut sum = 0_u64;
+    let mut divisor = 1_u64;
+    for digit in digits {
+        // A divisor that stays at the top is far above a digit in any unit: the digit adds nothing.
+        divisor = divisor.saturating_mul(10);
+        sum = sum.saturating_add(u64::from(*digit - b'0') * size / divisor);
+    }
+    sum
+}

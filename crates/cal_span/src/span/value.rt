@@ -1,0 +1,127 @@
+//! The value of a text as a time span: pairs of a number and a unit, which are added up.
+
+ghost use Rattle.std.specs.Prelude.{◌≡◌, ◌<◌, ◌∷◌, [], MatchOption, MatchResult, Ok, Err, length, map};
+ghost use Rattle.std.specs.Option.{option_copied};
+ghost use Rattle.std.specs.List.{find, list_any};
+ghost use Rattle.std.specs.Str.{bytes_eq};
+ghost use Rattle.cal_span.specs.Scale.{words_for};
+ghost use Rattle.cal_span.specs.SpanValue.{pairs_in, unit_in, worth_of, sum_with, span_of};
+
+use crate::span::number::Number;
+use crate::span::word::{CharKind, first_word};
+use crate::{Scale, Span, SpanFault};
+
+/// The time span that a text writes: one or more pairs of a number and an optional unit, with
+/// blanks before, between and after all of them. A number without a unit is in seconds. The values
+/// are added up, and each digit after a point is rounded down by itself to microseconds
+/// (systemd.time(7), Parsing Time Spans).
+///
+/// The fault is that of the first pair at fault, from the left; in a pair first `BadNumber`, then
+/// `UnknownUnit`, then `TooLarge`. A text of blanks alone is `Empty`.
+#[tactic(auto, unfolding(crate::specs::SpanValue::span_of))]
+pub fn read_span(text: &str) -> Result<Span, SpanFault>
+    ensures { MatchResult result
+        (λ span. span_of text.now ≡ Ok span.micros)
+        (λ fault. span_of text.now ≡ Err fault) }
+{
+    let Some((first, mut rest)) = first_pair(text.as_bytes()) else {
+        return Err(SpanFault::Empty);
+    };
+    let mut sum = add_pair(Span::ZERO, first)?;
+    while let Some((pair, after)) = first_pair(rest) {
+        sum = add_pair(sum, pair)?;
+        rest = after;
+    }
+    Ok(sum)
+}
+
+/// A number of a span text and its unit word, if it has one.
+#[derive(Clone, Copy)]
+struct Pair<'a> {
+    number: &'a [u8],
+    unit: Option<&'a [u8]>,
+}
+
+/// The first pair of the bytes and what stands after it, or `None` where there are only blanks. A
+/// word that stands where a number is due is a pair with the empty number.
+fn first_pair(bytes: &[u8]) -> Option<(Pair<'_>, &[u8])>
+    ensures { MatchOption result (pairs_in bytes.now ≡ []) (λ found.
+        (pairs_in bytes.now
+        ≡ record { number = found.0.number.now; unit = option_copied found.0.unit }
+        ∷ pairs_in found.1.now)
+        × (length found.1.now < length bytes.now)) }
+{
+    let (word, rest) = first_word(bytes)?;
+    if word.kind != CharKind::Numeric {
+        let stray = Pair {
+            number: &[],
+            unit: None,
+        };
+        return Some((stray, rest));
+    }
+    let mut pair = Pair {
+        number: word.text,
+        unit: None,
+    };
+    match first_word(rest) {
+        Some((unit, after)) if unit.kind == CharKind::Letter => {
+            pair.unit = Some(unit.text);
+            Some((pair, after))
+        }
+        _ => Some((pair, rest)),
+    }
+}
+
+/// The sum with one more pair.
+fn add_pair(sum: Span, pair: Pair<'_>) -> Result<Span, SpanFault>
+    ensures { let worth = worth_of record {
+      number = pair.entry.number.now;
+      unit = option_copied pair.entry.unit;
+    } in
+        MatchResult result
+        (λ span. sum_with sum.micros worth ≡ Ok span.micros)
+        (λ fault. sum_with sum.micros worth ≡ Err fault) }
+{
+    let Some(number) = Number::new(pair.number) else {
+        return Err(SpanFault::BadNumber);
+    };
+    let Some(unit) = unit_of(pair.unit) else {
+        return Err(SpanFault::UnknownUnit);
+    };
+    Span::new(sum.micros().saturating_add(number.worth(unit))).ok_or(SpanFault::TooLarge)
+}
+
+/// The unit with this word as a spelling, or the second where there is no word.
+#[tactic(auto, unfolding(crate::specs::SpanValue::unit_named))]
+fn unit_of(word: Option<&[u8]>) -> Option<Scale>
+    ensures { result ≡ unit_in (option_copied word.entry) }
+{
+    match word {
+        Some(word) => find_unit(&Scale::ALL, word),
+        None => Some(Scale::Second),
+    }
+}
+
+/// The first of the units that has the word as a spelling.
+fn find_unit(units: &[Scale], word: &[u8]) -> Option<Scale>
+    ensures { result ≡ find (λ unit. list_any (bytes_eq word.now) (words_for unit)) units.now }
+{
+    for unit in units {
+        if is_among(unit.words(), word) {
+            return Some(*unit);
+        }
+    }
+    None
+}
+
+/// Whether the word is one of the spellings, as a whole.
+fn is_among(spellings: &[&[u8]], word: &[u8]) -> bool
+    ensures { result ≡ list_any (bytes_eq word.now) (map (λ spelling. spelling.now) spellings.now) }
+{
+    for spelling in spellings {
+        if word == *spelling {
+            return true;
+        }
+    }
+    false
+}

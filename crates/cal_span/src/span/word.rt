@@ -1,0 +1,73 @@
+//! The words of a span text: its longest runs of one kind of character, without the blanks between
+//! them (systemd.time(7), Parsing Time Spans).
+
+ghost use Rattle.std.specs.Prelude.{◌≡◌, ◌≤◌, ◌<◌, ◌∷◌, [], MatchOption, length, take, drop};
+ghost use Rattle.cal_span.specs.SpanValue.{symbols, words_in};
+ghost use Rattle.cal_span.specs.SpanWord.{front_of, after_front};
+
+/// What a character of a span text is.
+#[derive(Clone, Copy, PartialEq, Eq)]
+pub(crate) enum CharKind {
+    /// A space or a tab.
+    Blank,
+    /// A digit or a point.
+    Numeric,
+    /// An ASCII letter, the micro sign or the Greek letter mu.
+    Letter,
+    /// Anything else.
+    Other,
+}
+
+/// Characters of one kind, as many as stand together.
+#[derive(Clone, Copy)]
+pub(crate) struct Word<'a> {
+    pub(crate) kind: CharKind,
+    pub(crate) text: &'a [u8],
+}
+
+/// The first word of the bytes and what stands after it, or `None` where there are only blanks.
+pub(crate) fn first_word(bytes: &[u8]) -> Option<(Word<'_>, &[u8])>
+    ensures { MatchOption result (words_in bytes.now ≡ []) (λ found.
+        (words_in bytes.now
+        ≡ record { kind = found.0.kind; text = found.0.text.now } ∷ words_in found.1.now)
+        × (length found.1.now < length bytes.now)) }
+{
+    let bytes = &bytes[front_len(bytes, CharKind::Blank)..];
+    let (kind, _) = first(bytes)?;
+    let (text, rest) = bytes.split_at(front_len(bytes, kind));
+    Some((Word { kind, text }, rest))
+}
+
+/// The number of bytes of the longest front of this kind.
+fn front_len(bytes: &[u8], kind: CharKind) -> usize
+    ensures within { result ≤ length bytes.now }
+    ensures front { take result bytes.now ≡ front_of kind (symbols bytes.now) }
+    ensures rest { symbols (drop result bytes.now) ≡ after_front kind (symbols bytes.now) }
+{
+    let mut len = 0;
+    while let Some((found, width)) = first(&bytes[len..]) {
+        if found != kind {
+            break;
+        }
+        len += width;
+    }
+    len
+}
+
+/// The kind of the first character and the number of its bytes: two for a mu. Each byte of any
+/// other character outside ASCII stands alone.
+fn first(bytes: &[u8]) -> Option<(CharKind, usize)>
+    ensures { MatchOption result (bytes.now ≡ []) (λ found.
+        (symbols bytes.now
+        ≡ record { kind = found.0; text = take found.1 bytes.now } ∷ symbols (drop found.1 bytes.now))
+        × (0 < found.1) × (found.1 ≤ length bytes.now)) }
+{
+    match bytes {
+        [] => None,
+        [0xc2, 0xb5, ..] | [0xce, 0xbc, ..] => Some((CharKind::Letter, 2)),
+        [b' ' | b'\t', ..] => Some((CharKind::Blank, 1)),
+        [b'0'..=b'9' | b'.', ..] => Some((CharKind::Numeric, 1)),
+        [b'A'..=b'Z' | b'a'..=b'z', ..] => Some((CharKind::Letter, 1)),
+        _ => Some((CharKind::Other, 1)),
+    }
+}
