@@ -12,6 +12,7 @@ pub use Rattle.cal_span.proofs.SpanRuns
 pub use Rattle.cal_span.proofs.SpanWords
 pub use Rattle.cal_span.proofs.WorkedRows
 pub use Rattle.cal_zone.proofs.CivilLemmas
+pub use Rattle.cal_zone.proofs.DayLemmas
 pub use Rattle.cal_zone.proofs.OffsetLemmas
 pub use Rattle.cal_zone.proofs.PlaceLemmas
 pub use Rattle.cal_zone.proofs.WeekdayLemmas

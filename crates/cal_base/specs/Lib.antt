@@ -10,6 +10,7 @@ pub use Rattle.cal_span.specs.SpanText
 pub use Rattle.cal_span.specs.SpanValue
 pub use Rattle.cal_span.specs.SpanWord
 pub use Rattle.cal_zone.specs.Civil
+pub use Rattle.cal_zone.specs.DayAfter
 pub use Rattle.cal_zone.specs.Days
 pub use Rattle.cal_zone.specs.Instant
 pub use Rattle.cal_zone.specs.InstantText

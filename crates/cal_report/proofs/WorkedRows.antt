@@ -10,7 +10,8 @@ use Rattle.jiff_core.proofs.CalendarLemmas.{days_from_civil-day_count}
 use Rattle.jiff_core.proofs.MarchLemmas.{day_count-early}
 use Rattle.jiff.proofs.SpanFacts.{signed_arith}
 use Rattle.jiff_core.specs.Calendar.{weekday_number}
-use Rattle.cal_zone.specs.Days.{date_of, date_of-epoch_day}
+use Rattle.cal_zone.specs.Days.{date_of}
+use Rattle.cal_zone.proofs.DayLemmas.{date_of-epoch_day}
 use Rattle.cal_zone.specs.Local.{civil_date, seconds_in_all, seconds_in_all-is}
 use Rattle.cal_span.specs.Scale.{words_for, name_of}
 use Rattle.cal_span.specs.SpanText.{units_text, row_text}

@@ -5,7 +5,8 @@ use Rattle.jiff.specs.Words.{civil_nanos, epoch_day, nanos_of_seconds, offset_at
 use Rattle.jiff_core.specs.Time.{time_seconds}
 use Rattle.jiff.proofs.SpanFacts.{signed_arith}
 use Rattle.cal_zone.specs.Civil.{civil_of, shown_at}
-use Rattle.cal_zone.specs.Days.{date_of, date_of-epoch_day}
+use Rattle.cal_zone.specs.Days.{date_of}
+use Rattle.cal_zone.proofs.DayLemmas.{date_of-epoch_day}
 use Rattle.cal_zone.specs.Local.{civil_date, day_of, second_of_day, hour_of, minute_of, second_of}
 use Rattle.cal_zone.specs.Instant.{IsInstant}
 use Rattle.cal_zone.specs.Zone.{local_of}

@@ -1,4 +1,5 @@
 pub mod CivilLemmas
+pub mod DayLemmas
 pub mod OffsetLemmas
 pub mod PlaceLemmas
 pub mod WeekdayLemmas

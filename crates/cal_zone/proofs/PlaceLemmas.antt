@@ -6,9 +6,15 @@ use Rattle.jiff.specs.Words.{ambiguous_at, compatible_offset, civil_nanos, fixed
 use Rattle.jiff.proofs.SpanFacts.{signed_arith}
 use Rattle.jiff.proofs.ZoneFacts.{offset_at-fixed_zone}
 use Rattle.cal_zone.specs.Local.{day_of}
-use Rattle.cal_zone.specs.Place.{datetime_of, place_at, place_of, settle_of, civil_nanos-datetime_of}
+use Rattle.cal_zone.specs.Place.{datetime_of, place_at, place_of, settle_of, time_of}
 use Rattle.cal_zone.specs.Zone.{local_of}
+use Rattle.cal_zone.proofs.DayLemmas.{epoch_day-date_of}
 use Rattle.cal_zone.proofs.ZoneLemmas.{offset_at-in_range}
+
+-- the civil time of a local second stands for that second
+pub civil_nanos-datetime_of : (local : ℤ) → IsEpochDay (day_of local) → civil_nanos (datetime_of local) ≡ nanos_of_seconds local
+unfolding civil_nanos datetime_of time_of
+civil_nanos-datetime_of local h = omega (arith, signed_arith, epoch_day-date_of (day_of local) h)
 
 same_test : (a b : ℤ) → a ≡ b → int_eq a b ≡ true
 same_test a b e = grind (arith, ints)

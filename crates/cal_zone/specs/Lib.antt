@@ -1,4 +1,5 @@
 pub mod Civil
+pub mod DayAfter
 pub mod Days
 pub mod Instant
 pub mod InstantText

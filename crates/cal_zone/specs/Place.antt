@@ -4,42 +4,27 @@ use Rattle.std.specs.Ordering.{int_eq}
 use Rattle.std.proofs.Common.{arith}
 use Rattle.jiff.proofs.SpanFacts.{signed_arith}
 use Rattle.jiff.specs.Types.{DateTime, Offset, Time, TimeZone}
-use Rattle.jiff.specs.Words.{ambiguous_at, compatible_offset, civil_nanos, nanos_of_seconds, offset_at, IsEpochDay}
-use Rattle.cal_zone.specs.Days.{date_of, epoch_day-date_of}
+use Rattle.jiff.specs.Words.{ambiguous_at, compatible_offset, nanos_of_seconds, offset_at}
+use Rattle.cal_zone.specs.Days.{date_of}
 use Rattle.cal_zone.specs.Local.{day_of, second_of_day, hour_of, minute_of, second_of}
 use Rattle.cal_zone.specs.Zone.{local_of}
 
-pub second_of_day_bound : (local : ℤ) → second_of_day local < 86_400
-second_of_day_bound local = omega (arith, signed_arith)
-
-hour_of_bound : (second : ℕ) → second < 86_400 → hour_of second < 24
-hour_of_bound second h = omega arith
-
-minute_of_bound : (second : ℕ) → minute_of second < 60
-minute_of_bound second = omega arith
-
-second_of_bound : (second : ℕ) → second_of second < 60
-second_of_bound second = omega arith
-
-subsec_bound : 0 < 1_000_000_000
-subsec_bound = omega arith
-
 -- the time of day so many seconds after midnight
-pub time_of : (second : ℕ) → second < 86_400 → Time
+unfoldable pub time_of : (second : ℕ) → second < 86_400 → Time
 time_of second h = record {
   hour = hour_of second;
   minute = minute_of second;
   second = second_of second;
   subsec_nanosecond = 0;
-  hour_in = hour_of_bound second h;
-  minute_in = minute_of_bound second;
-  second_in = second_of_bound second;
-  subsec_in = subsec_bound;
+  hour_in = omega arith;
+  minute_in = omega arith;
+  second_in = omega arith;
+  subsec_in = omega arith;
 }
 
 -- the civil time of a local second
 unfoldable pub datetime_of : ℤ → DateTime
-datetime_of local = record { date = date_of (day_of local); time = time_of (second_of_day local) (second_of_day_bound local) }
+datetime_of local = record { date = date_of (day_of local); time = time_of (second_of_day local) (omega (arith, signed_arith)) }
 
 -- the second of Unix time that `jiff`'s compatible conversion gives for a local second
 unfoldable pub settle_of : TimeZone → ℤ → ℤ
@@ -56,9 +41,3 @@ unfoldable pub place_at : TimeZone → ℤ → Offset → Option ℤ
 place_at tz local offset =
     let second = local -ℤ offset.seconds in
     if int_eq (offset_at tz (nanos_of_seconds second)) offset.seconds then Some second else None
-
--- the civil time of a local second stands for that second
-pub civil_nanos-datetime_of : (local : ℤ) → IsEpochDay (day_of local) → civil_nanos (datetime_of local) ≡ nanos_of_seconds local
-unfolding civil_nanos datetime_of time_of
-civil_nanos-datetime_of local h =
-    omega (arith, signed_arith, epoch_day-date_of (day_of local) h)

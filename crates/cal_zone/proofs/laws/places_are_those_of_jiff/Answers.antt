@@ -1,4 +1,4 @@
-use Rattle.cal_zone.specs.Place.{civil_nanos-datetime_of}
+use Rattle.cal_zone.proofs.PlaceLemmas.{civil_nanos-datetime_of}
 use Rattle.cal_zone.proofs.PlaceLemmas.{picked_instant-settle_of, place_of-UTC}
 use Rattle.cal_zone.proofs.laws.places_are_those_of_jiff.Goals as goal
 
