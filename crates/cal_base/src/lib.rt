@@ -3,7 +3,7 @@
 
 pub use cal_bytes::{
     Faulty, Fill, Output, Port, ROOM, ShortText, Sink, Source, Then, WholeFault, WriteFault,
-    padding, push, push_all, put_all, put_pieces, read_whole,
+    is_among, padding, push, push_all, put_all, put_pieces, read_whole,
 };
 pub use cal_span::{
     Scale, Span, SpanFault, are_digits, format_span, fraction_of, one_text, one_value, push_span,

@@ -3,6 +3,7 @@
 
 mod bytes;
 mod faulty;
+mod names;
 mod output;
 mod port;
 mod short_text;
@@ -10,6 +11,7 @@ mod whole;
 
 pub use bytes::{Sink, Source, WriteFault, put_all, put_pieces};
 pub use faulty::{Faulty, Then};
+pub use names::is_among;
 pub use output::Output;
 pub use port::Port;
 pub use short_text::{Fill, ROOM, ShortText, padding, push, push_all};

@@ -9,6 +9,7 @@ ghost use Rattle.cal_lines.specs.LineView.{line_at};
 ghost use Rattle.cal_read.specs.AssignmentView.{shown_assignment};
 ghost use Rattle.cal_read.specs.TimerText.{is_expression, is_reset};
 
+use cal_bytes::is_among;
 use cal_lines::trim;
 
 /// The keys that empty the list by an empty value.
@@ -46,18 +47,6 @@ impl Assignment<'_> {
     {
         !self.value.is_empty() && self.key == "OnCalendar"
     }
-}
-
-/// Whether the word is one of the names.
-fn is_among(names: &[&[u8]], word: &[u8]) -> bool
-    ensures { result ≡ list_any (bytes_eq word.now) (map (λ name. name.now) names.now) }
-{
-    for name in names {
-        if word == *name {
-            return true;
-        }
-    }
-    false
 }
 
 /// The name of the section that a line opens, if it begins with `[` and ends with `]`.

@@ -3,18 +3,9 @@ use Rattle.std.proofs.Common.{ℕ, suc, ◌+◌, ◌-◌, ◌*◌, ◌<◌, ◌�
 use Rattle.std.specs.Prelude.{⊤, cond, leb}
 use Rattle.std.specs.List.{AllByRecursion, list_all, prefix_len}
 use Rattle.std.specs.Char.{is_ascii_digit}
-use Rattle.std.specs.Str.Parse.{digits_value}
-use Rattle.std.proofs.lemmas.Int.Digits.{digits_value_more}
 use Rattle.std.proofs.lemmas.Bool.{and_parts, and_from, leb-true, le-leb, ne_eqb}
 use Rattle.std.proofs.lemmas.List.{take-append-drop, at_drop_more}
-use Rattle.cal_span.proofs.SpanNumbers.{digit_at}
 use Rattle.cal_spec.specs.Parts.{Sign, digits, dots, slash, point, other, is_point, is_slash, with_digit, with_byte, lone, signs}
-
--- one more digit of a number that stays at the top
-pub value_more : (ds : List ℕ) (i value : ℕ) → i < length ds → list_all is_ascii_digit ds ≡ true → value ≡ min (digits_value 10 (take i ds)) 65535 → min (min (value * 10) 65535 + (get_or ds i 0 - 48)) 65535 ≡ min (digits_value 10 (take (i + 1) ds)) 65535
-value_more ds i value within all so_far =
-    let digit = (digit_at ds i within all).2 in
-    rw (digits_value_more 10 ds i within) (omega arith)
 
 abbrev pub begins_with : (ℕ → Bool) → List ℕ → Bool
 begins_with p [] = false

@@ -7,6 +7,8 @@ ghost use Rattle.std.specs.Str.Parse.{digits_value};
 ghost use Rattle.cal_spec.specs.Parts.{signs};
 ghost use Rattle.cal_spec.specs.Symbol.{sign_of};
 
+use cal_span::whole_of;
+
 /// What stands in a part of a component.
 #[derive(Clone, Copy)]
 pub(crate) enum Symbol<'a> {
@@ -57,11 +59,5 @@ pub(crate) fn value_of(digits: &[u8]) -> u16
     requires { IsTrue (list_all is_ascii_digit digits.now) }
     ensures { result ≡ min (digits_value 10 digits.now) u16.MAX }
 {
-    let mut value = 0_u16;
-    for digit in digits {
-        value = value
-            .saturating_mul(10)
-            .saturating_add(u16::from(*digit - b'0'));
-    }
-    value
+    whole_of(digits).min(u64::from(u16::MAX)) as u16
 }

@@ -126,15 +126,15 @@ fn find_named(shorthands: &[Shorthand], word: &[u8]) -> Option<Shorthand>
         ≡ find (λ shorthand. list_any (str_eq_ignore_ascii_case word.now) (names_of shorthand)) shorthands.now }
 {
     for shorthand in shorthands {
-        if is_among(shorthand.names(), word) {
+        if is_named(shorthand.names(), word) {
             return Some(*shorthand);
         }
     }
     None
 }
 
-/// Whether the word is one of the names.
-fn is_among(names: &[&[u8]], word: &[u8]) -> bool
+/// Whether the word is one of the names, in any case.
+fn is_named(names: &[&[u8]], word: &[u8]) -> bool
     ensures { result ≡ list_any (str_eq_ignore_ascii_case word.now) (map (λ name. name.now) names.now) }
 {
     for name in names {

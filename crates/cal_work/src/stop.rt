@@ -154,13 +154,12 @@ fn write_command<W: Sink>(out: &mut W, fault: &CommandFault) -> Result<(), Write
     ensures bytes { Writes (W.written out.old) (W.written out.new) result (command_text fault.now) }
 {
     match fault {
-        CommandFault::Usage(text) => put_all(out, text.as_bytes()),
-        CommandFault::Help(text) => put_all(out, text.as_bytes()),
-        CommandFault::BadIterations => write_own(out, "bad iterations"),
-        CommandFault::BadNow => write_own(out, "bad now"),
-        CommandFault::BadZones => write_own(out, "bad zones"),
-        CommandFault::BadLocal => write_own(out, "bad local zone"),
+        CommandFault::Usage(text) | CommandFault::Help(text) => put_all(out, text.as_bytes()),
         CommandFault::NoMemory => write_own(out, "out of memory"),
+        CommandFault::BadIterations
+        | CommandFault::BadNow
+        | CommandFault::BadZones
+        | CommandFault::BadLocal => write_own(out, fault.words()),
     }
 }
 

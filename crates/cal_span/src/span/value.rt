@@ -10,6 +10,7 @@ ghost use Rattle.cal_span.specs.SpanValue.{pairs_in, unit_in, worth_of, sum_with
 use crate::span::number::Number;
 use crate::span::word::{CharKind, first_word};
 use crate::{Scale, Span, SpanFault};
+use cal_bytes::is_among;
 
 /// The time span that a text writes: one or more pairs of a number and an optional unit, with
 /// blanks before, between and after all of them. A number without a unit is in seconds. The values
@@ -112,16 +113,4 @@ fn find_unit(units: &[Scale], word: &[u8]) -> Option<Scale>
         }
     }
     None
-}
-
-/// Whether the word is one of the spellings, as a whole.
-fn is_among(spellings: &[&[u8]], word: &[u8]) -> bool
-    ensures { result ≡ list_any (bytes_eq word.now) (map (λ spelling. spelling.now) spellings.now) }
-{
-    for spelling in spellings {
-        if word == *spelling {
-            return true;
-        }
-    }
-    false
 }

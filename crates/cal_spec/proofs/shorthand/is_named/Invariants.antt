@@ -1,7 +1,7 @@
 use Rattle.std.proofs.Common.{◌≡◌, map, drop}
 use Rattle.std.specs.List.{list_any}
 use Rattle.std.specs.Str.{str_eq_ignore_ascii_case}
-use Rattle.cal_spec.proofs.shorthand.is_among.Given as goal
+use Rattle.cal_spec.proofs.shorthand.is_named.Given as goal
 
 -- the names that are left decide
 abbrev pub invariant-loop-name : goal.invariant-loop-name
