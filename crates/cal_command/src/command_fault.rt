@@ -27,7 +27,7 @@ pub enum CommandFault {
 impl CommandFault {
     ghost use Rattle.cal_command.specs.CommandFault.{words_of};
 
-    /// What a user is told; for usage and help the whole text, with the end of its last line; want of memory has no
+    /// What a user is told; for usage and help the whole text, with the end of its last line; lack of memory has no
     /// words.
     pub fn words(&self) -> &str
         ensures { result.now ≡ words_of self.now }

@@ -1,5 +1,6 @@
 -- What contracts see of the answers of the calls that read a timestamp.
-use Rattle.std.specs.Prelude.{ℕ, ℤ, pos, neg_ℤ, List, Option, Result, Ok, Err}
+use Rattle.std.specs.Prelude.{ℕ, ℤ, pos, neg_ℤ, List, Option, Result}
+use Rattle.std.specs.Result.{result_map_both}
 use Rattle.jiff.specs.Types.{TimeZone}
 use Rattle.cal_zone.specs.declared.moment.Moment.{Moment}
 use Rattle.cal_zone.specs.declared.zone.Zone.{Zone}
@@ -16,19 +17,16 @@ use Rattle.cal_read.specs.declared.stamp.written.Written as written
 
 -- an answer, by the microseconds of its moment
 abbrev pub micros_or_fault : Result Moment StampFault → Result ℤ StampFault
-micros_or_fault (Ok moment) = Ok moment.micros
-micros_or_fault (Err fault) = Err fault
+micros_or_fault = result_map_both (λ moment. moment.micros) (λ fault. fault)
 
 abbrev pub zone_or_fault : Result Zone StampFault → Result TimeZone StampFault
-zone_or_fault (Ok zone) = Ok (zone_of zone)
-zone_or_fault (Err fault) = Err fault
+zone_or_fault = result_map_both zone_of (λ fault. fault)
 
 abbrev pub written_seen : written.Written → meaning.Written
 written_seen w = record { weekday = w.weekday; day = w.day; micros = w.micros; zone = zone_of w.zone }
 
 abbrev pub written_or_fault : Result written.Written StampFault → Result meaning.Written StampFault
-written_or_fault (Ok w) = Ok (written_seen w)
-written_or_fault (Err fault) = Err fault
+written_or_fault = result_map_both written_seen (λ fault. fault)
 
 -- how many days after the present day
 abbrev pub shift_of : NearDay → ℤ

@@ -107,7 +107,7 @@ pub plan_answers : (asked : Asked) (base : ℤ) (read : Result (List ℕ) WholeF
 unfolding timer_answer timer_report
 plan_answers asked base read list merge is m name = rw (is, m.found, merge_whole asked base list merge m) refl
 
--- what was read where a list, or a fault other than want of memory, came of it
+-- what was read where a list, or a fault other than lack of memory, came of it
 pub had_list : (read : Result (List ℕ) WholeFault) (list : List (Entry Fields)) → timer_text expr_in read ≡ Ok list → IsHad read
 had_list read list is none = let never = rw none at is in cc
 

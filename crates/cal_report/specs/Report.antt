@@ -1,5 +1,6 @@
 -- The report of a request: what goes to standard output, what goes to standard error, and the status.
 use Rattle.std.specs.Prelude.{◌≡◌, ℕ, ℤ, Bool, true, false, ◌&&◌, List, [], Option, None, Some, Result, Ok, Err, IfOk, is_ok, slice_index_or, if◌then◌else◌, codes}
+use Rattle.std.specs.Result.{result_map_both}
 use Rattle.cal_bytes.specs.Bytes.{Writes}
 use Rattle.cal_bytes.specs.Whole.{is_read_failed}
 use Rattle.cal_bytes.specs.declared.whole.WholeFault.{WholeFault}
@@ -40,8 +41,7 @@ answer_to asked base = answer_by asked.verb asked base
 
 -- the base: the instant of a timestamp's moment, or else the present
 abbrev pub second_or_fault : Result ℤ StampFault → Result ℤ StampFault
-second_or_fault (Ok micros) = Ok (second_at micros)
-second_or_fault (Err fault) = Err fault
+second_or_fault = result_map_both second_at (λ fault. fault)
 
 abbrev pub base_from : Asked → Option (List ℕ) → Result ℤ StampFault
 base_from asked None = Ok asked.now
@@ -49,8 +49,7 @@ base_from asked (Some text) = second_or_fault (stamp_in asked text)
 
 -- the base as it was read, by its seconds
 abbrev pub secs_or_fault : Result Instant StampFault → Result ℤ StampFault
-secs_or_fault (Ok instant) = Ok instant.secs
-secs_or_fault (Err fault) = Err fault
+secs_or_fault = result_map_both (λ instant. instant.secs) (λ fault. fault)
 
 unfoldable pub base_in : Asked → Result ℤ StampFault
 base_in asked = base_from asked asked.base
@@ -111,7 +110,7 @@ pub record ByReading (asked : Asked) (old new : Option (List ℕ)) (failed : Boo
   pub fails : failed ≡ is_read_failed read
   pub holds : holds_of read (report asked read)
 
--- What a run has written that ended for want of memory: the whole answers to the texts before the one at which memory
+-- What a run has written that ended for lack of memory: the whole answers to the texts before the one at which memory
 -- was refused, and nothing more. A timer's one text is its file, so that nothing is written there.
 pub record IsCut (asked : Asked) (out_old out_new err_old err_new : Option (List ℕ)) : Type 0 where
   pub base : ℤ

@@ -1,10 +1,10 @@
 -- The report of one time span (systemd-analyze(1), timespan).
-use Rattle.std.specs.Prelude.{ℕ, List, [], ◌∷◌, ◌++◌, Result, Ok, Err, codes, decimal}
+use Rattle.std.specs.Prelude.{ℕ, List, [], ◌∷◌, ◌++◌, codes, decimal}
+use Rattle.std.specs.Result.{result_map_both}
 use Rattle.cal_bytes.specs.Bytes.{joined}
 use Rattle.cal_span.specs.SpanFault.{words_of}
 use Rattle.cal_span.specs.SpanText.{span_text}
 use Rattle.cal_span.specs.SpanValue.{span_of}
-use Rattle.cal_span.specs.declared.span.fault.SpanFault.{SpanFault}
 use Rattle.cal_report.specs.Answer.{Answer}
 
 -- the label of the microseconds, in which μ is U+03BC
@@ -17,9 +17,5 @@ timespan_report text micros =
     joined (codes "Original: " ∷ text ∷ micro_label ∷ decimal micros ∷ codes "\n   Human: " ∷ span_text micros ∷ codes "\n" ∷ [])
 
 -- the report, or the words of the refusal
-abbrev pub span_answer : List ℕ → Result ℕ SpanFault → Answer
-span_answer text (Ok micros) = Ok (timespan_report text micros)
-span_answer text (Err fault) = Err (words_of fault)
-
 unfoldable pub timespan_answer : List ℕ → Answer
-timespan_answer text = span_answer text (span_of text)
+timespan_answer text = result_map_both (timespan_report text) words_of (span_of text)

@@ -1,5 +1,6 @@
 -- The report of one timestamp (systemd-analyze(1), timestamp).
-use Rattle.std.specs.Prelude.{ℕ, ◌/◌, ◌%◌, ◌==◌, ℤ, pos, unsigned_abs, List, [], ◌∷◌, Result, Ok, Err, if◌then◌else◌, codes, decimal}
+use Rattle.std.specs.Prelude.{ℕ, ◌/◌, ◌%◌, ◌==◌, ℤ, pos, unsigned_abs, List, [], ◌∷◌, Result, if◌then◌else◌, codes, decimal}
+use Rattle.std.specs.Result.{result_map_both}
 use Rattle.cal_bytes.specs.Bytes.{joined}
 use Rattle.cal_zone.specs.InstantText.{instant_text, zeros}
 use Rattle.cal_zone.specs.Zone.{zone_of}
@@ -39,9 +40,5 @@ unfoldable pub stamp_in : Asked → List ℕ → Result ℤ StampFault
 stamp_in asked text = moment_in asked.now (setting (zone_of asked.local) (zone_named asked.zones)) text
 
 -- the report, or the words of the refusal
-abbrev pub stamp_answer : Asked → List ℕ → Result ℤ StampFault → Answer
-stamp_answer asked text (Ok micros) = Ok (timestamp_report asked text micros)
-stamp_answer asked text (Err fault) = Err (words_of fault)
-
 unfoldable pub timestamp_answer : Asked → List ℕ → Answer
-timestamp_answer asked text = stamp_answer asked text (stamp_in asked text)
+timestamp_answer asked text = result_map_both (timestamp_report asked text) words_of (stamp_in asked text)

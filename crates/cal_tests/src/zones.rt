@@ -14,7 +14,7 @@ fn tells_of_each_fault(rt: HostRuntime) {
         (ZoneFault::BadRule, 2, "bad rule"),
         (ZoneFault::BadFile, 3, "bad zone file"),
         (ZoneFault::TooLarge, 4, "larger than 1048576 bytes"),
-        // Want of memory has no words.
+        // Lack of memory has no words.
         (ZoneFault::NoMemory, 5, ""),
         (ZoneFault::NameTaken, 6, "zone name taken"),
     ] {

@@ -51,7 +51,7 @@ use Rattle.cal_report.proofs.ReportLemmas.{no_ok, nothing_front}
 pub is_stop : {X : Type 0} (stop : Stop) (said : Said) → is_out_stop stop ≡ false → is_err_stop stop ≡ false → said_of stop ≡ said → StopsAs {X = X} stop (Err said)
 is_stop stop said out err is = record { before_out = out; before_err = err; stopped = refl; said = λ h. ap (λ s. Err s) (sym is) }
 
--- a want of memory, whatever is come to
+-- a lack of memory, whatever is come to
 pub memory_stops : {X : Type 0} (said : Said) → StopsAs {X = X} (Run NoMemory) (Err said)
 memory_stops said = record { before_out = refl; before_err = refl; stopped = refl; said = λ h. absurd (false≢true (sym h)) }
 

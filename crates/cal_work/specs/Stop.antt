@@ -126,7 +126,7 @@ outlet_of Clock = OnErr
 outlet_of (Open path) = OnErr
 outlet_of (Run fault) = Later fault
 
--- whether it is the failure of standard output or of standard error, or stands for a want of memory
+-- whether it is the failure of standard output or of standard error, or stands for a lack of memory
 abbrev pub is_out_outlet : Outlet → Bool
 is_out_outlet (Later run.OutFailed) = true
 is_out_outlet outlet = false

@@ -34,7 +34,7 @@ abbrev pub is_err_cut : {T : Type 0} → Result T Stop → Bool
 is_err_cut (Ok x) = false
 is_err_cut (Err stop) = is_err_stop stop
 
--- a stop before any run is what is said, unless it stands for a want of memory
+-- a stop before any run is what is said, unless it stands for a lack of memory
 pub record StopsAs {X : Type 0} (stop : Stop) (come : Result X Said) : Type 0 where
   pub before_out : is_out_stop stop ≡ false
   pub before_err : is_err_stop stop ≡ false

@@ -64,7 +64,7 @@ pub(crate) enum Outlet {
     OnOut,
     /// On standard error.
     OnErr,
-    /// On standard error, but only once the output is settled: what couldn't be written, and a want of memory.
+    /// On standard error, but only once the output is settled: what couldn't be written, and a lack of memory.
     Later(RunFault),
 }
 

@@ -310,7 +310,7 @@ fn open_file<S: System>(alloc: Global, system: &S, path: &str) -> Result<S::File
 
 // What is told of a stop
 
-/// Writes what is said of a stop, and answers the status beside whether it could be written. Want of memory and what
+/// Writes what is said of a stop, and answers the status beside whether it could be written. Lack of memory and what
 /// couldn't be written are told at the end.
 fn tell<O: Sink, E: Sink>(answered: &Result<Status, Stop>, out: &mut O, err: &mut E) -> Ended
     requires out { O.is_failed out.old ≡ is_out_cut answered.now }
@@ -333,7 +333,7 @@ fn tell<O: Sink, E: Sink>(answered: &Result<Status, Stop>, out: &mut O, err: &mu
     }
 }
 
-/// Writes what is said of a stop that is neither a run's nor for want of memory: help on `out`, and else on `err`.
+/// Writes what is said of a stop that is neither a run's nor for lack of memory: help on `out`, and else on `err`.
 fn tell_stop<O: Sink, E: Sink>(stop: &Stop, out: &mut O, err: &mut E) -> Result<(), RunFault>
     requires out { O.is_failed out.old ≡ is_out_stop stop.now }
     requires err { E.is_failed err.old ≡ is_err_stop stop.now }

@@ -22,7 +22,7 @@ pub enum ZoneFault {
 impl ZoneFault {
     ghost use Rattle.cal_zone.specs.ZoneFault.{words_of};
 
-    /// What a user is told; want of memory has no words.
+    /// What a user is told; lack of memory has no words.
     pub fn words(&self) -> &str
         ensures { result.now ≡ words_of self.now }
     {

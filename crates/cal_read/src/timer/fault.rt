@@ -29,7 +29,7 @@ pub enum TimerFault {
 impl TimerFault {
     ghost use Rattle.cal_read.specs.TimerFault.{line_of, words_of};
 
-    /// What a user is told, for a bad line the words of its text's fault; want of memory has no words.
+    /// What a user is told, for a bad line the words of its text's fault; lack of memory has no words.
     pub fn words(&self) -> &str
         ensures { result.now ≡ words_of self.now }
     {

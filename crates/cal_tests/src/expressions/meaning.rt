@@ -168,7 +168,7 @@ fn other_local_seconds(rt: HostRuntime) -> Result<(), Fail> {
     expect_has(&rt, rt.alloc(), HAS_NOT, false)
 }
 
-/// Whichever growth is refused, the answer is want of memory and no other fault; where none is refused, the text is
+/// Whichever growth is refused, the answer is lack of memory and no other fault; where none is refused, the text is
 /// read. (A run of the tests in which each allocation is refused in turn shows the first half.)
 #[test]
 fn refused_growths(rt: HostRuntime) {
