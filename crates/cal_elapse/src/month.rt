@@ -9,6 +9,9 @@ ghost use Rattle.cal_elapse.specs.Months.{first_day, length_of, month_of, year_o
 
 use jiff_core::civil::{Date, days_in_month};
 
+/// How many months the years 1970 to 2199 have.
+pub(crate) const MONTHS: u32 = 2_760;
+
 /// A month: its number, the number of its first day from 1970-01-01 on, and its length in days.
 #[derive(Clone, Copy, Debug)]
 pub(crate) struct Month {

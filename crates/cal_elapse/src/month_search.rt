@@ -8,13 +8,14 @@ ghost use Rattle.cal_elapse.specs.Search.{IsFirstPassing};
 
 use crate::Masks;
 use crate::bits::{has_bit, lowest_bit, next_bit};
+use crate::month::MONTHS;
 
 /// The first month that isn't before `from`, counted from January 1970 and at most 2,760; `None` where there is none.
 pub(crate) fn next_month(masks: &Masks, from: u32) -> Option<u32>
     requires { from ≤ 2_760 }
     ensures { IsFirstPassing (month_in (sets_in masks.now)) from 2_760 result }
 {
-    if from == 2_760 {
+    if from == MONTHS {
         return None;
     }
     match month_here(masks, from) {

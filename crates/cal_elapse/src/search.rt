@@ -110,7 +110,7 @@ fn second_after(masks: &Masks, second: u32) -> Option<u32>
     requires { second < 86_400 }
     ensures { IsFirstPassing (time_in (sets_in masks.now)) (second + 1) 86_400 result }
 {
-    if second + 1 < 86_400 {
+    if u64::from(second) + 1 < DAY {
         next_second(masks, second + 1)
     } else {
         None
