@@ -3,6 +3,8 @@ pub mod ResumedLemmas
 pub mod StampCivilRule
 pub mod StampFaults
 pub mod StampLemmas
+pub mod StampPrinted
+pub mod StampPrintedTexts
 mod StampRows
 pub mod StampRule
 pub mod StampText

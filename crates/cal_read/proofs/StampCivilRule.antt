@@ -20,9 +20,9 @@ use Rattle.cal_read.specs.declared.stamp.fault.StampFault.{StampFault}
 
 -- What words look like
 
-record IsNumber (word : List ℕ) : Type 0 where
-  some : 0 < length word
-  digits : list_all is_ascii_digit word ≡ true
+pub record IsNumber (word : List ℕ) : Type 0 where
+  pub some : 0 < length word
+  pub digits : list_all is_ascii_digit word ≡ true
 
 number_by : (most : ℕ) (word : List ℕ) (n : ℕ) (test : Bool) → (nat_le 1 (length word) && nat_le (length word) most && list_all is_ascii_digit word) ≡ test → digits_number most word ≡ Some n → IsNumber word
 unfolding digits_number
@@ -33,7 +33,7 @@ number_by most word n true e h =
 number_by most word n false e h = let none = rw e at h in cc
 
 -- digits hold no colon, and begin with a digit
-digit_no_colon : (b : ℕ) → is_ascii_digit b ≡ true → is_colon b ≡ false
+pub digit_no_colon : (b : ℕ) → is_ascii_digit b ≡ true → is_colon b ≡ false
 digit_no_colon b h = grind (arith, nat_tests)
 
 digit_no_letter : (b : ℕ) → is_ascii_digit b ≡ true → is_ascii_alphabetic b ≡ false
@@ -48,7 +48,7 @@ no_colon (d ∷ ds) h =
     let parts = and_parts (is_ascii_digit d) (list_all is_ascii_digit ds) h in
     rw (digit_no_colon d parts.0, no_colon ds parts.1) refl
 
-digit_first : (word rest : List ℕ) → IsNumber word → begins_with_digit (word ++ rest) ≡ true
+pub digit_first : (word rest : List ℕ) → IsNumber word → begins_with_digit (word ++ rest) ≡ true
 digit_first [] rest h = absurd (omega (arith, h.some))
 digit_first (d ∷ ds) rest h = (and_parts (is_ascii_digit d) (list_all is_ascii_digit ds) h.digits).0
 

@@ -2,10 +2,18 @@
 //! law.
 
 ghost use Rattle.std.specs.Prelude.{◌≡◌, ℕ, ℤ, List, Ok, Err};
-ghost use Rattle.cal_read.specs.Stamp.{Setting, Written, civil_time, moment_in};
+ghost use Rattle.jiff.specs.Types.{TimeZone};
+ghost use Rattle.cal_zone.specs.Instant.{IsInstant};
+ghost use Rattle.cal_zone.specs.InstantText.{instant_text};
+ghost use Rattle.cal_zone.specs.Local.{IsLocalSecond};
+ghost use Rattle.cal_zone.specs.Zone.{utc};
+ghost use Rattle.cal_zone.specs.ZoneMap.{ZoneMap};
+ghost use Rattle.cal_zone.specs.ZoneTable.{zone_named};
+ghost use Rattle.cal_read.specs.Stamp.{Setting, Written, civil_time, micros_of, moment_in};
 ghost use Rattle.cal_read.specs.StampCivilRule.{HasNoSuchDate, IsCivilTime};
 ghost use Rattle.cal_read.specs.StampForm.{Form, civil, form_of};
 ghost use Rattle.cal_read.specs.StampRule.{HasForm};
+ghost use Rattle.cal_read.specs.StampViews.{setting};
 ghost use Rattle.cal_read.specs.declared.stamp.fault.StampFault.TheVariants.{NoSuchDate};
 
 /// Each text has exactly one form by the rule of systemd.time(7), Parsing Timestamps: that of the first that fits the
@@ -28,4 +36,14 @@ pub fn one_civil_time()
 pub fn only_written_dates_are_none()
     ensures { (now : ℤ) (at : Setting) (text : List ℕ) → moment_in now at text ≡ Err NoSuchDate
         → (ws : List (List ℕ)) × (form_of text ≡ civil ws) × HasNoSuchDate ws }
+{}
+
+/// An instant that is printed in UTC is read as that instant, whatever the present, the local zone and the table are.
+/// One that is printed with the year 2200, which a zone west of UTC still reaches, is read as no date.
+pub fn printed_instants_read_back()
+    ensures back { (now : ℤ) (local : TimeZone) (table : ZoneMap) (secs : ℤ) → IsLocalSecond secs
+        → moment_in now (setting local (zone_named table)) (instant_text utc secs) ≡ Ok (micros_of secs) }
+    ensures none { (now : ℤ) (local : TimeZone) (table : ZoneMap) (secs : ℤ)
+        → IsInstant secs → (IsLocalSecond secs → ⊥)
+        → moment_in now (setting local (zone_named table)) (instant_text utc secs) ≡ Err NoSuchDate }
 {}

@@ -1,0 +1,293 @@
+-- The words of a printed instant, the weekday's name, the date and the time in padded numbers, as timestamps read them.
+use Rattle.std.proofs.Common.{◌≡◌, ℕ, zero, suc, ◌+◌, ◌-◌, ◌*◌, ◌^◌, ◌<◌, ◌≤◌, Bool, true, false, ◌&&◌, List, [], ◌∷◌, ◌++◌, length, get_or, replicate, decimal, nat_le, Some, Ok, Err, refl, ap, ◌∙◌, arith, length-append, le-leb, slice_index_or, unsigned_abs, ℤ, pos, negsuc, ◌≤ℤ◌}
+use Rattle.std.specs.Char.{is_ascii_digit}
+use Rattle.std.specs.List.{list_all, list_any, slice_split}
+use Rattle.std.specs.Str.Parse.{AllDigits, digits_value}
+use Rattle.std.proofs.lemmas.Bool.{and_from, lt-leb, le-ltb}
+use Rattle.std.proofs.lemmas.Bool.Decides.{nat_tests}
+use Rattle.std.proofs.lemmas.Fmt.{decimal_is_IsNumeral, length-decimal-le}
+use Rattle.std.proofs.lemmas.List.{length-replicate}
+use Rattle.std.proofs.lemmas.Str.Parse.{digit_from_value}
+use Rattle.jiff.proofs.SpanFacts.{signed_arith}
+use Rattle.jiff.specs.Types.{Date, Weekday}
+use Rattle.jiff.specs.Words.{epoch_day, monday_zero, month_length, IsBetween, IsYear}
+use Rattle.jiff_core.proofs.CalendarLemmas.{days_in_month_bounds}
+use Rattle.jiff_core.specs.declared.civil.weekday.Weekday.TheVariants.{Monday, Tuesday, Wednesday, Thursday, Friday, Saturday, Sunday}
+use Rattle.cal_span.specs.SpanValue.{is_point}
+use Rattle.cal_zone.specs.InstantText.{zeros}
+use Rattle.cal_zone.specs.Weekday.{name_of, short_name_of, week}
+use Rattle.cal_zone.specs.ZoneName.{begins_with_letter}
+use Rattle.cal_spec.specs.DateAndTime.{is_colon}
+use Rattle.cal_spec.specs.Parts.{with_century}
+use Rattle.cal_spec.specs.Weekdays.{day_named}
+use Rattle.cal_spec.specs.Words.{is_blank}
+use Rattle.cal_spec.proofs.CleanLemmas.{IsClear, Apart, any_clear, clear_append, clear_from, split_alone, split_at}
+use Rattle.cal_read.proofs.StampCivilRule.{digit_first, digit_no_colon}
+use Rattle.cal_read.specs.Stamp.{begins_with_digit}
+use Rattle.cal_read.specs.StampDate.{date_numbers, date_of_pieces, day_due, day_number, day_written, digits_number, is_hyphen}
+use Rattle.cal_read.specs.StampTime.{clock_number, second_of_pieces, second_written, time_due, time_numbers, time_of_pieces, time_written}
+use Rattle.cal_read.specs.declared.stamp.fault.StampFault.TheVariants.{NoSuchDate}
+
+-- Numbers
+
+-- the digits of a number in at least so many digits
+abbrev padded : ℕ → ℕ → List ℕ
+padded width n = zeros width n ++ decimal n
+
+digits_all : (ds : List ℕ) → AllDigits 10 ds → list_all is_ascii_digit ds ≡ true
+digits_all [] h = refl
+digits_all (c ∷ cs) h =
+    let range = digit_from_value c h.0 in
+    and_from (is_ascii_digit c) (list_all is_ascii_digit cs) (and_from (nat_le 48 c) (nat_le c 57) (le-leb 48 c range.0) (le-leb c 57 range.1)) (digits_all cs h.1)
+
+zeros_all : (k : ℕ) (ds : List ℕ) → list_all is_ascii_digit (replicate k 48 ++ ds) ≡ list_all is_ascii_digit ds
+zeros_all zero ds = refl
+zeros_all (suc k) ds = zeros_all k ds
+
+zeros_value : (k : ℕ) (ds : List ℕ) → digits_value 10 (replicate k 48 ++ ds) ≡ digits_value 10 ds
+zeros_value zero ds = refl
+zeros_value (suc k) ds = zeros_value k ds
+
+-- digits that are a number in so many digits
+record IsPrinted (width n : ℕ) (ds : List ℕ) : Type 0 where
+  all : list_all is_ascii_digit ds ≡ true
+  some : 0 < length ds
+  short : length ds ≤ width
+  value : digits_value 10 ds ≡ n
+
+printed : (width n : ℕ) → 0 < width → width ≤ 4 → n < 10 ^ width → n < 10_000 → IsPrinted width n (padded width n)
+printed width n some narrow few small =
+    let numeral = decimal_is_IsNumeral n (omega arith) in
+    let k = width - length (decimal n) in
+    let most = length-decimal-le width n some few (omega arith) in
+    let long : length (padded width n) ≡ k + length (decimal n) = length-append (replicate k 48) (decimal n) ∙ ap (λ m. m + length (decimal n)) (length-replicate k 48) in
+    record {
+      all = zeros_all k (decimal n) ∙ digits_all (decimal n) numeral.0.1;
+      some = omega (arith, numeral.0.0);
+      short = omega arith;
+      value = zeros_value k (decimal n) ∙ numeral.1;
+    }
+
+-- a year, and a number of two digits
+in_four : (n : ℕ) → n < 10_000 → IsPrinted 4 n (padded 4 n)
+in_four n small = printed 4 n (omega arith) (omega arith) (omega arith) small
+
+in_two : (n : ℕ) → n < 100 → IsPrinted 2 n (padded 2 n)
+in_two n small = printed 2 n (omega arith) (omega arith) (omega arith) (omega arith)
+
+-- digits are read as their number
+digits_read : (width n : ℕ) (ds : List ℕ) → IsPrinted width n ds → digits_number width ds ≡ Some n
+unfolding digits_number
+digits_read width n ds h =
+    rw (le-leb 1 (length ds) h.some, le-leb (length ds) width h.short, h.all) (ap Some h.value)
+
+clock_read : (greatest n : ℕ) (ds : List ℕ) → IsPrinted 2 n ds → n ≤ greatest → clock_number greatest ds ≡ Some n
+unfolding clock_number
+clock_read greatest n ds h most = rw (digits_read 2 n ds h, le-leb n greatest most) refl
+
+-- what no digit is
+digit_no_hyphen : (b : ℕ) → is_ascii_digit b ≡ true → is_hyphen b ≡ false
+digit_no_hyphen b h = grind (arith, nat_tests)
+
+digit_no_point : (b : ℕ) → is_ascii_digit b ≡ true → is_point b ≡ false
+digit_no_point b h = grind (arith, nat_tests)
+
+digit_no_blank : (b : ℕ) → is_ascii_digit b ≡ true → is_blank b ≡ false
+digit_no_blank b h = grind (arith, nat_tests)
+
+-- Three numbers with a sign between each two
+
+abbrev row : ℕ → List ℕ → List ℕ → List ℕ → List ℕ
+row sign a b c = a ++ (sign ∷ (b ++ (sign ∷ c)))
+
+row_clear : (p : ℕ → Bool) (sign : ℕ) (a b c : List ℕ) → p sign ≡ false → IsClear p a → IsClear p b → IsClear p c → IsClear p (row sign a b c)
+row_clear p sign a b c apart first second third =
+    clear_append p a (sign ∷ (b ++ (sign ∷ c))) first (apart, clear_append p b (sign ∷ c) second (apart, third))
+
+row_split : (p : ℕ → Bool) (sign : ℕ) (a b c : List ℕ) → p sign ≡ true → IsClear p a → IsClear p b → IsClear p c → slice_split p (row sign a b c) ≡ a ∷ b ∷ c ∷ []
+row_split p sign a b c is first second third =
+    split_at p a sign (b ++ (sign ∷ c)) first is
+    ∙ ap (λ ts. a ∷ ts) (split_at p b sign c second is ∙ ap (λ ts. b ∷ ts) (split_alone p c third))
+
+-- The date
+
+abbrev pub date_word : ℕ → ℕ → ℕ → List ℕ
+date_word year month day = row 45 (padded 4 year) (padded 2 month) (padded 2 day)
+
+-- numbers that fit their digits
+record IsWritable (year month day : ℕ) : Type 0 where
+  year_in : year < 10_000
+  month_in : month < 100
+  day_in : day < 100
+
+date_clear : (p : ℕ → Bool) (year month day : ℕ) → IsWritable year month day → Apart is_ascii_digit p → p 45 ≡ false → IsClear p (date_word year month day)
+date_clear p year month day h apart sign =
+    row_clear p 45 (padded 4 year) (padded 2 month) (padded 2 day) sign
+    (clear_from is_ascii_digit p (padded 4 year) apart (in_four year h.year_in).all)
+    (clear_from is_ascii_digit p (padded 2 month) apart (in_two month h.month_in).all)
+    (clear_from is_ascii_digit p (padded 2 day) apart (in_two day h.day_in).all)
+
+date_numbers_back : (year month day : ℕ) → IsWritable year month day → date_numbers (date_word year month day) ≡ Some (record { year = year; month = month; day = day })
+unfolding date_numbers
+date_numbers_back year month day h =
+    let y = in_four year h.year_in in
+    let m = in_two month h.month_in in
+    let d = in_two day h.day_in in
+    ap date_of_pieces (row_split is_hyphen 45 (padded 4 year) (padded 2 month) (padded 2 day) refl
+    (clear_from is_ascii_digit is_hyphen (padded 4 year) digit_no_hyphen y.all)
+    (clear_from is_ascii_digit is_hyphen (padded 2 month) digit_no_hyphen m.all)
+    (clear_from is_ascii_digit is_hyphen (padded 2 day) digit_no_hyphen d.all))
+    ∙ rw (digits_read 4 year (padded 4 year) y, digits_read 2 month (padded 2 month) m, digits_read 2 day (padded 2 day) d) refl
+
+century_stays : (n : ℕ) → 100 ≤ n → with_century n ≡ n
+century_stays n h = rw (le-ltb n 70 (omega arith), le-ltb n 100 (omega arith)) refl
+
+-- what is asked of a day, by tests of numbers
+day_tests : (year month day most : ℕ) → 1_970 ≤ year → year ≤ 2_199 → 1 ≤ month → month ≤ 12 → 1 ≤ day → day ≤ most
+    → (nat_le 1_970 year && nat_le year 2_199 && nat_le 1 month && nat_le month 12 && nat_le 1 day && nat_le day most) ≡ true
+day_tests year month day most from to first last one within =
+    rw (le-leb 1_970 year from, le-leb year 2_199 to, le-leb 1 month first, le-leb month 12 last, le-leb 1 day one, le-leb day most within) refl
+
+late_tests : (year month day most : ℕ) → 2_199 < year
+    → (nat_le 1_970 year && nat_le year 2_199 && nat_le 1 month && nat_le month 12 && nat_le 1 day && nat_le day most) ≡ false
+late_tests year month day most late = rw (le-leb 1_970 year (omega arith), lt-leb year 2_199 late) refl
+
+abbrev pub year_of : Date → ℕ
+year_of date = unsigned_abs date.year
+
+year_is : (year : ℤ) → pos 1_970 ≤ℤ year → pos (unsigned_abs year) ≡ year
+year_is (pos n) from = refl
+year_is (negsuc n) from = absurd (omega (arith, signed_arith))
+
+year_below : (year : ℤ) → IsYear year → unsigned_abs year < 10_000
+year_below (pos n) h = omega (arith, signed_arith, h.1)
+year_below (negsuc n) h = omega (arith, signed_arith, h.0)
+
+writable : (date : Date) → IsWritable (year_of date) date.month date.day
+writable date =
+    let bounds = days_in_month_bounds date.year date.month in
+    record {
+      year_in = year_below date.year date.year_in;
+      month_in = omega (arith, date.month_in.1);
+      day_in = omega (arith, date.day_in.1, bounds);
+    }
+
+due : (date : Date) → pos 1_970 ≤ℤ date.year → day_written (date_word (year_of date) date.month date.day) ≡ day_number (year_of date) date.month date.day
+unfolding day_written
+due date from =
+    ap day_due (date_numbers_back (year_of date) date.month date.day (writable date))
+    ∙ ap (λ y. day_number y date.month date.day) (century_stays (year_of date) (omega (arith, signed_arith, year_is date.year from)))
+
+-- from 1970 to 2199 the date is read as its day, and later it is none
+pub date_back : (date : Date) → IsBetween (pos 1_970) (pos 2_199) date.year → day_written (date_word (year_of date) date.month date.day) ≡ Ok (epoch_day date)
+unfolding day_number
+date_back date h =
+    let same = year_is date.year h.0 in
+    due date h.0
+    ∙ rw (same, day_tests (year_of date) date.month date.day (month_length date) (omega (arith, signed_arith, same, h.0)) (omega (arith, signed_arith, same, h.1)) date.month_in.0 date.month_in.1 date.day_in.0 date.day_in.1) refl
+
+pub late_date_back : (date : Date) → pos 2_200 ≤ℤ date.year → day_written (date_word (year_of date) date.month date.day) ≡ Err NoSuchDate
+unfolding day_number
+late_date_back date h =
+    let from : pos 1_970 ≤ℤ date.year = omega (arith, signed_arith, h) in
+    let same = year_is date.year from in
+    due date from
+    ∙ rw (same, late_tests (year_of date) date.month date.day (month_length date) (omega (arith, signed_arith, same, h))) refl
+
+-- The time
+
+abbrev pub time_word : ℕ → ℕ → ℕ → List ℕ
+time_word hour minute second = row 58 (padded 2 hour) (padded 2 minute) (padded 2 second)
+
+pub record IsClock (hour minute second : ℕ) : Type 0 where
+  pub hour_in : hour ≤ 23
+  pub minute_in : minute ≤ 59
+  pub second_in : second ≤ 59
+
+time_clear : (p : ℕ → Bool) (hour minute second : ℕ) → IsClock hour minute second → Apart is_ascii_digit p → p 58 ≡ false → IsClear p (time_word hour minute second)
+time_clear p hour minute second h apart sign =
+    row_clear p 58 (padded 2 hour) (padded 2 minute) (padded 2 second) sign
+    (clear_from is_ascii_digit p (padded 2 hour) apart (in_two hour (omega (arith, h.hour_in))).all)
+    (clear_from is_ascii_digit p (padded 2 minute) apart (in_two minute (omega (arith, h.minute_in))).all)
+    (clear_from is_ascii_digit p (padded 2 second) apart (in_two second (omega (arith, h.second_in))).all)
+
+pub time_digit : (hour minute second : ℕ) → IsClock hour minute second → begins_with_digit (time_word hour minute second) ≡ true
+time_digit hour minute second h =
+    let digits = in_two hour (omega (arith, h.hour_in)) in
+    digit_first (padded 2 hour) (58 ∷ (padded 2 minute ++ (58 ∷ padded 2 second))) (record { some = digits.some; digits = digits.all })
+
+second_back : (second : ℕ) → second ≤ 59 → second_written (padded 2 second) ≡ Some (second * 1_000_000 + 0)
+unfolding second_written
+second_back second h =
+    let digits = in_two second (omega (arith, h)) in
+    ap second_of_pieces (split_alone is_point (padded 2 second) (clear_from is_ascii_digit is_point (padded 2 second) digit_no_point digits.all))
+    ∙ rw (clock_read 59 second (padded 2 second) digits h) refl
+
+-- the time is read as its microseconds after midnight
+pub time_back : (hour minute second : ℕ) → IsClock hour minute second
+    → time_written (time_word hour minute second) ≡ Ok ((hour * 3_600 + minute * 60) * 1_000_000 + (second * 1_000_000 + 0))
+unfolding time_written time_numbers
+time_back hour minute second h =
+    let a = in_two hour (omega (arith, h.hour_in)) in
+    let b = in_two minute (omega (arith, h.minute_in)) in
+    let c = in_two second (omega (arith, h.second_in)) in
+    ap (λ ts. time_due (time_of_pieces ts)) (row_split is_colon 58 (padded 2 hour) (padded 2 minute) (padded 2 second) refl
+    (clear_from is_ascii_digit is_colon (padded 2 hour) digit_no_colon a.all)
+    (clear_from is_ascii_digit is_colon (padded 2 minute) digit_no_colon b.all)
+    (clear_from is_ascii_digit is_colon (padded 2 second) digit_no_colon c.all))
+    ∙ rw (clock_read 23 hour (padded 2 hour) a h.hour_in, clock_read 59 minute (padded 2 minute) b h.minute_in, second_back second h.second_in) refl
+
+-- neither has a blank, and the date no colon
+pub date_solid : (date : Date) → list_any is_blank (date_word (year_of date) date.month date.day) ≡ false
+date_solid date =
+    any_clear is_blank (date_word (year_of date) date.month date.day) (date_clear is_blank (year_of date) date.month date.day (writable date) digit_no_blank refl)
+
+pub date_no_colon : (date : Date) → list_any is_colon (date_word (year_of date) date.month date.day) ≡ false
+date_no_colon date =
+    any_clear is_colon (date_word (year_of date) date.month date.day) (date_clear is_colon (year_of date) date.month date.day (writable date) digit_no_colon refl)
+
+pub time_solid : (hour minute second : ℕ) → IsClock hour minute second → list_any is_blank (time_word hour minute second) ≡ false
+time_solid hour minute second h =
+    any_clear is_blank (time_word hour minute second) (time_clear is_blank hour minute second h digit_no_blank refl)
+
+some_front : (xs ys : List ℕ) → 0 < length xs → 0 < length (xs ++ ys)
+some_front xs ys h = omega (arith, length-append xs ys, h)
+
+pub date_some : (date : Date) → 0 < length (date_word (year_of date) date.month date.day)
+date_some date =
+    some_front (padded 4 (year_of date)) (45 ∷ (padded 2 date.month ++ (45 ∷ padded 2 date.day))) (in_four (year_of date) (writable date).year_in).some
+
+pub time_some : (hour minute second : ℕ) → IsClock hour minute second → 0 < length (time_word hour minute second)
+time_some hour minute second h =
+    some_front (padded 2 hour) (58 ∷ (padded 2 minute ++ (58 ∷ padded 2 second))) (in_two hour (omega (arith, h.hour_in))).some
+
+-- The weekday
+
+-- a short name of a weekday, as it is read
+pub record IsDayName (day : Weekday) (name : List ℕ) : Type 0 where
+  pub long : length name ≡ 3
+  pub capital : nat_le 65 (get_or name 0 0) ≡ true
+  pub letter : begins_with_letter name ≡ true
+  pub solid : list_any is_blank name ≡ false
+  pub named : day_named name ≡ Some day
+
+pub short_names : (day : Weekday) → IsDayName day (short_name_of day)
+unfolding name_of day_named
+short_names Monday = record { long = refl; capital = refl; letter = refl; solid = refl; named = refl }
+short_names Tuesday = record { long = refl; capital = refl; letter = refl; solid = refl; named = refl }
+short_names Wednesday = record { long = refl; capital = refl; letter = refl; solid = refl; named = refl }
+short_names Thursday = record { long = refl; capital = refl; letter = refl; solid = refl; named = refl }
+short_names Friday = record { long = refl; capital = refl; letter = refl; solid = refl; named = refl }
+short_names Saturday = record { long = refl; capital = refl; letter = refl; solid = refl; named = refl }
+short_names Sunday = record { long = refl; capital = refl; letter = refl; solid = refl; named = refl }
+
+-- the weekday that has a number
+pub in_week : (n : ℕ) → n < 7 → monday_zero (slice_index_or week n Sunday) ≡ n
+in_week zero h = refl
+in_week (suc zero) h = refl
+in_week (suc (suc zero)) h = refl
+in_week (suc (suc (suc zero))) h = refl
+in_week (suc (suc (suc (suc zero)))) h = refl
+in_week (suc (suc (suc (suc (suc zero))))) h = refl
+in_week (suc (suc (suc (suc (suc (suc zero)))))) h = refl
+in_week (suc (suc (suc (suc (suc (suc (suc n))))))) h = absurd (omega arith)
