@@ -2,12 +2,11 @@
 use Rattle.std.proofs.Common.{◌≡◌, ℕ, zero, suc, ◌+◌, ◌-◌, ◌*◌, ◌^◌, ◌<◌, ◌≤◌, Bool, true, false, ◌&&◌, List, [], ◌∷◌, ◌++◌, length, get_or, replicate, decimal, nat_le, Some, Ok, Err, refl, ap, ◌∙◌, arith, length-append, le-leb, slice_index_or, unsigned_abs, ℤ, pos, negsuc, ◌≤ℤ◌}
 use Rattle.std.specs.Char.{is_ascii_digit}
 use Rattle.std.specs.List.{list_all, list_any, slice_split}
-use Rattle.std.specs.Str.Parse.{AllDigits, digits_value}
-use Rattle.std.proofs.lemmas.Bool.{and_from, lt-leb, le-ltb}
+use Rattle.std.specs.Str.Parse.{digits_value}
+use Rattle.std.proofs.lemmas.Bool.{lt-leb, le-ltb}
 use Rattle.std.proofs.lemmas.Bool.Decides.{nat_tests}
 use Rattle.std.proofs.lemmas.Fmt.{decimal_is_IsNumeral, length-decimal-le}
 use Rattle.std.proofs.lemmas.List.{length-replicate}
-use Rattle.std.proofs.lemmas.Str.Parse.{digit_from_value}
 use Rattle.jiff.proofs.SpanFacts.{signed_arith}
 use Rattle.jiff.specs.Types.{Date, Weekday}
 use Rattle.jiff.specs.Words.{epoch_day, monday_zero, month_length, IsBetween, IsYear}
@@ -22,6 +21,7 @@ use Rattle.cal_spec.specs.Parts.{with_century}
 use Rattle.cal_spec.specs.Weekdays.{day_named}
 use Rattle.cal_spec.specs.Words.{is_blank}
 use Rattle.cal_spec.proofs.CleanLemmas.{IsClear, Apart, any_clear, clear_append, clear_from, split_alone, split_at}
+use Rattle.cal_spec.proofs.ReadBackParts.{digits_all, zeros_all, zeros_value}
 use Rattle.cal_read.proofs.StampCivilRule.{digit_first, digit_no_colon}
 use Rattle.cal_read.specs.Stamp.{begins_with_digit}
 use Rattle.cal_read.specs.StampDate.{date_numbers, date_of_pieces, day_due, day_number, day_written, digits_number, is_hyphen}
@@ -33,20 +33,6 @@ use Rattle.cal_read.specs.declared.stamp.fault.StampFault.TheVariants.{NoSuchDat
 -- the digits of a number in at least so many digits
 abbrev padded : ℕ → ℕ → List ℕ
 padded width n = zeros width n ++ decimal n
-
-digits_all : (ds : List ℕ) → AllDigits 10 ds → list_all is_ascii_digit ds ≡ true
-digits_all [] h = refl
-digits_all (c ∷ cs) h =
-    let range = digit_from_value c h.0 in
-    and_from (is_ascii_digit c) (list_all is_ascii_digit cs) (and_from (nat_le 48 c) (nat_le c 57) (le-leb 48 c range.0) (le-leb c 57 range.1)) (digits_all cs h.1)
-
-zeros_all : (k : ℕ) (ds : List ℕ) → list_all is_ascii_digit (replicate k 48 ++ ds) ≡ list_all is_ascii_digit ds
-zeros_all zero ds = refl
-zeros_all (suc k) ds = zeros_all k ds
-
-zeros_value : (k : ℕ) (ds : List ℕ) → digits_value 10 (replicate k 48 ++ ds) ≡ digits_value 10 ds
-zeros_value zero ds = refl
-zeros_value (suc k) ds = zeros_value k ds
 
 -- digits that are a number in so many digits
 record IsPrinted (width n : ℕ) (ds : List ℕ) : Type 0 where

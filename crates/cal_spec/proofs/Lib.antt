@@ -5,7 +5,6 @@ mod NormalLemmas
 mod NormalRows
 mod OrderLemmas
 mod ReadBack
-mod ReadBackParts
 mod ReadBackWeekdays
 mod ReadingRows
 mod ReducedLemmas
@@ -19,6 +18,7 @@ pub mod FaultLemmas
 pub mod FieldLemmas
 pub mod PartRule
 pub mod PieceLemmas
+pub mod ReadBackParts
 pub mod ReadLemmas
 pub mod SignLemmas
 pub mod WeekdayRule

@@ -30,17 +30,17 @@ use Rattle.cal_spec.proofs.SignLemmas.{begins_with, signs_lone, signs_number}
 abbrev pub padded : ℕ → ℕ → List ℕ
 padded width n = zeros width n ++ decimal n
 
-digits_all : (ds : List ℕ) → AllDigits 10 ds → list_all is_ascii_digit ds ≡ true
+pub digits_all : (ds : List ℕ) → AllDigits 10 ds → list_all is_ascii_digit ds ≡ true
 digits_all [] h = refl
 digits_all (c ∷ cs) h =
     let range = digit_from_value c h.0 in
     and_from (is_ascii_digit c) (list_all is_ascii_digit cs) (and_from (nat_le 48 c) (nat_le c 57) (le-leb 48 c range.0) (le-leb c 57 range.1)) (digits_all cs h.1)
 
-zeros_all : (k : ℕ) (ds : List ℕ) → list_all is_ascii_digit (replicate k 48 ++ ds) ≡ list_all is_ascii_digit ds
+pub zeros_all : (k : ℕ) (ds : List ℕ) → list_all is_ascii_digit (replicate k 48 ++ ds) ≡ list_all is_ascii_digit ds
 zeros_all zero ds = refl
 zeros_all (suc k) ds = zeros_all k ds
 
-zeros_value : (k : ℕ) (ds : List ℕ) → digits_value 10 (replicate k 48 ++ ds) ≡ digits_value 10 ds
+pub zeros_value : (k : ℕ) (ds : List ℕ) → digits_value 10 (replicate k 48 ++ ds) ≡ digits_value 10 ds
 zeros_value zero ds = refl
 zeros_value (suc k) ds = zeros_value k ds
 
