@@ -4,6 +4,7 @@ pub mod HeadlineAccepted
 pub mod HeadlineElapses
 pub mod HeadlineLemmas
 pub mod ReportLemmas
+pub mod ResumeLemmas
 pub mod TimelyLemmas
 pub mod TimerLemmas
 pub mod WorkedRows

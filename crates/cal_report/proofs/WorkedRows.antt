@@ -13,6 +13,10 @@ use Rattle.jiff_core.specs.Calendar.{weekday_number}
 use Rattle.cal_zone.specs.Days.{date_of}
 use Rattle.cal_zone.proofs.DayLemmas.{date_of-epoch_day}
 use Rattle.cal_zone.specs.Local.{civil_date, seconds_in_all, seconds_in_all-is}
+use Rattle.cal_read.specs.Stamp.{in_moments, moment_in}
+use Rattle.cal_read.specs.StampForm.{day_shift, form_by_end, form_of, solid}
+use Rattle.cal_report.specs.Resume.{AreShown, IsBegunAgain}
+use Rattle.cal_report.specs.TimestampReport.{stamp_in}
 use Rattle.cal_span.specs.Scale.{words_for, name_of}
 use Rattle.cal_span.specs.SpanText.{units_text, row_text}
 use Rattle.cal_span.specs.SpanValue.{words_in, pairs_in, is_number, unit_named, number_worth, worth_of, span_of}
@@ -34,7 +38,7 @@ use Rattle.std.specs.Str.{chars, is_utf8}
 use Rattle.cal_lines.specs.Lines.{groups, is_continued, logical_lines, part_of as part_of_line, physical_lines, plain_lines, trim, trim_end, trim_start}
 use Rattle.cal_read.specs.Assignments.{Assigned, assignment_of, assignments_in, timer_lines}
 use Rattle.cal_read.specs.TimerText.{is_expression, is_reset, listed as listed_in, most_expressions, without_mark}
-use Rattle.std.specs.Prelude.{ℤ, ◌<ℤ◌, ◌≤ℤ◌, List, length, map}
+use Rattle.std.specs.Prelude.{ℤ, ◌<ℤ◌, ◌≤ℤ◌, List, length, map, slice_get, take}
 use Rattle.cal_zone.specs.Weekday as weekday
 use Rattle.cal_zone.specs.ZoneName.{is_zone_name}
 use Rattle.cal_spec.specs.Components.{part_due, listed, component_of}
@@ -264,4 +268,32 @@ every_file-is = record {
   spelled = rw every_file-assigned every_file-spelled;
   list = rw every_file-assigned every_file-listed;
   some = omega arith;
+}
+
+-- The same begun again after its first elapse, which is the base then
+
+one_second : Asked
+one_second = record { verb = Calendar; texts = codes "*:*:*" ∷ []; iterations = 1; base = Some (codes "@1704112201"); now = pos 1_704_112_200; local = utc; zones = empty }
+
+one_second-sought : base_in one_second ≡ Ok (pos 1_704_112_201)
+unfolding one_second base_in stamp_in moment_in form_of solid form_by_end day_shift words in_moments span_of pairs_in words_in worth_of is_number number_worth unit_named words_for
+one_second-sought = refl
+
+first_is : (xs : List ℤ) (x : ℤ) → first xs ≡ Some x → slice_get (take 2 xs) 0 ≡ Some x
+first_is [] x h = h
+first_is (y ∷ xs) x h = h
+
+one_second-begun : (shown : List ℤ) → AreShown two_seconds (pos 1_704_112_200) (every ∷ []) shown
+    → IsBegunAgain two_seconds (pos 1_704_112_200) shown 1 one_second
+unfolding two_seconds one_second
+one_second-begun shown h = record {
+  verb = refl;
+  texts = refl;
+  now = refl;
+  local = refl;
+  zones = refl;
+  count = refl;
+  from = pos 1_704_112_201;
+  sought = one_second-sought;
+  after = rw h.first (first_is h.elapses (pos 1_704_112_201) (every-first h.elapses h.these));
 }

@@ -6,6 +6,7 @@ pub mod ElapseLines
 pub mod Headline
 pub mod Report
 pub mod ReportLines
+pub mod Resume
 pub mod TimerPlan
 pub mod TimerReport
 pub mod TimespanReport

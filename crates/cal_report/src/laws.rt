@@ -1,4 +1,5 @@
-//! The headline of the program, as one law: a function that does nothing, and whose contract is the law.
+//! The headline of the program, and how a cut output resumes, as laws: functions that do nothing, and whose contracts
+//! are the laws.
 
 ghost use Rattle.std.specs.Prelude.{◌≡◌, ◌+◌, ◌++◌, ◌∷◌, [], ℕ, ℤ, pos, ◌<ℤ◌, ◌-ℤ◌, ◌<◌, Bool, List, Ok, None, Option, Some, Result, map, suc, take, drop, slice_get, true};
 ghost use Rattle.std.specs.Io.KnownBytes.{Appends};
@@ -17,7 +18,9 @@ ghost use Rattle.cal_elapse.specs.Timed.{timed};
 ghost use Rattle.cal_report.specs.ElapseLines.{AreInstants};
 ghost use Rattle.cal_report.specs.Headline.{AreAccepted, AreReportsOf, Expression, IsAccepted, IsAcceptedFile, IsFileOf, IsFine, IsReportOf, meaning};
 ghost use Rattle.cal_report.specs.Report.{ByReading, IsReported, base_in, report};
+ghost use Rattle.cal_report.specs.Resume.{Resumes};
 ghost use Rattle.cal_request.specs.Request.{Asked};
+ghost use Rattle.cal_request.specs.declared.request.RunFault.{RunFault};
 ghost use Rattle.cal_request.specs.declared.request.Status.{Status};
 ghost use Rattle.cal_request.specs.declared.request.Status.TheVariants.{Fine};
 ghost use Rattle.cal_request.specs.declared.request.Verb.TheVariants.{Calendar, Timer};
@@ -90,6 +93,35 @@ pub fn headline()
     ensures fold { (tz : TimeZone) (local i : ℤ) (before after : Offset)
         → ambiguous_at tz (datetime_of local) ≡ Fold before after → place_of tz local ≡ Some i
         → (i ≡ local -ℤ before.seconds) × (after.seconds <ℤ before.seconds → i <ℤ (local -ℤ after.seconds)) }
+{
+    one_normal_form_of_fields();
+}
+
+/// Whatever front of its report is left of a run, the bytes say how to go on: there is exactly one number of elapses
+/// whose first line stands whole in it, and the same request from the last of these on, for so many fewer elapses,
+/// prints exactly the others, with labels that count anew. Where none stands, that is the whole report again.
+pub fn cut_output_resumes()
+    // A request for one text, whose report begins so.
+    ensures calendar { (asked : Asked) (read : Result (List ℕ) WholeFault) (base : ℤ) (e : Expression)
+        (front rest : List ℕ) → asked.verb ≡ Calendar → base_in asked ≡ Ok base → asked.texts ≡ e.text ∷ []
+        → IsAccepted asked e → (report asked read).out ≡ front ++ rest → Resumes asked base (e ∷ []) read front }
+    // A request for a timer file, whose report begins so.
+    ensures timer { (asked : Asked) (bytes : List ℕ) (base : ℤ) (es : List Expression) (front rest : List ℕ)
+        → asked.verb ≡ Timer → base_in asked ≡ Ok base → IsFileOf bytes es → AllByRecursion (IsAccepted asked) es
+        → (report asked (Ok bytes)).out ≡ front ++ rest → Resumes asked base es (Ok bytes) front }
+
+    // What a run adds to its writer, however it ended, is such a front: by the contract of `run`.
+    ensures written { (asked : Asked) (base : ℤ) (e : Expression) (result : Result Status RunFault)
+        (old new : Option (List ℕ)) (failed : Bool) (out_old out_new err_old err_new : Option (List ℕ))
+        → asked.verb ≡ Calendar → base_in asked ≡ Ok base → asked.texts ≡ e.text ∷ [] → IsAccepted asked e
+        → (run : ByReading asked old new failed (IsReported result out_old out_new err_old err_new))
+        → (front : List ℕ) × Appends out_old out_new front × Resumes asked base (e ∷ []) run.read front }
+    ensures written_file { (asked : Asked) (bytes : List ℕ) (base : ℤ) (es : List Expression)
+        (result : Result Status RunFault) (old new : Option (List ℕ)) (failed : Bool)
+        (out_old out_new err_old err_new : Option (List ℕ))
+        → asked.verb ≡ Timer → base_in asked ≡ Ok base → IsFileOf bytes es → AllByRecursion (IsAccepted asked) es
+        → (run : ByReading asked old new failed (IsReported result out_old out_new err_old err_new)) → run.read ≡ Ok bytes
+        → (front : List ℕ) × Appends out_old out_new front × Resumes asked base es (Ok bytes) front }
 {
     one_normal_form_of_fields();
 }
