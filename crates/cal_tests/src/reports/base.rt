@@ -109,15 +109,18 @@ const GOING_ON: Row<'static> = Row {
     ..EVERY_SECOND
 };
 
+/// Every second, from the first elapse on.
+pub(super) const FROM_THE_FIRST: Row<'static> = Row {
+    about: "every second, from the first elapse on",
+    base: Some("@1704067201"),
+    out: AFTER_THE_FIRST,
+    ..GOING_ON
+};
+
 /// A run that starts at an elapse gives those after it.
 static GOING_ON_FROM_AN_ELAPSE: [Row<'static>; 3] = [
     GOING_ON,
-    Row {
-        about: "every second, from the first elapse on",
-        base: Some("@1704067201"),
-        out: AFTER_THE_FIRST,
-        ..GOING_ON
-    },
+    FROM_THE_FIRST,
     Row {
         about: "last second west, from its elapse on",
         texts: &["*-*-* 23:59:59"],

@@ -1,9 +1,9 @@
 //! Reports of timer files.
 
-use super::{CALENDAR, KnownZones, Local, Row, check, known_zones, run_row};
+use super::{CALENDAR, KnownZones, Local, Row, check, known_zones, run_row, status};
 use crate::shared::NEW_YEAR;
 use cal_bytes::{Faulty, Port, Then};
-use cal_request::{Status, Verb};
+use cal_request::Verb;
 use std::alloc::{AllocError, Global};
 use std::process::Abort;
 use std::test::Fail;
@@ -214,36 +214,65 @@ fn as_many_expressions_as_there_may_be(rt: HostRuntime) -> Result<(), Fail> {
     Ok(())
 }
 
-const TWO_EXPRESSIONS: &[u8] = b"[Timer]\nOnCalendar=daily\nOnCalendar=hourly\n";
+/// How many bytes a reader gives a call, and what it does after how many in all.
+type Reader = (usize, usize, Then);
 
-/// Where a reader of that file does so after so many bytes, the file is refused by this line.
+/// The row's file by this reader gives the row's texts.
 fn check_reader(
     rt: &(impl Abort + AllocGlobal),
     zones: &KnownZones,
-    limit: usize,
-    then: Then,
-    want: &str,
+    row: Row<'_>,
+    reader: Reader,
 ) -> Result<(), Fail> {
-    let bytes = Vec::from_slice(rt.alloc(), TWO_EXPRESSIONS)?;
-    let mut input = Port::new(Faulty::new(bytes, 1_024, limit, then));
+    let (step, limit, then) = reader;
+    assert!(rt; step > 0);
+    let bytes = Vec::from_slice(rt.alloc(), row.input)?;
+    let mut input = Port::new(Faulty::new(bytes, step, limit, then));
     let mut out = Port::new(Vec::new(rt.alloc()));
     let mut err = Port::new(Vec::new(rt.alloc()));
-    let ended = run_row(rt, TIMER, zones, &mut input, &mut out, &mut err)?;
+    let ended = run_row(rt, row, zones, &mut input, &mut out, &mut err)?;
     let (out, err) = (out.into_inner(), err.into_inner());
     assert_eq!(rt;
-        (ended, out.is_empty(), err.as_slice()),
-        (Ok(Status::Refused), true, want.as_bytes()),
+        (out.as_slice(), err.as_slice(), ended),
+        (row.out.as_bytes(), row.err.as_bytes(), Ok(status(row))),
         "at {limit}"
     );
     Ok(())
 }
 
-/// Readers that fail, and one that never ends.
 #[test]
-fn faulty_readers(rt: HostRuntime) -> Result<(), Fail> {
+fn a_slow_reader(rt: HostRuntime) -> Result<(), Fail> {
     let zones = known_zones(rt.alloc())?;
-    check_reader(&rt, &zones, 0, Then::Error, "t: cannot be read\n")?;
-    check_reader(&rt, &zones, 40, Then::Error, "t: cannot be read\n")?;
-    let endless = "t: larger than 1048576 bytes\n";
-    check_reader(&rt, &zones, 40, Then::Endless, endless)
+    check_reader(&rt, &zones, CONTINUED_TIMER, (1, 9_999, Then::Error))
+}
+
+/// The timer file where it can't be read.
+const UNREAD_TIMER: Row<'static> = Row {
+    out: "",
+    err: "t: cannot be read\n",
+    ..CONTINUED_TIMER
+};
+
+/// Readers that fail after so many bytes, also after the last one.
+#[test]
+fn failing_readers(rt: HostRuntime) -> Result<(), Fail> {
+    let zones = known_zones(rt.alloc())?;
+    for limit in 0..=CONTINUED_FILE.len() {
+        check_reader(&rt, &zones, UNREAD_TIMER, (64, limit, Then::Error))?;
+        check_reader(&rt, &zones, UNREAD_TIMER, (1, limit, Then::Interrupted))?;
+    }
+    Ok(())
+}
+
+/// The timer file where no end comes after it.
+const ENDLESS_TIMER: Row<'static> = Row {
+    err: "t: larger than 1048576 bytes\n",
+    ..UNREAD_TIMER
+};
+
+#[test]
+fn a_reader_that_never_ends(rt: HostRuntime) -> Result<(), Fail> {
+    let zones = known_zones(rt.alloc())?;
+    let limit = CONTINUED_FILE.len();
+    check_reader(&rt, &zones, ENDLESS_TIMER, (1_024, limit, Then::Endless))
 }

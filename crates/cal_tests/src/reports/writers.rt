@@ -1,12 +1,14 @@
 //! Reports to writers that are slow or fail.
 
+use super::base::FROM_THE_FIRST;
 use super::timers::CONTINUED_TIMER;
 use super::timespans::SPAN_LIST;
 use super::timestamps::STAMP_LIST;
 use super::zones::EVERY_SECOND;
-use super::{CALENDAR, KnownZones, NOON_THIRTY, Row, known_zones, run_row, status};
+use super::{CALENDAR, KnownZones, NOON_THIRTY, Row, check, known_zones, run_row, status};
 use cal_bytes::{Faulty, Port, Then};
 use cal_request::RunFault;
+use std::alloc::AllocError;
 use std::process::Abort;
 use std::test::Fail;
 
@@ -79,16 +81,12 @@ fn check_cut_out(
     Ok(())
 }
 
-/// After how many bytes reports are cut: among the first, in the middle, and just before the end of the shorter ones.
-static LIMITS: [usize; 5] = [0, 1, 17, 200, 220];
-
-/// The reports of a row, cut at each limit that they reach.
+/// The reports of a row, cut after each of their bytes.
 fn check_cuts_out(rt: &(impl Abort + AllocGlobal), row: Row<'_>, then: Then) -> Result<(), Fail> {
+    let text = row.out.as_bytes();
     let zones = known_zones(rt.alloc())?;
-    for limit in &LIMITS {
-        if let Some(front) = row.out.as_bytes().get(..*limit) {
-            check_cut_out(rt, row, &zones, front, then)?;
-        }
+    for limit in 0..text.len() {
+        check_cut_out(rt, row, &zones, &text[..limit], then)?;
     }
     Ok(())
 }
@@ -103,16 +101,59 @@ fn reports_that_are_cut(rt: HostRuntime) -> Result<(), Fail> {
     Ok(())
 }
 
-/// A report that is cut in the line of the first elapse in UTC.
-const CUT: &str = "  Original form: *:*:*
+const AFTER_THE_SECOND: &str = "  Original form: *:*:*
 Normalized form: *-*-* *:*:*
-    Next elapse: Mon 2024-01-01 05:30:01 +05:30
-       (in UTC): Mon 2024-01";
+    Next elapse: Mon 2024-01-01 05:30:03 +05:30
+       (in UTC): Mon 2024-01-01 00:00:03 UTC
+       From now: 3s left
+";
+
+/// What is left of the elapses of every second, by how many of them were given: the last of these is the base.
+static RESUMED: [Row<'static>; 3] = [
+    EVERY_SECOND,
+    FROM_THE_FIRST,
+    Row {
+        about: "every second after the second",
+        iterations: 1,
+        base: Some("@1704067202"),
+        out: AFTER_THE_SECOND,
+        ..EVERY_SECOND
+    },
+];
 
 #[test]
-fn a_cut_line(rt: HostRuntime) -> Result<(), Fail> {
-    let zones = known_zones(rt.alloc())?;
-    check_cut_out(&rt, EVERY_SECOND, &zones, CUT.as_bytes(), Then::Error)
+fn second_runs(rt: HostRuntime) -> Result<(), Fail> {
+    check(&rt, &RESUMED)
+}
+
+/// Puts the instants of the elapses whose first lines stand whole in a text at the end of a list.
+fn push_instants<'t>(instants: &mut Vec<&'t str>, text: &'t str) -> Result<(), AllocError> {
+    let Some((whole, _)) = text.rsplit_once('\n') else {
+        return Ok(());
+    };
+    for line in whole.split('\n') {
+        if line.starts_with("    Next elapse: ") || line.starts_with("       Iter. #") {
+            instants.push(line.get(17..).unwrap_or(""))?;
+        }
+    }
+    Ok(())
+}
+
+/// What stands whole in a cut report and what a second run gives is together the whole.
+#[test]
+fn each_cut_is_resumed(rt: HostRuntime) -> Result<(), Fail> {
+    let text = EVERY_SECOND.out;
+    let mut all = Vec::new(rt.alloc());
+    push_instants(&mut all, text)?;
+    for limit in 0..=text.len() {
+        let mut instants = Vec::new(rt.alloc());
+        push_instants(&mut instants, text.get(..limit).unwrap_or(""))?;
+        if let Some(rest) = RESUMED.get(instants.len()) {
+            push_instants(&mut instants, rest.out)?;
+        }
+        assert_eq!(rt; instants.as_slice(), all.as_slice(), "after {limit}");
+    }
+    Ok(())
 }
 
 /// A writer of refusals that fails once it has this front of them has exactly that, and the run says that it failed. All
