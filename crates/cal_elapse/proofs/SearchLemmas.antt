@@ -1,5 +1,5 @@
 -- The tests of a search, and its steps.
-use Rattle.std.proofs.Common.{◌≡◌, ℕ, ◌+◌, ◌*◌, ◌/◌, ◌%◌, ◌<◌, ◌≤◌, Bool, true, false, ◌&&◌, nat_lt, ◌==◌, Option, ap, ◌∙◌, to_z, of_z, w64, negsuc, ◌^◌, unsigned_abs, ◌≤ℤ◌, None, Some, ℤ, pos, refl, sym, subst₂, inl, inr, arith}
+use Rattle.std.proofs.Common.{◌≡◌, ℕ, ◌+◌, ◌*◌, ◌/◌, ◌%◌, ◌<◌, ◌≤◌, Bool, true, false, ◌&&◌, nat_lt, ◌==◌, Option, ap, ◌∙◌, to_z, of_z, w64, negsuc, ◌^◌, unsigned_abs, ◌≤ℤ◌, IfSome, rules, None, Some, ℤ, pos, refl, sym, subst₂, inl, inr, arith}
 use Rattle.std.proofs.lemmas.Bool.{and_parts, cases_lt}
 use Rattle.std.proofs.lemmas.Bool.Decides.{nat_tests}
 use Rattle.std.proofs.lemmas.Int.{ints, to_z_pos}
@@ -116,6 +116,10 @@ passing_of passes from None none = λ t above below. none t (omega (arith, ints)
 passing_of passes from (Some (pos n)) found =
     (omega (arith, ints), omega (arith, ints), found.2, λ t above below. found.3 t (omega (arith, ints)) (omega (arith, ints)))
 passing_of passes from (Some (negsuc n)) found = absurd (omega (arith, ints))
+
+pub found_low : (passes : ℕ → Bool) (from : ℕ) (found : Option ℤ) → IsFirstLocal passes (pos from) found → IfSome found (λ local. pos 0 ≤ℤ local)
+found_low passes from None none = search rules
+found_low passes from (Some s) found = omega (arith, ints)
 
 -- a search from a machine's number on
 pub search_from : (sets : Sets) (from : ℕ) (found : Found) → from ≤ seconds_in_all → IsFirstLocal (matches sets) (to_z w64 from) found.local

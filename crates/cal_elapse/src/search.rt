@@ -1,5 +1,5 @@
 //! The search for the next matching local second: the next day that matches, and on it the next time of day.
-ghost use Rattle.std.specs.Prelude.{◌≡◌, ◌+◌, ◌≤◌, ◌<◌, true, pos, ◌≤ℤ◌, unsigned_abs};
+ghost use Rattle.std.specs.Prelude.{◌≡◌, ◌+◌, ◌≤◌, ◌<◌, true, pos, ◌≤ℤ◌, IfSome, unsigned_abs};
 ghost use Rattle.std.specs.Option.{option_map};
 ghost use Rattle.cal_zone.specs.Local.{seconds_in_all};
 ghost use Rattle.cal_elapse.specs.Looks.{IsSearch, month_looks};
@@ -25,12 +25,13 @@ pub struct Found {
 }
 
 impl Found {
-    /// The local second, which isn't below 0, as a whole number.
+    /// The local second as a whole number.
     pub(crate) fn whole(self) -> Option<u64>
+        requires { IfSome self.local (λ local. pos 0 ≤ℤ local) }
         ensures { result ≡ option_map unsigned_abs self.local }
     {
         match self.local {
-            Some(local) => Some(local.unsigned_abs()),
+            Some(local) => Some(local as u64),
             None => None,
         }
     }

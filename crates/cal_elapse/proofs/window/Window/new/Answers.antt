@@ -7,7 +7,7 @@ use Rattle.cal_elapse.specs.Search.{IsFirstPassing}
 use Rattle.cal_elapse.specs.Window.{start_of}
 use Rattle.cal_spec.specs.Match.{matches}
 use Rattle.cal_elapse.proofs.ReadyLemmas.{begun_ready, timed_by-timed}
-use Rattle.cal_elapse.proofs.SearchLemmas.{passing_of}
+use Rattle.cal_elapse.proofs.SearchLemmas.{found_low, passing_of}
 use Rattle.cal_elapse.proofs.window.Window.new.Goals as goal
 
 pub returns-clause-ready : goal.returns-clause-ready
@@ -22,3 +22,6 @@ returns-clause-ready c =
 pub returns-clause-timed : goal.returns-clause-timed
 returns-clause-timed c =
     timed_by-timed c.search.new.self.masks c.args.zone c.args.expr.now (ap sets_in c.search.ensures.masks ∙ c.of-searcher.ensures.masks)
+
+pub whole-ahead-requires : goal.whole-ahead-requires
+whole-ahead-requires c = found_low _ _ _ c.search.ensures.found.first

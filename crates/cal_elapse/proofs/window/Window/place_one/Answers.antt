@@ -2,7 +2,7 @@ use Rattle.std.proofs.Common.{FitsSigned, arith, ap, rules, w64}
 use Rattle.std.proofs.lemmas.Int.{ints, to_z-of_z}
 use Rattle.cal_elapse.specs.Window.{timed_by}
 use Rattle.cal_elapse.proofs.ReadyLemmas.{ahead_is_match, few_searches, placed_before, placed_ready}
-use Rattle.cal_elapse.proofs.SearchLemmas.{passing_of}
+use Rattle.cal_elapse.proofs.SearchLemmas.{found_low, passing_of}
 use Rattle.cal_elapse.proofs.window.Window.place_one.Goals as goal
 
 pub put_place-requires-clause-before : goal.put_place-requires-clause-before
@@ -30,3 +30,6 @@ returns-clause-ready c =
 
 pub returns-clause-timed : goal.returns-clause-timed
 returns-clause-timed c = ap (λ masks. timed_by masks c.args.self.now.zone) c.search.ensures.masks
+
+pub whole-self-requires : goal.whole-self-requires
+whole-self-requires c = found_low _ _ _ c.search.ensures.found.first
