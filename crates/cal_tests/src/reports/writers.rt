@@ -220,3 +220,33 @@ fn refusals_that_are_cut(rt: HostRuntime) -> Result<(), Fail> {
     }
     Ok(())
 }
+
+/// The refusals of the stamp list, cut after each of their bytes: one report was written before the first of them, and
+/// another before the fourth.
+fn check_cuts_of_stamps(rt: &(impl Abort + AllocGlobal), then: Then) -> Result<(), Fail> {
+    let (out, err) = (STAMP_LIST.out, STAMP_LIST.err);
+    let fourth = err.find("foo").ok_or("no fourth refusal")?;
+    let second = out
+        .find("\n  Original form: today")
+        .ok_or("no second report")?;
+    let third = out
+        .find("\n  Original form: yesterday")
+        .ok_or("no third report")?;
+    let zones = known_zones(rt.alloc())?;
+    for limit in 0..err.len() {
+        let end = if limit < fourth { second } else { third };
+        let row = Row {
+            out: out.get(..end).unwrap_or(""),
+            ..STAMP_LIST
+        };
+        check_cut_err(rt, row, &zones, &err.as_bytes()[..limit], then)?;
+    }
+    Ok(())
+}
+
+#[test]
+fn refusals_of_stamps_that_are_cut(rt: HostRuntime) -> Result<(), Fail> {
+    check_cuts_of_stamps(&rt, Then::Error)?;
+    check_cuts_of_stamps(&rt, Then::Interrupted)?;
+    check_cuts_of_stamps(&rt, Then::Zero)
+}
