@@ -1,5 +1,5 @@
 /* A library that is preloaded, and refuses memory: the allocation numbered REFUSE_FIRST, and where REFUSE_ALL is set all
-   that follow it. Each refusal writes one byte to the file that REFUSED names. It is built by tests/memory. */
+   that follow it. Each refusal writes one byte to the file that REFUSED names. It is built by tests/refused. */
 #include <errno.h>
 #include <fcntl.h>
 #include <stddef.h>

@@ -13,6 +13,8 @@ mod expressions;
 #[cfg(test)]
 mod instants;
 #[cfg(test)]
+mod refused;
+#[cfg(test)]
 mod reports;
 #[cfg(test)]
 mod searches;

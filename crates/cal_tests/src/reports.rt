@@ -4,6 +4,7 @@ ghost use Rattle.std.specs.Prelude.{◌≡◌, false};
 
 mod base;
 mod calendar;
+mod refused;
 mod timers;
 mod timespans;
 mod timestamps;
@@ -14,7 +15,7 @@ use crate::shared::{NEW_YEAR, SUMMER_TIME, instant, posix, zone_file};
 use cal_bytes::{Port, Sink, Source};
 use cal_report::{file_name, run};
 use cal_request::{MOST_ITERATIONS, Request, RunFault, Status, Verb};
-use cal_zone::{Rules, Zone, ZoneTable};
+use cal_zone::{Instant, Rules, Zone, ZoneTable};
 use std::alloc::{AllocError, Global};
 use std::process::Abort;
 use std::test::Fail;
@@ -141,15 +142,32 @@ fn run_row<R: Source, O: Sink, E: Sink>(
     requires out { O.is_failed out.old ≡ false }
     requires err { E.is_failed err.old ≡ false }
 {
-    let alloc = rt.alloc();
-    let request = request(alloc, row)?;
+    let request = request(rt.alloc(), row)?;
+    let now = instant(row.now)?;
+    Ok(run_request(rt, row, &request, now, zones, input, out, err))
+}
+
+/// Runs a request that was made of a row.
+fn run_request<R: Source, O: Sink, E: Sink>(
+    rt: &(impl Abort + AllocGlobal),
+    row: Row<'_>,
+    request: &Request,
+    now: Instant,
+    zones: &KnownZones,
+    input: &mut R,
+    out: &mut O,
+    err: &mut E,
+) -> Result<Status, RunFault>
+    requires input { R.is_failed input.old ≡ false }
+    requires out { O.is_failed out.old ≡ false }
+    requires err { E.is_failed err.old ≡ false }
+{
     assert!(rt; request.iterations >= 1 && request.iterations <= MOST_ITERATIONS);
     assert!(rt; request.verb.seeks_elapses() || request.base.is_none());
     assert!(rt; !request.verb.is_timer() || request.texts.len() == 1);
-    let now = instant(row.now)?;
     let local = local_zone(rt, row.local, zones);
     let table = &zones.table;
-    Ok(run(alloc, &request, input, now, local, table, out, err))
+    run(rt.alloc(), request, input, now, local, table, out, err)
 }
 
 /// A row's local zone.
