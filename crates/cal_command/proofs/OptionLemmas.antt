@@ -12,7 +12,7 @@ use Rattle.std.proofs.lemmas.Bool.Decides.{nat_tests}
 use Rattle.std.proofs.lemmas.Str.Parse.{IsNumeralModel, numerals_by_value, tells_all_ascii_digits, parse_plain}
 use Rattle.cal_zone.specs.Instant.{IsInstant}
 use Rattle.cal_zone.specs.declared.instant.Instant.{Instant}
-use Rattle.cal_command.specs.OptionValues.{clock_in, number_between, offset_in, present_in, is_comma, parts_at, zone_item_in, zone_items_in, zones_in}
+use Rattle.cal_command.specs.OptionValues.{number_between, present_in, is_comma, parts_at, zone_item_in, zone_items_in, zones_in}
 use Rattle.cal_command.specs.Ask.{ZoneSaid, zone_said}
 use Rattle.cal_command.specs.declared.ask.ZoneItem.{ZoneItem}
 use Rattle.std.proofs.lemmas.List.{map-append}
@@ -192,15 +192,3 @@ pub zones-pushed : (text item : List ℕ) (left items : List (List ℕ)) (before
     → count ≡ n + 1 → ZonesRead (map zone_said after) count items text
 zones-pushed text item left items before after zone n count read is good pushed below counted =
     rw counted (zones-more text item left items before after zone n read is good pushed below)
-
-offset_at : (b : ℕ) (bs : List ℕ) (t u : Bool) → t ≡ (b == 43) → u ≡ (b == 45) → ((rest : List ℕ) → b ∷ bs ≢ 43 ∷ rest)
-    → ((rest : List ℕ) → b ∷ bs ≢ 45 ∷ rest) → cond t (option_map pos (clock_in bs)) (cond u (option_map (λ seconds. neg_ℤ (pos seconds)) (clock_in bs)) None) ≡ None
-offset_at b bs true u is other plus minus = absurd (grind (arith, nat_tests, plus bs))
-offset_at b bs false true is other plus minus = absurd (grind (arith, nat_tests, minus bs))
-offset_at b bs false false is other plus minus = refl
-
--- a text without a sign is no offset
-pub offset_in-none : (text : List ℕ) → ((rest : List ℕ) → text ≢ 43 ∷ rest) → ((rest : List ℕ) → text ≢ 45 ∷ rest) → None ≡ offset_in text
-unfolding offset_in
-offset_in-none [] plus minus = refl
-offset_in-none (b ∷ bs) plus minus = sym (offset_at b bs _ _ refl refl plus minus)

@@ -4,6 +4,7 @@ use Rattle.std.specs.Prelude.{ℕ, ℤ, ◌+◌, ◌*◌, ◌&&◌, ◌==◌, Bo
 use Rattle.std.specs.List.{after_first, before_first, list_any, slice_split, starts_with}
 use Rattle.std.specs.Str.{all_ascii_digits, str_eq_ignore_ascii_case}
 use Rattle.std.specs.Str.Parse.{digits_value}
+use Rattle.cal_zone.specs.OffsetWord.{offset_in}
 use Rattle.cal_zone.specs.ZoneName.{is_zone_name}
 use Rattle.cal_zone.specs.declared.instant.TheConstants.Instant.{LAST}
 use Rattle.cal_command.specs.Ask.{LocalSaid, in_utc, ahead, by_rule, of_name, ZoneSaid}
@@ -32,9 +33,6 @@ is_equals byte = byte == 61
 abbrev pub is_comma : ℕ → Bool
 is_comma byte = byte == 44
 
-abbrev pub is_colon : ℕ → Bool
-is_colon byte = byte == 58
-
 -- what stands before and after the first separator, where there is one
 abbrev pub parts_at : (ℕ → Bool) → List ℕ → Option (List ℕ × List ℕ)
 parts_at is_separator text =
@@ -59,25 +57,6 @@ zone_items_in (item ∷ items) =
 unfoldable pub zones_in : List ℕ → Option (List ZoneSaid)
 zones_in text =
     let items = slice_split is_comma text in if nat_le (length items) MOST_ZONES then zone_items_in items else None
-
--- two digits of a number up to most
-unfoldable pub two_digits_in : ℕ → List ℕ → Option ℕ
-two_digits_in most text = if length text == 2 then number_between 0 most text else None
-
--- the seconds of `hh:mm`
-unfoldable pub clock_in : List ℕ → Option ℕ
-clock_in text =
-    option_and_then (λ parts. option_and_then (λ hours.
-    option_map (λ minutes. hours * 3_600 + minutes * 60) (two_digits_in 59 parts.1))
-    (two_digits_in 25 parts.0)) (parts_at is_colon text)
-
--- `+hh:mm`, or west of UTC `-hh:mm`
-unfoldable pub offset_in : List ℕ → Option ℤ
-offset_in [] = None
-offset_in (sign ∷ text) =
-    if sign == 43 then option_map pos (clock_in text)
-    else if sign == 45 then option_map (λ seconds. neg_ℤ (pos seconds)) (clock_in text)
-    else None
 
 -- `--local`: `UTC` in any case, `posix:` and a rule, an offset, or what has the form of a zone's name
 unfoldable pub local_in : List ℕ → Option LocalSaid

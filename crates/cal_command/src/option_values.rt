@@ -1,18 +1,17 @@
 //! The values of options: what the text of each says, or that it says nothing (systemd-analyze(1)).
 
-ghost use Rattle.std.specs.Prelude.{◌≡◌, ◌≤◌, ◌<◌, ◌==◌, ◌∷◌, [], None, Some, length, map, option_map, IfSome, IfOk, string_bytes, vec_len};
+ghost use Rattle.std.specs.Prelude.{◌≡◌, ◌≤◌, ◌<◌, ◌∷◌, [], None, Some, length, map, option_map, IfSome, IfOk, string_bytes, vec_len};
 ghost use Rattle.std.specs.List.{slice_split};
 ghost use Rattle.std.specs.Option.{option_copied, option_map_or};
-ghost use Rattle.jiff.specs.Words.{IsOffsetSeconds};
 ghost use Rattle.cal_spec.specs.Pieces.{left, pieces_after};
 ghost use Rattle.cal_command.specs.Ask.{in_utc, local_said, texts_of, zone_said};
 ghost use Rattle.cal_command.specs.LocalZone.{IsLocalOffset};
-ghost use Rattle.cal_command.specs.OptionValues.{clock_in, count_in, is_comma, local_in, number_between, offset_in, parts_at, present_in, two_digits_in, zone_item_in, zones_in};
+ghost use Rattle.cal_command.specs.OptionValues.{count_in, is_comma, local_in, number_between, parts_at, present_in, zone_item_in, zones_in};
 ghost use Rattle.cal_request.specs.Request.{IsCount};
 
 use crate::ask::{LocalZone, ZoneItem};
 use cal_request::MOST_ITERATIONS;
-use cal_zone::{Instant, is_zone_name};
+use cal_zone::{Instant, is_zone_name, read_offset};
 use std::alloc::{AllocError, Global};
 
 /// How many zone files `--zones` names at most.
@@ -184,46 +183,8 @@ fn local_in(alloc: Global, text: &str) -> Result<Option<LocalZone>, AllocError>
     if is_zone_name(text.as_bytes()) {
         return Ok(Some(LocalZone::Name(String::from_str(alloc, text)?)));
     }
-    let Some(seconds) = offset_in(text) else {
-        return Ok(None);
-    };
-    Ok(Some(LocalZone::Offset(seconds)))
-}
-
-/// The seconds of `+hh:mm`, or west of UTC of `-hh:mm`.
-#[tactic(auto, unfolding(crate::specs::OptionValues::offset_in))]
-fn offset_in(text: &str) -> Option<i32>
-    ensures value { result ≡ offset_in text.now }
-    ensures range { IfSome result IsOffsetSeconds }
-{
-    if let Some(clock) = text.strip_prefix('+') {
-        return Some(clock_in(clock)? as i32);
-    }
-    let seconds = clock_in(text.strip_prefix('-')?)? as i32;
-    Some(-seconds)
-}
-
-/// The seconds of `hh:mm`.
-#[tactic(auto, unfolding(crate::specs::OptionValues::clock_in))]
-fn clock_in(text: &str) -> Option<u32>
-    ensures value { result ≡ clock_in text.now }
-    ensures range { IfSome result (λ seconds. seconds ≤ 93_540) }
-{
-    let (hours, minutes) = parts_at(text, ':')?;
-    Some(two_digits_in(hours, 25)? * 3_600 + two_digits_in(minutes, 59)? * 60)
-}
-
-/// Two digits of a number up to `most`.
-#[tactic(auto, unfolding(crate::specs::OptionValues::two_digits_in))]
-fn two_digits_in(text: &str, most: u32) -> Option<u32>
-    ensures value { result ≡ two_digits_in most text.now }
-    ensures range { IfSome result (λ number. number ≤ most) }
-{
-    if text.len() != 2 {
-        return None;
-    }
-    let number = number_between(text, 0, most as u64)?;
-    Some(number as u32)
+    let offset = read_offset(text.as_bytes());
+    Ok(offset.map(LocalZone::Offset))
 }
 
 /// The texts on the heap.

@@ -1,6 +1,7 @@
 pub mod CivilLemmas
 pub mod DayLemmas
 pub mod OffsetLemmas
+pub mod OffsetWordLemmas
 pub mod PlaceLemmas
 pub mod WeekdayLemmas
 pub mod YearLemmas

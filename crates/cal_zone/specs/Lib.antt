@@ -4,10 +4,12 @@ pub mod Days
 pub mod Instant
 pub mod InstantText
 pub mod Local
+pub mod OffsetWord
 pub mod Place
 pub mod Rules
 pub mod Weekday
 pub mod Zone
+pub mod ZoneAhead
 pub mod ZoneFault
 pub mod ZoneFile
 pub mod ZoneMap

@@ -98,7 +98,7 @@ fn push_zone(text: &mut ShortText, is_utc: bool, offset: i32)
 
 /// Appends how far a clock is ahead, as `+02:00`, or as `+00:53:28` where the seconds aren't 0.
 #[tactic(auto, unfolding(crate::specs::InstantText::offset_text))]
-fn push_offset(text: &mut ShortText, offset: i32)
+pub fn push_offset(text: &mut ShortText, offset: i32)
     requires room { length text.old.items + 40 ≤ ROOM }
     ensures text { text.new.items ≡ text.old.items ++ offset_text offset }
     ensures short { length text.new.items ≤ length text.old.items + 40 }

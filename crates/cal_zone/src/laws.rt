@@ -5,7 +5,9 @@ ghost use Rattle.std.specs.FinMap.{insert};
 ghost use Rattle.jiff.specs.Types.{Date, Fold, Gap, Offset, TimeZone, UTC, Unambiguous};
 ghost use Rattle.jiff.specs.Words.{ambiguous_at, civil_nanos, epoch_day, fixed_zone, nanos_of_seconds, offset_at, picked_instant, IsBetween, IsEpochDay, IsOffsetSeconds};
 ghost use Rattle.cal_zone.specs.Days.{date_of};
+ghost use Rattle.cal_zone.specs.InstantText.{offset_text};
 ghost use Rattle.cal_zone.specs.Local.{civil_date, day_of, seconds_in_all};
+ghost use Rattle.cal_zone.specs.OffsetWord.{AreWholeMinutes, IsOffsetWord, offset_in};
 ghost use Rattle.cal_zone.specs.Place.{datetime_of, place_at, place_of, settle_of};
 ghost use Rattle.cal_zone.specs.Zone.{local_of};
 ghost use Rattle.cal_zone.specs.ZoneMap.{ZoneMap};
@@ -92,4 +94,14 @@ pub fn tables_change_at_one_name()
         → zone_named (insert table name zone) name ≡ Some zone }
     ensures elsewhere { (table : ZoneMap) (name other : List ℕ) (zone : TimeZone) → (other ≡ name → ⊥)
         → zone_named (insert table name zone) other ≡ zone_named table other }
+{}
+
+/// A word is an offset exactly where it is a sign, two digits of hours, a colon and two digits of minutes (systemd.time(7),
+/// Calendar Events and Parsing Timestamps), and it is at most one. What is printed of a clock that is whole minutes from
+/// UTC is such a word again.
+pub fn one_offset_word()
+    ensures found { (word : List ℕ) (seconds : ℤ) → offset_in word ≡ Some seconds → IsOffsetWord word seconds }
+    ensures only { (word : List ℕ) (seconds : ℤ) → IsOffsetWord word seconds → offset_in word ≡ Some seconds }
+    ensures minutes { (word : List ℕ) (seconds : ℤ) → offset_in word ≡ Some seconds → AreWholeMinutes seconds }
+    ensures back { (seconds : ℤ) → AreWholeMinutes seconds → offset_in (offset_text seconds) ≡ Some seconds }
 {}

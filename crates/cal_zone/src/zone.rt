@@ -28,6 +28,7 @@ pub(crate) struct Ahead {
 
 impl<'t> Zone<'t> {
     ghost use Rattle.cal_zone.specs.Zone.{is_utc, utc, zone_of};
+    ghost use Rattle.cal_zone.specs.ZoneAhead.{zone_ahead};
 
     /// UTC, whose civil clock is the Unix clock.
     pub fn utc() -> Zone<'static>
@@ -42,6 +43,7 @@ impl<'t> Zone<'t> {
     pub fn offset(seconds: i32) -> Zone<'static>
         requires { IsOffsetSeconds seconds }
         ensures zone { (offset : Offset) → offset.seconds ≡ seconds → zone_of result ≡ fixed_zone offset }
+        ensures ahead { zone_of result ≡ zone_ahead seconds }
         ensures distinct { is_utc result ≡ false }
     {
         Zone {
