@@ -1,8 +1,8 @@
 -- The command of `clap`, and what it found.
-use Rattle.std.proofs.Common.{◌≡◌, ◌≢◌, ℕ, List, [], ◌∷◌, ◌++◌, append_assoc, Option, None, Some, unwrap_or, ap₂, Bool, true, false, refl, sym, ap, ◌∙◌, inl, inr, ◌⊎◌, option_map, length, take, map, Bor, ◌≤◌, arith, Result, Ok, Err}
+use Rattle.std.proofs.Common.{◌≡◌, ◌≢◌, List, [], ◌∷◌, ◌++◌, append_assoc, Option, None, Some, unwrap_or, ap₂, Bool, true, false, refl, sym, ap, ◌∙◌, inl, inr, ◌⊎◌, option_map, length, take, map, Bor, ◌≤◌, arith, Result, Ok, Err}
 use Rattle.std.specs.Prelude.{not, ◌||◌}
 use Rattle.std.specs.List.{list_any}
-use Rattle.clap.specs.Words.{App, IsAmong, Kinds, Row, Rule, Text, is_simple, is_simple_and_free, with_rule}
+use Rattle.clap.specs.Words.{App, IsAmong, Kinds, Rule, Text, is_simple, is_simple_and_free, with_rule}
 use Rattle.clap.specs.declared.error.kind.ErrorKind.{ErrorKind}
 use Rattle.clap.specs.declared.error.kind.ErrorKind.TheVariants.{OutOfMemory}
 use Rattle.clap.proofs.OnLiterals.{clap_on_literals}

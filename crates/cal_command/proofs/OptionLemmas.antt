@@ -1,6 +1,6 @@
 -- The values of options.
-use Rattle.std.proofs.Common.{◌≡◌, ◌≢◌, ℕ, ◌<◌, ◌≤◌, ◌^◌, List, [], ◌∷◌, length, Option, None, Some, Result, Ok, Err, Bool, true, false, cond, nat_le, ◌==◌, ◌&&◌, get_or, refl, ap, ap₂, sym, ◌∙◌, ◌+◌, ◌||◌, suc, lit<, Bor, ◌++◌, map, append-nil, append_assoc, neg_ℤ, arith, option_map, pos, ℤ, IsSome, IfSome, ◌↔◌}
-use Rattle.std.specs.Prelude.{nat_lt, not}
+use Rattle.std.proofs.Common.{◌≡◌, ◌≢◌, ℕ, ◌<◌, ◌≤◌, ◌^◌, List, [], ◌∷◌, length, Option, None, Some, Result, Ok, Err, Bool, true, false, cond, nat_le, ◌==◌, ◌&&◌, get_or, refl, ap, ap₂, sym, ◌∙◌, ◌+◌, ◌||◌, suc, lit<, Bor, ◌++◌, map, append-nil, append_assoc, arith, option_map, pos, ℤ, IsSome, IfSome, ◌↔◌}
+use Rattle.std.specs.Prelude.{not}
 use Rattle.std.specs.List.{list_any, position_or_len, slice_split}
 use Rattle.std.specs.Str.{all_ascii_digits}
 use Rattle.std.proofs.lemmas.List.Splits.{slice_split_first, slice_split_none}

@@ -1,5 +1,5 @@
 -- The definitions, tried on worked words.
-use Rattle.std.proofs.Common.{◌≡◌, ℕ, true, List, [], ◌∷◌, Some, Ok, Err, refl}
+use Rattle.std.proofs.Common.{◌≡◌, ℕ, true, List, Some, Ok, Err, refl}
 use Rattle.clap.proofs.OnLiterals.{clap_on_literals}
 use Rattle.cal_command.specs.Ask.{bad_iterations, help, usage}
 use Rattle.cal_command.specs.CommandLine.{IsAskOf, asked_in, faults_in, given_in, parsed_in, read_options, takes_words}

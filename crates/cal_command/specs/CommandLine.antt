@@ -1,5 +1,5 @@
 -- The command line, and what its words ask for by what `clap` parses of them: systemd-analyze(1).
-use Rattle.std.specs.Prelude.{ℕ, ◌≡◌, ◌≢◌, ⊤, Bool, true, false, not, List, [], ◌∷◌, ◌++◌, map, take, Option, None, Some, Result, Ok, Err, codes, if◌then◌else◌, option_and_then, option_map}
+use Rattle.std.specs.Prelude.{◌≡◌, ◌≢◌, ⊤, Bool, true, false, not, List, [], ◌∷◌, ◌++◌, take, Option, None, Some, Result, Ok, Err, codes, if◌then◌else◌, option_and_then, option_map}
 use Rattle.std.specs.List.{list_any}
 use Rattle.std.specs.Option.{option_map_or}
 use Rattle.std.specs.Str.{bytes_eq}

@@ -1,5 +1,5 @@
 -- The values that `clap` found, without where they lie in memory, and what is read of them.
-use Rattle.std.specs.Prelude.{ℕ, ◌≡◌, ⊤, Result, Ok, Err}
+use Rattle.std.specs.Prelude.{◌≡◌, ⊤, Result, Ok, Err}
 use Rattle.std.specs.Option.{option_copied}
 use Rattle.cal_command.specs.Ask.{CommandSaid, usage, help, bad_iterations, bad_now, bad_zones, bad_local, no_memory, Wanted, texts_of}
 use Rattle.cal_command.specs.CommandLine.{Given as Values}

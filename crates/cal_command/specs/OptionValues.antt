@@ -1,6 +1,6 @@
 -- What the text of each option says: systemd-analyze(1), `--iterations` and `--base-time`, and this project's own options
 -- for the present and for zones.
-use Rattle.std.specs.Prelude.{ℕ, ℤ, ◌+◌, ◌*◌, ◌&&◌, ◌==◌, Bool, pos, neg_ℤ, List, [], ◌∷◌, length, drop, Option, None, Some, codes, nat_eq, nat_lt, nat_le, if◌then◌else◌, unsigned_abs, option_and_then, option_map}
+use Rattle.std.specs.Prelude.{ℕ, ℤ, ◌&&◌, ◌==◌, Bool, pos, List, [], ◌∷◌, length, drop, Option, None, Some, codes, nat_eq, nat_lt, nat_le, if◌then◌else◌, unsigned_abs, option_and_then, option_map}
 use Rattle.std.specs.List.{after_first, before_first, list_any, slice_split, starts_with}
 use Rattle.std.specs.Str.{all_ascii_digits, str_eq_ignore_ascii_case}
 use Rattle.std.specs.Str.Parse.{digits_value}

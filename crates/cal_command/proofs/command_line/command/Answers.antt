@@ -1,8 +1,7 @@
-use Rattle.std.proofs.Common.{◌≡◌, ◌∙◌, ap, ap₂, codes, rules, true, false}
+use Rattle.std.proofs.Common.{◌∙◌, ap, ap₂, true}
 use Rattle.std.proofs.lemmas.Result.{IfOk-weaker}
 use Rattle.clap.specs.Simple.{app_of_fields, on_top}
-use Rattle.clap.specs.Words.{App, app_of, with_subcommand}
-use Rattle.cal_command.specs.CommandLine.{command_app}
+use Rattle.clap.specs.Words.{App, with_subcommand}
 use Rattle.cal_command.proofs.command_line.command.Goals as goal
 
 pub returns : goal.returns

@@ -1,4 +1,4 @@
-use Rattle.std.proofs.Common.{◌∙◌, ap, sym, rules}
+use Rattle.std.proofs.Common.{◌∙◌, rules}
 use Rattle.clap.specs.Words.{subcommand_rows_of}
 use Rattle.cal_command.specs.CommandLine.{given_in}
 use Rattle.cal_command.proofs.CommandLineLemmas.{found_none, found_some, map-first}

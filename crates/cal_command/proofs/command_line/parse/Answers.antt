@@ -1,4 +1,4 @@
-use Rattle.std.proofs.Common.{◌∙◌, ap, sym, rules}
+use Rattle.std.proofs.Common.{◌∙◌, ap, sym}
 use Rattle.clap.specs.Words.{fault_of, is_simple, is_simple_and_free, kind_of, subcommand_of, takes}
 use Rattle.cal_command.specs.Ask.{fault_said, texts_of}
 use Rattle.cal_command.specs.CommandLine.{faults_in, given_in, parsed_in, takes_words}

@@ -1,4 +1,4 @@
-use Rattle.std.proofs.Common.{rules, Some, ap, ◌∙◌, sym, refl}
+use Rattle.std.proofs.Common.{rules, Some, ap, ◌∙◌}
 use Rattle.std.specs.Option.{option_copied}
 use Rattle.cal_spec.specs.Pieces.{pieces_after}
 use Rattle.cal_command.specs.OptionValues.{is_comma}
