@@ -7,6 +7,7 @@ mod OrderLemmas
 mod ReadBack
 mod ReadBackWeekdays
 mod ReadingRows
+mod SuffixRows
 mod ReducedLemmas
 mod TextLemmas
 mod WeekdayLemmas

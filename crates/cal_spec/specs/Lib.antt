@@ -26,3 +26,4 @@ pub mod WeekdayRuns
 pub mod Weekdays
 pub mod Words
 pub mod ZoneName
+pub mod ZoneSuffix
