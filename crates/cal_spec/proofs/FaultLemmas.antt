@@ -13,7 +13,7 @@ use Rattle.cal_spec.specs.Reads.{◌>>=◌, unless, first_of}
 use Rattle.cal_spec.specs.Slot.{day_slot}
 use Rattle.cal_spec.specs.Weekdays.{weekdays_in}
 use Rattle.cal_spec.specs.Words.{Places, words, places_of}
-use Rattle.cal_spec.specs.ZoneName.{zone_name_in}
+use Rattle.cal_spec.specs.ZoneSuffix.{Suffix, suffix_in}
 use Rattle.cal_spec.specs.declared.part.Part.{Part}
 use Rattle.cal_spec.specs.declared.slot.Slot.{Slot}
 use Rattle.cal_spec.specs.declared.slot.Slot.TheVariants.{Year, Month, Hour, Minute, Second}
@@ -175,7 +175,7 @@ time_of_fault before room word sum = time_fault before room (time_texts word) su
 
 -- The whole text
 
-zone_fault : {A : Type 0} (r : Result (Option (List ℕ)) SpecFault) (make : Option (List ℕ) → A) → result_err (r >>= λ name. Ok (make name)) ≡ first_of (result_err r ∷ [])
+zone_fault : {A : Type 0} (r : Result (Option Suffix) SpecFault) (make : Option Suffix → A) → result_err (r >>= λ name. Ok (make name)) ≡ first_of (result_err r ∷ [])
 zone_fault (Ok x) make = refl
 zone_fault (Err e) make = refl
 
@@ -184,11 +184,11 @@ unfolding fields_at
 fields_fault p =
     let dates = date_faults (date_texts p.date) in
     let times = time_faults (numbered_in (date_texts p.date)) (time_texts p.time) in
-    let zones = result_err (zone_name_in p.rest) ∷ [] in
-    err_of_bind (weekdays_in p.weekdays) (λ weekdays. date_of p.date >>= λ date. time_of (room_after date) p.time >>= λ time. zone_name_in p.rest >>= λ name. Ok (fields_with weekdays date time name)) (result_err (weekdays_in p.weekdays)) (option_or (first_of dates) (option_or (first_of times) (first_of zones))) refl (λ weekdays _.
-    err_of_bind (date_of p.date) (λ date. time_of (room_after date) p.time >>= λ time. zone_name_in p.rest >>= λ name. Ok (fields_with weekdays date time name)) (first_of dates) (option_or (first_of times) (first_of zones)) (date_of_fault p.date) (λ date at.
-    err_of_bind (time_of (room_after date) p.time) (λ time. zone_name_in p.rest >>= λ name. Ok (fields_with weekdays date time name)) (first_of times) (first_of zones) (time_of_fault (numbered_in (date_texts p.date)) (room_after date) p.time (date_room p.date date at)) (λ time _.
-    zone_fault (zone_name_in p.rest) (λ name. fields_with weekdays date time name)))) ∙ ap (option_or (result_err (weekdays_in p.weekdays))) (first_of_three dates times zones)
+    let zones = result_err (suffix_in p.rest) ∷ [] in
+    err_of_bind (weekdays_in p.weekdays) (λ weekdays. date_of p.date >>= λ date. time_of (room_after date) p.time >>= λ time. suffix_in p.rest >>= λ name. Ok (fields_with weekdays date time name)) (result_err (weekdays_in p.weekdays)) (option_or (first_of dates) (option_or (first_of times) (first_of zones))) refl (λ weekdays _.
+    err_of_bind (date_of p.date) (λ date. time_of (room_after date) p.time >>= λ time. suffix_in p.rest >>= λ name. Ok (fields_with weekdays date time name)) (first_of dates) (option_or (first_of times) (first_of zones)) (date_of_fault p.date) (λ date at.
+    err_of_bind (time_of (room_after date) p.time) (λ time. suffix_in p.rest >>= λ name. Ok (fields_with weekdays date time name)) (first_of times) (first_of zones) (time_of_fault (numbered_in (date_texts p.date)) (room_after date) p.time (date_room p.date date at)) (λ time _.
+    zone_fault (suffix_in p.rest) (λ name. fields_with weekdays date time name)))) ∙ ap (option_or (result_err (weekdays_in p.weekdays))) (first_of_three dates times zones)
 
 due_faults : (o : Option Places) → result_err (fields_due o) ≡ first_of (faults_at o)
 due_faults None = refl

@@ -1,8 +1,8 @@
 -- Fields that were read are those of an expression.
-use Rattle.std.proofs.Common.{ℕ, ◌-◌, ◌≤◌, ◌≡◌, Bool, true, false, cond, ◌||◌, List, [], ◌∷◌, length, map, Option, Some, None, Ok, Err, Result, refl, arith, ltb, codes, subst}
+use Rattle.std.proofs.Common.{ℕ, ℤ, ◌-◌, ◌≤◌, ◌≡◌, Bool, true, false, cond, ◌||◌, List, [], ◌∷◌, length, map, Option, Some, None, Ok, Err, Result, refl, arith, ltb, codes, subst}
 use Rattle.std.specs.Prelude.{IfOk, is_some}
 use Rattle.std.specs.List.{list_any, slice_split}
-use Rattle.std.specs.Option.{ok_or}
+use Rattle.std.specs.Option.{ok_or, option_map}
 use Rattle.std.specs.Str.{str_eq_ignore_ascii_case}
 use Rattle.std.proofs.lemmas.Bool.{or_left, or_right, le-leb, ltb-false}
 use Rattle.jiff_core.specs.declared.civil.weekday.Weekday.{Weekday}
@@ -20,12 +20,14 @@ use Rattle.cal_spec.specs.ValidFields.{IsValidFields}
 use Rattle.cal_spec.specs.Weekdays.{day_named, leading_letters, days_until, is_covered, days_of, items_of, without_comma, set_of, listed_days, is_like_shorthand, weekdays_of, weekdays_in}
 use Rattle.cal_spec.specs.Words.{Places, words, places_of}
 use Rattle.cal_zone.specs.ZoneName.{is_zone_name}
-use Rattle.cal_spec.specs.ZoneName.{IsZoneOption, zone_name, zone_name_in}
+use Rattle.cal_zone.specs.OffsetWord.{offset_in}
+use Rattle.cal_zone.proofs.OffsetWordLemmas.{offset-minutes}
+use Rattle.cal_spec.specs.ZoneSuffix.{IsSuffixOption, Suffix, ahead, kept_name, of_name, suffix_due, suffix_in, suffix_of}
 use Rattle.cal_spec.specs.declared.part.Part.{Part}
 use Rattle.cal_spec.specs.declared.slot.Slot.{Slot}
 use Rattle.cal_spec.specs.declared.slot.Slot.TheVariants.{Year, Month, Hour, Minute, Second}
 use Rattle.cal_spec.specs.declared.spec_fault.SpecFault.{SpecFault}
-use Rattle.cal_spec.specs.declared.spec_fault.SpecFault.TheVariants.{TextTooLong, BadWeekday, UnknownShorthand, StrayWord}
+use Rattle.cal_spec.specs.declared.spec_fault.SpecFault.TheVariants.{TextTooLong, BadWeekday, UnknownShorthand}
 use Rattle.cal_spec.specs.declared.weekdays.Days.{Days}
 use Rattle.cal_spec.proofs.ComponentLemmas.{IsRead, component_read}
 use Rattle.cal_spec.proofs.PieceLemmas.{some_piece}
@@ -174,32 +176,38 @@ is_week (Some word) days at =
 
 -- The zone
 
-zone_kept : (word : List ℕ) (utc : Bool) → is_zone_name word ≡ true → is_zone_name (cond utc (codes "UTC") word) ≡ true
+name_kept : (word : List ℕ) (utc : Bool) → is_zone_name word ≡ true → is_zone_name (cond utc (codes "UTC") word) ≡ true
 unfolding is_zone_name
-zone_kept word true test = refl
-zone_kept word false test = test
+name_kept word true test = refl
+name_kept word false test = test
 
-zone_twice : (word : List ℕ) (utc : Bool) → str_eq_ignore_ascii_case word (codes "UTC") ≡ utc → zone_name (cond utc (codes "UTC") word) ≡ cond utc (codes "UTC") word
-zone_twice word true is = refl
-zone_twice word false is = rw is refl
+name_twice : (word : List ℕ) (utc : Bool) → str_eq_ignore_ascii_case word (codes "UTC") ≡ utc → kept_name (cond utc (codes "UTC") word) ≡ cond utc (codes "UTC") word
+name_twice word true is = refl
+name_twice word false is = rw is refl
 
-zone_by : (word : List ℕ) (test : Bool) (name : Option (List ℕ)) → is_zone_name word ≡ test → cond test (Ok (Some (zone_name word))) (Err StrayWord) ≡ Ok name → IsZoneOption name
-zone_by word true None is at = cc
-zone_by word true (Some name) is at =
-    let same : zone_name word ≡ name = cc in
+suffix_by : (word : List ℕ) (o : Option ℤ) (suffix : Option Suffix) → offset_in word ≡ o → suffix_due (option_map ahead o) ≡ Ok suffix → IsSuffixOption suffix
+suffix_by word None suffix is at = cc
+suffix_by word (Some seconds) suffix is at =
+    let same : Some (ahead seconds) ≡ suffix = cc in
+    subst (λ (s : Option Suffix). IsSuffixOption s) same (offset-minutes word seconds is)
+
+zone_by : (word : List ℕ) (test : Bool) (suffix : Option Suffix) → is_zone_name word ≡ test → suffix_due (cond test (Some (of_name (kept_name word))) (option_map ahead (offset_in word))) ≡ Ok suffix → IsSuffixOption suffix
+zone_by word true suffix is at =
+    let same : Some (of_name (kept_name word)) ≡ suffix = cc in
     let utc = str_eq_ignore_ascii_case word (codes "UTC") in
-    subst (λ n. (is_zone_name n ≡ true) × (zone_name n ≡ n)) same (zone_kept word utc is, zone_twice word utc refl)
-zone_by word false name is at = cc
+    subst (λ (s : Option Suffix). IsSuffixOption s) same (name_kept word utc is, name_twice word utc refl)
+zone_by word false suffix is at = suffix_by word (offset_in word) suffix refl at
 
-pub is_zone : (ws : List (List ℕ)) (name : Option (List ℕ)) → zone_name_in ws ≡ Ok name → IsZoneOption name
+pub is_zone : (ws : List (List ℕ)) (suffix : Option Suffix) → suffix_in ws ≡ Ok suffix → IsSuffixOption suffix
+unfolding suffix_of
 is_zone [] None at = tt
-is_zone [] (Some name) at = cc
-is_zone (w ∷ []) name at = zone_by w (is_zone_name w) name refl at
-is_zone (w ∷ v ∷ ws) name at = cc
+is_zone [] (Some suffix) at = cc
+is_zone (w ∷ []) suffix at = zone_by w (is_zone_name w) suffix refl at
+is_zone (w ∷ v ∷ ws) suffix at = cc
 
 -- The whole text
 
-abbrev pub fields_with : List Bool → DateFields → TimeFields → Option (List ℕ) → Fields
+abbrev pub fields_with : List Bool → DateFields → TimeFields → Option Suffix → Fields
 fields_with weekdays date time name = record {
   weekdays = weekdays;
   year = date.year;
@@ -216,17 +224,17 @@ pub record FieldsFound (p : Places) (f : Fields) : Type 0 where
   pub weekdays : List Bool
   pub date : DateFields
   pub time : TimeFields
-  pub name : Option (List ℕ)
+  pub name : Option Suffix
   pub weekdays_is : weekdays_in p.weekdays ≡ Ok weekdays
   pub date_is : date_of p.date ≡ Ok date
   pub time_is : time_of (room_after date) p.time ≡ Ok time
-  pub name_is : zone_name_in p.rest ≡ Ok name
+  pub name_is : suffix_in p.rest ≡ Ok name
   pub is : fields_with weekdays date time name ≡ f
 
 pub fields_found : (p : Places) (f : Fields) → fields_at p ≡ Ok f → FieldsFound p f
 unfolding fields_at
 fields_found p f at =
-    let read = four_ok (weekdays_in p.weekdays) (date_of p.date) (λ date. time_of (room_after date) p.time) (zone_name_in p.rest) fields_with f at in
+    let read = four_ok (weekdays_in p.weekdays) (date_of p.date) (λ date. time_of (room_after date) p.time) (suffix_in p.rest) fields_with f at in
     record {
       weekdays = read.a;
       date = read.b;
@@ -302,12 +310,12 @@ time_read room t h read = record {
 pub is_time_read : (room : ℕ) (word : List ℕ) (h : TimeFields) → time_of room word ≡ Ok h → IsTimeRead room h
 is_time_read room word h at = let found = time_found room word h at in time_read room found.texts h found.read
 
-few_parts : (weekdays : List Bool) (d : DateFields) (h : TimeFields) (name : Option (List ℕ)) → IsDateRead d → IsTimeRead (room_after d) h → counted_parts (fields_with weekdays d h name) ≤ 240
+few_parts : (weekdays : List Bool) (d : DateFields) (h : TimeFields) (name : Option Suffix) → IsDateRead d → IsTimeRead (room_after d) h → counted_parts (fields_with weekdays d h name) ≤ 240
 unfolding counted_parts
 few_parts weekdays d h name date time =
     omega (arith, counted_date Year d.year refl, counted_date Month d.month refl, counted_date (day_slot d.from_end) d.day (day_no_time d.from_end), counted_time Hour h.hour refl, counted_time Minute h.minute refl, counted_time Second h.second refl, date.year.few, date.month.few, date.day.few, time.hour.few, time.minute.few, time.second.few)
 
-valid_with : (weekdays : List Bool) (d : DateFields) (h : TimeFields) (name : Option (List ℕ)) → IsWeek weekdays → IsDateRead d → IsTimeRead (room_after d) h → IsZoneOption name → IsValidFields (fields_with weekdays d h name)
+valid_with : (weekdays : List Bool) (d : DateFields) (h : TimeFields) (name : Option Suffix) → IsWeek weekdays → IsDateRead d → IsTimeRead (room_after d) h → IsSuffixOption name → IsValidFields (fields_with weekdays d h name)
 valid_with weekdays d h name week date time zone_is = record {
   seven = week.seven;
   chosen = week.chosen;

@@ -1,7 +1,7 @@
 -- How long normal texts are: fewer than 4,096 bytes.
 use Rattle.std.proofs.Common.{◌≡◌, ℕ, zero, suc, ◌+◌, ◌-◌, ◌*◌, ◌/◌, ◌^◌, ◌<◌, ◌≤◌, Bool, true, false, ◌&&◌, nat_le, List, [], ◌∷◌, ◌++◌, length, codes, Option, None, Some, refl, sym, subst, lit≤, arith, length-append}
 use Rattle.std.specs.Fmt.{decimal}
-use Rattle.std.specs.List.{AllByRecursion, flat_map, list_all}
+use Rattle.std.specs.List.{AllByRecursion, flat_map}
 use Rattle.std.proofs.lemmas.Bool.{and_parts, leb-true}
 use Rattle.std.proofs.lemmas.Fmt.{length-decimal-le}
 use Rattle.std.proofs.lemmas.List.{length-replicate}
@@ -15,8 +15,8 @@ use Rattle.cal_spec.specs.Slot.{least, greatest, day_slot}
 use Rattle.cal_spec.specs.Sound.{AreSound, GoesOn, IsEndWithin, IsSecondWithin, IsSound, IsWithin}
 use Rattle.cal_spec.specs.ValidFields.{IsValidFields}
 use Rattle.cal_spec.specs.WeekdayRuns.{run_text, runs_text, weekdays_text}
-use Rattle.cal_zone.specs.ZoneName.{begins_with_letter, is_zone_byte, is_zone_name}
-use Rattle.cal_spec.specs.ZoneName.{IsZoneOption}
+use Rattle.cal_spec.specs.ZoneSuffix.{IsSuffixOption, Suffix, suffix_text}
+use Rattle.cal_spec.proofs.SuffixLemmas.{suffix_word}
 use Rattle.cal_spec.specs.declared.part.Part.{Part}
 use Rattle.cal_spec.specs.declared.slot.Slot.{Slot}
 use Rattle.cal_spec.specs.declared.slot.Slot.TheVariants.{Year, Month, Day, DayFromEnd, Hour, Minute, Second}
@@ -195,12 +195,9 @@ short_weekdays = refl
 weekdays_length : (days : List Bool) → length days ≡ 7 → length (weekdays_text days) ≤ 20
 weekdays_length days seven = leb-true _ 20 (each_checked 7 (λ ds. nat_le (length (weekdays_text ds)) 20) days short_weekdays seven)
 
-zone_length : (name : Option (List ℕ)) → IsZoneOption name → length (zone_text name) ≤ 256
-unfolding is_zone_name
+zone_length : (suffix : Option Suffix) → IsSuffixOption suffix → length (zone_text suffix) ≤ 256
 zone_length None h = omega arith
-zone_length (Some name) h =
-    let long = and_parts (begins_with_letter name && list_all is_zone_byte name) (nat_le (length name) 255) h.0 in
-    omega (arith, leb-true (length name) 255 long.1, length-append name [])
+zone_length (Some suffix) h = let word = suffix_word suffix h in omega (arith, word.short, length-append (suffix_text suffix) [])
 
 -- a text of small parts is short
 pub expr_length : (f : Fields) → IsValidFields f → AreSmall f.year → AreSmall f.month → AreSmall f.day → AreSmall f.hour → AreSmall f.minute → AreSmall f.second

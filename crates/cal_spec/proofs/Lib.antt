@@ -24,6 +24,7 @@ pub mod ReadLemmas
 pub mod SignLemmas
 pub mod WeekdayRule
 pub mod WholeRule
+pub mod SuffixLemmas
 pub mod WordLemmas
 pub mod WordRule
 pub mod WordsBetween

@@ -260,7 +260,7 @@ fields_are f valid = record {
   minute = component_of f.minute (parts_from_sound Minute f.minute valid.minute);
   second = second_normal_of f.second (parts_from_sound Second f.second valid.second);
   from_end = refl;
-  name = refl;
+  suffix = refl;
 }
 
 same_fields : (f g : Fields) → f.weekdays ≡ g.weekdays → f.year ≡ g.year → f.month ≡ g.month → f.day ≡ g.day → f.hour ≡ g.hour → f.minute ≡ g.minute → f.second ≡ g.second → f.from_end ≡ g.from_end → f.zone ≡ g.zone → f ≡ g
@@ -282,4 +282,4 @@ fields_only f g valid is =
     (component_only f.hour g.hour (parts_from_sound Hour f.hour valid.hour) is.hour)
     (component_only f.minute g.minute (parts_from_sound Minute f.minute valid.minute) is.minute)
     (second_only f.second g.second (parts_from_sound Second f.second valid.second) is.second)
-    is.from_end is.name
+    is.from_end is.suffix

@@ -2,6 +2,7 @@
 use Rattle.std.proofs.Common.{◌≡◌, ℕ, true, false, [], ◌∷◌, Option, None, Some, refl, codes}
 use Rattle.std.specs.Fmt.{digits}
 use Rattle.cal_zone.specs.Weekday.{name_of}
+use Rattle.cal_spec.specs.ZoneSuffix.{of_name}
 use Rattle.cal_spec.specs.declared.part.Part.{Part}
 use Rattle.cal_spec.specs.ExprText.{expr_text, fields_text, row_text, parts_text, part_text, number_text}
 use Rattle.cal_spec.specs.Fields.{Fields}
@@ -55,7 +56,7 @@ from_the_end = record {
   minute = Some (point 0 ∷ []);
   second = Some (range 20 40 None ∷ []);
   from_end = true;
-  zone = Some (codes "UTC");
+  zone = Some (of_name (codes "UTC"));
 }
 
 from_the_end_text : expr_text (normal_fields from_the_end) ≡ codes "Mon..Thu,Sat,Sun 1993..2000-*~07/1 00:00:20..40 UTC"

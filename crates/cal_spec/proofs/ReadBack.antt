@@ -1,5 +1,5 @@
 -- The normal text of an expression is read as the expression.
-use Rattle.std.proofs.Common.{◌≡◌, ℕ, ◌+◌, ◌-◌, ◌<◌, ◌≤◌, Bool, true, false, ◌&&◌, ◌||◌, nat_eq, nat_le, nat_lt, List, [], ◌∷◌, ◌++◌, length, codes, Option, None, Some, Ok, refl, sym, ap, ◌∙◌, arith, append_assoc}
+use Rattle.std.proofs.Common.{◌≡◌, ℕ, ◌+◌, ◌-◌, ◌<◌, ◌≤◌, Bool, true, false, ◌||◌, nat_eq, nat_lt, List, [], ◌∷◌, ◌++◌, length, codes, Option, None, Some, Ok, refl, sym, ap, ◌∙◌, arith, append_assoc}
 use Rattle.std.specs.Prelude.{filter}
 use Rattle.std.specs.Char.{is_ascii_alphabetic}
 use Rattle.std.specs.List.{list_all, list_any, slice_split}
@@ -17,9 +17,11 @@ use Rattle.cal_spec.specs.Slot.{day_slot}
 use Rattle.cal_spec.specs.ValidFields.{IsValidFields}
 use Rattle.cal_spec.specs.WeekdayRuns.{runs_from, runs_text}
 use Rattle.cal_spec.specs.Weekdays.{weekdays_in}
-use Rattle.cal_spec.specs.Words.{Places, is_blank, places_of, words}
-use Rattle.cal_zone.specs.ZoneName.{begins_with_letter, is_zone_byte, is_zone_name}
-use Rattle.cal_spec.specs.ZoneName.{IsZoneOption, zone_name_in}
+use Rattle.cal_spec.specs.Words.{Places, after_weekdays, date_or_time, is_blank, places_of, words}
+use Rattle.cal_zone.specs.ZoneName.{begins_with_letter, is_zone_byte}
+use Rattle.cal_zone.specs.OffsetWord.{begins_with_sign, begins_zone, is_sign}
+use Rattle.cal_spec.specs.ZoneSuffix.{IsSuffixOption, Suffix, suffix_due, suffix_in, suffix_text}
+use Rattle.cal_spec.proofs.SuffixLemmas.{suffix_word}
 use Rattle.cal_spec.specs.declared.part.Part.{Part}
 use Rattle.cal_spec.specs.declared.slot.Slot.TheVariants.{Year, Month, Hour, Minute, Second}
 use Rattle.cal_spec.proofs.LengthLemmas.{AreSmall, expr_length, small_component, small_second}
@@ -144,6 +146,28 @@ time_some f h = some_front (component_text 2 f.hour) _ (component_some 2 f.hour 
 no_letter_first : (q : ℕ → Bool) (word : List ℕ) → ((b : ℕ) → q b ≡ true → is_ascii_alphabetic b ≡ false) → list_all q word ≡ true → begins_with_letter word ≡ false
 no_letter_first q [] apart all = refl
 no_letter_first q (b ∷ bs) apart all = apart b (and_parts (q b) (list_all q bs) all).0
+
+component_sign : (b : ℕ) → is_component_byte b ≡ true → is_sign b ≡ false
+component_sign b h = grind (arith, nat_tests)
+
+-- a component begins with no sign
+front_no_sign : (front rest : List ℕ) → 0 < length front → list_all is_component_byte front ≡ true → begins_with_sign (front ++ rest) ≡ false
+front_no_sign [] rest some all = absurd (omega arith)
+front_no_sign (b ∷ bs) rest some all = component_sign b (and_parts (is_component_byte b) (list_all is_component_byte bs) all).0
+
+date_zone : (f : Fields) → IsReadable f → begins_zone (date_word f) ≡ false
+unfolding date_word
+date_zone f h =
+    let letter = no_letter_first is_date_byte (date_word f) date_no_letter (date_bytes f h) in
+    let sign = front_no_sign (component_text 4 f.year) (45 ∷ (component_text 2 f.month ++ (sign f.from_end ∷ component_text 2 f.day))) (component_some 4 f.year Year h.valid.year h.year) (component_bytes 4 f.year h.year) in
+    rw (letter, sign) refl
+
+time_zone : (f : Fields) → IsReadable f → begins_zone (time_word f) ≡ false
+unfolding time_word
+time_zone f h =
+    let letter = no_letter_first is_time_byte (time_word f) time_no_letter (time_bytes f h) in
+    let sign = front_no_sign (component_text 2 f.hour) (58 ∷ (component_text 2 f.minute ++ (58 ∷ component_text 2 f.second))) (component_some 2 f.hour Hour h.valid.hour h.hour) (component_bytes 2 f.hour h.hour) in
+    rw (letter, sign) refl
 
 -- Date and time
 
@@ -272,24 +296,21 @@ word_last w clear some =
     let kept : nat_lt 0 (length w) ≡ true = lt-ltb 0 (length w) some in
     ap (filter (λ word. nat_lt 0 (length word))) (split_alone is_blank w clear) ∙ rw kept refl
 
-abbrev zone_words : Option (List ℕ) → List (List ℕ)
+abbrev zone_words : Option Suffix → List (List ℕ)
 zone_words None = []
-zone_words (Some name) = name ∷ []
+zone_words (Some suffix) = suffix_text suffix ∷ []
 
 name_letter : (name : List ℕ) → begins_with_letter name ≡ true → 0 < length name
 name_letter [] h = cc
 name_letter (b ∷ bs) h = omega arith
 
-words_to_zone : (w : List ℕ) (name : Option (List ℕ)) → list_any is_blank w ≡ false → 0 < length w → IsZoneOption name → words (w ++ (zone_text name ++ [])) ≡ w ∷ zone_words name
-unfolding is_zone_name
+words_to_zone : (w : List ℕ) (suffix : Option Suffix) → list_any is_blank w ≡ false → 0 < length w → IsSuffixOption suffix → words (w ++ (zone_text suffix ++ [])) ≡ w ∷ zone_words suffix
 words_to_zone w None clear some h = ap words (append-nil w) ∙ word_last w clear some
-words_to_zone w (Some name) clear some h =
-    let long = and_parts (begins_with_letter name && list_all is_zone_byte name) (nat_le (length name) 255) h.0 in
-    let parts = and_parts (begins_with_letter name) (list_all is_zone_byte name) long.0 in
-    let trimmed : zone_text (Some name) ++ [] ≡ 32 ∷ name = ap (λ t. 32 ∷ t) (append-nil (name ++ []) ∙ append-nil name) in
-    ap (λ t. words (w ++ t)) trimmed
-    ∙ word_first w name clear some
-    ∙ ap (λ ws. w ∷ ws) (word_last name (clear_of is_zone_byte is_blank name zone_no_blank parts.1) (name_letter name parts.0))
+words_to_zone w (Some suffix) clear some h =
+    let text = suffix_text suffix in
+    let word = suffix_word suffix h in
+    let trimmed : zone_text (Some suffix) ++ [] ≡ 32 ∷ text = ap (λ t. 32 ∷ t) (append-nil (text ++ []) ∙ append-nil text) in
+    ap (λ t. words (w ++ t)) trimmed ∙ word_first w text clear some ∙ ap (λ ws. w ∷ ws) (word_last text word.clear word.some)
 
 words_of_fields : (f : Fields) → IsReadable f → words (fields_text f ++ (zone_text f.zone ++ [])) ≡ date_word f ∷ time_word f ∷ zone_words f.zone
 words_of_fields f h =
@@ -304,25 +325,31 @@ words_of_fields f h =
 places : Option (List ℕ) → Fields → Places
 places weekdays f = record { weekdays = weekdays; date = date_word f; time = time_word f; rest = zone_words f.zone }
 
+-- a date and a time, and a zone after them
+date_placed : (weekdays : Option (List ℕ)) (date time : List ℕ) (rest : List (List ℕ)) → list_any is_colon date ≡ false → begins_zone time ≡ false
+    → date_or_time weekdays date (time ∷ rest) ≡ record { weekdays = weekdays; date = date; time = time; rest = rest }
+date_placed weekdays date time rest no_time no_zone = rw (no_time, no_zone) refl
+
+after_days : (word date time : List ℕ) (rest : List (List ℕ)) → begins_zone date ≡ false → list_any is_colon date ≡ false → begins_zone time ≡ false
+    → after_weekdays (Some word) (date ∷ time ∷ rest) ≡ record { weekdays = Some word; date = date; time = time; rest = rest }
+after_days word date time rest no_zone no_time next = rw no_zone (date_placed (Some word) date time rest no_time next)
+
 places_all : (f : Fields) → IsReadable f → places_of (date_word f ∷ time_word f ∷ zone_words f.zone) ≡ Some (places None f)
 unfolding places_of places
 places_all f h =
     let plain = no_letter_first is_date_byte (date_word f) date_no_letter (date_bytes f h) in
     let no_time = clear_of is_date_byte is_colon (date_word f) date_no_colon (date_bytes f h) in
-    let no_zone = no_letter_first is_time_byte (time_word f) time_no_letter (time_bytes f h) in
-    rw (no_shorthand (date_word f) plain, plain, no_time, no_zone) refl
+    rw (no_shorthand (date_word f) plain, plain) (ap Some (date_placed None (date_word f) (time_word f) (zone_words f.zone) no_time (time_zone f h)))
 
 places_some : (f : Fields) (word : List ℕ) → IsReadable f → ReadsDays word f.weekdays → places_of (word ∷ date_word f ∷ time_word f ∷ zone_words f.zone) ≡ Some (places (Some word) f)
 unfolding places_of places
 places_some f word h days =
-    let plain = no_letter_first is_date_byte (date_word f) date_no_letter (date_bytes f h) in
     let no_time = clear_of is_date_byte is_colon (date_word f) date_no_colon (date_bytes f h) in
-    let no_zone = no_letter_first is_time_byte (time_word f) time_no_letter (time_bytes f h) in
-    rw (days.plain, days.letter, plain, no_time, no_zone) refl
+    rw (days.plain, days.letter) (ap Some (after_days word (date_word f) (time_word f) (zone_words f.zone) (date_zone f h) no_time (time_zone f h)))
 
-zone_back : (name : Option (List ℕ)) → IsZoneOption name → zone_name_in (zone_words name) ≡ Ok name
+zone_back : (suffix : Option Suffix) → IsSuffixOption suffix → suffix_in (zone_words suffix) ≡ Ok suffix
 zone_back None h = refl
-zone_back (Some name) h = rw h.0 (ap (λ n. Ok (Some n)) h.1)
+zone_back (Some suffix) h = ap suffix_due (suffix_word suffix h).back
 
 same_fields : (f : Fields) → record { weekdays = f.weekdays; year = f.year; month = f.month; day = f.day; hour = f.hour; minute = f.minute; second = f.second; from_end = f.from_end; zone = f.zone } ≡ f
 same_fields f = refl

@@ -1,9 +1,8 @@
 -- The zone at the end of an expression, tried on worked words.
-use Rattle.std.proofs.Common.{◌≡◌, ℕ, ℤ, pos, neg_ℤ, List, [], ◌∷◌, codes, None, Some, Ok, Err, refl}
-use Rattle.cal_zone.specs.InstantText.{offset_text}
+use Rattle.std.proofs.Common.{◌≡◌, ℕ, pos, neg_ℤ, List, [], ◌∷◌, codes, Some, Ok, Err, refl}
 use Rattle.cal_zone.specs.OffsetWord.{clock_in, offset_in, two_digits}
 use Rattle.cal_zone.specs.ZoneName.{is_zone_name}
-use Rattle.cal_spec.specs.ZoneSuffix.{named, ahead, suffix_in, suffix_of}
+use Rattle.cal_spec.specs.ZoneSuffix.{of_name, ahead, suffix_in, suffix_of}
 use Rattle.cal_spec.specs.declared.spec_fault.SpecFault.TheVariants.{StrayWord}
 
 abbrev words_of : List ℕ → List (List ℕ)
@@ -21,7 +20,7 @@ nothing : suffix_in (words_of (codes "-00:00")) ≡ Ok (Some (ahead (pos 0)))
 unfolding suffix_of is_zone_name offset_in clock_in two_digits
 nothing = refl
 
-utc : suffix_in (words_of (codes "utc")) ≡ Ok (Some (named (codes "UTC")))
+utc : suffix_in (words_of (codes "utc")) ≡ Ok (Some (of_name (codes "UTC")))
 unfolding suffix_of is_zone_name
 utc = refl
 

@@ -10,7 +10,7 @@ use Rattle.cal_spec.specs.Parts.{is_time, part_of, with_values, fault_of}
 use Rattle.cal_spec.specs.Slot.{day_slot}
 use Rattle.cal_spec.specs.Weekdays.{weekdays_in}
 use Rattle.cal_spec.specs.Words.{Places, words, places_of}
-use Rattle.cal_spec.specs.ZoneName.{zone_name_in}
+use Rattle.cal_spec.specs.ZoneSuffix.{suffix_in}
 use Rattle.cal_spec.specs.declared.part.Part.{Part}
 use Rattle.cal_spec.specs.declared.slot.Slot.{Slot}
 use Rattle.cal_spec.specs.declared.slot.Slot.TheVariants.{Year, Month, Hour, Minute, Second}
@@ -76,7 +76,7 @@ faults_at (Some p) =
     result_err (weekdays_in p.weekdays)
     ∷ (date_faults (date_texts p.date)
     ++ (time_faults (numbered_in (date_texts p.date)) (time_texts p.time)
-    ++ (result_err (zone_name_in p.rest) ∷ [])))
+    ++ (result_err (suffix_in p.rest) ∷ [])))
 
 -- all judgements of a text
 unfoldable pub faults_in : List ℕ → List (Option SpecFault)

@@ -1,12 +1,14 @@
 -- What contracts see of the fields of a calendar expression, and when they have a meaning: systemd.time(7),
 -- Calendar Events.
-use Rattle.std.specs.Prelude.{ℕ, ◌+◌, ◌-◌, Bool, List, length, Option, None, Some, string_bytes}
+use Rattle.std.specs.Prelude.{ℕ, ◌+◌, ◌-◌, Bool, List, length, Option, None, Some}
 use Rattle.std.specs.Option.{option_map}
+use Rattle.cal_spec.specs.SuffixView.{suffix_seen}
+use Rattle.cal_spec.specs.ZoneSuffix.{Suffix}
 use Rattle.cal_spec.specs.declared.part.Part.{Part}
 use Rattle.cal_spec.specs.declared.raw.Raw.{Raw}
 
 -- the weekdays from Monday on, six components of which None is `*`, whether the day is counted from the month's
--- end, and the name of the zone
+-- end, and the zone
 pub record Fields : Type 0 where
   pub weekdays : List Bool
   pub year : Option (List Part)
@@ -16,7 +18,7 @@ pub record Fields : Type 0 where
   pub minute : Option (List Part)
   pub second : Option (List Part)
   pub from_end : Bool
-  pub zone : Option (List ℕ)
+  pub zone : Option Suffix
 
 -- the fields without where they lie in memory
 unfoldable pub fields_of : Raw → Fields
@@ -29,7 +31,7 @@ fields_of raw = record {
   minute = option_map (λ parts. parts.items) raw.time.minute;
   second = option_map (λ parts. parts.items) raw.time.second;
   from_end = raw.date.from_end;
-  zone = option_map string_bytes raw.zone;
+  zone = option_map suffix_seen raw.zone;
 }
 
 -- how many parts a component has

@@ -6,7 +6,7 @@ use Rattle.cal_spec.specs.Fields.{Fields}
 use Rattle.cal_spec.specs.Reads.{◌>>=◌}
 use Rattle.cal_spec.specs.Weekdays.{weekdays_in}
 use Rattle.cal_spec.specs.Words.{Places, words, places_of}
-use Rattle.cal_spec.specs.ZoneName.{zone_name_in}
+use Rattle.cal_spec.specs.ZoneSuffix.{suffix_in}
 use Rattle.cal_spec.specs.declared.spec_fault.SpecFault.{SpecFault}
 use Rattle.cal_spec.specs.declared.spec_fault.SpecFault.TheVariants.{Empty, TextTooLong}
 
@@ -20,8 +20,8 @@ fields_at p =
     weekdays_in p.weekdays
     >>= λ weekdays. date_of p.date
     >>= λ date. time_of (room_after date) p.time
-    >>= λ time. zone_name_in p.rest
-    >>= λ name. Ok (record {
+    >>= λ time. suffix_in p.rest
+    >>= λ suffix. Ok (record {
       weekdays = weekdays;
       year = date.year;
       month = date.month;
@@ -30,7 +30,7 @@ fields_at p =
       minute = time.minute;
       second = time.second;
       from_end = date.from_end;
-      zone = name;
+      zone = suffix;
     })
 
 -- a text without a word has no fields

@@ -1,7 +1,7 @@
 -- The rule of calendar expressions in its own words, as productions over whole texts: systemd.time(7), Calendar Events.
-use Rattle.std.specs.Prelude.{ℕ, ◌<◌, ◌≤◌, ◌≡◌, ◌⊎◌, Bool, true, false, List, [], ◌∷◌, ◌++◌, length, map, codes, Option, None, Some, IfSome, ⊤}
+use Rattle.std.specs.Prelude.{ℕ, ℤ, ◌<◌, ◌≤◌, ◌≡◌, ◌⊎◌, Bool, true, false, List, [], ◌∷◌, ◌++◌, length, map, drop, codes, Option, None, Some, IfSome, ⊤}
 use Rattle.std.specs.List.{AllByRecursion, AllZip, list_all, list_any, join_with_byte}
-use Rattle.std.specs.Option.{option_to_list, option_map, unwrap_or}
+use Rattle.std.specs.Option.{option_to_list, unwrap_or}
 use Rattle.std.specs.Char.{is_ascii_digit, to_ascii_lowercase}
 use Rattle.std.specs.Str.Parse.{digits_value}
 use Rattle.jiff_core.specs.declared.civil.weekday.Weekday.{Weekday}
@@ -14,8 +14,9 @@ use Rattle.cal_spec.specs.Slot.{day_slot}
 use Rattle.cal_spec.specs.Sound.{IsSound}
 use Rattle.cal_spec.specs.Weekdays.{set_of}
 use Rattle.cal_spec.specs.Words.{Places, is_blank, words}
+use Rattle.cal_zone.specs.OffsetWord.{IsOffsetWord, begins_with_sign}
 use Rattle.cal_zone.specs.ZoneName.{begins_with_letter, is_zone_name}
-use Rattle.cal_spec.specs.ZoneName.{zone_name}
+use Rattle.cal_spec.specs.ZoneSuffix.{Suffix, of_name, ahead, kept_name}
 use Rattle.cal_spec.specs.declared.part.Part.{Part}
 use Rattle.cal_spec.specs.declared.shorthand.Shorthand.{Shorthand}
 use Rattle.cal_spec.specs.declared.slot.Slot.{Slot}
@@ -156,43 +157,52 @@ AreWords text (w ∷ ws) =
 abbrev pub given : Option (List ℕ) → List (List ℕ)
 given word = option_to_list word
 
+abbrev pub IsSignless : List ℕ → Type 0
+IsSignless word = begins_with_sign word ≡ false
+
 -- `[weekdays] [date] [time] [zone]`, where one of the first three stands; what a word is shows at its first letter and
--- at a colon
-pub record ArePlain (ws : List (List ℕ)) (p : Places) (name : Option (List ℕ)) : Type 0 where
+-- at a colon, and after the first word a sign begins the zone alone
+pub record ArePlain (ws : List (List ℕ)) (p : Places) (last : Option (List ℕ)) : Type 0 where
   pub date : Option (List ℕ)
   pub time : Option (List ℕ)
-  pub whole : ws ≡ given p.weekdays ++ (given date ++ (given time ++ given name))
+  pub whole : ws ≡ given p.weekdays ++ (given date ++ (given time ++ given last))
   pub some : 0 < length (given p.weekdays ++ (given date ++ given time))
   pub weekdays_kind : IfSome p.weekdays (λ w. (begins_with_letter w ≡ true) × (shorthand_named w ≡ None))
   pub date_kind : IfSome date (λ w. (begins_with_letter w ≡ false) × (list_any is_colon w ≡ false))
   pub time_kind : IfSome time (λ w. (begins_with_letter w ≡ false) × (list_any is_colon w ≡ true))
+  pub signless : AllByRecursion IsSignless (drop 1 (given p.weekdays ++ (given date ++ given time)))
   pub date_is : p.date ≡ unwrap_or date any_date
   pub time_is : p.time ≡ unwrap_or time midnight
-  pub rest_is : p.rest ≡ given name
+  pub rest_is : p.rest ≡ given last
 
 -- `shorthand [zone]`, which stands for the texts of the shorthand's meaning
-pub record AreShort (ws : List (List ℕ)) (p : Places) (name : Option (List ℕ)) : Type 0 where
+pub record AreShort (ws : List (List ℕ)) (p : Places) (last : Option (List ℕ)) : Type 0 where
   pub word : List ℕ
   pub shorthand : Shorthand
-  pub whole : ws ≡ word ∷ given name
+  pub whole : ws ≡ word ∷ given last
   pub named : shorthand_named word ≡ Some shorthand
   pub weekdays_is : p.weekdays ≡ (meaning_of shorthand).weekdays
   pub date_is : p.date ≡ (meaning_of shorthand).date
   pub time_is : p.time ≡ (meaning_of shorthand).time
-  pub rest_is : p.rest ≡ given name
+  pub rest_is : p.rest ≡ given last
+
+-- no word, a zone's name, or an offset
+abbrev pub IsZoneWord : Option (List ℕ) → Option Suffix → Type 0
+IsZoneWord None suffix = suffix ≡ None
+IsZoneWord (Some word) suffix =
+    ((is_zone_name word ≡ true) × (suffix ≡ Some (of_name (kept_name word)))) ⊎ ((seconds : ℤ) × IsOffsetWord word seconds × (suffix ≡ Some (ahead seconds)))
 
 -- Expressions
 
 -- a text and its fields
 pub record IsExpression (text : List ℕ) (f : Fields) : Type 0 where
   pub places : Places
-  pub name : Option (List ℕ)
-  pub placed : ArePlain (words text) places name ⊎ AreShort (words text) places name
+  pub last : Option (List ℕ)
+  pub placed : ArePlain (words text) places last ⊎ AreShort (words text) places last
   pub weekdays : HasWeekdays places.weekdays f.weekdays
   pub date : IsDate places.date f
   pub time : IsTime places.time f
-  pub name_is : IfSome name (λ word. is_zone_name word ≡ true)
-  pub zone_is : f.zone ≡ option_map zone_name name
+  pub zone : IsZoneWord last f.zone
 
 -- an expression that is neither too long nor has too many parts
 pub record IsValid (text : List ℕ) (f : Fields) : Type 0 where

@@ -20,10 +20,10 @@ pub mod ShorthandViews
 pub mod Slot
 pub mod Sound
 pub mod SpecFault
+pub mod SuffixView
 pub mod Symbol
 pub mod ValidFields
 pub mod WeekdayRuns
 pub mod Weekdays
 pub mod Words
-pub mod ZoneName
 pub mod ZoneSuffix

@@ -139,7 +139,7 @@ pub record IsNormalFieldsOf (raw normal : Fields) : Type 0 where
   pub minute : IsNormalOf raw.minute normal.minute
   pub second : IsNormalSecondOf raw.second normal.second
   pub from_end : normal.from_end ≡ normal_from_end raw.from_end raw.day
-  pub name : normal.zone ≡ raw.zone
+  pub suffix : normal.zone ≡ raw.zone
 
 unfoldable pub normal_fields : Fields → Fields
 normal_fields f = record {

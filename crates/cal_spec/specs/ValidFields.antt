@@ -4,7 +4,7 @@ use Rattle.std.specs.List.{list_any}
 use Rattle.cal_spec.specs.Fields.{Fields, counted_parts}
 use Rattle.cal_spec.specs.Slot.{day_slot}
 use Rattle.cal_spec.specs.Sound.{AreSound}
-use Rattle.cal_spec.specs.ZoneName.{IsZoneOption}
+use Rattle.cal_spec.specs.ZoneSuffix.{IsSuffixOption}
 use Rattle.cal_spec.specs.declared.slot.Slot.TheVariants.{Year, Month, Hour, Minute, Second}
 
 pub record IsValidFields (f : Fields) : Type 0 where
@@ -17,4 +17,4 @@ pub record IsValidFields (f : Fields) : Type 0 where
   pub minute : AreSound Minute f.minute
   pub second : AreSound Second f.second
   pub few : counted_parts f ≤ 240
-  pub zone : IsZoneOption f.zone
+  pub zone : IsSuffixOption f.zone

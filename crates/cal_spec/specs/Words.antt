@@ -3,6 +3,7 @@ use Rattle.std.specs.Prelude.{ℕ, ◌==◌, nat_lt, Bool, ◌||◌, if◌then�
 use Rattle.std.specs.List.{list_any, slice_split}
 use Rattle.cal_spec.specs.DateAndTime.{is_colon}
 use Rattle.cal_spec.specs.Shorthand.{any_date, midnight, shorthand_named, meaning_of}
+use Rattle.cal_zone.specs.OffsetWord.{begins_zone}
 use Rattle.cal_zone.specs.ZoneName.{begins_with_letter}
 use Rattle.cal_spec.specs.declared.shorthand.Shorthand.{Shorthand}
 
@@ -21,25 +22,29 @@ pub record Places : Type 0 where
   pub time : List ℕ
   pub rest : List (List ℕ)
 
--- after a date, a word that begins with a letter is a zone; any other is the time
+-- after a date, a word that begins with a letter or a sign is a zone; any other is the time
 abbrev pub after_date : Option (List ℕ) → List ℕ → List (List ℕ) → Places
 after_date weekdays date [] = record { weekdays = weekdays; date = date; time = midnight; rest = [] }
 after_date weekdays date (w ∷ ws) =
-    if begins_with_letter w then record { weekdays = weekdays; date = date; time = midnight; rest = w ∷ ws }
+    if begins_zone w then record { weekdays = weekdays; date = date; time = midnight; rest = w ∷ ws }
     else record { weekdays = weekdays; date = date; time = w; rest = ws }
 
--- after the weekdays, a word that begins with a letter is a zone; another one with a colon is the time; any other is
--- the date
+-- a word with a colon is the time, any other the date
+abbrev pub date_or_time : Option (List ℕ) → List ℕ → List (List ℕ) → Places
+date_or_time weekdays w ws =
+    if list_any is_colon w then record { weekdays = weekdays; date = any_date; time = w; rest = ws }
+    else after_date weekdays w ws
+
+-- after the weekdays, a word that begins with a letter or a sign is a zone
 abbrev pub after_weekdays : Option (List ℕ) → List (List ℕ) → Places
 after_weekdays weekdays [] = record { weekdays = weekdays; date = any_date; time = midnight; rest = [] }
 after_weekdays weekdays (w ∷ ws) =
-    if begins_with_letter w then record { weekdays = weekdays; date = any_date; time = midnight; rest = w ∷ ws }
-    else (if list_any is_colon w then record { weekdays = weekdays; date = any_date; time = w; rest = ws }
-    else after_date weekdays w ws)
+    if begins_zone w then record { weekdays = weekdays; date = any_date; time = midnight; rest = w ∷ ws }
+    else date_or_time weekdays w ws
 
--- a first word that begins with a letter is the weekday list
+-- a first word that begins with a letter is the weekday list; it is no zone, also where it begins with a sign
 abbrev pub places_in : List ℕ → List (List ℕ) → Places
-places_in w ws = if begins_with_letter w then after_weekdays (Some w) ws else after_weekdays None (w ∷ ws)
+places_in w ws = if begins_with_letter w then after_weekdays (Some w) ws else date_or_time None w ws
 
 -- a shorthand stands for the texts of its meaning
 abbrev pub places_by : Option Shorthand → List ℕ → List (List ℕ) → Places

@@ -1,7 +1,6 @@
 -- The zone at the end of a calendar expression, a name or a fixed offset: systemd.time(7), Calendar Events.
 use Rattle.std.specs.Prelude.{ℕ, ℤ, ◌≡◌, true, if◌then◌else◌, List, [], ◌∷◌, codes, Option, None, Some, option_map, Result, Ok, Err}
 use Rattle.std.specs.Str.{str_eq_ignore_ascii_case}
-use Rattle.cal_bytes.specs.Bytes.{joined}
 use Rattle.cal_zone.specs.InstantText.{offset_text}
 use Rattle.cal_zone.specs.OffsetWord.{AreWholeMinutes, offset_in}
 use Rattle.cal_zone.specs.ZoneName.{is_zone_name}
@@ -10,7 +9,7 @@ use Rattle.cal_spec.specs.declared.spec_fault.SpecFault.TheVariants.{StrayWord}
 
 -- a zone's name, or how many seconds its clock is ahead of UTC
 pub data Suffix : Type 0 where
-  named : List ℕ → Suffix
+  of_name : List ℕ → Suffix
   ahead : ℤ → Suffix
 
 -- `UTC` in any case is kept as `UTC`
@@ -19,7 +18,7 @@ kept_name word = if str_eq_ignore_ascii_case word (codes "UTC") then codes "UTC"
 
 -- the zone that a word is, if it is one
 unfoldable pub suffix_of : List ℕ → Option Suffix
-suffix_of word = if is_zone_name word then Some (named (kept_name word)) else option_map ahead (offset_in word)
+suffix_of word = if is_zone_name word then Some (of_name (kept_name word)) else option_map ahead (offset_in word)
 
 abbrev pub suffix_due : Option Suffix → Result (Option Suffix) SpecFault
 suffix_due None = Err StrayWord
@@ -33,7 +32,7 @@ suffix_in words = Err StrayWord
 
 -- a zone that a word can be
 abbrev pub IsSuffix : Suffix → Type 0
-IsSuffix (named name) = (is_zone_name name ≡ true) × (kept_name name ≡ name)
+IsSuffix (of_name name) = (is_zone_name name ≡ true) × (kept_name name ≡ name)
 IsSuffix (ahead seconds) = AreWholeMinutes seconds
 
 abbrev pub IsSuffixOption : Option Suffix → Type 0
@@ -43,15 +42,15 @@ IsSuffixOption (Some suffix) = IsSuffix suffix
 -- the name, if it is one, and the seconds ahead of UTC, if it is an offset
 abbrev pub name_in : Option Suffix → Option (List ℕ)
 name_in None = None
-name_in (Some (named name)) = Some name
+name_in (Some (of_name name)) = Some name
 name_in (Some (ahead seconds)) = None
 
 abbrev pub offset_said : Option Suffix → Option ℤ
 offset_said None = None
-offset_said (Some (named name)) = None
+offset_said (Some (of_name name)) = None
 offset_said (Some (ahead seconds)) = Some seconds
 
 -- how it is printed
 abbrev pub suffix_text : Suffix → List ℕ
-suffix_text (named name) = name
+suffix_text (of_name name) = name
 suffix_text (ahead seconds) = offset_text seconds

@@ -1,6 +1,7 @@
 //! Calendar expressions as values (systemd.time(7), Calendar Events).
 
-ghost use Rattle.std.specs.Prelude.{◌≡◌, ◌<◌, ◌≤ℤ◌, ◌<ℤ◌, pos, unsigned_abs, option_copied, option_map};
+ghost use Rattle.std.specs.Prelude.{◌≡◌, ◌<◌, ◌≤ℤ◌, ◌<ℤ◌, pos, unsigned_abs, option_copied, option_map, IfSome};
+ghost use Rattle.jiff.specs.Words.{IsOffsetSeconds};
 ghost use Rattle.cal_spec.specs.NormalForm.{AreParts, normal_component, normal_from_end, normal_second};
 
 use crate::matching::{day_slot, has_local};
@@ -8,6 +9,7 @@ use crate::members::component_has;
 use crate::normal_form::{normal_component, normal_second};
 use crate::raw::{Raw, RawDate, RawTime};
 use crate::slot::Slot;
+use crate::zone_suffix::ZoneSuffix;
 use crate::{Field, Part};
 use std::marker::Model;
 
@@ -37,7 +39,9 @@ impl Expr {
     ghost use Rattle.cal_spec.specs.Match.{matches};
     ghost use Rattle.cal_spec.specs.Members.{members_of, sets_of};
     ghost use Rattle.cal_spec.specs.NormalForm.{normal_fields};
+    ghost use Rattle.cal_spec.specs.SuffixView.{suffix_seen};
     ghost use Rattle.cal_spec.specs.ValidFields.{IsValidFields};
+    ghost use Rattle.cal_spec.specs.ZoneSuffix.{name_in, offset_said};
 
     /// The normal form of what a text says. Takes no memory.
     pub(crate) fn normal(raw: Raw) -> Expr
@@ -122,12 +126,35 @@ impl Expr {
         self.raw.date.from_end
     }
 
-    /// The name of the zone, where there is one.
-    #[tactic(auto, unfolding(crate::specs::Fields::fields_of))]
+    /// The name of the zone, where it has one. Then [`Expr::zone_offset`] is `None`.
     pub fn zone_name(&self) -> Option<&str>
-        ensures { option_copied result ≡ self.now.zone }
+        ensures { option_copied result ≡ name_in self.now.zone }
     {
-        self.raw.zone.as_deref()
+        match self.zone() {
+            Some(ZoneSuffix::Name(name)) => Some(name),
+            _ => None,
+        }
+    }
+
+    /// How many seconds ahead of UTC the clock of the zone is, where it is an offset: whole minutes, from -93,540 to
+    /// 93,540. Then [`Expr::zone_name`] is `None`.
+    pub fn zone_offset(&self) -> Option<i32>
+        ensures offset { result ≡ offset_said self.now.zone }
+        ensures range { IfSome result IsOffsetSeconds }
+    {
+        match self.zone() {
+            Some(ZoneSuffix::Offset(seconds)) => Some(*seconds),
+            _ => None,
+        }
+    }
+
+    /// The zone, where one is written. A caller learns that the fields are valid and in their normal form.
+    #[tactic(auto, unfolding(crate::specs::Fields::fields_of))]
+    pub(crate) fn zone(&self) -> Option<&ZoneSuffix>
+        ensures zone { option_map suffix_seen (option_copied result) ≡ self.now.zone }
+        ensures expr { IsExpr self.now }
+    {
+        self.raw.zone.as_ref()
     }
 }
 

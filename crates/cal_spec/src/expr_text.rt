@@ -1,14 +1,18 @@
 //! Calendar expressions as text, in their normal form (systemd.time(7), Calendar Events).
 
-ghost use Rattle.std.specs.Prelude.{◌≡◌, ◌≤◌, [], ◌∷◌, codes, drop, false, is_err, option_copied};
+ghost use Rattle.std.specs.Prelude.{◌≡◌, ◌≤◌, [], ◌∷◌, codes, drop, false, is_err, option_copied, option_map};
 ghost use Rattle.std.specs.List.{flat_map};
 ghost use Rattle.cal_bytes.specs.Bytes.{Writes, joined};
+ghost use Rattle.cal_zone.specs.InstantText.{offset_text};
 ghost use Rattle.cal_spec.specs.Expr.{component};
+ghost use Rattle.cal_spec.specs.SuffixView.{suffix_seen};
 ghost use Rattle.cal_spec.specs.ExprText.{component_text, day_lead, expr_text, fields_text, number_text, optional_text, part_text, parts_text, row_text, zone_text};
 
 use crate::weekday_runs::put_weekdays;
+use crate::zone_suffix::ZoneSuffix;
 use crate::{Expr, Field, Part};
-use cal_bytes::{Fill, Sink, WriteFault, padding, put_all, put_pieces};
+use cal_bytes::{Fill, ShortText, Sink, WriteFault, padding, put_all, put_pieces};
+use cal_zone::push_offset;
 use itoa::Buffer;
 
 /// A component, the digits of its numbers, and what leads up to it.
@@ -31,7 +35,7 @@ pub fn write_expr<W: Sink>(out: &mut W, expr: &Expr) -> Result<(), WriteFault>
 {
     put_weekdays(out, &expr.weekdays())?;
     put_rows(out, &rows(expr))?;
-    put_zone(out, expr.zone_name())
+    put_zone(out, expr.zone())
 }
 
 /// The components in the order in which they are printed.
@@ -169,13 +173,27 @@ fn put_number<W: Sink>(
     )
 }
 
-fn put_zone<W: Sink>(out: &mut W, zone: Option<&str>) -> Result<(), WriteFault>
+fn put_zone<W: Sink>(out: &mut W, zone: Option<&ZoneSuffix>) -> Result<(), WriteFault>
     requires { W.is_failed out.old ≡ false }
     ensures failed { W.is_failed out.new ≡ is_err result }
-    ensures bytes { Writes (W.written out.old) (W.written out.new) result (zone_text (option_copied zone.entry)) }
+    ensures bytes { Writes (W.written out.old) (W.written out.new) result
+        (zone_text (option_map suffix_seen (option_copied zone.entry))) }
 {
     match zone {
-        Some(name) => put_pieces(out, &[b" ", name.as_bytes()]),
+        Some(ZoneSuffix::Name(name)) => put_pieces(out, &[b" ", name.as_bytes()]),
+        Some(ZoneSuffix::Offset(seconds)) => put_offset(out, *seconds),
         None => Ok(()),
     }
+}
+
+/// Writes an offset after a space, as `+02:00`.
+fn put_offset<W: Sink>(out: &mut W, seconds: i32) -> Result<(), WriteFault>
+    requires { W.is_failed out.old ≡ false }
+    ensures failed { W.is_failed out.new ≡ is_err result }
+    ensures bytes { Writes (W.written out.old) (W.written out.new) result
+        (joined (codes " " ∷ offset_text seconds ∷ [])) }
+{
+    let mut text = ShortText::new();
+    push_offset(&mut text, seconds);
+    put_pieces(out, &[b" ", text.as_slice()])
 }

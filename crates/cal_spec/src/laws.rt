@@ -1,7 +1,7 @@
 //! Laws of the definitions that the contracts cite. Each is a function that does nothing, and whose contract is the
 //! law.
 
-ghost use Rattle.std.specs.Prelude.{◌≡◌, ◌<◌, ℕ, Bool, List, Ok, Option, length};
+ghost use Rattle.std.specs.Prelude.{◌≡◌, ◌⊎◌, ◌<◌, ℕ, Bool, List, None, Ok, Option, length};
 ghost use Rattle.std.specs.List.{AllByRecursion};
 ghost use Rattle.cal_spec.specs.Expr.{IsExpr};
 ghost use Rattle.cal_spec.specs.ExprText.{expr_text};
@@ -12,6 +12,7 @@ ghost use Rattle.cal_spec.specs.Members.{component_has, sets_of};
 ghost use Rattle.cal_spec.specs.NormalForm.{AreNormal, AreNormalOf, AreParts, IsNormalFieldsOf, IsNormalOf, IsNormalSecondOf, IsPart, normal_component, normal_fields, normal_parts, normal_second};
 ghost use Rattle.cal_spec.specs.ValidFields.{IsValidFields};
 ghost use Rattle.cal_spec.specs.WeekdayRuns.{AreRuns, Run, runs_from};
+ghost use Rattle.cal_spec.specs.ZoneSuffix.{Suffix, name_in, offset_said};
 ghost use Rattle.cal_spec.specs.declared.part.Part.{Part};
 ghost use Rattle.cal_spec.specs.declared.slot.Slot.{Slot};
 ghost use Rattle.cal_spec.specs.declared.slot.Slot.TheVariants.{Second};
@@ -72,4 +73,9 @@ pub fn normal_texts_read_back()
     ensures normal { (f : Fields) → IsValidFields f
         → fields_in (expr_text (normal_fields f)) ≡ Ok (normal_fields f) }
     ensures expression { (f : Fields) → IsExpr f → fields_in (expr_text f) ≡ Ok f }
+{}
+
+/// The zone of an expression is a name or an offset, and never both.
+pub fn zones_are_names_or_offsets()
+    ensures { (suffix : Option Suffix) → (name_in suffix ≡ None) ⊎ (offset_said suffix ≡ None) }
 {}

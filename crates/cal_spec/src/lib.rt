@@ -25,7 +25,7 @@ mod spec_fault;
 mod weekday_runs;
 mod weekdays;
 mod words;
-mod zone_name;
+mod zone_suffix;
 
 pub use expr::Expr;
 pub use expr_text::write_expr;

@@ -1,6 +1,7 @@
 //! What a text says before it is brought into its normal form.
 
 use crate::Part;
+use crate::zone_suffix::ZoneSuffix;
 
 /// The components of a date as they were written; `None` is `*`.
 #[derive(PartialEq, Eq, Debug, Drop)]
@@ -27,6 +28,5 @@ pub struct Raw {
     pub weekdays: [bool; 7],
     pub date: RawDate,
     pub time: RawTime,
-    /// The name of the zone.
-    pub zone: Option<String>,
+    pub zone: Option<ZoneSuffix>,
 }

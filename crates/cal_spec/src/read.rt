@@ -14,7 +14,7 @@ use crate::date_and_time::{read_date, read_time, room_after};
 use crate::raw::Raw;
 use crate::weekdays::read_weekdays;
 use crate::words::{Places, find_places};
-use crate::zone_name::read_zone;
+use crate::zone_suffix::read_suffix;
 use crate::{Expr, SpecFault};
 use std::alloc::Global;
 
@@ -26,7 +26,8 @@ const MOST_TEXT_BYTES: usize = 4096;
 ///
 /// The fault is the first one: [`SpecFault::TextTooLong`] above 4,096 bytes, then [`SpecFault::Empty`] where there is
 /// no word, then that of the words from the left. [`SpecFault::NoMemory`] comes only where memory was refused; nothing
-/// stands then. Whether there is a zone of the name that stands at the end isn't asked here.
+/// stands then. The zone is a name or an offset, `+hh:mm` or `-hh:mm`; whether there is a zone of that name isn't asked
+/// here.
 #[tactic(auto, unfolding(crate::specs::Expr::expr_in))]
 pub fn read_expr(alloc: Global, text: &str) -> Result<Expr, SpecFault>
     ensures { GivesUnlessNoMemory (λ expr. expr) result (expr_in text.now) }
@@ -62,7 +63,7 @@ fn read_places(alloc: Global, places: Places<'_>) -> Result<Raw, SpecFault>
     let weekdays = chosen_weekdays(alloc, places.weekdays)?;
     let date = read_date(alloc, places.date)?;
     let time = read_time(alloc, room_after(&date), places.time)?;
-    let zone = read_zone(alloc, places.rest)?;
+    let zone = read_suffix(alloc, places.rest)?;
     Ok(Raw {
         weekdays,
         date,

@@ -5,11 +5,11 @@ ghost use Rattle.std.specs.List.{list_any, position};
 ghost use Rattle.std.specs.Option.{option_copied, option_map, unwrap_or};
 ghost use Rattle.cal_spec.specs.DateAndTime.{is_colon};
 ghost use Rattle.cal_spec.specs.PlacesView.{places_seen};
-ghost use Rattle.cal_spec.specs.Words.{is_blank, words, after_date, after_weekdays, places_of};
+ghost use Rattle.cal_spec.specs.Words.{is_blank, words, after_date, after_weekdays, date_or_time, places_of};
 
 use crate::pieces::cut_at;
 use crate::shorthand::{ANY_DATE, MIDNIGHT, find_shorthand};
-use cal_zone::begins_with_letter;
+use cal_zone::{begins_with_letter, begins_zone};
 
 /// The texts at the places of an expression, and the words after these.
 #[derive(Clone, Copy)]
@@ -43,7 +43,7 @@ pub(crate) fn find_places(text: &[u8]) -> Option<Places<'_>>
     if begins_with_letter(word) {
         return Some(after_weekdays(Some(word), after));
     }
-    Some(after_weekdays(None, text))
+    Some(date_or_time(None, word, after))
 }
 
 /// The first word of the text and what stands after it, or `None` where there are only blanks.
@@ -79,24 +79,12 @@ fn or_empty(text: Option<&[u8]>) -> &[u8]
     }
 }
 
-/// The places after the weekdays: a word that begins with a letter is a zone, another one with a colon is the time, and
-/// any other is the date.
+/// The places after the weekdays: a word that begins with a letter or a sign is a zone.
 fn after_weekdays<'a>(weekdays: Option<&'a [u8]>, text: &'a [u8]) -> Places<'a>
     ensures { places_seen result ≡ after_weekdays (option_copied weekdays.entry) (words text.now) }
 {
     match first_word(text) {
-        Some((word, rest)) if !begins_with_letter(word) => {
-            if has_colon(word) {
-                Places {
-                    weekdays,
-                    date: ANY_DATE,
-                    time: word,
-                    rest,
-                }
-            } else {
-                after_date(weekdays, word, rest)
-            }
-        }
+        Some((word, rest)) if !begins_zone(word) => date_or_time(weekdays, word, rest),
         _ => Places {
             weekdays,
             date: ANY_DATE,
@@ -106,13 +94,30 @@ fn after_weekdays<'a>(weekdays: Option<&'a [u8]>, text: &'a [u8]) -> Places<'a>
     }
 }
 
-/// The places after the date: a word that begins with a letter is a zone, and any other is the time.
+/// The places from the date on, or from the time on where there is no date: a word with a colon is the time, and any
+/// other is the date.
+fn date_or_time<'a>(weekdays: Option<&'a [u8]>, word: &'a [u8], rest: &'a [u8]) -> Places<'a>
+    ensures { places_seen result
+        ≡ date_or_time (option_copied weekdays.entry) word.now (words rest.now) }
+{
+    if has_colon(word) {
+        return Places {
+            weekdays,
+            date: ANY_DATE,
+            time: word,
+            rest,
+        };
+    }
+    after_date(weekdays, word, rest)
+}
+
+/// The places after the date: a word that begins with a letter or a sign is a zone, and any other is the time.
 fn after_date<'a>(weekdays: Option<&'a [u8]>, date: &'a [u8], text: &'a [u8]) -> Places<'a>
     ensures { places_seen result
         ≡ after_date (option_copied weekdays.entry) date.now (words text.now) }
 {
     match first_word(text) {
-        Some((time, rest)) if !begins_with_letter(time) => Places {
+        Some((time, rest)) if !begins_zone(time) => Places {
             weekdays,
             date,
             time,

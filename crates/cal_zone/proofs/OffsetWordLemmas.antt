@@ -1,5 +1,5 @@
 -- Words that are fixed offsets, and zones ahead of UTC.
-use Rattle.std.proofs.Common.{◌≡◌, ◌⊎◌, inl, inr, ℕ, zero, suc, ℤ, pos, negsuc, neg_ℤ, int_lt, if◌then◌else◌, append-nil, append_assoc, ◌+◌, ◌*◌, ◌/◌, ◌%◌, ◌<◌, ◌≤◌, Bool, true, false, ◌&&◌, ◌==◌, cond, min, List, [], ◌∷◌, ◌++◌, length, codes, decimal, unsigned_abs, Option, None, Some, option_map, refl, ap, sym, ◌∙◌, arith, le-leb, leb-true}
+use Rattle.std.proofs.Common.{◌≡◌, ◌⊎◌, inl, inr, ℕ, zero, suc, ℤ, pos, negsuc, neg_ℤ, int_lt, if◌then◌else◌, append-nil, append_assoc, length-append, ◌+◌, ◌*◌, ◌/◌, ◌%◌, ◌<◌, ◌≤◌, Bool, true, false, ◌&&◌, ◌||◌, ◌==◌, cond, min, List, [], ◌∷◌, ◌++◌, length, codes, decimal, unsigned_abs, Option, None, Some, option_map, refl, ap, sym, ◌∙◌, arith, le-leb, leb-true}
 use Rattle.std.specs.Char.{is_ascii_digit}
 use Rattle.std.specs.Fmt.{digits}
 use Rattle.std.specs.List.{list_all}
@@ -11,7 +11,7 @@ use Rattle.jiff.specs.Types.{Offset}
 use Rattle.jiff.specs.Words.{fixed_zone, IsOffsetSeconds}
 use Rattle.cal_bytes.specs.Bytes.{joined}
 use Rattle.cal_zone.specs.InstantText.{offset_text, zeros}
-use Rattle.cal_zone.specs.OffsetWord.{AreTwoDigits, AreWholeMinutes, IsClock, IsOffsetWord, clock_by, clock_in, offset_in, two_digits}
+use Rattle.cal_zone.specs.OffsetWord.{AreTwoDigits, AreWholeMinutes, IsClock, IsOffsetWord, begins_with_sign, is_sign, clock_by, clock_in, offset_in, two_digits}
 use Rattle.cal_zone.specs.ZoneAhead.{offset_of_seconds, zone_ahead}
 use Rattle.cal_zone.proofs.OffsetLemmas.{same_offset}
 
@@ -124,6 +124,40 @@ signed-only word clock distance seconds is (inr west) = rw (west.0, is, west.1) 
 
 pub offset-only : (word : List ℕ) (seconds : ℤ) → IsOffsetWord word seconds → offset_in word ≡ Some seconds
 offset-only word seconds h = signed-only word h.clock h.distance seconds (clock-only h.clock h.distance h.clock_is) h.signed
+
+-- The bytes of such a word
+
+abbrev pub is_offset_byte : ℕ → Bool
+is_offset_byte b = is_ascii_digit b || (is_sign b || (b == 58))
+
+digit_byte : (b : ℕ) → is_ascii_digit b ≡ true → is_offset_byte b ≡ true
+digit_byte b h = rw h refl
+
+digit_bytes : (bs : List ℕ) → list_all is_ascii_digit bs ≡ true → list_all is_offset_byte bs ≡ true
+digit_bytes [] h = refl
+digit_bytes (b ∷ bs) h = let parts = and_parts (is_ascii_digit b) (list_all is_ascii_digit bs) h in rw (parts.0, digit_bytes bs parts.1) refl
+
+all-append : (p : ℕ → Bool) (xs ys : List ℕ) → list_all p xs ≡ true → list_all p ys ≡ true → list_all p (xs ++ ys) ≡ true
+all-append p [] ys h k = k
+all-append p (x ∷ xs) ys h k = let parts = and_parts (p x) (list_all p xs) h in rw (parts.0, all-append p xs ys parts.1 k) refl
+
+clock-bytes : (text : List ℕ) (n : ℕ) → IsClock text n → (list_all is_offset_byte text ≡ true) × (length text ≡ 5)
+clock-bytes text n h =
+    let hour = digit_bytes h.hour h.hour_is.digits in
+    let minute = digit_bytes h.minute h.minute_is.digits in
+    let long : length (h.hour ++ (codes ":" ++ h.minute)) ≡ 5 = omega (arith, length-append h.hour (codes ":" ++ h.minute), h.hour_is.two, h.minute_is.two) in
+    rw h.whole (all-append is_offset_byte h.hour (codes ":" ++ h.minute) hour minute, long)
+
+bytes-by : (word clock : List ℕ) (distance : ℕ) (seconds : ℤ) → (list_all is_offset_byte clock ≡ true) × (length clock ≡ 5)
+    → ((word ≡ codes "+" ++ clock) × (seconds ≡ pos distance)) ⊎ ((word ≡ codes "-" ++ clock) × (seconds ≡ neg_ℤ (pos distance)))
+    → (list_all is_offset_byte word ≡ true) × (length word ≡ 6) × (begins_with_sign word ≡ true)
+bytes-by word clock distance seconds h (inl east) = rw east.0 (h.0, omega (arith, h.1), refl)
+bytes-by word clock distance seconds h (inr west) = rw west.0 (h.0, omega (arith, h.1), refl)
+
+-- digits, a sign and a colon, six in all, the sign first
+pub offset-bytes : (word : List ℕ) (seconds : ℤ) → IsOffsetWord word seconds
+    → (list_all is_offset_byte word ≡ true) × (length word ≡ 6) × (begins_with_sign word ≡ true)
+offset-bytes word seconds h = bytes-by word h.clock h.distance seconds (clock-bytes h.clock h.distance h.clock_is) h.signed
 
 -- Whole minutes
 

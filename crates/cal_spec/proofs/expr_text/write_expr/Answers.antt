@@ -26,4 +26,4 @@ returns-clause-bytes g c =
     let left-0 = start _ (expr_text f) in
     let left-1 = step _ _ _ (weekdays_text f.weekdays) _ _ left-0 (rw c.weekdays.ensures.chosen at c.in_ok-put_weekdays.ensures.bytes) in
     let left-2 = step _ _ _ (fields_text f) _ _ left-1 (rw c.rows.ensures at c.in_ok-put_rows.ensures.bytes) in
-    finish_last _ _ _ (zone_text f.zone) _ _ left-2 (rw c.zone_name.ensures at c.put_zone.ensures.bytes)
+    finish_last _ _ _ (zone_text f.zone) _ _ left-2 (rw c.zone.ensures.zone at c.put_zone.ensures.bytes)

@@ -1,6 +1,6 @@
 use Rattle.std.proofs.lemmas.Str.{IsUtf8-from_ascii}
 use Rattle.cal_spec.proofs.ZoneLemmas.{zone_name-ascii}
-use Rattle.cal_spec.proofs.zone_name.name_of.Goals as goal
+use Rattle.cal_spec.proofs.zone_suffix.name_of.Goals as goal
 
 pub unreachable-requires : goal.unreachable-requires
 unreachable-requires c =

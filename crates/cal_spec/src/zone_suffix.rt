@@ -1,0 +1,60 @@
+//! The zone at the end of a calendar expression.
+
+ghost use Rattle.std.specs.Prelude.{◌≡◌, IsTrue};
+ghost use Rattle.std.specs.Option.{option_map};
+ghost use Rattle.cal_spec.specs.Reads.{GivesUnlessNoMemory};
+ghost use Rattle.cal_spec.specs.SuffixView.{suffix_seen};
+ghost use Rattle.cal_spec.specs.Words.{words};
+ghost use Rattle.cal_zone.specs.ZoneName.{is_zone_name};
+ghost use Rattle.cal_spec.specs.ZoneSuffix.{kept_name, suffix_in};
+
+use crate::SpecFault;
+use crate::same_word::is_same_word;
+use crate::words::first_word;
+use cal_zone::{is_zone_name, read_offset};
+use std::alloc::Global;
+
+/// A zone that an expression is meant in.
+#[derive(PartialEq, Eq, Debug, Drop)]
+pub enum ZoneSuffix {
+    /// The zone of this name.
+    Name(String),
+    /// The clock so many seconds ahead of UTC.
+    Offset(i32),
+}
+
+/// The zone, if there is one, in what stands after the time (systemd.time(7), Calendar Events): a name or an offset. Any
+/// other word there is a `StrayWord`.
+#[tactic(auto, unfolding(crate::specs::ZoneSuffix::suffix_of))]
+pub(crate) fn read_suffix(alloc: Global, text: &[u8]) -> Result<Option<ZoneSuffix>, SpecFault>
+    ensures { GivesUnlessNoMemory (λ suffix. option_map suffix_seen suffix) result (suffix_in (words text.now)) }
+{
+    let Some((word, after)) = first_word(text) else {
+        return Ok(None);
+    };
+    if first_word(after).is_some() {
+        return Err(SpecFault::StrayWord);
+    }
+    if is_zone_name(word) {
+        let name = String::from_str(alloc, name_of(word))?;
+        return Ok(Some(ZoneSuffix::Name(name)));
+    }
+    match read_offset(word) {
+        Some(seconds) => Ok(Some(ZoneSuffix::Offset(seconds))),
+        None => Err(SpecFault::StrayWord),
+    }
+}
+
+/// The name that is kept: `UTC` in any case is `UTC`.
+fn name_of(word: &[u8]) -> &str
+    requires { IsTrue (is_zone_name word.now) }
+    ensures { result.now ≡ kept_name word.now }
+{
+    if is_same_word(word, b"UTC") {
+        return "UTC";
+    }
+    let Ok(name) = str::from_utf8(word) else {
+        unreachable!()
+    };
+    name
+}
