@@ -13,6 +13,8 @@ use Rattle.cal_spec.specs.Grammar.{fields_in}
 use Rattle.cal_spec.specs.NormalForm.{IsNormalFieldsOf, normal_fields}
 use Rattle.cal_spec.specs.Reads.{◌>>=◌}
 use Rattle.cal_spec.specs.ValidFields.{IsValidFields}
+use Rattle.cal_spec.specs.ZoneSuffix.{Suffix, of_name, ahead}
+use Rattle.cal_zone.specs.ZoneAhead.{zone_ahead}
 use Rattle.cal_spec.specs.declared.spec_fault.SpecFault.{SpecFault}
 use Rattle.cal_spec.proofs.FieldLemmas.{valid_fields}
 use Rattle.cal_spec.proofs.WholeRule.{valid_found}
@@ -49,10 +51,11 @@ read_is_spelled : AreNormalForms → (text : List ℕ) (fields : Fields) → exp
 unfolding expr_in
 read_is_spelled some text fields h = spelled_by some text fields (fields_in text) refl h
 
-found_is_zone : (asked : Asked) (name : Option (List ℕ)) (tz : TimeZone) → zone_for asked name ≡ Some tz → IsZoneFor asked name tz
+found_is_zone : (asked : Asked) (suffix : Option Suffix) (tz : TimeZone) → zone_for asked suffix ≡ Some tz → IsZoneFor asked suffix tz
 unfolding zone_for
 found_is_zone asked None tz h = let same : zone_of asked.local ≡ tz = cc in sym same
-found_is_zone asked (Some name) tz h = h
+found_is_zone asked (Some (of_name name)) tz h = h
+found_is_zone asked (Some (ahead seconds)) tz h = let same : zone_ahead seconds ≡ tz = cc in sym same
 
 -- a text that is accepted
 record IsAcceptedText (asked : Asked) (text : List ℕ) : Type 0 where

@@ -1,5 +1,5 @@
 -- The headline's law: what elapses are, how they go on, and what the zone's clock shows there.
-use Rattle.std.proofs.Common.{◌≡◌, ◌<◌, ◌+◌, ◌++◌, ◌∙◌, ℕ, suc, ℤ, pos, ◌≤ℤ◌, ◌<ℤ◌, ◌-ℤ◌, true, List, [], ◌∷◌, Option, None, Some, Result, Ok, Err, map, take, drop, inl, inr, refl, sym, ap, subst, arith}
+use Rattle.std.proofs.Common.{◌≡◌, ◌<◌, ◌+◌, ◌++◌, ◌∙◌, ℕ, suc, ℤ, pos, ◌≤ℤ◌, ◌<ℤ◌, ◌-ℤ◌, true, List, Option, None, Some, Result, Ok, Err, map, take, drop, refl, sym, ap, subst, arith}
 use Rattle.std.proofs.Math.Seq.{take-add}
 use Rattle.std.proofs.lemmas.Int.{ints}
 use Rattle.std.specs.List.{slice_get}
@@ -14,7 +14,7 @@ use Rattle.cal_zone.proofs.PlaceLemmas.{place_of-Some}
 use Rattle.cal_spec.specs.Fields.{Fields}
 use Rattle.cal_spec.specs.Match.{matches}
 use Rattle.cal_spec.specs.Members.{sets_of}
-use Rattle.cal_elapse.specs.Elapses.{AreElapses, IsElapse, IsPlace, Timed, elapses_after}
+use Rattle.cal_elapse.specs.Elapses.{AreElapses, IsPlace, Timed, elapses_after}
 use Rattle.cal_elapse.specs.Timed.{timed}
 use Rattle.cal_elapse.proofs.ElapsesLemmas.{AreElapses-elapses_after, AreElapses-only, elapses_after-later}
 use Rattle.cal_elapse.proofs.InstantLemmas.{IsInstant-elapse}

@@ -19,6 +19,7 @@ use Rattle.cal_read.specs.TimerRule.{AreFine}
 use Rattle.cal_read.specs.TimerText.{Entry, entries, entry_of, fault_following, is_expression, listed, most_expressions, timer_in, timer_of}
 use Rattle.cal_read.proofs.TimerRuleLemmas.{only_judged}
 use Rattle.cal_report.specs.Answer.{refusals_text, report_in, reports_text, texts_status}
+use Rattle.cal_spec.specs.ZoneSuffix.{Suffix, of_name, ahead}
 use Rattle.cal_report.specs.CalendarReport.{answer_in, answer_with, calendar_answer, calendar_report, heading_text, zone_for}
 use Rattle.cal_report.specs.ElapseLines.{elapses_text}
 use Rattle.cal_report.specs.Headline.{AreReportsOf, AreSpelled, Expression, IsAccepted, IsFileOf, IsFine, IsReportOf, IsZoneFor, Spells, assigned_in, headings, meaning}
@@ -41,10 +42,11 @@ spelled_is_read one text fields h =
     let found = valid_only text h.raw h.valid in
     rw found (ap Ok (sym (one h.raw fields (valid_fields text h.raw found) h.normal)))
 
-zone_is_found : (asked : Asked) (name : Option (List ℕ)) (tz : TimeZone) → IsZoneFor asked name tz → zone_for asked name ≡ Some tz
+zone_is_found : (asked : Asked) (suffix : Option Suffix) (tz : TimeZone) → IsZoneFor asked suffix tz → zone_for asked suffix ≡ Some tz
 unfolding zone_for
 zone_is_found asked None tz h = ap Some (sym h)
-zone_is_found asked (Some name) tz h = h
+zone_is_found asked (Some (of_name name)) tz h = h
+zone_is_found asked (Some (ahead seconds)) tz h = ap Some (sym h)
 
 -- Texts
 

@@ -1,13 +1,10 @@
 -- Lemmas on what a whole run wrote, and how it ended.
-use Rattle.std.proofs.Common.{◌≡◌, ℕ, ℤ, Bool, true, false, ◌&&◌, List, [], Option, Result, Ok, Err, IfOk, refl, sym, codes, arith}
+use Rattle.std.proofs.Common.{◌≡◌, ℕ, ℤ, Bool, true, false, ◌&&◌, List, [], Option, Result, Ok, Err, IfOk, refl, sym, codes}
 use Rattle.std.proofs.lemmas.Bool.{false≢true}
 use Rattle.std.specs.Prelude.{IsErr}
 use Rattle.std.proofs.lemmas.List.{append-nil}
 use Rattle.std.proofs.KnownBytes.{Appends-nil}
 use Rattle.std.specs.Io.KnownBytes.{Appends}
-use Rattle.cal_bytes.proofs.Pieces.{writes_err}
-use Rattle.cal_bytes.proofs.WholeLemmas.{consumes-nil}
-use Rattle.cal_bytes.specs.declared.whole.WholeFault.TheVariants as whole
 use Rattle.cal_read.specs.StampFault.{words_of}
 use Rattle.cal_read.specs.declared.stamp.fault.StampFault.{StampFault}
 use Rattle.cal_report.specs.Answer.{refusal_line}
@@ -15,7 +12,7 @@ use Rattle.cal_bytes.specs.declared.whole.WholeFault.{WholeFault}
 use Rattle.cal_report.specs.TimerReport.{IsHad}
 use Rattle.cal_request.specs.Request.{Asked, is_timer}
 use Rattle.cal_bytes.specs.Bytes.{AppendsFront, Writes}
-use Rattle.cal_report.specs.Report.{ByReading, IsReported, ReadsIf, Report, base_in, reads_input, report, texts_report, whole_report}
+use Rattle.cal_report.specs.Report.{ByReading, IsReported, ReadsIf, base_in, report, texts_report, whole_report}
 use Rattle.cal_request.specs.declared.request.RunFault.{RunFault}
 use Rattle.cal_request.specs.declared.request.Status.{Status}
 use Rattle.cal_request.specs.declared.request.Status.TheVariants.{Fine, Refused}

@@ -13,6 +13,7 @@ use Rattle.cal_zone.specs.InstantText.{instant_text}
 use Rattle.cal_zone.specs.declared.zone.Zone.{Zone}
 use Rattle.cal_elapse.specs.Elapses.{AreElapses, Timed}
 use Rattle.cal_report.specs.ElapseLines.{elapse_text, elapse_texts, elapses_text, label_text}
+use Rattle.cal_spec.specs.ZoneSuffix.{Suffix, of_name, ahead}
 use Rattle.cal_report.specs.Headline.{AreReportsOf, Expression, IsAccepted, IsFileOf, IsReportOf, IsZoneFor, headings, meaning}
 use Rattle.cal_report.specs.Report.{ByReading, IsReported, base_in, report}
 use Rattle.cal_report.specs.ReportLines.{distance_text, micros_of, utc_line}
@@ -282,10 +283,11 @@ elapses_from : (ts : List Timed) (base from : ℤ) (n : ℕ) (xs : List ℤ) (k 
 elapses_from ts base from n xs zero h after = subst (λ (b : ℤ). AreElapses ts b xs) (sym after) h
 elapses_from ts base from n xs (suc k) h after = goes_on ts base from xs k h (get_of_taken n xs k from after)
 
-zone_again : (asked again : Asked) (name : Option (List ℕ)) (tz : TimeZone) → again.local ≡ asked.local → again.zones ≡ asked.zones
-    → IsZoneFor asked name tz → IsZoneFor again name tz
+zone_again : (asked again : Asked) (suffix : Option Suffix) (tz : TimeZone) → again.local ≡ asked.local → again.zones ≡ asked.zones
+    → IsZoneFor asked suffix tz → IsZoneFor again suffix tz
 zone_again asked again None tz local zones h = rw local h
-zone_again asked again (Some name) tz local zones h = rw zones h
+zone_again asked again (Some (of_name name)) tz local zones h = rw zones h
+zone_again asked again (Some (ahead seconds)) tz local zones h = h
 
 module _ (asked : Asked) (base : ℤ) (shown : List ℤ) (k : ℕ) (again : Asked) (begun : IsBegunAgain asked base shown k again) where
   accepted_again : (e : Expression) → IsAccepted asked e → IsAccepted again e

@@ -183,7 +183,7 @@ unfolding every_second
 every_second-spelled = record {
   raw = every_second;
   valid = valid_found (codes "*:*:*") every_second every_second-read;
-  normal = record { weekdays = refl; year = refl; month = refl; day = refl; hour = refl; minute = refl; second = refl; from_end = refl; name = refl };
+  normal = record { weekdays = refl; year = refl; month = refl; day = refl; hour = refl; minute = refl; second = refl; from_end = refl; suffix = refl };
 }
 
 -- Mon 2024-01-01 12:30:00 is the present

@@ -3,6 +3,7 @@ use Rattle.std.specs.Prelude.{ℕ, ℤ, List, [], ◌∷◌, take, Option, None,
 use Rattle.jiff.specs.Types.{TimeZone}
 use Rattle.cal_bytes.specs.Bytes.{joined}
 use Rattle.cal_zone.specs.Zone.{zone_of}
+use Rattle.cal_zone.specs.ZoneAhead.{zone_ahead}
 use Rattle.cal_zone.specs.ZoneTable.{zone_named}
 use Rattle.cal_elapse.specs.Elapses.{elapses_after}
 use Rattle.cal_elapse.specs.Timed.{timed}
@@ -10,6 +11,7 @@ use Rattle.cal_spec.specs.Expr.{expr_in}
 use Rattle.cal_spec.specs.ExprText.{expr_text}
 use Rattle.cal_spec.specs.Fields.{Fields}
 use Rattle.cal_spec.specs.SpecFault.{words_of}
+use Rattle.cal_spec.specs.ZoneSuffix.{Suffix, of_name, ahead}
 use Rattle.cal_spec.specs.declared.spec_fault.SpecFault.{SpecFault}
 use Rattle.cal_report.specs.Answer.{Answer}
 use Rattle.cal_report.specs.ElapseLines.{elapses_text}
@@ -34,10 +36,12 @@ report_of_elapses asked text fields elapses =
 unfoldable pub calendar_report : Asked → ℤ → List ℕ → Fields → TimeZone → List ℕ
 calendar_report asked base text fields tz = report_of_elapses asked text fields (elapses_after (timed fields tz ∷ []) base)
 
--- the zone of an expression: the one that it names, which may not be there, or else the local one
-unfoldable pub zone_for : Asked → Option (List ℕ) → Option TimeZone
+-- the zone of an expression: the one that it names, which may not be there, the clock at the offset that it has, or else
+-- the local one
+unfoldable pub zone_for : Asked → Option Suffix → Option TimeZone
 zone_for asked None = Some (zone_of asked.local)
-zone_for asked (Some name) = zone_named asked.zones name
+zone_for asked (Some (of_name name)) = zone_named asked.zones name
+zone_for asked (Some (ahead seconds)) = Some (zone_ahead seconds)
 
 -- the report of an expression whose zone is there
 abbrev pub answer_in : Asked → ℤ → List ℕ → Fields → Option TimeZone → Answer

@@ -5,9 +5,11 @@ use Rattle.std.specs.List.{AllByRecursion, AllZip, flat_map, join_by}
 use Rattle.std.specs.Str.{is_utf8}
 use Rattle.jiff.specs.Types.{TimeZone}
 use Rattle.cal_zone.specs.Zone.{zone_of}
+use Rattle.cal_zone.specs.ZoneAhead.{zone_ahead}
 use Rattle.cal_zone.specs.ZoneTable.{zone_named}
 use Rattle.cal_lines.specs.Lines.{logical_lines}
 use Rattle.cal_spec.specs.Fields.{Fields}
+use Rattle.cal_spec.specs.ZoneSuffix.{Suffix, of_name, ahead}
 use Rattle.cal_spec.specs.GrammarRule.{IsValid}
 use Rattle.cal_spec.specs.NormalForm.{IsNormalFieldsOf}
 use Rattle.cal_elapse.specs.Elapses.{AreElapses, Timed}
@@ -30,10 +32,11 @@ pub record Expression : Type 0 where
 abbrev pub meaning : Expression → Timed
 meaning e = timed e.fields e.tz
 
--- the zone is the one of that name in the table, or the local one where none is named
-abbrev pub IsZoneFor : Asked → Option (List ℕ) → TimeZone → Type 0
+-- the zone is the one of that name in the table, the clock at that offset, or the local one where none is written
+abbrev pub IsZoneFor : Asked → Option Suffix → TimeZone → Type 0
 IsZoneFor asked None tz = tz ≡ zone_of asked.local
-IsZoneFor asked (Some name) tz = zone_named asked.zones name ≡ Some tz
+IsZoneFor asked (Some (of_name name)) tz = zone_named asked.zones name ≡ Some tz
+IsZoneFor asked (Some (ahead seconds)) tz = tz ≡ zone_ahead seconds
 
 -- the text is an expression by the grammar's rule, and the fields are the normal form of those that the rule gives it
 pub record Spells (text : List ℕ) (fields : Fields) : Type 0 where

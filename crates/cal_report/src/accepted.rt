@@ -134,11 +134,15 @@ fn read_calendar<'a>(
     }
 }
 
-/// The zone of an expression: the one that it names, which may not be there, or else the local one.
+/// The zone of an expression: the one that it names, which may not be there, the clock at the offset that it has, or else
+/// the local one. An offset is never looked up.
 #[tactic(auto, unfolding(crate::specs::CalendarReport::zone_for))]
 pub fn zone_for<'a>(context: Context<'a>, expr: &Expr) -> Option<Zone<'a>>
     ensures { option_map zone_of result ≡ zone_for (asked_by context.entry) expr.now.zone }
 {
+    if let Some(seconds) = expr.zone_offset() {
+        return Some(Zone::offset(seconds));
+    }
     match expr.zone_name() {
         Some(name) => context.table.find(name),
         None => Some(context.local),
