@@ -8,6 +8,7 @@ pub mod StampPrintedTexts
 mod StampRows
 pub mod StampRule
 pub mod StampText
+mod StampZoneRows
 pub mod TimerLemmas
 pub mod TimerRows
 pub mod TimerRuleLemmas

@@ -9,9 +9,11 @@ use Rattle.jiff_core.specs.Weekday.{monday_zero}
 use Rattle.cal_zone.specs.declared.moment.TheConstants.Moment.{LAST}
 use Rattle.cal_span.specs.declared.span.fault.SpanFault.{SpanFault}
 use Rattle.cal_zone.specs.Local.{day_of}
+use Rattle.cal_zone.specs.OffsetWord.{offset_in}
 use Rattle.cal_zone.specs.Place.{settle_of}
 use Rattle.cal_span.specs.SpanValue.{span_of}
 use Rattle.cal_zone.specs.Zone.{local_of}
+use Rattle.cal_zone.specs.ZoneAhead.{zone_ahead}
 use Rattle.cal_zone.specs.ZoneName.{begins_with_letter}
 use Rattle.cal_spec.specs.DateAndTime.{is_colon}
 use Rattle.cal_spec.specs.Weekdays.{day_named}
@@ -75,6 +77,31 @@ zone_found (Some zone) (w ∷ ws) = Err StrayWord
 abbrev pub zone_by_words : Setting → List (List ℕ) → Result TimeZone StampFault
 zone_by_words at [] = Ok at.local
 zone_by_words at (w ∷ ws) = if begins_with_letter w then zone_found (at.find w) ws else Err StrayWord
+
+-- a name that has a zone
+abbrev pub name_found : Option TimeZone → Result TimeZone StampFault
+name_found None = Err NoSuchZone
+name_found (Some zone) = Ok zone
+
+-- a word that is an offset; any other word has no place here
+abbrev pub offset_found : Option ℤ → Result TimeZone StampFault
+offset_found None = Err StrayWord
+offset_found (Some seconds) = Ok (zone_ahead seconds)
+
+-- the zone that a word means: a word that begins with a letter is a name, and any other must be an offset, `+hh:mm` or
+-- `-hh:mm`
+abbrev pub zone_meant : (List ℕ → Option TimeZone) → List ℕ → Result TimeZone StampFault
+zone_meant find w = if begins_with_letter w then name_found (find w) else offset_found (offset_in w)
+
+-- no word stands after a zone
+abbrev pub zone_alone : TimeZone → List (List ℕ) → Result TimeZone StampFault
+zone_alone zone [] = Ok zone
+zone_alone zone (w ∷ ws) = Err StrayWord
+
+-- no word, which means the local zone, or one that means a zone
+abbrev pub zone_in : Setting → List (List ℕ) → Result TimeZone StampFault
+zone_in at [] = Ok at.local
+zone_in at (w ∷ ws) = zone_meant at.find w >>= λ zone. zone_alone zone ws
 
 -- a civil time as it is written
 pub record Written : Type 0 where

@@ -3,6 +3,8 @@
 use Rattle.std.specs.Prelude.{ℕ, ◌≡◌, ◌⊎◌, ◌||◌, true, ℤ, List, [], ◌∷◌, ◌++◌, Option, None, Some, is_some, Ok, Err}
 use Rattle.std.specs.Option.{option_to_list}
 use Rattle.jiff.specs.Types.{TimeZone, Weekday}
+use Rattle.cal_zone.specs.OffsetWord.{IsOffsetWord}
+use Rattle.cal_zone.specs.ZoneAhead.{zone_ahead}
 use Rattle.cal_zone.specs.ZoneName.{begins_with_letter}
 use Rattle.cal_spec.specs.Weekdays.{day_named}
 use Rattle.cal_read.specs.Stamp.{Setting, Written}
@@ -30,6 +32,12 @@ WritesTime (Some word) micros = time_written word ≡ Ok micros
 abbrev pub NamesZone : Setting → Option (List ℕ) → TimeZone → Type 0
 NamesZone at None zone = zone ≡ at.local
 NamesZone at (Some word) zone = (begins_with_letter word ≡ true) × (at.find word ≡ Some zone)
+
+-- a name of the table, or an offset
+abbrev pub MeansZone : (List ℕ → Option TimeZone) → List ℕ → TimeZone → Type 0
+MeansZone find word zone =
+    ((begins_with_letter word ≡ true) × (find word ≡ Some zone))
+    ⊎ ((seconds : ℤ) × IsOffsetWord word seconds × (zone ≡ zone_ahead seconds))
 
 -- `[weekday] [date] [time] [zone]`, of which date or time must be there
 pub record IsCivilTime (at : Setting) (words : List (List ℕ)) (c : Written) : Type 0 where
