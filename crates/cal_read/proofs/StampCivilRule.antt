@@ -1,5 +1,5 @@
 -- That the civil times that are read are those of the rule.
-use Rattle.std.proofs.Common.{ℕ, ◌<◌, ◌≡◌, Bool, true, false, ◌&&◌, ◌||◌, List, [], ◌∷◌, ◌++◌, length, refl, sym, ap, ◌∙◌, arith, Option, Some, None, Ok, Err, ℤ}
+use Rattle.std.proofs.Common.{ℕ, ◌<◌, ◌≡◌, Bool, inl, inr, true, false, ◌&&◌, ◌||◌, List, [], ◌∷◌, ◌++◌, length, refl, sym, ap, ◌∙◌, arith, Option, Some, None, Ok, Err, ℤ}
 use Rattle.std.specs.Prelude.{Result, nat_le, is_some}
 use Rattle.std.specs.Char.{is_ascii_digit, is_ascii_alphabetic}
 use Rattle.std.specs.List.{list_all, list_any, slice_split, join_with_byte}
@@ -9,11 +9,14 @@ use Rattle.std.proofs.lemmas.Bool.Decides.{nat_tests}
 use Rattle.std.proofs.lemmas.List.Folds.{list_any-append}
 use Rattle.std.proofs.lemmas.List.Splits.{join_with_byte-slice_split}
 use Rattle.jiff.specs.Types.{TimeZone, Weekday}
+use Rattle.cal_zone.proofs.OffsetWordLemmas.{offset-found, offset-only}
+use Rattle.cal_zone.specs.OffsetWord.{IsOffsetWord, offset_in}
+use Rattle.cal_zone.specs.ZoneAhead.{zone_ahead}
 use Rattle.cal_zone.specs.ZoneName.{begins_with_letter}
 use Rattle.cal_spec.specs.DateAndTime.{is_colon}
 use Rattle.cal_spec.specs.Weekdays.{day_named}
-use Rattle.cal_read.specs.Stamp.{◌>>=◌, Setting, Written, begins_with_digit, zone_by_words, zone_found, written_in, after_date, after_weekday, weekday_found, civil_time}
-use Rattle.cal_read.specs.StampCivilRule.{IsCivilTime, NamesWeekday, WritesDate, WritesTime, NamesZone}
+use Rattle.cal_read.specs.Stamp.{◌>>=◌, Setting, Written, begins_with_digit, name_found, offset_found, zone_meant, zone_alone, zone_by_words, written_in, after_date, after_weekday, weekday_found, civil_time}
+use Rattle.cal_read.specs.StampCivilRule.{IsCivilTime, MeansZone, NamesWeekday, WritesDate, WritesTime, NamesZone}
 use Rattle.cal_read.specs.StampDate.{DateNumbers, is_hyphen, digits_number, date_by, date_of_pieces, date_numbers, day_due, day_written}
 use Rattle.cal_read.specs.StampTime.{up_to, clock_number, time_by, time_of_pieces, time_numbers, time_due, time_written}
 use Rattle.cal_read.specs.declared.stamp.fault.StampFault.{StampFault}
@@ -59,6 +62,23 @@ no_letter_first (b ∷ bs) h = digit_no_letter b h
 no_digit_first : (word : List ℕ) → begins_with_letter word ≡ true → begins_with_digit word ≡ false
 no_digit_first [] h = refl
 no_digit_first (b ∷ bs) h = letter_no_digit b h
+
+-- a sign is neither a letter nor a digit
+offset_begins : (word : List ℕ) (seconds : ℤ) → IsOffsetWord word seconds → begins_with_letter word ≡ false
+offset_begins word seconds h = elim h.signed [
+  | inl east ↦ rw east.0 refl
+  | inr west ↦ rw west.0 refl
+]
+
+offset_no_digit : (word : List ℕ) (seconds : ℤ) → IsOffsetWord word seconds → begins_with_digit word ≡ false
+offset_no_digit word seconds h = elim h.signed [
+  | inl east ↦ rw east.0 refl
+  | inr west ↦ rw west.0 refl
+]
+
+zone_begins : (find : List ℕ → Option TimeZone) (word : List ℕ) (zone : TimeZone) → MeansZone find word zone → begins_with_digit word ≡ false
+zone_begins find word zone (inl name) = no_digit_first word name.0
+zone_begins find word zone (inr offset) = offset_no_digit word offset.0 offset.1
 
 -- the numbers of a date's pieces
 record AreDatePieces (word : List ℕ) : Type 0 where
@@ -144,9 +164,14 @@ time_begins word micros h =
 
 -- Words of the rule are read
 
+means_from : (find : List ℕ → Option TimeZone) (word : List ℕ) (zone : TimeZone) → MeansZone find word zone → zone_meant find word ≡ Ok zone
+means_from find word zone (inl name) = rw (name.0, name.1) refl
+means_from find word zone (inr offset) =
+    rw (offset_begins word offset.0 offset.1, offset-only word offset.0 offset.1, offset.2) refl
+
 zone_from : (at : Setting) (name : Option (List ℕ)) (zone : TimeZone) → NamesZone at name zone → zone_by_words at (option_to_list name) ≡ Ok zone
 zone_from at None zone h = ap Ok (sym h)
-zone_from at (Some word) zone h = rw (h.0, h.1) refl
+zone_from at (Some word) zone h = rw (means_from at.find word zone h) refl
 
 written_from : (at : Setting) (weekday : Option Weekday) (day : Option ℤ) (micros : ℕ) (name : Option (List ℕ)) (zone : TimeZone) → NamesZone at name zone
     → written_in at weekday day micros (option_to_list name) ≡ Ok (record { weekday = weekday; day = day; micros = micros; zone = zone })
@@ -157,7 +182,7 @@ after_date_from : (at : Setting) (weekday : Option Weekday) (day : ℤ) (time na
 after_date_from at weekday day None None micros zone t z =
     rw t (written_from at weekday (Some day) 0 None zone z)
 after_date_from at weekday day None (Some word) micros zone t z =
-    rw (t, no_digit_first word z.0) (written_from at weekday (Some day) 0 (Some word) zone z)
+    rw (t, zone_begins at.find word zone z) (written_from at weekday (Some day) 0 (Some word) zone z)
 after_date_from at weekday day (Some word) name micros zone t z =
     rw (time_begins word micros t, t) (written_from at weekday (Some day) micros name zone z)
 
@@ -190,15 +215,24 @@ record HasZone (at : Setting) (ws : List (List ℕ)) (zone : TimeZone) : Type 0 
   whole : ws ≡ option_to_list name
   names : NamesZone at name zone
 
-zone_alone : (at : Setting) (w : List ℕ) (ws : List (List ℕ)) (zone : TimeZone) (found : Option TimeZone) → begins_with_letter w ≡ true → at.find w ≡ found → zone_found found ws ≡ Ok zone → HasZone at (w ∷ ws) zone
-zone_alone at w ws zone None letter e h = cc
-zone_alone at w [] zone (Some z) letter e h =
-    let same : z ≡ zone = cc in record { name = Some w; whole = refl; names = (letter, e ∙ ap Some same) }
-zone_alone at w (v ∷ vs) zone (Some z) letter e h = cc
+means_name : (find : List ℕ → Option TimeZone) (word : List ℕ) (zone : TimeZone) (found : Option TimeZone) → begins_with_letter word ≡ true → find word ≡ found → name_found found ≡ Ok zone → MeansZone find word zone
+means_name find word zone None letter e h = cc
+means_name find word zone (Some z) letter e h = let same : z ≡ zone = cc in inl (letter, e ∙ ap Some same)
 
-zone_by : (at : Setting) (w : List ℕ) (ws : List (List ℕ)) (zone : TimeZone) (test : Bool) → begins_with_letter w ≡ test → zone_by_words at (w ∷ ws) ≡ Ok zone → HasZone at (w ∷ ws) zone
-zone_by at w ws zone true e h = zone_alone at w ws zone _ e refl (rw e at h)
-zone_by at w ws zone false e h = let none = rw e at h in cc
+means_offset : (find : List ℕ → Option TimeZone) (word : List ℕ) (zone : TimeZone) (offset : Option ℤ) → offset_in word ≡ offset → offset_found offset ≡ Ok zone → MeansZone find word zone
+means_offset find word zone None e h = cc
+means_offset find word zone (Some seconds) e h =
+    let same : zone_ahead seconds ≡ zone = cc in inr (seconds, offset-found word seconds e, sym same)
+
+means_by : (find : List ℕ → Option TimeZone) (word : List ℕ) (zone : TimeZone) (test : Bool) → begins_with_letter word ≡ test → zone_meant find word ≡ Ok zone → MeansZone find word zone
+means_by find word zone true e h = means_name find word zone _ e refl (rw e at h)
+means_by find word zone false e h = means_offset find word zone _ refl (rw e at h)
+
+zone_by : (at : Setting) (w : List ℕ) (ws : List (List ℕ)) (zone : TimeZone) (meant : Result TimeZone StampFault) → zone_meant at.find w ≡ meant → (meant >>= λ z. zone_alone z ws) ≡ Ok zone → HasZone at (w ∷ ws) zone
+zone_by at w ws zone (Err fault) e h = cc
+zone_by at w [] zone (Ok z) e h =
+    record { name = Some w; whole = refl; names = means_by at.find w zone _ refl (e ∙ h) }
+zone_by at w (v ∷ vs) zone (Ok z) e h = cc
 
 zone_of_words : (at : Setting) (ws : List (List ℕ)) (zone : TimeZone) → zone_by_words at ws ≡ Ok zone → HasZone at ws zone
 zone_of_words at [] zone h = let same : at.local ≡ zone = cc in record { name = None; whole = refl; names = sym same }

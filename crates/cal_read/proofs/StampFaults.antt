@@ -5,10 +5,11 @@ use Rattle.std.specs.List.{list_any}
 use Rattle.jiff.specs.Types.{TimeZone, Weekday}
 use Rattle.cal_span.specs.declared.span.fault.SpanFault.{SpanFault}
 use Rattle.cal_span.specs.SpanValue.{span_of}
+use Rattle.cal_zone.specs.OffsetWord.{offset_in}
 use Rattle.cal_zone.specs.ZoneName.{begins_with_letter}
 use Rattle.cal_spec.specs.DateAndTime.{is_colon}
 use Rattle.cal_spec.specs.Weekdays.{day_named}
-use Rattle.cal_read.specs.Stamp.{◌>>=◌, Setting, Written, in_moments, after_second, before_second, settled, today, zone_by_words, zone_found, written_in, begins_with_digit, after_date, after_weekday, weekday_found, civil_time, moment_of_written, moment_of_form, moment_in}
+use Rattle.cal_read.specs.Stamp.{◌>>=◌, Setting, Written, in_moments, after_second, before_second, settled, today, name_found, offset_found, zone_meant, zone_alone, zone_by_words, written_in, begins_with_digit, after_date, after_weekday, weekday_found, civil_time, moment_of_written, moment_of_form, moment_in}
 use Rattle.cal_read.specs.StampCivilRule.{HasNoSuchDate}
 use Rattle.cal_read.specs.StampDate.{day_written}
 use Rattle.cal_read.specs.StampForm.{Form, nothing, present, later, earlier, counted, from_today, civil, form_of}
@@ -46,18 +47,26 @@ no_time_written : (word : List ℕ) → time_written word ≡ Err NoSuchDate →
 unfolding time_written
 no_time_written word h = no_time (time_numbers word) h
 
-no_zone_found : (found : Option TimeZone) (ws : List (List ℕ)) → zone_found found ws ≡ Err NoSuchDate → ⊥
-no_zone_found None ws h = cc
-no_zone_found (Some zone) [] h = cc
-no_zone_found (Some zone) (w ∷ ws) h = cc
+no_name : (found : Option TimeZone) → name_found found ≡ Err NoSuchDate → ⊥
+no_name None h = cc
+no_name (Some zone) h = cc
 
-no_zone_by : (at : Setting) (w : List ℕ) (ws : List (List ℕ)) (test : Bool) → begins_with_letter w ≡ test → zone_by_words at (w ∷ ws) ≡ Err NoSuchDate → ⊥
-no_zone_by at w ws true e h = no_zone_found (at.find w) ws (rw e at h)
-no_zone_by at w ws false e h = let other = rw e at h in cc
+no_offset : (offset : Option ℤ) → offset_found offset ≡ Err NoSuchDate → ⊥
+no_offset None h = cc
+no_offset (Some seconds) h = cc
+
+no_meant_by : (find : List ℕ → Option TimeZone) (w : List ℕ) (test : Bool) → begins_with_letter w ≡ test → zone_meant find w ≡ Err NoSuchDate → ⊥
+no_meant_by find w true e h = no_name (find w) (rw e at h)
+no_meant_by find w false e h = no_offset (offset_in w) (rw e at h)
+
+no_zone_by : (ws : List (List ℕ)) (meant : Result TimeZone StampFault) → (meant ≡ Err NoSuchDate → ⊥) → (meant >>= λ zone. zone_alone zone ws) ≡ Err NoSuchDate → ⊥
+no_zone_by ws (Err fault) never h = never h
+no_zone_by [] (Ok zone) never h = cc
+no_zone_by (w ∷ ws) (Ok zone) never h = cc
 
 no_zone : (at : Setting) (ws : List (List ℕ)) → zone_by_words at ws ≡ Err NoSuchDate → ⊥
 no_zone at [] h = cc
-no_zone at (w ∷ ws) h = no_zone_by at w ws _ refl h
+no_zone at (w ∷ ws) h = no_zone_by ws (zone_meant at.find w) (no_meant_by at.find w _ refl) h
 
 no_written_by : (weekday : Option Weekday) (day : Option ℤ) (micros : ℕ) (zone : Result TimeZone StampFault) → (zone ≡ Err NoSuchDate → ⊥)
     → ◌≡◌ {A = Result Written StampFault} (zone >>= λ z. Ok (record { weekday = weekday; day = day; micros = micros; zone = z })) (Err NoSuchDate) → ⊥

@@ -1,15 +1,20 @@
 -- Worked texts, computed by the definitions: the present is Fri 2012-11-23 10:15:22 UTC.
-use Rattle.std.proofs.Common.{◌≡◌, ℕ, ℤ, pos, codes, refl, Ok, Err, List, Some, None, if◌then◌else◌}
+use Rattle.std.proofs.Common.{◌≡◌, ℕ, ℤ, pos, codes, refl, arith, Ok, Err, List, Some, None, if◌then◌else◌}
 use Rattle.std.specs.Prelude.{Result}
+use Rattle.jiff.proofs.SpanFacts.{signed_arith}
 use Rattle.jiff.specs.Types.{UTC}
 use Rattle.jiff.specs.Words.{offset_at, ambiguous_at}
-use Rattle.jiff_core.specs.Calendar.{weekday_number}
-use Rattle.cal_span.specs.declared.span.fault.SpanFault.TheVariants.{UnknownUnit, Empty as NoPair}
+use Rattle.jiff_core.proofs.CalendarLemmas.{days_from_civil-day_count}
+use Rattle.jiff_core.proofs.MarchLemmas.{day_count-late}
+use Rattle.jiff_core.specs.Calendar.{days_from_civil, weekday_number}
+use Rattle.cal_span.specs.declared.span.fault.SpanFault.TheVariants.{BadNumber, UnknownUnit, Empty as NoPair}
+use Rattle.cal_zone.specs.OffsetWord.{clock_in, offset_in, two_digits}
 use Rattle.cal_zone.specs.Place.{datetime_of, settle_of}
 use Rattle.cal_span.specs.Scale.{words_for}
 use Rattle.cal_span.specs.SpanValue.{span_of, pairs_in, words_in, worth_of, is_number, number_worth, unit_named}
 use Rattle.cal_zone.specs.Weekday.{name_of}
 use Rattle.cal_zone.specs.Zone.{local_of}
+use Rattle.cal_zone.specs.ZoneAhead.{offset_of_seconds, zone_ahead}
 use Rattle.cal_zone.specs.ZoneName.{is_utc_name}
 use Rattle.cal_spec.specs.Weekdays.{day_named}
 use Rattle.cal_spec.specs.Words.{words}
@@ -116,7 +121,7 @@ unfolding moment_in form_of solid form_by_end day_shift words in_moments today s
 row_21 = refl
 
 row_22 : Means (codes "tomorrow 12:00") (Err StrayWord)
-unfolding moment_in form_of solid form_by_end day_shift words in_moments today settled moment_of_written day_written date_numbers digits_number day_number time_written time_numbers clock_number second_written fraction_in day_named name_of span_of pairs_in words_in worth_of is_number number_worth unit_named words_for local_of offset_at settle_of ambiguous_at datetime_of weekday_number is_utc_name
+unfolding moment_in form_of solid form_by_end day_shift words in_moments today settled moment_of_written day_written date_numbers digits_number day_number time_written time_numbers clock_number second_written fraction_in day_named name_of span_of pairs_in words_in worth_of is_number number_worth unit_named words_for local_of offset_at settle_of ambiguous_at datetime_of weekday_number is_utc_name offset_in
 row_22 = refl
 
 row_23 : Means (codes "Thu") (Err BadDate)
@@ -126,3 +131,52 @@ row_23 = refl
 row_24 : Means (codes "Mon, 2012-11-26") (Err BadWeekday)
 unfolding moment_in form_of solid form_by_end day_shift words in_moments today settled moment_of_written day_written date_numbers digits_number day_number time_written time_numbers clock_number second_written fraction_in day_named name_of span_of pairs_in words_in worth_of is_number number_worth unit_named words_for local_of offset_at settle_of ambiguous_at datetime_of weekday_number is_utc_name
 row_24 = refl
+
+-- the numbers of two days: no row counts the years up to them
+the_23rd : days_from_civil (pos 2_012) 11 23 ≡ pos 15_667
+the_23rd =
+    omega (arith, signed_arith, days_from_civil-day_count (pos 2_012) 11 23, day_count-late (pos 2_012) 12_012 11 23 refl (omega arith) (omega arith) (omega arith))
+
+the_22nd : days_from_civil (pos 2_012) 11 22 ≡ pos 15_666
+the_22nd =
+    omega (arith, signed_arith, days_from_civil-day_count (pos 2_012) 11 22, day_count-late (pos 2_012) 12_012 11 22 refl (omega arith) (omega arith) (omega arith))
+
+row_25 : Means (codes "2012-11-23 11:12 +08:00") (Ok (pos 1_353_640_320_000_000))
+unfolding moment_in form_of solid form_by_end day_shift words in_moments today settled moment_of_written day_written date_numbers digits_number day_number time_written time_numbers clock_number second_written fraction_in day_named name_of span_of pairs_in words_in worth_of is_number number_worth unit_named words_for local_of offset_at settle_of ambiguous_at datetime_of weekday_number is_utc_name offset_in clock_in two_digits zone_ahead offset_of_seconds
+row_25 = rw the_23rd refl
+
+row_26 : Means (codes "today +08:00") (Ok (pos 1_353_600_000_000_000))
+unfolding moment_in form_of solid form_by_end day_shift words in_moments today settled moment_of_written day_written date_numbers digits_number day_number time_written time_numbers clock_number second_written fraction_in day_named name_of span_of pairs_in words_in worth_of is_number number_worth unit_named words_for local_of offset_at settle_of ambiguous_at datetime_of weekday_number is_utc_name offset_in clock_in two_digits zone_ahead offset_of_seconds
+row_26 = refl
+
+row_27 : Means (codes "2012-11-23 +08:00") (Ok (pos 1_353_600_000_000_000))
+unfolding moment_in form_of solid form_by_end day_shift words in_moments today settled moment_of_written day_written date_numbers digits_number day_number time_written time_numbers clock_number second_written fraction_in day_named name_of span_of pairs_in words_in worth_of is_number number_worth unit_named words_for local_of offset_at settle_of ambiguous_at datetime_of weekday_number is_utc_name offset_in clock_in two_digits zone_ahead offset_of_seconds
+row_27 = rw the_23rd refl
+
+row_28 : Means (codes "2012-11-22 23:00:01.5 -01:00") (Ok (pos 1_353_628_801_500_000))
+unfolding moment_in form_of solid form_by_end day_shift words in_moments today settled moment_of_written day_written date_numbers digits_number day_number time_written time_numbers clock_number second_written fraction_in day_named name_of span_of pairs_in words_in worth_of is_number number_worth unit_named words_for local_of offset_at settle_of ambiguous_at datetime_of weekday_number is_utc_name offset_in clock_in two_digits zone_ahead offset_of_seconds
+row_28 = rw the_22nd refl
+
+row_29 : Means (codes "Fri +02:00") (Err BadTime)
+unfolding moment_in form_of solid form_by_end day_shift words in_moments today settled moment_of_written day_written date_numbers digits_number day_number time_written time_numbers clock_number second_written fraction_in day_named name_of span_of pairs_in words_in worth_of is_number number_worth unit_named words_for local_of offset_at settle_of ambiguous_at datetime_of weekday_number is_utc_name offset_in clock_in two_digits zone_ahead offset_of_seconds
+row_29 = refl
+
+row_30 : Means (codes "2012-11-23 +8") (Err StrayWord)
+unfolding moment_in form_of solid form_by_end day_shift words in_moments today settled moment_of_written day_written date_numbers digits_number day_number time_written time_numbers clock_number second_written fraction_in day_named name_of span_of pairs_in words_in worth_of is_number number_worth unit_named words_for local_of offset_at settle_of ambiguous_at datetime_of weekday_number is_utc_name offset_in clock_in two_digits zone_ahead offset_of_seconds
+row_30 = refl
+
+row_31 : Means (codes "+02:00") (Err (BadSpan BadNumber))
+unfolding moment_in form_of solid form_by_end day_shift words in_moments today settled moment_of_written day_written date_numbers digits_number day_number time_written time_numbers clock_number second_written fraction_in day_named name_of span_of pairs_in words_in worth_of is_number number_worth unit_named words_for local_of offset_at settle_of ambiguous_at datetime_of weekday_number is_utc_name offset_in clock_in two_digits zone_ahead offset_of_seconds
+row_31 = refl
+
+row_32 : Means (codes "2012-11-23 +02:00 UTC") (Err StrayWord)
+unfolding moment_in form_of solid form_by_end day_shift words in_moments today settled moment_of_written day_written date_numbers digits_number day_number time_written time_numbers clock_number second_written fraction_in day_named name_of span_of pairs_in words_in worth_of is_number number_worth unit_named words_for local_of offset_at settle_of ambiguous_at datetime_of weekday_number is_utc_name offset_in clock_in two_digits zone_ahead offset_of_seconds
+row_32 = refl
+
+row_33 : Means (codes "2012-11-23 +02:00 12:00") (Err StrayWord)
+unfolding moment_in form_of solid form_by_end day_shift words in_moments today settled moment_of_written day_written date_numbers digits_number day_number time_written time_numbers clock_number second_written fraction_in day_named name_of span_of pairs_in words_in worth_of is_number number_worth unit_named words_for local_of offset_at settle_of ambiguous_at datetime_of weekday_number is_utc_name offset_in clock_in two_digits zone_ahead offset_of_seconds
+row_33 = refl
+
+row_34 : Means (codes "today +26:00") (Err StrayWord)
+unfolding moment_in form_of solid form_by_end day_shift words in_moments today settled moment_of_written day_written date_numbers digits_number day_number time_written time_numbers clock_number second_written fraction_in day_named name_of span_of pairs_in words_in worth_of is_number number_worth unit_named words_for local_of offset_at settle_of ambiguous_at datetime_of weekday_number is_utc_name offset_in clock_in two_digits zone_ahead offset_of_seconds
+row_34 = refl

@@ -5,7 +5,7 @@ use Rattle.jiff.specs.Types.{TimeZone, UTC}
 use Rattle.cal_zone.specs.OffsetWord.{clock_in, offset_in, two_digits}
 use Rattle.cal_zone.specs.ZoneAhead.{zone_ahead}
 use Rattle.cal_zone.specs.ZoneName.{is_utc_name}
-use Rattle.cal_read.specs.Stamp.{Setting, zone_in}
+use Rattle.cal_read.specs.Stamp.{Setting, zone_by_words}
 use Rattle.cal_read.specs.declared.stamp.fault.StampFault.{StampFault}
 use Rattle.cal_read.specs.declared.stamp.fault.StampFault.TheVariants.{NoSuchZone, StrayWord}
 
@@ -14,7 +14,7 @@ abbrev in_utc : Setting
 in_utc = record { local = UTC; find = λ name. if is_utc_name name then Some UTC else None }
 
 abbrev Means : List (List ℕ) → Result TimeZone StampFault → Type 0
-Means words zone = zone_in in_utc words ≡ zone
+Means words zone = zone_by_words in_utc words ≡ zone
 
 abbrev one : List ℕ → List (List ℕ)
 one word = word ∷ []

@@ -68,16 +68,6 @@ settled zone day micros =
 
 -- Words
 
--- no word, or the name of a zone as the only one
-abbrev pub zone_found : Option TimeZone → List (List ℕ) → Result TimeZone StampFault
-zone_found None ws = Err NoSuchZone
-zone_found (Some zone) [] = Ok zone
-zone_found (Some zone) (w ∷ ws) = Err StrayWord
-
-abbrev pub zone_by_words : Setting → List (List ℕ) → Result TimeZone StampFault
-zone_by_words at [] = Ok at.local
-zone_by_words at (w ∷ ws) = if begins_with_letter w then zone_found (at.find w) ws else Err StrayWord
-
 -- a name that has a zone
 abbrev pub name_found : Option TimeZone → Result TimeZone StampFault
 name_found None = Err NoSuchZone
@@ -99,9 +89,9 @@ zone_alone zone [] = Ok zone
 zone_alone zone (w ∷ ws) = Err StrayWord
 
 -- no word, which means the local zone, or one that means a zone
-abbrev pub zone_in : Setting → List (List ℕ) → Result TimeZone StampFault
-zone_in at [] = Ok at.local
-zone_in at (w ∷ ws) = zone_meant at.find w >>= λ zone. zone_alone zone ws
+abbrev pub zone_by_words : Setting → List (List ℕ) → Result TimeZone StampFault
+zone_by_words at [] = Ok at.local
+zone_by_words at (w ∷ ws) = zone_meant at.find w >>= λ zone. zone_alone zone ws
 
 -- a civil time as it is written
 pub record Written : Type 0 where
@@ -110,7 +100,7 @@ pub record Written : Type 0 where
   pub micros : ℕ
   pub zone : TimeZone
 
--- with the zone that the words after it name
+-- with the zone that the words after it mean
 abbrev pub written_in : Setting → Option Weekday → Option ℤ → ℕ → List (List ℕ) → Result Written StampFault
 written_in at weekday day micros ws =
     zone_by_words at ws >>= λ zone. Ok (record { weekday = weekday; day = day; micros = micros; zone = zone })

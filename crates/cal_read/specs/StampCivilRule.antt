@@ -28,16 +28,16 @@ abbrev pub WritesTime : Option (List ℕ) → ℕ → Type 0
 WritesTime None micros = micros ≡ 0
 WritesTime (Some word) micros = time_written word ≡ Ok micros
 
--- no word, which means the local zone, or the name of a zone
-abbrev pub NamesZone : Setting → Option (List ℕ) → TimeZone → Type 0
-NamesZone at None zone = zone ≡ at.local
-NamesZone at (Some word) zone = (begins_with_letter word ≡ true) × (at.find word ≡ Some zone)
-
 -- a name of the table, or an offset
 abbrev pub MeansZone : (List ℕ → Option TimeZone) → List ℕ → TimeZone → Type 0
 MeansZone find word zone =
     ((begins_with_letter word ≡ true) × (find word ≡ Some zone))
     ⊎ ((seconds : ℤ) × IsOffsetWord word seconds × (zone ≡ zone_ahead seconds))
+
+-- no word, which means the local zone, or one that means a zone
+abbrev pub NamesZone : Setting → Option (List ℕ) → TimeZone → Type 0
+NamesZone at None zone = zone ≡ at.local
+NamesZone at (Some word) zone = MeansZone at.find word zone
 
 -- `[weekday] [date] [time] [zone]`, of which date or time must be there
 pub record IsCivilTime (at : Setting) (words : List (List ℕ)) (c : Written) : Type 0 where

@@ -23,7 +23,7 @@ IsNothing core form = (core ≡ []) × (form ≡ nothing)
 abbrev pub IsPresent : List ℕ → Form → Type 0
 IsPresent core form = (core ≡ codes "now") × (form ≡ present)
 
--- 3 and 4: a sign and a span text
+-- 3 and 4: a sign and a span text, so that no text begins with an offset
 abbrev pub IsBehindSign : List ℕ → (List ℕ → Form) → List ℕ → Form → Type 0
 IsBehindSign sign means core form = (span : List ℕ) × (core ≡ sign ++ span) × (form ≡ means span)
 
@@ -32,7 +32,7 @@ abbrev pub IsBeforeWord : List ℕ → (List ℕ → Form) → List ℕ → Form
 IsBeforeWord word means core form =
     (span : List ℕ) × (blank : ℕ) × (is_blank blank ≡ true) × (core ≡ span ++ (blank ∷ word)) × (form ≡ means span)
 
--- 6: a day's word, and the words after it
+-- 6: a day's word, and the words after it, which mean a zone
 abbrev pub IsNearDay : List ℕ → ℤ → List ℕ → Form → Type 0
 IsNearDay word shift core form =
     (after : List (List ℕ)) × (words core ≡ word ∷ after) × (form ≡ from_today shift after)

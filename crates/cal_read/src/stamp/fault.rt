@@ -23,9 +23,9 @@ pub enum StampFault {
     WrongWeekday,
     /// The text that is due a time span is none. Its number is 7.
     BadSpan(SpanFault),
-    /// There is no zone of that name. Its number is 8.
+    /// Where a zone may stand, a word begins with a letter and names none. Its number is 8.
     NoSuchZone,
-    /// A word is left over. Its number is 9.
+    /// A word is left over. So is one in a zone's place that begins with `+` or `-` and is no offset. Its number is 9.
     StrayWord,
     /// The time lies before the first moment or after the last. Its number is 10.
     OutOfRange,

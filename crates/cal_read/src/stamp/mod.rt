@@ -28,7 +28,8 @@ use cal_zone::{Instant, Moment, Zone, ZoneTable};
 
 /// The moment that a text means (systemd.time(7), Parsing Timestamps), by the first form that fits: nothing; `now`; a
 /// span text after `+`, `-` or `@`, or before `left` or `ago`; `today`, `yesterday` or `tomorrow` and a zone; or
-/// `[weekday] [date] [time] [zone]`.
+/// `[weekday] [date] [time] [zone]`. A zone is a name of the table, or an offset, `+hh:mm` or `-hh:mm`, with hh from 00 to
+/// 25 and mm from 00 to 59.
 ///
 /// The fault is that of the first word at fault, from the left; then comes `WrongWeekday`, and then `OutOfRange`.
 #[tactic(auto, unfolding(crate::specs::Stamp::moment_in))]
