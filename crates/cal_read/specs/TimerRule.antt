@@ -1,5 +1,5 @@
 -- The list of a timer file in the rule's own words, each as a law: systemd.timer(5), OnCalendar=; systemd.syntax(7).
-use Rattle.std.specs.Prelude.{◌≡◌, ◌<◌, ℕ, true, false, List, [], ◌∷◌, ◌++◌, length, None, Some, Result, Ok, Err}
+use Rattle.std.specs.Prelude.{◌≡◌, ◌<◌, ℕ, List, [], ◌∷◌, ◌++◌, length, None, Some, Result, Ok, Err}
 use Rattle.cal_spec.specs.declared.spec_fault.SpecFault.{SpecFault}
 use Rattle.cal_read.specs.Assignments.{Assigned}
 use Rattle.cal_read.specs.TimerText.{Entry, entries, fault_following}
