@@ -5,6 +5,7 @@ pub mod StampFaults
 pub mod StampLemmas
 pub mod StampPrinted
 pub mod StampPrintedTexts
+pub mod StampPrintedZones
 mod StampRows
 pub mod StampRule
 pub mod StampText

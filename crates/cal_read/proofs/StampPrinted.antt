@@ -1,58 +1,57 @@
--- An instant that is printed in UTC is read as that instant.
-use Rattle.std.proofs.Common.{◌≡◌, ℕ, ◌+◌, ◌-◌, ◌*◌, ◌/◌, ◌%◌, ◌<◌, ◌≤◌, true, false, inr, List, [], ◌∷◌, ◌++◌, length, get_or, codes, ℤ, pos, neg_ℤ, ◌+ℤ◌, ◌*ℤ◌, ◌<ℤ◌, ◌≤ℤ◌, Some, Ok, Err, refl, sym, ap, ◌∙◌, arith, append_assoc, append-nil, decimal, eq-eqb, length-append, leb-true, slice_index_or, unsigned_abs}
+-- An instant that is printed is read as that instant, where the clock shows whole minutes and a year that a date can have.
+use Rattle.std.proofs.Common.{◌≡◌, ℕ, ◌+◌, ◌-◌, ◌*◌, ◌/◌, ◌%◌, ◌<◌, ◌≤◌, true, false, inr, List, [], ◌∷◌, ◌++◌, length, get_or, codes, ℤ, pos, neg_ℤ, ◌+ℤ◌, ◌*ℤ◌, ◌≤ℤ◌, Option, Some, Ok, Err, refl, sym, ap, ◌∙◌, arith, append_assoc, append-nil, decimal, eq-eqb, length-append, leb-true, slice_index_or, unsigned_abs}
 use Rattle.std.specs.List.{list_any}
 use Rattle.std.proofs.Math.ListN.{get_or-append}
 use Rattle.std.proofs.Math.Seq.{get_or-append_right}
 use Rattle.std.proofs.lemmas.Bool.Decides.{nat_tests}
-use Rattle.std.proofs.lemmas.Int.{by_lt_z, ints}
+use Rattle.std.proofs.lemmas.Int.{ints}
 use Rattle.jiff.proofs.SpanFacts.{signed_arith}
 use Rattle.jiff.specs.Types.{Date, TimeZone, UTC, Weekday}
-use Rattle.jiff.specs.Words.{epoch_day, monday_zero, nanos_of_seconds, offset_at, weekday_of, IsBetween, IsEpochDay}
+use Rattle.jiff.specs.Words.{epoch_day, monday_zero, nanos_of_seconds, weekday_of, IsBetween}
 use Rattle.jiff_core.proofs.CalendarLemmas.{weekday_number_bound}
 use Rattle.jiff_core.specs.Calendar.{weekday_number}
 use Rattle.jiff_core.specs.declared.civil.weekday.Weekday.TheVariants.{Sunday}
 use Rattle.cal_zone.proofs.DayLemmas.{epoch_day-date_of}
-use Rattle.cal_zone.proofs.PlaceLemmas.{place_of-Some, place_of-UTC, settle_of-UTC}
-use Rattle.cal_zone.proofs.YearLemmas.{day_of_year, year-from_1970, year-to_2199}
+use Rattle.cal_zone.proofs.YearLemmas.{year-from_1969, year-from_1970, year-to_2199}
+use Rattle.cal_zone.proofs.ZoneLemmas.{offset_at-in_range}
 use Rattle.cal_zone.specs.Civil.{civil_of, fields_of}
 use Rattle.cal_zone.specs.Days.{date_of}
 use Rattle.cal_zone.specs.Instant.{IsInstant}
-use Rattle.cal_zone.specs.InstantText.{date_text, instant_text, shown_text, time_text, weekday_name, zone_word, zeros}
+use Rattle.cal_zone.specs.InstantText.{date_text, instant_text, shown_text, time_text, weekday_name, zeros}
 use Rattle.cal_zone.specs.Local.{IsLocalSecond, day_of, hour_of, minute_of, second_of, second_of_day}
 use Rattle.cal_zone.specs.Place.{settle_of}
 use Rattle.cal_zone.specs.Weekday.{short_name_of, week}
 use Rattle.cal_zone.specs.Zone.{local_of, utc, zone_of}
 use Rattle.cal_zone.specs.ZoneMap.{ZoneMap}
-use Rattle.cal_zone.specs.ZoneName.{is_utc_name}
 use Rattle.cal_zone.specs.ZoneTable.{zone_named}
 use Rattle.cal_zone.specs.declared.civil_fields.Civil.{Civil}
+use Rattle.cal_zone.specs.declared.zone.Zone.{Zone}
 use Rattle.cal_spec.proofs.WordsBetween.{words_only}
 use Rattle.cal_spec.specs.DateAndTime.{is_colon}
 use Rattle.cal_spec.specs.GrammarRule.{IsWord}
 use Rattle.cal_spec.specs.Words.{is_blank, words}
-use Rattle.cal_read.proofs.StampPrintedTexts.{IsClock, IsDayName, date_back, date_no_colon, date_solid, date_some, date_word, in_week, late_date_back, short_names, time_back, time_digit, time_solid, time_some, time_word, year_of}
+use Rattle.cal_read.proofs.StampPrintedTexts.{IsClock, IsDayName, date_back, date_no_colon, date_solid, date_some, date_word, in_week, other_date_back, short_names, time_back, time_digit, time_solid, time_some, time_word, year_of}
+use Rattle.cal_read.proofs.StampPrintedZones.{IsLastWord, last_byte, local_of-UTC, shown_last, shown_offset, shown_read, shown_unread, shown_word, utc_minutes}
 use Rattle.cal_read.proofs.StampRule.{only}
-use Rattle.cal_read.specs.Stamp.{◌>>=◌, Setting, after_date, begins_with_digit, civil_time, fits_weekday, in_moments, micros_of, moment_in, moment_of_form, moment_of_written, settled}
+use Rattle.cal_read.specs.Stamp.{◌>>=◌, Setting, after_date, begins_with_digit, civil_time, fits_weekday, in_moments, micros_of, moment_in, moment_of_form, moment_of_written, settled, written_in, zone_meant}
 use Rattle.cal_read.specs.StampDate.{day_written}
 use Rattle.cal_read.specs.StampForm.{Form, civil, counted, earlier, later}
+use Rattle.cal_read.specs.StampPrinted.{ShowsMinutes, ShowsYear}
 use Rattle.cal_read.specs.StampRule.{FitsByEnd, FitsBySign, FitsByWords, HasForm, IsBehindSign, IsBeforeWord, IsBetweenBlanks, IsNearDay}
 use Rattle.cal_read.specs.StampTime.{time_written}
 use Rattle.cal_read.specs.StampViews.{setting}
-use Rattle.cal_read.specs.declared.stamp.fault.StampFault.TheVariants.{NoSuchDate}
+use Rattle.cal_read.specs.declared.stamp.fault.StampFault.TheVariants.{NoSuchDate, StrayWord}
 
 -- The form of a line
 
-abbrev after_name : List ℕ → List ℕ → List ℕ
-after_name date time = 32 ∷ (date ++ (32 ∷ (time ++ (32 ∷ codes "UTC"))))
+abbrev after_name : List ℕ → List ℕ → List ℕ → List ℕ
+after_name date time zone = 32 ∷ (date ++ (32 ∷ (time ++ (32 ∷ zone))))
 
-abbrev line : List ℕ → List ℕ → List ℕ → List ℕ
-line name date time = name ++ after_name date time
+abbrev line : List ℕ → List ℕ → List ℕ → List ℕ → List ℕ
+line name date time zone = name ++ after_name date time zone
 
-abbrev line_words : List ℕ → List ℕ → List ℕ → List (List ℕ)
-line_words name date time = name ∷ date ∷ time ∷ codes "UTC" ∷ []
-
-abbrev last_byte : List ℕ → ℕ
-last_byte text = get_or text (length text - 1) 0
+abbrev line_words : List ℕ → List ℕ → List ℕ → List ℕ → List (List ℕ)
+line_words name date time zone = name ∷ date ∷ time ∷ zone ∷ []
 
 last_of : (front back : List ℕ) → 0 < length back → last_byte (front ++ back) ≡ last_byte back
 last_of front back some =
@@ -63,13 +62,17 @@ last_of front back some =
 capital_no_blank : (b : ℕ) → 65 ≤ b → is_blank b ≡ false
 capital_no_blank b h = grind (arith, nat_tests)
 
+last_no_blank : (b : ℕ) → 43 ≤ b → is_blank b ≡ false
+last_no_blank b h = grind (arith, nat_tests)
+
 -- what a text is not: one that begins with a sign, ends in a word or begins with the word of a day
 no_sign : (core : List ℕ) (sign : ℕ) (means : List ℕ → Form) → 65 ≤ get_or core 0 0 → sign < 65 → (other : Form) → IsBehindSign (sign ∷ []) means core other → ⊥
 no_sign core sign means capital below other p = absurd (omega (arith, capital, below, ap (λ t. get_or t 0 0) p.1))
 
-no_word : (core word : List ℕ) (means : List ℕ → Form) → last_byte core ≡ 67 → ((blank : ℕ) → last_byte (blank ∷ word) ≡ 67 → ⊥) → (other : Form) → IsBeforeWord word means core other → ⊥
+no_word : (core word : List ℕ) (means : List ℕ → Form) → last_byte core ≤ 90 → ((blank : ℕ) → last_byte (blank ∷ word) ≤ 90 → ⊥) → (other : Form) → IsBeforeWord word means core other → ⊥
 no_word core word means last apart other p =
-    apart p.1 (sym (last_of p.0 (p.1 ∷ word) (omega arith)) ∙ ap last_byte (sym p.3) ∙ last)
+    let same : last_byte core ≡ last_byte (p.1 ∷ word) = ap last_byte p.3 ∙ last_of p.0 (p.1 ∷ word) (omega arith) in
+    apart p.1 (omega (arith, same, last))
 
 no_near_day : (core name word : List ℕ) (rest : List (List ℕ)) (shift : ℤ) → words core ≡ name ∷ rest → length name ≡ 3 → 3 < length word → (other : Form) → IsNearDay word shift core other → ⊥
 no_near_day core name word rest shift are short long other p =
@@ -78,84 +81,92 @@ no_near_day core name word rest shift are short long other p =
     absurd (omega (arith, short, long, ap length first))
 
 -- the words of a line
-record IsLine (day : Weekday) (name date time : List ℕ) : Type 0 where
+record IsLine (day : Weekday) (name date time zone : List ℕ) : Type 0 where
   named : IsDayName day name
   date_word : IsWord date
   time_word : IsWord time
+  zone_word : IsLastWord zone
 
-module _ (day : Weekday) (name date time : List ℕ) (is : IsLine day name date time) where
-  line_read : words (line name date time) ≡ line_words name date time
+module _ (day : Weekday) (name date time zone : List ℕ) (is : IsLine day name date time zone) where
+  line_read : words (line name date time zone) ≡ line_words name date time zone
   line_read =
-      words_only (line name date time) (line_words name date time)
-      ([], after_name date time, refl, refl, record { some = omega (arith, is.named.long); solid = is.named.solid }, refl, (32 ∷ [], 32 ∷ (time ++ (32 ∷ codes "UTC")), refl, refl, is.date_word, refl, (32 ∷ [], 32 ∷ codes "UTC", refl, refl, is.time_word, refl, (32 ∷ [], [], refl, refl, record { some = omega arith; solid = refl }, tt, refl))))
+      words_only (line name date time zone) (line_words name date time zone)
+      ([], after_name date time zone, refl, refl, record { some = omega (arith, is.named.long); solid = is.named.solid }, refl, (32 ∷ [], 32 ∷ (time ++ (32 ∷ zone)), refl, refl, is.date_word, refl, (32 ∷ [], 32 ∷ zone, refl, refl, is.time_word, refl, (32 ∷ [], [], ap (λ t. 32 ∷ t) (sym (append-nil zone)), refl, is.zone_word.is_word, tt, refl))))
 
-  line_long : 3 < length (line name date time)
-  line_long = omega (arith, is.named.long, length-append name (after_name date time))
+  line_long : 3 < length (line name date time zone)
+  line_long = omega (arith, is.named.long, length-append name (after_name date time zone))
 
-  line_capital : 65 ≤ get_or (line name date time) 0 0
+  line_capital : 65 ≤ get_or (line name date time zone) 0 0
   line_capital =
       let capital = leb-true 65 (get_or name 0 0) is.named.capital in
-      omega (arith, capital, get_or-append name (after_name date time) 0 0 (omega (arith, is.named.long)))
+      omega (arith, capital, get_or-append name (after_name date time zone) 0 0 (omega (arith, is.named.long)))
 
-  -- the last byte is `C`
-  line_last : last_byte (line name date time) ≡ 67
+  -- the last byte is that of the zone
+  line_last : last_byte (line name date time zone) ≡ last_byte zone
   line_last =
-      last_of name (after_name date time) (omega arith)
-      ∙ last_of (32 ∷ date) (32 ∷ (time ++ (32 ∷ codes "UTC"))) (omega arith)
-      ∙ last_of (32 ∷ time) (32 ∷ codes "UTC") (omega arith)
+      last_of name (after_name date time zone) (omega arith)
+      ∙ last_of (32 ∷ date) (32 ∷ (time ++ (32 ∷ zone))) (omega arith)
+      ∙ last_of (32 ∷ time) (32 ∷ zone) (omega arith)
+      ∙ last_of (32 ∷ []) zone is.zone_word.is_word.some
 
-  line_between : IsBetweenBlanks (line name date time) (line name date time)
+  line_end : last_byte (line name date time zone) ≤ 90
+  line_end = omega (arith, line_last, is.zone_word.to)
+
+  line_between : IsBetweenBlanks (line name date time zone) (line name date time zone)
   line_between =
-      let ends : is_blank (last_byte (line name date time)) ≡ false = ap is_blank line_last in
+      let ends : is_blank (last_byte (line name date time zone)) ≡ false = ap is_blank line_last ∙ last_no_blank (last_byte zone) is.zone_word.from in
       record {
         front = [];
         back = [];
-        whole = sym (append-nil (line name date time));
+        whole = sym (append-nil (line name date time zone));
         before = refl;
         after = refl;
-        begins = λ some. capital_no_blank (get_or (line name date time) 0 0) line_capital;
+        begins = λ some. capital_no_blank (get_or (line name date time zone) 0 0) line_capital;
         ends = λ some. ends;
       }
 
-  fits_words : FitsByWords (line name date time) (civil (line_words name date time))
+  fits_words : FitsByWords (line name date time zone) (civil (line_words name date time zone))
   fits_words =
-      let rest = date ∷ time ∷ codes "UTC" ∷ [] in
-      let core = line name date time in
+      let rest = date ∷ time ∷ zone ∷ [] in
+      let core = line name date time zone in
       inr (no_near_day core name (codes "today") rest (pos 0) line_read is.named.long (omega arith), inr (no_near_day core name (codes "yesterday") rest (neg_ℤ (pos 1)) line_read is.named.long (omega arith), inr (no_near_day core name (codes "tomorrow") rest (pos 1) line_read is.named.long (omega arith), ap civil (sym line_read))))
 
-  fits_end : FitsByEnd (line name date time) (civil (line_words name date time))
+  fits_end : FitsByEnd (line name date time zone) (civil (line_words name date time zone))
   fits_end =
-      let core = line name date time in
-      inr (no_word core (codes "left") later line_last (λ b e. absurd (omega (arith, e))), inr (no_word core (codes "ago") earlier line_last (λ b e. absurd (omega (arith, e))), fits_words))
+      let core = line name date time zone in
+      inr (no_word core (codes "left") later line_end (λ b e. absurd (omega (arith, e))), inr (no_word core (codes "ago") earlier line_end (λ b e. absurd (omega (arith, e))), fits_words))
 
-  fits_sign : FitsBySign (line name date time) (civil (line_words name date time))
+  fits_sign : FitsBySign (line name date time zone) (civil (line_words name date time zone))
   fits_sign =
-      let core = line name date time in
+      let core = line name date time zone in
       inr (no_sign core 43 later line_capital (omega arith), inr (no_sign core 45 earlier line_capital (omega arith), inr (no_sign core 64 counted line_capital (omega arith), fits_end)))
 
   -- a line is a civil time
-  line_form : HasForm (line name date time) (civil (line_words name date time))
+  line_form : HasForm (line name date time zone) (civil (line_words name date time zone))
   line_form = record {
-    core = line name date time;
+    core = line name date time zone;
     between = line_between;
     fits = inr (λ other p. absurd (omega (arith, line_long, ap length p.0)), inr (λ other p. absurd (omega (arith, line_long, ap length p.0)), fits_sign));
   }
 
 -- The words of a line
 
-date_first : (at : Setting) (day : Weekday) (name date time : List ℕ) → IsDayName day name → list_any is_colon date ≡ false
-    → civil_time at (line_words name date time) ≡ (day_written date >>= λ number. after_date at (Some day) number (time ∷ codes "UTC" ∷ []))
-date_first at day name date time h colon = rw (h.letter, h.named, colon) refl
+date_first : (at : Setting) (day : Weekday) (name date time zone : List ℕ) → IsDayName day name → list_any is_colon date ≡ false
+    → civil_time at (line_words name date time zone) ≡ (day_written date >>= λ number. after_date at (Some day) number (time ∷ zone ∷ []))
+date_first at day name date time zone h colon = rw (h.letter, h.named, colon) refl
 
-then_time : (at : Setting) (day : Weekday) (number : ℤ) (time : List ℕ) (micros : ℕ) (zone : TimeZone) → begins_with_digit time ≡ true → time_written time ≡ Ok micros → at.find (codes "UTC") ≡ Some zone
-    → after_date at (Some day) number (time ∷ codes "UTC" ∷ []) ≡ Ok (record { weekday = Some day; day = Some number; micros = micros; zone = zone })
-then_time at day number time micros zone digit read find = rw (digit, read, find) refl
+then_time : (at : Setting) (day : Weekday) (number : ℤ) (time zone : List ℕ) (micros : ℕ) → begins_with_digit time ≡ true → time_written time ≡ Ok micros
+    → after_date at (Some day) number (time ∷ zone ∷ []) ≡ written_in at (Some day) (Some number) micros (zone ∷ [])
+then_time at day number time zone micros digit read = rw (digit, read) refl
 
-utc_found : (table : ZoneMap) → zone_named table (codes "UTC") ≡ Some UTC
-unfolding zone_named is_utc_name
-utc_found table = refl
+then_zone : (at : Setting) (day : Option Weekday) (number : Option ℤ) (micros : ℕ) (word : List ℕ) (zone : TimeZone) → zone_meant at.find word ≡ Ok zone
+    → written_in at day number micros (word ∷ []) ≡ Ok (record { weekday = day; day = number; micros = micros; zone = zone })
+then_zone at day number micros word zone meant = rw meant refl
 
--- The line of a date and of so many seconds after its midnight
+no_zone : (at : Setting) (day : Option Weekday) (number : Option ℤ) (micros : ℕ) (word : List ℕ) → zone_meant at.find word ≡ Err StrayWord → written_in at day number micros (word ∷ []) ≡ Err StrayWord
+no_zone at day number micros word meant = rw meant refl
+
+-- The line of a date, of so many seconds after its midnight and of a zone's word
 
 abbrev date_in : Date → List ℕ
 date_in date = date_word (year_of date) date.month date.day
@@ -167,19 +178,20 @@ time_in second = time_word (hour_of second) (minute_of second) (second_of second
 abbrev day_in : Date → Weekday
 day_in date = slice_index_or week (weekday_of date) Sunday
 
-abbrev line_of : Date → ℕ → List ℕ
-line_of date second = line (short_name_of (day_in date)) (date_in date) (time_in second)
+abbrev line_of : Date → ℕ → List ℕ → List ℕ
+line_of date second zone = line (short_name_of (day_in date)) (date_in date) (time_in second) zone
 
 clock_of : (second : ℕ) → second < 86_400 → IsClock (hour_of second) (minute_of second) (second_of second)
 clock_of second h = record { hour_in = omega arith; minute_in = omega arith; second_in = omega arith }
 
-is_line : (date : Date) (second : ℕ) → second < 86_400 → IsLine (day_in date) (short_name_of (day_in date)) (date_in date) (time_in second)
-is_line date second h =
+is_line : (date : Date) (second : ℕ) (zone : List ℕ) → second < 86_400 → IsLastWord zone → IsLine (day_in date) (short_name_of (day_in date)) (date_in date) (time_in second) zone
+is_line date second zone h last =
     let clock = clock_of second h in
     record {
       named = short_names (day_in date);
       date_word = record { some = date_some date; solid = date_solid date };
       time_word = record { some = time_some (hour_of second) (minute_of second) (second_of second) clock; solid = time_solid (hour_of second) (minute_of second) (second_of second) clock };
+      zone_word = last;
     }
 
 -- the pieces of a date and of a time are their words
@@ -197,43 +209,60 @@ unfolding time_text
 time_printed hour minute second =
     pieces_row 58 (zeros 2 hour) (decimal hour) (zeros 2 minute) (decimal minute) (zeros 2 second) (decimal second)
 
-pieces_line : (name date time : List ℕ) → (name ++ (32 ∷ (date ++ (32 ∷ (time ++ (32 ∷ [])))))) ++ codes "UTC" ≡ line name date time
-pieces_line name date time = simp append_assoc
+pieces_line : (name date time zone : List ℕ) → (name ++ (32 ∷ (date ++ (32 ∷ (time ++ (32 ∷ [])))))) ++ zone ≡ line name date time zone
+pieces_line name date time zone = simp append_assoc
 
-fields_printed : (date : Date) (second : ℕ) (offset : ℤ) → shown_text (fields_of date second offset) ++ codes "UTC" ≡ line_of date second
+fields_printed : (date : Date) (second : ℕ) (offset : ℤ) (zone : List ℕ) → shown_text (fields_of date second offset) ++ zone ≡ line_of date second zone
 unfolding shown_text weekday_name
-fields_printed date second offset =
+fields_printed date second offset zone =
     let number : weekday_of date + 1 - 1 ≡ weekday_of date = omega arith in
     rw (number, date_printed (fields_of date second offset), time_printed (hour_of second) (minute_of second) (second_of second))
-    (pieces_line (short_name_of (day_in date)) (date_in date) (time_in second))
+    (pieces_line (short_name_of (day_in date)) (date_in date) (time_in second) zone)
 
--- what a clock in UTC shows is the instant itself
-local_of-UTC : (secs : ℤ) → local_of UTC secs ≡ secs
-local_of-UTC secs = (place_of-Some UTC secs secs (place_of-UTC secs)).1
+-- what the clock of a zone shows
+abbrev local_in : Zone → ℤ → ℤ
+local_in zone secs = local_of (zone_of zone) secs
 
-printed_line : (secs : ℤ) → instant_text utc secs ≡ line_of (date_of (day_of secs)) (second_of_day secs)
-unfolding instant_text zone_word civil_of zone_of
-printed_line secs =
-    rw (local_of-UTC secs) (fields_printed (date_of (day_of secs)) (second_of_day secs) (offset_at UTC (nanos_of_seconds secs)))
+abbrev shown_date : Zone → ℤ → Date
+shown_date zone secs = date_of (day_of (local_in zone secs))
+
+printed_line : (zone : Zone) (secs : ℤ) → instant_text zone secs ≡ line_of (shown_date zone secs) (second_of_day (local_in zone secs)) (shown_word zone secs)
+unfolding instant_text civil_of
+printed_line zone secs =
+    fields_printed (shown_date zone secs) (second_of_day (local_in zone secs)) (shown_offset zone secs) (shown_word zone secs)
 
 -- The moment of a line
 
 second_below : (secs : ℤ) → second_of_day secs < 86_400
 second_below secs = omega (arith, signed_arith)
 
-day_within : (secs : ℤ) → IsInstant secs → IsEpochDay (day_of secs)
-day_within secs h = (omega (arith, signed_arith, h.0), omega (arith, signed_arith, h.1))
+-- a clock shows at an instant a day of 1969 or later that the calendar has
+local_within : (zone : Zone) (secs : ℤ) → IsInstant secs → IsBetween (neg_ℤ (pos 93_599)) (pos 7_258_305_597) (local_in zone secs)
+unfolding local_of
+local_within zone secs h =
+    let offset = offset_at-in_range (zone_of zone) (nanos_of_seconds secs) in
+    (omega (arith, signed_arith, h.0, offset.0), omega (arith, signed_arith, h.1, offset.1))
+
+shown_day : (zone : Zone) (secs : ℤ) → IsInstant secs → epoch_day (shown_date zone secs) ≡ day_of (local_in zone secs)
+shown_day zone secs h =
+    let within = local_within zone secs h in
+    epoch_day-date_of (day_of (local_in zone secs)) (omega (arith, signed_arith, within.0), omega (arith, signed_arith, within.1))
+
+shown_since : (zone : Zone) (secs : ℤ) → IsInstant secs → pos 1_969 ≤ℤ (shown_date zone secs).year
+shown_since zone secs h =
+    let within = local_within zone secs h in
+    year-from_1969 (shown_date zone secs) (omega (arith, signed_arith, shown_day zone secs h, within.0))
 
 -- the words are judged from the date on
-words_read : (now : ℤ) (at : Setting) (date : Date) (second : ℕ) → second < 86_400
-    → moment_in now at (line_of date second)
-    ≡ ((day_written (date_in date) >>= λ number. after_date at (Some (day_in date)) number (time_in second ∷ codes "UTC" ∷ [])) >>= λ written. moment_of_written now written)
+words_read : (now : ℤ) (at : Setting) (date : Date) (second : ℕ) (zone : List ℕ) → second < 86_400 → IsLastWord zone
+    → moment_in now at (line_of date second zone)
+    ≡ ((day_written (date_in date) >>= λ number. after_date at (Some (day_in date)) number (time_in second ∷ zone ∷ [])) >>= λ written. moment_of_written now written)
 unfolding moment_in
-words_read now at date second h =
+words_read now at date second zone h last =
     let name = short_name_of (day_in date) in
-    let is = is_line date second h in
-    ap (moment_of_form now at) (sym (only (line_of date second) (civil (line_words name (date_in date) (time_in second))) (line_form (day_in date) name (date_in date) (time_in second) is)))
-    ∙ ap (λ read. read >>= λ written. moment_of_written now written) (date_first at (day_in date) name (date_in date) (time_in second) is.named (date_no_colon date))
+    let is = is_line date second zone h last in
+    ap (moment_of_form now at) (sym (only (line_of date second zone) (civil (line_words name (date_in date) (time_in second) zone)) (line_form (day_in date) name (date_in date) (time_in second) zone is)))
+    ∙ ap (λ read. read >>= λ written. moment_of_written now written) (date_first at (day_in date) name (date_in date) (time_in second) zone is.named (date_no_colon date))
 
 -- the microseconds after midnight that the time writes
 abbrev micros_in : ℕ → ℕ
@@ -242,18 +271,19 @@ micros_in second = (hour_of second * 3_600 + minute_of second * 60) * 1_000_000 
 micros_in-is : (second : ℕ) → second < 86_400 → micros_in second ≡ second * 1_000_000
 micros_in-is second h = omega arith
 
-in_time : (micros : ℤ) → pos 0 ≤ℤ micros → micros ≤ℤ pos 7_258_118_399_000_000 → in_moments micros ≡ Ok micros
+in_time : (micros : ℤ) → pos 0 ≤ℤ micros → micros ≤ℤ pos 7_258_211_998_000_000 → in_moments micros ≡ Ok micros
 unfolding in_moments
 in_time micros from to = grind (arith, ints)
 
-settled_back : (secs : ℤ) → IsLocalSecond secs → settled UTC (day_of secs) (micros_in (second_of_day secs)) ≡ Ok (micros_of secs)
+settled_back : (zone : TimeZone) (local secs : ℤ) → IsInstant secs → settle_of zone local ≡ secs → settled zone (day_of local) (micros_in (second_of_day local)) ≡ Ok (micros_of secs)
 unfolding settled
-settled_back secs h =
-    let micros = micros_in-is (second_of_day secs) (second_below secs) in
-    let local = day_of secs *ℤ pos 86_400 +ℤ pos (micros_in (second_of_day secs) / 1_000_000) in
-    let whole : local ≡ secs = omega (arith, signed_arith, micros) in
-    let rest : micros_in (second_of_day secs) % 1_000_000 ≡ 0 = omega (arith, micros) in
-    let same : micros_of (settle_of UTC local) +ℤ pos (micros_in (second_of_day secs) % 1_000_000) ≡ micros_of secs = omega (arith, signed_arith, whole, rest, settle_of-UTC local) in
+settled_back zone local secs h back =
+    let micros = micros_in-is (second_of_day local) (second_below local) in
+    let shown = day_of local *ℤ pos 86_400 +ℤ pos (micros_in (second_of_day local) / 1_000_000) in
+    let whole : shown ≡ local = omega (arith, signed_arith, micros) in
+    let rest : micros_in (second_of_day local) % 1_000_000 ≡ 0 = omega (arith, micros) in
+    let settles : settle_of zone shown ≡ secs = ap (settle_of zone) whole ∙ back in
+    let same : micros_of (settle_of zone shown) +ℤ pos (micros_in (second_of_day local) % 1_000_000) ≡ micros_of secs = omega (arith, signed_arith, settles, rest) in
     ap in_moments same ∙ in_time (micros_of secs) (omega (arith, signed_arith, h.0)) (omega (arith, signed_arith, h.1))
 
 fits : (date : Date) (number : ℤ) → epoch_day date ≡ number → fits_weekday (Some (day_in date)) number ≡ true
@@ -261,44 +291,77 @@ fits date number e =
     let same : weekday_number number ≡ monday_zero (day_in date) = ap weekday_number (sym e) ∙ sym (in_week (weekday_of date) (weekday_number_bound (epoch_day date))) in
     eq-eqb (weekday_number number) (monday_zero (day_in date)) same
 
-moment_back : (now secs : ℤ) (date : Date) → IsLocalSecond secs → epoch_day date ≡ day_of secs
-    → moment_of_written now (record { weekday = Some (day_in date); day = Some (day_of secs); micros = micros_in (second_of_day secs); zone = UTC }) ≡ Ok (micros_of secs)
+moment_back : (now local secs : ℤ) (zone : TimeZone) (date : Date) → IsInstant secs → settle_of zone local ≡ secs → epoch_day date ≡ day_of local
+    → moment_of_written now (record { weekday = Some (day_in date); day = Some (day_of local); micros = micros_in (second_of_day local); zone = zone }) ≡ Ok (micros_of secs)
 unfolding moment_of_written
-moment_back now secs date h e = rw (fits date (day_of secs) e) (settled_back secs h)
+moment_back now local secs zone date h back e =
+    rw (fits date (day_of local) e) (settled_back zone local secs h back)
 
 -- The law
 
-line_back : (now secs : ℤ) (local : TimeZone) (table : ZoneMap) (date : Date) → IsLocalSecond secs → epoch_day date ≡ day_of secs
-    → moment_in now (setting local (zone_named table)) (line_of date (second_of_day secs)) ≡ Ok (micros_of secs)
-line_back now secs local table date h e =
-    let at = setting local (zone_named table) in
-    let second = second_of_day secs in
-    let below = second_below secs in
+-- with a year that a date can have, the zone is judged last
+zone_judged : (now local : ℤ) (at : Setting) (date : Date) (zone : List ℕ) → IsLastWord zone → IsBetween (pos 1_970) (pos 2_199) date.year → epoch_day date ≡ day_of local
+    → moment_in now at (line_of date (second_of_day local) zone)
+    ≡ (written_in at (Some (day_in date)) (Some (day_of local)) (micros_in (second_of_day local)) (zone ∷ []) >>= λ written. moment_of_written now written)
+zone_judged now local at date zone last years e =
+    let second = second_of_day local in
+    let below = second_below local in
     let clock = clock_of second below in
-    let years : IsBetween (pos 1_970) (pos 2_199) date.year = (year-from_1970 date (omega (arith, signed_arith, e, h.0)), year-to_2199 date (omega (arith, signed_arith, e, h.1))) in
-    let day : day_written (date_in date) ≡ Ok (day_of secs) = date_back date years ∙ ap Ok e in
-    let time = then_time at (day_in date) (day_of secs) (time_in second) (micros_in second) UTC (time_digit (hour_of second) (minute_of second) (second_of second) clock) (time_back (hour_of second) (minute_of second) (second_of second) clock) (utc_found table) in
-    words_read now at date second below
-    ∙ rw (day, time) (moment_back now secs date h e)
+    let day : day_written (date_in date) ≡ Ok (day_of local) = date_back date years ∙ ap Ok e in
+    let time = then_time at (day_in date) (day_of local) (time_in second) zone (micros_in second) (time_digit (hour_of second) (minute_of second) (second_of second) clock) (time_back (hour_of second) (minute_of second) (second_of second) clock) in
+    words_read now at date second zone below last
+    ∙ rw (day, time) refl
 
-late_line_back : (now secs : ℤ) (local : TimeZone) (table : ZoneMap) (date : Date) → IsInstant secs → pos 7_258_118_399 <ℤ secs → epoch_day date ≡ day_of secs
-    → moment_in now (setting local (zone_named table)) (line_of date (second_of_day secs)) ≡ Err NoSuchDate
-late_line_back now secs local table date h late e =
+pub reads_back : (now : ℤ) (local : TimeZone) (table : ZoneMap) (zone : Zone) (secs : ℤ) → IsInstant secs → ShowsYear (civil_of (zone_of zone) secs) → ShowsMinutes (civil_of (zone_of zone) secs)
+    → moment_in now (setting local (zone_named table)) (instant_text zone secs) ≡ Ok (micros_of secs)
+unfolding civil_of
+reads_back now local table zone secs h years minutes =
     let at = setting local (zone_named table) in
-    let from = year-from_1970 date (omega (arith, signed_arith, e, h.0)) in
-    let year : pos 2_200 ≤ℤ date.year = by_lt_z (pos 2_199) date.year (λ lt. omega (arith, signed_arith, lt)) (λ ge. absurd (omega (arith, signed_arith, e, late, (day_of_year date (from, ge)).1))) in
-    words_read now at date (second_of_day secs) (second_below secs)
-    ∙ rw (late_date_back date year) refl
+    let date = shown_date zone secs in
+    let shows = local_in zone secs in
+    let day = shown_day zone secs h in
+    let read = shown_read table zone secs minutes in
+    let written = then_zone at (Some (day_in date)) (Some (day_of shows)) (micros_in (second_of_day shows)) (shown_word zone secs) read.zone read.meant in
+    ap (moment_in now at) (printed_line zone secs)
+    ∙ zone_judged now shows at date (shown_word zone secs) (shown_last zone secs) years day
+    ∙ ap (λ read. read >>= λ written. moment_of_written now written) written
+    ∙ moment_back now shows secs read.zone date h read.back day
 
-pub reads_back : (now : ℤ) (local : TimeZone) (table : ZoneMap) (secs : ℤ) → IsLocalSecond secs
+pub seconds_are_unread : (now : ℤ) (local : TimeZone) (table : ZoneMap) (zone : Zone) (secs : ℤ) → IsInstant secs → ShowsYear (civil_of (zone_of zone) secs) → (ShowsMinutes (civil_of (zone_of zone) secs) → ⊥)
+    → moment_in now (setting local (zone_named table)) (instant_text zone secs) ≡ Err StrayWord
+unfolding civil_of
+seconds_are_unread now local table zone secs h years none =
+    let at = setting local (zone_named table) in
+    let date = shown_date zone secs in
+    let shows = local_in zone secs in
+    let stray = no_zone at (Some (day_in date)) (Some (day_of shows)) (micros_in (second_of_day shows)) (shown_word zone secs) (shown_unread (zone_named table) zone secs none) in
+    ap (moment_in now at) (printed_line zone secs)
+    ∙ zone_judged now shows at date (shown_word zone secs) (shown_last zone secs) years (shown_day zone secs h)
+    ∙ ap (λ read. read >>= λ written. moment_of_written now written) stray
+
+pub reads_as_none : (now : ℤ) (local : TimeZone) (table : ZoneMap) (zone : Zone) (secs : ℤ) → IsInstant secs → (ShowsYear (civil_of (zone_of zone) secs) → ⊥)
+    → moment_in now (setting local (zone_named table)) (instant_text zone secs) ≡ Err NoSuchDate
+unfolding civil_of
+reads_as_none now local table zone secs h none =
+    let at = setting local (zone_named table) in
+    let shows = local_in zone secs in
+    ap (moment_in now at) (printed_line zone secs)
+    ∙ words_read now at (shown_date zone secs) (second_of_day shows) (shown_word zone secs) (second_below shows) (shown_last zone secs)
+    ∙ rw (other_date_back (shown_date zone secs) (shown_since zone secs h) none) refl
+
+-- a clock in UTC shows the instant itself
+utc_shows : (secs : ℤ) → IsLocalSecond secs → ShowsYear (civil_of (zone_of utc) secs)
+unfolding civil_of zone_of
+utc_shows secs h =
+    let same = local_of-UTC secs in
+    let day = epoch_day-date_of (day_of (local_of UTC secs)) (omega (arith, signed_arith, same, h.0), omega (arith, signed_arith, same, h.1)) in
+    (year-from_1970 (date_of (day_of (local_of UTC secs))) (omega (arith, signed_arith, same, day, h.0)), year-to_2199 (date_of (day_of (local_of UTC secs))) (omega (arith, signed_arith, same, day, h.1)))
+
+utc_minute : (secs : ℤ) → ShowsMinutes (civil_of (zone_of utc) secs)
+unfolding civil_of zone_of
+utc_minute secs = utc_minutes secs
+
+pub reads_back_utc : (now : ℤ) (local : TimeZone) (table : ZoneMap) (secs : ℤ) → IsLocalSecond secs
     → moment_in now (setting local (zone_named table)) (instant_text utc secs) ≡ Ok (micros_of secs)
-reads_back now local table secs h =
-    ap (moment_in now (setting local (zone_named table))) (printed_line secs)
-    ∙ line_back now secs local table (date_of (day_of secs)) h (epoch_day-date_of (day_of secs) (omega (arith, signed_arith, h.0), omega (arith, signed_arith, h.1)))
-
-pub reads_as_none : (now : ℤ) (local : TimeZone) (table : ZoneMap) (secs : ℤ) → IsInstant secs → (IsLocalSecond secs → ⊥)
-    → moment_in now (setting local (zone_named table)) (instant_text utc secs) ≡ Err NoSuchDate
-reads_as_none now local table secs h none =
-    let late : pos 7_258_118_399 <ℤ secs = by_lt_z (pos 7_258_118_399) secs (λ lt. lt) (λ ge. absurd (none (h.0, ge))) in
-    ap (moment_in now (setting local (zone_named table))) (printed_line secs)
-    ∙ late_line_back now secs local table (date_of (day_of secs)) h late (epoch_day-date_of (day_of secs) (day_within secs h))
+reads_back_utc now local table secs h =
+    reads_back now local table utc secs (h.0, omega (arith, signed_arith, h.1)) (utc_shows secs h) (utc_minute secs)

@@ -1,11 +1,12 @@
 -- The words of a printed instant, the weekday's name, the date and the time in padded numbers, as timestamps read them.
-use Rattle.std.proofs.Common.{◌≡◌, ℕ, zero, suc, ◌+◌, ◌-◌, ◌*◌, ◌^◌, ◌<◌, ◌≤◌, Bool, true, false, ◌&&◌, List, [], ◌∷◌, ◌++◌, length, get_or, replicate, decimal, nat_le, Some, Ok, Err, refl, ap, ◌∙◌, arith, length-append, le-leb, slice_index_or, unsigned_abs, ℤ, pos, negsuc, ◌≤ℤ◌}
+use Rattle.std.proofs.Common.{◌≡◌, ℕ, zero, suc, ◌+◌, ◌-◌, ◌*◌, ◌^◌, ◌<◌, ◌≤◌, Bool, true, false, ◌&&◌, List, [], ◌∷◌, ◌++◌, length, get_or, replicate, decimal, nat_le, Some, Ok, Err, refl, ap, ◌∙◌, arith, length-append, le-leb, slice_index_or, unsigned_abs, ℤ, pos, negsuc, ◌≤ℤ◌, ◌<ℤ◌}
 use Rattle.std.specs.Char.{is_ascii_digit}
 use Rattle.std.specs.List.{list_all, list_any, slice_split}
 use Rattle.std.specs.Str.Parse.{digits_value}
 use Rattle.std.proofs.lemmas.Bool.{lt-leb, le-ltb}
 use Rattle.std.proofs.lemmas.Bool.Decides.{nat_tests}
 use Rattle.std.proofs.lemmas.Fmt.{decimal_is_IsNumeral, length-decimal-le}
+use Rattle.std.proofs.lemmas.Int.{by_lt_z}
 use Rattle.std.proofs.lemmas.List.{length-replicate}
 use Rattle.jiff.proofs.SpanFacts.{signed_arith}
 use Rattle.jiff.specs.Types.{Date, Weekday}
@@ -138,10 +139,14 @@ late_tests : (year month day most : ℕ) → 2_199 < year
     → (nat_le 1_970 year && nat_le year 2_199 && nat_le 1 month && nat_le month 12 && nat_le 1 day && nat_le day most) ≡ false
 late_tests year month day most late = rw (le-leb 1_970 year (omega arith), lt-leb year 2_199 late) refl
 
+early_tests : (year month day most : ℕ) → year < 1_970
+    → (nat_le 1_970 year && nat_le year 2_199 && nat_le 1 month && nat_le month 12 && nat_le 1 day && nat_le day most) ≡ false
+early_tests year month day most early = rw (lt-leb 1_970 year early) refl
+
 abbrev pub year_of : Date → ℕ
 year_of date = unsigned_abs date.year
 
-year_is : (year : ℤ) → pos 1_970 ≤ℤ year → pos (unsigned_abs year) ≡ year
+year_is : (year : ℤ) → pos 1_969 ≤ℤ year → pos (unsigned_abs year) ≡ year
 year_is (pos n) from = refl
 year_is (negsuc n) from = absurd (omega (arith, signed_arith))
 
@@ -158,27 +163,40 @@ writable date =
       day_in = omega (arith, date.day_in.1, bounds);
     }
 
-due : (date : Date) → pos 1_970 ≤ℤ date.year → day_written (date_word (year_of date) date.month date.day) ≡ day_number (year_of date) date.month date.day
+due : (date : Date) → pos 1_969 ≤ℤ date.year → day_written (date_word (year_of date) date.month date.day) ≡ day_number (year_of date) date.month date.day
 unfolding day_written
 due date from =
     ap day_due (date_numbers_back (year_of date) date.month date.day (writable date))
     ∙ ap (λ y. day_number y date.month date.day) (century_stays (year_of date) (omega (arith, signed_arith, year_is date.year from)))
 
--- from 1970 to 2199 the date is read as its day, and later it is none
+-- from 1970 to 2199 the date is read as its day, and one of 1969 or of a later year is none
 pub date_back : (date : Date) → IsBetween (pos 1_970) (pos 2_199) date.year → day_written (date_word (year_of date) date.month date.day) ≡ Ok (epoch_day date)
 unfolding day_number
 date_back date h =
-    let same = year_is date.year h.0 in
-    due date h.0
+    let from : pos 1_969 ≤ℤ date.year = omega (arith, signed_arith, h.0) in
+    let same = year_is date.year from in
+    due date from
     ∙ rw (same, day_tests (year_of date) date.month date.day (month_length date) (omega (arith, signed_arith, same, h.0)) (omega (arith, signed_arith, same, h.1)) date.month_in.0 date.month_in.1 date.day_in.0 date.day_in.1) refl
 
-pub late_date_back : (date : Date) → pos 2_200 ≤ℤ date.year → day_written (date_word (year_of date) date.month date.day) ≡ Err NoSuchDate
+late_date_back : (date : Date) → pos 2_200 ≤ℤ date.year → day_written (date_word (year_of date) date.month date.day) ≡ Err NoSuchDate
 unfolding day_number
 late_date_back date h =
-    let from : pos 1_970 ≤ℤ date.year = omega (arith, signed_arith, h) in
+    let from : pos 1_969 ≤ℤ date.year = omega (arith, signed_arith, h) in
     let same = year_is date.year from in
     due date from
     ∙ rw (same, late_tests (year_of date) date.month date.day (month_length date) (omega (arith, signed_arith, same, h))) refl
+
+early_date_back : (date : Date) → pos 1_969 ≤ℤ date.year → date.year <ℤ pos 1_970 → day_written (date_word (year_of date) date.month date.day) ≡ Err NoSuchDate
+unfolding day_number
+early_date_back date from h =
+    let same = year_is date.year from in
+    due date from
+    ∙ rw (same, early_tests (year_of date) date.month date.day (month_length date) (omega (arith, signed_arith, same, h))) refl
+
+pub other_date_back : (date : Date) → pos 1_969 ≤ℤ date.year → (IsBetween (pos 1_970) (pos 2_199) date.year → ⊥) → day_written (date_word (year_of date) date.month date.day) ≡ Err NoSuchDate
+other_date_back date from none =
+    by_lt_z date.year (pos 1_970) (λ early. early_date_back date from early)
+    (λ since. late_date_back date (by_lt_z (pos 2_199) date.year (λ late. omega (arith, signed_arith, late)) (λ within. absurd (none (since, within)))))
 
 -- The time
 

@@ -5,7 +5,7 @@ use Rattle.jiff.proofs.SpanFacts.{signed_arith}
 use Rattle.jiff.specs.Types.{UTC}
 use Rattle.jiff.specs.Words.{offset_at, ambiguous_at}
 use Rattle.jiff_core.proofs.CalendarLemmas.{days_from_civil-day_count}
-use Rattle.jiff_core.proofs.MarchLemmas.{day_count-late}
+use Rattle.jiff_core.proofs.MarchLemmas.{day_count-early, day_count-late}
 use Rattle.jiff_core.specs.Calendar.{days_from_civil, weekday_number}
 use Rattle.cal_span.specs.declared.span.fault.SpanFault.TheVariants.{BadNumber, UnknownUnit, Empty as NoPair}
 use Rattle.cal_zone.specs.OffsetWord.{clock_in, offset_in, two_digits}
@@ -180,3 +180,20 @@ row_33 = refl
 row_34 : Means (codes "today +26:00") (Err StrayWord)
 unfolding moment_in form_of solid form_by_end day_shift words in_moments today settled moment_of_written day_written date_numbers digits_number day_number time_written time_numbers clock_number second_written fraction_in day_named name_of span_of pairs_in words_in worth_of is_number number_worth unit_named words_for local_of offset_at settle_of ambiguous_at datetime_of weekday_number is_utc_name offset_in clock_in two_digits zone_ahead offset_of_seconds
 row_34 = refl
+
+-- what clocks print of the first instant
+the_first : days_from_civil (pos 1_970) 1 1 ≡ pos 0
+the_first =
+    omega (arith, signed_arith, days_from_civil-day_count (pos 1_970) 1 1, day_count-early (pos 1_970) 11_969 1 1 refl (omega arith) (omega arith) (omega arith))
+
+row_35 : Means (codes "Thu 1970-01-01 01:00:00 +01:00") (Ok (pos 0))
+unfolding moment_in form_of solid form_by_end day_shift words in_moments today settled moment_of_written day_written date_numbers digits_number day_number time_written time_numbers clock_number second_written fraction_in day_named name_of span_of pairs_in words_in worth_of is_number number_worth unit_named words_for local_of offset_at settle_of ambiguous_at datetime_of weekday_number is_utc_name offset_in clock_in two_digits zone_ahead offset_of_seconds
+row_35 = rw the_first refl
+
+row_36 : Means (codes "Thu 1970-01-01 00:53:28 +00:53:28") (Err StrayWord)
+unfolding moment_in form_of solid form_by_end day_shift words in_moments today settled moment_of_written day_written date_numbers digits_number day_number time_written time_numbers clock_number second_written fraction_in day_named name_of span_of pairs_in words_in worth_of is_number number_worth unit_named words_for local_of offset_at settle_of ambiguous_at datetime_of weekday_number is_utc_name offset_in clock_in two_digits zone_ahead offset_of_seconds
+row_36 = refl
+
+row_37 : Means (codes "Wed 1969-12-31 23:00:00 -01:00") (Err NoSuchDate)
+unfolding moment_in form_of solid form_by_end day_shift words in_moments today settled moment_of_written day_written date_numbers digits_number day_number time_written time_numbers clock_number second_written fraction_in day_named name_of span_of pairs_in words_in worth_of is_number number_worth unit_named words_for local_of offset_at settle_of ambiguous_at datetime_of weekday_number is_utc_name offset_in clock_in two_digits zone_ahead offset_of_seconds
+row_37 = refl

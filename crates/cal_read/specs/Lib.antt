@@ -6,6 +6,7 @@ pub mod StampDate
 pub mod StampDateViews
 pub mod StampFault
 pub mod StampForm
+pub mod StampPrinted
 pub mod StampRule
 pub mod StampTime
 pub mod StampViews

@@ -3,18 +3,21 @@
 
 ghost use Rattle.std.specs.Prelude.{◌≡◌, ℕ, ℤ, List, Ok, Err};
 ghost use Rattle.jiff.specs.Types.{TimeZone};
+ghost use Rattle.cal_zone.specs.Civil.{civil_of};
 ghost use Rattle.cal_zone.specs.Instant.{IsInstant};
 ghost use Rattle.cal_zone.specs.InstantText.{instant_text};
 ghost use Rattle.cal_zone.specs.Local.{IsLocalSecond};
-ghost use Rattle.cal_zone.specs.Zone.{utc};
+ghost use Rattle.cal_zone.specs.Zone.{utc, zone_of};
 ghost use Rattle.cal_zone.specs.ZoneMap.{ZoneMap};
 ghost use Rattle.cal_zone.specs.ZoneTable.{zone_named};
+ghost use Rattle.cal_zone.specs.declared.zone.Zone.{Zone};
 ghost use Rattle.cal_read.specs.Stamp.{Setting, Written, civil_time, micros_of, moment_in};
 ghost use Rattle.cal_read.specs.StampCivilRule.{HasNoSuchDate, IsCivilTime};
 ghost use Rattle.cal_read.specs.StampForm.{Form, civil, form_of};
+ghost use Rattle.cal_read.specs.StampPrinted.{ShowsMinutes, ShowsYear};
 ghost use Rattle.cal_read.specs.StampRule.{HasForm};
 ghost use Rattle.cal_read.specs.StampViews.{setting};
-ghost use Rattle.cal_read.specs.declared.stamp.fault.StampFault.TheVariants.{NoSuchDate};
+ghost use Rattle.cal_read.specs.declared.stamp.fault.StampFault.TheVariants.{NoSuchDate, StrayWord};
 
 /// Each text has exactly one form by the rule of systemd.time(7), Parsing Timestamps: that of the first that fits the
 /// text without the blanks at its ends. It is the one by which `read_stamp` reads the text.
@@ -38,12 +41,22 @@ pub fn only_written_dates_are_none()
         → (ws : List (List ℕ)) × (form_of text ≡ civil ws) × HasNoSuchDate ws }
 {}
 
-/// An instant that is printed in UTC is read as that instant, whatever the present, the local zone and the table are.
-/// One that is printed with the year 2200, which a zone west of UTC still reaches, is read as no date.
+/// An instant that is printed is read as that instant, whatever the present, the local zone and the table are, where the
+/// clock shows a year from 1970 to 2199 and is whole minutes from UTC, as UTC's own is (systemd.time(7), Parsing
+/// Timestamps).
+///
+/// A clock that isn't whole minutes from UTC prints its offset with seconds, and such a word is no zone. At the first
+/// instants a clock west of UTC shows 1969, and at the last most clocks show 2200: dates of these years are none.
 pub fn printed_instants_read_back()
-    ensures back { (now : ℤ) (local : TimeZone) (table : ZoneMap) (secs : ℤ) → IsLocalSecond secs
+    ensures back { (now : ℤ) (local : TimeZone) (table : ZoneMap) (zone : Zone) (secs : ℤ) → IsInstant secs
+        → ShowsYear (civil_of (zone_of zone) secs) → ShowsMinutes (civil_of (zone_of zone) secs)
+        → moment_in now (setting local (zone_named table)) (instant_text zone secs) ≡ Ok (micros_of secs) }
+    ensures utc { (now : ℤ) (local : TimeZone) (table : ZoneMap) (secs : ℤ) → IsLocalSecond secs
         → moment_in now (setting local (zone_named table)) (instant_text utc secs) ≡ Ok (micros_of secs) }
-    ensures none { (now : ℤ) (local : TimeZone) (table : ZoneMap) (secs : ℤ)
-        → IsInstant secs → (IsLocalSecond secs → ⊥)
-        → moment_in now (setting local (zone_named table)) (instant_text utc secs) ≡ Err NoSuchDate }
+    ensures seconds { (now : ℤ) (local : TimeZone) (table : ZoneMap) (zone : Zone) (secs : ℤ) → IsInstant secs
+        → ShowsYear (civil_of (zone_of zone) secs) → (ShowsMinutes (civil_of (zone_of zone) secs) → ⊥)
+        → moment_in now (setting local (zone_named table)) (instant_text zone secs) ≡ Err StrayWord }
+    ensures none { (now : ℤ) (local : TimeZone) (table : ZoneMap) (zone : Zone) (secs : ℤ) → IsInstant secs
+        → (ShowsYear (civil_of (zone_of zone) secs) → ⊥)
+        → moment_in now (setting local (zone_named table)) (instant_text zone secs) ≡ Err NoSuchDate }
 {}
