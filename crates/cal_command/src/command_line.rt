@@ -353,10 +353,10 @@ const STATUSES: &str =
     "Exit status:{n}  0  all was done{n}  1  a text, a file or a write was refused{n}  2  the command line, a zone or the clock was refused{n}{n}'calendar-analyze VERB --help' says more of a verb.";
 
 const CALENDAR_EXAMPLE: &str =
-    "A TEXT that begins with '-' goes after '--'.{n}{n}Example:{n}  calendar-analyze calendar --iterations=3 'Mon..Fri 09:00'";
+    "A TEXT may end in its zone: UTC, +hh:mm, -hh:mm or a name of --zones.{n}A TEXT that begins with '-' goes after '--'.{n}{n}Example:{n}  calendar-analyze calendar --iterations=3 'Mon..Fri 09:00'";
 
 const TIMESTAMP_EXAMPLE: &str =
-    "A TEXT that begins with '-' goes after '--'.{n}{n}Example:{n}  calendar-analyze timestamp --local=+01:00 'today' '@1395716396' -- -5min";
+    "A TEXT may end in its zone: UTC, +hh:mm, -hh:mm or a name of --zones.{n}A TEXT that begins with '-' goes after '--'.{n}{n}Example:{n}  calendar-analyze timestamp --local=+01:00 'today' '@1395716396' -- -5min";
 
 const TIMESPAN_EXAMPLE: &str = "Example:{n}  calendar-analyze timespan '1h 30min' 300s";
 

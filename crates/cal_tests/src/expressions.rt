@@ -9,6 +9,7 @@ mod counts;
 mod faults;
 mod meaning;
 mod normal_texts;
+mod offsets;
 mod refusals;
 
 /// The text is an expression with this normal text.

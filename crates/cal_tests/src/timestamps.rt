@@ -13,6 +13,7 @@ use std::test::Fail;
 mod civil_times;
 mod days;
 mod faults;
+mod offsets;
 mod order;
 mod span_texts;
 mod zones;

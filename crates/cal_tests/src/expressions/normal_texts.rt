@@ -176,7 +176,7 @@ const DATES: &str = "\
 ";
 
 /// On each line stand a text, an arrow, and the text's normal text, which reads as itself.
-fn expect_normal_texts(rt: &impl Abort, alloc: Global, lines: &str) {
+pub(super) fn expect_normal_texts(rt: &impl Abort, alloc: Global, lines: &str) {
     for line in lines.lines() {
         let Some((text, normal)) = line.split_once(" -> ") else {
             panic!(rt; "no arrow in {line:?}")

@@ -6,7 +6,7 @@ use std::alloc::Global;
 use std::process::Abort;
 
 /// A fault, and texts that have it: one on each line.
-type Refused = (SpecFault, &'static str);
+pub(super) type Refused = (SpecFault, &'static str);
 
 /// The refused texts: one at least of each fault of a short text, and the refusals of the grammar.
 const REFUSED_TEXTS: [Refused; 12] = [
@@ -421,7 +421,7 @@ fn expect_faults(rt: &impl Abort, alloc: Global, fault: SpecFault, lines: &str) 
 }
 
 /// Each text of the table has the fault beside it.
-fn expect_refusals(rt: &impl Abort, alloc: Global, table: &[Refused]) {
+pub(super) fn expect_refusals(rt: &impl Abort, alloc: Global, table: &[Refused]) {
     for (fault, lines) in table {
         expect_faults(rt, alloc, *fault, lines);
     }

@@ -118,9 +118,14 @@ pub(super) const FROM_THE_FIRST: Row<'static> = Row {
 };
 
 /// A run that starts at an elapse gives those after it.
-static GOING_ON_FROM_AN_ELAPSE: [Row<'static>; 3] = [
+static GOING_ON_FROM_AN_ELAPSE: [Row<'static>; 4] = [
     GOING_ON,
     FROM_THE_FIRST,
+    Row {
+        about: "every second, from the second elapse on as it is printed",
+        base: Some("Mon 2024-01-01 05:30:02 +05:30"),
+        ..GOING_ON
+    },
     Row {
         about: "last second west, from its elapse on",
         texts: &["*-*-* 23:59:59"],

@@ -114,15 +114,43 @@ Normalized form: *-*-* 00:00:00 UTC
        From now: 23h left
 ";
 
-static ZONES_OF_A_TIMER: [Row<'static>; 1] = [Row {
-    about: "a timer whose expressions name zones",
-    iterations: 3,
-    base: Some("@1704067199"),
-    local: Local::Offset(19_800),
-    input: ZONES_FILE,
-    out: ZONES,
-    ..TIMER
-}];
+/// An expression with an offset, and one in the local zone.
+const OFFSET: &str = "  Original form: daily +02:00
+Normalized form: *-*-* 00:00:00 +02:00
+  Original form: daily
+Normalized form: *-*-* 00:00:00
+    Next elapse: Mon 2024-01-01 22:00:00 UTC
+       From now: 22h left
+       Iter. #2: Tue 2024-01-02 00:00:00 UTC
+       From now: 1d left
+       Iter. #3: Tue 2024-01-02 22:00:00 UTC
+       From now: 1d 22h left
+";
+
+static ZONES_OF_A_TIMER: [Row<'static>; 3] = [
+    Row {
+        about: "a timer whose expressions name zones",
+        iterations: 3,
+        base: Some("@1704067199"),
+        local: Local::Offset(19_800),
+        input: ZONES_FILE,
+        out: ZONES,
+        ..TIMER
+    },
+    Row {
+        about: "a timer with an offset in a line",
+        iterations: 3,
+        input: b"[Timer]\nOnCalendar=daily +02:00\nOnCalendar=daily\n",
+        out: OFFSET,
+        ..TIMER
+    },
+    Row {
+        about: "a timer with a word that is no offset",
+        input: b"[Timer]\nOnCalendar=daily\nOnCalendar=12:00 +2:00\n",
+        err: "t:3: stray word\n",
+        ..TIMER
+    },
+];
 
 #[test]
 fn zones_of_a_timer(rt: HostRuntime) -> Result<(), Fail> {

@@ -209,3 +209,68 @@ static ZONES_OF_EXPRESSIONS: [Row<'static>; 3] = [
 fn zones_of_expressions(rt: HostRuntime) -> Result<(), Fail> {
     check(&rt, &ZONES_OF_EXPRESSIONS)
 }
+
+/// An expression with an offset is meant on that clock, whatever the local zone is.
+const TWO_HOURS_EAST: &str = "  Original form: daily +02:00
+Normalized form: *-*-* 00:00:00 +02:00
+    Next elapse: Mon 2024-01-01 22:00:00 UTC
+       From now: 22h left
+";
+
+const TWO_HOURS_EAST_SHOWN_IN_SUMMER: &str = "  Original form: daily +02:00
+Normalized form: *-*-* 00:00:00 +02:00
+    Next elapse: Mon 2024-07-01 00:00:00 +02:00
+       (in UTC): Sun 2024-06-30 22:00:00 UTC
+       From now: 22h left
+
+  Original form: 02:30 -00:00
+Normalized form: *-*-* 02:30:00 +00:00
+    Next elapse: Sun 2024-06-30 04:30:00 +02:00
+       (in UTC): Sun 2024-06-30 02:30:00 UTC
+       From now: 2h 30min left
+";
+
+/// The last seconds of a clock far west of UTC lie in 2200.
+const FAR_WEST: &str = "  Original form: *-*-* 23:59:59 -25:59
+Normalized form: *-*-* 23:59:59 -25:59
+    Next elapse: Wed 2200-01-01 01:58:59 UTC
+       From now: 1h 59min left
+       Iter. #2: Thu 2200-01-02 01:58:59 UTC
+       From now: 1d 1h 59min left
+";
+
+static OFFSETS_OF_EXPRESSIONS: [Row<'static>; 4] = [
+    Row {
+        about: "an expression on a clock two hours ahead",
+        texts: &["daily +02:00"],
+        out: TWO_HOURS_EAST,
+        ..CALENDAR
+    },
+    Row {
+        about: "offsets of expressions, shown in a zone with summer time",
+        texts: &["daily +02:00", "02:30 -00:00"],
+        now: 1_719_705_600,
+        local: Local::Summer,
+        out: TWO_HOURS_EAST_SHOWN_IN_SUMMER,
+        ..CALENDAR
+    },
+    Row {
+        about: "the last seconds of the farthest offset west",
+        texts: &["*-*-* 23:59:59 -25:59"],
+        iterations: 3,
+        now: 7_258_118_399,
+        out: FAR_WEST,
+        ..CALENDAR
+    },
+    Row {
+        about: "words that are no offsets",
+        texts: &["12:00 +26:00", "Mon -5", "+02:00", "-5"],
+        err: "12:00 +26:00: stray word\nMon -5: stray word\n+02:00: bad time\n-5: bad date\n",
+        ..CALENDAR
+    },
+];
+
+#[test]
+fn offsets_of_expressions(rt: HostRuntime) -> Result<(), Fail> {
+    check(&rt, &OFFSETS_OF_EXPRESSIONS)
+}

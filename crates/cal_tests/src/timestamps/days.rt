@@ -63,7 +63,7 @@ Tomorrow UTC
             "\
 today 12:00
 today 2012-11-23
-today +08:00
+today +8:00
 today /
 today UTC x
 today UTC UTC

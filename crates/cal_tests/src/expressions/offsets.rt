@@ -1,0 +1,184 @@
+//! Fixed offsets in the place of a zone's name: where an offset may stand, its bounds, and what is none.
+
+use super::normal_texts::expect_normal_texts;
+use super::refusals::{Refused, expect_refusals};
+use crate::shared::expr;
+use cal_spec::SpecFault::*;
+use std::test::Fail;
+
+/// An offset after each word that may stand before it.
+const PLACES: &str = "\
+daily +02:00 -> *-*-* 00:00:00 +02:00
+12:00 +02:00 -> *-*-* 12:00:00 +02:00
+12:00:30 -05:30 -> *-*-* 12:00:30 -05:30
+*:*:* +05:45 -> *-*-* *:*:* +05:45
+Mon +02:00 -> Mon *-*-* 00:00:00 +02:00
+Mon, -02:00 -> Mon *-*-* 00:00:00 -02:00
+Sat-Mon +02:00 -> Mon,Sat,Sun *-*-* 00:00:00 +02:00
+2024-1-1 +02:00 -> 2024-01-01 00:00:00 +02:00
+2024-1-1 -12:00 -> 2024-01-01 00:00:00 -12:00
+1-1 -12:00 -> *-01-01 00:00:00 -12:00
+*-*~1 +01:00 -> *-*~01 00:00:00 +01:00
+Mon 2024-1-1 +02:00 -> Mon 2024-01-01 00:00:00 +02:00
+Mon 12:00 +02:00 -> Mon *-*-* 12:00:00 +02:00
+2024-1-1 12:00 -02:00 -> 2024-01-01 12:00:00 -02:00
+Mon 2024-1-1 12:00 +02:00 -> Mon 2024-01-01 12:00:00 +02:00
+\x20\t12:00 \t +02:00\t -> *-*-* 12:00:00 +02:00
+minutely +02:00 -> *-*-* *:*:00 +02:00
+hourly -03:30 -> *-*-* *:00:00 -03:30
+DAILY +02:00 -> *-*-* 00:00:00 +02:00
+weekly +02:00 -> Mon *-*-* 00:00:00 +02:00
+monthly -02:00 -> *-*-01 00:00:00 -02:00
+quarterly +02:00 -> *-01,04,07,10-01 00:00:00 +02:00
+semi-annually +02:00 -> *-01,07-01 00:00:00 +02:00
+bi-annually -02:00 -> *-01,07-01 00:00:00 -02:00
+yearly +02:00 -> *-01-01 00:00:00 +02:00
+annually -00:30 -> *-01-01 00:00:00 -00:30
+";
+
+/// The least and the greatest hours and minutes. An offset of nothing has a plus sign, and isn't `UTC`.
+const BOUNDS: &str = "\
+12:00 +00:00 -> *-*-* 12:00:00 +00:00
+12:00 -00:00 -> *-*-* 12:00:00 +00:00
+12:00 utc -> *-*-* 12:00:00 UTC
+12:00 +00:01 -> *-*-* 12:00:00 +00:01
+12:00 -00:01 -> *-*-* 12:00:00 -00:01
+12:00 +00:59 -> *-*-* 12:00:00 +00:59
+12:00 -01:00 -> *-*-* 12:00:00 -01:00
+12:00 +09:59 -> *-*-* 12:00:00 +09:59
+12:00 +10:00 -> *-*-* 12:00:00 +10:00
+12:00 -24:00 -> *-*-* 12:00:00 -24:00
+12:00 +25:00 -> *-*-* 12:00:00 +25:00
+12:00 +25:59 -> *-*-* 12:00:00 +25:59
+12:00 -25:59 -> *-*-* 12:00:00 -25:59
+";
+
+/// What begins with a sign where a zone may stand and is no offset, and what stands after a zone.
+const NO_OFFSETS: [Refused; 1] = [(
+    StrayWord,
+    "\
+12:00 +26:00
+12:00 -26:00
+12:00 +99:00
+12:00 +02:60
+12:00 +25:60
+12:00 +2:00
+12:00 +002:00
+12:00 +02:0
+12:00 +02:000
+12:00 +02
+12:00 +0200
+12:00 +02:
+12:00 +:00
+12:00 +
+12:00 -
+12:00 +02:00:00
+12:00 +02.00
+12:00 +02-00
+12:00 ++2:00
+12:00 +-2:00
+12:00 +a2:00
+12:00 +02:a0
+12:00 +02:00Z
+12:00 +UTC
+12:00 + 02:00
+12:00 +02: 00
+12:00 +02 :00
+12:00 02:00
+12:00 \u{2212}02:00
+12:00 +\u{660}2:00
+Mon -5
+Mon +1-1
+Mon -1-1
+Mon +1:2
+2024-1-1 +x
+2024-1-1 -1:2
+2024-1-1 +12:00:00
+daily -5
+daily +2:00
+weekly +26:00
+12:00 +02:00 UTC
+12:00 UTC +02:00
+12:00 +02:00 +02:00
+daily +02:00 x
+daily UTC -02:00
+Mon +02:00 12:00
+Mon +02:00 2024-1-1
+Mon UTC +02:00
+2024-1-1 +02:00 12:00
+2024-1-1 +02:00 UTC
+",
+)];
+
+/// The first word of a text is read as if there were no offsets.
+const FIRST_WORDS: [Refused; 3] = [
+    (
+        BadTime,
+        "+02:00\n-02:00\n+02:00 12:00\n-01:00 UTC\n+02:00 daily",
+    ),
+    (
+        BadDate,
+        "-5\n+5\n+5 12:00\n-1-1\n+1-1-1\n+\n- +02:00\n-5 +02:00",
+    ),
+    (UnknownShorthand, "Foo +02:00\nfortnightly +02:00"),
+];
+
+/// Of two faults the one on the left is told, whichever it is.
+const ORDER: [Refused; 5] = [
+    (BadWeekday, "Mon,,Tue +02:00\nMon,,Tue +x"),
+    (BadDate, "7 +02:00\n7 +x\n1 -1"),
+    (BadTime, "12:x +x\n2024-1-1 5 +x\n2024-1-1 \u{2212}02:00"),
+    (OutOfField, "25:00 +x\n12:60 +02:00\n13-1 -5"),
+    (NoRepeat, "20/4:00 +02:00\n20/4:00 +x"),
+];
+
+/// Texts with the seconds that their zone's clock is ahead of UTC, or the name of their zone.
+const ZONES: [(&str, Option<i32>, Option<&str>); 9] = [
+    ("daily", None, None),
+    ("daily utc", None, Some("UTC")),
+    ("daily Test/Fixed", None, Some("Test/Fixed")),
+    ("daily +02:00", Some(7_200), None),
+    ("daily -02:00", Some(-7_200), None),
+    ("12:00 -00:30", Some(-1_800), None),
+    ("12:00 -00:00", Some(0), None),
+    ("Mon +25:59", Some(93_540), None),
+    ("2024-1-1 -25:59", Some(-93_540), None),
+];
+
+#[test]
+fn places(rt: HostRuntime) {
+    expect_normal_texts(&rt, rt.alloc(), PLACES);
+}
+
+#[test]
+fn bounds(rt: HostRuntime) {
+    expect_normal_texts(&rt, rt.alloc(), BOUNDS);
+}
+
+#[test]
+fn no_offsets(rt: HostRuntime) {
+    expect_refusals(&rt, rt.alloc(), &NO_OFFSETS);
+}
+
+#[test]
+fn first_words(rt: HostRuntime) {
+    expect_refusals(&rt, rt.alloc(), &FIRST_WORDS);
+}
+
+#[test]
+fn order(rt: HostRuntime) {
+    expect_refusals(&rt, rt.alloc(), &ORDER);
+}
+
+#[test]
+fn zones(rt: HostRuntime) -> Result<(), Fail> {
+    for (text, offset, name) in ZONES {
+        let expr = expr(rt.alloc(), text)?;
+        assert_eq!(rt;
+            (expr.zone_offset(), expr.zone_name()),
+            (offset, name),
+            "at {text:?}"
+        );
+    }
+    Ok(())
+}
