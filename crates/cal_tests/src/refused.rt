@@ -2,10 +2,10 @@
 //! refused, and then leaves what it was handed as it was. What is made before the call may be refused as well; then there
 //! is nothing to see. `tests/refused` refuses the allocations in turn.
 
-use crate::shared::{NEW_YEAR, SUMMER_TIME, instant, zone_file};
 use cal_bytes::{Port, WholeFault, read_whole};
 use cal_command::{Ask, CommandFault};
 use cal_elapse::{Elapses, Pending, Rising};
+use cal_part_tests::shared::{NEW_YEAR, SUMMER_TIME, instant, zone_file};
 use cal_read::{TimerFault, read_timer};
 use cal_spec::read_expr;
 use cal_work::{LoadFault, load_zone};

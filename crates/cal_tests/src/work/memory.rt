@@ -3,8 +3,8 @@
 ghost use Rattle.std.specs.Prelude.{None, Some, true, if◌then◌else◌, bytes_eq};
 
 use super::{Row, check, perform};
-use crate::shared::{NEW_YEAR, zone_file};
 use cal_bytes::Port;
+use cal_part_tests::shared::{NEW_YEAR, zone_file};
 use cal_work::System;
 use std::test::Fail;
 

@@ -1,7 +1,7 @@
 use Rattle.std.proofs.Common.{w64, FitsSigned, rules}
 use Rattle.std.proofs.lemmas.Int.{to_z-of_z}
 use Rattle.cal_zone.specs.Local.{seconds_in_all-is}
-use Rattle.cal_tests.proofs.expressions.meaning.has.Goals as goal
+use Rattle.cal_part_tests.proofs.expressions.meaning.has.Goals as goal
 
 pub has-requires-clause-before : goal.has-requires-clause-before
 has-requires-clause-before c =

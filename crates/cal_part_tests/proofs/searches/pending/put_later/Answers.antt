@@ -2,7 +2,7 @@ use Rattle.std.proofs.Common.{FitsSigned, ◌-ℤ◌, ◌≤ℤ◌, arith, pos, 
 use Rattle.std.proofs.lemmas.Int.{ints, to_z-of_z}
 use Rattle.cal_elapse.specs.Near.{IsNear}
 use Rattle.cal_elapse.proofs.RingLemmas.{near_later}
-use Rattle.cal_tests.proofs.searches.pending.put_later.Goals as goal
+use Rattle.cal_part_tests.proofs.searches.pending.put_later.Goals as goal
 
 pub put-requires-in-Some-clause-near : goal.put-requires-in-Some-clause-near
 put-requires-in-Some-clause-near g c = λ member m.

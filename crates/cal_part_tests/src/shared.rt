@@ -1,37 +1,38 @@
-//! What the rooms share: values that are read from texts which are known to be good.
+//! What the rooms of both crates of tests share: values that are read from texts which are known to be good. Where one is
+//! refused, or memory is, the test fails.
 
 use cal_spec::{Expr, read_expr};
 use cal_zone::{Instant, Rules};
 use std::alloc::{AllocError, Global};
 use std::test::Fail;
 
-/// Mon 2024-01-01 00:00:00 UTC.
-pub(crate) const NEW_YEAR: i64 = 1_704_067_200;
+/// Mon 2024-01-01 00:00:00 UTC, in seconds of Unix time.
+pub const NEW_YEAR: i64 = 1_704_067_200;
 
 /// The rule of a clock that is an hour ahead of UTC, and two in summer.
-pub(crate) const SUMMER_TIME: &str = "CET-1CEST,M3.5.0,M10.5.0/3";
+pub const SUMMER_TIME: &str = "CET-1CEST,M3.5.0,M10.5.0/3";
 
 /// The rule of a clock that goes forward an hour, and back ten minutes later.
-pub(crate) const FORWARD_AND_BACK: &str = "AAA0BBB,M3.5.0/2,M3.5.0/3:10";
+pub const FORWARD_AND_BACK: &str = "AAA0BBB,M3.5.0/2,M3.5.0/3:10";
 
-/// An expression.
-pub(crate) fn expr(alloc: Global, text: &str) -> Result<Expr, Fail> {
+/// The expression that a text is.
+pub fn expr(alloc: Global, text: &str) -> Result<Expr, Fail> {
     let Ok(expr) = read_expr(alloc, text) else {
         return Err("an expression is refused".into());
     };
     Ok(expr)
 }
 
-/// The rules of a POSIX rule.
-pub(crate) fn posix(alloc: Global, rule: &str) -> Result<Rules, Fail> {
+/// The rules that a POSIX rule says.
+pub fn posix(alloc: Global, rule: &str) -> Result<Rules, Fail> {
     let Ok(rules) = Rules::posix(alloc, rule) else {
         return Err("a rule is refused".into());
     };
     Ok(rules)
 }
 
-/// An instant.
-pub(crate) fn instant(secs: i64) -> Result<Instant, Fail> {
+/// The instant at a second of Unix time, from 0 to 7,258,211,998.
+pub fn instant(secs: i64) -> Result<Instant, Fail> {
     Ok(Instant::new(secs).ok_or("no instant")?)
 }
 
@@ -40,7 +41,7 @@ const BLOCK: [u8; 54] =
     *b"TZif2\0\0\0\0\0\0\0\0\0\0\0\0\0\0\0\0\0\0\0\0\0\0\0\0\0\0\0\0\0\0\0\0\0\0\x01\0\0\0\x04\0\0\x0e\x10\0\0CET\0";
 
 /// That file of 115 bytes, with the footer `CET-1`.
-pub(crate) fn zone_file(alloc: Global) -> Result<Vec<u8>, AllocError> {
+pub fn zone_file(alloc: Global) -> Result<Vec<u8>, AllocError> {
     let mut bytes = Vec::from_slice(alloc, &BLOCK)?;
     bytes.extend_from_slice(&BLOCK)?;
     bytes.extend_from_slice(b"\nCET-1\n")?;

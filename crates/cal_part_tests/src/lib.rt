@@ -1,0 +1,23 @@
+//! The tests of the parts, on public calls alone: a room for each subject, in which each row stands under its name. What
+//! the contracts say of all arguments is not tested again.
+#![tactic(auto)]
+
+#[cfg(test)]
+mod bytes;
+#[cfg(test)]
+mod elapses;
+#[cfg(test)]
+mod expressions;
+#[cfg(test)]
+mod instants;
+#[cfg(test)]
+mod searches;
+pub mod shared;
+#[cfg(test)]
+mod spans;
+#[cfg(test)]
+mod timers;
+#[cfg(test)]
+mod timestamps;
+#[cfg(test)]
+mod zones;
