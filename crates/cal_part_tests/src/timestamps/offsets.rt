@@ -141,8 +141,24 @@ Wed 1969-12-31 23:59:59 -00:01
     },
 }];
 
-/// What the clock of a zone shows at an instant, read by another clock: the microseconds of a moment, or a fault.
-fn read_back(alloc: Global, zone: Zone, secs: i64) -> Result<Result<i64, StampFault>, Fail> {
+/// Instants on the days on which that clock goes forward and back, to the second, on an ordinary day, and far from now.
+const INSTANTS: [i64; 12] = [
+    1_711_846_799,
+    1_711_846_800,
+    1_711_850_399,
+    1_711_850_400,
+    1_729_987_199,
+    1_729_990_799,
+    1_729_990_800,
+    1_729_994_399,
+    1_729_994_400,
+    1_704_067_200,
+    100_000,
+    7_258_000_000,
+];
+
+/// What the clock of a zone shows at an instant, read by another clock: seconds and microseconds of a moment, or a fault.
+fn read_back(alloc: Global, zone: Zone, secs: i64) -> Result<Result<(i64, i64), StampFault>, Fail> {
     let mut out = Port::new(Vec::new(alloc));
     write_instant(&mut out, zone, instant(secs)?).map_err(|_| "not written")?;
     let bytes = out.into_inner();
@@ -152,18 +168,14 @@ fn read_back(alloc: Global, zone: Zone, secs: i64) -> Result<Result<i64, StampFa
         local: Zone::utc(),
         table: &ZoneTable::new(alloc),
     };
-    Ok(micros(place, text))
+    let found = micros(place, text);
+    Ok(found.map(|micros| (micros / 1_000_000, micros % 1_000_000)))
 }
 
-/// Every instant of a day, two and a half hours and a second apart, is read back as the zone's clock shows it.
-fn expect_read_back(rt: &impl Abort, alloc: Global, zone: Zone, first: i64) -> Result<(), Fail> {
-    for step in 0..10 {
-        let secs = first + step * 9_001;
-        assert_eq!(rt;
-            read_back(alloc, zone, secs)?,
-            Ok(secs * 1_000_000),
-            "at {secs}"
-        );
+/// Each instant is read back as the zone's clock shows it.
+fn expect_read_back(rt: &impl Abort, alloc: Global, zone: Zone) -> Result<(), Fail> {
+    for secs in INSTANTS {
+        assert_eq!(rt; read_back(alloc, zone, secs)?, Ok((secs, 0)), "at {secs}");
     }
     Ok(())
 }
@@ -183,14 +195,10 @@ fn lines_of_reports(rt: HostRuntime) -> Result<(), Fail> {
     expect_settings(&rt, rt.alloc(), &LINES_OF_REPORTS)
 }
 
-/// On the days on which the clock goes forward and back, and an ordinary day.
 #[test]
 fn printed_instants(rt: HostRuntime) -> Result<(), Fail> {
     let rules = posix(rt.alloc(), SUMMER_TIME)?;
-    for first in [1_711_839_600, 1_729_980_000, 1_704_067_200] {
-        expect_read_back(&rt, rt.alloc(), Zone::rules(&rules), first)?;
-        expect_read_back(&rt, rt.alloc(), Zone::utc(), first)?;
-        expect_read_back(&rt, rt.alloc(), zone_east(&rt, -34_200), first)?;
-    }
-    Ok(())
+    expect_read_back(&rt, rt.alloc(), Zone::rules(&rules))?;
+    expect_read_back(&rt, rt.alloc(), Zone::utc())?;
+    expect_read_back(&rt, rt.alloc(), zone_east(&rt, -34_200))
 }
