@@ -5,10 +5,10 @@ use super::timers::CONTINUED_TIMER;
 use super::timespans::SPAN_LIST;
 use super::timestamps::STAMP_LIST;
 use super::zones::EVERY_SECOND;
-use super::{CALENDAR, KnownZones, NOON_THIRTY, Row, check, expect_texts, known_zones, run_row};
+use super::{CALENDAR, KnownZones, NOON_THIRTY, Row, check, known_zones, run_row, status};
 use cal_bytes::{Faulty, Port, Then};
-use cal_request::{RunFault, Status};
-use std::alloc::{AllocError, Global};
+use cal_request::RunFault;
+use std::alloc::AllocError;
 use std::process::Abort;
 use std::test::Fail;
 
@@ -40,7 +40,12 @@ fn check_slow(
     let mut input = Port::new(row.input);
     let ended = run_row(rt, row, zones, &mut input, &mut out, &mut err)?;
     let (out, err) = (out.into_inner(), err.into_inner());
-    expect_texts(rt, row, (out.bytes(), err.bytes(), ended));
+    assert_eq!(rt;
+        (out.bytes(), err.bytes(), ended),
+        (row.out.as_bytes(), row.err.as_bytes(), Ok(status(row))),
+        "at {}",
+        row.about
+    );
     Ok(())
 }
 
@@ -51,14 +56,6 @@ fn slow_writers(rt: HostRuntime) -> Result<(), Fail> {
         check_slow(&rt, *row, &zones)?;
     }
     Ok(())
-}
-
-/// What a writer that failed has, how the run ended, and which of both writers had failed.
-type Cut<'a> = (&'a [u8], Result<Status, RunFault>, (bool, bool));
-
-/// The run of the row was cut so.
-fn expect_cut(rt: &impl Abort, row: Row<'_>, cut: Cut<'_>, wanted: Cut<'_>) {
-    assert_eq!(rt; cut, wanted, "at {}", row.about);
 }
 
 /// A writer of reports that fails once it has this front of them has exactly that, and the run says that it failed.
@@ -75,8 +72,12 @@ fn check_cut_out(
     let ended = run_row(rt, row, zones, &mut input, &mut out, &mut err)?;
     let failed = (out.failed(), err.failed());
     let out = out.into_inner();
-    let wanted = (front, Err(RunFault::OutFailed), (true, false));
-    expect_cut(rt, row, (out.bytes(), ended, failed), wanted);
+    assert_eq!(rt;
+        (out.bytes(), ended, failed),
+        (front, Err(RunFault::OutFailed), (true, false)),
+        "at {}",
+        row.about
+    );
     Ok(())
 }
 
@@ -138,16 +139,6 @@ fn push_instants<'t>(instants: &mut Vec<&'t str>, text: &'t str) -> Result<(), A
     Ok(())
 }
 
-/// The instants that stand whole in a front of a report, and those that a second run gives.
-fn resumed<'t>(alloc: Global, front: &'t str) -> Result<Vec<&'t str>, AllocError> {
-    let mut instants = Vec::new(alloc);
-    push_instants(&mut instants, front)?;
-    if let Some(rest) = RESUMED.get(instants.len()) {
-        push_instants(&mut instants, rest.out)?;
-    }
-    Ok(instants)
-}
-
 /// What stands whole in a cut report and what a second run gives is together the whole.
 #[test]
 fn each_cut_is_resumed(rt: HostRuntime) -> Result<(), Fail> {
@@ -155,8 +146,12 @@ fn each_cut_is_resumed(rt: HostRuntime) -> Result<(), Fail> {
     let mut all = Vec::new(rt.alloc());
     push_instants(&mut all, text)?;
     for limit in 0..=text.len() {
-        let instants = resumed(rt.alloc(), text.get(..limit).unwrap_or(""))?;
-        assert!(rt; instants.as_slice() == all.as_slice(), "after {limit}");
+        let mut instants = Vec::new(rt.alloc());
+        push_instants(&mut instants, text.get(..limit).unwrap_or(""))?;
+        if let Some(rest) = RESUMED.get(instants.len()) {
+            push_instants(&mut instants, rest.out)?;
+        }
+        assert_eq!(rt; instants.as_slice(), all.as_slice(), "after {limit}");
     }
     Ok(())
 }
@@ -176,12 +171,17 @@ fn check_cut_err(
     let ended = run_row(rt, row, zones, &mut input, &mut out, &mut err)?;
     let failed = (out.failed(), err.failed());
     let (out, err) = (out.into_inner(), err.into_inner());
-    let wanted = (front, Err(RunFault::ErrFailed), (false, true));
-    expect_cut(rt, row, (err.bytes(), ended, failed), wanted);
     // Nothing was offered after the failure.
-    let is_last = err.calls() == front.len() as u64 + 1;
-    assert!(rt;
-        is_last && out.as_slice() == row.out.as_bytes(),
+    let calls = front.len() as u64 + 1;
+    assert_eq!(rt;
+        (out.as_slice(), err.bytes(), err.calls(), ended, failed),
+        (
+            row.out.as_bytes(),
+            front,
+            calls,
+            Err(RunFault::ErrFailed),
+            (false, true)
+        ),
         "at {}",
         row.about
     );
@@ -221,32 +221,25 @@ fn refusals_that_are_cut(rt: HostRuntime) -> Result<(), Fail> {
     Ok(())
 }
 
-/// What stands in a text before these words.
-fn before<'t>(text: &'t str, words: &str) -> Result<&'t str, Fail> {
-    let end = text.find(words).ok_or("the words are missing")?;
-    Ok(text.get(..end).unwrap_or(""))
-}
-
-/// The reports of the stamp list that are written before this byte of its refusals: one before the first of them, and
+/// The refusals of the stamp list, cut after each of their bytes: one report was written before the first of them, and
 /// another before the fourth.
-fn reports_until(limit: usize) -> Result<&'static str, Fail> {
-    let first_three = before(STAMP_LIST.err, "foo")?;
-    let next = if limit < first_three.len() {
-        "\n  Original form: today"
-    } else {
-        "\n  Original form: yesterday"
-    };
-    before(STAMP_LIST.out, next)
-}
-
-/// The refusals of the stamp list, cut after each of their bytes.
 fn check_cuts_of_stamps(rt: &(impl Abort + AllocGlobal), then: Then) -> Result<(), Fail> {
+    let (out, err) = (STAMP_LIST.out, STAMP_LIST.err);
+    let fourth = err.find("foo").ok_or("no fourth refusal")?;
+    let second = out
+        .find("\n  Original form: today")
+        .ok_or("no second report")?;
+    let third = out
+        .find("\n  Original form: yesterday")
+        .ok_or("no third report")?;
     let zones = known_zones(rt.alloc())?;
-    let text = STAMP_LIST.err.as_bytes();
-    for limit in 0..text.len() {
-        let out = reports_until(limit)?;
-        let row = Row { out, ..STAMP_LIST };
-        check_cut_err(rt, row, &zones, &text[..limit], then)?;
+    for limit in 0..err.len() {
+        let end = if limit < fourth { second } else { third };
+        let row = Row {
+            out: out.get(..end).unwrap_or(""),
+            ..STAMP_LIST
+        };
+        check_cut_err(rt, row, &zones, &err.as_bytes()[..limit], then)?;
     }
     Ok(())
 }
