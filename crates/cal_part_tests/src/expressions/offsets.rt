@@ -146,28 +146,17 @@ const ZONES: [(&str, Option<i32>, Option<&str>); 9] = [
 ];
 
 #[test]
-fn places(rt: HostRuntime) {
-    expect_normal_texts(&rt, rt.alloc(), PLACES);
+fn accepted(rt: HostRuntime) {
+    for lines in [PLACES, BOUNDS] {
+        expect_normal_texts(&rt, rt.alloc(), lines);
+    }
 }
 
 #[test]
-fn bounds(rt: HostRuntime) {
-    expect_normal_texts(&rt, rt.alloc(), BOUNDS);
-}
-
-#[test]
-fn no_offsets(rt: HostRuntime) {
-    expect_refusals(&rt, rt.alloc(), &NO_OFFSETS);
-}
-
-#[test]
-fn first_words(rt: HostRuntime) {
-    expect_refusals(&rt, rt.alloc(), &FIRST_WORDS);
-}
-
-#[test]
-fn order(rt: HostRuntime) {
-    expect_refusals(&rt, rt.alloc(), &ORDER);
+fn refused(rt: HostRuntime) {
+    for table in [&NO_OFFSETS[..], &FIRST_WORDS, &ORDER] {
+        expect_refusals(&rt, rt.alloc(), table);
+    }
 }
 
 #[test]
