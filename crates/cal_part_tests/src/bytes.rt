@@ -53,20 +53,19 @@ fn expect_reading(rt: &(impl Abort + AllocGlobal), reading: Reading) -> Result<(
     let (text, step, then, limit, wanted, calls) = reading;
     assert!(rt; step > 0);
     let bytes = text.as_bytes().to_vec(rt.alloc())?;
-    let (whole, made) = read(
-        rt.alloc(),
-        Faulty::new(bytes, step, text.len(), then),
-        limit,
-    );
-    assert!(rt;
-        made == calls && whole.is_ok() == wanted.is_none(),
-        "{text} by {step} at {limit}"
-    );
-    match whole {
-        Ok(whole) => assert_eq!(rt; whole.as_slice(), text.as_bytes(), "by {step}"),
-        Err(fault) => assert_eq!(rt; Some(fault), wanted, "{text} by {step} at {limit}"),
-    }
+    let reader = Faulty::new(bytes, step, text.len(), then);
+    let (whole, made) = read(rt.alloc(), reader, limit);
+    let holds = made == calls && is_wanted(text, wanted, &whole);
+    assert!(rt; holds, "{text} by {step} at {limit}");
     Ok(())
+}
+
+/// Whether what was read is the text, or its fault the one that is wanted.
+fn is_wanted(text: &str, wanted: Option<WholeFault>, whole: &Result<Vec<u8>, WholeFault>) -> bool {
+    match whole {
+        Ok(whole) => wanted.is_none() && whole.as_slice() == text.as_bytes(),
+        Err(fault) => wanted == Some(*fault),
+    }
 }
 
 /// Each reading is as its row says.
@@ -91,9 +90,9 @@ fn expect_fetch(
     held: &str,
 ) {
     assert!(rt; !reader.failed());
-    assert_eq!(rt; reader.fetch(into), count, "for {held}");
-    assert_eq!(rt; &*into, held.as_bytes());
-    assert!(rt; reader.failed() == count.is_none(), "for {held}");
+    let given = reader.fetch(into);
+    let holds = given == count && reader.failed() == count.is_none();
+    assert!(rt; holds && &*into == held.as_bytes(), "for {held}");
 }
 
 #[test]
@@ -147,11 +146,8 @@ fn expect_written(rt: &(impl Abort + AllocGlobal), writers: &[Writer]) {
     for (step, limit, then, written, calls) in writers {
         assert!(rt; *step > 0);
         let (fault, writer) = write(Faulty::new(Vec::new(rt.alloc()), *step, *limit, *then));
-        assert_eq!(rt; writer.bytes(), written.as_bytes());
-        assert!(rt;
-            writer.calls() == *calls && fault.is_some() == (*written != "abc"),
-            "at {limit}"
-        );
+        let holds = writer.calls() == *calls && fault.is_some() == (*written != "abc");
+        assert!(rt; holds && writer.bytes() == written.as_bytes(), "at {limit}");
     }
 }
 
@@ -160,16 +156,23 @@ fn writes_until_it_fails(rt: HostRuntime) {
     expect_written(&rt, &WRITERS);
 }
 
+/// What a buffer answers to `abc` and to being settled over a writer that takes so many bytes, whether it has failed, and
+/// the writer.
+fn hold_back(alloc: Global, limit: usize) -> Result<((Option<usize>, bool, bool), Faulty), Fail> {
+    let writer = Faulty::new(Vec::new(alloc), 2, limit, Then::Error);
+    let mut port = Port::new(BufWriter::new(alloc, writer)?);
+    let answers = (port.offer(b"abc"), port.settle(), port.failed());
+    let (writer, _) = port.into_inner().into_parts();
+    Ok((answers, writer))
+}
+
 /// What a buffer holds back goes out when it is settled, as far as the writer takes it.
 #[test]
 fn held_back_until_settled(rt: HostRuntime) -> Result<(), Fail> {
     for (limit, is_settled, written) in [(3, true, "abc"), (2, false, "ab")] {
-        let writer = Faulty::new(Vec::new(rt.alloc()), 2, limit, Then::Error);
-        let mut port = Port::new(BufWriter::new(rt.alloc(), writer)?);
-        let answers = (port.offer(b"abc"), port.settle(), port.failed());
-        assert_eq!(rt; answers, (Some(3), is_settled, !is_settled), "at {limit}");
-        let (writer, _) = port.into_inner().into_parts();
-        assert_eq!(rt; writer.bytes(), written.as_bytes(), "at {limit}");
+        let (answers, writer) = hold_back(rt.alloc(), limit)?;
+        let holds = answers == (Some(3), is_settled, !is_settled);
+        assert!(rt; holds && writer.bytes() == written.as_bytes(), "at {limit}");
     }
     Ok(())
 }

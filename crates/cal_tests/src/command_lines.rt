@@ -83,7 +83,7 @@ fn push_zones(line: &mut String, zones: &[ZoneItem]) -> Result<(), Fail> {
 fn check(rt: &(impl Abort + AllocGlobal), rows: &[(&str, &str)]) -> Result<(), Fail> {
     for (line, want) in rows {
         let found = shown(rt.alloc(), line)?;
-        assert_eq!(rt; found.as_str(), *want, "at {line}");
+        assert!(rt; found.as_str() == *want, "{found} at {line}");
     }
     Ok(())
 }
@@ -346,14 +346,6 @@ fn calls_for_help(rt: HostRuntime) -> Result<(), Fail> {
     check(&rt, &CALLS_FOR_HELP)
 }
 
-/// The text of help or usage that the words call for.
-fn fault_text(alloc: Global, line: &str) -> Result<String, Fail> {
-    match read(alloc, line)? {
-        Err(CommandFault::Usage(text) | CommandFault::Help(text)) => Ok(text),
-        _ => Err("no text".into()),
-    }
-}
-
 /// Lines that call for the text of help or usage.
 static TOLD: [&str; 11] = [
     "--help",
@@ -369,15 +361,25 @@ static TOLD: [&str; 11] = [
     "calendar|--nope|a",
 ];
 
-/// Texts of help and usage end with one line feed, and have no line of more than 80 bytes.
+/// Whether a text ends with one line feed.
+fn ends_once(text: &str) -> bool {
+    text.ends_with('\n') && !text.ends_with("\n\n")
+}
+
+/// Whether no line of a text has more than 80 bytes.
+fn is_narrow(text: &str) -> bool {
+    text.lines().all(|row| row.len() <= 80)
+}
+
+/// Texts of help and usage end with one line feed, as the words of no other fault do, and have no line of more than 80
+/// bytes.
 #[test]
 fn texts_fit_a_terminal(rt: HostRuntime) -> Result<(), Fail> {
     for line in &TOLD {
-        let fault_text = fault_text(rt.alloc(), line)?;
-        let text = fault_text.as_str();
-        let ends = text.ends_with('\n') && !text.ends_with("\n\n");
-        let fits = text.lines().all(|row| row.len() <= 80);
-        assert!(rt; ends && fits, "{text}");
+        let fault = read(rt.alloc(), line)?.err().ok_or("no fault")?;
+        let text = fault.words();
+        let fits = ends_once(text) && is_narrow(text);
+        assert!(rt; fits, "{text}");
     }
     Ok(())
 }

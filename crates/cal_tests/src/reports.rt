@@ -105,19 +105,40 @@ fn known_zones(alloc: Global) -> Result<KnownZones, Fail> {
 fn check(rt: &(impl Abort + AllocGlobal), rows: &[Row<'_>]) -> Result<(), Fail> {
     let zones = known_zones(rt.alloc())?;
     for row in rows {
-        let mut out = Port::new(Vec::new(rt.alloc()));
-        let mut err = Port::new(Vec::new(rt.alloc()));
-        let mut input = Port::new(row.input);
-        let ended = run_row(rt, *row, &zones, &mut input, &mut out, &mut err)?;
-        let (out, err) = (out.into_inner(), err.into_inner());
-        assert_eq!(rt;
-            (out.as_slice(), err.as_slice(), ended),
-            (row.out.as_bytes(), row.err.as_bytes(), Ok(status(*row))),
-            "at {}",
-            row.about
-        );
+        check_input(rt, *row, &zones, &mut Port::new(row.input))?;
     }
     Ok(())
+}
+
+/// The row writes its texts, over that timer file.
+fn check_input<R: Source>(
+    rt: &(impl Abort + AllocGlobal),
+    row: Row<'_>,
+    zones: &KnownZones,
+    input: &mut R,
+) -> Result<(), Fail>
+    requires { R.is_failed input.old ≡ false }
+{
+    let mut out = Port::new(Vec::new(rt.alloc()));
+    let mut err = Port::new(Vec::new(rt.alloc()));
+    let ended = run_row(rt, row, zones, input, &mut out, &mut err)?;
+    let (out, err) = (out.into_inner(), err.into_inner());
+    expect_texts(rt, row, (out.as_slice(), err.as_slice(), ended));
+    Ok(())
+}
+
+/// What a run wrote on both outputs, and how it ended.
+type Written<'a> = (&'a [u8], &'a [u8], Result<Status, RunFault>);
+
+/// The row's texts were written, and its run ended well.
+fn expect_texts(rt: &impl Abort, row: Row<'_>, written: Written<'_>) {
+    let wanted = (row.out.as_bytes(), row.err.as_bytes(), Ok(status(row)));
+    expect_written(rt, row.about, written, wanted);
+}
+
+/// What was written is what is wanted.
+fn expect_written(rt: &impl Abort, about: &str, written: Written<'_>, wanted: Written<'_>) {
+    assert_eq!(rt; written, wanted, "at {about}");
 }
 
 /// How the run of a row ends.

@@ -19,18 +19,27 @@ struct Done {
     status: u8,
 }
 
+impl Done {
+    /// What the outputs have, and the status.
+    fn of(out: Port<BufWriter<Vec<u8>>>, err: Port<Vec<u8>>, status: u8) -> Done {
+        let (out, _left) = out.into_inner().into_parts();
+        let err = err.into_inner();
+        Done { out, err, status }
+    }
+}
+
 /// Does what the words of a line ask for, which are joined by `|`.
 fn perform<S: System>(alloc: Global, system: &S, line: &str) -> Result<Done, Fail> {
     let words: Vec<&str> = line.split('|').collect(alloc)?;
+    perform_words(alloc, system, words.as_slice())
+}
+
+/// Does what the words ask for.
+fn perform_words<S: System>(alloc: Global, system: &S, words: &[&str]) -> Result<Done, Fail> {
     let mut out = Port::new(BufWriter::new(alloc, Vec::new(alloc))?);
     let mut err = Port::new(Vec::new(alloc));
-    let ended = work(alloc, system, words.as_slice(), &mut out, &mut err);
-    let (out, _left) = out.into_inner().into_parts();
-    Ok(Done {
-        out,
-        err: err.into_inner(),
-        status: ended.status,
-    })
+    let ended = work(alloc, system, words, &mut out, &mut err);
+    Ok(Done::of(out, err, ended.status))
 }
 
 /// A line of words, the texts on standard output and on standard error, and the status.
@@ -42,13 +51,19 @@ fn check<S: System>(
     system: &S,
     rows: &[Row<'_>],
 ) -> Result<(), Fail> {
-    for (line, out, err, status) in rows {
-        let done = perform(rt.alloc(), system, line)?;
-        assert_eq!(rt;
-            (done.out.as_slice(), done.err.as_slice(), done.status),
-            (out.as_bytes(), err.as_bytes(), *status),
-            "at {line}"
-        );
+    for row in rows {
+        let done = perform(rt.alloc(), system, row.0)?;
+        expect_done(rt, &done, *row);
     }
     Ok(())
+}
+
+/// What was done is what stands beside the line.
+fn expect_done(rt: &impl Abort, done: &Done, row: Row<'_>) {
+    let (line, out, err, status) = row;
+    assert_eq!(rt;
+        (done.out.as_slice(), done.err.as_slice(), done.status),
+        (out.as_bytes(), err.as_bytes(), status),
+        "at {line}"
+    );
 }

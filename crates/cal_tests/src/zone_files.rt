@@ -4,6 +4,7 @@ use cal_bytes::{Faulty, Port, Then};
 use cal_part_tests::shared::zone_file;
 use cal_work::{LoadFault, load_zone};
 use cal_zone::{ZoneFault, ZoneTable, place};
+use std::alloc::Global;
 use std::process::Abort;
 use std::test::Fail;
 
@@ -43,19 +44,28 @@ struct Row<'a> {
 fn check(rt: &(impl Abort + AllocGlobal), rows: &[Row<'_>]) -> Result<(), Fail> {
     let mut table = ZoneTable::new(rt.alloc());
     for row in rows {
-        let bytes = row.bytes.to_vec(rt.alloc())?;
-        let mut from = Port::new(Faulty::new(bytes, 50, row.limit, row.then));
-        let loaded = load_zone(rt.alloc(), &mut table, row.name, &mut from);
-        let failed = row.want == Err(LoadFault::ReadFailed);
-        assert_eq!(rt;
-            (loaded, from.failed(), midnights(&table)),
-            (row.want, failed, row.midnights),
-            "at {} {:?}",
-            row.name,
-            row.want
-        );
+        let loaded = load(rt.alloc(), &mut table, *row)?;
+        expect_loaded(rt, *row, (loaded, midnights(&table)));
     }
     Ok(())
+}
+
+/// What comes of loading a file, and whether its reader failed.
+type Loaded = (Result<(), LoadFault>, bool);
+
+/// Loads the row's file into the table.
+fn load(alloc: Global, table: &mut ZoneTable, row: Row<'_>) -> Result<Loaded, Fail> {
+    let bytes = row.bytes.to_vec(alloc)?;
+    let mut from = Port::new(Faulty::new(bytes, 50, row.limit, row.then));
+    let loaded = load_zone(alloc, table, row.name, &mut from);
+    Ok((loaded, from.failed()))
+}
+
+/// It came to what the row says, and so does the table.
+fn expect_loaded(rt: &impl Abort, row: Row<'_>, found: (Loaded, [Option<i64>; 4])) {
+    let failed = row.want == Err(LoadFault::ReadFailed);
+    let wanted = ((row.want, failed), row.midnights);
+    assert_eq!(rt; found, wanted, "at {} {:?}", row.name, row.want);
 }
 
 /// A zone file that is loaded under the name `Test/Fixed`.

@@ -62,17 +62,42 @@ fn searches_agree(
     base: i64,
 ) -> Result<(), Fail> {
     let expr = expr(rt.alloc(), text)?;
-    let mut elapses = elapses_of(rt.alloc(), text, zone, base)?;
-    let mut counted: i64 = base.saturating_sub(93_599);
+    let elapses = elapses_of(rt.alloc(), text, zone, base)?;
+    expect_counts(rt, text, &expr, elapses, base)
+}
+
+/// So it is for the elapses of a text's expression after that base.
+fn expect_counts(
+    rt: &impl Abort,
+    text: &str,
+    expr: &Expr,
+    mut elapses: Elapses<'_>,
+    base: i64,
+) -> Result<(), Fail> {
+    let agree = counts_agree(rt, &mut elapses, expr, base.saturating_sub(93_599))?;
+    assert!(rt; agree, "{text}");
+    Ok(())
+}
+
+/// Whether it is, where the local seconds from `first` on are counted.
+fn counts_agree(
+    rt: &impl Abort,
+    elapses: &mut Elapses<'_>,
+    expr: &Expr,
+    first: i64,
+) -> Result<bool, Fail> {
+    let mut counted = first;
     let mut want: u64 = 1;
     for _ in 0..50 {
         let elapse = elapses.next().ok_or("no elapse")?;
         let last = elapse.saturating_add(93_599);
-        want = want.saturating_add(matches_between(rt, &expr, counted, last));
+        want = want.saturating_add(matches_between(rt, expr, counted, last));
         counted = last.saturating_add(1);
-        assert_eq!(rt; elapses.searches(), want, "{text}");
+        if elapses.searches() != want {
+            return Ok(false);
+        }
     }
-    Ok(())
+    Ok(true)
 }
 
 /// Expressions whose first 50 elapses lie within some days.

@@ -3,44 +3,55 @@
 use super::timers::CONTINUED_TIMER;
 use super::timespans::SPAN_LIST;
 use super::timestamps::STAMP_LIST;
-use super::{KnownZones, NOON_THIRTY, Row, request, run_request, status};
+use super::{KnownZones, NOON_THIRTY, Row, Written, expect_texts, request, run_request};
 use cal_bytes::Port;
 use cal_part_tests::shared::SUMMER_TIME;
-use cal_request::RunFault;
+use cal_request::{Request, RunFault};
 use cal_zone::{Instant, Rules, ZoneTable};
 use std::process::Abort;
 
 /// The row writes its texts, over writers that have their room; or it has one text, takes memory for it, and writes
-/// nothing where memory is refused.
+/// nothing where memory is refused. Where it is refused before the run there is nothing to see.
 fn check_refused(rt: &(impl Abort + AllocGlobal), row: Row<'_>) {
-    // Where memory is refused before the run there is nothing to see.
-    let (Ok(summer), Ok(request), Ok(out), Ok(err), Some(now)) = (
-        Rules::posix(rt.alloc(), SUMMER_TIME),
-        request(rt.alloc(), row),
-        Vec::with_capacity(rt.alloc(), 4_096),
-        Vec::with_capacity(rt.alloc(), 4_096),
-        Instant::new(row.now),
-    ) else {
+    let (Ok(request), Some(now)) = (request(rt.alloc(), row), Instant::new(row.now)) else {
+        return;
+    };
+    let Ok(summer) = Rules::posix(rt.alloc(), SUMMER_TIME) else {
         return;
     };
     let table = ZoneTable::new(rt.alloc());
-    let zones = KnownZones { summer, table };
+    check_request(rt, row, &request, now, &KnownZones { summer, table });
+}
+
+/// So does a request that was made of the row.
+fn check_request(
+    rt: &(impl Abort + AllocGlobal),
+    row: Row<'_>,
+    request: &Request,
+    now: Instant,
+    zones: &KnownZones,
+) {
+    let (Ok(out), Ok(err)) = (
+        Vec::with_capacity(rt.alloc(), 4_096),
+        Vec::with_capacity(rt.alloc(), 4_096),
+    ) else {
+        return;
+    };
     let (mut out, mut err) = (Port::new(out), Port::new(err));
     let mut input = Port::new(row.input);
-    let ended = run_request(
-        rt, row, &request, now, &zones, &mut input, &mut out, &mut err,
-    );
+    let ended = run_request(rt, row, request, now, zones, &mut input, &mut out, &mut err);
     let (out, err) = (out.into_inner(), err.into_inner());
+    expect_texts_or_none(rt, row, (out.as_slice(), err.as_slice(), ended));
+}
+
+/// The row's texts were written; or memory was refused to a verb that takes it, and nothing was written.
+fn expect_texts_or_none(rt: &impl Abort, row: Row<'_>, written: Written<'_>) {
+    let (out, err, ended) = written;
     if ended == Err(RunFault::NoMemory) && row.verb.seeks_elapses() {
         assert!(rt; out.is_empty() && err.is_empty(), "at {}", row.about);
-        return;
+    } else {
+        expect_texts(rt, row, written);
     }
-    assert_eq!(rt;
-        (out.as_slice(), err.as_slice(), ended),
-        (row.out.as_bytes(), row.err.as_bytes(), Ok(status(row))),
-        "at {}",
-        row.about
-    );
 }
 
 #[test]

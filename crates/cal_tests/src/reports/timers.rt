@@ -1,6 +1,6 @@
 //! Reports of timer files.
 
-use super::{CALENDAR, KnownZones, Local, Row, check, known_zones, run_row, status};
+use super::{CALENDAR, KnownZones, Local, Row, check, check_input, known_zones};
 use cal_bytes::{Faulty, Port, Then};
 use cal_part_tests::shared::NEW_YEAR;
 use cal_request::Verb;
@@ -256,22 +256,25 @@ fn check_reader(
     assert!(rt; step > 0);
     let bytes = Vec::from_slice(rt.alloc(), row.input)?;
     let mut input = Port::new(Faulty::new(bytes, step, limit, then));
-    let mut out = Port::new(Vec::new(rt.alloc()));
-    let mut err = Port::new(Vec::new(rt.alloc()));
-    let ended = run_row(rt, row, zones, &mut input, &mut out, &mut err)?;
-    let (out, err) = (out.into_inner(), err.into_inner());
-    assert_eq!(rt;
-        (out.as_slice(), err.as_slice(), ended),
-        (row.out.as_bytes(), row.err.as_bytes(), Ok(status(row))),
-        "at {limit}"
-    );
+    check_input(rt, row, zones, &mut input)
+}
+
+/// So it does by each of these readers.
+fn check_readers(
+    rt: &(impl Abort + AllocGlobal),
+    row: Row<'_>,
+    readers: &[Reader],
+) -> Result<(), Fail> {
+    let zones = known_zones(rt.alloc())?;
+    for reader in readers {
+        check_reader(rt, &zones, row, *reader)?;
+    }
     Ok(())
 }
 
 #[test]
 fn a_slow_reader(rt: HostRuntime) -> Result<(), Fail> {
-    let zones = known_zones(rt.alloc())?;
-    check_reader(&rt, &zones, CONTINUED_TIMER, (1, 9_999, Then::Error))
+    check_readers(&rt, CONTINUED_TIMER, &[(1, 9_999, Then::Error)])
 }
 
 /// The timer file where it can't be read.
@@ -284,10 +287,9 @@ const UNREAD_TIMER: Row<'static> = Row {
 /// Readers that fail after so many bytes, also after the last one.
 #[test]
 fn failing_readers(rt: HostRuntime) -> Result<(), Fail> {
-    let zones = known_zones(rt.alloc())?;
     for limit in 0..=CONTINUED_FILE.len() {
-        check_reader(&rt, &zones, UNREAD_TIMER, (64, limit, Then::Error))?;
-        check_reader(&rt, &zones, UNREAD_TIMER, (1, limit, Then::Interrupted))?;
+        let readers = [(64, limit, Then::Error), (1, limit, Then::Interrupted)];
+        check_readers(&rt, UNREAD_TIMER, &readers)?;
     }
     Ok(())
 }
@@ -300,7 +302,6 @@ const ENDLESS_TIMER: Row<'static> = Row {
 
 #[test]
 fn a_reader_that_never_ends(rt: HostRuntime) -> Result<(), Fail> {
-    let zones = known_zones(rt.alloc())?;
     let limit = CONTINUED_FILE.len();
-    check_reader(&rt, &zones, ENDLESS_TIMER, (1_024, limit, Then::Endless))
+    check_readers(&rt, ENDLESS_TIMER, &[(1_024, limit, Then::Endless)])
 }

@@ -5,9 +5,9 @@ use super::timers::CONTINUED_TIMER;
 use super::timespans::SPAN_LIST;
 use super::timestamps::STAMP_LIST;
 use super::zones::EVERY_SECOND;
-use super::{CALENDAR, KnownZones, NOON_THIRTY, Row, check, known_zones, run_row, status};
+use super::{CALENDAR, KnownZones, NOON_THIRTY, Row, check, expect_texts, known_zones, run_row};
 use cal_bytes::{Faulty, Port, Then};
-use cal_request::RunFault;
+use cal_request::{RunFault, Status};
 use std::alloc::AllocError;
 use std::process::Abort;
 use std::test::Fail;
@@ -40,12 +40,7 @@ fn check_slow(
     let mut input = Port::new(row.input);
     let ended = run_row(rt, row, zones, &mut input, &mut out, &mut err)?;
     let (out, err) = (out.into_inner(), err.into_inner());
-    assert_eq!(rt;
-        (out.bytes(), err.bytes(), ended),
-        (row.out.as_bytes(), row.err.as_bytes(), Ok(status(row))),
-        "at {}",
-        row.about
-    );
+    expect_texts(rt, row, (out.bytes(), err.bytes(), ended));
     Ok(())
 }
 
@@ -56,6 +51,14 @@ fn slow_writers(rt: HostRuntime) -> Result<(), Fail> {
         check_slow(&rt, *row, &zones)?;
     }
     Ok(())
+}
+
+/// What a writer that failed has, how the run ended, and which of both writers had failed.
+type Cut<'a> = (&'a [u8], Result<Status, RunFault>, (bool, bool));
+
+/// The run of the row was cut so.
+fn expect_cut(rt: &impl Abort, row: Row<'_>, cut: Cut<'_>, wanted: Cut<'_>) {
+    assert_eq!(rt; cut, wanted, "at {}", row.about);
 }
 
 /// A writer of reports that fails once it has this front of them has exactly that, and the run says that it failed.
@@ -72,12 +75,8 @@ fn check_cut_out(
     let ended = run_row(rt, row, zones, &mut input, &mut out, &mut err)?;
     let failed = (out.failed(), err.failed());
     let out = out.into_inner();
-    assert_eq!(rt;
-        (out.bytes(), ended, failed),
-        (front, Err(RunFault::OutFailed), (true, false)),
-        "at {}",
-        row.about
-    );
+    let wanted = (front, Err(RunFault::OutFailed), (true, false));
+    expect_cut(rt, row, (out.bytes(), ended, failed), wanted);
     Ok(())
 }
 
@@ -139,6 +138,15 @@ fn push_instants<'t>(instants: &mut Vec<&'t str>, text: &'t str) -> Result<(), A
     Ok(())
 }
 
+/// Puts the instants that stand whole in a front of a report, and those that a second run gives, at the end of a list.
+fn push_resumed(instants: &mut Vec<&'static str>, front: &'static str) -> Result<(), AllocError> {
+    push_instants(instants, front)?;
+    if let Some(rest) = RESUMED.get(instants.len()) {
+        push_instants(instants, rest.out)?;
+    }
+    Ok(())
+}
+
 /// What stands whole in a cut report and what a second run gives is together the whole.
 #[test]
 fn each_cut_is_resumed(rt: HostRuntime) -> Result<(), Fail> {
@@ -147,11 +155,8 @@ fn each_cut_is_resumed(rt: HostRuntime) -> Result<(), Fail> {
     push_instants(&mut all, text)?;
     for limit in 0..=text.len() {
         let mut instants = Vec::new(rt.alloc());
-        push_instants(&mut instants, text.get(..limit).unwrap_or(""))?;
-        if let Some(rest) = RESUMED.get(instants.len()) {
-            push_instants(&mut instants, rest.out)?;
-        }
-        assert_eq!(rt; instants.as_slice(), all.as_slice(), "after {limit}");
+        push_resumed(&mut instants, text.get(..limit).unwrap_or(""))?;
+        assert!(rt; instants.as_slice() == all.as_slice(), "after {limit}");
     }
     Ok(())
 }
@@ -171,17 +176,12 @@ fn check_cut_err(
     let ended = run_row(rt, row, zones, &mut input, &mut out, &mut err)?;
     let failed = (out.failed(), err.failed());
     let (out, err) = (out.into_inner(), err.into_inner());
+    let wanted = (front, Err(RunFault::ErrFailed), (false, true));
+    expect_cut(rt, row, (err.bytes(), ended, failed), wanted);
     // Nothing was offered after the failure.
-    let calls = front.len() as u64 + 1;
-    assert_eq!(rt;
-        (out.as_slice(), err.bytes(), err.calls(), ended, failed),
-        (
-            row.out.as_bytes(),
-            front,
-            calls,
-            Err(RunFault::ErrFailed),
-            (false, true)
-        ),
+    let is_last = err.calls() == front.len() as u64 + 1;
+    assert!(rt;
+        is_last && out.as_slice() == row.out.as_bytes(),
         "at {}",
         row.about
     );
@@ -221,32 +221,44 @@ fn refusals_that_are_cut(rt: HostRuntime) -> Result<(), Fail> {
     Ok(())
 }
 
-/// The refusals of the stamp list, cut after each of their bytes: one report was written before the first of them, and
+/// What stands in a text before these words.
+fn before<'t>(text: &'t str, words: &str) -> Result<&'t str, Fail> {
+    let end = text.find(words).ok_or("the words are missing")?;
+    Ok(text.get(..end).unwrap_or(""))
+}
+
+/// The reports of the stamp list that are written before this byte of its refusals: one before the first of them, and
 /// another before the fourth.
-fn check_cuts_of_stamps(rt: &(impl Abort + AllocGlobal), then: Then) -> Result<(), Fail> {
-    let (out, err) = (STAMP_LIST.out, STAMP_LIST.err);
-    let fourth = err.find("foo").ok_or("no fourth refusal")?;
-    let second = out
-        .find("\n  Original form: today")
-        .ok_or("no second report")?;
-    let third = out
-        .find("\n  Original form: yesterday")
-        .ok_or("no third report")?;
+fn reports_until(stamps: Row<'static>, limit: usize) -> Result<&'static str, Fail> {
+    let first_three = before(stamps.err, "foo")?;
+    let next = if limit < first_three.len() {
+        "\n  Original form: today"
+    } else {
+        "\n  Original form: yesterday"
+    };
+    before(stamps.out, next)
+}
+
+/// The refusals of the stamp list, cut after each of their bytes.
+fn check_cuts_of_stamps(
+    rt: &(impl Abort + AllocGlobal),
+    stamps: Row<'static>,
+    then: Then,
+) -> Result<(), Fail> {
     let zones = known_zones(rt.alloc())?;
-    for limit in 0..err.len() {
-        let end = if limit < fourth { second } else { third };
-        let row = Row {
-            out: out.get(..end).unwrap_or(""),
-            ..STAMP_LIST
-        };
-        check_cut_err(rt, row, &zones, &err.as_bytes()[..limit], then)?;
+    let text = stamps.err.as_bytes();
+    for limit in 0..text.len() {
+        let out = reports_until(stamps, limit)?;
+        let row = Row { out, ..stamps };
+        check_cut_err(rt, row, &zones, &text[..limit], then)?;
     }
     Ok(())
 }
 
 #[test]
 fn refusals_of_stamps_that_are_cut(rt: HostRuntime) -> Result<(), Fail> {
-    check_cuts_of_stamps(&rt, Then::Error)?;
-    check_cuts_of_stamps(&rt, Then::Interrupted)?;
-    check_cuts_of_stamps(&rt, Then::Zero)
+    for then in [Then::Error, Then::Interrupted, Then::Zero] {
+        check_cuts_of_stamps(&rt, STAMP_LIST, then)?;
+    }
+    Ok(())
 }
