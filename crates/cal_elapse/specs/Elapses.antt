@@ -2,7 +2,7 @@
 use Rattle.std.specs.Prelude.{◌≡◌, ◌⊎◌, ◌↔◌, ◌<◌, ℕ, Bool, true, List, [], ◌∷◌, Option, Some, ℤ, ◌<ℤ◌, int_lt, map, filter}
 use Rattle.std.specs.List.{filter_map, range_with_len}
 use Rattle.cal_zone.specs.Local.{seconds_in_all}
-use Rattle.cal_rising.specs.RisingList.{Has, IsRising, union}
+use Rattle.cal_rising.specs.RisingList.{Has, IsRising, union, without}
 
 -- what an expression in a zone means: the local seconds that match, and the place of a local second on the
 -- clock of Unix time, which it lacks where the zone's clock skips it
@@ -18,6 +18,10 @@ places e = filter_map e.place (filter e.matches (range_with_len 0 seconds_in_all
 unfoldable pub elapses_after : List Timed → ℤ → List ℤ
 elapses_after es b = union (map (λ e. filter (int_lt b) (places e)) es)
 
+-- the elapses after b of the first ones that are elapses of none of the second ones, the exceptions
+unfoldable pub elapses_except : List Timed → List Timed → ℤ → List ℤ
+elapses_except es excepts b = without (elapses_after es b) (elapses_after excepts b)
+
 -- a local second that matches has its place here
 pub record IsPlace (e : Timed) (i : ℤ) : Type 0 where
   pub local : ℕ
@@ -29,6 +33,15 @@ pub record IsPlace (e : Timed) (i : ℤ) : Type 0 where
 abbrev pub IsElapse : List Timed → ℤ → Type 0
 IsElapse [] i = ⊥
 IsElapse (e ∷ es) i = IsPlace e i ⊎ IsElapse es i
+
+-- the number is an elapse of one of the first ones, and of no exception
+abbrev pub IsElapseExcept : List Timed → List Timed → ℤ → Type 0
+IsElapseExcept es excepts i = IsElapse es i × (IsElapse excepts i → ⊥)
+
+-- the list rises, and has exactly the numbers above b of which this holds
+pub record AreAbove (Holds : ℤ → Type 0) (b : ℤ) (xs : List ℤ) : Type 0 where
+  pub rises : IsRising xs
+  pub members : (i : ℤ) → Has xs i ↔ ((b <ℤ i) × Holds i)
 
 -- the list rises, and has exactly the elapses above b
 pub record AreElapses (es : List Timed) (b : ℤ) (xs : List ℤ) : Type 0 where

@@ -20,6 +20,10 @@ timer_keys =
     codes "OnActiveSec" ∷ codes "OnBootSec" ∷ codes "OnStartupSec" ∷ codes "OnUnitActiveSec"
     ∷ codes "OnUnitInactiveSec" ∷ codes "OnCalendar" ∷ []
 
+-- the key of exceptions, which begins as systemd.unit(5) says of settings that it leaves to others
+abbrev pub exception_key : List ℕ
+exception_key = codes "X-ExceptOnCalendar"
+
 abbrev pub has_no_value : Assigned → Bool
 has_no_value a = length a.value == 0
 
@@ -30,9 +34,20 @@ is_reset a = has_no_value a && list_any (bytes_eq a.key) timer_keys
 unfoldable pub is_expression : Assigned → Bool
 is_expression a = not (has_no_value a) && bytes_eq a.key (codes "OnCalendar")
 
+-- the key of exceptions empties their list by an empty value, and with a value it is an exception's
+unfoldable pub is_exception_reset : Assigned → Bool
+is_exception_reset a = has_no_value a && bytes_eq a.key exception_key
+
+unfoldable pub is_exception : Assigned → Bool
+is_exception a = not (has_no_value a) && bytes_eq a.key exception_key
+
 -- the assignments that are on the list: those of expressions that follow the last reset
 unfoldable pub listed : List Assigned → List Assigned
 listed assignments = filter is_expression (after_last is_reset assignments)
+
+-- and those that are on the list of exceptions
+unfoldable pub excepted : List Assigned → List Assigned
+excepted assignments = filter is_exception (after_last is_exception_reset assignments)
 
 -- the most expressions on the list
 abbrev pub most_expressions : ℕ
@@ -70,6 +85,11 @@ entry_of a (Err fault) = None
 -- the entries of the list
 unfoldable pub entries : {E : Type 0} → (List ℕ → Result E SpecFault) → List Assigned → List (Entry E)
 entries read assignments = filter_map (λ a. entry_of a (read a.value)) (listed assignments)
+
+-- what a timer file gives: its expressions and its exceptions, each in the order of the file
+pub record Lists (E : Type 0) : Type 0 where
+  pub expressions : List (Entry E)
+  pub exceptions : List (Entry E)
 
 -- an empty list is nothing to do
 abbrev pub some_entries : {E : Type 0} → List (Entry E) → Result (List (Entry E)) TimerFault

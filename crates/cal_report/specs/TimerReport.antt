@@ -14,7 +14,7 @@ use Rattle.cal_read.specs.declared.timer.fault.TimerFault.{TimerFault}
 use Rattle.cal_spec.specs.Expr.{expr_in}
 use Rattle.cal_spec.specs.Fields.{Fields}
 use Rattle.cal_report.specs.Answer.{refusal_line}
-use Rattle.cal_report.specs.CalendarReport.{heading_text, zone_for}
+use Rattle.cal_report.specs.CalendarReport.{heading_text, normal_line, zone_for}
 use Rattle.cal_report.specs.ElapseLines.{elapses_text}
 use Rattle.cal_request.specs.Request.{Asked}
 
@@ -30,6 +30,13 @@ lacks_zone asked e = is_none (zone_for asked e.expr.zone)
 -- what an expression of the list means, in its zone
 unfoldable pub timed_entry : Asked → Entry Fields → Timed
 timed_entry asked e = timed e.expr (unwrap_or (zone_for asked e.expr.zone) UTC)
+
+-- the line of an exception's text, and the label of the next; and with its normal form
+unfoldable pub exception_line : List ℕ → List ℕ
+exception_line text = joined (codes "    Except form: " ∷ text ∷ codes "\nNormalized form: " ∷ [])
+
+unfoldable pub exception_text : List ℕ → Fields → List ℕ
+exception_text text fields = joined (exception_line text ∷ normal_line fields ∷ [])
 
 -- the texts and normal forms of the list, in the order of the file
 unfoldable pub headings_text : List (Entry Fields) → List ℕ

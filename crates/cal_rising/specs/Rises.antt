@@ -1,8 +1,9 @@
--- A rising list with numbers more rises, and so does a union, whatever its lists are: what laws of rising sources cite.
-use Rattle.std.specs.Prelude.{◌≡◌, cond, Bool, true, false, List, [], ◌∷◌, ℤ, ◌<ℤ◌, int_lt}
+-- A rising list with numbers more, or with numbers less, rises, and so does a union, whatever its lists are: what laws of
+-- rising sources cite.
+use Rattle.std.specs.Prelude.{◌≡◌, cond, Bool, true, false, not, filter, List, [], ◌∷◌, ℤ, ◌<ℤ◌, int_lt}
 use Rattle.std.proofs.Common.{arith, refl}
 use Rattle.std.proofs.lemmas.Int.{ints}
-use Rattle.cal_rising.specs.RisingList.{IsAbove, IsRising, placed, placed_all, union}
+use Rattle.cal_rising.specs.RisingList.{IsAbove, IsRising, is_in, placed, placed_all, union, without}
 
 -- a list above a number is above what is below that number
 pub IsAbove-lower : (a b : ℤ) (xs : List ℤ) → a <ℤ b → IsAbove b xs → IsAbove a xs
@@ -40,3 +41,23 @@ pub IsRising-union : (xss : List (List ℤ)) → IsRising (union xss)
 unfolding union
 IsRising-union [] = tt
 IsRising-union (xs ∷ xss) = IsRising-placed_all xs (union xss) (IsRising-union xss)
+
+IsAbove-kept : (b x : ℤ) (xs : List ℤ) (keep : Bool) → b <ℤ x → IsAbove b xs → IsAbove b (cond keep (x ∷ xs) xs)
+IsAbove-kept b x xs true h k = (h, k)
+IsAbove-kept b x xs false h k = k
+
+IsAbove-filter : (b : ℤ) (p : ℤ → Bool) (xs : List ℤ) → IsAbove b xs → IsAbove b (filter p xs)
+IsAbove-filter b p [] h = tt
+IsAbove-filter b p (x ∷ xs) h = IsAbove-kept b x (filter p xs) (p x) h.0 (IsAbove-filter b p xs h.1)
+
+IsRising-kept : (x : ℤ) (xs : List ℤ) (keep : Bool) → IsAbove x xs → IsRising xs → IsRising (cond keep (x ∷ xs) xs)
+IsRising-kept x xs true h k = (h, k)
+IsRising-kept x xs false h k = k
+
+pub IsRising-filter : (p : ℤ → Bool) (xs : List ℤ) → IsRising xs → IsRising (filter p xs)
+IsRising-filter p [] h = tt
+IsRising-filter p (x ∷ xs) h = IsRising-kept x (filter p xs) (p x) (IsAbove-filter x p xs h.0) (IsRising-filter p xs h.1)
+
+pub IsRising-without : (xs ys : List ℤ) → IsRising xs → IsRising (without xs ys)
+unfolding without
+IsRising-without xs ys h = IsRising-filter (λ x. not (is_in ys x)) xs h

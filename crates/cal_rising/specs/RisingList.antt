@@ -1,5 +1,7 @@
--- Strictly rising lists of numbers, and the union of several lists as one of these.
-use Rattle.std.specs.Prelude.{◌≡◌, ◌⊎◌, ◌↔◌, cond, List, [], ◌∷◌, Option, None, Some, ℤ, ◌<ℤ◌, int_lt}
+-- Strictly rising lists of numbers, the union of several lists as one of these, and a list without the numbers of another.
+use Rattle.std.specs.Prelude.{◌≡◌, ◌⊎◌, ◌↔◌, cond, Bool, not, filter, List, [], ◌∷◌, Option, None, Some, ℤ, ◌<ℤ◌, int_lt}
+use Rattle.std.specs.List.{list_any}
+use Rattle.std.specs.Ordering.{int_eq}
 
 -- the number is in the list
 abbrev pub Has : List ℤ → ℤ → Type 0
@@ -49,3 +51,20 @@ union (xs ∷ xss) = placed_all xs (union xss)
 pub record IsUnion (xss : List (List ℤ)) (xs : List ℤ) : Type 0 where
   pub rises : IsRising xs
   pub members : (i : ℤ) → Has xs i ↔ HasAny xss i
+
+-- whether the number is in the list
+abbrev pub is_in : List ℤ → ℤ → Bool
+is_in xs i = list_any (λ x. int_eq x i) xs
+
+-- the numbers of a list that another doesn't have
+unfoldable pub without : List ℤ → List ℤ → List ℤ
+without xs ys = filter (λ x. not (is_in ys x)) xs
+
+-- the numbers of a list from this one on
+abbrev pub from : ℤ → List ℤ → List ℤ
+from i xs = filter (λ x. not (int_lt x i)) xs
+
+-- the list rises, and its numbers are those of the first lists that none of the second ones has
+pub record IsUnionWithout (xss yss : List (List ℤ)) (xs : List ℤ) : Type 0 where
+  pub rises : IsRising xs
+  pub members : (i : ℤ) → Has xs i ↔ (HasAny xss i × (HasAny yss i → ⊥))
