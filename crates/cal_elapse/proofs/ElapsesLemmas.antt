@@ -5,9 +5,12 @@ use Rattle.std.proofs.Math.Seq.{take-add}
 use Rattle.std.proofs.lemmas.Bool.{cases_eq}
 use Rattle.std.proofs.lemmas.Int.{ints}
 use Rattle.cal_zone.specs.Local.{seconds_in_all}
-use Rattle.cal_elapse.specs.Elapses.{Timed, places, elapses_after, IsPlace, IsElapse, AreElapses}
-use Rattle.cal_rising.specs.RisingList.{Has, HasAny, IsRising, first, later, union}
+use Rattle.cal_elapse.specs.Elapses.{Timed, places, elapses_after, elapses_except, IsPlace, IsElapse, AreAbove, AreElapses}
+use Rattle.cal_elapse.specs.Merged.{each_after}
+use Rattle.cal_rising.specs.Rises.{IsRising-without}
+use Rattle.cal_rising.specs.RisingList.{Has, HasAny, IsRising, first, later, union, without}
 use Rattle.cal_rising.proofs.RisingLemmas.{above_has, later_members, same_rising, Has-union, IsRising-union}
+use Rattle.cal_rising.proofs.WithoutLemmas.{Has-without, without-none}
 
 -- a local second among n from a on that matches has its place here
 record IsPlaceFrom (e : Timed) (a n : ℕ) (i : ℤ) : Type 0 where
@@ -106,9 +109,9 @@ HasAny-elapses (e ∷ es) b i =
     )
 
 -- the elapses after a base are as they should be
-pub AreElapses-elapses_after : (es : List Timed) (b : ℤ) → AreElapses es b (elapses_after es b)
+pub AreAbove-elapses_after : (es : List Timed) (b : ℤ) → AreAbove (IsElapse es) b (elapses_after es b)
 unfolding elapses_after
-AreElapses-elapses_after es b =
+AreAbove-elapses_after es b =
     let lists = map (λ e. filter (int_lt b) (places e)) es in
     record {
       rises = IsRising-union lists;
@@ -118,14 +121,39 @@ AreElapses-elapses_after es b =
       );
     }
 
--- two lists that are the elapses are the same
-same_elapses : (es : List Timed) (b : ℤ) (xs ys : List ℤ) → AreElapses es b xs → AreElapses es b ys → xs ≡ ys
-same_elapses es b xs ys h k =
+-- also without those of exceptions
+pub AreElapses-elapses_except : (es excepts : List Timed) (b : ℤ) → AreElapses es excepts b (elapses_except es excepts b)
+unfolding elapses_except
+AreElapses-elapses_except es excepts b =
+    let these = AreAbove-elapses_after es b in
+    let those = AreAbove-elapses_after excepts b in
+    let left = Has-without (elapses_after es b) (elapses_after excepts b) in
+    record {
+      rises = IsRising-without (elapses_after es b) (elapses_after excepts b) these.rises;
+      members = λ i. (
+        λ m.
+            let here = (these.members i).0 ((left i).0 m).0 in
+            (here.0, (here.1, λ h. ((left i).0 m).1 ((those.members i).1 (here.0, h)))),
+        λ p. (left i).1 ((these.members i).1 (p.0, p.1.0), λ n. p.1.1 ((those.members i).0 n).1),
+      );
+    }
+
+-- two lists with the numbers above b of which something holds are the same
+pub same_above : {Holds : ℤ → Type 0} (b : ℤ) (xs ys : List ℤ) → AreAbove Holds b xs → AreAbove Holds b ys → xs ≡ ys
+same_above b xs ys h k =
     same_rising xs ys h.rises k.rises
     (λ i. (λ m. (k.members i).1 ((h.members i).0 m), λ m. (h.members i).1 ((k.members i).0 m)))
 
-pub AreElapses-only : (es : List Timed) (b : ℤ) (xs : List ℤ) → AreElapses es b xs → xs ≡ elapses_after es b
-AreElapses-only es b xs h = same_elapses es b xs (elapses_after es b) h (AreElapses-elapses_after es b)
+pub AreAbove-only : (es : List Timed) (b : ℤ) (xs : List ℤ) → AreAbove (IsElapse es) b xs → xs ≡ elapses_after es b
+AreAbove-only es b xs h = same_above b xs (elapses_after es b) h (AreAbove-elapses_after es b)
+
+pub AreElapses-only : (es excepts : List Timed) (b : ℤ) (xs : List ℤ) → AreElapses es excepts b xs → xs ≡ elapses_except es excepts b
+AreElapses-only es excepts b xs h = same_above b xs (elapses_except es excepts b) h (AreElapses-elapses_except es excepts b)
+
+-- without exceptions, they are the elapses after the base
+pub elapses_except-none : (es : List Timed) (b : ℤ) → elapses_except es [] b ≡ elapses_after es b
+unfolding elapses_except elapses_after union
+elapses_except-none es b = without-none (elapses_after es b)
 
 -- what stands after the k-th of a rising list rises, and is what is above the k-th
 pub IsRising-drop : (xs : List ℤ) (k : ℕ) → IsRising xs → IsRising (drop k xs)
@@ -150,25 +178,33 @@ Has-drop (x ∷ xs) (suc k) e h at i =
       λ p. elim p.1 [ inl f ↦ absurd (not_both x e i up p.0 f) | inr n ↦ rest.1 (p.0, n) ],
     )
 
--- starting again at the k-th elapse gives exactly the ones after it
-pub elapses_after-later : (es : List Timed) (b e : ℤ) (k : ℕ) → slice_get (elapses_after es b) k ≡ Some e → elapses_after es e ≡ drop (suc k) (elapses_after es b)
-elapses_after-later es b e k at =
-    let all = AreElapses-elapses_after es b in
-    let up = ((all.members e).0 (has_at (elapses_after es b) k e at)).0 in
-    let after = Has-drop (elapses_after es b) k e all.rises at in
-    sym (AreElapses-only es e (drop (suc k) (elapses_after es b)) (record {
-      rises = IsRising-drop (elapses_after es b) (suc k) all.rises;
+-- starting again at the k-th gives exactly the ones after it
+later_above : {Holds : ℤ → Type 0} (b e : ℤ) (xs ys : List ℤ) (k : ℕ) → AreAbove Holds b xs → AreAbove Holds e ys → slice_get xs k ≡ Some e → ys ≡ drop (suc k) xs
+later_above b e xs ys k all again at =
+    let up = ((all.members e).0 (has_at xs k e at)).0 in
+    let after = Has-drop xs k e all.rises at in
+    same_above e ys (drop (suc k) xs) again (record {
+      rises = IsRising-drop xs (suc k) all.rises;
       members = λ i. (
         λ m. (((after i).0 m).0, ((all.members i).0 ((after i).0 m).1).1),
         λ p. (after i).1 (p.0, (all.members i).1 (chained b e i up p.0, p.1)),
       );
-    }))
+    })
+
+pub elapses_after-later : (es : List Timed) (b e : ℤ) (k : ℕ) → slice_get (elapses_after es b) k ≡ Some e → elapses_after es e ≡ drop (suc k) (elapses_after es b)
+elapses_after-later es b e k at =
+    later_above b e (elapses_after es b) (elapses_after es e) k (AreAbove-elapses_after es b) (AreAbove-elapses_after es e) at
+
+pub elapses_except-later : (es excepts : List Timed) (b e : ℤ) (k : ℕ) → slice_get (elapses_except es excepts b) k ≡ Some e
+    → elapses_except es excepts e ≡ drop (suc k) (elapses_except es excepts b)
+elapses_except-later es excepts b e k at =
+    later_above b e (elapses_except es excepts b) (elapses_except es excepts e) k (AreElapses-elapses_except es excepts b) (AreElapses-elapses_except es excepts e) at
 
 -- so the first k + 1 and then the first m after the last of these are the first k + 1 + m
-pub elapses_after-parts : (es : List Timed) (b e : ℤ) (k m : ℕ) → slice_get (elapses_after es b) k ≡ Some e
-    → take (suc k) (elapses_after es b) ++ take m (elapses_after es e) ≡ take (suc k + m) (elapses_after es b)
-elapses_after-parts es b e k m at =
-    rw (elapses_after-later es b e k at) (sym (take-add (suc k) m (elapses_after es b)))
+pub elapses_except-parts : (es excepts : List Timed) (b e : ℤ) (k m : ℕ) → slice_get (elapses_except es excepts b) k ≡ Some e
+    → take (suc k) (elapses_except es excepts b) ++ take m (elapses_except es excepts e) ≡ take (suc k + m) (elapses_except es excepts b)
+elapses_except-parts es excepts b e k m at =
+    rw (elapses_except-later es excepts b e k at) (sym (take-add (suc k) m (elapses_except es excepts b)))
 
 first_at : (xs : List ℤ) (e : ℤ) → first xs ≡ Some e → slice_get xs zero ≡ Some e
 first_at [] e h = absurd (cc)
@@ -200,12 +236,12 @@ first-least (x ∷ xs) i h (inr n) least = absurd (below_and_above x i (above_ha
 -- what is no elapse, and what is the first elapse
 pub first_elapse-none : (es : List Timed) (b : ℤ) → ((i : ℤ) → b <ℤ i → IsElapse es i → ⊥) → first (elapses_after es b) ≡ None
 first_elapse-none es b h =
-    let all = AreElapses-elapses_after es b in
+    let all = AreAbove-elapses_after es b in
     first-none (elapses_after es b) (λ i m. h i ((all.members i).0 m).0 ((all.members i).0 m).1)
 
 pub first_elapse-least : (es : List Timed) (b i : ℤ) → b <ℤ i → IsElapse es i → ((j : ℤ) → b <ℤ j → IsElapse es j → i ≤ℤ j) → first (elapses_after es b) ≡ Some i
 first_elapse-least es b i above m least =
-    let all = AreElapses-elapses_after es b in
+    let all = AreAbove-elapses_after es b in
     first-least (elapses_after es b) i all.rises ((all.members i).1 (above, m))
     (λ j n. least j ((all.members j).0 n).0 ((all.members j).0 n).1)
 
@@ -213,7 +249,7 @@ first_elapse-least es b i above m least =
 HasAny-each : (es : List Timed) (b i : ℤ) → HasAny (map (λ e. elapses_after (e ∷ []) b) es) i ↔ ((b <ℤ i) × IsElapse es i)
 HasAny-each [] b i = (λ m. absurd m, λ p. p.1)
 HasAny-each (e ∷ es) b i =
-    let here = (AreElapses-elapses_after (e ∷ []) b).members i in
+    let here = (AreAbove-elapses_after (e ∷ []) b).members i in
     let rest = HasAny-each es b i in (
       λ m. elim m [
         | inl n ↦ ((here.0 n).0, elim (here.0 n).1 [ inl q ↦ inl q | inr q ↦ absurd q ])
@@ -222,13 +258,16 @@ HasAny-each (e ∷ es) b i =
       λ p. elim p.1 [ inl q ↦ inl (here.1 (p.0, inl q)) | inr q ↦ inr (rest.1 (p.0, q)) ],
     )
 
-pub union-elapses_after : (es : List Timed) (b : ℤ) → union (map (λ e. elapses_after (e ∷ []) b) es) ≡ elapses_after es b
+pub union-elapses_after : (es : List Timed) (b : ℤ) → union (each_after es b) ≡ elapses_after es b
 union-elapses_after es b =
-    let lists = map (λ e. elapses_after (e ∷ []) b) es in
-    AreElapses-only es b (union lists) (record {
-      rises = IsRising-union lists;
+    AreAbove-only es b (union (each_after es b)) (record {
+      rises = IsRising-union (each_after es b);
       members = λ i. (
-        λ m. (HasAny-each es b i).0 ((Has-union lists i).0 m),
-        λ p. (Has-union lists i).1 ((HasAny-each es b i).1 p),
+        λ m. (HasAny-each es b i).0 ((Has-union (each_after es b) i).0 m),
+        λ p. (Has-union (each_after es b) i).1 ((HasAny-each es b i).1 p),
       );
     })
+
+pub without-elapses : (es excepts : List Timed) (b : ℤ) → without (union (each_after es b)) (union (each_after excepts b)) ≡ elapses_except es excepts b
+unfolding elapses_except
+without-elapses es excepts b = rw (union-elapses_after es b, union-elapses_after excepts b)

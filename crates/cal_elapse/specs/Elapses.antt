@@ -43,7 +43,6 @@ pub record AreAbove (Holds : ℤ → Type 0) (b : ℤ) (xs : List ℤ) : Type 0 
   pub rises : IsRising xs
   pub members : (i : ℤ) → Has xs i ↔ ((b <ℤ i) × Holds i)
 
--- the list rises, and has exactly the elapses above b
-pub record AreElapses (es : List Timed) (b : ℤ) (xs : List ℤ) : Type 0 where
-  pub rises : IsRising xs
-  pub members : (i : ℤ) → Has xs i ↔ ((b <ℤ i) × IsElapse es i)
+-- the list is the elapses above b of these expressions, without those of their exceptions
+abbrev pub AreElapses : List Timed → List Timed → ℤ → List ℤ → Type 0
+AreElapses es excepts b xs = AreAbove (IsElapseExcept es excepts) b xs

@@ -7,6 +7,8 @@ mod bytes;
 #[cfg(test)]
 mod elapses;
 #[cfg(test)]
+mod exceptions;
+#[cfg(test)]
 mod expressions;
 #[cfg(test)]
 mod instants;

@@ -1,17 +1,21 @@
--- The list of all assignments is what comes from one assignment to the next.
-use Rattle.std.proofs.Common.{◌≡◌, ◌≤◌, ◌<◌, ◌+◌, ◌-◌, ◌&&◌, ℕ, Bool, true, false, not, List, [], ◌∷◌, ◌++◌, drop, filter, length, refl, sym, ap, ◌∙◌, arith, append_assoc, append-nil, length-append, Some, None, Result, Ok, Err}
-use Rattle.std.specs.List.{after_last, filter_map, prefix_len, suffix_len}
+-- The lists of all assignments are what comes from one assignment to the next.
+use Rattle.std.proofs.Common.{◌≡◌, ◌≤◌, ◌<◌, ◌+◌, ◌-◌, ◌&&◌, ℕ, Bool, true, false, not, List, [], ◌∷◌, ◌++◌, codes, drop, filter, length, refl, sym, subst, ap, ◌∙◌, arith, append_assoc, append-nil, length-append, Option, Some, None, Result, Ok, Err}
+use Rattle.std.specs.List.{after_last, prefix_len, suffix_len}
 use Rattle.std.specs.Prelude.{nat_le}
 use Rattle.std.proofs.lemmas.Bool.Decides.{nat_tests}
+use Rattle.std.proofs.lemmas.Slice.Eq.{bytes_eq-Decides}
 use Rattle.std.proofs.lemmas.List.{drop-append-le, drop_all, reverse-append}
 use Rattle.std.proofs.lemmas.List.Elements.{filter-append, filter_map-append}
 use Rattle.cal_spec.specs.declared.spec_fault.SpecFault.{SpecFault}
 use Rattle.cal_read.specs.Assignments.{Assigned}
-use Rattle.cal_read.specs.TimerText.{Entry, bad_line, entries, entry_of, fault_following, first_fault, has_no_value, is_expression, is_reset, list_of, listed, most_expressions, some_entries, unless_fault}
-use Rattle.cal_read.specs.TimerView.{resumed}
+use Rattle.std.specs.Str.{bytes_eq}
+use Rattle.std.specs.List.{list_any}
+use Rattle.std.specs.Option.{option_or}
+use Rattle.cal_read.specs.TimerText.{Entry, Lists, bad_line, entries, entries_of, entry_of, excepted, exception_key, fault_following, fault_joining, first_fault, has_no_value, is_exception, is_exception_reset, is_expression, is_reset, listed, lists_of, most_expressions, some_entries, timer_keys, unless_fault}
+use Rattle.cal_read.specs.TimerView.{joined, resumed, with_list}
 use Rattle.cal_read.specs.declared.timer.fault.TimerFault.{TimerFault}
-use Rattle.cal_read.specs.declared.timer.fault.TimerFault.TheVariants.{BadLine, TooMany}
-use Rattle.cal_read.proofs.ResumedLemmas.{resumed_bad, resumed_many, resumed_other, resumed_read, resumed_reset}
+use Rattle.cal_read.specs.declared.timer.fault.TimerFault.TheVariants.{BadLine}
+use Rattle.cal_read.proofs.ResumedLemmas.{joined_bad, joined_many, joined_read, resumed_exception, resumed_exception_reset, resumed_expression, resumed_other, resumed_reset}
 
 -- what stands after the last that passes, where one more comes
 suffix_more : {X : Type 0} (p : X → Bool) (xs : List X) (x : X) → p x ≡ true → suffix_len p (xs ++ x ∷ []) ≡ 1 + suffix_len p xs
@@ -31,119 +35,267 @@ after_last_more p xs x e =
     let same : length (xs ++ x ∷ []) - suffix_len (λ y. not (p y)) (xs ++ x ∷ []) ≡ length xs - suffix_len (λ y. not (p y)) xs = omega (arith, more, length-append xs (x ∷ [])) in
     ap (λ n. drop n (xs ++ x ∷ [])) same ∙ drop-append-le (length xs - suffix_len (λ y. not (p y)) xs) xs (x ∷ []) (omega arith)
 
--- the list, where one more assignment comes
-pub listed_reset : (before : List Assigned) (a : Assigned) → is_reset a ≡ true → listed (before ++ a ∷ []) ≡ []
-unfolding listed
-listed_reset before a e = ap (filter is_expression) (after_last_here is_reset before a e)
+-- of a list that one test adds to and another empties, where one more assignment comes
+abbrev Kept : (adds resets : Assigned → Bool) → List Assigned → List Assigned
+Kept adds resets all = filter adds (after_last resets all)
 
-pub listed_other : (before : List Assigned) (a : Assigned) → is_reset a ≡ false → is_expression a ≡ false → listed (before ++ a ∷ []) ≡ listed before
-unfolding listed
-listed_other before a e f =
-    ap (filter is_expression) (after_last_more is_reset before a e)
-    ∙ filter-append is_expression (after_last is_reset before) (a ∷ [])
-    ∙ rw f (append-nil (filter is_expression (after_last is_reset before)))
+kept_reset : (adds resets : Assigned → Bool) (before : List Assigned) (a : Assigned) → resets a ≡ true → Kept adds resets (before ++ a ∷ []) ≡ []
+kept_reset adds resets before a e = ap (filter adds) (after_last_here resets before a e)
 
-pub listed_more : (before : List Assigned) (a : Assigned) → is_reset a ≡ false → is_expression a ≡ true → listed (before ++ a ∷ []) ≡ listed before ++ a ∷ []
-unfolding listed
-listed_more before a e f =
-    ap (filter is_expression) (after_last_more is_reset before a e)
-    ∙ filter-append is_expression (after_last is_reset before) (a ∷ [])
+kept_other : (adds resets : Assigned → Bool) (before : List Assigned) (a : Assigned) → resets a ≡ false → adds a ≡ false → Kept adds resets (before ++ a ∷ []) ≡ Kept adds resets before
+kept_other adds resets before a e f =
+    ap (filter adds) (after_last_more resets before a e)
+    ∙ filter-append adds (after_last resets before) (a ∷ [])
+    ∙ rw f (append-nil (filter adds (after_last resets before)))
+
+kept_more : (adds resets : Assigned → Bool) (before : List Assigned) (a : Assigned) → resets a ≡ false → adds a ≡ true → Kept adds resets (before ++ a ∷ []) ≡ Kept adds resets before ++ a ∷ []
+kept_more adds resets before a e f =
+    ap (filter adds) (after_last_more resets before a e)
+    ∙ filter-append adds (after_last resets before) (a ∷ [])
     ∙ rw f refl
 
+-- the list of expressions
+listed_reset : (before : List Assigned) (a : Assigned) → is_reset a ≡ true → listed (before ++ a ∷ []) ≡ []
+unfolding listed
+listed_reset before a e = kept_reset is_expression is_reset before a e
+
+listed_other : (before : List Assigned) (a : Assigned) → is_reset a ≡ false → is_expression a ≡ false → listed (before ++ a ∷ []) ≡ listed before
+unfolding listed
+listed_other before a e f = kept_other is_expression is_reset before a e f
+
+listed_more : (before : List Assigned) (a : Assigned) → is_reset a ≡ false → is_expression a ≡ true → listed (before ++ a ∷ []) ≡ listed before ++ a ∷ []
+unfolding listed
+listed_more before a e f = kept_more is_expression is_reset before a e f
+
+-- and that of exceptions
+excepted_reset : (before : List Assigned) (a : Assigned) → is_exception_reset a ≡ true → excepted (before ++ a ∷ []) ≡ []
+unfolding excepted
+excepted_reset before a e = kept_reset is_exception is_exception_reset before a e
+
+excepted_other : (before : List Assigned) (a : Assigned) → is_exception_reset a ≡ false → is_exception a ≡ false → excepted (before ++ a ∷ []) ≡ excepted before
+unfolding excepted
+excepted_other before a e f = kept_other is_exception is_exception_reset before a e f
+
+excepted_more : (before : List Assigned) (a : Assigned) → is_exception_reset a ≡ false → is_exception a ≡ true → excepted (before ++ a ∷ []) ≡ excepted before ++ a ∷ []
+unfolding excepted
+excepted_more before a e f = kept_more is_exception is_exception_reset before a e f
+
+-- An assignment is at most one of the four: it has a value or none, and its key is that of exceptions or one of a timer's.
 no_value : (b x y : Bool) → (b && x) ≡ true → (not b && y) ≡ false
 no_value true x y e = refl
 no_value false x y e = cc
 
--- an assignment that empties the list is no expression's
+with_value : (b x y : Bool) → (not b && x) ≡ true → (b && y) ≡ false
+with_value true x y e = cc
+with_value false x y e = refl
+
+and_false : (b x : Bool) → x ≡ false → (b && x) ≡ false
+and_false true x e = e
+and_false false x e = refl
+
+and_right : (b x : Bool) → (b && x) ≡ true → x ≡ true
+and_right true x e = e
+and_right false x e = cc
+
+-- the key of exceptions is no key of a timer's
+other_key : (key : List ℕ) → bytes_eq key exception_key ≡ true → (list_any (bytes_eq key) timer_keys ≡ false) × (bytes_eq key (codes "OnCalendar") ≡ false)
+other_key key e =
+    let same : key ≡ exception_key = (bytes_eq-Decides key exception_key).0 e in
+    subst (λ (k : List ℕ). (list_any (bytes_eq k) timer_keys ≡ false) × (bytes_eq k (codes "OnCalendar") ≡ false)) (sym same) (refl, refl)
+
+not_true : (b : Bool) → (b ≡ true → ⊥) → b ≡ false
+not_true true h = absurd (h refl)
+not_true false h = refl
+
+no_exception_key : (key : List ℕ) → list_any (bytes_eq key) timer_keys ≡ true → bytes_eq key exception_key ≡ false
+no_exception_key key e = not_true (bytes_eq key exception_key) (λ h. let other = (other_key key h).0 in absurd (cc))
+
 pub reset_is_no_expression : (a : Assigned) → is_reset a ≡ true → is_expression a ≡ false
 unfolding is_reset is_expression
 reset_is_no_expression a e = no_value (has_no_value a) _ _ e
 
--- the entries, where one more assignment comes
-entries_more_as : {E : Type 0} (read : List ℕ → Result E SpecFault) (before : List Assigned) (a : Assigned) (entry : Entry E) → listed (before ++ a ∷ []) ≡ listed before ++ a ∷ [] → entry_of a (read a.value) ≡ Some entry → entries read (before ++ a ∷ []) ≡ entries read before ++ entry ∷ []
-unfolding entries
-entries_more_as read before a entry e good =
-    ap (filter_map (λ a. entry_of a (read a.value))) e
-    ∙ filter_map-append (λ a. entry_of a (read a.value)) (listed before) (a ∷ [])
+reset_is_no_exception : (a : Assigned) → is_reset a ≡ true → is_exception a ≡ false
+unfolding is_reset is_exception
+reset_is_no_exception a e = no_value (has_no_value a) _ _ e
+
+reset_is_no_exception_reset : (a : Assigned) → is_reset a ≡ true → is_exception_reset a ≡ false
+unfolding is_reset is_exception_reset
+reset_is_no_exception_reset a e = and_false (has_no_value a) (bytes_eq a.key exception_key) (no_exception_key a.key (and_right (has_no_value a) _ e))
+
+exception_reset_is_no_reset : (a : Assigned) → is_exception_reset a ≡ true → is_reset a ≡ false
+unfolding is_reset is_exception_reset
+exception_reset_is_no_reset a e = and_false (has_no_value a) _ (other_key a.key (and_right (has_no_value a) _ e)).0
+
+exception_reset_is_no_expression : (a : Assigned) → is_exception_reset a ≡ true → is_expression a ≡ false
+unfolding is_exception_reset is_expression
+exception_reset_is_no_expression a e = no_value (has_no_value a) _ _ e
+
+exception_reset_is_no_exception : (a : Assigned) → is_exception_reset a ≡ true → is_exception a ≡ false
+unfolding is_exception_reset is_exception
+exception_reset_is_no_exception a e = no_value (has_no_value a) _ _ e
+
+expression_is_no_exception : (a : Assigned) → is_expression a ≡ true → is_exception a ≡ false
+unfolding is_expression is_exception
+expression_is_no_exception a e =
+    and_false (not (has_no_value a)) (bytes_eq a.key exception_key)
+    (not_true (bytes_eq a.key exception_key) (λ h. let other = (other_key a.key h).1 in let here = and_right (not (has_no_value a)) _ e in absurd (cc)))
+
+exception_is_no_expression : (a : Assigned) → is_exception a ≡ true → is_expression a ≡ false
+exception_is_no_expression a e = not_true (is_expression a) (λ h. let other = expression_is_no_exception a h in absurd (cc))
+
+-- what empties one list leaves the other
+pub excepted_kept : (before : List Assigned) (a : Assigned) → is_reset a ≡ true → excepted (before ++ a ∷ []) ≡ excepted before
+excepted_kept before a e = excepted_other before a (reset_is_no_exception_reset a e) (reset_is_no_exception a e)
+
+pub listed_kept : (before : List Assigned) (a : Assigned) → is_exception_reset a ≡ true → listed (before ++ a ∷ []) ≡ listed before
+listed_kept before a e = listed_other before a (exception_reset_is_no_reset a e) (exception_reset_is_no_expression a e)
+
+-- the entries of these assignments are as many as the assignments
+abbrev AreAll : {E : Type 0} → (List ℕ → Result E SpecFault) → List Assigned → Type 0
+AreAll read list = length (entries_of read list) ≡ length list
+
+entries_more : {E : Type 0} (read : List ℕ → Result E SpecFault) (list : List Assigned) (a : Assigned) (entry : Entry E) → entry_of a (read a.value) ≡ Some entry
+    → entries_of read (list ++ a ∷ []) ≡ entries_of read list ++ entry ∷ []
+entries_more read list a entry good =
+    filter_map-append (λ a. entry_of a (read a.value)) list (a ∷ [])
     ∙ rw good refl
 
-entries_of_none : {E : Type 0} (read : List ℕ → Result E SpecFault) (before : List Assigned) → listed before ≡ [] → entries read before ≡ []
-unfolding entries
-entries_of_none read before e = ap (filter_map (λ a. entry_of a (read a.value))) e
-
-entries_same : {E : Type 0} (read : List ℕ → Result E SpecFault) (before after : List Assigned) → listed before ≡ listed after → entries read before ≡ entries read after
-unfolding entries
-entries_same read before after e = ap (filter_map (λ a. entry_of a (read a.value))) e
-
--- the fault of an assignment, by what it is
-fault_of_other : {E : Type 0} (read : List ℕ → Result E SpecFault) (before : List Assigned) (a : Assigned) → is_expression a ≡ false → fault_following read before a ≡ None
-unfolding fault_following
-fault_of_other read before a e = rw e refl
-
-fault_of_many : {E : Type 0} (read : List ℕ → Result E SpecFault) (before : List Assigned) (a : Assigned) → is_expression a ≡ true → nat_le most_expressions (length (listed before)) ≡ true → fault_following read before a ≡ Some (TooMany a.number)
-unfolding fault_following
-fault_of_many read before a e f = rw (e, f) refl
-
-fault_of_text : {E : Type 0} (read : List ℕ → Result E SpecFault) (before : List Assigned) (a : Assigned) → is_expression a ≡ true → nat_le most_expressions (length (listed before)) ≡ false → fault_following read before a ≡ bad_line a.number (read a.value)
-unfolding fault_following
-fault_of_text read before a e f = rw (e, f) refl
+-- An assignment that comes to a list whose entries are all there has its fault, or its entry comes to the entries.
+joins_by : {E : Type 0} (read : List ℕ → Result E SpecFault) (list : List Assigned) (a : Assigned) (many : Bool) (r : Result E SpecFault)
+    → nat_le most_expressions (length list) ≡ many → read a.value ≡ r → AreAll read list
+    → (joined read (entries_of read list) a ≡ unless_fault (fault_joining read list a) (Ok (entries_of read (list ++ a ∷ []))))
+    × (fault_joining read list a ≡ None → AreAll read (list ++ a ∷ []))
+unfolding fault_joining
+joins_by read list a true r m v all =
+    let enough : most_expressions ≤ length (entries_of read list) = grind (arith, nat_tests) in
+    rw m (joined_many read (entries_of read list) a enough, λ h. cc)
+joins_by read list a false (Err fault) m v all =
+    let few : length (entries_of read list) < most_expressions = grind (arith, nat_tests) in
+    let bad : bad_line a.number (read a.value) ≡ Some (BadLine a.number fault) = rw v refl in
+    rw (m, bad) (joined_bad read (entries_of read list) a (BadLine a.number fault) few bad, λ h. cc)
+joins_by {E} read list a false (Ok expr) m v all =
+    let few : length (entries_of read list) < most_expressions = grind (arith, nat_tests) in
+    let entry : Entry E = record { number = a.number; text = a.value; expr = expr } in
+    let good : entry_of a (read a.value) ≡ Some entry = rw v refl in
+    let none : bad_line a.number (read a.value) ≡ None = rw v refl in
+    let more : entries_of read (list ++ a ∷ []) ≡ entries_of read list ++ entry ∷ [] = entries_more read list a entry good in
+    rw (m, none) (
+      joined_read read (entries_of read list) a entry few good ∙ ap Ok (sym more),
+      λ h. ap length more ∙ length-append (entries_of read list) (entry ∷ []) ∙ ap (λ n. n + 1) all ∙ sym (length-append list (a ∷ [])),
+    )
 
 -- an assignment without a fault is passed over, and the first that has one decides
-passes : {E : Type 0} (read : List ℕ → Result E SpecFault) (before : List Assigned) (a : Assigned) (after : List Assigned) → fault_following read before a ≡ None → unless_fault (first_fault read before (a ∷ after)) (some_entries (entries read (before ++ (a ∷ after)))) ≡ unless_fault (first_fault read (before ++ a ∷ []) after) (some_entries (entries read ((before ++ a ∷ []) ++ after)))
-unfolding first_fault
-passes read before a after e = rw e (ap (λ all. unless_fault (first_fault read (before ++ a ∷ []) after) (some_entries (entries read all))) (sym (append_assoc before (a ∷ []) after)))
-
-stops : {E A : Type 0} (read : List ℕ → Result E SpecFault) (before : List Assigned) (a : Assigned) (after : List Assigned) (fault : TimerFault) (r : Result A TimerFault) → fault_following read before a ≡ Some fault → unless_fault (first_fault read before (a ∷ after)) r ≡ Err fault
-unfolding first_fault
-stops read before a after fault r e = rw e refl
-
--- the entries so far are those of the list so far
-abbrev AreAll : {E : Type 0} → (List ℕ → Result E SpecFault) → List Assigned → Type 0
-AreAll read before = length (entries read before) ≡ length (listed before)
+decides : {E : Type 0} (o p : Option TimerFault) (es : List (Entry E)) (next : List (Entry E) → Result (Lists E) TimerFault) (r : Result (Lists E) TimerFault)
+    → (o ≡ None → next es ≡ unless_fault p r) → with_list (unless_fault o (Ok es)) next ≡ unless_fault (option_or o p) r
+decides None p es next r h = h refl
+decides (Some fault) p es next r h = refl
 
 -- what is left to do with these entries gives what all assignments give
 abbrev Resumes : {E : Type 0} → (List ℕ → Result E SpecFault) → List Assigned → List Assigned → Type 0
 Resumes read before after = resumed read (entries read before) after ≡ unless_fault (first_fault read before after) (some_entries (entries read (before ++ after)))
 
-resumes_here : {E : Type 0} (read : List ℕ → Result E SpecFault) (before : List Assigned) (a : Assigned) (after : List Assigned) (resets expresses many : Bool) (r : Result E SpecFault) → is_reset a ≡ resets → is_expression a ≡ expresses → nat_le most_expressions (length (listed before)) ≡ many → read a.value ≡ r → AreAll read before → (AreAll read (before ++ a ∷ []) → Resumes read (before ++ a ∷ []) after) → Resumes read before (a ∷ after)
-resumes_here read before a after true expresses many r e f m v all next =
-    let empty : entries read (before ++ a ∷ []) ≡ [] = entries_of_none read (before ++ a ∷ []) (listed_reset before a e) in
-    resumed_reset read (entries read before) a after e
-    ∙ ap (λ es. resumed read es after) (sym empty)
-    ∙ next (ap length empty ∙ sym (ap length (listed_reset before a e)))
-    ∙ sym (passes read before a after (fault_of_other read before a (reset_is_no_expression a e)))
-resumes_here read before a after false false many r e f m v all next =
-    let same : entries read (before ++ a ∷ []) ≡ entries read before = entries_same read (before ++ a ∷ []) before (listed_other before a e f) in
-    resumed_other read (entries read before) a after e f
-    ∙ ap (λ es. resumed read es after) (sym same)
-    ∙ next (ap length same ∙ all ∙ sym (ap length (listed_other before a e f)))
-    ∙ sym (passes read before a after (fault_of_other read before a f))
-resumes_here read before a after false true true r e f m v all next =
-    let enough : most_expressions ≤ length (entries read before) = grind (arith, nat_tests) in
-    resumed_many read (entries read before) a after e f enough
-    ∙ sym (stops read before a after (TooMany a.number) _ (fault_of_many read before a f m))
-resumes_here read before a after false true false (Err fault) e f m v all next =
-    let few : length (entries read before) < most_expressions = grind (arith, nat_tests) in
-    let bad : bad_line a.number (read a.value) ≡ Some (BadLine a.number fault) = rw v refl in
-    resumed_bad read (entries read before) a after (BadLine a.number fault) e f few bad
-    ∙ sym (stops read before a after (BadLine a.number fault) _ (fault_of_text read before a f m ∙ bad))
-resumes_here {E} read before a after false true false (Ok expr) e f m v all next =
-    let few : length (entries read before) < most_expressions = grind (arith, nat_tests) in
-    let entry : Entry E = record { number = a.number; text = a.value; expr = expr } in
-    let good : entry_of a (read a.value) ≡ Some entry = rw v refl in
-    let more : entries read (before ++ a ∷ []) ≡ entries read before ++ entry ∷ [] = entries_more_as read before a entry (listed_more before a e f) good in
-    let none : bad_line a.number (read a.value) ≡ None = rw v refl in
-    resumed_read read (entries read before) a after entry e f few good
-    ∙ ap (λ es. resumed read es after) (sym more)
-    ∙ next (ap length more ∙ length-append (entries read before) (entry ∷ []) ∙ ap (λ n. n + 1) all ∙ sym (ap length (listed_more before a e f) ∙ length-append (listed before) (a ∷ [])))
-    ∙ sym (passes read before a after (fault_of_text read before a f m ∙ none))
+-- both lists have all their entries
+abbrev AreAllRead : {E : Type 0} → (List ℕ → Result E SpecFault) → List Assigned → Type 0
+AreAllRead read before = AreAll read (listed before) × AreAll read (excepted before)
 
-resumes_from : {E : Type 0} (read : List ℕ → Result E SpecFault) (before after : List Assigned) → AreAll read before → Resumes read before after
+fault_of_other : {E : Type 0} (read : List ℕ → Result E SpecFault) (before : List Assigned) (a : Assigned) → is_expression a ≡ false → is_exception a ≡ false → fault_following read before a ≡ None
+unfolding fault_following
+fault_of_other read before a e f = rw (e, f) refl
+
+-- the lists, where an assignment changes them
+lists_are : {E : Type 0} (read : List ℕ → Result E SpecFault) (before : List Assigned) (list others : List Assigned) → listed before ≡ list → excepted before ≡ others
+    → entries read before ≡ record { expressions = entries_of read list; exceptions = entries_of read others }
+unfolding entries
+lists_are read before list others e f = rw (e, f) refl
+
+-- the first fault after others is that of the assignment or one after it
+ends : {E : Type 0} (read : List ℕ → Result E SpecFault) (before : List Assigned) (a : Assigned) (after : List Assigned) (o : Option TimerFault) → fault_following read before a ≡ o
+    → unless_fault (option_or o (first_fault read (before ++ a ∷ []) after)) (some_entries (entries read ((before ++ a ∷ []) ++ after)))
+    ≡ unless_fault (first_fault read before (a ∷ after)) (some_entries (entries read (before ++ (a ∷ after))))
+unfolding first_fault
+ends read before a after o same =
+    rw same (ap (λ all. unless_fault (option_or o (first_fault read (before ++ a ∷ []) after)) (some_entries (entries read all))) (append_assoc before (a ∷ []) after))
+
+-- an assignment that isn't an expression's or an exception's has none
+passes : {E : Type 0} (read : List ℕ → Result E SpecFault) (before : List Assigned) (a : Assigned) (after : List Assigned)
+    → is_expression a ≡ false → is_exception a ≡ false → Resumes read (before ++ a ∷ []) after
+    → resumed read (entries read (before ++ a ∷ [])) after ≡ unless_fault (first_fault read before (a ∷ after)) (some_entries (entries read (before ++ (a ∷ after))))
+passes read before a after e f next = next ∙ ends read before a after None (fault_of_other read before a e f)
+
+all_with : {E : Type 0} (read : List ℕ → Result E SpecFault) (list now : List Assigned) → now ≡ list → AreAll read list → AreAll read now
+all_with read list now e all = subst (λ (l : List Assigned). AreAll read l) (sym e) all
+
+-- an expression, or an exception, that comes to its list
+joins : {E : Type 0} (read : List ℕ → Result E SpecFault) (list : List Assigned) (a : Assigned) → AreAll read list
+    → (joined read (entries_of read list) a ≡ unless_fault (fault_joining read list a) (Ok (entries_of read (list ++ a ∷ []))))
+    × (fault_joining read list a ≡ None → AreAll read (list ++ a ∷ []))
+joins read list a all = joins_by read list a (nat_le most_expressions (length list)) (read a.value) refl refl all
+
+pub fault_of_expression : {E : Type 0} (read : List ℕ → Result E SpecFault) (before : List Assigned) (a : Assigned) → is_expression a ≡ true → fault_following read before a ≡ fault_joining read (listed before) a
+unfolding fault_following
+fault_of_expression read before a e = rw e refl
+
+pub fault_of_exception : {E : Type 0} (read : List ℕ → Result E SpecFault) (before : List Assigned) (a : Assigned) → is_exception a ≡ true → fault_following read before a ≡ fault_joining read (excepted before) a
+unfolding fault_following
+fault_of_exception read before a f = rw (exception_is_no_expression a f, f) refl
+
+resumes_here : {E : Type 0} (read : List ℕ → Result E SpecFault) (before : List Assigned) (a : Assigned) (after : List Assigned) (resets excludes expresses excepts : Bool)
+    → is_reset a ≡ resets → is_exception_reset a ≡ excludes → is_expression a ≡ expresses → is_exception a ≡ excepts
+    → AreAllRead read before → (AreAllRead read (before ++ a ∷ []) → Resumes read (before ++ a ∷ []) after) → Resumes read before (a ∷ after)
+unfolding entries
+resumes_here read before a after true excludes expresses excepts e f g h all next =
+    let none = listed_reset before a e in
+    let others = excepted_kept before a e in
+    resumed_reset read (entries read before) a after e
+    ∙ ap (λ lists. resumed read lists after) (sym (lists_are read (before ++ a ∷ []) [] (excepted before) none others))
+    ∙ passes read before a after (reset_is_no_expression a e) (reset_is_no_exception a e)
+    (next (all_with read [] (listed (before ++ a ∷ [])) none refl, all_with read (excepted before) (excepted (before ++ a ∷ [])) others all.1))
+resumes_here read before a after false true expresses excepts e f g h all next =
+    let others = listed_kept before a f in
+    let none = excepted_reset before a f in
+    resumed_exception_reset read (entries read before) a after e f
+    ∙ ap (λ lists. resumed read lists after) (sym (lists_are read (before ++ a ∷ []) (listed before) [] others none))
+    ∙ passes read before a after (exception_reset_is_no_expression a f) (exception_reset_is_no_exception a f)
+    (next (all_with read (listed before) (listed (before ++ a ∷ [])) others all.0, all_with read [] (excepted (before ++ a ∷ [])) none refl))
+resumes_here read before a after false false true excepts e f g h all next =
+    let here = joins read (listed before) a all.0 in
+    let fault = fault_joining read (listed before) a in
+    let more = listed_more before a e g in
+    let others = excepted_other before a f (expression_is_no_exception a g) in
+    resumed_expression read (entries read before) a after (unless_fault fault (Ok (entries_of read (listed before ++ a ∷ [])))) e f g here.0
+    ∙ decides fault (first_fault read (before ++ a ∷ []) after) (entries_of read (listed before ++ a ∷ []))
+    (λ es. resumed read (record { expressions = es; exceptions = entries_of read (excepted before) }) after)
+    (some_entries (entries read ((before ++ a ∷ []) ++ after)))
+    (λ none. ap (λ lists. resumed read lists after) (sym (lists_are read (before ++ a ∷ []) (listed before ++ a ∷ []) (excepted before) more others))
+    ∙ next (all_with read (listed before ++ a ∷ []) (listed (before ++ a ∷ [])) more (here.1 none), all_with read (excepted before) (excepted (before ++ a ∷ [])) others all.1))
+    ∙ ends read before a after fault (fault_of_expression read before a g)
+resumes_here read before a after false false false true e f g h all next =
+    let here = joins read (excepted before) a all.1 in
+    let fault = fault_joining read (excepted before) a in
+    let more = excepted_more before a f h in
+    let others = listed_other before a e g in
+    resumed_exception read (entries read before) a after (unless_fault fault (Ok (entries_of read (excepted before ++ a ∷ [])))) e f g h here.0
+    ∙ decides fault (first_fault read (before ++ a ∷ []) after) (entries_of read (excepted before ++ a ∷ []))
+    (λ es. resumed read (record { expressions = entries_of read (listed before); exceptions = es }) after)
+    (some_entries (entries read ((before ++ a ∷ []) ++ after)))
+    (λ none. ap (λ lists. resumed read lists after) (sym (lists_are read (before ++ a ∷ []) (listed before) (excepted before ++ a ∷ []) others more))
+    ∙ next (all_with read (listed before) (listed (before ++ a ∷ [])) others all.0, all_with read (excepted before ++ a ∷ []) (excepted (before ++ a ∷ [])) more (here.1 none)))
+    ∙ ends read before a after fault (fault_of_exception read before a h)
+resumes_here read before a after false false false false e f g h all next =
+    let these = listed_other before a e g in
+    let those = excepted_other before a f h in
+    resumed_other read (entries read before) a after e f g h
+    ∙ ap (λ lists. resumed read lists after) (sym (lists_are read (before ++ a ∷ []) (listed before) (excepted before) these those))
+    ∙ passes read before a after g h
+    (next (all_with read (listed before) (listed (before ++ a ∷ [])) these all.0, all_with read (excepted before) (excepted (before ++ a ∷ [])) those all.1))
+
+resumes_from : {E : Type 0} (read : List ℕ → Result E SpecFault) (before after : List Assigned) → AreAllRead read before → Resumes read before after
 unfolding resumed first_fault
 resumes_from read before [] all = ap (λ all. some_entries (entries read all)) (sym (append-nil before))
-resumes_from read before (a ∷ after) all = resumes_here read before a after (is_reset a) (is_expression a) (nat_le most_expressions (length (listed before))) (read a.value) refl refl refl refl all (resumes_from read (before ++ a ∷ []) after)
+resumes_from read before (a ∷ after) all =
+    resumes_here read before a after (is_reset a) (is_exception_reset a) (is_expression a) (is_exception a) refl refl refl refl all (resumes_from read (before ++ a ∷ []) after)
 
--- one assignment after the other gives the list of all
-pub resumed_is_list : {E : Type 0} (read : List ℕ → Result E SpecFault) (assignments : List Assigned) → resumed read [] assignments ≡ list_of read assignments
-unfolding list_of entries listed
-resumed_is_list read assignments = resumes_from read [] assignments refl
+-- one assignment after the other gives the lists of all
+pub resumed_is_list : {E : Type 0} (read : List ℕ → Result E SpecFault) (assignments : List Assigned) → resumed read (record { expressions = []; exceptions = [] }) assignments ≡ lists_of read assignments
+unfolding lists_of entries listed excepted
+resumed_is_list read assignments = resumes_from read [] assignments (refl, refl)

@@ -8,7 +8,7 @@ use Rattle.cal_spec.specs.declared.spec_fault.SpecFault.{SpecFault}
 use Rattle.cal_read.specs.Assignments.{Assigned, is_header, section_of, timer_lines}
 use Rattle.cal_lines.specs.Lines.{Line}
 use Rattle.cal_read.specs.TimerRule.{AreFine, IsFirstFault, Judges}
-use Rattle.cal_read.specs.TimerText.{Entry, entries, fault_following, first_fault, is_expression, is_reset, list_of, listed, some_entries, unless_fault}
+use Rattle.cal_read.specs.TimerText.{Entry, Lists, entries, excepted, fault_following, first_fault, is_exception, is_exception_reset, is_expression, is_reset, lists_of, listed, some_entries, some_expressions, unless_fault}
 use Rattle.cal_read.specs.declared.timer.fault.TimerFault.{TimerFault}
 use Rattle.cal_read.specs.declared.timer.fault.TimerFault.TheVariants.{ReadFailed, TooLarge, NotUtf8, BadLine, TooMany, NothingToDo, NoMemory}
 use Rattle.cal_read.proofs.ListedLemmas.{after_last_here, after_last_more}
@@ -55,15 +55,30 @@ after_last_after p xs (y ∷ ys) none =
     ∙ ap (λ front. front ++ ys) (after_last_more p xs y parts.0)
     ∙ append_assoc (after_last p xs) (y ∷ []) ys
 
+-- a list that one test adds to and another empties
+kept_after_reset : (adds resets : Assigned → Bool) (front rest : List Assigned) (reset : Assigned) → resets reset ≡ true → list_any resets rest ≡ false → filter adds (after_last resets (front ++ (reset ∷ rest))) ≡ filter adds rest
+kept_after_reset adds resets front rest reset e none =
+    ap (λ all. filter adds (after_last resets all)) (sym (append_assoc front (reset ∷ []) rest))
+    ∙ ap (filter adds) (after_last_after resets (front ++ reset ∷ []) rest none ∙ ap (λ before. before ++ rest) (after_last_here resets front reset e))
+
+kept_without_reset : (adds resets : Assigned → Bool) (all : List Assigned) → list_any resets all ≡ false → filter adds (after_last resets all) ≡ filter adds all
+kept_without_reset adds resets all none = ap (filter adds) (after_last_after resets [] all none)
+
 pub listed_after_reset : (front rest : List Assigned) (reset : Assigned) → is_reset reset ≡ true → list_any is_reset rest ≡ false → listed (front ++ (reset ∷ rest)) ≡ filter is_expression rest
 unfolding listed
-listed_after_reset front rest reset e none =
-    ap (λ all. filter is_expression (after_last is_reset all)) (sym (append_assoc front (reset ∷ []) rest))
-    ∙ ap (filter is_expression) (after_last_after is_reset (front ++ reset ∷ []) rest none ∙ ap (λ before. before ++ rest) (after_last_here is_reset front reset e))
+listed_after_reset = kept_after_reset is_expression is_reset
 
 pub listed_without_reset : (all : List Assigned) → list_any is_reset all ≡ false → listed all ≡ filter is_expression all
 unfolding listed
-listed_without_reset all none = ap (filter is_expression) (after_last_after is_reset [] all none)
+listed_without_reset = kept_without_reset is_expression is_reset
+
+pub excepted_after_reset : (front rest : List Assigned) (reset : Assigned) → is_exception_reset reset ≡ true → list_any is_exception_reset rest ≡ false → excepted (front ++ (reset ∷ rest)) ≡ filter is_exception rest
+unfolding excepted
+excepted_after_reset = kept_after_reset is_exception is_exception_reset
+
+pub excepted_without_reset : (all : List Assigned) → list_any is_exception_reset all ≡ false → excepted all ≡ filter is_exception all
+unfolding excepted
+excepted_without_reset = kept_without_reset is_exception is_exception_reset
 
 -- The first fault. Where these stand before, no assignment of the others has a fault.
 abbrev AreFineBehind : {E : Type 0} → (List ℕ → Result E SpecFault) → List Assigned → List Assigned → Type 0
@@ -157,12 +172,12 @@ judged_fault read all (TooMany n) e h = h
 judged_fault read all NothingToDo e h = cc
 judged_fault read all NoMemory e h = h
 
-judged_entries : {E : Type 0} (read : List ℕ → Result E SpecFault) (all : List Assigned) (es : List (Entry E)) → AreFine read all → entries read all ≡ es → Judges read all (some_entries es)
-judged_entries read all [] fine e = (fine, e)
-judged_entries read all (entry ∷ es) fine e = (fine, e, omega arith)
+judged_lists : {E : Type 0} (read : List ℕ → Result E SpecFault) (all : List Assigned) (es xs : List (Entry E)) → AreFine read all → entries read all ≡ record { expressions = es; exceptions = xs } → Judges read all (some_expressions es xs)
+judged_lists {E} read all [] xs fine e = (fine, ap (λ (lists : Lists E). lists.expressions) e)
+judged_lists read all (entry ∷ es) xs fine e = (fine, e, omega arith)
 
 judged_as : {E : Type 0} (read : List ℕ → Result E SpecFault) (all : List Assigned) (o : Option TimerFault) → first_fault read [] all ≡ o → Judges read all (unless_fault o (some_entries (entries read all)))
-judged_as read all None e = judged_entries read all (entries read all) (fine_from_none read [] all e) refl
+judged_as read all None e = judged_lists read all (entries read all).expressions (entries read all).exceptions (fine_from_none read [] all e) refl
 judged_as read all (Some fault) e =
     let found = fault_from_some read [] all fault e in
     judged_fault read all fault (first_is_of_line read [] all fault e) (record {
@@ -174,23 +189,23 @@ judged_as read all (Some fault) e =
       fine = found.fine;
     })
 
-pub judged : {E : Type 0} (read : List ℕ → Result E SpecFault) (all : List Assigned) → Judges read all (list_of read all)
-unfolding list_of
+pub judged : {E : Type 0} (read : List ℕ → Result E SpecFault) (all : List Assigned) → Judges read all (lists_of read all)
+unfolding lists_of
 judged read all = judged_as read all (first_fault read [] all) refl
 
-faulted : {E : Type 0} (read : List ℕ → Result E SpecFault) (all : List Assigned) (fault : TimerFault) → IsFirstFault read all fault → Err fault ≡ list_of read all
-unfolding list_of
+faulted : {E : Type 0} (read : List ℕ → Result E SpecFault) (all : List Assigned) (fault : TimerFault) → IsFirstFault read all fault → Err fault ≡ lists_of read all
+unfolding lists_of
 faulted read all fault h =
     let first : first_fault read [] all ≡ Some fault = rw h.whole (some_from_fault read [] h.before h.at h.after fault h.fine h.is_fault) in
     rw first refl
 
-some_if_any : {E : Type 0} (es : List (Entry E)) → 0 < length es → some_entries es ≡ Ok es
-some_if_any [] h = absurd (omega arith)
-some_if_any (e ∷ es) h = refl
+some_if_any : {E : Type 0} (es xs : List (Entry E)) → 0 < length es → some_expressions es xs ≡ Ok (record { expressions = es; exceptions = xs })
+some_if_any [] xs h = absurd (omega arith)
+some_if_any (e ∷ es) xs h = refl
 
-pub only_judged : {E : Type 0} (read : List ℕ → Result E SpecFault) (all : List Assigned) (result : Result (List (Entry E)) TimerFault) → Judges read all result → result ≡ list_of read all
-unfolding list_of
-only_judged read all (Ok es) h = rw (none_from_fine read [] all h.0, h.1) (sym (some_if_any es h.2))
+pub only_judged : {E : Type 0} (read : List ℕ → Result E SpecFault) (all : List Assigned) (result : Result (Lists E) TimerFault) → Judges read all result → result ≡ lists_of read all
+unfolding lists_of
+only_judged read all (Ok lists) h = rw (none_from_fine read [] all h.0, h.1) (sym (some_if_any lists.expressions lists.exceptions h.2))
 only_judged read all (Err NothingToDo) h = rw (none_from_fine read [] all h.0, h.1) refl
 only_judged read all (Err ReadFailed) h = faulted read all ReadFailed h
 only_judged read all (Err TooLarge) h = faulted read all TooLarge h

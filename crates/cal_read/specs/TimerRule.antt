@@ -1,8 +1,8 @@
--- The list of a timer file in the rule's own words, each as a law: systemd.timer(5), OnCalendar=; systemd.syntax(7).
+-- The lists of a timer file in the rule's own words, each as a law: systemd.timer(5), OnCalendar=; systemd.syntax(7).
 use Rattle.std.specs.Prelude.{◌≡◌, ◌<◌, ℕ, List, [], ◌∷◌, ◌++◌, length, None, Some, Result, Ok, Err}
 use Rattle.cal_spec.specs.declared.spec_fault.SpecFault.{SpecFault}
 use Rattle.cal_read.specs.Assignments.{Assigned}
-use Rattle.cal_read.specs.TimerText.{Entry, entries, fault_following}
+use Rattle.cal_read.specs.TimerText.{Lists, entries, fault_following}
 use Rattle.cal_read.specs.declared.timer.fault.TimerFault.{TimerFault}
 use Rattle.cal_read.specs.declared.timer.fault.TimerFault.TheVariants.{NothingToDo}
 
@@ -19,9 +19,9 @@ pub record IsFirstFault {E : Type 0} (read : List ℕ → Result E SpecFault) (a
   pub is_fault : fault_following read before at ≡ Some fault
   pub fine : AreFine read before
 
--- the result is the list of assignments without a fault, of which there is one at least; or the first fault; or that
--- the list is empty
-abbrev pub Judges : {E : Type 0} → (List ℕ → Result E SpecFault) → List Assigned → Result (List (Entry E)) TimerFault → Type 0
-Judges read all (Ok es) = AreFine read all × (entries read all ≡ es) × (0 < length es)
-Judges read all (Err NothingToDo) = AreFine read all × (entries read all ≡ [])
+-- the result is the lists of assignments without a fault, of which one at least is an expression; or the first fault; or
+-- that the list of expressions is empty
+abbrev pub Judges : {E : Type 0} → (List ℕ → Result E SpecFault) → List Assigned → Result (Lists E) TimerFault → Type 0
+Judges read all (Ok lists) = AreFine read all × (entries read all ≡ lists) × (0 < length lists.expressions)
+Judges read all (Err NothingToDo) = AreFine read all × ((entries read all).expressions ≡ [])
 Judges read all (Err fault) = IsFirstFault read all fault

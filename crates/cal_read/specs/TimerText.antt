@@ -1,5 +1,5 @@
--- What the text of a timer file says: systemd.timer(5), OnCalendar=. The list is a filter over all assignments, and so
--- is the count of those that stand before one.
+-- What the text of a timer file says: systemd.timer(5), OnCalendar=, and this project's own key for exceptions. Each of
+-- the two lists is a filter over all assignments, and so is the count of those that stand before one.
 use Rattle.std.specs.Prelude.{ℕ, ◌+◌, ◌==◌, nat_eq, nat_le, Bool, false, not, ◌&&◌, if◌then◌else◌, List, [], ◌∷◌, ◌++◌, length, filter, take, drop, codes, Option, None, Some, Result, Ok, Err, count_by}
 use Rattle.std.specs.List.{after_last, filter_map, list_any, starts_with}
 use Rattle.std.specs.Option.{option_or}
@@ -14,7 +14,7 @@ use Rattle.cal_spec.specs.declared.spec_fault.SpecFault.{SpecFault}
 use Rattle.cal_read.specs.declared.timer.fault.TimerFault.{TimerFault}
 use Rattle.cal_read.specs.declared.timer.fault.TimerFault.TheVariants.{ReadFailed, TooLarge, NotUtf8, BadLine, TooMany, NothingToDo, NoMemory}
 
--- the keys that empty the list by an empty value
+-- the keys that empty the list of expressions by an empty value
 abbrev pub timer_keys : List (List ℕ)
 timer_keys =
     codes "OnActiveSec" ∷ codes "OnBootSec" ∷ codes "OnStartupSec" ∷ codes "OnUnitActiveSec"
@@ -41,7 +41,7 @@ is_exception_reset a = has_no_value a && bytes_eq a.key exception_key
 unfoldable pub is_exception : Assigned → Bool
 is_exception a = not (has_no_value a) && bytes_eq a.key exception_key
 
--- the assignments that are on the list: those of expressions that follow the last reset
+-- the assignments that are on the list of expressions: those of expressions that follow the last reset
 unfoldable pub listed : List Assigned → List Assigned
 listed assignments = filter is_expression (after_last is_reset assignments)
 
@@ -49,11 +49,11 @@ listed assignments = filter is_expression (after_last is_reset assignments)
 unfoldable pub excepted : List Assigned → List Assigned
 excepted assignments = filter is_exception (after_last is_exception_reset assignments)
 
--- the most expressions on the list
+-- the most expressions on a list
 abbrev pub most_expressions : ℕ
 most_expressions = 256
 
--- an expression of the list: the number of its line, its text, and what it reads as
+-- an expression of a list: the number of its line, its text, and what it reads as
 pub record Entry (E : Type 0) : Type 0 where
   pub number : ℕ
   pub text : List ℕ
@@ -64,13 +64,17 @@ abbrev pub bad_line : {E : Type 0} → ℕ → Result E SpecFault → Option Tim
 bad_line number (Ok expr) = None
 bad_line number (Err fault) = Some (BadLine number fault)
 
--- The fault of an assignment after others. An expression is one too many where the list holds the most already; else
--- its text is judged, also where a later reset drops it.
+-- The fault of an assignment that comes to a list of these. It is one too many where the list holds the most already;
+-- else its text is judged, also where a later reset drops it.
+unfoldable pub fault_joining : {E : Type 0} → (List ℕ → Result E SpecFault) → List Assigned → Assigned → Option TimerFault
+fault_joining read list a =
+    if nat_le most_expressions (length list) then Some (TooMany a.number) else bad_line a.number (read a.value)
+
+-- the fault of an assignment after others, each list judged by its own resets
 unfoldable pub fault_following : {E : Type 0} → (List ℕ → Result E SpecFault) → List Assigned → Assigned → Option TimerFault
 fault_following read before a =
-    if is_expression a
-    then (if nat_le most_expressions (length (listed before)) then Some (TooMany a.number) else bad_line a.number (read a.value))
-    else None
+    if is_expression a then fault_joining read (listed before) a
+    else (if is_exception a then fault_joining read (excepted before) a else None)
 
 -- the first fault of assignments after others
 unfoldable pub first_fault : {E : Type 0} → (List ℕ → Result E SpecFault) → List Assigned → List Assigned → Option TimerFault
@@ -82,27 +86,37 @@ abbrev pub entry_of : {E : Type 0} → Assigned → Result E SpecFault → Optio
 entry_of a (Ok expr) = Some (record { number = a.number; text = a.value; expr = expr })
 entry_of a (Err fault) = None
 
--- the entries of the list
-unfoldable pub entries : {E : Type 0} → (List ℕ → Result E SpecFault) → List Assigned → List (Entry E)
-entries read assignments = filter_map (λ a. entry_of a (read a.value)) (listed assignments)
+-- the entries of these assignments
+abbrev pub entries_of : {E : Type 0} → (List ℕ → Result E SpecFault) → List Assigned → List (Entry E)
+entries_of read list = filter_map (λ a. entry_of a (read a.value)) list
 
 -- what a timer file gives: its expressions and its exceptions, each in the order of the file
 pub record Lists (E : Type 0) : Type 0 where
   pub expressions : List (Entry E)
   pub exceptions : List (Entry E)
 
--- an empty list is nothing to do
-abbrev pub some_entries : {E : Type 0} → List (Entry E) → Result (List (Entry E)) TimerFault
-some_entries [] = Err NothingToDo
-some_entries (e ∷ es) = Ok (e ∷ es)
+-- the entries of both lists
+unfoldable pub entries : {E : Type 0} → (List ℕ → Result E SpecFault) → List Assigned → Lists E
+entries read assignments = record {
+  expressions = entries_of read (listed assignments);
+  exceptions = entries_of read (excepted assignments);
+}
+
+-- an empty list of expressions is nothing to do, whatever the exceptions are
+abbrev pub some_expressions : {E : Type 0} → List (Entry E) → List (Entry E) → Result (Lists E) TimerFault
+some_expressions [] exceptions = Err NothingToDo
+some_expressions (e ∷ es) exceptions = Ok (record { expressions = e ∷ es; exceptions = exceptions })
+
+abbrev pub some_entries : {E : Type 0} → Lists E → Result (Lists E) TimerFault
+some_entries lists = some_expressions lists.expressions lists.exceptions
 
 abbrev pub unless_fault : {A : Type 0} → Option TimerFault → Result A TimerFault → Result A TimerFault
 unless_fault None result = result
 unless_fault (Some fault) result = Err fault
 
--- the list, or the first fault
-unfoldable pub list_of : {E : Type 0} → (List ℕ → Result E SpecFault) → List Assigned → Result (List (Entry E)) TimerFault
-list_of read assignments = unless_fault (first_fault read [] assignments) (some_entries (entries read assignments))
+-- the lists, or the first fault
+unfoldable pub lists_of : {E : Type 0} → (List ℕ → Result E SpecFault) → List Assigned → Result (Lists E) TimerFault
+lists_of read assignments = unless_fault (first_fault read [] assignments) (some_entries (entries read assignments))
 
 -- the bytes of the byte order mark, U+FEFF
 abbrev pub byte_order_mark : List ℕ
@@ -112,16 +126,16 @@ byte_order_mark = 239 ∷ 187 ∷ 191 ∷ []
 unfoldable pub without_mark : List ℕ → List ℕ
 without_mark text = if starts_with nat_eq text byte_order_mark then drop 3 text else text
 
--- the list that a text gives, or its fault
-unfoldable pub timer_of : {E : Type 0} → (List ℕ → Result E SpecFault) → List ℕ → Result (List (Entry E)) TimerFault
-timer_of read text = list_of read (assignments_in false (logical_lines 1 (without_mark text)))
+-- the lists that a text gives, or its fault
+unfoldable pub timer_of : {E : Type 0} → (List ℕ → Result E SpecFault) → List ℕ → Result (Lists E) TimerFault
+timer_of read text = lists_of read (assignments_in false (logical_lines 1 (without_mark text)))
 
 -- the number of the physical line in which the first bytes stand that are no UTF-8
 unfoldable pub broken_line : List ℕ → ℕ
 broken_line bytes = count_by (λ b. b == 10) (take (utf8_valid_len bytes) bytes) + 1
 
--- the list that a file's bytes give, or their fault
-unfoldable pub timer_in : {E : Type 0} → (List ℕ → Result E SpecFault) → List ℕ → Result (List (Entry E)) TimerFault
+-- the lists that a file's bytes give, or their fault
+unfoldable pub timer_in : {E : Type 0} → (List ℕ → Result E SpecFault) → List ℕ → Result (Lists E) TimerFault
 timer_in read bytes = if is_utf8 bytes then timer_of read bytes else Err (NotUtf8 (broken_line bytes))
 
 -- the fault of an input that can't be had whole
@@ -131,7 +145,7 @@ input_fault whole.TooLarge = TooLarge
 input_fault whole.NoMemory = NoMemory
 
 -- what reading a timer gives, by what the reads gave
-abbrev pub timer_text : {E : Type 0} → (List ℕ → Result E SpecFault) → Result (List ℕ) WholeFault → Result (List (Entry E)) TimerFault
+abbrev pub timer_text : {E : Type 0} → (List ℕ → Result E SpecFault) → Result (List ℕ) WholeFault → Result (Lists E) TimerFault
 timer_text read (Ok bytes) = timer_in read bytes
 timer_text read (Err fault) = Err (input_fault fault)
 

@@ -1,30 +1,46 @@
--- What contracts see of a timer: its expressions without where they lie in memory, and what a step of reading does to
--- their list.
-use Rattle.std.specs.Prelude.{ℕ, nat_le, if◌then◌else◌, List, [], ◌∷◌, ◌++◌, length, Result, Ok, Err, string_bytes}
+-- What contracts see of a timer: its expressions and exceptions without where they lie in memory, and what a step of
+-- reading does to their lists.
+use Rattle.std.specs.Prelude.{ℕ, nat_le, if◌then◌else◌, List, [], ◌∷◌, ◌++◌, length, map, Result, Ok, Err, string_bytes}
 use Rattle.cal_spec.specs.Fields.{Fields}
 use Rattle.cal_spec.specs.declared.spec_fault.SpecFault.{SpecFault}
 use Rattle.cal_read.specs.Assignments.{Assigned}
-use Rattle.cal_read.specs.TimerText.{Entry, is_expression, is_reset, most_expressions, some_entries}
+use Rattle.cal_read.specs.TimerText.{Entry, Lists, is_exception, is_exception_reset, is_expression, is_reset, most_expressions, some_entries}
 use Rattle.cal_read.specs.declared.timer.TimerLine.{TimerLine}
+use Rattle.cal_read.specs.declared.timer.list.ReadLists.{ReadLists}
 use Rattle.cal_read.specs.declared.timer.fault.TimerFault.{TimerFault}
 use Rattle.cal_read.specs.declared.timer.fault.TimerFault.TheVariants.{BadLine, TooMany}
 
--- an expression of the list
+-- an expression of a list
 abbrev pub shown : TimerLine → Entry Fields
 shown line = record { number = line.number; text = string_bytes line.text; expr = line.expr }
 
--- what follows the entry of a line whose text reads so
-abbrev pub with_read : {E A : Type 0} → Assigned → Result E SpecFault → (Entry E → Result A TimerFault) → Result A TimerFault
-with_read a (Ok expr) next = next (record { number = a.number; text = a.value; expr = expr })
-with_read a (Err fault) next = Err (BadLine a.number fault)
+-- both lists
+abbrev pub shown_lists : ReadLists → Lists Fields
+shown_lists lists = record { expressions = map shown lists.expressions.items; exceptions = map shown lists.exceptions.items }
 
--- The list, from the entries so far and the assignments that are left: from one to the next, as the code goes. For
--- private contracts alone; the lemma `resumed_is_list` says that this is `list_of`.
-unfoldable pub resumed : {E : Type 0} → (List ℕ → Result E SpecFault) → List (Entry E) → List Assigned → Result (List (Entry E)) TimerFault
-resumed read es [] = some_entries es
-resumed read es (a ∷ after) =
-    if is_reset a then resumed read [] after
+-- a list with the entry of a line whose text reads so
+abbrev pub with_read : {E : Type 0} → List (Entry E) → Assigned → Result E SpecFault → Result (List (Entry E)) TimerFault
+with_read es a (Ok expr) = Ok (es ++ record { number = a.number; text = a.value; expr = expr } ∷ [])
+with_read es a (Err fault) = Err (BadLine a.number fault)
+
+-- a list with the entry of an assignment, or its fault
+unfoldable pub joined : {E : Type 0} → (List ℕ → Result E SpecFault) → List (Entry E) → Assigned → Result (List (Entry E)) TimerFault
+joined read es a = if nat_le most_expressions (length es) then Err (TooMany a.number) else with_read es a (read a.value)
+
+-- what follows a list, unless it has a fault
+abbrev pub with_list : {E A : Type 0} → Result (List (Entry E)) TimerFault → (List (Entry E) → Result A TimerFault) → Result A TimerFault
+with_list (Ok es) next = next es
+with_list (Err fault) next = Err fault
+
+-- The lists, from the entries so far and the assignments that are left: from one to the next, as the code goes. For
+-- private contracts alone; the lemma `resumed_is_list` says that these are `lists_of`.
+unfoldable pub resumed : {E : Type 0} → (List ℕ → Result E SpecFault) → Lists E → List Assigned → Result (Lists E) TimerFault
+resumed read lists [] = some_entries lists
+resumed read lists (a ∷ after) =
+    if is_reset a then resumed read (record { expressions = []; exceptions = lists.exceptions }) after
+    else (if is_exception_reset a then resumed read (record { expressions = lists.expressions; exceptions = [] }) after
     else (if is_expression a
-    then (if nat_le most_expressions (length es) then Err (TooMany a.number)
-    else with_read a (read a.value) (λ e. resumed read (es ++ e ∷ []) after))
-    else resumed read es after)
+    then with_list (joined read lists.expressions a) (λ es. resumed read (record { expressions = es; exceptions = lists.exceptions }) after)
+    else (if is_exception a
+    then with_list (joined read lists.exceptions a) (λ es. resumed read (record { expressions = lists.expressions; exceptions = es }) after)
+    else resumed read lists after)))

@@ -7,12 +7,12 @@ ghost use Rattle.std.specs.Str.{bytes_eq};
 ghost use Rattle.cal_read.specs.Assignments.{assignment_of, is_header, section_of};
 ghost use Rattle.cal_lines.specs.LineView.{line_at};
 ghost use Rattle.cal_read.specs.AssignmentView.{shown_assignment};
-ghost use Rattle.cal_read.specs.TimerText.{is_expression, is_reset};
+ghost use Rattle.cal_read.specs.TimerText.{is_exception, is_exception_reset, is_expression, is_reset};
 
 use cal_bytes::is_among;
 use cal_lines::trim;
 
-/// The keys that empty the list by an empty value.
+/// The keys that empty the list of expressions by an empty value.
 const TIMER_KEYS: [&[u8]; 6] = [
     b"OnActiveSec",
     b"OnBootSec",
@@ -21,6 +21,9 @@ const TIMER_KEYS: [&[u8]; 6] = [
     b"OnUnitInactiveSec",
     b"OnCalendar",
 ];
+
+/// The key of exceptions.
+const EXCEPTION_KEY: &str = "X-ExceptOnCalendar";
 
 /// A key and its value, both without blanks at their ends.
 #[derive(Clone, Copy)]
@@ -32,7 +35,7 @@ pub(crate) struct Assignment<'t> {
 }
 
 impl Assignment<'_> {
-    /// Whether it empties the list: whether one of the timer's keys has no value.
+    /// Whether it empties the list of expressions: whether one of the timer's keys has no value.
     #[tactic(auto, unfolding(crate::specs::TimerText::is_reset))]
     pub(crate) fn is_reset(self) -> bool
         ensures { result ≡ is_reset (shown_assignment self.entry) }
@@ -46,6 +49,22 @@ impl Assignment<'_> {
         ensures { result ≡ is_expression (shown_assignment self.entry) }
     {
         !self.value.is_empty() && self.key == "OnCalendar"
+    }
+
+    /// Whether it empties the list of exceptions: whether their key has no value.
+    #[tactic(auto, unfolding(crate::specs::TimerText::is_exception_reset))]
+    pub(crate) fn is_exception_reset(self) -> bool
+        ensures { result ≡ is_exception_reset (shown_assignment self.entry) }
+    {
+        self.value.is_empty() && self.key == EXCEPTION_KEY
+    }
+
+    /// Whether it is an exception's: whether their key has a value.
+    #[tactic(auto, unfolding(crate::specs::TimerText::is_exception))]
+    pub(crate) fn is_exception(self) -> bool
+        ensures { result ≡ is_exception (shown_assignment self.entry) }
+    {
+        !self.value.is_empty() && self.key == EXCEPTION_KEY
     }
 }
 

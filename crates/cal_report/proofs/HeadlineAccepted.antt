@@ -20,19 +20,20 @@ use Rattle.cal_spec.proofs.FieldLemmas.{valid_fields}
 use Rattle.cal_spec.proofs.WholeRule.{valid_found}
 use Rattle.cal_read.specs.Assignments.{Assigned}
 use Rattle.cal_read.specs.TimerRule.{AreFine, Judges}
-use Rattle.cal_read.specs.TimerText.{Entry, bad_line, entries, entry_of, fault_following, is_expression, is_reset, listed, most_expressions, timer_in, timer_of}
+use Rattle.cal_read.specs.TimerText.{Entry, Lists, bad_line, entries, entry_of, excepted, fault_joining, is_exception, is_exception_reset, is_expression, is_reset, listed, most_expressions, timer_in, timer_of}
 use Rattle.cal_read.specs.declared.timer.fault.TimerFault.{TimerFault}
-use Rattle.cal_read.specs.declared.timer.fault.TimerFault.TheVariants.{TooMany}
+use Rattle.cal_read.proofs.ListedLemmas.{fault_of_exception, fault_of_expression}
 use Rattle.cal_read.proofs.TimerRuleLemmas.{judged}
 use Rattle.cal_report.specs.Answer.{texts_status}
 use Rattle.cal_report.specs.CalendarReport.{answer_in, answer_with, calendar_answer, zone_for}
 use Rattle.cal_report.specs.Headline.{AreAccepted, AreSpelled, Expression, IsAccepted, IsAcceptedFile, IsZoneFor, Spells, assigned_in}
 use Rattle.cal_report.specs.Report.{Report, answer_by, answer_to, base_in, file_name, report, texts_report, whole_report}
-use Rattle.cal_report.specs.TimerReport.{answer_of_timer, answer_unless, lacks_zone, timer_answer}
+use Rattle.cal_report.specs.TimerReport.{answer_of_timer, answer_unless, lacks_zone, timer_answer, unzoned}
 use Rattle.cal_request.specs.Request.{Asked, is_timer}
 use Rattle.cal_request.specs.declared.request.Status.TheVariants.{Fine, Refused}
 use Rattle.cal_request.specs.declared.request.Verb.TheVariants.{Calendar, Timer}
 use Rattle.cal_report.proofs.HeadlineLemmas.{HaveOneNormalForm, report_of_texts, spelled_is_read, text_of}
+use Rattle.cal_report.proofs.TimerLemmas.{all_zoned, none_mapped}
 
 -- What ends well was accepted
 
@@ -115,38 +116,51 @@ spelled_unless : AreNormalForms → (number : ℕ) (text : List ℕ) (r : Result
 spelled_unless some number text (Ok fields) read h = (fields, read_is_spelled some text fields read)
 spelled_unless some number text (Err fault) read h = cc
 
-fine_by : AreNormalForms → (before : List Assigned) (a : Assigned) (many : Bool) → nat_le most_expressions (length (listed before)) ≡ many
-    → (if many then Some (TooMany a.number) else bad_line a.number (expr_in a.value)) ≡ None
-    → (length (listed before) < most_expressions) × ((fields : Fields) × Spells a.value fields)
-fine_by some before a true few h = cc
-fine_by some before a false few h = (grind (arith, few), spelled_unless some a.number a.value (expr_in a.value) refl h)
+joining_by : AreNormalForms → (list : List Assigned) (a : Assigned) (many : Bool) → nat_le most_expressions (length list) ≡ many
+    → fault_joining expr_in list a ≡ None → (length list < most_expressions) × ((fields : Fields) × Spells a.value fields)
+unfolding fault_joining
+joining_by some list a true few = rw few (λ h. cc)
+joining_by some list a false few = rw few (λ h. (grind (arith, few), spelled_unless some a.number a.value (expr_in a.value) refl h))
+
+joining_spelled : AreNormalForms → (list : List Assigned) (a : Assigned) → fault_joining expr_in list a ≡ None
+    → (length list < most_expressions) × ((fields : Fields) × Spells a.value fields)
+joining_spelled some list a h = joining_by some list a (nat_le most_expressions (length list)) refl h
 
 fine_spelled : AreNormalForms → (all : List Assigned) → AreFine expr_in all → AreSpelled all
-unfolding fault_following
-fine_spelled some all fine before a after split is =
-    let none = rw is at (fine before a after split) in
-    fine_by some before a (nat_le most_expressions (length (listed before))) refl none
+fine_spelled some all fine before a after split = (
+  λ is. joining_spelled some (listed before) a (sym (fault_of_expression expr_in before a is) ∙ fine before a after split),
+  λ is. joining_spelled some (excepted before) a (sym (fault_of_exception expr_in before a is) ∙ fine before a after split),
+)
 
 -- the text of an assignment is one
 abbrev IsSpelled : Assigned → Type 0
 IsSpelled a = (fields : Fields) × Spells a.value fields
 
-kept_spelled : (a : Assigned) (rest : List Assigned) (is : Bool) → (is ≡ true → IsSpelled a) → AllByRecursion IsSpelled (filter is_expression rest)
-    → AllByRecursion IsSpelled (cond is (a ∷ filter is_expression rest) (filter is_expression rest))
-kept_spelled a rest true here later = (here refl, later)
-kept_spelled a rest false here later = later
+-- of a list that a test adds to, where each assignment that it passes is one
+kept_spelled : (adds : Assigned → Bool) (a : Assigned) (rest : List Assigned) (is : Bool) → (is ≡ true → IsSpelled a) → AllByRecursion IsSpelled (filter adds rest)
+    → AllByRecursion IsSpelled (cond is (a ∷ filter adds rest) (filter adds rest))
+kept_spelled adds a rest true here later = (here refl, later)
+kept_spelled adds a rest false here later = later
 
-each_spelled : (all front rest : List Assigned) → all ≡ front ++ rest → AreSpelled all → AllByRecursion IsSpelled (filter is_expression rest)
-each_spelled all front [] split h = tt
-each_spelled all front (a ∷ rest) split h =
-    kept_spelled a rest (is_expression a) (λ is. (h front a rest split is).1)
-    (each_spelled all (front ++ a ∷ []) rest (split ∙ sym (append_assoc front (a ∷ []) rest)) h)
+each_spelled : (adds : Assigned → Bool) (all front rest : List Assigned) → all ≡ front ++ rest
+    → ((before : List Assigned) (a : Assigned) (after : List Assigned) → all ≡ before ++ (a ∷ after) → adds a ≡ true → IsSpelled a)
+    → AllByRecursion IsSpelled (filter adds rest)
+each_spelled adds all front [] split h = tt
+each_spelled adds all front (a ∷ rest) split h =
+    kept_spelled adds a rest (adds a) (λ is. h front a rest split is)
+    (each_spelled adds all (front ++ a ∷ []) rest (split ∙ sym (append_assoc front (a ∷ []) rest)) h)
 
 listed_spelled : (all : List Assigned) → AreSpelled all → AllByRecursion IsSpelled (listed all)
 unfolding listed
 listed_spelled all h =
     let before = length all - suffix_len (λ a. not (is_reset a)) all in
-    each_spelled all (take before all) (drop before all) (sym (take-append-drop before all)) h
+    each_spelled is_expression all (take before all) (drop before all) (sym (take-append-drop before all)) (λ front a rest split is. ((h front a rest split).0 is).1)
+
+excepted_spelled : (all : List Assigned) → AreSpelled all → AllByRecursion IsSpelled (excepted all)
+unfolding excepted
+excepted_spelled all h =
+    let before = length all - suffix_len (λ a. not (is_exception_reset a)) all in
+    each_spelled is_exception all (take before all) (drop before all) (sym (take-append-drop before all)) (λ front a rest split is. ((h front a rest split).1 is).1)
 
 -- the expressions of assignments
 record AreExpressionsOf (asked : Asked) (list : List Assigned) : Type 0 where
@@ -187,36 +201,41 @@ expressions_of one asked (a ∷ list) spelled h =
     let parts = found_none (lacks_zone asked) entry rest (lacks_zone asked entry) refl (rw read at h) in
     one_more asked a list spelled.0 read parts.0 (expressions_of one asked list spelled.1 parts.1)
 
-read_parts : (utf8 : Bool) (good bad : Result (List (Entry Fields)) TimerFault) (list : List (Entry Fields)) (fault : TimerFault) → bad ≡ Err fault
-    → (if utf8 then good else bad) ≡ Ok list → (utf8 ≡ true) × (good ≡ Ok list)
-read_parts true good bad list fault is h = (refl, h)
-read_parts false good bad list fault is h = absurd (let never : ◌≡◌ {A = Result (List (Entry Fields)) TimerFault} (Err fault) (Ok list) = sym is ∙ h in cc)
+read_parts : (utf8 : Bool) (good bad : Result (Lists Fields) TimerFault) (lists : Lists Fields) (fault : TimerFault) → bad ≡ Err fault
+    → (if utf8 then good else bad) ≡ Ok lists → (utf8 ≡ true) × (good ≡ Ok lists)
+read_parts true good bad lists fault is h = (refl, h)
+read_parts false good bad lists fault is h = absurd (let never : ◌≡◌ {A = Result (Lists Fields) TimerFault} (Err fault) (Ok lists) = sym is ∙ h in cc)
 
-list_accepted : HaveOneNormalForm → AreNormalForms → (asked : Asked) (bytes : List ℕ) (list : List (Entry Fields)) → timer_in expr_in bytes ≡ Ok list
-    → find (lacks_zone asked) list ≡ None → IsAcceptedFile asked bytes
+lists_accepted : HaveOneNormalForm → AreNormalForms → (asked : Asked) (bytes : List ℕ) (lists : Lists Fields) → timer_in expr_in bytes ≡ Ok lists
+    → unzoned asked lists ≡ None → IsAcceptedFile asked bytes
 unfolding timer_in timer_of entries
-list_accepted one some asked bytes list read there =
-    let parts = read_parts (is_utf8 bytes) _ _ list _ refl read in
+lists_accepted one some asked bytes lists read there =
+    let parts = read_parts (is_utf8 bytes) _ _ lists _ refl read in
     let all = assigned_in bytes in
-    let judges : Judges expr_in all (Ok list) = subst (Judges expr_in all) parts.1 (judged expr_in all) in
+    let judges : Judges expr_in all (Ok lists) = subst (Judges expr_in all) parts.1 (judged expr_in all) in
     let spelled = fine_spelled some all judges.0 in
-    let none : find (lacks_zone asked) (entries expr_in all) ≡ None = rw judges.1 there in
+    let zoned = all_zoned asked lists there in
+    let none : find (lacks_zone asked) (entries expr_in all).expressions ≡ None
+    = ap (λ (l : Lists Fields). find (lacks_zone asked) l.expressions) judges.1 ∙ none_mapped (find (lacks_zone asked) lists.expressions) zoned.0 in
+    let nor : find (lacks_zone asked) (entries expr_in all).exceptions ≡ None
+    = ap (λ (l : Lists Fields). find (lacks_zone asked) l.exceptions) judges.1 ∙ none_mapped (find (lacks_zone asked) lists.exceptions) zoned.1 in
     let found = expressions_of one asked (listed all) (listed_spelled all spelled) none in
-    let many : length found.expressions ≡ length list = found.many ∙ ap length judges.1 in
+    let except = expressions_of one asked (excepted all) (excepted_spelled all spelled) nor in
+    let many : length found.expressions ≡ length lists.expressions = found.many ∙ ap (λ (l : Lists Fields). length l.expressions) judges.1 in
     record {
-      expressions = found.expressions;
-      list = record { utf8 = parts.0; spelled = spelled; list = found.same; some = omega (arith, many, judges.2) };
-      each = found.each;
+      schedule = record { expressions = found.expressions; exceptions = except.expressions };
+      lists = record { utf8 = parts.0; spelled = spelled; expressions = found.same; exceptions = except.same; some = omega (arith, many, judges.2) };
+      each = record { expressions = found.each; exceptions = except.each };
     }
 
-accepted_unless : HaveOneNormalForm → AreNormalForms → (asked : Asked) (bytes name : List ℕ) (base : ℤ) (list : List (Entry Fields)) (o : Option (Entry Fields))
-    → timer_in expr_in bytes ≡ Ok list → find (lacks_zone asked) list ≡ o → (whole_report (answer_unless asked base name list o)).status ≡ Fine → IsAcceptedFile asked bytes
-accepted_unless one some asked bytes name base list None read there h = list_accepted one some asked bytes list read there
-accepted_unless one some asked bytes name base list (Some e) read there h = cc
+accepted_unless : HaveOneNormalForm → AreNormalForms → (asked : Asked) (bytes name : List ℕ) (base : ℤ) (lists : Lists Fields) (o : Option ℕ)
+    → timer_in expr_in bytes ≡ Ok lists → unzoned asked lists ≡ o → (whole_report (answer_unless asked base name lists o)).status ≡ Fine → IsAcceptedFile asked bytes
+accepted_unless one some asked bytes name base lists None read there h = lists_accepted one some asked bytes lists read there
+accepted_unless one some asked bytes name base lists (Some number) read there h = cc
 
-accepted_of : HaveOneNormalForm → AreNormalForms → (asked : Asked) (bytes name : List ℕ) (base : ℤ) (r : Result (List (Entry Fields)) TimerFault)
+accepted_of : HaveOneNormalForm → AreNormalForms → (asked : Asked) (bytes name : List ℕ) (base : ℤ) (r : Result (Lists Fields) TimerFault)
     → timer_in expr_in bytes ≡ r → (whole_report (answer_of_timer asked base name r)).status ≡ Fine → IsAcceptedFile asked bytes
-accepted_of one some asked bytes name base (Ok list) read h = accepted_unless one some asked bytes name base list (find (lacks_zone asked) list) read refl h
+accepted_of one some asked bytes name base (Ok lists) read h = accepted_unless one some asked bytes name base lists (unzoned asked lists) read refl h
 accepted_of one some asked bytes name base (Err fault) read h = cc
 
 report_of_timer : (asked : Asked) (bytes : List ℕ) (base : ℤ) → asked.verb ≡ Timer → base_in asked ≡ Ok base

@@ -14,13 +14,13 @@ use Rattle.cal_zone.proofs.PlaceLemmas.{place_of-Some}
 use Rattle.cal_spec.specs.Fields.{Fields}
 use Rattle.cal_spec.specs.Match.{matches}
 use Rattle.cal_spec.specs.Members.{sets_of}
-use Rattle.cal_elapse.specs.Elapses.{AreElapses, IsPlace, Timed, elapses_after}
+use Rattle.cal_elapse.specs.Elapses.{AreElapses, IsPlace, Timed, elapses_except}
 use Rattle.cal_elapse.specs.Timed.{timed}
-use Rattle.cal_elapse.proofs.ElapsesLemmas.{AreElapses-elapses_after, AreElapses-only, elapses_after-later}
+use Rattle.cal_elapse.proofs.ElapsesLemmas.{AreElapses-elapses_except, AreElapses-only, elapses_except-later}
 use Rattle.cal_elapse.proofs.InstantLemmas.{IsInstant-elapse}
 use Rattle.cal_read.specs.declared.stamp.fault.StampFault.{StampFault}
 use Rattle.cal_report.specs.ElapseLines.{AreInstants}
-use Rattle.cal_report.specs.Headline.{Expression, meaning}
+use Rattle.cal_report.specs.Headline.{AreElapsesOf, Expression, Schedule, meaning}
 use Rattle.cal_report.specs.Report.{base_from, base_in, second_or_fault}
 use Rattle.cal_report.specs.TimestampReport.{second_at, stamp_in}
 use Rattle.cal_request.specs.Request.{Asked}
@@ -42,24 +42,24 @@ pub base_low : (asked : Asked) (base : ℤ) → IsInstant asked.now → base_in 
 unfolding base_in
 base_low asked base now h = base_from_low asked asked.base base now.0 h
 
-pub elapses_are_instants : (asked : Asked) (base : ℤ) (es : List Expression) (xs : List ℤ) → IsInstant asked.now → base_in asked ≡ Ok base
-    → AreElapses (map meaning es) base xs → AreInstants xs
-elapses_are_instants asked base es xs now sought h i there =
-    let elapse = ((AreElapses-elapses_after (map meaning es) base).members i).1 ((h.members i).0 there) in
-    IsInstant-elapse (λ (e : Expression). e.fields) (λ (e : Expression). e.tz) es base i (base_low asked base now sought) elapse
+pub elapses_are_instants : (asked : Asked) (base : ℤ) (s : Schedule) (xs : List ℤ) → IsInstant asked.now → base_in asked ≡ Ok base
+    → AreElapsesOf s base xs → AreInstants xs
+elapses_are_instants asked base s xs now sought h i there =
+    let elapse = ((AreElapses-elapses_except (map meaning s.expressions) (map meaning s.exceptions) base).members i).1 ((h.members i).0 there) in
+    IsInstant-elapse (λ (e : Expression). e.fields) (λ (e : Expression). e.tz) s.expressions (map meaning s.exceptions) base i (base_low asked base now sought) elapse
 
 -- Starting again
 
-pub goes_on : (ts : List Timed) (base e : ℤ) (xs : List ℤ) (k : ℕ) → AreElapses ts base xs → slice_get xs k ≡ Some e → AreElapses ts e (drop (suc k) xs)
-goes_on ts base e xs k h at =
-    let same = AreElapses-only ts base xs h in
-    let at_all : slice_get (elapses_after ts base) k ≡ Some e = subst (λ (ys : List ℤ). slice_get ys k ≡ Some e) same at in
-    subst (AreElapses ts e) (elapses_after-later ts base e k at_all ∙ ap (drop (suc k)) (sym same)) (AreElapses-elapses_after ts e)
+pub goes_on : (ts excepts : List Timed) (base e : ℤ) (xs : List ℤ) (k : ℕ) → AreElapses ts excepts base xs → slice_get xs k ≡ Some e → AreElapses ts excepts e (drop (suc k) xs)
+goes_on ts excepts base e xs k h at =
+    let same = AreElapses-only ts excepts base xs h in
+    let at_all : slice_get (elapses_except ts excepts base) k ≡ Some e = subst (λ (ys : List ℤ). slice_get ys k ≡ Some e) same at in
+    subst (AreElapses ts excepts e) (elapses_except-later ts excepts base e k at_all ∙ ap (drop (suc k)) (sym same)) (AreElapses-elapses_except ts excepts e)
 
-pub in_parts : (ts : List Timed) (base e : ℤ) (xs ys : List ℤ) (k m : ℕ) → AreElapses ts base xs → slice_get xs k ≡ Some e → AreElapses ts e ys
+pub in_parts : (ts excepts : List Timed) (base e : ℤ) (xs ys : List ℤ) (k m : ℕ) → AreElapses ts excepts base xs → slice_get xs k ≡ Some e → AreElapses ts excepts e ys
     → take (suc k) xs ++ take m ys ≡ take (suc k + m) xs
-in_parts ts base e xs ys k m h at more =
-    let rest : ys ≡ drop (suc k) xs = one_elapses ts e ys (drop (suc k) xs) more (goes_on ts base e xs k h at) in
+in_parts ts excepts base e xs ys k m h at more =
+    let rest : ys ≡ drop (suc k) xs = one_elapses ts excepts e ys (drop (suc k) xs) more (goes_on ts excepts base e xs k h at) in
     rw rest (sym (take-add (suc k) m xs))
 
 -- What a zone's clock shows

@@ -12,19 +12,20 @@ use Rattle.cal_spec.specs.ValidFields.{IsValidFields}
 use Rattle.cal_spec.specs.declared.spec_fault.SpecFault.{SpecFault}
 use Rattle.cal_spec.proofs.FieldLemmas.{valid_fields}
 use Rattle.cal_spec.proofs.WholeRule.{valid_only}
-use Rattle.cal_elapse.specs.Elapses.{AreElapses, Timed, elapses_after}
-use Rattle.cal_elapse.proofs.ElapsesLemmas.{AreElapses-elapses_after, AreElapses-only}
+use Rattle.cal_bytes.specs.Bytes.{joined}
+use Rattle.cal_elapse.specs.Elapses.{AreElapses, Timed, elapses_after, elapses_except}
+use Rattle.cal_elapse.proofs.ElapsesLemmas.{AreElapses-elapses_except, AreElapses-only, elapses_except-none}
 use Rattle.cal_read.specs.Assignments.{Assigned}
 use Rattle.cal_read.specs.TimerRule.{AreFine}
-use Rattle.cal_read.specs.TimerText.{Entry, entries, entry_of, fault_following, is_expression, listed, most_expressions, timer_in, timer_of}
+use Rattle.cal_read.specs.TimerText.{Entry, Lists, entries, entry_of, excepted, fault_following, fault_joining, is_exception, is_expression, listed, most_expressions, timer_in, timer_of}
 use Rattle.cal_read.proofs.TimerRuleLemmas.{only_judged}
 use Rattle.cal_report.specs.Answer.{refusals_text, report_in, reports_text, texts_status}
 use Rattle.cal_spec.specs.ZoneSuffix.{Suffix, of_name, ahead}
 use Rattle.cal_report.specs.CalendarReport.{answer_in, answer_with, calendar_answer, calendar_report, heading_text, zone_for}
 use Rattle.cal_report.specs.ElapseLines.{elapses_text}
-use Rattle.cal_report.specs.Headline.{AreReportsOf, AreSpelled, Expression, IsAccepted, IsFileOf, IsFine, IsReportOf, IsZoneFor, Spells, assigned_in, headings, meaning}
+use Rattle.cal_report.specs.Headline.{AreAllAccepted, AreReportsOf, AreSpelled, Expression, IsAccepted, IsFileOf, IsFine, IsReportOf, IsZoneFor, Schedule, Spells, alone, assigned_in, headings, meaning}
 use Rattle.cal_report.specs.Report.{ByReading, IsReported, answer_by, answer_to, base_in, file_name, report, texts_report}
-use Rattle.cal_report.specs.TimerReport.{headings_text, lacks_zone, timed_entry, timer_answer, timer_report}
+use Rattle.cal_report.specs.TimerReport.{elapses_of_lists, exception_text, exceptions_text, headings_text, lacks_zone, timed_entry, timer_answer, timer_report, unzoned}
 use Rattle.cal_request.specs.Request.{Asked, is_timer}
 use Rattle.cal_request.specs.declared.request.Status.{Status}
 use Rattle.cal_request.specs.declared.request.Status.TheVariants.{Fine, Refused}
@@ -62,16 +63,20 @@ is_answered one asked base e verb h =
     ∙ ap (answer_with asked base e.text) (spelled_is_read one e.text e.fields h.spelled)
     ∙ ap (answer_in asked base e.text e.fields) (zone_is_found asked e.fields.zone e.tz h.zone)
 
-is_report : (asked : Asked) (base : ℤ) (e : Expression) → IsReportOf asked base (e ∷ []) (report_of asked base e)
+-- the elapses of an expression are those that have no exceptions
+alone_elapses : (t : Timed) (base : ℤ) → AreElapses (t ∷ []) [] base (elapses_after (t ∷ []) base)
+alone_elapses t base = subst (AreElapses (t ∷ []) [] base) (elapses_except-none (t ∷ []) base) (AreElapses-elapses_except (t ∷ []) [] base)
+
+is_report : (asked : Asked) (base : ℤ) (e : Expression) → IsReportOf asked base (alone e) (report_of asked base e)
 unfolding calendar_report
 is_report asked base e = record {
   elapses = elapses_after (meaning e ∷ []) base;
-  these = AreElapses-elapses_after (meaning e ∷ []) base;
-  layout = rw (append-nil (heading_text e.text e.fields)) (ap (λ (t : List ℕ). heading_text e.text e.fields ++ t) (append-nil _));
+  these = alone_elapses (meaning e) base;
+  layout = rw (append-nil (heading_text e.text e.fields), append-nil (heading_text e.text e.fields)) (ap (λ (t : List ℕ). heading_text e.text e.fields ++ t) (append-nil _));
 }
 
 each_report : (asked : Asked) (base : ℤ) (es : List Expression)
-    → AllZip (λ e report. IsReportOf asked base (e ∷ []) report) es (map (report_of asked base) es)
+    → AllZip (λ e report. IsReportOf asked base (alone e) report) es (map (report_of asked base) es)
 each_report asked base [] = tt
 each_report asked base (e ∷ es) = (is_report asked base e, each_report asked base es)
 
@@ -131,19 +136,25 @@ calendar_report_is one asked read base es verb sought texts all =
 
 -- Timer files
 
--- an assignment of an expression by the rule has no fault
-no_fault : HaveOneNormalForm → (before : List Assigned) (a : Assigned) (is : Bool) → is_expression a ≡ is
+-- an assignment of an expression, or of an exception, by the rule has no fault
+joins_well : HaveOneNormalForm → (list : List Assigned) (a : Assigned) → (length list < most_expressions) × ((fields : Fields) × Spells a.value fields)
+    → fault_joining expr_in list a ≡ None
+unfolding fault_joining
+joins_well one list a spelled =
+    let few : nat_le most_expressions (length list) ≡ false = grind (arith, spelled.0) in
+    rw (few, spelled_is_read one a.value spelled.1.0 spelled.1.1) refl
+
+no_fault : HaveOneNormalForm → (before : List Assigned) (a : Assigned) (expresses excepts : Bool) → is_expression a ≡ expresses → is_exception a ≡ excepts
     → (is_expression a ≡ true → (length (listed before) < most_expressions) × ((fields : Fields) × Spells a.value fields))
+    × (is_exception a ≡ true → (length (excepted before) < most_expressions) × ((fields : Fields) × Spells a.value fields))
     → fault_following expr_in before a ≡ None
 unfolding fault_following
-no_fault one before a false is h = rw is refl
-no_fault one before a true is h =
-    let spelled = h is in
-    let few : nat_le most_expressions (length (listed before)) ≡ false = grind (arith, spelled.0) in
-    rw (is, few, spelled_is_read one a.value spelled.1.0 spelled.1.1) refl
+no_fault one before a true excepts e f h = rw e (joins_well one (listed before) a (h.0 e))
+no_fault one before a false true e f h = rw (e, f) (joins_well one (excepted before) a (h.1 f))
+no_fault one before a false false e f h = rw (e, f) refl
 
 all_fine : HaveOneNormalForm → (all : List Assigned) → AreSpelled all → AreFine expr_in all
-all_fine one all h before a after split = no_fault one before a (is_expression a) refl (h before a after split)
+all_fine one all h before a after split = no_fault one before a (is_expression a) (is_exception a) refl refl (h before a after split)
 
 -- the entry of an expression
 record IsEntryOf (asked : Asked) (entry : Entry Fields) (e : Expression) : Type 0 where
@@ -183,35 +194,48 @@ meanings_are asked (entry ∷ list) [] h = absurd h
 meanings_are asked (entry ∷ list) (e ∷ es) h =
     rw (h.0.expr, h.0.zone) (ap (λ (ts : List Timed). meaning e ∷ ts) (meanings_are asked list es h.1))
 
-headings_are : (asked : Asked) (list : List (Entry Fields)) (es : List Expression) → AllZip (IsEntryOf asked) list es
-    → headings_text list ≡ headings es
-unfolding headings_text
-headings_are asked [] [] h = refl
-headings_are asked [] (e ∷ es) h = absurd h
-headings_are asked (entry ∷ list) [] h = absurd h
-headings_are asked (entry ∷ list) (e ∷ es) h =
-    rw (h.0.text, h.0.expr) (ap (λ (t : List ℕ). heading_text e.text e.fields ++ t) (headings_are asked list es h.1))
+-- the texts of entries that are shown so
+shown_are : (shows : List ℕ → Fields → List ℕ) (asked : Asked) (list : List (Entry Fields)) (es : List Expression) → AllZip (IsEntryOf asked) list es
+    → flat_map (λ (entry : Entry Fields). shows entry.text entry.expr) list ≡ flat_map (λ (e : Expression). shows e.text e.fields) es
+shown_are shows asked [] [] h = refl
+shown_are shows asked [] (e ∷ es) h = absurd h
+shown_are shows asked (entry ∷ list) [] h = absurd h
+shown_are shows asked (entry ∷ list) (e ∷ es) h =
+    rw (h.0.text, h.0.expr) (ap (λ (t : List ℕ). shows e.text e.fields ++ t) (shown_are shows asked list es h.1))
 
 as_many : (asked : Asked) (list : List (Entry Fields)) (es : List Expression) → AllZip (IsEntryOf asked) list es → 0 < length es → 0 < length list
 as_many asked [] [] h some = some
 as_many asked [] (e ∷ es) h some = absurd h
 as_many asked (entry ∷ list) es h some = omega arith
 
--- the entries of a file's list
-abbrev entries_in : List ℕ → List (Entry Fields)
+-- the entries of both lists are those of a schedule
+record AreEntriesOf (asked : Asked) (lists : Lists Fields) (s : Schedule) : Type 0 where
+  expressions : AllZip (IsEntryOf asked) lists.expressions s.expressions
+  exceptions : AllZip (IsEntryOf asked) lists.exceptions s.exceptions
+
+-- the entries of a file's lists
+abbrev entries_in : List ℕ → Lists Fields
 entries_in bytes = entries expr_in (assigned_in bytes)
 
-file_entries : HaveOneNormalForm → (asked : Asked) (bytes : List ℕ) (es : List Expression) → IsFileOf bytes es → AllByRecursion (IsAccepted asked) es
-    → AllZip (IsEntryOf asked) (entries_in bytes) es
+file_entries : HaveOneNormalForm → (asked : Asked) (bytes : List ℕ) (s : Schedule) → IsFileOf bytes s → AreAllAccepted asked s
+    → AreEntriesOf asked (entries_in bytes) s
 unfolding entries
-file_entries one asked bytes es file all = entries_are one asked (listed (assigned_in bytes)) es file.list all
+file_entries one asked bytes s file all = record {
+  expressions = entries_are one asked (listed (assigned_in bytes)) s.expressions file.expressions all.expressions;
+  exceptions = entries_are one asked (excepted (assigned_in bytes)) s.exceptions file.exceptions all.exceptions;
+}
 
-file_is_read : HaveOneNormalForm → (asked : Asked) (bytes : List ℕ) (es : List Expression) → IsFileOf bytes es → AllByRecursion (IsAccepted asked) es
+file_is_read : HaveOneNormalForm → (asked : Asked) (bytes : List ℕ) (s : Schedule) → IsFileOf bytes s → AreAllAccepted asked s
     → timer_in expr_in bytes ≡ Ok (entries_in bytes)
 unfolding timer_in timer_of
-file_is_read one asked bytes es file all =
-    let some = as_many asked (entries_in bytes) es (file_entries one asked bytes es file all) file.some in
+file_is_read one asked bytes s file all =
+    let some = as_many asked (entries_in bytes).expressions s.expressions (file_entries one asked bytes s file all).expressions file.some in
     rw file.utf8 (sym (only_judged expr_in (assigned_in bytes) (Ok (entries_in bytes)) (all_fine one (assigned_in bytes) file.spelled, refl, some)))
+
+all_there : (asked : Asked) (lists : Lists Fields) (s : Schedule) → AreEntriesOf asked lists s → unzoned asked lists ≡ None
+unfolding unzoned
+all_there asked lists s h =
+    rw (none_lacks asked lists.expressions s.expressions h.expressions, none_lacks asked lists.exceptions s.exceptions h.exceptions) refl
 
 -- what is reported of a file's bytes, where the base isn't refused
 report_of_file : (asked : Asked) (bytes : List ℕ) (base : ℤ) (text : List ℕ) → asked.verb ≡ Timer → base_in asked ≡ Ok base
@@ -221,27 +245,40 @@ report_of_file asked bytes base text verb sought answered =
     let timer : is_timer asked.verb ≡ true = ap is_timer verb in
     rw (sought, timer, answered) refl
 
-file_is_answered : HaveOneNormalForm → (asked : Asked) (bytes name : List ℕ) (base : ℤ) (es : List Expression) → IsFileOf bytes es
-    → AllByRecursion (IsAccepted asked) es → timer_answer asked base name (Ok bytes) ≡ Ok (timer_report asked base (entries_in bytes))
+file_is_answered : HaveOneNormalForm → (asked : Asked) (bytes name : List ℕ) (base : ℤ) (s : Schedule) → IsFileOf bytes s
+    → AreAllAccepted asked s → timer_answer asked base name (Ok bytes) ≡ Ok (timer_report asked base (entries_in bytes))
 unfolding timer_answer
-file_is_answered one asked bytes name base es file all =
-    rw (file_is_read one asked bytes es file all, none_lacks asked (entries_in bytes) es (file_entries one asked bytes es file all)) refl
+file_is_answered one asked bytes name base s file all =
+    rw (file_is_read one asked bytes s file all, all_there asked (entries_in bytes) s (file_entries one asked bytes s file all)) refl
 
-timer_is_report : (asked : Asked) (base : ℤ) (list : List (Entry Fields)) (es : List Expression) → AllZip (IsEntryOf asked) list es
-    → IsReportOf asked base es (timer_report asked base list)
-unfolding timer_report
-timer_is_report asked base list es h = record {
-  elapses = elapses_after (map meaning es) base;
-  these = AreElapses-elapses_after (map meaning es) base;
-  layout = rw (headings_are asked list es h, meanings_are asked list es h) (ap (λ (t : List ℕ). headings es ++ t) (append-nil _));
-}
+-- three texts joined
+layout_is : (a b c : List ℕ) → joined (joined (a ∷ b ∷ []) ∷ c ∷ []) ≡ (a ++ b) ++ c
+layout_is a b c = rw (append-nil b, append-nil c) refl
 
-pub timer_report_is : HaveOneNormalForm → (asked : Asked) (bytes : List ℕ) (base : ℤ) (es : List Expression)
-    → asked.verb ≡ Timer → base_in asked ≡ Ok base → IsFileOf bytes es → AllByRecursion (IsAccepted asked) es
-    → IsReportOf asked base es (report asked (Ok bytes)).out × IsFine (report asked (Ok bytes))
-timer_report_is one asked bytes base es verb sought file all =
-    rw (report_of_file asked bytes base _ verb sought (file_is_answered one asked bytes (file_name asked) base es file all))
-    (timer_is_report asked base (entries_in bytes) es (file_entries one asked bytes es file all), record { err = refl; status = refl })
+timer_is_report : (asked : Asked) (base : ℤ) (lists : Lists Fields) (s : Schedule) → AreEntriesOf asked lists s
+    → IsReportOf asked base s (timer_report asked base lists)
+unfolding timer_report headings_text exceptions_text elapses_of_lists
+timer_is_report asked base lists s h =
+    let elapses = elapses_except (map meaning s.expressions) (map meaning s.exceptions) base in
+    record {
+      elapses = elapses;
+      these = AreElapses-elapses_except (map meaning s.expressions) (map meaning s.exceptions) base;
+      layout = rw (
+        shown_are heading_text asked lists.expressions s.expressions h.expressions,
+        shown_are exception_text asked lists.exceptions s.exceptions h.exceptions,
+        meanings_are asked lists.expressions s.expressions h.expressions,
+        meanings_are asked lists.exceptions s.exceptions h.exceptions,
+      ) (layout_is (flat_map (λ (e : Expression). heading_text e.text e.fields) s.expressions)
+          (flat_map (λ (e : Expression). exception_text e.text e.fields) s.exceptions)
+          (elapses_text asked.local asked.now (take asked.iterations elapses)));
+    }
+
+pub timer_report_is : HaveOneNormalForm → (asked : Asked) (bytes : List ℕ) (base : ℤ) (s : Schedule)
+    → asked.verb ≡ Timer → base_in asked ≡ Ok base → IsFileOf bytes s → AreAllAccepted asked s
+    → IsReportOf asked base s (report asked (Ok bytes)).out × IsFine (report asked (Ok bytes))
+timer_report_is one asked bytes base s verb sought file all =
+    rw (report_of_file asked bytes base _ verb sought (file_is_answered one asked bytes (file_name asked) base s file all))
+    (timer_is_report asked base (entries_in bytes) s (file_entries one asked bytes s file all), record { err = refl; status = refl })
 
 -- What a run has written that ended without a fault
 
@@ -253,36 +290,36 @@ calendar_is_written one asked base es old new failed status out_old out_new err_
     let printed = calendar_report_is one asked run.read base es verb sought texts all in
     ((report asked run.read).out, printed.0, run.holds.out, subst (Appends err_old err_new) printed.1.err run.holds.err, run.holds.status ∙ printed.1.status)
 
-pub timer_is_written : HaveOneNormalForm → (asked : Asked) (base : ℤ) (bytes : List ℕ) (es : List Expression) (old new : Option (List ℕ)) (failed : Bool) (status : Status)
-    (out_old out_new err_old err_new : Option (List ℕ)) → asked.verb ≡ Timer → base_in asked ≡ Ok base → IsFileOf bytes es
-    → AllByRecursion (IsAccepted asked) es → (run : ByReading asked old new failed (IsReported (Ok status) out_old out_new err_old err_new)) → run.read ≡ Ok bytes
-    → (text : List ℕ) × IsReportOf asked base es text × Appends out_old out_new text × Appends err_old err_new [] × (status ≡ Fine)
-timer_is_written one asked base bytes es old new failed status out_old out_new err_old err_new verb sought file all run read =
-    let printed : IsReportOf asked base es (report asked run.read).out × IsFine (report asked run.read)
-    = subst (λ (r : Result (List ℕ) WholeFault). IsReportOf asked base es (report asked r).out × IsFine (report asked r)) (sym read) (timer_report_is one asked bytes base es verb sought file all) in
+pub timer_is_written : HaveOneNormalForm → (asked : Asked) (base : ℤ) (bytes : List ℕ) (s : Schedule) (old new : Option (List ℕ)) (failed : Bool) (status : Status)
+    (out_old out_new err_old err_new : Option (List ℕ)) → asked.verb ≡ Timer → base_in asked ≡ Ok base → IsFileOf bytes s
+    → AreAllAccepted asked s → (run : ByReading asked old new failed (IsReported (Ok status) out_old out_new err_old err_new)) → run.read ≡ Ok bytes
+    → (text : List ℕ) × IsReportOf asked base s text × Appends out_old out_new text × Appends err_old err_new [] × (status ≡ Fine)
+timer_is_written one asked base bytes s old new failed status out_old out_new err_old err_new verb sought file all run read =
+    let printed : IsReportOf asked base s (report asked run.read).out × IsFine (report asked run.read)
+    = subst (λ (r : Result (List ℕ) WholeFault). IsReportOf asked base s (report asked r).out × IsFine (report asked r)) (sym read) (timer_report_is one asked bytes base s verb sought file all) in
     ((report asked run.read).out, printed.0, run.holds.out, subst (Appends err_old err_new) printed.1.err run.holds.err, run.holds.status ∙ printed.1.status)
 
 -- Only one
 
-pub one_elapses : (ts : List Timed) (base : ℤ) (xs ys : List ℤ) → AreElapses ts base xs → AreElapses ts base ys → xs ≡ ys
-one_elapses ts base xs ys h k = AreElapses-only ts base xs h ∙ sym (AreElapses-only ts base ys k)
+pub one_elapses : (ts excepts : List Timed) (base : ℤ) (xs ys : List ℤ) → AreElapses ts excepts base xs → AreElapses ts excepts base ys → xs ≡ ys
+one_elapses ts excepts base xs ys h k = AreElapses-only ts excepts base xs h ∙ sym (AreElapses-only ts excepts base ys k)
 
-pub one_report : (asked : Asked) (base : ℤ) (es : List Expression) (a b : List ℕ) → IsReportOf asked base es a → IsReportOf asked base es b → a ≡ b
-one_report asked base es a b h k =
+pub one_report : (asked : Asked) (base : ℤ) (s : Schedule) (a b : List ℕ) → IsReportOf asked base s a → IsReportOf asked base s b → a ≡ b
+one_report asked base s a b h k =
     h.layout
-    ∙ (ap (λ (xs : List ℤ). headings es ++ elapses_text asked.local asked.now (take asked.iterations xs))
-    (one_elapses (map meaning es) base h.elapses k.elapses h.these k.these)
+    ∙ (ap (λ (xs : List ℤ). headings s ++ elapses_text asked.local asked.now (take asked.iterations xs))
+    (one_elapses (map meaning s.expressions) (map meaning s.exceptions) base h.elapses k.elapses h.these k.these)
     ∙ sym k.layout)
 
 same_reports : (asked : Asked) (base : ℤ) (es : List Expression) (rs bs : List (List ℕ))
-    → AllZip (λ e report. IsReportOf asked base (e ∷ []) report) es rs → AllZip (λ e report. IsReportOf asked base (e ∷ []) report) es bs → rs ≡ bs
+    → AllZip (λ e report. IsReportOf asked base (alone e) report) es rs → AllZip (λ e report. IsReportOf asked base (alone e) report) es bs → rs ≡ bs
 same_reports asked base [] [] [] h k = refl
 same_reports asked base [] [] (b ∷ bs) h k = absurd k
 same_reports asked base [] (a ∷ rs) bs h k = absurd h
 same_reports asked base (e ∷ es) [] bs h k = absurd h
 same_reports asked base (e ∷ es) (a ∷ rs) [] h k = absurd k
 same_reports asked base (e ∷ es) (a ∷ rs) (b ∷ bs) h k =
-    let here = one_report asked base (e ∷ []) a b h.0 k.0 in
+    let here = one_report asked base (alone e) a b h.0 k.0 in
     let rest = same_reports asked base es rs bs h.1 k.1 in
     cc
 

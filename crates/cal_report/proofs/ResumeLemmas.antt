@@ -14,7 +14,7 @@ use Rattle.cal_zone.specs.declared.zone.Zone.{Zone}
 use Rattle.cal_elapse.specs.Elapses.{AreElapses, Timed}
 use Rattle.cal_report.specs.ElapseLines.{elapse_text, elapse_texts, elapses_text, label_text}
 use Rattle.cal_spec.specs.ZoneSuffix.{Suffix, of_name, ahead}
-use Rattle.cal_report.specs.Headline.{AreReportsOf, Expression, IsAccepted, IsFileOf, IsReportOf, IsZoneFor, headings, meaning}
+use Rattle.cal_report.specs.Headline.{AreAllAccepted, AreReportsOf, Expression, IsAccepted, IsFileOf, IsReportOf, IsZoneFor, Schedule, alone, headings, meaning}
 use Rattle.cal_report.specs.Report.{ByReading, IsReported, base_in, report}
 use Rattle.cal_report.specs.ReportLines.{distance_text, micros_of, utc_line}
 use Rattle.cal_report.specs.Resume.{AreShown, Begins, IsBaseAfter, IsBegunAgain, Resumes, Stand, showing, up_to_line}
@@ -191,41 +191,41 @@ elapses_begin asked before elapse after =
     ∙ (ap (λ (t : List ℕ). t ++ elapse_texts local now (length before + 1 + 1) after) (text_begins local now (length before + 1) elapse)
     ∙ append_assoc (first_line local (length before + 1) elapse) (more_lines local now elapse) (elapse_texts local now (length before + 1 + 1) after))))
 
-report_begins : (asked : Asked) (es : List Expression) (before : List ℤ) (elapse : ℤ) (after : List ℤ)
-    → showing asked es (before ++ (elapse ∷ after)) ≡ up_to_line asked es before elapse ++ after_line asked before elapse after
-report_begins asked es before elapse after =
+report_begins : (asked : Asked) (s : Schedule) (before : List ℤ) (elapse : ℤ) (after : List ℤ)
+    → showing asked s (before ++ (elapse ∷ after)) ≡ up_to_line asked s before elapse ++ after_line asked before elapse after
+report_begins asked s before elapse after =
     let texts = elapse_texts asked.local asked.now 1 before in
     let line = first_line asked.local (length before + 1) elapse in
     let rest = after_line asked before elapse after in
-    ap (λ (t : List ℕ). headings es ++ t) (elapses_begin asked before elapse after ∙ sym (append_assoc texts line rest))
-    ∙ sym (append_assoc (headings es) (texts ++ line) rest)
+    ap (λ (t : List ℕ). headings s ++ t) (elapses_begin asked before elapse after ∙ sym (append_assoc texts line rest))
+    ∙ sym (append_assoc (headings s) (texts ++ line) rest)
 
-length_up_to : (asked : Asked) (es : List Expression) (before : List ℤ) (elapse : ℤ)
-    → length (up_to_line asked es before elapse) ≡ line_end asked.local asked.now 1 (length (headings es)) before elapse
-length_up_to asked es before elapse =
+length_up_to : (asked : Asked) (s : Schedule) (before : List ℤ) (elapse : ℤ)
+    → length (up_to_line asked s before elapse) ≡ line_end asked.local asked.now 1 (length (headings s)) before elapse
+length_up_to asked s before elapse =
     let texts = elapse_texts asked.local asked.now 1 before in
     let line = first_line asked.local (length before + 1) elapse in
     let same : length line ≡ length (first_line asked.local (1 + length before) elapse)
     = ap (λ (n : ℕ). length (first_line asked.local n elapse)) (omega arith) in
-    omega (arith, same, length-append (headings es) (texts ++ line), length-append texts line)
+    omega (arith, same, length-append (headings s) (texts ++ line), length-append texts line)
 
-some_stand : (asked : Asked) (es : List Expression) (shown : List ℤ) (front rest : List ℕ) → showing asked es shown ≡ front ++ rest
-    → (k : ℕ) × Stand asked es shown front k
-some_stand asked es shown front rest cut =
-    let counted = ends asked.local asked.now 1 (length (headings es)) (length front) shown in (
+some_stand : (asked : Asked) (s : Schedule) (shown : List ℤ) (front rest : List ℕ) → showing asked s shown ≡ front ++ rest
+    → (k : ℕ) × Stand asked s shown front k
+some_stand asked s shown front rest cut =
+    let counted = ends asked.local asked.now 1 (length (headings s)) (length front) shown in (
       counted.0,
       record {
         few = counted.1.few;
         whole = λ before elapse after split.
             let there = counted.1.whole before elapse after split in
-            let size = length_up_to asked es before elapse in
-            let same : front ++ rest ≡ up_to_line asked es before elapse ++ after_line asked before elapse after
-            = sym cut ∙ (ap (showing asked es) split ∙ report_begins asked es before elapse after) in (
-              λ (begins : Begins front (up_to_line asked es before elapse)).
-                  there.0 (omega (arith, size, begins_longer front (up_to_line asked es before elapse) begins)),
+            let size = length_up_to asked s before elapse in
+            let same : front ++ rest ≡ up_to_line asked s before elapse ++ after_line asked before elapse after
+            = sym cut ∙ (ap (showing asked s) split ∙ report_begins asked s before elapse after) in (
+              λ (begins : Begins front (up_to_line asked s before elapse)).
+                  there.0 (omega (arith, size, begins_longer front (up_to_line asked s before elapse) begins)),
               λ (less : length before < counted.0).
-                  let within : line_end asked.local asked.now 1 (length (headings es)) before elapse ≤ length front = there.1 less in
-                  longer_begins front rest (up_to_line asked es before elapse) (after_line asked before elapse after) same (omega arith),
+                  let within : line_end asked.local asked.now 1 (length (headings s)) before elapse ≤ length front = there.1 less in
+                  longer_begins front rest (up_to_line asked s before elapse) (after_line asked before elapse after) same (omega arith),
             );
       },
     )
@@ -252,19 +252,19 @@ split_at (x ∷ xs) (suc k) within =
     }
 
 -- the line after the fewer ones stands by the greater number and doesn't by the lesser
-not_fewer : (asked : Asked) (es : List Expression) (shown : List ℤ) (front : List ℕ) (k m : ℕ)
-    → Stand asked es shown front k → Stand asked es shown front m → k < m → ⊥
-not_fewer asked es shown front k m h g less =
+not_fewer : (asked : Asked) (s : Schedule) (shown : List ℤ) (front : List ℕ) (k m : ℕ)
+    → Stand asked s shown front k → Stand asked s shown front m → k < m → ⊥
+not_fewer asked s shown front k m h g less =
     let split = split_at shown k (omega (arith, g.few)) in
     let begins = (g.whole split.before split.elapse split.after split.is).1 (omega (arith, split.number)) in
     let below : length split.before < k = (h.whole split.before split.elapse split.after split.is).0 begins in
     omega (arith, split.number, below)
 
-one_stands : (asked : Asked) (es : List Expression) (shown : List ℤ) (front : List ℕ) (k m : ℕ)
-    → Stand asked es shown front k → Stand asked es shown front m → k ≡ m
-one_stands asked es shown front k m h g =
-    let at_least : k < m → ⊥ = not_fewer asked es shown front k m h g in
-    let at_most : m < k → ⊥ = not_fewer asked es shown front m k g h in
+one_stands : (asked : Asked) (s : Schedule) (shown : List ℤ) (front : List ℕ) (k m : ℕ)
+    → Stand asked s shown front k → Stand asked s shown front m → k ≡ m
+one_stands asked s shown front k m h g =
+    let at_least : k < m → ⊥ = not_fewer asked s shown front k m h g in
+    let at_most : m < k → ⊥ = not_fewer asked s shown front m k g h in
     omega (arith, at_least, at_most)
 
 -- The same begun again
@@ -278,10 +278,10 @@ get_of_taken n xs k e at =
     (sym (get_or_from_slice_get (take n xs) k e e at) ∙ get_or-take n xs k e (omega arith))
 
 -- the elapses after the base to go on from are those after the first k
-elapses_from : (ts : List Timed) (base from : ℤ) (n : ℕ) (xs : List ℤ) (k : ℕ) → AreElapses ts base xs → IsBaseAfter base (take n xs) k from
-    → AreElapses ts from (drop k xs)
-elapses_from ts base from n xs zero h after = subst (λ (b : ℤ). AreElapses ts b xs) (sym after) h
-elapses_from ts base from n xs (suc k) h after = goes_on ts base from xs k h (get_of_taken n xs k from after)
+elapses_from : (ts excepts : List Timed) (base from : ℤ) (n : ℕ) (xs : List ℤ) (k : ℕ) → AreElapses ts excepts base xs → IsBaseAfter base (take n xs) k from
+    → AreElapses ts excepts from (drop k xs)
+elapses_from ts excepts base from n xs zero h after = subst (λ (b : ℤ). AreElapses ts excepts b xs) (sym after) h
+elapses_from ts excepts base from n xs (suc k) h after = goes_on ts excepts base from xs k h (get_of_taken n xs k from after)
 
 zone_again : (asked again : Asked) (suffix : Option Suffix) (tz : TimeZone) → again.local ≡ asked.local → again.zones ≡ asked.zones
     → IsZoneFor asked suffix tz → IsZoneFor again suffix tz
@@ -293,82 +293,85 @@ module _ (asked : Asked) (base : ℤ) (shown : List ℤ) (k : ℕ) (again : Aske
   accepted_again : (e : Expression) → IsAccepted asked e → IsAccepted again e
   accepted_again e h = record { spelled = h.spelled; zone = zone_again asked again e.fields.zone e.tz begun.local begun.zones h.zone }
 
-  all_accepted_again : (es : List Expression) → AllByRecursion (IsAccepted asked) es → AllByRecursion (IsAccepted again) es
-  all_accepted_again [] all = tt
-  all_accepted_again (e ∷ es) all = (accepted_again e all.0, all_accepted_again es all.1)
+  each_accepted_again : (es : List Expression) → AllByRecursion (IsAccepted asked) es → AllByRecursion (IsAccepted again) es
+  each_accepted_again [] all = tt
+  each_accepted_again (e ∷ es) all = (accepted_again e all.0, each_accepted_again es all.1)
 
-  shows_others : (es : List Expression) (text : List ℕ) → AreShown asked base es shown → IsReportOf again begun.from es text
-      → text ≡ showing asked es (drop k shown)
-  shows_others es text first h =
+  all_accepted_again : (s : Schedule) → AreAllAccepted asked s → AreAllAccepted again s
+  all_accepted_again s all = record { expressions = each_accepted_again s.expressions all.expressions; exceptions = each_accepted_again s.exceptions all.exceptions }
+
+  shows_others : (s : Schedule) (text : List ℕ) → AreShown asked base s shown → IsReportOf again begun.from s text
+      → text ≡ showing asked s (drop k shown)
+  shows_others s text first h =
       let xs = first.elapses in
       let after : IsBaseAfter base (take asked.iterations xs) k begun.from
       = subst (λ (ys : List ℤ). IsBaseAfter base ys k begun.from) first.first begun.after in
       let same : h.elapses ≡ drop k xs
-      = one_elapses (map meaning es) begun.from h.elapses (drop k xs) h.these
-      (elapses_from (map meaning es) base begun.from asked.iterations xs k first.these after) in
+      = one_elapses (map meaning s.expressions) (map meaning s.exceptions) begun.from h.elapses (drop k xs) h.these
+      (elapses_from (map meaning s.expressions) (map meaning s.exceptions) base begun.from asked.iterations xs k first.these after) in
       let others : take again.iterations h.elapses ≡ drop k shown
       = ap (take again.iterations) same
       ∙ (sym (drop-take k again.iterations xs) ∙ (ap (λ (n : ℕ). drop k (take n xs)) begun.count ∙ ap (drop k) (sym first.first))) in
       h.layout
-      ∙ (ap (λ (ys : List ℤ). headings es ++ elapses_text again.local again.now ys) others
-      ∙ (ap (λ (z : Zone). headings es ++ elapses_text z again.now (drop k shown)) begun.local
-      ∙ ap (λ (i : ℤ). headings es ++ elapses_text asked.local i (drop k shown)) begun.now))
+      ∙ (ap (λ (ys : List ℤ). headings s ++ elapses_text again.local again.now ys) others
+      ∙ (ap (λ (z : Zone). headings s ++ elapses_text z again.now (drop k shown)) begun.local
+      ∙ ap (λ (i : ℤ). headings s ++ elapses_text asked.local i (drop k shown)) begun.now))
 
 -- Reports
 
 of_reports : (asked : Asked) (base : ℤ) (e : Expression) (text : List ℕ) (reports : List (List ℕ))
-    → AllZip (λ e report. IsReportOf asked base (e ∷ []) report) (e ∷ []) reports
-    → text ≡ join_by (λ report. report) (codes "\n") reports → IsReportOf asked base (e ∷ []) text
+    → AllZip (λ e report. IsReportOf asked base (alone e) report) (e ∷ []) reports
+    → text ≡ join_by (λ report. report) (codes "\n") reports → IsReportOf asked base (alone e) text
 of_reports asked base e text [] each layout = absurd each
-of_reports asked base e text (a ∷ []) each layout = subst (IsReportOf asked base (e ∷ [])) (sym (layout ∙ append-nil a)) each.0
+of_reports asked base e text (a ∷ []) each layout = subst (IsReportOf asked base (alone e)) (sym (layout ∙ append-nil a)) each.0
 of_reports asked base e text (a ∷ (b ∷ reports)) each layout = absurd each.1
 
-one_report_of : (asked : Asked) (base : ℤ) (e : Expression) (text : List ℕ) → AreReportsOf asked base (e ∷ []) text → IsReportOf asked base (e ∷ []) text
+one_report_of : (asked : Asked) (base : ℤ) (e : Expression) (text : List ℕ) → AreReportsOf asked base (e ∷ []) text → IsReportOf asked base (alone e) text
 one_report_of asked base e text h = of_reports asked base e text h.reports h.each h.layout
 
 -- the report of one accepted text
 text_report : HaveOneNormalForm → (asked : Asked) (read : Result (List ℕ) WholeFault) (base : ℤ) (e : Expression)
     → asked.verb ≡ Calendar → base_in asked ≡ Ok base → asked.texts ≡ e.text ∷ [] → IsAccepted asked e
-    → IsReportOf asked base (e ∷ []) (report asked read).out
+    → IsReportOf asked base (alone e) (report asked read).out
 text_report one asked read base e verb sought texts accepted =
     one_report_of asked base e (report asked read).out (calendar_report_is one asked read base (e ∷ []) verb sought texts (accepted, tt)).0
 
-resumes_by : (asked : Asked) (base : ℤ) (es : List Expression) (read : Result (List ℕ) WholeFault) (front rest : List ℕ)
-    → IsReportOf asked base es (report asked read).out → (report asked read).out ≡ front ++ rest
-    → ((shown : List ℤ) (k : ℕ) (again : Asked) → (begun : IsBegunAgain asked base shown k again) → IsReportOf again begun.from es (report again read).out)
-    → Resumes asked base es read front
-resumes_by asked base es read front rest h cut reported =
+resumes_by : (asked : Asked) (base : ℤ) (s : Schedule) (read : Result (List ℕ) WholeFault) (front rest : List ℕ)
+    → IsReportOf asked base s (report asked read).out → (report asked read).out ≡ front ++ rest
+    → ((shown : List ℤ) (k : ℕ) (again : Asked) → (begun : IsBegunAgain asked base shown k again) → IsReportOf again begun.from s (report again read).out)
+    → Resumes asked base s read front
+resumes_by asked base s read front rest h cut reported =
     let shown = take asked.iterations h.elapses in
-    let these : AreShown asked base es shown = record { elapses = h.elapses; these = h.these; first = refl } in
-    let found = some_stand asked es shown front rest (sym h.layout ∙ cut) in
+    let these : AreShown asked base s shown = record { elapses = h.elapses; these = h.these; first = refl } in
+    let found = some_stand asked s shown front rest (sym h.layout ∙ cut) in
     record {
       shown = shown;
       these = these;
       printed = h.layout;
       number = found.0;
       stand = found.1;
-      only = λ k there. one_stands asked es shown front k found.0 there found.1;
+      only = λ k there. one_stands asked s shown front k found.0 there found.1;
       others = λ again begun.
-          shows_others asked base shown found.0 again begun es (report again read).out these (reported shown found.0 again begun);
+          shows_others asked base shown found.0 again begun s (report again read).out these (reported shown found.0 again begun);
     }
 
 pub text_resumes : HaveOneNormalForm → (asked : Asked) (read : Result (List ℕ) WholeFault) (base : ℤ) (e : Expression) (front rest : List ℕ)
     → asked.verb ≡ Calendar → base_in asked ≡ Ok base → asked.texts ≡ e.text ∷ [] → IsAccepted asked e
-    → (report asked read).out ≡ front ++ rest → Resumes asked base (e ∷ []) read front
+    → (report asked read).out ≡ front ++ rest → Resumes asked base (alone e) read front
 text_resumes one asked read base e front rest verb sought texts accepted cut =
-    resumes_by asked base (e ∷ []) read front rest (text_report one asked read base e verb sought texts accepted) cut
+    resumes_by asked base (alone e) read front rest (text_report one asked read base e verb sought texts accepted) cut
     (λ shown k again begun.
     text_report one again read begun.from e (begun.verb ∙ verb) begun.sought (begun.texts ∙ texts)
     (accepted_again asked base shown k again begun e accepted))
 
-pub file_resumes : HaveOneNormalForm → (asked : Asked) (bytes : List ℕ) (base : ℤ) (es : List Expression) (front rest : List ℕ)
-    → asked.verb ≡ Timer → base_in asked ≡ Ok base → IsFileOf bytes es → AllByRecursion (IsAccepted asked) es
-    → (report asked (Ok bytes)).out ≡ front ++ rest → Resumes asked base es (Ok bytes) front
-file_resumes one asked bytes base es front rest verb sought file all cut =
-    resumes_by asked base es (Ok bytes) front rest (timer_report_is one asked bytes base es verb sought file all).0 cut
+pub file_resumes : HaveOneNormalForm → (asked : Asked) (bytes : List ℕ) (base : ℤ) (s : Schedule) (front rest : List ℕ)
+    → asked.verb ≡ Timer → base_in asked ≡ Ok base → IsFileOf bytes s → AreAllAccepted asked s
+    → (report asked (Ok bytes)).out ≡ front ++ rest → Resumes asked base s (Ok bytes) front
+file_resumes one asked bytes base s front rest verb sought file all cut =
+    resumes_by asked base s (Ok bytes) front rest (timer_report_is one asked bytes base s verb sought file all).0 cut
     (λ shown k again begun.
-    (timer_report_is one again bytes begun.from es (begun.verb ∙ verb) begun.sought file
-    (all_accepted_again asked base shown k again begun es all)).0)
+    (timer_report_is one again bytes begun.from s (begun.verb ∙ verb) begun.sought file
+    (all_accepted_again asked base shown k again begun s all)).0)
 
 -- What a run leaves, cut or whole
 
@@ -380,16 +383,16 @@ front_written (Err e) old new text h = h
 pub text_cut : HaveOneNormalForm → (asked : Asked) (base : ℤ) (e : Expression) (result : Result Status RunFault) (old new : Option (List ℕ)) (failed : Bool)
     (out_old out_new err_old err_new : Option (List ℕ)) → asked.verb ≡ Calendar → base_in asked ≡ Ok base → asked.texts ≡ e.text ∷ [] → IsAccepted asked e
     → (run : ByReading asked old new failed (IsReported result out_old out_new err_old err_new))
-    → (front : List ℕ) × Appends out_old out_new front × Resumes asked base (e ∷ []) run.read front
+    → (front : List ℕ) × Appends out_old out_new front × Resumes asked base (alone e) run.read front
 text_cut one asked base e result old new failed out_old out_new err_old err_new verb sought texts accepted run =
     let there = front_written result out_old out_new (report asked run.read).out run.holds.out in
     (there.front, there.written, text_resumes one asked run.read base e there.front there.rest verb sought texts accepted there.whole)
 
-pub file_cut : HaveOneNormalForm → (asked : Asked) (bytes : List ℕ) (base : ℤ) (es : List Expression) (result : Result Status RunFault) (old new : Option (List ℕ)) (failed : Bool)
-    (out_old out_new err_old err_new : Option (List ℕ)) → asked.verb ≡ Timer → base_in asked ≡ Ok base → IsFileOf bytes es → AllByRecursion (IsAccepted asked) es
+pub file_cut : HaveOneNormalForm → (asked : Asked) (bytes : List ℕ) (base : ℤ) (s : Schedule) (result : Result Status RunFault) (old new : Option (List ℕ)) (failed : Bool)
+    (out_old out_new err_old err_new : Option (List ℕ)) → asked.verb ≡ Timer → base_in asked ≡ Ok base → IsFileOf bytes s → AreAllAccepted asked s
     → (run : ByReading asked old new failed (IsReported result out_old out_new err_old err_new)) → run.read ≡ Ok bytes
-    → (front : List ℕ) × Appends out_old out_new front × Resumes asked base es (Ok bytes) front
-file_cut one asked bytes base es result old new failed out_old out_new err_old err_new verb sought file all run read =
+    → (front : List ℕ) × Appends out_old out_new front × Resumes asked base s (Ok bytes) front
+file_cut one asked bytes base s result old new failed out_old out_new err_old err_new verb sought file all run read =
     let there = front_written result out_old out_new (report asked run.read).out run.holds.out in
     let whole = ap (λ (r : Result (List ℕ) WholeFault). (report asked r).out) (sym read) ∙ there.whole in
-    (there.front, there.written, file_resumes one asked bytes base es there.front there.rest verb sought file all whole)
+    (there.front, there.written, file_resumes one asked bytes base s there.front there.rest verb sought file all whole)

@@ -24,7 +24,7 @@ use Rattle.cal_spec.specs.Fields.{Fields}
 use Rattle.cal_spec.specs.Match.{matches, date_in, time_in}
 use Rattle.cal_spec.specs.Members.{sets_of, part_has}
 use Rattle.cal_report.specs.Answer.{reports_text, refusals_text, texts_status}
-use Rattle.cal_elapse.specs.Elapses.{AreElapses, IsElapse}
+use Rattle.cal_elapse.specs.Elapses.{IsElapse}
 use Rattle.cal_report.specs.Report.{base_in, report, texts_report}
 use Rattle.cal_request.specs.Request.{Asked}
 use Rattle.cal_elapse.specs.Timed.{timed}
@@ -37,7 +37,7 @@ use lib.Utf8.{encode}
 use Rattle.std.specs.Str.{chars, is_utf8}
 use Rattle.cal_lines.specs.Lines.{groups, is_continued, logical_lines, part_of as part_of_line, physical_lines, plain_lines, trim, trim_end, trim_start}
 use Rattle.cal_read.specs.Assignments.{Assigned, assignment_of, assignments_in, timer_lines}
-use Rattle.cal_read.specs.TimerText.{is_expression, is_reset, listed as listed_in, most_expressions, without_mark}
+use Rattle.cal_read.specs.TimerText.{excepted, is_exception, is_exception_reset, is_expression, is_reset, listed as listed_in, most_expressions, without_mark}
 use Rattle.std.specs.Prelude.{ℤ, ◌<ℤ◌, ◌≤ℤ◌, List, length, map, slice_get, take}
 use Rattle.cal_zone.specs.Weekday as weekday
 use Rattle.cal_zone.specs.ZoneName.{is_zone_name}
@@ -50,8 +50,8 @@ use Rattle.cal_spec.specs.Weekdays.{day_named, days_of, listed_days, weekdays_of
 use Rattle.cal_spec.specs.Words.{words, places_of}
 use Rattle.cal_spec.proofs.WholeRule.{valid_found}
 use Rattle.cal_rising.specs.RisingList.{first}
-use Rattle.cal_elapse.proofs.ElapsesLemmas.{AreElapses-only, first_elapse-least}
-use Rattle.cal_report.specs.Headline.{AreSpelled, Expression, IsAccepted, IsFileOf, Spells, assigned_in, meaning}
+use Rattle.cal_elapse.proofs.ElapsesLemmas.{AreElapses-only, elapses_except-none, first_elapse-least}
+use Rattle.cal_report.specs.Headline.{AreElapsesOf, AreSpelled, Expression, IsAccepted, IsFileOf, Spells, alone, assigned_in, meaning}
 
 inside : (t : ℕ) → t < 7_258_118_400 → nat_lt t seconds_in_all ≡ true
 inside t h =
@@ -218,9 +218,9 @@ next_is_least : (j : ℤ) → pos 1_704_112_200 <ℤ j → pos 1_704_112_201 ≤
 next_is_least j h = omega (arith, ints)
 
 -- so the first elapse is a second after the present, whatever list has them
-every-first : (xs : List ℤ) → AreElapses (map meaning (every ∷ [])) (pos 1_704_112_200) xs → first xs ≡ Some (pos 1_704_112_201)
+every-first : (xs : List ℤ) → AreElapsesOf (alone every) (pos 1_704_112_200) xs → first xs ≡ Some (pos 1_704_112_201)
 every-first xs h =
-    rw (AreElapses-only (map meaning (every ∷ [])) (pos 1_704_112_200) xs h)
+    rw (AreElapses-only (map meaning (every ∷ [])) [] (pos 1_704_112_200) xs h, elapses_except-none (map meaning (every ∷ [])) (pos 1_704_112_200))
     (first_elapse-least (map meaning (every ∷ [])) (pos 1_704_112_200) (pos 1_704_112_201) (omega (arith, ints)) every-elapses (λ j above _. next_is_least j above))
 
 -- A file of this one expression
@@ -252,21 +252,30 @@ none_listed : length (listed_in []) < most_expressions
 unfolding listed_in
 none_listed = omega arith
 
+no_exception : is_exception one_line ≡ false
+unfolding one_line is_exception
+no_exception = refl
+
 every_file-spelled : AreSpelled (one_line ∷ [])
 unfolding one_line
-every_file-spelled before a after split is =
+every_file-spelled before a after split =
     let parts = only_split one_line before a after split in
-    rw (parts.0, parts.1) (none_listed, (every_second, every_second-spelled))
+    rw (parts.0, parts.1) (λ _. (none_listed, (every_second, every_second-spelled)), λ is. absurd (let never : false ≡ true = sym no_exception ∙ is in cc))
 
 every_file-listed : map (λ (a : Assigned). a.value) (listed_in (one_line ∷ [])) ≡ map (λ (e : Expression). e.text) (every ∷ [])
 unfolding one_line every listed_in is_reset is_expression
 every_file-listed = refl
 
-every_file-is : IsFileOf every_file (every ∷ [])
+every_file-excepted : map (λ (a : Assigned). a.value) (excepted (one_line ∷ [])) ≡ []
+unfolding one_line excepted is_exception_reset is_exception
+every_file-excepted = refl
+
+every_file-is : IsFileOf every_file (alone every)
 every_file-is = record {
   utf8 = every_file-utf8;
   spelled = rw every_file-assigned every_file-spelled;
-  list = rw every_file-assigned every_file-listed;
+  expressions = rw every_file-assigned every_file-listed;
+  exceptions = rw every_file-assigned every_file-excepted;
   some = omega arith;
 }
 
@@ -283,7 +292,7 @@ first_is : (xs : List ℤ) (x : ℤ) → first xs ≡ Some x → slice_get (take
 first_is [] x h = h
 first_is (y ∷ xs) x h = h
 
-one_second-begun : (shown : List ℤ) → AreShown two_seconds (pos 1_704_112_200) (every ∷ []) shown
+one_second-begun : (shown : List ℤ) → AreShown two_seconds (pos 1_704_112_200) (alone every) shown
     → IsBegunAgain two_seconds (pos 1_704_112_200) shown 1 one_second
 unfolding two_seconds one_second
 one_second-begun shown h = record {

@@ -15,8 +15,9 @@ use Rattle.cal_spec.specs.NormalForm.{IsNormalFieldsOf}
 use Rattle.cal_elapse.specs.Elapses.{AreElapses, Timed}
 use Rattle.cal_elapse.specs.Timed.{timed}
 use Rattle.cal_read.specs.Assignments.{Assigned, assignments_in}
-use Rattle.cal_read.specs.TimerText.{is_expression, listed, most_expressions, without_mark}
+use Rattle.cal_read.specs.TimerText.{excepted, is_exception, is_expression, listed, most_expressions, without_mark}
 use Rattle.cal_report.specs.CalendarReport.{heading_text}
+use Rattle.cal_report.specs.TimerReport.{exception_text}
 use Rattle.cal_report.specs.ElapseLines.{elapses_text}
 use Rattle.cal_report.specs.Report.{Report}
 use Rattle.cal_request.specs.Request.{Asked}
@@ -49,21 +50,40 @@ pub record IsAccepted (asked : Asked) (e : Expression) : Type 0 where
   pub spelled : Spells e.text e.fields
   pub zone : IsZoneFor asked e.fields.zone e.tz
 
--- the text and the normal form of each
-abbrev pub headings : List Expression → List ℕ
-headings = flat_map (λ e. heading_text e.text e.fields)
+-- what is to elapse: expressions, and those at whose elapses nothing elapses, their exceptions
+pub record Schedule : Type 0 where
+  pub expressions : List Expression
+  pub exceptions : List Expression
 
--- The text is the report of these expressions: a heading for each, and then the first n, as many as are asked for, of
--- the one rising list that has exactly the elapses of all of them above the base.
-pub record IsReportOf (asked : Asked) (base : ℤ) (es : List Expression) (text : List ℕ) : Type 0 where
+-- an expression alone
+abbrev pub alone : Expression → Schedule
+alone e = record { expressions = e ∷ []; exceptions = [] }
+
+-- each of both lists is accepted
+pub record AreAllAccepted (asked : Asked) (s : Schedule) : Type 0 where
+  pub expressions : AllByRecursion (IsAccepted asked) s.expressions
+  pub exceptions : AllByRecursion (IsAccepted asked) s.exceptions
+
+-- the list rises, and has exactly the elapses of the expressions above the base that are elapses of no exception
+abbrev pub AreElapsesOf : Schedule → ℤ → List ℤ → Type 0
+AreElapsesOf s base xs = AreElapses (map meaning s.expressions) (map meaning s.exceptions) base xs
+
+-- the text and the normal form of each, and then those of each exception
+abbrev pub headings : Schedule → List ℕ
+headings s =
+    flat_map (λ e. heading_text e.text e.fields) s.expressions ++ flat_map (λ e. exception_text e.text e.fields) s.exceptions
+
+-- The text is the report of a schedule: a heading for each, and then the first n, as many as are asked for, of the one
+-- rising list that has exactly its elapses above the base.
+pub record IsReportOf (asked : Asked) (base : ℤ) (s : Schedule) (text : List ℕ) : Type 0 where
   pub elapses : List ℤ
-  pub these : AreElapses (map meaning es) base elapses
-  pub layout : text ≡ headings es ++ elapses_text asked.local asked.now (take asked.iterations elapses)
+  pub these : AreElapsesOf s base elapses
+  pub layout : text ≡ headings s ++ elapses_text asked.local asked.now (take asked.iterations elapses)
 
 -- the text is the report of each of these expressions alone, in their order, with an empty line between each two
 pub record AreReportsOf (asked : Asked) (base : ℤ) (es : List Expression) (text : List ℕ) : Type 0 where
   pub reports : List (List ℕ)
-  pub each : AllZip (λ e report. IsReportOf asked base (e ∷ []) report) es reports
+  pub each : AllZip (λ e report. IsReportOf asked base (alone e) report) es reports
   pub layout : text ≡ join_by (λ report. report) (codes "\n") reports
 
 -- the run says nothing on standard error, and its status is Fine
@@ -75,18 +95,24 @@ pub record IsFine (report : Report) : Type 0 where
 abbrev pub assigned_in : List ℕ → List Assigned
 assigned_in bytes = assignments_in false (logical_lines 1 (without_mark bytes))
 
--- each assignment of an expression is one by the grammar's rule, and isn't one too many where it stands
+-- each assignment of an expression or of an exception is one by the grammar's rule, and isn't one too many where it stands
 abbrev pub AreSpelled : List Assigned → Type 0
 AreSpelled all =
-    (before : List Assigned) (a : Assigned) (after : List Assigned) → all ≡ before ++ (a ∷ after) → is_expression a ≡ true
-    → (length (listed before) < most_expressions) × ((fields : Fields) × Spells a.value fields)
+    (before : List Assigned) (a : Assigned) (after : List Assigned) → all ≡ before ++ (a ∷ after)
+    → (is_expression a ≡ true → (length (listed before) < most_expressions) × ((fields : Fields) × Spells a.value fields))
+    × (is_exception a ≡ true → (length (excepted before) < most_expressions) × ((fields : Fields) × Spells a.value fields))
 
--- the bytes are a text whose list has the texts of these expressions, of which there is one at least
-pub record IsFileOf (bytes : List ℕ) (es : List Expression) : Type 0 where
+-- the texts of the assignments are those of these expressions
+abbrev pub HaveTexts : List Assigned → List Expression → Type 0
+HaveTexts list es = map (λ (a : Assigned). a.value) list ≡ map (λ (e : Expression). e.text) es
+
+-- the bytes are a text whose lists have the texts of this schedule, of which one at least is an expression
+pub record IsFileOf (bytes : List ℕ) (s : Schedule) : Type 0 where
   pub utf8 : is_utf8 bytes ≡ true
   pub spelled : AreSpelled (assigned_in bytes)
-  pub list : map (λ (a : Assigned). a.value) (listed (assigned_in bytes)) ≡ map (λ (e : Expression). e.text) es
-  pub some : 0 < length es
+  pub expressions : HaveTexts (listed (assigned_in bytes)) s.expressions
+  pub exceptions : HaveTexts (excepted (assigned_in bytes)) s.exceptions
+  pub some : 0 < length s.expressions
 
 -- the texts are accepted, each as an expression
 pub record AreAccepted (asked : Asked) (texts : List (List ℕ)) : Type 0 where
@@ -94,8 +120,8 @@ pub record AreAccepted (asked : Asked) (texts : List (List ℕ)) : Type 0 where
   pub same : texts ≡ map (λ (e : Expression). e.text) expressions
   pub each : AllByRecursion (IsAccepted asked) expressions
 
--- the bytes are accepted, as the file of a list of expressions
+-- the bytes are accepted, as the file of a schedule
 pub record IsAcceptedFile (asked : Asked) (bytes : List ℕ) : Type 0 where
-  pub expressions : List Expression
-  pub list : IsFileOf bytes expressions
-  pub each : AllByRecursion (IsAccepted asked) expressions
+  pub schedule : Schedule
+  pub lists : IsFileOf bytes schedule
+  pub each : AreAllAccepted asked schedule

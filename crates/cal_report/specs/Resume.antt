@@ -1,28 +1,27 @@
 -- How a cut output resumes: which of the elapses shown stand in a front of a report, and what is asked to go on after
 -- the last of them: systemd-analyze(1), calendar, --iterations= and --base-time=; systemd.timer(5), OnCalendar=.
-use Rattle.std.specs.Prelude.{◌≡◌, ◌↔◌, ◌≤◌, ◌<◌, ◌+◌, ◌++◌, ℕ, zero, suc, ℤ, List, ◌∷◌, Result, Ok, Some, map, take, drop, length, slice_get, codes}
+use Rattle.std.specs.Prelude.{◌≡◌, ◌↔◌, ◌≤◌, ◌<◌, ◌+◌, ◌++◌, ℕ, zero, suc, ℤ, List, ◌∷◌, Result, Ok, Some, take, drop, length, slice_get, codes}
 use Rattle.cal_bytes.specs.declared.whole.WholeFault.{WholeFault}
 use Rattle.cal_zone.specs.InstantText.{instant_text}
-use Rattle.cal_elapse.specs.Elapses.{AreElapses}
 use Rattle.cal_report.specs.ElapseLines.{elapse_texts, elapses_text, label_text}
-use Rattle.cal_report.specs.Headline.{Expression, headings, meaning}
+use Rattle.cal_report.specs.Headline.{AreElapsesOf, Schedule, headings}
 use Rattle.cal_report.specs.Report.{base_in, report}
 use Rattle.cal_request.specs.Request.{Asked}
 
 -- the elapses that a report shows: the first n, as many as are asked for, of those after the base
-pub record AreShown (asked : Asked) (base : ℤ) (es : List Expression) (shown : List ℤ) : Type 0 where
+pub record AreShown (asked : Asked) (base : ℤ) (s : Schedule) (shown : List ℤ) : Type 0 where
   pub elapses : List ℤ
-  pub these : AreElapses (map meaning es) base elapses
+  pub these : AreElapsesOf s base elapses
   pub first : shown ≡ take asked.iterations elapses
 
 -- the report that shows them: the headings, and then these elapses with labels that count from 1, or `never`
-abbrev pub showing : Asked → List Expression → List ℤ → List ℕ
-showing asked es shown = headings es ++ elapses_text asked.local asked.now shown
+abbrev pub showing : Asked → Schedule → List ℤ → List ℕ
+showing asked s shown = headings s ++ elapses_text asked.local asked.now shown
 
 -- such a report up to the line feed that ends the first line of an elapse, which comes right after the ones before
-abbrev pub up_to_line : Asked → List Expression → List ℤ → ℤ → List ℕ
-up_to_line asked es before elapse =
-    headings es ++ (elapse_texts asked.local asked.now 1 before ++ (label_text (length before + 1) ++ (instant_text asked.local elapse ++ codes "\n")))
+abbrev pub up_to_line : Asked → Schedule → List ℤ → ℤ → List ℕ
+up_to_line asked s before elapse =
+    headings s ++ (elapse_texts asked.local asked.now 1 before ++ (label_text (length before + 1) ++ (instant_text asked.local elapse ++ codes "\n")))
 
 -- the text begins with another
 pub record Begins (text lead : List ℕ) : Type 0 where
@@ -30,10 +29,10 @@ pub record Begins (text lead : List ℕ) : Type 0 where
   pub is : text ≡ lead ++ rest
 
 -- Exactly the first k of the elapses shown stand with their first line whole in the front.
-pub record Stand (asked : Asked) (es : List Expression) (shown : List ℤ) (front : List ℕ) (k : ℕ) : Type 0 where
+pub record Stand (asked : Asked) (s : Schedule) (shown : List ℤ) (front : List ℕ) (k : ℕ) : Type 0 where
   pub few : k ≤ length shown
   pub whole : (before : List ℤ) (elapse : ℤ) (after : List ℤ) → shown ≡ before ++ (elapse ∷ after)
-      → Begins front (up_to_line asked es before elapse) ↔ (length before < k)
+      → Begins front (up_to_line asked s before elapse) ↔ (length before < k)
 
 -- the base to go on from: the k-th of the elapses shown, or the old one where none stands
 abbrev pub IsBaseAfter : ℤ → List ℤ → ℕ → ℤ → Type 0
@@ -54,12 +53,12 @@ pub record IsBegunAgain (asked : Asked) (base : ℤ) (shown : List ℤ) (k : ℕ
 
 -- Of a front of the report: there is one number of elapses that stand in it, and the report of the same begun again
 -- after so many shows exactly the others.
-pub record Resumes (asked : Asked) (base : ℤ) (es : List Expression) (read : Result (List ℕ) WholeFault) (front : List ℕ) : Type 0 where
+pub record Resumes (asked : Asked) (base : ℤ) (s : Schedule) (read : Result (List ℕ) WholeFault) (front : List ℕ) : Type 0 where
   pub shown : List ℤ
-  pub these : AreShown asked base es shown
-  pub printed : (report asked read).out ≡ showing asked es shown
+  pub these : AreShown asked base s shown
+  pub printed : (report asked read).out ≡ showing asked s shown
   pub number : ℕ
-  pub stand : Stand asked es shown front number
-  pub only : (k : ℕ) → Stand asked es shown front k → k ≡ number
+  pub stand : Stand asked s shown front number
+  pub only : (k : ℕ) → Stand asked s shown front k → k ≡ number
   pub others : (again : Asked) → IsBegunAgain asked base shown number again
-      → (report again read).out ≡ showing asked es (drop number shown)
+      → (report again read).out ≡ showing asked s (drop number shown)

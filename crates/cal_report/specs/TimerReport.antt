@@ -1,15 +1,15 @@
 -- The report of a timer file: this project's own verb, after systemd.timer(5), OnCalendar=.
-use Rattle.std.specs.Prelude.{◌≢◌, ℕ, ℤ, Bool, List, [], ◌∷◌, map, take, Option, None, Some, Result, Ok, Err, codes, decimal, is_none}
+use Rattle.std.specs.Prelude.{◌≢◌, ℕ, ℤ, Bool, List, [], ◌∷◌, map, min, take, Option, None, Some, Result, Ok, Err, codes, decimal, is_none}
 use Rattle.std.specs.List.{find, flat_map}
-use Rattle.std.specs.Option.{unwrap_or}
+use Rattle.std.specs.Option.{option_map, unwrap_or}
 use Rattle.jiff.specs.Types.{UTC}
 use Rattle.cal_bytes.specs.Bytes.{joined}
 use Rattle.cal_bytes.specs.declared.whole.WholeFault.{WholeFault}
 use Rattle.cal_bytes.specs.declared.whole.WholeFault.TheVariants.{NoMemory}
-use Rattle.cal_elapse.specs.Elapses.{Timed, elapses_after}
+use Rattle.cal_elapse.specs.Elapses.{Timed, elapses_except}
 use Rattle.cal_elapse.specs.Timed.{timed}
 use Rattle.cal_read.specs.TimerFault.{line_of, words_of}
-use Rattle.cal_read.specs.TimerText.{Entry, timer_text}
+use Rattle.cal_read.specs.TimerText.{Entry, Lists, timer_text}
 use Rattle.cal_read.specs.declared.timer.fault.TimerFault.{TimerFault}
 use Rattle.cal_spec.specs.Expr.{expr_in}
 use Rattle.cal_spec.specs.Fields.{Fields}
@@ -27,7 +27,7 @@ refusal_at name (Some line) words = joined (name ∷ codes ":" ∷ decimal line 
 abbrev pub lacks_zone : Asked → Entry Fields → Bool
 lacks_zone asked e = is_none (zone_for asked e.expr.zone)
 
--- what an expression of the list means, in its zone
+-- what an expression of a list means, in its zone
 unfoldable pub timed_entry : Asked → Entry Fields → Timed
 timed_entry asked e = timed e.expr (unwrap_or (zone_for asked e.expr.zone) UTC)
 
@@ -38,22 +38,48 @@ exception_line text = joined (codes "    Except form: " ∷ text ∷ codes "\nNo
 unfoldable pub exception_text : List ℕ → Fields → List ℕ
 exception_text text fields = joined (exception_line text ∷ normal_line fields ∷ [])
 
--- the texts and normal forms of the list, in the order of the file
+-- the texts and normal forms of the expressions, in the order of the file, and those of the exceptions
 unfoldable pub headings_text : List (Entry Fields) → List ℕ
 headings_text = flat_map (λ e. heading_text e.text e.expr)
 
--- the report of a list: its texts, and as many of the elapses of all of them as are asked for
-unfoldable pub timer_report : Asked → ℤ → List (Entry Fields) → List ℕ
-timer_report asked base list =
-    joined (headings_text list ∷ elapses_text asked.local asked.now (take asked.iterations (elapses_after (map (timed_entry asked) list) base)) ∷ [])
+unfoldable pub exceptions_text : List (Entry Fields) → List ℕ
+exceptions_text = flat_map (λ e. exception_text e.text e.expr)
 
--- the report of a list whose zones are all there, or the line of the first whose zone isn't
-abbrev pub answer_unless : Asked → ℤ → List ℕ → List (Entry Fields) → Option (Entry Fields) → Result (List ℕ) (List ℕ)
-answer_unless asked base name list None = Ok (timer_report asked base list)
-answer_unless asked base name list (Some e) = Err (refusal_at name (Some e.number) (codes "no such zone"))
+-- those of both lists
+abbrev pub lists_text : Lists Fields → List ℕ
+lists_text lists = joined (headings_text lists.expressions ∷ exceptions_text lists.exceptions ∷ [])
 
-abbrev pub answer_of_timer : Asked → ℤ → List ℕ → Result (List (Entry Fields)) TimerFault → Result (List ℕ) (List ℕ)
-answer_of_timer asked base name (Ok list) = answer_unless asked base name list (find (lacks_zone asked) list)
+-- the elapses after a base of the expressions that are elapses of no exception
+unfoldable pub elapses_of_lists : Asked → ℤ → Lists Fields → List ℤ
+elapses_of_lists asked base lists =
+    elapses_except (map (timed_entry asked) lists.expressions) (map (timed_entry asked) lists.exceptions) base
+
+-- the report of both lists: their texts, and as many of their elapses as are asked for
+unfoldable pub timer_report : Asked → ℤ → Lists Fields → List ℕ
+timer_report asked base lists =
+    joined (lists_text lists ∷ elapses_text asked.local asked.now (take asked.iterations (elapses_of_lists asked base lists)) ∷ [])
+
+-- the number of the first line of a list whose zone isn't there
+abbrev pub first_unzoned : Asked → List (Entry Fields) → Option ℕ
+first_unzoned asked list = option_map (λ (e : Entry Fields). e.number) (find (lacks_zone asked) list)
+
+-- the lesser of two numbers, of which either may be missing
+abbrev pub lesser_line : Option ℕ → Option ℕ → Option ℕ
+lesser_line None b = b
+lesser_line (Some x) None = Some x
+lesser_line (Some x) (Some y) = Some (min x y)
+
+-- the number of the first line of either list whose zone isn't there
+unfoldable pub unzoned : Asked → Lists Fields → Option ℕ
+unzoned asked lists = lesser_line (first_unzoned asked lists.expressions) (first_unzoned asked lists.exceptions)
+
+-- the report of lists whose zones are all there, or the line of the first whose zone isn't
+abbrev pub answer_unless : Asked → ℤ → List ℕ → Lists Fields → Option ℕ → Result (List ℕ) (List ℕ)
+answer_unless asked base name lists None = Ok (timer_report asked base lists)
+answer_unless asked base name lists (Some number) = Err (refusal_at name (Some number) (codes "no such zone"))
+
+abbrev pub answer_of_timer : Asked → ℤ → List ℕ → Result (Lists Fields) TimerFault → Result (List ℕ) (List ℕ)
+answer_of_timer asked base name (Ok lists) = answer_unless asked base name lists (unzoned asked lists)
 answer_of_timer asked base name (Err fault) = Err (refusal_at name (line_of fault) (words_of fault))
 
 -- memory wasn't refused to the reads

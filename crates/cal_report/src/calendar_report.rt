@@ -56,7 +56,7 @@ pub fn put_heading<W: Sink>(out: &mut W, text: &str, expr: &Expr) -> Result<(), 
 
 /// Writes the rest of the line of the normal form.
 #[tactic(auto, using(cal_bytes::proofs::Pieces::first_fails, cal_bytes::proofs::Pieces::second_ends), unfolding(crate::specs::CalendarReport::normal_line))]
-fn put_normal<W: Sink>(out: &mut W, expr: &Expr) -> Result<(), WriteFault>
+pub fn put_normal<W: Sink>(out: &mut W, expr: &Expr) -> Result<(), WriteFault>
     requires { W.is_failed out.old ≡ false }
     ensures failed { W.is_failed out.new ≡ is_err result }
     ensures bytes { Writes (W.written out.old) (W.written out.new) result

@@ -16,7 +16,7 @@ ghost use Rattle.cal_spec.specs.Members.{sets_of};
 ghost use Rattle.cal_elapse.specs.Elapses.{AreElapses, IsPlace, Timed};
 ghost use Rattle.cal_elapse.specs.Timed.{timed};
 ghost use Rattle.cal_report.specs.ElapseLines.{AreInstants};
-ghost use Rattle.cal_report.specs.Headline.{AreAccepted, AreReportsOf, Expression, IsAccepted, IsAcceptedFile, IsFileOf, IsFine, IsReportOf, meaning};
+ghost use Rattle.cal_report.specs.Headline.{AreAccepted, AreAllAccepted, AreElapsesOf, AreReportsOf, Expression, IsAccepted, IsAcceptedFile, IsFileOf, IsFine, IsReportOf, Schedule, alone};
 ghost use Rattle.cal_report.specs.Report.{ByReading, IsReported, base_in, report};
 ghost use Rattle.cal_report.specs.Resume.{Resumes};
 ghost use Rattle.cal_request.specs.Request.{Asked};
@@ -29,18 +29,19 @@ use cal_spec::laws::one_normal_form_of_fields;
 
 /// For every list of accepted expressions, base instant and zones, the elapses printed are exactly the matching instants
 /// after the base through 2199, each once, rising: the first n where n are asked for, or all where there are fewer. A
-/// matching instant is the place of a local second that matches. Starting again at any of them gives exactly those
-/// after it.
+/// matching instant is the place of a local second that matches, and of a timer file one at which no exception elapses.
+/// Starting again at any of them gives exactly those after it.
 pub fn headline()
     // The report of each text is its heading and the first of its elapses.
     ensures calendar { (asked : Asked) (read : Result (List ℕ) WholeFault) (base : ℤ) (es : List Expression)
         → asked.verb ≡ Calendar → base_in asked ≡ Ok base
         → asked.texts ≡ map (λ (e : Expression). e.text) es → AllByRecursion (IsAccepted asked) es
         → AreReportsOf asked base es (report asked read).out × IsFine (report asked read) }
-    // The report of a timer file is its headings and the first of the elapses of all of its expressions.
-    ensures timer { (asked : Asked) (bytes : List ℕ) (base : ℤ) (es : List Expression)
-        → asked.verb ≡ Timer → base_in asked ≡ Ok base → IsFileOf bytes es → AllByRecursion (IsAccepted asked) es
-        → IsReportOf asked base es (report asked (Ok bytes)).out × IsFine (report asked (Ok bytes)) }
+    // The report of a timer file is its headings and the first of the elapses of all of its expressions
+    // that are elapses of no exception.
+    ensures timer { (asked : Asked) (bytes : List ℕ) (base : ℤ) (s : Schedule)
+        → asked.verb ≡ Timer → base_in asked ≡ Ok base → IsFileOf bytes s → AreAllAccepted asked s
+        → IsReportOf asked base s (report asked (Ok bytes)).out × IsFine (report asked (Ok bytes)) }
 
     // These are the bytes that a run adds which ended without a fault, so with memory and writers that took them all:
     // the premise `ByReading` is what the contract of `run` says of it.
@@ -50,11 +51,11 @@ pub fn headline()
         → ByReading asked old new failed (IsReported (Ok status) out_old out_new err_old err_new)
         → (text : List ℕ) × AreReportsOf asked base es text × Appends out_old out_new text
         × Appends err_old err_new [] × (status ≡ Fine) }
-    ensures written_file { (asked : Asked) (base : ℤ) (bytes : List ℕ) (es : List Expression) (old new : Option (List ℕ))
+    ensures written_file { (asked : Asked) (base : ℤ) (bytes : List ℕ) (s : Schedule) (old new : Option (List ℕ))
         (failed : Bool) (status : Status) (out_old out_new err_old err_new : Option (List ℕ)) → asked.verb ≡ Timer
-        → base_in asked ≡ Ok base → IsFileOf bytes es → AllByRecursion (IsAccepted asked) es
+        → base_in asked ≡ Ok base → IsFileOf bytes s → AreAllAccepted asked s
         → (run : ByReading asked old new failed (IsReported (Ok status) out_old out_new err_old err_new)) → run.read ≡ Ok bytes
-        → (text : List ℕ) × IsReportOf asked base es text × Appends out_old out_new text
+        → (text : List ℕ) × IsReportOf asked base s text × Appends out_old out_new text
         × Appends err_old err_new [] × (status ≡ Fine) }
 
     // A run that ends well has accepted all of it.
@@ -68,18 +69,18 @@ pub fn headline()
         → e.text ≡ f.text → e ≡ f }
     ensures one_text { (asked : Asked) (base : ℤ) (es : List Expression) (a b : List ℕ)
         → AreReportsOf asked base es a → AreReportsOf asked base es b → a ≡ b }
-    ensures one_report { (asked : Asked) (base : ℤ) (es : List Expression) (a b : List ℕ)
-        → IsReportOf asked base es a → IsReportOf asked base es b → a ≡ b }
-    ensures one_list { (ts : List Timed) (base : ℤ) (xs ys : List ℤ)
-        → AreElapses ts base xs → AreElapses ts base ys → xs ≡ ys }
+    ensures one_report { (asked : Asked) (base : ℤ) (s : Schedule) (a b : List ℕ)
+        → IsReportOf asked base s a → IsReportOf asked base s b → a ≡ b }
+    ensures one_list { (ts excepts : List Timed) (base : ℤ) (xs ys : List ℤ)
+        → AreElapses ts excepts base xs → AreElapses ts excepts base ys → xs ≡ ys }
 
     // Each elapse is an instant, so that it can be a base. From there on the rest follows, and nothing else.
-    ensures instants { (asked : Asked) (base : ℤ) (es : List Expression) (xs : List ℤ) → IsInstant asked.now
-        → base_in asked ≡ Ok base → AreElapses (map meaning es) base xs → AreInstants xs }
-    ensures again { (ts : List Timed) (base e : ℤ) (xs : List ℤ) (k : ℕ) → AreElapses ts base xs
-        → slice_get xs k ≡ Some e → AreElapses ts e (drop (suc k) xs) }
-    ensures in_parts { (ts : List Timed) (base e : ℤ) (xs ys : List ℤ) (k m : ℕ) → AreElapses ts base xs
-        → slice_get xs k ≡ Some e → AreElapses ts e ys → take (suc k) xs ++ take m ys ≡ take (suc k + m) xs }
+    ensures instants { (asked : Asked) (base : ℤ) (s : Schedule) (xs : List ℤ) → IsInstant asked.now
+        → base_in asked ≡ Ok base → AreElapsesOf s base xs → AreInstants xs }
+    ensures again { (ts excepts : List Timed) (base e : ℤ) (xs : List ℤ) (k : ℕ) → AreElapses ts excepts base xs
+        → slice_get xs k ≡ Some e → AreElapses ts excepts e (drop (suc k) xs) }
+    ensures in_parts { (ts excepts : List Timed) (base e : ℤ) (xs ys : List ℤ) (k m : ℕ) → AreElapses ts excepts base xs
+        → slice_get xs k ≡ Some e → AreElapses ts excepts e ys → take (suc k) xs ++ take m ys ≡ take (suc k + m) xs }
 
     // At an elapse the zone's clock shows a local second that matches, and at no other elapse the same one.
     ensures shown { (fields : Fields) (tz : TimeZone) (i : ℤ) → IsPlace (timed fields tz) i
@@ -104,24 +105,24 @@ pub fn cut_output_resumes()
     // A request for one text, whose report begins so.
     ensures calendar { (asked : Asked) (read : Result (List ℕ) WholeFault) (base : ℤ) (e : Expression)
         (front rest : List ℕ) → asked.verb ≡ Calendar → base_in asked ≡ Ok base → asked.texts ≡ e.text ∷ []
-        → IsAccepted asked e → (report asked read).out ≡ front ++ rest → Resumes asked base (e ∷ []) read front }
+        → IsAccepted asked e → (report asked read).out ≡ front ++ rest → Resumes asked base (alone e) read front }
     // A request for a timer file, whose report begins so.
-    ensures timer { (asked : Asked) (bytes : List ℕ) (base : ℤ) (es : List Expression) (front rest : List ℕ)
-        → asked.verb ≡ Timer → base_in asked ≡ Ok base → IsFileOf bytes es → AllByRecursion (IsAccepted asked) es
-        → (report asked (Ok bytes)).out ≡ front ++ rest → Resumes asked base es (Ok bytes) front }
+    ensures timer { (asked : Asked) (bytes : List ℕ) (base : ℤ) (s : Schedule) (front rest : List ℕ)
+        → asked.verb ≡ Timer → base_in asked ≡ Ok base → IsFileOf bytes s → AreAllAccepted asked s
+        → (report asked (Ok bytes)).out ≡ front ++ rest → Resumes asked base s (Ok bytes) front }
 
     // What a run adds to its writer, however it ended, is such a front: by the contract of `run`.
     ensures written { (asked : Asked) (base : ℤ) (e : Expression) (result : Result Status RunFault)
         (old new : Option (List ℕ)) (failed : Bool) (out_old out_new err_old err_new : Option (List ℕ))
         → asked.verb ≡ Calendar → base_in asked ≡ Ok base → asked.texts ≡ e.text ∷ [] → IsAccepted asked e
         → (run : ByReading asked old new failed (IsReported result out_old out_new err_old err_new))
-        → (front : List ℕ) × Appends out_old out_new front × Resumes asked base (e ∷ []) run.read front }
-    ensures written_file { (asked : Asked) (bytes : List ℕ) (base : ℤ) (es : List Expression)
+        → (front : List ℕ) × Appends out_old out_new front × Resumes asked base (alone e) run.read front }
+    ensures written_file { (asked : Asked) (bytes : List ℕ) (base : ℤ) (s : Schedule)
         (result : Result Status RunFault) (old new : Option (List ℕ)) (failed : Bool)
         (out_old out_new err_old err_new : Option (List ℕ))
-        → asked.verb ≡ Timer → base_in asked ≡ Ok base → IsFileOf bytes es → AllByRecursion (IsAccepted asked) es
+        → asked.verb ≡ Timer → base_in asked ≡ Ok base → IsFileOf bytes s → AreAllAccepted asked s
         → (run : ByReading asked old new failed (IsReported result out_old out_new err_old err_new)) → run.read ≡ Ok bytes
-        → (front : List ℕ) × Appends out_old out_new front × Resumes asked base es (Ok bytes) front }
+        → (front : List ℕ) × Appends out_old out_new front × Resumes asked base s (Ok bytes) front }
 {
     one_normal_form_of_fields();
 }

@@ -1,7 +1,7 @@
-//! The report of a timer file: its expressions, and the next elapses of all of them with the span until each
-//! (systemd.timer(5), OnCalendar=).
+//! The report of a timer file: its expressions and exceptions, and the next elapses of all of them with the span until
+//! each (systemd.timer(5), OnCalendar=).
 
-ghost use Rattle.std.specs.Prelude.{◌≡◌, ◌≢◌, ℕ, List, Result, [], ◌∷◌, Ok, Err, None, Some, MatchResult, false, true, is_err, map, take, is_none, codes, length};
+ghost use Rattle.std.specs.Prelude.{◌≡◌, ◌≢◌, ◌++◌, ℕ, List, Result, [], ◌∷◌, Ok, Err, None, Some, MatchResult, false, true, is_err, map, take, is_none, codes, length};
 ghost use Rattle.std.specs.List.{find, list_any};
 ghost use Rattle.cal_bytes.specs.Bytes.{Writes, joined};
 ghost use Rattle.cal_bytes.specs.Whole.{is_read_failed};
@@ -15,20 +15,21 @@ ghost use Rattle.cal_read.specs.TimerView.{shown};
 ghost use Rattle.cal_report.specs.Context.{asked_by};
 ghost use Rattle.cal_report.specs.ElapseLines.{AreInstants, elapses_text};
 ghost use Rattle.cal_request.specs.Request.{IsCount};
-ghost use Rattle.cal_report.specs.TimerReport.{IsHad, headings_text, lacks_zone, refusal_at, timed_entry, timer_answer, timer_report};
-ghost use Rattle.cal_report.specs.TimerPlan.{IsMergeOf, IsUnzoned, plan_text, refused_line, refused_words};
+ghost use Rattle.cal_report.specs.TimerReport.{IsHad, exception_line, exception_text, exceptions_text, first_unzoned, headings_text, lacks_zone, lists_text, refusal_at, timed_entry, timer_answer, timer_report, unzoned};
+ghost use Rattle.cal_report.specs.TimerPlan.{IsMergeOf, each_of, IsUnzoned, plan_text, refused_line, refused_words};
 ghost use Rattle.cal_report.specs.declared.timer_report.TimerRefusal.TheVariants.{NoMemory};
 
 use crate::accepted::zone_for;
-use crate::calendar_report::put_heading;
+use crate::calendar_report::{put_heading, put_normal};
 use crate::context::Context;
 use crate::elapse_lines::put_elapses;
-use cal_bytes::{Sink, Source, WriteFault};
+use cal_bytes::{Sink, Source, WriteFault, put_pieces};
 use cal_elapse::{Elapses, Merge};
 use cal_read::{Timer, TimerFault, TimerLine, read_timer};
+use cal_spec::Expr;
 use std::alloc::{AllocError, Global};
 
-/// What was read of a timer file: its expressions, and the elapses of all of them.
+/// What was read of a timer file: its expressions and exceptions, and the elapses of all of them.
 #[derive(Drop)]
 pub struct TimerPlan<'a> {
     timer: Timer,
@@ -40,7 +41,7 @@ pub struct TimerPlan<'a> {
 pub enum TimerRefusal {
     /// Its bytes or its lines are.
     Timer(TimerFault),
-    /// The zone that the expression of this line names isn't there.
+    /// The zone that the expression or the exception of this line names isn't there.
     NoSuchZone(u32),
     /// Memory was refused.
     NoMemory,
@@ -93,33 +94,96 @@ pub fn read_plan<'a, R: Source>(
         Err(TimerFault::NoMemory) => return Err(TimerRefusal::NoMemory),
         Err(fault) => return Err(TimerRefusal::Timer(fault)),
     };
-    match merge_of(alloc, context, timer.lines()) {
+    match merge_of(alloc, context, &timer) {
         Ok(merge) => Ok(TimerPlan { timer, merge }),
         Err(refusal) => Err(refusal),
     }
 }
 
-/// The elapses of all expressions, each in its zone.
+/// The elapses of all expressions, each in its zone, without those of the exceptions.
 fn merge_of<'a>(
     alloc: Global,
     context: Context<'a>,
-    lines: &[TimerLine],
+    timer: &Timer,
 ) -> Result<Merge<Elapses<'a>>, TimerRefusal>
-    ensures { let list = map shown lines.now in MatchResult result
-        (IsMergeOf (asked_by context.entry) context.entry.base.secs list)
-        (λ refusal. refusal ≢ NoMemory → IsUnzoned (find (lacks_zone (asked_by context.entry)) list) refusal) }
+    ensures { MatchResult result
+        (IsMergeOf (asked_by context.entry) context.entry.base.secs timer.now)
+        (λ refusal. refusal ≢ NoMemory → IsUnzoned (unzoned (asked_by context.entry) timer.now) refusal) }
 {
+    if let Some(number) = unzoned(context, timer) {
+        return Err(TimerRefusal::NoSuchZone(number));
+    }
     let mut merge = Merge::new(alloc);
+    add_expressions(alloc, context, &mut merge, timer.lines())?;
+    add_exceptions(alloc, context, &mut merge, timer.exceptions())?;
+    Ok(merge)
+}
+
+/// The number of the first line of either list whose zone isn't there.
+#[tactic(auto, unfolding(crate::specs::TimerReport::unzoned))]
+fn unzoned(context: Context<'_>, timer: &Timer) -> Option<u32>
+    ensures { result ≡ unzoned (asked_by context.entry) timer.now }
+{
+    let expression = first_unzoned(context, timer.lines());
+    let exception = first_unzoned(context, timer.exceptions());
+    match (expression, exception) {
+        (Some(one), Some(other)) => Some(one.min(other)),
+        (None, found) | (found, None) => found,
+    }
+}
+
+/// The number of the first line of a list whose zone isn't there.
+fn first_unzoned(context: Context<'_>, lines: &[TimerLine]) -> Option<u32>
+    ensures { result ≡ first_unzoned (asked_by context.entry) (map shown lines.now) }
+{
     for line in lines {
-        let elapses = match elapses_of(alloc, context, line) {
-            Ok(elapses) => elapses,
-            Err(refusal) => return Err(refusal),
-        };
+        if zone_for(context, &line.expr).is_none() {
+            return Some(line.number);
+        }
+    }
+    None
+}
+
+/// Adds the elapses of expressions to a merge from which nothing was taken.
+fn add_expressions<'a>(
+    alloc: Global,
+    context: Context<'a>,
+    merge: &mut Merge<Elapses<'a>>,
+    lines: &[TimerLine],
+) -> Result<(), TimerRefusal>
+    requires { merge.old.started ≡ false }
+    ensures { let list = map shown lines.now in MatchResult result
+        (λ _. merge.new ≡ record { started = false; lists = merge.old.lists ++ each_of (asked_by context.entry) context.entry.base.secs list; excepts = merge.old.excepts })
+        (λ refusal. refusal ≢ NoMemory → first_unzoned (asked_by context.entry) list ≢ None) }
+{
+    for line in lines {
+        let elapses = elapses_of(alloc, context, line)?;
         if let Err(_refused) = merge.add(elapses) {
             return Err(TimerRefusal::NoMemory);
         }
     }
-    Ok(merge)
+    Ok(())
+}
+
+/// Adds the elapses of exceptions to a merge from which nothing was taken.
+fn add_exceptions<'a>(
+    alloc: Global,
+    context: Context<'a>,
+    merge: &mut Merge<Elapses<'a>>,
+    lines: &[TimerLine],
+) -> Result<(), TimerRefusal>
+    requires { merge.old.started ≡ false }
+    ensures { let list = map shown lines.now in MatchResult result
+        (λ _. merge.new ≡ record { started = false; lists = merge.old.lists; excepts = merge.old.excepts ++ each_of (asked_by context.entry) context.entry.base.secs list })
+        (λ refusal. refusal ≢ NoMemory → first_unzoned (asked_by context.entry) list ≢ None) }
+{
+    for line in lines {
+        let elapses = elapses_of(alloc, context, line)?;
+        if let Err(_refused) = merge.add_except(elapses) {
+            return Err(TimerRefusal::NoMemory);
+        }
+    }
+    Ok(())
 }
 
 /// The elapses of an expression in its zone.
@@ -159,7 +223,7 @@ pub fn write_timer<W: Sink>(
         (plan_text (asked_by context.entry) plan.entry) }
 {
     let TimerPlan { timer, mut merge } = plan;
-    put_headings(out, timer.lines())?;
+    put_lists(out, &timer)?;
     put_elapses(
         out,
         &mut merge,
@@ -167,6 +231,17 @@ pub fn write_timer<W: Sink>(
         context.local,
         context.now,
     )
+}
+
+/// Writes the text and the normal form of each expression, and then those of each exception.
+#[tactic(auto, using(cal_bytes::proofs::Pieces::first_fails, cal_bytes::proofs::Pieces::second_ends))]
+fn put_lists<W: Sink>(out: &mut W, timer: &Timer) -> Result<(), WriteFault>
+    requires { W.is_failed out.old ≡ false }
+    ensures failed { W.is_failed out.new ≡ is_err result }
+    ensures bytes { Writes (W.written out.old) (W.written out.new) result (lists_text timer.now) }
+{
+    put_headings(out, timer.lines())?;
+    put_exceptions(out, timer.exceptions())
 }
 
 /// Writes the text and the normal form of each expression.
@@ -180,4 +255,46 @@ fn put_headings<W: Sink>(out: &mut W, lines: &[TimerLine]) -> Result<(), WriteFa
         put_heading(out, line.text.as_str(), &line.expr)?;
     }
     Ok(())
+}
+
+/// Writes the text and the normal form of each exception.
+fn put_exceptions<W: Sink>(out: &mut W, lines: &[TimerLine]) -> Result<(), WriteFault>
+    requires { W.is_failed out.old ≡ false }
+    ensures failed { W.is_failed out.new ≡ is_err result }
+    ensures bytes { Writes (W.written out.old) (W.written out.new) result
+        (exceptions_text (map shown lines.now)) }
+{
+    for line in lines {
+        put_exception(out, line.text.as_str(), &line.expr)?;
+    }
+    Ok(())
+}
+
+/// Writes the text and the normal form of an exception.
+#[tactic(auto, using(cal_bytes::proofs::Pieces::first_fails, cal_bytes::proofs::Pieces::second_ends), unfolding(crate::specs::TimerReport::exception_text))]
+fn put_exception<W: Sink>(out: &mut W, text: &str, expr: &Expr) -> Result<(), WriteFault>
+    requires { W.is_failed out.old ≡ false }
+    ensures failed { W.is_failed out.new ≡ is_err result }
+    ensures bytes { Writes (W.written out.old) (W.written out.new) result
+        (exception_text text.now expr.now) }
+{
+    put_exception_line(out, text)?;
+    put_normal(out, expr)
+}
+
+/// Writes the line of an exception's text, and the next label.
+#[tactic(auto, unfolding(crate::specs::TimerReport::exception_line))]
+fn put_exception_line<W: Sink>(out: &mut W, text: &str) -> Result<(), WriteFault>
+    requires { W.is_failed out.old ≡ false }
+    ensures failed { W.is_failed out.new ≡ is_err result }
+    ensures bytes { Writes (W.written out.old) (W.written out.new) result (exception_line text.now) }
+{
+    put_pieces(
+        out,
+        &[
+            b"    Except form: ",
+            text.as_bytes(),
+            b"\nNormalized form: ",
+        ],
+    )
 }

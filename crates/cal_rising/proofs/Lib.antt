@@ -1,2 +1,3 @@
 pub mod MergeLemmas
+pub mod WithoutLemmas
 pub mod RisingLemmas

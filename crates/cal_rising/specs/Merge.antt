@@ -1,16 +1,17 @@
--- Several rising lists given as one, each number once: systemd.timer(5), OnCalendar=, where a timer with several
--- expressions elapses whenever one of them does.
-use Rattle.std.specs.Prelude.{◌≡◌, cond, Bool, false, map, List, [], ◌∷◌, Option, None, Some, ℤ, int_lt}
-use Rattle.cal_rising.specs.RisingList.{IsRising, first, union}
+-- Several rising lists given as one, each number once, without the numbers of the lists of exceptions:
+-- systemd.timer(5), OnCalendar=, where a timer with several expressions elapses whenever one of them does.
+use Rattle.std.specs.Prelude.{◌≡◌, cond, Bool, List, [], ◌∷◌, Option, None, Some, ℤ, int_lt}
+use Rattle.cal_rising.specs.RisingList.{IsRising, first, union, without}
 
--- what is left of a merge: whether a number was asked for already, and what each source has to give
+-- what is left of a merge: whether a number was asked for already, and what each source and each exception has to give
 pub record Merging : Type 0 where
   pub started : Bool
   pub lists : List (List ℤ)
+  pub excepts : List (List ℤ)
 
--- the rest of a merge: the numbers of all its sources
+-- the rest of a merge: the numbers of all its sources that no exception has
 abbrev pub merged : Merging → List ℤ
-merged m = union m.lists
+merged m = without (union m.lists) (union m.excepts)
 
 -- one source of a merge: the number taken from it that was not given yet, and what is after that number
 pub record Stream : Type 0 where

@@ -1,10 +1,19 @@
 //! Laws of the definitions that the contracts cite. Each is a function that does nothing, and whose contract is the law.
 
-ghost use Rattle.std.specs.Prelude.{◌≡◌, ℤ, List};
-ghost use Rattle.cal_rising.specs.RisingList.{IsUnion, union};
+ghost use Rattle.std.specs.Prelude.{◌≡◌, [], ℤ, List};
+ghost use Rattle.cal_rising.specs.RisingList.{IsUnion, IsUnionWithout, union, without};
 
 /// The union of lists is one list: it rises, has exactly the numbers of the lists, and no other list does.
 pub fn union_is_one_list()
     ensures this { (lists : List (List ℤ)) → IsUnion lists (union lists) }
     ensures only { (lists : List (List ℤ)) (list : List ℤ) → IsUnion lists list → list ≡ union lists }
+{}
+
+/// So is a union without the numbers of exceptions: it rises, has exactly the numbers of the lists that no exception has,
+/// and no other list does. Without exceptions it is the union.
+pub fn union_without_is_one_list()
+    ensures this { (lists excepts : List (List ℤ)) → IsUnionWithout lists excepts (without (union lists) (union excepts)) }
+    ensures only { (lists excepts : List (List ℤ)) (list : List ℤ) → IsUnionWithout lists excepts list
+        → list ≡ without (union lists) (union excepts) }
+    ensures none { (lists : List (List ℤ)) → without (union lists) (union []) ≡ union lists }
 {}

@@ -6,6 +6,7 @@ pub mod laws;
 mod listed;
 mod merge;
 mod rising;
+mod sources;
 
 pub use listed::Listed;
 pub use merge::Merge;

@@ -14,7 +14,7 @@ use std::test::Fail;
 /// The merge of one list.
 fn merge_one(alloc: Global, one: Vec<i64>) -> Result<Merge<Listed>, AllocError>
     requires { IsRising one.items }
-    ensures { IfOk result (λ merge. merge ≡ record { started = false; lists = one.items ∷ [] }) }
+    ensures { IfOk result (λ merge. merge ≡ record { started = false; lists = one.items ∷ []; excepts = [] }) }
 {
     let mut merge = Merge::new(alloc);
     match merge.add(Listed::new(one)) {
@@ -27,7 +27,7 @@ fn merge_one(alloc: Global, one: Vec<i64>) -> Result<Merge<Listed>, AllocError>
 fn merge_two(alloc: Global, one: Vec<i64>, two: Vec<i64>) -> Result<Merge<Listed>, AllocError>
     requires one { IsRising one.items }
     requires two { IsRising two.items }
-    ensures { IfOk result (λ merge. merge ≡ record { started = false; lists = one.items ∷ two.items ∷ [] }) }
+    ensures { IfOk result (λ merge. merge ≡ record { started = false; lists = one.items ∷ two.items ∷ []; excepts = [] }) }
 {
     let mut merge = merge_one(alloc, one)?;
     match merge.add(Listed::new(two)) {

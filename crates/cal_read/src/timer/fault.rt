@@ -16,11 +16,11 @@ pub enum TimerFault {
     TooLarge,
     /// The bytes are no UTF-8; the physical line of the first of them. Its number is 3.
     NotUtf8(u32),
-    /// The text of an expression is refused, in this line and for this cause. Its number is 4.
+    /// The text of an expression or of an exception is refused, in this line and for this cause. Its number is 4.
     BadLine(u32, SpecFault),
-    /// There are more than 256 expressions; the line of the one too many. Its number is 5.
+    /// There are more than 256 expressions, or more than 256 exceptions; the line of the one too many. Its number is 5.
     TooMany(u32),
-    /// There is no expression at the end. Its number is 6.
+    /// There is no expression at the end, whatever the exceptions are. Its number is 6.
     NothingToDo,
     /// Memory was refused. Its number is 7.
     NoMemory,

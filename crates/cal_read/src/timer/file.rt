@@ -1,26 +1,28 @@
 //! Timer files: reading one whole (systemd.timer(5), OnCalendar=; systemd.syntax(7)).
 
-ghost use Rattle.std.specs.Prelude.{◌≡◌, ◌≢◌, ◌+◌, ◌<◌, ◌≤◌, ◌^◌, ◌↔◌, ◌==◌, ℕ, List, Ok, Err, Result, MatchResult, IsTrue, false, length, map, count_by};
+ghost use Rattle.std.specs.Prelude.{◌≡◌, ◌≢◌, ◌+◌, ◌<◌, ◌≤◌, ◌^◌, ◌↔◌, ◌==◌, ℕ, List, Ok, Err, Result, MatchResult, IsTrue, false, length, count_by};
 ghost use Rattle.std.specs.Result.{IsErrOf};
 ghost use Rattle.cal_bytes.specs.Whole.{is_read_failed};
 ghost use Rattle.cal_bytes.specs.declared.whole.WholeFault.{WholeFault};
 ghost use Rattle.cal_spec.specs.Expr.{expr_in};
 ghost use Rattle.cal_read.specs.Assignments.{assignments_in};
 ghost use Rattle.cal_lines.specs.Lines.{logical_lines};
-ghost use Rattle.cal_read.specs.TimerText.{most_file_bytes, list_of, some_entries, timer_in, timer_of, timer_text, without_mark, ReadsWhole};
-ghost use Rattle.cal_read.specs.TimerView.{shown};
+ghost use Rattle.cal_read.specs.TimerText.{lists_of, most_file_bytes, some_entries, timer_in, timer_of, timer_text, without_mark, ReadsWhole};
+ghost use Rattle.cal_read.specs.TimerView.{shown_lists};
 
-use crate::timer::list::take_line;
-use crate::{Timer, TimerFault, TimerLine};
+use crate::timer::list::{ReadLists, take_line};
+use crate::{Timer, TimerFault};
 use cal_bytes::{Source, WholeFault, read_whole};
 use cal_lines::first_logical;
 use std::alloc::Global;
 
-/// Reads a timer file to its end, and gives its calendar expressions (systemd.timer(5), OnCalendar=).
+/// Reads a timer file to its end, and gives its calendar expressions (systemd.timer(5), OnCalendar=) and its exceptions
+/// (`X-ExceptOnCalendar=`).
 ///
 /// The fault is the first one: [`TimerFault::ReadFailed`], exactly where the reader failed, or [`TimerFault::TooLarge`]
 /// where more than 1,048,576 bytes came; then [`TimerFault::NotUtf8`]; then, from one logical line to the next,
-/// [`TimerFault::TooMany`] and [`TimerFault::BadLine`]; then [`TimerFault::NothingToDo`].
+/// [`TimerFault::TooMany`] and [`TimerFault::BadLine`], of an expression or of an exception; then
+/// [`TimerFault::NothingToDo`], where there is no expression.
 /// [`TimerFault::NoMemory`] comes only where memory was refused.
 pub fn read_timer<R: Source>(alloc: Global, input: &mut R) -> Result<Timer, TimerFault>
     requires { R.is_failed input.old ≡ false }
@@ -72,11 +74,11 @@ fn read_text(alloc: Global, text: &str) -> Result<Timer, TimerFault>
         (λ timer. timer_of expr_in text.now ≡ Ok timer)
         (λ fault. fault ≢ TimerFault.NoMemory → timer_of expr_in text.now ≡ Err fault) }
 {
-    let lines = read_lines(alloc, without_mark(text))?;
-    if lines.is_empty() {
+    let lists = read_lists(alloc, without_mark(text))?;
+    if lists.expressions.is_empty() {
         return Err(TimerFault::NothingToDo);
     }
-    Ok(Timer::new(lines))
+    Ok(Timer::new(lists))
 }
 
 /// The text without a byte order mark at its very start.
@@ -88,22 +90,25 @@ fn without_mark(text: &str) -> &str
     text.strip_prefix("\u{FEFF}").unwrap_or(text)
 }
 
-/// The expressions in the logical lines of a text; an empty list is no fault here.
-fn read_lines(alloc: Global, text: &str) -> Result<Vec<TimerLine>, TimerFault>
+/// The lists that the logical lines of a text give; no expression is no fault here.
+fn read_lists(alloc: Global, text: &str) -> Result<ReadLists, TimerFault>
     requires { length text.now ≤ most_file_bytes }
     ensures { MatchResult result
-        (λ lines. list_of expr_in (assignments_in false (logical_lines 1 text.now)) ≡ some_entries (map shown lines.items))
+        (λ lists. lists_of expr_in (assignments_in false (logical_lines 1 text.now)) ≡ some_entries (shown_lists lists))
         (λ fault. fault ≢ TimerFault.NoMemory
-        → list_of expr_in (assignments_in false (logical_lines 1 text.now)) ≡ Err fault) }
+        → lists_of expr_in (assignments_in false (logical_lines 1 text.now)) ≡ Err fault) }
 {
-    let mut lines = Vec::new(alloc);
+    let mut lists = ReadLists {
+        expressions: Vec::new(alloc),
+        exceptions: Vec::new(alloc),
+    };
     let mut inside = false;
     let mut number = 1;
     let mut rest = text;
     while let Some(line) = first_logical(alloc, number, rest)? {
-        inside = take_line(alloc, &mut lines, inside, line.number, line.text.as_str())?;
+        inside = take_line(alloc, &mut lists, inside, line.number, line.text.as_str())?;
         number = line.next;
         rest = line.rest;
     }
-    Ok(lines)
+    Ok(lists)
 }

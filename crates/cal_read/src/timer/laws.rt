@@ -10,7 +10,7 @@ ghost use Rattle.cal_read.specs.Assignments.{Assigned, is_header, section_of, ti
 ghost use Rattle.cal_lines.specs.Lines.{Line};
 ghost use Rattle.cal_read.specs.TimerRule.{Judges};
 ghost use Rattle.cal_read.specs.declared.timer.fault.TimerFault.{TimerFault};
-ghost use Rattle.cal_read.specs.TimerText.{Entry, is_expression, is_reset, list_of, listed};
+ghost use Rattle.cal_read.specs.TimerText.{Lists, excepted, is_exception, is_exception_reset, is_expression, is_reset, lists_of, listed};
 
 /// A line stands in the section `Timer` where the last header before it opens that section; a header stands in none.
 pub fn one_section()
@@ -22,7 +22,7 @@ pub fn one_section()
         → timer_lines inside lines ≡ (if inside then lines else []) }
 {}
 
-/// The list is the expressions after the last reset, or all of them where there is no reset.
+/// The list of expressions is those after the last reset, or all of them where there is no reset.
 pub fn one_list()
     ensures after_reset { (front rest : List Assigned) (reset : Assigned)
         → is_reset reset ≡ true → list_any is_reset rest ≡ false
@@ -30,11 +30,25 @@ pub fn one_list()
     ensures no_reset { (all : List Assigned) → list_any is_reset all ≡ false → listed all ≡ filter is_expression all }
 {}
 
-/// Assignments have exactly one result: the list, where none of them has a fault and it isn't empty; the first fault; or
-/// that there is nothing to do.
+/// The list of exceptions is those after the last empty value of their own key, or all of them where there is none. What
+/// empties the list of expressions leaves it, and the other way round.
+pub fn one_list_of_exceptions()
+    ensures after_reset { (front rest : List Assigned) (reset : Assigned)
+        → is_exception_reset reset ≡ true → list_any is_exception_reset rest ≡ false
+        → excepted (front ++ (reset ∷ rest)) ≡ filter is_exception rest }
+    ensures no_reset { (all : List Assigned) → list_any is_exception_reset all ≡ false
+        → excepted all ≡ filter is_exception all }
+    ensures kept { (before : List Assigned) (reset : Assigned) → is_reset reset ≡ true
+        → excepted (before ++ reset ∷ []) ≡ excepted before }
+    ensures keeps { (before : List Assigned) (reset : Assigned) → is_exception_reset reset ≡ true
+        → listed (before ++ reset ∷ []) ≡ listed before }
+{}
+
+/// Assignments have exactly one result: the lists, where none of them has a fault and there is an expression; the first
+/// fault; or that there is nothing to do.
 pub fn one_judgement()
     ensures some { (read : List ℕ → Result Fields SpecFault) (all : List Assigned)
-        → Judges read all (list_of read all) }
+        → Judges read all (lists_of read all) }
     ensures only { (read : List ℕ → Result Fields SpecFault) (all : List Assigned)
-        (result : Result (List (Entry Fields)) TimerFault) → Judges read all result → result ≡ list_of read all }
+        (result : Result (Lists Fields) TimerFault) → Judges read all result → result ≡ lists_of read all }
 {}

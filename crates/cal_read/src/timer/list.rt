@@ -1,13 +1,14 @@
-//! The list of a timer file's expressions, from one logical line to the next (systemd.timer(5), OnCalendar=).
+//! The lists of a timer file's expressions and exceptions, from one logical line to the next (systemd.timer(5),
+//! OnCalendar=).
 
-ghost use Rattle.std.specs.Prelude.{◌≡◌, ◌≢◌, ◌∷◌, List, Some, Err, MatchResult, map};
+ghost use Rattle.std.specs.Prelude.{◌≡◌, ◌≢◌, ◌∷◌, List, Some, Ok, Err, MatchResult, map};
 ghost use Rattle.cal_spec.specs.Expr.{expr_in};
 ghost use Rattle.cal_read.specs.Assignments.{Assigned, assignments_in};
 ghost use Rattle.cal_lines.specs.LineView.{line_at};
 ghost use Rattle.cal_read.specs.AssignmentView.{shown_assignment};
 ghost use Rattle.cal_lines.specs.Lines.{Line};
 ghost use Rattle.cal_read.specs.TimerText.{bad_line, entry_of};
-ghost use Rattle.cal_read.specs.TimerView.{resumed, shown};
+ghost use Rattle.cal_read.specs.TimerView.{joined, resumed, shown, shown_lists};
 
 use crate::assignments::{Assignment, read_assignment, section};
 use crate::{TimerFault, TimerLine};
@@ -15,27 +16,34 @@ use cal_lines::trim;
 use cal_spec::{SpecFault, read_expr};
 use std::alloc::Global;
 
-/// The most expressions of a file.
+/// The most expressions of a list.
 const MOST_EXPRESSIONS: usize = 256;
 
 /// The section whose assignments are read.
 const SECTION: &[u8] = b"Timer";
 
-/// Takes a logical line into the list, where it stands in the section `Timer` or not, and answers whether the line
+/// What was read so far: the expressions and the exceptions that the lists have.
+#[derive(Drop)]
+pub(crate) struct ReadLists {
+    pub(crate) expressions: Vec<TimerLine>,
+    pub(crate) exceptions: Vec<TimerLine>,
+}
+
+/// Takes a logical line into the lists, where it stands in the section `Timer` or not, and answers whether the line
 /// after it does.
 pub(crate) fn take_line(
     alloc: Global,
-    list: &mut Vec<TimerLine>,
+    lists: &mut ReadLists,
     inside: bool,
     number: u32,
     line: &str,
 ) -> Result<bool, TimerFault>
     ensures { MatchResult result
         (λ goes_on. (after : List Line)
-        → resumed expr_in (map shown list.old.items) (assignments_in inside (line_at number line.now ∷ after))
-        ≡ resumed expr_in (map shown list.new.items) (assignments_in goes_on after))
+        → resumed expr_in (shown_lists lists.old) (assignments_in inside (line_at number line.now ∷ after))
+        ≡ resumed expr_in (shown_lists lists.new) (assignments_in goes_on after))
         (λ fault. fault ≢ TimerFault.NoMemory → (after : List Line)
-        → resumed expr_in (map shown list.old.items) (assignments_in inside (line_at number line.now ∷ after))
+        → resumed expr_in (shown_lists lists.old) (assignments_in inside (line_at number line.now ∷ after))
         ≡ Err fault) }
 {
     let line = trim(line);
@@ -48,31 +56,54 @@ pub(crate) fn take_line(
     let Some(assignment) = read_assignment(number, line) else {
         return Ok(true);
     };
-    assign(alloc, list, assignment)?;
+    assign(alloc, lists, assignment)?;
     Ok(true)
 }
 
-/// Does to the list what an assignment says: empties it, adds an expression, or leaves it.
+/// Does to the lists what an assignment says: empties one, adds to one, or leaves both.
 fn assign(
+    alloc: Global,
+    lists: &mut ReadLists,
+    assignment: Assignment<'_>,
+) -> Result<(), TimerFault>
+    ensures { MatchResult result
+        (λ _. (after : List Assigned)
+        → resumed expr_in (shown_lists lists.old) (shown_assignment assignment.entry ∷ after)
+        ≡ resumed expr_in (shown_lists lists.new) after)
+        (λ fault. fault ≢ TimerFault.NoMemory → (after : List Assigned)
+        → resumed expr_in (shown_lists lists.old) (shown_assignment assignment.entry ∷ after)
+        ≡ Err fault) }
+{
+    if assignment.is_reset() {
+        lists.expressions.clear();
+        return Ok(());
+    }
+    if assignment.is_exception_reset() {
+        lists.exceptions.clear();
+        return Ok(());
+    }
+    if assignment.is_expression() {
+        add_line(alloc, &mut lists.expressions, assignment)?;
+        return Ok(());
+    }
+    if assignment.is_exception() {
+        add_line(alloc, &mut lists.exceptions, assignment)?;
+    }
+    Ok(())
+}
+
+/// Adds the expression of an assignment to a list.
+#[tactic(auto, unfolding(crate::specs::TimerView::joined))]
+fn add_line(
     alloc: Global,
     list: &mut Vec<TimerLine>,
     assignment: Assignment<'_>,
 ) -> Result<(), TimerFault>
     ensures { MatchResult result
-        (λ _. (after : List Assigned)
-        → resumed expr_in (map shown list.old.items) (shown_assignment assignment.entry ∷ after)
-        ≡ resumed expr_in (map shown list.new.items) after)
-        (λ fault. fault ≢ TimerFault.NoMemory → (after : List Assigned)
-        → resumed expr_in (map shown list.old.items) (shown_assignment assignment.entry ∷ after)
-        ≡ Err fault) }
+        (λ _. joined expr_in (map shown list.old.items) (shown_assignment assignment.entry) ≡ Ok (map shown list.new.items))
+        (λ fault. fault ≢ TimerFault.NoMemory
+        → joined expr_in (map shown list.old.items) (shown_assignment assignment.entry) ≡ Err fault) }
 {
-    if assignment.is_reset() {
-        list.clear();
-        return Ok(());
-    }
-    if !assignment.is_expression() {
-        return Ok(());
-    }
     if list.len() >= MOST_EXPRESSIONS {
         return Err(TimerFault::TooMany(assignment.number));
     }

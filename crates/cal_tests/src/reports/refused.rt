@@ -1,6 +1,6 @@
 //! Reports where memory is refused. `tests/refused` refuses the allocations in turn.
 
-use super::timers::CONTINUED_TIMER;
+use super::timers::{CONTINUED_TIMER, EXCEPT_TIMER};
 use super::timespans::SPAN_LIST;
 use super::timestamps::STAMP_LIST;
 use super::{KnownZones, NOON_THIRTY, Row, Written, expect_texts, request, run_request};
@@ -62,6 +62,11 @@ fn a_calendar(rt: HostRuntime) {
 #[test]
 fn a_timer(rt: HostRuntime) {
     check_refused(&rt, CONTINUED_TIMER);
+}
+
+#[test]
+fn a_timer_with_an_exception(rt: HostRuntime) {
+    check_refused(&rt, EXCEPT_TIMER);
 }
 
 /// Time spans and timestamps take no memory.

@@ -93,6 +93,91 @@ fn elapses_of_all_expressions(rt: HostRuntime) -> Result<(), Fail> {
     check(&rt, &ELAPSES_OF_ALL_EXPRESSIONS)
 }
 
+/// A reset empties the expressions and leaves the exceptions.
+const EXCEPT_FILE: &[u8] = b"[Timer]
+OnCalendar=daily
+X-ExceptOnCalendar=Sat,Sun 12:00
+OnBootSec=
+OnCalendar=12:00
+";
+
+const EXCEPT: &str = "  Original form: 12:00
+Normalized form: *-*-* 12:00:00
+    Except form: Sat,Sun 12:00
+Normalized form: Sat,Sun *-*-* 12:00:00
+    Next elapse: Fri 2024-01-05 12:00:00 UTC
+       From now: 12h left
+       Iter. #2: Mon 2024-01-08 12:00:00 UTC
+       From now: 3d 12h left
+";
+
+/// The timer file with an exception, from a Friday's midnight on.
+pub(super) const EXCEPT_TIMER: Row<'static> = Row {
+    about: "timer file with an exception",
+    iterations: 2,
+    now: 1_704_412_800,
+    input: EXCEPT_FILE,
+    out: EXCEPT,
+    ..TIMER
+};
+
+/// The exception has midnights alone.
+const MIDNIGHTS: &str = "  Original form: 12:00
+Normalized form: *-*-* 12:00:00
+    Except form: Sat,Sun
+Normalized form: Sat,Sun *-*-* 00:00:00
+    Next elapse: Fri 2024-01-05 12:00:00 UTC
+       From now: 12h left
+       Iter. #2: Sat 2024-01-06 12:00:00 UTC
+       From now: 1d 12h left
+";
+
+const ALL_TAKEN_OUT: &str = "  Original form: daily
+Normalized form: *-*-* 00:00:00
+    Except form: 00:00
+Normalized form: *-*-* 00:00:00
+    Next elapse: never
+";
+
+static EXCEPTIONS: [Row<'static>; 6] = [
+    EXCEPT_TIMER,
+    Row {
+        about: "an exception at other times",
+        input: b"[Timer]\nOnCalendar=daily\nX-ExceptOnCalendar=Sat,Sun\nOnBootSec=\nOnCalendar=12:00\n",
+        out: MIDNIGHTS,
+        ..EXCEPT_TIMER
+    },
+    Row {
+        about: "an exception that takes out all",
+        input: b"[Timer]\nOnCalendar=daily\nX-ExceptOnCalendar=00:00\n",
+        out: ALL_TAKEN_OUT,
+        ..TIMER
+    },
+    Row {
+        about: "an exception alone",
+        input: b"[Timer]\nX-ExceptOnCalendar=00:00\n",
+        err: "t: no calendar expression\n",
+        ..TIMER
+    },
+    Row {
+        about: "a refused exception",
+        input: b"[Timer]\nX-ExceptOnCalendar=20/4:00\n",
+        err: "t:2: repetition reaches no further value\n",
+        ..TIMER
+    },
+    Row {
+        about: "zones of both lists that aren't there",
+        input: b"[Timer]\nOnCalendar=daily\nX-ExceptOnCalendar=daily Mars/One\nOnCalendar=daily Test/West\n",
+        err: "t:3: no such zone\n",
+        ..TIMER
+    },
+];
+
+#[test]
+fn exceptions(rt: HostRuntime) -> Result<(), Fail> {
+    check(&rt, &EXCEPTIONS)
+}
+
 /// Each expression is meant in its own zone, or in the local one.
 const ZONES_FILE: &[u8] =
     b"[Timer]\nOnCalendar=daily Test/Fixed\nOnCalendar=daily\nOnCalendar=daily utc\n";

@@ -1,7 +1,7 @@
 //! Reports to writers that are slow or fail.
 
 use super::base::FROM_THE_FIRST;
-use super::timers::CONTINUED_TIMER;
+use super::timers::{CONTINUED_TIMER, EXCEPT_TIMER};
 use super::timespans::SPAN_LIST;
 use super::timestamps::STAMP_LIST;
 use super::zones::EVERY_SECOND;
@@ -21,10 +21,11 @@ const ONE_REFUSED: Row<'static> = Row {
 };
 
 /// Rows of every verb.
-static ROWS: [Row<'static>; 5] = [
+static ROWS: [Row<'static>; 6] = [
     ONE_REFUSED,
     EVERY_SECOND,
     CONTINUED_TIMER,
+    EXCEPT_TIMER,
     SPAN_LIST,
     STAMP_LIST,
 ];

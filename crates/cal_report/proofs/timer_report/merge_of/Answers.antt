@@ -1,13 +1,16 @@
-use Rattle.std.proofs.Common.{arith}
-use Rattle.cal_report.proofs.TimerLemmas.{merge_more, merge_stops}
+use Rattle.std.proofs.Common.{sym, ◌∙◌}
+use Rattle.std.proofs.lemmas.Result.{err_from_is_err_and}
+use Rattle.cal_report.proofs.TimerLemmas.{all_zoned}
 use Rattle.cal_report.proofs.timer_report.merge_of.Goals as goal
 
-pub loop-line-preserved : goal.loop-line-preserved
-loop-line-preserved c =
-    merge_more _ _ c.args.lines.now c.loop-line.line-index c.line-item.result c.loop-line.merge _ _ (omega arith) c.line-item.is
-    c.in-Ok.ensures.0 c.in-Ok.ensures.1 c.in_default.ensures.added c.loop-line.invariant
+pub returns-in_err-add_expressions : goal.returns-in_err-add_expressions
+returns-in_err-add_expressions c =
+    let p = err_from_is_err_and c.from_residual.result c.from_residual.ensures.1 in
+    let zoned = all_zoned _ c.args.timer.now (sym c.unzoned.ensures ∙ c.in_default.is) in
+    rw (p.1, p.2) (λ other. absurd ((rw c.lines.ensures at c.in_err-add_expressions.ensures) other zoned.0))
 
-pub returns-in-Err : goal.returns-in-Err
-returns-in-Err c = λ other.
-    let stopped = c.in-Err.ensures other in
-    rw stopped.1 (merge_stops _ _ c.args.lines.now c.loop-line.line-index c.line-item.result c.loop-line.merge (omega arith) c.line-item.is stopped.0 c.loop-line.invariant)
+pub returns-in_err-add_exceptions : goal.returns-in_err-add_exceptions
+returns-in_err-add_exceptions c =
+    let p = err_from_is_err_and c.from_residual-in_err-add_exceptions.result c.from_residual-in_err-add_exceptions.ensures.1 in
+    let zoned = all_zoned _ c.args.timer.now (sym c.unzoned.ensures ∙ c.in_default.is) in
+    rw (p.1, p.2) (λ other. absurd ((rw c.exceptions.ensures at c.in_err-add_exceptions.ensures) other zoned.1))

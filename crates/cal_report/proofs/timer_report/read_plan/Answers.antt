@@ -1,10 +1,10 @@
-use Rattle.cal_report.proofs.TimerLemmas.{had_list, merge_instants, plan_answers}
+use Rattle.cal_report.proofs.TimerLemmas.{had_lists, merge_instants, plan_answers}
 use Rattle.cal_report.proofs.timer_report.read_plan.Goals as goal
 
 pub returns-in-Ok-merge_of : goal.returns-in-Ok-merge_of
 returns-in-Ok-merge_of g c =
     let list = c.in-Ok.ensures.list in
-    let merge = rw c.lines.ensures at c.in-Ok-merge_of.ensures in
+    let merge = c.in-Ok-merge_of.ensures in
     record {
       sure = c.in-Ok.ensures.sure;
       plan = (
@@ -12,7 +12,7 @@ returns-in-Ok-merge_of g c =
         list.1,
         list.2,
         (
-          had_list _ _ list.3,
+          had_lists _ _ list.3,
           merge_instants _ _ _ _ merge c.args.context.base.in_range.0,
           λ name. plan_answers _ _ list.0 _ _ list.3 merge name,
         ),

@@ -1,6 +1,3 @@
-use Rattle.std.proofs.Common.{◌+◌, None, Some, Option, subst, ℕ}
-use Rattle.cal_elapse.specs.Ring.{is_held}
-use Rattle.cal_elapse.specs.Search.{IsFirstPassing}
 use Rattle.cal_elapse.proofs.RingLemmas.{least_answer, near_answer, none_answer, rises_answer}
 use Rattle.cal_elapse.proofs.pending.Pending.least.Goals as goal
 

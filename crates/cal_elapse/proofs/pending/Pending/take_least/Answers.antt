@@ -1,4 +1,4 @@
-use Rattle.std.proofs.Common.{◌∙◌, ◌+◌, List, None, Some, Option, ap, length, subst, ℕ}
+use Rattle.std.proofs.Common.{◌∙◌, ◌+◌, List, ap, length, subst, ℕ}
 use Rattle.cal_elapse.specs.Bits.{is_in_words}
 use Rattle.cal_elapse.specs.Ring.{is_held}
 use Rattle.cal_rising.specs.RisingList.{later}

@@ -1,39 +1,52 @@
-use Rattle.std.proofs.Common.{◌∙◌, ◌∷◌, [], ap, arith, map, sym}
-use Rattle.std.proofs.lemmas.List.{length-map, map-append}
+use Rattle.std.proofs.Common.{◌∙◌, Err, Ok, ap, map, sym}
 use Rattle.std.proofs.lemmas.Result.{err_from_is_err_and}
 use Rattle.cal_spec.specs.Expr.{expr_in}
 use Rattle.cal_read.specs.AssignmentView.{shown_assignment}
-use Rattle.cal_read.specs.TimerView.{resumed, shown}
-use Rattle.cal_read.proofs.ResumedLemmas.{resumed_bad, resumed_many, resumed_other, resumed_read, resumed_reset}
+use Rattle.cal_read.specs.TimerView.{resumed, shown, shown_lists}
+use Rattle.cal_read.proofs.ResumedLemmas.{resumed_exception, resumed_exception_reset, resumed_expression, resumed_other, resumed_reset}
 use Rattle.cal_read.proofs.timer.list.assign.Goals as goal
 
 pub returns-then-is_reset : goal.returns-then-is_reset
 returns-then-is_reset c = λ after.
-    resumed_reset expr_in (map shown c.args.list.now.items) (shown_assignment c.args.assignment) after (sym c.is_reset.ensures ∙ c.if-is_reset.true)
-    ∙ ap (λ es. resumed expr_in (map shown es) after) (sym c.clear.ensures.items)
+    resumed_reset expr_in (shown_lists c.args.lists.now) (shown_assignment c.args.assignment) after (sym c.is_reset.ensures ∙ c.if-is_reset.true)
+    ∙ ap (λ es. resumed expr_in (record { expressions = map shown es; exceptions = map shown c.args.lists.now.exceptions.items }) after) (sym c.clear.ensures.items)
 
-pub returns-then-not-is_expression : goal.returns-then-not-is_expression
-returns-then-not-is_expression c = λ after.
-    resumed_other expr_in (map shown c.args.list.now.items) (shown_assignment c.args.assignment) after
-    (sym c.is_reset.ensures ∙ c.if-is_reset.false) (sym c.is_expression.ensures ∙ c.if-not-is_expression.true)
+pub returns-then-is_exception_reset : goal.returns-then-is_exception_reset
+returns-then-is_exception_reset c = λ after.
+    resumed_exception_reset expr_in (shown_lists c.args.lists.now) (shown_assignment c.args.assignment) after
+    (sym c.is_reset.ensures ∙ c.if-is_reset.false) (sym c.is_exception_reset.ensures ∙ c.if-is_exception_reset.true)
+    ∙ ap (λ es. resumed expr_in (record { expressions = map shown c.args.lists.now.expressions.items; exceptions = map shown es }) after) (sym c.clear-then-is_exception_reset.ensures.items)
 
-pub returns-then-len-ge-MOST_EXPRESSIONS : goal.returns-then-len-ge-MOST_EXPRESSIONS
-returns-then-len-ge-MOST_EXPRESSIONS c = λ _ after.
-    resumed_many expr_in (map shown c.args.list.now.items) (shown_assignment c.args.assignment) after
-    (sym c.is_reset.ensures ∙ c.if-is_reset.false) (sym c.is_expression.ensures ∙ c.if-not-is_expression.false)
-    (simp length-map (omega (arith, c.len.ensures)))
-
-pub returns-in_err-line : goal.returns-in_err-line
-returns-in_err-line c =
+pub returns-in_err-add_line : goal.returns-in_err-add_line
+returns-in_err-add_line c =
     let p = err_from_is_err_and c.from_residual.result c.from_residual.ensures.1 in
     rw (p.1, p.2) (λ other after.
-    resumed_bad expr_in (map shown c.args.list.now.items) (shown_assignment c.args.assignment) after _
-    (sym c.is_reset.ensures ∙ c.if-is_reset.false) (sym c.is_expression.ensures ∙ c.if-not-is_expression.false)
-    (simp length-map (omega (arith, c.len.ensures))) (c.in_err-line.ensures other))
+    resumed_expression expr_in (shown_lists c.args.lists.now) (shown_assignment c.args.assignment) after (Err _)
+    (sym c.is_reset.ensures ∙ c.if-is_reset.false) (sym c.is_exception_reset.ensures ∙ c.if-is_exception_reset.false)
+    (sym c.is_expression.ensures ∙ c.if-is_expression.true) (c.in_err-add_line.ensures other))
 
-pub returns : goal.returns
-returns c = λ after.
-    resumed_read expr_in (map shown c.args.list.now.items) (shown_assignment c.args.assignment) after (shown c.in_ok-line.line)
-    (sym c.is_reset.ensures ∙ c.if-is_reset.false) (sym c.is_expression.ensures ∙ c.if-not-is_expression.false)
-    (simp length-map (omega (arith, c.len.ensures))) c.in_ok-line.ensures
-    ∙ ap (λ es. resumed expr_in es after) (sym (ap (map shown) c.in_ok-push.ensures.items ∙ map-append shown c.args.list.now.items (c.in_ok-line.line ∷ [])))
+pub returns-then-is_expression : goal.returns-then-is_expression
+returns-then-is_expression c = λ after.
+    resumed_expression expr_in (shown_lists c.args.lists.now) (shown_assignment c.args.assignment) after (Ok (map shown c.add_line.new.list.items))
+    (sym c.is_reset.ensures ∙ c.if-is_reset.false) (sym c.is_exception_reset.ensures ∙ c.if-is_exception_reset.false)
+    (sym c.is_expression.ensures ∙ c.if-is_expression.true) c.in_ok-add_line.ensures
+
+pub returns-in_err-add_line-2 : goal.returns-in_err-add_line-2
+returns-in_err-add_line-2 c =
+    let p = err_from_is_err_and c.from_residual-in_err-add_line-2.result c.from_residual-in_err-add_line-2.ensures.1 in
+    rw (p.1, p.2) (λ other after.
+    resumed_exception expr_in (shown_lists c.args.lists.now) (shown_assignment c.args.assignment) after (Err _)
+    (sym c.is_reset.ensures ∙ c.if-is_reset.false) (sym c.is_exception_reset.ensures ∙ c.if-is_exception_reset.false)
+    (sym c.is_expression.ensures ∙ c.if-is_expression.false) (sym c.is_exception.ensures ∙ c.if-is_exception.true) (c.in_err-add_line-2.ensures other))
+
+pub returns-in_ok-add_line-2 : goal.returns-in_ok-add_line-2
+returns-in_ok-add_line-2 c = λ after.
+    resumed_exception expr_in (shown_lists c.args.lists.now) (shown_assignment c.args.assignment) after (Ok (map shown c.add_line-then-is_exception.new.list.items))
+    (sym c.is_reset.ensures ∙ c.if-is_reset.false) (sym c.is_exception_reset.ensures ∙ c.if-is_exception_reset.false)
+    (sym c.is_expression.ensures ∙ c.if-is_expression.false) (sym c.is_exception.ensures ∙ c.if-is_exception.true) c.in_ok-add_line-2.ensures
+
+pub returns-else-is_exception : goal.returns-else-is_exception
+returns-else-is_exception c = λ after.
+    resumed_other expr_in (shown_lists c.args.lists.now) (shown_assignment c.args.assignment) after
+    (sym c.is_reset.ensures ∙ c.if-is_reset.false) (sym c.is_exception_reset.ensures ∙ c.if-is_exception_reset.false)
+    (sym c.is_expression.ensures ∙ c.if-is_expression.false) (sym c.is_exception.ensures ∙ c.if-is_exception.false)

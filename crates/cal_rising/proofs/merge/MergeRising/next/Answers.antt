@@ -1,13 +1,61 @@
-use Rattle.std.proofs.Common.{rules, ◌∙◌, List, ℤ, FitsSigned, w64, sym, ap}
+use Rattle.std.proofs.Common.{rules, ◌∙◌, ◌≡◌, FitsSigned, List, ℤ, None, Some, ap, false, sym, true, w64}
 use Rattle.std.proofs.lemmas.Int.{to_z-of_z}
-use Rattle.cal_rising.specs.Merge.{Merging}
-use Rattle.cal_rising.specs.RisingList.{later, union}
-use Rattle.cal_rising.proofs.MergeLemmas.{union-passed}
+use Rattle.cal_rising.specs.Rises.{IsRising-union}
+use Rattle.cal_rising.specs.RisingList.{first, is_in, later, union, without}
+use Rattle.cal_rising.proofs.WithoutLemmas.{without-given, without-later-nothing, without-nothing, without-passed}
 use Rattle.cal_rising.proofs.merge.MergeRising.next.Goals as goal
 
-pub returns-in-Some-clause-left : goal.returns-in-Some-clause-left
-returns-in-Some-clause-left g c =
-    let fits : FitsSigned w64 c.in-Some.number = search rules in
-    ap union (rw (to_z-of_z w64 c.in-Some.number fits) at c.pass_all.ensures)
-    ∙ union-passed c.in-Some.number c.fetch_all.new.branches.items c.fetch_all.ensures.taken (sym c.least_head-least.ensures ∙ c.in-Some.is)
-    ∙ ap (λ (xss : List (List ℤ)). later (union xss)) (c.fetch_all.ensures.same ∙ ap (λ (m : Merging). m.lists) c.self.view_is)
+pub returns-then-not-has_from-clause-given : goal.returns-then-not-has_from-clause-given
+returns-then-not-has_from-clause-given g c =
+    let number = c.in-Some.number in
+    let fits : FitsSigned w64 number = search rules in
+    let lists = c.loop-number.self-inside.sources in
+    let excepts = union c.loop-number.self-inside.exceptions in
+    let at : first (union lists) ≡ Some number = sym c.next.ensures.given ∙ c.in-Some.is in
+    let lacks : is_in excepts number ≡ false = sym (rw (to_z-of_z w64 number fits) at c.has_from.ensures.has) ∙ c.if-not-has_from.true in
+    rw (to_z-of_z w64 number fits)
+    (ap first (sym (without-given number (union lists) excepts at (IsRising-union lists) lacks) ∙ c.loop-number.invariant.same))
+
+pub returns-then-not-has_from-clause-left : goal.returns-then-not-has_from-clause-left
+returns-then-not-has_from-clause-left g c =
+    let number = c.in-Some.number in
+    let fits : FitsSigned w64 number = search rules in
+    let lists = c.loop-number.self-inside.sources in
+    let excepts = union c.loop-number.self-inside.exceptions in
+    let at : first (union lists) ≡ Some number = sym c.next.ensures.given ∙ c.in-Some.is in
+    let lacks : is_in excepts number ≡ false = sym (rw (to_z-of_z w64 number fits) at c.has_from.ensures.has) ∙ c.if-not-has_from.true in
+    ap (λ (xs : List ℤ). without xs (union c.has_from.new.self)) c.next.ensures.left
+    ∙ ap (λ (ys : List ℤ). without (later (union lists)) ys) (rw (to_z-of_z w64 number fits) at c.has_from.ensures.left)
+    ∙ ap later (sym (without-given number (union lists) excepts at (IsRising-union lists) lacks) ∙ c.loop-number.invariant.same)
+
+pub loop-number-preserved : goal.loop-number-preserved
+loop-number-preserved g c =
+    let number = c.in-Some.number in
+    let fits : FitsSigned w64 number = search rules in
+    let lists = c.loop-number.self-inside.sources in
+    let excepts = union c.loop-number.self-inside.exceptions in
+    let at : first (union lists) ≡ Some number = sym c.next.ensures.given ∙ c.in-Some.is in
+    let there : is_in excepts number ≡ true = sym (rw (to_z-of_z w64 number fits) at c.has_from.ensures.has) ∙ c.if-not-has_from.false in
+    record {
+      started = c.loop-number.invariant.started;
+      same = ap (λ (xs : List ℤ). without xs (union c.has_from.new.self)) c.next.ensures.left
+          ∙ ap (λ (ys : List ℤ). without (later (union lists)) ys) (rw (to_z-of_z w64 number fits) at c.has_from.ensures.left)
+          ∙ without-passed number (union lists) excepts at (IsRising-union lists) there
+          ∙ c.loop-number.invariant.same;
+    }
+
+pub returns-clause-given : goal.returns-clause-given
+returns-clause-given g c =
+    let lists = c.loop-number.self-inside.sources in
+    let excepts = union c.loop-number.self-inside.exceptions in
+    let at : first (union lists) ≡ None = sym c.next.ensures.given ∙ c.in_default.is in
+    ap first (sym (without-nothing (union lists) excepts at) ∙ c.loop-number.invariant.same)
+
+pub returns-clause-left : goal.returns-clause-left
+returns-clause-left g c =
+    let lists = c.loop-number.self-inside.sources in
+    let excepts = union c.loop-number.self-inside.exceptions in
+    let at : first (union lists) ≡ None = sym c.next.ensures.given ∙ c.in_default.is in
+    ap (λ (xs : List ℤ). without xs excepts) c.next.ensures.left
+    ∙ without-later-nothing (union lists) excepts at
+    ∙ ap later (sym (without-nothing (union lists) excepts at) ∙ c.loop-number.invariant.same)

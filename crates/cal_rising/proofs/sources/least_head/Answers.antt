@@ -1,5 +1,5 @@
 use Rattle.cal_rising.proofs.MergeLemmas.{least_more}
-use Rattle.cal_rising.proofs.merge.least_head.Goals as goal
+use Rattle.cal_rising.proofs.sources.least_head.Goals as goal
 
 pub loop-branch-preserved : goal.loop-branch-preserved
 loop-branch-preserved g c =

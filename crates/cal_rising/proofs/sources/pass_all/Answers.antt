@@ -1,6 +1,6 @@
 use Rattle.std.proofs.Common.{◌∙◌, ◌≢◌, arith, get_or-set_other}
 use Rattle.cal_rising.proofs.MergeLemmas.{passed_more}
-use Rattle.cal_rising.proofs.merge.pass_all.Goals as goal
+use Rattle.cal_rising.proofs.sources.pass_all.Goals as goal
 
 pub pass-requires : goal.pass-requires
 pass-requires g c =

@@ -1,6 +1,6 @@
 use Rattle.std.proofs.Common.{◌≡◌, ◌≤◌, ℕ, map, take, slice_index_or}
 use Rattle.cal_rising.specs.Merge.{Stream, numbers, passed}
-use Rattle.cal_rising.proofs.merge.pass_all.Given as goal
+use Rattle.cal_rising.proofs.sources.pass_all.Given as goal
 
 -- the sources gone through have given the number, and the others are as they were
 abbrev pub invariant-loop-branch : goal.invariant-loop-branch

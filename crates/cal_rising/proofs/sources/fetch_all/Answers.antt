@@ -2,7 +2,7 @@ use Rattle.std.proofs.Common.{◌∙◌, add-one, arith}
 use Rattle.std.proofs.Math.Seq.{map-set_same}
 use Rattle.cal_rising.specs.Merge.{numbers}
 use Rattle.cal_rising.proofs.MergeLemmas.{has_head_more}
-use Rattle.cal_rising.proofs.merge.fetch_all.Goals as goal
+use Rattle.cal_rising.proofs.sources.fetch_all.Goals as goal
 
 pub loop-branch-preserved : goal.loop-branch-preserved
 loop-branch-preserved g c = record {

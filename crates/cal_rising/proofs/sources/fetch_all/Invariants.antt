@@ -1,6 +1,6 @@
 use Rattle.std.proofs.Common.{◌≡◌, ◌<◌, ℕ, map, slice_index_or}
 use Rattle.cal_rising.specs.Merge.{HasHead, Stream, numbers}
-use Rattle.cal_rising.proofs.merge.fetch_all.Given as goal
+use Rattle.cal_rising.proofs.sources.fetch_all.Given as goal
 
 -- the sources give what they gave, and the ones gone through have a head
 abbrev pub invariant-loop-branch : goal.invariant-loop-branch

@@ -1,0 +1,129 @@
+//! Several sources of rising numbers, given as one.
+
+ghost use Rattle.std.specs.Prelude.{◌≡◌, ◌++◌, ◌∷◌, [], map, true, false, IfErr, OnErr, OnOk};
+ghost use Rattle.std.specs.List.{All};
+ghost use Rattle.cal_rising.specs.Merge.{HasHead, lesser, numbers, passed};
+ghost use Rattle.cal_rising.specs.RisingList.{first, from, is_in, later, union};
+
+use crate::Rising;
+use crate::branch::Branch;
+use std::alloc::{AllocError, Global};
+use std::marker::Model;
+
+/// Sources of rising numbers, seen as what each of them has still to give.
+#[derive(Drop)]
+pub struct Sources<S: Rising> {
+    branches: Vec<Branch<S>>,
+}
+
+impl<S: Rising> Model for Sources<S> {
+    ghost use Rattle.std.specs.Prelude.{map, List, ℤ};
+    ghost use Rattle.cal_rising.specs.Merge.{numbers};
+
+    ghost Value = { List (List ℤ) };
+
+    ghost view = { λ sources. map numbers sources.branches.items };
+}
+
+impl<S: Rising> Sources<S> {
+    /// No source.
+    pub fn new(alloc: Global) -> Self
+        ensures { result ≡ [] }
+    {
+        Sources {
+            branches: Vec::new(alloc),
+        }
+    }
+
+    /// Adds a source. A refusal of memory leaves the sources as they were and hands the new one back.
+    pub fn add(&mut self, source: S) -> Result<(), (S, AllocError)>
+        ensures added { OnOk result (self.new ≡ self.old ++ S.rest source ∷ []) }
+        ensures unchanged { OnErr result (self.new ≡ self.old) }
+        ensures handed_back { IfErr result (λ refused. refused.0 ≡ source) }
+    {
+        if let Err(refused) = self.branches.reserve(1) {
+            return Err((source, refused));
+        }
+        self.branches.push_reserved(Branch::new(source));
+        Ok(())
+    }
+
+    /// Whether one of the sources has the number. The numbers below it are passed over.
+    pub fn has_from(&mut self, number: i64) -> bool
+        ensures has { result ≡ is_in (union self.old) number }
+        ensures left { union self.new ≡ from number (union self.old) }
+    {
+        loop {
+            fetch_all(&mut self.branches);
+            match least_head(&self.branches) {
+                Some(least) if least < number => pass_all(&mut self.branches, least),
+                Some(least) => return least == number,
+                None => return false,
+            }
+        }
+    }
+}
+
+impl<S: Rising> Rising for Sources<S> {
+    ghost rest = { union };
+
+    /// Takes the first number of each source that lacks it, and gives the least of them.
+    fn next(&mut self) -> Option<i64>
+        ensures given { result ≡ first (union self.old) }
+        ensures left { union self.new ≡ later (union self.old) }
+    {
+        fetch_all(&mut self.branches);
+        let least = least_head(&self.branches);
+        if let Some(number) = least {
+            pass_all(&mut self.branches, number);
+        }
+        least
+    }
+
+    ghost use Rattle.cal_rising.specs.Rises.{IsRising-union};
+
+    ghost rises = { IsRising-union };
+}
+
+/// Takes the first number of each source that lacks it.
+fn fetch_all<S: Rising>(branches: &mut Vec<Branch<S>>)
+    ensures same { map numbers branches.new.items ≡ map numbers branches.old.items }
+    ensures taken { All HasHead branches.new.items }
+{
+    for branch in branches.iter_mut() {
+        branch.fetch();
+    }
+}
+
+/// The least of the numbers that were taken.
+#[tactic(auto, unfolding(crate::specs::RisingList::union))]
+fn least_head<S: Rising>(branches: &Vec<Branch<S>>) -> Option<i64>
+    requires { All HasHead branches.now.items }
+    ensures { result ≡ first (union (map numbers branches.now.items)) }
+{
+    let mut least = None;
+    for branch in branches {
+        least = lesser(least, branch.head());
+    }
+    least
+}
+
+/// Gives the number: each source that has taken it has it no more.
+fn pass_all<S: Rising>(branches: &mut Vec<Branch<S>>, number: i64)
+    requires { All HasHead branches.old.items }
+    ensures { map numbers branches.new.items ≡ map (passed number) (map numbers branches.old.items) }
+{
+    for branch in branches.iter_mut() {
+        branch.pass(number);
+    }
+}
+
+/// The lesser of two numbers, of which either may be missing.
+fn lesser(one: Option<i64>, other: Option<i64>) -> Option<i64>
+    ensures { result ≡ lesser one other }
+{
+    match (one, other) {
+        (Some(x), Some(y)) => Some(x.min(y)),
+        (None, found) | (found, None) => found,
+    }
+}
