@@ -7,6 +7,7 @@ pub mod ElapsesLemmas
 pub mod InstantLemmas
 pub mod LookLemmas
 pub mod MasksLemmas
+pub mod MinuteLemmas
 pub mod MonthLemmas
 pub mod ReadyLemmas
 pub mod RingLemmas

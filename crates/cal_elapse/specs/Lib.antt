@@ -1,6 +1,7 @@
 pub mod Bits
 pub mod Count
 pub mod Elapses
+pub mod Left
 pub mod Looks
 pub mod Masks
 pub mod Merged

@@ -1,6 +1,6 @@
 //! Sets of numbers below 64, as the bits of a word.
 
-ghost use Rattle.std.specs.Prelude.{◌≡◌, ◌≢◌, ◌<◌, ℕ, true};
+ghost use Rattle.std.specs.Prelude.{◌≡◌, ◌≢◌, ◌<◌, ℕ, true, false};
 ghost use Rattle.cal_elapse.specs.Bits.{is_bit};
 ghost use Rattle.cal_elapse.specs.Search.{IsFirstPassing};
 
@@ -19,6 +19,15 @@ pub(crate) fn with_bit(mask: u64, place: u32) -> u64
     ensures others { (i : ℕ) → i ≢ place → is_bit result i ≡ is_bit mask i }
 {
     mask | 1 << place
+}
+
+/// A word without a number below 64.
+pub(crate) fn without_bit(mask: u64, place: u32) -> u64
+    requires { place < 64 }
+    ensures cleared { is_bit result place ≡ false }
+    ensures others { (i : ℕ) → i < 64 → i ≢ place → is_bit result i ≡ is_bit mask i }
+{
+    mask & !(1 << place)
 }
 
 /// The least number of a word that isn't below `from`, which is below 64; `None` where there is none.

@@ -2,11 +2,11 @@
 //! cells.
 
 ghost use Rattle.std.specs.Prelude.{◌≡◌, ◌≢◌, ◌+◌, ◌*◌, ◌<◌, ◌≤◌, ℕ, true, false, length};
-ghost use Rattle.cal_elapse.specs.Bits.{is_bit, is_in_words};
+ghost use Rattle.cal_elapse.specs.Bits.{is_in_words};
 ghost use Rattle.cal_elapse.specs.Ring.{is_held};
 ghost use Rattle.cal_elapse.specs.Search.{IsFirstPassing};
 
-use crate::bits::{lowest_bit, next_bit, with_bit};
+use crate::bits::{lowest_bit, next_bit, with_bit, without_bit};
 use crate::scan::first_set;
 
 /// How many words there are.
@@ -80,13 +80,4 @@ pub fn clear_cell(words: &mut [u64], cell: u64)
 {
     let word = (cell / 64) as usize;
     words[word] = without_bit(words[word], (cell % 64) as u32);
-}
-
-/// The word without a bit.
-fn without_bit(mask: u64, place: u32) -> u64
-    requires { place < 64 }
-    ensures cleared { is_bit result place ≡ false }
-    ensures others { (i : ℕ) → i < 64 → i ≢ place → is_bit result i ≡ is_bit mask i }
-{
-    mask & !(1 << place)
 }

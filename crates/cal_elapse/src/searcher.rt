@@ -1,7 +1,8 @@
 //! The search of an expression's matches, whose calls are counted.
 
-ghost use Rattle.std.specs.Prelude.{◌≡◌, ◌+◌, ◌≤◌, max};
+ghost use Rattle.std.specs.Prelude.{◌≡◌, ◌+◌, ◌<◌, ◌≤◌, true, max, IfSome};
 ghost use Rattle.cal_zone.specs.Local.{seconds_in_all};
+ghost use Rattle.cal_elapse.specs.Left.{IsLeft};
 ghost use Rattle.cal_elapse.specs.Looks.{IsSearch};
 ghost use Rattle.cal_elapse.specs.Masks.{sets_in};
 ghost use Rattle.cal_elapse.specs.Start.{CanStart, begin_of};
@@ -9,6 +10,7 @@ ghost use Rattle.cal_spec.specs.Match.{matches};
 ghost use Rattle.cal_spec.specs.Members.{sets_of};
 
 use crate::Masks;
+use crate::bits::{lowest_bit, without_bit};
 use crate::search::{Found, next_after, next_at};
 use cal_spec::Expr;
 
@@ -23,12 +25,21 @@ pub enum Start {
 
 /// The masks of an expression, how often they were searched, and the most months that one of these searches looked at.
 /// The fields are private, so that nothing is searched without being counted.
+///
+/// What is left of the minute of the last match is kept, as most searches end in the minute of the match before.
 #[derive(Debug, Drop)]
 pub struct Searcher {
     masks: Masks,
     searches: u64,
     most_months: u32,
+    /// The match that was found last.
+    found: u64,
+    /// The local second of the lowest bit of `left`.
+    from: u64,
+    /// A bit for each match behind the last one in its minute.
+    left: u64,
     ghost few_months: { most_months ≤ 2_760 },
+    ghost is_left: { IsLeft masks found from left },
 }
 
 impl Searcher {
@@ -41,6 +52,9 @@ impl Searcher {
             masks: Masks::of(expr),
             searches: 0,
             most_months: 0,
+            found: 0,
+            from: 0,
+            left: 0,
         }
     }
 
@@ -71,10 +85,74 @@ impl Searcher {
     {
         self.searches += 1;
         let found = match start {
-            Start::At(local) => next_at(&self.masks, local),
-            Start::After(local) => next_after(&self.masks, local),
+            Start::At(local) => self.find_at(local),
+            Start::After(local) => self.find_after(local),
         };
         self.most_months = self.most_months.max(found.months);
         found
+    }
+
+    /// The least match from a local second on.
+    fn find_at(&mut self, local: u64) -> Found
+        requires { local ≤ seconds_in_all }
+        ensures found { IsSearch (sets_in self.old.masks) local result }
+        ensures masks { self.new.masks ≡ self.old.masks }
+        ensures searches { self.new.searches ≡ self.old.searches }
+        ensures most { self.new.most_months ≡ self.old.most_months }
+    {
+        let found = next_at(&self.masks, local);
+        self.keep(found.whole());
+        found
+    }
+
+    /// The next match after a match: the next one in its minute, if that is the match that was found last.
+    fn find_after(&mut self, local: u64) -> Found
+        requires inside { local < seconds_in_all }
+        requires is_match { matches (sets_in self.old.masks) local ≡ true }
+        ensures found { IsSearch (sets_in self.old.masks) (local + 1) result }
+        ensures masks { self.new.masks ≡ self.old.masks }
+        ensures searches { self.new.searches ≡ self.old.searches }
+        ensures most { self.new.most_months ≡ self.old.most_months }
+    {
+        if local == self.found && self.left != 0 {
+            return self.find_left();
+        }
+        let found = next_after(&self.masks, local);
+        self.keep(found.whole());
+        found
+    }
+
+    /// The next match in the minute of the match that was found last. The one month looked at is that of both.
+    fn find_left(&mut self) -> Found
+        requires { 0 < self.old.left }
+        ensures found { IsSearch (sets_in self.old.masks) (self.old.found + 1) result }
+        ensures masks { self.new.masks ≡ self.old.masks }
+        ensures searches { self.new.searches ≡ self.old.searches }
+        ensures most { self.new.most_months ≡ self.old.most_months }
+    {
+        let bit = lowest_bit(self.left);
+        let local = self.from + u64::from(bit);
+        self.left = without_bit(self.left, bit);
+        self.found = local;
+        Found {
+            local: Some(local as i64),
+            months: 1,
+        }
+    }
+
+    /// Keeps a match as the one found last, with what is left of its minute.
+    fn keep(&mut self, found: Option<u64>)
+        requires { IfSome found
+            (λ local. (local < seconds_in_all) × (matches (sets_in self.old.masks) local ≡ true)) }
+        ensures masks { self.new.masks ≡ self.old.masks }
+        ensures searches { self.new.searches ≡ self.old.searches }
+        ensures most { self.new.most_months ≡ self.old.most_months }
+    {
+        let Some(local) = found else {
+            return;
+        };
+        self.found = local;
+        self.from = local + 1;
+        self.left = self.masks.seconds >> (local % 60 + 1);
     }
 }
