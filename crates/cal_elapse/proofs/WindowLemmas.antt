@@ -287,20 +287,21 @@ place_found tz local found inside e =
     let count = seconds_in_all-is in
     sym (e ∙ ap (place_of tz) (to_z_pos w64 local (omega arith)))
 
-by_match : (b : Bool) (m local : ℕ) → ◌≡◌ {A = Option ℕ} (cond b None (Some m)) (Some local) → (b ≡ false) × (m ≡ local)
-by_match true m local h = absurd (cc)
-by_match false m local h = (refl, cc)
+by_match : (b : Bool) (local : ℕ) → ◌≡◌ {A = Option ℕ} (cond b None (Some local)) (Some local) → b ≡ false
+by_match true local h = absurd (cc)
+by_match false local h = refl
 
-to_place-near : (ahead : Option ℕ) (x i : ℤ) (local : ℕ) → to_place ahead (Some x) ≡ Some local → x ≤ℤ i → pos local ≤ℤ (i +ℤ pos 93_599)
-to_place-near None x i local h le = absurd (cc)
-to_place-near (Some m) x i local h le =
-    let both = by_match (int_lt x (pos m -ℤ pos 93_599)) m local h in
-    let test = both.0 in
-    let same : m ≡ local = both.1 in
-    let far : (pos m -ℤ pos 93_599) ≤ℤ x = grind (arith, ints) in
+to_place-near : (x i : ℤ) (local : ℕ) → to_place (Some local) (Some x) ≡ Some local → x ≤ℤ i → pos local ≤ℤ (i +ℤ pos 93_599)
+to_place-near x i local h le =
+    let test = by_match (int_lt x (pos local -ℤ pos 93_599)) local h in
+    let far : (pos local -ℤ pos 93_599) ≤ℤ x = grind (arith, ints) in
     omega (arith, ints)
 
+near_members : (xs : List ℤ) (local : ℕ) → IsRising xs → to_place (Some local) (first xs) ≡ Some local → (i : ℤ) → Has xs i → pos local ≤ℤ (i +ℤ pos 93_599)
+near_members [] local rises h i m = absurd m
+near_members (x ∷ xs) local rises h i m = to_place-near x i local h (at_least x i xs rises m)
+
 -- a match that is to be placed is no later than a member by more than a place can be
-pub near_members : (ahead : Option ℕ) (xs : List ℤ) (local : ℕ) → IsRising xs → to_place ahead (first xs) ≡ Some local → (i : ℤ) → Has xs i → pos local ≤ℤ (i +ℤ pos 93_599)
-near_members ahead [] local rises h i m = absurd m
-near_members ahead (x ∷ xs) local rises h i m = to_place-near ahead x i local h (at_least x i xs rises m)
+pub near_ahead : (xs : List ℤ) (local : ℕ) (least : Option ℤ) (b : Bool) → IsRising xs → least ≡ first xs → to_place (Some local) least ≡ cond b (Some local) None → b ≡ true
+    → (i : ℤ) → Has xs i → pos local ≤ℤ (i +ℤ pos 93_599)
+near_ahead xs local least b rises at test holds = near_members xs local rises (ap (to_place (Some local)) (sym at) ∙ (rw holds at test))

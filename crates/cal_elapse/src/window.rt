@@ -1,6 +1,6 @@
 //! The matches of an expression in a zone, placed one after another.
 
-ghost use Rattle.std.specs.Prelude.{◌≡◌, ◌<◌, ◌≤◌, ℤ, pos, ◌+ℤ◌, ◌-ℤ◌, ◌≤ℤ◌, IfSome};
+ghost use Rattle.std.specs.Prelude.{◌≡◌, ◌<◌, ◌≤◌, ℤ, pos, ◌+ℤ◌, ◌-ℤ◌, ◌≤ℤ◌, cond};
 ghost use Rattle.cal_zone.specs.Local.{seconds_in_all};
 ghost use Rattle.cal_zone.specs.Place.{place_of};
 ghost use Rattle.cal_zone.specs.Zone.{zone_of};
@@ -77,9 +77,16 @@ impl<'z> Window<'z> {
         ensures last { self.new.last ≡ self.old.last }
         ensures full { to_place self.new.ahead (first self.new.pending) ≡ None }
     {
-        while let Some(local) = next_to_place(self.ahead, self.pending.least()) {
-            self.place_one(local);
+        // A variable of the loop's own, so that it stays in a register from one match to the next.
+        let mut ahead = self.ahead;
+        while let Some(local) = ahead {
+            if !is_to_place(local, self.pending.least()) {
+                break;
+            }
+            put_place(&mut self.pending, self.zone, local, self.last);
+            ahead = self.searcher.search(Start::After(local)).whole();
         }
+        self.ahead = ahead;
     }
 
     /// Gives the least pending instant.
@@ -100,22 +107,6 @@ impl<'z> Window<'z> {
             self.last = instant;
         }
         instant
-    }
-
-    /// Places the match that was found, and finds the next.
-    fn place_one(&mut self, local: u64)
-        requires ready { IsReady self.old }
-        requires ahead { self.old.ahead ≡ Some local }
-        requires near { (i : ℤ) → Has self.old.pending i → pos local ≤ℤ (i +ℤ pos 93_599) }
-        ensures ready { IsReady self.new }
-        ensures masks { self.new.searcher.masks ≡ self.old.searcher.masks }
-        ensures timed { timed_of self.new ≡ timed_of self.old }
-        ensures base { self.new.base ≡ self.old.base }
-        ensures last { self.new.last ≡ self.old.last }
-        ensures on { bound_of self.old.ahead < bound_of self.new.ahead }
-    {
-        put_place(&mut self.pending, self.zone, local, self.last);
-        self.ahead = self.searcher.search(Start::After(local)).whole();
     }
 
     /// How often a match was searched so far.
@@ -142,18 +133,15 @@ fn first_local(base: Instant) -> u64
     base.secs().unsigned_abs().saturating_sub(FARTHEST)
 }
 
-/// The match that is to be placed before the least pending instant can be given: a match that could be placed at that
-/// instant or before it.
-fn next_to_place(ahead: Option<u64>, least: Option<i64>) -> Option<u64>
-    requires { IfSome ahead (λ local. local < seconds_in_all) }
-    ensures { result ≡ to_place ahead least }
+/// Whether a match is to be placed before the least pending instant can be given: it could be placed at that instant or
+/// before it.
+fn is_to_place(local: u64, least: Option<i64>) -> bool
+    requires { local < seconds_in_all }
+    ensures { to_place (Some local) least ≡ cond result (Some local) None }
 {
-    let Some(local) = ahead else {
-        return None;
-    };
     match least {
-        Some(instant) if instant < earliest_place(local) => None,
-        _ => Some(local),
+        Some(instant) => earliest_place(local) <= instant,
+        None => true,
     }
 }
 
