@@ -1,6 +1,7 @@
 -- A round of cells: its members, the first of them, and what is there once one is put or taken.
-use Rattle.std.proofs.Common.{◌+ℤ◌, ◌≡◌, ◌≢◌, ◌⊎◌, ◌↔◌, ℕ, zero, suc, ◌+◌, ◌-◌, ◌%◌, ◌<◌, ◌≤◌, cond, Bool, true, false, List, [], ◌∷◌, length, min, Option, get_or, replicate, inl, inr, None, Some, ◌/◌, negsuc, unsigned_abs, to_z, w64, ℤ, pos, ◌<ℤ◌, ◌≤ℤ◌, refl, sym, ap, ◌∙◌, subst, arith}
-use Rattle.std.proofs.lemmas.Bool.{cases_eq, cases_lt, false_from_ne_true}
+use Rattle.std.proofs.Common.{◌≡◌, ◌≢◌, ◌⊎◌, ◌↔◌, ℕ, zero, suc, ◌+◌, ◌-◌, ◌%◌, ◌<◌, ◌≤◌, cond, Bool, true, false, List, [], ◌∷◌, length, min, Option, unwrap_or, ◌==◌, get_or, replicate, inl, inr, None, Some, ◌/◌, negsuc, unsigned_abs, to_z, w64, ℤ, pos, ◌<ℤ◌, ◌≤ℤ◌, refl, sym, ap, ◌∙◌, subst, arith}
+use Rattle.std.proofs.lemmas.Bool.{cases_eq, cases_lt}
+use Rattle.std.proofs.lemmas.Bool.Decides.{nat_tests}
 use Rattle.std.proofs.lemmas.Int.{ints, to_z_pos}
 use Rattle.std.proofs.lemmas.List.{length-replicate}
 use Rattle.std.proofs.lemmas.Nat.Bits.{bit_at-zero}
@@ -8,11 +9,11 @@ use Rattle.cal_zone.specs.Instant.{IsInstant}
 use Rattle.cal_elapse.specs.Bits.{is_bit, is_in_words}
 use Rattle.cal_elapse.proofs.BitLemmas.{is_bit-zero}
 use Rattle.cal_elapse.specs.Near.{IsNear}
-use Rattle.cal_elapse.specs.Ring.{cells_in_all, cells_in_all-is, instants_in, is_held, least_with, rising_from, IsRound, IsRoundFrom, IsRoundWith}
+use Rattle.cal_elapse.specs.Ring.{cells_in_all, cells_in_all-is, instants_in, is_held, least_kept, rising_from, IsRound, IsRoundFrom}
 use Rattle.cal_rising.specs.RisingList.{Has, IsAbove, IsRising, first, later, placed}
 use Rattle.cal_elapse.specs.Search.{IsFirstPassing}
 use Rattle.cal_elapse.proofs.ElapsesLemmas.{first-least, first-none}
-use Rattle.cal_rising.proofs.RisingLemmas.{above_has, Has-placed, IsRising-placed, later_members, list-first, list-no_first, same_rising}
+use Rattle.cal_rising.proofs.RisingLemmas.{Has-placed, IsRising-placed, later_members, list-first, list-no_first, same_rising}
 
 -- Numbers in a row
 
@@ -154,7 +155,26 @@ pub none_found : (words : List ℕ) (low : ℕ) → IsFirstPassing (is_held word
 none_found words low none =
     first-none (instants_in words low) (λ i m. let a = (Has-instants words low i).0 m in let fails = none a.at a.above a.below in let holds = a.holds in cc)
 
+-- The least second as it is kept
+
+kept_some : (least : ℕ) → least ≢ 18_446_744_073_709_551_615 → least_kept least ≡ Some least
+kept_some least some = let test : (least == 18_446_744_073_709_551_615) ≡ false = grind (arith, nat_tests) in rw test refl
+
+pub found_kept : (words : List ℕ) (least : ℕ) → IsFirstPassing (is_held words) least (least + 187_200) (least_kept least) → least ≢ 18_446_744_073_709_551_615
+    → IsFirstPassing (is_held words) least (least + 187_200) (Some least)
+found_kept words least first some = subst (IsFirstPassing (is_held words) least (least + 187_200)) (kept_some least some) first
+
+pub none_kept : (words : List ℕ) (least : ℕ) → IsFirstPassing (is_held words) least (least + 187_200) (least_kept least) → least ≡ 18_446_744_073_709_551_615
+    → IsFirstPassing (is_held words) least (least + 187_200) None
+none_kept words least first none = let test : (least == 18_446_744_073_709_551_615) ≡ true = grind (arith, nat_tests) in rw test at first
+
 -- One more
+
+-- the round from `from` on has each second of the round from `low` on that is near to this one, and this one
+record IsRoundWith (low at from : ℕ) : Type 0 where
+  above : from ≤ at
+  below : at < from + 187_200
+  near : (t : ℕ) → low ≤ t → t < low + 187_200 → t ≤ at + 187_199 → at ≤ t + 187_199 → (from ≤ t) × (t < from + 187_200)
 
 -- the cell of a second has it, and the others are as they were
 pub record HasMore (old new : List ℕ) (at : ℕ) : Type 0 where
@@ -216,7 +236,7 @@ put_back old new low at from i more round near (inr m) =
     subst (Has (instants_in new from)) a.is (member new from a.at kept.0 kept.1 (still_held old new at a.at more a.holds))
 
 -- what is seen with one more is what was seen with that placed
-pub put_seen : (old new : List ℕ) (low at from : ℕ) → HasMore old new at → IsRoundWith low at from → ((i : ℤ) → Has (instants_in old low) i → IsNear i (pos at))
+put_seen : (old new : List ℕ) (low at from : ℕ) → HasMore old new at → IsRoundWith low at from → ((i : ℤ) → Has (instants_in old low) i → IsNear i (pos at))
     → instants_in new from ≡ placed (pos at) (instants_in old low)
 put_seen old new low at from more round near =
     same_rising (instants_in new from) (placed (pos at) (instants_in old low)) (IsRising-instants new from) (IsRising-placed (pos at) (instants_in old low) (IsRising-instants old low))
@@ -228,46 +248,50 @@ put_seen old new low at from more round near =
 last_at : (at : ℕ) (i : ℤ) → pos at ≡ i → at ≤ 7_258_211_998 → i ≤ℤ pos 7_258_211_998
 last_at at i is h = omega (arith, ints)
 
-pub put_round : (old new : List ℕ) (low at from : ℕ) → HasMore old new at → IsRoundWith low at from → ((i : ℤ) → Has (instants_in old low) i → IsNear i (pos at))
+put_round : (old new : List ℕ) (low at from : ℕ) → HasMore old new at → IsRoundWith low at from → ((i : ℤ) → Has (instants_in old low) i → IsNear i (pos at))
     → at ≤ 7_258_211_998 → length new ≡ 2_925 → IsRound old low → IsRound new from
 put_round old new low at from more round near high whole was =
     record {
       whole = whole;
-      begins = let above = round.above in omega arith;
       members = λ i m. elim (put_there old new low at from i more round near ((Has-instants new from i).0 m)) [ inl e ↦ last_at at i e high | inr n ↦ was.members i n ];
     }
 
--- the first once one more is put: a second that is seen, and that none of those seen is before
-first_put : (old new : List ℕ) (low at from m : ℕ) → HasMore old new at → IsRoundWith low at from → ((i : ℤ) → Has (instants_in old low) i → IsNear i (pos at))
-    → (pos at ≡ pos m) ⊎ Has (instants_in old low) (pos m) → m ≤ at → ((t : ℕ) → low ≤ t → t < low + 187_200 → is_held old t ≡ true → m ≤ t)
-    → IsFirstPassing (is_held new) from (from + 187_200) (Some m)
-first_put old new low at from m more round near seen before least =
-    let found = (Has-instants new from (pos m)).0 (put_back old new low at from (pos m) more round near seen) in
-    let same : found.at ≡ m = let is = found.is in omega (arith, ints) in
-    let inside : m < from + 187_200 = let below = found.below in omega arith in (
-      (let above = found.above in omega arith),
-      inside,
-      subst (λ (t : ℕ). is_held new t ≡ true) same found.holds,
-      (λ t above early. false_from_ne_true (is_held new t) (λ holds.
-          elim (put_there old new low at from (pos t) more round near (record { at = t; is = refl; above = above; below = omega arith; holds = holds })) [
-            | inl e ↦ (let is : at ≡ t = omega (arith, ints) in omega arith)
-            | inr n ↦ (let was = (Has-instants old low (pos t)).0 n in let is = was.is in let late = least was.at was.above was.below was.holds in omega (arith, ints))
-          ])),
-    )
-
-pub least_put : (old new : List ℕ) (low at from : ℕ) (least : Option ℕ) → HasMore old new at → IsRoundWith low at from → ((i : ℤ) → Has (instants_in old low) i → IsNear i (pos at))
-    → IsFirstPassing (is_held old) low (low + 187_200) least → IsFirstPassing (is_held new) from (from + 187_200) (Some (least_with least at))
-least_put old new low at from None more round near none =
-    first_put old new low at from at more round near (inl refl) (omega arith) (λ t above below holds. absurd (let fails = none t above below in cc))
-least_put old new low at from (Some least) more round near found =
+-- a round that begins with its least second goes on to begin with the least, once an instant is put that is near to it
+with_least : (least at : ℕ) → (least ≤ at → at ≤ least + 187_199) → IsRoundWith least at (min least at)
+with_least least at near =
     elim (cases_lt at least) [
-      | inl early ↦ (let is : min least at ≡ at = omega arith in
-          rw is (first_put old new low at from at more round near (inl refl) (omega arith)
-          (λ t above below holds. let late = not_before old low least t found above holds in omega arith)))
-      | inr late ↦ (let is : min least at ≡ least = omega arith in
-          rw is (first_put old new low at from least more round near (inr (member old low least found.0 found.1 found.2)) late
-          (λ t above below holds. not_before old low least t found above holds)))
+      | inl early ↦ (let is : min least at ≡ at = omega arith in rw is (record { above = omega arith; below = omega arith; near = λ t low high after before. (omega arith, omega arith) }))
+      | inr late ↦
+          (let is : min least at ≡ least = omega arith in
+          let close = near late in
+          rw is (record { above = late; below = omega arith; near = λ t low high after before. (low, high) }))
     ]
+
+put_reach : (old : List ℕ) (least at : ℕ) → IsRoundFrom old least → ((i : ℤ) → Has (instants_in old least) i → IsNear i (pos at)) → at ≤ 7_258_211_998
+    → least ≤ at → at ≤ least + 187_199
+put_reach old least at was near high early =
+    let found = found_kept old least was.first (omega arith) in
+    near_high (pos least) least at refl (near (pos least) (member old least least found.0 found.1 found.2))
+
+put_held : (old new : List ℕ) (least at : ℕ) → HasMore old new at → IsRoundFrom old least → at ≤ 7_258_211_998 → is_held new (min least at) ≡ true
+put_held old new least at more was high =
+    elim (cases_lt at least) [
+      | inl early ↦ (let is : min least at ≡ at = omega arith in rw is (here_held old new at more))
+      | inr late ↦
+          (let is : min least at ≡ least = omega arith in
+          let found = found_kept old least was.first (omega arith) in
+          rw is (still_held old new at least more found.2))
+    ]
+
+pub put_from : (old new : List ℕ) (least at : ℕ) → HasMore old new at → IsRoundFrom old least → ((i : ℤ) → Has (instants_in old least) i → IsNear i (pos at))
+    → at ≤ 7_258_211_998 → length new ≡ 2_925 → IsRoundFrom new (min least at)
+put_from old new least at more was near high whole =
+    let from = min least at in
+    record {
+      round = put_round old new least at from more (with_least least at (put_reach old least at was near high)) near high whole was.round;
+      first = subst (IsFirstPassing (is_held new) from (from + 187_200)) (sym (kept_some from (omega arith)))
+          (omega arith, omega arith, put_held old new least at more was high, λ t above below. absurd (omega arith));
+    }
 
 -- One less
 
@@ -329,7 +353,7 @@ still_in old new low at i found less above a =
     subst (Has (instants_in new at)) a.is (member new at a.at (omega arith) inside (others_held old new at a.at less other ∙ a.holds))
 
 -- what is seen with the first taken is what was seen after it
-pub taken_seen : (old new : List ℕ) (low at : ℕ) → IsFirstPassing (is_held old) low (low + 187_200) (Some at) → HasLess old new at
+taken_seen : (old new : List ℕ) (low at : ℕ) → IsFirstPassing (is_held old) low (low + 187_200) (Some at) → HasLess old new at
     → instants_in new at ≡ later (instants_in old low)
 taken_seen old new low at found less =
     let split = list-first (instants_in old low) (pos at) (first_found old low at found) in
@@ -351,12 +375,56 @@ below_last at h = omega (arith, ints)
 pub found_inside : (words : List ℕ) (low at : ℕ) → IsRound words low → IsFirstPassing (is_held words) low (low + 187_200) (Some at) → at ≤ 7_258_211_998
 found_inside words low at was found = below_last at (was.members (pos at) (member words low at found.0 found.1 found.2))
 
-pub taken_round : (old new : List ℕ) (low at : ℕ) → IsFirstPassing (is_held old) low (low + 187_200) (Some at) → HasLess old new at → length new ≡ 2_925 → IsRound old low → IsRound new at
+taken_round : (old new : List ℕ) (low at : ℕ) → IsFirstPassing (is_held old) low (low + 187_200) (Some at) → HasLess old new at → length new ≡ 2_925 → IsRound old low → IsRound new at
 taken_round old new low at found less whole was =
     record {
       whole = whole;
-      begins = found_inside old low at was found;
       members = λ i m. was.members i (left_in old new low at i found less ((Has-instants new at i).0 m)).1;
+    }
+
+-- the same is seen from another second on, if that round has each second that is held
+seen_from : (words : List ℕ) (low from : ℕ) → ((t : ℕ) → low ≤ t → t < low + 187_200 → is_held words t ≡ true → (from ≤ t) × (t < from + 187_200))
+    → instants_in words from ≡ instants_in words low
+seen_from words low from kept =
+    same_rising (instants_in words from) (instants_in words low) (IsRising-instants words from) (IsRising-instants words low)
+    (λ i. (
+      λ m.
+          let a = (Has-instants words from i).0 m in
+          let j = turned low a.at in
+          let held = held_by words j.at a.at j.same ∙ a.holds in
+          let inside = kept j.at j.above j.below held in
+          let same = same_second from j.at a.at inside.0 inside.1 a.above a.below j.same in
+          subst (Has (instants_in words low)) a.is (subst (λ (s : ℕ). Has (instants_in words low) (pos s)) same (member words low j.at j.above j.below held)),
+      λ m.
+          let a = (Has-instants words low i).0 m in
+          let inside = kept a.at a.above a.below a.holds in
+          subst (Has (instants_in words from)) a.is (member words from a.at inside.0 inside.1 a.holds),
+    ))
+
+seen_on : (words : List ℕ) (low : ℕ) (next : Option ℕ) → IsFirstPassing (is_held words) low (low + 187_200) next
+    → instants_in words (unwrap_or next 18_446_744_073_709_551_615) ≡ instants_in words low
+seen_on words low None none = seen_from words low 18_446_744_073_709_551_615 (λ t above below holds. absurd (let fails = none t above below in cc))
+seen_on words low (Some at) found =
+    seen_from words low at (λ t above below holds. let late = not_before words low at t found above holds in let inside = found.0 in (late, omega arith))
+
+none_anywhere : (words : List ℕ) (low t : ℕ) → IsFirstPassing (is_held words) low (low + 187_200) None → is_held words t ≡ false
+none_anywhere words low t none = let j = turned low t in sym (held_by words j.at t j.same) ∙ none j.at j.above j.below
+
+first_on : (words : List ℕ) (low : ℕ) (next : Option ℕ) → IsRound words low → IsFirstPassing (is_held words) low (low + 187_200) next
+    → let least = unwrap_or next 18_446_744_073_709_551_615 in IsFirstPassing (is_held words) least (least + 187_200) (least_kept least)
+first_on words low None round none = λ t above below. none_anywhere words low t none
+first_on words low (Some at) round found =
+    let inside = found_inside words low at round found in
+    subst (IsFirstPassing (is_held words) at (at + 187_200)) (sym (kept_some at (omega arith))) (omega arith, omega arith, found.2, λ t above below. absurd (omega arith))
+
+-- a round whose least second is taken goes on to begin with the next
+pub taken_from : (old new : List ℕ) (least : ℕ) (next : Option ℕ) → IsFirstPassing (is_held old) least (least + 187_200) (Some least) → HasLess old new least → length new ≡ 2_925
+    → IsRound old least → IsFirstPassing (is_held new) least (least + 187_200) next → IsRoundFrom new (unwrap_or next 18_446_744_073_709_551_615)
+taken_from old new least next found less whole was first =
+    let round = taken_round old new least least found less whole was in
+    record {
+      round = record { whole = whole; members = λ i m. round.members i (subst (λ (xs : List ℤ). Has xs i) (seen_on new least next first) m) };
+      first = first_on new least next round first;
     }
 
 -- What a set of instants answers
@@ -374,16 +442,15 @@ nothing_held words n t empty = ap (λ (w : ℕ). is_bit w (t % 187_200 % 64)) (a
 pub nothing_seen : (words : List ℕ) (n low : ℕ) → words ≡ replicate n 0 → instants_in words low ≡ []
 nothing_seen words n low empty = list-no_first (instants_in words low) (none_found words low (λ t above below. nothing_held words n t empty))
 
-pub empty_round : (words : List ℕ) (n : ℕ) → n ≡ 2_925 → words ≡ replicate n 0 → IsRound words 0
-empty_round words n count empty =
+pub empty_from : (words : List ℕ) (n : ℕ) → n ≡ 2_925 → words ≡ replicate n 0 → IsRoundFrom words 18_446_744_073_709_551_615
+empty_from words n count empty =
     record {
-      whole = ap length empty ∙ (length-replicate n 0 ∙ count);
-      begins = omega arith;
-      members = λ i m. absurd (subst (λ (xs : List ℤ). Has xs i) (nothing_seen words n 0 empty) m);
+      round = record {
+        whole = ap length empty ∙ (length-replicate n 0 ∙ count);
+        members = λ i m. absurd (subst (λ (xs : List ℤ). Has xs i) (nothing_seen words n 18_446_744_073_709_551_615 empty) m);
+      };
+      first = λ t above below. nothing_held words n t empty;
     }
-
-pub empty_from : (words : List ℕ) (n : ℕ) → n ≡ 2_925 → words ≡ replicate n 0 → IsRoundFrom words 0 None
-empty_from words n count empty = record { round = empty_round words n count empty; first = λ t above below. nothing_held words n t empty }
 
 pub second_is : (instant : ℤ) (second : ℕ) → IsInstant instant → second ≡ unsigned_abs instant → pos second ≡ instant
 second_is (pos n) second h e = ap pos e
@@ -397,10 +464,15 @@ pub near_there : (old : List ℕ) (low at : ℕ) (instant : ℤ) (members : List
 near_there old low at instant members view is near i m =
     subst (IsNear i) (sym is) (near i (subst (λ (xs : List ℤ). Has xs i) view m))
 
-pub put_answer : (old new : List ℕ) (low at from : ℕ) (instant : ℤ) (members : List ℤ) → instants_in old low ≡ members → pos at ≡ instant → HasMore old new at → IsRoundWith low at from
-    → ((i : ℤ) → Has members i → IsNear i instant) → instants_in new from ≡ placed instant members
-put_answer old new low at from instant members view is more round near =
-    put_seen old new low at from more round (near_there old low at instant members view is near) ∙ (λ k. placed (is k) (view k))
+pub put_answer : (old new : List ℕ) (least at : ℕ) (instant : ℤ) (members : List ℤ) → HasMore old new at → IsRoundFrom old least → instants_in old least ≡ members → pos at ≡ instant
+    → at ≤ 7_258_211_998 → ((i : ℤ) → Has members i → IsNear i instant) → instants_in new (min least at) ≡ placed instant members
+put_answer old new least at instant members more was view is high near =
+    let there = near_there old least at instant members view is near in
+    put_seen old new least at (min least at) more (with_least least at (put_reach old least at was there high)) there ∙ (λ k. placed (is k) (view k))
+
+pub taken_answer : (old new : List ℕ) (least : ℕ) (next : Option ℕ) (members : List ℤ) → IsFirstPassing (is_held old) least (least + 187_200) (Some least) → HasLess old new least
+    → IsFirstPassing (is_held new) least (least + 187_200) next → instants_in old least ≡ members → instants_in new (unwrap_or next 18_446_744_073_709_551_615) ≡ later members
+taken_answer old new least next members found less first view = seen_on new least next first ∙ (taken_seen old new least least found less ∙ ap later view)
 
 pub least_answer : (words : List ℕ) (low at : ℕ) (members : List ℤ) → instants_in words low ≡ members → IsRound words low
     → IsFirstPassing (is_held words) low (low + 187_200) (Some at) → Some (to_z w64 at) ≡ first members
@@ -422,19 +494,3 @@ rises_answer words low members view = subst IsRising view (IsRising-instants wor
 pub near_answer : (words : List ℕ) (low : ℕ) (members : List ℤ) → instants_in words low ≡ members → (one other : ℤ) → Has members one → Has members other → IsNear one other
 near_answer words low members view one other m n =
     members_near words low one other (subst (λ (xs : List ℤ). Has xs one) (sym view) m) (subst (λ (xs : List ℤ). Has xs other) (sym view) n)
-
-least_member : (x j : ℤ) (xs : List ℤ) → IsRising (x ∷ xs) → Has (x ∷ xs) j → x ≤ℤ j
-least_member x j xs h (inl e) = subst (λ (k : ℤ). x ≤ℤ k) e (omega (arith, ints))
-least_member x j xs h (inr m) = let up = above_has x j xs h.0 m in omega (arith, ints)
-
-near_by : (member least instant : ℤ) → IsNear member least → least ≤ℤ member → least ≤ℤ instant → instant ≤ℤ (least +ℤ pos 187_199) → IsNear member instant
-near_by member least instant near above low high = (let a = near.0 in omega (arith, ints), omega (arith, ints))
-
--- an instant that is so near after the least member is near to each
-pub near_later : (members : List ℤ) (least instant member : ℤ) → Some least ≡ first members → IsRising members
-    → ((one other : ℤ) → Has members one → Has members other → IsNear one other) → least ≤ℤ instant → instant ≤ℤ (least +ℤ pos 187_199) → Has members member → IsNear member instant
-near_later members least instant member at rises near low high m =
-    let split = list-first members least (sym at) in
-    let here = subst (λ (xs : List ℤ). Has xs least) (sym split) (inl refl) in
-    near_by member least instant (near member least m here)
-    (least_member least member (later members) (subst IsRising split rises) (subst (λ (xs : List ℤ). Has xs member) split m)) low high

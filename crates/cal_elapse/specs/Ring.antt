@@ -1,6 +1,6 @@
 -- A round of cells, one bit each: an instant has the cell at its number modulo the count of cells. Among as many seconds
 -- in a row as there are cells, each cell is that of one second alone.
-use Rattle.std.specs.Prelude.{◌≡◌, ◌+◌, ◌%◌, ◌≤◌, ◌<◌, cond, ℕ, zero, suc, Bool, List, [], ◌∷◌, length, min, Option, None, Some, ℤ, pos, ◌≤ℤ◌, refl}
+use Rattle.std.specs.Prelude.{◌≡◌, ◌+◌, ◌%◌, cond, if◌then◌else◌, ◌==◌, ℕ, zero, suc, Bool, List, [], ◌∷◌, length, Option, None, Some, ℤ, pos, ◌≤ℤ◌, refl}
 use Rattle.cal_elapse.specs.Bits.{is_in_words}
 use Rattle.cal_rising.specs.RisingList.{Has}
 use Rattle.cal_elapse.specs.Search.{IsFirstPassing}
@@ -26,24 +26,16 @@ rising_from passes from (suc n) = cond (passes from) (pos from ∷ rising_from p
 unfoldable pub instants_in : List ℕ → ℕ → List ℤ
 instants_in words low = rising_from (is_held words) low cells_in_all
 
--- there is a bit for each cell, the round begins with an instant, and each member is one
+-- there is a bit for each cell, and each member is an instant
 pub record IsRound (words : List ℕ) (low : ℕ) : Type 0 where
   pub whole : length words ≡ 2_925
-  pub begins : low ≤ 7_258_211_998
   pub members : (i : ℤ) → Has (instants_in words low) i → i ≤ℤ pos 7_258_211_998
 
--- the round from `from` on has each second of the round from `low` on that is near to this one, and this one
-pub record IsRoundWith (low at from : ℕ) : Type 0 where
-  pub above : from ≤ at
-  pub below : at < from + 187_200
-  pub near : (t : ℕ) → low ≤ t → t < low + 187_200 → t ≤ at + 187_199 → at ≤ t + 187_199 → (from ≤ t) × (t < from + 187_200)
+-- the least second as it is kept: where there is none, a number that is no instant
+abbrev pub least_kept : ℕ → Option ℕ
+least_kept least = if least == 18_446_744_073_709_551_615 then None else Some least
 
--- a round, and which of its seconds is the first that is held
-pub record IsRoundFrom (words : List ℕ) (low : ℕ) (least : Option ℕ) : Type 0 where
-  pub round : IsRound words low
-  pub first : IsFirstPassing (is_held words) low (low + 187_200) least
-
--- the least second, once another one is put
-abbrev pub least_with : Option ℕ → ℕ → ℕ
-least_with None at = at
-least_with (Some least) at = min least at
+-- a round that begins with the first of its seconds that is held, if any is
+pub record IsRoundFrom (words : List ℕ) (least : ℕ) : Type 0 where
+  pub round : IsRound words least
+  pub first : IsFirstPassing (is_held words) least (least + 187_200) (least_kept least)

@@ -1,14 +1,16 @@
 //! The instants that were placed and not yet given.
 
-ghost use Rattle.std.specs.Prelude.{◌≡◌, ◌≤◌, [], ℕ, ℤ, IfOk};
+ghost use Rattle.std.specs.Prelude.{◌≡◌, [], ℤ, IfOk};
 ghost use Rattle.cal_zone.specs.Instant.{IsInstant};
 ghost use Rattle.cal_elapse.specs.Near.{IsNear};
-ghost use Rattle.cal_elapse.specs.Ring.{IsRoundWith, least_with};
 ghost use Rattle.cal_rising.specs.RisingList.{Has, IsRising, first, later, placed};
 
 use crate::ring::{CELLS, WORDS, clear_cell, first_held, set_cell};
 use std::alloc::{AllocError, Global};
 use std::marker::Model;
+
+/// What stands for the least member where there is none: no instant is as late.
+const NONE: u64 = u64::MAX;
 
 /// A set of instants, empty at first. A contract sees them as a strictly rising list.
 ///
@@ -18,10 +20,9 @@ use std::marker::Model;
 pub struct Pending {
     /// One bit for each cell.
     cells: Box<[u64; WORDS]>,
-    /// The first second of the round: no member is before it.
-    low: u64,
-    /// The least member. It is kept, so that it is sought once for each that is taken.
-    least: Option<u64>,
+    /// The least member, or `NONE`: the round begins with it. It is kept, so that it is sought once for each that is
+    /// taken.
+    least: u64,
 }
 
 impl Model for Pending {
@@ -30,9 +31,9 @@ impl Model for Pending {
 
     ghost Value = { List ℤ };
 
-    ghost view = { λ p. instants_in (box_value p.cells) p.low };
+    ghost view = { λ p. instants_in (box_value p.cells) p.least };
 
-    ghost invariant = { λ p. IsRoundFrom (box_value p.cells) p.low p.least };
+    ghost invariant = { λ p. IsRoundFrom (box_value p.cells) p.least };
 }
 
 impl Pending {
@@ -42,8 +43,7 @@ impl Pending {
     {
         Ok(Pending {
             cells: Box::new(alloc, [0; WORDS])?,
-            low: 0,
-            least: None,
+            least: NONE,
         })
     }
 
@@ -55,8 +55,7 @@ impl Pending {
     {
         let second = instant.unsigned_abs();
         set_cell(self.cells.as_mut_slice(), second % CELLS);
-        self.low = low_with(self.low, second);
-        self.least = Some(least_with(self.least, second));
+        self.least = self.least.min(second);
     }
 
     /// The least member; `None` where there is none.
@@ -65,9 +64,10 @@ impl Pending {
         ensures rises { IsRising self.now }
         ensures near { (one other : ℤ) → Has self.now one → Has self.now other → IsNear one other }
     {
-        match self.least {
-            Some(second) => Some(second as i64),
-            None => None,
+        if self.least == NONE {
+            None
+        } else {
+            Some(self.least as i64)
         }
     }
 
@@ -76,33 +76,12 @@ impl Pending {
         ensures least { result ≡ first self.old }
         ensures left { self.new ≡ later self.old }
     {
-        let Some(second) = self.least else {
+        let second = self.least;
+        if second == NONE {
             return None;
-        };
+        }
         clear_cell(self.cells.as_mut_slice(), second % CELLS);
-        self.low = second;
-        self.least = first_held(self.cells.as_slice(), second);
+        self.least = first_held(self.cells.as_slice(), second).unwrap_or(NONE);
         Some(second as i64)
-    }
-}
-
-/// Where the round begins once an instant is put: it has that instant then, and each second that is near to it.
-fn low_with(low: u64, second: u64) -> u64
-    ensures { IsRoundWith low second result }
-{
-    if second < low {
-        second
-    } else {
-        low.max(second.saturating_sub(CELLS - 1))
-    }
-}
-
-/// The least second, once another one is put.
-fn least_with(least: Option<u64>, second: u64) -> u64
-    ensures { result ≡ least_with least second }
-{
-    match least {
-        Some(least) => least.min(second),
-        None => second,
     }
 }

@@ -6,4 +6,4 @@ pub invariant_of-result : goal.invariant_of-result
 invariant_of-result c = empty_from _ 2_925 refl c.in_ok-new.ensures.ok
 
 pub returns : goal.returns
-returns c = nothing_seen _ 2_925 0 c.in_ok-new.ensures.ok
+returns c = nothing_seen _ 2_925 18_446_744_073_709_551_615 c.in_ok-new.ensures.ok
