@@ -3,6 +3,7 @@ pub mod DayLemmas
 pub mod OffsetLemmas
 pub mod OffsetWordLemmas
 pub mod PlaceLemmas
+pub mod PlacerLemmas
 pub mod WeekdayLemmas
 pub mod YearLemmas
 pub mod ZoneLemmas

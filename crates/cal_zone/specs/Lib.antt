@@ -7,6 +7,7 @@ pub mod Local
 pub mod OffsetWord
 pub mod Place
 pub mod Rules
+pub mod Steady
 pub mod Weekday
 pub mod Zone
 pub mod ZoneAhead

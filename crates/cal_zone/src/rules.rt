@@ -1,12 +1,15 @@
 //! Rules of zones that go forward and back: a POSIX rule, or the table of a zone file.
 
-ghost use Rattle.std.specs.Prelude.{◌≡◌, ◌↔◌, ℤ, IsOk, IsSome, IfOk, IfErr, MatchResult};
+ghost use Rattle.std.specs.Prelude.{◌≡◌, ◌↔◌, ℤ, IsOk, IsSome, IfOk, IfErr, IfSome, MatchResult};
 ghost use Rattle.jiff.specs.Placed.{IsPosixZone};
 ghost use Rattle.jiff.specs.Types.{DateTime};
 ghost use Rattle.jiff.specs.Words.{ambiguous_at, offset_at, plain_zone, read_whole};
+ghost use Rattle.cal_zone.specs.Local.{IsLocalSecond};
+ghost use Rattle.cal_zone.specs.Steady.{IsSteadyAt};
 ghost use Rattle.cal_zone.specs.ZoneFile.{IsFileFault, IsFileZone};
 ghost use Rattle.cal_zone.specs.declared.zone_fault.ZoneFault.TheVariants.{BadRule};
 
+use crate::stretch::{Stretch, stretch_of_table};
 use crate::{ZoneFault, is_zone_name};
 use jiff::tz::{Offset, TimeZone, Tzif};
 use jiff::{Error, Timestamp};
@@ -98,5 +101,15 @@ impl Rules {
     {
         let time_zone = self.time_zone();
         time_zone.to_offset(timestamp)
+    }
+    /// A steady stretch that begins at a local second, where one is known.
+    pub(crate) fn stretch(&self, local: i64) -> Option<Stretch>
+        requires { IsLocalSecond local }
+        ensures { IfSome result (IsSteadyAt self.now local) }
+    {
+        match &self.kind {
+            RulesKind::Posix(_) => None,
+            RulesKind::File(table) => stretch_of_table(table, local),
+        }
     }
 }

@@ -1,0 +1,41 @@
+use Rattle.std.proofs.Common.{◌≡◌, ◌-ℤ◌, ◌∙◌, ap, sym, Some, arith, rules, w64, FitsSigned}
+use Rattle.std.proofs.lemmas.Bool.{false≢true}
+use Rattle.std.proofs.lemmas.Int.{to_z-of_z}
+use Rattle.jiff.proofs.SpanFacts.{signed_arith}
+use Rattle.cal_zone.specs.Place.{place_of}
+use Rattle.cal_zone.specs.Zone.{zone_of}
+use Rattle.cal_zone.proofs.PlaceLemmas.{place_of-UTC, within}
+use Rattle.cal_zone.proofs.ZoneLemmas.{zone_of-utc}
+use Rattle.cal_zone.proofs.placer.Placer.place.Goals as goal
+use Rattle.cal_zone.proofs.placer.Placer.place.Goals.{in-Utc, in_default}
+
+pub returns-then-matches-clause-value : goal.returns-then-matches-clause-value
+returns-then-matches-clause-value c =
+    let fits : FitsSigned w64 c.args.local = search rules in
+    elim c.match-matches.branch [
+      | in-Utc w ↦
+          ap Some (to_z-of_z w64 c.args.local fits)
+          ∙ sym (ap (λ tz. place_of tz c.args.local) (zone_of-utc c.self.inside.zone w.in-Utc.is) ∙ place_of-UTC c.args.local)
+          ∙ ap (λ zone. place_of (zone_of zone) c.args.local) c.self.view_is
+      | in_default w ↦ absurd (false≢true (sym w.matches-is ∙ c.if-matches.true))
+    ]
+
+pub overflow_sub-result : goal.overflow_sub-result
+overflow_sub-result c =
+    let from : FitsSigned w64 c.self.inside.stretch.from = search rules in
+    let to : FitsSigned w64 c.self.inside.stretch.to = search rules in
+    let offset : FitsSigned w64 c.self.inside.stretch.offset = search rules in
+    let placed : place_of (zone_of c.self.inside.zone) c.args.local ≡ Some (c.args.local -ℤ c.self.inside.stretch.offset)
+    = c.self.invariant c.args.local c.requires (omega (arith, signed_arith)) (omega (arith, signed_arith)) in
+    let near = within (zone_of c.self.inside.zone) c.args.local (c.args.local -ℤ c.self.inside.stretch.offset) placed in
+    omega (arith, signed_arith)
+
+pub returns-then-local-self-clause-value : goal.returns-then-local-self-clause-value
+returns-then-local-self-clause-value c =
+    let from : FitsSigned w64 c.self.inside.stretch.from = search rules in
+    let to : FitsSigned w64 c.self.inside.stretch.to = search rules in
+    let offset : FitsSigned w64 c.self.inside.stretch.offset = search rules in
+    let placed : place_of (zone_of c.self.inside.zone) c.args.local ≡ Some (c.args.local -ℤ c.self.inside.stretch.offset)
+    = c.self.invariant c.args.local c.requires (omega (arith, signed_arith)) (omega (arith, signed_arith)) in
+    let near = within (zone_of c.self.inside.zone) c.args.local (c.args.local -ℤ c.self.inside.stretch.offset) placed in
+    ap Some (omega (arith, signed_arith)) ∙ sym placed ∙ ap (λ zone. place_of (zone_of zone) c.args.local) c.self.view_is

@@ -1,0 +1,94 @@
+//! The places of many local seconds of one zone, most of them without a look at its rules.
+
+ghost use Rattle.std.specs.Prelude.{◌≡◌};
+ghost use Rattle.cal_zone.specs.Local.{IsLocalSecond};
+ghost use Rattle.cal_zone.specs.Place.{place_of};
+ghost use Rattle.cal_zone.specs.Zone.{zone_of};
+
+use crate::stretch::{Stretch, stretch_of};
+use crate::zone::ZoneKind;
+use crate::{Zone, place};
+use std::marker::Model;
+
+/// How many local seconds are placed by the zone's rules, each by itself, where no steady stretch is known.
+const ONE_BY_ONE: i64 = 1_000;
+
+/// Places local seconds of a zone, cheaply where they rise: it keeps a steady stretch, whose local seconds all lie
+/// equally far from their places. A contract sees the zone alone.
+#[derive(Drop)]
+pub struct Placer<'z> {
+    zone: Zone<'z>,
+    stretch: Stretch,
+    /// No stretch is sought before this local second.
+    seek_from: i64,
+}
+
+impl<'z> Model for Placer<'z> {
+    ghost use Rattle.cal_zone.specs.declared.zone.Zone.{Zone};
+    ghost use Rattle.cal_zone.specs.Steady.{IsSteady};
+    ghost use Rattle.cal_zone.specs.Zone.{zone_of};
+
+    ghost Value = { Zone };
+
+    ghost view = { λ placer. placer.zone };
+
+    ghost invariant = { λ placer. IsSteady (zone_of placer.zone) placer.stretch };
+}
+
+impl<'z> Placer<'z> {
+    /// Nothing is placed in the zone yet.
+    pub fn new(zone: Zone<'z>) -> Placer<'z>
+        ensures { result ≡ zone.entry }
+    {
+        Placer {
+            zone,
+            stretch: Stretch {
+                from: 0,
+                to: 0,
+                offset: 0,
+            },
+            seek_from: 0,
+        }
+    }
+
+    /// The place of a local second, as [`place`] has it.
+    pub fn place(&mut self, local: i64) -> Option<i64>
+        requires { IsLocalSecond local }
+        ensures value { result ≡ place_of (zone_of self.old) local }
+        ensures zone { self.new ≡ self.old }
+    {
+        if matches!(self.zone.kind, ZoneKind::Utc) {
+            return Some(local);
+        }
+        if self.stretch.from <= local && local < self.stretch.to {
+            return Some(local - self.stretch.offset);
+        }
+        self.place_outside(local)
+    }
+
+    /// The place of a local second that isn't in the stretch, as the zone's rules say. A stretch that has it is sought
+    /// for those that come next.
+    #[cold]
+    #[inline(never)]
+    fn place_outside(&mut self, local: i64) -> Option<i64>
+        requires { IsLocalSecond local }
+        ensures value { result ≡ place_of (zone_of self.old) local }
+        ensures zone { self.new ≡ self.old }
+    {
+        if local >= self.seek_from {
+            self.seek(local);
+        }
+        place(self.zone, local)
+    }
+
+    /// Keeps a steady stretch that has the local second, where one is known.
+    fn seek(&mut self, local: i64)
+        requires { IsLocalSecond local }
+        ensures { self.new ≡ self.old }
+    {
+        match stretch_of(self.zone, local) {
+            Some(stretch) => self.stretch = stretch,
+            None => self.seek_from = local + ONE_BY_ONE,
+        }
+    }
+}
