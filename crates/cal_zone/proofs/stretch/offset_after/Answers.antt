@@ -12,6 +12,6 @@ returns c =
     let many = length_of_copy z rows c.transitions.ensures in
     let same = ap (λ text. text.after.seconds) (row_of_copy z rows c.transitions.ensures c.in-Some.last c.index-transitions-last.result (omega arith)) in
     let last = ap (λ row. (transition_at z row).after.offset.seconds) some.1 in
-    let type = ap (λ type. type.offset.seconds) (type_after-row z c.args.rows some.0) in
+    let type = ap (λ type. type.offset.seconds) (type_after-row z c.args.rows (omega arith)) in
     let in_range = (type_after z c.args.rows).offset.in_range in
     omega (arith, signed_arith, c.from-2.ensures)
