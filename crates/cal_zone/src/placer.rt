@@ -51,6 +51,13 @@ impl<'z> Placer<'z> {
         }
     }
 
+    /// The zone whose local seconds it places.
+    pub fn zone(&self) -> Zone<'z>
+        ensures { result ≡ self.now }
+    {
+        self.zone
+    }
+
     /// The place of a local second, as [`place`] has it.
     pub fn place(&mut self, local: i64) -> Option<i64>
         requires { IsLocalSecond local }
