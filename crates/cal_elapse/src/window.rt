@@ -10,7 +10,7 @@ ghost use Rattle.cal_elapse.specs.Window.{start_of, to_place, with_place};
 use crate::Pending;
 use crate::searcher::{Searcher, Start};
 use cal_spec::Expr;
-use cal_zone::{Instant, Zone, place};
+use cal_zone::{Instant, Placer, Zone};
 use std::alloc::{AllocError, Global};
 
 /// How far a place can lie from its local second.
@@ -20,7 +20,7 @@ const FARTHEST: u64 = 93_599;
 #[derive(Drop)]
 pub struct Window<'z> {
     searcher: Searcher,
-    zone: Zone<'z>,
+    zone: Placer<'z>,
     /// What all elapses are later than.
     base: i64,
     /// The match that was found and isn't placed yet.
@@ -59,7 +59,7 @@ impl<'z> Window<'z> {
         let base = base.secs();
         Ok(Window {
             searcher,
-            zone,
+            zone: Placer::new(zone),
             base,
             ahead,
             last: base,
@@ -83,7 +83,7 @@ impl<'z> Window<'z> {
             if !is_to_place(local, self.pending.least()) {
                 break;
             }
-            put_place(&mut self.pending, self.zone, local, self.last);
+            put_place(&mut self.pending, &mut self.zone, local, self.last);
             ahead = self.searcher.search(Start::After(local)).whole();
         }
         self.ahead = ahead;
@@ -154,14 +154,15 @@ fn earliest_place(local: u64) -> i64
 }
 
 /// Puts the place of a local second where it is above the last instant given.
-fn put_place(pending: &mut Pending, zone: Zone<'_>, local: u64, last: i64)
+fn put_place(pending: &mut Pending, placer: &mut Placer<'_>, local: u64, last: i64)
     requires local_in { local < seconds_in_all }
     requires last_in { pos 0 ≤ℤ last }
     requires before { (i : ℤ) → Has pending.old i → i ≤ℤ (pos local +ℤ pos 93_599) }
     requires near { (i : ℤ) → Has pending.old i → pos local ≤ℤ (i +ℤ pos 93_599) }
-    ensures { pending.new ≡ with_place (place_of (zone_of zone.entry) (pos local)) last pending.old }
+    ensures put { pending.new ≡ with_place (place_of (zone_of placer.old) (pos local)) last pending.old }
+    ensures zone { placer.new ≡ placer.old }
 {
-    let Some(instant) = place(zone, local as i64) else {
+    let Some(instant) = placer.place(local as i64) else {
         return;
     };
     if instant <= last {

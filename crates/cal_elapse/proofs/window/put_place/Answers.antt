@@ -17,31 +17,31 @@ place-requires c =
     let count = seconds_in_all-is in
     rw (to_z_pos w64 c.args.local (omega arith)) (omega (arith, ints), omega (arith, ints))
 
-pub returns-in_default : goal.returns-in_default
-returns-in_default c = with_place-none _ c.args.last c.args.pending.now (place_found (zone_of c.args.zone) c.args.local c.place.result c.requires.local_in c.place.ensures ∙ c.in_default.is)
+pub returns-in_default-clause-put : goal.returns-in_default-clause-put
+returns-in_default-clause-put c = with_place-none _ c.args.last c.args.pending.now (place_found (zone_of c.args.placer.now) c.args.local c.place.result c.requires.local_in c.place.ensures.value ∙ c.in_default.is)
 
-pub returns-then-instant-last : goal.returns-then-instant-last
-returns-then-instant-last c =
+pub returns-then-instant-last-clause-put : goal.returns-then-instant-last-clause-put
+returns-then-instant-last-clause-put c =
     let h = c.if-instant-last.true in
-    with_place-given _ c.in-Some.instant c.args.last c.args.pending.now (place_found (zone_of c.args.zone) c.args.local c.place.result c.requires.local_in c.place.ensures ∙ c.in-Some.is) (search rules)
+    with_place-given _ c.in-Some.instant c.args.last c.args.pending.now (place_found (zone_of c.args.placer.now) c.args.local c.place.result c.requires.local_in c.place.ensures.value ∙ c.in-Some.is) (search rules)
 
 pub put-requires-clause-instant : goal.put-requires-clause-instant
 put-requires-clause-instant c =
     let fits : FitsSigned w64 c.in-Some.instant = search rules in
     let above = c.if-instant-last.false in
     subst IsInstant (sym (to_z-of_z w64 c.in-Some.instant fits))
-    (put_instant (zone_of c.args.zone) c.args.local c.in-Some.instant c.args.last (place_found (zone_of c.args.zone) c.args.local c.place.result c.requires.local_in c.place.ensures ∙ c.in-Some.is) c.requires.local_in c.requires.last_in (search rules))
+    (put_instant (zone_of c.args.placer.now) c.args.local c.in-Some.instant c.args.last (place_found (zone_of c.args.placer.now) c.args.local c.place.result c.requires.local_in c.place.ensures.value ∙ c.in-Some.is) c.requires.local_in c.requires.last_in (search rules))
 
 pub put-requires-clause-near : goal.put-requires-clause-near
 put-requires-clause-near c = λ member m.
     let fits : FitsSigned w64 c.in-Some.instant = search rules in
     subst (IsNear member) (sym (to_z-of_z w64 c.in-Some.instant fits))
-    (put_near (zone_of c.args.zone) c.args.local c.in-Some.instant member (place_found (zone_of c.args.zone) c.args.local c.place.result c.requires.local_in c.place.ensures ∙ c.in-Some.is) (c.requires.near member m) (c.requires.before member m))
+    (put_near (zone_of c.args.placer.now) c.args.local c.in-Some.instant member (place_found (zone_of c.args.placer.now) c.args.local c.place.result c.requires.local_in c.place.ensures.value ∙ c.in-Some.is) (c.requires.near member m) (c.requires.before member m))
 
-pub returns : goal.returns
-returns c =
+pub returns-clause-put : goal.returns-clause-put
+returns-clause-put c =
     let fits : FitsSigned w64 c.in-Some.instant = search rules in
     let above = c.if-instant-last.false in
     c.put.ensures
     ∙ (ap (λ (i : ℤ). placed i c.args.pending.now) (to_z-of_z w64 c.in-Some.instant fits)
-    ∙ with_place-above _ c.in-Some.instant c.args.last c.args.pending.now (place_found (zone_of c.args.zone) c.args.local c.place.result c.requires.local_in c.place.ensures ∙ c.in-Some.is) (search rules))
+    ∙ with_place-above _ c.in-Some.instant c.args.last c.args.pending.now (place_found (zone_of c.args.placer.now) c.args.local c.place.result c.requires.local_in c.place.ensures.value ∙ c.in-Some.is) (search rules))

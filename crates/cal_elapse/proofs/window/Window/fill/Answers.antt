@@ -26,11 +26,11 @@ loop-ahead-preserved c =
     let near = near_ahead c.loop-ahead.self.pending c.in-Some.local c.least.result c.is_to_place.result c.least.ensures.rises c.least.ensures.least c.is_to_place.ensures c.if-not-is_to_place.false in
     let fits : FitsSigned w64 c.loop-ahead.self.last = search rules in
     record {
-      ready = placed_ready _ c.in-Some.local c.search.new.self c.whole-ahead.result c.put_place.new.pending kept.ready c.in-Some.is near
+      ready = rw c.put_place.ensures.zone (placed_ready _ c.in-Some.local c.search.new.self c.whole-ahead.result c.put_place.new.pending kept.ready c.in-Some.is near
           same c.search.ensures.counted (rw (c.whole-ahead.ensures) (passing_of _ _ _ c.search.ensures.found.first))
-          (rw (to_z-of_z w64 c.loop-ahead.self.last fits) at c.put_place.ensures);
+          (rw (to_z-of_z w64 c.loop-ahead.self.last fits) at c.put_place.ensures.put));
       masks = same ∙ kept.masks;
       base = kept.base;
-      timed = ap (λ masks. timed_by masks c.loop-ahead.self.zone) same ∙ kept.timed;
+      timed = ap (timed_by c.search.new.self.masks) c.put_place.ensures.zone ∙ ap (λ masks. timed_by masks c.loop-ahead.self.zone) same ∙ kept.timed;
       last = kept.last;
     }
