@@ -1,25 +1,32 @@
 -- Stretches of local seconds that all lie equally far from their places.
-use Rattle.std.proofs.Common.{◌≡◌, ◌∙◌, ◌==◌, ◌-◌, ◌<◌, ◌≤◌, ℕ, zero, suc, ℤ, pos, ◌+ℤ◌, ◌-ℤ◌, ◌≤ℤ◌, ◌<ℤ◌, Some, None, true, false, cond, int_le, int_lt, get_or, length, map, List, refl, sym, ap, subst, arith, vec_len}
+use Rattle.std.proofs.Common.{◌≡◌, ◌∙◌, ◌==◌, ◌-◌, ◌<◌, ◌≤◌, ℕ, zero, suc, ℤ, pos, ◌+ℤ◌, ◌-ℤ◌, ◌≤ℤ◌, ◌<ℤ◌, Option, Some, None, true, false, cond, int_le, int_lt, get_or, length, map, List, refl, sym, ap, subst, arith, vec_len}
 use Rattle.std.specs.Int.{int_min, int_max}
 use Rattle.std.proofs.lemmas.Bool.Decides.{nat_tests}
 use Rattle.std.proofs.lemmas.List.{get_or-map, length-map}
 use Rattle.std.specs.List.Sorted.{IsPartitionPoint}
 use Rattle.std.proofs.lemmas.List.Sums.{prefix_len_is, prefix_len_passes}
 use borrow.Author.Differences.{le-true}
-use Rattle.jiff.specs.Types.{Offset, Unambiguous}
-use Rattle.jiff.specs.Words.{ambiguous_at, civil_seconds, nanos_of_seconds, offset_at, IsEpochDay, IsOffsetSeconds}
+use Rattle.jiff.specs.Types.{AmbiguousOffset, DateTime, Offset, TimeZone, Unambiguous, Posix as ByRule}
+use Rattle.jiff.specs.Words.{ambiguous_at, civil_seconds, compatible_offset, nanos_of_seconds, offset_at, IsEpochDay, IsOffsetSeconds}
 use Rattle.jiff.proofs.SpanFacts.{signed_arith}
 use Rattle.jiff_tz.specs.declared.tzif.Tzif.{Tzif as Table}
 use Rattle.jiff_tz.specs.declared.tzif.transition.Transition.{Transition}
+use Rattle.jiff_tz.specs.declared.posix.Dst.{Dst}
+use Rattle.jiff_tz.specs.declared.posix.TimeZone.{TimeZone as Posix}
+use Rattle.jiff_tz.specs.PosixRule.{ambiguous_at_by, dst_at_by, match_some}
+use Rattle.jiff_tz.specs.PosixRule as ByPosix
+use Rattle.jiff_tz.specs.PosixText.{dst_view, tz_view}
+use Rattle.std.specs.Option.{is_some, option_map}
+use Rattle.cal_zone.specs.Steady.{IsAlike}
 use Rattle.jiff_tz.specs.Tzif as OfTable
-use Rattle.jiff_tz.specs.Tzif.{civil_count_at, civil_end, civil_start, count_at, floor_second, is_inside, no_transition, rule_after, transition_at, type_after}
+use Rattle.jiff_tz.specs.Tzif.{ambiguous_after, civil_count_at, civil_end, civil_start, count_at, floor_second, is_inside, no_transition, rule_after, transition_at, type_after}
 use Rattle.jiff_tz.specs.TzifText.{is_ordered, no_row, transition_text}
 use Rattle.jiff_tz.proofs.TzifLemmas.{le_no, le_yes, seconds_rise}
 use Rattle.cal_zone.specs.Local.{day_of, IsLocalSecond}
-use Rattle.cal_zone.specs.Place.{datetime_of, place_of, time_of}
+use Rattle.cal_zone.specs.Place.{datetime_of, place_of, settle_of, time_of}
 use Rattle.cal_zone.specs.Rules.{zone_of_table}
 use Rattle.cal_zone.proofs.DayLemmas.{epoch_day-date_of}
-use Rattle.cal_zone.proofs.PlaceLemmas.{place_at-there, place_of-tried}
+use Rattle.cal_zone.proofs.PlaceLemmas.{by_the_offset, place_at-there, place_of-Some, place_of-tried}
 
 -- the lesser and the greater of two offsets are offsets
 min_in_range : (x y : ℤ) → IsOffsetSeconds x → IsOffsetSeconds y → IsOffsetSeconds (int_min x y)
@@ -152,3 +159,122 @@ pub type_after-row : (z : Table) (rows : ℕ) → 0 < rows → type_after z rows
 type_after-row z rows some =
     let other : (rows == 0) ≡ false = grind (arith, nat_tests) in
     rw other refl
+
+-- local seconds at which the clock goes alike lie equally far from their places
+pub place_of-alike : (tz : TimeZone) (local other place : ℤ) → IsAlike tz local other → place_of tz other ≡ Some place → place_of tz local ≡ Some (local -ℤ (other -ℤ place))
+unfolding settle_of
+place_of-alike tz local other place alike placed =
+    let offsets : AmbiguousOffset = ambiguous_at tz (datetime_of other) in
+    let offset : Offset = compatible_offset offsets in
+    let settled : other -ℤ offset.seconds ≡ place = (place_of-Some tz other place placed).0 in
+    let ahead = by_the_offset tz other place placed in
+    let there : offset_at tz (nanos_of_seconds (other -ℤ offset.seconds)) ≡ offset.seconds = ap (λ second. offset_at tz (nanos_of_seconds second)) settled ∙ sym ahead ∙ omega (arith, signed_arith) in
+    place_of-tried tz local offsets alike.civil
+    ∙ place_at-there tz local offset (alike.instants offset ∙ there)
+    ∙ ap Some (omega (arith, signed_arith))
+
+-- without daylight saving time a rule's clock always goes alike
+ambiguous_standard : (std : Offset) (dst : Option Dst) (shown : DateTime) → dst ≡ None → ambiguous_at_by std dst shown ≡ Unambiguous std
+ambiguous_standard std dst shown none = rw none refl
+
+dst_never : (std : Offset) (dst : Option Dst) (n : ℤ) → dst ≡ None → dst_at_by std dst n ≡ None
+dst_never std dst n none = rw none refl
+
+offset_standard : (rule : Posix) (n : ℤ) → rule.dst ≡ None → ByPosix.offset_at rule n ≡ rule.std_offset
+offset_standard rule n none = rw (dst_never rule.std_offset rule.dst n none) refl
+
+pub alike_standard : (rule : Posix) (local other : ℤ) → rule.dst ≡ None → IsAlike (ByRule rule) local other
+unfolding offset_at ambiguous_at
+alike_standard rule local other none = record {
+  civil = ambiguous_standard rule.std_offset rule.dst (datetime_of local) none ∙ sym (ambiguous_standard rule.std_offset rule.dst (datetime_of other) none);
+  instants = λ offset. ap (λ o. o.seconds) (offset_standard rule (nanos_of_seconds (local -ℤ offset.seconds)) none ∙ sym (offset_standard rule (nanos_of_seconds (other -ℤ offset.seconds)) none));
+}
+
+-- the clock goes alike by the rule behind a table, if there is one
+abbrev pub AreAlikeBy : Option Posix → ℤ → ℤ → Type 0
+AreAlikeBy None local other = Unit {0}
+AreAlikeBy (Some rule) local other = IsAlike (ByRule rule) local other
+
+civil_alike : (rule : Option Posix) (offset : Offset) (local other : ℤ) → AreAlikeBy rule local other
+    → match_some rule (Unambiguous offset) (λ tz. ByPosix.ambiguous_at tz (datetime_of local)) ≡ match_some rule (Unambiguous offset) (λ tz. ByPosix.ambiguous_at tz (datetime_of other))
+unfolding ambiguous_at
+civil_alike None offset local other h = refl
+civil_alike (Some rule) offset local other h = h.civil
+
+instants_alike : (rule : Option Posix) (type offset : Offset) (local other : ℤ) → AreAlikeBy rule local other
+    → (match_some rule type (λ tz. ByPosix.offset_at tz (nanos_of_seconds (local -ℤ offset.seconds)))).seconds ≡ (match_some rule type (λ tz. ByPosix.offset_at tz (nanos_of_seconds (other -ℤ offset.seconds)))).seconds
+unfolding offset_at
+instants_alike None type offset local other h = refl
+instants_alike (Some rule) type offset local other h = h.instants offset
+
+-- behind the last row all rows are passed
+count_behind : (z : Table) (from second : ℤ) → vec_len z.transitions ≤ count_at z from → from ≤ℤ second → count_at z second ≡ vec_len z.transitions
+count_behind z from second all begun =
+    prefix_len_is (λ t. int_le t.second second) z.transitions.items (vec_len z.transitions) (no_transition z) (omega arith)
+    (λ row l. le_yes (transition_at z row).second second (omega (arith, signed_arith, row_passed z from row (omega arith))))
+    (λ l. absurd (omega arith))
+
+civil_count_behind : (z : Table) (from local : ℤ) → vec_len z.transitions ≤ count_at z from → (from +ℤ pos 93_599) ≤ℤ local → civil_count_at z local ≡ vec_len z.transitions
+civil_count_behind z from local all begun =
+    prefix_len_is (λ t. int_le (civil_start t) local) z.transitions.items (vec_len z.transitions) (no_transition z) (omega arith)
+    (λ row l. le_yes (civil_start (transition_at z row)) local
+    (let near = start_near (transition_at z row) in omega (arith, signed_arith, row_passed z from row (omega arith))))
+    (λ l. absurd (omega arith))
+
+outside_behind : (z : Table) (from local : ℤ) → vec_len z.transitions ≤ count_at z from → (from +ℤ pos 93_599) ≤ℤ local → is_inside z (vec_len z.transitions) local ≡ false
+outside_behind z from local all begun = outside_after z (vec_len z.transitions) local
+    (λ some.
+    let near = end_near (transition_at z (vec_len z.transitions - 1)) in
+    omega (arith, signed_arith, row_passed z from (vec_len z.transitions - 1) (omega arith)))
+
+ambiguous_behind : (z : Table) (from local : ℤ) → IsEpochDay (day_of local) → vec_len z.transitions ≤ count_at z from → (from +ℤ pos 93_599) ≤ℤ local
+    → OfTable.ambiguous_at z (datetime_of local) ≡ ambiguous_after z (vec_len z.transitions) (datetime_of local)
+ambiguous_behind z from local day all begun =
+    rw (civil_seconds-datetime_of local day, civil_count_behind z from local all begun, outside_behind z from local all begun) refl
+
+offset_behind : (z : Table) (from second : ℤ) → vec_len z.transitions ≤ count_at z from → from ≤ℤ second
+    → OfTable.offset_at z (nanos_of_seconds second) ≡ match_some (rule_after z (vec_len z.transitions)) (type_after z (vec_len z.transitions)).offset (λ tz. ByPosix.offset_at tz (nanos_of_seconds second))
+offset_behind z from second all begun =
+    rw (floor_second-whole second, count_behind z from second all begun) refl
+
+rule_behind : (z : Table) → rule_after z (vec_len z.transitions) ≡ z.posix_tz
+rule_behind z =
+    let same : (vec_len z.transitions == vec_len z.transitions) ≡ true = grind (arith, nat_tests) in
+    rw same refl
+
+-- so there the table's clock goes as its rule's does
+pub alike_behind_rows : (z : Table) (local other : ℤ) → IsLocalSecond local → IsLocalSecond other → vec_len z.transitions ≤ count_at z (other -ℤ pos 93_599) → other ≤ℤ local
+    → AreAlikeBy z.posix_tz local other → IsAlike (zone_of_table z) local other
+unfolding offset_at ambiguous_at
+alike_behind_rows z local other local_in other_in all begun alike =
+    let from : ℤ = other -ℤ pos 93_599 in
+    let type : Offset = (type_after z (vec_len z.transitions)).offset in
+    let by_rule : AreAlikeBy (rule_after z (vec_len z.transitions)) local other = rw (rule_behind z) alike in
+    record {
+      civil = ambiguous_behind z from local (omega (arith, signed_arith), omega (arith, signed_arith)) all (omega (arith, signed_arith))
+          ∙ civil_alike (rule_after z (vec_len z.transitions)) type local other by_rule
+          ∙ sym (ambiguous_behind z from other (omega (arith, signed_arith), omega (arith, signed_arith)) all (omega (arith, signed_arith)));
+      instants = λ offset.
+          let in_range = offset.in_range in
+          ap (λ o. o.seconds) (offset_behind z from (local -ℤ offset.seconds) all (omega (arith, signed_arith)))
+          ∙ instants_alike (rule_after z (vec_len z.transitions)) type offset local other by_rule
+          ∙ sym (ap (λ o. o.seconds) (offset_behind z from (other -ℤ offset.seconds) all (omega (arith, signed_arith))));
+    }
+
+-- the rule that a caller is given of a table says what the table's does
+none_by_view : {A B : Type 0} (view : A → B) (o : Option A) → None ≡ option_map view o → o ≡ None
+none_by_view view None e = refl
+none_by_view view (Some x) e = absurd (cc)
+
+pub alike_without_rule : (rule : Option Posix) (local other : ℤ) → None ≡ option_map tz_view rule → AreAlikeBy rule local other
+alike_without_rule rule local other e = rw (none_by_view tz_view rule e) tt
+
+pub alike_without_dst : (rule : Option Posix) (given : Posix) (local other : ℤ) → Some (tz_view given) ≡ option_map tz_view rule → given.dst ≡ None → AreAlikeBy rule local other
+alike_without_dst None given local other e none = absurd (cc)
+alike_without_dst (Some rule) given local other e none =
+    let same : tz_view given ≡ tz_view rule = cc in
+    alike_standard rule local other (none_by_view dst_view rule.dst (ap (option_map dst_view) (sym none) ∙ ap (λ text. text.dst) same))
+
+pub not_some : {A : Type 0} (o : Option A) → is_some o ≡ false → o ≡ None
+not_some None e = refl
+not_some (Some x) e = absurd (cc)

@@ -53,7 +53,7 @@ fn unix_second(ahead: Ahead, local: i64) -> i64
 }
 
 /// The place of a local second where the clock goes by rules.
-fn place_by(rules: &Rules, local: i64) -> Option<i64>
+pub(crate) fn place_by(rules: &Rules, local: i64) -> Option<i64>
     requires { CanSettle local }
     ensures { result ≡ place_of rules.now local }
 {

@@ -5,11 +5,12 @@ ghost use Rattle.jiff.specs.Placed.{IsPosixZone};
 ghost use Rattle.jiff.specs.Types.{DateTime};
 ghost use Rattle.jiff.specs.Words.{ambiguous_at, offset_at, plain_zone, read_whole};
 ghost use Rattle.cal_zone.specs.Local.{IsLocalSecond};
-ghost use Rattle.cal_zone.specs.Steady.{IsSteadyAt};
+ghost use Rattle.cal_zone.specs.Steady.{IsAlikeUntil, IsSteadyAt};
 ghost use Rattle.cal_zone.specs.ZoneFile.{IsFileFault, IsFileZone};
 ghost use Rattle.cal_zone.specs.declared.zone_fault.ZoneFault.TheVariants.{BadRule};
 
-use crate::stretch::{Stretch, stretch_of_table};
+use crate::places::place_by;
+use crate::stretch::{Stretch, alike_behind, alike_in_zone, stretch_of_table};
 use crate::{ZoneFault, is_zone_name};
 use jiff::tz::{Offset, TimeZone, Tzif};
 use jiff::{Error, Timestamp};
@@ -108,8 +109,32 @@ impl Rules {
         ensures { IfSome result (IsSteadyAt self.now local) }
     {
         match &self.kind {
-            RulesKind::Posix(_) => None,
-            RulesKind::File(table) => stretch_of_table(table, local),
+            RulesKind::Posix(zone) => self.stretch_until(
+                local,
+                alike_in_zone(zone.to_plain(), local),
+            ),
+            RulesKind::File(table) => match stretch_of_table(table, local) {
+                Some(stretch) => Some(stretch),
+                None => self.stretch_until(local, alike_behind(table, local)),
+            },
         }
+    }
+
+    /// The stretch that begins at a local second, and before whose end the clock goes on as it does there. There is
+    /// none where this is its end already, nor where the clock skips the local second.
+    fn stretch_until(&self, local: i64, to: i64) -> Option<Stretch>
+        requires local_in { IsLocalSecond local }
+        requires alike { IsAlikeUntil self.now local to }
+        ensures { IfSome result (IsSteadyAt self.now local) }
+    {
+        if to <= local {
+            return None;
+        }
+        let place = place_by(self, local)?;
+        Some(Stretch {
+            from: local,
+            to,
+            offset: local - place,
+        })
     }
 }

@@ -1,16 +1,18 @@
 //! Stretches of local seconds in which a zone's clock neither skips nor repeats any, nor changes its offset.
 
 ghost use Rattle.std.specs.Prelude.{◌≡◌, ◌≤◌, IfSome, int_le, pos, vec_len};
+ghost use Rattle.jiff.specs.Types.{Posix as ByRule};
 ghost use Rattle.jiff_tz.specs.Tzif.{count_at, type_after};
 ghost use Rattle.cal_zone.specs.Local.{IsLocalSecond};
 ghost use Rattle.cal_zone.specs.Rules.{zone_of_table};
-ghost use Rattle.cal_zone.specs.Steady.{IsSecondOfRow, IsSteadyAt};
+ghost use Rattle.cal_zone.specs.Steady.{IsAlikeUntil, IsSecondOfRow, IsSteadyAt};
 ghost use Rattle.cal_zone.specs.Zone.{zone_of};
 
 use crate::zone::ZoneKind;
 use crate::{DAY, DAYS, Zone};
 use jiff::tz::Tzif;
 use jiff_tz::tzif::Transition;
+use jiff_tz::{TimeZone, posix};
 
 /// How far a place can lie from its local second.
 const FARTHEST: i64 = 93_599;
@@ -35,6 +37,9 @@ pub(crate) fn stretch_of(zone: Zone, local: i64) -> Option<Stretch>
     }
 }
 
+/// The local second behind the last.
+const END: i64 = (DAYS * DAY) as i64;
+
 /// All local seconds, each so far ahead of its place.
 fn whole(offset: i64) -> Stretch
     ensures from { result.from ≡ pos 0 }
@@ -43,13 +48,13 @@ fn whole(offset: i64) -> Stretch
 {
     Stretch {
         from: 0,
-        to: (DAYS * DAY) as i64,
+        to: END,
         offset,
     }
 }
 
 /// The steady stretch of a zone file's table that begins at a local second. It ends where the next row can touch the
-/// civil clock: there is none where that is already so, nor behind the last row, where a rule may hold.
+/// civil clock: there is none where that is already so, nor behind the last row.
 pub(crate) fn stretch_of_table(table: &Tzif, local: i64) -> Option<Stretch>
     requires { IsLocalSecond local }
     ensures { IfSome result (IsSteadyAt (zone_of_table table.now) local) }
@@ -64,6 +69,43 @@ pub(crate) fn stretch_of_table(table: &Tzif, local: i64) -> Option<Stretch>
         to,
         offset: offset_after(table, passed),
     })
+}
+
+/// The local second before which a table's clock goes on as it does at this one. Behind the last row it does so for ever
+/// where no rule goes forward and back.
+pub(crate) fn alike_behind(table: &Tzif, local: i64) -> i64
+    requires { IsLocalSecond local }
+    ensures { IsAlikeUntil (zone_of_table table.now) local result }
+{
+    if rows_passed(table, local - FARTHEST) < table.transitions().len() {
+        return local;
+    }
+    match table.posix_tz() {
+        Some(rule) if rule.dst.is_some() => local,
+        _ => END,
+    }
+}
+
+/// The local second before which the clock of a zone by a POSIX rule goes on as it does at this one.
+pub(crate) fn alike_in_zone(zone: TimeZone<'_>, local: i64) -> i64
+    requires { IsLocalSecond local }
+    ensures { IsAlikeUntil zone.entry local result }
+{
+    match zone {
+        TimeZone::Posix(rule) => alike_by_rule(rule, local),
+        _ => local,
+    }
+}
+
+/// The same of the rule.
+fn alike_by_rule(rule: posix::TimeZone, local: i64) -> i64
+    requires { IsLocalSecond local }
+    ensures { IsAlikeUntil (ByRule rule) local result }
+{
+    if rule.dst.is_some() {
+        return local;
+    }
+    END
 }
 
 /// How many rows of a table lie at or before a second.
