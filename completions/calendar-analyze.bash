@@ -2,8 +2,9 @@
 
 _calendar_analyze_zones() {
     # The names that a --zones before it gives to its files.
-    local word item items
-    for word in $COMP_LINE; do
+    local words word items item
+    read -ra words <<< "$COMP_LINE"
+    for word in "${words[@]}"; do
         case $word in
         --zones=*)
             IFS=, read -ra items <<< "${word#--zones=}"
@@ -13,6 +14,12 @@ _calendar_analyze_zones() {
             ;;
         esac
     done
+}
+
+# Offers the files that are read: a folder goes on with a slash, and a name may have blanks.
+_calendar_analyze_files() {
+    compopt -o filenames 2> /dev/null
+    mapfile -t COMPREPLY
 }
 
 _calendar_analyze() {
@@ -30,7 +37,7 @@ _calendar_analyze() {
         case $option in
         --zones)
             local item=${value##*,}
-            [ "$item" = "${item#*=}" ] || COMPREPLY=($(compgen -f -- "${item#*=}"))
+            [ "$item" = "${item#*=}" ] || _calendar_analyze_files < <(compgen -f -- "${item#*=}")
             ;;
         --local)
             COMPREPLY=($(compgen -W "UTC posix: $(_calendar_analyze_zones)" -- "$value"))
@@ -39,6 +46,8 @@ _calendar_analyze() {
             COMPREPLY=($(compgen -W '@' -- "$value"))
             ;;
         esac
+        # More of the value follows.
+        case ${COMPREPLY[*]} in posix: | @) compopt -o nospace 2> /dev/null ;; esac
         return
         ;;
     -*)
@@ -48,12 +57,12 @@ _calendar_analyze() {
         *) option=--help ;;
         esac
         COMPREPLY=($(compgen -W "$option" -- "$whole"))
-        case ${COMPREPLY[*]} in *=) compopt -o nospace 2>/dev/null ;; esac
+        case ${COMPREPLY[*]} in *=) compopt -o nospace 2> /dev/null ;; esac
         return
         ;;
     esac
     case $verb in
-    timer) COMPREPLY=($(compgen -f -X '!*.timer' -- "$current") $(compgen -d -- "$current")) ;;
+    timer) _calendar_analyze_files < <(compgen -f -X '!*.timer' -- "$current"; compgen -d -- "$current") ;;
     calendar) COMPREPLY=($(compgen -W 'minutely hourly daily weekly monthly quarterly semiannually yearly' -- "$current")) ;;
     timestamp) COMPREPLY=($(compgen -W 'now today yesterday tomorrow' -- "$current")) ;;
     esac
