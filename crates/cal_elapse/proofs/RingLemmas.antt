@@ -9,7 +9,7 @@ use Rattle.cal_zone.specs.Instant.{IsInstant}
 use Rattle.cal_elapse.specs.Bits.{is_bit, is_in_words}
 use Rattle.cal_elapse.proofs.BitLemmas.{is_bit-zero}
 use Rattle.cal_elapse.specs.Near.{IsNear}
-use Rattle.cal_elapse.specs.Ring.{cells_in_all, cells_in_all-is, instants_in, is_held, least_kept, rising_from, IsRound, IsRoundFrom}
+use Rattle.cal_elapse.specs.Ring.{cells_in_all, cells_in_all-is, instants_in, is_held, least_kept, no_second, rising_from, IsRound, IsRoundFrom}
 use Rattle.cal_rising.specs.RisingList.{Has, IsAbove, IsRising, first, later, placed}
 use Rattle.cal_elapse.specs.Search.{IsFirstPassing}
 use Rattle.cal_elapse.proofs.ElapsesLemmas.{first-least, first-none}
@@ -157,16 +157,16 @@ none_found words low none =
 
 -- The least second as it is kept
 
-kept_some : (least : ℕ) → least ≢ 18_446_744_073_709_551_615 → least_kept least ≡ Some least
-kept_some least some = let test : (least == 18_446_744_073_709_551_615) ≡ false = grind (arith, nat_tests) in rw test refl
+kept_some : (least : ℕ) → least ≢ no_second → least_kept least ≡ Some least
+kept_some least some = let test : (least == no_second) ≡ false = grind (arith, nat_tests) in rw test refl
 
-pub found_kept : (words : List ℕ) (least : ℕ) → IsFirstPassing (is_held words) least (least + 187_200) (least_kept least) → least ≢ 18_446_744_073_709_551_615
+pub found_kept : (words : List ℕ) (least : ℕ) → IsFirstPassing (is_held words) least (least + 187_200) (least_kept least) → least ≢ no_second
     → IsFirstPassing (is_held words) least (least + 187_200) (Some least)
 found_kept words least first some = subst (IsFirstPassing (is_held words) least (least + 187_200)) (kept_some least some) first
 
-pub none_kept : (words : List ℕ) (least : ℕ) → IsFirstPassing (is_held words) least (least + 187_200) (least_kept least) → least ≡ 18_446_744_073_709_551_615
+pub none_kept : (words : List ℕ) (least : ℕ) → IsFirstPassing (is_held words) least (least + 187_200) (least_kept least) → least ≡ no_second
     → IsFirstPassing (is_held words) least (least + 187_200) None
-none_kept words least first none = let test : (least == 18_446_744_073_709_551_615) ≡ true = grind (arith, nat_tests) in rw test at first
+none_kept words least first none = let test : (least == no_second) ≡ true = grind (arith, nat_tests) in rw test at first
 
 -- One more
 
@@ -402,8 +402,8 @@ seen_from words low from kept =
     ))
 
 seen_on : (words : List ℕ) (low : ℕ) (next : Option ℕ) → IsFirstPassing (is_held words) low (low + 187_200) next
-    → instants_in words (unwrap_or next 18_446_744_073_709_551_615) ≡ instants_in words low
-seen_on words low None none = seen_from words low 18_446_744_073_709_551_615 (λ t above below holds. absurd (let fails = none t above below in cc))
+    → instants_in words (unwrap_or next no_second) ≡ instants_in words low
+seen_on words low None none = seen_from words low no_second (λ t above below holds. absurd (let fails = none t above below in cc))
 seen_on words low (Some at) found =
     seen_from words low at (λ t above below holds. let late = not_before words low at t found above holds in let inside = found.0 in (late, omega arith))
 
@@ -411,7 +411,7 @@ none_anywhere : (words : List ℕ) (low t : ℕ) → IsFirstPassing (is_held wor
 none_anywhere words low t none = let j = turned low t in sym (held_by words j.at t j.same) ∙ none j.at j.above j.below
 
 first_on : (words : List ℕ) (low : ℕ) (next : Option ℕ) → IsRound words low → IsFirstPassing (is_held words) low (low + 187_200) next
-    → let least = unwrap_or next 18_446_744_073_709_551_615 in IsFirstPassing (is_held words) least (least + 187_200) (least_kept least)
+    → let least = unwrap_or next no_second in IsFirstPassing (is_held words) least (least + 187_200) (least_kept least)
 first_on words low None round none = λ t above below. none_anywhere words low t none
 first_on words low (Some at) round found =
     let inside = found_inside words low at round found in
@@ -419,7 +419,7 @@ first_on words low (Some at) round found =
 
 -- a round whose least second is taken goes on to begin with the next
 pub taken_from : (old new : List ℕ) (least : ℕ) (next : Option ℕ) → IsFirstPassing (is_held old) least (least + 187_200) (Some least) → HasLess old new least → length new ≡ 2_925
-    → IsRound old least → IsFirstPassing (is_held new) least (least + 187_200) next → IsRoundFrom new (unwrap_or next 18_446_744_073_709_551_615)
+    → IsRound old least → IsFirstPassing (is_held new) least (least + 187_200) next → IsRoundFrom new (unwrap_or next no_second)
 taken_from old new least next found less whole was first =
     let round = taken_round old new least least found less whole was in
     record {
@@ -442,12 +442,12 @@ nothing_held words n t empty = ap (λ (w : ℕ). is_bit w (t % 187_200 % 64)) (a
 pub nothing_seen : (words : List ℕ) (n low : ℕ) → words ≡ replicate n 0 → instants_in words low ≡ []
 nothing_seen words n low empty = list-no_first (instants_in words low) (none_found words low (λ t above below. nothing_held words n t empty))
 
-pub empty_from : (words : List ℕ) (n : ℕ) → n ≡ 2_925 → words ≡ replicate n 0 → IsRoundFrom words 18_446_744_073_709_551_615
+pub empty_from : (words : List ℕ) (n : ℕ) → n ≡ 2_925 → words ≡ replicate n 0 → IsRoundFrom words no_second
 empty_from words n count empty =
     record {
       round = record {
         whole = ap length empty ∙ (length-replicate n 0 ∙ count);
-        members = λ i m. absurd (subst (λ (xs : List ℤ). Has xs i) (nothing_seen words n 18_446_744_073_709_551_615 empty) m);
+        members = λ i m. absurd (subst (λ (xs : List ℤ). Has xs i) (nothing_seen words n no_second empty) m);
       };
       first = λ t above below. nothing_held words n t empty;
     }
@@ -471,7 +471,7 @@ put_answer old new least at instant members more was view is high near =
     put_seen old new least at (min least at) more (with_least least at (put_reach old least at was there high)) there ∙ (λ k. placed (is k) (view k))
 
 pub taken_answer : (old new : List ℕ) (least : ℕ) (next : Option ℕ) (members : List ℤ) → IsFirstPassing (is_held old) least (least + 187_200) (Some least) → HasLess old new least
-    → IsFirstPassing (is_held new) least (least + 187_200) next → instants_in old least ≡ members → instants_in new (unwrap_or next 18_446_744_073_709_551_615) ≡ later members
+    → IsFirstPassing (is_held new) least (least + 187_200) next → instants_in old least ≡ members → instants_in new (unwrap_or next no_second) ≡ later members
 taken_answer old new least next members found less first view = seen_on new least next first ∙ (taken_seen old new least least found less ∙ ap later view)
 
 pub least_answer : (words : List ℕ) (low at : ℕ) (members : List ℤ) → instants_in words low ≡ members → IsRound words low

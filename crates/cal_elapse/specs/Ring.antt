@@ -31,9 +31,13 @@ pub record IsRound (words : List ℕ) (low : ℕ) : Type 0 where
   pub whole : length words ≡ 2_925
   pub members : (i : ℤ) → Has (instants_in words low) i → i ≤ℤ pos 7_258_211_998
 
--- the least second as it is kept: where there is none, a number that is no instant
+-- what is kept for the least second where there is none: no instant is as late
+abbrev pub no_second : ℕ
+no_second = 18_446_744_073_709_551_615
+
+-- the least second, as it is kept
 abbrev pub least_kept : ℕ → Option ℕ
-least_kept least = if least == 18_446_744_073_709_551_615 then None else Some least
+least_kept least = if least == no_second then None else Some least
 
 -- a round that begins with the first of its seconds that is held, if any is
 pub record IsRoundFrom (words : List ℕ) (least : ℕ) : Type 0 where

@@ -1,4 +1,5 @@
 use Rattle.std.proofs.Common.{refl}
+use Rattle.cal_elapse.specs.Ring.{no_second}
 use Rattle.cal_elapse.proofs.RingLemmas.{empty_from, nothing_seen}
 use Rattle.cal_elapse.proofs.pending.Pending.new.Goals as goal
 
@@ -6,4 +7,4 @@ pub invariant_of-result : goal.invariant_of-result
 invariant_of-result c = empty_from _ 2_925 refl c.in_ok-new.ensures.ok
 
 pub returns : goal.returns
-returns c = nothing_seen _ 2_925 18_446_744_073_709_551_615 c.in_ok-new.ensures.ok
+returns c = nothing_seen _ 2_925 no_second c.in_ok-new.ensures.ok
