@@ -4,6 +4,7 @@ pub mod OffsetLemmas
 pub mod OffsetWordLemmas
 pub mod PlaceLemmas
 pub mod PlacerLemmas
+pub mod RuleLemmas
 pub mod WeekdayLemmas
 pub mod YearLemmas
 pub mod ZoneLemmas

@@ -89,7 +89,7 @@ no_rule z rows some =
     rw other refl
 
 -- the second of an instant in whole seconds, and of the civil time of a local second
-floor_second-whole : (second : ℤ) → floor_second (nanos_of_seconds second) ≡ second
+pub floor_second-whole : (second : ℤ) → floor_second (nanos_of_seconds second) ≡ second
 floor_second-whole second = omega (arith, signed_arith)
 
 civil_seconds-datetime_of : (local : ℤ) → IsEpochDay (day_of local) → civil_seconds (datetime_of local) ≡ local
@@ -208,7 +208,7 @@ instants_alike None type offset local other h = refl
 instants_alike (Some rule) type offset local other h = h.instants offset
 
 -- behind the last row all rows are passed
-count_behind : (z : Table) (from second : ℤ) → vec_len z.transitions ≤ count_at z from → from ≤ℤ second → count_at z second ≡ vec_len z.transitions
+pub count_behind : (z : Table) (from second : ℤ) → vec_len z.transitions ≤ count_at z from → from ≤ℤ second → count_at z second ≡ vec_len z.transitions
 count_behind z from second all begun =
     prefix_len_is (λ t. int_le t.second second) z.transitions.items (vec_len z.transitions) (no_transition z) (omega arith)
     (λ row l. le_yes (transition_at z row).second second (omega (arith, signed_arith, row_passed z from row (omega arith))))
@@ -278,3 +278,9 @@ alike_without_dst (Some rule) given local other e none =
 pub not_some : {A : Type 0} (o : Option A) → is_some o ≡ false → o ≡ None
 not_some None e = refl
 not_some (Some x) e = absurd (cc)
+
+-- where all rows are passed so early, they still are
+pub all_later : (z : Table) (local : ℤ) → vec_len z.transitions ≤ count_at z (local -ℤ pos 374_397) → vec_len z.transitions ≤ count_at z (local -ℤ pos 93_599)
+all_later z local all =
+    let later = count_behind z (local -ℤ pos 374_397) (local -ℤ pos 93_599) all (omega (arith, signed_arith)) in
+    omega arith

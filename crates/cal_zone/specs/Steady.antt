@@ -1,7 +1,10 @@
 -- Local seconds in a row that all lie equally far from their places.
-use Rattle.std.specs.Prelude.{◌≡◌, ◌<◌, ℕ, ℤ, ◌-ℤ◌, ◌≤ℤ◌, ◌<ℤ◌, Some, vec_len}
+use Rattle.std.specs.Prelude.{◌≡◌, ◌<◌, ℕ, ℤ, pos, ◌+ℤ◌, ◌-ℤ◌, ◌*ℤ◌, ◌≤ℤ◌, ◌<ℤ◌, Option, Some, vec_len}
 use Rattle.jiff.specs.Types.{Offset, TimeZone}
 use Rattle.jiff.specs.Words.{ambiguous_at, nanos_of_seconds, offset_at}
+use Rattle.jiff_core.specs.Calendar.{days_in_year}
+use Rattle.jiff_tz.specs.PosixRule.{first_day}
+use Rattle.jiff_tz.specs.declared.info.OffsetInfo.{OffsetInfo}
 use Rattle.jiff_tz.specs.Tzif.{transition_at}
 use Rattle.jiff_tz.specs.declared.tzif.Tzif.{Tzif as Table}
 use Rattle.cal_zone.specs.Local.{IsLocalSecond}
@@ -32,3 +35,18 @@ pub record IsAlike (tz : TimeZone) (local other : ℤ) : Type 0 where
 -- so it goes from a local second on, before this one
 abbrev pub IsAlikeUntil : TimeZone → ℤ → ℤ → Type 0
 IsAlikeUntil tz from to = (local : ℤ) → IsLocalSecond local → from ≤ℤ local → local <ℤ to → IsAlike tz local from
+
+-- the first second of the year after, on a clock at UTC
+abbrev pub year_end : ℤ → ℤ
+year_end year = (first_day year +ℤ pos (days_in_year year)) *ℤ pos 86_400
+
+-- the first change after an instant of a year is far enough behind the local second, and so is the year's end
+pub record IsQuiet (next : Option (ℤ × OffsetInfo)) (past local : ℤ) : Type 0 where
+  pub change : ℤ × OffsetInfo
+  pub is : next ≡ Some change
+  pub begun : pos 0 ≤ℤ past
+  pub before_change : nanos_of_seconds (local +ℤ pos 374_397) ≤ℤ change.0
+  pub before_end : (local +ℤ pos 374_397) ≤ℤ year_end (datetime_of past).date.year
+
+abbrev pub IsQuietUntil : Option (ℤ × OffsetInfo) → ℤ → ℤ → Type 0
+IsQuietUntil next past to = (local : ℤ) → past <ℤ local → local <ℤ to → IsQuiet next past local

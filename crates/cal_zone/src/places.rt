@@ -90,7 +90,7 @@ fn shown_by(rules: &Rules, second: i64) -> i64
 }
 
 /// The civil time of a local second.
-fn datetime(local: i64) -> DateTime
+pub(crate) fn datetime(local: i64) -> DateTime
     requires { CanSettle local }
     ensures { result ≡ datetime_of local }
 {

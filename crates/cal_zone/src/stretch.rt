@@ -1,21 +1,29 @@
 //! Stretches of local seconds in which a zone's clock neither skips nor repeats any, nor changes its offset.
 
-ghost use Rattle.std.specs.Prelude.{◌≡◌, ◌≤◌, IfSome, int_le, pos, vec_len};
+ghost use Rattle.std.specs.Prelude.{◌≡◌, ◌≤◌, ◌≤ℤ◌, IfSome, int_le, option_map, pos, vec_len};
 ghost use Rattle.jiff.specs.Types.{Posix as ByRule};
+ghost use Rattle.jiff.specs.Words.{nanos_of_seconds, IsWithin};
 ghost use Rattle.jiff_tz.specs.Tzif.{count_at, type_after};
-ghost use Rattle.cal_zone.specs.Local.{IsLocalSecond};
+ghost use Rattle.jiff_tz.specs.PosixRule.{transition_view};
+ghost use Rattle.cal_zone.specs.Local.{CanSettle, IsLocalSecond, IsNearSettled};
+ghost use Rattle.cal_zone.specs.Place.{datetime_of};
 ghost use Rattle.cal_zone.specs.Rules.{zone_of_table};
-ghost use Rattle.cal_zone.specs.Steady.{IsAlikeUntil, IsSecondOfRow, IsSteadyAt};
+ghost use Rattle.cal_zone.specs.Steady.{IsAlikeUntil, IsQuietUntil, IsSecondOfRow, IsSteadyAt, year_end};
 ghost use Rattle.cal_zone.specs.Zone.{zone_of};
 
+use crate::places::datetime;
 use crate::zone::ZoneKind;
 use crate::{DAY, DAYS, Zone};
 use jiff::tz::Tzif;
-use jiff_tz::tzif::Transition;
-use jiff_tz::{TimeZone, posix};
+use jiff_core::Timestamp;
+use jiff_tz::{TimeZone, Transition, posix, tzif};
 
 /// How far a place can lie from its local second.
 const FARTHEST: i64 = 93_599;
+
+/// How far a stretch stays away from the changes of a rule and from the ends of a year. A change may lie so far from where
+/// the civil clock shows that it has passed: the offsets before and after it, and what one is ahead of the other.
+const FAR: i64 = 4 * FARTHEST + 1;
 
 /// The local seconds from `from` on and before `to`, and how far each of them is ahead of its place.
 #[derive(Clone, Copy)]
@@ -71,17 +79,18 @@ pub(crate) fn stretch_of_table(table: &Tzif, local: i64) -> Option<Stretch>
     })
 }
 
-/// The local second before which a table's clock goes on as it does at this one. Behind the last row it does so for ever
-/// where no rule goes forward and back.
+/// The local second before which a table's clock goes on as it does at this one, once all rows are passed. It does so for
+/// ever where no rule has summer time.
 pub(crate) fn alike_behind(table: &Tzif, local: i64) -> i64
     requires { IsLocalSecond local }
     ensures { IsAlikeUntil (zone_of_table table.now) local result }
 {
-    if rows_passed(table, local - FARTHEST) < table.transitions().len() {
+    let past = local - FAR;
+    if rows_passed(table, past) < table.transitions().len() {
         return local;
     }
     match table.posix_tz() {
-        Some(rule) if rule.dst.is_some() => local,
+        Some(rule) if rule.dst.is_some() => quiet_until(table.next_transition(instant(past)), past),
         _ => END,
     }
 }
@@ -103,9 +112,43 @@ fn alike_by_rule(rule: posix::TimeZone, local: i64) -> i64
     ensures { IsAlikeUntil (ByRule rule) local result }
 {
     if rule.dst.is_some() {
-        return local;
+        let past = local - FAR;
+        return quiet_until(rule.next_transition(instant(past)), past);
     }
     END
+}
+
+/// The local second before which a rule's clock goes on as it does from [`FAR`] behind this second on: far enough before
+/// the rule's next change, and before the end of the year.
+fn quiet_until(next: Option<Transition>, past: i64) -> i64
+    requires { past ≤ℤ pos 7_258_500_000 }
+    ensures { IsQuietUntil (option_map transition_view next) past result }
+{
+    match next {
+        Some(next) if past >= 0 => next.timestamp.floor_second().min(year_after(past)) - FAR,
+        _ => past,
+    }
+}
+
+/// Where the year of a second ends, on a clock at UTC.
+fn year_after(second: i64) -> i64
+    requires { CanSettle second }
+    ensures value { result ≡ year_end (datetime_of second).date.year }
+    ensures bound { IsWithin 1_000_000_000_000 result }
+{
+    let last = datetime(second).date().last_of_year();
+    (i64::from(last.to_plain().to_unix_epoch_day()) + 1) * DAY as i64
+}
+
+/// The instant of a second.
+fn instant(second: i64) -> Timestamp
+    requires { IsNearSettled second }
+    ensures { result.nanosecond ≡ nanos_of_seconds second }
+{
+    let Ok(timestamp) = jiff::Timestamp::from_second(second) else {
+        unreachable!()
+    };
+    timestamp.to_plain()
 }
 
 /// How many rows of a table lie at or before a second.
@@ -114,7 +157,7 @@ fn rows_passed(table: &Tzif, second: i64) -> usize
     ensures bound { result ≤ vec_len table.now.transitions }
 {
     table.transitions().partition_point(
-        |row: &Transition| -> bool
+        |row: &tzif::Transition| -> bool
             ensures { result ≡ int_le row.now.second second }
         { row.second <= second },
     )

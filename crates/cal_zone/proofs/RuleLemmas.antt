@@ -1,0 +1,443 @@
+-- The clock of a POSIX rule goes alike far enough from its moments, within a year.
+use Rattle.std.proofs.Common.{◌≡◌, ◌∙◌, ◌⊎◌, inl, inr, ℤ, pos, ◌+ℤ◌, ◌-ℤ◌, ◌*ℤ◌, ◌≤ℤ◌, ◌<ℤ◌, neg_ℤ, Bool, true, false, ◌&&◌, ◌||◌, ◌==◌, ◌≤◌, subst, vec_len, if◌then◌else◌, int_le, int_lt, Option, None, Some, refl, sym, ap, arith}
+use Rattle.std.specs.Int.{int_min}
+use Rattle.std.proofs.lemmas.Bool.{and_parts}
+use borrow.Author.Differences.{le-true, le-false, lt-true, lt-false}
+use Rattle.jiff.specs.Types.{Date, DateTime, Offset, Posix as ByRule}
+use Rattle.jiff.specs.Words.{ambiguous_at, civil_nanos, epoch_day, nanos_of_seconds, offset_at, IsEpochDay, IsOffsetSeconds}
+use Rattle.jiff_core.specs.Calendar.{day_count, days_from_civil, days_in_year, days_of_months, IsYear}
+use Rattle.jiff_core.proofs.CalendarLemmas.{day_count-last_of_year, day_count-year_is, day_of_year_bound, days_from_civil-day_count}
+use Rattle.jiff_core.proofs.DateLemmas.{civil}
+use Rattle.jiff_tz.specs.Year.{year_of_nanos}
+use Rattle.jiff_tz.proofs.YearLemmas.{year_of_nanos-civil}
+use Rattle.cal_zone.specs.Days.{date_of}
+use Rattle.cal_zone.specs.Local.{day_of, IsLocalSecond}
+use Rattle.cal_zone.specs.Place.{datetime_of}
+use Rattle.cal_zone.specs.Rules.{zone_of_table}
+use Rattle.cal_zone.specs.Steady.{IsAlike, IsQuiet, year_end}
+use Rattle.cal_zone.proofs.PlacerLemmas.{AreAlikeBy, alike_behind_rows, count_behind, floor_second-whole}
+use Rattle.jiff_tz.specs.declared.tzif.Tzif.{Tzif as Table}
+use Rattle.jiff_tz.specs.Tzif as OfTable
+use Rattle.jiff_tz.specs.Tzif.{count_at}
+use Rattle.std.proofs.lemmas.Bool.Decides.{nat_tests}
+use Rattle.cal_zone.proofs.DayLemmas.{epoch_day-date_of}
+use Rattle.cal_zone.proofs.PlaceLemmas.{civil_nanos-datetime_of}
+use Rattle.jiff.proofs.SpanFacts.{signed_arith}
+use Rattle.jiff_tz.specs.declared.info.OffsetInfo.{OffsetInfo}
+use Rattle.jiff_tz.specs.declared.posix.DayTime.{DayTime}
+use Rattle.jiff_tz.specs.declared.posix.Dst.{Dst}
+use Rattle.jiff_tz.specs.declared.posix.TimeZone.{TimeZone as Posix}
+use Rattle.jiff_tz.specs.PosixRule.{ambiguous_at_by, ambiguous_by, civil_max, civil_min, clamp_to, first_day, first_nanosecond, in_window, int_same, last_nanosecond, match_some, nanos_per_day, next_by, next_year, ordered, rule_day, rule_nanos, saturating_add, saturating_sub, shift_between, transition_of, utc_window}
+use Rattle.jiff_tz.specs.PosixRule as ByPosix
+use Rattle.jiff_tz.proofs.TzifLemmas.{le_no, le_yes}
+
+lt_yes : (a b : ℤ) → a <ℤ b → int_lt a b ≡ true
+lt_yes a b h = elim (int_lt a b) as (λ v. int_lt a b ≡ v → v ≡ true) [
+  | true ↦ λ e. refl
+  | false ↦ λ e. let over = lt-false a b e in absurd (omega (arith, signed_arith))
+] refl
+
+lt_no : (a b : ℤ) → b ≤ℤ a → int_lt a b ≡ false
+lt_no a b h = elim (int_lt a b) as (λ v. int_lt a b ≡ v → v ≡ false) [
+  | true ↦ λ e. let under = lt-true a b e in absurd (omega (arith, signed_arith))
+  | false ↦ λ e. refl
+] refl
+
+-- two moments are on one side of a third
+pub record IsBeside (moment at other : ℤ) : Type 0 where
+  pub le : int_le moment at ≡ int_le moment other
+  pub lt : int_lt at moment ≡ int_lt other moment
+
+-- a moment is at most so much after the low end, or before the high end
+abbrev pub IsApart : ℤ → ℤ → ℤ → ℤ → Type 0
+IsApart low high by moment = (moment ≤ℤ (low +ℤ by)) ⊎ (high ≤ℤ (moment +ℤ by))
+
+-- what lies farther within the ends is on one side of it
+beside : (low high by far moment at other : ℤ) → IsApart low high by moment → by <ℤ far → (low +ℤ far) ≤ℤ at → (at +ℤ far) ≤ℤ high → (low +ℤ far) ≤ℤ other → (other +ℤ far) ≤ℤ high
+    → IsBeside moment at other
+beside low high by far moment at other (inl h) more a b c d = record {
+  le = le_yes moment at (omega (arith, signed_arith)) ∙ sym (le_yes moment other (omega (arith, signed_arith)));
+  lt = lt_no at moment (omega (arith, signed_arith)) ∙ sym (lt_no other moment (omega (arith, signed_arith)));
+}
+beside low high by far moment at other (inr h) more a b c d = record {
+  le = le_no moment at (omega (arith, signed_arith)) ∙ sym (le_no moment other (omega (arith, signed_arith)));
+  lt = lt_yes at moment (omega (arith, signed_arith)) ∙ sym (lt_yes other moment (omega (arith, signed_arith)));
+}
+
+-- a moment near another
+apart_near : (low high by more moment near : ℤ) → IsApart low high by moment → near ≤ℤ (moment +ℤ more) → moment ≤ℤ (near +ℤ more) → IsApart low high (by +ℤ more) near
+apart_near low high by more moment near (inl h) a b = inl (omega (arith, signed_arith))
+apart_near low high by more moment near (inr h) a b = inr (omega (arith, signed_arith))
+
+-- a number that is kept between two others
+pub record IsClamped (low high n kept : ℤ) : Type 0 where
+  pub from : low ≤ℤ kept
+  pub to : kept ≤ℤ high
+  pub below : (kept ≤ℤ n) ⊎ (kept ≤ℤ low)
+  pub above : (n ≤ℤ kept) ⊎ (high ≤ℤ kept)
+
+clamped_by : (low high n : ℤ) (a b : Bool) → low ≤ℤ high → int_lt n low ≡ a → int_lt high n ≡ b → IsClamped low high n (if a then low else (if b then high else n))
+clamped_by low high n true b h e f =
+    let under = lt-true n low e in
+    record { from = omega (arith, signed_arith); to = h; below = inr (omega (arith, signed_arith)); above = inl (omega (arith, signed_arith)) }
+clamped_by low high n false true h e f =
+    let over = lt-true high n f in
+    record { from = h; to = omega (arith, signed_arith); below = inl (omega (arith, signed_arith)); above = inr (omega (arith, signed_arith)) }
+clamped_by low high n false false h e f =
+    let over = lt-false n low e in
+    let under = lt-false high n f in
+    record { from = omega (arith, signed_arith); to = omega (arith, signed_arith); below = inl (omega (arith, signed_arith)); above = inl (omega (arith, signed_arith)) }
+
+clamped : (low high n : ℤ) → low ≤ℤ high → IsClamped low high n (clamp_to low high n)
+clamped low high n h = clamped_by low high n _ _ h refl refl
+
+-- what is near is near when it is kept so
+near_by : (low high a b kept other more : ℤ) → low ≤ℤ other → kept ≤ℤ high → pos 0 ≤ℤ more → a ≤ℤ (b +ℤ more)
+    → (kept ≤ℤ a) ⊎ (kept ≤ℤ low) → (b ≤ℤ other) ⊎ (high ≤ℤ other) → kept ≤ℤ (other +ℤ more)
+near_by low high a b kept other more p q some h (inl x) (inl y) = omega (arith, signed_arith)
+near_by low high a b kept other more p q some h (inl x) (inr y) = omega (arith, signed_arith)
+near_by low high a b kept other more p q some h (inr x) y = omega (arith, signed_arith)
+
+clamped_near : (low high a b more : ℤ) → low ≤ℤ high → pos 0 ≤ℤ more → a ≤ℤ (b +ℤ more) → clamp_to low high a ≤ℤ (clamp_to low high b +ℤ more)
+clamped_near low high a b more order some h =
+    let p = clamped low high a order in
+    let q = clamped low high b order in
+    near_by low high a b (clamp_to low high a) (clamp_to low high b) more q.from p.to some h p.below q.above
+
+-- a moment that is moved, and kept within the civil datetimes
+kept_low : (low high by more moment moved kept : ℤ) → moment ≤ℤ (low +ℤ by) → civil_min ≤ℤ low → pos 0 ≤ℤ by → pos 0 ≤ℤ more → moved ≤ℤ (moment +ℤ more)
+    → (kept ≤ℤ moved) ⊎ (kept ≤ℤ civil_min) → IsApart low high (by +ℤ more) kept
+kept_low low high by more moment moved kept h from some also a (inl k) = inl (omega (arith, signed_arith))
+kept_low low high by more moment moved kept h from some also a (inr k) = inl (omega (arith, signed_arith))
+
+kept_high : (low high by more moment moved kept : ℤ) → high ≤ℤ (moment +ℤ by) → high ≤ℤ civil_max → pos 0 ≤ℤ by → pos 0 ≤ℤ more → moment ≤ℤ (moved +ℤ more)
+    → (moved ≤ℤ kept) ⊎ (civil_max ≤ℤ kept) → IsApart low high (by +ℤ more) kept
+kept_high low high by more moment moved kept h to some also b (inl k) = inr (omega (arith, signed_arith))
+kept_high low high by more moment moved kept h to some also b (inr k) = inr (omega (arith, signed_arith))
+
+civil_order : civil_min ≤ℤ civil_max
+civil_order = omega (arith, signed_arith)
+
+apart_kept : (low high by more moment moved : ℤ) → civil_min ≤ℤ low → high ≤ℤ civil_max → pos 0 ≤ℤ by → pos 0 ≤ℤ more
+    → moved ≤ℤ (moment +ℤ more) → moment ≤ℤ (moved +ℤ more) → IsApart low high by moment → IsApart low high (by +ℤ more) (clamp_to civil_min civil_max moved)
+apart_kept low high by more moment moved from to some also a b (inl h) =
+    kept_low low high by more moment moved _ h from some also a (clamped civil_min civil_max moved civil_order).below
+apart_kept low high by more moment moved from to some also a b (inr h) =
+    kept_high low high by more moment moved _ h to some also b (clamped civil_min civil_max moved civil_order).above
+
+-- a rule's moment on the wall clock is near the one at UTC
+abbrev moment_on : Option ℤ → ℤ → ℤ → ℤ → ℤ → ℤ
+moment_on day low high time seconds = match_some day high (λ d. clamp_to low high (d *ℤ nanos_per_day +ℤ nanos_of_seconds (time -ℤ seconds)))
+
+moment_near : (day : Option ℤ) (low high time seconds : ℤ) → low ≤ℤ high → IsOffsetSeconds seconds
+    → (moment_on day low high time (pos 0) ≤ℤ (moment_on day low high time seconds +ℤ pos 93_599_000_000_000))
+    × (moment_on day low high time seconds ≤ℤ (moment_on day low high time (pos 0) +ℤ pos 93_599_000_000_000))
+moment_near None low high time seconds order offset = (omega (arith, signed_arith), omega (arith, signed_arith))
+moment_near (Some d) low high time seconds order offset =
+    let wall : ℤ = d *ℤ nanos_per_day +ℤ nanos_of_seconds (time -ℤ pos 0) in
+    let utc : ℤ = d *ℤ nanos_per_day +ℤ nanos_of_seconds (time -ℤ seconds) in (
+      clamped_near low high wall utc (pos 93_599_000_000_000) order (omega (arith, signed_arith)) (omega (arith, signed_arith)),
+      clamped_near low high utc wall (pos 93_599_000_000_000) order (omega (arith, signed_arith)) (omega (arith, signed_arith)),
+    )
+
+apart_wall : (low high by y : ℤ) (d : DayTime) (seconds : ℤ) → first_nanosecond y ≤ℤ last_nanosecond y → IsOffsetSeconds seconds → IsApart low high by (rule_nanos y d seconds)
+    → IsApart low high (by +ℤ pos 93_599_000_000_000) (rule_nanos y d (pos 0))
+unfolding rule_nanos
+apart_wall low high by y d seconds order offset apart =
+    let near = moment_near (rule_day y d.date) (first_nanosecond y) (last_nanosecond y) d.time seconds order offset in
+    apart_near low high by (pos 93_599_000_000_000) _ _ apart near.0 near.1
+
+-- the offsets at two moments that are beside each of a window's
+pub record AreBeside (std dst : Offset) (w : ℤ × ℤ) (at other : ℤ) : Type 0 where
+  pub start : IsBeside w.0 at other
+  pub end : IsBeside w.1 at other
+  pub after_start : IsBeside (saturating_add w.0 (shift_between std dst)) at other
+  pub before_end : IsBeside (saturating_sub w.1 (shift_between std dst)) at other
+
+ambiguous_beside : (std dst : Offset) (w : ℤ × ℤ) (at other : ℤ) → AreBeside std dst w at other → ambiguous_by std dst w at ≡ ambiguous_by std dst w other
+ambiguous_beside std dst w at other h =
+    rw (h.start.le, h.start.lt, h.end.le, h.end.lt, h.after_start.le, h.after_start.lt, h.before_end.le, h.before_end.lt) refl
+
+window_beside : (w : ℤ × ℤ) (at other : ℤ) → IsBeside w.0 at other → IsBeside w.1 at other → in_window w at ≡ in_window w other
+window_beside w at other start end = rw (start.le, start.lt, end.le, end.lt) refl
+
+-- the ends of a window by their order
+ordered_rises : (w : ℤ × ℤ) → (ordered w).0 ≤ℤ (ordered w).1
+ordered_rises w = elim (int_le w.0 w.1) as (λ b. int_le w.0 w.1 ≡ b → (if b then w else (w.1, w.0)).0 ≤ℤ (if b then w else (w.1, w.0)).1) [
+  | true ↦ λ e. let under = le-true w.0 w.1 e in omega (arith, signed_arith)
+  | false ↦ λ e. let over = le-false w.0 w.1 e in omega (arith, signed_arith)
+] refl
+
+ordered_apart : (low high : ℤ) (w : ℤ × ℤ) → IsApart low high (pos 0) (ordered w).0 → IsApart low high (pos 0) (ordered w).1 → IsApart low high (pos 0) w.0 × IsApart low high (pos 0) w.1
+ordered_apart low high w = elim (int_le w.0 w.1) as (λ b. IsApart low high (pos 0) (if b then w else (w.1, w.0)).0 → IsApart low high (pos 0) (if b then w else (w.1, w.0)).1 → IsApart low high (pos 0) w.0 × IsApart low high (pos 0) w.1) [
+  | true ↦ λ p q. (p, q)
+  | false ↦ λ p q. (q, p)
+]
+
+-- a moment that is a transition is its instant
+by_range : (b : Bool) (moment : ℤ) (info : OffsetInfo) (next : ℤ × OffsetInfo) → (if b then Some (moment, info) else None) ≡ Some next → next.0 ≡ moment
+by_range true moment info next e = cc
+by_range false moment info next e = absurd (cc)
+
+transition_at_moment : (rule : Posix) (d : Dst) (w : ℤ × ℤ) (moment : ℤ) (next : ℤ × OffsetInfo) → transition_of rule d w moment ≡ Some next → next.0 ≡ moment
+transition_at_moment rule d w moment next e =
+    by_range (int_le (neg_ℤ (pos 377_705_023_201_000_000_000)) moment && int_le moment (pos 253_402_207_200_999_999_999)) moment _ next e
+
+window_ends : (rule : Posix) (d : Dst) (y low high : ℤ) (next : ℤ × OffsetInfo) (o : ℤ × ℤ) → o.0 ≤ℤ o.1 → (a b : Bool) → int_lt low o.0 ≡ a → int_lt low o.1 ≡ b
+    → (if a then transition_of rule d (utc_window d y rule.std_offset) o.0 else (if b then transition_of rule d (utc_window d y rule.std_offset) o.1 else next_year rule d y)) ≡ Some next
+    → high ≤ℤ next.0 → IsApart low high (pos 0) o.0 × IsApart low high (pos 0) o.1
+window_ends rule d y low high next o rises true b e f g h =
+    let at = transition_at_moment rule d (utc_window d y rule.std_offset) o.0 next g in
+    (inr (omega (arith, signed_arith)), inr (omega (arith, signed_arith)))
+window_ends rule d y low high next o rises false true e f g h =
+    let passed = lt-false low o.0 e in
+    let at = transition_at_moment rule d (utc_window d y rule.std_offset) o.1 next g in
+    (inl (omega (arith, signed_arith)), inr (omega (arith, signed_arith)))
+window_ends rule d y low high next o rises false false e f g h =
+    let passed = lt-false low o.0 e in
+    let also = lt-false low o.1 f in
+    (inl (omega (arith, signed_arith)), inl (omega (arith, signed_arith)))
+
+-- the first transition after the low end is the first of the window's ends behind it
+window_by : (rule : Posix) (d : Dst) (y low high : ℤ) (next : ℤ × OffsetInfo) → next_by rule d y low ≡ Some next → high ≤ℤ next.0
+    → IsApart low high (pos 0) (ordered (utc_window d y rule.std_offset)).0 × IsApart low high (pos 0) (ordered (utc_window d y rule.std_offset)).1
+window_by rule d y low high next e h =
+    window_ends rule d y low high next (ordered (utc_window d y rule.std_offset)) (ordered_rises (utc_window d y rule.std_offset)) _ _ refl refl e h
+
+window_apart : (rule : Posix) (d : Dst) (y low high : ℤ) (next : ℤ × OffsetInfo) → next_by rule d y low ≡ Some next → high ≤ℤ next.0
+    → IsApart low high (pos 0) (utc_window d y rule.std_offset).0 × IsApart low high (pos 0) (utc_window d y rule.std_offset).1
+window_apart rule d y low high next e h =
+    let ends = window_by rule d y low high next e h in
+    ordered_apart low high (utc_window d y rule.std_offset) ends.0 ends.1
+
+-- where daylight saving time begins as the year does, its end may be left out of the window: it lies at an edge of the year
+end_passed : (low high first last end std : ℤ) → first ≤ℤ low → low ≤ℤ civil_max → IsOffsetSeconds std → clamp_to civil_min civil_max (end +ℤ nanos_of_seconds std) <ℤ first
+    → ((end +ℤ nanos_of_seconds std) ≤ℤ clamp_to civil_min civil_max (end +ℤ nanos_of_seconds std)) ⊎ (civil_max ≤ℤ clamp_to civil_min civil_max (end +ℤ nanos_of_seconds std))
+    → IsApart low high (pos 93_599_000_000_000) end
+end_passed low high first last end std from to offset h (inl k) = inl (omega (arith, signed_arith))
+end_passed low high first last end std from to offset h (inr k) = absurd (omega (arith, signed_arith))
+
+end_to_come : (low high first last end std : ℤ) → high ≤ℤ (last +ℤ pos 1) → civil_min <ℤ high → IsOffsetSeconds std → last <ℤ clamp_to civil_min civil_max (end +ℤ nanos_of_seconds std)
+    → (clamp_to civil_min civil_max (end +ℤ nanos_of_seconds std) ≤ℤ (end +ℤ nanos_of_seconds std)) ⊎ (clamp_to civil_min civil_max (end +ℤ nanos_of_seconds std) ≤ℤ civil_min)
+    → IsApart low high (pos 93_599_000_000_000) end
+end_to_come low high first last end std to from offset h (inl k) = inr (omega (arith, signed_arith))
+end_to_come low high first last end std to from offset h (inr k) = absurd (omega (arith, signed_arith))
+
+-- what is known of a year and of a part of it
+pub record IsPart (first last low high : ℤ) : Type 0 where
+  pub from : first ≤ℤ low
+  pub to : high ≤ℤ (last +ℤ pos 1)
+  pub order : low <ℤ high
+  pub civil_from : civil_min ≤ℤ low
+  pub civil_to : high ≤ℤ civil_max
+
+end_left_out : (low high first last end std : ℤ) (b : Bool) → IsPart first last low high → IsOffsetSeconds std
+    → int_lt (clamp_to civil_min civil_max (end +ℤ nanos_of_seconds std)) first ≡ b → (b || int_lt last (clamp_to civil_min civil_max (end +ℤ nanos_of_seconds std))) ≡ true
+    → IsApart low high (pos 93_599_000_000_000) end
+end_left_out low high first last end std true part offset e f =
+    let kept = clamped civil_min civil_max (end +ℤ nanos_of_seconds std) civil_order in
+    let passed = lt-true (clamp_to civil_min civil_max (end +ℤ nanos_of_seconds std)) first e in
+    end_passed low high first last end std part.from (omega (arith, signed_arith)) offset (omega (arith, signed_arith)) kept.above
+end_left_out low high first last end std false part offset e f =
+    let kept = clamped civil_min civil_max (end +ℤ nanos_of_seconds std) civil_order in
+    let to_come = lt-true last (clamp_to civil_min civil_max (end +ℤ nanos_of_seconds std)) f in
+    end_to_come low high first last end std part.to (omega (arith, signed_arith)) offset (omega (arith, signed_arith)) kept.below
+
+abbrev window_of : Bool → ℤ → ℤ → ℤ → ℤ × ℤ
+window_of whole start last end = if whole then (start, last) else (start, end)
+
+window_parts : (low high first last start end std : ℤ) (b : Bool) → IsPart first last low high → IsOffsetSeconds std
+    → (int_same start first && (int_lt (saturating_add end (nanos_of_seconds std)) first || int_lt last (saturating_add end (nanos_of_seconds std)))) ≡ b
+    → IsApart low high (pos 0) (window_of b start last end).0 → IsApart low high (pos 0) (window_of b start last end).1
+    → IsApart low high (pos 0) start × IsApart low high (pos 93_599_000_000_000) end
+window_parts low high first last start end std true part offset e p q =
+    (p, end_left_out low high first last end std _ part offset refl (and_parts _ _ e).1)
+window_parts low high first last start end std false part offset e p q =
+    (p, apart_near low high (pos 0) (pos 93_599_000_000_000) end end q (omega (arith, signed_arith)) (omega (arith, signed_arith)))
+
+moments_apart : (d : Dst) (y : ℤ) (std : Offset) (low high : ℤ) → IsPart (first_nanosecond y) (last_nanosecond y) low high
+    → IsApart low high (pos 0) (utc_window d y std).0 → IsApart low high (pos 0) (utc_window d y std).1
+    → IsApart low high (pos 0) (rule_nanos y d.rule.start std.seconds) × IsApart low high (pos 93_599_000_000_000) (rule_nanos y d.rule.end d.offset.seconds)
+unfolding utc_window
+moments_apart d y std low high part p q =
+    window_parts low high (first_nanosecond y) (last_nanosecond y) (rule_nanos y d.rule.start std.seconds) (rule_nanos y d.rule.end d.offset.seconds) std.seconds _ part std.in_range refl p q
+
+-- a date lies in its year
+in_its_year : (d : Date) → (first_day d.year ≤ℤ epoch_day d) × (epoch_day d <ℤ (first_day d.year +ℤ pos (days_in_year d.year)))
+unfolding day_count days_of_months
+in_its_year d =
+    let count = days_from_civil-day_count d.year d.month d.day in
+    let first = days_from_civil-day_count d.year 1 1 in
+    let bound = day_of_year_bound d.year d.month d.day (civil d) in
+    let day = d.day_in in
+    (omega (arith, signed_arith), omega (arith, signed_arith))
+
+-- and a date that lies in a year is of that year
+of_the_year : (d : Date) (y : ℤ) → IsYear y → first_day y ≤ℤ epoch_day d → epoch_day d <ℤ (first_day y +ℤ pos (days_in_year y)) → d.year ≡ y
+of_the_year d y year from to =
+    let count = days_from_civil-day_count d.year d.month d.day in
+    let first = days_from_civil-day_count y 1 1 in
+    day_count-year_is y d.year d.month d.day year (civil d) (omega (arith, signed_arith)) (omega (arith, signed_arith))
+
+-- the year of a second from an earlier one of a year on, before the year's end
+year_goes_on : (past second : ℤ) → IsEpochDay (day_of past) → IsEpochDay (day_of second) → past ≤ℤ second → second <ℤ year_end (datetime_of past).date.year
+    → (datetime_of second).date.year ≡ (datetime_of past).date.year
+unfolding datetime_of
+year_goes_on past second past_in second_in later before =
+    let start = in_its_year (date_of (day_of past)) in
+    let day = epoch_day-date_of (day_of past) past_in in
+    let next = epoch_day-date_of (day_of second) second_in in
+    of_the_year (date_of (day_of second)) (date_of (day_of past)).year (date_of (day_of past)).year_in (omega (arith, signed_arith)) (omega (arith, signed_arith))
+
+-- on a clock at UTC
+utc_year : (past second : ℤ) → IsEpochDay (day_of past) → IsEpochDay (day_of second) → past ≤ℤ second → second <ℤ year_end (datetime_of past).date.year
+    → year_of_nanos (nanos_of_seconds second) ≡ (datetime_of past).date.year
+utc_year past second past_in second_in later before =
+    sym (year_of_nanos-civil (datetime_of second) (nanos_of_seconds second) (civil_nanos-datetime_of second second_in)) ∙ year_goes_on past second past_in second_in later before
+
+year_begun : (past : ℤ) → IsEpochDay (day_of past) → first_nanosecond (datetime_of past).date.year ≤ℤ nanos_of_seconds past
+unfolding datetime_of
+year_begun past past_in =
+    let start = in_its_year (date_of (day_of past)) in
+    let day = epoch_day-date_of (day_of past) past_in in
+    omega (arith, signed_arith)
+
+-- what a rule with daylight saving time gives in a year
+ambiguous_in : (std : Offset) (dst : Option Dst) (d : Dst) (shown : DateTime) (y n : ℤ) → dst ≡ Some d → shown.date.year ≡ y → civil_nanos shown ≡ n
+    → ambiguous_at_by std dst shown ≡ ambiguous_by std d.offset (rule_nanos y d.rule.start (pos 0), rule_nanos y d.rule.end (pos 0)) n
+ambiguous_in std dst d shown y n e f g =
+    ap (λ (o : Option Dst). ambiguous_at_by std o shown) e
+    ∙ ap (λ (year : ℤ). ambiguous_by std d.offset (rule_nanos year d.rule.start (pos 0), rule_nanos year d.rule.end (pos 0)) (civil_nanos shown)) f
+    ∙ ap (ambiguous_by std d.offset (rule_nanos y d.rule.start (pos 0), rule_nanos y d.rule.end (pos 0))) g
+
+offset_in : (rule : Posix) (d : Dst) (y n : ℤ) → rule.dst ≡ Some d → year_of_nanos n ≡ y
+    → ByPosix.offset_at rule n ≡ match_some (if in_window (utc_window d y rule.std_offset) n then Some d else None) rule.std_offset (λ dst. dst.offset)
+offset_in rule d y n e f = rw (e, f) refl
+
+-- how far a rule's moments are kept away: four times as far as an offset goes, and a second
+abbrev far : ℤ
+far = pos 374_397_000_000_000
+
+walls_beside : (rule : Posix) (d : Dst) (y low high at other : ℤ) → first_nanosecond y ≤ℤ last_nanosecond y → IsPart (first_nanosecond y) (last_nanosecond y) low high
+    → IsApart low high (pos 0) (rule_nanos y d.rule.start rule.std_offset.seconds) → IsApart low high (pos 93_599_000_000_000) (rule_nanos y d.rule.end d.offset.seconds)
+    → (low +ℤ far) ≤ℤ at → (at +ℤ far) ≤ℤ high → (low +ℤ far) ≤ℤ other → (other +ℤ far) ≤ℤ high
+    → AreBeside rule.std_offset d.offset (rule_nanos y d.rule.start (pos 0), rule_nanos y d.rule.end (pos 0)) at other
+walls_beside rule d y low high at other order part start end a b c e =
+    let std = rule.std_offset.in_range in
+    let dst = d.offset.in_range in
+    let on_start = apart_wall low high (pos 0) y d.rule.start rule.std_offset.seconds order std start in
+    let on_end = apart_wall low high (pos 93_599_000_000_000) y d.rule.end d.offset.seconds order dst end in
+    let shift : ℤ = shift_between rule.std_offset d.offset in
+    let first : ℤ = rule_nanos y d.rule.start (pos 0) in
+    let last : ℤ = rule_nanos y d.rule.end (pos 0) in
+    record {
+      start = beside low high _ far _ at other on_start (omega (arith, signed_arith)) a b c e;
+      end = beside low high _ far _ at other on_end (omega (arith, signed_arith)) a b c e;
+      after_start = beside low high _ far _ at other
+          (apart_kept low high (pos 93_599_000_000_000) (pos 187_198_000_000_000) first (first +ℤ shift) part.civil_from part.civil_to (omega (arith, signed_arith)) (omega (arith, signed_arith)) (omega (arith, signed_arith)) (omega (arith, signed_arith)) on_start)
+          (omega (arith, signed_arith)) a b c e;
+      before_end = beside low high _ far _ at other
+          (apart_kept low high (pos 187_198_000_000_000) (pos 187_198_000_000_000) last (last -ℤ shift) part.civil_from part.civil_to (omega (arith, signed_arith)) (omega (arith, signed_arith)) (omega (arith, signed_arith)) (omega (arith, signed_arith)) on_end)
+          (omega (arith, signed_arith)) a b c e;
+    }
+
+instants_before_next : (rule : Posix) (d : Dst) (past other local : ℤ) → rule.dst ≡ Some d → pos 0 ≤ℤ past → (past +ℤ pos 374_397) ≡ other → other ≤ℤ local → IsLocalSecond local
+    → IsApart (nanos_of_seconds past) (nanos_of_seconds (local +ℤ pos 374_397)) (pos 0) (utc_window d (datetime_of past).date.year rule.std_offset).0
+    → IsApart (nanos_of_seconds past) (nanos_of_seconds (local +ℤ pos 374_397)) (pos 0) (utc_window d (datetime_of past).date.year rule.std_offset).1
+    → (local +ℤ pos 374_397) ≤ℤ year_end (datetime_of past).date.year → (offset : Offset)
+    → (ByPosix.offset_at rule (nanos_of_seconds (local -ℤ offset.seconds))).seconds ≡ (ByPosix.offset_at rule (nanos_of_seconds (other -ℤ offset.seconds))).seconds
+instants_before_next rule d past other local has from begun later years start end before_end offset =
+    let y : ℤ = (datetime_of past).date.year in
+    let low : ℤ = nanos_of_seconds past in
+    let high : ℤ = nanos_of_seconds (local +ℤ pos 374_397) in
+    let in_range = offset.in_range in
+    let at : ℤ = local -ℤ offset.seconds in
+    let other_at : ℤ = other -ℤ offset.seconds in
+    let past_in : IsEpochDay (day_of past) = (omega (arith, signed_arith), omega (arith, signed_arith)) in
+    let at_in : IsEpochDay (day_of at) = (omega (arith, signed_arith), omega (arith, signed_arith)) in
+    let other_in : IsEpochDay (day_of other_at) = (omega (arith, signed_arith), omega (arith, signed_arith)) in
+    let by_start = beside low high (pos 0) (pos 1) _ (nanos_of_seconds at) (nanos_of_seconds other_at) start (omega (arith, signed_arith)) (omega (arith, signed_arith)) (omega (arith, signed_arith)) (omega (arith, signed_arith)) (omega (arith, signed_arith)) in
+    let by_end = beside low high (pos 0) (pos 1) _ (nanos_of_seconds at) (nanos_of_seconds other_at) end (omega (arith, signed_arith)) (omega (arith, signed_arith)) (omega (arith, signed_arith)) (omega (arith, signed_arith)) (omega (arith, signed_arith)) in
+    ap (λ o. o.seconds)
+    (offset_in rule d y (nanos_of_seconds at) has (utc_year past at past_in at_in (omega (arith, signed_arith)) (omega (arith, signed_arith)))
+    ∙ ap (λ (within : Bool). match_some (if within then Some d else None) rule.std_offset (λ dst. dst.offset)) (window_beside (utc_window d y rule.std_offset) (nanos_of_seconds at) (nanos_of_seconds other_at) by_start by_end)
+    ∙ sym (offset_in rule d y (nanos_of_seconds other_at) has (utc_year past other_at past_in other_in (omega (arith, signed_arith)) (omega (arith, signed_arith)))))
+
+-- Between a local second and the first transition after one that is so far before it, its rule's clock goes alike: within a
+-- year, and where that transition is as far away
+pub alike_before_next : (rule : Posix) (d : Dst) (past other local : ℤ) (next : ℤ × OffsetInfo) → rule.dst ≡ Some d → next_by rule d (datetime_of past).date.year (nanos_of_seconds past) ≡ Some next
+    → pos 0 ≤ℤ past → (past +ℤ pos 374_397) ≡ other → other ≤ℤ local → IsLocalSecond local → nanos_of_seconds (local +ℤ pos 374_397) ≤ℤ next.0
+    → (local +ℤ pos 374_397) ≤ℤ year_end (datetime_of past).date.year → IsAlike (ByRule rule) local other
+unfolding offset_at ambiguous_at
+alike_before_next rule d past other local next has e from begun later years before_next before_end =
+    let y : ℤ = (datetime_of past).date.year in
+    let low : ℤ = nanos_of_seconds past in
+    let high : ℤ = nanos_of_seconds (local +ℤ pos 374_397) in
+    let past_in : IsEpochDay (day_of past) = (omega (arith, signed_arith), omega (arith, signed_arith)) in
+    let local_in : IsEpochDay (day_of local) = (omega (arith, signed_arith), omega (arith, signed_arith)) in
+    let other_in : IsEpochDay (day_of other) = (omega (arith, signed_arith), omega (arith, signed_arith)) in
+    let start = year_begun past past_in in
+    let part : IsPart (first_nanosecond y) (last_nanosecond y) low high = record {
+      from = start;
+      to = omega (arith, signed_arith);
+      order = omega (arith, signed_arith);
+      civil_from = omega (arith, signed_arith);
+      civil_to = omega (arith, signed_arith);
+    } in
+    let ends = window_apart rule d y low high next e before_next in
+    let moments = moments_apart d y rule.std_offset low high part ends.0 ends.1 in
+    let walls = walls_beside rule d y low high (nanos_of_seconds local) (nanos_of_seconds other) (omega (arith, signed_arith)) part moments.0 moments.1
+    (omega (arith, signed_arith)) (omega (arith, signed_arith)) (omega (arith, signed_arith)) (omega (arith, signed_arith)) in
+    record {
+      civil = ambiguous_in rule.std_offset rule.dst d (datetime_of local) y (nanos_of_seconds local) has (year_goes_on past local past_in local_in (omega (arith, signed_arith)) (omega (arith, signed_arith))) (civil_nanos-datetime_of local local_in)
+          ∙ ambiguous_beside rule.std_offset d.offset _ (nanos_of_seconds local) (nanos_of_seconds other) walls
+          ∙ sym (ambiguous_in rule.std_offset rule.dst d (datetime_of other) y (nanos_of_seconds other) has (year_goes_on past other past_in other_in (omega (arith, signed_arith)) (omega (arith, signed_arith))) (civil_nanos-datetime_of other other_in));
+      instants = λ offset. instants_before_next rule d past other local has from begun later years ends.0 ends.1 before_end offset;
+    }
+
+-- the first transition after an instant is one of the rule's daylight saving time
+next_found : (rule : Posix) (dst : Option Dst) (n : ℤ) (change : ℤ × OffsetInfo) → match_some dst None (λ d. next_by rule d (year_of_nanos n) n) ≡ Some change
+    → (d : Dst) × (dst ≡ Some d) × (next_by rule d (year_of_nanos n) n ≡ Some change)
+next_found rule None n change e = absurd (cc)
+next_found rule (Some d) n change e = (d, refl, e)
+
+pub alike_by_next : (rule : Posix) (past other local : ℤ) → IsQuiet (ByPosix.next_at rule (nanos_of_seconds past)) past local → (past +ℤ pos 374_397) ≡ other → other ≤ℤ local → IsLocalSecond local
+    → IsAlike (ByRule rule) local other
+alike_by_next rule past other local quiet from later years =
+    let begun = quiet.begun in
+    let before_end = quiet.before_end in
+    let past_in : IsEpochDay (day_of past) = (omega (arith, signed_arith), omega (arith, signed_arith)) in
+    let found = next_found rule rule.dst (nanos_of_seconds past) quiet.change quiet.is in
+    let year = utc_year past past past_in past_in (omega (arith, signed_arith)) (omega (arith, signed_arith)) in
+    alike_before_next rule found.0 past other local quiet.change found.1 (ap (λ y. next_by rule found.0 y (nanos_of_seconds past)) (sym year) ∙ found.2) begun from later years quiet.before_change before_end
+
+-- behind the last row of a table it is one of its rule
+next_behind : (z : Table) (past : ℤ) → vec_len z.transitions ≤ count_at z past → OfTable.next_at z (nanos_of_seconds past) ≡ match_some z.posix_tz None (λ rule. ByPosix.next_at rule (nanos_of_seconds past))
+next_behind z past all =
+    let same : (vec_len z.transitions == vec_len z.transitions) ≡ true = grind (arith, nat_tests) in
+    rw (floor_second-whole past, count_behind z past past all (omega (arith, signed_arith)), same) refl
+
+by_rule : (rule : Option Posix) (past other local : ℤ) → IsQuiet (match_some rule None (λ tz. ByPosix.next_at tz (nanos_of_seconds past))) past local → (past +ℤ pos 374_397) ≡ other → other ≤ℤ local → IsLocalSecond local
+    → AreAlikeBy rule local other
+by_rule None past other local quiet from later years = tt
+by_rule (Some rule) past other local quiet from later years = alike_by_next rule past other local quiet from later years
+
+pub alike_by_next_behind : (z : Table) (past other local : ℤ) → vec_len z.transitions ≤ count_at z past → IsQuiet (OfTable.next_at z (nanos_of_seconds past)) past local → (past +ℤ pos 374_397) ≡ other → other ≤ℤ local
+    → IsLocalSecond local → IsLocalSecond other → IsAlike (zone_of_table z) local other
+alike_by_next_behind z past other local all quiet from later years other_in =
+    let all_later = count_behind z past (other -ℤ pos 93_599) all (omega (arith, signed_arith)) in
+    alike_behind_rows z local other years other_in (omega arith) later
+    (by_rule z.posix_tz past other local (subst (λ next. IsQuiet next past local) (next_behind z past all) quiet) from later years)
+
+-- a year ends with its 31 December
+december : (d : Date) (y : ℤ) → d.year ≡ y → pos d.month ≡ pos 12 → pos d.day ≡ pos 31 → epoch_day d ≡ days_from_civil y 12 31
+december d y year month day = cc
+
+pub year_end-december : (d : Date) (y : ℤ) → d.year ≡ y → pos d.month ≡ pos 12 → pos d.day ≡ pos 31 → (epoch_day d +ℤ pos 1) *ℤ pos 86_400 ≡ year_end y
+year_end-december d y year month day =
+    let last = december d y year month day in
+    omega (arith, signed_arith, days_from_civil-day_count y 12 31, days_from_civil-day_count y 1 1, day_count-last_of_year y)
+
+-- the lesser of two numbers is no less than what neither is
+pub min_from : (a b low : ℤ) → low ≤ℤ a → low ≤ℤ b → low ≤ℤ int_min a b
+min_from a b low p q = elim (int_lt b a) as (λ c. low ≤ℤ (if c then b else a)) [ true ↦ q | false ↦ p ]
