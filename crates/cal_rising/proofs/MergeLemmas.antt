@@ -151,25 +151,25 @@ union-passed m ss h e =
       λ n. let p = after.0 n in (Has-union (map (passed m) lists) i).1 (left.1 (p.0, (Has-union lists i).0 p.1)),
     ))
 
--- one source more has given the number
-passed_next : (m : ℤ) (xs ys : List Stream) (i : ℕ) (y d : Stream) → i < length xs → i < length ys
-    → map numbers (take i xs) ≡ map (passed m) (map numbers (take i ys)) → numbers y ≡ passed m (numbers (get_or ys i d))
-    → map numbers (take (suc i) (set xs i y)) ≡ map (passed m) (map numbers (take (suc i) ys))
-passed_next m [] ys i y d lt lu h e = absurd (omega arith)
-passed_next m (x ∷ xs) [] i y d lt lu h e = absurd (omega arith)
-passed_next m (x ∷ xs) (z ∷ ys) zero y d lt lu h e = ap (λ (l : List ℤ). l ∷ []) e
-passed_next m (x ∷ xs) (z ∷ ys) (suc i) y d lt lu h e =
-    let head : numbers x ≡ passed m (numbers z) = cc in
-    let tail : map numbers (take i xs) ≡ map (passed m) (map numbers (take i ys)) = cc in
-    let more = passed_next m xs ys i y d (omega arith) (omega arith) tail e in
+-- one source more has become what a function makes of it
+changed_next : (f : List ℤ → List ℤ) (xs ys : List Stream) (i : ℕ) (y d : Stream) → i < length xs → i < length ys
+    → map numbers (take i xs) ≡ map f (map numbers (take i ys)) → numbers y ≡ f (numbers (get_or ys i d))
+    → map numbers (take (suc i) (set xs i y)) ≡ map f (map numbers (take (suc i) ys))
+changed_next f [] ys i y d lt lu h e = absurd (omega arith)
+changed_next f (x ∷ xs) [] i y d lt lu h e = absurd (omega arith)
+changed_next f (x ∷ xs) (z ∷ ys) zero y d lt lu h e = ap (λ (l : List ℤ). l ∷ []) e
+changed_next f (x ∷ xs) (z ∷ ys) (suc i) y d lt lu h e =
+    let head : numbers x ≡ f (numbers z) = cc in
+    let tail : map numbers (take i xs) ≡ map f (map numbers (take i ys)) = cc in
+    let more = changed_next f xs ys i y d (omega arith) (omega arith) tail e in
     cc
 
-pub passed_more : (m : ℤ) (xs ys : List Stream) (i : ℕ) (y d : Stream) → i < length xs → i < length ys
-    → map numbers (take i xs) ≡ map (passed m) (map numbers (take i ys)) → get_or xs i d ≡ get_or ys i d
-    → numbers y ≡ passed m (numbers (get_or xs i d))
-    → map numbers (take (i + 1) (set xs i y)) ≡ map (passed m) (map numbers (take (i + 1) ys))
-passed_more m xs ys i y d lt lu so_far same now =
-    rw (add-one i) (passed_next m xs ys i y d lt lu so_far (now ∙ ap (λ (s : Stream). passed m (numbers s)) same))
+pub changed_more : (f : List ℤ → List ℤ) (xs ys : List Stream) (i : ℕ) (y d : Stream) → i < length xs → i < length ys
+    → map numbers (take i xs) ≡ map f (map numbers (take i ys)) → get_or xs i d ≡ get_or ys i d
+    → numbers y ≡ f (numbers (get_or xs i d))
+    → map numbers (take (i + 1) (set xs i y)) ≡ map f (map numbers (take (i + 1) ys))
+changed_more f xs ys i y d lt lu so_far same now =
+    rw (add-one i) (changed_next f xs ys i y d lt lu so_far (now ∙ ap (λ (s : Stream). f (numbers s)) same))
 
 -- one source more has a head
 pub has_head_more : (ss : List Stream) (i : ℕ) (s : Stream) → i < length ss → HasHead s → ((k : ℕ) (d : Stream) → k < i → HasHead (get_or ss k d))

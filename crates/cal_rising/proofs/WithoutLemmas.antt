@@ -1,10 +1,11 @@
 -- A rising list without the numbers of another: its members, and what one turn of a merge leaves of both.
-use Rattle.std.proofs.Common.{◌≡◌, ◌⊎◌, ◌↔◌, ◌||◌, ◌<◌, ℕ, cond, Bool, true, false, not, List, [], ◌∷◌, length, inl, inr, None, Some, ℤ, ◌<ℤ◌, ◌≤ℤ◌, int_eq, int_lt, nat_eq, FitsSigned, of_z, to_z, refl, sym, ap, ◌∙◌, subst, arith}
+use Rattle.std.proofs.Common.{◌≡◌, ◌⊎◌, ◌↔◌, ◌||◌, ◌<◌, ℕ, suc, ◌+◌, ◌<◌, cond, Bool, true, false, not, List, [], ◌∷◌, length, take, get_or, map, add-one, zero, inl, inr, None, Some, ℤ, ◌<ℤ◌, ◌≤ℤ◌, int_eq, int_lt, nat_eq, FitsSigned, of_z, to_z, refl, sym, ap, ◌∙◌, subst, arith}
 use Rattle.std.specs.Int.{Width}
-use Rattle.std.specs.List.{filter}
+use Rattle.std.specs.List.{filter, list_any}
 use Rattle.std.proofs.lemmas.Int.{ints, to_z-of_z}
-use Rattle.cal_rising.specs.Rises.{IsRising-union, IsRising-without}
-use Rattle.cal_rising.specs.RisingList.{Has, IsAbove, IsRising, IsUnionWithout, first, from, is_in, later, union, without}
+use Rattle.cal_rising.specs.Merge.{Stream, numbers, passed}
+use Rattle.cal_rising.specs.Rises.{IsRising-filter, IsRising-union, IsRising-without}
+use Rattle.cal_rising.specs.RisingList.{Has, HasAny, IsAbove, IsRising, IsUnionWithout, first, from, is_in, later, union, without}
 use Rattle.cal_rising.proofs.RisingLemmas.{Has-union, list-first, lt_test, not_lt_test, same_rising}
 
 same_value : (a b : ℤ) → int_eq a b ≡ true → a ≡ b
@@ -32,6 +33,10 @@ either_true false q h = inr h
 or_true : (p : Bool) → (p || true) ≡ true
 or_true true = refl
 or_true false = refl
+
+or_three : (p q r : Bool) → (p || (q || r)) ≡ ((p || q) || r)
+or_three true q r = refl
+or_three false q r = refl
 
 or_false : (p : Bool) → (p || false) ≡ p
 or_false true = refl
@@ -214,3 +219,66 @@ pub without-later-nothing : (xs ys : List ℤ) → first xs ≡ None → without
 unfolding without
 without-later-nothing [] ys h = refl
 without-later-nothing (x ∷ xs) ys h = absurd (cc)
+
+-- the first number of a list, once it was given, is passed over
+pub passed-first : (m : ℤ) (xs : List ℤ) → first xs ≡ Some m → passed m xs ≡ later xs
+passed-first m [] at = refl
+passed-first m (x ∷ xs) at =
+    let same : x ≡ m = cc in
+    let le : x ≤ℤ m = omega (arith, ints) in
+    rw (not_lt_test m x le) refl
+
+-- what of each list is from a number on is what of their union is
+HasAny-from : (n : ℤ) (xss : List (List ℤ)) (i : ℤ) → HasAny (map (from n) xss) i ↔ (HasAny xss i × (not (int_lt i n) ≡ true))
+HasAny-from n [] i = (λ m. absurd m, λ p. p.0)
+HasAny-from n (xs ∷ xss) i =
+    let here = Has-filter (λ x. not (int_lt x n)) xs i in
+    let rest = HasAny-from n xss i in (
+      λ m. elim m [ inl k ↦ (inl (here.0 k).0, (here.0 k).1) | inr k ↦ (inr (rest.0 k).0, (rest.0 k).1) ],
+      λ p. elim p.0 [ inl k ↦ inl (here.1 (k, p.1)) | inr k ↦ inr (rest.1 (k, p.1)) ],
+    )
+
+pub union-from : (n : ℤ) (xss : List (List ℤ)) → union (map (from n) xss) ≡ from n (union xss)
+union-from n xss =
+    same_rising (union (map (from n) xss)) (from n (union xss)) (IsRising-union (map (from n) xss)) (IsRising-filter (λ x. not (int_lt x n)) (union xss) (IsRising-union xss))
+    (λ i.
+    let each = HasAny-from n xss i in
+    let whole = Has-filter (λ x. not (int_lt x n)) (union xss) i in (
+      λ m. let p = each.0 ((Has-union (map (from n) xss) i).0 m) in whole.1 ((Has-union xss i).1 p.0, p.1),
+      λ m. let p = whole.0 m in (Has-union (map (from n) xss) i).1 (each.1 ((Has-union xss i).0 p.0, p.1)),
+    ))
+
+-- and it has a number where one of the lists has it
+same_truth : (a b : Bool) → (a ≡ true → b ≡ true) → (b ≡ true → a ≡ true) → a ≡ b
+same_truth true b h k = sym (h refl)
+same_truth false true h k = k refl
+same_truth false false h k = refl
+
+any-HasAny : (n : ℤ) (xss : List (List ℤ)) → list_any (λ xs. is_in xs n) xss ≡ true → HasAny xss n
+any-HasAny n [] h = absurd (cc)
+any-HasAny n (xs ∷ xss) h =
+    elim (either_true (is_in xs n) (list_any (λ xs. is_in xs n) xss) h) [ inl e ↦ inl (Has-is_in xs n e) | inr e ↦ inr (any-HasAny n xss e) ]
+
+HasAny-any : (n : ℤ) (xss : List (List ℤ)) → HasAny xss n → list_any (λ xs. is_in xs n) xss ≡ true
+HasAny-any n [] m = absurd m
+HasAny-any n (xs ∷ xss) (inl m) = rw (is_in-Has xs n m) refl
+HasAny-any n (xs ∷ xss) (inr m) = rw (HasAny-any n xss m) (or_true (is_in xs n))
+
+pub any-union : (n : ℤ) (xss : List (List ℤ)) → list_any (λ xs. is_in xs n) xss ≡ is_in (union xss) n
+any-union n xss =
+    same_truth (list_any (λ xs. is_in xs n) xss) (is_in (union xss) n)
+    (λ h. is_in-Has (union xss) n ((Has-union xss n).1 (any-HasAny n xss h)))
+    (λ h. HasAny-any n xss ((Has-union xss n).0 (Has-is_in (union xss) n h)))
+
+-- one source more may have it
+any_next : (n : ℤ) (ss : List Stream) (i : ℕ) (d : Stream) → i < length ss
+    → list_any (λ xs. is_in xs n) (map numbers (take (suc i) ss)) ≡ (list_any (λ xs. is_in xs n) (map numbers (take i ss)) || is_in (numbers (get_or ss i d)) n)
+any_next n [] i d h = absurd (omega arith)
+any_next n (s ∷ ss) zero d h = or_false (is_in (numbers s) n)
+any_next n (s ∷ ss) (suc i) d h =
+    ap (λ (b : Bool). is_in (numbers s) n || b) (any_next n ss i d (omega arith))
+    ∙ or_three (is_in (numbers s) n) (list_any (λ xs. is_in xs n) (map numbers (take i ss))) (is_in (numbers (get_or ss i d)) n)
+
+pub any_more : (n : ℤ) (ss : List Stream) (i : ℕ) (d : Stream) → i < length ss
+    → list_any (λ xs. is_in xs n) (map numbers (take (i + 1) ss)) ≡ (list_any (λ xs. is_in xs n) (map numbers (take i ss)) || is_in (numbers (get_or ss i d)) n)
+any_more n ss i d h = rw (add-one i) (any_next n ss i d h)

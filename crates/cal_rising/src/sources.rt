@@ -1,7 +1,7 @@
 //! Several sources of rising numbers, given as one.
 
 ghost use Rattle.std.specs.Prelude.{◌≡◌, ◌++◌, ◌∷◌, [], map, true, false, IfErr, OnErr, OnOk};
-ghost use Rattle.std.specs.List.{All};
+ghost use Rattle.std.specs.List.{All, list_any};
 ghost use Rattle.cal_rising.specs.Merge.{HasHead, lesser, numbers, passed};
 ghost use Rattle.cal_rising.specs.RisingList.{first, from, is_in, later, union};
 
@@ -48,19 +48,12 @@ impl<S: Rising> Sources<S> {
         Ok(())
     }
 
-    /// Whether one of the sources has the number. The numbers below it are passed over.
+    /// Whether one of the sources has the number. Each passes over its numbers below it.
     pub fn has_from(&mut self, number: i64) -> bool
         ensures has { result ≡ is_in (union self.old) number }
         ensures left { union self.new ≡ from number (union self.old) }
     {
-        loop {
-            fetch_all(&mut self.branches);
-            match least_head(&self.branches) {
-                Some(least) if least < number => pass_all(&mut self.branches, least),
-                Some(least) => return least == number,
-                None => return false,
-            }
-        }
+        pass_all_below(&mut self.branches, number)
     }
 }
 
@@ -115,6 +108,34 @@ fn pass_all<S: Rising>(branches: &mut Vec<Branch<S>>, number: i64)
 {
     for branch in branches.iter_mut() {
         branch.pass(number);
+    }
+}
+
+/// Whether one of the sources has the number. Each passes over its numbers below it.
+fn pass_all_below<S: Rising>(branches: &mut Vec<Branch<S>>, number: i64) -> bool
+    ensures has { result ≡ list_any (λ xs. is_in xs number) (map numbers branches.old.items) }
+    ensures left { map numbers branches.new.items ≡ map (from number) (map numbers branches.old.items) }
+{
+    let mut has = false;
+    for branch in branches.iter_mut() {
+        let here = pass_below(branch, number);
+        has = has || here;
+    }
+    has
+}
+
+/// Whether the source has the number. It passes over its numbers below it.
+fn pass_below<S: Rising>(branch: &mut Branch<S>, number: i64) -> bool
+    ensures has { result ≡ is_in (numbers branch.old) number }
+    ensures left { numbers branch.new ≡ from number (numbers branch.old) }
+{
+    loop {
+        branch.fetch();
+        match branch.head() {
+            Some(head) if head < number => branch.pass(head),
+            Some(head) => return head == number,
+            None => return false,
+        }
     }
 }
 

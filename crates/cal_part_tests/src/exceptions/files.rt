@@ -25,7 +25,7 @@ const LISTS: [Row; 12] = [
     ),
     (
         "[Timer]\nOnCalendar=a\nX-ExceptOnCalendar=Sat\nOnCalendar=\nOnCalendar=daily",
-        Err(TimerFault::BadLine(2, SpecFault::BadDate)),
+        Err(TimerFault::BadLine(2, SpecFault::UnknownShorthand)),
     ),
     (
         "[Timer]\nX-ExceptOnCalendar=Sat\nOnCalendar=\nOnCalendar=daily",
