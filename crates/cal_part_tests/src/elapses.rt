@@ -16,7 +16,7 @@ use std::process::Abort;
 use std::test::Fail;
 
 /// Whether a local second matches.
-pub(crate) fn has_local(expr: &Expr, local: i64) -> bool
+fn has_local(expr: &Expr, local: i64) -> bool
     requires { IsLocalSecond local }
 {
     expr.has(local)

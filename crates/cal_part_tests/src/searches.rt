@@ -1,7 +1,7 @@
 //! The search for the next matching local second: rows worked out by hand, and what it stands on.
 
 mod pending;
-mod plain;
+pub(crate) mod plain;
 mod words;
 
 use crate::shared::expr;

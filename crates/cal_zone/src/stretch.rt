@@ -21,8 +21,8 @@ use jiff_tz::{TimeZone, Transition, posix, tzif};
 /// How far a place can lie from its local second.
 const FARTHEST: i64 = 93_599;
 
-/// How far a stretch stays away from the changes of a rule and from the ends of a year. A change may lie so far from where
-/// the civil clock shows that it has passed: the offsets before and after it, and what one is ahead of the other.
+/// How far a stretch stays away from the changes of a rule and from the ends of a year: a change at UTC and what it
+/// touches on the civil clock lie up to four offsets apart.
 const FAR: i64 = 4 * FARTHEST + 1;
 
 /// The local seconds from `from` on and before `to`, and how far each of them is ahead of its place.

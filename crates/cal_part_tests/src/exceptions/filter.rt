@@ -1,21 +1,21 @@
 //! Random timer files with exceptions against a plain filter: the places of all local seconds of a month that match an
 //! expression and whose instant is a place of no exception.
 
+ghost use Rattle.std.specs.Prelude.{◌<◌};
+ghost use Rattle.cal_zone.specs.Days.{days_in_all};
+
 use super::{elapses_of_timer, timer_of};
-use crate::elapses::has_local;
+use crate::searches::plain::{has_date, seconds_of};
 use crate::shared::{FORWARD_AND_BACK, SUMMER_TIME, expr, instant, posix};
 use cal_elapse::Rising;
 use cal_spec::Expr;
-use cal_zone::{Zone, place};
+use cal_zone::{DAYS, Zone, date_of_day, place};
 use std::alloc::{AllocError, Global};
 use std::process::Abort;
 use std::test::Fail;
 
 /// How long elapses are compared, in seconds: thirty days.
 const MONTH: i64 = 2_592_000;
-
-/// How far a place lies from its local second at most.
-const FARTHEST: i64 = 93_599;
 
 /// Zones by their rule, each with a base before a change of its clock that lies in the month.
 const ZONES: [(&str, i64); 3] = [
@@ -44,7 +44,33 @@ const TEXTS: [&str; 16] = [
     "01:0/20:30 UTC",
 ];
 
-/// The places of the local seconds that match, of those that can have one in the month after the base, in rising order.
+/// Appends the places of the local seconds of a day that match as times of day, where they lie in the month after the
+/// base.
+fn push_day(
+    instants: &mut Vec<i64>,
+    seconds: &[bool],
+    zone: Zone<'_>,
+    day: u64,
+    base: i64,
+) -> Result<(), AllocError>
+    requires { day < days_in_all }
+{
+    for second in 0..86_400 {
+        if !seconds.get(second).copied().unwrap_or(false) {
+            continue;
+        }
+        match place(zone, (day * 86_400) as i64 + second as i64) {
+            Some(instant) if instant > base && instant <= base.saturating_add(MONTH) => {
+                instants.push(instant)?;
+            }
+            _ => {}
+        }
+    }
+    Ok(())
+}
+
+/// The places of the local seconds that match, of those of all days that can have one in the month after the base, in
+/// rising order.
 fn places_of(
     rt: &impl Abort,
     alloc: Global,
@@ -53,15 +79,12 @@ fn places_of(
     base: i64,
 ) -> Result<Vec<i64>, AllocError> {
     let mut instants = Vec::new(alloc);
-    let end = base.saturating_add(MONTH);
-    for local in base.saturating_sub(FARTHEST)..=end.saturating_add(FARTHEST) {
-        assert!(rt; local >= 0 && local <= 7_258_118_399);
-        if !has_local(expr, local) {
-            continue;
-        }
-        match place(zone, local) {
-            Some(instant) if instant > base && instant <= end => instants.push(instant)?,
-            _ => {}
+    let seconds = seconds_of(alloc, expr)?;
+    let first = base.unsigned_abs() / 86_400;
+    for day in first.saturating_sub(2)..first.saturating_add(33) {
+        assert!(rt; day < DAYS);
+        if has_date(expr, date_of_day(day)) {
+            push_day(&mut instants, &seconds, zone, day, base)?;
         }
     }
     instants.sort_unstable();

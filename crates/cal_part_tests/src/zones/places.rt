@@ -1,15 +1,19 @@
 //! Where local seconds lie, around the changes of a clock and at fixed offsets.
 
 use crate::shared::{FORWARD_AND_BACK, SUMMER_TIME, posix};
-use cal_zone::{Zone, place, settle};
+use cal_zone::{Placer, Zone, place, settle};
 use std::process::Abort;
 use std::test::Fail;
 
-/// Each local second has this place, if it has one.
+/// Each local second has this place, if it has one, whoever places it.
 fn expect_places(rt: &impl Abort, zone: Zone, rows: &[(i64, Option<i64>)]) {
+    let mut placer = Placer::new(zone);
     for (local, instant) in rows {
         assert!(rt; *local >= 0 && *local <= 7_258_118_399);
         assert_eq!(rt; place(zone, *local), *instant, "at {local}");
+        assert_eq!(rt; placer.place(*local), *instant, "by a placer at {local}");
+        // Where a stretch has it, this time from the stretch.
+        assert_eq!(rt; placer.place(*local), *instant, "once more at {local}");
     }
 }
 
