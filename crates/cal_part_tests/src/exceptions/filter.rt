@@ -1,9 +1,6 @@
 //! Random timer files with exceptions against a plain filter: the places of all local seconds of a month that match an
 //! expression and whose instant is a place of no exception.
 
-ghost use Rattle.std.specs.Prelude.{◌<◌};
-ghost use Rattle.cal_zone.specs.Days.{days_in_all};
-
 use super::{elapses_of_timer, timer_of};
 use crate::searches::plain::{has_date, seconds_of};
 use crate::shared::{FORWARD_AND_BACK, SUMMER_TIME, expr, instant, posix};
@@ -47,19 +44,20 @@ const TEXTS: [&str; 16] = [
 /// Appends the places of the local seconds of a day that match as times of day, where they lie in the month after the
 /// base.
 fn push_day(
+    rt: &impl Abort,
     instants: &mut Vec<i64>,
     seconds: &[bool],
     zone: Zone<'_>,
     day: u64,
     base: i64,
-) -> Result<(), AllocError>
-    requires { day < days_in_all }
-{
-    for second in 0..86_400 {
-        if !seconds.get(second).copied().unwrap_or(false) {
+) -> Result<(), AllocError> {
+    let midnight = day.saturating_mul(86_400);
+    for (local, holds) in (midnight..).zip(seconds) {
+        if !*holds {
             continue;
         }
-        match place(zone, (day * 86_400) as i64 + second as i64) {
+        assert!(rt; local < 7_258_118_400);
+        match place(zone, local as i64) {
             Some(instant) if instant > base && instant <= base.saturating_add(MONTH) => {
                 instants.push(instant)?;
             }
@@ -84,7 +82,7 @@ fn places_of(
     for day in first.saturating_sub(2)..first.saturating_add(33) {
         assert!(rt; day < DAYS);
         if has_date(expr, date_of_day(day)) {
-            push_day(&mut instants, &seconds, zone, day, base)?;
+            push_day(rt, &mut instants, &seconds, zone, day, base)?;
         }
     }
     instants.sort_unstable();
