@@ -1,7 +1,6 @@
 //! Exceptions: which numbers they take out of merged sources, and which elapses out of those of a timer file.
 
 mod files;
-mod filter;
 mod sources;
 
 use cal_bytes::Port;

@@ -1,7 +1,7 @@
 //! The search for the next matching local second: rows worked out by hand, and what it stands on.
 
 mod pending;
-pub(crate) mod plain;
+mod plain;
 mod words;
 
 use crate::shared::expr;

@@ -18,8 +18,7 @@ struct Plain {
     months: Vec<bool>,
 }
 
-/// Whether the date matches.
-pub(crate) fn has_date(expr: &Expr, date: Date) -> bool {
+fn has_date(expr: &Expr, date: Date) -> bool {
     expr.weekdays()[usize::from(date.weekday().index())]
         && expr.has_member(Field::Year, date.year().unsigned_abs())
         && expr.has_member(Field::Month, date.month().unsigned_abs().into())
@@ -34,8 +33,7 @@ fn days_of(alloc: Global, expr: &Expr, dates: &[Date]) -> Result<Vec<bool>, Allo
     Ok(days)
 }
 
-/// Of each second of a day, whether it matches as a time of day.
-pub(crate) fn seconds_of(alloc: Global, expr: &Expr) -> Result<Vec<bool>, AllocError> {
+fn seconds_of(alloc: Global, expr: &Expr) -> Result<Vec<bool>, AllocError> {
     let mut seconds = Vec::new(alloc);
     for second in 0..86_400_u32 {
         seconds.push(
