@@ -1,10 +1,10 @@
-//! The search against the plain one: day after day, and second after second.
+//! The search, and the elapses that stand on it, against the plain search: day after day, and second after second.
 
 use super::found_from;
-use crate::shared::expr;
-use cal_elapse::Found;
+use crate::shared::{expr, instant};
+use cal_elapse::{Elapses, Found, Rising};
 use cal_spec::{Expr, Field, day_number};
-use cal_zone::{DAYS, date_of_day};
+use cal_zone::{DAYS, Zone, date_of_day};
 use jiff::civil::Date;
 use std::alloc::{AllocError, Global};
 use std::process::Abort;
@@ -112,11 +112,17 @@ fn local_second(day: usize, second: usize) -> i64 {
     i64::try_from(day.saturating_mul(86_400).saturating_add(second)).unwrap_or(i64::MAX)
 }
 
-/// What the plain search finds from a local second on.
-fn plain_found(plain: &Plain, dates: &[Date], from: i64) -> Found {
+/// The day and time that the plain search finds from a local second on.
+fn plain_from(plain: &Plain, from: i64) -> Option<(usize, usize)> {
     let day = (from.unsigned_abs() / 86_400) as usize;
     let second = (from.unsigned_abs() % 86_400) as usize;
-    let next = plain_next(plain, day, second);
+    plain_next(plain, day, second)
+}
+
+/// What the plain search finds from a local second on, and the months that it looks at.
+fn plain_found(plain: &Plain, dates: &[Date], from: i64) -> Found {
+    let day = (from.unsigned_abs() / 86_400) as usize;
+    let next = plain_from(plain, from);
     let last = match next {
         Some((found, _)) => month_number(dates, found),
         None => 2_759,
@@ -127,7 +133,26 @@ fn plain_found(plain: &Plain, dates: &[Date], from: i64) -> Found {
     }
 }
 
-/// The search for a text finds what the plain search finds, from each start.
+/// In UTC the first two elapses from a local second on are what the plain search finds.
+fn compare_elapses(
+    rt: &(impl Abort + AllocGlobal),
+    expr: &Expr,
+    plain: &Plain,
+    start: i64,
+) -> Result<(), Fail> {
+    let base = start.saturating_sub(1).max(0);
+    let mut elapses = Elapses::new(rt.alloc(), expr, Zone::utc(), instant(base)?)?;
+    let mut last = base;
+    for _ in 0..2 {
+        let next = plain_from(plain, last.saturating_add(1));
+        let wanted = next.map(|(day, second)| local_second(day, second));
+        assert_eq!(rt; elapses.next(), wanted, "after {last}");
+        last = wanted.unwrap_or(last);
+    }
+    Ok(())
+}
+
+/// The search for a text finds what the plain search finds, from each start, and so do its elapses.
 fn compare(
     rt: &(impl Abort + AllocGlobal),
     text: &str,
@@ -143,6 +168,7 @@ fn compare(
             Some(wanted),
             "{text} from {start}"
         );
+        compare_elapses(rt, &expr, &plain, *start)?;
     }
     Ok(())
 }
