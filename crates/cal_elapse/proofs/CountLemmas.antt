@@ -1,5 +1,5 @@
 -- How many numbers in a row pass a test.
-use Rattle.std.proofs.Common.{◌≡◌, ℕ, zero, suc, ◌+◌, ◌-◌, subst, ◌<◌, ◌≤◌, cond, Bool, true, false, ap, ◌∙◌, arith}
+use Rattle.std.proofs.Common.{◌≡◌, ℕ, zero, suc, ◌+◌, ◌-◌, subst, ◌<◌, ◌≤◌, cond, Bool, true, false, refl, ap, ◌∙◌, arith}
 use Rattle.cal_elapse.specs.Search.{NonePasses}
 use Rattle.cal_elapse.specs.Window.{count_from}
 
@@ -33,17 +33,60 @@ count_from-none passes a k (suc n) none =
     let before = count_from-none passes a k n (λ t low high. none t low (omega arith)) in
     rw (next, fails) (omega arith)
 
--- from a number that passes to a later one, none between
-pub count_from-on : (passes : ℕ → Bool) (start local bound : ℕ) → start ≤ local → local + 1 ≤ bound → passes local ≡ true → NonePasses passes (local + 1) bound
-    → count_from passes start (bound - start) ≡ count_from passes start (local - start) + 1
-count_from-on passes start local bound low high holds none =
+-- up to a number that passes and with it
+pub count_from-with : (passes : ℕ → Bool) (start local : ℕ) → start ≤ local → passes local ≡ true → count_from passes start (local + 1 - start) ≡ count_from passes start (local - start) + 1
+count_from-with passes start local low holds =
     let k = local - start in
-    let n = bound - (local + 1) in
     let here : local ≡ start + k = omega arith in
-    let ends : bound - start ≡ (k + 1) + n = omega arith in
-    let nothing = λ (t : ℕ) (above : start + (k + 1) ≤ t) (below : t < start + (k + 1) + n). none t (omega arith) (omega arith) in
+    let ends : local + 1 - start ≡ k + 1 = omega arith in
+    ap (count_from passes start) ends ∙ count_from-one passes start k (subst (λ (t : ℕ). passes t ≡ true) here holds)
+
+-- and on to a later number, none between
+pub count_from-on : (passes : ℕ → Bool) (start middle bound : ℕ) → start ≤ middle → middle ≤ bound → NonePasses passes middle bound
+    → count_from passes start (bound - start) ≡ count_from passes start (middle - start)
+count_from-on passes start middle bound low high none =
+    let k = middle - start in
+    let n = bound - middle in
+    let ends : bound - start ≡ k + n = omega arith in
+    let nothing = λ (t : ℕ) (above : start + k ≤ t) (below : t < start + k + n). none t (omega arith) (omega arith) in
+    ap (count_from passes start) ends ∙ count_from-none passes start k n nothing
+
+-- and from a number on to the next that passes
+pub count_from-to : (passes : ℕ → Bool) (start local next : ℕ) → start ≤ local → local + 1 ≤ next → passes next ≡ true → NonePasses passes (local + 1) next
+    → count_from passes (start + 1) (next - start) ≡ count_from passes (start + 1) (local - start) + 1
+count_from-to passes start local next low high holds none =
+    let k = local - start in
+    let n = next - (local + 1) in
+    let there : next ≡ start + 1 + (k + n) = omega arith in
+    let ends : next - start ≡ k + n + 1 = omega arith in
+    let nothing = λ (t : ℕ) (above : start + 1 + k ≤ t) (below : t < start + 1 + k + n). none t (omega arith) (omega arith) in
+    ap (count_from passes (start + 1)) ends
+    ∙ (count_from-one passes (start + 1) (k + n) (subst (λ (t : ℕ). passes t ≡ true) there holds) ∙ ap (λ (c : ℕ). c + 1) (count_from-none passes (start + 1) k n nothing))
+
+-- none of no numbers
+pub count_from-nothing : (passes : ℕ → Bool) (a k : ℕ) → count_from passes a (k - k) ≡ 0
+unfolding count_from
+count_from-nothing passes a k = let none : k - k ≡ 0 = omega arith in rw none refl
+
+-- those of two parts in a row
+pub count_from-both : (passes : ℕ → Bool) (a k n : ℕ) → count_from passes a (k + n) ≡ count_from passes a k + count_from passes (a + k) n
+unfolding count_from
+count_from-both passes a k zero = let same : k + zero ≡ k = omega arith in rw same (omega arith)
+count_from-both passes a k (suc n) =
+    let next : k + suc n ≡ suc (k + n) = omega arith in
+    let place : a + (k + n) ≡ a + k + n = omega arith in
+    let before = count_from-both passes a k n in
+    rw (next, place) (omega arith)
+
+-- and those from a number on to a later one
+pub count_from-part : (passes : ℕ → Bool) (start local last : ℕ) → start ≤ local → local ≤ last
+    → count_from passes start (last + 1 - start) ≡ count_from passes start (local + 1 - start) + count_from passes (local + 1) (last - local)
+count_from-part passes start local last low high =
+    let k = local + 1 - start in
+    let ends : last + 1 - start ≡ k + (last - local) = omega arith in
+    let there : start + k ≡ local + 1 = omega arith in
     ap (count_from passes start) ends
-    ∙ (count_from-none passes start (k + 1) n nothing ∙ count_from-one passes start k (subst (λ (t : ℕ). passes t ≡ true) here holds))
+    ∙ (count_from-both passes start k (last - local) ∙ ap (λ (t : ℕ). count_from passes start k + count_from passes t (last - local)) there)
 
 -- and where none passes from the start on
 pub count_from-begun : (passes : ℕ → Bool) (start bound : ℕ) → start ≤ bound → NonePasses passes start bound → count_from passes start (bound - start) ≡ 0

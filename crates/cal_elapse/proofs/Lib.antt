@@ -10,6 +10,7 @@ pub mod MasksLemmas
 pub mod MinuteLemmas
 pub mod MonthLemmas
 pub mod ReadyLemmas
+pub mod RestLemmas
 pub mod RingLemmas
 pub mod ScanLemmas
 pub mod SearchLemmas

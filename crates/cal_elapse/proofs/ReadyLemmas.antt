@@ -15,11 +15,11 @@ use Rattle.cal_elapse.specs.Masks.{sets_in}
 use Rattle.cal_elapse.specs.Rest.{rest_of}
 use Rattle.cal_rising.specs.RisingList.{Has}
 use Rattle.cal_elapse.specs.Search.{IsFirstPassing, NonePasses}
-use Rattle.cal_elapse.specs.Window.{IsMatchAhead, IsReady, Windowed, bound_of, count_from, start_of, timed_by, timed_of, with_place}
+use Rattle.cal_elapse.specs.Window.{IsMatchAhead, IsPlacedTo, IsReady, Windowed, bound_of, count_from, start_of, timed_by, timed_of, with_place}
 use Rattle.cal_elapse.specs.declared.masks.Masks.{Masks}
 use Rattle.cal_elapse.specs.declared.searcher.Searcher.{Searcher}
 use Rattle.cal_elapse.specs.declared.window.Window.{Window}
-use Rattle.cal_elapse.proofs.CountLemmas.{count_from-begun, count_from-most, count_from-on}
+use Rattle.cal_elapse.proofs.CountLemmas.{count_from-begun, count_from-most, count_from-on, count_from-with}
 use Rattle.cal_elapse.proofs.WindowLemmas.{timed_by-near, windowed_on, windowed_put, windowed_start}
 use Rattle.cal_spec.specs.Match.{matches}
 
@@ -59,34 +59,51 @@ put_at : (masks : Masks) (zone : Zone) (from bound : ℕ) (last : ℤ) (xs : Lis
 unfolding timed_by
 put_at masks zone from bound last xs w holds near = windowed_put (timed_by masks zone) from bound last xs (timed_by-near masks zone) w holds near
 
--- a match is placed and the next is found
-pub placed_ready : (v : Window) (local : ℕ) (searcher : Searcher) (ahead : Option ℕ) (pending : List ℤ) → IsReady v → v.ahead ≡ Some local
-    → ((i : ℤ) → Has v.pending i → pos local ≤ℤ (i +ℤ pos 93_599)) → searcher.masks ≡ v.searcher.masks → searcher.searches ≡ v.searcher.searches + 1
-    → IsFirstPassing (matches (sets_in v.searcher.masks)) (local + 1) seconds_in_all ahead → pending ≡ with_place (place_of (zone_of v.zone) (pos local)) v.last v.pending
-    → IsReady (record v { searcher = searcher; ahead = ahead; pending = pending })
-placed_ready v local searcher ahead pending h at near masks more first put =
+-- the match ahead is placed
+pub placed_to : (v : Window) (local : ℕ) (ahead : Option ℕ) (pending : List ℤ) → IsReady v → v.ahead ≡ Some local → ((i : ℤ) → Has v.pending i → pos local ≤ℤ (i +ℤ pos 93_599))
+    → pending ≡ with_place (place_of (zone_of v.zone) (pos local)) v.last v.pending → IsPlacedTo (record v { ahead = ahead; pending = pending }) local
+placed_to v local ahead pending h at near put =
     let e = timed_of v in
     let start = start_of v.base in
     let here = subst (λ (o : Option ℕ). Windowed e start (bound_of o) v.last v.pending) at h.windowed in
     let match_here = subst (IsMatchAhead e) at h.found in
     let begun = subst (λ (o : Option ℕ). start ≤ bound_of o) at h.begun in
     let counted = subst (λ (o : Option ℕ). v.searcher.searches ≡ count_from e.matches start (bound_of o - start) + 1) at h.counted in
-    let next = is_next v.searcher.masks v.zone (local + 1) ahead (omega arith) first in
-    let done = put_at v.searcher.masks v.zone start local v.last v.pending here match_here.1 near in
-    let on = windowed_on e start (local + 1) (bound_of ahead) v.last _ next.low next.none done in
-    let count = count_from-on e.matches start local (bound_of ahead) begun next.low match_here.1 next.none in
-    ready_after v searcher ahead pending masks h.low h.above (subst (Windowed e start (bound_of ahead) v.last) (sym put) on) next.found (omega arith) (omega arith)
+    let count = count_from-with e.matches start local begun match_here.1 in
+    record {
+      windowed = subst (Windowed e start (local + 1) v.last) (sym put) (put_at v.searcher.masks v.zone start local v.last v.pending here match_here.1 near);
+      found = match_here;
+      low = h.low;
+      above = h.above;
+      begun = begun;
+      counted = omega arith;
+    }
 
--- so few searches were made
-pub few_searches : (v : Window) (local : ℕ) → IsReady v → v.ahead ≡ Some local → v.searcher.searches ≤ seconds_in_all
-few_searches v local h at =
+-- and the next is found
+pub next_ready : (v : Window) (local : ℕ) (searcher : Searcher) (ahead : Option ℕ) → IsPlacedTo v local → searcher.masks ≡ v.searcher.masks → searcher.searches ≡ v.searcher.searches + 1
+    → IsFirstPassing (matches (sets_in v.searcher.masks)) (local + 1) seconds_in_all ahead → IsReady (record v { searcher = searcher; ahead = ahead })
+next_ready v local searcher ahead h masks more first =
     let e = timed_of v in
     let start = start_of v.base in
-    let match_here = subst (IsMatchAhead e) at h.found in
-    let most = count_from-most e.matches start (bound_of v.ahead - start) in
-    let bound : bound_of v.ahead ≡ local = ap bound_of at in
+    let begun = h.begun in
+    let counted = h.counted in
+    let inside = h.found.0 in
+    let next = is_next v.searcher.masks v.zone (local + 1) ahead (omega arith) first in
+    let low = next.low in
+    let on = windowed_on e start (local + 1) (bound_of ahead) v.last v.pending next.low next.none h.windowed in
+    let count = count_from-on e.matches start (local + 1) (bound_of ahead) (omega arith) next.low next.none in
+    ready_after v searcher ahead v.pending masks h.low h.above on next.found (omega arith) (omega arith)
+
+-- so few searches were made
+pub few_searches : (v : Window) (local : ℕ) → IsPlacedTo v local → v.searcher.searches ≤ local + 1
+few_searches v local h =
+    let most = count_from-most (timed_of v).matches (start_of v.base) (local + 1 - start_of v.base) in
     let counted = h.counted in
     omega arith
+
+pub placed_is_match : (v : Window) (local : ℕ) → IsPlacedTo v local → (local < seconds_in_all) × (matches (sets_in v.searcher.masks) local ≡ true)
+unfolding timed_by
+placed_is_match v local h = h.found
 
 pub ahead_is_match : (v : Window) (local : ℕ) → IsReady v → v.ahead ≡ Some local → (local < seconds_in_all) × (matches (sets_in v.searcher.masks) local ≡ true)
 unfolding timed_by

@@ -1,5 +1,5 @@
 -- What stays true of the pending instants as matches are placed, and what of them is the first elapse.
-use Rattle.std.proofs.Common.{◌≡◌, ◌⊎◌, ℕ, ◌+◌, ◌<◌, ◌≤◌, cond, Bool, true, false, List, [], ◌∷◌, inl, inr, Option, None, Some, ℤ, pos, negsuc, ◌+ℤ◌, ◌-ℤ◌, ◌<ℤ◌, ◌≤ℤ◌, int_lt, refl, sym, ap, ◌∙◌, subst, arith, to_z, w64}
+use Rattle.std.proofs.Common.{◌≡◌, ◌⊎◌, ◌↔◌, ℕ, ◌+◌, ◌<◌, ◌≤◌, cond, Bool, true, false, List, [], ◌∷◌, inl, inr, Option, None, Some, ℤ, pos, negsuc, ◌+ℤ◌, ◌-ℤ◌, ◌<ℤ◌, ◌≤ℤ◌, int_lt, refl, sym, ap, ◌∙◌, subst, arith, to_z, w64}
 use Rattle.std.proofs.lemmas.Bool.{cases_eq, cases_lt}
 use Rattle.std.proofs.lemmas.Int.{ints, to_z_pos}
 use Rattle.jiff.proofs.SpanFacts.{signed_arith}
@@ -134,6 +134,32 @@ windowed_on e from a b last xs h none w = record {
     ),
   );
   reach = λ i m t low high k. w.reach i m t low (none_between e a b t none high k) k;
+}
+
+-- a local second from one bound up to another matches and has its place here
+pub record IsPlacedFrom (e : Timed) (a b : ℕ) (i : ℤ) : Type 0 where
+  pub local : ℕ
+  pub from : a ≤ local
+  pub below : local < b
+  pub is_match : e.matches local ≡ true
+  pub placed : e.place local ≡ Some i
+
+-- the matches up to a later bound are placed, where all up to it are no later than a member by more than a place can be
+pub windowed_more : (e : Timed) (from a b : ℕ) (last : ℤ) (xs ys : List ℤ) → a ≤ b → Windowed e from a last xs → IsRising ys
+    → ((i : ℤ) → Has ys i ↔ (Has xs i ⊎ ((last <ℤ i) × IsPlacedFrom e a b i))) → ((i : ℤ) → Has ys i → (t : ℕ) → t < b → pos t ≤ℤ (i +ℤ pos 93_599)) → Windowed e from b last ys
+windowed_more e from a b last xs ys h w rises more near = record {
+  rises = rises;
+  members = λ i. (
+    λ m. elim ((more i).0 m) [
+      | inl old ↦ (((w.members i).0 old).0, placed_on e a b i h ((w.members i).0 old).1)
+      | inr new ↦ (new.0, record { local = new.1.local; below = new.1.below; is_match = new.1.is_match; placed = new.1.placed })
+    ],
+    λ p. (more i).1 (elim (cases_lt p.1.local a) [
+      | inl early ↦ inl ((w.members i).1 (p.0, record { local = p.1.local; below = early; is_match = p.1.is_match; placed = p.1.placed }))
+      | inr late ↦ inr (p.0, record { local = p.1.local; from = late; below = p.1.below; is_match = p.1.is_match; placed = p.1.placed })
+    ]),
+  );
+  reach = λ i m t low high k. near i m t high;
 }
 
 chained : (a b c : ℤ) → a <ℤ b → b <ℤ c → a <ℤ c

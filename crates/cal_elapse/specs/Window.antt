@@ -67,3 +67,12 @@ pub record IsReady (w : Window) : Type 0 where
   pub above : w.base ≤ℤ w.last
   pub begun : start_of w.base ≤ bound_of w.ahead
   pub counted : w.searcher.searches ≡ count_from (timed_of w).matches (start_of w.base) (bound_of w.ahead - start_of w.base) + 1
+
+-- all matching local seconds up to this one, which is a match, are placed, and each search found one of them
+pub record IsPlacedTo (w : Window) (local : ℕ) : Type 0 where
+  pub windowed : Windowed (timed_of w) (start_of w.base) (local + 1) w.last w.pending
+  pub found : IsMatchAhead (timed_of w) (Some local)
+  pub low : pos 0 ≤ℤ w.base
+  pub above : w.base ≤ℤ w.last
+  pub begun : start_of w.base ≤ local
+  pub counted : w.searcher.searches ≡ count_from (timed_of w).matches (start_of w.base) (local + 1 - start_of w.base)

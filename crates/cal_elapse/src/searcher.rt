@@ -1,8 +1,9 @@
 //! The search of an expression's matches, whose calls are counted.
 
-ghost use Rattle.std.specs.Prelude.{◌≡◌, ◌+◌, ◌<◌, ◌≤◌, true, max, IfSome};
+ghost use Rattle.std.specs.Prelude.{◌≡◌, ◌+◌, ◌-◌, ◌<◌, ◌≤◌, true, max, IfSome};
 ghost use Rattle.cal_zone.specs.Local.{seconds_in_all};
-ghost use Rattle.cal_elapse.specs.Left.{IsLeft};
+ghost use Rattle.cal_elapse.specs.Count.{count_from};
+ghost use Rattle.cal_elapse.specs.Left.{IsLeft, IsNextLeft, IsRest};
 ghost use Rattle.cal_elapse.specs.Looks.{IsSearch};
 ghost use Rattle.cal_elapse.specs.Masks.{sets_in};
 ghost use Rattle.cal_elapse.specs.Start.{CanStart, begin_of};
@@ -21,6 +22,15 @@ pub enum Start {
     At(u64),
     /// Behind a match. Its day matches, so that no day is sought where the next match lies on it too.
     After(u64),
+}
+
+/// What is left of a match's minute, once it was searched.
+#[derive(Clone, Copy)]
+pub struct RestOfMinute {
+    /// A bit for each match behind it: bit i for the local second i + 1 behind it.
+    pub bits: u64,
+    /// The last of them; the match itself where there is none.
+    pub last: u64,
 }
 
 /// The masks of an expression, how often they were searched, and the most months that one of these searches looked at.
@@ -82,6 +92,8 @@ impl Searcher {
         ensures masks { self.new.masks ≡ self.old.masks }
         ensures counted { self.new.searches ≡ self.old.searches + 1 }
         ensures most { self.new.most_months ≡ max self.old.most_months result.months }
+        ensures left { start ≡ Start.After self.old.found → 0 < self.old.left
+            → IsNextLeft self.old.from self.old.left self.new.found self.new.from self.new.left }
     {
         self.searches += 1;
         let found = match start {
@@ -90,6 +102,37 @@ impl Searcher {
         };
         self.most_months = self.most_months.max(found.months);
         found
+    }
+
+    /// Whether more is left of the minute of a match, as far as that is known.
+    pub fn has_left(&self, local: u64) -> bool {
+        self.left != 0 && self.found == local
+    }
+
+    /// Searches on behind a match to the end of its minute, as far as it is known what is left of that. Each match found
+    /// is one search.
+    pub fn search_left(&mut self, local: u64) -> RestOfMinute
+        requires start { CanStart (matches (sets_in self.old.masks)) (Start.After local) }
+        requires few { self.old.searches ≤ local + 1 }
+        ensures rest { IsRest (matches (sets_in self.old.masks)) local result.bits result.last }
+        ensures masks { self.new.masks ≡ self.old.masks }
+        ensures counted { self.new.searches ≡ self.old.searches
+            + count_from (matches (sets_in self.old.masks)) (local + 1) (result.last - local) }
+    {
+        if self.left == 0 || self.found != local {
+            return RestOfMinute {
+                bits: 0,
+                last: local,
+            };
+        }
+        let bits = self.left >> (local + 1 - self.from);
+        while self.left != 0 {
+            self.search(Start::After(self.found));
+        }
+        RestOfMinute {
+            bits,
+            last: self.found,
+        }
     }
 
     /// The least match from a local second on.
@@ -113,6 +156,8 @@ impl Searcher {
         ensures masks { self.new.masks ≡ self.old.masks }
         ensures searches { self.new.searches ≡ self.old.searches }
         ensures most { self.new.most_months ≡ self.old.most_months }
+        ensures left { local ≡ self.old.found → 0 < self.old.left
+            → IsNextLeft self.old.from self.old.left self.new.found self.new.from self.new.left }
     {
         if local == self.found && self.left != 0 {
             return self.find_left();
@@ -129,6 +174,7 @@ impl Searcher {
         ensures masks { self.new.masks ≡ self.old.masks }
         ensures searches { self.new.searches ≡ self.old.searches }
         ensures most { self.new.most_months ≡ self.old.most_months }
+        ensures left { IsNextLeft self.old.from self.old.left self.new.found self.new.from self.new.left }
     {
         let bit = lowest_bit(self.left);
         let local = self.from + u64::from(bit);

@@ -32,13 +32,13 @@ pub struct Window<'z> {
 }
 
 impl<'z> Window<'z> {
-    ghost use Rattle.std.specs.Prelude.{◌≡◌, ◌<◌, [], ◌∷◌, ℤ, pos, ◌+ℤ◌, ◌≤ℤ◌, None, Some, IfOk};
+    ghost use Rattle.std.specs.Prelude.{◌≡◌, ◌<◌, ◌≤◌, [], ◌∷◌, ℤ, pos, ◌+ℤ◌, ◌≤ℤ◌, None, Some, IfOk};
     ghost use Rattle.cal_zone.specs.Zone.{zone_of};
     ghost use Rattle.cal_elapse.specs.Elapses.{elapses_after};
     ghost use Rattle.cal_rising.specs.RisingList.{Has, first, later};
     ghost use Rattle.cal_elapse.specs.Searched.{IsSearched};
     ghost use Rattle.cal_elapse.specs.Timed.{timed};
-    ghost use Rattle.cal_elapse.specs.Window.{IsReady, bound_of, timed_of, to_place};
+    ghost use Rattle.cal_elapse.specs.Window.{IsPlacedTo, IsReady, bound_of, timed_of, to_place};
 
     /// Before anything is placed. The first search begins where a place can be above the base.
     pub fn new(
@@ -84,9 +84,40 @@ impl<'z> Window<'z> {
                 break;
             }
             put_place(&mut self.pending, &mut self.zone, local, self.last);
-            ahead = self.searcher.search(Start::After(local)).whole();
+            let placed = self.place_rest(local);
+            ahead = self.searcher.search(Start::After(placed)).whole();
         }
         self.ahead = ahead;
+    }
+
+    /// Places what is left of the minute of a match that is placed, where all of that is to be placed and can be at once.
+    /// Gives the last match that is placed.
+    fn place_rest(&mut self, local: u64) -> u64
+        requires { IsPlacedTo self.old local }
+        ensures placed { IsPlacedTo self.new result }
+        ensures on { local ≤ result }
+        ensures masks { self.new.searcher.masks ≡ self.old.searcher.masks }
+        ensures timed { timed_of self.new ≡ timed_of self.old }
+        ensures base { self.new.base ≡ self.old.base }
+        ensures last { self.new.last ≡ self.old.last }
+    {
+        let end = local / 60 * 60 + 59;
+        let least = self.pending.least();
+        if !self.searcher.has_left(local) || !is_to_place(end, least) {
+            return local;
+        }
+        let Some(offset) = self.zone.offset_over(local as i64, end as i64) else {
+            return local;
+        };
+        let place = local as i64 - offset;
+        match least {
+            // No place of what is left is above the last instant given.
+            None if place + (end - local) as i64 <= self.last => self
+                .searcher
+                .search_left(local)
+                .last,
+            _ => local,
+        }
     }
 
     /// Gives the least pending instant.

@@ -17,6 +17,11 @@ IsSteady tz stretch =
     (local : ℤ) → IsLocalSecond local → stretch.from ≤ℤ local → local <ℤ stretch.to
     → place_of tz local ≡ Some (local -ℤ stretch.offset)
 
+-- each local second from this one to that one has a place, and it is that local second less the offset
+abbrev pub AreAhead : TimeZone → ℤ → ℤ → ℤ → Type 0
+AreAhead tz from to offset =
+    (local : ℤ) → IsLocalSecond local → from ≤ℤ local → local ≤ℤ to → place_of tz local ≡ Some (local -ℤ offset)
+
 -- the stretch is steady, and the local second is one of it
 pub record IsSteadyAt (tz : TimeZone) (local : ℤ) (stretch : Stretch) : Type 0 where
   pub begun : stretch.from ≤ℤ local

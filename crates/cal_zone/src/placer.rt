@@ -1,6 +1,6 @@
 //! The places of many local seconds of one zone, most of them without a look at its rules.
 
-ghost use Rattle.std.specs.Prelude.{◌≡◌};
+ghost use Rattle.std.specs.Prelude.{◌≡◌, IfSome};
 ghost use Rattle.cal_zone.specs.Local.{IsLocalSecond};
 ghost use Rattle.cal_zone.specs.Place.{place_of};
 ghost use Rattle.cal_zone.specs.Zone.{zone_of};
@@ -36,6 +36,8 @@ impl<'z> Model for Placer<'z> {
 }
 
 impl<'z> Placer<'z> {
+    ghost use Rattle.cal_zone.specs.Steady.{AreAhead};
+
     /// Nothing is placed in the zone yet.
     pub fn new(zone: Zone<'z>) -> Placer<'z>
         ensures { result ≡ zone.entry }
@@ -71,6 +73,19 @@ impl<'z> Placer<'z> {
             return Some(local - self.stretch.offset);
         }
         self.place_outside(local)
+    }
+
+    /// How far each local second from `from` to `to` is ahead of its place, where that is one number and known already.
+    pub fn offset_over(&self, from: i64, to: i64) -> Option<i64>
+        ensures { IfSome result (AreAhead (zone_of self.now) from to) }
+    {
+        if matches!(self.zone.kind, ZoneKind::Utc) {
+            return Some(0);
+        }
+        if self.stretch.from <= from && to < self.stretch.to {
+            return Some(self.stretch.offset);
+        }
+        None
     }
 
     /// The place of a local second that isn't in the stretch, as the zone's rules say. A stretch that has it is sought

@@ -1,7 +1,7 @@
-use Rattle.std.proofs.Common.{◌∙◌, FitsSigned, ap, rules, w64}
+use Rattle.std.proofs.Common.{◌∙◌, FitsSigned, arith, ap, rules, w64}
 use Rattle.std.proofs.lemmas.Int.{to_z-of_z}
 use Rattle.cal_elapse.specs.Window.{timed_by}
-use Rattle.cal_elapse.proofs.ReadyLemmas.{ahead_is_match, few_searches, placed_before, placed_ready}
+use Rattle.cal_elapse.proofs.ReadyLemmas.{few_searches, next_ready, placed_before, placed_is_match, placed_to}
 use Rattle.cal_elapse.proofs.SearchLemmas.{passing_of}
 use Rattle.cal_elapse.proofs.WindowLemmas.{near_ahead}
 use Rattle.cal_elapse.proofs.window.Window.fill.Goals as goal
@@ -13,24 +13,31 @@ pub put_place-requires-clause-near : goal.put_place-requires-clause-near
 put_place-requires-clause-near c =
     near_ahead c.loop-ahead.self.pending c.in-Some.local c.least.result c.is_to_place.result c.least.ensures.rises c.least.ensures.least c.is_to_place.ensures c.if-not-is_to_place.false
 
+pub place_rest-placed-requires : goal.place_rest-placed-requires
+place_rest-placed-requires c =
+    let near = near_ahead c.loop-ahead.self.pending c.in-Some.local c.least.result c.is_to_place.result c.least.ensures.rises c.least.ensures.least c.is_to_place.ensures c.if-not-is_to_place.false in
+    let fits : FitsSigned w64 c.loop-ahead.self.last = search rules in
+    rw c.put_place.ensures.zone (placed_to _ c.in-Some.local c.loop-ahead.self.ahead c.put_place.new.pending c.loop-ahead.invariant.ready c.in-Some.is near
+    (rw (to_z-of_z w64 c.loop-ahead.self.last fits) at c.put_place.ensures.put))
+
 pub search-requires-clause-start : goal.search-requires-clause-start
-search-requires-clause-start c = ahead_is_match _ c.in-Some.local c.loop-ahead.invariant.ready c.in-Some.is
+search-requires-clause-start c = placed_is_match _ c.place_rest-placed.result c.place_rest-placed.ensures.placed
 
 pub search-requires-clause-few : goal.search-requires-clause-few
-search-requires-clause-few c = few_searches _ c.in-Some.local c.loop-ahead.invariant.ready c.in-Some.is
+search-requires-clause-few c =
+    let few = few_searches _ c.place_rest-placed.result c.place_rest-placed.ensures.placed in
+    let inside = (placed_is_match _ c.place_rest-placed.result c.place_rest-placed.ensures.placed).0 in
+    omega arith
 
 pub loop-ahead-preserved : goal.loop-ahead-preserved
 loop-ahead-preserved c =
-    let same = c.search.ensures.masks in
     let kept = c.loop-ahead.invariant in
-    let near = near_ahead c.loop-ahead.self.pending c.in-Some.local c.least.result c.is_to_place.result c.least.ensures.rises c.least.ensures.least c.is_to_place.ensures c.if-not-is_to_place.false in
-    let fits : FitsSigned w64 c.loop-ahead.self.last = search rules in
+    let rest = c.place_rest-placed.ensures in
     record {
-      ready = rw c.put_place.ensures.zone (placed_ready _ c.in-Some.local c.search.new.self c.whole-ahead.result c.put_place.new.pending kept.ready c.in-Some.is near
-          same c.search.ensures.counted (rw (c.whole-ahead.ensures) (passing_of _ _ _ c.search.ensures.found.first))
-          (rw (to_z-of_z w64 c.loop-ahead.self.last fits) at c.put_place.ensures.put));
-      masks = same ∙ kept.masks;
-      base = kept.base;
-      timed = ap (timed_by c.search.new.self.masks) c.put_place.ensures.zone ∙ ap (λ masks. timed_by masks c.loop-ahead.self.zone) same ∙ kept.timed;
-      last = kept.last;
+      ready = next_ready _ c.place_rest-placed.result c.search.new.self c.whole-ahead.result rest.placed c.search.ensures.masks c.search.ensures.counted
+          (rw (c.whole-ahead.ensures) (passing_of _ _ _ c.search.ensures.found.first));
+      masks = c.search.ensures.masks ∙ (rest.masks ∙ kept.masks);
+      base = rest.base ∙ kept.base;
+      timed = ap (λ masks. timed_by masks c.place_rest-placed.new.self.zone) c.search.ensures.masks ∙ (rest.timed ∙ (ap (timed_by c.loop-ahead.self.searcher.masks) c.put_place.ensures.zone ∙ kept.timed));
+      last = rest.last ∙ kept.last;
     }
