@@ -1,9 +1,9 @@
 -- The bits of a word.
-use Rattle.std.proofs.Common.{◌≡◌, ◌==◌, ℕ, ◌+◌, ◌&&◌, bit_and, min, ◌-◌, ◌/◌, ◌%◌, ◌^◌, ◌<◌, ◌≤◌, true, false, Some, w64, ap, subst, inl, inr, sym, ◌∙◌, arith}
+use Rattle.std.proofs.Common.{◌≡◌, ◌==◌, ℕ, ◌+◌, ◌&&◌, ◌||◌, bit_and, bit_or, min, max, ◌*◌, refl, ◌-◌, ◌/◌, ◌%◌, ◌^◌, ◌<◌, ◌≤◌, true, false, Some, w64, ap, pow_pos, subst, inl, inr, sym, ◌∙◌, arith}
 use Rattle.std.specs.Int.{bit_at, trailing_zeros}
 use Rattle.std.proofs.lemmas.Bool.{cases_lt}
 use Rattle.std.proofs.lemmas.Nat.{shr-shr, shr_le}
-use Rattle.std.proofs.lemmas.Nat.Bits.{bit_at-lt, bit_at-trailing_zeros, bit_at-zero, bit_at_above, bit_at_and}
+use Rattle.std.proofs.lemmas.Nat.Bits.{bit_at-lt, bit_at-trailing_zeros, bit_at-zero, bit_at_above, bit_at_and, bit_at_cat_high, bit_at_cat_low, bit_at_or}
 use Rattle.cal_elapse.specs.Bits.{is_bit}
 use Rattle.cal_elapse.specs.Search.{IsFirstPassing, NonePasses}
 
@@ -76,3 +76,31 @@ is_bit-and m n i = ap (λ (b : ℕ). b == 1) (bit_at_and m n i) ∙ min_one (bit
 
 pub is_bit-none : (i : ℕ) → is_bit 0 i ≡ false
 is_bit-none i = is_bit-zero 0 i (bit_at-zero i)
+
+or_one : (x y : ℕ) → x < 2 → y < 2 → (max x y == 1) ≡ ((x == 1) || (y == 1))
+or_one x y p q =
+    elim (cases_lt x 1) [
+      | inl low ↦ (let none : x ≡ 0 = omega arith in let most : max x y ≡ y = omega arith in rw (most, none) refl)
+      | inr high ↦ (let one : x ≡ 1 = omega arith in let most : max x y ≡ 1 = omega arith in rw (most, one) refl)
+    ]
+
+-- what one of two words has
+pub is_bit-or : (m n i : ℕ) → is_bit (bit_or m n) i ≡ (is_bit m i || is_bit n i)
+unfolding is_bit
+is_bit-or m n i = ap (λ (b : ℕ). b == 1) (bit_at_or m n i) ∙ or_one (bit_at m i) (bit_at n i) (bit_at-lt m i) (bit_at-lt n i)
+
+-- a word that is moved up has its numbers so much further up, as far as they are below 64
+cut_off : (m i : ℕ) → i < 64 → bit_at (m % 2 ^ 64) i ≡ bit_at m i
+cut_off m i low =
+    let whole : m / 2 ^ 64 * 2 ^ 64 + m % 2 ^ 64 ≡ m = omega arith in
+    sym (bit_at_cat_low (m / 2 ^ 64) 64 (m % 2 ^ 64) i low) ∙ ap (λ (x : ℕ). bit_at x i) whole
+
+pub is_bit-up : (m k i : ℕ) → i < 64 → k ≤ i → is_bit (m * 2 ^ k % 2 ^ 64) i ≡ is_bit m (i - k)
+is_bit-up m k i low high =
+    let whole : m * 2 ^ k + 0 ≡ m * 2 ^ k = omega arith in
+    is_bit-same (m * 2 ^ k % 2 ^ 64) m i (i - k) (cut_off (m * 2 ^ k) i low ∙ (ap (λ (x : ℕ). bit_at x i) (sym whole) ∙ bit_at_cat_high m k 0 i (pow_pos k) high))
+
+pub is_bit-up_none : (m k i : ℕ) → i < 64 → i < k → is_bit (m * 2 ^ k % 2 ^ 64) i ≡ false
+is_bit-up_none m k i low high =
+    let whole : m * 2 ^ k + 0 ≡ m * 2 ^ k = omega arith in
+    is_bit-zero (m * 2 ^ k % 2 ^ 64) i (cut_off (m * 2 ^ k) i low ∙ (ap (λ (x : ℕ). bit_at x i) (sym whole) ∙ (bit_at_cat_low m k 0 i high ∙ bit_at-zero i)))

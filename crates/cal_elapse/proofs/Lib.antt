@@ -4,6 +4,7 @@ pub mod CellLemmas
 pub mod CountLemmas
 pub mod DayLemmas
 pub mod ElapsesLemmas
+pub mod FillLemmas
 pub mod InstantLemmas
 pub mod LookLemmas
 pub mod MasksLemmas

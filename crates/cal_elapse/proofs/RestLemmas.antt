@@ -1,16 +1,20 @@
 -- What is left of the minute of a match that is placed, once it is placed at once.
-use Rattle.std.proofs.Common.{◌≡◌, ◌+◌, ◌-◌, ◌*◌, ◌/◌, ◌<◌, ◌≤◌, ◌∙◌, ℕ, List, None, Some, ℤ, pos, ◌+ℤ◌, ◌-ℤ◌, ◌≤ℤ◌, ◌<ℤ◌, Bool, arith, ap, inl, inr, subst, sym}
-use Rattle.std.proofs.lemmas.Int.{ints}
+use Rattle.std.proofs.Common.{◌≡◌, ◌⊎◌, ◌↔◌, ◌+◌, ◌-◌, ◌*◌, ◌/◌, ◌<◌, ◌≤◌, ◌∙◌, Bool, ℕ, IsSomeAnd, List, None, Option, Some, ℤ, pos, ◌+ℤ◌, ◌-ℤ◌, ◌≤ℤ◌, ◌<ℤ◌, FitsSigned, arith, ap, inl, inr, of_z, refl, subst, sym, to_z, w64}
+use Rattle.std.proofs.lemmas.Int.{ints, to_z-of_z, to_z_pos}
 use Rattle.jiff.proofs.SpanFacts.{signed_arith}
 use Rattle.jiff.specs.Types.{TimeZone}
-use Rattle.cal_rising.proofs.RisingLemmas.{list-no_first}
-use Rattle.cal_rising.specs.RisingList.{Has, first}
+use Rattle.cal_rising.proofs.RisingLemmas.{list-first, list-no_first}
+use Rattle.cal_rising.specs.RisingList.{Has, IsRising, first}
 use Rattle.cal_spec.specs.Match.{matches}
 use Rattle.cal_zone.proofs.PlaceLemmas.{within}
 use Rattle.cal_zone.specs.Local.{seconds_in_all, seconds_in_all-is}
 use Rattle.cal_zone.specs.Steady.{AreAhead}
 use Rattle.cal_zone.specs.Zone.{zone_of}
 use Rattle.cal_zone.specs.declared.zone.Zone.{Zone}
+use Rattle.cal_zone.specs.Instant.{IsInstant}
+use Rattle.cal_elapse.specs.Bits.{is_bit}
+use Rattle.cal_elapse.specs.Near.{IsNear}
+use Rattle.cal_elapse.specs.Ring.{IsOneOf}
 use Rattle.cal_elapse.specs.Count.{count_from}
 use Rattle.cal_elapse.specs.Elapses.{Timed}
 use Rattle.cal_elapse.specs.Left.{IsRest}
@@ -20,7 +24,7 @@ use Rattle.cal_elapse.specs.declared.masks.Masks.{Masks}
 use Rattle.cal_elapse.specs.declared.searcher.Searcher.{Searcher}
 use Rattle.cal_elapse.specs.declared.window.Window.{Window}
 use Rattle.cal_elapse.proofs.CountLemmas.{count_from-part}
-use Rattle.cal_elapse.proofs.WindowLemmas.{IsPlacedFrom, windowed_more}
+use Rattle.cal_elapse.proofs.WindowLemmas.{IsPlacedFrom, timed_by-near, windowed_more}
 
 -- the minute of a match ends among the local seconds
 pub minute_end : (local : ℕ) → local < seconds_in_all → local / 60 * 60 + 59 < seconds_in_all
@@ -37,6 +41,31 @@ ahead_near tz from to offset ahead order inside =
     let count = seconds_in_all-is in
     let near = within tz (pos from) (pos from -ℤ offset) (ahead (pos from) (omega (arith, ints), omega (arith, ints)) (omega (arith, ints)) (omega (arith, ints))) in
     (omega (arith, signed_arith, near), omega (arith, signed_arith, near))
+
+-- the same in the machine's numbers
+pub ahead_there : (tz : TimeZone) (local : ℕ) (offset : ℤ) → local < seconds_in_all → AreAhead tz (to_z w64 local) (to_z w64 (local / 60 * 60 + 59)) offset
+    → AreAhead tz (pos local) (pos (local / 60 * 60 + 59)) offset
+ahead_there tz local offset inside ahead =
+    let count = seconds_in_all-is in
+    let end = minute_end local inside in
+    rw (to_z_pos w64 local (omega arith), to_z_pos w64 (local / 60 * 60 + 59) (omega arith)) at ahead
+
+pub place_is : (tz : TimeZone) (local : ℕ) (offset : ℤ) → local < seconds_in_all → AreAhead tz (to_z w64 local) (to_z w64 (local / 60 * 60 + 59)) offset → FitsSigned w64 offset
+    → to_z w64 (of_z w64 (to_z w64 local -ℤ to_z w64 (of_z w64 offset))) ≡ (pos local -ℤ offset)
+place_is tz local offset inside ahead fits =
+    let count = seconds_in_all-is in
+    let low = to_z_pos w64 local (omega arith) in
+    let same = to_z-of_z w64 offset fits in
+    let near = ahead_near tz local (local / 60 * 60 + 59) offset (ahead_there tz local offset inside ahead) (omega arith) (minute_end local inside) in
+    let place = to_z-of_z w64 (to_z w64 local -ℤ to_z w64 (of_z w64 offset)) (omega (arith, signed_arith)) in
+    omega (arith, signed_arith)
+
+pub start_is : (tz : TimeZone) (local : ℕ) (offset : ℤ) → local < seconds_in_all → AreAhead tz (to_z w64 local) (to_z w64 (local / 60 * 60 + 59)) offset → FitsSigned w64 offset
+    → to_z w64 (of_z w64 (to_z w64 (of_z w64 (to_z w64 local -ℤ to_z w64 (of_z w64 offset))) +ℤ pos 1)) ≡ ((pos local -ℤ offset) +ℤ pos 1)
+start_is tz local offset inside ahead fits =
+    let count = seconds_in_all-is in
+    let near = ahead_near tz local (local / 60 * 60 + 59) offset (ahead_there tz local offset inside ahead) (omega arith) (minute_end local inside) in
+    rw (place_is tz local offset inside ahead fits) (to_z-of_z w64 ((pos local -ℤ offset) +ℤ pos 1) (omega (arith, signed_arith)))
 
 -- the place of a local second where the clock is ahead by so much
 pub place_there : (masks : Masks) (zone : Zone) (from to t : ℕ) (offset i : ℤ) → AreAhead (zone_of zone) (pos from) (pos to) offset → from ≤ t → t ≤ to → to < seconds_in_all
@@ -98,3 +127,146 @@ rest_passed v local searcher bits last offset h masks more rest none ahead early
     passed_by t end last offset i at up early above =
         let same : (pos t -ℤ offset) ≡ i = cc in
         omega (arith, signed_arith)
+
+-- The rest that is put
+
+-- what is left behind a match whose place is the least pending instant or behind it, while all of its minute is to be placed
+pub record IsBehind (v : Window) (local bits last : ℕ) (offset place least : ℤ) : Type 0 where
+  pub rest : IsRest (matches (sets_in v.searcher.masks)) local bits last
+  pub ahead : AreAhead (zone_of v.zone) (pos local) (pos (local / 60 * 60 + 59)) offset
+  pub at : place ≡ (pos local -ℤ offset)
+  pub least_is : Some least ≡ first v.pending
+  pub behind : least ≤ℤ place
+  pub near : (i : ℤ) → Has v.pending i → pos (local / 60 * 60 + 59) ≤ℤ (i +ℤ pos 93_599)
+
+pub behind_of : (v : Window) (local bits last : ℕ) (offset least place : ℤ) → IsPlacedTo v local → IsRest (matches (sets_in v.searcher.masks)) local bits last
+    → AreAhead (zone_of v.zone) (to_z w64 local) (to_z w64 (local / 60 * 60 + 59)) offset → FitsSigned w64 offset → Some least ≡ first v.pending
+    → place ≡ to_z w64 (of_z w64 (to_z w64 local -ℤ to_z w64 (of_z w64 offset))) → least ≤ℤ place
+    → ((i : ℤ) → Has v.pending i → pos (local / 60 * 60 + 59) ≤ℤ (i +ℤ pos 93_599)) → IsBehind v local bits last offset (pos local -ℤ offset) least
+behind_of v local bits last offset least place h rest ahead fits least_is at behind near =
+    let same : place ≡ (pos local -ℤ offset) = at ∙ place_is (zone_of v.zone) local offset h.found.0 ahead fits in
+    record {
+      rest = rest;
+      ahead = ahead_there (zone_of v.zone) local offset h.found.0 ahead;
+      at = refl;
+      least_is = least_is;
+      behind = subst (λ (p : ℤ). least ≤ℤ p) same behind;
+      near = near;
+    }
+
+least_has : (xs : List ℤ) (least : ℤ) → Some least ≡ first xs → Has xs least
+least_has xs least is = subst (λ (ys : List ℤ). Has ys least) (sym (list-first xs least (sym is))) (inl refl)
+
+one_at : (local bit : ℕ) (place offset i : ℤ) → place ≡ (pos local -ℤ offset) → ((place +ℤ pos 1) +ℤ pos bit) ≡ i → (pos (local + 1 + bit) -ℤ offset) ≡ i
+one_at local bit place offset i at is = omega (arith, signed_arith)
+
+at_one : (local bit t : ℕ) (place offset i : ℤ) → place ≡ (pos local -ℤ offset) → t ≡ local + 1 + bit → (pos t -ℤ offset) ≡ i → ((place +ℤ pos 1) +ℤ pos bit) ≡ i
+at_one local bit t place offset i at there is = omega (arith, signed_arith)
+
+-- each instant of the rest is the place of one of its matches, and the other way round
+one_placed : (v : Window) (local bits last : ℕ) (offset place least i : ℤ) → IsPlacedTo v local → IsBehind v local bits last offset place least
+    → IsOneOf (place +ℤ pos 1) bits i → IsPlacedFrom (timed_of v) (local + 1) (last + 1) i
+unfolding timed_by
+one_placed v local bits last offset place least i h behind one =
+    let t : ℕ = local + 1 + one.bit in
+    let high : t ≤ last = behind.rest.within one.bit one.set in
+    let up = rest_inside _ local bits last behind.rest in
+    let same : t - (local + 1) ≡ one.bit = omega arith in
+    record {
+      local = t;
+      from = omega arith;
+      below = omega arith;
+      is_match = behind.rest.matching t (omega arith) high ∙ (ap (is_bit bits) same ∙ one.set);
+      placed = place_there v.searcher.masks v.zone local (local / 60 * 60 + 59) t offset i behind.ahead (omega arith) (omega arith) (minute_end local h.found.0)
+          ∙ ap Some (one_at local one.bit place offset i behind.at one.is);
+    }
+
+placed_one : (v : Window) (local bits last : ℕ) (offset place least i : ℤ) → IsPlacedTo v local → IsBehind v local bits last offset place least
+    → IsPlacedFrom (timed_of v) (local + 1) (last + 1) i → IsOneOf (place +ℤ pos 1) bits i
+unfolding timed_by
+placed_one v local bits last offset place least i h behind p =
+    let low = p.from in
+    let high = p.below in
+    let up = rest_inside _ local bits last behind.rest in
+    let there : Some (pos p.local -ℤ offset) ≡ Some i
+    = sym (place_there v.searcher.masks v.zone local (local / 60 * 60 + 59) p.local offset i behind.ahead (omega arith) (omega arith) (minute_end local h.found.0)) ∙ p.placed in
+    let same : (pos p.local -ℤ offset) ≡ i = cc in
+    record {
+      bit = p.local - (local + 1);
+      set = sym (behind.rest.matching p.local (omega arith) (omega arith)) ∙ p.is_match;
+      is = at_one local (p.local - (local + 1)) p.local place offset i behind.at (omega arith) same;
+    }
+
+above_least : (place least i : ℤ) (bit : ℕ) → least ≤ℤ place → ((place +ℤ pos 1) +ℤ pos bit) ≡ i → least <ℤ i
+above_least place least i bit le is = omega (arith, ints)
+
+one_above : (v : Window) (local bits last : ℕ) (offset place least i : ℤ) → IsPlacedTo v local → IsBehind v local bits last offset place least
+    → IsOneOf (place +ℤ pos 1) bits i → (least <ℤ i) × (v.last <ℤ i)
+one_above v local bits last offset place least i h behind one =
+    let above = above_least place least i one.bit behind.behind one.is in
+    let later = ((h.windowed.members least).0 (least_has v.pending least behind.least_is)).0 in
+    (above, omega (arith, ints))
+
+pub rest_instants : (v : Window) (local bits last : ℕ) (offset place least i : ℤ) → IsPlacedTo v local → IsBehind v local bits last offset place least
+    → IsOneOf (place +ℤ pos 1) bits i → IsInstant i
+rest_instants v local bits last offset place least i h behind one =
+    let above = (one_above v local bits last offset place least i h behind one).1 in
+    let low = h.low in
+    let begun = h.above in
+    let p = one_placed v local bits last offset place least i h behind one in
+    let near = (timed_by-near v.searcher.masks v.zone p.local i p.placed).1 in
+    let below = p.below in
+    let count = seconds_in_all-is in
+    let up = rest_inside _ local bits last behind.rest in
+    let end = minute_end local h.found.0 in
+    (omega (arith, ints), omega (arith, ints))
+
+pub rest_near : (v : Window) (local bits last : ℕ) (offset place least member i : ℤ) → IsPlacedTo v local → IsBehind v local bits last offset place least
+    → Has v.pending member → IsOneOf (place +ℤ pos 1) bits i → IsNear member i
+rest_near v local bits last offset place least member i h behind m one =
+    let p = one_placed v local bits last offset place least i h behind one in
+    let near = timed_by-near v.searcher.masks v.zone p.local i p.placed in
+    let q = ((h.windowed.members member).0 m).1 in
+    let old = timed_by-near v.searcher.masks v.zone q.local member q.placed in
+    let up = rest_inside _ local bits last behind.rest in
+    let end = behind.near member m in
+    near_both local (local / 60 * 60 + 59) p.local q.local member i q.below p.from (omega (arith, p.below)) end old.1 near
+  where
+    near_both : (local end t s : ℕ) (member i : ℤ) → s < local + 1 → local + 1 ≤ t → t ≤ end → pos end ≤ℤ (member +ℤ pos 93_599) → member ≤ℤ (pos s +ℤ pos 93_599)
+        → (pos t ≤ℤ (i +ℤ pos 93_599)) × (i ≤ℤ (pos t +ℤ pos 93_599)) → IsNear member i
+    near_both local end t s member i early late up far old near = (omega (arith, ints, near), omega (arith, ints, near))
+
+begins : (least place start : ℤ) → least ≤ℤ place → start ≡ (place +ℤ pos 1) → least <ℤ start
+begins least place start le is = omega (arith, ints)
+
+pub rest_begun : (v : Window) (local bits last : ℕ) (offset place least start : ℤ) → IsBehind v local bits last offset place least → start ≡ (place +ℤ pos 1)
+    → IsSomeAnd (first v.pending) (λ i. i <ℤ start)
+rest_begun v local bits last offset place least start behind is =
+    subst (λ (o : Option ℤ). IsSomeAnd o (λ i. i <ℤ start)) behind.least_is (begins least place start behind.behind is)
+
+reaches : (end t : ℕ) (least i : ℤ) → t ≤ end → pos end ≤ℤ (least +ℤ pos 93_599) → least ≤ℤ i → pos t ≤ℤ (i +ℤ pos 93_599)
+reaches end t least i up near le = omega (arith, ints)
+
+-- the window once the rest is put
+pub rest_put : (v : Window) (local : ℕ) (searcher : Searcher) (bits last : ℕ) (offset place least : ℤ) (pending : List ℤ) → IsPlacedTo v local → searcher.masks ≡ v.searcher.masks
+    → searcher.searches ≡ v.searcher.searches + count_from (matches (sets_in v.searcher.masks)) (local + 1) (last - local)
+    → IsBehind v local bits last offset place least → IsRising pending → ((i : ℤ) → Has pending i ↔ (Has v.pending i ⊎ IsOneOf (place +ℤ pos 1) bits i))
+    → IsPlacedTo (record v { searcher = searcher; pending = pending }) last
+rest_put v local searcher bits last offset place least pending h masks more behind rises members =
+    let begun = behind.rest.begun in
+    let up = rest_inside _ local bits last behind.rest in
+    rest_placed v local searcher bits last pending h masks more behind.rest
+    (windowed_more (timed_of v) (start_of v.base) (local + 1) (last + 1) v.last v.pending pending (omega arith) h.windowed rises
+    (λ i. (
+      λ m. elim ((members i).0 m) [
+        | inl old ↦ inl old
+        | inr one ↦ inr ((one_above v local bits last offset place least i h behind one).1, one_placed v local bits last offset place least i h behind one)
+      ],
+      λ o. (members i).1 (elim o [ inl old ↦ inl old | inr p ↦ inr (placed_one v local bits last offset place least i h behind p.1) ]),
+    ))
+    (λ i m t below. elim ((members i).0 m) [
+      | inl old ↦ reaches (local / 60 * 60 + 59) t i i (omega arith) (behind.near i old) (omega (arith, ints))
+      | inr one ↦
+          let above = (one_above v local bits last offset place least i h behind one).0 in
+          reaches (local / 60 * 60 + 59) t least i (omega arith) (behind.near least (least_has v.pending least behind.least_is)) (omega (arith, ints))
+    ]))

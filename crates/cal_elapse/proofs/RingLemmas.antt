@@ -112,7 +112,7 @@ members_near words low i j m n =
     near_in low a.at b.at i j a.is b.is a.above a.below b.above b.below
 
 -- two seconds of one round with one cell are the same
-same_second : (low i j : ℕ) → low ≤ i → i < low + 187_200 → low ≤ j → j < low + 187_200 → i % 187_200 ≡ j % 187_200 → i ≡ j
+pub same_second : (low i j : ℕ) → low ≤ i → i < low + 187_200 → low ≤ j → j < low + 187_200 → i % 187_200 ≡ j % 187_200 → i ≡ j
 same_second low i j il ih jl jh same = omega arith
 
 -- the second of a round that has the cell of another second
@@ -133,7 +133,7 @@ held_by : (words : List ℕ) (i j : ℕ) → i % 187_200 ≡ j % 187_200 → is_
 unfolding is_held
 held_by words i j same = ap (is_in_words words) same
 
-member : (words : List ℕ) (low at : ℕ) → low ≤ at → at < low + 187_200 → is_held words at ≡ true → Has (instants_in words low) (pos at)
+pub member : (words : List ℕ) (low at : ℕ) → low ≤ at → at < low + 187_200 → is_held words at ≡ true → Has (instants_in words low) (pos at)
 member words low at above below holds =
     (Has-instants words low (pos at)).1 (record { at = at; is = refl; above = above; below = below; holds = holds })
 
@@ -157,7 +157,7 @@ none_found words low none =
 
 -- The least second as it is kept
 
-kept_some : (least : ℕ) → least ≢ no_second → least_kept least ≡ Some least
+pub kept_some : (least : ℕ) → least ≢ no_second → least_kept least ≡ Some least
 kept_some least some = let test : (least == no_second) ≡ false = grind (arith, nat_tests) in rw test refl
 
 pub found_kept : (words : List ℕ) (least : ℕ) → IsFirstPassing (is_held words) least (least + 187_200) (least_kept least) → least ≢ no_second

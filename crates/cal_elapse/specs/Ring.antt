@@ -1,7 +1,7 @@
 -- A round of cells, one bit each: an instant has the cell at its number modulo the count of cells. Among as many seconds
 -- in a row as there are cells, each cell is that of one second alone.
-use Rattle.std.specs.Prelude.{◌≡◌, ◌+◌, ◌%◌, cond, if◌then◌else◌, ◌==◌, ℕ, zero, suc, Bool, List, [], ◌∷◌, length, Option, None, Some, ℤ, pos, ◌≤ℤ◌, refl}
-use Rattle.cal_elapse.specs.Bits.{is_in_words}
+use Rattle.std.specs.Prelude.{◌≡◌, ◌+◌, ◌-◌, ◌%◌, ◌+ℤ◌, true, cond, if◌then◌else◌, ◌==◌, ℕ, zero, suc, Bool, List, [], ◌∷◌, length, Option, None, Some, ℤ, pos, ◌≤ℤ◌, refl}
+use Rattle.cal_elapse.specs.Bits.{is_bit, is_in_words}
 use Rattle.cal_rising.specs.RisingList.{Has}
 use Rattle.cal_elapse.specs.Search.{IsFirstPassing}
 
@@ -16,6 +16,16 @@ cells_in_all-is = refl
 -- the bit in the cell of a second
 unfoldable pub is_held : List ℕ → ℕ → Bool
 is_held words second = is_in_words words (second % 187_200)
+
+-- how many cells a cell lies behind another, going on round the end
+abbrev pub cells_behind : ℕ → ℕ → ℕ
+cells_behind cell i = (i + 187_200 - cell) % 187_200
+
+-- the instant is as many seconds behind the start as a bit that is set has below it
+pub record IsOneOf (start : ℤ) (bits : ℕ) (i : ℤ) : Type 0 where
+  pub bit : ℕ
+  pub set : is_bit bits bit ≡ true
+  pub is : (start +ℤ pos bit) ≡ i
 
 -- those of n numbers in a row, the first of them `from`, that pass
 abbrev pub rising_from : (ℕ → Bool) → ℕ → ℕ → List ℤ

@@ -5,7 +5,7 @@ ghost use Rattle.cal_zone.specs.Instant.{IsInstant};
 ghost use Rattle.cal_elapse.specs.Near.{IsNear};
 ghost use Rattle.cal_rising.specs.RisingList.{Has, IsRising, first, later, placed};
 
-use crate::ring::{CELLS, WORDS, clear_cell, first_held, set_cell};
+use crate::ring::{CELLS, WORDS, clear_cell, first_held, set_cell, set_cells};
 use std::alloc::{AllocError, Global};
 use std::marker::Model;
 
@@ -37,6 +37,9 @@ impl Model for Pending {
 }
 
 impl Pending {
+    ghost use Rattle.std.specs.Prelude.{◌⊎◌, ◌↔◌, ◌<ℤ◌, IsSomeAnd};
+    ghost use Rattle.cal_elapse.specs.Ring.{IsOneOf};
+
     /// The empty set.
     pub fn new(alloc: Global) -> Result<Pending, AllocError>
         ensures { IfOk result (λ pending. pending ≡ []) }
@@ -56,6 +59,19 @@ impl Pending {
         let second = instant.unsigned_abs();
         set_cell(self.cells.as_mut_slice(), second % CELLS);
         self.least = self.least.min(second);
+    }
+
+    /// Adds instants behind the least member, each of which differs from each member by at most 187,199: those whose bits
+    /// are set, bit i for i seconds behind the start.
+    pub fn put_all(&mut self, start: i64, bits: u64)
+        requires begun { IsSomeAnd (first self.old) (λ least. least <ℤ start) }
+        requires instants { (i : ℤ) → IsOneOf start bits i → IsInstant i }
+        requires near { (member i : ℤ) → Has self.old member → IsOneOf start bits i → IsNear member i }
+        ensures rises { IsRising self.new }
+        ensures members { (i : ℤ) → Has self.new i ↔ (Has self.old i ⊎ IsOneOf start bits i) }
+    {
+        let second = start.unsigned_abs();
+        set_cells(self.cells.as_mut_slice(), second % CELLS, bits);
     }
 
     /// The least member; `None` where there is none.

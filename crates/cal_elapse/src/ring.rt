@@ -1,9 +1,9 @@
 //! A round of cells, one bit each, in words of 64 bits: an instant has the cell at its number modulo the count of
 //! cells.
 
-ghost use Rattle.std.specs.Prelude.{◌≡◌, ◌≢◌, ◌+◌, ◌*◌, ◌<◌, ◌≤◌, ℕ, true, false, length};
-ghost use Rattle.cal_elapse.specs.Bits.{is_in_words};
-ghost use Rattle.cal_elapse.specs.Ring.{is_held};
+ghost use Rattle.std.specs.Prelude.{◌≡◌, ◌≢◌, ◌+◌, ◌*◌, ◌<◌, ◌≤◌, ℕ, true, false, ◌||◌, length};
+ghost use Rattle.cal_elapse.specs.Bits.{is_bit, is_in_words};
+ghost use Rattle.cal_elapse.specs.Ring.{cells_behind, is_held};
 ghost use Rattle.cal_elapse.specs.Search.{IsFirstPassing};
 
 use crate::bits::{lowest_bit, next_bit, with_bit, without_bit};
@@ -68,6 +68,21 @@ pub fn set_cell(words: &mut [u64], cell: u64)
 {
     let word = (cell / 64) as usize;
     words[word] = with_bit(words[word], (cell % 64) as u32);
+}
+
+/// Fills the cells from one on, going on round the end, whose bits are set: bit i for the cell i behind it.
+pub fn set_cells(words: &mut [u64], cell: u64, bits: u64)
+    requires whole { length words.old ≡ 2_925 }
+    requires inside { cell < 187_200 }
+    ensures whole { length words.new ≡ 2_925 }
+    ensures set { (i : ℕ) → i < 187_200
+        → is_in_words words.new i ≡ (is_in_words words.old i || is_bit bits (cells_behind cell i)) }
+{
+    let word = (cell / 64) as usize;
+    let shift = (cell % 64) as u32;
+    words[word] |= bits << shift;
+    let next = if word + 1 == WORDS { 0 } else { word + 1 };
+    words[next] |= bits >> 1 >> (63 - shift);
 }
 
 /// Empties a cell.

@@ -116,6 +116,12 @@ impl<'z> Window<'z> {
                 .searcher
                 .search_left(local)
                 .last,
+            // All that is left lies behind the least pending instant, as the match does or lies at it.
+            Some(least) if least <= place => {
+                let rest = self.searcher.search_left(local);
+                self.pending.put_all(place + 1, rest.bits);
+                rest.last
+            }
             _ => local,
         }
     }

@@ -1,12 +1,13 @@
-use Rattle.std.proofs.Common.{◌∙◌, ◌+◌, ◌-◌, ◌*◌, ◌/◌, ◌-ℤ◌, ◌<◌, FitsSigned, arith, pos, rules, sym, to_z, of_z, w64, ℕ, ℤ}
+use Rattle.std.proofs.Common.{◌∙◌, ◌⊎◌, ◌↔◌, ◌+◌, ◌-◌, ◌*◌, ◌/◌, ◌-ℤ◌, FitsSigned, arith, pos, refl, rules, subst, sym, to_z, of_z, w64, ℤ}
 use Rattle.std.proofs.lemmas.Int.{to_z-of_z, to_z_pos}
 use Rattle.jiff.proofs.SpanFacts.{signed_arith}
-use Rattle.cal_zone.specs.Local.{seconds_in_all, seconds_in_all-is}
-use Rattle.jiff.specs.Types.{TimeZone}
-use Rattle.cal_zone.specs.Steady.{AreAhead}
+use Rattle.cal_zone.specs.Local.{seconds_in_all-is}
+use Rattle.cal_rising.specs.RisingList.{Has}
+use Rattle.cal_elapse.specs.Ring.{IsOneOf}
 use Rattle.cal_zone.specs.Zone.{zone_of}
 use Rattle.cal_elapse.proofs.ReadyLemmas.{few_searches, placed_is_match}
-use Rattle.cal_elapse.proofs.RestLemmas.{ahead_near, minute_end, rest_passed}
+use Rattle.cal_elapse.proofs.RestLemmas.{ahead_near, ahead_there, behind_of, minute_end, place_is, rest_begun, rest_instants, rest_near, rest_passed, rest_put, start_is}
+use Rattle.cal_elapse.proofs.WindowLemmas.{near_ahead}
 use Rattle.cal_elapse.proofs.window.Window.place_rest.Goals as goal
 
 pub overflow_add-end : goal.overflow_add-end
@@ -26,14 +27,6 @@ search_left-requires-clause-start c = placed_is_match _ c.args.local c.requires
 
 pub search_left-requires-clause-few : goal.search_left-requires-clause-few
 search_left-requires-clause-few c = few_searches _ c.args.local c.requires
-
--- how far the clock is ahead over the minute
-ahead_there : (tz : TimeZone) (local : ℕ) (offset : ℤ) → local < seconds_in_all → AreAhead tz (to_z w64 local) (to_z w64 (local / 60 * 60 + 59)) offset
-    → AreAhead tz (pos local) (pos (local / 60 * 60 + 59)) offset
-ahead_there tz local offset inside ahead =
-    let count = seconds_in_all-is in
-    let end = minute_end local inside in
-    rw (to_z_pos w64 local (omega arith), to_z_pos w64 (local / 60 * 60 + 59) (omega arith)) at ahead
 
 pub overflow_cast-place : goal.overflow_cast-place
 overflow_cast-place c = let count = seconds_in_all-is in let inside = c.requires.found.0 in omega (arith, signed_arith)
@@ -76,3 +69,71 @@ returns-in-None-clause-placed c =
     let early = c.if-place-end.true in
     rest_passed c.args.self.now c.args.local c.search_left.new.self c.search_left.result.bits c.search_left.result.last c.in-Some.offset c.requires
     c.search_left.ensures.masks c.search_left.ensures.counted c.search_left.ensures.rest (sym c.in-None.is ∙ c.least-least.ensures.least) there (omega (arith, signed_arith))
+
+pub search_left-rest-requires-clause-start : goal.search_left-rest-requires-clause-start
+search_left-rest-requires-clause-start c = placed_is_match _ c.args.local c.requires
+
+pub search_left-rest-requires-clause-few : goal.search_left-rest-requires-clause-few
+search_left-rest-requires-clause-few c = few_searches _ c.args.local c.requires
+
+pub overflow_add-place-in-Some-least : goal.overflow_add-place-in-Some-least
+overflow_add-place-in-Some-least c =
+    let count = seconds_in_all-is in
+    let inside = c.requires.found.0 in
+    let fits : FitsSigned w64 c.in-Some.offset = search rules in
+    let place = place_is (zone_of c.args.self.now.zone) c.args.local c.in-Some.offset inside c.in-Some.ensures fits in
+    let near = ahead_near _ c.args.local _ c.in-Some.offset (ahead_there (zone_of c.args.self.now.zone) c.args.local c.in-Some.offset inside c.in-Some.ensures) (omega arith) (minute_end c.args.local inside) in
+    omega (arith, signed_arith)
+
+pub put_all-requires-clause-begun : goal.put_all-requires-clause-begun
+put_all-requires-clause-begun c =
+    let v = c.args.self.now in
+    let rest = c.search_left-rest.result in
+    let fits : FitsSigned w64 c.in-Some.offset = search rules in
+    let least_fits : FitsSigned w64 c.in-Some-least.least = search rules in
+    let least = to_z-of_z w64 c.in-Some-least.least least_fits in
+    let near = near_ahead v.pending _ c.least-least.result c.is_to_place.result c.least-least.ensures.rises c.least-least.ensures.least c.is_to_place.ensures c.if-not-is_to_place.false in
+    let behind = behind_of v c.args.local rest.bits rest.last c.in-Some.offset c.in-Some-least.least _ c.requires c.search_left-rest.ensures.rest c.in-Some.ensures fits
+    (sym c.in-Some-least.is ∙ c.least-least.ensures.least) refl (omega (arith, signed_arith)) near in
+    let start = start_is (zone_of v.zone) c.args.local c.in-Some.offset c.requires.found.0 c.in-Some.ensures fits in
+    rest_begun v c.args.local rest.bits rest.last c.in-Some.offset (pos c.args.local -ℤ c.in-Some.offset) c.in-Some-least.least _ behind start
+
+pub put_all-requires-clause-instants : goal.put_all-requires-clause-instants
+put_all-requires-clause-instants c = λ i one.
+    let v = c.args.self.now in
+    let rest = c.search_left-rest.result in
+    let fits : FitsSigned w64 c.in-Some.offset = search rules in
+    let least_fits : FitsSigned w64 c.in-Some-least.least = search rules in
+    let least = to_z-of_z w64 c.in-Some-least.least least_fits in
+    let near = near_ahead v.pending _ c.least-least.result c.is_to_place.result c.least-least.ensures.rises c.least-least.ensures.least c.is_to_place.ensures c.if-not-is_to_place.false in
+    let behind = behind_of v c.args.local rest.bits rest.last c.in-Some.offset c.in-Some-least.least _ c.requires c.search_left-rest.ensures.rest c.in-Some.ensures fits
+    (sym c.in-Some-least.is ∙ c.least-least.ensures.least) refl (omega (arith, signed_arith)) near in
+    rest_instants v c.args.local rest.bits rest.last c.in-Some.offset (pos c.args.local -ℤ c.in-Some.offset) c.in-Some-least.least i c.requires behind
+    (subst (λ (s : ℤ). IsOneOf s rest.bits i) (start_is (zone_of v.zone) c.args.local c.in-Some.offset c.requires.found.0 c.in-Some.ensures fits) one)
+
+pub put_all-requires-clause-near : goal.put_all-requires-clause-near
+put_all-requires-clause-near c = λ member i m one.
+    let v = c.args.self.now in
+    let rest = c.search_left-rest.result in
+    let fits : FitsSigned w64 c.in-Some.offset = search rules in
+    let least_fits : FitsSigned w64 c.in-Some-least.least = search rules in
+    let least = to_z-of_z w64 c.in-Some-least.least least_fits in
+    let near = near_ahead v.pending _ c.least-least.result c.is_to_place.result c.least-least.ensures.rises c.least-least.ensures.least c.is_to_place.ensures c.if-not-is_to_place.false in
+    let behind = behind_of v c.args.local rest.bits rest.last c.in-Some.offset c.in-Some-least.least _ c.requires c.search_left-rest.ensures.rest c.in-Some.ensures fits
+    (sym c.in-Some-least.is ∙ c.least-least.ensures.least) refl (omega (arith, signed_arith)) near in
+    rest_near v c.args.local rest.bits rest.last c.in-Some.offset (pos c.args.local -ℤ c.in-Some.offset) c.in-Some-least.least member i c.requires behind m
+    (subst (λ (s : ℤ). IsOneOf s rest.bits i) (start_is (zone_of v.zone) c.args.local c.in-Some.offset c.requires.found.0 c.in-Some.ensures fits) one)
+
+pub returns-in-Some-least-clause-placed : goal.returns-in-Some-least-clause-placed
+returns-in-Some-least-clause-placed c =
+    let v = c.args.self.now in
+    let rest = c.search_left-rest.result in
+    let fits : FitsSigned w64 c.in-Some.offset = search rules in
+    let least_fits : FitsSigned w64 c.in-Some-least.least = search rules in
+    let least = to_z-of_z w64 c.in-Some-least.least least_fits in
+    let near = near_ahead v.pending _ c.least-least.result c.is_to_place.result c.least-least.ensures.rises c.least-least.ensures.least c.is_to_place.ensures c.if-not-is_to_place.false in
+    let behind = behind_of v c.args.local rest.bits rest.last c.in-Some.offset c.in-Some-least.least _ c.requires c.search_left-rest.ensures.rest c.in-Some.ensures fits
+    (sym c.in-Some-least.is ∙ c.least-least.ensures.least) refl (omega (arith, signed_arith)) near in
+    rest_put v c.args.local c.search_left-rest.new.self rest.bits rest.last c.in-Some.offset (pos c.args.local -ℤ c.in-Some.offset) c.in-Some-least.least c.put_all.new.self c.requires
+    c.search_left-rest.ensures.masks c.search_left-rest.ensures.counted behind c.put_all.ensures.rises
+    (subst (λ (s : ℤ). (i : ℤ) → Has c.put_all.new.self i ↔ (Has v.pending i ⊎ IsOneOf s rest.bits i)) (start_is (zone_of v.zone) c.args.local c.in-Some.offset c.requires.found.0 c.in-Some.ensures fits) c.put_all.ensures.members)

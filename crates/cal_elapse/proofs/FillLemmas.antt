@@ -1,0 +1,230 @@
+-- Cells that are filled all at once, and the instants that are seen then.
+use Rattle.std.proofs.Common.{◌≡◌, ◌≢◌, ◌⊎◌, ◌↔◌, ◌<ℤ◌, ◌+ℤ◌, ◌≤ℤ◌, ℕ, ℤ, ◌+◌, ◌-◌, ◌*◌, ◌/◌, ◌%◌, ◌^◌, ◌<◌, ◌≤◌, ◌||◌, Bool, true, false, List, Option, None, Some, bit_or, length, get_or, set, pos, negsuc, unsigned_abs, IsSomeAnd, inl, inr, refl, sym, ap, ◌∙◌, subst, arith, get_or-set_same, get_or-set_other}
+use Rattle.std.proofs.Math.ListN.{length-set}
+use Rattle.std.proofs.lemmas.Bool.{cases_eq, cases_lt, or_cases}
+use Rattle.std.proofs.lemmas.Int.{ints}
+use Rattle.cal_zone.specs.Instant.{IsInstant}
+use Rattle.cal_rising.specs.RisingList.{Has, first}
+use Rattle.cal_elapse.specs.Bits.{is_bit, is_in_words}
+use Rattle.cal_elapse.specs.Near.{IsNear}
+use Rattle.cal_elapse.specs.Ring.{IsOneOf, IsRoundFrom, cells_behind, instants_in, is_held, no_second}
+use Rattle.cal_elapse.specs.Search.{IsFirstPassing}
+use Rattle.cal_elapse.proofs.BitLemmas.{is_bit-above, is_bit-or, is_bit-shifted, is_bit-up, is_bit-up_none}
+use Rattle.cal_elapse.proofs.CarryLemmas.{below_end}
+use Rattle.cal_elapse.proofs.RingLemmas.{Has-instants, IsIn, first_found, found_kept, kept_some, member, none_found, none_kept, same_second}
+
+-- The cells
+
+in_word : (words : List ℕ) (i word : ℕ) → i / 64 ≡ word → is_in_words words i ≡ is_bit (get_or words word 0) (i % 64)
+unfolding is_in_words
+in_word words i word same = ap (λ (w : ℕ). is_bit (get_or words w 0) (i % 64)) same
+
+-- a word with more numbers
+filled_here : (words : List ℕ) (word more i : ℕ) → word < length words → i / 64 ≡ word
+    → is_in_words (set words word (bit_or (get_or words word 0) more)) i ≡ (is_in_words words i || is_bit more (i % 64))
+filled_here words word more i inside same =
+    in_word (set words word (bit_or (get_or words word 0) more)) i word same
+    ∙ (ap (λ (w : ℕ). is_bit w (i % 64)) (get_or-set_same words word (bit_or (get_or words word 0) more) 0 inside)
+    ∙ (is_bit-or (get_or words word 0) more (i % 64) ∙ ap (λ (b : Bool). b || is_bit more (i % 64)) (sym (in_word words i word same))))
+
+filled_else : (words : List ℕ) (word value i : ℕ) → i / 64 ≢ word → is_in_words (set words word value) i ≡ is_in_words words i
+filled_else words word value i other =
+    in_word (set words word value) i (i / 64) refl
+    ∙ (ap (λ (w : ℕ). is_bit w (i % 64)) (get_or-set_other words word (i / 64) value 0 other) ∙ sym (in_word words i (i / 64) refl))
+
+or_false : (a b : Bool) → b ≡ false → a ≡ (a || b)
+or_false true b h = refl
+or_false false b h = sym h
+
+-- the bits that stay in the word of the first cell, and those that go on to the next
+up_is : (bits cell i : ℕ) → bits < 2 ^ 64 → cell < 187_200 → i < 187_200 → i / 64 ≡ cell / 64
+    → is_bit (bits * 2 ^ (cell % 64) % 2 ^ 64) (i % 64) ≡ is_bit bits (cells_behind cell i)
+up_is bits cell i fits inside there same =
+    elim (cases_lt (i % 64) (cell % 64)) [
+      | inl early ↦ is_bit-up_none bits (cell % 64) (i % 64) (omega arith) early ∙ sym (is_bit-above bits 64 (cells_behind cell i) fits (omega arith))
+      | inr late ↦ is_bit-up bits (cell % 64) (i % 64) (omega arith) late ∙ ap (is_bit bits) (omega arith)
+    ]
+
+down_is : (bits cell i next : ℕ) → cell < 187_200 → i < 187_200 → (next ≡ cell / 64 + 1) ⊎ ((next ≡ 0) × (cell / 64 ≡ 2_924)) → i / 64 ≡ next
+    → is_bit (bits / 2 ^ 1 / 2 ^ (63 - cell % 64)) (i % 64) ≡ is_bit bits (cells_behind cell i)
+down_is bits cell i next inside there turn same =
+    is_bit-shifted (bits / 2 ^ 1) (63 - cell % 64) (i % 64)
+    ∙ (is_bit-shifted bits 1 (63 - cell % 64 + i % 64)
+    ∙ ap (is_bit bits) (elim turn [ inl on ↦ omega arith | inr round ↦ omega (arith, round.0, round.1) ]))
+
+far_behind : (cell i next : ℕ) → cell < 187_200 → i < 187_200 → (next ≡ cell / 64 + 1) ⊎ ((next ≡ 0) × (cell / 64 ≡ 2_924)) → next < 2_925
+    → i / 64 ≢ cell / 64 → i / 64 ≢ next → 64 ≤ cells_behind cell i
+far_behind cell i next inside there turn next_in other apart = elim turn [ inl on ↦ omega arith | inr round ↦ omega (arith, round.0, round.1) ]
+
+-- all cells once both words are changed
+pub filled : (words : List ℕ) (cell bits next i : ℕ) → length words ≡ 2_925 → cell < 187_200 → bits < 2 ^ 64 → (next ≡ cell / 64 + 1) ⊎ ((next ≡ 0) × (cell / 64 ≡ 2_924))
+    → next < 2_925 → i < 187_200
+    → let one = set words (cell / 64) (bit_or (get_or words (cell / 64) 0) (bits * 2 ^ (cell % 64) % 2 ^ 64)) in
+    is_in_words (set one next (bit_or (get_or one next 0) (bits / 2 ^ 1 / 2 ^ (63 - cell % 64)))) i ≡ (is_in_words words i || is_bit bits (cells_behind cell i))
+filled words cell bits next i long inside fits turn next_in there =
+    let up = bits * 2 ^ (cell % 64) % 2 ^ 64 in
+    let down = bits / 2 ^ 1 / 2 ^ (63 - cell % 64) in
+    let one = set words (cell / 64) (bit_or (get_or words (cell / 64) 0) up) in
+    let same_length : length one ≡ length words = simp length-set in
+    elim (cases_eq (i / 64) next) [
+      | inl same ↦
+          let apart : i / 64 ≢ cell / 64 = λ e. elim turn [ inl on ↦ omega arith | inr round ↦ omega (arith, round.0, round.1) ] in
+          filled_here one next down i (omega arith) same
+          ∙ (ap (λ (b : Bool). b || is_bit down (i % 64)) (filled_else words (cell / 64) (bit_or (get_or words (cell / 64) 0) up) i apart)
+          ∙ ap (λ (b : Bool). is_in_words words i || b) (down_is bits cell i next inside there turn same))
+      | inr other ↦
+          filled_else one next (bit_or (get_or one next 0) down) i other
+          ∙ elim (cases_eq (i / 64) (cell / 64)) [
+            | inl here ↦
+                filled_here words (cell / 64) up i (omega arith) here ∙ ap (λ (b : Bool). is_in_words words i || b) (up_is bits cell i fits inside there here)
+            | inr apart ↦
+                filled_else words (cell / 64) (bit_or (get_or words (cell / 64) 0) up) i apart
+                ∙ or_false (is_in_words words i) (is_bit bits (cells_behind cell i)) (is_bit-above bits 64 (cells_behind cell i) fits (far_behind cell i next inside there turn next_in apart other))
+          ]
+    ]
+
+-- The instants
+
+-- each second of a round is held if it was, or is one whose bit is set
+pub record HasAll (old new : List ℕ) (start bits : ℕ) : Type 0 where
+  pub held : (i : ℕ) → i < 187_200 → is_in_words new i ≡ (is_in_words old i || is_bit bits (cells_behind (start % 187_200) i))
+
+held_all : (old new : List ℕ) (start bits t : ℕ) → HasAll old new start bits → is_held new t ≡ (is_held old t || is_bit bits (cells_behind (start % 187_200) (t % 187_200)))
+unfolding is_held
+held_all old new start bits t all = all.held (t % 187_200) (omega arith)
+
+or_left : (a b : Bool) → a ≡ true → (a || b) ≡ true
+or_left a b h = rw h refl
+
+or_right : (a b : Bool) → b ≡ true → (a || b) ≡ true
+or_right true b h = refl
+or_right false b h = h
+
+still_held : (old new : List ℕ) (start bits t : ℕ) → HasAll old new start bits → is_held old t ≡ true → is_held new t ≡ true
+still_held old new start bits t all holds = held_all old new start bits t all ∙ or_left _ _ holds
+
+new_held : (old new : List ℕ) (start bits bit : ℕ) → HasAll old new start bits → is_bit bits bit ≡ true → bit < 64 → is_held new (start + bit) ≡ true
+new_held old new start bits bit all set small =
+    let behind : cells_behind (start % 187_200) ((start + bit) % 187_200) ≡ bit = omega arith in
+    held_all old new start bits (start + bit) all ∙ or_right _ _ (ap (is_bit bits) behind ∙ set)
+
+-- the round from `least` on has each of the new seconds
+pub record IsRoundOfAll (least start bits : ℕ) : Type 0 where
+  pub behind : least < start
+  pub inside : (bit : ℕ) → is_bit bits bit ≡ true → start + bit < least + 187_200
+  pub early : (bit : ℕ) → is_bit bits bit ≡ true → start + bit ≤ 7_258_211_998
+
+one_at : (start bit : ℕ) (i : ℤ) → pos start +ℤ pos bit ≡ i → pos (start + bit) ≡ i
+one_at start bit i is = omega (arith, ints)
+
+one_there : (start t bits bit : ℕ) (i : ℤ) → pos t ≡ i → t ≡ start + bit → is_bit bits bit ≡ true → IsOneOf (pos start) bits i
+one_there start t bits bit i is at set = record { bit = bit; set = set; is = omega (arith, ints) }
+
+small_bit : (bits bit : ℕ) → bits < 2 ^ 64 → is_bit bits bit ≡ true → bit < 64
+small_bit bits bit fits set = below_end (is_bit bits) 64 bit (λ j high. is_bit-above bits 64 j fits high) set
+
+filled_there : (old new : List ℕ) (least start bits : ℕ) (i : ℤ) → HasAll old new start bits → IsRoundOfAll least start bits → bits < 2 ^ 64 → IsIn new least i
+    → Has (instants_in old least) i ⊎ IsOneOf (pos start) bits i
+filled_there old new least start bits i all round fits a =
+    let above = a.above in
+    let below = a.below in
+    let behind = round.behind in
+    elim (or_cases _ _ (sym (held_all old new start bits a.at all) ∙ a.holds)) [
+      | inl was ↦ inl (subst (Has (instants_in old least)) a.is (member old least a.at above below was))
+      | inr set ↦
+          let bit : ℕ = cells_behind (start % 187_200) (a.at % 187_200) in
+          let small = small_bit bits bit fits set in
+          let inside = round.inside bit set in
+          inr (one_there start a.at bits bit i a.is (same_second least a.at (start + bit) above below (omega arith) inside (omega arith)) set)
+    ]
+
+filled_back : (old new : List ℕ) (least start bits : ℕ) (i : ℤ) → HasAll old new start bits → IsRoundOfAll least start bits → bits < 2 ^ 64
+    → Has (instants_in old least) i ⊎ IsOneOf (pos start) bits i → Has (instants_in new least) i
+filled_back old new least start bits i all round fits (inl m) =
+    let a = (Has-instants old least i).0 m in
+    subst (Has (instants_in new least)) a.is (member new least a.at a.above a.below (still_held old new start bits a.at all a.holds))
+filled_back old new least start bits i all round fits (inr one) =
+    let behind = round.behind in
+    let held = new_held old new start bits one.bit all one.set (small_bit bits one.bit fits one.set) in
+    subst (Has (instants_in new least)) (one_at start one.bit i one.is) (member new least (start + one.bit) (omega arith) (round.inside one.bit one.set) held)
+
+-- what is seen once all are put
+pub filled_seen : (old new : List ℕ) (least start bits : ℕ) (i : ℤ) → HasAll old new start bits → IsRoundOfAll least start bits → bits < 2 ^ 64
+    → Has (instants_in new least) i ↔ (Has (instants_in old least) i ⊎ IsOneOf (pos start) bits i)
+filled_seen old new least start bits i all round fits =
+    (λ m. filled_there old new least start bits i all round fits ((Has-instants new least i).0 m), λ o. filled_back old new least start bits i all round fits o)
+
+one_early : (start bit : ℕ) (i : ℤ) → pos start +ℤ pos bit ≡ i → start + bit ≤ 7_258_211_998 → i ≤ℤ pos 7_258_211_998
+one_early start bit i is early = omega (arith, ints)
+
+-- The set of instants
+
+-- the round begins with its least second, below the start
+pub record IsBegun (words : List ℕ) (least : ℕ) (start : ℤ) : Type 0 where
+  pub some : least ≢ no_second
+  pub found : IsFirstPassing (is_held words) least (least + 187_200) (Some least)
+  pub below : pos least <ℤ start
+
+begun_by : (o : Option ℤ) (least : ℕ) (start : ℤ) → o ≡ Some (pos least) → IsSomeAnd o (λ x. x <ℤ start) → pos least <ℤ start
+begun_by o least start is begun = subst (λ (p : Option ℤ). IsSomeAnd p (λ x. x <ℤ start)) is begun
+
+none_begun : (o : Option ℤ) (start : ℤ) → o ≡ None → IsSomeAnd o (λ x. x <ℤ start) → ⊥
+none_begun o start is begun = subst (λ (p : Option ℤ). IsSomeAnd p (λ x. x <ℤ start)) is begun
+
+pub begun_least : (words : List ℕ) (least : ℕ) (start : ℤ) (members : List ℤ) → instants_in words least ≡ members → IsRoundFrom words least
+    → IsSomeAnd (first members) (λ x. x <ℤ start) → IsBegun words least start
+begun_least words least start members view was begun =
+    elim (cases_eq least no_second) [
+      | inl same ↦ absurd (none_begun (first members) start (ap first (sym view) ∙ none_found words least (none_kept words least was.first same)) begun)
+      | inr some ↦
+          let found = found_kept words least was.first some in
+          record { some = some; found = found; below = begun_by (first members) least start (ap first (sym view) ∙ first_found words least least found) begun }
+    ]
+
+pub start_is : (start : ℤ) (second least : ℕ) → pos least <ℤ start → second ≡ unsigned_abs start → pos second ≡ start
+start_is (pos n) second least below e = ap pos e
+start_is (negsuc n) second least below e = absurd (omega (arith, ints))
+
+within_round : (least second bit : ℕ) (i : ℤ) → IsNear (pos least) i → (pos second +ℤ pos bit) ≡ i → second + bit < least + 187_200
+within_round least second bit i near is = let high = near.1 in omega (arith, ints)
+
+early_enough : (second bit : ℕ) (i : ℤ) → IsInstant i → (pos second +ℤ pos bit) ≡ i → second + bit ≤ 7_258_211_998
+early_enough second bit i instant is = let high = instant.1 in omega (arith, ints)
+
+behind_by : (least second : ℕ) (start : ℤ) → pos second ≡ start → pos least <ℤ start → least < second
+behind_by least second start is below = omega (arith, ints)
+
+one_of : (start : ℤ) (second bits bit : ℕ) → pos second ≡ start → is_bit bits bit ≡ true → IsOneOf start bits (start +ℤ pos bit)
+one_of start second bits bit is set = record { bit = bit; set = set; is = refl }
+
+pub round_of_all : (words : List ℕ) (least second bits : ℕ) (start : ℤ) (members : List ℤ) → instants_in words least ≡ members → IsBegun words least start → pos second ≡ start
+    → ((i : ℤ) → IsOneOf start bits i → IsInstant i) → ((one i : ℤ) → Has members one → IsOneOf start bits i → IsNear one i) → IsRoundOfAll least second bits
+round_of_all words least second bits start members view begun is instants near =
+    let found = begun.found in
+    let there : Has members (pos least) = subst (λ (xs : List ℤ). Has xs (pos least)) view (member words least least found.0 found.1 found.2) in
+    record {
+      behind = behind_by least second start is begun.below;
+      inside = λ bit set. within_round least second bit (start +ℤ pos bit) (near (pos least) (start +ℤ pos bit) there (one_of start second bits bit is set)) (ap (λ (z : ℤ). z +ℤ pos bit) is);
+      early = λ bit set. early_enough second bit (start +ℤ pos bit) (instants (start +ℤ pos bit) (one_of start second bits bit is set)) (ap (λ (z : ℤ). z +ℤ pos bit) is);
+    }
+
+pub filled_from : (old new : List ℕ) (least start bits : ℕ) (at : ℤ) → HasAll old new start bits → IsRoundOfAll least start bits → bits < 2 ^ 64 → length new ≡ 2_925
+    → IsBegun old least at → IsRoundFrom old least → IsRoundFrom new least
+filled_from old new least start bits at all round fits whole begun was =
+    let first : IsFirstPassing (is_held new) least (least + 187_200) (Some least)
+    = (omega arith, omega arith, still_held old new start bits least all begun.found.2, λ t above below. absurd (omega arith)) in
+    record {
+      round = record {
+        whole = whole;
+        members = λ i m. elim ((filled_seen old new least start bits i all round fits).0 m) [ inl n ↦ was.round.members i n | inr one ↦ one_early start one.bit i one.is (round.early one.bit one.set) ];
+      };
+      first = subst (IsFirstPassing (is_held new) least (least + 187_200)) (sym (kept_some least begun.some)) first;
+    }
+
+pub filled_answer : (old new : List ℕ) (least second bits : ℕ) (start : ℤ) (members : List ℤ) → HasAll old new second bits → IsRoundOfAll least second bits → bits < 2 ^ 64
+    → instants_in old least ≡ members → pos second ≡ start → (i : ℤ) → Has (instants_in new least) i ↔ (Has members i ⊎ IsOneOf start bits i)
+filled_answer old new least second bits start members all round fits view is i =
+    let seen = filled_seen old new least second bits i all round fits in (
+      λ m. elim (seen.0 m) [ inl n ↦ inl (subst (λ (xs : List ℤ). Has xs i) view n) | inr one ↦ inr (subst (λ (z : ℤ). IsOneOf z bits i) is one) ],
+      λ o. seen.1 (elim o [ inl n ↦ inl (subst (λ (xs : List ℤ). Has xs i) (sym view) n) | inr one ↦ inr (subst (λ (z : ℤ). IsOneOf z bits i) (sym is) one) ]),
+    )
