@@ -1,9 +1,10 @@
 -- The bits of a word.
-use Rattle.std.proofs.Common.{◌≡◌, ◌==◌, ℕ, ◌+◌, ◌&&◌, ◌||◌, bit_and, bit_or, min, max, ◌*◌, refl, ◌-◌, ◌/◌, ◌%◌, ◌^◌, ◌<◌, ◌≤◌, true, false, Some, w64, ap, pow_pos, subst, inl, inr, sym, ◌∙◌, arith}
+use Rattle.std.proofs.Common.{◌≡◌, ◌==◌, ℕ, ◌+◌, ◌&&◌, ◌||◌, bit_and, bit_or, min, max, ◌*◌, refl, ◌-◌, ◌/◌, ◌%◌, ◌^◌, ◌<◌, ◌≤◌, true, false, Some, w64, ap, pow_pos, subst, inl, inr, sym, ◌∙◌, arith, nat_le, nat_lt}
 use Rattle.std.specs.Int.{bit_at, trailing_zeros}
-use Rattle.std.proofs.lemmas.Bool.{cases_lt}
+use Rattle.std.proofs.lemmas.Bool.{cases_lt, le-ltb, lt-ltb}
+use Rattle.std.proofs.lemmas.Bool.Decides.{nat_tests}
 use Rattle.std.proofs.lemmas.Nat.{shr-shr, shr_le}
-use Rattle.std.proofs.lemmas.Nat.Bits.{bit_at-lt, bit_at-trailing_zeros, bit_at-zero, bit_at_above, bit_at_and, bit_at_cat_high, bit_at_cat_low, bit_at_or}
+use Rattle.std.proofs.lemmas.Nat.Bits.{bit_at-lt, bit_at-trailing_zeros, bit_at-zero, bit_at_above, bit_at_and, bit_at_cat_high, bit_at_cat_low, bit_at_or, bit_at_mask_above, bit_at_mask_below, bit_at_mask_inside, bit_at_ones, bit_at_ones_above, ones_shl, ones_shr}
 use Rattle.cal_elapse.specs.Bits.{is_bit}
 use Rattle.cal_elapse.specs.Search.{IsFirstPassing, NonePasses}
 
@@ -74,20 +75,20 @@ pub is_bit-and : (m n i : ℕ) → is_bit (bit_and m n) i ≡ (is_bit m i && is_
 unfolding is_bit
 is_bit-and m n i = ap (λ (b : ℕ). b == 1) (bit_at_and m n i) ∙ min_one (bit_at m i) (bit_at n i) (bit_at-lt m i) (bit_at-lt n i)
 
-pub is_bit-none : (i : ℕ) → is_bit 0 i ≡ false
-is_bit-none i = is_bit-zero 0 i (bit_at-zero i)
-
-or_one : (x y : ℕ) → x < 2 → y < 2 → (max x y == 1) ≡ ((x == 1) || (y == 1))
-or_one x y p q =
+max_one : (x y : ℕ) → x < 2 → y < 2 → (max x y == 1) ≡ ((x == 1) || (y == 1))
+max_one x y p q =
     elim (cases_lt x 1) [
-      | inl low ↦ (let none : x ≡ 0 = omega arith in let most : max x y ≡ y = omega arith in rw (most, none) refl)
-      | inr high ↦ (let one : x ≡ 1 = omega arith in let most : max x y ≡ 1 = omega arith in rw (most, one) refl)
+      | inl low ↦ (let none : x ≡ 0 = omega arith in let most : max x y ≡ y = omega arith in rw (most, none))
+      | inr high ↦ (let one : x ≡ 1 = omega arith in let most : max x y ≡ 1 = omega arith in rw (most, one))
     ]
 
--- what one of two words has
+-- what either word has
 pub is_bit-or : (m n i : ℕ) → is_bit (bit_or m n) i ≡ (is_bit m i || is_bit n i)
 unfolding is_bit
-is_bit-or m n i = ap (λ (b : ℕ). b == 1) (bit_at_or m n i) ∙ or_one (bit_at m i) (bit_at n i) (bit_at-lt m i) (bit_at-lt n i)
+is_bit-or m n i = ap (λ (b : ℕ). b == 1) (bit_at_or m n i) ∙ max_one (bit_at m i) (bit_at n i) (bit_at-lt m i) (bit_at-lt n i)
+
+pub is_bit-none : (i : ℕ) → is_bit 0 i ≡ false
+is_bit-none i = is_bit-zero 0 i (bit_at-zero i)
 
 -- a word that is moved up has its numbers so much further up, as far as they are below 64
 cut_off : (m i : ℕ) → i < 64 → bit_at (m % 2 ^ 64) i ≡ bit_at m i
@@ -104,3 +105,40 @@ pub is_bit-up_none : (m k i : ℕ) → i < 64 → i < k → is_bit (m * 2 ^ k % 
 is_bit-up_none m k i low high =
     let whole : m * 2 ^ k + 0 ≡ m * 2 ^ k = omega arith in
     is_bit-zero (m * 2 ^ k % 2 ^ 64) i (cut_off (m * 2 ^ k) i low ∙ (ap (λ (x : ℕ). bit_at x i) (sym whole) ∙ (bit_at_cat_low m k 0 i high ∙ bit_at-zero i)))
+
+-- the ones below a place, those from a place on, and those between two places
+ones_below : (high i : ℕ) → high ≤ 64 → is_bit ((2 ^ 64 - 1) / 2 ^ (64 - high)) i ≡ nat_lt i high
+ones_below high i within =
+    let width : 64 - (64 - high) ≡ high = omega arith in
+    let ones : (2 ^ 64 - 1) / 2 ^ (64 - high) ≡ 2 ^ high - 1 = ones_shr 64 (64 - high) (omega arith) ∙ ap (λ (w : ℕ). 2 ^ w - 1) width in
+    ap (λ (m : ℕ). is_bit m i) ones
+    ∙ elim (cases_lt i high) [
+      | inl low ↦ is_bit-one (2 ^ high - 1) i (bit_at_ones high i low) ∙ sym (lt-ltb i high low)
+      | inr past ↦ is_bit-zero (2 ^ high - 1) i (bit_at_ones_above high i past) ∙ sym (le-ltb i high past)
+    ]
+
+ones_from : (low i : ℕ) → low ≤ 64 → is_bit ((2 ^ 64 - 1) * 2 ^ low % 2 ^ 64) i ≡ (nat_le low i && nat_lt i 64)
+ones_from low i within =
+    ap (λ (m : ℕ). is_bit m i) (ones_shl 64 low within)
+    ∙ elim (cases_lt i low) [
+      | inl under ↦
+          (let out : (nat_le low i && nat_lt i 64) ≡ false = grind (arith, nat_tests) in
+          is_bit-zero (2 ^ 64 - 2 ^ low) i (bit_at_mask_below low 64 i under) ∙ sym out)
+      | inr above ↦
+          elim (cases_lt i 64) [
+            | inl inside ↦
+                (let here : (nat_le low i && nat_lt i 64) ≡ true = grind (arith, nat_tests) in
+                is_bit-one (2 ^ 64 - 2 ^ low) i (bit_at_mask_inside low 64 i above inside) ∙ sym here)
+            | inr past ↦
+                (let out : (nat_le low i && nat_lt i 64) ≡ false = grind (arith, nat_tests) in
+                is_bit-zero (2 ^ 64 - 2 ^ low) i (bit_at_mask_above low 64 i past) ∙ sym out)
+          ]
+    ]
+
+pub is_bit-run : (low high i : ℕ) → low < high → high ≤ 64
+    → is_bit (bit_and ((2 ^ 64 - 1) * 2 ^ low % 2 ^ 64) ((2 ^ 64 - 1) / 2 ^ (64 - high))) i ≡ (nat_le low i && nat_lt i high)
+is_bit-run low high i some within =
+    let from = ones_from low i (omega arith) in
+    let below = ones_below high i within in
+    let both : ((nat_le low i && nat_lt i 64) && nat_lt i high) ≡ (nat_le low i && nat_lt i high) = grind (arith, nat_tests) in
+    is_bit-and ((2 ^ 64 - 1) * 2 ^ low % 2 ^ 64) ((2 ^ 64 - 1) / 2 ^ (64 - high)) i ∙ (rw (from, below) both)

@@ -1,14 +1,16 @@
 //! The bits of a calendar expression's members (systemd.time(7), Calendar Events).
 
-ghost use Rattle.std.specs.Prelude.{◌≡◌, ◌+◌, ◌-◌, ◌%◌, ◌<◌, ◌≤◌, ◌&&◌, ◌||◌, ◌≢◌, ℕ, Bool, false, nat_lt, slice_index_or, if◌then◌else◌};
+ghost use Rattle.std.specs.Prelude.{◌≡◌, ◌==◌, ◌+◌, ◌-◌, ◌%◌, ◌<◌, ◌≤◌, ◌&&◌, ◌||◌, ◌≢◌, ℕ, Bool, false, nat_le, nat_lt, slice_index_or, if◌then◌else◌};
+ghost use Rattle.std.specs.List.{list_any};
 ghost use Rattle.cal_elapse.specs.Bits.{is_bit};
-ghost use Rattle.cal_elapse.specs.Masks.{sets_in};
-ghost use Rattle.cal_spec.specs.Members.{members_of, sets_of};
+ghost use Rattle.cal_elapse.specs.Masks.{IsWindow, last_number, sets_in, slot_of};
+ghost use Rattle.cal_spec.specs.Members.{members_of, part_has, sets_of};
 ghost use Rattle.cal_spec.specs.declared.field.Field.TheVariants.{Day};
+ghost use Rattle.cal_spec.specs.declared.slot.Slot.{Slot};
 
 use crate::bits::with_bit;
 use crate::masks::Masks;
-use cal_spec::{Expr, Field};
+use cal_spec::{Expr, Field, Part};
 
 impl Masks {
     /// The masks of an expression: they have exactly its members.
@@ -45,45 +47,108 @@ fn weeks(weekdays: &[bool; 7]) -> u64
     mask
 }
 
-/// Which of so many numbers from the first on are members of a field.
+/// Which of so many numbers from the first on are members of a field that has them all.
 fn members(expr: &Expr, field: Field, first: u16, count: u32) -> u64
     requires few { count ≤ 64 }
-    requires within { first ≤ 2_199 }
+    requires window { IsWindow (slot_of field expr.now.from_end) first count }
     ensures { (i : ℕ) → is_bit result i ≡ (nat_lt i count && members_of field (sets_of expr.now) (first + i)) }
 {
+    match expr.field(field) {
+        Some(parts) => in_parts(parts, first, count),
+        None => run(0, count),
+    }
+}
+
+/// Which of so many numbers from the first on one of the parts has.
+fn in_parts(parts: &[Part], first: u16, count: u32) -> u64
+    requires few { count ≤ 64 }
+    requires within { first ≤ 2_200 }
+    ensures { (slot : Slot) → IsWindow slot first count → (i : ℕ)
+        → is_bit result i ≡ (nat_lt i count && list_any (λ part. part_has slot part (first + i)) parts.now) }
+{
     let mut mask = 0;
-    for place in 0..count {
-        mask = put_bit(mask, place, expr.has_member(field, first + place as u16));
+    for part in parts {
+        mask |= in_part(*part, first, count);
+    }
+    mask
+}
+
+/// Which of so many numbers from the first on the part has.
+fn in_part(part: Part, first: u16, count: u32) -> u64
+    requires few { count ≤ 64 }
+    requires within { first ≤ 2_200 }
+    ensures { (slot : Slot) → IsWindow slot first count → (i : ℕ)
+        → is_bit result i ≡ (nat_lt i count && part_has slot part (first + i)) }
+{
+    let low = u32::from(part.start.saturating_sub(first));
+    let high = (u32::from(last_of(part)) + 1)
+        .saturating_sub(u32::from(first))
+        .min(count);
+    match part.step {
+        Some(step) => steps(low, high, first, part.start, step),
+        None => run(low, high),
+    }
+}
+
+/// The last number that the part may have; a repetition without an end goes on.
+fn last_of(part: Part) -> u16
+    ensures { result ≡ last_number part.start part.end part.step }
+{
+    match (part.end, part.step) {
+        (Some(end), _) => end,
+        (None, Some(_)) => u16::MAX,
+        (None, None) => part.start,
+    }
+}
+
+/// The places from one on, and below another.
+fn run(low: u32, high: u32) -> u64
+    requires { high ≤ 64 }
+    ensures { (i : ℕ) → is_bit result i ≡ (nat_le low i && nat_lt i high) }
+{
+    if low < high {
+        u64::MAX << low & u64::MAX >> (64 - high)
+    } else {
+        0
+    }
+}
+
+/// Those of them whose numbers are a multiple of the step above the start.
+fn steps(low: u32, high: u32, first: u16, start: u16, step: u16) -> u64
+    requires few { high ≤ 64 }
+    requires within { first ≤ 2_200 }
+    ensures { (i : ℕ) → is_bit result i ≡ ((nat_le low i && nat_lt i high) && ((first + i - start) % step == 0)) }
+{
+    let mut mask = 0;
+    for place in low..high {
+        let distance = (first + place as u16).saturating_sub(start);
+        mask = put_bit(mask, place, distance.is_multiple_of(step));
     }
     mask
 }
 
 /// Which days are members, or which counts from the month's end, the greatest count first.
 fn days(expr: &Expr, from_end: bool) -> u64
+    requires { from_end ≡ expr.now.from_end }
     ensures { (i : ℕ) → is_bit result i
         ≡ (nat_lt i 31 && members_of Day (sets_of expr.now) (if from_end then 31 - i else i + 1)) }
 {
-    let mut mask = 0;
-    for place in 0..31 {
-        mask = put_bit(
-            mask,
-            place,
-            expr.has_member(Field::Day, day_at(from_end, place)),
-        );
+    if from_end {
+        counts_from_end(expr)
+    } else {
+        members(expr, Field::Day, 1, 31)
     }
-    mask
 }
 
-/// The number of the day at a place.
-fn day_at(from_end: bool, place: u32) -> u16
-    requires { place < 31 }
-    ensures { result ≡ (if from_end then 31 - place else place + 1) }
+/// Which counts from the month's end are members, the greatest count first.
+fn counts_from_end(expr: &Expr) -> u64
+    ensures { (i : ℕ) → is_bit result i ≡ (nat_lt i 31 && members_of Day (sets_of expr.now) (31 - i)) }
 {
-    if from_end {
-        31 - place as u16
-    } else {
-        place as u16 + 1
+    let mut mask = 0;
+    for place in 0..31 {
+        mask = put_bit(mask, place, expr.has_member(Field::Day, 31 - place as u16));
     }
+    mask
 }
 
 /// A word with a number more where that is a member.

@@ -1,13 +1,22 @@
-use Rattle.std.proofs.Common.{◌+◌, ◌||◌, ◌∙◌, ap, Bool}
-use Rattle.cal_elapse.specs.Bits.{is_bit}
-use Rattle.cal_elapse.proofs.MasksLemmas.{filled_more, filled_none}
-use Rattle.cal_spec.specs.Members.{members_of, sets_of}
+use Rattle.std.proofs.Common.{◌&&◌, ◌+◌, Bool, List, Option, nat_lt, sym, ap, ◌∙◌, arith}
+use Rattle.cal_elapse.specs.Masks.{slot_of}
+use Rattle.cal_elapse.proofs.PartLemmas.{greatest_of_all, members_by, whole_window}
+use Rattle.cal_spec.specs.Members.{component_has}
+use Rattle.cal_spec.specs.declared.part.Part.{Part}
 use Rattle.cal_elapse.proofs.masks_of.members.Goals as goal
 
-pub loop-place-init : goal.loop-place-init
-loop-place-init c = filled_none (λ i. members_of c.args.field (sets_of c.args.expr.now) (c.args.first + i))
+pub in_parts-requires-clause-within : goal.in_parts-requires-clause-within
+in_parts-requires-clause-within c = omega (arith, greatest_of_all (slot_of c.args.field c.args.expr.now.from_end))
 
-pub loop-place-preserved : goal.loop-place-preserved
-loop-place-preserved c =
-    filled_more c.loop-place.mask c.put_bit-mask.result c.loop-place.place (λ i. members_of c.args.field (sets_of c.args.expr.now) (c.args.first + i)) c.loop-place.invariant
-    (c.put_bit-mask.ensures.here ∙ ap (λ (b : Bool). b || is_bit c.loop-place.mask c.loop-place.place) c.has_member.ensures) c.put_bit-mask.ensures.others
+pub returns-in-Some : goal.returns-in-Some
+returns-in-Some c = λ i.
+    let e = c.args.expr.now in
+    let slot = slot_of c.args.field e.from_end in
+    let v = c.args.first + i in
+    c.in_parts.ensures slot c.requires.window i
+    ∙ ap (λ (b : Bool). nat_lt i c.args.count && b)
+    (ap (λ (parts : Option (List Part)). component_has slot parts v) c.in-Some.ensures.parts ∙ sym (members_by c.args.field e v))
+
+pub returns-in-None : goal.returns-in-None
+returns-in-None c = λ i.
+    c.run.ensures i ∙ whole_window c.args.field c.args.expr.now c.args.first c.args.count i c.requires.window c.in-None.ensures.parts

@@ -1,0 +1,8 @@
+use Rattle.std.proofs.Common.{◌≡◌, ◌&&◌, ◌-◌, ℕ, nat_lt}
+use Rattle.cal_elapse.specs.Bits.{is_bit}
+use Rattle.cal_spec.specs.Members.{members_of, sets_of}
+use Rattle.cal_spec.specs.declared.field.Field.TheVariants.{Day}
+use Rattle.cal_elapse.proofs.masks_of.counts_from_end.Given as goal
+
+abbrev pub invariant-loop-place : goal.invariant-loop-place
+invariant-loop-place l = (i : ℕ) → is_bit l.mask i ≡ (nat_lt i l.place && members_of Day (sets_of l.expr) (31 - i))

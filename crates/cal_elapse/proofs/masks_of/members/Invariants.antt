@@ -1,7 +1,0 @@
-use Rattle.std.proofs.Common.{◌≡◌, ◌&&◌, ◌+◌, ℕ, nat_lt}
-use Rattle.cal_elapse.specs.Bits.{is_bit}
-use Rattle.cal_spec.specs.Members.{members_of, sets_of}
-use Rattle.cal_elapse.proofs.masks_of.members.Given as goal
-
-abbrev pub invariant-loop-place : goal.invariant-loop-place
-invariant-loop-place l = (i : ℕ) → is_bit l.mask i ≡ (nat_lt i l.place && members_of l.field (sets_of l.expr) (l.first + i))

@@ -1,0 +1,7 @@
+use Rattle.std.proofs.Common.{◌≡◌, ◌==◌, ◌&&◌, ◌+◌, ◌-◌, ◌%◌, ℕ, min, nat_le, nat_lt}
+use Rattle.cal_elapse.specs.Bits.{is_bit}
+use Rattle.cal_elapse.proofs.masks_of.steps.Given as goal
+
+abbrev pub invariant-loop-place : goal.invariant-loop-place
+invariant-loop-place l =
+    (i : ℕ) → is_bit l.mask i ≡ ((nat_le l.low i && nat_lt i (min l.place l.high)) && ((l.first + i - l.start) % l.step == 0))
