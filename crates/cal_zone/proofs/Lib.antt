@@ -2,6 +2,7 @@ pub mod CivilLemmas
 pub mod DayLemmas
 pub mod OffsetLemmas
 pub mod OffsetWordLemmas
+pub mod PeriodLemmas
 pub mod PlaceLemmas
 pub mod PlacerLemmas
 pub mod RuleLemmas

@@ -54,7 +54,7 @@ row_passed z second row l =
     omega (arith, signed_arith)
 
 -- up to the next row the count is the same
-count_stays : (z : Table) (from second : ℤ) → count_at z from < vec_len z.transitions → from ≤ℤ second
+pub count_stays : (z : Table) (from second : ℤ) → count_at z from < vec_len z.transitions → from ≤ℤ second
     → second <ℤ (transition_at z (count_at z from)).second → count_at z second ≡ count_at z from
 count_stays z from second some begun within =
     prefix_len_is (λ t. int_le t.second second) z.transitions.items (count_at z from) (no_transition z) (omega arith)
@@ -83,7 +83,7 @@ outside z from local begun = outside_after z (count_at z from) local
     omega (arith, signed_arith, row_passed z from (count_at z from - 1) (omega arith)))
 
 -- and no rule holds
-no_rule : (z : Table) (rows : ℕ) → rows < vec_len z.transitions → rule_after z rows ≡ None
+pub no_rule : (z : Table) (rows : ℕ) → rows < vec_len z.transitions → rule_after z rows ≡ None
 no_rule z rows some =
     let other : (rows == vec_len z.transitions) ≡ false = grind (arith, nat_tests) in
     rw other refl
@@ -97,7 +97,7 @@ unfolding civil_seconds datetime_of time_of
 civil_seconds-datetime_of local day = omega (arith, signed_arith, epoch_day-date_of (day_of local) day)
 
 -- the offset of a table between two rows, at an instant and at a civil time
-offset_between : (z : Table) (from second : ℤ) → count_at z from < vec_len z.transitions → from ≤ℤ second
+pub offset_between : (z : Table) (from second : ℤ) → count_at z from < vec_len z.transitions → from ≤ℤ second
     → second <ℤ (transition_at z (count_at z from)).second
     → OfTable.offset_at z (nanos_of_seconds second) ≡ (type_after z (count_at z from)).offset
 offset_between z from second some begun within =
@@ -180,7 +180,7 @@ ambiguous_standard std dst shown none = rw none refl
 dst_never : (std : Offset) (dst : Option Dst) (n : ℤ) → dst ≡ None → dst_at_by std dst n ≡ None
 dst_never std dst n none = rw none refl
 
-offset_standard : (rule : Posix) (n : ℤ) → rule.dst ≡ None → ByPosix.offset_at rule n ≡ rule.std_offset
+pub offset_standard : (rule : Posix) (n : ℤ) → rule.dst ≡ None → ByPosix.offset_at rule n ≡ rule.std_offset
 offset_standard rule n none = rw (dst_never rule.std_offset rule.dst n none) refl
 
 pub alike_standard : (rule : Posix) (local other : ℤ) → rule.dst ≡ None → IsAlike (ByRule rule) local other
@@ -232,12 +232,12 @@ ambiguous_behind : (z : Table) (from local : ℤ) → IsEpochDay (day_of local) 
 ambiguous_behind z from local day all begun =
     rw (civil_seconds-datetime_of local day, civil_count_behind z from local all begun, outside_behind z from local all begun) refl
 
-offset_behind : (z : Table) (from second : ℤ) → vec_len z.transitions ≤ count_at z from → from ≤ℤ second
+pub offset_behind : (z : Table) (from second : ℤ) → vec_len z.transitions ≤ count_at z from → from ≤ℤ second
     → OfTable.offset_at z (nanos_of_seconds second) ≡ match_some (rule_after z (vec_len z.transitions)) (type_after z (vec_len z.transitions)).offset (λ tz. ByPosix.offset_at tz (nanos_of_seconds second))
 offset_behind z from second all begun =
     rw (floor_second-whole second, count_behind z from second all begun) refl
 
-rule_behind : (z : Table) → rule_after z (vec_len z.transitions) ≡ z.posix_tz
+pub rule_behind : (z : Table) → rule_after z (vec_len z.transitions) ≡ z.posix_tz
 rule_behind z =
     let same : (vec_len z.transitions == vec_len z.transitions) ≡ true = grind (arith, nat_tests) in
     rw same refl

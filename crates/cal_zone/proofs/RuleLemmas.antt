@@ -31,13 +31,13 @@ use Rattle.jiff_tz.specs.PosixRule.{ambiguous_at_by, ambiguous_by, civil_max, ci
 use Rattle.jiff_tz.specs.PosixRule as ByPosix
 use Rattle.jiff_tz.proofs.TzifLemmas.{le_no, le_yes}
 
-lt_yes : (a b : ℤ) → a <ℤ b → int_lt a b ≡ true
+pub lt_yes : (a b : ℤ) → a <ℤ b → int_lt a b ≡ true
 lt_yes a b h = elim (int_lt a b) as (λ v. int_lt a b ≡ v → v ≡ true) [
   | true ↦ λ e. refl
   | false ↦ λ e. let over = lt-false a b e in absurd (omega (arith, signed_arith))
 ] refl
 
-lt_no : (a b : ℤ) → b ≤ℤ a → int_lt a b ≡ false
+pub lt_no : (a b : ℤ) → b ≤ℤ a → int_lt a b ≡ false
 lt_no a b h = elim (int_lt a b) as (λ v. int_lt a b ≡ v → v ≡ false) [
   | true ↦ λ e. let under = lt-true a b e in absurd (omega (arith, signed_arith))
   | false ↦ λ e. refl
@@ -88,7 +88,7 @@ clamped_by low high n false false h e f =
     let under = lt-false high n f in
     record { from = omega (arith, signed_arith); to = omega (arith, signed_arith); below = inl (omega (arith, signed_arith)); above = inl (omega (arith, signed_arith)) }
 
-clamped : (low high n : ℤ) → low ≤ℤ high → IsClamped low high n (clamp_to low high n)
+pub clamped : (low high n : ℤ) → low ≤ℤ high → IsClamped low high n (clamp_to low high n)
 clamped low high n h = clamped_by low high n _ _ h refl refl
 
 -- what is near is near when it is kept so
@@ -126,7 +126,7 @@ apart_kept low high by more moment moved from to some also a b (inr h) =
     kept_high low high by more moment moved _ h to some also b (clamped civil_min civil_max moved civil_order).above
 
 -- a rule's moment on the wall clock is near the one at UTC
-abbrev moment_on : Option ℤ → ℤ → ℤ → ℤ → ℤ → ℤ
+abbrev pub moment_on : Option ℤ → ℤ → ℤ → ℤ → ℤ → ℤ
 moment_on day low high time seconds = match_some day high (λ d. clamp_to low high (d *ℤ nanos_per_day +ℤ nanos_of_seconds (time -ℤ seconds)))
 
 moment_near : (day : Option ℤ) (low high time seconds : ℤ) → low ≤ℤ high → IsOffsetSeconds seconds
@@ -158,17 +158,17 @@ ambiguous_beside : (std dst : Offset) (w : ℤ × ℤ) (at other : ℤ) → AreB
 ambiguous_beside std dst w at other h =
     rw (h.start.le, h.start.lt, h.end.le, h.end.lt, h.after_start.le, h.after_start.lt, h.before_end.le, h.before_end.lt) refl
 
-window_beside : (w : ℤ × ℤ) (at other : ℤ) → IsBeside w.0 at other → IsBeside w.1 at other → in_window w at ≡ in_window w other
+pub window_beside : (w : ℤ × ℤ) (at other : ℤ) → IsBeside w.0 at other → IsBeside w.1 at other → in_window w at ≡ in_window w other
 window_beside w at other start end = rw (start.le, start.lt, end.le, end.lt) refl
 
 -- the ends of a window by their order
-ordered_rises : (w : ℤ × ℤ) → (ordered w).0 ≤ℤ (ordered w).1
+pub ordered_rises : (w : ℤ × ℤ) → (ordered w).0 ≤ℤ (ordered w).1
 ordered_rises w = elim (int_le w.0 w.1) as (λ b. int_le w.0 w.1 ≡ b → (if b then w else (w.1, w.0)).0 ≤ℤ (if b then w else (w.1, w.0)).1) [
   | true ↦ λ e. let under = le-true w.0 w.1 e in omega (arith, signed_arith)
   | false ↦ λ e. let over = le-false w.0 w.1 e in omega (arith, signed_arith)
 ] refl
 
-ordered_apart : (low high : ℤ) (w : ℤ × ℤ) → IsApart low high (pos 0) (ordered w).0 → IsApart low high (pos 0) (ordered w).1 → IsApart low high (pos 0) w.0 × IsApart low high (pos 0) w.1
+pub ordered_apart : (low high : ℤ) (w : ℤ × ℤ) → IsApart low high (pos 0) (ordered w).0 → IsApart low high (pos 0) (ordered w).1 → IsApart low high (pos 0) w.0 × IsApart low high (pos 0) w.1
 ordered_apart low high w = elim (int_le w.0 w.1) as (λ b. IsApart low high (pos 0) (if b then w else (w.1, w.0)).0 → IsApart low high (pos 0) (if b then w else (w.1, w.0)).1 → IsApart low high (pos 0) w.0 × IsApart low high (pos 0) w.1) [
   | true ↦ λ p q. (p, q)
   | false ↦ λ p q. (q, p)
@@ -204,7 +204,7 @@ window_by : (rule : Posix) (d : Dst) (y low high : ℤ) (next : ℤ × OffsetInf
 window_by rule d y low high next e h =
     window_ends rule d y low high next (ordered (utc_window d y rule.std_offset)) (ordered_rises (utc_window d y rule.std_offset)) _ _ refl refl e h
 
-window_apart : (rule : Posix) (d : Dst) (y low high : ℤ) (next : ℤ × OffsetInfo) → next_by rule d y low ≡ Some next → high ≤ℤ next.0
+pub window_apart : (rule : Posix) (d : Dst) (y low high : ℤ) (next : ℤ × OffsetInfo) → next_by rule d y low ≡ Some next → high ≤ℤ next.0
     → IsApart low high (pos 0) (utc_window d y rule.std_offset).0 × IsApart low high (pos 0) (utc_window d y rule.std_offset).1
 window_apart rule d y low high next e h =
     let ends = window_by rule d y low high next e h in
@@ -243,7 +243,7 @@ end_left_out low high first last end std false part offset e f =
     let to_come = lt-true last (clamp_to civil_min civil_max (end +ℤ nanos_of_seconds std)) f in
     end_to_come low high first last end std part.to (omega (arith, signed_arith)) offset (omega (arith, signed_arith)) kept.below
 
-abbrev window_of : Bool → ℤ → ℤ → ℤ → ℤ × ℤ
+abbrev pub window_of : Bool → ℤ → ℤ → ℤ → ℤ × ℤ
 window_of whole start last end = if whole then (start, last) else (start, end)
 
 window_parts : (low high first last start end std : ℤ) (b : Bool) → IsPart first last low high → IsOffsetSeconds std
@@ -263,7 +263,7 @@ moments_apart d y std low high part p q =
     window_parts low high (first_nanosecond y) (last_nanosecond y) (rule_nanos y d.rule.start std.seconds) (rule_nanos y d.rule.end d.offset.seconds) std.seconds _ part std.in_range refl p q
 
 -- a date lies in its year
-in_its_year : (d : Date) → (first_day d.year ≤ℤ epoch_day d) × (epoch_day d <ℤ (first_day d.year +ℤ pos (days_in_year d.year)))
+pub in_its_year : (d : Date) → (first_day d.year ≤ℤ epoch_day d) × (epoch_day d <ℤ (first_day d.year +ℤ pos (days_in_year d.year)))
 unfolding day_count days_of_months
 in_its_year d =
     let count = days_from_civil-day_count d.year d.month d.day in
@@ -290,7 +290,7 @@ year_goes_on past second past_in second_in later before =
     of_the_year (date_of (day_of second)) (date_of (day_of past)).year (date_of (day_of past)).year_in (omega (arith, signed_arith)) (omega (arith, signed_arith))
 
 -- on a clock at UTC
-utc_year : (past second : ℤ) → IsEpochDay (day_of past) → IsEpochDay (day_of second) → past ≤ℤ second → second <ℤ year_end (datetime_of past).date.year
+pub utc_year : (past second : ℤ) → IsEpochDay (day_of past) → IsEpochDay (day_of second) → past ≤ℤ second → second <ℤ year_end (datetime_of past).date.year
     → year_of_nanos (nanos_of_seconds second) ≡ (datetime_of past).date.year
 utc_year past second past_in second_in later before =
     sym (year_of_nanos-civil (datetime_of second) (nanos_of_seconds second) (civil_nanos-datetime_of second second_in)) ∙ year_goes_on past second past_in second_in later before
@@ -310,7 +310,7 @@ ambiguous_in std dst d shown y n e f g =
     ∙ ap (λ (year : ℤ). ambiguous_by std d.offset (rule_nanos year d.rule.start (pos 0), rule_nanos year d.rule.end (pos 0)) (civil_nanos shown)) f
     ∙ ap (ambiguous_by std d.offset (rule_nanos y d.rule.start (pos 0), rule_nanos y d.rule.end (pos 0))) g
 
-offset_in : (rule : Posix) (d : Dst) (y n : ℤ) → rule.dst ≡ Some d → year_of_nanos n ≡ y
+pub offset_in : (rule : Posix) (d : Dst) (y n : ℤ) → rule.dst ≡ Some d → year_of_nanos n ≡ y
     → ByPosix.offset_at rule n ≡ match_some (if in_window (utc_window d y rule.std_offset) n then Some d else None) rule.std_offset (λ dst. dst.offset)
 offset_in rule d y n e f = rw (e, f) refl
 
@@ -412,7 +412,7 @@ alike_by_next rule past other local quiet from later years =
     alike_before_next rule found.0 past other local quiet.change found.1 (ap (λ y. next_by rule found.0 y (nanos_of_seconds past)) (sym year) ∙ found.2) begun from later years quiet.before_change before_end
 
 -- behind the last row of a table it is one of its rule
-next_behind : (z : Table) (past : ℤ) → vec_len z.transitions ≤ count_at z past → OfTable.next_at z (nanos_of_seconds past) ≡ match_some z.posix_tz None (λ rule. ByPosix.next_at rule (nanos_of_seconds past))
+pub next_behind : (z : Table) (past : ℤ) → vec_len z.transitions ≤ count_at z past → OfTable.next_at z (nanos_of_seconds past) ≡ match_some z.posix_tz None (λ rule. ByPosix.next_at rule (nanos_of_seconds past))
 next_behind z past all =
     let same : (vec_len z.transitions == vec_len z.transitions) ≡ true = grind (arith, nat_tests) in
     rw (floor_second-whole past, count_behind z past past all (omega (arith, signed_arith)), same) refl

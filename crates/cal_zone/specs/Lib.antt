@@ -5,6 +5,7 @@ pub mod Instant
 pub mod InstantText
 pub mod Local
 pub mod OffsetWord
+pub mod Period
 pub mod Place
 pub mod Rules
 pub mod Steady

@@ -49,7 +49,7 @@ fn offset_in(zone: Zone, timestamp: Timestamp) -> Offset
 }
 
 /// The offset of a clock that is always so far ahead.
-fn fixed_offset(ahead: Ahead) -> Offset
+pub(crate) fn fixed_offset(ahead: Ahead) -> Offset
     ensures { result ≡ offset_of ahead }
 {
     let Ok(offset) = Offset::from_seconds(ahead.seconds) else {
@@ -70,7 +70,7 @@ pub fn date_of_day(day: u64) -> Date
 }
 
 /// The fields of what a clock at the offset shows.
-fn fields(shown: DateTime, offset: Offset) -> Civil
+pub(crate) fn fields(shown: DateTime, offset: Offset) -> Civil
     ensures { result ≡ shown_at offset.seconds shown }
 {
     Civil {

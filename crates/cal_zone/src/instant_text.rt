@@ -6,7 +6,7 @@ ghost use Rattle.cal_bytes.specs.Bytes.{Writes};
 ghost use Rattle.cal_zone.specs.InstantText.{weekday_name, instant_text, offset_text, shown_text, sign_text, zone_word};
 ghost use Rattle.cal_bytes.specs.declared.short_text.TheConstants.{ROOM};
 
-use crate::{Civil, Instant, Zone, civil, short_weekday_name};
+use crate::{Civil, Clock, Instant, Zone, civil, short_weekday_name};
 use cal_bytes::{Fill, ShortText, Sink, WriteFault, padding, push_all, put_all};
 use itoa::Buffer;
 use jiff::civil::Weekday;
@@ -24,6 +24,19 @@ pub fn push_instant(text: &mut ShortText, zone: Zone, instant: Instant)
     let shown = civil(zone, instant);
     push_civil(text, &shown);
     push_zone(text, zone.is_utc(), shown.offset);
+}
+
+/// Appends the same text by a clock of the zone.
+#[tactic(auto, unfolding(crate::specs::InstantText::instant_text))]
+pub fn push_shown(text: &mut ShortText, clock: &mut Clock<'_>, instant: Instant)
+    requires room { length text.old.items + 84 ≤ ROOM }
+    ensures text { text.new.items ≡ text.old.items ++ instant_text clock.old instant.secs }
+    ensures short { length text.new.items ≤ length text.old.items + 84 }
+    ensures zone { clock.new ≡ clock.old }
+{
+    let shown = clock.civil(instant);
+    push_civil(text, &shown);
+    push_zone(text, clock.zone().is_utc(), shown.offset);
 }
 
 /// Writes the text of the instant, as [`push_instant`] forms it.

@@ -3,11 +3,13 @@
 
 mod civil_fields;
 mod civil_time;
+mod clock;
 mod instant;
 mod instant_text;
 pub mod laws;
 mod moment;
 mod offset_word;
+mod period;
 mod placer;
 mod places;
 mod rules;
@@ -20,8 +22,9 @@ mod zone_table;
 
 pub use civil_fields::Civil;
 pub use civil_time::{DAY, DAYS, civil, date_of_day};
+pub use clock::Clock;
 pub use instant::Instant;
-pub use instant_text::{push_instant, push_offset, write_instant};
+pub use instant_text::{push_instant, push_offset, push_shown, write_instant};
 pub use moment::Moment;
 pub use offset_word::{begins_zone, read_offset};
 pub use placer::Placer;

@@ -3,7 +3,7 @@
 ghost use Rattle.std.specs.Prelude.{◌≡◌, ◌↔◌, ℤ, IsOk, IsSome, IfOk, IfErr, IfSome, MatchResult};
 ghost use Rattle.jiff.specs.Placed.{IsPosixZone};
 ghost use Rattle.jiff.specs.Types.{DateTime};
-ghost use Rattle.jiff.specs.Words.{ambiguous_at, offset_at, plain_zone, read_whole};
+ghost use Rattle.jiff.specs.Words.{ambiguous_at, next_at, offset_at, plain_zone, read_whole};
 ghost use Rattle.cal_zone.specs.Local.{IsLocalSecond};
 ghost use Rattle.cal_zone.specs.Steady.{IsAlikeUntil, IsSteadyAt};
 ghost use Rattle.cal_zone.specs.ZoneFile.{IsFileFault, IsFileZone};
@@ -89,6 +89,7 @@ impl Rules {
     pub(crate) fn time_zone(&self) -> TimeZone<'_>
         ensures at { (n : ℤ) → offset_at (plain_zone result) n ≡ offset_at self.now n }
         ensures of { (shown : DateTime) → ambiguous_at (plain_zone result) shown ≡ ambiguous_at self.now shown }
+        ensures next { (n : ℤ) → next_at (plain_zone result) n ≡ next_at self.now n }
     {
         match &self.kind {
             RulesKind::Posix(zone) => *zone,

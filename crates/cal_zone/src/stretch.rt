@@ -131,7 +131,7 @@ fn quiet_until(next: Option<Transition>, past: i64) -> i64
 }
 
 /// Where the year of a second ends, on a clock at UTC.
-fn year_after(second: i64) -> i64
+pub(crate) fn year_after(second: i64) -> i64
     requires { CanSettle second }
     ensures value { result ≡ year_end (datetime_of second).date.year }
     ensures bound { IsWithin 1_000_000_000_000 result }
