@@ -1,10 +1,11 @@
 -- The bits of a word.
-use Rattle.std.proofs.Common.{◌≡◌, ◌==◌, ℕ, ◌+◌, ◌&&◌, ◌||◌, bit_and, bit_or, min, max, ◌*◌, refl, ◌-◌, ◌/◌, ◌%◌, ◌^◌, ◌<◌, ◌≤◌, true, false, Some, w64, ap, pow_pos, subst, inl, inr, sym, ◌∙◌, arith, nat_le, nat_lt}
+use Rattle.std.proofs.Common.{◌≡◌, ◌==◌, ℕ, ◌+◌, ◌&&◌, ◌||◌, bit_and, bit_or, min, max, ◌*◌, refl, ◌-◌, ◌/◌, ◌%◌, ◌^◌, ◌<◌, ◌≤◌, true, false, Some, w64, ap, pow_pos, subst, inl, inr, sym, ◌∙◌, arith, nat_le, nat_lt, ◌≢◌, suc}
 use Rattle.std.specs.Int.{bit_at, trailing_zeros}
 use Rattle.std.proofs.lemmas.Bool.{cases_lt, le-ltb, lt-ltb}
 use Rattle.std.proofs.lemmas.Bool.Decides.{nat_tests}
 use Rattle.std.proofs.lemmas.Nat.{shr-shr, shr_le}
-use Rattle.std.proofs.lemmas.Nat.Bits.{bit_at-lt, bit_at-trailing_zeros, bit_at-zero, bit_at_above, bit_at_and, bit_at_cat_high, bit_at_cat_low, bit_at_or, bit_at_mask_above, bit_at_mask_below, bit_at_mask_inside, bit_at_ones, bit_at_ones_above, ones_shl, ones_shr}
+use Rattle.std.proofs.lemmas.Nat.Bits.{bit_at-lt, bit_at-trailing_zeros, bit_at-zero, bit_at_above, bit_at_and, bit_at_cat_high, bit_at_cat_low, bit_at_or, bit_at_mask_above, bit_at_mask_below, bit_at_mask_inside, bit_at_ones, bit_at_ones_above, ones_shl, ones_shr, bit_at-pow_other, bit_at-pow_same, same_from_bits_below}
+use Rattle.std.proofs.Math.Nat.{div-add-mod', mod-lt, pow-suc}
 use Rattle.cal_elapse.specs.Bits.{is_bit}
 use Rattle.cal_elapse.specs.Search.{IsFirstPassing, NonePasses}
 
@@ -142,3 +143,84 @@ is_bit-run low high i some within =
     let below = ones_below high i within in
     let both : ((nat_le low i && nat_lt i 64) && nat_lt i high) ≡ (nat_le low i && nat_lt i high) = grind (arith, nat_tests) in
     is_bit-and ((2 ^ 64 - 1) * 2 ^ low % 2 ^ 64) ((2 ^ 64 - 1) / 2 ^ (64 - high)) i ∙ (rw (from, below) both)
+
+-- A word without its lowest number
+
+pow_next : (k : ℕ) → 2 ^ (k + 1) ≡ 2 ^ k + 2 ^ k
+pow_next k = let next : k + 1 ≡ suc k = omega arith in rw (next, pow-suc 2 k) (omega arith)
+
+one_less : (x y m : ℕ) → m ≡ x + y → 0 < y → m - 1 ≡ x + (y - 1)
+one_less x y m whole some = omega arith
+
+-- the number k is the lowest of the word
+record IsLowest (m k : ℕ) : Type 0 where
+  one : bit_at m k ≡ 1
+  none : (i : ℕ) → i < k → bit_at m i ≡ 0
+
+-- what is below the number k + 1 is the number k alone
+low_part : (m k : ℕ) → IsLowest m k → m % 2 ^ (k + 1) ≡ 2 ^ k
+low_part m k h =
+    let next = pow_next k in
+    let some = pow_pos k in
+    let part : (i : ℕ) → i < k + 1 → bit_at (m % 2 ^ (k + 1)) i ≡ bit_at m i
+    = λ i low. sym (bit_at_cat_low (m / 2 ^ (k + 1)) (k + 1) (m % 2 ^ (k + 1)) i low) ∙ ap (λ (x : ℕ). bit_at x i) (div-add-mod' m (2 ^ (k + 1))) in
+    same_from_bits_below (k + 1) (m % 2 ^ (k + 1)) (2 ^ k) (mod-lt m (omega arith)) (omega arith)
+    (λ i low.
+    elim (cases_lt i k) [
+      | inl early ↦ part i low ∙ (h.none i early ∙ sym (bit_at-pow_other k i (λ e. omega arith)))
+      | inr late ↦ (let same : i ≡ k = omega arith in part i low ∙ (ap (bit_at m) same ∙ (h.one ∙ (sym (bit_at-pow_same k) ∙ ap (bit_at (2 ^ k)) (sym same)))))
+    ])
+
+lowest_split : (m k : ℕ) → IsLowest m k → m ≡ m / 2 ^ (k + 1) * 2 ^ (k + 1) + 2 ^ k
+lowest_split m k h = sym (div-add-mod' m (2 ^ (k + 1))) ∙ ap (λ (r : ℕ). m / 2 ^ (k + 1) * 2 ^ (k + 1) + r) (low_part m k h)
+
+less_split : (m k : ℕ) → IsLowest m k → m - 1 ≡ m / 2 ^ (k + 1) * 2 ^ (k + 1) + (2 ^ k - 1)
+less_split m k h = one_less (m / 2 ^ (k + 1) * 2 ^ (k + 1)) (2 ^ k) m (lowest_split m k h) (pow_pos k)
+
+min_same : (x y : ℕ) → x ≡ y → min x y ≡ x
+min_same x y e = omega arith
+
+min_none : (x y : ℕ) → x ≡ 0 → min x y ≡ 0
+min_none x y e = omega arith
+
+min_none' : (x y : ℕ) → y ≡ 0 → min x y ≡ 0
+min_none' x y e = omega arith
+
+high_same : (m k i : ℕ) → IsLowest m k → k < i → bit_at m i ≡ bit_at (m - 1) i
+high_same m k i h high =
+    let next = pow_next k in
+    let some = pow_pos k in
+    let a : ℕ = m / 2 ^ (k + 1) in
+    ap (λ (x : ℕ). bit_at x i) (lowest_split m k h)
+    ∙ (bit_at_cat_high a (k + 1) (2 ^ k) i (omega arith) (omega arith)
+    ∙ (sym (bit_at_cat_high a (k + 1) (2 ^ k - 1) i (omega arith) (omega arith)) ∙ ap (λ (x : ℕ). bit_at x i) (sym (less_split m k h))))
+
+lowest_of : (m k : ℕ) → m < 2 ^ 64 → IsFirstPassing (is_bit m) 0 64 (Some k) → IsLowest m k
+unfolding is_bit
+lowest_of m k fits first = record {
+  one = bit_one m k first.2;
+  none = λ i low. bit_none m i (first.3 i (omega arith) low);
+}
+  where
+    bit_one : (m i : ℕ) → (bit_at m i == 1) ≡ true → bit_at m i ≡ 1
+    bit_one m i h = grind (arith, nat_tests)
+
+    bit_none : (m i : ℕ) → (bit_at m i == 1) ≡ false → bit_at m i ≡ 0
+    bit_none m i h = let small = bit_at-lt m i in let other : bit_at m i ≢ 1 = grind (arith, nat_tests) in omega arith
+
+pub without_lowest-cleared : (m k : ℕ) → m < 2 ^ 64 → IsFirstPassing (is_bit m) 0 64 (Some k) → is_bit (bit_and m (m - 1)) k ≡ false
+without_lowest-cleared m k fits first =
+    let h = lowest_of m k fits first in
+    let off : bit_at (m - 1) k ≡ 0
+    = ap (λ (x : ℕ). bit_at x k) (less_split m k h) ∙ (bit_at_cat_low (m / 2 ^ (k + 1)) (k + 1) (2 ^ k - 1) k (omega arith) ∙ bit_at_ones_above k k (omega arith)) in
+    is_bit-zero (bit_and m (m - 1)) k (bit_at_and m (m - 1) k ∙ min_none' (bit_at m k) (bit_at (m - 1) k) off)
+
+pub without_lowest-others : (m k i : ℕ) → m < 2 ^ 64 → IsFirstPassing (is_bit m) 0 64 (Some k) → i ≢ k → is_bit (bit_and m (m - 1)) i ≡ is_bit m i
+without_lowest-others m k i fits first other =
+    let h = lowest_of m k fits first in
+    is_bit-same (bit_and m (m - 1)) m i i
+    (bit_at_and m (m - 1) i
+    ∙ elim (cases_lt i k) [
+      | inl early ↦ min_none (bit_at m i) (bit_at (m - 1) i) (h.none i early) ∙ sym (h.none i early)
+      | inr late ↦ min_same (bit_at m i) (bit_at (m - 1) i) (high_same m k i h (omega arith))
+    ])

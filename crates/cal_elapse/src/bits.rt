@@ -30,6 +30,16 @@ pub(crate) fn without_bit(mask: u64, place: u32) -> u64
     mask & !(1 << place)
 }
 
+/// A word without its least number.
+pub(crate) fn without_lowest(mask: u64) -> u64
+    requires { 0 < mask }
+    ensures cleared { (lowest : ℕ) → IsFirstPassing (is_bit mask) 0 64 (Some lowest) → is_bit result lowest ≡ false }
+    ensures others { (lowest i : ℕ) → IsFirstPassing (is_bit mask) 0 64 (Some lowest) → i ≢ lowest
+        → is_bit result i ≡ is_bit mask i }
+{
+    mask & (mask - 1)
+}
+
 /// The least number of a word that isn't below `from`, which is below 64; `None` where there is none.
 pub(crate) fn next_bit(mask: u64, from: u32) -> Option<u32>
     requires { from < 64 }

@@ -11,7 +11,7 @@ ghost use Rattle.cal_spec.specs.Match.{matches};
 ghost use Rattle.cal_spec.specs.Members.{sets_of};
 
 use crate::Masks;
-use crate::bits::{lowest_bit, without_bit};
+use crate::bits::{lowest_bit, without_lowest};
 use crate::search::{Found, next_after, next_at};
 use cal_spec::Expr;
 
@@ -85,6 +85,7 @@ impl Searcher {
 
     /// The least matching local second from the start on, with the months looked at. Each call is one search, and it
     /// answers what `next_local` does from there on.
+    #[inline(always)]
     pub fn search(&mut self, start: Start) -> Found
         requires start { CanStart (matches (sets_in self.old.masks)) start }
         requires few { self.old.searches ≤ seconds_in_all }
@@ -149,6 +150,7 @@ impl Searcher {
     }
 
     /// The next match after a match: the next one in its minute, if that is the match that was found last.
+    #[inline(always)]
     fn find_after(&mut self, local: u64) -> Found
         requires inside { local < seconds_in_all }
         requires is_match { matches (sets_in self.old.masks) local ≡ true }
@@ -168,6 +170,7 @@ impl Searcher {
     }
 
     /// The next match in the minute of the match that was found last. The one month looked at is that of both.
+    #[inline(always)]
     fn find_left(&mut self) -> Found
         requires { 0 < self.old.left }
         ensures found { IsSearch (sets_in self.old.masks) (self.old.found + 1) result }
@@ -178,7 +181,7 @@ impl Searcher {
     {
         let bit = lowest_bit(self.left);
         let local = self.from + u64::from(bit);
-        self.left = without_bit(self.left, bit);
+        self.left = without_lowest(self.left);
         self.found = local;
         Found {
             local: Some(local as i64),
