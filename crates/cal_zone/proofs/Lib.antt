@@ -6,6 +6,7 @@ pub mod PeriodLemmas
 pub mod PlaceLemmas
 pub mod PlacerLemmas
 pub mod RuleLemmas
+pub mod ShownDayLemmas
 pub mod WeekdayLemmas
 pub mod YearLemmas
 pub mod ZoneLemmas

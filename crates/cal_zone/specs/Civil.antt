@@ -38,3 +38,16 @@ unfoldable pub civil_of : TimeZone → ℤ → Civil
 civil_of tz second =
     let local = local_of tz second in
     fields_of (date_of (day_of local)) (second_of_day local) (offset_at tz (nanos_of_seconds second))
+
+-- the same day at a time so many seconds after its midnight
+abbrev pub at_second : Civil → ℕ → Civil
+at_second c second = record {
+  year = c.year;
+  month = c.month;
+  day = c.day;
+  weekday = c.weekday;
+  hour = hour_of second;
+  minute = minute_of second;
+  second = second_of second;
+  offset = c.offset;
+}

@@ -48,6 +48,10 @@ offset_text offset =
 unfoldable pub zone_word : Bool → ℤ → List ℕ
 zone_word is_utc offset = if is_utc then codes "UTC" else offset_text offset
 
+-- the day that a clock shows: weekday and date, each with a space after it
+unfoldable pub day_text : Civil → List ℕ
+day_text c = joined (weekday_name c.weekday ∷ codes " " ∷ date_text c ∷ codes " " ∷ [])
+
 -- what a clock shows: weekday, date and time, each with a space after it
 unfoldable pub shown_text : Civil → List ℕ
 shown_text c =

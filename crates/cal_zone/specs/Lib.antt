@@ -8,6 +8,7 @@ pub mod OffsetWord
 pub mod Period
 pub mod Place
 pub mod Rules
+pub mod ShownDay
 pub mod Steady
 pub mod Weekday
 pub mod Zone

@@ -1,7 +1,8 @@
 //! The civil time that a zone's clocks show at an instant.
 ghost use Rattle.std.specs.Prelude.{◌≡◌, ◌<◌, ◌≤◌, pos};
 ghost use Rattle.std.specs.Int.{IsInRange};
-ghost use Rattle.jiff.specs.Words.{offset_at, IsBetween, IsOffsetSeconds};
+ghost use Rattle.jiff.specs.Types.{TimeZone};
+ghost use Rattle.jiff.specs.Words.{nanos_of_seconds, offset_at, IsBetween, IsOffsetSeconds};
 ghost use Rattle.cal_zone.specs.Civil.{civil_of, shown_at};
 ghost use Rattle.cal_zone.specs.Local.{civil_date};
 ghost use Rattle.cal_zone.specs.Zone.{offset_of, zone_of};
@@ -33,7 +34,25 @@ pub fn civil(zone: Zone, instant: Instant) -> Civil
     let Ok(timestamp) = Timestamp::from_second(instant.secs()) else {
         unreachable!()
     };
-    let offset = offset_in(zone, timestamp);
+    civil_at(offset_in(zone, timestamp), instant)
+}
+
+/// What a clock that is so far ahead of UTC shows at the instant.
+pub(crate) fn civil_at(offset: Offset, instant: Instant) -> Civil
+    ensures value { (tz : TimeZone) → offset_at tz (nanos_of_seconds instant.secs) ≡ offset.seconds
+        → result ≡ civil_of tz instant.secs }
+    ensures year { IsBetween (pos 1969) (pos 2200) result.year }
+    ensures month { IsInRange 1 12 result.month }
+    ensures day { IsInRange 1 31 result.day }
+    ensures weekday { IsInRange 1 7 result.weekday }
+    ensures hour { result.hour ≤ 23 }
+    ensures minute { result.minute ≤ 59 }
+    ensures second { result.second ≤ 59 }
+    ensures offset { IsOffsetSeconds result.offset }
+{
+    let Ok(timestamp) = Timestamp::from_second(instant.secs()) else {
+        unreachable!()
+    };
     fields(offset.to_datetime(timestamp), offset)
 }
 
@@ -70,7 +89,7 @@ pub fn date_of_day(day: u64) -> Date
 }
 
 /// The fields of what a clock at the offset shows.
-pub(crate) fn fields(shown: DateTime, offset: Offset) -> Civil
+fn fields(shown: DateTime, offset: Offset) -> Civil
     ensures { result ≡ shown_at offset.seconds shown }
 {
     Civil {

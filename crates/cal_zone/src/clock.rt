@@ -1,36 +1,42 @@
 //! What a zone's clock shows at many instants, most of them without a look at its rules.
 
-ghost use Rattle.std.specs.Prelude.{◌≡◌, ◌≤◌, pos};
+ghost use Rattle.std.specs.Prelude.{◌≡◌, ◌+◌, ◌≤◌, ◌++◌, length, pos};
 ghost use Rattle.std.specs.Int.{IsInRange};
-ghost use Rattle.jiff.specs.Words.{nanos_of_seconds, offset_at, IsBetween, IsOffsetSeconds};
+ghost use Rattle.jiff.specs.Words.{IsBetween, IsOffsetSeconds};
+ghost use Rattle.cal_bytes.specs.declared.short_text.TheConstants.{ROOM};
 ghost use Rattle.cal_zone.specs.Civil.{civil_of};
+ghost use Rattle.cal_zone.specs.InstantText.{instant_text};
+ghost use Rattle.cal_zone.specs.Period.{IsPeriodAt};
 ghost use Rattle.cal_zone.specs.Zone.{zone_of};
 
-use crate::civil_time::fields;
+use crate::civil_time::civil_at;
 use crate::period::{Period, period_of};
+use crate::shown_day::ShownDay;
 use crate::{Civil, Instant, Zone};
-use jiff::Timestamp;
+use cal_bytes::ShortText;
 use jiff::tz::Offset;
 use std::marker::Model;
 
 /// Shows instants in a zone, cheaply where they lie near each other: it keeps a period, at whose instants the clock is
-/// equally far ahead of UTC. A contract sees the zone alone.
+/// equally far ahead of UTC, and the day that it showed last. A contract sees the zone alone.
 #[derive(Drop)]
 pub struct Clock<'z> {
     zone: Zone<'z>,
     period: Period,
+    day: ShownDay,
 }
 
 impl<'z> Model for Clock<'z> {
     ghost use Rattle.cal_zone.specs.declared.zone.Zone.{Zone};
     ghost use Rattle.cal_zone.specs.Period.{IsPeriod};
+    ghost use Rattle.cal_zone.specs.ShownDay.{IsDay};
     ghost use Rattle.cal_zone.specs.Zone.{zone_of};
 
     ghost Value = { Zone };
 
     ghost view = { λ clock. clock.zone };
 
-    ghost invariant = { λ clock. IsPeriod (zone_of clock.zone) clock.period };
+    ghost invariant = { λ clock. IsPeriod (zone_of clock.zone) clock.period × IsDay clock.zone clock.day };
 }
 
 impl<'z> Clock<'z> {
@@ -45,6 +51,7 @@ impl<'z> Clock<'z> {
                 to: 0,
                 offset: Offset::UTC,
             },
+            day: ShownDay::empty(),
         }
     }
 
@@ -68,33 +75,48 @@ impl<'z> Clock<'z> {
         ensures offset { IsOffsetSeconds result.offset }
         ensures zone { self.new ≡ self.old }
     {
-        let Ok(timestamp) = Timestamp::from_second(instant.secs()) else {
-            unreachable!()
-        };
-        let offset = self.offset(instant);
-        fields(offset.to_datetime(timestamp), offset)
+        civil_at(self.period_at(instant).offset, instant)
     }
 
-    /// How far the clock is ahead of UTC at the instant.
-    fn offset(&mut self, instant: Instant) -> Offset
-        ensures value { result.seconds ≡ offset_at (zone_of self.old) (nanos_of_seconds instant.secs) }
+    /// Appends the text of the instant, as [`push_instant`](crate::push_instant) forms it.
+    pub fn push(&mut self, text: &mut ShortText, instant: Instant)
+        requires room { length text.old.items + 84 ≤ ROOM }
+        ensures text { text.new.items ≡ text.old.items ++ instant_text self.old instant.secs }
+        ensures short { length text.new.items ≤ length text.old.items + 84 }
         ensures zone { self.new ≡ self.old }
     {
         let second = instant.secs();
-        if self.period.from <= second && second < self.period.to {
-            return self.period.offset;
+        if self.day.from <= second && second < self.day.to {
+            self.day.push(text, second);
+            return;
         }
-        self.offset_outside(instant)
+        self.push_outside(text, instant);
     }
 
-    /// The same at an instant that isn't in the period. One that has it is kept for those that come next.
+    /// The same of an instant that isn't on the day. One that has it is kept for those that come next.
     #[cold]
     #[inline(never)]
-    fn offset_outside(&mut self, instant: Instant) -> Offset
-        ensures value { result.seconds ≡ offset_at (zone_of self.old) (nanos_of_seconds instant.secs) }
+    fn push_outside(&mut self, text: &mut ShortText, instant: Instant)
+        requires room { length text.old.items + 84 ≤ ROOM }
+        ensures text { text.new.items ≡ text.old.items ++ instant_text self.old instant.secs }
+        ensures short { length text.new.items ≤ length text.old.items + 84 }
         ensures zone { self.new ≡ self.old }
     {
-        self.period = period_of(self.zone, instant);
-        self.period.offset
+        let period = self.period_at(instant);
+        let day = ShownDay::of(self.zone, period, instant);
+        day.push(text, instant.secs());
+        self.day = day;
+    }
+
+    /// A period that has the instant: the one that is kept, or another in its place.
+    fn period_at(&mut self, instant: Instant) -> Period
+        ensures period { IsPeriodAt (zone_of self.old) instant.secs result }
+        ensures zone { self.new ≡ self.old }
+    {
+        let second = instant.secs();
+        if second < self.period.from || self.period.to <= second {
+            self.period = period_of(self.zone, instant);
+        }
+        self.period
     }
 }

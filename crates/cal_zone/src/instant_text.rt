@@ -3,11 +3,11 @@
 ghost use Rattle.std.specs.Prelude.{◌≡◌, ◌+◌, ◌≤◌, ◌++◌, false, is_err, length};
 ghost use Rattle.std.specs.Int.{IsInRange};
 ghost use Rattle.cal_bytes.specs.Bytes.{Writes};
-ghost use Rattle.cal_zone.specs.InstantText.{weekday_name, instant_text, offset_text, shown_text, sign_text, zone_word};
+ghost use Rattle.cal_zone.specs.InstantText.{weekday_name, day_text, instant_text, offset_text, shown_text, sign_text, time_text, zone_word};
 ghost use Rattle.cal_bytes.specs.declared.short_text.TheConstants.{ROOM};
 
-use crate::{Civil, Clock, Instant, Zone, civil, short_weekday_name};
-use cal_bytes::{Fill, ShortText, Sink, WriteFault, padding, push_all, put_all};
+use crate::{Civil, Instant, Zone, civil, short_weekday_name};
+use cal_bytes::{Fill, ShortText, Sink, WriteFault, padding, push, push_all, put_all};
 use itoa::Buffer;
 use jiff::civil::Weekday;
 
@@ -26,19 +26,6 @@ pub fn push_instant(text: &mut ShortText, zone: Zone, instant: Instant)
     push_zone(text, zone.is_utc(), shown.offset);
 }
 
-/// Appends the same text by a clock of the zone.
-#[tactic(auto, unfolding(crate::specs::InstantText::instant_text))]
-pub fn push_shown(text: &mut ShortText, clock: &mut Clock<'_>, instant: Instant)
-    requires room { length text.old.items + 84 ≤ ROOM }
-    ensures text { text.new.items ≡ text.old.items ++ instant_text clock.old instant.secs }
-    ensures short { length text.new.items ≤ length text.old.items + 84 }
-    ensures zone { clock.new ≡ clock.old }
-{
-    let shown = clock.civil(instant);
-    push_civil(text, &shown);
-    push_zone(text, clock.zone().is_utc(), shown.offset);
-}
-
 /// Writes the text of the instant, as [`push_instant`] forms it.
 pub fn write_instant<W: Sink>(out: &mut W, zone: Zone, instant: Instant) -> Result<(), WriteFault>
     requires { W.is_failed out.old ≡ false }
@@ -52,22 +39,30 @@ pub fn write_instant<W: Sink>(out: &mut W, zone: Zone, instant: Instant) -> Resu
 }
 
 /// Appends what a clock shows, up to the word of its zone.
-#[tactic(auto, unfolding(crate::specs::InstantText::shown_text, crate::specs::InstantText::date_text, crate::specs::InstantText::time_text))]
+#[tactic(auto, unfolding(crate::specs::InstantText::shown_text, crate::specs::InstantText::day_text))]
 fn push_civil(text: &mut ShortText, shown: &Civil)
     requires weekday { IsInRange 1 7 shown.now.weekday }
     requires room { length text.old.items + 44 ≤ ROOM }
     ensures text { text.new.items ≡ text.old.items ++ shown_text shown.now }
     ensures short { length text.new.items ≤ length text.old.items + 44 }
 {
-    let mut years = Buffer::new();
-    let (mut months, mut days) = (Buffer::new(), Buffer::new());
-    let (mut hours, mut minutes, mut seconds) = (Buffer::new(), Buffer::new(), Buffer::new());
+    push_day(text, shown);
+    push_time(text, shown.hour, shown.minute, shown.second);
+    push(text, b" ");
+}
+
+/// Appends the day that a clock shows.
+#[tactic(auto, unfolding(crate::specs::InstantText::day_text, crate::specs::InstantText::date_text))]
+pub(crate) fn push_day(text: &mut ShortText, shown: &Civil)
+    requires weekday { IsInRange 1 7 shown.now.weekday }
+    requires room { length text.old.items + 26 ≤ ROOM }
+    ensures text { text.new.items ≡ text.old.items ++ day_text shown.now }
+    ensures short { length text.new.items ≤ length text.old.items + 26 }
+{
+    let (mut years, mut months, mut days) = (Buffer::new(), Buffer::new(), Buffer::new());
     let year = years.format(shown.year.unsigned_abs());
     let month = months.format(shown.month);
     let day = days.format(shown.day);
-    let hour = hours.format(shown.hour);
-    let minute = minutes.format(shown.minute);
-    let second = seconds.format(shown.second);
     push_all(
         text,
         &[
@@ -82,6 +77,24 @@ fn push_civil(text: &mut ShortText, shown: &Civil)
             padding(day, 2, Fill::Zero),
             day.as_bytes(),
             b" ",
+        ],
+    );
+}
+
+/// Appends a time of day.
+#[tactic(auto, unfolding(crate::specs::InstantText::time_text))]
+pub(crate) fn push_time(text: &mut ShortText, hour: u8, minute: u8, second: u8)
+    requires room { length text.old.items + 17 ≤ ROOM }
+    ensures text { text.new.items ≡ text.old.items ++ time_text hour minute second }
+    ensures short { length text.new.items ≤ length text.old.items + 17 }
+{
+    let (mut hours, mut minutes, mut seconds) = (Buffer::new(), Buffer::new(), Buffer::new());
+    let hour = hours.format(hour);
+    let minute = minutes.format(minute);
+    let second = seconds.format(second);
+    push_all(
+        text,
+        &[
             padding(hour, 2, Fill::Zero),
             hour.as_bytes(),
             b":",
@@ -90,14 +103,13 @@ fn push_civil(text: &mut ShortText, shown: &Civil)
             b":",
             padding(second, 2, Fill::Zero),
             second.as_bytes(),
-            b" ",
         ],
     );
 }
 
 /// Appends the word of a zone after a time: `UTC` for UTC itself, and otherwise how far its clock is ahead.
 #[tactic(auto, unfolding(crate::specs::InstantText::zone_word))]
-fn push_zone(text: &mut ShortText, is_utc: bool, offset: i32)
+pub(crate) fn push_zone(text: &mut ShortText, is_utc: bool, offset: i32)
     requires room { length text.old.items + 40 ≤ ROOM }
     ensures text { text.new.items ≡ text.old.items ++ zone_word is_utc offset }
     ensures short { length text.new.items ≤ length text.old.items + 40 }

@@ -1,0 +1,77 @@
+-- Instants that a clock shows on one day.
+use Rattle.std.proofs.Common.{◌≡◌, ◌∙◌, ◌+◌, ◌*◌, ℕ, ℤ, pos, ◌+ℤ◌, ◌-ℤ◌, ◌≤ℤ◌, ◌<ℤ◌, negsuc, cond, int_lt, true, false, unsigned_abs, codes, List, [], ◌∷◌, ◌++◌, refl, ap, arith}
+use Rattle.std.specs.Int.{int_max}
+use Rattle.std.proofs.lemmas.List.{append-nil, append_assoc}
+use Rattle.jiff.specs.Types.{TimeZone}
+use Rattle.jiff.specs.Words.{nanos_of_seconds, offset_at, weekday_of}
+use Rattle.jiff.proofs.SpanFacts.{signed_arith}
+use Rattle.cal_bytes.specs.Bytes.{joined}
+use Rattle.cal_zone.specs.Civil.{at_second, civil_of}
+use Rattle.cal_zone.specs.Days.{date_of}
+use Rattle.cal_zone.specs.InstantText.{day_text, date_text, instant_text, shown_text, time_text, weekday_name, zone_word}
+use Rattle.cal_zone.specs.Local.{day_of, second_of_day, hour_of, minute_of, second_of}
+use Rattle.cal_zone.specs.Zone.{is_utc, local_of, zone_of}
+use Rattle.cal_zone.specs.declared.civil_fields.Civil.{Civil}
+use Rattle.cal_zone.specs.declared.zone.Zone.{Zone}
+
+-- the seconds since the midnight of what is shown
+abbrev pub seconds_shown : Civil → ℕ
+seconds_shown c = c.hour * 3_600 + c.minute * 60 + c.second
+
+pub magnitude : (z : ℤ) → pos 0 ≤ℤ z → pos (unsigned_abs z) ≡ z
+magnitude (pos n) h = refl
+magnitude (negsuc n) h = absurd (omega (arith, signed_arith))
+
+-- before the next midnight the day goes on, where the clock does
+pub day_goes_on : (tz : TimeZone) (here second midnight : ℤ) → offset_at tz (nanos_of_seconds second) ≡ offset_at tz (nanos_of_seconds here)
+    → midnight ≡ here -ℤ pos (seconds_shown (civil_of tz here)) → midnight ≤ℤ second → second <ℤ (midnight +ℤ pos 86_400)
+    → civil_of tz second ≡ at_second (civil_of tz here) (unsigned_abs (second -ℤ midnight))
+unfolding civil_of local_of
+day_goes_on tz here second midnight offset is from before =
+    let local : ℤ = here +ℤ offset_at tz (nanos_of_seconds here) in
+    let later : ℤ = second +ℤ offset_at tz (nanos_of_seconds second) in
+    let since = magnitude (second -ℤ midnight) (omega (arith, signed_arith)) in
+    let day : day_of later ≡ day_of local = omega (arith, signed_arith) in
+    let within : second_of_day later ≡ unsigned_abs (second -ℤ midnight) = omega (arith, signed_arith, since) in
+    λ i. record {
+      year = (date_of (day i)).year;
+      month = (date_of (day i)).month;
+      day = (date_of (day i)).day;
+      weekday = weekday_of (date_of (day i)) + 1;
+      hour = hour_of (within i);
+      minute = minute_of (within i);
+      second = second_of (within i);
+      offset = offset i;
+    }
+
+regrouped : (weekday date time space word : List ℕ)
+    → joined (weekday ∷ space ∷ date ∷ space ∷ time ∷ space ∷ []) ++ word ≡ joined (joined (weekday ∷ space ∷ date ∷ space ∷ []) ∷ time ∷ (space ++ word) ∷ [])
+regrouped weekday date time space word = simp (append_assoc, append-nil) refl
+
+same_date : (c : Civil) (since : ℕ) → date_text (at_second c since) ≡ date_text c
+unfolding date_text
+same_date c since = refl
+
+shown_parts : (c : Civil) → shown_text c ≡ joined (weekday_name c.weekday ∷ codes " " ∷ date_text c ∷ codes " " ∷ time_text c.hour c.minute c.second ∷ codes " " ∷ [])
+unfolding shown_text
+shown_parts c = refl
+
+shown_on_day : (c : Civil) (since : ℕ) (word : List ℕ)
+    → shown_text (at_second c since) ++ word ≡ joined (day_text c ∷ time_text (hour_of since) (minute_of since) (second_of since) ∷ (codes " " ++ word) ∷ [])
+unfolding day_text
+shown_on_day c since word =
+    let time : List ℕ = time_text (hour_of since) (minute_of since) (second_of since) in
+    ap (λ shown. shown ++ word) (shown_parts (at_second c since) ∙ ap (λ date. joined (weekday_name c.weekday ∷ codes " " ∷ date ∷ codes " " ∷ time ∷ codes " " ∷ [])) (same_date c since))
+    ∙ regrouped (weekday_name c.weekday) (date_text c) time (codes " ") word
+
+-- its text: that of the day, the time, and the word of the zone
+pub text_on_day : (zone : Zone) (second : ℤ) (shown : Civil) (since : ℕ) → civil_of (zone_of zone) second ≡ at_second shown since
+    → instant_text zone second ≡ joined (day_text shown ∷ time_text (hour_of since) (minute_of since) (second_of since) ∷ (codes " " ++ zone_word (is_utc zone) shown.offset) ∷ [])
+unfolding instant_text
+text_on_day zone second shown since e =
+    ap (λ c. shown_text c ++ zone_word (is_utc zone) c.offset) e
+    ∙ shown_on_day shown since (zone_word (is_utc zone) shown.offset)
+
+-- the greater of two numbers is no more than what neither is
+pub max_to : (a b high : ℤ) → a ≤ℤ high → b ≤ℤ high → int_max a b ≤ℤ high
+max_to a b high p q = elim (int_lt b a) as (λ c. cond c a b ≤ℤ high) [ true ↦ p | false ↦ q ]

@@ -1,0 +1,119 @@
+use Rattle.std.proofs.Common.{◌≡◌, ◌∙◌, ◌++◌, ◌+ℤ◌, ◌-ℤ◌, ◌≤ℤ◌, ◌<ℤ◌, ℤ, unsigned_abs, length, codes, pos, of_z, to_z, sym, ap, arith, rules, w32, w64, FitsSigned}
+use Rattle.std.proofs.lemmas.Int.{to_z-of_z}
+use Rattle.jiff.proofs.SpanFacts.{signed_arith}
+use Rattle.jiff.specs.Words.{nanos_of_seconds, offset_at}
+use Rattle.cal_zone.specs.Civil.{at_second}
+use Rattle.cal_zone.specs.InstantText.{day_text, zone_word}
+use Rattle.cal_zone.specs.Zone.{is_utc, zone_of}
+use Rattle.cal_zone.proofs.RuleLemmas.{min_from}
+use Rattle.cal_zone.proofs.ShownDayLemmas.{day_goes_on, max_to, seconds_shown, text_on_day}
+use Rattle.cal_zone.proofs.shown_day.ShownDay.of.Goals as goal
+
+pub overflow_sub-midnight : goal.overflow_sub-midnight
+overflow_sub-midnight c =
+    let years = c.args.instant.in_range in
+    omega (arith, signed_arith, c.secs.ensures.value, c.since_midnight.ensures, c.civil_at-shown.ensures.hour, c.civil_at-shown.ensures.minute, c.civil_at-shown.ensures.second)
+
+pub overflow_add-midnight : goal.overflow_add-midnight
+overflow_add-midnight c =
+    let years = c.args.instant.in_range in
+    omega (arith, signed_arith, c.secs.ensures.value, c.since_midnight.ensures, c.civil_at-shown.ensures.hour, c.civil_at-shown.ensures.minute, c.civil_at-shown.ensures.second)
+
+-- the midnight as the code computes it
+abbrev midnight_of : ℤ → ℤ → ℤ
+midnight_of second since = to_z w64 (of_z w64 (to_z w64 (of_z w64 second) -ℤ to_z w64 (of_z w64 since)))
+
+-- it lies a part of a day before the instant
+midnight : (c : goal.After-min) → midnight_of c.secs.result c.since_midnight.result ≡ c.args.instant.secs -ℤ pos (seconds_shown c.civil_at-shown.result)
+midnight c =
+    let years = c.args.instant.in_range in
+    omega (arith, signed_arith, c.secs.ensures.value, c.since_midnight.ensures, c.civil_at-shown.ensures.hour, c.civil_at-shown.ensures.minute, c.civil_at-shown.ensures.second)
+
+abbrev next_midnight_of : ℤ → ℤ → ℤ
+next_midnight_of second since = to_z w64 (of_z w64 (midnight_of second since +ℤ pos 86_400))
+
+next_midnight : (c : goal.After-min) → next_midnight_of c.secs.result c.since_midnight.result ≡ c.args.instant.secs -ℤ pos (seconds_shown c.civil_at-shown.result) +ℤ pos 86_400
+next_midnight c =
+    let years = c.args.instant.in_range in
+    let start = midnight c in
+    omega (arith, signed_arith, c.civil_at-shown.ensures.hour, c.civil_at-shown.ensures.minute, c.civil_at-shown.ensures.second)
+
+-- what lies on the day lies in the period, and between the two midnights
+at_midnight : (c : goal.After-min) (second : ℤ) → to_z w64 (of_z w64 c.max.result) ≤ℤ second
+    → (c.args.period.from ≤ℤ second) × (midnight_of c.secs.result c.since_midnight.result ≤ℤ second)
+at_midnight c second from =
+    let max_fits : FitsSigned w64 c.max.result = search rules in
+    let from_fits : FitsSigned w64 c.args.period.from = search rules in
+    (omega (arith, signed_arith, c.max.ensures.self_bound), omega (arith, signed_arith, c.max.ensures.other_bound))
+
+at_next_midnight : (c : goal.After-min) (second : ℤ) → second <ℤ to_z w64 (of_z w64 c.min.result)
+    → (second <ℤ c.args.period.to) × (second <ℤ (midnight_of c.secs.result c.since_midnight.result +ℤ pos 86_400))
+at_next_midnight c second before =
+    let min_fits : FitsSigned w64 c.min.result = search rules in
+    let to_fits : FitsSigned w64 c.args.period.to = search rules in
+    let start = midnight c in
+    let next = next_midnight c in
+    (omega (arith, signed_arith, c.min.ensures.self_bound), omega (arith, signed_arith, c.min.ensures.other_bound))
+
+day : (c : goal.After-min) → c.push_day.new.text.items ≡ day_text c.civil_at-shown.result
+day c = c.push_day.ensures.text ∙ ap (λ front. front ++ day_text c.civil_at-shown.result) c.new-day.ensures
+
+space : (c : goal.After-min) → c.push.new.text.items ≡ codes " "
+space c = c.push.ensures ∙ ap (λ front. front ++ codes " ") c.new-word.ensures
+
+word : (c : goal.After-min) → c.push_zone.new.text.items ≡ codes " " ++ zone_word (is_utc c.args.zone) c.civil_at-shown.result.offset
+word c =
+    let in_range = c.civil_at-shown.ensures.offset in
+    let fits : FitsSigned w32 c.civil_at-shown.result.offset = omega (arith, signed_arith) in
+    c.push_zone.ensures.text
+    ∙ ap (λ offset. c.push.new.text.items ++ zone_word c.is_utc.result offset) (to_z-of_z w32 c.civil_at-shown.result.offset fits)
+    ∙ ap (λ front. front ++ zone_word c.is_utc.result c.civil_at-shown.result.offset) (space c)
+    ∙ ap (λ utc. codes " " ++ zone_word utc c.civil_at-shown.result.offset) c.is_utc.ensures
+
+pub returns-clause-day : goal.returns-clause-day
+returns-clause-day c =
+    let zone = c.args.zone in
+    let tz = zone_of zone in
+    let instant : ℤ = c.args.instant.secs in
+    let max_fits : FitsSigned w64 c.max.result = search rules in
+    let min_fits : FitsSigned w64 c.min.result = search rules in
+    let from_fits : FitsSigned w64 c.args.period.from = search rules in
+    let to_fits : FitsSigned w64 c.args.period.to = search rules in
+    let even = c.requires.even in
+    let here : offset_at tz (nanos_of_seconds instant) ≡ c.args.period.offset.seconds = even instant c.requires.begun c.requires.within in
+    let shown = c.civil_at-shown.ensures.value tz here in
+    let start = midnight c in
+    let next = next_midnight c in
+    record {
+      each = λ second from before.
+          let after = at_midnight c second from in
+          let ahead = at_next_midnight c second before in
+          let since = unsigned_abs (second -ℤ midnight_of c.secs.result c.since_midnight.result) in
+          let on = day_goes_on tz instant second (midnight_of c.secs.result c.since_midnight.result) (even second after.0 ahead.0 ∙ sym here) (start ∙ ap (λ c. instant -ℤ pos (seconds_shown c)) shown) after.1 ahead.1 in
+          record {
+            since_midnight = (omega (arith, signed_arith), omega (arith, signed_arith));
+            text = rw (day c, word c) (text_on_day zone second c.civil_at-shown.result since (on ∙ ap (λ c. at_second c since) (sym shown)));
+          };
+      short = record {
+        date = omega (arith, c.push_day.ensures.short, ap length c.new-day.ensures);
+        word = omega (arith, c.push_zone.ensures.short, ap length (space c));
+      };
+    }
+
+pub returns-clause-begun : goal.returns-clause-begun
+returns-clause-begun c =
+    let max_fits : FitsSigned w64 c.max.result = search rules in
+    let from_fits : FitsSigned w64 c.args.period.from = search rules in
+    let start = midnight c in
+    let begun = c.requires.begun in
+    let within = max_to (to_z w64 (of_z w64 c.args.period.from)) (midnight_of c.secs.result c.since_midnight.result) c.args.instant.secs (omega (arith, signed_arith)) (omega (arith, signed_arith)) in
+    rw (to_z-of_z w64 c.max.result max_fits, c.max.ensures.value) within
+
+pub returns-clause-within : goal.returns-clause-within
+returns-clause-within c =
+    let min_fits : FitsSigned w64 c.min.result = search rules in
+    let to_fits : FitsSigned w64 c.args.period.to = search rules in
+    let next = next_midnight c in
+    let within = c.requires.within in
+    let after : (c.args.instant.secs +ℤ pos 1) ≤ℤ c.min.result = rw c.min.ensures.value (min_from (to_z w64 (of_z w64 c.args.period.to)) (next_midnight_of c.secs.result c.since_midnight.result) (c.args.instant.secs +ℤ pos 1) (omega (arith, signed_arith)) (omega (arith, signed_arith))) in
+    omega (arith, signed_arith)

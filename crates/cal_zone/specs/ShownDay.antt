@@ -1,0 +1,31 @@
+-- Days as a zone's clock shows them.
+use Rattle.std.specs.Prelude.{◌≡◌, ℕ, ℤ, pos, ◌-ℤ◌, ◌≤ℤ◌, ◌<ℤ◌, ◌≤◌, unsigned_abs, length, List, [], ◌∷◌}
+use Rattle.jiff.specs.Words.{IsBetween}
+use Rattle.cal_bytes.specs.Bytes.{joined}
+use Rattle.cal_zone.specs.InstantText.{instant_text, time_text}
+use Rattle.cal_zone.specs.Local.{hour_of, minute_of, second_of}
+use Rattle.cal_zone.specs.declared.shown_day.ShownDay.{ShownDay}
+use Rattle.cal_zone.specs.declared.zone.Zone.{Zone}
+
+-- the day's text, the time so many seconds after midnight, and the zone's word
+abbrev pub text_after : ShownDay → ℕ → List ℕ
+text_after day second =
+    joined (day.day.items ∷ time_text (hour_of second) (minute_of second) (second_of second) ∷ day.word.items ∷ [])
+
+abbrev pub text_on : ShownDay → ℤ → List ℕ
+text_on day second = text_after day (unsigned_abs (second -ℤ day.midnight))
+
+-- the texts have a length that leaves room for them
+pub record AreShort (day : ShownDay) : Type 0 where
+  pub date : length day.day.items ≤ 26
+  pub word : length day.word.items ≤ 41
+
+-- an instant of the day
+pub record IsOnDay (zone : Zone) (day : ShownDay) (second : ℤ) : Type 0 where
+  pub since_midnight : IsBetween (pos 0) (pos 86_399) (second -ℤ day.midnight)
+  pub text : instant_text zone second ≡ text_on day second
+
+-- each instant from its begin to its end is on the day
+pub record IsDay (zone : Zone) (day : ShownDay) : Type 0 where
+  pub each : (second : ℤ) → day.from ≤ℤ second → second <ℤ day.to → IsOnDay zone day second
+  pub short : AreShort day

@@ -1,0 +1,90 @@
+//! Days as a zone's clock shows them: what the texts of all instants of a day share.
+
+ghost use Rattle.std.specs.Prelude.{◌≡◌, ◌+◌, ◌*◌, ◌≤◌, ◌++◌, ◌-ℤ◌, ◌≤ℤ◌, ◌<ℤ◌, length, pos};
+ghost use Rattle.jiff.specs.Words.{IsBetween};
+ghost use Rattle.cal_bytes.specs.declared.short_text.TheConstants.{ROOM};
+ghost use Rattle.cal_zone.specs.Period.{IsPeriodAt};
+ghost use Rattle.cal_zone.specs.ShownDay.{AreShort, IsDay, text_on};
+ghost use Rattle.cal_zone.specs.Zone.{zone_of};
+
+use crate::civil_time::civil_at;
+use crate::instant_text::{push_day, push_time, push_zone};
+use crate::period::Period;
+use crate::{Civil, DAY, Instant, Zone};
+use cal_bytes::{ShortText, push};
+
+/// The instants from `from` on and before `to`, which a clock shows on one day: their texts are the day's, the time since
+/// its midnight, and the word of the zone.
+#[derive(Drop)]
+pub(crate) struct ShownDay {
+    pub(crate) from: i64,
+    pub(crate) to: i64,
+    midnight: i64,
+    day: ShortText,
+    word: ShortText,
+}
+
+impl ShownDay {
+    /// A day of no instants.
+    pub(crate) fn empty() -> ShownDay
+        ensures from { result.from ≡ pos 0 }
+        ensures to { result.to ≡ pos 0 }
+        ensures short { AreShort result }
+    {
+        ShownDay {
+            from: 0,
+            to: 0,
+            midnight: 0,
+            day: ShortText::new(),
+            word: ShortText::new(),
+        }
+    }
+
+    /// The day that the zone's clock shows at the instant, as far as the period goes.
+    pub(crate) fn of(zone: Zone, period: Period, instant: Instant) -> ShownDay
+        requires { IsPeriodAt (zone_of zone) instant.secs period }
+        ensures day { IsDay zone.entry result }
+        ensures begun { result.from ≤ℤ instant.secs }
+        ensures within { instant.secs <ℤ result.to }
+    {
+        let shown = civil_at(period.offset, instant);
+        let midnight = instant.secs() - since_midnight(&shown);
+        let (mut day, mut word) = (ShortText::new(), ShortText::new());
+        push_day(&mut day, &shown);
+        push(&mut word, b" ");
+        push_zone(&mut word, zone.is_utc(), shown.offset);
+        ShownDay {
+            from: period.from.max(midnight),
+            to: period.to.min(midnight + DAY as i64),
+            midnight,
+            day,
+            word,
+        }
+    }
+
+    /// Appends the text of one of its instants.
+    pub(crate) fn push(&self, text: &mut ShortText, second: i64)
+        requires short { AreShort self.now }
+        requires day { IsBetween (pos 0) (pos 86_399) (second -ℤ self.now.midnight) }
+        requires room { length text.old.items + 84 ≤ ROOM }
+        ensures text { text.new.items ≡ text.old.items ++ text_on self.now second }
+        ensures short { length text.new.items ≤ length text.old.items + 84 }
+    {
+        let time = (second - self.midnight) as u32;
+        push(text, self.day.as_slice());
+        push_time(
+            text,
+            (time / 3_600) as u8,
+            (time / 60 % 60) as u8,
+            (time % 60) as u8,
+        );
+        push(text, self.word.as_slice());
+    }
+}
+
+/// The seconds since midnight.
+fn since_midnight(shown: &Civil) -> i64
+    ensures { result ≡ pos (shown.now.hour * 3_600 + shown.now.minute * 60 + shown.now.second) }
+{
+    i64::from(shown.hour) * 3_600 + i64::from(shown.minute) * 60 + i64::from(shown.second)
+}
