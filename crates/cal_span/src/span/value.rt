@@ -5,7 +5,7 @@ ghost use Rattle.std.specs.Option.{option_copied};
 ghost use Rattle.std.specs.List.{find, list_any};
 ghost use Rattle.std.specs.Str.{bytes_eq};
 ghost use Rattle.cal_span.specs.Scale.{words_for};
-ghost use Rattle.cal_span.specs.SpanValue.{pairs_in, unit_in, worth_of, sum_with, span_of};
+ghost use Rattle.cal_span.specs.SpanValue.{pairs_in, unit_in, unit_named, worth_of, sum_with, span_of};
 
 use crate::span::number::Number;
 use crate::span::word::{CharKind, first_word};
@@ -93,13 +93,31 @@ fn add_pair(sum: Span, pair: Pair<'_>) -> Result<Span, SpanFault>
 }
 
 /// The unit with this word as a spelling, or the second where there is no word.
-#[tactic(auto, unfolding(crate::specs::SpanValue::unit_named))]
 fn unit_of(word: Option<&[u8]>) -> Option<Scale>
     ensures { result ≡ unit_in (option_copied word.entry) }
 {
     match word {
-        Some(word) => find_unit(&Scale::ALL, word),
+        Some(word) => find_unit(units_by_initial(word), word),
         None => Some(Scale::Second),
+    }
+}
+
+/// The units that the first byte of the word leaves, from the largest down: no other has the word as a spelling.
+#[tactic(auto, unfolding(crate::specs::SpanValue::unit_named, crate::specs::Scale::words_for))]
+fn units_by_initial(word: &[u8]) -> &'static [Scale]
+    ensures { find (λ unit. list_any (bytes_eq word.now) (words_for unit)) result.now ≡ unit_named word.now }
+{
+    match word {
+        [b'y', ..] => &[Scale::Year],
+        [b'M', ..] => &[Scale::Month],
+        [b'm', ..] => &[Scale::Month, Scale::Minute, Scale::Millisecond],
+        [b'w', ..] => &[Scale::Week],
+        [b'd', ..] => &[Scale::Day],
+        [b'h', ..] => &[Scale::Hour],
+        [b's', ..] => &[Scale::Second],
+        // The first bytes of the micro sign and of the Greek letter mu.
+        [b'u' | 0xc2 | 0xce, ..] => &[Scale::Microsecond],
+        _ => &[],
     }
 }
 

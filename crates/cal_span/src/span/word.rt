@@ -64,10 +64,10 @@ fn first(bytes: &[u8]) -> Option<(CharKind, usize)>
 {
     match bytes {
         [] => None,
-        [0xc2, 0xb5, ..] | [0xce, 0xbc, ..] => Some((CharKind::Letter, 2)),
-        [b' ' | b'\t', ..] => Some((CharKind::Blank, 1)),
         [b'0'..=b'9' | b'.', ..] => Some((CharKind::Numeric, 1)),
         [b'A'..=b'Z' | b'a'..=b'z', ..] => Some((CharKind::Letter, 1)),
+        [b' ' | b'\t', ..] => Some((CharKind::Blank, 1)),
+        [0xc2, 0xb5, ..] | [0xce, 0xbc, ..] => Some((CharKind::Letter, 2)),
         _ => Some((CharKind::Other, 1)),
     }
 }
