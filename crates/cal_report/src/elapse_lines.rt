@@ -7,10 +7,11 @@ ghost use Rattle.cal_rising.specs.RisingList.{first, later};
 ghost use Rattle.cal_report.specs.ElapseLines.{AreInstants, label_text, elapse_text, elapse_texts, elapses_text};
 ghost use Rattle.cal_request.specs.Request.{IsCount};
 
-use crate::report_lines::{first_moment, push_distance, push_utc_line};
+use crate::clocks::Clocks;
+use crate::report_lines::{first_moment, push_distance};
 use cal_bytes::{Fill, ShortText, Sink, WriteFault, padding, push, push_all, put_all};
 use cal_elapse::Rising;
-use cal_zone::{Instant, Zone, push_instant};
+use cal_zone::{Instant, Zone};
 use itoa::Buffer;
 
 /// Writes the first of the elapses that are left, as many as are asked for, or `never` where there is none.
@@ -31,8 +32,9 @@ pub fn put_elapses<W: Sink, S: Rising>(
     match next_instant(elapses) {
         None => put_all(out, b"    Next elapse: never\n"),
         Some(first) => {
-            put_elapse(out, 1, first, local, now)?;
-            put_more(out, elapses, iterations, local, now)
+            let mut clocks = Clocks::new(local);
+            put_elapse(out, 1, first, &mut clocks, now)?;
+            put_more(out, elapses, iterations, &mut clocks, now)
         }
     }
 }
@@ -42,7 +44,7 @@ fn put_more<W: Sink, S: Rising>(
     out: &mut W,
     elapses: &mut S,
     iterations: u32,
-    local: Zone<'_>,
+    clocks: &mut Clocks<'_>,
     now: Instant,
 ) -> Result<(), WriteFault>
     requires iterations { IsCount iterations }
@@ -50,13 +52,13 @@ fn put_more<W: Sink, S: Rising>(
     requires out { W.is_failed out.old ≡ false }
     ensures failed { W.is_failed out.new ≡ is_err result }
     ensures bytes { Writes (W.written out.old) (W.written out.new) result
-        (elapse_texts local.entry now.secs 2 (take (iterations - 1) (S.rest elapses.old))) }
+        (elapse_texts clocks.old now.secs 2 (take (iterations - 1) (S.rest elapses.old))) }
 {
     for number in 2..iterations + 1 {
         let Some(elapse) = next_instant(elapses) else {
             return Ok(());
         };
-        put_elapse(out, number, elapse, local, now)?;
+        put_elapse(out, number, elapse, clocks, now)?;
     }
     Ok(())
 }
@@ -82,29 +84,37 @@ fn put_elapse<W: Sink>(
     out: &mut W,
     number: u32,
     elapse: Instant,
-    local: Zone<'_>,
+    clocks: &mut Clocks<'_>,
     now: Instant,
 ) -> Result<(), WriteFault>
     requires { W.is_failed out.old ≡ false }
     ensures failed { W.is_failed out.new ≡ is_err result }
     ensures bytes { Writes (W.written out.old) (W.written out.new) result
-        (elapse_text local.entry now.secs number elapse.secs) }
+        (elapse_text clocks.old now.secs number elapse.secs) }
+    ensures local { clocks.new ≡ clocks.old }
 {
     let mut text = ShortText::new();
-    push_elapse(&mut text, number, elapse, local, now);
+    push_elapse(&mut text, number, elapse, clocks, now);
     put_all(out, text.as_slice())
 }
 
 /// Appends one elapse, and how far it lies from the present.
 #[tactic(auto, unfolding(crate::specs::ElapseLines::elapse_text))]
-fn push_elapse(text: &mut ShortText, number: u32, elapse: Instant, local: Zone<'_>, now: Instant)
+fn push_elapse(
+    text: &mut ShortText,
+    number: u32,
+    elapse: Instant,
+    clocks: &mut Clocks<'_>,
+    now: Instant,
+)
     requires { length text.old.items + 474 ≤ ROOM }
-    ensures { text.new.items ≡ text.old.items ++ elapse_text local.entry now.secs number elapse.secs }
+    ensures text { text.new.items ≡ text.old.items ++ elapse_text clocks.old now.secs number elapse.secs }
+    ensures local { clocks.new ≡ clocks.old }
 {
     push_label(text, number);
-    push_instant(text, local, elapse);
+    clocks.push_local(text, elapse);
     push(text, b"\n");
-    push_utc_line(text, local, elapse);
+    clocks.push_utc_line(text, elapse);
     push(text, b"       From now: ");
     push_distance(text, now, first_moment(elapse));
     push(text, b"\n");

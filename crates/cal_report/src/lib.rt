@@ -3,6 +3,7 @@
 
 mod accepted;
 mod calendar_report;
+mod clocks;
 mod context;
 mod elapse_lines;
 pub mod laws;

@@ -9,8 +9,9 @@ invariant-loop-number g l =
     let rest = g.S.Rising.rest in
     record {
       works : g.W.Sink.is_failed l.out ≡ false;
+      local : l.clocks ≡ l.fn.clocks;
       instants : AreInstants (rest l.elapses);
       leaves : Leaves (g.W.Sink.written l.fn.out) (g.W.Sink.written l.out)
-          (elapse_texts l.local l.now.secs l.number (take (l.iterations + 1 - l.number) (rest l.elapses)))
-          (elapse_texts l.local l.now.secs 2 (take (l.iterations - 1) (rest l.fn.elapses)));
+          (elapse_texts l.fn.clocks l.now.secs l.number (take (l.iterations + 1 - l.number) (rest l.elapses)))
+          (elapse_texts l.fn.clocks l.now.secs 2 (take (l.iterations - 1) (rest l.fn.elapses)));
     }
