@@ -33,6 +33,16 @@ fn put_later(rt: &impl Abort, pending: &mut Pending, instant: i64) {
     }
 }
 
+/// Puts instants behind the least member, each at most 187,199 after it.
+fn put_all_later(rt: &impl Abort, pending: &mut Pending, start: i64, bits: u64) {
+    assert!(rt; start >= 0 && start <= 7_258_211_935);
+    if let Some(least) = pending.least() {
+        assert!(rt; least < start);
+        assert!(rt; start - 187_136 <= least);
+        pending.put_all(start, bits);
+    }
+}
+
 /// The set gives these, and then nothing.
 fn expect_members(rt: &impl Abort, pending: &mut Pending, members: &[i64]) {
     for member in members {
@@ -57,6 +67,20 @@ fn round_the_end(rt: HostRuntime) -> Result<(), AllocError> {
     expect_members(&rt, &mut later, &[187_199, 187_201]);
     let mut earlier = pending_two(&rt, 187_199, 0)?;
     expect_members(&rt, &mut earlier, &[0, 187_199]);
+    Ok(())
+}
+
+/// In the last word of a round and in its first: the 10th and the 11th second are the last of one round and the first of
+/// the next.
+#[test]
+fn all_at_once(rt: HostRuntime) -> Result<(), AllocError> {
+    let mut pending = pending_two(&rt, 187_150, 187_199)?;
+    put_all_later(&rt, &mut pending, 187_190, 1 | 1 << 9 | 1 << 10 | 1 << 63);
+    expect_members(
+        &rt,
+        &mut pending,
+        &[187_150, 187_190, 187_199, 187_200, 187_253],
+    );
     Ok(())
 }
 
