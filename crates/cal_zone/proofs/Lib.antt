@@ -1,5 +1,6 @@
 pub mod CivilLemmas
 pub mod DayLemmas
+pub mod DigitLemmas
 pub mod OffsetLemmas
 pub mod OffsetWordLemmas
 pub mod PeriodLemmas

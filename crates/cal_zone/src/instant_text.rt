@@ -1,9 +1,9 @@
 //! Instants as text.
 
-ghost use Rattle.std.specs.Prelude.{◌≡◌, ◌+◌, ◌≤◌, ◌++◌, false, is_err, length};
+ghost use Rattle.std.specs.Prelude.{◌≡◌, ◌+◌, ◌<◌, ◌≤◌, decimal, ◌++◌, false, is_err, length};
 ghost use Rattle.std.specs.Int.{IsInRange};
 ghost use Rattle.cal_bytes.specs.Bytes.{Writes};
-ghost use Rattle.cal_zone.specs.InstantText.{weekday_name, day_text, instant_text, offset_text, shown_text, sign_text, time_text, zone_word};
+ghost use Rattle.cal_zone.specs.InstantText.{weekday_name, day_text, instant_text, offset_text, shown_text, sign_text, time_text, zeros, zone_word};
 ghost use Rattle.cal_bytes.specs.declared.short_text.TheConstants.{ROOM};
 
 use crate::{Civil, Instant, Zone, civil, short_weekday_name};
@@ -42,6 +42,9 @@ pub fn write_instant<W: Sink>(out: &mut W, zone: Zone, instant: Instant) -> Resu
 #[tactic(auto, unfolding(crate::specs::InstantText::shown_text, crate::specs::InstantText::day_text))]
 fn push_civil(text: &mut ShortText, shown: &Civil)
     requires weekday { IsInRange 1 7 shown.now.weekday }
+    requires hour { shown.now.hour < 100 }
+    requires minute { shown.now.minute < 100 }
+    requires second { shown.now.second < 100 }
     requires room { length text.old.items + 44 ≤ ROOM }
     ensures text { text.new.items ≡ text.old.items ++ shown_text shown.now }
     ensures short { length text.new.items ≤ length text.old.items + 44 }
@@ -84,27 +87,31 @@ pub(crate) fn push_day(text: &mut ShortText, shown: &Civil)
 /// Appends a time of day.
 #[tactic(auto, unfolding(crate::specs::InstantText::time_text))]
 pub(crate) fn push_time(text: &mut ShortText, hour: u8, minute: u8, second: u8)
-    requires room { length text.old.items + 17 ≤ ROOM }
+    requires hour { hour < 100 }
+    requires minute { minute < 100 }
+    requires second { second < 100 }
+    requires room { length text.old.items + 8 ≤ ROOM }
     ensures text { text.new.items ≡ text.old.items ++ time_text hour minute second }
-    ensures short { length text.new.items ≤ length text.old.items + 17 }
+    ensures short { length text.new.items ≤ length text.old.items + 8 }
 {
-    let (mut hours, mut minutes, mut seconds) = (Buffer::new(), Buffer::new(), Buffer::new());
-    let hour = hours.format(hour);
-    let minute = minutes.format(minute);
-    let second = seconds.format(second);
-    push_all(
+    let (hour, minute, second) = (two_digits(hour), two_digits(minute), two_digits(second));
+    push(
         text,
         &[
-            padding(hour, 2, Fill::Zero),
-            hour.as_bytes(),
-            b":",
-            padding(minute, 2, Fill::Zero),
-            minute.as_bytes(),
-            b":",
-            padding(second, 2, Fill::Zero),
-            second.as_bytes(),
+            hour[0], hour[1], b':', minute[0], minute[1], b':', second[0], second[1],
         ],
     );
+}
+
+/// The two digits of a number below a hundred: the last two of a hundred more.
+#[tactic(auto)]
+fn two_digits(number: u8) -> [u8; 2]
+    requires { number < 100 }
+    ensures { result ≡ zeros 2 number ++ decimal number }
+{
+    let mut buffer = Buffer::new();
+    let digits = buffer.format(100 + number).as_bytes();
+    [digits[1], digits[2]]
 }
 
 /// Appends the word of a zone after a time: `UTC` for UTC itself, and otherwise how far its clock is ahead.
