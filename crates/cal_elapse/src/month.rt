@@ -13,7 +13,7 @@ use jiff_core::civil::{Date, days_in_month};
 pub(crate) const MONTHS: u32 = 2_760;
 
 /// A month: its number, the number of its first day from 1970-01-01 on, and its length in days.
-#[derive(Clone, Copy, Debug)]
+#[derive(Clone, Copy)]
 pub(crate) struct Month {
     pub(crate) index: u32,
     pub(crate) first: u32,

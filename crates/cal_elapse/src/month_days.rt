@@ -12,7 +12,7 @@ use crate::month::Month;
 
 /// The days of a month that match, the first of the month at the lowest bit. The field is private, so that each set of
 /// days is counted.
-#[derive(Clone, Copy, Debug)]
+#[derive(Clone, Copy)]
 pub(crate) struct MonthDays {
     bits: u64,
 }

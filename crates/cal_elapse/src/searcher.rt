@@ -16,7 +16,7 @@ use crate::search::{Found, next_after, next_at};
 use cal_spec::Expr;
 
 /// Where a search begins.
-#[derive(Clone, Copy, Debug, PartialEq, Eq)]
+#[derive(Drop)]
 pub enum Start {
     /// At a local second, from 0 to 7,258,118,400.
     At(u64),
@@ -25,7 +25,7 @@ pub enum Start {
 }
 
 /// What is left of a match's minute, once it was searched.
-#[derive(Clone, Copy)]
+#[derive(Drop)]
 pub struct RestOfMinute {
     /// A bit for each match behind it: bit i for the local second i + 1 behind it.
     pub bits: u64,
@@ -37,7 +37,7 @@ pub struct RestOfMinute {
 /// The fields are private, so that nothing is searched without being counted.
 ///
 /// What is left of the minute of the last match is kept, as most searches end in the minute of the match before.
-#[derive(Debug, Drop)]
+#[derive(Drop)]
 pub struct Searcher {
     masks: Masks,
     searches: u64,
