@@ -47,3 +47,19 @@ pub fn zone_file(alloc: Global) -> Result<Vec<u8>, AllocError> {
     bytes.extend_from_slice(b"\nCET-1\n")?;
     Ok(bytes)
 }
+
+/// The header and the data of a zone file of version 2 with two local time types, an hour and two hours east of UTC, and
+/// with the changes of 2024: to summer time at 1,711,846,800, and back at 1,729,990,800.
+const BLOCK_OF_2024: [u8; 83] =
+    *b"TZif2\0\0\0\0\0\0\0\0\0\0\0\0\0\0\0\0\0\0\0\0\0\0\0\0\0\0\0\0\0\0\x02\0\0\0\x02\0\0\0\x09\
+\0\0\0\0\x66\x08\xb5\x90\0\0\0\0\x67\x1d\x90\x90\x01\0\0\0\x0e\x10\0\0\0\0\x1c\x20\x01\x04CET\0CEST\0";
+
+/// The file with these changes, and behind them the rule [`SUMMER_TIME`].
+pub fn zone_file_of_2024(alloc: Global) -> Result<Vec<u8>, AllocError> {
+    let mut bytes = Vec::from_slice(alloc, &BLOCK)?;
+    bytes.extend_from_slice(&BLOCK_OF_2024)?;
+    bytes.extend_from_slice(b"\n")?;
+    bytes.extend_from_slice(SUMMER_TIME.as_bytes())?;
+    bytes.extend_from_slice(b"\n")?;
+    Ok(bytes)
+}

@@ -1,6 +1,7 @@
-//! Zones: the places of local seconds, the rules that are read and refused, and zones by name. What a rule says is
+//! Zones: the places of local seconds, what a clock shows, the rules that are read and refused, and zones by name. What a rule says is
 //! worked out by hand.
 
+mod clocks;
 mod names;
 mod places;
 mod rules;
