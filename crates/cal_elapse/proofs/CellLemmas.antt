@@ -59,7 +59,7 @@ position-all xs h k lt = let long = by_none (position_or_len is_set xs) (length 
 
 -- The first cell that isn't empty
 
-in_word : (words : List ℕ) (t word : ℕ) → t / 64 ≡ word → is_in_words words t ≡ is_bit (get_or words word 0) (t % 64)
+pub in_word : (words : List ℕ) (t word : ℕ) → t / 64 ≡ word → is_in_words words t ≡ is_bit (get_or words word 0) (t % 64)
 unfolding is_in_words
 in_word words t word same = ap (λ (w : ℕ). is_bit (get_or words w 0) (t % 64)) same
 

@@ -11,13 +11,10 @@ use Rattle.cal_elapse.specs.Ring.{IsOneOf, IsRoundFrom, cells_behind, instants_i
 use Rattle.cal_elapse.specs.Search.{IsFirstPassing}
 use Rattle.cal_elapse.proofs.BitLemmas.{is_bit-above, is_bit-or, is_bit-shifted, is_bit-up, is_bit-up_none}
 use Rattle.cal_elapse.proofs.CarryLemmas.{below_end}
+use Rattle.cal_elapse.proofs.CellLemmas.{in_word}
 use Rattle.cal_elapse.proofs.RingLemmas.{Has-instants, IsIn, first_found, found_kept, kept_some, member, none_found, none_kept, same_second}
 
 -- The cells
-
-in_word : (words : List ℕ) (i word : ℕ) → i / 64 ≡ word → is_in_words words i ≡ is_bit (get_or words word 0) (i % 64)
-unfolding is_in_words
-in_word words i word same = ap (λ (w : ℕ). is_bit (get_or words w 0) (i % 64)) same
 
 -- a word with more numbers
 filled_here : (words : List ℕ) (word more i : ℕ) → word < length words → i / 64 ≡ word

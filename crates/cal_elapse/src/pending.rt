@@ -61,8 +61,8 @@ impl Pending {
         self.least = self.least.min(second);
     }
 
-    /// Adds instants behind the least member, each of which differs from each member by at most 187,199: those whose bits
-    /// are set, bit i for i seconds behind the start.
+    /// Adds instants after the least member, each of which differs from each member by at most 187,199: those whose bits
+    /// are set, bit i for i seconds after the start.
     pub fn put_all(&mut self, start: i64, bits: u64)
         requires begun { IsSomeAnd (first self.old) (λ least. least <ℤ start) }
         requires instants { (i : ℤ) → IsOneOf start bits i → IsInstant i }

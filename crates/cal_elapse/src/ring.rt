@@ -70,7 +70,7 @@ pub fn set_cell(words: &mut [u64], cell: u64)
     words[word] = with_bit(words[word], (cell % 64) as u32);
 }
 
-/// Fills the cells from one on, going on round the end, whose bits are set: bit i for the cell i behind it.
+/// Fills the cells from one on, going on round the end, whose bits are set: bit i for the cell i after it.
 pub fn set_cells(words: &mut [u64], cell: u64, bits: u64)
     requires whole { length words.old ≡ 2_925 }
     requires inside { cell < 187_200 }

@@ -20,14 +20,14 @@ use cal_spec::Expr;
 pub enum Start {
     /// At a local second, from 0 to 7,258,118,400.
     At(u64),
-    /// Behind a match. Its day matches, so that no day is sought where the next match lies on it too.
+    /// After a match. Its day matches, so that no day is sought where the next match lies on it too.
     After(u64),
 }
 
 /// What is left of a match's minute, once it was searched.
 #[derive(Drop)]
 pub struct RestOfMinute {
-    /// A bit for each match behind it: bit i for the local second i + 1 behind it.
+    /// A bit for each match after it: bit i for the local second i + 1 after it.
     pub bits: u64,
     /// The last of them; the match itself where there is none.
     pub last: u64,
@@ -46,7 +46,7 @@ pub struct Searcher {
     found: u64,
     /// The local second of the lowest bit of `left`.
     from: u64,
-    /// A bit for each match behind the last one in its minute.
+    /// A bit for each match after the last one in its minute.
     left: u64,
     ghost few_months: { most_months ≤ 2_760 },
     ghost is_left: { IsLeft masks found from left },
@@ -110,7 +110,7 @@ impl Searcher {
         self.left != 0 && self.found == local
     }
 
-    /// Searches on behind a match to the end of its minute, as far as it is known what is left of that. Each match found
+    /// Searches on after a match to the end of its minute, as far as it is known what is left of that. Each match found
     /// is one search.
     pub fn search_left(&mut self, local: u64) -> RestOfMinute
         requires start { CanStart (matches (sets_in self.old.masks)) (Start.After local) }

@@ -116,7 +116,7 @@ impl<'z> Window<'z> {
                 .searcher
                 .search_left(local)
                 .last,
-            // All that is left lies behind the least pending instant, as the match does or lies at it.
+            // All that is left lies after the least pending instant, as the match lies at it or after it.
             Some(least) if least <= place => {
                 let rest = self.searcher.search_left(local);
                 self.pending.put_all(place + 1, rest.bits);

@@ -54,7 +54,7 @@ const BLOCK_OF_2024: [u8; 83] =
     *b"TZif2\0\0\0\0\0\0\0\0\0\0\0\0\0\0\0\0\0\0\0\0\0\0\0\0\0\0\0\0\0\0\x02\0\0\0\x02\0\0\0\x09\
 \0\0\0\0\x66\x08\xb5\x90\0\0\0\0\x67\x1d\x90\x90\x01\0\0\0\x0e\x10\0\0\0\0\x1c\x20\x01\x04CET\0CEST\0";
 
-/// The file with these changes, and behind them the rule [`SUMMER_TIME`].
+/// The file with these changes, and after them the rule [`SUMMER_TIME`].
 pub fn zone_file_of_2024(alloc: Global) -> Result<Vec<u8>, AllocError> {
     let mut bytes = Vec::from_slice(alloc, &BLOCK)?;
     bytes.extend_from_slice(&BLOCK_OF_2024)?;

@@ -45,7 +45,7 @@ pub(crate) fn stretch_of(zone: Zone, local: i64) -> Option<Stretch>
     }
 }
 
-/// The local second behind the last.
+/// The local second after the last.
 const END: i64 = (DAYS * DAY) as i64;
 
 /// All local seconds, each so far ahead of its place.
@@ -62,7 +62,7 @@ fn whole(offset: i64) -> Stretch
 }
 
 /// The steady stretch of a zone file's table that begins at a local second. It ends where the next row can touch the
-/// civil clock: there is none where that is already so, nor behind the last row.
+/// civil clock: there is none where that is already so, nor after the last row.
 pub(crate) fn stretch_of_table(table: &Tzif, local: i64) -> Option<Stretch>
     requires { IsLocalSecond local }
     ensures { IfSome result (IsSteadyAt (zone_of_table table.now) local) }

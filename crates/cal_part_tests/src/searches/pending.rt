@@ -33,7 +33,7 @@ fn put_later(rt: &impl Abort, pending: &mut Pending, instant: i64) {
     }
 }
 
-/// Puts instants behind the least member, each at most 187,199 after it.
+/// Puts instants after the least member, each at most 187,199 after it.
 fn put_all_later(rt: &impl Abort, pending: &mut Pending, start: i64, bits: u64) {
     assert!(rt; start >= 0 && start <= 7_258_211_935);
     if let Some(least) = pending.least() {

@@ -58,7 +58,7 @@ fn by_a_rule(rt: HostRuntime) -> Result<(), Fail> {
     expect_shown(&rt, Zone::rules(&rules), &IN_2024)
 }
 
-/// The two changes of 2024 are rows of the file's table, and behind them its rule holds.
+/// The two changes of 2024 are rows of the file's table, and after them its rule holds.
 #[test]
 fn by_a_zone_file(rt: HostRuntime) -> Result<(), Fail> {
     let bytes = zone_file_of_2024(rt.alloc())?;
