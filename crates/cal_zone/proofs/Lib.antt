@@ -1,3 +1,4 @@
+pub mod AlikeLemmas
 pub mod CivilLemmas
 pub mod DayLemmas
 pub mod DigitLemmas

@@ -2,6 +2,7 @@
 use Rattle.std.proofs.Common.{◌≡◌, ◌∙◌, ◌⊎◌, inl, inr, ◌==◌, ◌<◌, ◌≤◌, ℤ, pos, neg_ℤ, ◌+ℤ◌, ◌-ℤ◌, ◌*ℤ◌, ◌≤ℤ◌, ◌<ℤ◌, Bool, true, false, ◌&&◌, cond, if◌then◌else◌, int_le, int_lt, IfSome, Option, None, Some, refl, sym, ap, subst, arith, vec_len}
 use Rattle.std.specs.Int.{int_max}
 use Rattle.std.proofs.lemmas.Bool.{cases_lt}
+use Rattle.std.proofs.lemmas.Int.{by_lt_z}
 use Rattle.std.proofs.lemmas.Bool.Decides.{nat_tests}
 use borrow.Author.Differences.{lt-false}
 use Rattle.jiff.specs.Types.{Fixed, Offset, Posix as ByRule, TimeZone, Tzif as ByTable, UTC, Unknown}
@@ -21,9 +22,10 @@ use Rattle.jiff_tz.specs.Tzif.{count_at, rule_after, transition_at, type_after}
 use Rattle.jiff_tz.proofs.TzifLemmas.{le_no, le_yes}
 use Rattle.cal_zone.specs.Days.{date_of}
 use Rattle.cal_zone.specs.Local.{day_of}
-use Rattle.cal_zone.specs.Period.{IsUnchanged}
+use Rattle.cal_zone.specs.Period.{IsPeriodAt, IsUnchanged}
 use Rattle.cal_zone.specs.Place.{datetime_of}
-use Rattle.cal_zone.specs.Steady.{year_end}
+use Rattle.cal_zone.specs.Steady.{IsEvenUntil, year_end}
+use Rattle.cal_zone.specs.declared.period.Period.{Period}
 use Rattle.cal_zone.proofs.DayLemmas.{epoch_day-date_of}
 use Rattle.cal_zone.proofs.PlacerLemmas.{floor_second-whole, offset_between, offset_behind, offset_standard, rule_behind}
 use Rattle.cal_zone.proofs.RuleLemmas.{IsApart, IsBeside, clamped, in_its_year, lt_no, lt_yes, moment_on, next_behind, offset_in, ordered_apart, ordered_rises, utc_year, window_apart, window_beside, window_of}
@@ -40,7 +42,7 @@ beside_within low high moment at other (inr h) a b c d = record {
 }
 
 -- a rule's moments lie in their year
-abbrev IsIn : ℤ → ℤ → ℤ → Type 0
+abbrev pub IsIn : ℤ → ℤ → ℤ → Type 0
 IsIn low high moment = (low ≤ℤ moment) × (moment ≤ℤ high)
 
 moment_in : (day : Option ℤ) (low high time seconds : ℤ) → low ≤ℤ high → IsIn low high (moment_on day low high time seconds)
@@ -58,14 +60,14 @@ window_of_in : (low high start end : ℤ) (whole : Bool) → low ≤ℤ high →
 window_of_in low high start end true order p q = (p, (order, omega (arith, signed_arith)))
 window_of_in low high start end false order p q = (p, q)
 
-window_in : (d : Dst) (y : ℤ) (std : Offset) → first_nanosecond y ≤ℤ last_nanosecond y
+pub window_in : (d : Dst) (y : ℤ) (std : Offset) → first_nanosecond y ≤ℤ last_nanosecond y
     → IsIn (first_nanosecond y) (last_nanosecond y) (utc_window d y std).0 × IsIn (first_nanosecond y) (last_nanosecond y) (utc_window d y std).1
 unfolding utc_window
 window_in d y std order =
     window_of_in (first_nanosecond y) (last_nanosecond y) (rule_nanos y d.rule.start std.seconds) (rule_nanos y d.rule.end d.offset.seconds) _ order
     (rule_in y d.rule.start std.seconds order) (rule_in y d.rule.end d.offset.seconds order)
 
-ordered_in : (low high : ℤ) (w : ℤ × ℤ) (b : Bool) → IsIn low high w.0 → IsIn low high w.1
+pub ordered_in : (low high : ℤ) (w : ℤ × ℤ) (b : Bool) → IsIn low high w.0 → IsIn low high w.1
     → IsIn low high (if b then w else (w.1, w.0)).0 × IsIn low high (if b then w else (w.1, w.0)).1
 ordered_in low high w true p q = (p, q)
 ordered_in low high w false p q = (q, p)
@@ -120,7 +122,7 @@ not_after (Some change) at h = omega (arith, signed_arith)
 not_after None at h = h
 
 -- the year of an instant from 1970 to 2200, and its ends
-year_order : (y : ℤ) → first_nanosecond y ≤ℤ last_nanosecond y
+pub year_order : (y : ℤ) → first_nanosecond y ≤ℤ last_nanosecond y
 year_order y = let long = days_in_year_bounds y in omega (arith, signed_arith)
 
 instant_year : (from : ℤ) → pos 0 ≤ℤ from → from ≤ℤ pos 7_258_500_000
@@ -221,3 +223,20 @@ max_before a b x = elim (int_lt b a) as (λ v. x <ℤ cond v a b → a ≤ℤ x 
   | true ↦ λ before from. absurd (omega (arith, signed_arith))
   | false ↦ λ before from. before
 ]
+
+-- so the clock is even from an instant of a period to its end
+pub even_within : (tz : TimeZone) (from to : ℤ) (period : Period) → IsPeriodAt tz from period → to ≤ℤ period.to → IsEvenUntil tz from to
+even_within tz from to period at within = λ second later before.
+    let begun = at.begun in
+    let end = at.within in
+    at.even second (omega (arith, signed_arith)) (omega (arith, signed_arith)) ∙ sym (at.even from begun end)
+
+-- and to the end of the next one, where the clock is as far ahead in it
+pub even_over : (tz : TimeZone) (from turn to : ℤ) (period next : Period) → IsPeriodAt tz from period → turn ≡ period.to → IsPeriodAt tz turn next → to ≤ℤ next.to
+    → next.offset.seconds ≡ period.offset.seconds → IsEvenUntil tz from to
+even_over tz from turn to period next at ends after within same = λ second later before.
+    by_lt_z second turn
+    (λ sooner. even_within tz from turn period at (omega (arith, signed_arith)) second later sooner)
+    (λ passed.
+    let begun = after.begun in
+    after.even second (omega (arith, signed_arith)) (omega (arith, signed_arith)) ∙ same ∙ sym (at.even from at.begun at.within))

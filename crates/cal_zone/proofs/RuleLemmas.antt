@@ -1,21 +1,20 @@
 -- The clock of a POSIX rule goes alike far enough from its moments, within a year.
-use Rattle.std.proofs.Common.{◌≡◌, ◌∙◌, ◌⊎◌, inl, inr, ℤ, pos, ◌+ℤ◌, ◌-ℤ◌, ◌*ℤ◌, ◌≤ℤ◌, ◌<ℤ◌, neg_ℤ, Bool, true, false, ◌&&◌, ◌||◌, ◌==◌, ◌≤◌, subst, vec_len, if◌then◌else◌, int_le, int_lt, Option, None, Some, refl, sym, ap, arith}
+use Rattle.std.proofs.Common.{◌≡◌, ◌∙◌, ◌⊎◌, inl, inr, ℤ, pos, ◌+ℤ◌, ◌-ℤ◌, ◌*ℤ◌, ◌≤ℤ◌, ◌<ℤ◌, neg_ℤ, Bool, true, false, ◌&&◌, ◌||◌, ◌==◌, ◌≤◌, vec_len, if◌then◌else◌, int_le, int_lt, Option, None, Some, refl, sym, ap, arith}
 use Rattle.std.specs.Int.{int_min}
 use Rattle.std.proofs.lemmas.Bool.{and_parts}
 use borrow.Author.Differences.{le-true, le-false, lt-true, lt-false}
-use Rattle.jiff.specs.Types.{Date, DateTime, Offset, Posix as ByRule}
-use Rattle.jiff.specs.Words.{ambiguous_at, civil_nanos, epoch_day, nanos_of_seconds, offset_at, IsEpochDay, IsOffsetSeconds}
+use Rattle.jiff.specs.Types.{Date, DateTime, Offset}
+use Rattle.jiff.specs.Words.{civil_nanos, epoch_day, nanos_of_seconds, IsEpochDay, IsOffsetSeconds}
 use Rattle.jiff_core.specs.Calendar.{day_count, days_from_civil, days_in_year, days_of_months, IsYear}
 use Rattle.jiff_core.proofs.CalendarLemmas.{day_count-last_of_year, day_count-year_is, day_of_year_bound, days_from_civil-day_count}
 use Rattle.jiff_core.proofs.DateLemmas.{civil}
 use Rattle.jiff_tz.specs.Year.{year_of_nanos}
 use Rattle.jiff_tz.proofs.YearLemmas.{year_of_nanos-civil}
 use Rattle.cal_zone.specs.Days.{date_of}
-use Rattle.cal_zone.specs.Local.{day_of, IsLocalSecond}
+use Rattle.cal_zone.specs.Local.{day_of}
 use Rattle.cal_zone.specs.Place.{datetime_of}
-use Rattle.cal_zone.specs.Rules.{zone_of_table}
-use Rattle.cal_zone.specs.Steady.{IsAlike, IsQuiet, year_end}
-use Rattle.cal_zone.proofs.PlacerLemmas.{AreAlikeBy, alike_behind_rows, count_behind, floor_second-whole}
+use Rattle.cal_zone.specs.Steady.{year_end}
+use Rattle.cal_zone.proofs.PlacerLemmas.{count_behind, floor_second-whole}
 use Rattle.jiff_tz.specs.declared.tzif.Tzif.{Tzif as Table}
 use Rattle.jiff_tz.specs.Tzif as OfTable
 use Rattle.jiff_tz.specs.Tzif.{count_at}
@@ -154,7 +153,7 @@ pub record AreBeside (std dst : Offset) (w : ℤ × ℤ) (at other : ℤ) : Type
   pub after_start : IsBeside (saturating_add w.0 (shift_between std dst)) at other
   pub before_end : IsBeside (saturating_sub w.1 (shift_between std dst)) at other
 
-ambiguous_beside : (std dst : Offset) (w : ℤ × ℤ) (at other : ℤ) → AreBeside std dst w at other → ambiguous_by std dst w at ≡ ambiguous_by std dst w other
+pub ambiguous_beside : (std dst : Offset) (w : ℤ × ℤ) (at other : ℤ) → AreBeside std dst w at other → ambiguous_by std dst w at ≡ ambiguous_by std dst w other
 ambiguous_beside std dst w at other h =
     rw (h.start.le, h.start.lt, h.end.le, h.end.lt, h.after_start.le, h.after_start.lt, h.before_end.le, h.before_end.lt) refl
 
@@ -179,7 +178,7 @@ by_range : (b : Bool) (moment : ℤ) (info : OffsetInfo) (next : ℤ × OffsetIn
 by_range true moment info next e = cc
 by_range false moment info next e = absurd (cc)
 
-transition_at_moment : (rule : Posix) (d : Dst) (w : ℤ × ℤ) (moment : ℤ) (next : ℤ × OffsetInfo) → transition_of rule d w moment ≡ Some next → next.0 ≡ moment
+pub transition_at_moment : (rule : Posix) (d : Dst) (w : ℤ × ℤ) (moment : ℤ) (next : ℤ × OffsetInfo) → transition_of rule d w moment ≡ Some next → next.0 ≡ moment
 transition_at_moment rule d w moment next e =
     by_range (int_le (neg_ℤ (pos 377_705_023_201_000_000_000)) moment && int_le moment (pos 253_402_207_200_999_999_999)) moment _ next e
 
@@ -226,36 +225,41 @@ end_to_come low high first last end std to from offset h (inr k) = absurd (omega
 -- what is known of a year and of a part of it
 pub record IsPart (first last low high : ℤ) : Type 0 where
   pub from : first ≤ℤ low
-  pub to : high ≤ℤ (last +ℤ pos 1)
+  pub to : low <ℤ last
   pub order : low <ℤ high
   pub civil_from : civil_min ≤ℤ low
   pub civil_to : high ≤ℤ civil_max
 
-end_left_out : (low high first last end std : ℤ) (b : Bool) → IsPart first last low high → IsOffsetSeconds std
+end_left_out : (low high first last end std : ℤ) (b : Bool) → IsPart first last low high → high ≤ℤ (last +ℤ pos 1) → IsOffsetSeconds std
     → int_lt (clamp_to civil_min civil_max (end +ℤ nanos_of_seconds std)) first ≡ b → (b || int_lt last (clamp_to civil_min civil_max (end +ℤ nanos_of_seconds std))) ≡ true
     → IsApart low high (pos 93_599_000_000_000) end
-end_left_out low high first last end std true part offset e f =
+end_left_out low high first last end std true part to offset e f =
     let kept = clamped civil_min civil_max (end +ℤ nanos_of_seconds std) civil_order in
     let passed = lt-true (clamp_to civil_min civil_max (end +ℤ nanos_of_seconds std)) first e in
     end_passed low high first last end std part.from (omega (arith, signed_arith)) offset (omega (arith, signed_arith)) kept.above
-end_left_out low high first last end std false part offset e f =
+end_left_out low high first last end std false part to offset e f =
     let kept = clamped civil_min civil_max (end +ℤ nanos_of_seconds std) civil_order in
     let to_come = lt-true last (clamp_to civil_min civil_max (end +ℤ nanos_of_seconds std)) f in
-    end_to_come low high first last end std part.to (omega (arith, signed_arith)) offset (omega (arith, signed_arith)) kept.below
+    end_to_come low high first last end std to (omega (arith, signed_arith)) offset (omega (arith, signed_arith)) kept.below
 
 abbrev pub window_of : Bool → ℤ → ℤ → ℤ → ℤ × ℤ
 window_of whole start last end = if whole then (start, last) else (start, end)
+
+-- where the year's last moment is apart from a part of the year, the part ends with the year or before
+ends_with_year : (low high last : ℤ) → low <ℤ last → IsApart low high (pos 0) last → high ≤ℤ (last +ℤ pos 1)
+ends_with_year low high last within (inl h) = absurd (omega (arith, signed_arith))
+ends_with_year low high last within (inr h) = omega (arith, signed_arith)
 
 window_parts : (low high first last start end std : ℤ) (b : Bool) → IsPart first last low high → IsOffsetSeconds std
     → (int_same start first && (int_lt (saturating_add end (nanos_of_seconds std)) first || int_lt last (saturating_add end (nanos_of_seconds std)))) ≡ b
     → IsApart low high (pos 0) (window_of b start last end).0 → IsApart low high (pos 0) (window_of b start last end).1
     → IsApart low high (pos 0) start × IsApart low high (pos 93_599_000_000_000) end
 window_parts low high first last start end std true part offset e p q =
-    (p, end_left_out low high first last end std _ part offset refl (and_parts _ _ e).1)
+    (p, end_left_out low high first last end std _ part (ends_with_year low high last part.to q) offset refl (and_parts _ _ e).1)
 window_parts low high first last start end std false part offset e p q =
     (p, apart_near low high (pos 0) (pos 93_599_000_000_000) end end q (omega (arith, signed_arith)) (omega (arith, signed_arith)))
 
-moments_apart : (d : Dst) (y : ℤ) (std : Offset) (low high : ℤ) → IsPart (first_nanosecond y) (last_nanosecond y) low high
+pub moments_apart : (d : Dst) (y : ℤ) (std : Offset) (low high : ℤ) → IsPart (first_nanosecond y) (last_nanosecond y) low high
     → IsApart low high (pos 0) (utc_window d y std).0 → IsApart low high (pos 0) (utc_window d y std).1
     → IsApart low high (pos 0) (rule_nanos y d.rule.start std.seconds) × IsApart low high (pos 93_599_000_000_000) (rule_nanos y d.rule.end d.offset.seconds)
 unfolding utc_window
@@ -273,14 +277,14 @@ in_its_year d =
     (omega (arith, signed_arith), omega (arith, signed_arith))
 
 -- and a date that lies in a year is of that year
-of_the_year : (d : Date) (y : ℤ) → IsYear y → first_day y ≤ℤ epoch_day d → epoch_day d <ℤ (first_day y +ℤ pos (days_in_year y)) → d.year ≡ y
+pub of_the_year : (d : Date) (y : ℤ) → IsYear y → first_day y ≤ℤ epoch_day d → epoch_day d <ℤ (first_day y +ℤ pos (days_in_year y)) → d.year ≡ y
 of_the_year d y year from to =
     let count = days_from_civil-day_count d.year d.month d.day in
     let first = days_from_civil-day_count y 1 1 in
     day_count-year_is y d.year d.month d.day year (civil d) (omega (arith, signed_arith)) (omega (arith, signed_arith))
 
 -- the year of a second from an earlier one of a year on, before the year's end
-year_goes_on : (past second : ℤ) → IsEpochDay (day_of past) → IsEpochDay (day_of second) → past ≤ℤ second → second <ℤ year_end (datetime_of past).date.year
+pub year_goes_on : (past second : ℤ) → IsEpochDay (day_of past) → IsEpochDay (day_of second) → past ≤ℤ second → second <ℤ year_end (datetime_of past).date.year
     → (datetime_of second).date.year ≡ (datetime_of past).date.year
 unfolding datetime_of
 year_goes_on past second past_in second_in later before =
@@ -295,7 +299,7 @@ pub utc_year : (past second : ℤ) → IsEpochDay (day_of past) → IsEpochDay (
 utc_year past second past_in second_in later before =
     sym (year_of_nanos-civil (datetime_of second) (nanos_of_seconds second) (civil_nanos-datetime_of second second_in)) ∙ year_goes_on past second past_in second_in later before
 
-year_begun : (past : ℤ) → IsEpochDay (day_of past) → first_nanosecond (datetime_of past).date.year ≤ℤ nanos_of_seconds past
+pub year_begun : (past : ℤ) → IsEpochDay (day_of past) → first_nanosecond (datetime_of past).date.year ≤ℤ nanos_of_seconds past
 unfolding datetime_of
 year_begun past past_in =
     let start = in_its_year (date_of (day_of past)) in
@@ -303,7 +307,7 @@ year_begun past past_in =
     omega (arith, signed_arith)
 
 -- what a rule with daylight saving time gives in a year
-ambiguous_in : (std : Offset) (dst : Option Dst) (d : Dst) (shown : DateTime) (y n : ℤ) → dst ≡ Some d → shown.date.year ≡ y → civil_nanos shown ≡ n
+pub ambiguous_in : (std : Offset) (dst : Option Dst) (d : Dst) (shown : DateTime) (y n : ℤ) → dst ≡ Some d → shown.date.year ≡ y → civil_nanos shown ≡ n
     → ambiguous_at_by std dst shown ≡ ambiguous_by std d.offset (rule_nanos y d.rule.start (pos 0), rule_nanos y d.rule.end (pos 0)) n
 ambiguous_in std dst d shown y n e f g =
     ap (λ (o : Option Dst). ambiguous_at_by std o shown) e
@@ -315,14 +319,14 @@ pub offset_in : (rule : Posix) (d : Dst) (y n : ℤ) → rule.dst ≡ Some d →
 offset_in rule d y n e f = rw (e, f) refl
 
 -- how far a rule's moments are kept away: four times as far as an offset goes, and a second
-abbrev far : ℤ
+abbrev pub far : ℤ
 far = pos 374_397_000_000_000
 
-walls_beside : (rule : Posix) (d : Dst) (y low high at other : ℤ) → first_nanosecond y ≤ℤ last_nanosecond y → IsPart (first_nanosecond y) (last_nanosecond y) low high
+pub walls_beside : (rule : Posix) (d : Dst) (y low high at other : ℤ) → first_nanosecond y ≤ℤ last_nanosecond y → civil_min ≤ℤ low → high ≤ℤ civil_max
     → IsApart low high (pos 0) (rule_nanos y d.rule.start rule.std_offset.seconds) → IsApart low high (pos 93_599_000_000_000) (rule_nanos y d.rule.end d.offset.seconds)
     → (low +ℤ far) ≤ℤ at → (at +ℤ far) ≤ℤ high → (low +ℤ far) ≤ℤ other → (other +ℤ far) ≤ℤ high
     → AreBeside rule.std_offset d.offset (rule_nanos y d.rule.start (pos 0), rule_nanos y d.rule.end (pos 0)) at other
-walls_beside rule d y low high at other order part start end a b c e =
+walls_beside rule d y low high at other order civil_from civil_to start end a b c e =
     let std = rule.std_offset.in_range in
     let dst = d.offset.in_range in
     let on_start = apart_wall low high (pos 0) y d.rule.start rule.std_offset.seconds order std start in
@@ -334,100 +338,24 @@ walls_beside rule d y low high at other order part start end a b c e =
       start = beside low high _ far _ at other on_start (omega (arith, signed_arith)) a b c e;
       end = beside low high _ far _ at other on_end (omega (arith, signed_arith)) a b c e;
       after_start = beside low high _ far _ at other
-          (apart_kept low high (pos 93_599_000_000_000) (pos 187_198_000_000_000) first (first +ℤ shift) part.civil_from part.civil_to (omega (arith, signed_arith)) (omega (arith, signed_arith)) (omega (arith, signed_arith)) (omega (arith, signed_arith)) on_start)
+          (apart_kept low high (pos 93_599_000_000_000) (pos 187_198_000_000_000) first (first +ℤ shift) civil_from civil_to (omega (arith, signed_arith)) (omega (arith, signed_arith)) (omega (arith, signed_arith)) (omega (arith, signed_arith)) on_start)
           (omega (arith, signed_arith)) a b c e;
       before_end = beside low high _ far _ at other
-          (apart_kept low high (pos 187_198_000_000_000) (pos 187_198_000_000_000) last (last -ℤ shift) part.civil_from part.civil_to (omega (arith, signed_arith)) (omega (arith, signed_arith)) (omega (arith, signed_arith)) (omega (arith, signed_arith)) on_end)
+          (apart_kept low high (pos 187_198_000_000_000) (pos 187_198_000_000_000) last (last -ℤ shift) civil_from civil_to (omega (arith, signed_arith)) (omega (arith, signed_arith)) (omega (arith, signed_arith)) (omega (arith, signed_arith)) on_end)
           (omega (arith, signed_arith)) a b c e;
-    }
-
-instants_before_next : (rule : Posix) (d : Dst) (past other local : ℤ) → rule.dst ≡ Some d → pos 0 ≤ℤ past → (past +ℤ pos 374_397) ≡ other → other ≤ℤ local → IsLocalSecond local
-    → IsApart (nanos_of_seconds past) (nanos_of_seconds (local +ℤ pos 374_397)) (pos 0) (utc_window d (datetime_of past).date.year rule.std_offset).0
-    → IsApart (nanos_of_seconds past) (nanos_of_seconds (local +ℤ pos 374_397)) (pos 0) (utc_window d (datetime_of past).date.year rule.std_offset).1
-    → (local +ℤ pos 374_397) ≤ℤ year_end (datetime_of past).date.year → (offset : Offset)
-    → (ByPosix.offset_at rule (nanos_of_seconds (local -ℤ offset.seconds))).seconds ≡ (ByPosix.offset_at rule (nanos_of_seconds (other -ℤ offset.seconds))).seconds
-instants_before_next rule d past other local has from begun later years start end before_end offset =
-    let y : ℤ = (datetime_of past).date.year in
-    let low : ℤ = nanos_of_seconds past in
-    let high : ℤ = nanos_of_seconds (local +ℤ pos 374_397) in
-    let in_range = offset.in_range in
-    let at : ℤ = local -ℤ offset.seconds in
-    let other_at : ℤ = other -ℤ offset.seconds in
-    let past_in : IsEpochDay (day_of past) = (omega (arith, signed_arith), omega (arith, signed_arith)) in
-    let at_in : IsEpochDay (day_of at) = (omega (arith, signed_arith), omega (arith, signed_arith)) in
-    let other_in : IsEpochDay (day_of other_at) = (omega (arith, signed_arith), omega (arith, signed_arith)) in
-    let by_start = beside low high (pos 0) (pos 1) _ (nanos_of_seconds at) (nanos_of_seconds other_at) start (omega (arith, signed_arith)) (omega (arith, signed_arith)) (omega (arith, signed_arith)) (omega (arith, signed_arith)) (omega (arith, signed_arith)) in
-    let by_end = beside low high (pos 0) (pos 1) _ (nanos_of_seconds at) (nanos_of_seconds other_at) end (omega (arith, signed_arith)) (omega (arith, signed_arith)) (omega (arith, signed_arith)) (omega (arith, signed_arith)) (omega (arith, signed_arith)) in
-    ap (λ o. o.seconds)
-    (offset_in rule d y (nanos_of_seconds at) has (utc_year past at past_in at_in (omega (arith, signed_arith)) (omega (arith, signed_arith)))
-    ∙ ap (λ (within : Bool). match_some (if within then Some d else None) rule.std_offset (λ dst. dst.offset)) (window_beside (utc_window d y rule.std_offset) (nanos_of_seconds at) (nanos_of_seconds other_at) by_start by_end)
-    ∙ sym (offset_in rule d y (nanos_of_seconds other_at) has (utc_year past other_at past_in other_in (omega (arith, signed_arith)) (omega (arith, signed_arith)))))
-
--- Between a local second and the first transition after one that is so far before it, its rule's clock goes alike: within a
--- year, and where that transition is as far away
-pub alike_before_next : (rule : Posix) (d : Dst) (past other local : ℤ) (next : ℤ × OffsetInfo) → rule.dst ≡ Some d → next_by rule d (datetime_of past).date.year (nanos_of_seconds past) ≡ Some next
-    → pos 0 ≤ℤ past → (past +ℤ pos 374_397) ≡ other → other ≤ℤ local → IsLocalSecond local → nanos_of_seconds (local +ℤ pos 374_397) ≤ℤ next.0
-    → (local +ℤ pos 374_397) ≤ℤ year_end (datetime_of past).date.year → IsAlike (ByRule rule) local other
-unfolding offset_at ambiguous_at
-alike_before_next rule d past other local next has e from begun later years before_next before_end =
-    let y : ℤ = (datetime_of past).date.year in
-    let low : ℤ = nanos_of_seconds past in
-    let high : ℤ = nanos_of_seconds (local +ℤ pos 374_397) in
-    let past_in : IsEpochDay (day_of past) = (omega (arith, signed_arith), omega (arith, signed_arith)) in
-    let local_in : IsEpochDay (day_of local) = (omega (arith, signed_arith), omega (arith, signed_arith)) in
-    let other_in : IsEpochDay (day_of other) = (omega (arith, signed_arith), omega (arith, signed_arith)) in
-    let start = year_begun past past_in in
-    let part : IsPart (first_nanosecond y) (last_nanosecond y) low high = record {
-      from = start;
-      to = omega (arith, signed_arith);
-      order = omega (arith, signed_arith);
-      civil_from = omega (arith, signed_arith);
-      civil_to = omega (arith, signed_arith);
-    } in
-    let ends = window_apart rule d y low high next e before_next in
-    let moments = moments_apart d y rule.std_offset low high part ends.0 ends.1 in
-    let walls = walls_beside rule d y low high (nanos_of_seconds local) (nanos_of_seconds other) (omega (arith, signed_arith)) part moments.0 moments.1
-    (omega (arith, signed_arith)) (omega (arith, signed_arith)) (omega (arith, signed_arith)) (omega (arith, signed_arith)) in
-    record {
-      civil = ambiguous_in rule.std_offset rule.dst d (datetime_of local) y (nanos_of_seconds local) has (year_goes_on past local past_in local_in (omega (arith, signed_arith)) (omega (arith, signed_arith))) (civil_nanos-datetime_of local local_in)
-          ∙ ambiguous_beside rule.std_offset d.offset _ (nanos_of_seconds local) (nanos_of_seconds other) walls
-          ∙ sym (ambiguous_in rule.std_offset rule.dst d (datetime_of other) y (nanos_of_seconds other) has (year_goes_on past other past_in other_in (omega (arith, signed_arith)) (omega (arith, signed_arith))) (civil_nanos-datetime_of other other_in));
-      instants = λ offset. instants_before_next rule d past other local has from begun later years ends.0 ends.1 before_end offset;
     }
 
 -- the first transition after an instant is one of the rule's daylight saving time
-next_found : (rule : Posix) (dst : Option Dst) (n : ℤ) (change : ℤ × OffsetInfo) → match_some dst None (λ d. next_by rule d (year_of_nanos n) n) ≡ Some change
+pub next_found : (rule : Posix) (dst : Option Dst) (n : ℤ) (change : ℤ × OffsetInfo) → match_some dst None (λ d. next_by rule d (year_of_nanos n) n) ≡ Some change
     → (d : Dst) × (dst ≡ Some d) × (next_by rule d (year_of_nanos n) n ≡ Some change)
 next_found rule None n change e = absurd (cc)
 next_found rule (Some d) n change e = (d, refl, e)
-
-pub alike_by_next : (rule : Posix) (past other local : ℤ) → IsQuiet (ByPosix.next_at rule (nanos_of_seconds past)) past local → (past +ℤ pos 374_397) ≡ other → other ≤ℤ local → IsLocalSecond local
-    → IsAlike (ByRule rule) local other
-alike_by_next rule past other local quiet from later years =
-    let begun = quiet.begun in
-    let before_end = quiet.before_end in
-    let past_in : IsEpochDay (day_of past) = (omega (arith, signed_arith), omega (arith, signed_arith)) in
-    let found = next_found rule rule.dst (nanos_of_seconds past) quiet.change quiet.is in
-    let year = utc_year past past past_in past_in (omega (arith, signed_arith)) (omega (arith, signed_arith)) in
-    alike_before_next rule found.0 past other local quiet.change found.1 (ap (λ y. next_by rule found.0 y (nanos_of_seconds past)) (sym year) ∙ found.2) begun from later years quiet.before_change before_end
 
 -- behind the last row of a table it is one of its rule
 pub next_behind : (z : Table) (past : ℤ) → vec_len z.transitions ≤ count_at z past → OfTable.next_at z (nanos_of_seconds past) ≡ match_some z.posix_tz None (λ rule. ByPosix.next_at rule (nanos_of_seconds past))
 next_behind z past all =
     let same : (vec_len z.transitions == vec_len z.transitions) ≡ true = grind (arith, nat_tests) in
     rw (floor_second-whole past, count_behind z past past all (omega (arith, signed_arith)), same) refl
-
-by_rule : (rule : Option Posix) (past other local : ℤ) → IsQuiet (match_some rule None (λ tz. ByPosix.next_at tz (nanos_of_seconds past))) past local → (past +ℤ pos 374_397) ≡ other → other ≤ℤ local → IsLocalSecond local
-    → AreAlikeBy rule local other
-by_rule None past other local quiet from later years = tt
-by_rule (Some rule) past other local quiet from later years = alike_by_next rule past other local quiet from later years
-
-pub alike_by_next_behind : (z : Table) (past other local : ℤ) → vec_len z.transitions ≤ count_at z past → IsQuiet (OfTable.next_at z (nanos_of_seconds past)) past local → (past +ℤ pos 374_397) ≡ other → other ≤ℤ local
-    → IsLocalSecond local → IsLocalSecond other → IsAlike (zone_of_table z) local other
-alike_by_next_behind z past other local all quiet from later years other_in =
-    let all_later = count_behind z past (other -ℤ pos 93_599) all (omega (arith, signed_arith)) in
-    alike_behind_rows z local other years other_in (omega arith) later
-    (by_rule z.posix_tz past other local (subst (λ next. IsQuiet next past local) (next_behind z past all) quiet) from later years)
 
 -- a year ends with its 31 December
 december : (d : Date) (y : ℤ) → d.year ≡ y → pos d.month ≡ pos 12 → pos d.day ≡ pos 31 → epoch_day d ≡ days_from_civil y 12 31

@@ -1,5 +1,5 @@
 -- Local seconds in a row that all lie equally far from their places.
-use Rattle.std.specs.Prelude.{◌≡◌, ◌<◌, ℕ, ℤ, pos, ◌+ℤ◌, ◌-ℤ◌, ◌*ℤ◌, ◌≤ℤ◌, ◌<ℤ◌, Option, Some, vec_len}
+use Rattle.std.specs.Prelude.{◌≡◌, ◌⊎◌, ◌<◌, ℕ, ℤ, pos, ◌+ℤ◌, ◌-ℤ◌, ◌*ℤ◌, ◌≤ℤ◌, ◌<ℤ◌, Option, Some, vec_len}
 use Rattle.jiff.specs.Types.{Offset, TimeZone}
 use Rattle.jiff.specs.Words.{ambiguous_at, nanos_of_seconds, offset_at}
 use Rattle.jiff_core.specs.Calendar.{days_in_year}
@@ -45,13 +45,19 @@ IsAlikeUntil tz from to = (local : ℤ) → IsLocalSecond local → from ≤ℤ 
 abbrev pub year_end : ℤ → ℤ
 year_end year = (first_day year +ℤ pos (days_in_year year)) *ℤ pos 86_400
 
--- the first change after an instant of a year is far enough behind the local second, and so is the year's end
+-- from this second on and before that one the clock is equally far ahead of UTC
+abbrev pub IsEvenUntil : TimeZone → ℤ → ℤ → Type 0
+IsEvenUntil tz from to =
+    (second : ℤ) → from ≤ℤ second → second <ℤ to → offset_at tz (nanos_of_seconds second) ≡ offset_at tz (nanos_of_seconds from)
+
+-- the first change after an instant is far enough after the local second, and the local seconds from that far after the
+-- instant to this one are of one year
 pub record IsQuiet (next : Option (ℤ × OffsetInfo)) (past local : ℤ) : Type 0 where
   pub change : ℤ × OffsetInfo
   pub is : next ≡ Some change
   pub begun : pos 0 ≤ℤ past
   pub before_change : nanos_of_seconds (local +ℤ pos 374_397) ≤ℤ change.0
-  pub before_end : (local +ℤ pos 374_397) ≤ℤ year_end (datetime_of past).date.year
+  pub one_year : (local <ℤ year_end (datetime_of past).date.year) ⊎ (year_end (datetime_of past).date.year ≤ℤ (past +ℤ pos 374_397))
 
 abbrev pub IsQuietUntil : Option (ℤ × OffsetInfo) → ℤ → ℤ → Type 0
 IsQuietUntil next past to = (local : ℤ) → past <ℤ local → local <ℤ to → IsQuiet next past local

@@ -4,6 +4,7 @@ ghost use Rattle.std.specs.Prelude.{◌≡◌, option_map, pos};
 ghost use Rattle.jiff_tz.specs.PosixRule.{transition_view};
 ghost use Rattle.cal_zone.specs.Local.{CanSettle};
 ghost use Rattle.cal_zone.specs.Period.{IsPeriodAt, IsUnchangedUntil};
+ghost use Rattle.cal_zone.specs.Steady.{IsEvenUntil};
 ghost use Rattle.cal_zone.specs.Zone.{zone_of};
 
 use crate::civil_time::fixed_offset;
@@ -61,6 +62,22 @@ fn period_by(rules: &Rules, instant: Instant) -> Period
         from: second,
         to: unchanged_until(next, second).max(second + 1),
         offset: zone.to_offset(timestamp),
+    }
+}
+
+/// An instant before which the clock of these rules is as far ahead of UTC as at this one: past the end of the year, where it
+/// doesn't change there.
+pub(crate) fn even_until(rules: &Rules, from: Instant) -> Instant
+    ensures { IsEvenUntil rules.now from.secs result.secs }
+{
+    let before = period_by(rules, from);
+    let Some(turn) = Instant::new(before.to) else {
+        return from;
+    };
+    let after = period_by(rules, turn);
+    match Instant::new(after.to) {
+        Some(end) if after.offset.seconds() == before.offset.seconds() => end,
+        _ => turn,
     }
 }
 

@@ -9,9 +9,10 @@ ghost use Rattle.cal_zone.specs.Steady.{IsAlikeUntil, IsSteadyAt};
 ghost use Rattle.cal_zone.specs.ZoneFile.{IsFileFault, IsFileZone};
 ghost use Rattle.cal_zone.specs.declared.zone_fault.ZoneFault.TheVariants.{BadRule};
 
+use crate::period::even_until;
 use crate::places::place_by;
-use crate::stretch::{Stretch, alike_behind, alike_in_zone, stretch_of_table};
-use crate::{ZoneFault, is_zone_name};
+use crate::stretch::{FAR, Stretch, alike_behind, alike_in_zone, stretch_of_table};
+use crate::{Instant, ZoneFault, is_zone_name};
 use jiff::tz::{Offset, TimeZone, Tzif};
 use jiff::{Error, Timestamp};
 use std::alloc::Global;
@@ -109,15 +110,27 @@ impl Rules {
         requires { IsLocalSecond local }
         ensures { IfSome result (IsSteadyAt self.now local) }
     {
+        if let RulesKind::File(table) = &self.kind {
+            if let Some(stretch) = stretch_of_table(table, local) {
+                return Some(stretch);
+            }
+        }
+        self.stretch_by_rule(local)
+    }
+
+    /// A steady stretch that begins at a local second where the clock goes by a POSIX rule: of a file's rules, after its
+    /// last row.
+    fn stretch_by_rule(&self, local: i64) -> Option<Stretch>
+        requires { IsLocalSecond local }
+        ensures { IfSome result (IsSteadyAt self.now local) }
+    {
+        let even = even_until(self, Instant::new(local - FAR)?);
         match &self.kind {
             RulesKind::Posix(zone) => self.stretch_until(
                 local,
-                alike_in_zone(zone.to_plain(), local),
+                alike_in_zone(zone.to_plain(), local, even),
             ),
-            RulesKind::File(table) => match stretch_of_table(table, local) {
-                Some(stretch) => Some(stretch),
-                None => self.stretch_until(local, alike_behind(table, local)),
-            },
+            RulesKind::File(table) => self.stretch_until(local, alike_behind(table, local, even)),
         }
     }
 

@@ -1,6 +1,6 @@
 //! Stretches of local seconds in which a zone's clock neither skips nor repeats any, nor changes its offset.
 
-ghost use Rattle.std.specs.Prelude.{◌≡◌, ◌≤◌, ◌≤ℤ◌, IfSome, int_le, option_map, pos, vec_len};
+ghost use Rattle.std.specs.Prelude.{◌≡◌, ◌≤◌, ◌≤ℤ◌, ◌-ℤ◌, IfSome, int_le, option_map, pos, vec_len};
 ghost use Rattle.jiff.specs.Types.{Posix as ByRule};
 ghost use Rattle.jiff.specs.Words.{nanos_of_seconds, IsWithin};
 ghost use Rattle.jiff_tz.specs.Tzif.{count_at, type_after};
@@ -8,12 +8,12 @@ ghost use Rattle.jiff_tz.specs.PosixRule.{transition_view};
 ghost use Rattle.cal_zone.specs.Local.{CanSettle, IsLocalSecond, IsNearSettled};
 ghost use Rattle.cal_zone.specs.Place.{datetime_of};
 ghost use Rattle.cal_zone.specs.Rules.{zone_of_table};
-ghost use Rattle.cal_zone.specs.Steady.{IsAlikeUntil, IsQuietUntil, IsSecondOfRow, IsSteadyAt, year_end};
+ghost use Rattle.cal_zone.specs.Steady.{IsAlikeUntil, IsEvenUntil, IsQuietUntil, IsSecondOfRow, IsSteadyAt, year_end};
 ghost use Rattle.cal_zone.specs.Zone.{zone_of};
 
 use crate::places::datetime;
 use crate::zone::ZoneKind;
-use crate::{DAY, DAYS, Zone};
+use crate::{DAY, DAYS, Instant, Zone};
 use jiff::tz::Tzif;
 use jiff_core::Timestamp;
 use jiff_tz::{TimeZone, Transition, posix, tzif};
@@ -21,9 +21,9 @@ use jiff_tz::{TimeZone, Transition, posix, tzif};
 /// How far a place can lie from its local second.
 const FARTHEST: i64 = 93_599;
 
-/// How far a stretch stays away from the changes of a rule and from the ends of a year: a change at UTC and what it
-/// touches on the civil clock lie up to four offsets apart.
-const FAR: i64 = 4 * FARTHEST + 1;
+/// How far a stretch stays away from the changes of a rule: a change at UTC and what it touches on the civil clock lie up to
+/// four offsets apart.
+pub(crate) const FAR: i64 = 4 * FARTHEST + 1;
 
 /// The local seconds from `from` on and before `to`, and how far each of them is ahead of its place.
 #[derive(Clone, Copy)]
@@ -80,9 +80,10 @@ pub(crate) fn stretch_of_table(table: &Tzif, local: i64) -> Option<Stretch>
 }
 
 /// The local second before which a table's clock goes on as it does at this one, once all rows are passed. It does so for
-/// ever where no rule has summer time.
-pub(crate) fn alike_behind(table: &Tzif, local: i64) -> i64
-    requires { IsLocalSecond local }
+/// ever where no rule has summer time. The clock is even from [`FAR`] before this local second on, and before `even`.
+pub(crate) fn alike_behind(table: &Tzif, local: i64, even: Instant) -> i64
+    requires local_in { IsLocalSecond local }
+    requires even { IsEvenUntil (zone_of_table table.now) (local -ℤ pos 374_397) even.secs }
     ensures { IsAlikeUntil (zone_of_table table.now) local result }
 {
     let past = local - FAR;
@@ -90,42 +91,55 @@ pub(crate) fn alike_behind(table: &Tzif, local: i64) -> i64
         return local;
     }
     match table.posix_tz() {
-        Some(rule) if rule.dst.is_some() => quiet_until(table.next_transition(instant(past)), past),
+        Some(rule) if rule.dst.is_some() => {
+            quiet_until(table.next_transition(instant(past)), past).min(even.secs() - FARTHEST)
+        }
         _ => END,
     }
 }
 
-/// The local second before which the clock of a zone by a POSIX rule goes on as it does at this one.
-pub(crate) fn alike_in_zone(zone: TimeZone<'_>, local: i64) -> i64
-    requires { IsLocalSecond local }
+/// The local second before which the clock of a zone by a POSIX rule goes on as it does at this one. The clock is even from
+/// [`FAR`] before this local second on, and before `even`.
+pub(crate) fn alike_in_zone(zone: TimeZone<'_>, local: i64, even: Instant) -> i64
+    requires local_in { IsLocalSecond local }
+    requires even { IsEvenUntil zone (local -ℤ pos 374_397) even.secs }
     ensures { IsAlikeUntil zone.entry local result }
 {
     match zone {
-        TimeZone::Posix(rule) => alike_by_rule(rule, local),
+        TimeZone::Posix(rule) => alike_by_rule(rule, local, even),
         _ => local,
     }
 }
 
 /// The same of the rule.
-fn alike_by_rule(rule: posix::TimeZone, local: i64) -> i64
-    requires { IsLocalSecond local }
+fn alike_by_rule(rule: posix::TimeZone, local: i64, even: Instant) -> i64
+    requires local_in { IsLocalSecond local }
+    requires even { IsEvenUntil (ByRule rule) (local -ℤ pos 374_397) even.secs }
     ensures { IsAlikeUntil (ByRule rule) local result }
 {
     if rule.dst.is_some() {
         let past = local - FAR;
-        return quiet_until(rule.next_transition(instant(past)), past);
+        return quiet_until(rule.next_transition(instant(past)), past).min(even.secs() - FARTHEST);
     }
     END
 }
 
-/// The local second before which a rule's clock goes on as it does from [`FAR`] behind this second on: far enough before
-/// the rule's next change, and before the end of the year.
+/// The local second before which a rule's civil clock goes on as it does [`FAR`] after this second: far enough before the
+/// rule's next change, and within a year.
 fn quiet_until(next: Option<Transition>, past: i64) -> i64
     requires { past ≤ℤ pos 7_258_500_000 }
     ensures { IsQuietUntil (option_map transition_view next) past result }
 {
     match next {
-        Some(next) if past >= 0 => next.timestamp.floor_second().min(year_after(past)) - FAR,
+        Some(next) if past >= 0 => {
+            let before_change = next.timestamp.floor_second() - FAR;
+            let year_end = year_after(past);
+            if past + FAR < year_end {
+                before_change.min(year_end)
+            } else {
+                before_change
+            }
+        }
         _ => past,
     }
 }
