@@ -1,10 +1,18 @@
 -- The first word that has a bit.
-use Rattle.std.proofs.Common.{◌≡◌, ◌≢◌, inl, inr, ℕ, zero, suc, ◌+◌, ◌<◌, ◌≤◌, not, cond, Bool, true, false, List, [], ◌∷◌, None, Some, length, get_or, ltb, sym, ap, arith, refl}
+use Rattle.std.proofs.Common.{◌≡◌, ◌≢◌, inl, inr, ℕ, zero, suc, ◌+◌, ◌-◌, ◌<◌, ◌≤◌, not, cond, Bool, true, false, List, [], ◌∷◌, None, Some, length, get_or, ltb, sym, ap, arith, refl}
 use Rattle.std.specs.List.{position, position_or_len}
-use lib.Lanes.{chunk}
+use lib.Bits.{bit_or}
+use lib.Lanes.{chunk, fold_l}
 use Rattle.std.proofs.lemmas.Bool.{cases_lt, cond-true, eq-eqb, lt-ltb, ne_eqb}
-use Rattle.std.proofs.lemmas.Simd.{run_in_chunk_fails}
+use Rattle.std.proofs.lemmas.Nat.{le_or_l, le_or_r}
+use Rattle.std.proofs.lemmas.Simd.{get_or-chunk, length-chunk}
 use Rattle.cal_elapse.specs.Scan.{is_set}
+
+pub set_word : (x : ℕ) → x ≢ 0 → is_set x ≡ true
+set_word x h = ap not (ne_eqb x 0 h)
+
+pub zero_word : (x : ℕ) → x ≡ 0 → is_set x ≡ false
+zero_word x h = ap not (eq-eqb x 0 h)
 
 head_set : (b : Bool) (n : ℕ) → b ≡ true → cond (not b) (1 + n) 0 ≡ 0
 head_set true n e = refl
@@ -42,14 +50,33 @@ position-none xs zeros =
     not_less : (n : ℕ) → ltb n n ≡ false
     not_less n = grind (arith)
 
+-- an or of numbers is no less than each of them
+fold_least : (a : ℕ) (xs : List ℕ) → a ≤ fold_l bit_or a xs
+fold_least a [] = omega arith
+fold_least a (x ∷ xs) =
+    let both = le_or_l a x in
+    let rest = fold_least (bit_or a x) xs in
+    omega (arith, both, rest)
+
+fold_each : (a : ℕ) (xs : List ℕ) (k : ℕ) → k < length xs → get_or xs k 0 ≤ fold_l bit_or a xs
+fold_each a [] k h = absurd (omega arith)
+fold_each a (x ∷ xs) zero h =
+    let both = le_or_r a x in
+    let rest = fold_least (bit_or a x) xs in
+    omega (arith, both, rest)
+fold_each a (x ∷ xs) (suc k) h = fold_each (bit_or a x) xs k (omega arith)
+
+-- no word of a load is set
+load_zero : (xs : List ℕ) (at n : ℕ) → at + n ≤ length xs → fold_l bit_or 0 (chunk at n xs) ≡ 0 → (k : ℕ) → at ≤ k → k < at + n → is_set (get_or xs k 0) ≡ false
+load_zero xs at n room empty k low high =
+    let long = length-chunk at n xs room in
+    let same : at + (k - at) ≡ k = omega arith in
+    let word : get_or (chunk at n xs) (k - at) 0 ≡ get_or xs k 0 = rw same at (get_or-chunk at n xs (k - at) 0 (omega arith)) in
+    let least = fold_each 0 (chunk at n xs) (k - at) (omega (arith, long)) in
+    zero_word _ (omega (arith, word, least, empty))
+
 -- the words of one load more
-pub zeros_more : (xs : List ℕ) (at zeros : ℕ) → at + 8 ≤ length xs → zeros ≡ position_or_len is_set (chunk at 8 xs) → ((k : ℕ) → k < at → is_set (get_or xs k 0) ≡ false)
-    → (k : ℕ) → k < at + zeros → is_set (get_or xs k 0) ≡ false
-zeros_more xs at zeros room counted before k below =
-    elim (cases_lt k at) [ inl early ↦ before k early | inr late ↦ run_in_chunk_fails is_set xs at 8 zeros 0 room counted k late below ]
-
-pub set_word : (x : ℕ) → x ≢ 0 → is_set x ≡ true
-set_word x h = ap not (ne_eqb x 0 h)
-
-pub zero_word : (x : ℕ) → x ≡ 0 → is_set x ≡ false
-zero_word x h = ap not (eq-eqb x 0 h)
+pub zeros_more : (xs : List ℕ) (at n : ℕ) → at + n ≤ length xs → fold_l bit_or 0 (chunk at n xs) ≡ 0 → ((k : ℕ) → k < at → is_set (get_or xs k 0) ≡ false)
+    → (k : ℕ) → k < at + n → is_set (get_or xs k 0) ≡ false
+zeros_more xs at n room empty before k below =
+    elim (cases_lt k at) [ inl early ↦ before k early | inr late ↦ load_zero xs at n room empty k late below ]
