@@ -1,6 +1,7 @@
 pub use Rattle.cal_bytes.specs.Bytes
 pub use Rattle.cal_bytes.specs.Fill
 pub use Rattle.cal_bytes.specs.Output
+pub use Rattle.cal_bytes.specs.SplitPieces
 pub use Rattle.cal_bytes.specs.Whole
 pub use Rattle.cal_span.specs.Scale
 pub use Rattle.cal_span.specs.Span

@@ -1,4 +1,5 @@
 pub mod Bytes
 pub mod Fill
 pub mod Output
+pub mod SplitPieces
 pub mod Whole

@@ -3,7 +3,7 @@
 ghost use Rattle.std.specs.Prelude.{◌≡◌, ◌≤◌, ◌<◌, ◌==◌, ◌∷◌, [], None, Some, length, map, option_map, IfSome, IfOk, string_bytes, vec_len};
 ghost use Rattle.std.specs.List.{slice_split};
 ghost use Rattle.std.specs.Option.{option_copied, option_map_or};
-ghost use Rattle.cal_spec.specs.Pieces.{left, pieces_after};
+ghost use Rattle.cal_bytes.specs.SplitPieces.{left, pieces_after};
 ghost use Rattle.cal_command.specs.Ask.{in_utc, local_said, texts_of, zone_said};
 ghost use Rattle.cal_command.specs.LocalZone.{IsLocalOffset};
 ghost use Rattle.cal_command.specs.OptionValues.{count_in, is_comma, local_in, number_between, parts_at, present_in, zone_item_in, zones_in};

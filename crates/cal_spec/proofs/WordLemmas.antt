@@ -3,7 +3,7 @@ use Rattle.std.proofs.Common.{ℕ, ◌<◌, ◌≡◌, List, [], ◌∷◌, leng
 use Rattle.std.specs.List.{slice_split}
 use Rattle.std.specs.Option.{unwrap_or}
 use Rattle.std.proofs.lemmas.Bool.{lt-ltb, le-ltb}
-use Rattle.cal_spec.specs.Pieces.{pieces_after}
+use Rattle.cal_bytes.specs.SplitPieces.{pieces_after}
 use Rattle.cal_spec.specs.Words.{is_blank, words}
 
 -- the words of what is left of a text

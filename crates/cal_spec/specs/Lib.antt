@@ -12,7 +12,6 @@ pub mod Members
 pub mod NormalForm
 pub mod Order
 pub mod Parts
-pub mod Pieces
 pub mod PlacesView
 pub mod Reads
 pub mod Shorthand

@@ -3,7 +3,7 @@
 ghost use Rattle.std.specs.Prelude.{◌≡◌, ◌≤◌, ◌<◌, ◌==◌, ◌∷◌, ℕ, Bool, IfSome, length};
 ghost use Rattle.std.specs.List.{position, slice_split};
 ghost use Rattle.std.specs.Option.{option_copied};
-ghost use Rattle.cal_spec.specs.Pieces.{left, pieces_after};
+ghost use Rattle.cal_bytes.specs.SplitPieces.{left, pieces_after};
 
 /// The place of the first byte that is this one.
 pub(crate) fn place_of(text: &[u8], separator: u8) -> Option<usize>

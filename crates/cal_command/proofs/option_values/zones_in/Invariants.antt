@@ -1,6 +1,6 @@
 use Rattle.std.proofs.Common.{map, vec_len}
 use Rattle.std.specs.Option.{option_copied}
-use Rattle.cal_spec.specs.Pieces.{left, pieces_after}
+use Rattle.cal_bytes.specs.SplitPieces.{left, pieces_after}
 use Rattle.cal_command.specs.Ask.{zone_said}
 use Rattle.cal_command.specs.OptionValues.{is_comma}
 use Rattle.cal_command.proofs.OptionLemmas.{ZonesRead}
