@@ -66,11 +66,11 @@ def kit_version():
     return subprocess.run(["rt", "version"], capture_output=True, text=True).stdout.strip()
 
 
-def lanes(memory, share=1.0):
-    """How many checks run side by side: one for each processor, as many as this share of the free memory holds."""
+def lanes(memory, share=1.0, each=1.0):
+    """How many checks run side by side: so many for each processor, and at most as many as a share of the free memory holds."""
     with open("/proc/meminfo") as it:
         free = next(1024 * int(line.split()[1]) for line in it if line.startswith("MemAvailable:"))
-    return max(1, min(len(os.sched_getaffinity(0)), int(share * free) // memory))
+    return max(1, min(int(each * len(os.sched_getaffinity(0))), int(share * free) // memory))
 
 
 def clock(seconds):
