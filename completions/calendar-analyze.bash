@@ -2,69 +2,98 @@
 
 _calendar_analyze_zones() {
     # The names that a --zones before it gives to its files.
-    local words word items item
+    local words before='' word items item
     read -ra words <<< "$COMP_LINE"
     for word in "${words[@]}"; do
-        case $word in
-        --zones=*)
+        case $before,$word in
+        *,--zones=* | --zones,*)
             IFS=, read -ra items <<< "${word#--zones=}"
             for item in "${items[@]}"; do
                 printf '%s\n' "${item%%=*}"
             done
             ;;
         esac
+        before=$word
     done
 }
 
-# Offers the files that are read: a folder goes on with a slash, and a name may have blanks.
-_calendar_analyze_files() {
-    compopt -o filenames 2> /dev/null
+# Offers what is read, each item after what comes before it in the word. Readline replaces only what stands after the last
+# `=` or `:` of the word, so what stands before that is left away. What ends in `=`, `:` or `@` has more to follow.
+_calendar_analyze_offer() {
+    local whole=$1 head=$2 breaks cut='' i
     mapfile -t COMPREPLY
+    breaks=${COMP_WORDBREAKS//[!=:]/}
+    [ -z "$breaks" ] || cut=${whole%"${whole##*["$breaks"]}"}
+    for i in "${!COMPREPLY[@]}"; do
+        case ${COMPREPLY[i]} in *[=:@]) compopt -o nospace 2> /dev/null ;; esac
+        COMPREPLY[i]=$head${COMPREPLY[i]}
+        COMPREPLY[i]=${COMPREPLY[i]#"$cut"}
+    done
+}
+
+# Offers the files of a text with that beginning: all, or those and the folders that a verb reads. A folder goes on with a
+# slash, and a blank in a name has a backslash before it.
+_calendar_analyze_files() {
+    local whole=$1 value=$2 pattern=$3 name=${2//\\/}
+    compopt -o filenames 2> /dev/null
+    _calendar_analyze_offer "$whole" "${whole%"$value"}" \
+        < <(if [ -z "$pattern" ]; then compgen -f -- "$name"; else compgen -f -X "!$pattern" -- "$name"; compgen -d -- "$name"; fi)
+}
+
+# The values of an option; of a rule after `posix:` there is nothing to offer.
+_calendar_analyze_values() {
+    local option=$1 value=$2 whole=$3 item=${2##*,}
+    local head=${whole%"$value"}
+    case $option in
+    --zones) [ "$item" = "${item#*=}" ] || _calendar_analyze_files "$whole" "${item#*=}" '' ;;
+    --local)
+        [ "$value" = "${value#posix:}" ] || return
+        _calendar_analyze_offer "$whole" "$head" < <(compgen -W "UTC posix: $(_calendar_analyze_zones)" -- "$value")
+        ;;
+    --now | --base-time)
+        [ "$value" = "${value#@}" ] || return
+        _calendar_analyze_offer "$whole" "$head" < <(compgen -W '@' -- "$value")
+        ;;
+    esac
+}
+
+# The texts and the file of a verb.
+_calendar_analyze_texts() {
+    local verb=$1 whole=$2 texts
+    case $verb in
+    timer) _calendar_analyze_files "$whole" "$whole" '*.timer' && return ;;
+    calendar) texts='minutely hourly daily weekly monthly quarterly semiannually yearly' ;;
+    timestamp) texts='now today yesterday tomorrow' ;;
+    *) return ;;
+    esac
+    _calendar_analyze_offer "$whole" '' < <(compgen -W "$texts" -- "$whole")
 }
 
 _calendar_analyze() {
-    local current=${COMP_WORDS[COMP_CWORD]} line=${COMP_LINE:0:COMP_POINT} verb=${COMP_WORDS[1]} option value
+    # The word at the cursor and those before it, whole: bash takes them apart at `=` and `:`.
+    local line=${COMP_LINE:0:COMP_POINT} verb=${COMP_WORDS[1]} options whole words
+    line=${line#*"${COMP_WORDS[0]}"}
+    [[ $line =~ ((\\.|[^[:space:]\\])*)$ ]] && whole=${BASH_REMATCH[1]}
+    read -ra words <<< "${line%"$whole"}"
     COMPREPLY=()
-    if [ "$COMP_CWORD" -eq 1 ]; then
-        COMPREPLY=($(compgen -W 'calendar timestamp timespan timer --help --version' -- "$current"))
+    if [ "${#words[@]}" -eq 0 ]; then
+        _calendar_analyze_offer "$whole" '' < <(compgen -W 'calendar timestamp timespan timer --help --version' -- "$whole")
         return
     fi
-    # The whole word, since bash splits it at `=` and `:`.
-    local whole=${line##*[[:space:]]}
-    case $whole in
-    --*=*)
-        option=${whole%%=*} value=${whole#*=}
-        case $option in
-        --zones)
-            local item=${value##*,}
-            [ "$item" = "${item#*=}" ] || _calendar_analyze_files < <(compgen -f -- "${item#*=}")
-            ;;
-        --local)
-            COMPREPLY=($(compgen -W "UTC posix: $(_calendar_analyze_zones)" -- "$value"))
-            ;;
-        --now | --base-time)
-            COMPREPLY=($(compgen -W '@' -- "$value"))
-            ;;
-        esac
-        # More of the value follows.
-        case ${COMPREPLY[*]} in posix: | @) compopt -o nospace 2> /dev/null ;; esac
-        return
-        ;;
-    -*)
-        case $verb in
-        calendar | timer) option='--iterations= --base-time= --now= --zones= --local= --help' ;;
-        timestamp) option='--now= --zones= --local= --help' ;;
-        *) option=--help ;;
-        esac
-        COMPREPLY=($(compgen -W "$option" -- "$whole"))
-        case ${COMPREPLY[*]} in *=) compopt -o nospace 2> /dev/null ;; esac
-        return
-        ;;
-    esac
     case $verb in
-    timer) _calendar_analyze_files < <(compgen -f -X '!*.timer' -- "$current"; compgen -d -- "$current") ;;
-    calendar) COMPREPLY=($(compgen -W 'minutely hourly daily weekly monthly quarterly semiannually yearly' -- "$current")) ;;
-    timestamp) COMPREPLY=($(compgen -W 'now today yesterday tomorrow' -- "$current")) ;;
+    calendar | timer) options='--iterations= --base-time= --now= --zones= --local= --help' ;;
+    timestamp) options='--now= --zones= --local= --help' ;;
+    *) options=--help ;;
+    esac
+    # After a `--` all words are texts.
+    case " ${words[*]} ,${words[${#words[@]} - 1]},$whole" in
+    *' -- '*,*) _calendar_analyze_texts "$verb" "$whole" ;;
+    *,--iterations,* | *,--base-time,* | *,--now,* | *,--zones,* | *,--local,*)
+        _calendar_analyze_values "${words[${#words[@]} - 1]}" "$whole" "$whole"
+        ;;
+    *,--*=*) _calendar_analyze_values "${whole%%=*}" "${whole#*=}" "$whole" ;;
+    *,-*) _calendar_analyze_offer "$whole" '' < <(compgen -W "$options" -- "$whole") ;;
+    *) _calendar_analyze_texts "$verb" "$whole" ;;
     esac
 }
 

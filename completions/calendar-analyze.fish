@@ -1,13 +1,17 @@
 # Completion of calendar-analyze for fish: verbs, options with the form of their values, files where a file is due.
 
 function __calendar_analyze_zones
-    # The names that a --zones before it gives to its files.
+    # The zones of the rules, and the names that a --zones before it gives to its files. A rule after `posix:` has none.
+    string match -q -- '*posix:*' (commandline -ct); and return
+    string split ' ' 'UTC posix:'
+    set -l before
     for word in (commandline -opc)
-        if string match -q -- '--zones=*' $word
+        if string match -q -- '--zones=*' $word; or test "$before" = --zones
             for item in (string split , (string replace -- --zones= '' $word))
                 string split -f 1 = $item
             end
         end
+        set before $word
     end
 end
 
@@ -25,7 +29,7 @@ complete -c calendar-analyze -n "__fish_seen_subcommand_from $elapses" -l iterat
 complete -c calendar-analyze -n "__fish_seen_subcommand_from $elapses" -l base-time -x -d 'elapses after this timestamp'
 complete -c calendar-analyze -n "__fish_seen_subcommand_from $zones" -l now -x -a '@' -d 'the present in seconds'
 complete -c calendar-analyze -n "__fish_seen_subcommand_from $zones" -l zones -r -F -d 'NAME=FILE,.. of zone files'
-complete -c calendar-analyze -n "__fish_seen_subcommand_from $zones" -l local -x -a 'UTC posix: (__calendar_analyze_zones)' -d 'the local zone'
+complete -c calendar-analyze -n "__fish_seen_subcommand_from $zones" -l local -x -a '(__calendar_analyze_zones)' -d 'the local zone'
 complete -c calendar-analyze -n '__fish_seen_subcommand_from timer' -k -a '(__fish_complete_suffix .timer)'
 complete -c calendar-analyze -n '__fish_seen_subcommand_from calendar' -a 'minutely hourly daily weekly monthly quarterly semiannually yearly'
 complete -c calendar-analyze -n '__fish_seen_subcommand_from timestamp' -a 'now today yesterday tomorrow'

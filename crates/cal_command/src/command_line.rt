@@ -353,11 +353,12 @@ const STATUSES: &str =
     "Exit status:{n}  0  all was done{n}  1  a text, a file or a write was refused{n}  2  the command line, a zone or the clock was refused{n}{n}'calendar-analyze VERB --help' says more of a verb.";
 
 const CALENDAR_EXAMPLE: &str =
-    "A TEXT may end in its zone: UTC, +hh:mm, -hh:mm or a name of --zones.{n}A TEXT that begins with '-' goes after '--'.{n}{n}Example:{n}  calendar-analyze calendar --iterations=3 'Mon..Fri 09:00'";
+    "A TEXT may end in its zone: UTC, +hh:mm, -hh:mm or a name of --zones.{n}Neither TZ nor the machine's zone is read: a zone is given as below.{n}A TEXT that begins with '-' goes after '--'. A value that begins with '-' is{n}joined to its option by '=', as in --base-time=-1d.{n}{n}Examples:{n}  calendar-analyze calendar --iterations=3 'Mon..Fri 09:00'{n}  calendar-analyze calendar --zones=here=/etc/localtime --local=here daily";
 
 const TIMESTAMP_EXAMPLE: &str =
-    "A TEXT may end in its zone: UTC, +hh:mm, -hh:mm or a name of --zones.{n}A TEXT that begins with '-' goes after '--'.{n}{n}Example:{n}  calendar-analyze timestamp --local=+01:00 'today' '@1395716396' -- -5min";
+    "A TEXT may end in its zone: UTC, +hh:mm, -hh:mm or a name of --zones.{n}Neither TZ nor the machine's zone is read: a zone is given as below.{n}A TEXT that begins with '-' goes after '--'. A value that begins with '-' is{n}joined to its option by '=', as in --local=-05:00.{n}{n}Examples:{n}  calendar-analyze timestamp --local=+01:00 'today' '@1395716396' -- -5min{n}  calendar-analyze timestamp --zones=here=/etc/localtime --local=here now";
 
 const TIMESPAN_EXAMPLE: &str = "Example:{n}  calendar-analyze timespan '1h 30min' 300s";
 
-const TIMER_EXAMPLE: &str = "Example:{n}  calendar-analyze timer --iterations=5 backup.timer";
+const TIMER_EXAMPLE: &str =
+    "Neither TZ nor the machine's zone is read: a zone is given as below.{n}A FILE that begins with '-' goes after '--'. A value that begins with '-' is{n}joined to its option by '=', as in --base-time=-1d.{n}{n}Examples:{n}  calendar-analyze timer --iterations=5 backup.timer{n}  calendar-analyze timer --zones=here=/etc/localtime --local=here backup.timer";
