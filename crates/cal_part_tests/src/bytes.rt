@@ -12,7 +12,7 @@ use std::test::Fail;
 /// and how many calls are made: one for each piece, and one that finds the end or the failure.
 type Reading = (&'static str, usize, Then, usize, Option<WholeFault>, u64);
 
-const READINGS: [Reading; 14] = [
+static READINGS: [Reading; 14] = [
     ("abcde", 1, Then::Zero, 5, None, 6),
     ("abcde", 2, Then::Zero, 5, None, 4),
     ("abcde", 3, Then::Zero, 9, None, 3),
@@ -122,7 +122,7 @@ fn readers_end_or_go_on(rt: HostRuntime) {
 /// and how many calls are made.
 type Writer = (usize, usize, Then, &'static str, u64);
 
-const WRITERS: [Writer; 8] = [
+static WRITERS: [Writer; 8] = [
     (1, 3, Then::Error, "abc", 3),
     (2, 9, Then::Error, "abc", 2),
     (1, 2, Then::Error, "ab", 3),

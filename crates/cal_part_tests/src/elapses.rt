@@ -22,6 +22,16 @@ fn has_local(expr: &Expr, local: i64) -> bool
     expr.has(local)
 }
 
+/// The elapses of an expression in a zone that are later than a base.
+pub fn elapses_from<'z>(
+    alloc: Global,
+    expr: &Expr,
+    zone: Zone<'z>,
+    base: i64,
+) -> Result<Elapses<'z>, Fail> {
+    Ok(Elapses::new(alloc, expr, zone, instant(base)?)?)
+}
+
 /// The elapses of a text in a zone that are later than a base.
 fn elapses_of<'z>(
     alloc: Global,
@@ -30,7 +40,7 @@ fn elapses_of<'z>(
     base: i64,
 ) -> Result<Elapses<'z>, Fail> {
     let expr = expr(alloc, text)?;
-    Ok(Elapses::new(alloc, &expr, zone, instant(base)?)?)
+    elapses_from(alloc, &expr, zone, base)
 }
 
 /// The source answers with these, one after another.
@@ -56,7 +66,7 @@ fn expect_elapses(
     Ok(())
 }
 
-const IN_UTC: [Row; 2] = [
+static IN_UTC: [Row; 2] = [
     // Never.
     ("2100-02-29", 0, &[None]),
     // The last second of 2199.
@@ -73,7 +83,7 @@ fn in_utc(rt: HostRuntime) -> Result<(), Fail> {
 }
 
 /// How far a clock is ahead of UTC, and a row of it.
-const AT_OFFSETS: [(i32, Row); 6] = [
+static AT_OFFSETS: [(i32, Row); 6] = [
     // The last second west of UTC, and from that instant on.
     (
         -36_000,
@@ -111,16 +121,16 @@ const AT_OFFSETS: [(i32, Row); 6] = [
 
 #[test]
 fn at_offsets(rt: HostRuntime) -> Result<(), Fail> {
-    for (offset, row) in AT_OFFSETS {
-        assert!(rt; offset >= -93_599 && offset <= 93_599);
-        expect_elapses(&rt, Zone::offset(offset), &[row])?;
+    for (offset, row) in &AT_OFFSETS {
+        assert!(rt; *offset >= -93_599 && *offset <= 93_599);
+        expect_elapses(&rt, Zone::offset(*offset), &[*row])?;
     }
     Ok(())
 }
 
 /// In the gap of 2024-03-31 there is no elapse, and in the fold of 2024-10-27 the first one alone, also where the base
 /// lies between the two.
-const GAP_AND_FOLD: [Row; 3] = [
+static GAP_AND_FOLD: [Row; 3] = [
     (
         "02:30",
         1_711_756_800,

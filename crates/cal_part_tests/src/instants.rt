@@ -8,7 +8,7 @@ use std::process::Abort;
 use std::test::Fail;
 
 /// Seconds of Unix time with the year, month, day and weekday, and the hour, minute and second of them in UTC.
-const CIVIL_TIMES: [(i64, (i16, u8, u8, u8), (u8, u8, u8)); 5] = [
+static CIVIL_TIMES: [(i64, (i16, u8, u8, u8), (u8, u8, u8)); 5] = [
     (0, (1970, 1, 1, 4), (0, 0, 0)),
     (1_704_067_200, (2024, 1, 1, 1), (0, 0, 0)),
     (1_582_934_400, (2020, 2, 29, 6), (0, 0, 0)),
@@ -17,21 +17,27 @@ const CIVIL_TIMES: [(i64, (i16, u8, u8, u8), (u8, u8, u8)); 5] = [
     (7_258_211_998, (2200, 1, 2, 4), (1, 59, 58)),
 ];
 
+/// What a clock in UTC shows at this date and time.
+fn civil_of(date: (i16, u8, u8, u8), time: (u8, u8, u8)) -> Civil {
+    let (year, month, day, weekday) = date;
+    let (hour, minute, second) = time;
+    Civil {
+        year,
+        month,
+        day,
+        weekday,
+        hour,
+        minute,
+        second,
+        offset: 0,
+    }
+}
+
 #[test]
 fn civil_times(rt: HostRuntime) -> Result<(), Fail> {
-    for (secs, (year, month, day, weekday), (hour, minute, second)) in CIVIL_TIMES {
-        let offset = 0;
-        let wanted = Civil {
-            year,
-            month,
-            day,
-            weekday,
-            hour,
-            minute,
-            second,
-            offset,
-        };
-        assert_eq!(rt; civil(Zone::utc(), instant(secs)?), wanted, "at {secs}");
+    for (secs, date, time) in &CIVIL_TIMES {
+        let wanted = civil_of(*date, *time);
+        assert!(rt; civil(Zone::utc(), instant(*secs)?) == wanted, "at {secs}");
     }
     Ok(())
 }
@@ -73,7 +79,7 @@ fn in_utc(rt: HostRuntime) -> Result<(), Fail> {
 }
 
 /// How far a clock is ahead of UTC, seconds of Unix time, and their text.
-const BY_OFFSET: [(i32, i64, &str); 11] = [
+static BY_OFFSET: [(i32, i64, &str); 11] = [
     (0, 0, "Thu 1970-01-01 00:00:00 +00:00"),
     // Offsets with seconds, to the farthest ones.
     (3_208, 0, "Thu 1970-01-01 00:53:28 +00:53:28"),
@@ -92,9 +98,9 @@ const BY_OFFSET: [(i32, i64, &str); 11] = [
 
 #[test]
 fn at_offsets(rt: HostRuntime) -> Result<(), Fail> {
-    for (offset, secs, text) in BY_OFFSET {
-        assert!(rt; offset >= -93_599 && offset <= 93_599);
-        expect_texts(&rt, Zone::offset(offset), &[(secs, text)])?;
+    for (offset, secs, text) in &BY_OFFSET {
+        assert!(rt; *offset >= -93_599 && *offset <= 93_599);
+        expect_texts(&rt, Zone::offset(*offset), &[(*secs, *text)])?;
     }
     Ok(())
 }

@@ -13,6 +13,8 @@ mod expressions;
 #[cfg(test)]
 mod instants;
 #[cfg(test)]
+mod numbers;
+#[cfg(test)]
 mod searches;
 pub mod shared;
 #[cfg(test)]

@@ -22,7 +22,7 @@ fn found_from(expr: &Expr, from: i64) -> Option<Found> {
 /// looked at.
 type Search = (&'static str, i64, Option<i64>, u32);
 
-const SEARCHES: [Search; 8] = [
+static SEARCHES: [Search; 8] = [
     // Leap days: the first one, the one after it, over the year 2100, which has none, and after the last one.
     ("*-2-29 0:0:0", 0, Some(68_169_600), 3),
     ("*-2-29 0:0:0", 68_169_601, Some(194_400_000), 5),

@@ -31,7 +31,7 @@ static READ_AND_WRITTEN: [(&str, u64, &str); 11] = [
 ];
 
 /// Pairs of a number and a unit, added up.
-const SUMS: [(&str, u64); 7] = [
+static SUMS: [(&str, u64); 7] = [
     ("5 5", 10_000_000),
     ("5\t5", 10_000_000),
     (" \t5 \t s\t ", 5_000_000),
@@ -42,7 +42,7 @@ const SUMS: [(&str, u64); 7] = [
 ];
 
 /// Each spelling of each unit.
-const UNIT_WORDS: [(&str, u64); 31] = [
+static UNIT_WORDS: [(&str, u64); 31] = [
     ("3usec", 3),
     ("3us", 3),
     ("3\u{b5}s", 3),
@@ -77,7 +77,7 @@ const UNIT_WORDS: [(&str, u64); 31] = [
 ];
 
 /// Digits after the point, each rounded down by itself.
-const FRACTIONS: [(&str, u64); 29] = [
+static FRACTIONS: [(&str, u64); 29] = [
     ("0.00000009min", 5),
     ("0.000000019min", 0),
     ("0.9us", 0),
@@ -110,7 +110,7 @@ const FRACTIONS: [(&str, u64); 29] = [
 ];
 
 /// Up to the greatest span.
-const UP_TO_THE_LIMIT: [(&str, u64); 4] = [
+static UP_TO_THE_LIMIT: [(&str, u64); 4] = [
     ("9223372036854775806us 1us", 9_223_372_036_854_775_807),
     ("9223372036854.775807", 9_223_372_036_854_775_807),
     ("1000000000000000000us", 1_000_000_000_000_000_000),
@@ -118,7 +118,7 @@ const UP_TO_THE_LIMIT: [(&str, u64); 4] = [
 ];
 
 /// Above the greatest span.
-const ABOVE_THE_LIMIT: [(&str, SpanFault); 9] = [
+static ABOVE_THE_LIMIT: [(&str, SpanFault); 9] = [
     ("9223372036854775808us", SpanFault::TooLarge),
     ("9223372036854775807us 1us", SpanFault::TooLarge),
     ("9223372036854.775808", SpanFault::TooLarge),
@@ -131,7 +131,7 @@ const ABOVE_THE_LIMIT: [(&str, SpanFault); 9] = [
 ];
 
 /// The first fault from the left.
-const FIRST_FAULTS: [(&str, SpanFault); 26] = [
+static FIRST_FAULTS: [(&str, SpanFault); 26] = [
     ("", SpanFault::Empty),
     (" \t ", SpanFault::Empty),
     ("1..5", SpanFault::BadNumber),
@@ -227,17 +227,14 @@ fn names_the_first_fault(rt: HostRuntime) {
 }
 
 /// Pieces of a text with how often each stands in a row, and what the text is read as.
-type LongNumber = ([(&'static str, usize); 4], Result<u64, SpanFault>);
+type LongNumber = (&'static [(&'static str, usize)], Result<u64, SpanFault>);
 
-const LONG_NUMBERS: [LongNumber; 4] = [
-    ([("0", 1_000), ("7.", 1), ("0", 1_000), ("us", 1)], Ok(7)),
-    ([("7", 1), (".", 1), ("9", 1_000), ("s", 1)], Ok(7_999_999)),
+static LONG_NUMBERS: [LongNumber; 4] = [
+    (&[("0", 1_000), ("7.", 1), ("0", 1_000), ("us", 1)], Ok(7)),
+    (&[("7", 1), (".", 1), ("9", 1_000), ("s", 1)], Ok(7_999_999)),
+    (&[("9", 1_000), ("us", 1)], Err(SpanFault::TooLarge)),
     (
-        [("9", 1_000), ("", 0), ("", 0), ("us", 1)],
-        Err(SpanFault::TooLarge),
-    ),
-    (
-        [("9", 1_000), (".", 1), ("9", 1_000), ("x", 1)],
+        &[("9", 1_000), (".", 1), ("9", 1_000), ("x", 1)],
         Err(SpanFault::UnknownUnit),
     ),
 ];

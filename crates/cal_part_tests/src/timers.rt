@@ -1,7 +1,7 @@
 //! Timer files: the expressions that a file has in the end, and why a file is refused.
 
 use cal_bytes::Port;
-use cal_read::{Timer, TimerFault, read_timer};
+use cal_read::{Timer, TimerFault, TimerLine, read_timer};
 use cal_spec::{Expr, write_expr};
 use std::alloc::Global;
 use std::process::Abort;
@@ -31,21 +31,30 @@ OnCalendar=hourly
 const UNIT_LINES: Lines = &[(6, "Mon  *:0/30"), (9, "hourly")];
 
 /// The expressions of a file: the number of each one's line, and its text.
-type Lines = &'static [(u32, &'static str)];
+pub type Lines = &'static [(u32, &'static str)];
 
 /// A file with its expressions, or with the fault for which it is refused.
 type Row = (&'static str, Result<Lines, TimerFault>);
 
 /// What a file of these bytes is read as.
-fn read(alloc: Global, file: &[u8]) -> Result<Timer, TimerFault> {
+pub fn read(alloc: Global, file: &[u8]) -> Result<Timer, TimerFault> {
     read_timer(alloc, &mut Port::new(file))
+}
+
+/// The list has these expressions.
+pub fn expect_list(rt: &impl Abort, list: &[TimerLine], expected: Lines, file: &str) {
+    assert!(rt; list.len() == expected.len(), "in {file:?}");
+    for (line, (number, text)) in list.iter().zip(expected) {
+        assert!(rt;
+            line.number == *number && line.text.as_str() == *text,
+            "in {file:?}"
+        );
+    }
 }
 
 /// The timer has these expressions.
 fn expect_lines(rt: &impl Abort, timer: &Timer, expected: Lines, file: &str) {
-    let lines = timer.lines().iter();
-    let found = lines.map(|line| (line.number, line.text.as_str()));
-    assert!(rt; found.eq(expected.iter().copied()), "in {file:?}");
+    expect_list(rt, timer.lines(), expected, file);
 }
 
 /// The file has these expressions, or it is refused for this fault.

@@ -44,7 +44,7 @@ struct Place<'a> {
 }
 
 /// A list of timestamps: a text of each form, eight hours ahead of UTC, in UTC, and in UTC a minute after the first moment.
-const EACH_FORM: [Setting; 3] = [
+static EACH_FORM: [Setting; 3] = [
     Setting {
         now: PRESENT,
         east: 28_800,

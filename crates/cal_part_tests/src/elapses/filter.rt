@@ -1,8 +1,9 @@
 //! Elapses against a plain filter: the places of all local seconds that match.
 
+use super::merges::merge_elapses;
 use super::{elapses_of, has_local};
 use crate::shared::{FORWARD_AND_BACK, SUMMER_TIME, expr, posix};
-use cal_elapse::{Elapses, Merge, Rising};
+use cal_elapse::Rising;
 use cal_spec::Expr;
 use cal_zone::{Zone, place};
 use std::alloc::AllocError;
@@ -43,6 +44,18 @@ fn push_places(
     Ok(())
 }
 
+/// Puts those of the text's expression into the list.
+fn push_places_of(
+    rt: &(impl Abort + AllocGlobal),
+    instants: &mut Vec<i64>,
+    text: &str,
+    zone: Zone<'_>,
+    stretch: Stretch,
+) -> Result<(), Fail> {
+    let expr = expr(rt.alloc(), text)?;
+    Ok(push_places(rt, instants, &expr, zone, stretch)?)
+}
+
 /// The places of all local seconds that match one of the texts, sorted, each once.
 fn by_filter(
     rt: &(impl Abort + AllocGlobal),
@@ -52,7 +65,7 @@ fn by_filter(
 ) -> Result<Vec<i64>, Fail> {
     let mut instants = Vec::new(rt.alloc());
     for text in texts {
-        push_places(rt, &mut instants, &expr(rt.alloc(), text)?, zone, stretch)?;
+        push_places_of(rt, &mut instants, text, zone, stretch)?;
     }
     instants.sort_unstable();
     instants.dedup();
@@ -61,14 +74,31 @@ fn by_filter(
 
 /// The source gives the instants that are later than the base, and then none up to the limit.
 fn expect_all<S: Rising>(rt: &impl Abort, source: &mut S, instants: &[i64], base: i64, limit: i64) {
-    for instant in instants.iter().filter(|instant| **instant > base) {
-        assert_eq!(rt; source.next(), Some(*instant), "after {base}");
+    for instant in instants {
+        if *instant > base {
+            assert!(rt; source.next() == Some(*instant), "{instant} after {base}");
+        }
     }
     assert!(rt; source.next().unwrap_or(i64::MAX) > limit, "after {base}");
 }
 
-/// Up to the limit the elapses after the base are those of the filter, and so are those after a base up to two seconds
-/// later.
+/// Up to the limit the elapses after the base are these, and so are those after a base up to two seconds later.
+fn agree_from(
+    rt: &(impl Abort + AllocGlobal),
+    text: &str,
+    zone: Zone<'_>,
+    stretch: Stretch,
+    instants: &[i64],
+) -> Result<(), Fail> {
+    for later in 0..3 {
+        let base = stretch.base.saturating_add(later);
+        let mut elapses = elapses_of(rt.alloc(), text, zone, base)?;
+        expect_all(rt, &mut elapses, instants, base, stretch.limit);
+    }
+    Ok(())
+}
+
+/// The elapses after these bases are those of the filter.
 fn agree(
     rt: &(impl Abort + AllocGlobal),
     text: &str,
@@ -76,12 +106,7 @@ fn agree(
     stretch: Stretch,
 ) -> Result<(), Fail> {
     let instants = by_filter(rt, &[text], zone, stretch)?;
-    for later in 0..3 {
-        let base = stretch.base.saturating_add(later);
-        let mut elapses = elapses_of(rt.alloc(), text, zone, base)?;
-        expect_all(rt, &mut elapses, &instants, base, stretch.limit);
-    }
-    Ok(())
+    agree_from(rt, text, zone, stretch, &instants)
 }
 
 /// The days around the change of a clock that goes forward an hour, and back ten minutes later.
@@ -98,36 +123,29 @@ fn forward_and_soon_back(rt: HostRuntime) -> Result<(), Fail> {
     agree(&rt, "*:*:*", Zone::rules(&rules), FORWARD_AND_SOON_BACK)
 }
 
-/// The elapses of two texts after a base, as one.
-fn merged<'z>(
+/// Up to the limit the elapses of the texts as one are those of the filter.
+fn agree_as_one(
     rt: &(impl Abort + AllocGlobal),
-    [one, other]: [&str; 2],
-    zone: Zone<'z>,
-    base: i64,
-) -> Result<Merge<Elapses<'z>>, Fail> {
-    let one = elapses_of(rt.alloc(), one, zone, base)?;
-    let other = elapses_of(rt.alloc(), other, zone, base)?;
-    let mut merge = Merge::new(rt.alloc());
-    assert!(rt; merge.add(one).is_ok());
-    assert!(rt; merge.add(other).is_ok());
-    Ok(merge)
+    texts: &[&str],
+    zone: Zone<'_>,
+    stretch: Stretch,
+) -> Result<(), Fail> {
+    let instants = by_filter(rt, texts, zone, stretch)?;
+    let mut merge = merge_elapses(rt.alloc(), texts, zone, stretch.base)?;
+    expect_all(rt, &mut merge, &instants, stretch.base, stretch.limit);
+    Ok(())
 }
 
 /// Two expressions as one on these days.
 #[test]
 fn merged_forward_and_soon_back(rt: HostRuntime) -> Result<(), Fail> {
-    let texts = ["*:0/7:13", "*:*:30"];
-    let Stretch { base, limit, .. } = FORWARD_AND_SOON_BACK;
     let rules = posix(rt.alloc(), FORWARD_AND_BACK)?;
-    let zone = Zone::rules(&rules);
-    let instants = by_filter(&rt, &texts, zone, FORWARD_AND_SOON_BACK)?;
-    let mut merge = merged(&rt, texts, zone, base)?;
-    expect_all(&rt, &mut merge, &instants, base, limit);
-    Ok(())
+    let texts = ["*:0/7:13", "*:*:30"];
+    agree_as_one(&rt, &texts, Zone::rules(&rules), FORWARD_AND_SOON_BACK)
 }
 
 /// Expressions of every second, of some seconds of some minutes, and of the hours in which most clocks are changed.
-const TEXTS: [&str; 5] = [
+static TEXTS: [&str; 5] = [
     "*:*:*",
     "*:0/7:13",
     "0/3:30",
@@ -138,7 +156,7 @@ const TEXTS: [&str; 5] = [
 /// Zones by their rule, with how far the clock is from UTC at most, and two instants at which it is changed.
 type Changes = (&'static str, i64, [i64; 2]);
 
-const CHANGES: [Changes; 10] = [
+static CHANGES: [Changes; 10] = [
     (SUMMER_TIME, 7_200, [1_711_846_800, 1_729_990_800]),
     (
         "EST5EDT,M3.2.0,M11.1.0",

@@ -1,9 +1,9 @@
 //! Lists of numbers that are given one after another, and several of them as one.
 
-ghost use Rattle.std.specs.Prelude.{◌≡◌, ◌∷◌, [], false, IfOk};
 ghost use Rattle.cal_rising.specs.RisingList.{IsRising};
 
 use super::{elapses_of, expect_answers};
+use crate::numbers::{add, expect_numbers, listed, merge_one, merge_two};
 use crate::shared::NEW_YEAR;
 use cal_elapse::{Elapses, Listed, Merge, Rising};
 use cal_zone::Zone;
@@ -11,45 +11,10 @@ use std::alloc::{AllocError, Global};
 use std::process::Abort;
 use std::test::Fail;
 
-/// The merge of one list.
-fn merge_one(alloc: Global, one: Vec<i64>) -> Result<Merge<Listed>, AllocError>
-    requires { IsRising one.items }
-    ensures { IfOk result (λ merge. merge ≡ record { started = false; lists = one.items ∷ []; excepts = [] }) }
-{
-    let mut merge = Merge::new(alloc);
-    match merge.add(Listed::new(one)) {
-        Ok(()) => Ok(merge),
-        Err((_, refused)) => Err(refused),
-    }
-}
-
-/// The merge of two lists.
-fn merge_two(alloc: Global, one: Vec<i64>, two: Vec<i64>) -> Result<Merge<Listed>, AllocError>
-    requires one { IsRising one.items }
-    requires two { IsRising two.items }
-    ensures { IfOk result (λ merge. merge ≡ record { started = false; lists = one.items ∷ two.items ∷ []; excepts = [] }) }
-{
-    let mut merge = merge_one(alloc, one)?;
-    match merge.add(Listed::new(two)) {
-        Ok(()) => Ok(merge),
-        Err((_, refused)) => Err(refused),
-    }
-}
-
-/// The source gives these numbers, and then nothing.
-fn expect_numbers<S: Rising>(rt: &impl Abort, source: &mut S, numbers: &[i64]) {
-    for number in numbers {
-        assert_eq!(rt; source.next(), Some(*number));
-    }
-    assert_eq!(rt; (source.next(), source.next()), (None, None));
-}
-
 #[test]
-fn lists(rt: HostRuntime) -> Result<(), Fail> {
-    let mut listed = Listed::new(vec![in rt.alloc(); -3, 1, 9]?);
-    expect_numbers(&rt, &mut listed, &[-3, 1, 9]);
-    let mut empty = Listed::new(Vec::new(rt.alloc()));
-    expect_numbers(&rt, &mut empty, &[]);
+fn lists(rt: HostRuntime) -> Result<(), AllocError> {
+    expect_numbers(&rt, &mut listed(rt.alloc(), &[-3, 1, 9])?, &[-3, 1, 9]);
+    expect_numbers(&rt, &mut Listed::new(Vec::new(rt.alloc())), &[]);
     Ok(())
 }
 
@@ -60,47 +25,63 @@ fn no_source(rt: HostRuntime) {
 }
 
 #[test]
-fn one_list(rt: HostRuntime) -> Result<(), Fail> {
-    let alloc = rt.alloc();
-    let mut merge = merge_one(alloc, vec![in alloc; -3, 1, 9]?)?;
+fn one_list(rt: HostRuntime) -> Result<(), AllocError> {
+    let mut merge = merge_one(rt.alloc(), &[-3, 1, 9])?;
     expect_numbers(&rt, &mut merge, &[-3, 1, 9]);
     Ok(())
 }
 
-#[test]
-fn greatest_number(rt: HostRuntime) -> Result<(), Fail> {
-    let alloc = rt.alloc();
-    let mut merge = merge_two(alloc, vec![in alloc; i64::MAX]?, vec![in alloc; 1]?)?;
-    expect_numbers(&rt, &mut merge, &[1, i64::MAX]);
+/// The merge of two lists gives these numbers, and then nothing.
+fn expect_merged(
+    rt: &(impl Abort + AllocGlobal),
+    one: &[i64],
+    two: &[i64],
+    numbers: &[i64],
+) -> Result<(), AllocError>
+    requires one { IsRising one.now }
+    requires two { IsRising two.now }
+{
+    let mut merge = merge_two(rt.alloc(), one, two)?;
+    expect_numbers(rt, &mut merge, numbers);
     Ok(())
 }
 
 #[test]
-fn shared_number(rt: HostRuntime) -> Result<(), Fail> {
-    let alloc = rt.alloc();
-    let mut merge = merge_two(alloc, vec![in alloc; 1, 5, 9]?, vec![in alloc; 5, 7]?)?;
-    expect_numbers(&rt, &mut merge, &[1, 5, 7, 9]);
-    Ok(())
+fn greatest_number(rt: HostRuntime) -> Result<(), AllocError> {
+    expect_merged(&rt, &[i64::MAX], &[1], &[1, i64::MAX])
 }
 
 #[test]
-fn three_equal_heads(rt: HostRuntime) -> Result<(), Fail> {
-    let alloc = rt.alloc();
-    let mut merge = merge_two(alloc, vec![in alloc; 2, 4]?, vec![in alloc; 2, 3, 4]?)?;
-    assert!(rt; merge.add(Listed::new(vec![in alloc; 2]?)).is_ok());
+fn shared_number(rt: HostRuntime) -> Result<(), AllocError> {
+    expect_merged(&rt, &[1, 5, 9], &[5, 7], &[1, 5, 7, 9])
+}
+
+#[test]
+fn three_equal_heads(rt: HostRuntime) -> Result<(), AllocError> {
+    let mut merge = merge_two(rt.alloc(), &[2, 4], &[2, 3, 4])?;
+    add(&mut merge, listed(rt.alloc(), &[2])?)?;
     expect_numbers(&rt, &mut merge, &[2, 3, 4]);
     Ok(())
 }
 
+/// The merge of two merges and of one that has nothing.
+fn merge_merges(
+    rt: &impl AllocGlobal,
+    one: Merge<Listed>,
+    two: Merge<Listed>,
+) -> Result<Merge<Merge<Listed>>, AllocError> {
+    let mut merge = Merge::new(rt.alloc());
+    add(&mut merge, one)?;
+    add(&mut merge, two)?;
+    add(&mut merge, Merge::new(rt.alloc()))?;
+    Ok(merge)
+}
+
 #[test]
-fn merge_of_merges(rt: HostRuntime) -> Result<(), Fail> {
-    let alloc = rt.alloc();
-    let mut merge = Merge::new(alloc);
-    let odd = merge_two(alloc, vec![in alloc; 1, 5]?, vec![in alloc; 3, 5]?)?;
-    assert!(rt; merge.add(odd).is_ok());
-    assert!(rt; merge.add(merge_one(alloc, vec![in alloc; 2, 3]?)?).is_ok());
-    assert!(rt; merge.add(Merge::new(alloc)).is_ok());
-    expect_numbers(&rt, &mut merge, &[1, 2, 3, 5]);
+fn merge_of_merges(rt: HostRuntime) -> Result<(), AllocError> {
+    let odd = merge_two(rt.alloc(), &[1, 5], &[3, 5])?;
+    let small = merge_one(rt.alloc(), &[2, 3])?;
+    expect_numbers(&rt, &mut merge_merges(&rt, odd, small)?, &[1, 2, 3, 5]);
     Ok(())
 }
 
@@ -127,24 +108,22 @@ fn refused_growths(rt: HostRuntime) -> Result<(), Fail> {
     Ok(())
 }
 
-/// The elapses of these texts in UTC after a base, as one.
-fn merge_elapses(
-    rt: &(impl Abort + AllocGlobal),
+/// The elapses of these texts in a zone after a base, as one.
+pub fn merge_elapses<'z>(
+    alloc: Global,
     texts: &[&str],
+    zone: Zone<'z>,
     base: i64,
-) -> Result<Merge<Elapses<'static>>, Fail> {
-    let mut merge = Merge::new(rt.alloc());
+) -> Result<Merge<Elapses<'z>>, Fail> {
+    let mut merge = Merge::new(alloc);
     for text in texts {
-        let elapses = elapses_of(rt.alloc(), text, Zone::utc(), base)?;
-        if merge.add(elapses).is_err() {
-            return Err("no memory".into());
-        }
+        add(&mut merge, elapses_of(alloc, text, zone, base)?)?;
     }
     Ok(merge)
 }
 
 /// Texts, a base, and the first elapses of them as one: an instant that several share is given once.
-const SHARED_INSTANTS: [(&[&str], i64, &[Option<i64>]); 2] = [
+static SHARED_INSTANTS: [(&[&str], i64, &[Option<i64>]); 2] = [
     // Midnight, noon and noon on Mondays, from a Monday's midnight on.
     (
         &["daily", "12:00", "Mon 12:00"],
@@ -172,8 +151,8 @@ const SHARED_INSTANTS: [(&[&str], i64, &[Option<i64>]); 2] = [
 
 #[test]
 fn shared_instants(rt: HostRuntime) -> Result<(), Fail> {
-    for (texts, base, answers) in SHARED_INSTANTS {
-        let mut merge = merge_elapses(&rt, texts, base)?;
+    for (texts, base, answers) in &SHARED_INSTANTS {
+        let mut merge = merge_elapses(rt.alloc(), texts, Zone::utc(), *base)?;
         expect_answers(&rt, &mut merge, answers);
     }
     Ok(())

@@ -3,7 +3,7 @@
 ghost use Rattle.cal_elapse.specs.Searched.{IsSearched};
 ghost use Rattle.cal_elapse.specs.Window.{timed_of};
 
-use super::{elapses_of, has_local};
+use super::{elapses_from, elapses_of, has_local};
 use crate::shared::{FORWARD_AND_BACK, NEW_YEAR, SUMMER_TIME, expr, posix};
 use cal_elapse::{Elapses, Rising};
 use cal_spec::Expr;
@@ -62,18 +62,18 @@ fn searches_agree(
     base: i64,
 ) -> Result<(), Fail> {
     let expr = expr(rt.alloc(), text)?;
-    let elapses = elapses_of(rt.alloc(), text, zone, base)?;
-    expect_counts(rt, text, &expr, elapses, base)
+    expect_counts(rt, text, &expr, zone, base)
 }
 
 /// So it is for the elapses of a text's expression after that base.
 fn expect_counts(
-    rt: &impl Abort,
+    rt: &(impl Abort + AllocGlobal),
     text: &str,
     expr: &Expr,
-    mut elapses: Elapses<'_>,
+    zone: Zone<'_>,
     base: i64,
 ) -> Result<(), Fail> {
+    let mut elapses = elapses_from(rt.alloc(), expr, zone, base)?;
     let agree = counts_agree(rt, &mut elapses, expr, base.saturating_sub(93_599))?;
     assert!(rt; agree, "{text}");
     Ok(())
@@ -101,7 +101,7 @@ fn counts_agree(
 }
 
 /// Expressions whose first 50 elapses lie within some days.
-const DENSE: [&str; 12] = [
+static DENSE: [&str; 12] = [
     "*:*:*",
     "*:*",
     "*:*:0/7",
@@ -116,7 +116,7 @@ const DENSE: [&str; 12] = [
     "2..3:*:*",
 ];
 
-const RULES: [&str; 5] = [
+static RULES: [&str; 5] = [
     "IST-5:30",
     SUMMER_TIME,
     FORWARD_AND_BACK,

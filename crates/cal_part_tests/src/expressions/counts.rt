@@ -15,7 +15,7 @@ struct Table {
 }
 
 /// 4,096 bytes may stand, and no more; one too many is told before all other faults.
-const BYTES: [Table; 4] = [
+static BYTES: [Table; 4] = [
     Table {
         piece: " ",
         accepted: "4091: 12:00# -> *-*-* 12:00:00",
@@ -39,7 +39,7 @@ const BYTES: [Table; 4] = [
 ];
 
 /// A zone name of 255 bytes may stand, and no longer one.
-const ZONE_NAMES: [Table; 2] = [
+static ZONE_NAMES: [Table; 2] = [
     Table {
         piece: "b",
         accepted: "254: daily A# -> *-*-* 00:00:00 A#",
@@ -54,7 +54,7 @@ const ZONE_NAMES: [Table; 2] = [
 
 /// The 240th part of a component of a date may stand, and the next not. Of a component of a time it is the 241st,
 /// since the first one isn't counted.
-const PARTS_OF_A_COMPONENT: Table = Table {
+static PARTS_OF_A_COMPONENT: Table = Table {
     piece: ",1",
     accepted: "\
 237: 1#-1-1 -> 2001-01-01 00:00:00
@@ -86,7 +86,7 @@ const PARTS_OF_A_COMPONENT: Table = Table {
 };
 
 /// The first part too many is a fault where it is due: before its shape, and before the values of its component.
-const PARTS_IN_ALL: Table = Table {
+static PARTS_IN_ALL: Table = Table {
     piece: ",1",
     accepted: "\
 239: 1#-*-* 0:0:0 -> 2001-*-* 00:00:00

@@ -6,7 +6,7 @@ use std::process::Abort;
 use std::test::Fail;
 
 /// Each fault with its number and its words.
-const FAULTS: [(SpecFault, u8, &str); 15] = [
+static FAULTS: [(SpecFault, u8, &str); 15] = [
     (SpecFault::Empty, 1, "empty expression"),
     (
         SpecFault::TextTooLong,
@@ -45,15 +45,18 @@ fn expect_shown(rt: &impl Abort, alloc: Global, fault: SpecFault, words: &str) -
 
 #[test]
 fn numbers_and_words(rt: HostRuntime) {
-    for (fault, number, words) in FAULTS {
-        assert_eq!(rt; (fault as u8, fault.words()), (number, words));
+    for (fault, number, words) in &FAULTS {
+        assert!(rt;
+            *fault as u8 == *number && fault.words() == *words,
+            "{words}"
+        );
     }
 }
 
 #[test]
 fn shown_words(rt: HostRuntime) -> Result<(), Fail> {
-    for (fault, _, words) in FAULTS {
-        expect_shown(&rt, rt.alloc(), fault, words)?;
+    for (fault, _, words) in &FAULTS {
+        expect_shown(&rt, rt.alloc(), *fault, words)?;
     }
     Ok(())
 }

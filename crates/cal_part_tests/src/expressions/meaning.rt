@@ -44,9 +44,19 @@ fn fields_of(expr: &Expr) -> Shown<'_> {
     }
 }
 
+/// The text's expression shows this.
+fn expect_shown(
+    rt: &(impl Abort + AllocGlobal),
+    text: &str,
+    expected: Shown<'_>,
+) -> Result<(), Fail> {
+    let expr = expr(rt.alloc(), text)?;
+    assert!(rt; fields_of(&expr) == expected, "at {text:?}");
+    Ok(())
+}
+
 #[test]
 fn mondays_and_fridays(rt: HostRuntime) -> Result<(), Fail> {
-    let expr = expr(rt.alloc(), "mon,fri 12-1/2-3,1 *:30:45")?;
     let expected = Shown {
         weekdays: [true, false, false, false, true, false, false],
         components: [
@@ -60,14 +70,12 @@ fn mondays_and_fridays(rt: HostRuntime) -> Result<(), Fail> {
         from_end: false,
         zone_name: None,
     };
-    assert_eq!(rt; fields_of(&expr), expected);
-    Ok(())
+    expect_shown(&rt, "mon,fri 12-1/2-3,1 *:30:45", expected)
 }
 
 #[test]
 fn days_from_the_end(rt: HostRuntime) -> Result<(), Fail> {
     let text = "Sat,Thu,Mon..Wed 93..24-*~07/1 0,0:0:20..39/5 UTC";
-    let expr = expr(rt.alloc(), text)?;
     let expected = Shown {
         weekdays: [true, true, true, true, false, true, false],
         components: [
@@ -81,14 +89,12 @@ fn days_from_the_end(rt: HostRuntime) -> Result<(), Fail> {
         from_end: true,
         zone_name: Some("UTC"),
     };
-    assert_eq!(rt; fields_of(&expr), expected);
-    Ok(())
+    expect_shown(&rt, text, expected)
 }
 
 /// Parts are in their order, centuries are written out, and `UTC` is kept in capitals.
 #[test]
 fn each_kind_of_part(rt: HostRuntime) -> Result<(), Fail> {
-    let expr = expr(rt.alloc(), "Sat-Mon 93..00-4~7/2,3 *:4:5/6,07 uTc")?;
     let expected = Shown {
         weekdays: [true, false, false, false, false, true, true],
         components: [
@@ -102,8 +108,7 @@ fn each_kind_of_part(rt: HostRuntime) -> Result<(), Fail> {
         from_end: true,
         zone_name: Some("UTC"),
     };
-    assert_eq!(rt; fields_of(&expr), expected);
-    Ok(())
+    expect_shown(&rt, "Sat-Mon 93..00-4~7/2,3 *:4:5/6,07 uTc", expected)
 }
 
 /// Whether an expression has a local second.

@@ -54,7 +54,7 @@ const BOUNDS: &str = "\
 ";
 
 /// What begins with a sign where a zone may stand and is no offset, and what stands after a zone.
-const NO_OFFSETS: [Refused; 1] = [(
+static NO_OFFSETS: [Refused; 1] = [(
     StrayWord,
     "\
 12:00 +26:00
@@ -111,7 +111,7 @@ Mon UTC +02:00
 )];
 
 /// The first word of a text is read as if there were no offsets.
-const FIRST_WORDS: [Refused; 3] = [
+static FIRST_WORDS: [Refused; 3] = [
     (
         BadTime,
         "+02:00\n-02:00\n+02:00 12:00\n-01:00 UTC\n+02:00 daily",
@@ -124,7 +124,7 @@ const FIRST_WORDS: [Refused; 3] = [
 ];
 
 /// Of two faults the one on the left is told, whichever it is.
-const ORDER: [Refused; 5] = [
+static ORDER: [Refused; 5] = [
     (BadWeekday, "Mon,,Tue +02:00\nMon,,Tue +x"),
     (BadDate, "7 +02:00\n7 +x\n1 -1"),
     (BadTime, "12:x +x\n2024-1-1 5 +x\n2024-1-1 \u{2212}02:00"),
@@ -133,7 +133,7 @@ const ORDER: [Refused; 5] = [
 ];
 
 /// Texts with the seconds that their zone's clock is ahead of UTC, or the name of their zone.
-const ZONES: [(&str, Option<i32>, Option<&str>); 9] = [
+static ZONES: [(&str, Option<i32>, Option<&str>); 9] = [
     ("daily", None, None),
     ("daily utc", None, Some("UTC")),
     ("daily Test/Fixed", None, Some("Test/Fixed")),
@@ -161,13 +161,10 @@ fn refused(rt: HostRuntime) {
 
 #[test]
 fn zones(rt: HostRuntime) -> Result<(), Fail> {
-    for (text, offset, name) in ZONES {
+    for (text, offset, name) in &ZONES {
         let expr = expr(rt.alloc(), text)?;
-        assert_eq!(rt;
-            (expr.zone_offset(), expr.zone_name()),
-            (offset, name),
-            "at {text:?}"
-        );
+        let holds = expr.zone_offset() == *offset && expr.zone_name() == *name;
+        assert!(rt; holds, "at {text:?}");
     }
     Ok(())
 }

@@ -9,7 +9,7 @@ use std::process::Abort;
 pub(super) type Refused = (SpecFault, &'static str);
 
 /// The refused texts: one at least of each fault of a short text, and the refusals of the grammar.
-const REFUSED_TEXTS: [Refused; 12] = [
+static REFUSED_TEXTS: [Refused; 12] = [
     (Empty, "\n"),
     (BadWeekday, "Mon,,Tue"),
     (BadDate, "7\n*-1~5-2"),
@@ -25,10 +25,10 @@ const REFUSED_TEXTS: [Refused; 12] = [
 ];
 
 /// No word at all.
-const BLANKS: [Refused; 1] = [(Empty, " \n\t\n \t \t\n")];
+static BLANKS: [Refused; 1] = [(Empty, " \n\t\n \t \t\n")];
 
 /// Which words may stand where.
-const WORDS: [Refused; 2] = [
+static WORDS: [Refused; 2] = [
     (
         StrayWord,
         "\
@@ -87,7 +87,7 @@ UTC 12:00
 ];
 
 /// Lists of weekdays.
-const WEEKDAYS: [Refused; 1] = [(
+static WEEKDAYS: [Refused; 1] = [(
     BadWeekday,
     "\
 Foo,Mon
@@ -125,7 +125,7 @@ a1 12:00
 )];
 
 /// Shapes of dates.
-const DATES: [Refused; 1] = [(
+static DATES: [Refused; 1] = [(
     BadDate,
     "\
 *
@@ -190,7 +190,7 @@ Mon 5
 )];
 
 /// Shapes of times, and fractions of a second.
-const TIMES: [Refused; 2] = [
+static TIMES: [Refused; 2] = [
     (
         BadTime,
         "\
@@ -256,7 +256,7 @@ const TIMES: [Refused; 2] = [
 ];
 
 /// Numbers too large, outside of their field, ranges that run backwards, and repetitions.
-const NUMBERS: [Refused; 6] = [
+static NUMBERS: [Refused; 6] = [
     (
         NumberTooLarge,
         "\
@@ -348,7 +348,7 @@ const NUMBERS: [Refused; 6] = [
 ];
 
 /// Texts with two faults, of which the first by the rule is told.
-const ORDER: [Refused; 11] = [
+static ORDER: [Refused; 11] = [
     (
         BadDate,
         "\

@@ -1,7 +1,8 @@
 //! The search, and the elapses that stand on it, against the plain search: day after day, and second after second.
 
 use super::found_from;
-use crate::shared::{expr, instant};
+use crate::elapses::elapses_from;
+use crate::shared::expr;
 use cal_elapse::{Elapses, Found, Rising};
 use cal_spec::{Expr, Field, day_number};
 use cal_zone::{DAYS, Zone, date_of_day};
@@ -119,6 +120,12 @@ fn plain_from(plain: &Plain, from: i64) -> Option<(usize, usize)> {
     plain_next(plain, day, second)
 }
 
+/// The local second that the plain search finds from a local second on.
+fn plain_local(plain: &Plain, from: i64) -> Option<i64> {
+    let (day, second) = plain_from(plain, from)?;
+    Some(local_second(day, second))
+}
+
 /// What the plain search finds from a local second on, and the months that it looks at.
 fn plain_found(plain: &Plain, dates: &[Date], from: i64) -> Found {
     let day = (from.unsigned_abs() / 86_400) as usize;
@@ -128,8 +135,18 @@ fn plain_found(plain: &Plain, dates: &[Date], from: i64) -> Found {
         None => 2_759,
     };
     Found {
-        local: next.map(|(day, second)| local_second(day, second)),
+        local: plain_local(plain, from),
         months: plain_looks(plain, month_number(dates, day), last),
+    }
+}
+
+/// The first two elapses after a base are what the plain search finds.
+fn expect_two(rt: &impl Abort, elapses: &mut Elapses<'_>, plain: &Plain, base: i64) {
+    let mut last = base;
+    for _ in 0..2 {
+        let wanted = plain_local(plain, last.saturating_add(1));
+        assert!(rt; elapses.next() == wanted, "after {last}");
+        last = wanted.unwrap_or(last);
     }
 }
 
@@ -141,14 +158,8 @@ fn compare_elapses(
     start: i64,
 ) -> Result<(), Fail> {
     let base = start.saturating_sub(1).max(0);
-    let mut elapses = Elapses::new(rt.alloc(), expr, Zone::utc(), instant(base)?)?;
-    let mut last = base;
-    for _ in 0..2 {
-        let next = plain_from(plain, last.saturating_add(1));
-        let wanted = next.map(|(day, second)| local_second(day, second));
-        assert_eq!(rt; elapses.next(), wanted, "after {last}");
-        last = wanted.unwrap_or(last);
-    }
+    let mut elapses = elapses_from(rt.alloc(), expr, Zone::utc(), base)?;
+    expect_two(rt, &mut elapses, plain, base);
     Ok(())
 }
 
@@ -173,9 +184,9 @@ fn compare(
     Ok(())
 }
 
-const WEEKDAYS: [&str; 5] = ["", "Mon ", "Sat,Sun ", "Mon..Fri ", "Wed "];
+static WEEKDAYS: [&str; 5] = ["", "Mon ", "Sat,Sun ", "Mon..Fri ", "Wed "];
 
-const DATES: [&str; 10] = [
+static DATES: [&str; 10] = [
     "*-*-*",
     "*-2-29",
     "*~1",
@@ -188,7 +199,7 @@ const DATES: [&str; 10] = [
     "2024-*-13",
 ];
 
-const TIMES: [&str; 6] = [
+static TIMES: [&str; 6] = [
     "*:*:*",
     "0:0:0",
     "23:59:59",
@@ -198,7 +209,7 @@ const TIMES: [&str; 6] = [
 ];
 
 /// Ends and begins of months, years and centuries, of common and leap years, and of all.
-const STARTS: [i64; 20] = [
+static STARTS: [i64; 20] = [
     0,
     2_678_399,
     5_097_599,
@@ -242,7 +253,7 @@ fn compare_dates(
     weekdays: &str,
     dates: &[Date],
 ) -> Result<(), Fail> {
-    for date in DATES {
+    for date in &DATES {
         compare_times(rt, weekdays, date, &TIMES, dates)?;
     }
     Ok(())
@@ -254,7 +265,7 @@ fn as_the_plain_search(rt: HostRuntime) -> Result<(), Fail> {
     for day in 0..DAYS {
         dates.push(date_of_day(day))?;
     }
-    for weekdays in WEEKDAYS {
+    for weekdays in &WEEKDAYS {
         compare_dates(&rt, weekdays, &dates)?;
     }
     Ok(())

@@ -8,7 +8,7 @@ use std::process::Abort;
 use std::test::Fail;
 
 /// Sections.
-const SECTIONS: [Row; 15] = [
+static SECTIONS: [Row; 15] = [
     // The empty file.
     ("", Err(TimerFault::NothingToDo)),
     (
@@ -51,7 +51,7 @@ const SECTIONS: [Row; 15] = [
 ];
 
 /// Keys and values.
-const KEYS_AND_VALUES: [Row; 12] = [
+static KEYS_AND_VALUES: [Row; 12] = [
     // A whole character that isn't ASCII.
     ("[Timer]\nx=\u{E9}\nOnCalendar=daily\n", Ok(&[(3, "daily")])),
     // A repetition that reaches no further value.
@@ -102,7 +102,7 @@ const KEYS_AND_VALUES: [Row; 12] = [
 ];
 
 /// The keys that empty the list by an empty value; that of the calendar comes first.
-const KEYS: [&str; 6] = [
+static KEYS: [&str; 6] = [
     "OnCalendar",
     "OnActiveSec",
     "OnBootSec",
@@ -115,7 +115,7 @@ const KEYS: [&str; 6] = [
 type RowOfKey = (&'static str, Lines);
 
 /// An empty value of a key empties the list.
-const RESETS: [RowOfKey; 4] = [
+static RESETS: [RowOfKey; 4] = [
     (
         "[Timer]\nOnCalendar=daily\nKEY=\n[Timer]\nOnCalendar=hourly",
         &[(5, "hourly")],
@@ -135,7 +135,7 @@ const RESETS: [RowOfKey; 4] = [
 ];
 
 /// Neither another name, nor a name alone, nor another section, nor a comment empties it.
-const NO_RESETS: [RowOfKey; 5] = [
+static NO_RESETS: [RowOfKey; 5] = [
     ("[Timer]\nOnCalendar=daily\nX-KEY=\n", &[(2, "daily")]),
     ("[Timer]\nOnCalendar=daily\nKEYs=\n", &[(2, "daily")]),
     ("[Timer]\nOnCalendar=daily\nKEY\n", &[(2, "daily")]),
@@ -147,7 +147,7 @@ const NO_RESETS: [RowOfKey; 5] = [
 ];
 
 /// Nor does a value of a key that isn't that of the calendar.
-const VALUES: [RowOfKey; 1] = [(
+static VALUES: [RowOfKey; 1] = [(
     "[Timer]\nOnCalendar=daily\nKEY=5min\nOnCalendar=hourly",
     &[(2, "daily"), (4, "hourly")],
 )];
@@ -187,7 +187,7 @@ fn keys_and_values(rt: HostRuntime) {
 
 #[test]
 fn resets(rt: HostRuntime) -> Result<(), Fail> {
-    for key in KEYS {
+    for key in &KEYS {
         expect_with_key(&rt, rt.alloc(), key, &RESETS)?;
     }
     Ok(())
@@ -195,7 +195,7 @@ fn resets(rt: HostRuntime) -> Result<(), Fail> {
 
 #[test]
 fn no_resets(rt: HostRuntime) -> Result<(), Fail> {
-    for key in KEYS {
+    for key in &KEYS {
         expect_with_key(&rt, rt.alloc(), key, &NO_RESETS)?;
     }
     Ok(())

@@ -2,6 +2,8 @@
 
 use super::read;
 use cal_read::TimerFault;
+use std::alloc::Global;
+use std::process::Abort;
 use std::test::Fail;
 
 /// On each line a character of two, three or four bytes, of which one is another: an `a`, a byte that begins a
@@ -35,7 +37,7 @@ a\x9F\x98\x80
 \xF0\x9F\x98\xFF";
 
 /// Files that are no UTF-8, each with the line of the first byte that is wrong.
-const WRONG_BYTES: [(&[u8], u32); 14] = [
+static WRONG_BYTES: [(&[u8], u32); 14] = [
     // A byte alone.
     (b"\xFF", 1),
     // In line 2.
@@ -66,6 +68,12 @@ const WRONG_BYTES: [(&[u8], u32); 14] = [
     (b"[Unit]\\\n\\\n\xFF", 3),
 ];
 
+/// The file is refused for what is not UTF-8 in this line.
+fn expect_broken(rt: &impl Abort, alloc: Global, file: &[u8], line: u32) {
+    let fault = read(alloc, file).err();
+    assert!(rt; fault == Some(TimerFault::NotUtf8(line)), "in {file:?}");
+}
+
 /// Each character stands in line 2 of a file.
 #[test]
 fn broken_characters(rt: HostRuntime) -> Result<(), Fail> {
@@ -73,16 +81,14 @@ fn broken_characters(rt: HostRuntime) -> Result<(), Fail> {
         let mut file = b"[Timer]\nx=".to_vec(rt.alloc())?;
         file.extend_from_slice(bytes)?;
         file.extend_from_slice(b"\nOnCalendar=daily\n")?;
-        let fault = read(rt.alloc(), file.as_slice()).err();
-        assert_eq!(rt; fault, Some(TimerFault::NotUtf8(2)), "at {bytes:?}");
+        expect_broken(&rt, rt.alloc(), file.as_slice(), 2);
     }
     Ok(())
 }
 
 #[test]
 fn lines_of_wrong_bytes(rt: HostRuntime) {
-    for (file, line) in WRONG_BYTES {
-        let fault = read(rt.alloc(), file).err();
-        assert_eq!(rt; fault, Some(TimerFault::NotUtf8(line)), "in {file:?}");
+    for (file, line) in &WRONG_BYTES {
+        expect_broken(&rt, rt.alloc(), file, *line);
     }
 }

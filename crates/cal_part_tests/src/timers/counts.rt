@@ -16,7 +16,7 @@ const HOURLY: &str = "OnCalendar=hourly";
 type Counted = (&'static [(u32, &'static str)], Result<Lines, TimerFault>);
 
 /// At most 256 expressions may stand at a time, and the one too many is told where it stands.
-const COUNTED: [Counted; 7] = [
+static COUNTED: [Counted; 7] = [
     // Two hundred and fifty-six expressions, a reset, and an expression.
     (
         &[(256, DAILY), (1, RESET), (1, HOURLY)],

@@ -5,7 +5,7 @@ use cal_read::TimerFault;
 use cal_spec::SpecFault;
 
 /// Ends of lines, and byte order marks.
-const ENDS_OF_LINES_AND_MARKS: [Row; 11] = [
+static ENDS_OF_LINES_AND_MARKS: [Row; 11] = [
     ("[Timer]\nOnCalendar=daily", Ok(&[(2, "daily")])),
     ("[Timer]\r\nOnCalendar=daily\r\n", Ok(&[(2, "daily")])),
     ("[Timer]\r\nOnCalendar=daily\r", Ok(&[(2, "daily")])),
@@ -29,7 +29,7 @@ const ENDS_OF_LINES_AND_MARKS: [Row; 11] = [
 ];
 
 /// Comments.
-const COMMENTS: [Row; 6] = [
+static COMMENTS: [Row; 6] = [
     (
         "# x\n[Timer]\n; x\n \t # x\nOnCalendar=daily",
         Ok(&[(5, "daily")]),
@@ -56,7 +56,7 @@ const COMMENTS: [Row; 6] = [
 ];
 
 /// Continued lines.
-const CONTINUED_LINES: [Row; 17] = [
+static CONTINUED_LINES: [Row; 17] = [
     ("[Timer]\nOnCalendar=Mon\\\n12:00", Ok(&[(2, "Mon 12:00")])),
     (
         "[Timer]\nOnCalendar=Mon \\\n \t12:00",

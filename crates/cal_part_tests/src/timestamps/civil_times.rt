@@ -5,7 +5,7 @@ use cal_read::StampFault::*;
 use std::test::Fail;
 
 /// Dates of one to four digits, and the years that two digits mean.
-const DATES: Table = Table {
+static DATES: Table = Table {
     moments: "\
 2012-11-23 -> 1353628800000000
 12-11-23 -> 1353628800000000
@@ -46,7 +46,7 @@ const DATES: Table = Table {
 };
 
 /// Words that are no dates.
-const SHAPES_OF_DATES: Table = Table {
+static SHAPES_OF_DATES: Table = Table {
     moments: "",
     refusals: &[(
         BadDate,
@@ -80,7 +80,7 @@ const SHAPES_OF_DATES: Table = Table {
 };
 
 /// Times of two and three parts.
-const TIMES: Table = Table {
+static TIMES: Table = Table {
     moments: "\
 0:0 -> 1353628800000000
 00:00:00 -> 1353628800000000
@@ -125,7 +125,7 @@ const TIMES: Table = Table {
 };
 
 /// Six digits of a fraction are kept, and the rest is dropped.
-const FRACTIONS: Table = Table {
+static FRACTIONS: Table = Table {
     moments: "\
 1:2:3.4 -> 1353632523400000
 1:2:3.456789 -> 1353632523456789
@@ -160,7 +160,7 @@ const FRACTIONS: Table = Table {
 };
 
 /// Weekday names, short and whole, in any case; no comma and no other letters.
-const WEEKDAYS: Table = Table {
+static WEEKDAYS: Table = Table {
     moments: "\
 Fri 2012-11-23 -> 1353628800000000
 friday 2012-11-23 -> 1353628800000000
@@ -232,7 +232,7 @@ Fri today
 };
 
 /// What may stand after a date and after a time.
-const WORDS_AFTER: Table = Table {
+static WORDS_AFTER: Table = Table {
     moments: "\
 2012-11-23 1:2 -> 1353632520000000
 2012-11-23\t \t1:2:3\tUTC -> 1353632523000000

@@ -7,7 +7,7 @@ use cal_zone::{Zone, ZoneTable};
 use std::test::Fail;
 
 /// The days beside the present one, with and without blanks.
-const NEAR_DAYS: [Setting; 2] = [
+static NEAR_DAYS: [Setting; 2] = [
     Setting {
         now: PRESENT,
         east: 0,
@@ -45,7 +45,7 @@ Fri 0:0 UTC -> 1353628800000000
 ];
 
 /// Other cases, and what may not stand after a day.
-const REFUSED_DAYS: Table = Table {
+static REFUSED_DAYS: Table = Table {
     moments: "",
     refusals: &[
         (
@@ -86,7 +86,7 @@ today U!
 };
 
 /// What texts mean at these presents, by a clock whose midnight is skipped on 2024-03-10, and shown twice on 2024-11-03.
-const DAYS_OF_A_CHANGE: [(i64, Table); 4] = [
+static DAYS_OF_A_CHANGE: [(i64, Table); 4] = [
     // On the day whose midnight is skipped.
     (
         1_710_086_400,
@@ -143,7 +143,7 @@ today UTC -> 1730505600000000
 ];
 
 /// The days at both ends of the range of instants.
-const FIRST_AND_LAST_DAYS: [Setting; 7] = [
+static FIRST_AND_LAST_DAYS: [Setting; 7] = [
     Setting {
         now: 0,
         east: 0,

@@ -3,15 +3,15 @@
 use super::{PRESENT, Place, Setting, Table, expect_in_utc, expect_settings, micros, zone_east};
 use crate::shared::{SUMMER_TIME, instant, posix};
 use cal_bytes::Port;
-use cal_read::StampFault::{self, *};
+use cal_read::StampFault::*;
 use cal_span::SpanFault;
-use cal_zone::{Zone, ZoneTable, write_instant};
+use cal_zone::{Instant, Zone, ZoneTable, write_instant};
 use std::alloc::Global;
 use std::process::Abort;
 use std::test::Fail;
 
 /// An offset after each word that may stand before it, its bounds, and what is none.
-const OFFSETS: Table = Table {
+static OFFSETS: Table = Table {
     moments: "\
 2012-11-23 11:12 +08:00 -> 1353640320000000
 today +08:00 -> 1353600000000000
@@ -87,7 +87,7 @@ tomorrow +02:00 12:00
 };
 
 /// The first and the last moment, and the zones in which a civil time passes them.
-const RANGE_ENDS: [Setting; 1] = [Setting {
+static RANGE_ENDS: [Setting; 1] = [Setting {
     now: PRESENT,
     east: 7_200,
     table: Table {
@@ -105,7 +105,7 @@ const RANGE_ENDS: [Setting; 1] = [Setting {
 
 /// Lines of reports: in both passes of a local time that comes twice, after one that is skipped, at the ends of the
 /// years, and by clocks that are seconds from UTC.
-const LINES_OF_REPORTS: [Setting; 1] = [Setting {
+static LINES_OF_REPORTS: [Setting; 1] = [Setting {
     now: 0,
     east: 19_800,
     table: Table {
@@ -142,7 +142,7 @@ Wed 1969-12-31 23:59:59 -00:01
 }];
 
 /// Instants on the days on which that clock goes forward and back, to the second, on an ordinary day, and far from now.
-const INSTANTS: [i64; 12] = [
+static INSTANTS: [i64; 12] = [
     1_711_846_799,
     1_711_846_800,
     1_711_850_399,
@@ -157,25 +157,34 @@ const INSTANTS: [i64; 12] = [
     7_258_000_000,
 ];
 
-/// What the clock of a zone shows at an instant, read by another clock: seconds and microseconds of a moment, or a fault.
-fn read_back(alloc: Global, zone: Zone, secs: i64) -> Result<Result<(i64, i64), StampFault>, Fail> {
+/// What the clock of a zone shows at an instant.
+fn shown(alloc: Global, zone: Zone, instant: Instant) -> Option<Vec<u8>> {
     let mut out = Port::new(Vec::new(alloc));
-    write_instant(&mut out, zone, instant(secs)?).map_err(|_| "not written")?;
-    let bytes = out.into_inner();
-    let text = str::from_utf8(bytes.as_slice()).map_err(|_| "no text")?;
-    let place = Place {
-        now: instant(PRESENT)?,
-        local: Zone::utc(),
-        table: &ZoneTable::new(alloc),
+    write_instant(&mut out, zone, instant).ok()?;
+    Some(out.into_inner())
+}
+
+/// Whether another clock reads these bytes as the moment at this second.
+fn is_read_as(place: Place<'_>, bytes: &[u8], secs: i64) -> bool {
+    let Ok(text) = str::from_utf8(bytes) else {
+        return false;
     };
-    let found = micros(place, text);
-    Ok(found.map(|micros| (micros / 1_000_000, micros % 1_000_000)))
+    match micros(place, text) {
+        Ok(micros) => micros / 1_000_000 == secs && micros % 1_000_000 == 0,
+        Err(_) => false,
+    }
 }
 
 /// Each instant is read back as the zone's clock shows it.
-fn expect_read_back(rt: &impl Abort, alloc: Global, zone: Zone) -> Result<(), Fail> {
-    for secs in INSTANTS {
-        assert_eq!(rt; read_back(alloc, zone, secs)?, Ok((secs, 0)), "at {secs}");
+fn expect_read_back(
+    rt: &impl Abort,
+    alloc: Global,
+    place: Place<'_>,
+    zone: Zone,
+) -> Result<(), Fail> {
+    for secs in &INSTANTS {
+        let bytes = shown(alloc, zone, instant(*secs)?).ok_or("not written")?;
+        assert!(rt; is_read_as(place, bytes.as_slice(), *secs), "at {secs}");
     }
     Ok(())
 }
@@ -198,7 +207,12 @@ fn lines_of_reports(rt: HostRuntime) -> Result<(), Fail> {
 #[test]
 fn printed_instants(rt: HostRuntime) -> Result<(), Fail> {
     let rules = posix(rt.alloc(), SUMMER_TIME)?;
-    expect_read_back(&rt, rt.alloc(), Zone::rules(&rules))?;
-    expect_read_back(&rt, rt.alloc(), Zone::utc())?;
-    expect_read_back(&rt, rt.alloc(), zone_east(&rt, -34_200))
+    let place = Place {
+        now: instant(PRESENT)?,
+        local: Zone::utc(),
+        table: &ZoneTable::new(rt.alloc()),
+    };
+    expect_read_back(&rt, rt.alloc(), place, Zone::rules(&rules))?;
+    expect_read_back(&rt, rt.alloc(), place, Zone::utc())?;
+    expect_read_back(&rt, rt.alloc(), place, zone_east(&rt, -34_200))
 }

@@ -5,7 +5,7 @@ use cal_read::StampFault::*;
 use std::test::Fail;
 
 /// Of two faults the one on the left is told, whichever it is.
-const EARLIER_WORDS_FIRST: Table = Table {
+static EARLIER_WORDS_FIRST: Table = Table {
     moments: "",
     refusals: &[
         (
@@ -60,7 +60,7 @@ today 25:00 Mars/One
 };
 
 /// A weekday is compared once every word is read.
-const WEEKDAYS_AFTER_WORDS: Table = Table {
+static WEEKDAYS_AFTER_WORDS: Table = Table {
     moments: "",
     refusals: &[
         (BadTime, "Mon 2012-11-23 25:00\nMon 25:00"),
@@ -74,7 +74,7 @@ const WEEKDAYS_AFTER_WORDS: Table = Table {
 };
 
 /// Whether there is such a moment is asked last.
-const RANGE_LAST: [Setting; 2] = [
+static RANGE_LAST: [Setting; 2] = [
     Setting {
         now: PRESENT,
         east: 3_600,

@@ -6,13 +6,13 @@ use cal_span::SpanFault;
 use std::test::Fail;
 
 /// Nothing but blanks is no word.
-const BLANKS_ALONE: Table = Table {
+static BLANKS_ALONE: Table = Table {
     moments: "",
     refusals: &[(Empty, "\n\x20\n\t\n\x20\t \t\n")],
 };
 
 /// `now` alone, in this case alone.
-const THE_PRESENT: [Setting; 3] = [
+static THE_PRESENT: [Setting; 3] = [
     Setting {
         now: PRESENT,
         east: 0,
@@ -59,7 +59,7 @@ now -> 7258211998000000
 ];
 
 /// Spans after the present and before it.
-const AFTER_AND_BEFORE: Table = Table {
+static AFTER_AND_BEFORE: Table = Table {
     moments: "\
 +5min -> 1353666022000000
 + 5 min -> 1353666022000000
@@ -98,7 +98,7 @@ const AFTER_AND_BEFORE: Table = Table {
 };
 
 /// Spans counted from 0.
-const COUNTED_FROM_0: Table = Table {
+static COUNTED_FROM_0: Table = Table {
     moments: "\
 @0 -> 0
 @ 5 min -> 300000000
@@ -110,7 +110,7 @@ const COUNTED_FROM_0: Table = Table {
 };
 
 /// Each fault of a span text after each sign and before each word.
-const BAD_SPANS: Table = Table {
+static BAD_SPANS: Table = Table {
     moments: "",
     refusals: &[
         (
@@ -172,7 +172,7 @@ now left
 };
 
 /// `left` and `ago` are whole words, in this case alone, with a blank before them.
-const WORDS_AT_THE_END: Table = Table {
+static WORDS_AT_THE_END: Table = Table {
     moments: "",
     refusals: &[
         (BadWeekday, "left\nago\n\x20ago\x20"),

@@ -9,7 +9,7 @@ use std::process::Abort;
 use std::test::Fail;
 
 /// Names are looked up as they are, `UTC` in any case.
-const NAMES: Table = Table {
+static NAMES: Table = Table {
     moments: "\
 2012-11-23 Test/Fixed -> 1353625200000000
 2012-11-23 1:2 Test/Fixed -> 1353628920000000
@@ -38,7 +38,7 @@ tomorrow A -> 1353733200000000
 };
 
 /// The present day of the zone named, east and west of UTC.
-const DAYS_OF_THE_ZONE_NAMED: Table = Table {
+static DAYS_OF_THE_ZONE_NAMED: Table = Table {
     moments: "\
 today East -> 1353664800000000
 1:2 East -> 1353668520000000
@@ -51,7 +51,7 @@ Thu 1:2 West -> 1353585720000000
 };
 
 /// The same where another day is shown in the local zone.
-const ANOTHER_DAY_IN_THE_LOCAL_ZONE: Table = Table {
+static ANOTHER_DAY_IN_THE_LOCAL_ZONE: Table = Table {
     moments: "\
 today West -> 1353582000000000
 today UTC -> 1353628800000000
@@ -62,7 +62,7 @@ today -> 1353664800000000
 
 /// A civil time that the clock skips is moved on by what is skipped, and of one that it shows twice the first is
 /// meant.
-const CHANGES_OF_A_CLOCK: Table = Table {
+static CHANGES_OF_A_CLOCK: Table = Table {
     moments: "\
 2024-03-31 01:59:59.5 -> 1711846799500000
 2024-03-31 02:00 -> 1711846800000000

@@ -39,7 +39,7 @@ fn expect_shown(rt: &impl Abort, zone: Zone, rows: &[(i64, &str)]) -> Result<(),
 }
 
 /// Seconds each side of the midnights, the changes and the year's end of a clock that is an hour ahead, and two in summer.
-const IN_2024: [(i64, &str); 10] = [
+static IN_2024: [(i64, &str); 10] = [
     (1_711_839_599, "Sat 2024-03-30 23:59:59 +01:00"),
     (1_711_839_600, "Sun 2024-03-31 00:00:00 +01:00"),
     (1_711_846_799, "Sun 2024-03-31 01:59:59 +01:00"),

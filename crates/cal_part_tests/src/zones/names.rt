@@ -7,7 +7,7 @@ use std::alloc::Global;
 use std::process::Abort;
 use std::test::Fail;
 
-const NAMES: [&str; 9] = [
+static NAMES: [&str; 9] = [
     "A",
     "z",
     "UTC",
@@ -19,7 +19,7 @@ const NAMES: [&str; 9] = [
     "a0",
 ];
 
-const NO_NAMES: [&str; 17] = [
+static NO_NAMES: [&str; 17] = [
     "", " ", "1x", "/a", "_a", "+a", "-a", "a b", " a", "a ", "a.b", "a:b", "a,b", "a\0", "é",
     "aé", "Zürich",
 ];
@@ -129,7 +129,7 @@ fn names_are_exact(rt: HostRuntime) -> Result<(), Fail> {
 }
 
 /// Names that are refused where `Test/Fixed` is taken, as `UTC` always is.
-const REFUSED: [(&str, ZoneFault); 7] = [
+static REFUSED: [(&str, ZoneFault); 7] = [
     ("Test/Fixed", ZoneFault::NameTaken),
     ("utc", ZoneFault::NameTaken),
     ("UTC", ZoneFault::NameTaken),
@@ -155,7 +155,7 @@ fn expect_refused(
 }
 
 /// What is found where `Test/Fixed` is the only zone.
-const FOUND: [(&str, Option<i64>); 3] = [
+static FOUND: [(&str, Option<i64>); 3] = [
     ("Test/Fixed", Some(1_704_063_600)),
     ("1x", None),
     ("", None),

@@ -26,7 +26,7 @@ fn expect_settled(rt: &impl Abort, zone: Zone, rows: &[(i64, i64)]) {
 }
 
 /// Rules with local seconds and their places: around the gap of spring, and around the fold of autumn.
-const AROUND_CHANGES: [(&str, [(i64, Option<i64>); 9]); 3] = [
+static AROUND_CHANGES: [(&str, [(i64, Option<i64>); 9]); 3] = [
     // 2024-03-31 02:00 becomes 03:00, and 2024-10-27 03:00 becomes 02:00.
     (
         SUMMER_TIME,
@@ -131,7 +131,7 @@ fn gap_and_fold_settle(rt: HostRuntime) -> Result<(), Fail> {
 }
 
 /// How far a clock is ahead of UTC, a local second and its place.
-const AT_OFFSETS: [(i32, i64, i64); 4] = [
+static AT_OFFSETS: [(i32, i64, i64); 4] = [
     (0, 1_704_067_200, 1_704_067_200),
     // The first local second farthest east, and the last one farthest west.
     (93_599, 0, -93_599),
@@ -141,11 +141,11 @@ const AT_OFFSETS: [(i32, i64, i64); 4] = [
 
 #[test]
 fn fixed_offsets(rt: HostRuntime) {
-    for (offset, local, second) in AT_OFFSETS {
-        assert!(rt; offset >= -93_599 && offset <= 93_599);
-        let zone = Zone::offset(offset);
-        expect_places(&rt, zone, &[(local, Some(second))]);
-        expect_settled(&rt, zone, &[(local, second)]);
+    for (offset, local, second) in &AT_OFFSETS {
+        assert!(rt; *offset >= -93_599 && *offset <= 93_599);
+        let zone = Zone::offset(*offset);
+        expect_places(&rt, zone, &[(*local, Some(*second))]);
+        expect_settled(&rt, zone, &[(*local, *second)]);
     }
     expect_settled(&rt, Zone::offset(93_599), &[(-300_000, -393_599)]);
     expect_settled(

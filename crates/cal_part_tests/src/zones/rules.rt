@@ -7,7 +7,7 @@ use std::alloc::Global;
 use std::process::Abort;
 use std::test::Fail;
 
-const READ: [&str; 42] = [
+static READ: [&str; 42] = [
     "UTC0",
     "GMT0",
     "EST5",
@@ -52,7 +52,7 @@ const READ: [&str; 42] = [
     "XXX3EDT,M1.1.0,M12.5.6",
 ];
 
-const REFUSED: [&str; 50] = [
+static REFUSED: [&str; 50] = [
     "",
     " ",
     "EST",

@@ -3,4 +3,4 @@ use Rattle.cal_part_tests.proofs.elapses.merges.merge_elapses.Given as goal
 
 -- no number was asked for
 abbrev pub invariant-loop-text : goal.invariant-loop-text
-invariant-loop-text g l = l.merge.started ≡ false
+invariant-loop-text l = l.merge.started ≡ false
