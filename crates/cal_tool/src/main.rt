@@ -13,7 +13,7 @@ pub use cal_report::{laws, run};
 pub use cal_request::{Request, RunFault, Status, Verb};
 pub use cal_work::{Ended, LoadFault, Stop, System, load_zone, work, write_stop};
 use std::alloc::{AllocError, Global};
-use std::io::{BufWriter, ErrorKind};
+use std::io::{BufWriter, ErrorKind, IsTerminal};
 use std::process::ExitCode;
 use std::rt::Env;
 use std::{env, io};
@@ -24,15 +24,21 @@ const NOT_UTF_8: &str = "error: invalid UTF-8 was detected in one or more argume
 For more information, try '--help'.
 ";
 
+/// How many bytes of the reports are held back until they are written.
+const BUFFER: usize = 8192;
+
 fn main(rt: HostRuntime) -> ExitCode {
     let mut err = Port::new(rt.stderr());
+    let out = rt.stdout();
+    // On a terminal nothing is held back, so that the line of a fault appears between the reports, where its text was.
+    let capacity = if out.is_terminal() { 0 } else { BUFFER };
     let words = match given_words(&rt) {
         Ok(words) => words,
         Err(error) => return refuse(&mut err, &stop_of(rt.alloc(), &error)),
     };
     let (Ok(words), Ok(buffer)) = (
         borrowed(rt.alloc(), words.as_slice()),
-        BufWriter::new(rt.alloc(), rt.stdout()),
+        BufWriter::with_capacity(rt.alloc(), capacity, out),
     ) else {
         return refuse(&mut err, &Stop::Run(RunFault::NoMemory));
     };
