@@ -1,4 +1,4 @@
-# Completion of calendar-analyze for bash: verbs, options with the form of their values, files where a file is due.
+# Completion of calendar-analyze for bash: verbs, options with the form of their values, files where a file is expected.
 
 _calendar_analyze_zones() {
     # The names that a --zones before it gives to its files.
@@ -17,8 +17,8 @@ _calendar_analyze_zones() {
     done
 }
 
-# Offers what is read, each item after what comes before it in the word. Readline replaces only what stands after the last
-# `=` or `:` of the word, so what stands before that is left away. What ends in `=`, `:` or `@` has more to follow.
+# Offers what is read, each item after what comes before it in the word. Readline replaces only what comes after the last
+# `=` or `:` of the word, so what comes before that is left out. What ends in `=`, `:` or `@` has more to follow.
 _calendar_analyze_offer() {
     local whole=$1 head=$2 breaks cut='' i
     mapfile -t COMPREPLY

@@ -1,4 +1,4 @@
-# Completion of calendar-analyze for fish: verbs, options with the form of their values, files where a file is due.
+# Completion of calendar-analyze for fish: verbs, options with the form of their values, files where a file is expected.
 
 function __calendar_analyze_zones
     # The zones of the rules, and the names that a --zones before it gives to its files. A rule after `posix:` has none.

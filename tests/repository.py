@@ -67,7 +67,7 @@ def kit_version():
 
 
 def lanes(memory, share=1.0, each=1.0):
-    """How many checks run side by side: so many for each processor, and at most as many as a share of the free memory holds."""
+    """How many checks run side by side: `each` for each processor, and at most as many as a share of the free memory holds."""
     with open("/proc/meminfo") as it:
         free = next(1024 * int(line.split()[1]) for line in it if line.startswith("MemAvailable:"))
     return max(1, min(int(each * len(os.sched_getaffinity(0))), int(share * free) // memory))

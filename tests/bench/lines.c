@@ -1,4 +1,4 @@
-/* A plain C loop to compare with: prints the lines of so many elapses in UTC, so many seconds apart, as the C library
+/* A plain C loop to compare with: prints the lines of that many elapses in UTC, that many seconds apart, as the C library
    makes them. It reads no expression and searches nothing. */
 #include <stdio.h>
 #include <stdlib.h>
