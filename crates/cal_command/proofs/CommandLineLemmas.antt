@@ -1,7 +1,8 @@
 -- The command of `clap`, and what it found.
 use Rattle.std.proofs.Common.{◌≡◌, ◌≢◌, List, [], ◌∷◌, ◌++◌, append_assoc, Option, None, Some, unwrap_or, ap₂, Bool, true, false, refl, sym, ap, ◌∙◌, inl, inr, ◌⊎◌, option_map, length, take, map, Bor, ◌≤◌, arith, Result, Ok, Err}
-use Rattle.std.specs.Prelude.{not, ◌||◌}
+use Rattle.std.specs.Prelude.{not}
 use Rattle.std.specs.List.{list_any}
+use Rattle.std.proofs.lemmas.Bool.{or_left, or_right}
 use Rattle.clap.specs.Words.{App, IsAmong, Kinds, Rule, Text, is_simple, is_simple_and_free, with_rule}
 use Rattle.clap.specs.declared.error.kind.ErrorKind.{ErrorKind}
 use Rattle.clap.specs.declared.error.kind.ErrorKind.TheVariants.{OutOfMemory}
@@ -26,18 +27,10 @@ pub is_simple_command : is_simple command_app ≡ true
 unfolding clap_on_literals
 is_simple_command = refl
 
-any_step : (b : Bool) (rest : Bool) → b ≡ true → (b || rest) ≡ true
-any_step true rest h = refl
-any_step false rest h = absurd (cc)
-
-later_step : (b : Bool) (rest : Bool) → rest ≡ true → (b || rest) ≡ true
-later_step true rest h = refl
-later_step false rest h = h
-
 among : (p : ErrorKind → Bool) (kind : ErrorKind) (kinds : Kinds) → IsAmong kind kinds → p kind ≡ true → list_any p kinds ≡ true
 among p kind [] at holds = absurd at
-among p kind (k ∷ ks) (inl same) holds = any_step (p k) (list_any p ks) (ap p (sym same) ∙ holds)
-among p kind (k ∷ ks) (inr later) holds = later_step (p k) (list_any p ks) (among p kind ks later holds)
+among p kind (k ∷ ks) (inl same) holds = or_left (p k) (list_any p ks) (ap p (sym same) ∙ holds)
+among p kind (k ∷ ks) (inr later) holds = or_right (p k) (list_any p ks) (among p kind ks later holds)
 
 not_taken : (b : Bool) (kind : ErrorKind) → (b ≡ true → kind ≡ OutOfMemory) → kind ≢ OutOfMemory → b ≡ false
 not_taken true kind h other = absurd (other (h refl))

@@ -4,12 +4,11 @@ use Rattle.std.specs.Prelude.{ℕ, ℤ, ◌&&◌, ◌==◌, Bool, pos, List, [],
 use Rattle.std.specs.List.{after_first, before_first, list_any, slice_split, starts_with}
 use Rattle.std.specs.Str.{all_ascii_digits, str_eq_ignore_ascii_case}
 use Rattle.std.specs.Str.Parse.{digits_value}
+use Rattle.cal_zone.specs.Instant.{last_instant}
 use Rattle.cal_zone.specs.OffsetWord.{offset_in}
 use Rattle.cal_zone.specs.ZoneName.{is_zone_name}
-use Rattle.cal_zone.specs.declared.instant.TheConstants.Instant.{LAST}
 use Rattle.cal_command.specs.Ask.{LocalSaid, in_utc, ahead, by_rule, of_name, ZoneSaid}
-use Rattle.cal_command.specs.declared.option_values.TheConstants.{MOST_ZONES}
-use Rattle.cal_request.specs.declared.request.TheConstants.{MOST_ITERATIONS}
+use Rattle.cal_request.specs.Request.{most_iterations}
 
 -- the number that a text of digits alone writes, where it is from least to most
 unfoldable pub number_between : ℕ → ℕ → List ℕ → Option ℕ
@@ -20,12 +19,12 @@ number_between least most text =
 
 -- `--iterations`: a number of elapses
 unfoldable pub count_in : List ℕ → Option ℕ
-count_in = number_between 1 MOST_ITERATIONS
+count_in = number_between 1 most_iterations
 
 -- `--now`: an instant, as `@` and its seconds
 unfoldable pub present_in : List ℕ → Option ℤ
 present_in [] = None
-present_in (byte ∷ bytes) = if byte == 64 then option_map pos (number_between 0 (unsigned_abs LAST) bytes) else None
+present_in (byte ∷ bytes) = if byte == 64 then option_map pos (number_between 0 (unsigned_abs last_instant) bytes) else None
 
 abbrev pub is_equals : ℕ → Bool
 is_equals byte = byte == 61
@@ -53,10 +52,14 @@ zone_items_in [] = Some []
 zone_items_in (item ∷ items) =
     option_and_then (λ zone. option_map (λ zones. zone ∷ zones) (zone_items_in items)) (zone_item_in item)
 
--- `--zones`: items between commas, at most 64
+-- how many zone files `--zones` names at most
+abbrev pub most_zones : ℕ
+most_zones = 64
+
+-- `--zones`: items between commas, at most so many
 unfoldable pub zones_in : List ℕ → Option (List ZoneSaid)
 zones_in text =
-    let items = slice_split is_comma text in if nat_le (length items) MOST_ZONES then zone_items_in items else None
+    let items = slice_split is_comma text in if nat_le (length items) most_zones then zone_items_in items else None
 
 -- `--local`: `UTC` in any case, `posix:` and a rule, an offset, or what has the form of a zone's name
 unfoldable pub local_in : List ℕ → Option LocalSaid

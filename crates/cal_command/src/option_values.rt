@@ -10,12 +10,14 @@ ghost use Rattle.cal_command.specs.OptionValues.{count_in, is_comma, local_in, n
 ghost use Rattle.cal_request.specs.Request.{IsCount};
 
 use crate::ask::{LocalZone, ZoneItem};
-use cal_request::MOST_ITERATIONS;
 use cal_zone::{Instant, is_zone_name, read_offset};
 use std::alloc::{AllocError, Global};
 
+/// How many elapses `--iterations` asks for at most.
+const MOST_ITERATIONS: u64 = 1_000_000;
+
 /// How many zone files `--zones` names at most.
-pub const MOST_ZONES: usize = 64;
+const MOST_ZONES: usize = 64;
 
 /// What `--iterations` says: 1 where it isn't given.
 pub(crate) fn iterations_of(text: Option<&str>) -> Option<u32>
@@ -81,7 +83,7 @@ pub(crate) fn count_in(value: &str) -> Option<u32>
     ensures value { result ≡ count_in value.now }
     ensures range { IfSome result IsCount }
 {
-    let number = number_between(value, 1, MOST_ITERATIONS as u64)?;
+    let number = number_between(value, 1, MOST_ITERATIONS)?;
     Some(number as u32)
 }
 

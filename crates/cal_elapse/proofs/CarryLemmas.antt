@@ -1,7 +1,7 @@
 -- The first number that passes, where a number is a high part and a low one, each with a test of its own: a search goes
 -- on with the low part, and then with the next high one and its first low one.
 use Rattle.std.proofs.Common.{◌≡◌, ℕ, ◌+◌, ◌*◌, ◌/◌, ◌%◌, ◌<◌, ◌≤◌, Bool, true, false, ◌&&◌, Option, None, Some, ap, sym, subst, inl, inr, ◌∙◌, refl, arith, add-mul, one-mul, mul-le-mul_right}
-use Rattle.std.proofs.lemmas.Bool.{cases_lt}
+use Rattle.std.proofs.lemmas.Bool.{cases_lt, and_from, and_left, and_right}
 use Rattle.std.proofs.lemmas.Nat.{div-add-mod', div_below, le-div, mod_below}
 use Rattle.cal_elapse.specs.Search.{IsFirstPassing, NonePasses}
 
@@ -53,16 +53,6 @@ low_end size a l t same low =
     let parts : a * size + t % size ≡ t = (rw same at (div-add-mod' t size)) in
     omega (arith, parts)
 
-both_true : (x y : Bool) → x ≡ true → y ≡ true → (x && y) ≡ true
-both_true x y p q = rw (p, q)
-
-first_false : (x y : Bool) → x ≡ false → (x && y) ≡ false
-first_false x y p = rw p
-
-pub last_false : (x y : Bool) → y ≡ false → (x && y) ≡ false
-last_false true y p = p
-last_false false y p = refl
-
 module _ (passes high low : ℕ → Bool) (size limit : ℕ) (s : Splits passes high low size limit) where
   pub split_at : (a t : ℕ) → a < limit → t / size ≡ a → passes t ≡ (high a && low (t % size))
   split_at a t inside same =
@@ -76,13 +66,13 @@ module _ (passes high low : ℕ → Bool) (size limit : ℕ) (s : Splits passes 
   pub none_by_high : (a l : ℕ) → a < limit → high a ≡ false → NonePasses passes (a * size + l) ((a + 1) * size)
   none_by_high a l inside fails = λ t above below.
       let same = high_part size a t s.positive (omega (arith, above)) below in
-      split_at a t inside same ∙ first_false (high a) (low (t % size)) fails
+      split_at a t inside same ∙ and_left (high a) (low (t % size)) fails
 
   pub none_by_low : (a l end : ℕ) → a < limit → size ≤ end → NonePasses low l end → NonePasses passes (a * size + l) ((a + 1) * size)
   none_by_low a l end inside far none = λ t above below.
       let same = high_part size a t s.positive (omega (arith, above)) below in
       let small = mod_below t size s.positive in
-      split_at a t inside same ∙ last_false (high a) (low (t % size)) (none (t % size) (low_part size a l t same above) (omega (arith, small)))
+      split_at a t inside same ∙ and_right (high a) (low (t % size)) (none (t % size) (low_part size a l t same above) (omega (arith, small)))
 
   -- the first with this high part
   pub first_here : (a l end b : ℕ) → a < limit → high a ≡ true → b < size → IsFirstPassing low l end (Some b)
@@ -91,10 +81,10 @@ module _ (passes high low : ℕ → Bool) (size limit : ℕ) (s : Splits passes 
       let next = next_high a in (
         omega (arith, found.0),
         omega (arith, next),
-        s.split a b inside small ∙ both_true (high a) (low b) holds found.2,
+        s.split a b inside small ∙ and_from (high a) (low b) holds found.2,
         λ t above below.
             let same = high_part size a t s.positive (omega (arith, above)) (omega (arith, below, next)) in
-            split_at a t inside same ∙ last_false (high a) (low (t % size)) (found.3 (t % size) (low_part size a l t same above) (low_end size a b t same below)),
+            split_at a t inside same ∙ and_right (high a) (low (t % size)) (found.3 (t % size) (low_part size a l t same above) (low_end size a b t same below)),
       )
 
   -- none with a later high part
@@ -102,7 +92,7 @@ module _ (passes high low : ℕ → Bool) (size limit : ℕ) (s : Splits passes 
   none_later a end far none = λ t above below.
       let least = le-div a t size s.positive above in
       let most = div_below t size limit s.positive below in
-      split_at (t / size) t most refl ∙ first_false (high (t / size)) (low (t % size)) (none (t / size) least (omega (arith, most)))
+      split_at (t / size) t most refl ∙ and_left (high (t / size)) (low (t % size)) (none (t / size) least (omega (arith, most)))
 
   -- the first with a later high part
   pub first_later : (a end h e b : ℕ) → h < limit → b < size → IsFirstPassing high a end (Some h) → IsFirstPassing low 0 e (Some b)
@@ -113,15 +103,15 @@ module _ (passes high low : ℕ → Bool) (size limit : ℕ) (s : Splits passes 
       let last : (h + 1) * size ≤ limit * size = mul-le-mul_right size (omega arith) in (
         omega (arith, begin),
         omega (arith, next, last),
-        s.split h b inside small ∙ both_true (high h) (low b) found.2 first.2,
+        s.split h b inside small ∙ and_from (high h) (low b) found.2 first.2,
         λ t above below.
             elim (cases_lt t (h * size)) [
               | inl early ↦
                   (let least = le-div a t size s.positive above in
                   let most = div_below t size h s.positive early in
-                  split_at (t / size) t (omega (arith, most, inside)) refl ∙ first_false (high (t / size)) (low (t % size)) (found.3 (t / size) least most))
+                  split_at (t / size) t (omega (arith, most, inside)) refl ∙ and_left (high (t / size)) (low (t % size)) (found.3 (t / size) least most))
               | inr late ↦
                   (let same = high_part size h t s.positive late (omega (arith, next, below)) in
-                  split_at h t inside same ∙ last_false (high h) (low (t % size)) (first.3 (t % size) (omega arith) (low_end size h b t same below)))
+                  split_at h t inside same ∙ and_right (high h) (low (t % size)) (first.3 (t % size) (omega arith) (low_end size h b t same below)))
             ],
       )

@@ -1,6 +1,6 @@
 -- The days of a month that match, as a word.
 use Rattle.std.proofs.Common.{◌≡◌, ℕ, ◌+◌, ◌-◌, ◌*◌, ◌/◌, ◌%◌, ◌^◌, ◌<◌, ◌≤◌, Bool, true, false, ◌&&◌, nat_le, nat_lt, bit_and, if◌then◌else◌, ap, refl, sym, inl, inr, ◌∙◌, arith}
-use Rattle.std.proofs.lemmas.Bool.{cases_lt}
+use Rattle.std.proofs.lemmas.Bool.{cases_lt, and_right}
 use Rattle.std.proofs.lemmas.Bool.Decides.{nat_tests}
 use Rattle.std.proofs.lemmas.Nat.{one_shl}
 use Rattle.std.proofs.lemmas.Nat.Bits.{bit_at_ones, bit_at_ones_above}
@@ -9,7 +9,6 @@ use Rattle.cal_elapse.specs.Masks.{day_place, sets_in}
 use Rattle.cal_elapse.specs.Months.{day_in, first_day, length_of, month_in}
 use Rattle.cal_elapse.specs.declared.masks.Masks.{Masks}
 use Rattle.cal_elapse.proofs.BitLemmas.{is_bit-and, is_bit-one, is_bit-shifted, is_bit-zero}
-use Rattle.cal_elapse.proofs.CarryLemmas.{last_false}
 use Rattle.cal_elapse.proofs.MonthLemmas.{day_in-month, length_bounds}
 
 -- as many bits as a month has days
@@ -77,6 +76,6 @@ days_end bits ones length k all holds =
       | inl low ↦ low
       | inr high ↦
           (let out : nat_lt k length ≡ false = grind (arith, nat_tests) in
-          let none : is_bit (bit_and bits ones) k ≡ false = is_bit-and bits ones k ∙ last_false (is_bit bits k) (is_bit ones k) (all k ∙ out) in
+          let none : is_bit (bit_and bits ones) k ≡ false = is_bit-and bits ones k ∙ and_right (is_bit bits k) (is_bit ones k) (all k ∙ out) in
           let clash : true ≡ false = sym holds ∙ none in absurd (cc))
     ]

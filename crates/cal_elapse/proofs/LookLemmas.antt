@@ -1,5 +1,6 @@
 -- The days of a month, and how many months were looked at.
-use Rattle.std.proofs.Common.{◌≡◌, ℕ, zero, suc, ◌+◌, ◌-◌, ◌*◌, ◌/◌, ◌%◌, ◌<◌, ◌≤◌, cond, Bool, true, false, Option, None, Some, ap, subst, sym, ◌∙◌, refl, arith}
+use Rattle.std.proofs.Common.{◌≡◌, ℕ, zero, suc, ◌+◌, ◌-◌, ◌*◌, ◌/◌, ◌%◌, ◌<◌, ◌≤◌, cond, Bool, true, false, Option, None, Some, ap, subst, sym, ◌∙◌, arith}
+use Rattle.std.proofs.lemmas.Bool.{true_from_ne_false}
 use Rattle.cal_zone.specs.Local.{civil_date}
 use Rattle.cal_elapse.specs.Bits.{is_bit}
 use Rattle.cal_elapse.specs.Count.{count_from}
@@ -125,13 +126,9 @@ looks_end sets =
     let last : month_of (civil_date 84_006) ≡ 2_760 = subst (λ (t : ℕ). month_of (civil_date t) ≡ 2_760) place month in
     rw last
 
-true_by : (b : Bool) → (b ≡ false → ⊥) → b ≡ true
-true_by true h = refl
-true_by false h = absurd (h refl)
-
 -- a day that matches is of a month whose year and number are members
 month_of_match : (sets : Sets) (day : ℕ) → day < 84_006 → day_in sets day ≡ true → month_in sets (month_of (civil_date day)) ≡ true
-month_of_match sets day within holds = true_by (month_in sets (month_of (civil_date day))) (λ fails. let none = no_day sets day within fails in cc)
+month_of_match sets day within holds = true_from_ne_false (month_in sets (month_of (civil_date day))) (λ fails. let none = no_day sets day within fails in cc)
 
 -- a search that ends on the day of its start looks at one month
 one_look : (sets : Sets) (day : ℕ) → day < 84_006 → day_in sets day ≡ true → looks_from sets (month_of (civil_date day)) (Some day) ≡ 1

@@ -2,7 +2,7 @@
 use Rattle.std.proofs.Common.{◌≡◌, ◌≢◌, ◌&&◌, ◌||◌, ◌/◌, ◌%◌, nat_lt, if◌then◌else◌, mod-eq_of_lt, sym, ℕ, ◌+◌, ◌-◌, ◌<◌, ◌≤◌, Bool, true, false, nat_le, get_or, length, List, [], ◌∷◌, Option, None, Some, refl, ap, ◌∙◌, inl, inr, arith}
 use Rattle.std.specs.List.{AllByRecursion, list_any}
 use Rattle.std.proofs.Math.ListN.{get_or-eq_default}
-use Rattle.std.proofs.lemmas.Bool.{cases_lt, eqb-true, or_cases}
+use Rattle.std.proofs.lemmas.Bool.{cases_lt, eqb-true, or_cases, false_from_ne_true}
 use Rattle.std.proofs.lemmas.Bool.Decides.{nat_tests}
 use Rattle.cal_elapse.specs.Bits.{is_bit, is_in_words}
 use Rattle.cal_elapse.specs.Masks.{day_place}
@@ -81,10 +81,6 @@ component_both slot (Some ps) v sound h =
     let last = greatest_last slot in
     (both.0, omega arith)
 
-not_true : (b : Bool) → (b ≡ true → ⊥) → false ≡ b
-not_true true h = absurd (h refl)
-not_true false h = refl
-
 less : (i n : ℕ) → i < n → nat_lt i n ≡ true
 less i n h = grind (arith, nat_tests)
 
@@ -154,7 +150,7 @@ cut_off n i x y inside outside =
 pub members_are : (mask n : ℕ) (holds : ℕ → Bool) → ((i : ℕ) → is_bit mask i ≡ (nat_lt i n && holds (0 + i)))
     → ((v : ℕ) → holds v ≡ true → (0 ≤ v) × (v < n)) → (v : ℕ) → is_bit mask v ≡ holds v
 members_are mask n holds filled within v =
-    filled v ∙ cut_off n v (holds (0 + v)) (holds v) (λ low. ap holds (omega arith)) (λ high. not_true (holds v) (λ h. let both = within v h in omega arith))
+    filled v ∙ cut_off n v (holds (0 + v)) (holds v) (λ low. ap holds (omega arith)) (λ high. sym (false_from_ne_true (holds v) (λ h. let both = within v h in omega arith)))
 
 pub numbers_are : (bit : ℕ → Bool) (first n : ℕ) (holds : ℕ → Bool) → ((i : ℕ) → bit i ≡ (nat_lt i n && holds (first + i)))
     → ((v : ℕ) → holds v ≡ true → (first ≤ v) × (v < first + n)) → (v : ℕ) → (nat_le first v && bit (v - first)) ≡ holds v
@@ -162,12 +158,12 @@ numbers_are bit first n holds filled within v =
     elim (cases_lt v first) [
       | inl below ↦
           (let out : nat_le first v ≡ false = grind (arith, nat_tests) in
-          rw out (not_true (holds v) (λ h. let both = within v h in omega arith)))
+          rw out (sym (false_from_ne_true (holds v) (λ h. let both = within v h in omega arith))))
       | inr above ↦
           (let yes : nat_le first v ≡ true = grind (arith, nat_tests) in
           rw yes
           (filled (v - first)
-          ∙ cut_off n (v - first) (holds (first + (v - first))) (holds v) (λ low. ap holds (omega arith)) (λ high. not_true (holds v) (λ h. let both = within v h in omega arith))))
+          ∙ cut_off n (v - first) (holds (first + (v - first))) (holds v) (λ low. ap holds (omega arith)) (λ high. sym (false_from_ne_true (holds v) (λ h. let both = within v h in omega arith)))))
     ]
 
 -- the days, upwards or as counts from the month's end
@@ -179,13 +175,13 @@ days_are mask from_end holds filled within v =
     elim (cases_lt v 1) [
       | inl below ↦
           (let out : nat_le 1 v ≡ false = grind (arith, nat_tests) in
-          rw out (not_true (holds v) (λ h. let both = within v h in omega arith)))
+          rw out (sym (false_from_ne_true (holds v) (λ h. let both = within v h in omega arith))))
       | inr above ↦
           elim (cases_lt 31 v) [
             | inl beyond ↦
                 (let yes : nat_le 1 v ≡ true = grind (arith, nat_tests) in
                 let out : nat_le v 31 ≡ false = grind (arith, nat_tests) in
-                rw (yes, out) (not_true (holds v) (λ h. let both = within v h in omega arith)))
+                rw (yes, out) (sym (false_from_ne_true (holds v) (λ h. let both = within v h in omega arith))))
             | inr inside ↦
                 (let yes : nat_le 1 v ≡ true = grind (arith, nat_tests) in
                 let upto : nat_le v 31 ≡ true = grind (arith, nat_tests) in

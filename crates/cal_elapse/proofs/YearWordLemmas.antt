@@ -1,13 +1,14 @@
 -- The years in words of 64 bits, and the months as years and numbers.
 use Rattle.std.proofs.Common.{◌≡◌, ℕ, ◌+◌, ◌-◌, ◌*◌, ◌/◌, ◌%◌, ◌<◌, ◌≤◌, true, false, ◌&&◌, nat_le, List, get_or, Some, ap, subst, refl, ◌∙◌, arith}
 use Rattle.std.proofs.lemmas.Bool.Decides.{nat_tests}
+use Rattle.std.proofs.lemmas.Bool.{and_right}
 use Rattle.cal_elapse.specs.Bits.{is_bit, is_in_words}
 use Rattle.cal_elapse.specs.Masks.{sets_in}
 use Rattle.cal_elapse.specs.Months.{month_in}
 use Rattle.cal_elapse.specs.Search.{IsFirstPassing, NonePasses}
 use Rattle.cal_elapse.specs.declared.masks.Masks.{Masks}
 use Rattle.cal_elapse.proofs.BitLemmas.{is_bit-none}
-use Rattle.cal_elapse.proofs.CarryLemmas.{Splits, last_false, split_at}
+use Rattle.cal_elapse.proofs.CarryLemmas.{Splits, split_at}
 
 -- the numbers of one word
 pub in_word : (words : List ℕ) (a b : ℕ) → b < 64 → is_in_words words (a * 64 + b) ≡ is_bit (get_or words a 0) b
@@ -58,4 +59,4 @@ month_is m n inside = split_at _ _ _ 12 230 (months_split m) (n / 12) n (omega a
 pub no_months : (m : Masks) (from : ℕ) → m.months ≡ 0 → NonePasses (month_in (sets_in m)) from 2_760
 no_months m from empty = λ t above below.
     let no_bit : is_bit m.months (t % 12) ≡ false = ap (λ (w : ℕ). is_bit w (t % 12)) empty ∙ is_bit-none (t % 12) in
-    month_is m t below ∙ last_false (is_in_words m.years (t / 12)) (is_bit m.months (t % 12)) no_bit
+    month_is m t below ∙ and_right (is_in_words m.years (t / 12)) (is_bit m.months (t % 12)) no_bit

@@ -11,6 +11,7 @@ use Rattle.cal_read.specs.Assignments.{Assigned}
 use Rattle.std.specs.Str.{bytes_eq}
 use Rattle.std.specs.List.{list_any}
 use Rattle.std.specs.Option.{option_or}
+use Rattle.std.proofs.lemmas.Bool.{and_right, and_parts, false_from_ne_true}
 use Rattle.cal_read.specs.TimerText.{Entry, Lists, bad_line, entries, entries_of, entry_of, excepted, exception_key, fault_following, fault_joining, first_fault, has_no_value, is_exception, is_exception_reset, is_expression, is_reset, listed, lists_of, most_expressions, some_entries, timer_keys, unless_fault}
 use Rattle.cal_read.specs.TimerView.{joined, resumed, with_list}
 use Rattle.cal_read.specs.declared.timer.fault.TimerFault.{TimerFault}
@@ -89,26 +90,14 @@ with_value : (b x y : Bool) → (not b && x) ≡ true → (b && y) ≡ false
 with_value true x y e = cc
 with_value false x y e = refl
 
-and_false : (b x : Bool) → x ≡ false → (b && x) ≡ false
-and_false true x e = e
-and_false false x e = refl
-
-and_right : (b x : Bool) → (b && x) ≡ true → x ≡ true
-and_right true x e = e
-and_right false x e = cc
-
 -- the key of exceptions is no key of a timer's
 other_key : (key : List ℕ) → bytes_eq key exception_key ≡ true → (list_any (bytes_eq key) timer_keys ≡ false) × (bytes_eq key (codes "OnCalendar") ≡ false)
 other_key key e =
     let same : key ≡ exception_key = (bytes_eq-Decides key exception_key).0 e in
     subst (λ (k : List ℕ). (list_any (bytes_eq k) timer_keys ≡ false) × (bytes_eq k (codes "OnCalendar") ≡ false)) (sym same) (refl, refl)
 
-not_true : (b : Bool) → (b ≡ true → ⊥) → b ≡ false
-not_true true h = absurd (h refl)
-not_true false h = refl
-
 no_exception_key : (key : List ℕ) → list_any (bytes_eq key) timer_keys ≡ true → bytes_eq key exception_key ≡ false
-no_exception_key key e = not_true (bytes_eq key exception_key) (λ h. let other = (other_key key h).0 in absurd (cc))
+no_exception_key key e = false_from_ne_true (bytes_eq key exception_key) (λ h. let other = (other_key key h).0 in absurd (cc))
 
 pub reset_is_no_expression : (a : Assigned) → is_reset a ≡ true → is_expression a ≡ false
 unfolding is_reset is_expression
@@ -120,11 +109,11 @@ reset_is_no_exception a e = no_value (has_no_value a) _ _ e
 
 reset_is_no_exception_reset : (a : Assigned) → is_reset a ≡ true → is_exception_reset a ≡ false
 unfolding is_reset is_exception_reset
-reset_is_no_exception_reset a e = and_false (has_no_value a) (bytes_eq a.key exception_key) (no_exception_key a.key (and_right (has_no_value a) _ e))
+reset_is_no_exception_reset a e = and_right (has_no_value a) (bytes_eq a.key exception_key) (no_exception_key a.key (and_parts (has_no_value a) _ e).1)
 
 exception_reset_is_no_reset : (a : Assigned) → is_exception_reset a ≡ true → is_reset a ≡ false
 unfolding is_reset is_exception_reset
-exception_reset_is_no_reset a e = and_false (has_no_value a) _ (other_key a.key (and_right (has_no_value a) _ e)).0
+exception_reset_is_no_reset a e = and_right (has_no_value a) _ (other_key a.key (and_parts (has_no_value a) _ e).1).0
 
 exception_reset_is_no_expression : (a : Assigned) → is_exception_reset a ≡ true → is_expression a ≡ false
 unfolding is_exception_reset is_expression
@@ -137,11 +126,11 @@ exception_reset_is_no_exception a e = no_value (has_no_value a) _ _ e
 expression_is_no_exception : (a : Assigned) → is_expression a ≡ true → is_exception a ≡ false
 unfolding is_expression is_exception
 expression_is_no_exception a e =
-    and_false (not (has_no_value a)) (bytes_eq a.key exception_key)
-    (not_true (bytes_eq a.key exception_key) (λ h. let other = (other_key a.key h).1 in let here = and_right (not (has_no_value a)) _ e in absurd (cc)))
+    and_right (not (has_no_value a)) (bytes_eq a.key exception_key)
+    (false_from_ne_true (bytes_eq a.key exception_key) (λ h. let other = (other_key a.key h).1 in let here = (and_parts (not (has_no_value a)) _ e).1 in absurd (cc)))
 
 exception_is_no_expression : (a : Assigned) → is_exception a ≡ true → is_expression a ≡ false
-exception_is_no_expression a e = not_true (is_expression a) (λ h. let other = expression_is_no_exception a h in absurd (cc))
+exception_is_no_expression a e = false_from_ne_true (is_expression a) (λ h. let other = expression_is_no_exception a h in absurd (cc))
 
 -- what empties one list leaves the other
 pub excepted_kept : (before : List Assigned) (a : Assigned) → is_reset a ≡ true → excepted (before ++ a ∷ []) ≡ excepted before

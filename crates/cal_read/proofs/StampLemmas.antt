@@ -10,7 +10,7 @@ use Rattle.std.proofs.lemmas.Int.{ints}
 use Rattle.std.proofs.lemmas.Int.Digits.{digits_value-lt}
 use Rattle.jiff.specs.Types.{TimeZone}
 use Rattle.cal_zone.specs.declared.civil_fields.Civil.{Civil}
-use Rattle.cal_zone.specs.declared.moment.TheConstants.Moment.{LAST}
+use Rattle.cal_zone.specs.Instant.{last_moment}
 use Rattle.cal_zone.specs.Civil.{civil_of}
 use Rattle.cal_span.specs.SpanValue.{fraction_worth, is_point}
 use Rattle.cal_spec.specs.DateAndTime.{is_colon}
@@ -77,7 +77,7 @@ no_second word whole digits b1 b2 first next =
 
 -- Moments
 
-pub too_late : (micros : ℤ) → LAST <ℤ micros → in_moments micros ≡ Err OutOfRange
+pub too_late : (micros : ℤ) → last_moment <ℤ micros → in_moments micros ≡ Err OutOfRange
 unfolding in_moments
 too_late micros late = grind (arith, ints)
 

@@ -2,8 +2,9 @@
 use Rattle.std.proofs.Common.{◌≡◌, ◌<◌, ℕ, Bool, true, false, List, [], ◌∷◌, ◌++◌, codes, filter, length, refl, sym, subst, ap, ◌∙◌, arith, append_assoc, append-nil, Option, Some, None, Result, Ok, Err}
 use Rattle.std.specs.List.{after_last, list_any}
 use Rattle.std.specs.Option.{option_or}
-use Rattle.std.specs.Prelude.{◌||◌, if◌then◌else◌}
+use Rattle.std.specs.Prelude.{if◌then◌else◌}
 use Rattle.std.specs.Str.{bytes_eq}
+use Rattle.std.proofs.lemmas.Bool.{or_parts}
 use Rattle.cal_spec.specs.declared.spec_fault.SpecFault.{SpecFault}
 use Rattle.cal_read.specs.Assignments.{Assigned, is_header, section_of, timer_lines}
 use Rattle.cal_lines.specs.Lines.{Line}
@@ -13,10 +14,6 @@ use Rattle.cal_read.specs.declared.timer.fault.TimerFault.{TimerFault}
 use Rattle.cal_read.specs.declared.timer.fault.TimerFault.TheVariants.{ReadFailed, TooLarge, NotUtf8, BadLine, TooMany, NothingToDo, NoMemory}
 use Rattle.cal_read.proofs.ListedLemmas.{after_last_here, after_last_more}
 use Rattle.cal_read.proofs.TimerLemmas.{first_is_of_line, is_of_line}
-
-or_parts : (a b : Bool) → (a || b) ≡ false → (a ≡ false) × (b ≡ false)
-or_parts true b h = cc
-or_parts false b h = (refl, h)
 
 -- The lines of a section
 pub no_header : (inside : Bool) (lines : List Line) → list_any (λ line. is_header line.text) lines ≡ false → timer_lines inside lines ≡ (if inside then lines else [])

@@ -6,8 +6,8 @@ use Rattle.std.specs.Char.{is_ascii_digit}
 use Rattle.jiff.specs.Types.{TimeZone, Weekday}
 use Rattle.jiff_core.specs.Calendar.{weekday_number}
 use Rattle.jiff_core.specs.Weekday.{monday_zero}
-use Rattle.cal_zone.specs.declared.moment.TheConstants.Moment.{LAST}
 use Rattle.cal_span.specs.declared.span.fault.SpanFault.{SpanFault}
+use Rattle.cal_zone.specs.Instant.{last_moment}
 use Rattle.cal_zone.specs.Local.{day_of}
 use Rattle.cal_zone.specs.OffsetWord.{offset_in}
 use Rattle.cal_zone.specs.Place.{settle_of}
@@ -39,7 +39,7 @@ abbrev pub ◌>>=◌ : {A B : Type 0} → Result A StampFault → (A → Result 
 -- the moment of so many microseconds of Unix time, where there is one
 unfoldable pub in_moments : ℤ → Result ℤ StampFault
 in_moments micros =
-    if not (int_lt micros (pos 0)) && not (int_lt LAST micros) then Ok micros else Err OutOfRange
+    if not (int_lt micros (pos 0)) && not (int_lt last_moment micros) then Ok micros else Err OutOfRange
 
 -- the microseconds of a second of Unix time
 abbrev pub micros_of : ℤ → ℤ

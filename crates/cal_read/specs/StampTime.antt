@@ -5,7 +5,6 @@ use Rattle.std.specs.List.{list_all, slice_split}
 use Rattle.cal_span.specs.SpanValue.{is_point, fraction_worth}
 use Rattle.cal_spec.specs.DateAndTime.{is_colon}
 use Rattle.cal_read.specs.StampDate.{digits_number}
-use Rattle.cal_read.specs.declared.stamp.time.TheConstants.{KEPT_DIGITS}
 use Rattle.cal_read.specs.declared.stamp.fault.StampFault.{StampFault}
 use Rattle.cal_read.specs.declared.stamp.fault.StampFault.TheVariants.{BadTime}
 
@@ -17,10 +16,14 @@ up_to greatest (Some n) = if nat_le n greatest then Some n else None
 unfoldable pub clock_number : ℕ → List ℕ → Option ℕ
 clock_number greatest word = up_to greatest (digits_number 2 word)
 
--- the microseconds of one or more digits after the point: six digits are kept, the rest is dropped
+-- how many digits of a fraction are kept
+abbrev pub kept_digits : ℕ
+kept_digits = 6
+
+-- the microseconds of one or more digits after the point, of which the first are kept and the rest is dropped
 unfoldable pub fraction_in : List ℕ → Option ℕ
 fraction_in digits =
-    if nat_le 1 (length digits) && list_all is_ascii_digit digits then Some (fraction_worth 1_000_000 1 (take KEPT_DIGITS digits))
+    if nat_le 1 (length digits) && list_all is_ascii_digit digits then Some (fraction_worth 1_000_000 1 (take kept_digits digits))
     else None
 
 -- so many seconds and microseconds, in microseconds

@@ -1,9 +1,10 @@
 -- The headline's law: a run that ends well has accepted what was asked.
-use Rattle.std.proofs.Common.{◌≡◌, ◌<◌, ◌-◌, ◌++◌, ◌∙◌, ℕ, suc, ℤ, Bool, true, false, not, cond, ◌||◌, List, [], ◌∷◌, Option, None, Some, Result, Ok, Err, map, take, drop, filter, length, refl, sym, ap, subst, arith, append_assoc}
+use Rattle.std.proofs.Common.{◌≡◌, ◌<◌, ◌-◌, ◌++◌, ◌∙◌, ℕ, suc, ℤ, Bool, true, false, not, cond, List, [], ◌∷◌, Option, None, Some, Result, Ok, Err, map, take, drop, filter, length, refl, sym, ap, subst, arith, append_assoc}
 use Rattle.std.proofs.lemmas.List.{take-append-drop}
 use Rattle.std.specs.Prelude.{is_err, is_none, nat_le, if◌then◌else◌}
 use Rattle.std.specs.List.{AllByRecursion, filter_map, find, list_any, suffix_len}
 use Rattle.std.specs.Str.{is_utf8}
+use Rattle.std.proofs.lemmas.Bool.{or_parts}
 use Rattle.jiff.specs.Types.{TimeZone}
 use Rattle.cal_bytes.specs.declared.whole.WholeFault.{WholeFault}
 use Rattle.cal_zone.specs.Zone.{zone_of}
@@ -84,15 +85,11 @@ unfolding calendar_answer
 text_accepted some asked base text verb h =
     accepted_with some asked base text (expr_in text) refl (sym (ap (λ v. is_err (answer_by v asked base text)) verb) ∙ h)
 
-both_false : (a b : Bool) → (a || b) ≡ false → (a ≡ false) × (b ≡ false)
-both_false true b h = cc
-both_false false b h = (refl, h)
-
 texts_accepted : AreNormalForms → (asked : Asked) (base : ℤ) (texts : List (List ℕ)) → asked.verb ≡ Calendar
     → list_any (λ text. is_err (answer_to asked base text)) texts ≡ false → AreAccepted asked texts
 texts_accepted some asked base [] verb h = record { expressions = []; same = refl; each = tt }
 texts_accepted some asked base (text ∷ texts) verb h =
-    let parts = both_false (is_err (answer_to asked base text)) (list_any (λ text. is_err (answer_to asked base text)) texts) h in
+    let parts = or_parts (is_err (answer_to asked base text)) (list_any (λ text. is_err (answer_to asked base text)) texts) h in
     let here = text_accepted some asked base text verb parts.0 in
     let rest = texts_accepted some asked base texts verb parts.1 in
     let same : text ∷ texts ≡ here.expression.text ∷ map text_of rest.expressions = let first = here.same in let later = rest.same in cc in

@@ -4,14 +4,17 @@ use Rattle.std.specs.String.{string_bytes}
 use Rattle.std.specs.Option.{option_map}
 use Rattle.cal_zone.specs.ZoneMap.{ZoneMap}
 use Rattle.cal_zone.specs.declared.zone.Zone.{Zone}
-use Rattle.cal_request.specs.declared.request.TheConstants.{MOST_ITERATIONS}
 use Rattle.cal_request.specs.declared.request.Request.{Request}
 use Rattle.cal_request.specs.declared.request.Verb.{Verb}
 use Rattle.cal_request.specs.declared.request.Verb.TheVariants.{Calendar, Timer, Timestamp, Timespan}
 
+-- how many elapses a request can ask for at most
+abbrev pub most_iterations : ℕ
+most_iterations = 1_000_000
+
 -- a number of elapses that a request can ask for
 abbrev pub IsCount : ℕ → Type 0
-IsCount n = (1 ≤ n) × (n ≤ MOST_ITERATIONS)
+IsCount n = (1 ≤ n) × (n ≤ most_iterations)
 
 -- whether a verb seeks elapses: such a verb alone has a base, and takes memory
 abbrev pub seeks_elapses : Verb → Bool

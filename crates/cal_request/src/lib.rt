@@ -3,4 +3,4 @@
 
 mod request;
 
-pub use request::{MOST_ITERATIONS, Request, RunFault, Status, Verb};
+pub use request::{Request, RunFault, Status, Verb};

@@ -39,9 +39,6 @@ impl Verb {
     }
 }
 
-/// How many elapses a request can ask for at most.
-pub const MOST_ITERATIONS: u32 = 1_000_000;
-
 /// A request.
 #[derive(Debug, Drop)]
 pub struct Request {
@@ -49,7 +46,7 @@ pub struct Request {
     pub verb: Verb,
     /// The texts, in order; of a timer the file's name alone.
     pub texts: Vec<String>,
-    /// How many elapses are shown at most: 1 to [`MOST_ITERATIONS`].
+    /// How many elapses are shown at most: 1 to 1,000,000.
     pub iterations: u32,
     /// The timestamp after which elapses are sought, or `None` for the present. Only verbs that seek elapses have one.
     pub base: Option<String>,

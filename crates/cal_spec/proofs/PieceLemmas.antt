@@ -6,10 +6,7 @@ use Rattle.cal_spec.specs.DateAndTime.{is_colon, time_texts}
 use Rattle.std.proofs.lemmas.Bool.{not-true, ltb-true, ltb-false}
 use Rattle.std.proofs.lemmas.List.Sums.{prefix_len_passes, prefix_len-le-length}
 use Rattle.std.proofs.lemmas.List.Splits.{slice_split_first, slice_split_none}
-
-found_at : (test : Bool) (m n : ℕ) → cond test (Some m) None ≡ Some n → (test ≡ true) × (m ≡ n)
-found_at true m n at = (refl, cc)
-found_at false m n at = cc
+use Rattle.std.proofs.lemmas.Option.{cond_some}
 
 not_found : (test : Bool) (m : ℕ) → cond test (Some m) None ≡ None → test ≡ false
 not_found true m at = cc
@@ -18,7 +15,7 @@ not_found false m at = refl
 -- cut at the first separator
 pub split_some : (p : ℕ → Bool) (xs : List ℕ) (n : ℕ) → position p xs ≡ Some n → slice_split p xs ≡ take n xs ∷ slice_split p (drop (n + 1) xs)
 split_some p xs n at =
-    let found = found_at (nat_lt (position_or_len p xs) (length xs)) (position_or_len p xs) n at in
+    let found = cond_some (nat_lt (position_or_len p xs) (length xs)) (position_or_len p xs) n at in
     slice_split_first p xs 0 (ltb-true _ _ found.0) ∙ ap (λ k. take k xs ∷ slice_split p (drop (k + 1) xs)) found.1
 
 -- no separator
@@ -51,7 +48,7 @@ filter_none p (x ∷ xs) past = filter_none_step p x xs (p x) (filter_none p xs)
 -- cut at the first separator, with the separator itself
 pub cut_some : (p : ℕ → Bool) (xs : List ℕ) (n : ℕ) → position p xs ≡ Some n → (slice_split p xs ≡ take n xs ∷ slice_split p (drop (n + 1) xs)) × (filter p xs ≡ get_or xs n 0 ∷ filter p (drop (n + 1) xs))
 cut_some p xs n at =
-    let found = found_at (nat_lt (position_or_len p xs) (length xs)) (position_or_len p xs) n at in (
+    let found = cond_some (nat_lt (position_or_len p xs) (length xs)) (position_or_len p xs) n at in (
       split_some p xs n at,
       filter_some p xs (ltb-true _ _ found.0) ∙ ap (λ k. get_or xs k 0 ∷ filter p (drop (k + 1) xs)) found.1,
     )
@@ -82,7 +79,7 @@ no_time word hour minute second b1 b2 b3 first next last =
 -- the first place that passes, and the length where there is none
 pub place_some : (p : ℕ → Bool) (xs : List ℕ) (n : ℕ) → position p xs ≡ Some n → (n ≡ position_or_len p xs) × (n ≤ length xs)
 place_some p xs n at =
-    let found = found_at (nat_lt (position_or_len p xs) (length xs)) (position_or_len p xs) n at in
+    let found = cond_some (nat_lt (position_or_len p xs) (length xs)) (position_or_len p xs) n at in
     let within = ltb-true _ _ found.0 in (sym found.1, omega (arith, found.1, within))
 
 pub place_none : (p : ℕ → Bool) (xs : List ℕ) → position p xs ≡ None → length xs ≡ position_or_len p xs

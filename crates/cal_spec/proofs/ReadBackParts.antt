@@ -5,7 +5,7 @@ use Rattle.std.specs.Fmt.{decimal}
 use Rattle.std.specs.List.{AllByRecursion, flat_map, list_all, list_any, slice_split}
 use Rattle.std.specs.Option.{option_map}
 use Rattle.std.specs.Str.Parse.{AllDigits, digits_value}
-use Rattle.std.proofs.lemmas.Bool.{and_from, and_parts, le-leb, le-ltb, leb-true, ne_eqb, or_left, or_parts}
+use Rattle.std.proofs.lemmas.Bool.{and_from, and_parts, le-leb, le-ltb, leb-true, ne_eqb, or_left, or_parts, and_right}
 use Rattle.std.proofs.lemmas.Fmt.{decimal_is_IsNumeral}
 use Rattle.std.proofs.lemmas.List.{append-nil}
 use Rattle.std.proofs.lemmas.List.Folds.{list_all-append}
@@ -70,15 +70,11 @@ signs_of_number (d ∷ ds) rest all some apart =
     let parts = and_parts (is_ascii_digit d) (list_all is_ascii_digit ds) all in
     signs_number d ds rest parts.0 parts.1 apart
 
-no_second_point : (t u : Bool) → u ≡ false → (t && u) ≡ false
-no_second_point true u h = h
-no_second_point false u h = refl
-
 -- and it is read where a number is due
 due_by : (slot : Slot) (n : ℕ) (ss : List Sign) → n < 10_000 → starts_with_point ss ≡ false → after_number slot n ss ≡ Ok (record { number = n; after = ss })
 due_by slot n ss small whole =
     let fits : nat_lt 9_999 n ≡ false = le-ltb 9_999 n (omega arith) in
-    rw (fits, no_second_point (is_second slot) (starts_with_point ss) whole) refl
+    rw (fits, and_right (is_second slot) (starts_with_point ss) whole) refl
 
 due : (slot : Slot) (n : ℕ) (ds rest : List ℕ) → IsPrinted n ds → n < 10_000 → begins_with is_ascii_digit rest ≡ false → starts_with_point (signs rest) ≡ false
     → number_due slot (signs (ds ++ rest)) ≡ Ok (record { number = n; after = signs rest })

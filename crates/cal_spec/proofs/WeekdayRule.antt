@@ -7,7 +7,7 @@ use Rattle.std.specs.Char.{is_ascii_alphabetic, is_ascii_lowercase, to_ascii_low
 use Rattle.std.specs.Str.{str_eq_ignore_ascii_case}
 use Rattle.std.proofs.lemmas.Bool.{and_parts, and_from, or_cases, or_left, eqb-true}
 use Rattle.std.proofs.lemmas.Bool.Decides.{nat_tests}
-use Rattle.std.proofs.lemmas.List.{append-nil, append_assoc, take-append-drop, length-append}
+use Rattle.std.proofs.lemmas.List.{append-nil, append_assoc, take-append-drop, length-append, take_at, drop_at}
 use Rattle.std.proofs.lemmas.List.Splits.{join_with_byte-slice_split}
 use Rattle.std.proofs.lemmas.Slice.Eq.{bytes_eq-Decides}
 use Rattle.jiff_core.specs.declared.civil.weekday.Weekday.{Weekday}
@@ -115,23 +115,15 @@ whole_len (x ∷ xs) all =
     let rest = whole_len xs parts.1 in
     rw (parts.0, rest) (omega arith)
 
-take_front : (xs ys : List ℕ) → take (length xs) (xs ++ ys) ≡ xs
-take_front [] ys = refl
-take_front (x ∷ xs) ys = ap (λ more. x ∷ more) (take_front xs ys)
-
-drop_front : (xs ys : List ℕ) → drop (length xs) (xs ++ ys) ≡ ys
-drop_front [] ys = refl
-drop_front (x ∷ xs) ys = drop_front xs ys
-
 pub letters_at : (xs : List ℕ) (c : ℕ) (ys : List ℕ) → list_all is_ascii_alphabetic xs ≡ true → is_ascii_alphabetic c ≡ false → (leading_letters (xs ++ (c ∷ ys)) ≡ xs) × (after_letters (xs ++ (c ∷ ys)) ≡ c ∷ ys)
 letters_at xs c ys all stop =
     let len = front_len xs c ys all stop in
-    (ap (λ n. take n (xs ++ (c ∷ ys))) len ∙ take_front xs (c ∷ ys), ap (λ n. drop n (xs ++ (c ∷ ys))) len ∙ drop_front xs (c ∷ ys))
+    (ap (λ n. take n (xs ++ (c ∷ ys))) len ∙ take_at xs (c ∷ ys) _ refl, ap (λ n. drop n (xs ++ (c ∷ ys))) len ∙ drop_at xs (c ∷ ys) _ refl)
 
 pub letters_alone : (xs : List ℕ) → list_all is_ascii_alphabetic xs ≡ true → (leading_letters xs ≡ xs) × (after_letters xs ≡ [])
 letters_alone xs all =
     let len = whole_len xs all in
-    (ap (λ n. take n xs) len ∙ ap (take (length xs)) (sym (append-nil xs)) ∙ take_front xs [], ap (λ n. drop n xs) len ∙ ap (drop (length xs)) (sym (append-nil xs)) ∙ drop_front xs [])
+    (ap (λ n. take n xs) len ∙ ap (take (length xs)) (sym (append-nil xs)) ∙ take_at xs [] _ refl, ap (λ n. drop n xs) len ∙ ap (drop (length xs)) (sym (append-nil xs)) ∙ drop_at xs [] _ refl)
 
 -- Items
 
@@ -387,7 +379,7 @@ kept_by : (front : List ℕ) (b : ℕ) → is_comma b ≡ false → without_comm
 kept_by front b stop = rw (length_at front b, last_at front b, stop) refl
 
 taken_by : (front : List ℕ) → without_comma (front ++ codes ",") ≡ front
-taken_by front = rw (length_at front 44, last_at front 44) (take_front front (44 ∷ []))
+taken_by front = rw (length_at front 44, last_at front 44) (take_at front (44 ∷ []) _ refl)
 
 kept : (text : List ℕ) → EndsInLetter text → without_comma text ≡ text
 kept text ends = rw ends.whole (kept_by ends.front ends.last (letter_no_comma ends.last ends.letter))

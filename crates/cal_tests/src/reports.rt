@@ -14,7 +14,7 @@ mod zones;
 use cal_bytes::{Port, Sink, Source};
 use cal_part_tests::shared::{NEW_YEAR, SUMMER_TIME, instant, posix, zone_file};
 use cal_report::{file_name, run};
-use cal_request::{MOST_ITERATIONS, Request, RunFault, Status, Verb};
+use cal_request::{Request, RunFault, Status, Verb};
 use cal_zone::{Instant, Rules, Zone, ZoneTable};
 use std::alloc::{AllocError, Global};
 use std::process::Abort;
@@ -183,7 +183,7 @@ fn run_request<R: Source, O: Sink, E: Sink>(
     requires out { O.is_failed out.old ≡ false }
     requires err { E.is_failed err.old ≡ false }
 {
-    assert!(rt; request.iterations >= 1 && request.iterations <= MOST_ITERATIONS);
+    assert!(rt; request.iterations >= 1 && request.iterations <= 1_000_000);
     assert!(rt; request.verb.seeks_elapses() || request.base.is_none());
     assert!(rt; !request.verb.is_timer() || request.texts.len() == 1);
     let local = local_zone(rt, row.local, zones);

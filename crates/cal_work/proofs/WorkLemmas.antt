@@ -5,7 +5,7 @@ use Rattle.std.specs.Prelude.{IsErr, IsSome, if◌then◌else◌, is_some, is_ok
 use Rattle.std.specs.FinMap.{empty, insert}
 use Rattle.std.specs.Io.KnownBytes.{Keeps, Appends, Consumes, append_known}
 use Rattle.std.proofs.KnownBytes.{Appends-nil, Appends-kept, Consumes-whole}
-use Rattle.std.proofs.lemmas.Bool.{false≢true}
+use Rattle.std.proofs.lemmas.Bool.{false≢true, and_left}
 use Rattle.std.proofs.lemmas.Bool.Decides.{nat_tests}
 use Rattle.jiff.specs.Placed.{IsPosixZone}
 use Rattle.jiff.specs.Types.{TimeZone}
@@ -382,16 +382,12 @@ pub timer_runs : (known : Known) (asked : Asked) (r : Result Status RunFault) (o
 timer_runs known asked r old new may failed out out' err err' timer opens mays sure by =
     timer_by known asked r old new may failed out out' err err' by.read (reads_input asked) refl timer opens mays sure by.fails by.input by.holds
 
-plain_unread : (t : Bool) (x : Bool) → t ≡ false → (t && x) ≡ false
-plain_unread true x h = absurd (false≢true (sym h))
-plain_unread false x h = refl
-
 -- the run of another verb
 pub texts_run : (known : Known) (asked : Asked) (r : Result Status RunFault) (old new : Option (List ℕ)) (failed : Bool) (out out' err err' : Option (List ℕ))
     → is_timer asked.verb ≡ false → ByReading asked old new failed (IsReported r out out' err err') → Runs known asked (ran r) out out' err err'
 unfolding run_by
 texts_run known asked r old new failed out out' err err' plain by =
-    let same : report asked by.read ≡ report asked (Ok []) = unread_same asked by.read (Ok []) (plain_unread (is_timer asked.verb) (is_ok (base_in asked)) plain) in
+    let same : report asked by.read ≡ report asked (Ok []) = unread_same asked by.read (Ok []) (and_left (is_timer asked.verb) (is_ok (base_in asked)) plain) in
     record { seen = None; sees = rw plain tt; ends = rw plain (rw (sym same) (run_ends r by.read _ out out' err err' by.holds)) }
 
 -- the file of a timer can't be opened

@@ -3,11 +3,11 @@ use Rattle.std.specs.Prelude.{ℕ, ℤ, pos, Bool, true, false, not, ◌&&◌, i
 use Rattle.std.specs.FinMap.{insert, empty}
 use Rattle.jiff.specs.Types.{TimeZone}
 use Rattle.jiff.specs.Words.{read_whole as rule_read}
+use Rattle.cal_zone.specs.Instant.{last_instant}
 use Rattle.cal_zone.specs.Zone.{utc}
 use Rattle.cal_zone.specs.ZoneMap.{ZoneMap}
 use Rattle.cal_zone.specs.ZoneName.{is_zone_name}
 use Rattle.cal_zone.specs.ZoneTable.{is_taken, zone_named}
-use Rattle.cal_zone.specs.declared.instant.TheConstants.Instant.{LAST}
 use Rattle.cal_bytes.specs.declared.whole.WholeFault.{WholeFault}
 use Rattle.cal_bytes.specs.declared.whole.WholeFault.TheVariants as whole
 use Rattle.cal_zone.specs.declared.zone.Zone.{Zone as ClockZone}
@@ -85,7 +85,7 @@ local_by (of_name name) table zone = if is_some (zone_named table name) then Ok 
 
 -- the instant of so many seconds, where there is one
 unfoldable pub instant_in : ℤ → Option ℤ
-instant_in secs = if not (int_lt secs (pos 0)) && not (int_lt LAST secs) then Some secs else None
+instant_in secs = if not (int_lt secs (pos 0)) && not (int_lt last_instant secs) then Some secs else None
 
 abbrev pub or_clock_stop : Option ℤ → Result ℤ Said
 or_clock_stop None = Err clock_stop

@@ -6,6 +6,7 @@ use Rattle.std.specs.List.{list_all}
 use Rattle.std.specs.Str.Parse.{digits_value}
 use Rattle.std.proofs.lemmas.Bool.{and_parts, cases_lt, eqb-true, le-ltb}
 use Rattle.std.proofs.lemmas.Bool.Decides.{nat_tests}
+use Rattle.std.proofs.lemmas.Option.{cond_some}
 use Rattle.jiff.proofs.SpanFacts.{signed_arith}
 use Rattle.jiff.specs.Types.{Offset}
 use Rattle.jiff.specs.Words.{fixed_zone, IsOffsetSeconds}
@@ -17,14 +18,10 @@ use Rattle.cal_zone.proofs.OffsetLemmas.{same_offset}
 
 -- Two digits
 
-guard-some : (b : Bool) (n m : ℕ) → cond b (Some n) None ≡ Some m → (b ≡ true) × (n ≡ m)
-guard-some true n m h = (refl, cc)
-guard-some false n m h = absurd (cc)
-
 two-found : (greatest a b n : ℕ) → two_digits greatest a b ≡ Some n → AreTwoDigits (a ∷ b ∷ []) n × (n ≤ greatest)
 unfolding two_digits
 two-found greatest a b n h =
-    let found = guard-some _ _ _ h in
+    let found = cond_some _ _ _ h in
     let upper = and_parts _ _ found.0 in
     let both = and_parts _ _ upper.0 in
     let tens : is_ascii_digit a ≡ true = both.0 in

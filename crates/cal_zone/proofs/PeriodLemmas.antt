@@ -1,7 +1,7 @@
 -- Between two changes a clock is equally far ahead of UTC.
 use Rattle.std.proofs.Common.{◌≡◌, ◌∙◌, ◌⊎◌, inl, inr, ◌==◌, ◌<◌, ◌≤◌, ℤ, pos, neg_ℤ, ◌+ℤ◌, ◌-ℤ◌, ◌*ℤ◌, ◌≤ℤ◌, ◌<ℤ◌, Bool, true, false, ◌&&◌, cond, if◌then◌else◌, int_le, int_lt, IfSome, Option, None, Some, refl, sym, ap, subst, arith, vec_len}
 use Rattle.std.specs.Int.{int_max}
-use Rattle.std.proofs.lemmas.Bool.{cases_lt}
+use Rattle.std.proofs.lemmas.Bool.{cases_lt, and_from}
 use Rattle.std.proofs.lemmas.Int.{by_lt_z}
 use Rattle.std.proofs.lemmas.Bool.Decides.{nat_tests}
 use borrow.Author.Differences.{lt-false}
@@ -77,14 +77,11 @@ no_none : (b : Bool) (moment : ℤ × OffsetInfo) → b ≡ true → (if b then 
 no_none true moment e f = cc
 no_none false moment e f = cc
 
-both : (a b : Bool) → a ≡ true → b ≡ true → (a && b) ≡ true
-both a b e f = rw (e, f) refl
-
 transition_some : (rule : Posix) (d : Dst) (w : ℤ × ℤ) (low high moment : ℤ) → neg_ℤ (pos 377_705_023_201_000_000_000) ≤ℤ low → high ≤ℤ pos 253_402_207_200_999_999_999
     → IsIn low high moment → transition_of rule d w moment ≡ None → ⊥
 transition_some rule d w low high moment from to p e =
     no_none (int_le (neg_ℤ (pos 377_705_023_201_000_000_000)) moment && int_le moment (pos 253_402_207_200_999_999_999)) _
-    (both _ _ (le_yes (neg_ℤ (pos 377_705_023_201_000_000_000)) moment (omega (arith, signed_arith))) (le_yes moment (pos 253_402_207_200_999_999_999) (omega (arith, signed_arith))))
+    (and_from _ _ (le_yes (neg_ℤ (pos 377_705_023_201_000_000_000)) moment (omega (arith, signed_arith))) (le_yes moment (pos 253_402_207_200_999_999_999) (omega (arith, signed_arith))))
     e
 
 -- so where no transition comes, the year has none left

@@ -1,12 +1,18 @@
 -- What contracts see of an instant.
 use Rattle.std.specs.Prelude.{ℤ, pos, ◌≤ℤ◌}
-use Rattle.cal_zone.specs.declared.instant.TheConstants.Instant.{LAST}
-use Rattle.cal_zone.specs.declared.moment.TheConstants.Moment.{LAST as LAST_MOMENT}
 
--- whole seconds of Unix time, up to the last local second of 2199 at the offset farthest west of UTC
+-- the last instant: the last local second of 2199 at the offset farthest west of UTC
+abbrev pub last_instant : ℤ
+last_instant = pos 7_258_211_998
+
+-- the last moment: the last microsecond of the last instant
+abbrev pub last_moment : ℤ
+last_moment = pos 7_258_211_998_999_999
+
+-- whole seconds of Unix time, up to the last instant
 abbrev pub IsInstant : ℤ → Type 0
-IsInstant secs = (pos 0 ≤ℤ secs) × (secs ≤ℤ LAST)
+IsInstant secs = (pos 0 ≤ℤ secs) × (secs ≤ℤ last_instant)
 
--- whole microseconds of Unix time, up to the last of the last instant
+-- whole microseconds of Unix time, up to the last moment
 abbrev pub IsMoment : ℤ → Type 0
-IsMoment micros = (pos 0 ≤ℤ micros) × (micros ≤ℤ LAST_MOMENT)
+IsMoment micros = (pos 0 ≤ℤ micros) × (micros ≤ℤ last_moment)

@@ -4,13 +4,12 @@ use Rattle.jiff.specs.Types.{TimeZone, UTC, Unknown, Fixed, Posix, Tzif}
 use Rattle.jiff_tz.specs.Tzif.{tzif_view, HasBadRule, RuleAgrees}
 use Rattle.jiff_tz.specs.TzifReader.{read_tzif}
 use Rattle.cal_zone.specs.ZoneName.{is_zone_name}
-use Rattle.cal_zone.specs.declared.rules.TheConstants.Rules.{FILE_LIMIT}
 use Rattle.cal_zone.specs.declared.zone_fault.ZoneFault.{ZoneFault}
 use Rattle.cal_zone.specs.declared.zone_fault.ZoneFault.TheVariants.{BadName, BadRule, BadFile, TooLarge, NoMemory, NameTaken}
 
 -- the most bytes that a zone file may have
 abbrev pub file_limit : ℕ
-file_limit = FILE_LIMIT
+file_limit = 1_048_576
 
 -- the zone is what `jiff` reads from the bytes
 abbrev pub IsReadFrom : List ℕ → TimeZone → Type 0

@@ -3,7 +3,6 @@ use Rattle.std.specs.Prelude.{ℕ, Bool, false, ◌&&◌, ◌||◌, ◌==◌, na
 use Rattle.std.specs.Char.{is_ascii_alphabetic, is_ascii_alphanumeric, to_ascii_lowercase}
 use Rattle.std.specs.List.{list_all}
 use Rattle.std.specs.Str.{bytes_eq}
-use Rattle.cal_zone.specs.declared.zone_name.TheConstants.{MOST_NAME_BYTES}
 
 -- letters, digits, `/`, `_`, `+` and `-`
 abbrev pub is_zone_byte : ℕ → Bool
@@ -13,9 +12,13 @@ abbrev pub begins_with_letter : List ℕ → Bool
 begins_with_letter [] = false
 begins_with_letter (b ∷ bs) = is_ascii_alphabetic b
 
--- a letter followed by such bytes, at most 255 bytes in all
+-- the most bytes that a name may have
+abbrev pub most_name_bytes : ℕ
+most_name_bytes = 255
+
+-- a letter followed by such bytes
 unfoldable pub is_zone_name : List ℕ → Bool
-is_zone_name name = begins_with_letter name && list_all is_zone_byte name && nat_le (length name) MOST_NAME_BYTES
+is_zone_name name = begins_with_letter name && list_all is_zone_byte name && nat_le (length name) most_name_bytes
 
 -- the name of UTC, in any case
 unfoldable pub is_utc_name : List ℕ → Bool
