@@ -1,3 +1,4 @@
+pub mod Asked
 pub mod Bits
 pub mod Count
 pub mod Elapses

@@ -1,5 +1,6 @@
 //! The elapses of a calendar expression in a zone, one after another (systemd.time(7), Calendar Events).
 
+use crate::asked::Asked;
 use crate::window::Window;
 use cal_rising::Rising;
 use cal_spec::Expr;
@@ -15,17 +16,21 @@ use std::marker::Model;
 #[derive(Drop)]
 pub struct Elapses<'z> {
     window: Window<'z>,
+    /// What is asked whether it has an instant.
+    asked: Asked<'z>,
 }
 
 impl<'z> Model for Elapses<'z> {
-    ghost use Rattle.cal_elapse.specs.Window.{IsReady};
+    ghost use Rattle.std.specs.Prelude.{◌≡◌};
+    ghost use Rattle.cal_elapse.specs.Asked.{timed_asked};
+    ghost use Rattle.cal_elapse.specs.Window.{IsReady, timed_of};
     ghost use Rattle.cal_elapse.specs.declared.window.Window.{Window as PlainWindow};
 
     ghost Value = { PlainWindow };
 
     ghost view = { λ e. e.window };
 
-    ghost invariant = { λ e. IsReady e.window };
+    ghost invariant = { λ e. IsReady e.window × (timed_asked e.asked ≡ timed_of e.window) };
 }
 
 impl<'z> Elapses<'z> {
@@ -54,6 +59,7 @@ impl<'z> Elapses<'z> {
     {
         Ok(Elapses {
             window: Window::new(alloc, expr, zone, base)?,
+            asked: Asked::of(expr, zone),
         })
     }
 
@@ -77,7 +83,7 @@ impl<'z> Elapses<'z> {
 impl Rising for Elapses<'_> {
     ghost use Rattle.std.specs.Prelude.{◌≡◌, ◌≤◌};
     ghost use Rattle.cal_elapse.specs.Rest.{rest_of, IsRising-rest_of};
-    ghost use Rattle.cal_rising.specs.RisingList.{first, later};
+    ghost use Rattle.cal_rising.specs.RisingList.{first, is_in, later};
     ghost use Rattle.cal_elapse.specs.Searched.{IsSearched};
     ghost use Rattle.cal_elapse.specs.Window.{timed_of};
 
@@ -99,6 +105,18 @@ impl Rising for Elapses<'_> {
     {
         self.window.fill();
         self.window.take()
+    }
+
+    /// Whether the instant is an elapse that is left to give. It makes no search.
+    fn has(&mut self, number: i64) -> bool
+        ensures has { result ≡ is_in (rest_of self.old) number }
+        ensures same { rest_of self.new ≡ rest_of self.old }
+        ensures window { self.new ≡ self.old }
+    {
+        match Instant::new(number) {
+            Some(instant) if self.window.last() < number => self.asked.has(instant),
+            _ => false,
+        }
     }
 
     ghost rises = { IsRising-rest_of };

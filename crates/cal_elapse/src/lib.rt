@@ -1,12 +1,14 @@
 //! The elapses of calendar expressions under every zone (systemd.time(7), Calendar Events).
 #![tactic(auto)]
 
+mod asked;
 mod bits;
 mod day_search;
 mod elapses;
 pub mod laws;
 mod masks;
 mod masks_of;
+mod matched;
 mod month;
 mod month_days;
 mod month_search;

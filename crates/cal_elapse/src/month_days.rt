@@ -7,7 +7,7 @@ ghost use Rattle.cal_elapse.specs.Months.{day_in, month_in};
 ghost use Rattle.cal_elapse.specs.Search.{IsFirstPassing};
 
 use crate::Masks;
-use crate::bits::next_bit;
+use crate::bits::{has_bit, next_bit};
 use crate::month::Month;
 
 /// The days of a month that match, the first of the month at the lowest bit. The field is private, so that each set of
@@ -42,6 +42,14 @@ impl MonthDays {
         ensures { IsFirstPassing (is_bit self.bits) from 64 result }
     {
         next_bit(self.bits, from)
+    }
+
+    /// Whether the day at that place is one of them, which is counted from 0 and at most 31.
+    pub(crate) fn has(self, place: u32) -> bool
+        requires { place ≤ 31 }
+        ensures { result ≡ is_bit self.bits place }
+    {
+        has_bit(self.bits, place)
     }
 }
 

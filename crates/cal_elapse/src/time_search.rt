@@ -70,7 +70,7 @@ fn next_minute(masks: &Masks, from: u32) -> Option<u32>
 
 /// Whether the hour and the minute are members.
 #[tactic(auto, unfolding(crate::specs::Months::minute_in, crate::specs::Masks::sets_in))]
-fn has_minute(masks: &Masks, minute: u32) -> bool
+pub(crate) fn has_minute(masks: &Masks, minute: u32) -> bool
     requires { minute < 1_440 }
     ensures { result ≡ minute_in (sets_in masks.now) minute }
 {

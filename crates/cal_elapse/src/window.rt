@@ -146,6 +146,13 @@ impl<'z> Window<'z> {
         instant
     }
 
+    /// The instant that was given last, or the base.
+    pub fn last(&self) -> i64
+        ensures { result ≡ self.now.last }
+    {
+        self.last
+    }
+
     /// How often a match was searched so far.
     pub fn searches(&self) -> u64
         ensures { result ≡ self.now.searcher.searches }

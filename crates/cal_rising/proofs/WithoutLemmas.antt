@@ -1,12 +1,12 @@
 -- A rising list without the numbers of another: its members, and what one turn of a merge leaves of both.
-use Rattle.std.proofs.Common.{◌≡◌, ◌⊎◌, ◌↔◌, ◌||◌, ◌<◌, ℕ, suc, ◌+◌, ◌<◌, cond, Bool, true, false, not, List, [], ◌∷◌, length, take, get_or, map, add-one, zero, inl, inr, None, Some, ℤ, ◌<ℤ◌, ◌≤ℤ◌, int_eq, int_lt, nat_eq, FitsSigned, of_z, to_z, refl, sym, ap, ◌∙◌, subst, arith}
+use Rattle.std.proofs.Common.{◌≡◌, ◌⊎◌, ◌↔◌, ◌||◌, ◌&&◌, ◌<◌, ℕ, suc, ◌<◌, cond, Bool, true, false, not, List, [], ◌∷◌, length, get_or, set, map, zero, inl, inr, Option, None, Some, ℤ, ◌<ℤ◌, ◌≤ℤ◌, int_eq, int_lt, nat_eq, FitsSigned, of_z, to_z, refl, sym, ap, ◌∙◌, subst, arith}
 use Rattle.std.specs.Int.{Width}
 use Rattle.std.specs.List.{filter, list_any}
 use Rattle.std.proofs.lemmas.Int.{ints, to_z-of_z}
-use Rattle.cal_rising.specs.Merge.{Stream, numbers, passed}
-use Rattle.cal_rising.specs.Rises.{IsRising-filter, IsRising-union, IsRising-without}
-use Rattle.cal_rising.specs.RisingList.{Has, HasAny, IsAbove, IsRising, IsUnionWithout, first, from, is_in, later, union, without}
-use Rattle.cal_rising.proofs.RisingLemmas.{Has-union, list-first, lt_test, not_lt_test, same_rising}
+use Rattle.cal_rising.specs.Merge.{Stream, numbers, numbers_by, passed}
+use Rattle.cal_rising.specs.Rises.{IsRising-union, IsRising-without}
+use Rattle.cal_rising.specs.RisingList.{Has, HasAny, IsAbove, IsRising, IsSameFrom, IsUnionWithout, first, is_in, later, union, without}
+use Rattle.cal_rising.proofs.RisingLemmas.{Has-union, not_lt_test, same_rising}
 
 same_value : (a b : ℤ) → int_eq a b ≡ true → a ≡ b
 same_value a b h = grind (arith, ints)
@@ -34,21 +34,28 @@ or_true : (p : Bool) → (p || true) ≡ true
 or_true true = refl
 or_true false = refl
 
-or_three : (p q r : Bool) → (p || (q || r)) ≡ ((p || q) || r)
-or_three true q r = refl
-or_three false q r = refl
+and_both : (p q : Bool) → p ≡ true → q ≡ true → (p && q) ≡ true
+and_both p q h k = rw (h, k) refl
+
+and_left : (p q : Bool) → (p && q) ≡ true → p ≡ true
+and_left true q h = refl
+and_left false q h = h
+
+and_right : (p q : Bool) → (p && q) ≡ true → q ≡ true
+and_right true q h = h
+and_right false q h = absurd (cc)
 
 or_false : (p : Bool) → (p || false) ≡ p
 or_false true = refl
 or_false false = refl
 
 -- whether a number is in a list
-Has-is_in : (xs : List ℤ) (i : ℤ) → is_in xs i ≡ true → Has xs i
+pub Has-is_in : (xs : List ℤ) (i : ℤ) → is_in xs i ≡ true → Has xs i
 Has-is_in [] i h = absurd (cc)
 Has-is_in (x ∷ xs) i h =
     elim (either_true (int_eq x i) (is_in xs i) h) [ inl e ↦ inl (same_value x i e) | inr e ↦ inr (Has-is_in xs i e) ]
 
-is_in-Has : (xs : List ℤ) (i : ℤ) → Has xs i → is_in xs i ≡ true
+pub is_in-Has : (xs : List ℤ) (i : ℤ) → Has xs i → is_in xs i ≡ true
 is_in-Has [] i m = absurd m
 is_in-Has (x ∷ xs) i (inl e) = rw (value_same x i e)
 is_in-Has (x ∷ xs) i (inr m) = rw (is_in-Has xs i m) (or_true (int_eq x i))
@@ -115,35 +122,6 @@ IsUnionWithout-only xss yss xs h =
     same_rising xs (without (union xss) (union yss)) h.rises it.rises
     (λ i. (λ m. (it.members i).1 ((h.members i).0 m), λ m. (h.members i).1 ((it.members i).0 m)))
 
--- what is from a number on, where the first of the list is below it
-from-below : (m n : ℤ) (xs : List ℤ) → m <ℤ n → from n (m ∷ xs) ≡ from n xs
-from-below m n xs h = rw (lt_test m n h)
-
-pub from-later : (m n : ℤ) (xs ys : List ℤ) → first xs ≡ Some m → m <ℤ n → ys ≡ later xs → from n ys ≡ from n xs
-from-later m n xs ys at h e = ap (from n) e ∙ sym (ap (from n) (list-first xs m at) ∙ from-below m n (later xs) h)
-
-pub is_in-later : (m n : ℤ) (xs ys : List ℤ) → first xs ≡ Some m → m <ℤ n → ys ≡ later xs → is_in ys n ≡ is_in xs n
-is_in-later m n [] ys at h e = absurd (cc)
-is_in-later m n (x ∷ xs) ys at h e =
-    let same : x ≡ m = cc in
-    let other = other_value m n h in
-    rw (e, same, other)
-
--- and where it isn't below
-from-above : (m n : ℤ) (xs : List ℤ) → n ≤ℤ m → IsAbove m xs → from n xs ≡ xs
-from-above m n [] h k = refl
-from-above m n (x ∷ xs) h k =
-    let up = k.0 in
-    let le : n ≤ℤ x = omega (arith, ints, up) in
-    rw (not_lt_test x n le) (ap (λ (l : List ℤ). x ∷ l) (from-above m n xs h k.1))
-
-pub from-whole : (m n : ℤ) (xs : List ℤ) → IsRising xs → first xs ≡ Some m → n ≤ℤ m → from n xs ≡ xs
-from-whole m n [] h at le = refl
-from-whole m n (x ∷ xs) h at le =
-    let same : x ≡ m = cc in
-    let here : n ≤ℤ x = omega (arith, ints) in
-    rw (not_lt_test x n here) (ap (λ (l : List ℤ). x ∷ l) (from-above x n xs here h.0))
-
 above_not_in : (m n : ℤ) (xs : List ℤ) → n ≤ℤ m → IsAbove m xs → is_in xs n ≡ false
 above_not_in m n [] h k = refl
 above_not_in m n (x ∷ xs) h k =
@@ -157,6 +135,10 @@ is_in-first m n (x ∷ xs) h at le =
     let same : x ≡ m = cc in
     rw (same, above_not_in m n xs le (subst (λ (z : ℤ). IsAbove z xs) same h.0)) (or_false (int_eq m n))
 
+pub is_in-head : (head : Option ℤ) (xs : List ℤ) (m n : ℤ) → IsRising (numbers_by head xs) → head ≡ Some m → n ≤ℤ m
+    → is_in (numbers_by head xs) n ≡ int_eq m n
+is_in-head head xs m n h e le = is_in-first m n (numbers_by head xs) h (rw e refl) le
+
 -- `==` compares the words, which are equal exactly for equal numbers
 same_test : (m n : ℕ) (a b : ℤ) → (m ≡ n → a ≡ b) → (a ≡ b → m ≡ n) → nat_eq m n ≡ int_eq a b
 same_test m n a b back forth = grind (arith, ints)
@@ -165,50 +147,47 @@ pub same_word : (w : Width) (a b : ℤ) → FitsSigned w a → FitsSigned w b �
 same_word w a b f g =
     same_test (of_z w a) (of_z w b) a b (λ e. sym (to_z-of_z w a f) ∙ ap (to_z w) e ∙ to_z-of_z w b g) (ap (of_z w))
 
--- a list that is later than another is shorter
-pub later-shorter : (m : ℤ) (xs ys : List ℤ) → first xs ≡ Some m → ys ≡ later xs → length ys < length xs
-later-shorter m [] ys at e = absurd (cc)
-later-shorter m (x ∷ xs) ys at e = rw e (omega arith)
+-- a list with a number in front has from above that number on what it had
+IsSameFrom-later : (m n : ℤ) (xs : List ℤ) → m <ℤ n → IsSameFrom n xs (m ∷ xs)
+IsSameFrom-later m n xs h i le =
+    let lt : m <ℤ i = omega (arith, ints) in
+    rw (other_value m i lt)
 
--- from a number on, another list has what it had
-is_in-kept : (y n i : ℤ) (ys : List ℤ) (low : Bool) → int_lt y n ≡ low → n ≤ℤ i → is_in (cond (not low) (y ∷ ys) ys) i ≡ (int_eq y i || is_in ys i)
-is_in-kept y n i ys true h le =
-    let lt : y <ℤ i = grind (arith, ints) in
-    rw (other_value y i lt)
-is_in-kept y n i ys false h le = refl
+-- so a source that has taken its next number in the place of one below
+pub followed : (m n : ℤ) (xs ys zs : List ℤ) → m <ℤ n → xs ≡ ys → IsSameFrom n zs ys → IsSameFrom n zs xs
+followed m n xs ys zs h e same i le = same i le ∙ ap (λ (l : List ℤ). is_in l i) (sym e)
 
-is_in-from : (n i : ℤ) (ys : List ℤ) → n ≤ℤ i → is_in (from n ys) i ≡ is_in ys i
-is_in-from n i [] le = refl
-is_in-from n i (y ∷ ys) le =
-    is_in-kept y n i (from n ys) (int_lt y n) refl le ∙ ap (λ (b : Bool). int_eq y i || b) (is_in-from n i ys le)
-
-without-from : (n : ℤ) (xs ys : List ℤ) → IsAbove n xs → without xs (from n ys) ≡ without xs ys
+-- lists with the same numbers from one number on leave the same of a list above that number
+without-same : (n : ℤ) (xs ys zs : List ℤ) → IsAbove n xs → IsSameFrom n zs ys → without xs zs ≡ without xs ys
 unfolding without
-without-from n [] ys h = refl
-without-from n (x ∷ xs) ys h =
+without-same n [] ys zs h same = refl
+without-same n (x ∷ xs) ys zs h same =
     let up = h.0 in
     let le : n ≤ℤ x = omega (arith, ints, up) in
-    let rest = without-from n xs ys h.1 in
-    rw (is_in-from n x ys le) (ap (λ (l : List ℤ). cond (not (is_in ys x)) (x ∷ l) l) rest)
+    let rest = without-same n xs ys zs h.1 same in
+    rw (same x le) (ap (λ (l : List ℤ). cond (not (is_in ys x)) (x ∷ l) l) rest)
 
 -- one turn: the first number of the sources is an exception and is passed over, or it is given
-without-first : (n : ℤ) (xs ys : List ℤ) → first xs ≡ Some n → IsRising xs → without xs ys ≡ cond (not (is_in ys n)) (n ∷ without (later xs) (from n ys)) (without (later xs) (from n ys))
+without-first : (n : ℤ) (xs ys zs : List ℤ) → first xs ≡ Some n → IsRising xs → IsSameFrom n zs ys
+    → without xs ys ≡ cond (not (is_in ys n)) (n ∷ without (later xs) zs) (without (later xs) zs)
 unfolding without
-without-first n [] ys at h = absurd (cc)
-without-first n (x ∷ xs) ys at h =
-    let same : x ≡ n = cc in
-    let rest = without-from n xs ys (subst (λ (z : ℤ). IsAbove z xs) same h.0) in
-    rw (same) (ap (λ (l : List ℤ). cond (not (is_in ys n)) (n ∷ l) l) (sym rest))
+without-first n [] ys zs at h same = absurd (cc)
+without-first n (x ∷ xs) ys zs at h same =
+    let here : x ≡ n = cc in
+    let rest = without-same n xs ys zs (subst (λ (z : ℤ). IsAbove z xs) here h.0) same in
+    rw (here) (ap (λ (l : List ℤ). cond (not (is_in ys n)) (n ∷ l) l) (sym rest))
 
-pub without-passed : (n : ℤ) (xs ys : List ℤ) → first xs ≡ Some n → IsRising xs → is_in ys n ≡ true → without (later xs) (from n ys) ≡ without xs ys
-without-passed n xs ys at h there =
-    let turn = without-first n xs ys at h in
-    sym (turn ∙ ap (λ (b : Bool). cond (not b) (n ∷ without (later xs) (from n ys)) (without (later xs) (from n ys))) there)
+pub without-passed : (n : ℤ) (xs ys zs : List ℤ) → first xs ≡ Some n → IsRising xs → IsSameFrom n zs ys → is_in ys n ≡ true
+    → without (later xs) zs ≡ without xs ys
+without-passed n xs ys zs at h same there =
+    let turn = without-first n xs ys zs at h same in
+    sym (turn ∙ ap (λ (b : Bool). cond (not b) (n ∷ without (later xs) zs) (without (later xs) zs)) there)
 
-pub without-given : (n : ℤ) (xs ys : List ℤ) → first xs ≡ Some n → IsRising xs → is_in ys n ≡ false → without xs ys ≡ n ∷ without (later xs) (from n ys)
-without-given n xs ys at h lacks =
-    let turn = without-first n xs ys at h in
-    turn ∙ ap (λ (b : Bool). cond (not b) (n ∷ without (later xs) (from n ys)) (without (later xs) (from n ys))) lacks
+pub without-given : (n : ℤ) (xs ys zs : List ℤ) → first xs ≡ Some n → IsRising xs → IsSameFrom n zs ys → is_in ys n ≡ false
+    → without xs ys ≡ n ∷ without (later xs) zs
+without-given n xs ys zs at h same lacks =
+    let turn = without-first n xs ys zs at h same in
+    turn ∙ ap (λ (b : Bool). cond (not b) (n ∷ without (later xs) zs) (without (later xs) zs)) lacks
 
 pub without-nothing : (xs ys : List ℤ) → first xs ≡ None → without xs ys ≡ []
 unfolding without
@@ -228,28 +207,8 @@ passed-first m (x ∷ xs) at =
     let le : x ≤ℤ m = omega (arith, ints) in
     rw (not_lt_test m x le) refl
 
--- what of each list is from a number on is what of their union is
-HasAny-from : (n : ℤ) (xss : List (List ℤ)) (i : ℤ) → HasAny (map (from n) xss) i ↔ (HasAny xss i × (not (int_lt i n) ≡ true))
-HasAny-from n [] i = (λ m. absurd m, λ p. p.0)
-HasAny-from n (xs ∷ xss) i =
-    let here = Has-filter (λ x. not (int_lt x n)) xs i in
-    let rest = HasAny-from n xss i in (
-      λ m. elim m [ inl k ↦ (inl (here.0 k).0, (here.0 k).1) | inr k ↦ (inr (rest.0 k).0, (rest.0 k).1) ],
-      λ p. elim p.0 [ inl k ↦ inl (here.1 (k, p.1)) | inr k ↦ inr (rest.1 (k, p.1)) ],
-    )
-
-pub union-from : (n : ℤ) (xss : List (List ℤ)) → union (map (from n) xss) ≡ from n (union xss)
-union-from n xss =
-    same_rising (union (map (from n) xss)) (from n (union xss)) (IsRising-union (map (from n) xss)) (IsRising-filter (λ x. not (int_lt x n)) (union xss) (IsRising-union xss))
-    (λ i.
-    let each = HasAny-from n xss i in
-    let whole = Has-filter (λ x. not (int_lt x n)) (union xss) i in (
-      λ m. let p = each.0 ((Has-union (map (from n) xss) i).0 m) in whole.1 ((Has-union xss i).1 p.0, p.1),
-      λ m. let p = whole.0 m in (Has-union (map (from n) xss) i).1 (each.1 ((Has-union xss i).0 p.0, p.1)),
-    ))
-
--- and it has a number where one of the lists has it
-same_truth : (a b : Bool) → (a ≡ true → b ≡ true) → (b ≡ true → a ≡ true) → a ≡ b
+-- a union has a number where one of the lists has it
+pub same_truth : (a b : Bool) → (a ≡ true → b ≡ true) → (b ≡ true → a ≡ true) → a ≡ b
 same_truth true b h k = sym (h refl)
 same_truth false true h k = k refl
 same_truth false false h k = refl
@@ -270,15 +229,31 @@ any-union n xss =
     (λ h. is_in-Has (union xss) n ((Has-union xss n).1 (any-HasAny n xss h)))
     (λ h. HasAny-any n xss ((Has-union xss n).0 (Has-is_in (union xss) n h)))
 
--- one source more may have it
-any_next : (n : ℤ) (ss : List Stream) (i : ℕ) (d : Stream) → i < length ss
-    → list_any (λ xs. is_in xs n) (map numbers (take (suc i) ss)) ≡ (list_any (λ xs. is_in xs n) (map numbers (take i ss)) || is_in (numbers (get_or ss i d)) n)
-any_next n [] i d h = absurd (omega arith)
-any_next n (s ∷ ss) zero d h = or_false (is_in (numbers s) n)
-any_next n (s ∷ ss) (suc i) d h =
-    ap (λ (b : Bool). is_in (numbers s) n || b) (any_next n ss i d (omega arith))
-    ∙ or_three (is_in (numbers s) n) (list_any (λ xs. is_in xs n) (map numbers (take i ss))) (is_in (numbers (get_or ss i d)) n)
+-- whether one of the sources has it: none of them has, or this one has
+pub any-none : (n : ℤ) (ss : List Stream) → ((k : ℕ) → k < length ss → (d : Stream) → is_in (numbers (get_or ss k d)) n ≡ false)
+    → list_any (λ xs. is_in xs n) (map numbers ss) ≡ false
+any-none n [] h = refl
+any-none n (s ∷ ss) h =
+    rw (h zero (omega arith) s) (any-none n ss (λ (k : ℕ) (lt : k < length ss) (d : Stream). h (suc k) (omega arith) d))
 
-pub any_more : (n : ℤ) (ss : List Stream) (i : ℕ) (d : Stream) → i < length ss
-    → list_any (λ xs. is_in xs n) (map numbers (take (i + 1) ss)) ≡ (list_any (λ xs. is_in xs n) (map numbers (take i ss)) || is_in (numbers (get_or ss i d)) n)
-any_more n ss i d h = rw (add-one i) (any_next n ss i d h)
+pub any-here : (n : ℤ) (ss : List Stream) (i : ℕ) (d : Stream) → i < length ss → is_in (numbers (get_or ss i d)) n ≡ true
+    → list_any (λ xs. is_in xs n) (map numbers ss) ≡ true
+any-here n [] i d lt h = absurd (omega arith)
+any-here n (s ∷ ss) zero d lt h = rw h refl
+any-here n (s ∷ ss) (suc i) d lt h = rw (any-here n ss i d (omega arith) h) (or_true (is_in (numbers s) n))
+
+-- one source in the place of another that has it too, or lacks it too
+pub any-set : (n : ℤ) (ss : List Stream) (i : ℕ) (s d : Stream) → i < length ss → is_in (numbers s) n ≡ is_in (numbers (get_or ss i d)) n
+    → list_any (λ xs. is_in xs n) (map numbers (set ss i s)) ≡ list_any (λ xs. is_in xs n) (map numbers ss)
+any-set n [] i s d lt h = absurd (omega arith)
+any-set n (x ∷ ss) zero s d lt h = ap (λ (b : Bool). b || list_any (λ xs. is_in xs n) (map numbers ss)) h
+any-set n (x ∷ ss) (suc i) s d lt h = ap (λ (b : Bool). is_in (numbers x) n || b) (any-set n ss i s d (omega arith) h)
+
+-- whether a number is left without exceptions
+pub is_in-without : (xs ys : List ℤ) (n : ℤ) → is_in (without xs ys) n ≡ (is_in xs n && not (is_in ys n))
+unfolding without
+is_in-without xs ys n =
+    same_truth (is_in (without xs ys) n) (is_in xs n && not (is_in ys n))
+    (λ h. let m = (Has-without xs ys n).0 (Has-is_in (without xs ys) n h) in
+    and_both (is_in xs n) (not (is_in ys n)) (is_in-Has xs n m.0) (not_in-by (is_in ys n) (λ e. m.1 (Has-is_in ys n e))))
+    (λ h. is_in-Has (without xs ys) n ((Has-without xs ys n).1 (Has-is_in xs n (and_left (is_in xs n) (not (is_in ys n)) h), not_in-Has ys n (and_right (is_in xs n) (not (is_in ys n)) h))))

@@ -1,5 +1,5 @@
 -- Strictly rising lists of numbers, the union of several lists as one of these, and a list without the numbers of another.
-use Rattle.std.specs.Prelude.{◌≡◌, ◌⊎◌, ◌↔◌, cond, Bool, not, filter, List, [], ◌∷◌, Option, None, Some, ℤ, ◌<ℤ◌, int_lt}
+use Rattle.std.specs.Prelude.{◌≡◌, ◌⊎◌, ◌↔◌, cond, Bool, not, filter, List, [], ◌∷◌, Option, None, Some, ℤ, ◌<ℤ◌, ◌≤ℤ◌, int_lt}
 use Rattle.std.specs.List.{list_any}
 use Rattle.std.specs.Ordering.{int_eq}
 
@@ -60,9 +60,9 @@ is_in xs i = list_any (λ x. int_eq x i) xs
 unfoldable pub without : List ℤ → List ℤ → List ℤ
 without xs ys = filter (λ x. not (is_in ys x)) xs
 
--- the numbers of a list from this one on
-abbrev pub from : ℤ → List ℤ → List ℤ
-from i xs = filter (λ x. not (int_lt x i)) xs
+-- from this number on, two lists have the same numbers
+abbrev pub IsSameFrom : ℤ → List ℤ → List ℤ → Type 0
+IsSameFrom n xs ys = (i : ℤ) → n ≤ℤ i → is_in xs i ≡ is_in ys i
 
 -- the list rises, and its numbers are those of the first lists that none of the second ones has
 pub record IsUnionWithout (xss yss : List (List ℤ)) (xs : List ℤ) : Type 0 where

@@ -2,6 +2,7 @@
 
 ghost use Rattle.std.specs.Prelude.{◌≡◌, None};
 ghost use Rattle.cal_rising.specs.Merge.{HasHead, numbers, passed};
+ghost use Rattle.cal_rising.specs.RisingList.{IsSameFrom, is_in};
 
 use crate::Rising;
 use std::marker::Model;
@@ -57,5 +58,26 @@ impl<S: Rising> Branch<S> {
         if self.head.is_some_and(|head| head <= number) {
             self.head = None;
         }
+    }
+
+    /// Whether it has still to give the number. The number that was taken is the answer, where it isn't below this one.
+    pub fn has(&mut self, number: i64) -> bool
+        ensures has { result ≡ is_in (numbers self.old) number }
+        ensures same { numbers self.new ≡ numbers self.old }
+    {
+        match self.head {
+            Some(head) if number <= head => head == number,
+            _ => self.source.has(number),
+        }
+    }
+
+    /// Takes the next number of the source in the place of one below this number.
+    pub fn follow(&mut self, number: i64)
+        ensures { IsSameFrom number (numbers self.new) (numbers self.old) }
+    {
+        if self.head.is_some_and(|head| head < number) {
+            self.head = None;
+        }
+        self.fetch();
     }
 }

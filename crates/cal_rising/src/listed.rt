@@ -35,5 +35,12 @@ impl Rising for Listed {
         number
     }
 
+    fn has(&mut self, number: i64) -> bool {
+        self.numbers
+            .iter()
+            .skip(self.given)
+            .any(|here| *here == number)
+    }
+
     ghost rises = { λ listed. listed.rising };
 }

@@ -77,11 +77,15 @@ impl<S: Rising> Rising for Merge<S> {
     {
         self.started = true;
         while let Some(number) = self.sources.next() {
-            if !self.exceptions.has_from(number) {
+            if !self.exceptions.has_onward(number) {
                 return Some(number);
             }
         }
         None
+    }
+
+    fn has(&mut self, number: i64) -> bool {
+        self.sources.has(number) && !self.exceptions.has(number)
     }
 
     ghost use Rattle.cal_rising.specs.RisingList.{union};

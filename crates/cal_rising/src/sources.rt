@@ -1,9 +1,9 @@
 //! Several sources of rising numbers, given as one.
 
-ghost use Rattle.std.specs.Prelude.{◌≡◌, ◌++◌, ◌∷◌, [], map, true, false, IfErr, OnErr, OnOk};
+ghost use Rattle.std.specs.Prelude.{◌≡◌, ◌++◌, ◌∷◌, [], map, true, false, ℤ, ◌≤ℤ◌, IfErr, OnErr, OnOk};
 ghost use Rattle.std.specs.List.{All, list_any};
 ghost use Rattle.cal_rising.specs.Merge.{HasHead, lesser, numbers, passed};
-ghost use Rattle.cal_rising.specs.RisingList.{first, from, is_in, later, union};
+ghost use Rattle.cal_rising.specs.RisingList.{IsSameFrom, first, is_in, later, union};
 
 use crate::Rising;
 use crate::branch::Branch;
@@ -48,12 +48,12 @@ impl<S: Rising> Sources<S> {
         Ok(())
     }
 
-    /// Whether one of the sources has the number. Each passes over its numbers below it.
-    pub fn has_from(&mut self, number: i64) -> bool
+    /// Whether one of the sources has the number, where no number below it is asked for again.
+    pub fn has_onward(&mut self, number: i64) -> bool
         ensures has { result ≡ is_in (union self.old) number }
-        ensures left { union self.new ≡ from number (union self.old) }
+        ensures left { IsSameFrom number (union self.new) (union self.old) }
     {
-        pass_all_below(&mut self.branches, number)
+        follow_all(&mut self.branches, number)
     }
 }
 
@@ -71,6 +71,10 @@ impl<S: Rising> Rising for Sources<S> {
             pass_all(&mut self.branches, number);
         }
         least
+    }
+
+    fn has(&mut self, number: i64) -> bool {
+        any_has(&mut self.branches, number)
     }
 
     ghost use Rattle.cal_rising.specs.Rises.{IsRising-union};
@@ -111,32 +115,33 @@ fn pass_all<S: Rising>(branches: &mut Vec<Branch<S>>, number: i64)
     }
 }
 
-/// Whether one of the sources has the number. Each passes over its numbers below it.
-fn pass_all_below<S: Rising>(branches: &mut Vec<Branch<S>>, number: i64) -> bool
+/// Whether one of the sources has the number.
+fn any_has<S: Rising>(branches: &mut Vec<Branch<S>>, number: i64) -> bool
     ensures has { result ≡ list_any (λ xs. is_in xs number) (map numbers branches.old.items) }
-    ensures left { map numbers branches.new.items ≡ map (from number) (map numbers branches.old.items) }
+    ensures same { map numbers branches.new.items ≡ map numbers branches.old.items }
 {
-    let mut has = false;
     for branch in branches.iter_mut() {
-        let here = pass_below(branch, number);
-        has = has || here;
-    }
-    has
-}
-
-/// Whether the source has the number. It passes over its numbers below it.
-fn pass_below<S: Rising>(branch: &mut Branch<S>, number: i64) -> bool
-    ensures has { result ≡ is_in (numbers branch.old) number }
-    ensures left { numbers branch.new ≡ from number (numbers branch.old) }
-{
-    loop {
-        branch.fetch();
-        match branch.head() {
-            Some(head) if head < number => branch.pass(head),
-            Some(head) => return head == number,
-            None => return false,
+        if branch.has(number) {
+            return true;
         }
     }
+    false
+}
+
+/// The same, where no number below this one is asked for again. A source that is behind it is asked once, and where it
+/// lacks the number it takes one step.
+fn follow_all<S: Rising>(branches: &mut Vec<Branch<S>>, number: i64) -> bool
+    ensures has { result ≡ list_any (λ xs. is_in xs number) (map numbers branches.old.items) }
+    ensures left { (i : ℤ) → number ≤ℤ i → list_any (λ xs. is_in xs i) (map numbers branches.new.items)
+        ≡ list_any (λ xs. is_in xs i) (map numbers branches.old.items) }
+{
+    for branch in branches.iter_mut() {
+        if branch.has(number) {
+            return true;
+        }
+        branch.follow(number);
+    }
+    false
 }
 
 /// The lesser of two numbers, of which either may be missing.

@@ -2,6 +2,7 @@ pub mod AlikeLemmas
 pub mod CivilLemmas
 pub mod DayLemmas
 pub mod DigitLemmas
+pub mod LocalAtLemmas
 pub mod OffsetLemmas
 pub mod OffsetWordLemmas
 pub mod PeriodLemmas

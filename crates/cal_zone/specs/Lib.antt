@@ -4,6 +4,7 @@ pub mod Days
 pub mod Instant
 pub mod InstantText
 pub mod Local
+pub mod LocalAt
 pub mod OffsetWord
 pub mod Period
 pub mod Place

@@ -57,7 +57,7 @@ pub(crate) fn civil_at(offset: Offset, instant: Instant) -> Civil
 }
 
 /// How far the zone's clock is ahead of UTC at the instant.
-fn offset_in(zone: Zone, timestamp: Timestamp) -> Offset
+pub(crate) fn offset_in(zone: Zone, timestamp: Timestamp) -> Offset
     ensures { result.seconds ≡ offset_at (zone_of zone.entry) timestamp.nanosecond }
 {
     match zone.kind {

@@ -2,12 +2,13 @@
 
 ghost use Rattle.std.specs.Prelude.{◌≡◌, IfSome};
 ghost use Rattle.cal_zone.specs.Local.{IsLocalSecond};
+ghost use Rattle.cal_zone.specs.LocalAt.{IsLocalAt};
 ghost use Rattle.cal_zone.specs.Place.{place_of};
 ghost use Rattle.cal_zone.specs.Zone.{zone_of};
 
-use crate::stretch::{Stretch, stretch_of};
+use crate::stretch::{END, Stretch, stretch_of};
 use crate::zone::ZoneKind;
-use crate::{Zone, place};
+use crate::{Instant, Zone, local_at, place};
 use std::marker::Model;
 
 /// How many local seconds are placed by the zone's rules, each by itself, where no steady stretch is known.
@@ -86,6 +87,34 @@ impl<'z> Placer<'z> {
             return Some(self.stretch.offset);
         }
         None
+    }
+
+    /// The local second whose place is the instant, as [`local_at`] has it.
+    pub fn local_at(&mut self, instant: Instant) -> Option<u64>
+        ensures value { IsLocalAt (zone_of self.old) instant.secs result }
+        ensures zone { self.new ≡ self.old }
+    {
+        if let Some(local) = instant.secs().checked_add(self.stretch.offset) {
+            if 0 <= local && self.stretch.from <= local && local < self.stretch.to && local < END {
+                return Some(local as u64);
+            }
+        }
+        self.local_outside(instant)
+    }
+
+    /// The same of an instant that the stretch doesn't reach, as the zone's rules say. A stretch that does is sought for
+    /// those that come next.
+    #[cold]
+    #[inline(never)]
+    fn local_outside(&mut self, instant: Instant) -> Option<u64>
+        ensures value { IsLocalAt (zone_of self.old) instant.secs result }
+        ensures zone { self.new ≡ self.old }
+    {
+        let local = local_at(self.zone, instant)?;
+        if local as i64 >= self.seek_from {
+            self.seek(local as i64);
+        }
+        Some(local)
     }
 
     /// The place of a local second that isn't in the stretch, as the zone's rules say. A stretch that has it is sought

@@ -46,7 +46,7 @@ pub(crate) fn stretch_of(zone: Zone, local: i64) -> Option<Stretch>
 }
 
 /// The local second after the last.
-const END: i64 = (DAYS * DAY) as i64;
+pub(crate) const END: i64 = (DAYS * DAY) as i64;
 
 /// All local seconds, each so far ahead of its place.
 fn whole(offset: i64) -> Stretch

@@ -1,32 +1,35 @@
 use Rattle.std.proofs.Common.{rules, ◌∙◌, ◌≡◌, FitsSigned, List, ℤ, None, Some, ap, false, sym, true, w64}
 use Rattle.std.proofs.lemmas.Int.{to_z-of_z}
 use Rattle.cal_rising.specs.Rises.{IsRising-union}
-use Rattle.cal_rising.specs.RisingList.{first, is_in, later, union, without}
+use Rattle.cal_rising.specs.RisingList.{IsSameFrom, first, is_in, later, union, without}
 use Rattle.cal_rising.proofs.WithoutLemmas.{without-given, without-later-nothing, without-nothing, without-passed}
 use Rattle.cal_rising.proofs.merge.MergeRising.next.Goals as goal
 
-pub returns-then-not-has_from-clause-given : goal.returns-then-not-has_from-clause-given
-returns-then-not-has_from-clause-given g c =
+pub returns-then-not-has_onward-clause-given : goal.returns-then-not-has_onward-clause-given
+returns-then-not-has_onward-clause-given g c =
     let number = c.in-Some.number in
     let fits : FitsSigned w64 number = search rules in
     let lists = c.loop-number.self-inside.sources in
     let excepts = union c.loop-number.self-inside.exceptions in
+    let left = union c.has_onward.new.self in
+    let onward : IsSameFrom number left excepts = λ i le. c.has_onward.ensures.left i (rw (to_z-of_z w64 number fits) le) in
     let at : first (union lists) ≡ Some number = sym c.next.ensures.given ∙ c.in-Some.is in
-    let lacks : is_in excepts number ≡ false = sym (rw (to_z-of_z w64 number fits) at c.has_from.ensures.has) ∙ c.if-not-has_from.true in
+    let lacks : is_in excepts number ≡ false = sym (rw (to_z-of_z w64 number fits) at c.has_onward.ensures.has) ∙ c.if-not-has_onward.true in
     rw (to_z-of_z w64 number fits)
-    (ap first (sym (without-given number (union lists) excepts at (IsRising-union lists) lacks) ∙ c.loop-number.invariant.same))
+    (ap first (sym (without-given number (union lists) excepts left at (IsRising-union lists) onward lacks) ∙ c.loop-number.invariant.same))
 
-pub returns-then-not-has_from-clause-left : goal.returns-then-not-has_from-clause-left
-returns-then-not-has_from-clause-left g c =
+pub returns-then-not-has_onward-clause-left : goal.returns-then-not-has_onward-clause-left
+returns-then-not-has_onward-clause-left g c =
     let number = c.in-Some.number in
     let fits : FitsSigned w64 number = search rules in
     let lists = c.loop-number.self-inside.sources in
     let excepts = union c.loop-number.self-inside.exceptions in
+    let left = union c.has_onward.new.self in
+    let onward : IsSameFrom number left excepts = λ i le. c.has_onward.ensures.left i (rw (to_z-of_z w64 number fits) le) in
     let at : first (union lists) ≡ Some number = sym c.next.ensures.given ∙ c.in-Some.is in
-    let lacks : is_in excepts number ≡ false = sym (rw (to_z-of_z w64 number fits) at c.has_from.ensures.has) ∙ c.if-not-has_from.true in
-    ap (λ (xs : List ℤ). without xs (union c.has_from.new.self)) c.next.ensures.left
-    ∙ ap (λ (ys : List ℤ). without (later (union lists)) ys) (rw (to_z-of_z w64 number fits) at c.has_from.ensures.left)
-    ∙ ap later (sym (without-given number (union lists) excepts at (IsRising-union lists) lacks) ∙ c.loop-number.invariant.same)
+    let lacks : is_in excepts number ≡ false = sym (rw (to_z-of_z w64 number fits) at c.has_onward.ensures.has) ∙ c.if-not-has_onward.true in
+    ap (λ (xs : List ℤ). without xs left) c.next.ensures.left
+    ∙ ap later (sym (without-given number (union lists) excepts left at (IsRising-union lists) onward lacks) ∙ c.loop-number.invariant.same)
 
 pub loop-number-preserved : goal.loop-number-preserved
 loop-number-preserved g c =
@@ -34,13 +37,14 @@ loop-number-preserved g c =
     let fits : FitsSigned w64 number = search rules in
     let lists = c.loop-number.self-inside.sources in
     let excepts = union c.loop-number.self-inside.exceptions in
+    let left = union c.has_onward.new.self in
+    let onward : IsSameFrom number left excepts = λ i le. c.has_onward.ensures.left i (rw (to_z-of_z w64 number fits) le) in
     let at : first (union lists) ≡ Some number = sym c.next.ensures.given ∙ c.in-Some.is in
-    let there : is_in excepts number ≡ true = sym (rw (to_z-of_z w64 number fits) at c.has_from.ensures.has) ∙ c.if-not-has_from.false in
+    let there : is_in excepts number ≡ true = sym (rw (to_z-of_z w64 number fits) at c.has_onward.ensures.has) ∙ c.if-not-has_onward.false in
     record {
       started = c.loop-number.invariant.started;
-      same = ap (λ (xs : List ℤ). without xs (union c.has_from.new.self)) c.next.ensures.left
-          ∙ ap (λ (ys : List ℤ). without (later (union lists)) ys) (rw (to_z-of_z w64 number fits) at c.has_from.ensures.left)
-          ∙ without-passed number (union lists) excepts at (IsRising-union lists) there
+      same = ap (λ (xs : List ℤ). without xs left) c.next.ensures.left
+          ∙ without-passed number (union lists) excepts left at (IsRising-union lists) onward there
           ∙ c.loop-number.invariant.same;
     }
 

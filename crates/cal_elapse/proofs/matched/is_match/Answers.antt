@@ -1,0 +1,36 @@
+use Rattle.std.proofs.Common.{◌≡◌, ◌∙◌, ◌&&◌, ◌/◌, ◌%◌, Bool, true, false, arith, refl, sym}
+use Rattle.cal_zone.specs.Local.{seconds_in_all-is}
+use Rattle.cal_elapse.specs.Masks.{sets_in}
+use Rattle.cal_elapse.specs.Months.{day_in}
+use Rattle.cal_spec.specs.Match.{matches, time_in}
+use Rattle.cal_elapse.proofs.CarryLemmas.{last_false, split_at}
+use Rattle.cal_elapse.proofs.SearchLemmas.{locals_split}
+use Rattle.cal_elapse.proofs.matched.is_match.Goals as goal
+
+and_true : (b : Bool) → (b && true) ≡ b
+and_true true = refl
+and_true false = refl
+
+pub overflow_cast-local-then-has_time : goal.overflow_cast-local-then-has_time
+overflow_cast-local-then-has_time c = let count = seconds_in_all-is in omega arith
+
+pub has_day-requires : goal.has_day-requires
+has_day-requires c = let count = seconds_in_all-is in omega arith
+
+pub returns-then-has_time : goal.returns-then-has_time
+returns-then-has_time c =
+    let sets = sets_in c.args.masks.now in
+    let t = c.args.local in
+    let count = seconds_in_all-is in
+    let whole : matches sets t ≡ (day_in sets (t / 86_400) && time_in sets (t % 86_400)) = split_at _ _ _ 86_400 84_006 (locals_split sets) (t / 86_400) t (omega arith) refl in
+    let time : time_in sets (t % 86_400) ≡ true = cc in
+    rw (whole, time) (c.has_day.ensures ∙ sym (and_true (day_in sets (t / 86_400))))
+
+pub returns-else-has_time : goal.returns-else-has_time
+returns-else-has_time c =
+    let sets = sets_in c.args.masks.now in
+    let t = c.args.local in
+    let count = seconds_in_all-is in
+    let whole : matches sets t ≡ (day_in sets (t / 86_400) && time_in sets (t % 86_400)) = split_at _ _ _ 86_400 84_006 (locals_split sets) (t / 86_400) t (omega arith) refl in
+    let time : time_in sets (t % 86_400) ≡ false = cc in
+    c.if-has_time.false ∙ sym (whole ∙ last_false (day_in sets (t / 86_400)) (time_in sets (t % 86_400)) time)

@@ -1,0 +1,44 @@
+//! Whether a local second matches, seen by looking at it (systemd.time(7), Calendar Events).
+
+ghost use Rattle.std.specs.Prelude.{◌≡◌, ◌<◌};
+ghost use Rattle.cal_zone.specs.Local.{seconds_in_all};
+ghost use Rattle.cal_elapse.specs.Masks.{sets_in};
+ghost use Rattle.cal_elapse.specs.Months.{day_in};
+ghost use Rattle.cal_spec.specs.Match.{matches, time_in};
+
+use crate::Masks;
+use crate::bits::has_bit;
+use crate::month::month_of_day;
+use crate::month_days::MonthDays;
+use crate::month_search::has_month;
+use crate::time_search::has_minute;
+use cal_zone::DAY;
+
+/// Whether a local second matches. Its time of day is looked at first, as that costs the least.
+pub(crate) fn is_match(masks: &Masks, local: u64) -> bool
+    requires { local < seconds_in_all }
+    ensures { result ≡ matches (sets_in masks.now) local }
+{
+    has_time(masks, (local % DAY) as u32) && has_day(masks, (local / DAY) as u32)
+}
+
+/// Whether the hour, the minute and the second are members.
+fn has_time(masks: &Masks, second: u32) -> bool
+    requires { second < 86_400 }
+    ensures { result ≡ time_in (sets_in masks.now) second }
+{
+    has_minute(masks, second / 60) && has_bit(masks.seconds, second % 60)
+}
+
+/// Whether a day matches, by its number from 1970-01-01 on, which is below 84,006.
+fn has_day(masks: &Masks, day: u32) -> bool
+    requires { day < 84_006 }
+    ensures { result ≡ day_in (sets_in masks.now) day }
+{
+    let month = month_of_day(day);
+    if !has_month(masks, month.index) {
+        return false;
+    }
+    let mut looks = 0;
+    MonthDays::of(masks, month, &mut looks).has(day - month.first)
+}
