@@ -2,6 +2,7 @@
 #![tactic(auto)]
 
 mod bits;
+mod covers;
 mod day_search;
 mod elapses;
 pub mod laws;
