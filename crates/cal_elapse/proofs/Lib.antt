@@ -3,6 +3,7 @@ pub mod BitLemmas
 pub mod CarryLemmas
 pub mod CellLemmas
 pub mod CountLemmas
+pub mod CoveredLemmas
 pub mod DayLemmas
 pub mod ElapsesLemmas
 pub mod FillLemmas

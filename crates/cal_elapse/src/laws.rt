@@ -6,6 +6,7 @@ ghost use Rattle.jiff.specs.Types.{TimeZone};
 ghost use Rattle.cal_zone.specs.Instant.{IsInstant};
 ghost use Rattle.cal_spec.specs.Fields.{Fields};
 ghost use Rattle.cal_elapse.specs.Elapses.{Timed, AreElapses, elapses_after, elapses_except};
+ghost use Rattle.cal_elapse.specs.Covered.{AreKept};
 ghost use Rattle.cal_elapse.specs.Merged.{each_after};
 ghost use Rattle.cal_rising.specs.RisingList.{first, Has, union, without};
 ghost use Rattle.cal_elapse.specs.Timed.{timed};
@@ -24,6 +25,13 @@ pub fn elapses_are_one_list()
 pub fn elapses_of_each()
     ensures { (es excepts : List Timed) (base : ℤ) → without (union (each_after es base)) (union (each_after excepts base))
         ≡ elapses_except es excepts base }
+{}
+
+/// An expression of which each elapse is one of the exceptions may be left out: of expressions in whose place some of them
+/// are kept, the elapses stay the same where each elapse of the others is one of the exceptions.
+pub fn covered_are_left_out()
+    ensures { (all excepts kept : List Timed) (base : ℤ) → AreKept all excepts kept
+        → elapses_except kept excepts base ≡ elapses_except all excepts base }
 {}
 
 /// Starting again at one of the elapses gives exactly those after it.

@@ -3,6 +3,7 @@
 
 mod asked;
 mod bits;
+mod covers;
 mod day_search;
 mod elapses;
 pub mod laws;

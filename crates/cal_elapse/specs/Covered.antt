@@ -1,0 +1,28 @@
+-- Expressions that have no elapse of their own, since exceptions have all of theirs: systemd.timer(5), OnCalendar=.
+use Rattle.std.specs.Prelude.{◌≡◌, ◌⊎◌, ℕ, ℤ, Bool, true, List}
+use Rattle.cal_elapse.specs.Elapses.{IsElapse, IsPlace, Timed}
+use Rattle.cal_spec.specs.Match.{Sets}
+
+-- the one set has each number of the other
+abbrev pub HasAll : (ℕ → Bool) → (ℕ → Bool) → Type 0
+HasAll has inner = (n : ℕ) → inner n ≡ true → has n ≡ true
+
+-- the members of each field are among those of the others, and the days are counted from the same end of the month
+pub record AreAmong (sets others : Sets) : Type 0 where
+  pub weekday : HasAll others.weekday sets.weekday
+  pub year : HasAll others.year sets.year
+  pub month : HasAll others.month sets.month
+  pub day : HasAll others.day sets.day
+  pub hour : HasAll others.hour sets.hour
+  pub minute : HasAll others.minute sets.minute
+  pub second : HasAll others.second sets.second
+  pub from_end : sets.from_end ≡ others.from_end
+
+-- each elapse of the expression is one of the exceptions
+abbrev pub IsCovered : Timed → List Timed → Type 0
+IsCovered e excepts = (i : ℤ) → IsPlace e i → IsElapse excepts i
+
+-- of all these, some are kept, and each elapse of the others is one of the exceptions
+pub record AreKept (all excepts kept : List Timed) : Type 0 where
+  pub within : (i : ℤ) → IsElapse kept i → IsElapse all i
+  pub rest : (i : ℤ) → IsElapse all i → IsElapse kept i ⊎ IsElapse excepts i
