@@ -16,10 +16,15 @@ pub use Rattle.cal_zone.specs.Days
 pub use Rattle.cal_zone.specs.Instant
 pub use Rattle.cal_zone.specs.InstantText
 pub use Rattle.cal_zone.specs.Local
+pub use Rattle.cal_zone.specs.OffsetWord
+pub use Rattle.cal_zone.specs.Period
 pub use Rattle.cal_zone.specs.Place
 pub use Rattle.cal_zone.specs.Rules
+pub use Rattle.cal_zone.specs.ShownDay
+pub use Rattle.cal_zone.specs.Steady
 pub use Rattle.cal_zone.specs.Weekday
 pub use Rattle.cal_zone.specs.Zone
+pub use Rattle.cal_zone.specs.ZoneAhead
 pub use Rattle.cal_zone.specs.ZoneFault
 pub use Rattle.cal_zone.specs.ZoneFile
 pub use Rattle.cal_zone.specs.ZoneMap

@@ -10,7 +10,7 @@ pub use cal_span::{
     read_span, text_reads_back, whole_of, write_span,
 };
 pub use cal_zone::{
-    Civil, DAY, DAYS, Instant, Moment, Rules, WEEK, Zone, ZoneFault, ZoneTable, begins_with_letter,
-    civil, date_of_day, is_zone_name, laws, place, push_instant, settle, short_weekday_name,
-    weekday_name, write_instant,
+    Civil, Clock, DAY, DAYS, Instant, Moment, Placer, Rules, WEEK, Zone, ZoneFault, ZoneTable,
+    begins_with_letter, begins_zone, civil, date_of_day, is_zone_name, laws, place, push_instant,
+    push_offset, read_offset, settle, short_weekday_name, weekday_name, write_instant,
 };

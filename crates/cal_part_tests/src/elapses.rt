@@ -3,14 +3,13 @@
 
 mod filter;
 mod merges;
-mod searches;
 
-ghost use Rattle.cal_zone.specs.Local.{IsLocalSecond};
+ghost use Rattle.cal_base.specs.Local.{IsLocalSecond};
 
-use crate::shared::{NEW_YEAR, SUMMER_TIME, expr, instant, posix, zone_file};
+use crate::shared::{NEW_YEAR, expr, instant};
+use cal_base::Zone;
 use cal_elapse::{Elapses, Rising};
 use cal_spec::Expr;
-use cal_zone::{Rules, Zone};
 use std::alloc::Global;
 use std::process::Abort;
 use std::test::Fail;
@@ -23,7 +22,7 @@ fn has_local(expr: &Expr, local: i64) -> bool
 }
 
 /// The elapses of an expression in a zone that are later than a base.
-pub fn elapses_from<'z>(
+fn elapses_from<'z>(
     alloc: Global,
     expr: &Expr,
     zone: Zone<'z>,
@@ -33,7 +32,7 @@ pub fn elapses_from<'z>(
 }
 
 /// The elapses of a text in a zone that are later than a base.
-fn elapses_of<'z>(
+pub(crate) fn elapses_of<'z>(
     alloc: Global,
     text: &str,
     zone: Zone<'z>,
@@ -64,22 +63,6 @@ fn expect_elapses(
         expect_answers(rt, &mut elapses, answers);
     }
     Ok(())
-}
-
-static IN_UTC: [Row; 2] = [
-    // Never.
-    ("2100-02-29", 0, &[None]),
-    // The last second of 2199.
-    (
-        "23:59:59",
-        7_258_118_398,
-        &[Some(7_258_118_399), None, None],
-    ),
-];
-
-#[test]
-fn in_utc(rt: HostRuntime) -> Result<(), Fail> {
-    expect_elapses(&rt, Zone::utc(), &IN_UTC)
 }
 
 /// How far a clock is ahead of UTC, and a row of it.
@@ -128,35 +111,31 @@ fn at_offsets(rt: HostRuntime) -> Result<(), Fail> {
     Ok(())
 }
 
-/// In the gap of 2024-03-31 there is no elapse, and in the fold of 2024-10-27 the first one alone, also where the base
-/// lies between the two.
-static GAP_AND_FOLD: [Row; 3] = [
-    (
-        "02:30",
-        1_711_756_800,
-        &[Some(1_711_762_200), Some(1_711_931_400)],
-    ),
-    ("02:30", 1_729_991_400, &[Some(1_730_079_000)]),
-    (
-        "02:30",
-        1_729_987_200,
-        &[Some(1_729_989_000), Some(1_730_079_000)],
-    ),
-];
-
+/// One search by `new`, one for each of the seconds from the base less 93,599 to the third elapse plus 93,599, and so
+/// one more than these. Each ends in the month in which it begins, and looks at that one alone.
 #[test]
-fn gap_and_fold(rt: HostRuntime) -> Result<(), Fail> {
-    let rules = posix(rt.alloc(), SUMMER_TIME)?;
-    expect_elapses(&rt, Zone::rules(&rules), &GAP_AND_FOLD)
+fn searches_of_every_second(rt: HostRuntime) -> Result<(), Fail> {
+    let mut elapses = elapses_of(rt.alloc(), "*:*:*", Zone::utc(), NEW_YEAR)?;
+    assert_eq!(rt; elapses.searches(), 1);
+    for _ in 0..3 {
+        let _elapse = elapses.next();
+    }
+    assert_eq!(rt; (elapses.searches(), elapses.most_months()), (187_203, 1));
+    Ok(())
 }
 
-/// By the zone file, midnight is 23:00 in UTC.
+/// The next elapse, and how many searches were made by then.
+fn next_counted(elapses: &mut Elapses<'_>) -> (Option<i64>, u64) {
+    let elapse = elapses.next();
+    (elapse, elapses.searches())
+}
+
+/// A search without a match is one, and a call after the last elapse makes none.
 #[test]
-fn by_a_zone_file(rt: HostRuntime) -> Result<(), Fail> {
-    let bytes = zone_file(rt.alloc())?;
-    let Ok(rules) = Rules::file(rt.alloc(), "Test/Fixed", &bytes) else {
-        return Err("the zone file is refused".into());
-    };
-    let midnights: &[Option<i64>] = &[Some(1_704_150_000), Some(1_704_236_400)];
-    expect_elapses(&rt, Zone::rules(&rules), &[("daily", NEW_YEAR, midnights)])
+fn searches_to_the_end(rt: HostRuntime) -> Result<(), Fail> {
+    let mut elapses = elapses_of(rt.alloc(), "2024-01-02", Zone::utc(), NEW_YEAR)?;
+    for answer in [(Some(1_704_153_600), 2), (None, 2), (None, 2)] {
+        assert_eq!(rt; next_counted(&mut elapses), answer);
+    }
+    Ok(())
 }

@@ -1,6 +1,6 @@
 //! Calendar expressions: what is wrong with a text that is none, the normal text of one, and which seconds it has.
 
-use cal_bytes::Port;
+use cal_base::Port;
 use cal_spec::{SpecFault, read_expr, write_expr};
 use std::alloc::Global;
 use std::process::Abort;

@@ -7,13 +7,13 @@ mod bytes;
 #[cfg(test)]
 mod elapses;
 #[cfg(test)]
-mod exceptions;
-#[cfg(test)]
 mod expressions;
 #[cfg(test)]
 mod instants;
 #[cfg(test)]
 mod numbers;
+#[cfg(test)]
+mod refused;
 #[cfg(test)]
 mod searches;
 pub mod shared;

@@ -36,31 +36,44 @@ pub fn add_except<S: Rising + Drop>(merge: &mut Merge<S>, exception: S) -> Resul
     }
 }
 
-/// The merge of one list.
-pub fn merge_one(alloc: Global, numbers: &[i64]) -> Result<Merge<Listed>, AllocError>
-    requires { IsRising numbers.now }
-    ensures { IfOk result (λ merge. merge.started ≡ false) }
-{
-    let mut merge = Merge::new(alloc);
-    add(&mut merge, listed(alloc, numbers)?)?;
-    Ok(merge)
-}
-
 /// The merge of two lists.
 pub fn merge_two(alloc: Global, one: &[i64], two: &[i64]) -> Result<Merge<Listed>, AllocError>
     requires one { IsRising one.now }
     requires two { IsRising two.now }
     ensures { IfOk result (λ merge. merge.started ≡ false) }
 {
-    let mut merge = merge_one(alloc, one)?;
+    let mut merge = Merge::new(alloc);
+    add(&mut merge, listed(alloc, one)?)?;
     add(&mut merge, listed(alloc, two)?)?;
     Ok(merge)
 }
 
+/// The merge of two lists, without the numbers of a third.
+pub fn merge_without(
+    alloc: Global,
+    one: &[i64],
+    two: &[i64],
+    exception: &[i64],
+) -> Result<Merge<Listed>, AllocError>
+    requires one { IsRising one.now }
+    requires two { IsRising two.now }
+    requires exception { IsRising exception.now }
+    ensures { IfOk result (λ merge. merge.started ≡ false) }
+{
+    let mut merge = merge_two(alloc, one, two)?;
+    add_except(&mut merge, listed(alloc, exception)?)?;
+    Ok(merge)
+}
+
+/// The source gives these numbers.
+pub fn expect_first<S: Rising>(rt: &impl Abort, source: &mut S, numbers: &[i64]) {
+    for number in numbers {
+        assert!(rt; source.next() == Some(*number), "at {number}");
+    }
+}
+
 /// The source gives these numbers, and then nothing.
 pub fn expect_numbers<S: Rising>(rt: &impl Abort, source: &mut S, numbers: &[i64]) {
-    for number in numbers {
-        assert_eq!(rt; source.next(), Some(*number));
-    }
+    expect_first(rt, source, numbers);
     assert_eq!(rt; (source.next(), source.next()), (None, None));
 }

@@ -1,8 +1,8 @@
 //! What the rooms of both crates of tests share: values that are read from texts which are known to be good. Where one is
 //! refused, or memory is, the test fails.
 
+use cal_base::{Instant, Rules};
 use cal_spec::{Expr, read_expr};
-use cal_zone::{Instant, Rules};
 use std::alloc::{AllocError, Global};
 use std::test::Fail;
 
@@ -63,3 +63,25 @@ pub fn zone_file_of_2024(alloc: Global) -> Result<Vec<u8>, AllocError> {
     bytes.extend_from_slice(b"\n")?;
     Ok(bytes)
 }
+
+/// The first two sections of a unit file; the first expression is dropped, and the second one is continued.
+pub const TIMER_FILE: &[u8] = b"\
+[Unit]
+Description=x
+[Timer]
+OnCalendar=daily
+OnBootSec=
+OnCalendar=Mon \\
+# the minutes
+  *:0/30
+OnCalendar=hourly
+";
+
+/// A timer file with an exception; a reset of the expressions leaves it.
+pub const EXCEPT_FILE: &[u8] = b"\
+[Timer]
+OnCalendar=daily
+X-ExceptOnCalendar=Sat,Sun 12:00
+OnBootSec=
+OnCalendar=12:00
+";

@@ -1,9 +1,8 @@
 //! Time spans: what texts are read as, what they are refused for, and how spans are written. The values are those of
 //! systemd.time(7), Parsing Time Spans, worked out by hand.
 
-use cal_bytes::Port;
-use cal_span::{Span, SpanFault, read_span, write_span};
-use std::alloc::{AllocError, Global};
+use cal_base::{Port, Span, SpanFault, read_span, write_span};
+use std::alloc::Global;
 use std::process::Abort;
 use std::test::Fail;
 
@@ -31,147 +30,83 @@ static READ_AND_WRITTEN: [(&str, u64, &str); 11] = [
 ];
 
 /// Pairs of a number and a unit, added up.
-static SUMS: [(&str, u64); 7] = [
-    ("5 5", 10_000_000),
-    ("5\t5", 10_000_000),
-    (" \t5 \t s\t ", 5_000_000),
-    ("1y2months3w4d5h6min7s8ms9us", 38_995_567_008_009),
-    ("1.", 1_000_000),
-    (".5", 500_000),
-    ("1.h", 3_600_000_000),
-];
+const SUMS: &str = "\
+5 5 -> 10000000|5\t5 -> 10000000| \t5 \t s\t  -> 5000000|1y2months3w4d5h6min7s8ms9us -> 38995567008009|\
+1. -> 1000000|.5 -> 500000|1.h -> 3600000000";
 
 /// Each spelling of each unit.
-static UNIT_WORDS: [(&str, u64); 31] = [
-    ("3usec", 3),
-    ("3us", 3),
-    ("3\u{b5}s", 3),
-    ("3\u{3bc}s", 3),
-    ("3 \u{3bc}s 4\u{b5}s", 7),
-    ("3msec", 3_000),
-    ("3ms", 3_000),
-    ("3seconds", 3_000_000),
-    ("3second", 3_000_000),
-    ("3sec", 3_000_000),
-    ("3s", 3_000_000),
-    ("3minutes", 180_000_000),
-    ("3minute", 180_000_000),
-    ("3min", 180_000_000),
-    ("3m", 180_000_000),
-    ("3hours", 10_800_000_000),
-    ("3hour", 10_800_000_000),
-    ("3hr", 10_800_000_000),
-    ("3h", 10_800_000_000),
-    ("3days", 259_200_000_000),
-    ("3day", 259_200_000_000),
-    ("3d", 259_200_000_000),
-    ("3weeks", 1_814_400_000_000),
-    ("3week", 1_814_400_000_000),
-    ("3w", 1_814_400_000_000),
-    ("3months", 7_889_400_000_000),
-    ("3month", 7_889_400_000_000),
-    ("3M", 7_889_400_000_000),
-    ("3years", 94_672_800_000_000),
-    ("3year", 94_672_800_000_000),
-    ("3y", 94_672_800_000_000),
-];
+const UNIT_WORDS: &str = "\
+3usec -> 3|3us -> 3|3\u{b5}s -> 3|3\u{3bc}s -> 3|3 \u{3bc}s 4\u{b5}s -> 7|3msec -> 3000|3ms -> 3000|\
+3seconds -> 3000000|3second -> 3000000|3sec -> 3000000|3s -> 3000000|3minutes -> 180000000|3minute -> 180000000|\
+3min -> 180000000|3m -> 180000000|3hours -> 10800000000|3hour -> 10800000000|3hr -> 10800000000|\
+3h -> 10800000000|3days -> 259200000000|3day -> 259200000000|3d -> 259200000000|3weeks -> 1814400000000|\
+3week -> 1814400000000|3w -> 1814400000000|3months -> 7889400000000|3month -> 7889400000000|3M -> 7889400000000|\
+3years -> 94672800000000|3year -> 94672800000000|3y -> 94672800000000";
 
 /// Digits after the point, each rounded down by itself.
-static FRACTIONS: [(&str, u64); 29] = [
-    ("0.00000009min", 5),
-    ("0.000000019min", 0),
-    ("0.9us", 0),
-    ("0.1y", 3_155_760_000_000),
-    ("0.99999y", 31_557_284_424_000),
-    ("0.999999999999999999999999999999y", 31_557_599_999_997),
-    ("0.123456789012345678901234567890y", 3_895_999_964_934),
-    ("0.1M", 262_980_000_000),
-    ("0.999999999999999999999999999999M", 2_629_799_999_997),
-    ("0.123456789012345678901234567890M", 324_666_663_743),
-    ("0.1w", 60_480_000_000),
-    ("0.999999999999999999999999999999w", 604_799_999_998),
-    ("0.123456789012345678901234567890w", 74_666_665_994),
-    ("0.1d", 8_640_000_000),
-    ("0.999999999999999999999999999999d", 86_399_999_997),
-    ("0.123456789012345678901234567890d", 10_666_666_569),
-    ("0.1h", 360_000_000),
-    ("0.999999999999999999999999999999h", 3_599_999_999),
-    ("0.123456789012345678901234567890h", 444_444_440),
-    ("0.1min", 6_000_000),
-    ("0.999999999999999999999999999999min", 59_999_999),
-    ("0.123456789012345678901234567890min", 7_407_406),
-    ("0.1s", 100_000),
-    ("0.999999999999999999999999999999s", 999_999),
-    ("0.123456789012345678901234567890s", 123_456),
-    ("0.1ms", 100),
-    ("0.999999999999999999999999999999ms", 999),
-    ("0.123456789012345678901234567890ms", 123),
-    ("0.999999999999999999999999999999us", 0),
-];
+const FRACTIONS: &str = "\
+0.00000009min -> 5|0.000000019min -> 0|0.9us -> 0|0.1y -> 3155760000000|0.99999y -> 31557284424000|\
+0.999999999999999999999999999999y -> 31557599999997|0.123456789012345678901234567890y -> 3895999964934|\
+0.1M -> 262980000000|0.999999999999999999999999999999M -> 2629799999997|\
+0.123456789012345678901234567890M -> 324666663743|0.1w -> 60480000000|\
+0.999999999999999999999999999999w -> 604799999998|0.123456789012345678901234567890w -> 74666665994|\
+0.1d -> 8640000000|0.999999999999999999999999999999d -> 86399999997|\
+0.123456789012345678901234567890d -> 10666666569|0.1h -> 360000000|\
+0.999999999999999999999999999999h -> 3599999999|0.123456789012345678901234567890h -> 444444440|\
+0.1min -> 6000000|0.999999999999999999999999999999min -> 59999999|\
+0.123456789012345678901234567890min -> 7407406|0.1s -> 100000|0.999999999999999999999999999999s -> 999999|\
+0.123456789012345678901234567890s -> 123456|0.1ms -> 100|0.999999999999999999999999999999ms -> 999|\
+0.123456789012345678901234567890ms -> 123|0.999999999999999999999999999999us -> 0";
 
 /// Up to the greatest span.
-static UP_TO_THE_LIMIT: [(&str, u64); 4] = [
-    ("9223372036854775806us 1us", 9_223_372_036_854_775_807),
-    ("9223372036854.775807", 9_223_372_036_854_775_807),
-    ("1000000000000000000us", 1_000_000_000_000_000_000),
-    ("0000000000000000000000001us", 1),
-];
+const UP_TO_THE_LIMIT: &str = "\
+9223372036854775806us 1us -> 9223372036854775807|9223372036854.775807 -> 9223372036854775807|\
+1000000000000000000us -> 1000000000000000000|0000000000000000000000001us -> 1";
 
 /// Above the greatest span.
-static ABOVE_THE_LIMIT: [(&str, SpanFault); 9] = [
-    ("9223372036854775808us", SpanFault::TooLarge),
-    ("9223372036854775807us 1us", SpanFault::TooLarge),
-    ("9223372036854.775808", SpanFault::TooLarge),
-    ("18446744073709551615us 1us", SpanFault::TooLarge),
-    ("18446744073709551616us", SpanFault::TooLarge),
-    ("1000000000000000000", SpanFault::TooLarge),
-    ("1000000000000000000000000", SpanFault::TooLarge),
-    ("1000000000000000000000000us", SpanFault::TooLarge),
-    ("5s 18446744073709551615y", SpanFault::TooLarge),
-];
+static ABOVE_THE_LIMIT: [(SpanFault, &str); 1] = [(
+    SpanFault::TooLarge,
+    "\
+9223372036854775808us|9223372036854775807us 1us|9223372036854.775808|18446744073709551615us 1us|\
+18446744073709551616us|1000000000000000000|1000000000000000000000000|1000000000000000000000000us|\
+5s 18446744073709551615y",
+)];
 
 /// The first fault from the left.
-static FIRST_FAULTS: [(&str, SpanFault); 26] = [
-    ("", SpanFault::Empty),
-    (" \t ", SpanFault::Empty),
-    ("1..5", SpanFault::BadNumber),
-    ("1.2.3s", SpanFault::BadNumber),
-    (".", SpanFault::BadNumber),
-    (". s", SpanFault::BadNumber),
-    ("x", SpanFault::BadNumber),
-    ("s5", SpanFault::BadNumber),
-    ("-5s", SpanFault::BadNumber),
-    ("5-s", SpanFault::BadNumber),
-    ("5 s s", SpanFault::BadNumber),
-    ("5\u{e9}", SpanFault::BadNumber),
-    ("5\ns", SpanFault::BadNumber),
-    ("5x", SpanFault::UnknownUnit),
-    ("5S", SpanFault::UnknownUnit),
-    ("5mins", SpanFault::UnknownUnit),
-    ("5se", SpanFault::UnknownUnit),
-    ("5\u{3bc}", SpanFault::UnknownUnit),
-    ("5\u{3bc}s\u{b5}s", SpanFault::UnknownUnit),
-    ("5infinity", SpanFault::UnknownUnit),
-    ("1..5x", SpanFault::BadNumber),
-    ("99999999999999999999x", SpanFault::UnknownUnit),
-    ("99999999999999999999 x", SpanFault::UnknownUnit),
-    ("5x 1..5", SpanFault::UnknownUnit),
-    ("99999999999999999999 1..5", SpanFault::TooLarge),
-    ("5 1..5 99999999999999999999", SpanFault::BadNumber),
+static FIRST_FAULTS: [(SpanFault, &str); 4] = [
+    (SpanFault::Empty, "| \t "),
+    (
+        SpanFault::BadNumber,
+        "\
+1..5|1.2.3s|.|. s|x|s5|-5s|5-s|5 s s|5\u{e9}|5\ns|1..5x|5 1..5 99999999999999999999",
+    ),
+    (
+        SpanFault::UnknownUnit,
+        "\
+5x|5S|5mins|5se|5\u{3bc}|5\u{3bc}s\u{b5}s|5infinity|99999999999999999999x|99999999999999999999 x|5x 1..5",
+    ),
+    (SpanFault::TooLarge, "99999999999999999999 1..5"),
 ];
 
-/// Each text is read as so many microseconds.
-fn expect_values(rt: &impl Abort, rows: &[(&str, u64)]) {
-    for (text, micros) in rows {
-        let span = Span::new(*micros).ok_or(SpanFault::TooLarge);
-        assert_eq!(rt; read_span(text), span, "at {text:?}");
-    }
+/// The microseconds of a text, or its fault.
+fn micros(text: &str) -> Result<u64, SpanFault> {
+    Ok(read_span(text)?.micros())
 }
 
-/// Each text is refused for a fault.
-fn expect_faults(rt: &impl Abort, rows: &[(&str, SpanFault)]) {
-    for (text, fault) in rows {
-        assert_eq!(rt; read_span(text), Err(*fault), "at {text:?}");
+/// Of the rows, which are joined by `|`, each is a text, an arrow, and its microseconds.
+fn expect_values(rt: &impl Abort, rows: &str) -> Result<(), Fail> {
+    for row in rows.split('|') {
+        let (text, wanted) = row.split_once(" -> ").ok_or("no arrow")?;
+        let wanted = wanted.parse()?;
+        assert!(rt; micros(text) == Ok(wanted), "at {text:?}");
+    }
+    Ok(())
+}
+
+/// Each of the texts, which are joined by `|`, is refused for the fault.
+fn expect_fault(rt: &impl Abort, fault: SpanFault, texts: &str) {
+    for text in texts.split('|') {
+        assert!(rt; micros(text) == Err(fault), "at {text:?}");
     }
 }
 
@@ -194,99 +129,44 @@ fn expect_written(rt: &(impl Abort + AllocGlobal), rows: &[(&str, u64, &str)]) -
 
 #[test]
 fn reads_and_writes(rt: HostRuntime) -> Result<(), Fail> {
-    for (text, micros, _) in &READ_AND_WRITTEN {
-        expect_values(&rt, &[(*text, *micros)]);
+    for (text, wanted, _) in &READ_AND_WRITTEN {
+        assert!(rt; micros(text) == Ok(*wanted), "at {text:?}");
     }
     expect_written(&rt, &READ_AND_WRITTEN)
 }
 
+/// Sums of pairs, every unit word, each digit rounded down, and the limit.
 #[test]
-fn sums_pairs(rt: HostRuntime) {
-    expect_values(&rt, &SUMS);
+fn reads(rt: HostRuntime) -> Result<(), Fail> {
+    for rows in [SUMS, UNIT_WORDS, FRACTIONS, UP_TO_THE_LIMIT] {
+        expect_values(&rt, rows)?;
+    }
+    Ok(())
 }
 
 #[test]
-fn knows_every_unit_word(rt: HostRuntime) {
-    expect_values(&rt, &UNIT_WORDS);
+fn refuses(rt: HostRuntime) {
+    for (fault, texts) in ABOVE_THE_LIMIT.iter().chain(&FIRST_FAULTS) {
+        expect_fault(&rt, *fault, texts);
+    }
 }
 
-#[test]
-fn rounds_each_digit_down(rt: HostRuntime) {
-    expect_values(&rt, &FRACTIONS);
-}
-
-#[test]
-fn stops_at_the_limit(rt: HostRuntime) {
-    expect_values(&rt, &UP_TO_THE_LIMIT);
-    expect_faults(&rt, &ABOVE_THE_LIMIT);
-}
-
-#[test]
-fn names_the_first_fault(rt: HostRuntime) {
-    expect_faults(&rt, &FIRST_FAULTS);
-}
-
-/// Pieces of a text with how often each stands in a row, and what the text is read as.
-type LongNumber = (&'static [(&'static str, usize)], Result<u64, SpanFault>);
-
-static LONG_NUMBERS: [LongNumber; 4] = [
-    (&[("0", 1_000), ("7.", 1), ("0", 1_000), ("us", 1)], Ok(7)),
-    (&[("7", 1), (".", 1), ("9", 1_000), ("s", 1)], Ok(7_999_999)),
-    (&[("9", 1_000), ("us", 1)], Err(SpanFault::TooLarge)),
-    (
-        &[("9", 1_000), (".", 1), ("9", 1_000), ("x", 1)],
-        Err(SpanFault::UnknownUnit),
-    ),
+static FAULTS: [(SpanFault, u8, &str); 4] = [
+    (SpanFault::Empty, 1, "empty time span"),
+    (SpanFault::BadNumber, 2, "bad number"),
+    (SpanFault::UnknownUnit, 3, "unknown unit"),
+    (SpanFault::TooLarge, 4, "time span too large"),
 ];
 
-/// The text of these pieces.
-fn long_text(alloc: Global, pieces: &[(&str, usize)]) -> Result<String, AllocError> {
-    let mut text = String::new(alloc);
-    for (piece, times) in pieces {
-        for _ in 0..*times {
-            text.push_str(piece)?;
-        }
-    }
-    Ok(text)
-}
-
-/// Each text of these pieces is read so.
-fn expect_long(rt: &(impl Abort + AllocGlobal), rows: &[LongNumber]) -> Result<(), Fail> {
-    for (pieces, answer) in rows {
-        let text = long_text(rt.alloc(), pieces)?;
-        let micros = read_span(&text).map(|span| span.micros());
-        assert_eq!(rt; micros, *answer, "at {text}");
-    }
-    Ok(())
-}
-
+/// Each fault has its number and the words that it is shown by.
 #[test]
-fn reads_numbers_of_any_length(rt: HostRuntime) -> Result<(), Fail> {
-    expect_long(&rt, &LONG_NUMBERS)
-}
-
-/// Each fault has its number and its words, which it is shown by.
-fn expect_words(
-    rt: &(impl Abort + AllocGlobal),
-    rows: &[(SpanFault, u8, &str)],
-) -> Result<(), Fail> {
-    for (fault, number, words) in rows {
+fn numbers_and_shown_words(rt: HostRuntime) -> Result<(), Fail> {
+    for (fault, number, words) in &FAULTS {
         let shown = format!(in rt.alloc(); "{fault}")?;
-        assert_eq!(rt; shown.as_str(), *words);
-        assert_eq!(rt; (*fault as u8, fault.words()), (*number, *words));
+        assert!(rt;
+            *fault as u8 == *number && shown.as_str() == *words,
+            "{words}"
+        );
     }
     Ok(())
-}
-
-#[test]
-fn tells_of_each_fault(rt: HostRuntime) -> Result<(), Fail> {
-    expect_words(
-        &rt,
-        &[
-            (SpanFault::Empty, 1, "empty time span"),
-            (SpanFault::BadNumber, 2, "bad number"),
-            (SpanFault::UnknownUnit, 3, "unknown unit"),
-            (SpanFault::TooLarge, 4, "time span too large"),
-        ],
-    )
 }

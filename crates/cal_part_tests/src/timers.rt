@@ -1,8 +1,8 @@
 //! Timer files: the expressions that a file has in the end, and why a file is refused.
 
-use cal_bytes::Port;
+use crate::shared::TIMER_FILE;
+use cal_base::Port;
 use cal_read::{Timer, TimerFault, TimerLine, read_timer};
-use cal_spec::{Expr, write_expr};
 use std::alloc::Global;
 use std::process::Abort;
 use std::test::Fail;
@@ -10,25 +10,16 @@ use std::test::Fail;
 mod assignments;
 mod bytes;
 mod counts;
-mod faults;
+mod exceptions;
 mod lines;
-mod readers;
 
-/// The first two sections of a unit file; the first expression is dropped, and the second one is continued.
-const UNIT: &str = "\
-[Unit]
-Description=x
-[Timer]
-OnCalendar=daily
-OnBootSec=
-OnCalendar=Mon \\
-# the minutes
-  *:0/30
-OnCalendar=hourly
-";
+/// The expressions of the timer file of nine lines.
+pub(crate) const UNIT_LINES: Lines = &[(6, "Mon  *:0/30"), (9, "hourly")];
 
-/// The expressions of that file.
-const UNIT_LINES: Lines = &[(6, "Mon  *:0/30"), (9, "hourly")];
+/// The expressions and the exceptions of the file with an exception.
+pub(crate) const EXCEPT_LINES: Lines = &[(5, "12:00")];
+
+pub(crate) const EXCEPT_EXCEPTIONS: Lines = &[(3, "Sat,Sun 12:00")];
 
 /// The expressions of a file: the number of each one's line, and its text.
 pub type Lines = &'static [(u32, &'static str)];
@@ -42,7 +33,7 @@ pub fn read(alloc: Global, file: &[u8]) -> Result<Timer, TimerFault> {
 }
 
 /// The list has these expressions.
-pub fn expect_list(rt: &impl Abort, list: &[TimerLine], expected: Lines, file: &str) {
+pub fn expect_list(rt: &impl Abort, list: &[TimerLine], expected: Lines, file: &[u8]) {
     assert!(rt; list.len() == expected.len(), "in {file:?}");
     for (line, (number, text)) in list.iter().zip(expected) {
         assert!(rt;
@@ -53,14 +44,14 @@ pub fn expect_list(rt: &impl Abort, list: &[TimerLine], expected: Lines, file: &
 }
 
 /// The timer has these expressions.
-fn expect_lines(rt: &impl Abort, timer: &Timer, expected: Lines, file: &str) {
+fn expect_lines(rt: &impl Abort, timer: &Timer, expected: Lines, file: &[u8]) {
     expect_list(rt, timer.lines(), expected, file);
 }
 
 /// The file has these expressions, or it is refused for this fault.
 fn expect_file(rt: &impl Abort, alloc: Global, file: &str, expected: &Result<Lines, TimerFault>) {
     match (read(alloc, file.as_bytes()), expected) {
-        (Ok(timer), Ok(lines)) => expect_lines(rt, &timer, lines, file),
+        (Ok(timer), Ok(lines)) => expect_lines(rt, &timer, lines, file.as_bytes()),
         (found, _) => assert_eq!(rt; found.err(), expected.err(), "in {file:?}"),
     }
 }
@@ -72,21 +63,10 @@ fn expect_files(rt: &impl Abort, alloc: Global, rows: &[Row]) {
     }
 }
 
-/// The expression has this normal text.
-fn expect_normal_text(rt: &impl Abort, alloc: Global, expr: &Expr, normal: &str) {
-    let mut out = Port::new(Vec::new(alloc));
-    assert!(rt; write_expr(&mut out, expr).is_ok());
-    assert_eq!(rt; out.into_inner().as_slice(), normal.as_bytes());
-}
-
 /// The timer file of nine lines.
 #[test]
 fn timer_file(rt: HostRuntime) -> Result<(), Fail> {
-    let timer = read(rt.alloc(), UNIT.as_bytes())?;
-    expect_lines(&rt, &timer, UNIT_LINES, UNIT);
-    let normal_texts = ["Mon *-*-* *:00/30:00", "*-*-* *:00:00"];
-    for (line, normal) in timer.lines().iter().zip(&normal_texts) {
-        expect_normal_text(&rt, rt.alloc(), &line.expr, normal);
-    }
+    let timer = read(rt.alloc(), TIMER_FILE)?;
+    expect_lines(&rt, &timer, UNIT_LINES, TIMER_FILE);
     Ok(())
 }

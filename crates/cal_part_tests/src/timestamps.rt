@@ -2,17 +2,15 @@
 //! Parsing Timestamps), worked out by hand.
 
 use crate::shared::instant;
+use cal_base::{Instant, SpanFault, Zone, ZoneTable};
 use cal_read::StampFault::{self, *};
 use cal_read::read_stamp;
-use cal_span::SpanFault;
-use cal_zone::{Instant, Zone, ZoneTable};
 use std::alloc::Global;
 use std::process::Abort;
 use std::test::Fail;
 
 mod civil_times;
 mod days;
-mod faults;
 mod offsets;
 mod order;
 mod span_texts;
@@ -21,8 +19,8 @@ mod zones;
 /// Fri 2012-11-23 10:15:22 UTC.
 const PRESENT: i64 = 1_353_665_722;
 
-/// What texts mean: timestamps, on each line one with an arrow and the microseconds of its moment, and texts that are
-/// none, on each line one that has the fault.
+/// What texts mean, of which bars part one from the next: timestamps, each with an arrow and the microseconds of its
+/// moment, and texts that are none, each of which has the fault.
 struct Table {
     moments: &'static str,
     refusals: &'static [(StampFault, &'static str)],
@@ -50,14 +48,11 @@ static EACH_FORM: [Setting; 3] = [
         east: 28_800,
         table: Table {
             moments: "\
-11:12 -> 1353640320000000
-today UTC -> 1353628800000000
-yesterday -> 1353513600000000
-",
+11:12 -> 1353640320000000|today UTC -> 1353628800000000|yesterday -> 1353513600000000",
             refusals: &[
                 (WrongWeekday, "Mon 2012-11-23"),
                 (OutOfRange, "-2000000000"),
-                (Empty, "\n"),
+                (Empty, ""),
                 (BadWeekday, "foo 2012-11-23"),
                 (BadDate, "12"),
                 (BadTime, "2012-11-23 25:00"),
@@ -73,15 +68,12 @@ yesterday -> 1353513600000000
         east: 0,
         table: Table {
             moments: "\
-@1395716396 -> 1395716396000000
-12-11-23 1:2:3.4567891 -> 1353632523456789
-70-1-1 -> 0
-@7258211998.999999 -> 7258211998999999
-",
+@1395716396 -> 1395716396000000|12-11-23 1:2:3.4567891 -> 1353632523456789|70-1-1 -> 0|\
+@7258211998.999999 -> 7258211998999999",
             refusals: &[
                 (OutOfRange, "@7258211999"),
                 (BadSpan(SpanFault::Empty), "+"),
-                (BadWeekday, "now UTC\nMon, 2012-11-26"),
+                (BadWeekday, "now UTC|Mon, 2012-11-26"),
                 (StrayWord, "tomorrow 12:00"),
                 (BadDate, "Thu"),
             ],
@@ -92,7 +84,7 @@ yesterday -> 1353513600000000
         east: 0,
         table: Table {
             moments: "",
-            refusals: &[(OutOfRange, "5min ago\nyesterday")],
+            refusals: &[(OutOfRange, "5min ago|yesterday")],
         },
     },
 ];
@@ -103,24 +95,27 @@ fn micros(place: Place<'_>, text: &str) -> Result<i64, StampFault> {
     Ok(moment.micros())
 }
 
-/// The text and the microseconds of a line, on both sides of its arrow.
+/// The text and the microseconds on both sides of an arrow.
 fn text_and_micros(line: &str) -> Result<(&str, i64), Fail> {
     let (text, micros) = line.split_once(" -> ").ok_or("no arrow")?;
     Ok((text, micros.parse()?))
 }
 
-/// The text on each line means the moment of the microseconds beside it.
-fn expect_micros(rt: &impl Abort, place: Place<'_>, lines: &str) -> Result<(), Fail> {
-    for line in lines.lines() {
+/// Each text means the moment of the microseconds beside it.
+fn expect_micros(rt: &impl Abort, place: Place<'_>, moments: &str) -> Result<(), Fail> {
+    if moments.is_empty() {
+        return Ok(());
+    }
+    for line in moments.split('|') {
         let (text, expected) = text_and_micros(line)?;
         assert_eq!(rt; micros(place, text), Ok(expected), "at {text:?}");
     }
     Ok(())
 }
 
-/// The text on each line has the fault.
-fn expect_fault(rt: &impl Abort, place: Place<'_>, fault: StampFault, lines: &str) {
-    for text in lines.lines() {
+/// Each text has the fault.
+fn expect_fault(rt: &impl Abort, place: Place<'_>, fault: StampFault, texts: &str) {
+    for text in texts.split('|') {
         assert_eq!(rt; micros(place, text), Err(fault), "at {text:?}");
     }
 }
@@ -139,8 +134,8 @@ fn expect_moments(
         table: zones,
     };
     expect_micros(rt, place, table.moments)?;
-    for (fault, lines) in table.refusals {
-        expect_fault(rt, place, *fault, lines);
+    for (fault, texts) in table.refusals {
+        expect_fault(rt, place, *fault, texts);
     }
     Ok(())
 }
@@ -173,22 +168,4 @@ fn zone_east(rt: &impl Abort, seconds: i32) -> Zone<'static> {
 #[test]
 fn each_form(rt: HostRuntime) -> Result<(), Fail> {
     expect_settings(&rt, rt.alloc(), &EACH_FORM)
-}
-
-/// A line feed is no blank.
-#[test]
-fn line_feeds(rt: HostRuntime) -> Result<(), Fail> {
-    let zones = ZoneTable::new(rt.alloc());
-    let place = Place {
-        now: instant(PRESENT)?,
-        local: Zone::utc(),
-        table: &zones,
-    };
-    for (text, fault) in [
-        ("Fri\n2012-11-23", BadWeekday),
-        ("+5\nmin", BadSpan(SpanFault::BadNumber)),
-    ] {
-        assert_eq!(rt; micros(place, text), Err(fault), "at {text:?}");
-    }
-    Ok(())
 }

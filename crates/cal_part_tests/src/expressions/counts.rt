@@ -14,17 +14,12 @@ struct Table {
     refused: &'static [(SpecFault, &'static str)],
 }
 
-/// 4,096 bytes may stand, and no more; one too many is told before all other faults.
+/// 4,096 bytes may stand, and no more; one too many is told before all other faults. A zone name has at most 255.
 static BYTES: [Table; 4] = [
     Table {
         piece: " ",
-        accepted: "4091: 12:00# -> *-*-* 12:00:00",
+        accepted: "4091: 12:00# -> *-*-* 12:00:00\n4091: #daily -> *-*-* 00:00:00",
         refused: &[(Empty, "4096: #"), (TextTooLong, "4092: 12:00#\n4097: #")],
-    },
-    Table {
-        piece: "\t",
-        accepted: "4091: #daily -> *-*-* 00:00:00",
-        refused: &[(TextTooLong, "4092: #daily")],
     },
     Table {
         piece: "0",
@@ -36,62 +31,26 @@ static BYTES: [Table; 4] = [
         accepted: "",
         refused: &[(TextTooLong, "4092: Mon,,#")],
     },
-];
-
-/// A zone name of 255 bytes may stand, and no longer one.
-static ZONE_NAMES: [Table; 2] = [
     Table {
         piece: "b",
         accepted: "254: daily A# -> *-*-* 00:00:00 A#",
         refused: &[(StrayWord, "255: daily A#")],
     },
-    Table {
-        piece: "/",
-        accepted: "254: 12:00 A# -> *-*-* 12:00:00 A#",
-        refused: &[(StrayWord, "255: 12:00 A#")],
-    },
 ];
 
 /// The 240th part of a component of a date may stand, and the next not. Of a component of a time it is the 241st,
-/// since the first one isn't counted.
-static PARTS_OF_A_COMPONENT: Table = Table {
+/// since the first one isn't counted. The first part too many is a fault where it is due: before its shape, and before
+/// the values of its component.
+static PARTS: [Table; 1] = [Table {
     piece: ",1",
     accepted: "\
 237: 1#-1-1 -> 2001-01-01 00:00:00
 239: 1#-*-* -> 2001-*-* 00:00:00
-239: *-1#-* -> *-01-* 00:00:00
-239: *-*-1# -> *-*-01 00:00:00
 239: *-*~1# -> *-*~01 00:00:00
 240: 1#:0 -> *-*-* 01:00:00
 240: *:1# -> *-*-* *:01:00
-240: *:1#:0 -> *-*-* *:01:00
-240: *:*:1# -> *-*-* *:*:01
 240: *-*-* *:*:1# UTC -> *-*-* *:*:01 UTC
-",
-    refused: &[(
-        TooManyParts,
-        "\
-238: 1#-1-1
-240: 1#-*-*
-240: *-1#-*
-240: *-*-1#
-240: *-*~1#
-241: 1#:0
-241: *:1#
-241: *:1#:0
-241: *:*:1#
-241: *-*-* *:*:1# UTC
-",
-    )],
-};
-
-/// The first part too many is a fault where it is due: before its shape, and before the values of its component.
-static PARTS_IN_ALL: Table = Table {
-    piece: ",1",
-    accepted: "\
 239: 1#-*-* 0:0:0 -> 2001-*-* 00:00:00
-239: 1#-*~* *:*:* -> 2001-*-* *:*:*
-237: 1#-1-1 23:59:59 -> 2001-01-01 23:59:59
 236: 1#-*-* 0,0:0,0:0,0 UTC -> 2001-*-* 00:00:00 UTC
 239: 1,1:1#:1 -> *-*-* 01:01:01
 ",
@@ -99,36 +58,26 @@ static PARTS_IN_ALL: Table = Table {
         (
             TooManyParts,
             "\
-239: 1#,-1-1
+238: 1#-1-1
+240: 1#-*-*
+240: *-*~1#
+241: 1#:0
+241: *:1#
+241: *-*-* *:*:1# UTC
 239: 1#,10000-1-1
 239: 1#-1x-1
-239: 1#--1
-239: 1#-*x-1
-238: 1#-1-1
 240: 1969#-1-1
-239: 1#-*-* 0,0:0
-239: 1#-*-* 0:0,0
 239: 1#-*-* 0:0:0,0
-239: 1#-*-* 0,:0
-240: *:1#,
 240: *:*:1#,1.5
-240: 1:1#:1,1
 239: 1,1:1#:1,1
 ",
         ),
-        (
-            BadDate,
-            "\
-238: 1#,-1-1
-238: 1#-1x-1
-240: 1x#-1-1
-",
-        ),
+        (BadDate, "238: 1#,-1-1\n238: 1#-1x-1\n240: 1x#-1-1"),
         (OutOfField, "239: 1969#-1-1\n239: 1#-*-* 24:0,0"),
         (BadTime, "239: 1#-*-* 0x,1:0\n239: *:1#,"),
         (FractionalSecond, "239: *:*:1#,1.5"),
     ],
-};
+}];
 
 /// The text with its mark, where it has one, written out.
 fn written_out(alloc: Global, text: &str, piece: &str, count: u16) -> Result<String, AllocError> {
@@ -186,28 +135,16 @@ fn expect_table(rt: &impl Abort, alloc: Global, table: &Table) -> Result<(), Fai
     Ok(())
 }
 
-#[test]
-fn bytes(rt: HostRuntime) -> Result<(), Fail> {
-    for table in &BYTES {
-        expect_table(&rt, rt.alloc(), table)?;
+/// So it is for each table.
+fn expect_tables(rt: &impl Abort, alloc: Global, tables: &[Table]) -> Result<(), Fail> {
+    for table in tables {
+        expect_table(rt, alloc, table)?;
     }
     Ok(())
 }
 
 #[test]
-fn bytes_of_zone_names(rt: HostRuntime) -> Result<(), Fail> {
-    for table in &ZONE_NAMES {
-        expect_table(&rt, rt.alloc(), table)?;
-    }
-    Ok(())
-}
-
-#[test]
-fn parts_of_a_component(rt: HostRuntime) -> Result<(), Fail> {
-    expect_table(&rt, rt.alloc(), &PARTS_OF_A_COMPONENT)
-}
-
-#[test]
-fn parts_in_all(rt: HostRuntime) -> Result<(), Fail> {
-    expect_table(&rt, rt.alloc(), &PARTS_IN_ALL)
+fn bytes_and_parts(rt: HostRuntime) -> Result<(), Fail> {
+    expect_tables(&rt, rt.alloc(), &BYTES)?;
+    expect_tables(&rt, rt.alloc(), &PARTS)
 }

@@ -1,8 +1,6 @@
 //! The numbers and the words of the faults of expressions.
 
 use cal_spec::SpecFault;
-use std::alloc::Global;
-use std::process::Abort;
 use std::test::Fail;
 
 /// Each fault with its number and its words.
@@ -36,27 +34,14 @@ static FAULTS: [(SpecFault, u8, &str); 15] = [
     (SpecFault::NoMemory, 15, ""),
 ];
 
-/// The fault shows these words.
-fn expect_shown(rt: &impl Abort, alloc: Global, fault: SpecFault, words: &str) -> Result<(), Fail> {
-    let shown = format!(in alloc; "{fault}")?;
-    assert_eq!(rt; shown.as_str(), words);
-    Ok(())
-}
-
 #[test]
-fn numbers_and_words(rt: HostRuntime) {
+fn numbers_and_shown_words(rt: HostRuntime) -> Result<(), Fail> {
     for (fault, number, words) in &FAULTS {
+        let shown = format!(in rt.alloc(); "{fault}")?;
         assert!(rt;
-            *fault as u8 == *number && fault.words() == *words,
+            *fault as u8 == *number && shown.as_str() == *words,
             "{words}"
         );
-    }
-}
-
-#[test]
-fn shown_words(rt: HostRuntime) -> Result<(), Fail> {
-    for (fault, _, words) in &FAULTS {
-        expect_shown(&rt, rt.alloc(), *fault, words)?;
     }
     Ok(())
 }

@@ -5,84 +5,43 @@ use cal_spec::SpecFault::{self, *};
 use std::alloc::Global;
 use std::process::Abort;
 
-/// A fault, and texts that have it: one on each line.
+/// A fault, and texts that have it, of which bars part one from the next.
 pub(super) type Refused = (SpecFault, &'static str);
 
 /// The refused texts: one at least of each fault of a short text, and the refusals of the grammar.
 static REFUSED_TEXTS: [Refused; 12] = [
-    (Empty, "\n"),
+    (Empty, ""),
     (BadWeekday, "Mon,,Tue"),
-    (BadDate, "7\n*-1~5-2"),
+    (BadDate, "7|*-1~5-2"),
     (BadTime, "*:*/5"),
     (FractionalSecond, "0:0:1.5"),
     (NumberTooLarge, "10000-1-1"),
-    (OutOfField, "*~29\n25:00"),
-    (BackwardRange, "12..1-*-*\n*-*~9..3\n69..70-1-1"),
+    (OutOfField, "*~29|25:00"),
+    (BackwardRange, "12..1-*-*|*-*~9..3|69..70-1-1"),
     (ZeroRepeat, "*:0/0"),
-    (NoRepeat, "20/4:00\n00:00/60\n*-*~1/1\n2199/1-1-1"),
+    (NoRepeat, "20/4:00|00:00/60|*-*~1/1|2199/1-1-1"),
     (StrayWord, "12:00 UTC now"),
     (UnknownShorthand, "fortnightly"),
 ];
 
 /// No word at all.
-static BLANKS: [Refused; 1] = [(Empty, " \n\t\n \t \t\n")];
+static BLANKS: [Refused; 1] = [(Empty, " |\t| \t \t")];
 
 /// Which words may stand where.
 static WORDS: [Refused; 2] = [
     (
         StrayWord,
         "\
-12:00 13:00
-12:00 2012-1-1
-Mon 12:00 13:00
-12:00 *
-2012-1-1 12:00 UTC UTC
-2012-1-1 UTC 12:00
-Mon UTC 12:00
-Mon UTC Mon
-12:00 UTC 5
-daily 5
-daily 12:00
-daily UTC x
-weekly *-*-*
-DAILY daily daily
-daily ,
-bi-annually -
-12:00 A!B
-12:00 Etc/GMT.5
-12:00 Mars,One
-12:00 a:b
-12:00 Z~
-2012-1-1 U~C
-daily A*
-daily \u{c4}
-12:00 A\u{e4}
-12:00 _A
-12:00 +A
-",
+12:00 13:00|12:00 2012-1-1|Mon 12:00 13:00|12:00 *|2012-1-1 12:00 UTC UTC|2012-1-1 UTC 12:00|Mon UTC 12:00|\
+Mon UTC Mon|12:00 UTC 5|daily 5|daily 12:00|daily UTC x|weekly *-*-*|DAILY daily daily|daily ,|bi-annually -|\
+12:00 A!B|12:00 Etc/GMT.5|12:00 Mars,One|12:00 a:b|12:00 Z~|2012-1-1 U~C|daily A*|daily \u{c4}|12:00 A\u{e4}|\
+12:00 _A|12:00 +A",
     ),
     (
         UnknownShorthand,
         "\
-Foo
-foo-bar
-UTC
-x
-dailyy
-dail
-semi-annual
-annual
-never
-now
-Foo-Mon
-mo
-monda
-a-
-Mo-Tu
-MonTue
-semi--annually
-UTC 12:00
-",
+Foo|foo-bar|UTC|x|dailyy|dail|semi-annual|annual|never|now|Foo-Mon|mo|monda|a-|Mo-Tu|MonTue|semi--annually|\
+UTC 12:00",
     ),
 ];
 
@@ -90,103 +49,19 @@ UTC 12:00
 static WEEKDAYS: [Refused; 1] = [(
     BadWeekday,
     "\
-Foo,Mon
-x1
-Mo,Tu
-daily,
-Mon,,
-Mon,Foo
-Mon.Tue
-Mon...Tue
-Mon-
-Mon..
-Mon-Foo
-Mon..Foo
-Mon-Tue-Wed
-Mon..Tue..Wed
-Mon/2
-Mon1
-Mon-1
-Mon,1
-Mon:Tue
-Mon~Tue
-Mon*
-Mon--Tue
-Mon.-Tue
-Mon-.Tue
-Mon,Tuesda
-Mon,Tues
-Sun..Su
-Mon,-Tue
-Mon\u{e4}
-Mon,,12:00
-a1 12:00
-",
+Foo,Mon|x1|Mo,Tu|daily,|Mon,,|Mon,Foo|Mon.Tue|Mon...Tue|Mon-|Mon..|Mon-Foo|Mon..Foo|Mon-Tue-Wed|Mon..Tue..Wed|\
+Mon/2|Mon1|Mon-1|Mon,1|Mon:Tue|Mon~Tue|Mon*|Mon--Tue|Mon.-Tue|Mon-.Tue|Mon,Tuesda|Mon,Tues|Sun..Su|Mon,-Tue|\
+Mon\u{e4}|Mon,,12:00|a1 12:00",
 )];
 
 /// Shapes of dates.
 static DATES: [Refused; 1] = [(
     BadDate,
     "\
-*
-1,2
-2012
-,Mon
--
--1-1
-1-
-1--1
-1-1-1-1
-2012-1-1-
-1~1-1
-1~1~1
-*~*~*
-~
-~1
-1~
-1-1-1~1
-2012-1-1x
-1x-1-1
-1-x-1
-1-1-x
-2012-*/2-1
-*/2-1
-1-*/2
-**-1
-*1-1
-1*-1
-1,-1
-,1-1
-1,,2-1
-1,*-1
-*,1-1
-1..-1
-1...3-1
-1.3-1
-1.-1
-..3-1
-1../2-1
-1/-1
-1/2/3-1
-1/2..3-1
-1..2..3-1
-1..3/-1
-1..3/2/1-1
-/2-1
-1/*-1
-1..*-1
-+1-1
-1 -1
-@0
-1/1/1
-Mon 5
-1\u{e4}-1
-1-\u{661}
-1-1.5
-1-1..2.5
-1~*/1
-1~1,
-",
+*|1,2|2012|,Mon|-|-1-1|1-|1--1|1-1-1-1|2012-1-1-|1~1-1|1~1~1|*~*~*|~|~1|1~|1-1-1~1|2012-1-1x|1x-1-1|1-x-1|1-1-x|\
+2012-*/2-1|*/2-1|1-*/2|**-1|*1-1|1*-1|1,-1|,1-1|1,,2-1|1,*-1|*,1-1|1..-1|1...3-1|1.3-1|1.-1|..3-1|1../2-1|1/-1|\
+1/2/3-1|1/2..3-1|1..2..3-1|1..3/-1|1..3/2/1-1|/2-1|1/*-1|1..*-1|+1-1|1 -1|@0|1/1/1|Mon 5|1\u{e4}-1|1-\u{661}|\
+1-1.5|1-1..2.5|1~*/1|1~1,",
 )];
 
 /// Shapes of times, and fractions of a second.
@@ -194,64 +69,14 @@ static TIMES: [Refused; 2] = [
     (
         BadTime,
         "\
-:
-0:
-:0
-0:0:
-0:0:0:0
-::
-0::0
-*/2:0
-0:0x
-0-1:0
-0~1:0
-0:0,
-0:,0
-0:1..
-0:1...2
-0:..2
-0:1/
-0:/1
-0:1/2/3
-0:**
-0:1,*
-0:*,1
-0:0:*0
-0:0:*/1
-2012-1-1 5
-2012-1-1 2012-1-1
-1-1 ,
-2012-1-1T12:00
-12:00x
-0:0:1...5
-0:0:.5
-0:1.5
-1.5:0
-0:0:1x.5
-0:0:x
-0:0:1..
-0:0:1../2
-0:0:1/2/3
-0:0:\u{664}
-0:0:1..2..3
-*:*:*,1
-",
+:|0:|:0|0:0:|0:0:0:0|::|0::0|*/2:0|0:0x|0-1:0|0~1:0|0:0,|0:,0|0:1..|0:1...2|0:..2|0:1/|0:/1|0:1/2/3|0:**|0:1,*|\
+0:*,1|0:0:*0|0:0:*/1|2012-1-1 5|2012-1-1 2012-1-1|1-1 ,|2012-1-1T12:00|12:00x|0:0:1...5|0:0:.5|0:1.5|1.5:0|\
+0:0:1x.5|0:0:x|0:0:1..|0:0:1../2|0:0:1/2/3|0:0:\u{664}|0:0:1..2..3|*:*:*,1",
     ),
     (
         FractionalSecond,
         "\
-0:0:1.
-0:0:1..5.
-0:0:1/2.5
-0:0:1..5/2.5
-0:0:1,2.5
-0:0:1.5x
-0:0:1.5.5
-0:0:60.5
-0:0:1. 5
-0:0:1..5.5
-0:0:0000.0
-",
+0:0:1.|0:0:1..5.|0:0:1/2.5|0:0:1..5/2.5|0:0:1,2.5|0:0:1.5x|0:0:1.5.5|0:0:60.5|0:0:1. 5|0:0:1..5.5|0:0:0000.0",
     ),
 ];
 
@@ -260,90 +85,25 @@ static NUMBERS: [Refused; 6] = [
     (
         NumberTooLarge,
         "\
-1-10000-1
-1-1-10000
-1~10000
-10000:0
-0:10000
-0:0:10000
-1..10000-1-1
-1/10000-1-1
-1..2/10000-1-1
-10000x-1-1
-000010000-1-1
-99999999999999999999999-1-1
-65536-1-1
-67536-1-1
-0:0:10000.5
-1,10000,1x-1-1
-10000..-1-1
-",
+1-10000-1|1-1-10000|1~10000|10000:0|0:10000|0:0:10000|1..10000-1-1|1/10000-1-1|1..2/10000-1-1|10000x-1-1|\
+000010000-1-1|99999999999999999999999-1-1|65536-1-1|67536-1-1|0:0:10000.5|1,10000,1x-1-1|10000..-1-1",
     ),
     (BadDate, "1x,10000-1-1"),
     (
         OutOfField,
         "\
-9999-1-1
-00009999-1-1
-1969-1-1
-2200-1-1
-100-1-1
-999-1-1
-1970..2200-1-1
-1969..1970-1-1
-0-1
-13-1
-0..3-1
-1..13-1
-1-0
-1-32
-1~0
-1~1..29
-24:0
-0:60
-0:0:60
-0..24:0
-0:0..60
-0:0:0..60
-2012-
-2012-13
-0/1-1
-24/1:0
-1..0-1
-",
+9999-1-1|00009999-1-1|1969-1-1|2200-1-1|100-1-1|999-1-1|1970..2200-1-1|1969..1970-1-1|0-1|13-1|0..3-1|1..13-1|\
+1-0|1-32|1~0|1~1..29|24:0|0:60|0:0:60|0..24:0|0:0..60|0:0:0..60|2012-|2012-13|0/1-1|24/1:0|1..0-1",
     ),
-    (BackwardRange, "3..1-1\n1-9..3\n5..4:0\n0:5..4\n0:0:5..4"),
+    (BackwardRange, "3..1-1|1-9..3|5..4:0|0:5..4|0:0:5..4"),
     (
         ZeroRepeat,
-        "\
-1/0-1-1
-1..2/0-1-1
-1/0-1
-1-1/0
-*~1/0
-0/0:0
-0:0:0/0
-0:0:5..5/0
-0:1/00
-",
+        "1/0-1-1|1..2/0-1-1|1/0-1|1-1/0|*~1/0|0/0:0|0:0:0/0|0:0:5..5/0|0:1/00",
     ),
     (
         NoRepeat,
         "\
-12/1-1
-1-31/1
-23/1:0
-0:59/1
-0:0:59/1
-1~28/28
-2198/2-1-1
-0:1/59
-6/7-1
-99/201-1-1
-0/9999:0
-1~5/5
-1~5/9999
-",
+12/1-1|1-31/1|23/1:0|0:59/1|0:0:59/1|1~28/28|2198/2-1-1|0:1/59|6/7-1|99/201-1-1|0/9999:0|1~5/5|1~5/9999",
     ),
 ];
 
@@ -352,70 +112,35 @@ static ORDER: [Refused; 11] = [
     (
         BadDate,
         "\
-13,1x-1
-1x,13-1
-1x-13
-1x,10000-1
-1-1x 25:0
-1-1-1-1 0:0:0:0
-13-1-1-1
-10000-1-1-1
-1~10000-1
-2000-1x-13
-",
+13,1x-1|1x,13-1|1x-13|1x,10000-1|1-1x 25:0|1-1-1-1 0:0:0:0|13-1-1-1|10000-1-1-1|1~10000-1|2000-1x-13",
     ),
     (
         OutOfField,
         "\
-13-1x
-13,12..1-1
-13,1/0-1
-13,12/1-1
-13..1-1
-13/0-1
-13..12/0-1
-13/1-1
-0:60:1.5
-25:0:1.5
-13-1-1 25:x
-99:x
-13-1 25:0x
-1-1 25:0x
-1-1 25:0 5
-13-1 0:0 5
-13-1 0:0:0:0
-25:0 5
-Mon 13-1
-13-1 A!
-1-1 25:0 A!
-2000-13-1x
-1969-1x-1
-0:0:60 UTC x
-",
+13-1x|13,12..1-1|13,1/0-1|13,12/1-1|13..1-1|13/0-1|13..12/0-1|13/1-1|0:60:1.5|25:0:1.5|13-1-1 25:x|99:x|\
+13-1 25:0x|1-1 25:0x|1-1 25:0 5|13-1 0:0 5|13-1 0:0:0:0|25:0 5|Mon 13-1|13-1 A!|1-1 25:0 A!|2000-13-1x|\
+1969-1x-1|0:0:60 UTC x",
     ),
     (
         NumberTooLarge,
-        "0,10000-1\n10000,0-1\n10000,1x-1\n0:0:10000,1.5",
+        "0,10000-1|10000,0-1|10000,1x-1|0:0:10000,1.5",
     ),
-    (
-        BackwardRange,
-        "12..1,13-1\n2..1,1/0-1\n2..1,12/1-1\n12..1/0-1",
-    ),
-    (ZeroRepeat, "1/0,13-1\n1/0,12/1-1\n1/0,2..1-1\n12/0-1"),
-    (NoRepeat, "12/1,13-1\n12/1,1/0-1\n12/1,2..1-1"),
+    (BackwardRange, "12..1,13-1|2..1,1/0-1|2..1,12/1-1|12..1/0-1"),
+    (ZeroRepeat, "1/0,13-1|1/0,12/1-1|1/0,2..1-1|12/0-1"),
+    (NoRepeat, "12/1,13-1|12/1,1/0-1|12/1,2..1-1"),
     (
         FractionalSecond,
-        "0:0:1.5,1x\n0:0:1.5,10000\n0:0:60,1.5\n0:0:1.5 5",
+        "0:0:1.5,1x|0:0:1.5,10000|0:0:60,1.5|0:0:1.5 5",
     ),
-    (BadTime, "0:0:1x,1.5\n1-1 0x:25\n25:0:0:0\n10000:1:1:1"),
+    (BadTime, "0:0:1x,1.5|1-1 0x:25|25:0:0:0|10000:1:1:1"),
     (StrayWord, "0:0 5 25"),
-    (UnknownShorthand, "Foo 13-1\nFoo UTC 5"),
-    (BadWeekday, "Mon,, 13-1\nMon,, daily 5\nFoo1 25:0"),
+    (UnknownShorthand, "Foo 13-1|Foo UTC 5"),
+    (BadWeekday, "Mon,, 13-1|Mon,, daily 5|Foo1 25:0"),
 ];
 
-/// The text on each line has this fault.
+/// Each text has this fault.
 fn expect_faults(rt: &impl Abort, alloc: Global, fault: SpecFault, lines: &str) {
-    for text in lines.lines() {
+    for text in lines.split('|') {
         expect_fault(rt, alloc, text, fault);
     }
 }
@@ -429,40 +154,16 @@ pub(super) fn expect_refusals(rt: &impl Abort, alloc: Global, table: &[Refused])
 
 #[test]
 fn refused_texts(rt: HostRuntime) {
-    expect_refusals(&rt, rt.alloc(), &REFUSED_TEXTS);
-}
-
-#[test]
-fn blanks(rt: HostRuntime) {
-    expect_refusals(&rt, rt.alloc(), &BLANKS);
-}
-
-#[test]
-fn words(rt: HostRuntime) {
-    expect_refusals(&rt, rt.alloc(), &WORDS);
-}
-
-#[test]
-fn weekdays(rt: HostRuntime) {
-    expect_refusals(&rt, rt.alloc(), &WEEKDAYS);
-}
-
-#[test]
-fn dates(rt: HostRuntime) {
-    expect_refusals(&rt, rt.alloc(), &DATES);
-}
-
-#[test]
-fn times(rt: HostRuntime) {
-    expect_refusals(&rt, rt.alloc(), &TIMES);
-}
-
-#[test]
-fn numbers(rt: HostRuntime) {
-    expect_refusals(&rt, rt.alloc(), &NUMBERS);
-}
-
-#[test]
-fn order(rt: HostRuntime) {
-    expect_refusals(&rt, rt.alloc(), &ORDER);
+    for table in [
+        &REFUSED_TEXTS[..],
+        &BLANKS,
+        &WORDS,
+        &WEEKDAYS,
+        &DATES,
+        &TIMES,
+        &NUMBERS,
+        &ORDER,
+    ] {
+        expect_refusals(&rt, rt.alloc(), table);
+    }
 }

@@ -1,6 +1,7 @@
 //! How many expressions and how many bytes a file may have.
 
-use super::{Lines, UNIT, UNIT_LINES, expect_file, expect_lines, read};
+use super::{Lines, UNIT_LINES, expect_file, expect_lines, read};
+use crate::shared::TIMER_FILE;
 use cal_read::{Timer, TimerFault};
 use std::alloc::{AllocError, Global};
 use std::process::Abort;
@@ -8,40 +9,30 @@ use std::test::Fail;
 
 const DAILY: &str = "OnCalendar=daily";
 
-const RESET: &str = "OnCalendar=";
+const EXCEPTION: &str = "X-ExceptOnCalendar=Sat";
 
-const HOURLY: &str = "OnCalendar=hourly";
+const RESET: &str = "OnCalendar=";
 
 /// Lines after a header, each so many times, with the expressions or the fault of that file.
 type Counted = (&'static [(u32, &'static str)], Result<Lines, TimerFault>);
 
 /// At most 256 expressions may stand at a time, and the one too many is told where it stands.
-static COUNTED: [Counted; 7] = [
-    // Two hundred and fifty-six expressions, a reset, and an expression.
+static COUNTED: [Counted; 4] = [
     (
-        &[(256, DAILY), (1, RESET), (1, HOURLY)],
+        &[(256, DAILY), (1, RESET), (1, "OnCalendar=hourly")],
         Ok(&[(259, "hourly")]),
     ),
-    // One more before the reset.
+    // Exceptions are counted by themselves.
     (
-        &[(257, DAILY), (1, RESET), (1, HOURLY)],
+        &[(257, EXCEPTION), (1, DAILY)],
         Err(TimerFault::TooMany(258)),
     ),
     (&[(257, DAILY)], Err(TimerFault::TooMany(258))),
-    (
-        &[(256, DAILY), (1, RESET), (257, DAILY)],
-        Err(TimerFault::TooMany(515)),
-    ),
     // The text of the one too many isn't judged any more.
     (
         &[(256, DAILY), (1, "OnCalendar=x!")],
         Err(TimerFault::TooMany(258)),
     ),
-    (
-        &[(256, DAILY), (3, "# x"), (1, "x"), (2, "OnCalendar=\\")],
-        Err(TimerFault::TooMany(262)),
-    ),
-    (&[(256, DAILY), (1, RESET)], Err(TimerFault::NothingToDo)),
 ];
 
 /// Appends the line so many times.
@@ -71,27 +62,9 @@ fn one_too_many(rt: HostRuntime) -> Result<(), Fail> {
     Ok(())
 }
 
-/// The timer has 256 expressions of this text, one on each line from this one on.
-fn expect_full(rt: &impl Abort, timer: &Timer, first: u32, text: &str) {
-    assert_eq!(rt; timer.lines().len(), 256);
-    for (line, number) in timer.lines().iter().zip(first..) {
-        assert_eq!(rt; (line.number, line.text.as_str()), (number, text));
-    }
-}
-
-/// 256 expressions may stand, also once more after a reset.
-#[test]
-fn as_many_as_may_be(rt: HostRuntime) -> Result<(), Fail> {
-    let full = counted_file(rt.alloc(), &[(256, DAILY)])?;
-    expect_full(&rt, &read(rt.alloc(), full.as_bytes())?, 2, "daily");
-    let again = counted_file(rt.alloc(), &[(256, DAILY), (1, RESET), (256, HOURLY)])?;
-    expect_full(&rt, &read(rt.alloc(), again.as_bytes())?, 259, "hourly");
-    Ok(())
-}
-
 /// The timer file of nine lines, filled up with comments to this many bytes.
 fn filled(alloc: Global, len: usize) -> Result<Vec<u8>, AllocError> {
-    let mut bytes = UNIT.as_bytes().to_vec(alloc)?;
+    let mut bytes = TIMER_FILE.to_vec(alloc)?;
     for place in bytes.len()..len {
         bytes.push(if place % 64 == 0 { b'\n' } else { b'#' })?;
     }
@@ -103,7 +76,7 @@ fn the_largest_file(rt: HostRuntime) -> Result<(), Fail> {
     assert_eq!(rt; Timer::FILE_LIMIT, 1_048_576);
     let largest = filled(rt.alloc(), 1_048_576)?;
     let timer = read(rt.alloc(), largest.as_slice())?;
-    expect_lines(&rt, &timer, UNIT_LINES, "filled up");
+    expect_lines(&rt, &timer, UNIT_LINES, TIMER_FILE);
     Ok(())
 }
 

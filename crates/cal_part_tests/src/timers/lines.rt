@@ -5,18 +5,14 @@ use cal_read::TimerFault;
 use cal_spec::SpecFault;
 
 /// Ends of lines, and byte order marks.
-static ENDS_OF_LINES_AND_MARKS: [Row; 11] = [
-    ("[Timer]\nOnCalendar=daily", Ok(&[(2, "daily")])),
+static ENDS_OF_LINES_AND_MARKS: [Row; 7] = [
     ("[Timer]\r\nOnCalendar=daily\r\n", Ok(&[(2, "daily")])),
-    ("[Timer]\r\nOnCalendar=daily\r", Ok(&[(2, "daily")])),
     (
         "[Timer]\r\r\n\r\nOnCalendar=Mon \\\r\n 12:00\r\n",
         Ok(&[(3, "Mon  12:00")]),
     ),
     ("\n\n[Timer]\n\nOnCalendar=daily\n\n", Ok(&[(5, "daily")])),
     ("\u{FEFF}[Timer]\nOnCalendar=daily\n", Ok(&[(2, "daily")])),
-    ("\u{FEFF}\n[Timer]\nOnCalendar=daily\n", Ok(&[(3, "daily")])),
-    ("\u{FEFF}", Err(TimerFault::NothingToDo)),
     (
         "\u{FEFF}\u{FEFF}[Timer]\nOnCalendar=daily",
         Err(TimerFault::NothingToDo),
@@ -56,37 +52,22 @@ static COMMENTS: [Row; 6] = [
 ];
 
 /// Continued lines.
-static CONTINUED_LINES: [Row; 17] = [
-    ("[Timer]\nOnCalendar=Mon\\\n12:00", Ok(&[(2, "Mon 12:00")])),
-    (
-        "[Timer]\nOnCalendar=Mon \\\n \t12:00",
-        Ok(&[(2, "Mon  12:00")]),
-    ),
+static CONTINUED_LINES: [Row; 10] = [
     (
         "[Timer]\nOnCalendar=Mon\\\n12:00\\\nUTC\nOnCalendar=daily",
         Ok(&[(2, "Mon 12:00 UTC"), (5, "daily")]),
     ),
     (
-        "[Timer]\nOnCalendar=Mon \\\n# x\n; y\n12:00\n",
-        Ok(&[(2, "Mon  12:00")]),
-    ),
-    (
         "[Timer]\nOnCalendar\\\n=\\\ndaily\nOnCalendar=hourly",
         Ok(&[(2, "daily"), (5, "hourly")]),
-    ),
-    (
-        "[Timer]\nOnCalendar=daily \\\n\nOnCalendar=hourly",
-        Ok(&[(2, "daily"), (4, "hourly")]),
     ),
     // A line of blanks and a backslash adds a space, whatever stands before it.
     (
         "[Timer]\nOnCalendar=Mon\\\n \\\n12:00",
         Ok(&[(2, "Mon  12:00")]),
     ),
-    ("[Timer]\n\\\nOnCalendar=daily", Ok(&[(2, "daily")])),
     // At the end of the file a line just ends.
     ("[Timer]\nOnCalendar=daily\\", Ok(&[(2, "daily")])),
-    ("[Timer]\nOnCalendar=daily\\\n# x\n", Ok(&[(2, "daily")])),
     (
         "[Ti\\\nmer]\n[Timer]\nOnCalendar=daily",
         Ok(&[(4, "daily")]),
@@ -110,10 +91,6 @@ static CONTINUED_LINES: [Row; 17] = [
         Err(TimerFault::BadLine(3, SpecFault::OutOfField)),
     ),
     ("[Timer]\\\nOnCalendar=daily", Err(TimerFault::NothingToDo)),
-    (
-        "[Ti\\\nmer]\nOnCalendar=daily",
-        Err(TimerFault::NothingToDo),
-    ),
 ];
 
 #[test]

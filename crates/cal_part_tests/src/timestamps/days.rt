@@ -2,8 +2,8 @@
 
 use super::{PRESENT, Setting, Table, expect_in_utc, expect_moments, expect_settings};
 use crate::shared::posix;
+use cal_base::{Zone, ZoneTable};
 use cal_read::StampFault::*;
-use cal_zone::{Zone, ZoneTable};
 use std::test::Fail;
 
 /// The days beside the present one, with and without blanks.
@@ -13,13 +13,8 @@ static NEAR_DAYS: [Setting; 2] = [
         east: 0,
         table: Table {
             moments: "\
-today -> 1353628800000000
-yesterday -> 1353542400000000
-tomorrow -> 1353715200000000
-\x20today\t -> 1353628800000000
-\ttomorrow  utc\x20 -> 1353715200000000
-yesterday\tUTC -> 1353542400000000
-",
+today -> 1353628800000000|yesterday -> 1353542400000000|tomorrow -> 1353715200000000|\
+\x20today\t -> 1353628800000000|\ttomorrow  utc\x20 -> 1353715200000000|yesterday\tUTC -> 1353542400000000",
             refusals: &[],
         },
     },
@@ -28,18 +23,11 @@ yesterday\tUTC -> 1353542400000000
         east: 50_400,
         table: Table {
             moments: "\
-today -> 1353664800000000
-yesterday -> 1353578400000000
-tomorrow -> 1353751200000000
-today utc -> 1353628800000000
-yesterday Utc -> 1353542400000000
-tomorrow UTC -> 1353715200000000
-12:00 -> 1353708000000000
-12:00 UTC -> 1353672000000000
-Sat 0:0 -> 1353664800000000
-Fri 0:0 UTC -> 1353628800000000
-",
-            refusals: &[(WrongWeekday, "Fri 0:0\nSat 0:0 UTC")],
+today -> 1353664800000000|yesterday -> 1353578400000000|tomorrow -> 1353751200000000|\
+today utc -> 1353628800000000|yesterday Utc -> 1353542400000000|tomorrow UTC -> 1353715200000000|\
+12:00 -> 1353708000000000|12:00 UTC -> 1353672000000000|Sat 0:0 -> 1353664800000000|\
+Fri 0:0 UTC -> 1353628800000000",
+            refusals: &[(WrongWeekday, "Fri 0:0|Sat 0:0 UTC")],
         },
     },
 ];
@@ -48,70 +36,30 @@ Fri 0:0 UTC -> 1353628800000000
 static REFUSED_DAYS: Table = Table {
     moments: "",
     refusals: &[
-        (
-            BadWeekday,
-            "\
-Today
-TODAY
-todays
-Yesterday
-Tomorrow UTC
-",
-        ),
+        (BadWeekday, "Today|TODAY|todays|Yesterday|Tomorrow UTC"),
         (
             StrayWord,
             "\
-today 12:00
-today 2012-11-23
-today +8:00
-today /
-today UTC x
-today UTC UTC
-today UTC 5
-",
+today 12:00|today 2012-11-23|today +8:00|today /|today UTC x|today UTC UTC|today UTC 5",
         ),
         (
             NoSuchZone,
             "\
-today Mars/One
-yesterday Fri
-tomorrow today
-today U!
-12:00 today
-2012-11-23 today
-",
+today Mars/One|yesterday Fri|tomorrow today|today U!|12:00 today|2012-11-23 today",
         ),
         (BadDate, "Fri today"),
     ],
 };
 
 /// What texts mean at these presents, by a clock whose midnight is skipped on 2024-03-10, and shown twice on 2024-11-03.
-static DAYS_OF_A_CHANGE: [(i64, Table); 4] = [
+static DAYS_OF_A_CHANGE: [(i64, Table); 2] = [
     // On the day whose midnight is skipped.
     (
         1_710_086_400,
         Table {
             moments: "\
-today -> 1710046800000000
-yesterday -> 1709960400000000
-tomorrow -> 1710129600000000
-0:30 -> 1710048600000000
-1:00 -> 1710046800000000
-Sun 0:0 -> 1710046800000000
-",
-            refusals: &[],
-        },
-    ),
-    // On the day before it.
-    (
-        1_710_003_600,
-        Table {
-            moments: "\
-tomorrow -> 1710046800000000
-today -> 1709960400000000
-23:59:59.999999 -> 1710046799999999
-2024-3-10 -> 1710046800000000
-",
+today -> 1710046800000000|yesterday -> 1709960400000000|tomorrow -> 1710129600000000|0:30 -> 1710048600000000|\
+1:00 -> 1710046800000000|Sun 0:0 -> 1710046800000000",
             refusals: &[],
         },
     ),
@@ -120,118 +68,50 @@ today -> 1709960400000000
         1_730_653_200,
         Table {
             moments: "\
-today -> 1730606400000000
-yesterday -> 1730520000000000
-tomorrow -> 1730696400000000
-0:30 -> 1730608200000000
-1:00 -> 1730613600000000
-",
-            refusals: &[],
-        },
-    ),
-    // On the day before it.
-    (
-        1_730_563_200,
-        Table {
-            moments: "\
-tomorrow -> 1730606400000000
-today UTC -> 1730505600000000
-",
+today -> 1730606400000000|yesterday -> 1730520000000000|tomorrow -> 1730696400000000|0:30 -> 1730608200000000|\
+1:00 -> 1730613600000000",
             refusals: &[],
         },
     ),
 ];
 
 /// The days at both ends of the range of instants.
-static FIRST_AND_LAST_DAYS: [Setting; 7] = [
+static FIRST_AND_LAST_DAYS: [Setting; 4] = [
     Setting {
         now: 0,
         east: 0,
         table: Table {
-            moments: "\
-today -> 0
-tomorrow -> 86400000000
-Thu 0:0 -> 0
-Thursday 23:59:59.9999999 -> 86399999999
-",
+            moments: "today -> 0|tomorrow -> 86400000000|Thu 0:0 -> 0|Thursday 23:59:59.9999999 -> 86399999999",
             refusals: &[(OutOfRange, "yesterday"), (WrongWeekday, "Wed 0:0")],
-        },
-    },
-    Setting {
-        now: 0,
-        east: -3_600,
-        table: Table {
-            moments: "\
-tomorrow -> 3600000000
-Wed 23:00 -> 0
-",
-            refusals: &[
-                (OutOfRange, "today\nWed 22:59:59.999999"),
-                (WrongWeekday, "Thu 23:00"),
-            ],
         },
     },
     Setting {
         now: 0,
         east: 93_599,
         table: Table {
-            moments: "\
-tomorrow -> 79201000000
-Fri 23:59:59 -> 79200000000
-",
-            refusals: &[(OutOfRange, "today\nyesterday")],
+            moments: "tomorrow -> 79201000000|Fri 23:59:59 -> 79200000000",
+            refusals: &[(OutOfRange, "today|yesterday")],
         },
     },
     Setting {
         now: 0,
         east: -93_599,
         table: Table {
-            moments: "\
-tomorrow -> 7199000000
-",
+            moments: "tomorrow -> 7199000000",
             refusals: &[
-                (OutOfRange, "yesterday\ntoday\nTue 12:00"),
+                (OutOfRange, "yesterday|today|Tue 12:00"),
                 (WrongWeekday, "Wed 12:00"),
             ],
         },
     },
     Setting {
         now: 7_258_211_998,
-        east: 0,
-        table: Table {
-            moments: "\
-today -> 7258204800000000
-yesterday -> 7258118400000000
-1:59:58.999999 -> 7258211998999999
-Thu 0:0 -> 7258204800000000
-",
-            refusals: &[(OutOfRange, "tomorrow\n1:59:59"), (WrongWeekday, "Fri 0:0")],
-        },
-    },
-    Setting {
-        now: 7_258_211_998,
         east: -93_599,
         table: Table {
             moments: "\
-today -> 7258125599000000
-yesterday -> 7258039199000000
-23:59:59.999999 -> 7258211998999999
-2199-12-31 23:59:59 -> 7258211998000000
-Tue 2199-12-31 -> 7258125599000000
-",
+today -> 7258125599000000|yesterday -> 7258039199000000|23:59:59.999999 -> 7258211998999999|\
+2199-12-31 23:59:59 -> 7258211998000000|Tue 2199-12-31 -> 7258125599000000",
             refusals: &[(OutOfRange, "tomorrow")],
-        },
-    },
-    Setting {
-        now: 7_258_211_998,
-        east: 93_599,
-        table: Table {
-            moments: "\
-today -> 7258197601000000
-yesterday -> 7258111201000000
-3:59:57.999999 -> 7258211998999999
-",
-            refusals: &[(OutOfRange, "tomorrow\n3:59:58")],
         },
     },
 ];

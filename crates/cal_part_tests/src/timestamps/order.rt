@@ -10,51 +10,25 @@ static EARLIER_WORDS_FIRST: Table = Table {
     refusals: &[
         (
             BadWeekday,
-            "\
-foo 2012-13-1
-foo 12
-foo 25:00
-foo 1:2 Mars/One
-foo 1:2 UTC x
-",
+            "foo 2012-13-1|foo 12|foo 25:00|foo 1:2 Mars/One|foo 1:2 UTC x",
         ),
-        (BadDate, "12 25:00\n12 Mars/One\n12 -\nMon 12 25:00"),
+        (BadDate, "12 25:00|12 Mars/One|12 -|Mon 12 25:00"),
         (
             NoSuchDate,
-            "\
-2013-02-29 25:00
-2013-02-29 Mars/One
-2013-02-29 -
-Mon 2013-02-29
-",
+            "2013-02-29 25:00|2013-02-29 Mars/One|2013-02-29 -|Mon 2013-02-29",
         ),
         (
             BadTime,
             "\
-2012-11-23 25:00 Mars/One
-2012-11-23 25:00 -
-25:00 Mars/One
-25:00 2013-02-29
-25:00 12
-",
+2012-11-23 25:00 Mars/One|2012-11-23 25:00 -|25:00 Mars/One|25:00 2013-02-29|25:00 12",
         ),
         (
             NoSuchZone,
-            "\
-1:2 Mars/One x
-2012-11-23 Mars/One x
-1:2 Mars/One 25:00
-today Mars/One x
-",
+            "1:2 Mars/One x|2012-11-23 Mars/One x|1:2 Mars/One 25:00|today Mars/One x",
         ),
         (
             StrayWord,
-            "\
-1:2 - Mars/One
-2012-11-23 - 25:00
-today - Mars/One
-today 25:00 Mars/One
-",
+            "1:2 - Mars/One|2012-11-23 - 25:00|today - Mars/One|today 25:00 Mars/One",
         ),
     ],
 };
@@ -63,13 +37,13 @@ today 25:00 Mars/One
 static WEEKDAYS_AFTER_WORDS: Table = Table {
     moments: "",
     refusals: &[
-        (BadTime, "Mon 2012-11-23 25:00\nMon 25:00"),
-        (NoSuchZone, "Mon 2012-11-23 1:2 Mars/One\nMon 1:2 Mars/One"),
+        (BadTime, "Mon 2012-11-23 25:00|Mon 25:00"),
+        (NoSuchZone, "Mon 2012-11-23 1:2 Mars/One|Mon 1:2 Mars/One"),
         (
             StrayWord,
-            "Mon 2012-11-23 1:2 UTC x\nMon 2012-11-23 -\nMon 1:2 -",
+            "Mon 2012-11-23 1:2 UTC x|Mon 2012-11-23 -|Mon 1:2 -",
         ),
-        (WrongWeekday, "Mon 2012-11-23 1:2\nMon 1:2"),
+        (WrongWeekday, "Mon 2012-11-23 1:2|Mon 1:2"),
     ],
 };
 
@@ -79,15 +53,9 @@ static RANGE_LAST: [Setting; 2] = [
         now: PRESENT,
         east: 3_600,
         table: Table {
-            moments: "\
-1970-1-1 1:0 -> 0
-Thu 1970-1-1 1:0 -> 0
-",
+            moments: "1970-1-1 1:0 -> 0|Thu 1970-1-1 1:0 -> 0",
             refusals: &[
-                (
-                    OutOfRange,
-                    "1970-1-1\nThu 1970-1-1\n1970-1-1 0:59:59.999999",
-                ),
+                (OutOfRange, "1970-1-1|Thu 1970-1-1|1970-1-1 0:59:59.999999"),
                 (WrongWeekday, "Fri 1970-1-1"),
                 (BadTime, "1970-1-1 25:00"),
                 (NoSuchZone, "1970-1-1 0:0 Mars/One"),
@@ -100,25 +68,15 @@ Thu 1970-1-1 1:0 -> 0
         east: -93_599,
         table: Table {
             moments: "\
-2199-12-31 23:59:59.999999 -> 7258211998999999
-Tue 2199-12-31 23:59:59 -> 7258211998000000
-",
+2199-12-31 23:59:59.999999 -> 7258211998999999|Tue 2199-12-31 23:59:59 -> 7258211998000000",
             refusals: &[(WrongWeekday, "Wed 2199-12-31 23:59:59")],
         },
     },
 ];
 
 #[test]
-fn earlier_words_first(rt: HostRuntime) -> Result<(), Fail> {
-    expect_in_utc(&rt, rt.alloc(), &EARLIER_WORDS_FIRST)
-}
-
-#[test]
-fn weekdays_after_words(rt: HostRuntime) -> Result<(), Fail> {
-    expect_in_utc(&rt, rt.alloc(), &WEEKDAYS_AFTER_WORDS)
-}
-
-#[test]
-fn range_last(rt: HostRuntime) -> Result<(), Fail> {
+fn order(rt: HostRuntime) -> Result<(), Fail> {
+    expect_in_utc(&rt, rt.alloc(), &EARLIER_WORDS_FIRST)?;
+    expect_in_utc(&rt, rt.alloc(), &WEEKDAYS_AFTER_WORDS)?;
     expect_settings(&rt, rt.alloc(), &RANGE_LAST)
 }

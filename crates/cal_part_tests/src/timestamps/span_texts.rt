@@ -1,112 +1,45 @@
 //! The present, and span texts counted from it or from 0.
 
-use super::{PRESENT, Setting, Table, expect_in_utc, expect_settings};
+use super::{Table, expect_in_utc};
+use cal_base::SpanFault;
 use cal_read::StampFault::*;
-use cal_span::SpanFault;
 use std::test::Fail;
 
 /// Nothing but blanks is no word.
 static BLANKS_ALONE: Table = Table {
     moments: "",
-    refusals: &[(Empty, "\n\x20\n\t\n\x20\t \t\n")],
+    refusals: &[(Empty, "|\x20|\t|\x20\t \t")],
 };
 
 /// `now` alone, in this case alone.
-static THE_PRESENT: [Setting; 3] = [
-    Setting {
-        now: PRESENT,
-        east: 0,
-        table: Table {
-            moments: "\
-now -> 1353665722000000
-\x20now -> 1353665722000000
-now\t -> 1353665722000000
-\t now \t\x20 -> 1353665722000000
-",
-            refusals: &[(
-                BadWeekday,
-                "\
-NOW
-Now
-nows
-now now
-now 1:2
-n ow
-",
-            )],
-        },
-    },
-    Setting {
-        now: 0,
-        east: 0,
-        table: Table {
-            moments: "\
-now -> 0
-",
-            refusals: &[],
-        },
-    },
-    Setting {
-        now: 7_258_211_998,
-        east: 0,
-        table: Table {
-            moments: "\
-now -> 7258211998000000
-",
-            refusals: &[],
-        },
-    },
-];
+static THE_PRESENT: Table = Table {
+    moments: "\
+now -> 1353665722000000|\x20now -> 1353665722000000|now\t -> 1353665722000000|\t now \t\x20 -> 1353665722000000",
+    refusals: &[(BadWeekday, "NOW|Now|nows|now now|now 1:2|n ow")],
+};
 
 /// Spans after the present and before it.
 static AFTER_AND_BEFORE: Table = Table {
     moments: "\
-+5min -> 1353666022000000
-+ 5 min -> 1353666022000000
-\x20+5min\x20 -> 1353666022000000
-+1h 5us -> 1353669322000005
-+0 -> 1353665722000000
--5min -> 1353665422000000
--\t5 min -> 1353665422000000
-\t-5min\t -> 1353665422000000
--0.000001s -> 1353665721999999
-5min left -> 1353666022000000
-5min ago -> 1353665422000000
-\x201h 2us left\x20 -> 1353669322000002
-1h 2us\tago\t -> 1353662121999998
-5min  \t ago -> 1353665422000000
-5 left -> 1353665727000000
-5 ago -> 1353665717000000
--1353665722 -> 0
-1353665722 ago -> 0
-+5904546276.999999 -> 7258211998999999
-5904546276.999999s left -> 7258211998999999
-",
++5min -> 1353666022000000|+ 5 min -> 1353666022000000|\x20+5min\x20 -> 1353666022000000|\
++1h 5us -> 1353669322000005|+0 -> 1353665722000000|-5min -> 1353665422000000|-\t5 min -> 1353665422000000|\
+\t-5min\t -> 1353665422000000|-0.000001s -> 1353665721999999|5min left -> 1353666022000000|\
+5min ago -> 1353665422000000|\x201h 2us left\x20 -> 1353669322000002|1h 2us\tago\t -> 1353662121999998|\
+5min  \t ago -> 1353665422000000|5 left -> 1353665727000000|5 ago -> 1353665717000000|-1353665722 -> 0|\
+1353665722 ago -> 0|+5904546276.999999 -> 7258211998999999|5904546276.999999s left -> 7258211998999999",
     refusals: &[(
         OutOfRange,
         "\
--1353665722.000001
-1353665723 ago
-+5904546277
-5904546277 left
-+9223372036854775807us
--9223372036854775807us
-9223372036854775807us left
-9223372036854775807us ago
-",
+-1353665722.000001|1353665723 ago|+5904546277|5904546277 left|+9223372036854775807us|-9223372036854775807us|\
+9223372036854775807us left|9223372036854775807us ago",
     )],
 };
 
 /// Spans counted from 0.
 static COUNTED_FROM_0: Table = Table {
     moments: "\
-@0 -> 0
-@ 5 min -> 300000000
-\x20@1.5\x20 -> 1500000
-@1d -> 86400000000
-@7258211998.999999 -> 7258211998999999
-",
-    refusals: &[(OutOfRange, "@7258211999\n@9223372036854775807us")],
+@0 -> 0|@ 5 min -> 300000000|\x20@1.5\x20 -> 1500000|@1d -> 86400000000|@7258211998.999999 -> 7258211998999999",
+    refusals: &[(OutOfRange, "@7258211999|@9223372036854775807us")],
 };
 
 /// Each fault of a span text after each sign and before each word.
@@ -115,59 +48,21 @@ static BAD_SPANS: Table = Table {
     refusals: &[
         (
             BadSpan(SpanFault::UnknownUnit),
-            "\
-+5x
--5x
-@5x
-5x left
-5x ago
-@5 ago
-5 ago ago
-",
+            "+5x|-5x|@5x|5x left|5x ago|@5 ago|5 ago ago",
         ),
         (
             BadSpan(SpanFault::BadNumber),
             "\
-+1..5
--1..5
-@1..5
-1..5 left
-1..5 ago
-+now
-+5min ago
--5min left
-++5
--@5
-@-5
-5min ago ago
-5min left ago
-5min ago left
-today ago
-now left
-11:12 left
-+5\u{a0}min
-",
++1..5|-1..5|@1..5|1..5 left|1..5 ago|+now|+5min ago|-5min left|++5|-@5|@-5|5min ago ago|5min left ago|\
+5min ago left|today ago|now left|11:12 left|+5\u{a0}min|+5\nmin",
         ),
         (
             BadSpan(SpanFault::TooLarge),
             "\
-+9223372036854775808us
--9223372036854775808us
-@9223372036854775808us
-9223372036854775808us left
-9223372036854775808us ago
-",
++9223372036854775808us|-9223372036854775808us|@9223372036854775808us|9223372036854775808us left|\
+9223372036854775808us ago",
         ),
-        (
-            BadSpan(SpanFault::Empty),
-            "\
-+
--
-@
-\x20+\x20
--\t
-",
-        ),
+        (BadSpan(SpanFault::Empty), "+|-|@|\x20+\x20|-\t"),
     ],
 };
 
@@ -175,47 +70,25 @@ now left
 static WORDS_AT_THE_END: Table = Table {
     moments: "",
     refusals: &[
-        (BadWeekday, "left\nago\n\x20ago\x20"),
+        (BadWeekday, "left|ago|\x20ago\x20"),
         (
             BadDate,
-            "\
-5minago
-5 minleft
-5min AGO
-5min Left
-5min agos
-5min ago.
-",
+            "5minago|5 minleft|5min AGO|5min Left|5min agos|5min ago.",
         ),
     ],
 };
 
 #[test]
-fn blanks_alone(rt: HostRuntime) -> Result<(), Fail> {
-    expect_in_utc(&rt, rt.alloc(), &BLANKS_ALONE)
-}
-
-#[test]
-fn the_present(rt: HostRuntime) -> Result<(), Fail> {
-    expect_settings(&rt, rt.alloc(), &THE_PRESENT)
-}
-
-#[test]
-fn after_and_before(rt: HostRuntime) -> Result<(), Fail> {
-    expect_in_utc(&rt, rt.alloc(), &AFTER_AND_BEFORE)
-}
-
-#[test]
-fn counted_from_0(rt: HostRuntime) -> Result<(), Fail> {
-    expect_in_utc(&rt, rt.alloc(), &COUNTED_FROM_0)
-}
-
-#[test]
-fn bad_spans(rt: HostRuntime) -> Result<(), Fail> {
-    expect_in_utc(&rt, rt.alloc(), &BAD_SPANS)
-}
-
-#[test]
-fn words_at_the_end(rt: HostRuntime) -> Result<(), Fail> {
-    expect_in_utc(&rt, rt.alloc(), &WORDS_AT_THE_END)
+fn present_and_spans(rt: HostRuntime) -> Result<(), Fail> {
+    for table in [
+        &BLANKS_ALONE,
+        &THE_PRESENT,
+        &AFTER_AND_BEFORE,
+        &COUNTED_FROM_0,
+        &BAD_SPANS,
+        &WORDS_AT_THE_END,
+    ] {
+        expect_in_utc(&rt, rt.alloc(), table)?;
+    }
+    Ok(())
 }

@@ -1,121 +1,40 @@
 //! Rules that are read and rules that are refused, typed from POSIX (Environment Variables, `TZ`) with the longer
-//! rule times of RFC 8536 and with names of at most 15 bytes; and zone files, whole and damaged.
+//! rule times of RFC 8536 and with names of at most 15 bytes; and zone files.
 
 use crate::shared::{NEW_YEAR, zone_file};
-use cal_zone::{Rules, Zone, ZoneFault, place};
+use cal_base::{Rules, Zone, ZoneFault, place};
 use std::alloc::Global;
 use std::process::Abort;
 use std::test::Fail;
 
-static READ: [&str; 42] = [
-    "UTC0",
-    "GMT0",
-    "EST5",
-    "EST+5",
-    "EST-5",
-    "CET-1",
-    "JST-9",
-    "IST-5:30",
-    "NPT-5:45",
-    "XXX12:34:56",
-    "ABC-12:34:56",
-    "XXX24",
-    "ABC-24",
-    "XXX24:59:59",
-    "ABC-24:59:59",
-    "XXX0:00",
-    "XXX00:00:00",
-    "XXX05",
-    "<+03>-3",
-    "<-03>3",
-    "<+0530>-5:30",
-    "<A1+>4",
-    "ABCDEFGHIJKLMNO5",
-    "<ABCDEFGHIJ-0+12>5",
-    "EST5EDT,M3.2.0,M11.1.0",
-    "CET-1CEST,M3.5.0,M10.5.0/3",
-    "EST5EDT4,M3.2.0/2,M11.1.0/2",
-    "EST5EDT4:30,M3.2.0,M11.1.0",
-    "AAA0BBB,M3.5.0/2,M3.5.0/3:10",
-    "IST-1GMT0,M10.5.0,M3.5.0/1",
-    "AEST-10AEDT,M10.1.0,M4.1.0/3",
-    "<-02>2<-01>,M3.5.0/-1,M10.5.0/0",
-    "<+1030>-10:30<+11>-11,M10.1.0,M4.1.0",
-    "XXX3EDT1,0/0,J365/23",
-    "XXX3EDT,J1,J365",
-    "XXX3EDT,0,365",
-    "XXX3EDT,J60/24,J300/167",
-    "XXX3EDT,M3.1.6/-167,M12.5.6/167:59:59",
-    "WGT3WGST,M3.5.0/-2,M10.5.0/-1",
-    "EST5EDT,M03.2.0,M11.1.0",
-    "CET-1CEST-2,M3.5.0/+2,M10.5.0/+3:00:00",
-    "XXX3EDT,M1.1.0,M12.5.6",
-];
+const READ: &str = "\
+UTC0|GMT0|EST5|EST+5|EST-5|CET-1|JST-9|IST-5:30|NPT-5:45|XXX12:34:56|ABC-12:34:56|XXX24|ABC-24|XXX24:59:59|\
+ABC-24:59:59|XXX0:00|XXX00:00:00|XXX05|<+03>-3|<-03>3|<+0530>-5:30|<A1+>4|ABCDEFGHIJKLMNO5|<ABCDEFGHIJ-0+12>5|\
+EST5EDT,M3.2.0,M11.1.0|CET-1CEST,M3.5.0,M10.5.0/3|EST5EDT4,M3.2.0/2,M11.1.0/2|EST5EDT4:30,M3.2.0,M11.1.0|\
+AAA0BBB,M3.5.0/2,M3.5.0/3:10|IST-1GMT0,M10.5.0,M3.5.0/1|AEST-10AEDT,M10.1.0,M4.1.0/3|\
+<-02>2<-01>,M3.5.0/-1,M10.5.0/0|<+1030>-10:30<+11>-11,M10.1.0,M4.1.0|XXX3EDT1,0/0,J365/23|XXX3EDT,J1,J365|\
+XXX3EDT,0,365|XXX3EDT,J60/24,J300/167|XXX3EDT,M3.1.6/-167,M12.5.6/167:59:59|WGT3WGST,M3.5.0/-2,M10.5.0/-1|\
+EST5EDT,M03.2.0,M11.1.0|CET-1CEST-2,M3.5.0/+2,M10.5.0/+3:00:00|XXX3EDT,M1.1.0,M12.5.6";
 
-static REFUSED: [&str; 50] = [
-    "",
-    " ",
-    "EST",
-    "5",
-    "ES5",
-    "E5",
-    "<>5",
-    "<E>5",
-    "<+1>5",
-    "<+03-3",
-    "+03-3",
-    "<+03>",
-    "<+03 >3",
-    "<A_B>3",
-    "ABCDEFGHIJKLMNOP5",
-    "<ABCDEFGHIJKLMNOP>5",
-    "EST25",
-    "EST-25",
-    "EST5:",
-    "EST5:6",
-    "EST5:60",
-    "EST5:00:60",
-    "EST5:00:",
-    "EST5.5",
-    "EST 5",
-    "EST5 ",
-    " EST5",
-    "EST5\n",
-    "EST++5",
-    "EST100",
-    "EST5EDT",
-    "EST5EDT,",
-    "EST5EDT,M3.2.0",
-    "EST5EDT,M3.2.0,",
-    "EST5EDT,M3.2.0,M11.1.0,",
-    "EST5EDT,M0.2.0,M11.1.0",
-    "EST5EDT,M13.2.0,M11.1.0",
-    "EST5EDT,M3.0.0,M11.1.0",
-    "EST5EDT,M3.6.0,M11.1.0",
-    "EST5EDT,M3.2.7,M11.1.0",
-    "EST5EDT,J0,J365",
-    "EST5EDT,J1,J366",
-    "EST5EDT,366,1",
-    "EST5EDT,M3.2.0/168,M11.1.0",
-    "EST5EDT,M3.2.0/2:60,M11.1.0",
-    "EST5ED4,M3.2.0,M11.1.0",
-    ":Europe/Berlin",
-    "EST5EDT M3.2.0 M11.1.0",
-    "ÉST5",
-    "EST5EDT,M3.2,M11.1.0",
-];
+const REFUSED: &str = "\
+| |EST|5|ES5|E5|<>5|<E>5|<+1>5|<+03-3|+03-3|<+03>|<+03 >3|<A_B>3|ABCDEFGHIJKLMNOP5|<ABCDEFGHIJKLMNOP>5|EST25|\
+EST-25|EST5:|EST5:6|EST5:60|EST5:00:60|EST5:00:|EST5.5|EST 5|EST5 | EST5|EST5\n|EST++5|EST100|EST5EDT|EST5EDT,|\
+EST5EDT,M3.2.0|EST5EDT,M3.2.0,|EST5EDT,M3.2.0,M11.1.0,|EST5EDT,M0.2.0,M11.1.0|EST5EDT,M13.2.0,M11.1.0|\
+EST5EDT,M3.0.0,M11.1.0|EST5EDT,M3.6.0,M11.1.0|EST5EDT,M3.2.7,M11.1.0|EST5EDT,J0,J365|EST5EDT,J1,J366|\
+EST5EDT,366,1|EST5EDT,M3.2.0/168,M11.1.0|EST5EDT,M3.2.0/2:60,M11.1.0|EST5ED4,M3.2.0,M11.1.0|:Europe/Berlin|\
+EST5EDT M3.2.0 M11.1.0|ÉST5|EST5EDT,M3.2,M11.1.0";
 
-/// Each rule is refused for this fault, or read where it is none.
-fn expect_faults(rt: &(impl Abort + AllocGlobal), rules: &[&str], fault: Option<ZoneFault>) {
-    for rule in rules {
+/// Each of the rules, which are joined by `|`, is refused for this fault, or read where it is none.
+fn expect_faults(rt: &(impl Abort + AllocGlobal), rules: &str, fault: Option<ZoneFault>) {
+    for rule in rules.split('|') {
         assert_eq!(rt; Rules::posix(rt.alloc(), rule).err(), fault, "{rule}");
     }
 }
 
 #[test]
 fn posix_rules(rt: HostRuntime) {
-    expect_faults(&rt, &READ, None);
-    expect_faults(&rt, &REFUSED, Some(ZoneFault::BadRule));
+    expect_faults(&rt, READ, None);
+    expect_faults(&rt, REFUSED, Some(ZoneFault::BadRule));
 }
 
 /// The fault of the bytes as a zone file of that name.
@@ -161,42 +80,5 @@ fn refuses_zone_files(rt: HostRuntime) -> Result<(), Fail> {
     );
     // As large as a zone file may be.
     expect_refused(&rt, &too_large[1..], &bad_file);
-    Ok(())
-}
-
-/// Each front of the zone file is read, or it is refused as a bad zone file.
-#[test]
-fn cut_zone_files(rt: HostRuntime) -> Result<(), Fail> {
-    let whole = zone_file(rt.alloc())?;
-    for len in 0..whole.len() {
-        let fault = file_fault(rt.alloc(), "Test/Fixed", &whole[..len]);
-        assert!(rt;
-            matches!(fault, None | Some(ZoneFault::BadFile)),
-            "cut at {len}"
-        );
-    }
-    Ok(())
-}
-
-/// So is the zone file with each byte in turn replaced by this one.
-fn expect_changed(rt: &(impl Abort + AllocGlobal), changed: u8) -> Result<(), Fail> {
-    let whole = zone_file(rt.alloc())?;
-    for at in 0..whole.len() {
-        let mut bytes = whole.clone()?;
-        bytes[at] = changed;
-        let fault = file_fault(rt.alloc(), "Test/Fixed", &bytes);
-        assert!(rt;
-            matches!(fault, None | Some(ZoneFault::BadFile)),
-            "{changed} at {at}"
-        );
-    }
-    Ok(())
-}
-
-#[test]
-fn changed_zone_files(rt: HostRuntime) -> Result<(), Fail> {
-    for changed in [0xff, 0x00, 0x01, 0x80] {
-        expect_changed(&rt, changed)?;
-    }
     Ok(())
 }

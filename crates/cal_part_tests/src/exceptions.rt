@@ -1,4 +1,0 @@
-//! Exceptions: which numbers they take out of merged sources, and how timer files list them.
-
-mod files;
-mod sources;

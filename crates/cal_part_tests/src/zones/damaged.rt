@@ -1,0 +1,59 @@
+//! Zone files that are cut short or have a wrong byte: each is refused, or gives a zone with rising elapses.
+
+use crate::elapses::elapses_of;
+use crate::shared::{NEW_YEAR, zone_file};
+use cal_base::{Rules, Zone, ZoneFault};
+use cal_elapse::Rising;
+use std::alloc::Global;
+use std::process::Abort;
+use std::test::Fail;
+
+/// Whether the first three midnights in a zone rise.
+fn rises(alloc: Global, zone: Zone<'_>) -> Result<bool, Fail> {
+    let mut midnights = elapses_of(alloc, "daily", zone, NEW_YEAR)?;
+    let mut last = NEW_YEAR;
+    for _ in 0..3 {
+        match midnights.next() {
+            Some(midnight) if midnight > last => last = midnight,
+            _ => return Ok(false),
+        }
+    }
+    Ok(true)
+}
+
+/// Whether the bytes are refused as a bad zone file, or those midnights rise.
+fn is_bad_or_rises(alloc: Global, bytes: &[u8]) -> Result<bool, Fail> {
+    match Rules::file(alloc, "Test/Fixed", bytes) {
+        Ok(rules) => rises(alloc, Zone::rules(&rules)),
+        Err(fault) => Ok(fault == ZoneFault::BadFile),
+    }
+}
+
+/// The zone file, and each of its fronts.
+#[test]
+fn cut_zone_files(rt: HostRuntime) -> Result<(), Fail> {
+    let whole = zone_file(rt.alloc())?;
+    for len in 0..=whole.len() {
+        assert!(rt; is_bad_or_rises(rt.alloc(), &whole[..len])?, "cut at {len}");
+    }
+    Ok(())
+}
+
+/// The zone file with each byte in turn replaced by this one.
+fn expect_changed(rt: &(impl Abort + AllocGlobal), changed: u8) -> Result<(), Fail> {
+    let whole = zone_file(rt.alloc())?;
+    for at in 0..whole.len() {
+        let mut bytes = whole.clone()?;
+        bytes[at] = changed;
+        assert!(rt; is_bad_or_rises(rt.alloc(), &bytes)?, "{changed} at {at}");
+    }
+    Ok(())
+}
+
+#[test]
+fn changed_zone_files(rt: HostRuntime) -> Result<(), Fail> {
+    for changed in [0xff, 0x00, 0x01, 0x80] {
+        expect_changed(&rt, changed)?;
+    }
+    Ok(())
+}
