@@ -1,9 +1,10 @@
 use Rattle.std.proofs.Common.{◌≡◌, ◌∙◌, ◌&&◌, ◌/◌, ◌%◌, Bool, true, false, arith, refl, sym}
+use Rattle.std.proofs.lemmas.Bool.{and_right}
 use Rattle.cal_zone.specs.Local.{seconds_in_all-is}
 use Rattle.cal_elapse.specs.Masks.{sets_in}
 use Rattle.cal_elapse.specs.Months.{day_in}
 use Rattle.cal_spec.specs.Match.{matches, time_in}
-use Rattle.cal_elapse.proofs.CarryLemmas.{last_false, split_at}
+use Rattle.cal_elapse.proofs.CarryLemmas.{split_at}
 use Rattle.cal_elapse.proofs.SearchLemmas.{locals_split}
 use Rattle.cal_elapse.proofs.matched.is_match.Goals as goal
 
@@ -33,4 +34,4 @@ returns-else-has_time c =
     let count = seconds_in_all-is in
     let whole : matches sets t ≡ (day_in sets (t / 86_400) && time_in sets (t % 86_400)) = split_at _ _ _ 86_400 84_006 (locals_split sets) (t / 86_400) t (omega arith) refl in
     let time : time_in sets (t % 86_400) ≡ false = cc in
-    c.if-has_time.false ∙ sym (whole ∙ last_false (day_in sets (t / 86_400)) (time_in sets (t % 86_400)) time)
+    c.if-has_time.false ∙ sym (whole ∙ and_right (day_in sets (t / 86_400)) (time_in sets (t % 86_400)) time)
