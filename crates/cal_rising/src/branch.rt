@@ -7,11 +7,16 @@ ghost use Rattle.cal_rising.specs.RisingList.{IsSameFrom, is_in};
 use crate::Rising;
 use std::marker::Model;
 
+/// How often a source is asked before it takes a step, as a step of a source with few numbers costs far more.
+const ASKED_FOR_A_STEP: u8 = 32;
+
 /// A source of numbers that rise, seen as the number taken from it, if there is one, and what is after that.
 #[derive(Drop)]
 pub struct Branch<S: Rising> {
     head: Option<i64>,
     source: S,
+    /// How often it was asked since it took a step.
+    asked: u8,
 }
 
 impl<S: Rising> Model for Branch<S> {
@@ -30,7 +35,11 @@ impl<S: Rising> Branch<S> {
     pub fn new(source: S) -> Self
         ensures { result ≡ record { head = None; after = S.rest source } }
     {
-        Branch { head: None, source }
+        Branch {
+            head: None,
+            source,
+            asked: 0,
+        }
     }
 
     /// Takes the first number of the source, unless one is taken already. What there is to give stays the same.
@@ -71,13 +80,19 @@ impl<S: Rising> Branch<S> {
         }
     }
 
-    /// Takes the next number of the source in the place of one below this number.
+    /// Once it was asked often enough, takes the next number of the source in the place of one below this number.
     pub fn follow(&mut self, number: i64)
         ensures { IsSameFrom number (numbers self.new) (numbers self.old) }
     {
-        if self.head.is_some_and(|head| head < number) {
-            self.head = None;
+        if self.head.is_some_and(|head| head >= number) {
+            return;
         }
+        if self.asked < ASKED_FOR_A_STEP {
+            self.asked += 1;
+            return;
+        }
+        self.asked = 0;
+        self.head = None;
         self.fetch();
     }
 }
