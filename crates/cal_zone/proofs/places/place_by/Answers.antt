@@ -21,4 +21,4 @@ returns-else-shown_by-local c =
     let second_fits : FitsSigned w64 c.settle_by-second.result = search rules in
     let settled : c.settle_by-second.result ≡ settle_of c.args.rules.now c.args.local = c.settle_by-second.ensures.value ∙ ap (settle_of c.args.rules.now) (to_z-of_z w64 _ fits) in
     let shown : c.shown_by.result ≡ local_of c.args.rules.now c.settle_by-second.result = c.shown_by.ensures ∙ ap (local_of c.args.rules.now) (to_z-of_z w64 _ second_fits) in
-    sym (place_of-skipped c.args.rules.now c.args.local c.settle_by-second.result settled (λ same. c.if-shown_by-local.false (ap (of_z w64) (shown ∙ same))))
+    rw (place_of-skipped c.args.rules.now c.args.local c.settle_by-second.result settled (λ same. c.if-shown_by-local.false (ap (of_z w64) (shown ∙ same)))) (search rules)

@@ -1,4 +1,4 @@
-use Rattle.std.proofs.Common.{◌≡◌, ◌+◌, ap, ◌∙◌, sym, min}
+use Rattle.std.proofs.Common.{◌≡◌, ◌+◌, ap, ◌∙◌, sym, min, rules}
 use Rattle.std.specs.List.{before_first}
 use Rattle.std.specs.Option.{option_copied}
 use Rattle.cal_span.specs.Scale.{size_of}
@@ -10,7 +10,7 @@ use Rattle.cal_span.proofs.span.value.add_pair.Goals as goal
 pub returns-in_default : goal.returns-in_default
 returns-in_default c =
     let pair : Pair = record { number = c.args.pair.number.now; unit = option_copied c.args.pair.unit } in
-    ap (sum_with c.args.sum.micros) (worth_bad_number pair c.in_default.ensures)
+    rw (worth_bad_number pair c.in_default.ensures) (search rules)
 
 pub returns-in_default-unit_of : goal.returns-in_default-unit_of
 returns-in_default-unit_of c =
