@@ -17,10 +17,7 @@ pub const FORWARD_AND_BACK: &str = "AAA0BBB,M3.5.0/2,M3.5.0/3:10";
 
 /// The expression that a text is.
 pub fn expr(alloc: Global, text: &str) -> Result<Expr, Fail> {
-    let Ok(expr) = read_expr(alloc, text) else {
-        return Err("an expression is refused".into());
-    };
-    Ok(expr)
+    Ok(read_expr(alloc, text)?)
 }
 
 /// The rules that a POSIX rule says.

@@ -79,107 +79,120 @@ fn push_zones(line: &mut String, zones: &[ZoneItem]) -> Result<(), Fail> {
     Ok(())
 }
 
-/// Each line of words comes to what stands beside it.
-fn check(rt: &(impl Abort + AllocGlobal), rows: &[(&str, &str)]) -> Result<(), Fail> {
-    for (line, want) in rows {
-        let found = shown(rt.alloc(), line)?;
-        assert!(rt; found.as_str() == *want, "{found} at {line}");
+/// The line of words comes to this.
+fn expect_shown(rt: &(impl Abort + AllocGlobal), line: &str, want: &str) -> Result<(), Fail> {
+    let found = shown(rt.alloc(), line)?;
+    assert!(rt; found.as_str() == want, "{found} at {line}");
+    Ok(())
+}
+
+/// On each line stand words, an arrow, and what they come to.
+fn check(rt: &(impl Abort + AllocGlobal), lines: &str) -> Result<(), Fail> {
+    for line in lines.lines() {
+        let (words, want) = line.split_once(" -> ").ok_or("no arrow")?;
+        expect_shown(rt, words, want)?;
     }
     Ok(())
 }
 
-static WORDS_OF_EACH_VERB: [(&str, &str); 10] = [
-    // Noon thirty, twice.
-    (
-        "calendar|--iterations=2|--now=@1704067200|*-*-* 12:30:00",
-        "calendar 2 now 1704067200|*-*-* 12:30:00",
-    ),
-    ("calendar|a", "calendar 1|a"),
-    (
-        "calendar|--base-time=today|a|b",
-        "calendar 1 after today|a|b",
-    ),
-    ("calendar||b", "calendar 1||b"),
-    (
-        "timer|--iterations=3|--base-time=@5|f",
-        "timer 3 after @5|f",
-    ),
-    ("timer|", "timer 1|"),
-    (
-        "timestamp|--now=@7|--local=utc|a|b",
-        "timestamp 1 now 7|a|b",
-    ),
-    // A text that begins with a minus sign.
-    ("timestamp|--|-5min", "timestamp 1|-5min"),
-    ("timespan|1h|2h", "timespan 1|1h|2h"),
-    ("timespan|--|-1h|--help", "timespan 1|-1h|--help"),
-];
+/// The words of each verb, options between texts, and counts, presents and zones up to their bounds.
+const COMMANDS: &str = "\
+calendar|--iterations=2|--now=@1704067200|*-*-* 12:30:00 -> calendar 2 now 1704067200|*-*-* 12:30:00
+calendar|a -> calendar 1|a
+calendar|--base-time=today|a|b -> calendar 1 after today|a|b
+calendar||b -> calendar 1||b
+timer|--iterations=3|--base-time=@5|f -> timer 3 after @5|f
+timer| -> timer 1|
+timestamp|--now=@7|--local=utc|a|b -> timestamp 1 now 7|a|b
+timestamp|--|-5min -> timestamp 1|-5min
+timespan|1h|2h -> timespan 1|1h|2h
+timespan|--|-1h|--help -> timespan 1|-1h|--help
+calendar|a|--iterations=2|b|--now=@3|c -> calendar 2 now 3|a|b|c
+calendar|a|--iterations|2|b -> calendar 2|a|b
+timer|f|--iterations=2 -> timer 2|f
+calendar|--now=@3|--|a|--iterations=2 -> calendar 1 now 3|a|--iterations=2
+calendar|a|--|b -> calendar 1|a|b
+calendar|a|--|--|b -> calendar 1|a|--|b
+calendar|a|-- -> calendar 1|a
+timer|--|-f -> timer 1|-f
+timestamp|help|calendar -> timestamp 1|help|calendar
+calendar|--iterations=1|a -> calendar 1|a
+calendar|--iterations=1000000|a -> calendar 1000000|a
+calendar|--iterations=007|a -> calendar 7|a
+calendar|--now=@0|a -> calendar 1 now 0|a
+calendar|--now=@00001|a -> calendar 1 now 1|a
+calendar|--now=@7258211998|a -> calendar 1 now 7258211998|a
+calendar|--local=UTC|a -> calendar 1|a
+calendar|--local=uTc|a -> calendar 1|a
+calendar|--local=+25:59|daily -> calendar 1 ahead 93540|daily
+calendar|--local=-25:59|daily -> calendar 1 ahead -93540|daily
+calendar|--local=+00:00|a -> calendar 1 ahead 0|a
+calendar|--local=-00:30|a -> calendar 1 ahead -1800|a
+calendar|--local=posix:|daily -> calendar 1 rule |daily
+calendar|--local=posix:CET-1|a -> calendar 1 rule CET-1|a
+calendar|--local=Mars/One|daily -> calendar 1 in Mars/One|daily
+calendar|--local=posix|a -> calendar 1 in posix|a
+calendar|--zones=A=f,A=f|daily -> calendar 1 with A of f with A of f|daily
+calendar|--zones=Test/Fixed=a=b|a -> calendar 1 with Test/Fixed of a=b|a
+timestamp|--zones=A==|a -> timestamp 1 with A of =|a
+";
 
 #[test]
-fn words_of_each_verb(rt: HostRuntime) -> Result<(), Fail> {
-    check(&rt, &WORDS_OF_EACH_VERB)
+fn commands(rt: HostRuntime) -> Result<(), Fail> {
+    check(&rt, COMMANDS)
 }
 
-static OPTIONS_BETWEEN_TEXTS: [(&str, &str); 9] = [
-    (
-        "calendar|a|--iterations=2|b|--now=@3|c",
-        "calendar 2 now 3|a|b|c",
-    ),
-    ("calendar|a|--iterations|2|b", "calendar 2|a|b"),
-    ("timer|f|--iterations=2", "timer 2|f"),
-    (
-        "calendar|--now=@3|--|a|--iterations=2",
-        "calendar 1 now 3|a|--iterations=2",
-    ),
-    ("calendar|a|--|b", "calendar 1|a|b"),
-    ("calendar|a|--|--|b", "calendar 1|a|--|b"),
-    ("calendar|a|--", "calendar 1|a"),
-    ("timer|--|-f", "timer 1|-f"),
-    ("timestamp|help|calendar", "timestamp 1|help|calendar"),
-];
+/// Bad values, of which the first is told, and calls for help.
+const OTHERS: &str = "\
+calendar|--iterations=0|--now=5|daily -> bad iterations
+calendar|--local=5x|--zones=x|--now=5|--iterations=0|daily -> bad iterations
+calendar|--iterations=1000001|daily -> bad iterations
+calendar|--local=5x|--zones=x|--now=5|daily -> bad now
+calendar|--local=5x|--zones=x|daily -> bad zones
+calendar|--local=5x|daily -> bad local zone
+calendar|--local=5x -> usage
+--help -> help
+-h -> help
+--version -> help
+-V -> help
+calendar|--help -> help
+timestamp|-h -> help
+timespan|a|--help -> help
+timer|--help|--nope -> help
+calendar|--|--help -> calendar 1|--help
+";
 
 #[test]
-fn options_between_texts(rt: HostRuntime) -> Result<(), Fail> {
-    check(&rt, &OPTIONS_BETWEEN_TEXTS)
+fn other_lines(rt: HostRuntime) -> Result<(), Fail> {
+    check(&rt, OTHERS)
 }
 
 /// Lines whose words aren't those of a command.
-static NO_COMMANDS: [&str; 29] = [
-    "",
-    "frobnicate|a",
-    "help",
-    "--",
-    "calendar",
-    "calendar|--",
-    "calendar|--now=@3",
-    "timer",
-    "timer|a|b",
-    "timer|a|--|b",
-    "--now=@3|calendar|a",
-    "calendar|--nope=1|a",
-    "calendar|-5min",
-    "calendar|-n|a",
-    "calendar|a|--now",
-    "timestamp|--iterations=2|a",
-    "timestamp|--base-time=a|a",
-    "timespan|--iterations=2|a",
-    "timespan|--base-time=a|a",
-    "timespan|--now=@1|a",
-    "timespan|--local=UTC|a",
-    "timespan|--zones=A=f|a",
-    "calendar|--iterations=1|--iterations=1|a",
-    "calendar|--base-time=a|--base-time=a|a",
-    "calendar|--now=@1|a|--now=@1",
-    "calendar|--local=UTC|--local=UTC|a",
-    "calendar|--zones=A=f|--zones=B=g|a",
-    "calendar|--version",
-    "Calendar|a",
-];
+const NO_COMMANDS: &str = "\
+frobnicate|a
+
+help
+--
+calendar|--
+calendar|--now=@3
+timer|a|--|b
+--now=@3|calendar|a
+calendar|--nope=1|a
+calendar|-5min
+calendar|a|--now
+timestamp|--iterations=2|a
+timespan|--now=@1|a
+timespan|--zones=A=f|a
+calendar|--iterations=1|--iterations=1|a
+calendar|--zones=A=f|--zones=B=g|a
+calendar|--version
+Calendar|a
+";
 
 #[test]
 fn words_that_are_no_command(rt: HostRuntime) -> Result<(), Fail> {
-    for line in &NO_COMMANDS {
-        check(&rt, &[(*line, "usage")])?;
+    for line in NO_COMMANDS.lines() {
+        expect_shown(&rt, line, "usage")?;
     }
     Ok(())
 }
@@ -199,7 +212,7 @@ fn check_values(
 ) -> Result<(), Fail> {
     for value in values.split('|') {
         let line = format!(in rt.alloc(); "calendar|--{option}={value}|daily")?;
-        check(rt, &[(line.as_str(), want)])?;
+        expect_shown(rt, &line, want)?;
     }
     Ok(())
 }
@@ -236,78 +249,6 @@ fn bad_values(rt: HostRuntime) -> Result<(), Fail> {
     Ok(())
 }
 
-static GOOD_COUNTS_AND_PRESENTS: [(&str, &str); 6] = [
-    ("calendar|--iterations=1|a", "calendar 1|a"),
-    ("calendar|--iterations=1000000|a", "calendar 1000000|a"),
-    ("calendar|--iterations=007|a", "calendar 7|a"),
-    ("calendar|--now=@0|a", "calendar 1 now 0|a"),
-    ("calendar|--now=@00001|a", "calendar 1 now 1|a"),
-    (
-        "calendar|--now=@7258211998|a",
-        "calendar 1 now 7258211998|a",
-    ),
-];
-
-#[test]
-fn good_counts_and_presents(rt: HostRuntime) -> Result<(), Fail> {
-    check(&rt, &GOOD_COUNTS_AND_PRESENTS)
-}
-
-static GOOD_ZONES: [(&str, &str); 13] = [
-    ("calendar|--local=UTC|a", "calendar 1|a"),
-    ("calendar|--local=uTc|a", "calendar 1|a"),
-    // The farthest offsets that can be said.
-    (
-        "calendar|--local=+25:59|daily",
-        "calendar 1 ahead 93540|daily",
-    ),
-    (
-        "calendar|--local=-25:59|daily",
-        "calendar 1 ahead -93540|daily",
-    ),
-    ("calendar|--local=+00:00|a", "calendar 1 ahead 0|a"),
-    ("calendar|--local=-00:30|a", "calendar 1 ahead -1800|a"),
-    ("calendar|--local=posix:|daily", "calendar 1 rule |daily"),
-    ("calendar|--local=posix:CET-1|a", "calendar 1 rule CET-1|a"),
-    (
-        "calendar|--local=Mars/One|daily",
-        "calendar 1 in Mars/One|daily",
-    ),
-    ("calendar|--local=posix|a", "calendar 1 in posix|a"),
-    (
-        "calendar|--zones=A=f,A=f|daily",
-        "calendar 1 with A of f with A of f|daily",
-    ),
-    (
-        "calendar|--zones=Test/Fixed=a=b|a",
-        "calendar 1 with Test/Fixed of a=b|a",
-    ),
-    ("timestamp|--zones=A==|a", "timestamp 1 with A of =|a"),
-];
-
-#[test]
-fn good_zones(rt: HostRuntime) -> Result<(), Fail> {
-    check(&rt, &GOOD_ZONES)
-}
-
-static THE_FIRST_BAD_VALUE_IS_TOLD: [(&str, &str); 7] = [
-    ("calendar|--iterations=0|--now=5|daily", "bad iterations"),
-    (
-        "calendar|--local=5x|--zones=x|--now=5|--iterations=0|daily",
-        "bad iterations",
-    ),
-    ("calendar|--iterations=1000001|daily", "bad iterations"),
-    ("calendar|--local=5x|--zones=x|--now=5|daily", "bad now"),
-    ("calendar|--local=5x|--zones=x|daily", "bad zones"),
-    ("calendar|--local=5x|daily", "bad local zone"),
-    ("calendar|--local=5x", "usage"),
-];
-
-#[test]
-fn the_first_bad_value_is_told(rt: HostRuntime) -> Result<(), Fail> {
-    check(&rt, &THE_FIRST_BAD_VALUE_IS_TOLD)
-}
-
 /// A line with so many zone files.
 fn with_zones(alloc: Global, count: usize) -> Result<String, Fail> {
     let mut line = String::from_str(alloc, "calendar|--zones=A=f")?;
@@ -326,40 +267,23 @@ fn at_most_sixty_four_zone_files(rt: HostRuntime) -> Result<(), Fail> {
     };
     assert_eq!(rt; ask.zones.len(), 64);
     let more = with_zones(rt.alloc(), 65)?;
-    check(&rt, &[(more.as_str(), "bad zones")])
-}
-
-static CALLS_FOR_HELP: [(&str, &str); 9] = [
-    ("--help", "help"),
-    ("-h", "help"),
-    ("--version", "help"),
-    ("-V", "help"),
-    ("calendar|--help", "help"),
-    ("timestamp|-h", "help"),
-    ("timespan|a|--help", "help"),
-    ("timer|--help|--nope", "help"),
-    ("calendar|--|--help", "calendar 1|--help"),
-];
-
-#[test]
-fn calls_for_help(rt: HostRuntime) -> Result<(), Fail> {
-    check(&rt, &CALLS_FOR_HELP)
+    expect_shown(&rt, &more, "bad zones")
 }
 
 /// Lines that call for the text of help or usage.
-static TOLD: [&str; 11] = [
-    "--help",
-    "--version",
-    "calendar|--help",
-    "timestamp|--help",
-    "timespan|--help",
-    "timer|--help",
-    "x",
-    "",
-    "calendar",
-    "timer|a|b",
-    "calendar|--nope|a",
-];
+const TOLD: &str = "\
+--help
+--version
+calendar|--help
+timestamp|--help
+timespan|--help
+timer|--help
+x
+
+calendar
+timer|a|b
+calendar|--nope|a
+";
 
 /// Whether a text ends with one line feed.
 fn ends_once(text: &str) -> bool {
@@ -375,29 +299,11 @@ fn is_narrow(text: &str) -> bool {
 /// bytes.
 #[test]
 fn texts_fit_a_terminal(rt: HostRuntime) -> Result<(), Fail> {
-    for line in &TOLD {
+    for line in TOLD.lines() {
         let fault = read(rt.alloc(), line)?.err().ok_or("no fault")?;
         let text = fault.words();
         let fits = ends_once(text) && is_narrow(text);
         assert!(rt; fits, "{text}");
-    }
-    Ok(())
-}
-
-#[test]
-fn words_of_faults(rt: HostRuntime) -> Result<(), Fail> {
-    let text = String::from_str(rt.alloc(), "error: x\n")?;
-    let help = String::from_str(rt.alloc(), "Usage\n")?;
-    for (fault, words) in &[
-        (CommandFault::Usage(text), "error: x\n"),
-        (CommandFault::Help(help), "Usage\n"),
-        (CommandFault::BadIterations, "bad iterations"),
-        (CommandFault::BadNow, "bad now"),
-        (CommandFault::BadZones, "bad zones"),
-        (CommandFault::BadLocal, "bad local zone"),
-        (CommandFault::NoMemory, ""),
-    ] {
-        assert_eq!(rt; fault.words(), *words);
     }
     Ok(())
 }

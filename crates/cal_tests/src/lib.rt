@@ -9,8 +9,6 @@ mod refused;
 #[cfg(test)]
 mod reports;
 #[cfg(test)]
-mod stops;
-#[cfg(test)]
 mod work;
 #[cfg(test)]
 mod zone_files;

@@ -2,12 +2,10 @@
 
 ghost use Rattle.std.specs.Prelude.{◌≡◌, false};
 
-mod base;
 mod calendar;
 mod refused;
 mod timers;
-mod timespans;
-mod timestamps;
+mod times;
 mod writers;
 mod zones;
 
@@ -230,14 +228,4 @@ fn names_of_files(rt: HostRuntime) -> Result<(), Fail> {
         assert_eq!(rt; file_name(&request), name);
     }
     Ok(())
-}
-
-#[test]
-fn numbers_of_faults(rt: HostRuntime) {
-    let numbers = [
-        RunFault::OutFailed as u8,
-        RunFault::ErrFailed as u8,
-        RunFault::NoMemory as u8,
-    ];
-    assert_eq!(rt; numbers, [1, 2, 3]);
 }

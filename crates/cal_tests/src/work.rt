@@ -2,7 +2,6 @@
 
 mod disk;
 mod memory;
-mod order;
 
 use cal_bytes::Port;
 use cal_work::{System, work};
@@ -45,15 +44,24 @@ fn perform_words<S: System>(alloc: Global, system: &S, words: &[&str]) -> Result
 /// A line of words, the texts on standard output and on standard error, and the status.
 type Row<'a> = (&'a str, &'a str, &'a str, u8);
 
-/// Each line of words does what stands beside it.
-fn check<S: System>(
+/// The line of words does what stands beside it.
+fn check<S: System>(rt: &(impl Abort + AllocGlobal), system: &S, row: Row<'_>) -> Result<(), Fail> {
+    let done = perform(rt.alloc(), system, row.0)?;
+    expect_done(rt, &done, row);
+    Ok(())
+}
+
+/// On each line stand words, an arrow, and the line that is told of them on standard error. All end with this status.
+fn check_refused<S: System>(
     rt: &(impl Abort + AllocGlobal),
     system: &S,
-    rows: &[Row<'_>],
+    lines: &str,
+    status: u8,
 ) -> Result<(), Fail> {
-    for row in rows {
-        let done = perform(rt.alloc(), system, row.0)?;
-        expect_done(rt, &done, *row);
+    for line in lines.lines() {
+        let (words, told) = line.split_once(" -> ").ok_or("no arrow")?;
+        let err = format!(in rt.alloc(); "{told}\n")?;
+        check(rt, system, (words, "", &err, status))?;
     }
     Ok(())
 }

@@ -2,8 +2,10 @@
 
 use cal_bytes::{Faulty, Port, Then};
 use cal_part_tests::shared::zone_file;
-use cal_work::{LoadFault, load_zone};
-use cal_zone::{ZoneFault, ZoneTable, place};
+use cal_work::LoadFault::{self, Zone};
+use cal_work::load_zone;
+use cal_zone::ZoneFault::{self, BadFile, BadName, NameTaken, TooLarge};
+use cal_zone::{ZoneTable, place};
 use std::alloc::Global;
 use std::process::Abort;
 use std::test::Fail;
@@ -99,48 +101,15 @@ const WHOLE: usize = 999;
 
 /// A name, after how many bytes the reader does what, and the fault. The first fault is told: a name that is none, then
 /// what the reader does, then the bytes, and last of all a name that is taken.
-static REFUSALS: [(&str, usize, Then, LoadFault); 11] = [
-    ("1x", CUT, Then::Error, LoadFault::Zone(ZoneFault::BadName)),
-    (
-        "1x",
-        CUT,
-        Then::Endless,
-        LoadFault::Zone(ZoneFault::BadName),
-    ),
+static REFUSALS: [(&str, usize, Then, LoadFault); 8] = [
+    ("1x", CUT, Then::Error, Zone(BadName)),
+    ("1x", CUT, Then::Endless, Zone(BadName)),
     ("Test/A", CUT, Then::Error, LoadFault::ReadFailed),
-    ("utc", CUT, Then::Error, LoadFault::ReadFailed),
-    ("Test/Fixed", CUT, Then::Interrupted, LoadFault::ReadFailed),
-    (
-        "Test/A",
-        CUT,
-        Then::Endless,
-        LoadFault::Zone(ZoneFault::TooLarge),
-    ),
-    (
-        "utc",
-        CUT,
-        Then::Endless,
-        LoadFault::Zone(ZoneFault::TooLarge),
-    ),
-    (
-        "Test/A",
-        CUT,
-        Then::Zero,
-        LoadFault::Zone(ZoneFault::BadFile),
-    ),
-    ("utc", CUT, Then::Zero, LoadFault::Zone(ZoneFault::BadFile)),
-    (
-        "utc",
-        WHOLE,
-        Then::Error,
-        LoadFault::Zone(ZoneFault::NameTaken),
-    ),
-    (
-        "Test/Fixed",
-        WHOLE,
-        Then::Error,
-        LoadFault::Zone(ZoneFault::NameTaken),
-    ),
+    ("utc", CUT, Then::Interrupted, LoadFault::ReadFailed),
+    ("utc", CUT, Then::Endless, Zone(TooLarge)),
+    ("utc", CUT, Then::Zero, Zone(BadFile)),
+    ("utc", WHOLE, Then::Error, Zone(NameTaken)),
+    ("Test/Fixed", WHOLE, Then::Error, Zone(NameTaken)),
 ];
 
 /// Files that can't be loaded beside the one that is there leave the table as it was.
@@ -172,42 +141,17 @@ fn check_bytes(
         bytes,
         limit: bytes.len(),
         then: Then::Zero,
-        want: Err(LoadFault::Zone(fault)),
+        want: Err(Zone(fault)),
         midnights: [IN_UTC, None, None, None],
     };
     check(rt, &[row])
 }
 
-static LENGTHS: [(usize, ZoneFault); 2] = [
-    (1_048_576, ZoneFault::BadFile),
-    (1_048_577, ZoneFault::TooLarge),
-];
-
 /// Up to the most bytes that are read, and one byte more.
 #[test]
 fn bytes_that_are_no_zone_file(rt: HostRuntime) -> Result<(), Fail> {
-    check_bytes(&rt, b"hello", ZoneFault::BadFile)?;
-    for (count, fault) in &LENGTHS {
-        let zeros: Vec<u8> = vec![in rt.alloc(); 0; *count]?;
-        check_bytes(&rt, zeros.as_slice(), *fault)?;
-    }
-    Ok(())
-}
-
-#[test]
-fn words_of_faults(rt: HostRuntime) {
-    for (fault, words) in [
-        (LoadFault::ReadFailed, "cannot be read"),
-        (LoadFault::Zone(ZoneFault::BadName), "bad zone name"),
-        (LoadFault::Zone(ZoneFault::BadRule), "bad rule"),
-        (LoadFault::Zone(ZoneFault::BadFile), "bad zone file"),
-        (
-            LoadFault::Zone(ZoneFault::TooLarge),
-            "larger than 1048576 bytes",
-        ),
-        (LoadFault::Zone(ZoneFault::NoMemory), ""),
-        (LoadFault::Zone(ZoneFault::NameTaken), "zone name taken"),
-    ] {
-        assert_eq!(rt; fault.words(), words);
-    }
+    check_bytes(&rt, b"hello", BadFile)?;
+    let zeros: Vec<u8> = vec![in rt.alloc(); 0; 1_048_577]?;
+    check_bytes(&rt, &zeros[1..], BadFile)?;
+    check_bytes(&rt, &zeros, TooLarge)
 }

@@ -1,9 +1,9 @@
 //! Reports where memory is refused. `tests/refused` refuses the allocations in turn.
 
+use super::calendar::LEAP_DAYS;
 use super::timers::{CONTINUED_TIMER, EXCEPT_TIMER};
-use super::timespans::SPAN_LIST;
-use super::timestamps::STAMP_LIST;
-use super::{KnownZones, NOON_THIRTY, Row, Written, expect_texts, request, run_request};
+use super::times::{SPAN_LIST, STAMP_LIST};
+use super::{KnownZones, Row, Written, expect_texts, request, run_request};
 use cal_bytes::Port;
 use cal_part_tests::shared::SUMMER_TIME;
 use cal_request::{Request, RunFault};
@@ -56,7 +56,7 @@ fn expect_texts_or_none(rt: &impl Abort, row: Row<'_>, written: Written<'_>) {
 
 #[test]
 fn a_calendar(rt: HostRuntime) {
-    check_refused(&rt, NOON_THIRTY);
+    check_refused(&rt, LEAP_DAYS);
 }
 
 #[test]

@@ -2,7 +2,7 @@
 
 use super::{CALENDAR, KnownZones, Local, Row, check, check_input, known_zones};
 use cal_bytes::{Faulty, Port, Then};
-use cal_part_tests::shared::NEW_YEAR;
+use cal_part_tests::shared::{EXCEPT_FILE, NEW_YEAR, TIMER_FILE};
 use cal_request::Verb;
 use std::alloc::{AllocError, Global};
 use std::process::Abort;
@@ -34,18 +34,6 @@ Normalized form: *-*-* *:00/20:00
        From now: 1h left
 ";
 
-/// A comment stands in a continued line, and a key of another timer empties the list.
-const CONTINUED_FILE: &[u8] = b"[Unit]
-Description=x
-[Timer]
-OnCalendar=daily
-OnBootSec=
-OnCalendar=Mon \\
-# the minutes
-  *:0/30
-OnCalendar=hourly
-";
-
 const CONTINUED: &str = "  Original form: Mon  *:0/30
 Normalized form: Mon *-*-* *:00/30:00
   Original form: hourly
@@ -60,17 +48,12 @@ Normalized form: *-*-* *:00:00
 pub(super) const CONTINUED_TIMER: Row<'static> = Row {
     about: "timer file",
     iterations: 2,
-    input: CONTINUED_FILE,
+    input: TIMER_FILE,
     out: CONTINUED,
     ..TIMER
 };
 
-const NEVER: &str = "  Original form: 2100-02-29
-Normalized form: 2100-02-29 00:00:00
-    Next elapse: never
-";
-
-static ELAPSES_OF_ALL_EXPRESSIONS: [Row<'static>; 3] = [
+static ELAPSES_OF_ALL_EXPRESSIONS: [Row<'static>; 2] = [
     Row {
         about: "shared instants",
         iterations: 6,
@@ -80,26 +63,12 @@ static ELAPSES_OF_ALL_EXPRESSIONS: [Row<'static>; 3] = [
         ..TIMER
     },
     CONTINUED_TIMER,
-    Row {
-        about: "a timer that never elapses",
-        input: b"[Timer]\nOnCalendar=2100-02-29",
-        out: NEVER,
-        ..TIMER
-    },
 ];
 
 #[test]
 fn elapses_of_all_expressions(rt: HostRuntime) -> Result<(), Fail> {
     check(&rt, &ELAPSES_OF_ALL_EXPRESSIONS)
 }
-
-/// A reset empties the expressions and leaves the exceptions.
-const EXCEPT_FILE: &[u8] = b"[Timer]
-OnCalendar=daily
-X-ExceptOnCalendar=Sat,Sun 12:00
-OnBootSec=
-OnCalendar=12:00
-";
 
 const EXCEPT: &str = "  Original form: 12:00
 Normalized form: *-*-* 12:00:00
@@ -139,7 +108,7 @@ Normalized form: *-*-* 00:00:00
     Next elapse: never
 ";
 
-static EXCEPTIONS: [Row<'static>; 6] = [
+static EXCEPTIONS: [Row<'static>; 5] = [
     EXCEPT_TIMER,
     Row {
         about: "an exception at other times",
@@ -165,12 +134,6 @@ static EXCEPTIONS: [Row<'static>; 6] = [
         err: "t:2: repetition reaches no further value\n",
         ..TIMER
     },
-    Row {
-        about: "zones of both lists that aren't there",
-        input: b"[Timer]\nOnCalendar=daily\nX-ExceptOnCalendar=daily Mars/One\nOnCalendar=daily Test/West\n",
-        err: "t:3: no such zone\n",
-        ..TIMER
-    },
 ];
 
 #[test]
@@ -178,72 +141,8 @@ fn exceptions(rt: HostRuntime) -> Result<(), Fail> {
     check(&rt, &EXCEPTIONS)
 }
 
-/// Each expression is meant in its own zone, or in the local one.
-const ZONES_FILE: &[u8] =
-    b"[Timer]\nOnCalendar=daily Test/Fixed\nOnCalendar=daily\nOnCalendar=daily utc\n";
-
-const ZONES: &str = "  Original form: daily Test/Fixed
-Normalized form: *-*-* 00:00:00 Test/Fixed
-  Original form: daily
-Normalized form: *-*-* 00:00:00
-  Original form: daily utc
-Normalized form: *-*-* 00:00:00 UTC
-    Next elapse: Mon 2024-01-01 05:30:00 +05:30
-       (in UTC): Mon 2024-01-01 00:00:00 UTC
-       From now: 0 left
-       Iter. #2: Tue 2024-01-02 00:00:00 +05:30
-       (in UTC): Mon 2024-01-01 18:30:00 UTC
-       From now: 18h 30min left
-       Iter. #3: Tue 2024-01-02 04:30:00 +05:30
-       (in UTC): Mon 2024-01-01 23:00:00 UTC
-       From now: 23h left
-";
-
-/// An expression with an offset, and one in the local zone.
-const OFFSET: &str = "  Original form: daily +02:00
-Normalized form: *-*-* 00:00:00 +02:00
-  Original form: daily
-Normalized form: *-*-* 00:00:00
-    Next elapse: Mon 2024-01-01 22:00:00 UTC
-       From now: 22h left
-       Iter. #2: Tue 2024-01-02 00:00:00 UTC
-       From now: 1d left
-       Iter. #3: Tue 2024-01-02 22:00:00 UTC
-       From now: 1d 22h left
-";
-
-static ZONES_OF_A_TIMER: [Row<'static>; 3] = [
-    Row {
-        about: "a timer whose expressions name zones",
-        iterations: 3,
-        base: Some("@1704067199"),
-        local: Local::Offset(19_800),
-        input: ZONES_FILE,
-        out: ZONES,
-        ..TIMER
-    },
-    Row {
-        about: "a timer with an offset in a line",
-        iterations: 3,
-        input: b"[Timer]\nOnCalendar=daily +02:00\nOnCalendar=daily\n",
-        out: OFFSET,
-        ..TIMER
-    },
-    Row {
-        about: "a timer with a word that is no offset",
-        input: b"[Timer]\nOnCalendar=daily\nOnCalendar=12:00 +2:00\n",
-        err: "t:3: stray word\n",
-        ..TIMER
-    },
-];
-
-#[test]
-fn zones_of_a_timer(rt: HostRuntime) -> Result<(), Fail> {
-    check(&rt, &ZONES_OF_A_TIMER)
-}
-
 /// A file is refused as a whole, by one line.
-static REFUSED_TIMERS: [Row<'static>; 6] = [
+static REFUSED_TIMERS: [Row<'static>; 4] = [
     Row {
         about: "a refused expression",
         input: b"[Timer]\nOnCalendar=20/4:00\n",
@@ -263,22 +162,9 @@ static REFUSED_TIMERS: [Row<'static>; 6] = [
         ..TIMER
     },
     Row {
-        about: "zones that aren't there",
-        input: b"[Timer]\nOnCalendar=daily\nOnCalendar=daily Test/West\nOnCalendar=daily Mars/One\n",
+        about: "zones of both lists that aren't there",
+        input: b"[Timer]\nOnCalendar=daily\nX-ExceptOnCalendar=daily Mars/One\nOnCalendar=daily Test/West\n",
         err: "t:3: no such zone\n",
-        ..TIMER
-    },
-    Row {
-        about: "the whole file is read before a zone is looked up",
-        input: b"[Timer]\nOnCalendar=daily Mars/One\nOnCalendar=7\n",
-        err: "t:3: bad date\n",
-        ..TIMER
-    },
-    Row {
-        about: "a base is judged before the file is read",
-        base: Some("Mon 2012-11-23"),
-        input: b"\xff",
-        err: "--base-time: weekday does not fit the date\n",
         ..TIMER
     },
 ];
@@ -288,40 +174,62 @@ fn refused_timers(rt: HostRuntime) -> Result<(), Fail> {
     check(&rt, &REFUSED_TIMERS)
 }
 
-/// A timer file with so many times `OnCalendar=daily` before a reset.
-fn many(alloc: Global, count: usize) -> Result<Vec<u8>, AllocError> {
-    let mut file = Vec::new(alloc);
-    file.extend_from_slice(b"[Timer]\n")?;
+/// A file with so many times `OnCalendar=daily`, and then these lines.
+fn many(alloc: Global, count: usize, last: &str) -> Result<String, AllocError> {
+    let mut file = String::from_str(alloc, "[Timer]\n")?;
     for _ in 0..count {
-        file.extend_from_slice(b"OnCalendar=daily\n")?;
+        file.push_str("OnCalendar=daily\n")?;
     }
-    file.extend_from_slice(b"OnCalendar=\nOnCalendar=hourly\n")?;
+    file.push_str(last)?;
     Ok(file)
 }
 
-/// What is left after a reset.
+/// The report of a file with so many times `OnCalendar=daily` and a line of another kind, up to the elapses.
+fn headings(alloc: Global, count: usize, last: &str) -> Result<String, AllocError> {
+    let mut out = String::new(alloc);
+    for _ in 0..count {
+        out.push_str("  Original form: daily\nNormalized form: *-*-* 00:00:00\n")?;
+    }
+    out.push_str(last)?;
+    Ok(out)
+}
+
+const RESET: &str = "OnCalendar=\nOnCalendar=hourly\n";
+
 const HOURLY: &str = "  Original form: hourly
 Normalized form: *-*-* *:00:00
     Next elapse: Mon 2024-01-01 01:00:00 UTC
        From now: 1h left
 ";
 
-static MANY: [(usize, &str, &str); 2] = [
-    (256, HOURLY, ""),
-    (257, "", "t:258: more than 256 expressions\n"),
+const TOMORROW: &str = "    Next elapse: Tue 2024-01-02 00:00:00 UTC\n       From now: 1d left\n";
+
+/// How many lines, those after them, how many headings, what is printed after them, and the refusal. As many as there
+/// may be are given as one; after a reset as many may be there anew.
+static MANY: [(usize, &str, usize, &str, &str); 3] = [
+    (256, "", 256, TOMORROW, ""),
+    (256, RESET, 0, HOURLY, ""),
+    (257, RESET, 0, "", "t:258: more than 256 expressions\n"),
 ];
+
+/// The request for the elapses of this file, which writes these texts.
+fn timer_row<'a>(input: &'a [u8], out: &'a str, err: &'a str) -> Row<'a> {
+    let about = "many expressions";
+    Row {
+        about,
+        input,
+        out,
+        err,
+        ..TIMER
+    }
+}
 
 #[test]
 fn as_many_expressions_as_there_may_be(rt: HostRuntime) -> Result<(), Fail> {
-    for (count, out, err) in &MANY {
-        let file = many(rt.alloc(), *count)?;
-        let row = Row {
-            about: "many expressions and a reset",
-            input: file.as_slice(),
-            out,
-            err,
-            ..TIMER
-        };
+    for (count, lines, given, last, err) in &MANY {
+        let file = many(rt.alloc(), *count, lines)?;
+        let out = headings(rt.alloc(), *given, last)?;
+        let row = timer_row(file.as_bytes(), &out, err);
         check(&rt, &[row])?;
     }
     Ok(())
@@ -357,36 +265,45 @@ fn check_readers(
     Ok(())
 }
 
-#[test]
-fn a_slow_reader(rt: HostRuntime) -> Result<(), Fail> {
-    check_readers(&rt, CONTINUED_TIMER, &[(1, 9_999, Then::Error)])
-}
+/// The timer files that readers give.
+static READ: [Row<'static>; 2] = [CONTINUED_TIMER, EXCEPT_TIMER];
 
-/// The timer file where it can't be read.
-const UNREAD_TIMER: Row<'static> = Row {
-    out: "",
-    err: "t: cannot be read\n",
-    ..CONTINUED_TIMER
-};
-
-/// Readers that fail after so many bytes, also after the last one.
 #[test]
-fn failing_readers(rt: HostRuntime) -> Result<(), Fail> {
-    for limit in 0..=CONTINUED_FILE.len() {
-        let readers = [(64, limit, Then::Error), (1, limit, Then::Interrupted)];
-        check_readers(&rt, UNREAD_TIMER, &readers)?;
+fn slow_readers(rt: HostRuntime) -> Result<(), Fail> {
+    for row in &READ {
+        check_readers(&rt, *row, &[(1, 9_999, Then::Error)])?;
     }
     Ok(())
 }
 
-/// The timer file where no end comes after it.
-const ENDLESS_TIMER: Row<'static> = Row {
-    err: "t: larger than 1048576 bytes\n",
-    ..UNREAD_TIMER
-};
+/// A row whose file can't be read, for this reason.
+fn unread<'a>(row: Row<'a>, err: &'a str) -> Row<'a> {
+    Row {
+        out: "",
+        err,
+        ..row
+    }
+}
 
+/// Readers that fail after so many bytes, also after the last one.
 #[test]
-fn a_reader_that_never_ends(rt: HostRuntime) -> Result<(), Fail> {
-    let limit = CONTINUED_FILE.len();
-    check_readers(&rt, ENDLESS_TIMER, &[(1_024, limit, Then::Endless)])
+fn failing_readers(rt: HostRuntime) -> Result<(), Fail> {
+    for row in &READ {
+        let row = unread(*row, "t: cannot be read\n");
+        for limit in 0..=row.input.len() {
+            let readers = [(64, limit, Then::Error), (1, limit, Then::Interrupted)];
+            check_readers(&rt, row, &readers)?;
+        }
+    }
+    Ok(())
+}
+
+/// Readers that never end.
+#[test]
+fn endless_readers(rt: HostRuntime) -> Result<(), Fail> {
+    for row in &READ {
+        let row = unread(*row, "t: larger than 1048576 bytes\n");
+        check_readers(&rt, row, &[(1_024, row.input.len(), Then::Endless)])?;
+    }
+    Ok(())
 }

@@ -1,10 +1,8 @@
 //! Reports to writers that are slow or fail.
 
-use super::base::FROM_THE_FIRST;
 use super::timers::{CONTINUED_TIMER, EXCEPT_TIMER};
-use super::timespans::SPAN_LIST;
-use super::timestamps::STAMP_LIST;
-use super::zones::EVERY_SECOND;
+use super::times::{SPAN_LIST, STAMP_LIST};
+use super::zones::{EVERY_SECOND, FROM_THE_FIRST};
 use super::{CALENDAR, KnownZones, NOON_THIRTY, Row, check, expect_texts, known_zones, run_row};
 use cal_bytes::{Faulty, Port, Then};
 use cal_request::{RunFault, Status};
@@ -108,8 +106,16 @@ Normalized form: *-*-* *:*:*
        From now: 3s left
 ";
 
+const AFTER_THE_FRIDAY: &str = "  Original form: 12:00
+Normalized form: *-*-* 12:00:00
+    Except form: Sat,Sun 12:00
+Normalized form: Sat,Sun *-*-* 12:00:00
+    Next elapse: Mon 2024-01-08 12:00:00 UTC
+       From now: 3d 12h left
+";
+
 /// What is left of the elapses of every second, by how many of them were given: the last of these is the base.
-static RESUMED: [Row<'static>; 3] = [
+static EVERY_SECOND_RESUMED: [Row<'static>; 3] = [
     EVERY_SECOND,
     FROM_THE_FIRST,
     Row {
@@ -121,9 +127,22 @@ static RESUMED: [Row<'static>; 3] = [
     },
 ];
 
+/// The same of a timer file with an exception.
+static EXCEPT_TIMER_RESUMED: [Row<'static>; 2] = [
+    EXCEPT_TIMER,
+    Row {
+        about: "noon after the Friday's",
+        iterations: 1,
+        base: Some("@1704456000"),
+        out: AFTER_THE_FRIDAY,
+        ..EXCEPT_TIMER
+    },
+];
+
 #[test]
 fn second_runs(rt: HostRuntime) -> Result<(), Fail> {
-    check(&rt, &RESUMED)
+    check(&rt, &EVERY_SECOND_RESUMED)?;
+    check(&rt, &EXCEPT_TIMER_RESUMED)
 }
 
 /// Puts the instants of the elapses whose first lines stand whole in a text at the end of a list.
@@ -140,26 +159,39 @@ fn push_instants<'t>(instants: &mut Vec<&'t str>, text: &'t str) -> Result<(), A
 }
 
 /// Puts the instants that stand whole in a front of a report, and those that a second run gives, at the end of a list.
-fn push_resumed(instants: &mut Vec<&'static str>, front: &'static str) -> Result<(), AllocError> {
+fn push_resumed(
+    instants: &mut Vec<&'static str>,
+    front: &'static str,
+    runs: &[Row<'static>],
+) -> Result<(), AllocError> {
     push_instants(instants, front)?;
-    if let Some(rest) = RESUMED.get(instants.len()) {
+    if let Some(rest) = runs.get(instants.len()) {
         push_instants(instants, rest.out)?;
     }
     Ok(())
 }
 
-/// What stands whole in a cut report and what a second run gives is together the whole.
-#[test]
-fn each_cut_is_resumed(rt: HostRuntime) -> Result<(), Fail> {
-    let text = EVERY_SECOND.out;
+/// What stands whole in the first run's report, cut after each of its bytes, and what a second run gives is together
+/// the whole.
+fn expect_resumed(
+    rt: &(impl Abort + AllocGlobal),
+    text: &'static str,
+    runs: &[Row<'static>],
+) -> Result<(), Fail> {
     let mut all = Vec::new(rt.alloc());
     push_instants(&mut all, text)?;
     for limit in 0..=text.len() {
         let mut instants = Vec::new(rt.alloc());
-        push_resumed(&mut instants, text.get(..limit).unwrap_or(""))?;
+        push_resumed(&mut instants, text.get(..limit).unwrap_or(""), runs)?;
         assert!(rt; instants.as_slice() == all.as_slice(), "after {limit}");
     }
     Ok(())
+}
+
+#[test]
+fn each_cut_is_resumed(rt: HostRuntime) -> Result<(), Fail> {
+    expect_resumed(&rt, EVERY_SECOND.out, &EVERY_SECOND_RESUMED)?;
+    expect_resumed(&rt, EXCEPT_TIMER.out, &EXCEPT_TIMER_RESUMED)
 }
 
 /// A writer of refusals that fails once it has this front of them has exactly that, and the run says that it failed. All

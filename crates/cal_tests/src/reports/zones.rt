@@ -1,4 +1,4 @@
-//! Calendar reports in zones other than UTC.
+//! Calendar reports in zones other than UTC, and after a base.
 
 use super::{CALENDAR, Local, Row, check};
 use std::test::Fail;
@@ -85,14 +85,6 @@ Normalized form: *-*-* 00:00:00
        From now: 22h 1s left
 ";
 
-/// A zone of offset 0 isn't UTC.
-const OFFSET_0: &str = "  Original form: *-*-* 12:30:00
-Normalized form: *-*-* 12:30:00
-    Next elapse: Mon 2024-01-01 12:30:00 +00:00
-       (in UTC): Mon 2024-01-01 12:30:00 UTC
-       From now: 12h 30min left
-";
-
 /// Three elapses where the clock is 5 hours and 30 minutes ahead of UTC.
 pub(super) const EVERY_SECOND: Row<'static> = Row {
     about: "every second",
@@ -114,16 +106,19 @@ Normalized form: *-*-* *:*:*
     ..CALENDAR
 };
 
-static OFFSETS: [Row<'static>; 5] = [
-    Row {
-        about: "last second west",
-        texts: &["*-*-* 23:59:59"],
-        iterations: 2,
-        now: 7_258_118_398,
-        local: Local::Offset(-36_000),
-        out: LAST_SECOND_WEST,
-        ..CALENDAR
-    },
+/// The last second of a clock ten hours behind UTC.
+const BEFORE_THE_LAST_SECOND: Row<'static> = Row {
+    about: "last second west",
+    texts: &["*-*-* 23:59:59"],
+    iterations: 2,
+    now: 7_258_118_398,
+    local: Local::Offset(-36_000),
+    out: LAST_SECOND_WEST,
+    ..CALENDAR
+};
+
+static OFFSETS: [Row<'static>; 4] = [
+    BEFORE_THE_LAST_SECOND,
     Row {
         about: "last second of the farthest zone west",
         texts: &["*:*:*"],
@@ -141,13 +136,6 @@ static OFFSETS: [Row<'static>; 5] = [
         out: FARTHEST_EAST,
         ..CALENDAR
     },
-    Row {
-        about: "offset 0",
-        texts: &["*-*-* 12:30:00"],
-        local: Local::Offset(0),
-        out: OFFSET_0,
-        ..CALENDAR
-    },
     EVERY_SECOND,
 ];
 
@@ -156,78 +144,17 @@ fn offsets(rt: HostRuntime) -> Result<(), Fail> {
     check(&rt, &OFFSETS)
 }
 
-/// An expression is meant in the zone that it names, and printed in the local one.
-const OWN_ZONES: &str = "  Original form: daily utc
-Normalized form: *-*-* 00:00:00 UTC
-    Next elapse: Tue 2024-01-02 05:30:00 +05:30
-       (in UTC): Tue 2024-01-02 00:00:00 UTC
-       From now: 1d left
-
-  Original form: daily
-Normalized form: *-*-* 00:00:00
-    Next elapse: Tue 2024-01-02 00:00:00 +05:30
-       (in UTC): Mon 2024-01-01 18:30:00 UTC
-       From now: 18h 30min left
-
-  Original form: daily Test/Fixed
-Normalized form: *-*-* 00:00:00 Test/Fixed
-    Next elapse: Tue 2024-01-02 04:30:00 +05:30
-       (in UTC): Mon 2024-01-01 23:00:00 UTC
-       From now: 23h left
-";
-
-const FIXED_IN_UTC: &str = "  Original form: daily Test/Fixed
+const IN_ITS_ZONE: &str = "  Original form: daily Test/Fixed
 Normalized form: *-*-* 00:00:00 Test/Fixed
     Next elapse: Mon 2024-01-01 23:00:00 UTC
        From now: 23h left
 ";
-
-static ZONES_OF_EXPRESSIONS: [Row<'static>; 3] = [
-    Row {
-        about: "zone file, and a zone that isn't there",
-        texts: &["daily Test/West", "daily Test/Fixed"],
-        out: FIXED_IN_UTC,
-        err: "daily Test/West: no such zone\n",
-        ..CALENDAR
-    },
-    Row {
-        about: "zones of expressions, shown in another",
-        texts: &["daily utc", "daily", "daily Test/Fixed"],
-        local: Local::Offset(19_800),
-        out: OWN_ZONES,
-        ..CALENDAR
-    },
-    Row {
-        about: "a zone's name in another case",
-        texts: &["daily test/fixed"],
-        err: "daily test/fixed: no such zone\n",
-        ..CALENDAR
-    },
-];
-
-#[test]
-fn zones_of_expressions(rt: HostRuntime) -> Result<(), Fail> {
-    check(&rt, &ZONES_OF_EXPRESSIONS)
-}
 
 /// An expression with an offset is meant on that clock, whatever the local zone is.
 const TWO_HOURS_EAST: &str = "  Original form: daily +02:00
 Normalized form: *-*-* 00:00:00 +02:00
     Next elapse: Mon 2024-01-01 22:00:00 UTC
        From now: 22h left
-";
-
-const TWO_HOURS_EAST_SHOWN_IN_SUMMER: &str = "  Original form: daily +02:00
-Normalized form: *-*-* 00:00:00 +02:00
-    Next elapse: Mon 2024-07-01 00:00:00 +02:00
-       (in UTC): Sun 2024-06-30 22:00:00 UTC
-       From now: 22h left
-
-  Original form: 02:30 -00:00
-Normalized form: *-*-* 02:30:00 +00:00
-    Next elapse: Sun 2024-06-30 04:30:00 +02:00
-       (in UTC): Sun 2024-06-30 02:30:00 UTC
-       From now: 2h 30min left
 ";
 
 /// The last seconds of a clock far west of UTC lie in 2200.
@@ -239,19 +166,18 @@ Normalized form: *-*-* 23:59:59 -25:59
        From now: 1d 1h 59min left
 ";
 
-static OFFSETS_OF_EXPRESSIONS: [Row<'static>; 4] = [
+static ZONES_OF_EXPRESSIONS: [Row<'static>; 3] = [
+    Row {
+        about: "zone file, and a zone that isn't there",
+        texts: &["daily Test/West", "daily Test/Fixed"],
+        out: IN_ITS_ZONE,
+        err: "daily Test/West: no such zone\n",
+        ..CALENDAR
+    },
     Row {
         about: "an expression on a clock two hours ahead",
         texts: &["daily +02:00"],
         out: TWO_HOURS_EAST,
-        ..CALENDAR
-    },
-    Row {
-        about: "offsets of expressions, shown in a zone with summer time",
-        texts: &["daily +02:00", "02:30 -00:00"],
-        now: 1_719_705_600,
-        local: Local::Summer,
-        out: TWO_HOURS_EAST_SHOWN_IN_SUMMER,
         ..CALENDAR
     },
     Row {
@@ -262,15 +188,73 @@ static OFFSETS_OF_EXPRESSIONS: [Row<'static>; 4] = [
         out: FAR_WEST,
         ..CALENDAR
     },
+];
+
+#[test]
+fn zones_of_expressions(rt: HostRuntime) -> Result<(), Fail> {
+    check(&rt, &ZONES_OF_EXPRESSIONS)
+}
+
+const AFTER_THE_SECOND: &str = "  Original form: *:*:*
+Normalized form: *-*-* *:*:*
+    Next elapse: Mon 2024-01-01 05:30:03 +05:30
+       (in UTC): Mon 2024-01-01 00:00:03 UTC
+       From now: 3s left
+       Iter. #2: Mon 2024-01-01 05:30:04 +05:30
+       (in UTC): Mon 2024-01-01 00:00:04 UTC
+       From now: 4s left
+";
+
+const AFTER_THE_FIRST: &str = "  Original form: *:*:*
+Normalized form: *-*-* *:*:*
+    Next elapse: Mon 2024-01-01 05:30:02 +05:30
+       (in UTC): Mon 2024-01-01 00:00:02 UTC
+       From now: 2s left
+       Iter. #2: Mon 2024-01-01 05:30:03 +05:30
+       (in UTC): Mon 2024-01-01 00:00:03 UTC
+       From now: 3s left
+";
+
+/// Every second, from the second elapse on.
+const FROM_THE_SECOND: Row<'static> = Row {
+    about: "every second, from the second elapse on",
+    iterations: 2,
+    base: Some("@1704067202"),
+    out: AFTER_THE_SECOND,
+    ..EVERY_SECOND
+};
+
+/// Every second, from the first elapse on.
+pub(super) const FROM_THE_FIRST: Row<'static> = Row {
+    about: "every second, from the first elapse on",
+    base: Some("@1704067201"),
+    out: AFTER_THE_FIRST,
+    ..FROM_THE_SECOND
+};
+
+/// Bases: a run that starts at an elapse gives those after it; one that is refused is all that is told.
+static BASES: [Row<'static>; 4] = [
+    FROM_THE_SECOND,
+    FROM_THE_FIRST,
     Row {
-        about: "words that are no offsets",
-        texts: &["12:00 +26:00", "Mon -5", "+02:00", "-5"],
-        err: "12:00 +26:00: stray word\nMon -5: stray word\n+02:00: bad time\n-5: bad date\n",
+        about: "last second west, from its elapse on",
+        base: Some("@7258154399"),
+        out: "  Original form: *-*-* 23:59:59
+Normalized form: *-*-* 23:59:59
+    Next elapse: never
+",
+        ..BEFORE_THE_LAST_SECOND
+    },
+    Row {
+        about: "a base of another weekday",
+        texts: &["daily"],
+        base: Some("Mon 2012-11-23"),
+        err: "--base-time: weekday does not fit the date\n",
         ..CALENDAR
     },
 ];
 
 #[test]
-fn offsets_of_expressions(rt: HostRuntime) -> Result<(), Fail> {
-    check(&rt, &OFFSETS_OF_EXPRESSIONS)
+fn bases(rt: HostRuntime) -> Result<(), Fail> {
+    check(&rt, &BASES)
 }

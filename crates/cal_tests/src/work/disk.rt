@@ -1,4 +1,4 @@
-//! A system whose files fail, never end, or change between two opens, and tells nothing of them.
+//! A system whose file fails or never ends, and tells nothing of it; and outputs that fail.
 
 use super::{check, perform};
 use cal_bytes::{Faulty, Port, Then};
@@ -6,184 +6,88 @@ use cal_part_tests::shared::{NEW_YEAR, zone_file};
 use cal_request::RunFault;
 use cal_work::{Ended, System, work};
 use std::alloc::Global;
-use std::cell::Cell;
 use std::io::BufWriter;
 use std::process::Abort;
 use std::test::Fail;
 
-/// A file, as it is at one of the opens: after `limit` bytes it does what `then` says.
+/// One file, `f`, that does what `then` says after `limit` bytes.
 #[derive(Clone, Copy)]
-pub(super) struct File<'a> {
-    pub(super) path: &'a str,
-    pub(super) bytes: &'a [u8],
-    pub(super) limit: usize,
-    pub(super) then: Then,
-}
-
-/// The files at each open in turn, and the time.
-#[derive(Clone, Copy)]
-pub(super) struct Disk<'a> {
-    pub(super) alloc: Global,
-    pub(super) files: &'a [File<'a>],
-    pub(super) opened: &'a Cell<usize>,
-    pub(super) time: Option<i64>,
+struct Disk<'a> {
+    alloc: Global,
+    bytes: &'a [u8],
+    limit: usize,
+    then: Then,
 }
 
 impl<'a> System for Disk<'a> {
     type File = Port<Faulty>;
 
     fn open(&self, path: &str) -> Option<Port<Faulty>> {
-        let count = self.opened.get();
-        self.opened.set(count.saturating_add(1));
-        let file = self.files.get(count)?;
-        if file.path != path {
+        if path != "f" {
             return None;
         }
-        let bytes = file.bytes.to_vec(self.alloc).ok()?;
-        Some(Port::new(Faulty::new(bytes, 4_096, file.limit, file.then)))
+        let bytes = self.bytes.to_vec(self.alloc).ok()?;
+        Some(Port::new(Faulty::new(bytes, 4_096, self.limit, self.then)))
     }
 
     fn clock(&self) -> Option<i64> {
-        self.time
+        Some(NEW_YEAR)
     }
 }
 
-/// A file for `timer`, of 26 bytes.
-const TIMER: &[u8] = b"[Timer]\nOnCalendar=hourly\n";
+/// After how many bytes a file does what, and what is told.
+type Failing = (usize, Then, &'static str);
 
-const WITH_ZONE: &str = "calendar|--zones=A=f|daily";
-
-/// A file, of these bytes or a zone file, that does what after how many of them; the words, what is told, and the status.
-type FailingFile = (
-    &'static str,
-    Option<&'static [u8]>,
-    usize,
-    Then,
-    &'static str,
-    &'static str,
-    u8,
-);
-
-static FAILING_FILES: [FailingFile; 7] = [
-    (
-        "f",
-        None,
-        60,
-        Then::Error,
-        WITH_ZONE,
-        "calendar-analyze: --zones: A: cannot be read\n",
-        2,
-    ),
-    (
-        "f",
-        None,
-        60,
-        Then::Endless,
-        WITH_ZONE,
-        "calendar-analyze: --zones: A: larger than 1048576 bytes\n",
-        2,
-    ),
-    (
-        "f",
-        None,
-        60,
-        Then::Zero,
-        WITH_ZONE,
-        "calendar-analyze: --zones: A: bad zone file\n",
-        2,
-    ),
-    (
-        "f",
-        Some(b"hello"),
-        5,
-        Then::Zero,
-        WITH_ZONE,
-        "calendar-analyze: --zones: A: bad zone file\n",
-        2,
-    ),
-    (
-        "t",
-        Some(TIMER),
-        12,
-        Then::Interrupted,
-        "timer|t",
-        "t: cannot be read\n",
-        1,
-    ),
-    (
-        "t",
-        Some(TIMER),
-        26,
-        Then::Endless,
-        "timer|t",
-        "t: larger than 1048576 bytes\n",
-        1,
-    ),
-    (
-        "t",
-        Some(b""),
-        0,
-        Then::Zero,
-        "timer|t",
-        "t: no calendar expression\n",
-        1,
-    ),
+static ZONE_FILES: [Failing; 3] = [
+    (60, Then::Error, "cannot be read\n"),
+    (60, Then::Endless, "larger than 1048576 bytes\n"),
+    (60, Then::Zero, "bad zone file\n"),
 ];
 
-#[test]
-fn files_that_fail(rt: HostRuntime) -> Result<(), Fail> {
-    let zone = zone_file(rt.alloc())?;
-    for (path, bytes, limit, then, line, err, status) in &FAILING_FILES {
-        let file = File {
-            path,
-            bytes: bytes.unwrap_or(zone.as_slice()),
+static TIMER_FILES: [Failing; 3] = [
+    (12, Then::Interrupted, "cannot be read\n"),
+    (26, Then::Endless, "larger than 1048576 bytes\n"),
+    (8, Then::Zero, "no calendar expression\n"),
+];
+
+/// Of the line of words each failing file of these bytes is told after these words, with this status.
+fn check_failing(
+    rt: &(impl Abort + AllocGlobal),
+    bytes: &[u8],
+    line: &str,
+    files: &[Failing],
+    (about, status): (&str, u8),
+) -> Result<(), Fail> {
+    for (limit, then, told) in files {
+        let disk = Disk {
+            alloc: rt.alloc(),
+            bytes,
             limit: *limit,
             then: *then,
         };
-        let disk = Disk {
-            alloc: rt.alloc(),
-            files: &[file],
-            opened: &Cell::new(0),
-            time: Some(NEW_YEAR),
-        };
-        check(&rt, &disk, &[(line, "", err, *status)])?;
+        let err = format!(in rt.alloc(); "{about}{told}")?;
+        check(rt, &disk, (line, "", &err, status))?;
     }
     Ok(())
 }
 
-/// The second zone is read from the file as it is then.
 #[test]
-fn a_file_that_changes(rt: HostRuntime) -> Result<(), Fail> {
+fn files_that_fail(rt: HostRuntime) -> Result<(), Fail> {
     let zone = zone_file(rt.alloc())?;
-    let first = File {
-        path: "f",
-        bytes: zone.as_slice(),
-        limit: 115,
-        then: Then::Zero,
-    };
-    let second = File {
-        bytes: b"hello",
-        limit: 5,
-        ..first
-    };
-    let disk = Disk {
-        alloc: rt.alloc(),
-        files: &[first, second],
-        opened: &Cell::new(0),
-        time: Some(NEW_YEAR),
-    };
-    let line = "calendar|--zones=A=f,B=f|daily A";
-    let err = "calendar-analyze: --zones: B: bad zone file\n";
-    check(&rt, &disk, &[(line, "", err, 2)])
+    let line = "calendar|--zones=A=f|daily";
+    let about = ("calendar-analyze: --zones: A: ", 2);
+    check_failing(&rt, &zone, line, &ZONE_FILES, about)?;
+    let timer = b"[Timer]\nOnCalendar=hourly\n";
+    check_failing(&rt, timer, "timer|f", &TIMER_FILES, ("f: ", 1))
 }
 
-/// A system without a file.
-fn empty_disk<'a>(alloc: Global, opened: &'a Cell<usize>) -> Disk<'a> {
+/// A system whose file is empty.
+fn empty_disk(alloc: Global) -> Disk<'static> {
     Disk {
         alloc,
-        files: &[],
-        opened,
-        time: Some(NEW_YEAR),
+        bytes: b"",
+        limit: 0,
+        then: Then::Zero,
     }
 }
 
@@ -198,8 +102,7 @@ fn check_cut_out(
     words: &[&str],
     whole: &[u8],
 ) -> Result<(), Fail> {
-    let opened = Cell::new(0);
-    let disk = empty_disk(rt.alloc(), &opened);
+    let disk = empty_disk(rt.alloc());
     let writer = Faulty::new(Vec::new(rt.alloc()), 7, 3, Then::Error);
     let mut out = Port::new(BufWriter::new(rt.alloc(), writer)?);
     let mut err = Port::new(Vec::new(rt.alloc()));
@@ -226,8 +129,7 @@ const HOUR: &str = "Original: 1h
 
 #[test]
 fn outputs_that_fail(rt: HostRuntime) -> Result<(), Fail> {
-    let opened = Cell::new(0);
-    let disk = empty_disk(rt.alloc(), &opened);
+    let disk = empty_disk(rt.alloc());
     let help = perform(rt.alloc(), &disk, "--help")?;
     check_cut_out(&rt, &["timespan", "1h"], HOUR.as_bytes())?;
     check_cut_out(&rt, &["--help"], help.out.as_slice())
@@ -240,8 +142,7 @@ fn check_cut_err(
     front: &str,
     status: u8,
 ) -> Result<(), Fail> {
-    let opened = Cell::new(0);
-    let disk = empty_disk(rt.alloc(), &opened);
+    let disk = empty_disk(rt.alloc());
     let mut out = Port::new(BufWriter::new(rt.alloc(), Vec::new(rt.alloc()))?);
     let mut err = Port::new(Faulty::new(Vec::new(rt.alloc()), 7, 3, Then::Zero));
     let ended = work(rt.alloc(), &disk, words, &mut out, &mut err);
