@@ -1,4 +1,5 @@
-use Rattle.std.proofs.Common.{◌≡◌, ◌∙◌, ◌+◌, ◌-◌, ap, arith, false, sym}
+use Rattle.std.proofs.Common.{◌≡◌, ◌∙◌, ◌+◌, ◌-◌, ap, arith, false, rules, sym}
+use Rattle.cal_elapse.specs.Bits.{is_bit}
 use Rattle.cal_elapse.specs.Masks.{sets_in}
 use Rattle.cal_elapse.specs.Months.{day_in, month_in}
 use Rattle.cal_elapse.proofs.LookLemmas.{none_of_month}
@@ -25,4 +26,5 @@ returns c =
     let low = c.month_of_day-month.ensures.low in
     let high = c.month_of_day-month.ensures.high in
     let place : month.first + (c.args.day - month.first) ≡ c.args.day = omega arith in
-    c.has.ensures ∙ c.of.ensures.days (c.args.day - month.first) (omega arith) ∙ ap (day_in (sets_in c.args.masks.now)) place
+    let here : c.has.result ≡ is_bit c.of.result.bits (c.args.day - month.first) = search rules in
+    here ∙ c.of.ensures.days (c.args.day - month.first) (omega arith) ∙ ap (day_in (sets_in c.args.masks.now)) place

@@ -21,11 +21,10 @@ returns-in-Some c =
     let fits : FitsSigned w64 shown = search rules in
     let place_fits : FitsSigned w64 c.in-Some.place = search rules in
     let secs_fits : FitsSigned w64 c.secs.result = search rules in
-    let there : c.in-Some.place ≡ c.args.instant.secs =
-    sym (to_z-of_z w64 _ place_fits) ∙ ap (to_z w64) c.if-place-secs.true ∙ to_z-of_z w64 _ secs_fits ∙ c.secs.ensures.value in
+    let there : c.in-Some.place ≡ c.secs.result = search rules in
     rw (to_z-of_z w64 shown fits)
     (local_at-here (zone_of c.args.zone) c.args.instant.secs shown (omega (arith, signed_arith)) (omega (arith, signed_arith))
-    (sym (rw (to_z-of_z w64 shown fits) at c.place.ensures) ∙ c.in-Some.is ∙ ap Some there))
+    (sym (rw (to_z-of_z w64 shown fits) at c.place.ensures) ∙ c.in-Some.is ∙ ap Some (there ∙ c.secs.ensures.value)))
 
 pub returns-in_default : goal.returns-in_default
 returns-in_default c =
