@@ -88,6 +88,15 @@ count_from-part passes start local last low high =
     ap (count_from passes start) ends
     ∙ (count_from-both passes start k (last - local) ∙ ap (λ (t : ℕ). count_from passes start k + count_from passes t (last - local)) there)
 
+pub count_from-then : (passes : ℕ → Bool) (start local last : ℕ) → start ≤ local → local ≤ last
+    → count_from passes (start + 1) (last - start) ≡ count_from passes (start + 1) (local - start) + count_from passes (local + 1) (last - local)
+count_from-then passes start local last low high =
+    let ends : last - start ≡ local - start + (last - local) = omega arith in
+    let there : start + 1 + (local - start) ≡ local + 1 = omega arith in
+    ap (count_from passes (start + 1)) ends
+    ∙ (count_from-both passes (start + 1) (local - start) (last - local)
+    ∙ ap (λ (t : ℕ). count_from passes (start + 1) (local - start) + count_from passes t (last - local)) there)
+
 -- and where none passes from the start on
 pub count_from-begun : (passes : ℕ → Bool) (start bound : ℕ) → start ≤ bound → NonePasses passes start bound → count_from passes start (bound - start) ≡ 0
 unfolding count_from

@@ -12,6 +12,7 @@ pub mod LookLemmas
 pub mod MasksLemmas
 pub mod MinuteLemmas
 pub mod MonthLemmas
+pub mod MostLemmas
 pub mod PartLemmas
 pub mod ReadyLemmas
 pub mod RestLemmas

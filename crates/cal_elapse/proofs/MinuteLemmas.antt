@@ -1,22 +1,22 @@
 -- What is left of the minute of a match, as a search takes bit after bit.
-use Rattle.std.proofs.Common.{◌≡◌, ◌≢◌, ◌∙◌, ℕ, ◌+◌, ◌-◌, ◌*◌, ◌/◌, ◌%◌, ◌^◌, ◌<◌, ◌≤◌, ◌⊎◌, Bool, true, false, ◌&&◌, nat_lt, Option, None, Some, IfSome, pos, to_z, w64, ap, sym, subst, refl, inl, inr, rules, arith}
+use Rattle.std.proofs.Common.{IsSome, ◌≡◌, ◌≢◌, ◌∙◌, ℕ, ◌+◌, ◌-◌, ◌*◌, ◌/◌, ◌%◌, ◌^◌, ◌<◌, ◌≤◌, Bool, true, false, ◌&&◌, nat_lt, Option, None, Some, IfSome, ℤ, pos, negsuc, unsigned_abs, to_z, w64, ap, sym, subst, refl, inl, inr, rules, arith}
 use Rattle.std.proofs.lemmas.Bool.{and_parts, cases_eq, cases_lt}
-use Rattle.std.proofs.lemmas.Int.{to_z_pos}
+use Rattle.std.proofs.lemmas.Int.{ints, to_z_pos}
+use Rattle.std.specs.Int.{trailing_zeros}
+use Rattle.std.specs.Option.{option_map}
 use Rattle.cal_zone.specs.Local.{seconds_in_all, seconds_in_all-is}
 use Rattle.cal_spec.specs.Match.{Sets, matches, time_in}
 use Rattle.cal_elapse.specs.Bits.{is_bit}
-use Rattle.cal_elapse.specs.Count.{count_from}
-use Rattle.cal_elapse.specs.Left.{IsLeft, IsNextLeft, IsRest}
+use Rattle.cal_elapse.specs.Left.{IsLeft, IsMoreLeft, IsNextLeft, IsRest, NoneLeft}
 use Rattle.cal_elapse.specs.Looks.{IsSearch}
 use Rattle.cal_elapse.specs.Masks.{sets_in}
 use Rattle.cal_elapse.specs.Months.{day_in, minute_in}
-use Rattle.cal_elapse.specs.Search.{IsFirstPassing}
+use Rattle.cal_elapse.specs.Search.{IsFirstLocal, IsFirstPassing}
 use Rattle.cal_elapse.specs.declared.masks.Masks.{Masks}
 use Rattle.cal_elapse.proofs.BitLemmas.{first_bit, is_bit-above, is_bit-none, is_bit-shifted}
 use Rattle.cal_elapse.proofs.CarryLemmas.{below_end, split_at}
-use Rattle.cal_elapse.proofs.CountLemmas.{count_from-to}
 use Rattle.cal_elapse.proofs.LookLemmas.{looks_today}
-use Rattle.cal_elapse.proofs.SearchLemmas.{IsFirstLocal-Some, locals_split}
+use Rattle.cal_elapse.proofs.SearchLemmas.{IsFirstLocal-Some, locals_split, passing_of}
 use Rattle.cal_elapse.proofs.TimeLemmas.{seconds_split}
 
 no_bit : (i : ℕ) → is_bit 0 i ≡ true → ⊥
@@ -53,14 +53,18 @@ by_second m local t holds same =
     = split_at _ _ _ 60 1_440 (seconds_split m) (local % 86_400 / 60) (t % 86_400) (omega arith) minute in
     split_at _ _ _ 86_400 84_006 (locals_split sets) (local / 86_400) t (omega arith) day ∙ rw (here.0, time, minute_holds, second) refl
 
--- nothing is left
-pub left_none : (m : Masks) → IsLeft m 0 0 0
-left_none m = record {
+-- nothing is left behind the last local second
+pub left_none : (m : Masks) (end : ℕ) → end ≡ seconds_in_all → IsLeft m end 0 0
+left_none m end is = record {
   begun = omega arith;
   behind = λ i bit. absurd (no_bit i bit);
   minute = λ i bit. absurd (no_bit i bit);
-  matching = λ i t bit above below. absurd (no_bit i bit);
+  matching = λ t above same. none_past (matches (sets_in m) t) (λ holds. let inside = match_inside (sets_in m) t holds in omega arith) ∙ sym (is_bit-none (t - 0));
 }
+  where
+    none_past : (b : Bool) → (b ≡ true → ⊥) → b ≡ false
+    none_past true h = absurd (h refl)
+    none_past false h = refl
 
 -- what the seconds leave behind a match
 pub left_after : (m : Masks) (local : ℕ) → matches (sets_in m) local ≡ true → IsLeft m local (local + 1) (m.seconds / 2 ^ (local % 60 + 1))
@@ -71,16 +75,15 @@ left_after m local holds =
       begun = omega arith;
       behind = λ i bit. omega arith;
       minute = λ i bit. let small = last i bit in omega arith;
-      matching = λ i t bit above below.
-          let small = last i bit in
+      matching = λ t above same.
           let second : t % 60 ≡ local % 60 + 1 + (t - (local + 1)) = omega arith in
-          by_second m local t holds (omega arith) ∙ (ap (is_bit m.seconds) second ∙ sym (is_bit-shifted m.seconds (local % 60 + 1) (t - (local + 1))));
+          by_second m local t holds same ∙ (ap (is_bit m.seconds) second ∙ sym (is_bit-shifted m.seconds (local % 60 + 1) (t - (local + 1))));
     }
 
 bit_matches : (m : Masks) (found from left bit : ℕ) → IsLeft m found from left → is_bit left bit ≡ true → matches (sets_in m) (from + bit) ≡ true
 bit_matches m found from left bit h set =
     let place : from + bit - from ≡ bit = omega arith in
-    h.matching bit (from + bit) set (h.behind bit set) (omega arith) ∙ (ap (is_bit left) place ∙ set)
+    h.matching (from + bit) (h.behind bit set) (h.minute bit set) ∙ (ap (is_bit left) place ∙ set)
 
 -- the lowest bit is the next match
 next_left : (m : Masks) (found from left bit : ℕ) → IsLeft m found from left → IsFirstPassing (is_bit left) 0 64 (Some bit)
@@ -88,11 +91,12 @@ next_left : (m : Masks) (found from left bit : ℕ) → IsLeft m found from left
 next_left m found from left bit h lowest =
     let holds = bit_matches m found from left bit h lowest.2 in
     let later = h.behind bit lowest.2 in
-    let begun = h.begun in (
+    let begun = h.begun in
+    let same = h.minute bit lowest.2 in (
       omega arith,
       match_inside (sets_in m) (from + bit) holds,
       holds,
-      λ t above below. h.matching bit t lowest.2 (omega arith) (omega arith) ∙ lowest.3 (t - from) (omega arith) (omega arith),
+      λ t above below. h.matching t (omega arith) (omega arith) ∙ lowest.3 (t - from) (omega arith) (omega arith),
     )
 
 pub left_inside : (m : Masks) (found from left bit : ℕ) → IsLeft m found from left → IsFirstPassing (is_bit left) 0 64 (Some bit) → from + bit < seconds_in_all
@@ -111,18 +115,21 @@ still_left left bit rest i lowest fits cleared others set =
     ]
 
 -- without it the others are left
-pub left_on : (m : Masks) (found from left bit rest : ℕ) → IsLeft m found from left → IsFirstPassing (is_bit left) 0 64 (Some bit) → rest < 2 ^ 64
+pub left_on : (m : Masks) (found from left bit rest : ℕ) → IsLeft m found from left → IsFirstPassing (is_bit left) 0 64 (Some bit) → left < 2 ^ 64 → rest < 2 ^ 64
     → is_bit rest bit ≡ false → ((i : ℕ) → i < 64 → i ≢ bit → is_bit rest i ≡ is_bit left i) → IsLeft m (from + bit) from rest
-left_on m found from left bit rest h lowest fits cleared others =
+left_on m found from left bit rest h lowest was_fits fits cleared others =
     let still = λ (i : ℕ) (set : is_bit rest i ≡ true). still_left left bit rest i lowest fits cleared others set in
     record {
       begun = omega arith;
       behind = λ i set. let after = (still i set).0 in omega arith;
       minute = λ i set. h.minute i (still i set).2 ∙ sym (h.minute bit lowest.2);
-      matching = λ i t set above below.
-          let was = still i set in
+      matching = λ t above same.
           let later = h.behind bit lowest.2 in
-          h.matching i t was.2 (omega arith) below ∙ sym (others (t - from) (omega (arith, was.1)) (omega arith));
+          let begun = h.begun in
+          h.matching t (omega arith) (same ∙ h.minute bit lowest.2) ∙ elim (cases_lt (t - from) 64) [
+            | inl small ↦ sym (others (t - from) small (omega arith))
+            | inr high ↦ is_bit-above left 64 (t - from) was_fits high ∙ sym (is_bit-above rest 64 (t - from) fits high)
+          ];
     }
 
 -- a search that takes it
@@ -154,80 +161,39 @@ found_match passes from (Some s) first = (first.1, first.2)
 
 -- A minute that is searched to its end
 
--- the search went on from a match of which this was left
-pub record IsOnLeft (found from left next_found next_left : ℕ) : Type 0 where
-  pub reached : (next_found ≡ found) ⊎ ((bit : ℕ) × ((is_bit left bit ≡ true) × (next_found ≡ from + bit)))
-  pub still : (i : ℕ) → is_bit next_left i ≡ true → is_bit left i ≡ true
-  pub others : (i : ℕ) → is_bit left i ≡ true → (from + i ≤ next_found) ⊎ (is_bit next_left i ≡ true)
-
-pub on_left-begun : (found from left : ℕ) → IsOnLeft found from left found left
-on_left-begun found from left = record { reached = inl refl; still = λ i set. set; others = λ i set. inr set }
-
-pub on_left-next : (m : Masks) (found from left one one_from one_left two two_from two_left : ℕ) → IsOnLeft found from left one one_left → one_from ≡ from → IsLeft m one one_from one_left
-    → left < 2 ^ 64 → IsNextLeft one_from one_left two two_from two_left → IsOnLeft found from left two two_left
-on_left-next m found from left one one_from one_left two two_from two_left h same_from here fits next =
-    let bit = next.bit in
-    let is = next.found in
-    let later = here.behind bit next.lowest.2 in
-    record {
-      reached = inr (bit, (h.still bit next.lowest.2, omega arith));
-      still = λ i set. h.still i (still_left one_left bit two_left i next.lowest next.fits next.taken next.others set).2;
-      others = λ i set. elim (h.others i set) [
-        | inl before ↦ inl (omega arith)
-        | inr yet ↦ elim (cases_eq i bit) [
-          | inl same ↦ inl (omega arith)
-          | inr other ↦ inr (next.others i (below_end (is_bit left) 64 i (λ j high. is_bit-above left 64 j fits high) set) other ∙ yet)
-        ]
-      ];
-    }
-
-pub next_later : (m : Masks) (one from one_left two two_from two_left : ℕ) → IsLeft m one from one_left → IsNextLeft from one_left two two_from two_left → one < two
-next_later m one from one_left two two_from two_left here next = let later = here.behind next.bit next.lowest.2 in let is = next.found in omega arith
-
-pub on_left-later : (m : Masks) (found from left last last_left : ℕ) → IsLeft m found from left → IsOnLeft found from left last last_left → found ≤ last
-on_left-later m found from left last last_left begun h = elim h.reached [ inl same ↦ omega arith | inr at ↦ (let later = begun.behind at.0 at.1.0 in let is = at.1.1 in omega arith) ]
-
-pub on_left-match : (m : Masks) (found from left last last_left : ℕ) → IsLeft m found from left → matches (sets_in m) found ≡ true → IsOnLeft found from left last last_left
-    → matches (sets_in m) last ≡ true
-on_left-match m found from left last last_left begun holds h =
-    elim h.reached [
-      | inl same ↦ ap (matches (sets_in m)) same ∙ holds
-      | inr at ↦ ap (matches (sets_in m)) at.1.1 ∙ bit_matches m found from left at.0 begun at.1.0
-    ]
-
--- each of its matches was one search
-pub on_left-counted : (m : Masks) (found from one one_left two two_from two_left : ℕ) → IsLeft m one from one_left → IsNextLeft from one_left two two_from two_left → found ≤ one
-    → count_from (matches (sets_in m)) (found + 1) (two - found) ≡ count_from (matches (sets_in m)) (found + 1) (one - found) + 1
-on_left-counted m found from one one_left two two_from two_left here next begun =
-    let first = subst (λ (t : ℕ). IsFirstPassing (matches (sets_in m)) (one + 1) seconds_in_all (Some t)) (sym next.found) (next_left m one from one_left next.bit here next.lowest) in
-    count_from-to (matches (sets_in m)) found one two begun first.0 first.2 first.3
-
--- where nothing is left, what was left is the rest of the minute
-pub on_left-ended : (m : Masks) (found from left last : ℕ) → IsLeft m found from left → matches (sets_in m) found ≡ true → IsOnLeft found from left last 0
-    → IsRest (matches (sets_in m)) found (left / 2 ^ (found + 1 - from)) last
-on_left-ended m found from left last begun holds h =
-    let low = begun.begun in
-    record {
-      begun = on_left-later m found from left last 0 begun h;
-      minute = elim h.reached [ inl same ↦ ap (λ (t : ℕ). t / 60) same | inr at ↦ ap (λ (t : ℕ). t / 60) at.1.1 ∙ begun.minute at.0 at.1.0 ];
-      is_match = on_left-match m found from left last 0 begun holds h;
-      within = λ i set.
-          elim (h.others (found + 1 - from + i) (sym (is_bit-shifted left (found + 1 - from) i) ∙ set)) [ inl before ↦ omega arith | inr yet ↦ absurd (no_bit _ yet) ];
-      matching = λ t above below.
-          let place : found + 1 - from + (t - (found + 1)) ≡ t - from = omega arith in
-          known t above below ∙ (ap (is_bit left) (sym place) ∙ sym (is_bit-shifted left (found + 1 - from) (t - (found + 1))));
-    }
-  where
-    known : (t : ℕ) → found < t → t ≤ last → matches (sets_in m) t ≡ is_bit left (t - from)
-    known t above below = elim h.reached [ inl same ↦ absurd (omega arith) | inr at ↦ (let is = at.1.1 in begun.matching at.0 t at.1.0 above (omega arith)) ]
-
--- so far the bits of what is left reach
-pub left_reach : (m : Masks) (found from left : ℕ) → IsLeft m found from left → 0 < left → left < 2 ^ 64 → found + 1 - from < 64
-left_reach m found from left h some fits =
+-- where something is left of the match found last, another follows
+pub more_left : (m : Masks) (found from left local : ℕ) → IsLeft m found from left → left < 2 ^ 64 → 0 < left → found ≡ local → IsMoreLeft (matches (sets_in m)) local
+more_left m found from left local h fits some same =
     let lowest = first_bit left some fits in
-    let later = h.behind _ lowest.2 in
-    let inside = lowest.1 in
-    omega arith
+    subst (IsMoreLeft (matches (sets_in m))) same
+    (record { match_at = from + trailing_zeros w64 left; behind = h.behind _ lowest.2; minute = h.minute _ lowest.2; is_match = bit_matches m found from left _ h lowest.2 })
+
+-- where nothing is, none does
+pub none_left : (m : Masks) (found from left local : ℕ) → IsLeft m found from left → left ≡ 0 → local ≡ found → NoneLeft (matches (sets_in m)) local
+none_left m found from left local h nothing same = λ t above below.
+    h.matching t (omega arith) (omega arith) ∙ (ap (λ (bits : ℕ). is_bit bits (t - from)) nothing ∙ is_bit-none (t - from))
+
+-- the next match lies in the minute, where one follows there
+next_known : (passes : ℕ → Bool) (local : ℕ) (next : Option ℕ) → ((t : ℕ) → passes t ≡ true → t < seconds_in_all) → IsMoreLeft passes local
+    → IsFirstPassing passes (local + 1) seconds_in_all next → IsNextLeft passes local next × IsSome next
+next_known passes local None inside more none =
+    let behind = more.behind in
+    let holds = more.is_match in
+    absurd (let fails = none more.match_at (omega arith) (inside more.match_at holds) in cc)
+next_known passes local (Some next) inside more first =
+    let behind = more.behind in
+    let holds = more.is_match in
+    let same = more.minute in
+    let low = first.0 in
+    let early : next ≤ more.match_at = elim (cases_lt more.match_at next) [ inl below ↦ absurd (let fails = first.3 more.match_at (omega arith) below in cc) | inr not_below ↦ not_below ] in
+    ((omega arith, first), refl)
+
+-- so what a search after it found
+pub next_found : (m : Masks) (local : ℕ) (answer : Option ℤ) (next : Option ℕ) → IsMoreLeft (matches (sets_in m)) local → IsFirstLocal (matches (sets_in m)) (pos (local + 1)) answer
+    → next ≡ option_map unsigned_abs answer → IsNextLeft (matches (sets_in m)) local next × IsSome next
+next_found m local answer next more first whole =
+    next_known (matches (sets_in m)) local next (match_inside (sets_in m)) more
+    (subst (IsFirstPassing (matches (sets_in m)) (local + 1) seconds_in_all) (sym whole) (passing_of (matches (sets_in m)) (local + 1) answer first))
 
 -- where nothing is known to be left, the rest is empty
 pub rest_unknown : (passes : ℕ → Bool) (local : ℕ) → passes local ≡ true → IsRest passes local 0 local
@@ -238,3 +204,43 @@ rest_unknown passes local holds = record {
   within = λ i set. absurd (no_bit i set);
   matching = λ t above below. absurd (omega arith);
 }
+
+-- the rest with the next match of the minute
+pub rest_on : (passes : ℕ → Bool) (local bits last next more : ℕ) → IsRest passes local bits last → next / 60 ≡ last / 60 → IsFirstPassing passes (last + 1) seconds_in_all (Some next)
+    → is_bit more (next - local - 1) ≡ true → ((i : ℕ) → i ≢ next - local - 1 → is_bit more i ≡ is_bit bits i) → IsRest passes local more next
+rest_on passes local bits last next more rest same first set others =
+    let begun = rest.begun in
+    let low = first.0 in
+    record {
+      begun = omega arith;
+      minute = same ∙ rest.minute;
+      is_match = first.2;
+      within = λ i one. elim (cases_eq i (next - local - 1)) [
+        | inl here ↦ omega arith
+        | inr other ↦ (let early = rest.within i (sym (others i other) ∙ one) in omega arith)
+      ];
+      matching = λ t above below. elim (cases_eq t next) [
+        | inl here ↦ ap passes here ∙ (first.2 ∙ sym (ap (is_bit more) (place_of t here) ∙ set))
+        | inr other ↦ before t above (omega arith) ∙ sym (others (t - (local + 1)) (omega arith))
+      ];
+    }
+  where
+    place_of : (t : ℕ) → t ≡ next → t - (local + 1) ≡ next - local - 1
+    place_of t here = omega arith
+
+    no_match : (b : Bool) → (b ≡ true → ⊥) → false ≡ b
+    no_match true h = absurd (h refl)
+    no_match false h = refl
+
+    before : (t : ℕ) → local < t → t < next → passes t ≡ is_bit bits (t - (local + 1))
+    before t above below = elim (cases_lt last t) [
+      | inl late ↦ first.3 t (omega arith) below ∙ no_match (is_bit bits (t - (local + 1))) (λ set. let early = rest.within (t - (local + 1)) set in omega arith)
+      | inr early ↦ rest.matching t above early
+    ]
+
+-- the match found is the one kept
+pub kept_last : (passes : ℕ → Bool) (from last : ℕ) (found : Option ℤ) (whole : Option ℕ) → IsFirstLocal passes (pos from) found → whole ≡ option_map unsigned_abs found
+    → IfSome whole (λ local. last ≡ local) → IfSome found (λ local. local ≡ pos last)
+kept_last passes from last None whole first is kept = search rules
+kept_last passes from last (Some (pos n)) whole first is kept = ap pos (sym (subst (λ (o : Option ℕ). IfSome o (λ local. last ≡ local)) is kept))
+kept_last passes from last (Some (negsuc n)) whole first is kept = absurd (let low = first.0 in omega (arith, ints))

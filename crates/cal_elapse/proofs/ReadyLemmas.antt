@@ -1,5 +1,5 @@
 -- The window is ready at first, and after each match that is placed.
-use Rattle.std.proofs.Common.{◌≡◌, ℕ, ◌+◌, ◌-◌, ◌<◌, ◌≤◌, List, Option, None, Some, ℤ, pos, ◌+ℤ◌, ◌≤ℤ◌, sym, ap, subst, arith, true, [], ◌^◌, unsigned_abs, to_z, of_z, w64, negsuc, refl}
+use Rattle.std.proofs.Common.{◌≡◌, ℕ, ◌+◌, ◌-◌, ◌<◌, ◌≤◌, Bool, List, Option, None, Some, ℤ, pos, ◌+ℤ◌, ◌≤ℤ◌, sym, ap, subst, arith, true, [], ◌^◌, unsigned_abs, to_z, of_z, w64, negsuc, refl, max}
 use Rattle.std.proofs.lemmas.Int.{ints, to_z_pos}
 use Rattle.jiff.proofs.SpanFacts.{signed_arith}
 use Rattle.cal_zone.specs.Instant.{IsInstant}
@@ -11,15 +11,19 @@ use Rattle.cal_zone.specs.Place.{place_of}
 use Rattle.cal_zone.specs.Zone.{zone_of}
 use Rattle.cal_zone.specs.declared.zone.Zone.{Zone}
 use Rattle.cal_elapse.specs.Elapses.{Timed}
+use Rattle.cal_elapse.specs.Looks.{IsSearch}
 use Rattle.cal_elapse.specs.Masks.{sets_in}
+use Rattle.cal_elapse.specs.Most.{IsMost}
 use Rattle.cal_elapse.specs.Rest.{rest_of}
 use Rattle.cal_rising.specs.RisingList.{Has}
 use Rattle.cal_elapse.specs.Search.{IsFirstPassing, NonePasses}
 use Rattle.cal_elapse.specs.Window.{IsMatchAhead, IsPlacedTo, IsReady, Windowed, bound_of, count_from, start_of, timed_by, timed_of, with_place}
 use Rattle.cal_elapse.specs.declared.masks.Masks.{Masks}
+use Rattle.cal_elapse.specs.declared.search.Found.{Found}
 use Rattle.cal_elapse.specs.declared.searcher.Searcher.{Searcher}
 use Rattle.cal_elapse.specs.declared.window.Window.{Window}
 use Rattle.cal_elapse.proofs.CountLemmas.{count_from-begun, count_from-most, count_from-on, count_from-with}
+use Rattle.cal_elapse.proofs.MostLemmas.{most_more, most_next, most_start}
 use Rattle.cal_elapse.proofs.WindowLemmas.{timed_by-near, windowed_on, windowed_put, windowed_start}
 use Rattle.cal_spec.specs.Match.{matches}
 
@@ -42,8 +46,9 @@ is_next masks zone from found h first = next_by (timed_by masks zone) from found
 pub ready_after : (v : Window) (searcher : Searcher) (ahead : Option ℕ) (pending : List ℤ) → searcher.masks ≡ v.searcher.masks → pos 0 ≤ℤ v.base → v.base ≤ℤ v.last
     → Windowed (timed_of v) (start_of v.base) (bound_of ahead) v.last pending → IsMatchAhead (timed_of v) ahead → start_of v.base ≤ bound_of ahead
     → searcher.searches ≡ count_from (timed_of v).matches (start_of v.base) (bound_of ahead - start_of v.base) + 1
+    → IsMost (sets_in v.searcher.masks) (start_of v.base) (bound_of ahead) searcher.most_months
     → IsReady (record v { searcher = searcher; ahead = ahead; pending = pending })
-ready_after v searcher ahead pending masks low above windowed found begun counted =
+ready_after v searcher ahead pending masks low above windowed found begun counted looked =
     let same : timed_of v ≡ timed_by searcher.masks v.zone = ap (λ m. timed_by m v.zone) (sym masks) in
     record {
       windowed = subst (λ (e : Timed). Windowed e (start_of v.base) (bound_of ahead) v.last pending) same windowed;
@@ -52,6 +57,7 @@ ready_after v searcher ahead pending masks low above windowed found begun counte
       above = above;
       begun = begun;
       counted = subst (λ (e : Timed). searcher.searches ≡ count_from e.matches (start_of v.base) (bound_of ahead - start_of v.base) + 1) same counted;
+      looked = subst (λ (m : Masks). IsMost (sets_in m) (start_of v.base) (bound_of ahead) searcher.most_months) (sym masks) looked;
     }
 
 put_at : (masks : Masks) (zone : Zone) (from bound : ℕ) (last : ℤ) (xs : List ℤ) → Windowed (timed_by masks zone) from bound last xs → (timed_by masks zone).matches bound ≡ true
@@ -77,12 +83,24 @@ placed_to v local ahead pending h at near put =
       above = h.above;
       begun = begun;
       counted = omega arith;
+      looked = subst (λ (o : Option ℕ). IsMost (sets_in v.searcher.masks) start (bound_of o) v.searcher.most_months) at h.looked;
     }
 
+-- what was placed last is a match
+pub placed_is_match : (v : Window) (local : ℕ) → IsPlacedTo v local → (local < seconds_in_all) × (matches (sets_in v.searcher.masks) local ≡ true)
+unfolding timed_by
+placed_is_match v local h = h.found
+
+-- none lies before the one found
+none_before : (passes : ℕ → Bool) (from : ℕ) (ahead : Option ℕ) → from ≤ seconds_in_all → IsFirstPassing passes from seconds_in_all ahead → (from ≤ bound_of ahead) × NonePasses passes from (bound_of ahead)
+none_before passes from None within none = (within, none)
+none_before passes from (Some local) within first = (first.0, first.3)
+
 -- and the next is found
-pub next_ready : (v : Window) (local : ℕ) (searcher : Searcher) (ahead : Option ℕ) → IsPlacedTo v local → searcher.masks ≡ v.searcher.masks → searcher.searches ≡ v.searcher.searches + 1
+pub next_ready : (v : Window) (local : ℕ) (searcher : Searcher) (ahead : Option ℕ) (found : Found) → IsPlacedTo v local → searcher.masks ≡ v.searcher.masks
+    → searcher.searches ≡ v.searcher.searches + 1 → searcher.most_months ≡ max v.searcher.most_months found.months → IsSearch (sets_in v.searcher.masks) (local + 1) found
     → IsFirstPassing (matches (sets_in v.searcher.masks)) (local + 1) seconds_in_all ahead → IsReady (record v { searcher = searcher; ahead = ahead })
-next_ready v local searcher ahead h masks more first =
+next_ready v local searcher ahead found h masks more most search first =
     let e = timed_of v in
     let start = start_of v.base in
     let begun = h.begun in
@@ -92,7 +110,11 @@ next_ready v local searcher ahead h masks more first =
     let low = next.low in
     let on = windowed_on e start (local + 1) (bound_of ahead) v.last v.pending next.low next.none h.windowed in
     let count = count_from-on e.matches start (local + 1) (bound_of ahead) (omega arith) next.low next.none in
+    let none = none_before (matches (sets_in v.searcher.masks)) (local + 1) ahead (omega arith) first in
+    let looked = most_more (sets_in v.searcher.masks) start local (bound_of ahead) v.searcher.most_months (max v.searcher.most_months found.months) begun (omega arith) h.looked
+    (most_next (sets_in v.searcher.masks) local (bound_of ahead) v.searcher.most_months found (placed_is_match v local h).1 search (omega arith) none.1) in
     ready_after v searcher ahead v.pending masks h.low h.above on next.found (omega arith) (omega arith)
+    (subst (IsMost (sets_in v.searcher.masks) start (bound_of ahead)) (sym most) looked)
 
 -- so few searches were made
 pub few_searches : (v : Window) (local : ℕ) → IsPlacedTo v local → v.searcher.searches ≤ local + 1
@@ -100,10 +122,6 @@ few_searches v local h =
     let most = count_from-most (timed_of v).matches (start_of v.base) (local + 1 - start_of v.base) in
     let counted = h.counted in
     omega arith
-
-pub placed_is_match : (v : Window) (local : ℕ) → IsPlacedTo v local → (local < seconds_in_all) × (matches (sets_in v.searcher.masks) local ≡ true)
-unfolding timed_by
-placed_is_match v local h = h.found
 
 pub ahead_is_match : (v : Window) (local : ℕ) → IsReady v → v.ahead ≡ Some local → (local < seconds_in_all) × (matches (sets_in v.searcher.masks) local ≡ true)
 unfolding timed_by
@@ -133,10 +151,11 @@ start_inside (pos n) h = let count = seconds_in_all-is in omega (arith, signed_a
 start_inside (negsuc n) h = absurd (omega (arith, signed_arith, h.0))
 
 -- the window before anything is placed
-pub begun_ready : (searcher after : Searcher) (zone : Zone) (base : ℤ) (ahead : Option ℕ) (pending : List ℤ) → IsInstant base → searcher.searches ≡ 0
-    → after.masks ≡ searcher.masks → after.searches ≡ searcher.searches + 1 → pending ≡ [] → IsFirstPassing (matches (sets_in searcher.masks)) (start_of base) seconds_in_all ahead
+pub begun_ready : (searcher after : Searcher) (zone : Zone) (base : ℤ) (ahead : Option ℕ) (pending : List ℤ) (found : Found) → IsInstant base → searcher.searches ≡ 0
+    → searcher.most_months ≡ 0 → after.masks ≡ searcher.masks → after.searches ≡ searcher.searches + 1 → after.most_months ≡ max searcher.most_months found.months
+    → IsSearch (sets_in searcher.masks) (start_of base) found → pending ≡ [] → IsFirstPassing (matches (sets_in searcher.masks)) (start_of base) seconds_in_all ahead
     → IsReady (record { searcher = after; zone = zone; base = base; ahead = ahead; last = base; pending = pending })
-begun_ready searcher after zone base ahead pending instant zero masks more none first =
+begun_ready searcher after zone base ahead pending found instant zero unlooked masks more most search none first =
     let v : Window = record { searcher = searcher; zone = zone; base = base; ahead = ahead; last = base; pending = pending } in
     let e = timed_by searcher.masks zone in
     let start = start_of base in
@@ -145,6 +164,8 @@ begun_ready searcher after zone base ahead pending instant zero masks more none 
     let on = windowed_on e start start (bound_of ahead) base [] next.low next.none empty in
     let count = count_from-begun e.matches start (bound_of ahead) next.low next.none in
     ready_after v after ahead pending masks instant.0 (omega (arith, ints)) (subst (Windowed e start (bound_of ahead) base) (sym none) on) next.found next.low (omega arith)
+    (most_start (sets_in searcher.masks) start (bound_of ahead) searcher.most_months after.most_months found search next.low
+    (none_before (matches (sets_in searcher.masks)) start ahead (start_inside base instant) first).1 unlooked most)
 
 -- the masks of an expression mean in a zone what the expression does
 pub timed_by-timed : (masks : Masks) (zone : Zone) (fields : Fields) → sets_in masks ≡ sets_of fields → timed_by masks zone ≡ timed fields (zone_of zone)

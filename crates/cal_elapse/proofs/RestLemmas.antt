@@ -19,11 +19,13 @@ use Rattle.cal_elapse.specs.Count.{count_from}
 use Rattle.cal_elapse.specs.Elapses.{Timed}
 use Rattle.cal_elapse.specs.Left.{IsRest}
 use Rattle.cal_elapse.specs.Masks.{sets_in}
+use Rattle.cal_elapse.specs.Most.{IsMost, IsMostAfter}
 use Rattle.cal_elapse.specs.Window.{IsMatchAhead, IsPlacedTo, Windowed, start_of, timed_by, timed_of}
 use Rattle.cal_elapse.specs.declared.masks.Masks.{Masks}
 use Rattle.cal_elapse.specs.declared.searcher.Searcher.{Searcher}
 use Rattle.cal_elapse.specs.declared.window.Window.{Window}
 use Rattle.cal_elapse.proofs.CountLemmas.{count_from-part}
+use Rattle.cal_elapse.proofs.MostLemmas.{most_more}
 use Rattle.cal_elapse.proofs.WindowLemmas.{IsPlacedFrom, timed_by-near, windowed_more}
 
 -- the minute of a match ends among the local seconds
@@ -78,10 +80,11 @@ place_there masks zone from to t offset i ahead low high inside =
 -- the window once the rest is placed, with what is pending then
 pub rest_placed : (v : Window) (local : ℕ) (searcher : Searcher) (bits last : ℕ) (pending : List ℤ) → IsPlacedTo v local → searcher.masks ≡ v.searcher.masks
     → searcher.searches ≡ v.searcher.searches + count_from (matches (sets_in v.searcher.masks)) (local + 1) (last - local)
+    → IsMostAfter (sets_in v.searcher.masks) local last v.searcher.most_months searcher.most_months
     → IsRest (matches (sets_in v.searcher.masks)) local bits last → Windowed (timed_of v) (start_of v.base) (last + 1) v.last pending
     → IsPlacedTo (record v { searcher = searcher; pending = pending }) last
 unfolding timed_by
-rest_placed v local searcher bits last pending h masks more rest windowed =
+rest_placed v local searcher bits last pending h masks more most rest windowed =
     let same : timed_of v ≡ timed_by searcher.masks v.zone = ap (λ m. timed_by m v.zone) (sym masks) in
     let start = start_of v.base in
     let count = seconds_in_all-is in
@@ -97,6 +100,8 @@ rest_placed v local searcher bits last pending h masks more rest windowed =
       above = h.above;
       begun = omega arith;
       counted = subst (λ (e : Timed). searcher.searches ≡ count_from e.matches start (last + 1 - start)) same counted;
+      looked = subst (λ (m : Masks). IsMost (sets_in m) start last searcher.most_months) (sym masks)
+          (most_more (sets_in v.searcher.masks) start local last v.searcher.most_months searcher.most_months begun later h.looked most);
     }
 
 no_later : (xs : List ℤ) → None ≡ first xs → (i : ℤ) → Has xs i → ⊥
@@ -105,10 +110,11 @@ no_later xs none i m = subst (λ (ys : List ℤ). Has ys i) (list-no_first xs (s
 -- where nothing is pending, and all places up to the minute's end are at the last instant given or before it
 pub rest_passed : (v : Window) (local : ℕ) (searcher : Searcher) (bits last : ℕ) (offset : ℤ) → IsPlacedTo v local → searcher.masks ≡ v.searcher.masks
     → searcher.searches ≡ v.searcher.searches + count_from (matches (sets_in v.searcher.masks)) (local + 1) (last - local)
+    → IsMostAfter (sets_in v.searcher.masks) local last v.searcher.most_months searcher.most_months
     → IsRest (matches (sets_in v.searcher.masks)) local bits last → None ≡ first v.pending
     → AreAhead (zone_of v.zone) (pos local) (pos (local / 60 * 60 + 59)) offset → (pos (local / 60 * 60 + 59) -ℤ offset) ≤ℤ v.last
     → IsPlacedTo (record v { searcher = searcher }) last
-rest_passed v local searcher bits last offset h masks more rest none ahead early =
+rest_passed v local searcher bits last offset h masks more most rest none ahead early =
     let e = timed_of v in
     let end = local / 60 * 60 + 59 in
     let later = rest.begun in
@@ -118,7 +124,7 @@ rest_passed v local searcher bits last offset h masks more rest none ahead early
     let up = rest_inside _ local bits last rest in
     let at = sym (place_there v.searcher.masks v.zone local end p.local offset i ahead (omega arith) (omega arith) (minute_end local h.found.0)) ∙ p.placed in
     passed_by p.local end v.last offset i at (omega arith) early above in
-    rest_placed v local searcher bits last v.pending h masks more rest
+    rest_placed v local searcher bits last v.pending h masks more most rest
     (windowed_more e (start_of v.base) (local + 1) (last + 1) v.last v.pending v.pending (omega arith) h.windowed h.windowed.rises
     (λ i. (λ m. inl m, λ o. elim o [ inl m ↦ m | inr p ↦ absurd (not_above i p.0 p.1) ]))
     (λ i m. absurd (no_later v.pending none i m)))
@@ -250,12 +256,13 @@ reaches end t least i up near le = omega (arith, ints)
 -- the window once the rest is put
 pub rest_put : (v : Window) (local : ℕ) (searcher : Searcher) (bits last : ℕ) (offset place least : ℤ) (pending : List ℤ) → IsPlacedTo v local → searcher.masks ≡ v.searcher.masks
     → searcher.searches ≡ v.searcher.searches + count_from (matches (sets_in v.searcher.masks)) (local + 1) (last - local)
+    → IsMostAfter (sets_in v.searcher.masks) local last v.searcher.most_months searcher.most_months
     → IsBehind v local bits last offset place least → IsRising pending → ((i : ℤ) → Has pending i ↔ (Has v.pending i ⊎ IsOneOf (place +ℤ pos 1) bits i))
     → IsPlacedTo (record v { searcher = searcher; pending = pending }) last
-rest_put v local searcher bits last offset place least pending h masks more behind rises members =
+rest_put v local searcher bits last offset place least pending h masks more most behind rises members =
     let begun = behind.rest.begun in
     let up = rest_inside _ local bits last behind.rest in
-    rest_placed v local searcher bits last pending h masks more behind.rest
+    rest_placed v local searcher bits last pending h masks more most behind.rest
     (windowed_more (timed_of v) (start_of v.base) (local + 1) (last + 1) v.last v.pending pending (omega arith) h.windowed rises
     (λ i. (
       λ m. elim ((members i).0 m) [

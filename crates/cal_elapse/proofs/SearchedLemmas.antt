@@ -6,11 +6,15 @@ use Rattle.cal_zone.specs.Local.{seconds_in_all}
 use Rattle.cal_zone.specs.declared.zone.Zone.{Zone}
 use Rattle.cal_rising.specs.RisingList.{Has, first, later}
 use Rattle.cal_elapse.specs.Search.{NonePasses}
-use Rattle.cal_elapse.specs.Searched.{IsSearched}
+use Rattle.cal_elapse.specs.Masks.{sets_in}
+use Rattle.cal_elapse.specs.Most.{IsMost}
+use Rattle.cal_elapse.specs.Searched.{IsMostSearched, IsSearched}
 use Rattle.cal_elapse.specs.Window.{IsReady, bound_of, count_from, start_of, timed_by, timed_of, to_place}
 use Rattle.cal_elapse.specs.declared.masks.Masks.{Masks}
 use Rattle.cal_elapse.specs.declared.window.Window.{Window}
 use Rattle.cal_elapse.proofs.CountLemmas.{count_from-none}
+use Rattle.cal_elapse.proofs.MinuteLemmas.{match_inside}
+use Rattle.cal_elapse.proofs.MostLemmas.{most_same}
 use Rattle.cal_rising.proofs.RisingLemmas.{list-first}
 use Rattle.cal_elapse.proofs.WindowLemmas.{all_placed, by_test, is_above}
 use Rattle.cal_spec.specs.Match.{matches}
@@ -90,3 +94,36 @@ pub searched_none : (v : Window) → IsReady v → to_place v.ahead (first v.pen
 searched_none v h full none =
     let all : bound_of v.ahead ≡ seconds_in_all = ap bound_of (all_placed v.ahead (subst (λ (o : Option ℤ). to_place v.ahead o ≡ None) none full)) in
     subst (λ (b : ℕ). v.searcher.searches ≡ count_from (timed_of v).matches (start_of v.base) (b - start_of v.base) + 1) all h.counted
+
+-- The most months that one of these searches looked at
+
+-- the same matches lie below both bounds
+same_below : (v : Window) (i : ℤ) (top : ℕ) → IsReady v → Has v.pending i → to_place v.ahead (Some i) ≡ None → (pos top) ≡ (i +ℤ pos 93_600) → start_of v.base ≤ top
+    → (t : ℕ) → start_of v.base ≤ t → matches (sets_in v.searcher.masks) t ≡ true → (t < bound_of v.ahead → t < top) × (t < top → t < bound_of v.ahead)
+unfolding timed_by
+same_below v i top h m full is begun t above holds = (
+  λ below. elim (cases_lt t top) [ inl early ↦ early | inr late ↦ absurd (matches_below v i top h m is begun t late below holds) ],
+  λ early. elim (cases_lt t (bound_of v.ahead)) [
+    | inl below ↦ below
+    | inr past ↦ absurd (
+        let all = late_bound v.ahead i top full is (omega arith) in
+        let inside = match_inside (sets_in v.searcher.masks) t holds in
+        omega arith)
+  ],
+)
+
+pub looked_some : (v : Window) (i : ℤ) → IsReady v → to_place v.ahead (first v.pending) ≡ None → first v.pending ≡ Some i
+    → IsMostSearched (sets_in v.searcher.masks) v.base (Some i) v.searcher.most_months
+looked_some v i h full at =
+    let m = has_first v.pending i at in
+    let above = ((h.windowed.members i).0 m).0 in
+    let top = start_below v.base v.last i h.low h.above above in
+    let there = subst (λ (o : Option ℤ). to_place v.ahead o ≡ None) at full in
+    most_same (sets_in v.searcher.masks) (start_of v.base) (bound_of v.ahead) (unsigned_abs i + 93_600) v.searcher.most_months
+    (same_below v i (unsigned_abs i + 93_600) h m there top.0 top.1) h.looked
+
+pub looked_none : (v : Window) → IsReady v → to_place v.ahead (first v.pending) ≡ None → first v.pending ≡ None
+    → IsMostSearched (sets_in v.searcher.masks) v.base None v.searcher.most_months
+looked_none v h full none =
+    let all : bound_of v.ahead ≡ seconds_in_all = ap bound_of (all_placed v.ahead (subst (λ (o : Option ℤ). to_place v.ahead o ≡ None) none full)) in
+    subst (λ (b : ℕ). IsMost (sets_in v.searcher.masks) (start_of v.base) b v.searcher.most_months) all h.looked

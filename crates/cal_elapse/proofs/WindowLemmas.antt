@@ -264,6 +264,7 @@ taken_ready v i last xs h at same rest =
       above = omega (arith, ints, up, h.above);
       begun = h.begun;
       counted = h.counted;
+      looked = h.looked;
     }
 
 -- the member given is the first elapse

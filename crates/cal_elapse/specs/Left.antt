@@ -1,28 +1,35 @@
 -- What is left of the minute of a match.
-use Rattle.std.specs.Prelude.{◌≡◌, ◌≢◌, ◌+◌, ◌-◌, ◌/◌, ◌^◌, ◌<◌, ◌≤◌, ℕ, Bool, true, false, Some}
+use Rattle.std.specs.Prelude.{◌≡◌, ◌+◌, ◌-◌, ◌*◌, ◌/◌, ◌<◌, ◌≤◌, ℕ, Bool, true, Option, None, Some}
+use Rattle.cal_zone.specs.Local.{seconds_in_all}
 use Rattle.cal_elapse.specs.Bits.{is_bit}
 use Rattle.cal_elapse.specs.Masks.{sets_in}
-use Rattle.cal_elapse.specs.Search.{IsFirstPassing}
+use Rattle.cal_elapse.specs.Search.{IsFirstPassing, NonePasses}
 use Rattle.cal_elapse.specs.declared.masks.Masks.{Masks}
 use Rattle.cal_spec.specs.Match.{matches}
 
--- Bit i of `left` is the local second from + i. Each bit that is set lies behind the match that was found, in its
--- minute, and of all seconds from that match up to the bit exactly those match whose bits are set.
+-- Bit i of `left` is the local second from + i. The bits that are set are those of all matches behind the one that was
+-- found, in its minute.
 pub record IsLeft (masks : Masks) (found from left : ℕ) : Type 0 where
   pub begun : from ≤ found + 1
   pub behind : (i : ℕ) → is_bit left i ≡ true → found < from + i
   pub minute : (i : ℕ) → is_bit left i ≡ true → (from + i) / 60 ≡ found / 60
-  pub matching : (i t : ℕ) → is_bit left i ≡ true → found < t → t ≤ from + i → matches (sets_in masks) t ≡ is_bit left (t - from)
+  pub matching : (t : ℕ) → found < t → t / 60 ≡ found / 60 → matches (sets_in masks) t ≡ is_bit left (t - from)
 
--- the lowest bit of what was left is the match that was found next, and all others are still left
-pub record IsNextLeft (from left next_found next_from next_left : ℕ) : Type 0 where
-  pub bit : ℕ
-  pub lowest : IsFirstPassing (is_bit left) 0 64 (Some bit)
-  pub found : next_found ≡ from + bit
-  pub same : next_from ≡ from
-  pub fits : next_left < 2 ^ 64
-  pub taken : is_bit next_left bit ≡ false
-  pub others : (i : ℕ) → i < 64 → i ≢ bit → is_bit next_left i ≡ is_bit left i
+-- what one search after a match found in its minute, if any is known to be left of that
+abbrev pub IsNextLeft : (ℕ → Bool) → ℕ → Option ℕ → Type 0
+IsNextLeft passes local None = Unit {0}
+IsNextLeft passes local (Some next) = (next / 60 ≡ local / 60) × IsFirstPassing passes (local + 1) seconds_in_all (Some next)
+
+-- one passes behind a local second, in its minute
+pub record IsMoreLeft (passes : ℕ → Bool) (local : ℕ) : Type 0 where
+  pub match_at : ℕ
+  pub behind : local < match_at
+  pub minute : match_at / 60 ≡ local / 60
+  pub is_match : passes match_at ≡ true
+
+-- none does
+abbrev pub NoneLeft : (ℕ → Bool) → ℕ → Type 0
+NoneLeft passes local = NonePasses passes (local + 1) (local / 60 * 60 + 60)
 
 -- Bit i is the local second local + 1 + i. From a match up to the last one of its minute that is known exactly those
 -- match whose bits are set.

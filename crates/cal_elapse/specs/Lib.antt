@@ -8,6 +8,7 @@ pub mod Looks
 pub mod Masks
 pub mod Merged
 pub mod Months
+pub mod Most
 pub mod Near
 pub mod Rest
 pub mod Ring

@@ -7,6 +7,7 @@ use Rattle.cal_zone.specs.declared.zone.Zone.{Zone}
 unfoldable pub use Rattle.cal_elapse.specs.Count.{count_from}
 use Rattle.cal_elapse.specs.Elapses.{Timed}
 use Rattle.cal_elapse.specs.Masks.{sets_in}
+use Rattle.cal_elapse.specs.Most.{IsMost}
 use Rattle.cal_rising.specs.RisingList.{Has, IsRising, placed}
 use Rattle.cal_elapse.specs.declared.masks.Masks.{Masks}
 use Rattle.cal_elapse.specs.declared.window.Window.{Window}
@@ -59,7 +60,7 @@ timed_by masks zone = record { matches = matches (sets_in masks); place = λ loc
 abbrev pub timed_of : Window → Timed
 timed_of w = timed_by w.searcher.masks w.zone
 
--- all matching local seconds below the one ahead are placed, and each search found one of them or the one ahead
+-- all matching local seconds below the one ahead are placed; one search was made before, and one after each of them
 pub record IsReady (w : Window) : Type 0 where
   pub windowed : Windowed (timed_of w) (start_of w.base) (bound_of w.ahead) w.last w.pending
   pub found : IsMatchAhead (timed_of w) w.ahead
@@ -67,8 +68,9 @@ pub record IsReady (w : Window) : Type 0 where
   pub above : w.base ≤ℤ w.last
   pub begun : start_of w.base ≤ bound_of w.ahead
   pub counted : w.searcher.searches ≡ count_from (timed_of w).matches (start_of w.base) (bound_of w.ahead - start_of w.base) + 1
+  pub looked : IsMost (sets_in w.searcher.masks) (start_of w.base) (bound_of w.ahead) w.searcher.most_months
 
--- all matching local seconds up to this one, which is a match, are placed, and each search found one of them
+-- all matching local seconds up to this one, which is a match, are placed, and no search was made after it yet
 pub record IsPlacedTo (w : Window) (local : ℕ) : Type 0 where
   pub windowed : Windowed (timed_of w) (start_of w.base) (local + 1) w.last w.pending
   pub found : IsMatchAhead (timed_of w) (Some local)
@@ -76,3 +78,4 @@ pub record IsPlacedTo (w : Window) (local : ℕ) : Type 0 where
   pub above : w.base ≤ℤ w.last
   pub begun : start_of w.base ≤ local
   pub counted : w.searcher.searches ≡ count_from (timed_of w).matches (start_of w.base) (local + 1 - start_of w.base)
+  pub looked : IsMost (sets_in w.searcher.masks) (start_of w.base) local w.searcher.most_months

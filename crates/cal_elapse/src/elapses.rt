@@ -37,9 +37,12 @@ impl<'z> Elapses<'z> {
     ghost use Rattle.std.specs.Prelude.{◌≡◌, ◌≤◌, [], ◌∷◌, IfOk};
     ghost use Rattle.cal_zone.specs.Zone.{zone_of};
     ghost use Rattle.cal_elapse.specs.Elapses.{elapses_after};
+    ghost use Rattle.cal_elapse.specs.Masks.{sets_in};
+    ghost use Rattle.cal_elapse.specs.Most.{IsLooked};
     ghost use Rattle.cal_elapse.specs.Rest.{rest_of};
     ghost use Rattle.cal_elapse.specs.Timed.{timed};
-    ghost use Rattle.cal_elapse.specs.Window.{timed_of};
+    ghost use Rattle.cal_elapse.specs.Window.{start_of, timed_of};
+    ghost use Rattle.cal_spec.specs.Members.{sets_of};
 
     /// The elapses of an expression in a zone that are later than the base.
     ///
@@ -55,7 +58,10 @@ impl<'z> Elapses<'z> {
         ensures timed { IfOk result (λ elapses. timed_of elapses ≡ timed expr.now (zone_of zone.entry)) }
         ensures base { IfOk result (λ elapses. elapses.base ≡ base.secs) }
         ensures searched { IfOk result (λ elapses. elapses.searcher.searches ≡ 1) }
-        ensures looked { IfOk result (λ elapses. elapses.searcher.most_months ≤ 2_760) }
+        ensures masks { IfOk result (λ elapses. sets_in elapses.searcher.masks ≡ sets_of expr.now) }
+        ensures looked { IfOk result
+            (λ elapses. IsLooked (sets_of expr.now) (start_of base.secs) elapses.searcher.most_months) }
+        ensures few { IfOk result (λ elapses. elapses.searcher.most_months ≤ 2_760) }
     {
         Ok(Elapses {
             window: Window::new(alloc, expr, zone, base)?,
@@ -84,16 +90,17 @@ impl Rising for Elapses<'_> {
     ghost use Rattle.std.specs.Prelude.{◌≡◌, ◌≤◌};
     ghost use Rattle.cal_elapse.specs.Rest.{rest_of, IsRising-rest_of};
     ghost use Rattle.cal_rising.specs.RisingList.{first, is_in, later};
-    ghost use Rattle.cal_elapse.specs.Searched.{IsSearched};
+    ghost use Rattle.cal_elapse.specs.Masks.{sets_in};
+    ghost use Rattle.cal_elapse.specs.Searched.{IsMostSearched, IsSearched};
     ghost use Rattle.cal_elapse.specs.Window.{timed_of};
 
     ghost rest = { rest_of };
 
     /// Gives the next elapse; `None` where there is none.
     ///
-    /// Where it gives e, the searches made so far are one more than the local seconds that match from the base less
-    /// 93,599 to e plus 93,599; where it gives none, one more than all that match from there on. None of these searches
-    /// looked at more than 2,760 months.
+    /// Where it gives e, one search was made so far from the base less 93,599 on, and one after each local second from
+    /// there to e plus 93,599 that matches; where it gives none, one after each from there on. `most_months` is the most
+    /// months that one of these looked at, at most 2,760.
     fn next(&mut self) -> Option<i64>
         ensures given { result ≡ first (rest_of self.old) }
         ensures left { rest_of self.new ≡ later (rest_of self.old) }
@@ -101,7 +108,8 @@ impl Rising for Elapses<'_> {
         ensures timed { timed_of self.new ≡ timed_of self.old }
         ensures base { self.new.base ≡ self.old.base }
         ensures searched { IsSearched (timed_of self.old) self.old.base result self.new.searcher.searches }
-        ensures looked { self.new.searcher.most_months ≤ 2_760 }
+        ensures looked { IsMostSearched (sets_in self.old.searcher.masks) self.old.base result self.new.searcher.most_months }
+        ensures few { self.new.searcher.most_months ≤ 2_760 }
     {
         self.window.fill();
         self.window.take()

@@ -1,19 +1,21 @@
 //! The search of an expression's matches, whose calls are counted.
 
-ghost use Rattle.std.specs.Prelude.{◌≡◌, ◌+◌, ◌-◌, ◌<◌, ◌≤◌, true, max, IfSome};
+ghost use Rattle.std.specs.Prelude.{◌≡◌, ◌+◌, ◌-◌, ◌<◌, ◌≤◌, true, false, max, None, IfSome, pos, unwrap_or};
 ghost use Rattle.cal_zone.specs.Local.{seconds_in_all};
 ghost use Rattle.cal_elapse.specs.Count.{count_from};
-ghost use Rattle.cal_elapse.specs.Left.{IsLeft, IsNextLeft, IsRest};
+ghost use Rattle.cal_elapse.specs.Left.{IsLeft, IsMoreLeft, IsNextLeft, IsRest, NoneLeft};
 ghost use Rattle.cal_elapse.specs.Looks.{IsSearch};
 ghost use Rattle.cal_elapse.specs.Masks.{sets_in};
+ghost use Rattle.cal_elapse.specs.Most.{IsMostAfter};
 ghost use Rattle.cal_elapse.specs.Start.{CanStart, begin_of};
 ghost use Rattle.cal_spec.specs.Match.{matches};
 ghost use Rattle.cal_spec.specs.Members.{sets_of};
 
 use crate::Masks;
-use crate::bits::{lowest_bit, without_lowest};
+use crate::bits::{lowest_bit, with_bit, without_lowest};
 use crate::search::{Found, next_after, next_at};
 use cal_spec::Expr;
+use cal_zone::{DAY, DAYS};
 
 /// Where a search begins.
 #[derive(Drop)]
@@ -42,7 +44,7 @@ pub struct Searcher {
     masks: Masks,
     searches: u64,
     most_months: u32,
-    /// The match that was found last.
+    /// The match that was found last; before any the end of the local seconds.
     found: u64,
     /// The local second of the lowest bit of `left`.
     from: u64,
@@ -57,12 +59,13 @@ impl Searcher {
     pub fn of(expr: &Expr) -> Searcher
         ensures masks { sets_in result.masks ≡ sets_of expr.now }
         ensures none { result.searches ≡ 0 }
+        ensures looked { result.most_months ≡ 0 }
     {
         Searcher {
             masks: Masks::of(expr),
             searches: 0,
             most_months: 0,
-            found: 0,
+            found: DAYS * DAY,
             from: 0,
             left: 0,
         }
@@ -93,8 +96,7 @@ impl Searcher {
         ensures masks { self.new.masks ≡ self.old.masks }
         ensures counted { self.new.searches ≡ self.old.searches + 1 }
         ensures most { self.new.most_months ≡ max self.old.most_months result.months }
-        ensures left { start ≡ Start.After self.old.found → 0 < self.old.left
-            → IsNextLeft self.old.from self.old.left self.new.found self.new.from self.new.left }
+        ensures last { IfSome result.local (λ local. local ≡ pos self.new.found) }
     {
         self.searches += 1;
         let found = match start {
@@ -106,34 +108,51 @@ impl Searcher {
     }
 
     /// Whether more is left of the minute of a match, as far as that is known.
-    pub fn has_left(&self, local: u64) -> bool {
+    pub fn has_left(&self, local: u64) -> bool
+        ensures more { result ≡ true → IsMoreLeft (matches (sets_in self.now.masks)) local }
+        ensures none { result ≡ false → local ≡ self.now.found → NoneLeft (matches (sets_in self.now.masks)) local }
+    {
         self.left != 0 && self.found == local
     }
 
-    /// Searches on after a match to the end of its minute, as far as it is known what is left of that. Each match found
-    /// is one search.
+    /// Searches on after a match to the end of its minute, where it is known what is left of that. Each bit is what one
+    /// search found.
     pub fn search_left(&mut self, local: u64) -> RestOfMinute
         requires start { CanStart (matches (sets_in self.old.masks)) (Start.After local) }
         requires few { self.old.searches ≤ local + 1 }
         ensures rest { IsRest (matches (sets_in self.old.masks)) local result.bits result.last }
+        ensures whole { local ≡ self.old.found → NoneLeft (matches (sets_in self.old.masks)) result.last }
         ensures masks { self.new.masks ≡ self.old.masks }
         ensures counted { self.new.searches ≡ self.old.searches
             + count_from (matches (sets_in self.old.masks)) (local + 1) (result.last - local) }
+        ensures most { IsMostAfter (sets_in self.old.masks) local result.last self.old.most_months self.new.most_months }
     {
-        if self.left == 0 || self.found != local {
-            return RestOfMinute {
-                bits: 0,
-                last: local,
-            };
+        let mut bits = 0;
+        let mut last = local;
+        while let Some(next) = self.next_left(last) {
+            bits = with_bit(bits, (next - local - 1) as u32);
+            last = next;
         }
-        let bits = self.left >> (local + 1 - self.from);
-        while self.left != 0 {
-            self.search(Start::After(self.found));
+        RestOfMinute { bits, last }
+    }
+
+    /// The next match in the minute of a match, by one search; `None`, without a search, where none is known to be left.
+    #[inline(always)]
+    fn next_left(&mut self, local: u64) -> Option<u64>
+        requires start { CanStart (matches (sets_in self.old.masks)) (Start.After local) }
+        requires few { self.old.searches ≤ seconds_in_all }
+        ensures next { IsNextLeft (matches (sets_in self.old.masks)) local result }
+        ensures none { result ≡ None → local ≡ self.old.found → NoneLeft (matches (sets_in self.old.masks)) local }
+        ensures last { local ≡ self.old.found → unwrap_or result local ≡ self.new.found }
+        ensures masks { self.new.masks ≡ self.old.masks }
+        ensures counted { self.new.searches ≡ self.old.searches
+            + count_from (matches (sets_in self.old.masks)) (local + 1) (unwrap_or result local - local) }
+        ensures most { IsMostAfter (sets_in self.old.masks) local (unwrap_or result local) self.old.most_months self.new.most_months }
+    {
+        if !self.has_left(local) {
+            return None;
         }
-        RestOfMinute {
-            bits,
-            last: self.found,
-        }
+        self.search(Start::After(local)).whole()
     }
 
     /// The least match from a local second on.
@@ -143,6 +162,7 @@ impl Searcher {
         ensures masks { self.new.masks ≡ self.old.masks }
         ensures searches { self.new.searches ≡ self.old.searches }
         ensures most { self.new.most_months ≡ self.old.most_months }
+        ensures last { IfSome result.local (λ local. local ≡ pos self.new.found) }
     {
         let found = next_at(&self.masks, local);
         self.keep(found.whole());
@@ -158,8 +178,7 @@ impl Searcher {
         ensures masks { self.new.masks ≡ self.old.masks }
         ensures searches { self.new.searches ≡ self.old.searches }
         ensures most { self.new.most_months ≡ self.old.most_months }
-        ensures left { local ≡ self.old.found → 0 < self.old.left
-            → IsNextLeft self.old.from self.old.left self.new.found self.new.from self.new.left }
+        ensures last { IfSome result.local (λ local. local ≡ pos self.new.found) }
     {
         if local == self.found && self.left != 0 {
             return self.find_left();
@@ -177,7 +196,7 @@ impl Searcher {
         ensures masks { self.new.masks ≡ self.old.masks }
         ensures searches { self.new.searches ≡ self.old.searches }
         ensures most { self.new.most_months ≡ self.old.most_months }
-        ensures left { IsNextLeft self.old.from self.old.left self.new.found self.new.from self.new.left }
+        ensures last { IfSome result.local (λ local. local ≡ pos self.new.found) }
     {
         let bit = lowest_bit(self.left);
         let local = self.from + u64::from(bit);
@@ -196,6 +215,7 @@ impl Searcher {
         ensures masks { self.new.masks ≡ self.old.masks }
         ensures searches { self.new.searches ≡ self.old.searches }
         ensures most { self.new.most_months ≡ self.old.most_months }
+        ensures last { IfSome found (λ local. self.new.found ≡ local) }
     {
         let Some(local) = found else {
             return;

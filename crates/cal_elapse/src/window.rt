@@ -36,9 +36,12 @@ impl<'z> Window<'z> {
     ghost use Rattle.cal_zone.specs.Zone.{zone_of};
     ghost use Rattle.cal_elapse.specs.Elapses.{elapses_after};
     ghost use Rattle.cal_rising.specs.RisingList.{Has, first, later};
-    ghost use Rattle.cal_elapse.specs.Searched.{IsSearched};
+    ghost use Rattle.cal_elapse.specs.Masks.{sets_in};
+    ghost use Rattle.cal_elapse.specs.Most.{IsLooked};
+    ghost use Rattle.cal_elapse.specs.Searched.{IsMostSearched, IsSearched};
     ghost use Rattle.cal_elapse.specs.Timed.{timed};
     ghost use Rattle.cal_elapse.specs.Window.{IsPlacedTo, IsReady, bound_of, timed_of, to_place};
+    ghost use Rattle.cal_spec.specs.Members.{sets_of};
 
     /// Before anything is placed. The first search begins where a place can be above the base.
     pub fn new(
@@ -52,6 +55,9 @@ impl<'z> Window<'z> {
         ensures last { IfOk result (λ window. window.last ≡ base.secs) }
         ensures base { IfOk result (λ window. window.base ≡ base.secs) }
         ensures searched { IfOk result (λ window. window.searcher.searches ≡ 1) }
+        ensures masks { IfOk result (λ window. sets_in window.searcher.masks ≡ sets_of expr.now) }
+        ensures looked { IfOk result
+            (λ window. IsLooked (sets_of expr.now) (start_of base.secs) window.searcher.most_months) }
     {
         let pending = Pending::new(alloc)?;
         let mut searcher = Searcher::of(expr);
@@ -135,6 +141,7 @@ impl<'z> Window<'z> {
         ensures timed { timed_of self.new ≡ timed_of self.old }
         ensures base { self.new.base ≡ self.old.base }
         ensures searched { IsSearched (timed_of self.old) self.old.base result self.new.searcher.searches }
+        ensures looked { IsMostSearched (sets_in self.old.searcher.masks) self.old.base result self.new.searcher.most_months }
         ensures given { result ≡ first (elapses_after (timed_of self.old ∷ []) self.old.last) }
         ensures left { elapses_after (timed_of self.new ∷ []) self.new.last
             ≡ later (elapses_after (timed_of self.old ∷ []) self.old.last) }

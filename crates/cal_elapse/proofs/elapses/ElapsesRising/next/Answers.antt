@@ -1,4 +1,5 @@
 use Rattle.std.proofs.Common.{◌∙◌, ap}
+use Rattle.cal_elapse.specs.Masks.{sets_in}
 use Rattle.cal_elapse.specs.Rest.{rest_of}
 use Rattle.cal_rising.specs.RisingList.{first, later}
 use Rattle.cal_elapse.specs.Window.{timed_of}
@@ -28,3 +29,7 @@ returns-clause-base c = c.take.ensures.base ∙ c.fill.ensures.base ∙ ap (λ (
 pub returns-clause-searched : goal.returns-clause-searched
 returns-clause-searched c =
     rw (c.fill.ensures.timed ∙ ap timed_of c.self.view_is, c.fill.ensures.base ∙ ap (λ (w : Window). w.base) c.self.view_is) at c.take.ensures.searched
+
+pub returns-clause-looked : goal.returns-clause-looked
+returns-clause-looked c =
+    rw (ap sets_in (c.fill.ensures.masks ∙ ap (λ (w : Window). w.searcher.masks) c.self.view_is), c.fill.ensures.base ∙ ap (λ (w : Window). w.base) c.self.view_is) at c.take.ensures.looked

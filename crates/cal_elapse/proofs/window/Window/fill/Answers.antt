@@ -34,7 +34,8 @@ loop-ahead-preserved c =
     let kept = c.loop-ahead.invariant in
     let rest = c.place_rest-placed.ensures in
     record {
-      ready = next_ready _ c.place_rest-placed.result c.search.new.self c.whole-ahead.result rest.placed c.search.ensures.masks c.search.ensures.counted
+      ready = next_ready _ c.place_rest-placed.result c.search.new.self c.whole-ahead.result c.search.result rest.placed c.search.ensures.masks c.search.ensures.counted
+          c.search.ensures.most c.search.ensures.found
           (rw (c.whole-ahead.ensures) (passing_of _ _ _ c.search.ensures.found.first));
       masks = c.search.ensures.masks ∙ (rest.masks ∙ kept.masks);
       base = rest.base ∙ kept.base;

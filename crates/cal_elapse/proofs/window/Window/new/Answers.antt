@@ -1,11 +1,14 @@
-use Rattle.std.proofs.Common.{◌≡◌, ◌∙◌, ℕ, FitsSigned, ap, of_z, rules, subst, sym, to_z, w64}
+use Rattle.std.proofs.Common.{◌≡◌, ◌∙◌, ℕ, FitsSigned, ap, of_z, rules, subst, subst₂, sym, to_z, w64}
 use Rattle.std.proofs.lemmas.Int.{to_z-of_z}
 use Rattle.cal_zone.specs.Instant.{IsInstant}
 use Rattle.cal_zone.specs.Local.{seconds_in_all}
+use Rattle.cal_elapse.specs.Looks.{IsSearch}
 use Rattle.cal_elapse.specs.Masks.{sets_in}
+use Rattle.cal_elapse.specs.Most.{IsLooked}
 use Rattle.cal_elapse.specs.Search.{IsFirstPassing}
 use Rattle.cal_elapse.specs.Window.{start_of, timed_by}
-use Rattle.cal_spec.specs.Match.{matches}
+use Rattle.cal_spec.specs.Match.{Sets, matches}
+use Rattle.cal_elapse.proofs.MostLemmas.{most_of_first, search_looked}
 use Rattle.cal_elapse.proofs.ReadyLemmas.{begun_ready, timed_by-timed}
 use Rattle.cal_elapse.proofs.SearchLemmas.{found_low, passing_of}
 use Rattle.cal_elapse.proofs.window.Window.new.Goals as goal
@@ -15,8 +18,9 @@ returns-clause-ready c =
     let fits : FitsSigned w64 c.secs-base.result = search rules in
     let base : c.args.base.secs ≡ to_z w64 (of_z w64 c.secs-base.result) = sym (to_z-of_z w64 c.secs-base.result fits ∙ c.secs-base.ensures.value) in
     let begin = c.first_local.ensures.start ∙ ap start_of base in
-    begun_ready c.of-searcher.result c.search.new.self c.new-2.result _ c.whole-ahead.result c.in_ok-pending.pending (subst IsInstant base c.args.base.in_range) c.of-searcher.ensures.none
-    c.search.ensures.masks c.search.ensures.counted c.in_ok-pending.ensures
+    begun_ready c.of-searcher.result c.search.new.self c.new-2.result _ c.whole-ahead.result c.in_ok-pending.pending c.search.result (subst IsInstant base c.args.base.in_range) c.of-searcher.ensures.none
+    c.of-searcher.ensures.looked c.search.ensures.masks c.search.ensures.counted c.search.ensures.most
+    (subst (λ (from : ℕ). IsSearch (sets_in c.of-searcher.result.masks) from c.search.result) begin c.search.ensures.found) c.in_ok-pending.ensures
     (subst (λ (from : ℕ). IsFirstPassing (matches (sets_in c.of-searcher.result.masks)) from seconds_in_all c.whole-ahead.result) begin (rw (c.whole-ahead.ensures) (passing_of _ _ _ c.search.ensures.found.first)))
 
 pub returns-clause-timed : goal.returns-clause-timed
@@ -26,3 +30,12 @@ returns-clause-timed c =
 
 pub whole-ahead-requires : goal.whole-ahead-requires
 whole-ahead-requires c = found_low _ _ _ c.search.ensures.found.first
+
+pub returns-clause-masks : goal.returns-clause-masks
+returns-clause-masks c = ap sets_in c.search.ensures.masks ∙ c.of-searcher.ensures.masks
+
+pub returns-clause-looked : goal.returns-clause-looked
+returns-clause-looked c =
+    let looked = search_looked _ _ c.search.result c.search.ensures.found in
+    subst₂ (λ (sets : Sets) (from : ℕ). IsLooked sets from c.search.new.self.most_months) c.of-searcher.ensures.masks c.first_local.ensures.start
+    (subst (IsLooked (sets_in c.of-searcher.result.masks) c.first_local.result) (sym (most_of_first _ _ _ c.of-searcher.ensures.looked c.search.ensures.most)) looked)

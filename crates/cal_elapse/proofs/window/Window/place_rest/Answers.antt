@@ -68,7 +68,7 @@ returns-in-None-clause-placed c =
     let place = to_z-of_z w64 (to_z w64 c.args.local -ℤ to_z w64 (of_z w64 c.in-Some.offset)) (omega (arith, signed_arith)) in
     let early = c.if-place-end.true in
     rest_passed c.args.self.now c.args.local c.search_left.new.self c.search_left.result.bits c.search_left.result.last c.in-Some.offset c.requires
-    c.search_left.ensures.masks c.search_left.ensures.counted c.search_left.ensures.rest (sym c.in-None.is ∙ c.least-least.ensures.least) there (omega (arith, signed_arith))
+    c.search_left.ensures.masks c.search_left.ensures.counted c.search_left.ensures.most c.search_left.ensures.rest (sym c.in-None.is ∙ c.least-least.ensures.least) there (omega (arith, signed_arith))
 
 pub search_left-rest-requires-clause-start : goal.search_left-rest-requires-clause-start
 search_left-rest-requires-clause-start c = placed_is_match _ c.args.local c.requires
@@ -135,5 +135,5 @@ returns-in-Some-least-clause-placed c =
     let behind = behind_of v c.args.local rest.bits rest.last c.in-Some.offset c.in-Some-least.least _ c.requires c.search_left-rest.ensures.rest c.in-Some.ensures fits
     (sym c.in-Some-least.is ∙ c.least-least.ensures.least) refl (omega (arith, signed_arith)) near in
     rest_put v c.args.local c.search_left-rest.new.self rest.bits rest.last c.in-Some.offset (pos c.args.local -ℤ c.in-Some.offset) c.in-Some-least.least c.put_all.new.self c.requires
-    c.search_left-rest.ensures.masks c.search_left-rest.ensures.counted behind c.put_all.ensures.rises
+    c.search_left-rest.ensures.masks c.search_left-rest.ensures.counted c.search_left-rest.ensures.most behind c.put_all.ensures.rises
     (subst (λ (s : ℤ). (i : ℤ) → Has c.put_all.new.self i ↔ (Has v.pending i ⊎ IsOneOf s rest.bits i)) (start_is (zone_of v.zone) c.args.local c.in-Some.offset c.requires.found.0 c.in-Some.ensures fits) c.put_all.ensures.members)
