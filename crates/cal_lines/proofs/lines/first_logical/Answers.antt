@@ -27,6 +27,6 @@ loop-goes_on-preserved c = record {
 pub returns-clause-lines : goal.returns-clause-lines
 returns-clause-lines c =
     elim c.loop-goes_on-test.branch [
-      | else-loop-goes_on-test w ↦ logical_ends c.in-Some.first.number (string_bytes c.loop-goes_on.joined) c.loop-goes_on.goes_on _ c.loop-goes_on.next c.loop-goes_on.rest.now c.loop-goes_on.invariant.lines w.loop-goes_on-test.false
+      | else-loop-goes_on-test w ↦ search (logical_ends c.in-Some.first.number (string_bytes c.loop-goes_on.joined) c.loop-goes_on.goes_on _ c.loop-goes_on.next c.loop-goes_on.rest.now c.loop-goes_on.invariant.lines w.loop-goes_on-test.false)
       | then-loop-goes_on-test+in_default-first_plain w ↦ logical_stops c.in-Some.first.number (string_bytes c.loop-goes_on.joined) c.loop-goes_on.goes_on _ c.loop-goes_on.next c.loop-goes_on.rest.now c.loop-goes_on.invariant.lines (search rules)
     ]

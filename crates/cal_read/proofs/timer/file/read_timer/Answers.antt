@@ -7,17 +7,17 @@ use Rattle.cal_read.proofs.timer.file.read_timer.Goals as goal
 pub returns-in-Err-ReadFailed-clause-list : goal.returns-in-Err-ReadFailed-clause-list
 returns-in-Err-ReadFailed-clause-list g c =
     let failure = rw c.in-Err-ReadFailed.field-0-is at c.in-Err-ReadFailed.ensures in
-    (Err whole.ReadFailed, failure.bytes, failure.failed, λ _. refl)
+    (Err whole.ReadFailed, search failure.bytes, failure.failed, λ _. refl)
 
 pub returns-in-Err-TooLarge-clause-list : goal.returns-in-Err-TooLarge-clause-list
 returns-in-Err-TooLarge-clause-list g c =
     let failure = rw c.in-Err-TooLarge.field-0-is at c.in-Err-TooLarge.ensures in
-    (Err whole.TooLarge, failure.bytes, failure.failed, λ _. refl)
+    (Err whole.TooLarge, search failure.bytes, failure.failed, λ _. refl)
 
 pub returns-in-Err-NoMemory-clause-list : goal.returns-in-Err-NoMemory-clause-list
 returns-in-Err-NoMemory-clause-list g c =
     let failure = rw c.in-Err-NoMemory.field-0-is at c.in-Err-NoMemory.ensures in
-    (Err whole.NoMemory, failure.bytes, failure.failed, λ _. refl)
+    (Err whole.NoMemory, search failure.bytes, failure.failed, λ _. refl)
 
 pub returns-clause-failed : goal.returns-clause-failed
 returns-clause-failed g c =
@@ -27,4 +27,4 @@ returns-clause-failed g c =
     )
 
 pub returns-clause-list : goal.returns-clause-list
-returns-clause-list g c = (Ok c.in-Ok.bytes.items, c.in-Ok.ensures.bytes, c.in-Ok.ensures.failed, rw c.as_slice.ensures.value at c.read_bytes.ensures)
+returns-clause-list g c = (Ok c.in-Ok.bytes.items, search c.in-Ok.ensures.bytes, c.in-Ok.ensures.failed, rw c.as_slice.ensures.value at c.read_bytes.ensures)

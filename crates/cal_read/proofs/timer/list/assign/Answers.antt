@@ -1,21 +1,21 @@
-use Rattle.std.proofs.Common.{◌∙◌, Err, Ok, ap, map, sym}
+use Rattle.std.proofs.Common.{◌∙◌, Err, Ok, map, rules, sym}
 use Rattle.std.proofs.lemmas.Result.{err_from_is_err_and}
 use Rattle.cal_spec.specs.Expr.{expr_in}
 use Rattle.cal_read.specs.AssignmentView.{shown_assignment}
-use Rattle.cal_read.specs.TimerView.{resumed, shown, shown_lists}
+use Rattle.cal_read.specs.TimerView.{shown, shown_lists}
 use Rattle.cal_read.proofs.ResumedLemmas.{resumed_exception, resumed_exception_reset, resumed_expression, resumed_other, resumed_reset}
 use Rattle.cal_read.proofs.timer.list.assign.Goals as goal
 
 pub returns-then-is_reset : goal.returns-then-is_reset
 returns-then-is_reset c = λ after.
-    resumed_reset expr_in (shown_lists c.args.lists.now) (shown_assignment c.args.assignment) after (sym c.is_reset.ensures ∙ c.if-is_reset.true)
-    ∙ ap (λ es. resumed expr_in (record { expressions = map shown es; exceptions = map shown c.args.lists.now.exceptions.items }) after) (sym c.clear.ensures.items)
+    rw (resumed_reset expr_in (shown_lists c.args.lists.now) (shown_assignment c.args.assignment) after (sym c.is_reset.ensures ∙ c.if-is_reset.true), c.clear.ensures.items)
+    (search rules)
 
 pub returns-then-is_exception_reset : goal.returns-then-is_exception_reset
 returns-then-is_exception_reset c = λ after.
-    resumed_exception_reset expr_in (shown_lists c.args.lists.now) (shown_assignment c.args.assignment) after
-    (sym c.is_reset.ensures ∙ c.if-is_reset.false) (sym c.is_exception_reset.ensures ∙ c.if-is_exception_reset.true)
-    ∙ ap (λ es. resumed expr_in (record { expressions = map shown c.args.lists.now.expressions.items; exceptions = map shown es }) after) (sym c.clear-then-is_exception_reset.ensures.items)
+    let emptied = resumed_exception_reset expr_in (shown_lists c.args.lists.now) (shown_assignment c.args.assignment) after
+    (sym c.is_reset.ensures ∙ c.if-is_reset.false) (sym c.is_exception_reset.ensures ∙ c.if-is_exception_reset.true) in
+    rw (emptied, c.clear-then-is_exception_reset.ensures.items) (search rules)
 
 pub returns-in_err-add_line : goal.returns-in_err-add_line
 returns-in_err-add_line c =
