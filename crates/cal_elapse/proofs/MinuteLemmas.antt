@@ -206,16 +206,16 @@ rest_unknown passes local holds = record {
 }
 
 -- the rest with the next match of the minute
-pub rest_on : (passes : ℕ → Bool) (local bits last next more : ℕ) → IsRest passes local bits last → next / 60 ≡ last / 60 → IsFirstPassing passes (last + 1) seconds_in_all (Some next)
-    → is_bit more (next - local - 1) ≡ true → ((i : ℕ) → i ≢ next - local - 1 → is_bit more i ≡ is_bit bits i) → IsRest passes local more next
-rest_on passes local bits last next more rest same first set others =
+pub rest_on : (passes : ℕ → Bool) (local bits last next more place : ℕ) → IsRest passes local bits last → next / 60 ≡ last / 60 → IsFirstPassing passes (last + 1) seconds_in_all (Some next)
+    → is_bit more place ≡ true → ((i : ℕ) → i ≢ place → is_bit more i ≡ is_bit bits i) → place ≡ next - local - 1 → IsRest passes local more next
+rest_on passes local bits last next more place rest same first set others at =
     let begun = rest.begun in
     let low = first.0 in
     record {
       begun = omega arith;
       minute = same ∙ rest.minute;
       is_match = first.2;
-      within = λ i one. elim (cases_eq i (next - local - 1)) [
+      within = λ i one. elim (cases_eq i place) [
         | inl here ↦ omega arith
         | inr other ↦ (let early = rest.within i (sym (others i other) ∙ one) in omega arith)
       ];
@@ -225,7 +225,7 @@ rest_on passes local bits last next more rest same first set others =
       ];
     }
   where
-    place_of : (t : ℕ) → t ≡ next → t - (local + 1) ≡ next - local - 1
+    place_of : (t : ℕ) → t ≡ next → t - (local + 1) ≡ place
     place_of t here = omega arith
 
     no_match : (b : Bool) → (b ≡ true → ⊥) → false ≡ b

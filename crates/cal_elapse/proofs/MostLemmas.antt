@@ -86,6 +86,9 @@ most_on sets a b c x y z low high one two =
     late : (t : ℕ) → b ≤ t → a ≤ t
     late t above = omega arith
 
+pub most_then : (sets : Sets) (a b c x y z most : ℕ) → a ≤ b → b ≤ c → IsMostAfter sets a b x y → IsMostAfter sets b c y z → most ≡ z → IsMostAfter sets a c x most
+most_then sets a b c x y z most low high one two is = subst (IsMostAfter sets a c x) (sym is) (most_on sets a b c x y z low high one two)
+
 -- up to another bound that has the same matches below it
 pub most_same : (sets : Sets) (start a b most : ℕ) → ((t : ℕ) → start ≤ t → matches sets t ≡ true → (t < a → t < b) × (t < b → t < a)) → IsMost sets start a most → IsMost sets start b most
 most_same sets start a b most same h = record {

@@ -7,7 +7,7 @@ use Rattle.cal_elapse.specs.Most.{IsMostAfter}
 use Rattle.cal_elapse.specs.declared.masks.Masks.{Masks}
 use Rattle.cal_elapse.proofs.CountLemmas.{count_from-most, count_from-nothing, count_from-then}
 use Rattle.cal_elapse.proofs.MinuteLemmas.{match_inside, rest_on, rest_unknown}
-use Rattle.cal_elapse.proofs.MostLemmas.{most_begun, most_on}
+use Rattle.cal_elapse.proofs.MostLemmas.{most_begun, most_on, most_then}
 use Rattle.cal_elapse.proofs.searcher.Searcher.search_left.Goals as goal
 
 pub loop-next-init : goal.loop-next-init
@@ -52,12 +52,12 @@ loop-next-preserved c =
     let both = count_from-then (matches sets) local last next begun (omega arith) in
     let counted = kept.counted in
     record {
-      rest = rest_on (matches sets) local c.loop-next.bits last next c.with_bit-bits.result kept.rest found.0 found.1 c.with_bit-bits.ensures.set c.with_bit-bits.ensures.others;
+      rest = rest_on (matches sets) local c.loop-next.bits last next c.with_bit-bits.result _ kept.rest found.0 found.1 c.with_bit-bits.ensures.set c.with_bit-bits.ensures.others (omega arith);
       masks = c.in-Some.ensures.masks ∙ kept.masks;
       found = λ same. c.in-Some.ensures.last (kept.found same);
       counted = omega arith;
-      most = most_on sets local last next c.args.self.now.most_months c.loop-next.self.most_months c.next_left.new.self.most_months begun (omega arith) kept.most
-          (subst (λ (m : Masks). IsMostAfter (sets_in m) last next c.loop-next.self.most_months c.next_left.new.self.most_months) kept.masks c.in-Some.ensures.most);
+      most = most_then sets local last next c.args.self.now.most_months c.loop-next.self.most_months c.next_left.new.self.most_months _ begun (omega arith) kept.most
+          (subst (λ (m : Masks). IsMostAfter (sets_in m) last next c.loop-next.self.most_months c.next_left.new.self.most_months) kept.masks c.in-Some.ensures.most) (omega arith);
     }
 
 pub returns-clause-whole : goal.returns-clause-whole
