@@ -57,10 +57,12 @@ pub fn merge_two(alloc: Global, one: &[i64], two: &[i64]) -> Result<Merge<Listed
     Ok(merge)
 }
 
-/// The source gives these numbers, and then nothing.
+/// The source gives these numbers, and then nothing. It has each until that is given.
 pub fn expect_numbers<S: Rising>(rt: &impl Abort, source: &mut S, numbers: &[i64]) {
     for number in numbers {
+        assert!(rt; source.has(*number));
         assert_eq!(rt; source.next(), Some(*number));
+        assert!(rt; !source.has(*number));
     }
     assert_eq!(rt; (source.next(), source.next()), (None, None));
 }
