@@ -42,9 +42,12 @@ pub(crate) fn elapses_of<'z>(
     elapses_from(alloc, &expr, zone, base)
 }
 
-/// The source answers with these, one after another.
+/// The source answers with these, one after another, and has each before it gives it.
 fn expect_answers<S: Rising>(rt: &impl Abort, source: &mut S, answers: &[Option<i64>]) {
     for answer in answers {
+        if let Some(number) = *answer {
+            assert!(rt; source.has(number));
+        }
         assert_eq!(rt; source.next(), *answer);
     }
 }

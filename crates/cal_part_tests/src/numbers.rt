@@ -65,10 +65,12 @@ pub fn merge_without(
     Ok(merge)
 }
 
-/// The source gives these numbers.
+/// The source gives these numbers, and has each until it is given.
 pub fn expect_first<S: Rising>(rt: &impl Abort, source: &mut S, numbers: &[i64]) {
     for number in numbers {
+        assert!(rt; source.has(*number));
         assert!(rt; source.next() == Some(*number), "at {number}");
+        assert!(rt; !source.has(*number));
     }
 }
 

@@ -1,4 +1,4 @@
-use Rattle.std.proofs.Common.{◌≡◌, ◌∙◌, None, Some, FitsSigned, ap, arith, of_z, rules, sym, to_z, w64}
+use Rattle.std.proofs.Common.{◌≡◌, ◌∙◌, None, Some, FitsSigned, ap, arith, of_z, rules, sym, w64}
 use Rattle.std.proofs.lemmas.Int.{to_z-of_z}
 use Rattle.jiff.proofs.SpanFacts.{signed_arith}
 use Rattle.cal_zone.specs.Zone.{zone_of}
