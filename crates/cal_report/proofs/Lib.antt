@@ -1,3 +1,4 @@
+pub mod AddedLemmas
 pub mod AnswerLemmas
 pub mod ElapseTexts
 pub mod HeadlineAccepted
