@@ -60,10 +60,10 @@ found_is_zone asked (Some (of_name name)) tz h = h
 found_is_zone asked (Some (ahead seconds)) tz h = let same : zone_ahead seconds ≡ tz = cc in sym same
 
 -- a text that is accepted
-record IsAcceptedText (asked : Asked) (text : List ℕ) : Type 0 where
-  expression : Expression
-  same : text ≡ expression.text
-  accepted : IsAccepted asked expression
+pub record IsAcceptedText (asked : Asked) (text : List ℕ) : Type 0 where
+  pub expression : Expression
+  pub same : text ≡ expression.text
+  pub accepted : IsAccepted asked expression
 
 accepted_in : AreNormalForms → (asked : Asked) (base : ℤ) (text : List ℕ) (fields : Fields) (o : Option TimeZone) → expr_in text ≡ Ok fields
     → zone_for asked fields.zone ≡ o → is_err (answer_in asked base text fields o) ≡ false → IsAcceptedText asked text
@@ -79,7 +79,7 @@ accepted_with : AreNormalForms → (asked : Asked) (base : ℤ) (text : List ℕ
 accepted_with some asked base text (Ok fields) read h = accepted_in some asked base text fields (zone_for asked fields.zone) read refl h
 accepted_with some asked base text (Err fault) read h = cc
 
-text_accepted : AreNormalForms → (asked : Asked) (base : ℤ) (text : List ℕ) → asked.verb ≡ Calendar
+pub text_accepted : AreNormalForms → (asked : Asked) (base : ℤ) (text : List ℕ) → asked.verb ≡ Calendar
     → is_err (answer_to asked base text) ≡ false → IsAcceptedText asked text
 unfolding calendar_answer
 text_accepted some asked base text verb h =

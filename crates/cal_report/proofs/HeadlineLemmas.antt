@@ -52,10 +52,10 @@ zone_is_found asked (Some (ahead seconds)) tz h = ap Some (sym h)
 -- Texts
 
 -- the report of an accepted expression
-abbrev report_of : Asked → ℤ → Expression → List ℕ
+abbrev pub report_of : Asked → ℤ → Expression → List ℕ
 report_of asked base e = calendar_report asked base e.text e.fields e.tz
 
-is_answered : HaveOneNormalForm → (asked : Asked) (base : ℤ) (e : Expression) → asked.verb ≡ Calendar → IsAccepted asked e
+pub is_answered : HaveOneNormalForm → (asked : Asked) (base : ℤ) (e : Expression) → asked.verb ≡ Calendar → IsAccepted asked e
     → answer_to asked base e.text ≡ Ok (report_of asked base e)
 unfolding calendar_answer
 is_answered one asked base e verb h =
@@ -67,7 +67,7 @@ is_answered one asked base e verb h =
 alone_elapses : (t : Timed) (base : ℤ) → AreElapses (t ∷ []) [] base (elapses_after (t ∷ []) base)
 alone_elapses t base = subst (AreElapses (t ∷ []) [] base) (elapses_except-none (t ∷ []) base) (AreElapses-elapses_except (t ∷ []) [] base)
 
-is_report : (asked : Asked) (base : ℤ) (e : Expression) → IsReportOf asked base (alone e) (report_of asked base e)
+pub is_report : (asked : Asked) (base : ℤ) (e : Expression) → IsReportOf asked base (alone e) (report_of asked base e)
 unfolding calendar_report
 is_report asked base e = record {
   elapses = elapses_after (meaning e ∷ []) base;

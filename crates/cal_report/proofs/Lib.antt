@@ -1,6 +1,8 @@
+pub mod AddedLemmas
 pub mod AnswerLemmas
 pub mod ElapseTexts
 pub mod HeadlineAccepted
+pub mod HeadlineEach
 pub mod HeadlineElapses
 pub mod HeadlineLemmas
 pub mod ReportLemmas

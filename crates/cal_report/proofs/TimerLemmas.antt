@@ -1,13 +1,11 @@
 -- Lemmas on the report of a timer file: the merge of its elapses, line by line, and the texts of its lines.
-use Rattle.std.proofs.Common.{◌≢◌, Result, Ok, Err, ◌≡◌, ℕ, zero, suc, ◌+◌, ◌<◌, ◌++◌, Bool, true, false, List, [], ◌∷◌, length, map, take, drop, get_or, Option, None, Some, ℤ, pos, ◌≤ℤ◌, refl, sym, subst, ap, ◌∙◌, string_bytes, arith}
+use Rattle.std.proofs.Common.{◌≢◌, Result, Ok, Err, ◌≡◌, ℕ, zero, suc, ◌+◌, ◌<◌, ◌++◌, Bool, true, false, List, [], ◌∷◌, length, map, take, drop, get_or, Option, None, Some, ℤ, pos, ◌≤ℤ◌, refl, subst, string_bytes, arith}
 use Rattle.std.specs.List.{find, flat_map}
 use Rattle.std.specs.Option.{option_map, unwrap_or}
-use Rattle.std.proofs.lemmas.List.{append_assoc, take_more, map-append}
+use Rattle.std.proofs.lemmas.List.{take_more, map-append}
 use Rattle.std.proofs.lemmas.List.Folds.{flat_map-map}
 use Rattle.jiff.specs.Types.{UTC}
-use Rattle.cal_elapse.specs.Elapses.{Timed, elapses_after}
 use Rattle.cal_rising.specs.Merge.{Merging, merged}
-use Rattle.cal_elapse.proofs.ElapsesLemmas.{without-elapses}
 use Rattle.cal_elapse.proofs.InstantLemmas.{IsInstant-elapse}
 use Rattle.cal_read.specs.TimerText.{Entry, Lists, timer_text}
 use Rattle.cal_read.specs.declared.timer.fault.TimerFault.{TimerFault}
@@ -19,7 +17,7 @@ use Rattle.cal_spec.specs.Expr.{expr_in}
 use Rattle.cal_spec.specs.Fields.{Fields}
 use Rattle.cal_report.specs.ElapseLines.{AreInstants}
 use Rattle.cal_request.specs.Request.{Asked}
-use Rattle.cal_report.specs.TimerPlan.{IsMergeOf, each_of, plan_text}
+use Rattle.cal_report.specs.TimerPlan.{IsMergeOf, plan_text}
 use Rattle.cal_report.specs.TimerReport.{IsHad, elapses_of_lists, exception_text, exceptions_text, first_unzoned, headings_text, lacks_zone, lesser_line, timed_entry, timer_answer, timer_report, unzoned}
 use Rattle.cal_report.specs.CalendarReport.{heading_text, zone_for}
 use Rattle.std.specs.Io.KnownBytes.{Appends}
@@ -31,22 +29,8 @@ none_mapped None h = refl
 none_mapped (Some e) h = cc
 
 -- one line more
-shown_more : (lines : List TimerLine) (i : ℕ) (d : TimerLine) → i < length lines → map shown (take (i + 1) lines) ≡ map shown (take i lines) ++ shown (get_or lines i d) ∷ []
+pub shown_more : (lines : List TimerLine) (i : ℕ) (d : TimerLine) → i < length lines → map shown (take (i + 1) lines) ≡ map shown (take i lines) ++ shown (get_or lines i d) ∷ []
 shown_more lines i d h = rw (take_more lines i d h) (map-append shown (take i lines) (get_or lines i d ∷ []))
-
--- the elapses of one line more
-pub each_more : (asked : Asked) (base : ℤ) (lines : List TimerLine) (i : ℕ) (line : TimerLine) (lists : List (List ℤ)) (elapses : List ℤ) → i < length lines
-    → line ≡ get_or lines i line → elapses ≡ elapses_after (timed_entry asked (shown line) ∷ []) base
-    → (lists ++ each_of asked base (map shown (take i lines))) ++ elapses ∷ [] ≡ lists ++ each_of asked base (map shown (take (i + 1) lines))
-each_more asked base lines i line lists elapses h is so =
-    let list = map shown (take i lines) in
-    let more : map shown (take (i + 1) lines) ≡ list ++ shown line ∷ [] = shown_more lines i line h ∙ ap (λ x. list ++ shown x ∷ []) (sym is) in
-    let each = λ (t : Timed). elapses_after (t ∷ []) base in
-    let after : each_of asked base (list ++ shown line ∷ []) ≡ each_of asked base list ++ each (timed_entry asked (shown line)) ∷ []
-    = ap (map each) (map-append (timed_entry asked) list (shown line ∷ [])) ∙ map-append each (map (timed_entry asked) list) (timed_entry asked (shown line) ∷ []) in
-    append_assoc lists (each_of asked base list) (elapses ∷ [])
-    ∙ ap (λ (l : List (List ℤ)). lists ++ l)
-    (ap (λ (l : List ℤ). each_of asked base list ++ l ∷ []) so ∙ sym after ∙ ap (each_of asked base) (sym more))
 
 -- where the zone of a line isn't there, some line is the first
 found_there : (p : Entry Fields → Bool) (e : Entry Fields) (es : List (Entry Fields)) (here : Bool) → p e ≡ here → (find p es ≢ None) → find p (e ∷ es) ≢ None
@@ -80,9 +64,7 @@ all_zoned asked lists h = lesser_none (first_unzoned asked lists.expressions) (f
 -- the elapses of all of them
 pub merge_whole : (asked : Asked) (base : ℤ) (lists : Lists Fields) (merge : Merging) → IsMergeOf asked base lists merge
     → merged merge ≡ elapses_of_lists asked base lists
-unfolding elapses_of_lists
-merge_whole asked base lists merge m =
-    ap merged m.is ∙ without-elapses (map (timed_entry asked) lists.expressions) (map (timed_entry asked) lists.exceptions) base
+merge_whole asked base lists merge m = m.is
 
 -- which are instants
 pub merge_instants : (asked : Asked) (base : ℤ) (lists : Lists Fields) (merge : Merging) → IsMergeOf asked base lists merge → pos 0 ≤ℤ base → AreInstants (merged merge)

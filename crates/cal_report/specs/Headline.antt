@@ -1,7 +1,8 @@
 -- What is printed of accepted expressions and of an accepted timer file, with no function that computes elapses:
 -- systemd-analyze(1), calendar; systemd.time(7), Calendar Events; systemd.timer(5), OnCalendar=.
-use Rattle.std.specs.Prelude.{◌≡◌, ◌<◌, ◌++◌, ℕ, ℤ, true, false, List, [], ◌∷◌, Option, None, Some, map, take, length, codes}
-use Rattle.std.specs.List.{AllByRecursion, AllZip, flat_map, join_by}
+use Rattle.std.specs.Prelude.{◌≡◌, ◌<◌, ◌++◌, ℕ, ℤ, true, false, List, [], ◌∷◌, Option, None, Some, Result, Ok, Err, is_err, if◌then◌else◌, map, take, length, codes}
+use Rattle.std.specs.List.{AllByRecursion, AllZip, filter_map, flat_map, join_by, list_any}
+use Rattle.std.specs.Result.{result_err, result_ok}
 use Rattle.std.specs.Str.{is_utf8}
 use Rattle.jiff.specs.Types.{TimeZone}
 use Rattle.cal_zone.specs.Zone.{zone_of}
@@ -21,7 +22,7 @@ use Rattle.cal_report.specs.TimerReport.{exception_text}
 use Rattle.cal_report.specs.ElapseLines.{elapses_text}
 use Rattle.cal_report.specs.Report.{Report}
 use Rattle.cal_request.specs.Request.{Asked}
-use Rattle.cal_request.specs.declared.request.Status.TheVariants.{Fine}
+use Rattle.cal_request.specs.declared.request.Status.TheVariants.{Fine, Refused}
 
 -- an expression that is asked for: its text, its fields in their normal form, and the zone in which it is meant
 pub record Expression : Type 0 where
@@ -85,6 +86,26 @@ pub record AreReportsOf (asked : Asked) (base : ℤ) (es : List Expression) (tex
   pub reports : List (List ℕ)
   pub each : AllZip (λ e report. IsReportOf asked base (alone e) report) es reports
   pub layout : text ≡ join_by (λ report. report) (codes "\n") reports
+
+-- the text is rejected: it is that of no accepted expression
+abbrev pub IsRejected : Asked → List ℕ → Type 0
+IsRejected asked text = (e : Expression) → e.text ≡ text → IsAccepted asked e → ⊥
+
+-- what is answered to a text: the report of the expression that it is, or, where it is rejected, a line that begins with it
+abbrev pub IsAnswerTo : Asked → ℤ → List ℕ → Result (List ℕ) (List ℕ) → Type 0
+IsAnswerTo asked base text (Ok report) =
+    (e : Expression) × (e.text ≡ text) × IsAccepted asked e × IsReportOf asked base (alone e) report
+IsAnswerTo asked base text (Err line) =
+    IsRejected asked text × ((words : List ℕ) × (line ≡ text ++ (codes ": " ++ (words ++ codes "\n"))))
+
+-- Each of the texts is answered, whatever the others are: standard output has the reports in the order of the texts, with an
+-- empty line between each two, standard error the lines, and the status is Fine unless a text is rejected.
+pub record AreAnswered (asked : Asked) (base : ℤ) (texts : List (List ℕ)) (report : Report) : Type 0 where
+  pub answers : List (Result (List ℕ) (List ℕ))
+  pub each : AllZip (IsAnswerTo asked base) texts answers
+  pub out : report.out ≡ join_by (λ report. report) (codes "\n") (filter_map result_ok answers)
+  pub err : report.err ≡ flat_map (λ line. line) (filter_map result_err answers)
+  pub status : report.status ≡ (if list_any is_err answers then Refused else Fine)
 
 -- the run says nothing on standard error, and its status is Fine
 pub record IsFine (report : Report) : Type 0 where

@@ -1,14 +1,18 @@
 -- What is written of a timer file that was read, and what is said of one that was refused.
-use Rattle.std.specs.Prelude.{◌≡◌, ℕ, ℤ, map, List, [], ◌∷◌, take, Option, None, Some, codes}
+use Rattle.std.specs.Prelude.{◌≡◌, ◌++◌, ℕ, ℤ, false, map, List, [], ◌∷◌, take, Option, None, Some, codes}
 use Rattle.cal_bytes.specs.Bytes.{joined}
 use Rattle.cal_rising.specs.Merge.{Merging, merged}
-use Rattle.cal_elapse.specs.Merged.{each_after, merge_of}
+use Rattle.cal_elapse.specs.Covered.{AreKept, IsCovered}
+use Rattle.cal_elapse.specs.Elapses.{Timed}
+use Rattle.cal_elapse.specs.Merged.{each_after}
 use Rattle.cal_read.specs.TimerFault.{line_of, words_of}
 use Rattle.cal_read.specs.TimerText.{Entry, Lists}
 use Rattle.cal_spec.specs.Fields.{Fields}
+use Rattle.cal_spec.specs.Match.{Sets}
+use Rattle.cal_spec.specs.Members.{sets_of}
 use Rattle.cal_report.specs.ElapseLines.{elapses_text}
 use Rattle.cal_request.specs.Request.{Asked}
-use Rattle.cal_report.specs.TimerReport.{lists_text, timed_entry, unzoned}
+use Rattle.cal_report.specs.TimerReport.{elapses_of_lists, lists_text, timed_entry, unzoned}
 use Rattle.cal_report.specs.declared.timer_report.TimerPlan.{TimerPlan}
 use Rattle.cal_report.specs.declared.timer_report.TimerRefusal.{TimerRefusal}
 use Rattle.cal_report.specs.declared.timer_report.TimerRefusal.TheVariants.{Timer, NoSuchZone, NoMemory}
@@ -38,8 +42,21 @@ IsUnzoned (Some number) refusal = refusal ≡ NoSuchZone number
 abbrev pub each_of : Asked → ℤ → List (Entry Fields) → List (List ℤ)
 each_of asked base list = each_after (map (timed_entry asked) list) base
 
--- the merge has the elapses of each expression and of each exception, whose zones are all there, and nothing was taken
--- from it
+-- the members of each field of an expression of a list
+abbrev pub entry_sets : Entry Fields → Sets
+entry_sets e = sets_of e.expr
+
+-- each elapse of an expression is one of the exceptions, whatever the present and the local zone are
+abbrev pub IsCoveredEntry : Entry Fields → List (Entry Fields) → Type 0
+IsCoveredEntry e excepts = (asked : Asked) → IsCovered (timed_entry asked e) (map (timed_entry asked) excepts)
+
+-- to a merge the elapses of expressions are added, of those at least that have one which isn't one of the exceptions
+pub record IsAdded (asked : Asked) (base : ℤ) (list excepts : List (Entry Fields)) (old new : Merging) : Type 0 where
+  pub kept : List Timed
+  pub are_kept : AreKept (map (timed_entry asked) list) (map (timed_entry asked) excepts) kept
+  pub is : new ≡ record { started = false; lists = old.lists ++ each_after kept base; excepts = old.excepts }
+
+-- the merge has the elapses of all expressions without those of the exceptions, whose zones are all there
 pub record IsMergeOf (asked : Asked) (base : ℤ) (lists : Lists Fields) (merge : Merging) : Type 0 where
   pub found : unzoned asked lists ≡ None
-  pub is : merge ≡ merge_of (map (timed_entry asked) lists.expressions) (map (timed_entry asked) lists.exceptions) base
+  pub is : merged merge ≡ elapses_of_lists asked base lists

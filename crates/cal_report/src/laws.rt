@@ -16,8 +16,8 @@ ghost use Rattle.cal_spec.specs.Members.{sets_of};
 ghost use Rattle.cal_elapse.specs.Elapses.{AreElapses, IsPlace, Timed};
 ghost use Rattle.cal_elapse.specs.Timed.{timed};
 ghost use Rattle.cal_report.specs.ElapseLines.{AreInstants};
-ghost use Rattle.cal_report.specs.Headline.{AreAccepted, AreAllAccepted, AreElapsesOf, AreReportsOf, Expression, IsAccepted, IsAcceptedFile, IsFileOf, IsFine, IsReportOf, Schedule, alone};
-ghost use Rattle.cal_report.specs.Report.{ByReading, IsReported, base_in, report};
+ghost use Rattle.cal_report.specs.Headline.{AreAccepted, AreAllAccepted, AreAnswered, AreElapsesOf, AreReportsOf, Expression, IsAccepted, IsAcceptedFile, IsFileOf, IsFine, IsReportOf, Schedule, alone};
+ghost use Rattle.cal_report.specs.Report.{ByReading, IsReported, Report, base_in, report};
 ghost use Rattle.cal_report.specs.Resume.{Resumes};
 ghost use Rattle.cal_request.specs.Request.{Asked};
 ghost use Rattle.cal_request.specs.declared.request.RunFault.{RunFault};
@@ -37,6 +37,9 @@ pub fn headline()
         → asked.verb ≡ Calendar → base_in asked ≡ Ok base
         → asked.texts ≡ map (λ (e : Expression). e.text) es → AllByRecursion (IsAccepted asked) es
         → AreReportsOf asked base es (report asked read).out × IsFine (report asked read) }
+    // So is that of each accepted text where another is rejected, which has a line on standard error.
+    ensures each { (asked : Asked) (read : Result (List ℕ) WholeFault) (base : ℤ) → asked.verb ≡ Calendar
+        → base_in asked ≡ Ok base → AreAnswered asked base asked.texts (report asked read) }
     // The report of a timer file is its headings and the first of the elapses of all of its expressions
     // that are elapses of no exception.
     ensures timer { (asked : Asked) (bytes : List ℕ) (base : ℤ) (s : Schedule)
@@ -51,6 +54,11 @@ pub fn headline()
         → ByReading asked old new failed (IsReported (Ok status) out_old out_new err_old err_new)
         → (text : List ℕ) × AreReportsOf asked base es text × Appends out_old out_new text
         × Appends err_old err_new [] × (status ≡ Fine) }
+    ensures written_each { (asked : Asked) (base : ℤ) (old new : Option (List ℕ)) (failed : Bool) (status : Status)
+        (out_old out_new err_old err_new : Option (List ℕ)) → asked.verb ≡ Calendar → base_in asked ≡ Ok base
+        → ByReading asked old new failed (IsReported (Ok status) out_old out_new err_old err_new)
+        → (it : Report) × AreAnswered asked base asked.texts it × Appends out_old out_new it.out
+        × Appends err_old err_new it.err × (status ≡ it.status) }
     ensures written_file { (asked : Asked) (base : ℤ) (bytes : List ℕ) (s : Schedule) (old new : Option (List ℕ))
         (failed : Bool) (status : Status) (out_old out_new err_old err_new : Option (List ℕ)) → asked.verb ≡ Timer
         → base_in asked ≡ Ok base → IsFileOf bytes s → AreAllAccepted asked s

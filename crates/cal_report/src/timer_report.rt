@@ -8,6 +8,7 @@ ghost use Rattle.cal_bytes.specs.Whole.{is_read_failed};
 ghost use Rattle.cal_zone.specs.Zone.{zone_of};
 ghost use Rattle.cal_bytes.specs.declared.whole.WholeFault.{WholeFault};
 ghost use Rattle.cal_elapse.specs.Elapses.{elapses_after};
+ghost use Rattle.cal_elapse.specs.Masks.{sets_in};
 ghost use Rattle.cal_rising.specs.Merge.{merged};
 ghost use Rattle.cal_elapse.specs.Rest.{rest_of};
 ghost use Rattle.cal_read.specs.TimerText.{ReadsWhole, most_file_bytes};
@@ -16,7 +17,7 @@ ghost use Rattle.cal_report.specs.Context.{asked_by};
 ghost use Rattle.cal_report.specs.ElapseLines.{AreInstants, elapses_text};
 ghost use Rattle.cal_request.specs.Request.{IsCount};
 ghost use Rattle.cal_report.specs.TimerReport.{IsHad, exception_line, exception_text, exceptions_text, first_unzoned, headings_text, lacks_zone, lists_text, refusal_at, timed_entry, timer_answer, timer_report, unzoned};
-ghost use Rattle.cal_report.specs.TimerPlan.{IsMergeOf, each_of, IsUnzoned, plan_text, refused_line, refused_words};
+ghost use Rattle.cal_report.specs.TimerPlan.{IsAdded, IsCoveredEntry, IsMergeOf, IsUnzoned, each_of, entry_sets, plan_text, refused_line, refused_words};
 ghost use Rattle.cal_report.specs.declared.timer_report.TimerRefusal.TheVariants.{NoMemory};
 
 use crate::accepted::zone_for;
@@ -24,7 +25,7 @@ use crate::calendar_report::{put_heading, put_normal};
 use crate::context::Context;
 use crate::elapse_lines::put_elapses;
 use cal_bytes::{Sink, Source, WriteFault, put_pieces};
-use cal_elapse::{Elapses, Merge};
+use cal_elapse::{Elapses, Masks, Merge};
 use cal_read::{Timer, TimerFault, TimerLine, read_timer};
 use cal_spec::Expr;
 use std::alloc::{AllocError, Global};
@@ -114,7 +115,13 @@ fn merge_of<'a>(
         return Err(TimerRefusal::NoSuchZone(number));
     }
     let mut merge = Merge::new(alloc);
-    add_expressions(alloc, context, &mut merge, timer.lines())?;
+    add_expressions(
+        alloc,
+        context,
+        &mut merge,
+        timer.lines(),
+        timer.exceptions(),
+    )?;
     add_exceptions(alloc, context, &mut merge, timer.exceptions())?;
     Ok(merge)
 }
@@ -144,25 +151,67 @@ fn first_unzoned(context: Context<'_>, lines: &[TimerLine]) -> Option<u32>
     None
 }
 
-/// Adds the elapses of expressions to a merge from which nothing was taken.
+/// Adds the elapses of expressions to a merge from which nothing was taken, but for those that an exception covers.
 fn add_expressions<'a>(
     alloc: Global,
     context: Context<'a>,
     merge: &mut Merge<Elapses<'a>>,
     lines: &[TimerLine],
+    exceptions: &[TimerLine],
 ) -> Result<(), TimerRefusal>
     requires { merge.old.started ≡ false }
     ensures { let list = map shown lines.now in MatchResult result
-        (λ _. merge.new ≡ record { started = false; lists = merge.old.lists ++ each_of (asked_by context.entry) context.entry.base.secs list; excepts = merge.old.excepts })
+        (λ _. IsAdded (asked_by context.entry) context.entry.base.secs list (map shown exceptions.now) merge.old merge.new)
         (λ refusal. refusal ≢ NoMemory → first_unzoned (asked_by context.entry) list ≢ None) }
 {
+    let masks = masks_of(alloc, exceptions)?;
     for line in lines {
+        if is_covered(line, exceptions, &masks) {
+            continue;
+        }
         let elapses = elapses_of(alloc, context, line)?;
         if let Err(_refused) = merge.add(elapses) {
             return Err(TimerRefusal::NoMemory);
         }
     }
     Ok(())
+}
+
+/// The masks of each line's expression.
+fn masks_of(alloc: Global, lines: &[TimerLine]) -> Result<Vec<Masks>, TimerRefusal>
+    ensures { MatchResult result
+        (λ masks. map sets_in masks.items ≡ map entry_sets (map shown lines.now))
+        (λ refusal. refusal ≡ NoMemory) }
+{
+    let mut masks = Vec::new(alloc);
+    for line in lines {
+        if let Err(_refused) = masks.push(Masks::of(&line.expr)) {
+            return Err(TimerRefusal::NoMemory);
+        }
+    }
+    Ok(masks)
+}
+
+/// Whether one of the exceptions, whose masks these are, has each elapse of an expression: it is in the same zone, and
+/// its members of each field have those of the expression among them.
+fn is_covered(line: &TimerLine, exceptions: &[TimerLine], masks: &[Masks]) -> bool
+    requires { map sets_in masks.now ≡ map entry_sets (map shown exceptions.now) }
+    ensures { result ≡ true → IsCoveredEntry (shown line.now) (map shown exceptions.now) }
+{
+    let own = Masks::of(&line.expr);
+    for (exception, theirs) in exceptions.iter().zip(masks) {
+        if is_same_zone(&line.expr, &exception.expr) && theirs.covers(&own) {
+            return true;
+        }
+    }
+    false
+}
+
+/// Whether two expressions name the same zone, or have the same offset, or neither says its zone.
+fn is_same_zone(one: &Expr, other: &Expr) -> bool
+    ensures { result ≡ true → one.now.zone ≡ other.now.zone }
+{
+    one.zone_offset() == other.zone_offset() && one.zone_name() == other.zone_name()
 }
 
 /// Adds the elapses of exceptions to a merge from which nothing was taken.

@@ -1,4 +1,5 @@
 use Rattle.cal_report.proofs.HeadlineAccepted.{fine_file_is_accepted, fine_texts_are_accepted}
+use Rattle.cal_report.proofs.HeadlineEach.{each_is_answered, each_is_written}
 use Rattle.cal_report.proofs.HeadlineElapses.{elapses_are_instants, fold_has_its_first, gap_has_no_place, goes_on, in_parts, is_alone, is_shown}
 use Rattle.cal_report.proofs.HeadlineLemmas.{calendar_is_written, calendar_report_is, one_elapses, one_meaning, one_report, one_text, timer_is_written, timer_report_is}
 use Rattle.cal_report.proofs.laws.headline.Goals as goal
@@ -6,11 +7,17 @@ use Rattle.cal_report.proofs.laws.headline.Goals as goal
 pub returns-clause-calendar : goal.returns-clause-calendar
 returns-clause-calendar c = calendar_report_is c.one_normal_form_of_fields.ensures.only
 
+pub returns-clause-each : goal.returns-clause-each
+returns-clause-each c = each_is_answered c.one_normal_form_of_fields.ensures.only c.one_normal_form_of_fields.ensures.some
+
 pub returns-clause-timer : goal.returns-clause-timer
 returns-clause-timer c = timer_report_is c.one_normal_form_of_fields.ensures.only
 
 pub returns-clause-written : goal.returns-clause-written
 returns-clause-written c = calendar_is_written c.one_normal_form_of_fields.ensures.only
+
+pub returns-clause-written_each : goal.returns-clause-written_each
+returns-clause-written_each c = each_is_written c.one_normal_form_of_fields.ensures.only c.one_normal_form_of_fields.ensures.some
 
 pub returns-clause-written_file : goal.returns-clause-written_file
 returns-clause-written_file c = timer_is_written c.one_normal_form_of_fields.ensures.only

@@ -1,0 +1,106 @@
+-- The headline's law: what is answered to each text, whatever the others are.
+use Rattle.std.proofs.Common.{◌≡◌, ◌++◌, ◌∙◌, ◌||◌, ℕ, ℤ, Bool, List, [], ◌∷◌, Option, Result, Ok, Err, map, codes, refl, rules, sym, ap, subst}
+use Rattle.std.specs.Prelude.{is_err, if◌then◌else◌}
+use Rattle.std.specs.Io.KnownBytes.{Appends}
+use Rattle.std.specs.List.{AllZip, cons_option, filter_map, flat_map, join_by, list_any}
+use Rattle.std.specs.Result.{result_err, result_ok}
+use Rattle.cal_bytes.specs.declared.whole.WholeFault.{WholeFault}
+use Rattle.cal_report.specs.Answer.{Answer, refusal_in, refusal_line, refusals_text, report_in, reports_text, texts_status}
+use Rattle.cal_report.specs.Headline.{AreAnswered, IsAnswerTo, IsReportOf, alone}
+use Rattle.cal_report.specs.Report.{ByReading, IsReported, Report, answer_to, base_in, report, texts_report}
+use Rattle.cal_request.specs.Request.{Asked}
+use Rattle.cal_request.specs.declared.request.Status.{Status}
+use Rattle.cal_request.specs.declared.request.Status.TheVariants.{Fine, Refused}
+use Rattle.cal_request.specs.declared.request.Verb.TheVariants.{Calendar}
+use Rattle.cal_report.proofs.HeadlineAccepted.{AreNormalForms, text_accepted}
+use Rattle.cal_report.proofs.HeadlineLemmas.{HaveOneNormalForm, is_answered, is_report, report_of, report_of_texts}
+
+-- an answer, with the line of a refusal in the place of its words
+abbrev lined : List ℕ → Answer → Result (List ℕ) (List ℕ)
+lined text (Ok report) = Ok report
+lined text (Err words) = Err (refusal_line text words)
+
+abbrev lined_by : (List ℕ → Answer) → List ℕ → Result (List ℕ) (List ℕ)
+lined_by answer text = lined text (answer text)
+
+same_report : (a b : List ℕ) → ◌≡◌ {A = Answer} (Ok a) (Ok b) → b ≡ a
+same_report a b h = cc
+
+never_both : (words report : List ℕ) → ◌≡◌ {A = Answer} (Err words) (Ok report) → ⊥
+never_both words report h = cc
+
+answered_so : HaveOneNormalForm → AreNormalForms → (asked : Asked) (base : ℤ) (text : List ℕ) (a : Answer) → asked.verb ≡ Calendar
+    → answer_to asked base text ≡ a → IsAnswerTo asked base text (lined text a)
+answered_so one some asked base text (Ok report) verb is =
+    let it = text_accepted some asked base text verb (ap is_err is) in
+    let whole = is_answered one asked base it.expression verb it.accepted in
+    let same = same_report report (report_of asked base it.expression) (sym is ∙ (ap (answer_to asked base) it.same ∙ whole)) in (
+      it.expression,
+      sym it.same,
+      it.accepted,
+      subst (IsReportOf asked base (alone it.expression)) same (is_report asked base it.expression),
+    )
+answered_so one some asked base text (Err words) verb is = (
+  λ e same accepted. never_both words (report_of asked base e) (sym is ∙ (ap (answer_to asked base) (sym same) ∙ is_answered one asked base e verb accepted)),
+  (words, search rules),
+)
+
+each_answered : HaveOneNormalForm → AreNormalForms → (asked : Asked) (base : ℤ) (texts : List (List ℕ)) → asked.verb ≡ Calendar
+    → AllZip (IsAnswerTo asked base) texts (map (lined_by (answer_to asked base)) texts)
+each_answered one some asked base [] verb = tt
+each_answered one some asked base (text ∷ texts) verb =
+    (answered_so one some asked base text (answer_to asked base text) verb refl, each_answered one some asked base texts verb)
+
+-- the reports, the lines and the status of these answers, one text after another
+report_more : (text : List ℕ) (a : Answer) (xs ys : List (List ℕ)) → xs ≡ ys → report_in a ++ xs ≡ cons_option (result_ok (lined text a)) ys
+report_more text (Ok report) xs ys h = ap (λ (l : List (List ℕ)). report ∷ l) h
+report_more text (Err words) xs ys h = h
+
+reports_are : (answer : List ℕ → Answer) (texts : List (List ℕ))
+    → flat_map (λ text. report_in (answer text)) texts ≡ filter_map result_ok (map (lined_by answer) texts)
+reports_are answer [] = refl
+reports_are answer (text ∷ texts) = report_more text (answer text) _ _ (reports_are answer texts)
+
+line_more : (text : List ℕ) (a : Answer) (xs : List ℕ) (ys : List (List ℕ)) → xs ≡ flat_map (λ line. line) ys
+    → refusal_in text a ++ xs ≡ flat_map (λ line. line) (cons_option (result_err (lined text a)) ys)
+line_more text (Ok report) xs ys h = h
+line_more text (Err words) xs ys h = ap (λ (l : List ℕ). refusal_line text words ++ l) h
+
+lines_are : (answer : List ℕ → Answer) (texts : List (List ℕ))
+    → flat_map (λ text. refusal_in text (answer text)) texts ≡ flat_map (λ line. line) (filter_map result_err (map (lined_by answer) texts))
+lines_are answer [] = refl
+lines_are answer (text ∷ texts) = line_more text (answer text) _ _ (lines_are answer texts)
+
+fails_so : (text : List ℕ) (a : Answer) → is_err a ≡ is_err (lined text a)
+fails_so text (Ok report) = refl
+fails_so text (Err words) = refl
+
+some_fails : (answer : List ℕ → Answer) (texts : List (List ℕ))
+    → list_any (λ text. is_err (answer text)) texts ≡ list_any is_err (map (lined_by answer) texts)
+some_fails answer [] = refl
+some_fails answer (text ∷ texts) =
+    ap (λ b. b || list_any (λ text. is_err (answer text)) texts) (fails_so text (answer text)) ∙ ap (λ b. is_err (lined_by answer text) || b) (some_fails answer texts)
+
+texts_answered : HaveOneNormalForm → AreNormalForms → (asked : Asked) (base : ℤ) → asked.verb ≡ Calendar → AreAnswered asked base asked.texts (texts_report asked base)
+unfolding texts_report reports_text refusals_text texts_status
+texts_answered one some asked base verb =
+    let answer = answer_to asked base in
+    record {
+      answers = map (lined_by answer) asked.texts;
+      each = each_answered one some asked base asked.texts verb;
+      out = ap (join_by (λ report. report) (codes "\n")) (reports_are answer asked.texts);
+      err = lines_are answer asked.texts;
+      status = ap (λ b. if b then Refused else Fine) (some_fails answer asked.texts);
+    }
+
+pub each_is_answered : HaveOneNormalForm → AreNormalForms → (asked : Asked) (read : Result (List ℕ) WholeFault) (base : ℤ)
+    → asked.verb ≡ Calendar → base_in asked ≡ Ok base → AreAnswered asked base asked.texts (report asked read)
+each_is_answered one some asked read base verb sought =
+    rw (report_of_texts asked read base verb sought) (texts_answered one some asked base verb)
+
+pub each_is_written : HaveOneNormalForm → AreNormalForms → (asked : Asked) (base : ℤ) (old new : Option (List ℕ)) (failed : Bool) (status : Status)
+    (out_old out_new err_old err_new : Option (List ℕ)) → asked.verb ≡ Calendar → base_in asked ≡ Ok base
+    → ByReading asked old new failed (IsReported (Ok status) out_old out_new err_old err_new)
+    → (it : Report) × AreAnswered asked base asked.texts it × Appends out_old out_new it.out × Appends err_old err_new it.err × (status ≡ it.status)
+each_is_written one some asked base old new failed status out_old out_new err_old err_new verb sought run =
+    (report asked run.read, each_is_answered one some asked run.read base verb sought, run.holds.out, run.holds.err, run.holds.status)
