@@ -174,7 +174,6 @@ frobnicate|a
 help
 --
 calendar|--
-calendar|--now=@3
 timer|a|--|b
 --now=@3|calendar|a
 calendar|--nope=1|a
@@ -182,7 +181,6 @@ calendar|-5min
 calendar|a|--now
 timestamp|--iterations=2|a
 timespan|--now=@1|a
-timespan|--zones=A=f|a
 calendar|--iterations=1|--iterations=1|a
 calendar|--zones=A=f|--zones=B=g|a
 calendar|--version

@@ -4,7 +4,7 @@
 
 use cal_bytes::Port;
 use cal_command::{Ask, CommandFault};
-use cal_part_tests::shared::zone_file;
+use cal_library_tests::shared::zone_file;
 use cal_work::{LoadFault, load_zone};
 use cal_zone::{ZoneFault, ZoneTable};
 

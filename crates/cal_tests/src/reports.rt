@@ -10,7 +10,7 @@ mod writers;
 mod zones;
 
 use cal_bytes::{Port, Sink, Source};
-use cal_part_tests::shared::{NEW_YEAR, SUMMER_TIME, instant, posix, zone_file};
+use cal_library_tests::shared::{NEW_YEAR, SUMMER_TIME, instant, posix, zone_file};
 use cal_report::{file_name, run};
 use cal_request::{Request, RunFault, Status, Verb};
 use cal_zone::{Instant, Rules, Zone, ZoneTable};

@@ -1,7 +1,7 @@
 //! Zone files that are loaded into the table of zones, and refused ones.
 
 use cal_bytes::{Faulty, Port, Then};
-use cal_part_tests::shared::zone_file;
+use cal_library_tests::shared::zone_file;
 use cal_work::LoadFault::{self, Zone};
 use cal_work::load_zone;
 use cal_zone::ZoneFault::{self, BadFile, BadName, NameTaken, TooLarge};

@@ -5,7 +5,7 @@ use super::timers::{CONTINUED_TIMER, EXCEPT_TIMER};
 use super::times::{SPAN_LIST, STAMP_LIST};
 use super::{KnownZones, Row, Written, expect_texts, request, run_request};
 use cal_bytes::Port;
-use cal_part_tests::shared::SUMMER_TIME;
+use cal_library_tests::shared::SUMMER_TIME;
 use cal_request::{Request, RunFault};
 use cal_zone::{Instant, Rules, ZoneTable};
 use std::process::Abort;

@@ -2,7 +2,7 @@
 
 use super::{CALENDAR, KnownZones, Local, Row, check, check_input, known_zones};
 use cal_bytes::{Faulty, Port, Then};
-use cal_part_tests::shared::{EXCEPT_FILE, NEW_YEAR, TIMER_FILE};
+use cal_library_tests::shared::{EXCEPT_FILE, NEW_YEAR, TIMER_FILE};
 use cal_request::Verb;
 use std::alloc::{AllocError, Global};
 use std::process::Abort;
@@ -214,9 +214,8 @@ static MANY: [(usize, &str, usize, &str, &str); 3] = [
 
 /// The request for the elapses of this file, which writes these texts.
 fn timer_row<'a>(input: &'a [u8], out: &'a str, err: &'a str) -> Row<'a> {
-    let about = "many expressions";
     Row {
-        about,
+        about: "many expressions",
         input,
         out,
         err,

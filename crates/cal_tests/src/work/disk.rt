@@ -2,7 +2,7 @@
 
 use super::{check, perform};
 use cal_bytes::{Faulty, Port, Then};
-use cal_part_tests::shared::{NEW_YEAR, zone_file};
+use cal_library_tests::shared::{NEW_YEAR, zone_file};
 use cal_request::RunFault;
 use cal_work::{Ended, System, work};
 use std::alloc::Global;

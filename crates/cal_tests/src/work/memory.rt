@@ -4,7 +4,7 @@ ghost use Rattle.std.specs.Prelude.{None, Some, true, if◌then◌else◌, bytes
 
 use super::{check, check_refused, perform};
 use cal_bytes::Port;
-use cal_part_tests::shared::{NEW_YEAR, zone_file};
+use cal_library_tests::shared::{NEW_YEAR, zone_file};
 use cal_work::System;
 use std::test::Fail;
 

@@ -1,4 +1,4 @@
-//! The tests of the parts, on public calls alone: a room for each subject, in which each row stands under its name. What
+//! The tests of the library, on public calls alone: a room for each subject, in which each row stands under its name. What
 //! the contracts say of all arguments is not tested again.
 #![tactic(auto)]
 

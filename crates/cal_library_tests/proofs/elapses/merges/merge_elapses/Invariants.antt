@@ -1,5 +1,5 @@
 use Rattle.std.proofs.Common.{◌≡◌, false}
-use Rattle.cal_part_tests.proofs.elapses.merges.merge_elapses.Given as goal
+use Rattle.cal_library_tests.proofs.elapses.merges.merge_elapses.Given as goal
 
 -- no number was asked for
 abbrev pub invariant-loop-text : goal.invariant-loop-text
