@@ -1,4 +1,4 @@
-//! Spans, instants, zones, and bytes in and out: what every other crate of the project stands on.
+//! Spans, instants, zones, and bytes in and out: what every other crate of the project is built on.
 #![tactic(auto)]
 
 pub use cal_bytes::{

@@ -1,4 +1,4 @@
--- Lemmas on bytes out: what was written in pieces is the whole, and what a failure leaves is a front of it.
+-- Lemmas on bytes out: what was written in pieces is the whole, and what a failure leaves is a prefix of it.
 use Rattle.std.proofs.Common.{◌≡◌, ℕ, ◌+◌, ◌<◌, List, [], ◌∷◌, ◌++◌, length, take, drop, get_or, Option, Result, Ok, Err, refl, sym, ap, ◌∙◌, append_assoc, subst, add-one, drop-cons}
 use Rattle.std.proofs.KnownBytes.{Appends-nil, Appends-trans}
 use Rattle.std.proofs.lemmas.Grind.{flat_map-append}
@@ -25,7 +25,7 @@ step a b c piece rest text l h = record {
   written = Appends-trans a b c l.front piece l.written h;
 }
 
--- a failure in a piece leaves a front of the whole
+-- a failure in a piece leaves a prefix of the whole
 pub stop : (a b c : Option (List ℕ)) (piece rest text : List ℕ) → Leaves a b (piece ++ rest) text → AppendsFront b c piece → AppendsFront a c text
 stop a b c piece rest text l h = record {
   front = l.front ++ h.front;
@@ -65,7 +65,7 @@ pub finish : {T E : Type 0} (a b c : Option (List ℕ)) (piece text : List ℕ) 
 finish a b c piece text (Ok x) l h = done a c text (step a b c piece [] text (respell a b piece (piece ++ []) text l (sym (append-nil piece))) h)
 finish a b c piece text (Err e) l h = stop a b c piece [] text (respell a b piece (piece ++ []) text l (sym (append-nil piece))) h
 
--- an answer that is a fault needs a front alone
+-- an answer that is a fault needs a prefix only
 pub writes_err : {T E : Type 0} (a c : Option (List ℕ)) (r : Result T E) (text : List ℕ) → IsErr r → AppendsFront a c text → Writes a c r text
 writes_err a c (Ok x) text e h = absurd (false≢true e)
 writes_err a c (Err e') text e h = h

@@ -14,7 +14,7 @@ taken n byte h = take-replicate n 8 byte h
 pub room : {A : Type 0} (f : A → List ℕ) (xs : List A) (i cap : ℕ) (d : A) (front text : List ℕ) → text ≡ front ++ flat_map f (take i xs) → i < length xs → length front + length (flat_map f xs) ≤ cap → length text + length (f (get_or xs i d)) ≤ cap
 room f xs i cap d front text is h fits = omega (arith, length-flat_map-take f xs i d h, ap length is, length-append front (flat_map f (take i xs)))
 
--- after a front stand these pieces
+-- after a prefix come these pieces
 pub record Pushed (front text : List ℕ) (pieces : List (List ℕ)) : Type 0 where
   pub is : text ≡ front ++ joined pieces
 

@@ -8,7 +8,7 @@ pub consumes-nil : (a : Option (List ℕ)) → Consumes a a []
 consumes-nil None = tt
 consumes-nil (Some xs) = refl
 
--- two reads take both fronts
+-- two reads take both prefixes
 pub consumes-append : (a b c : Option (List ℕ)) (xs ys : List ℕ) → Consumes a b xs → Consumes b c ys → Consumes a c (xs ++ ys)
 consumes-append None b c xs ys h k = tt
 consumes-append (Some held) None c xs ys h k = absurd h

@@ -10,20 +10,20 @@ abbrev pub Offered : Option (List ℕ) → Option (List ℕ) → List ℕ → Op
 Offered old new piece None = Keeps old new
 Offered old new piece (Some n) = (n ≤ length piece) × (0 < length piece → 0 < n) × Appends old new (take n piece)
 
--- What a `fetch` into a buffer does: `None` took nothing; with `Some n` the next n bytes stand at the
+-- What a `fetch` into a buffer does: `None` took nothing; with `Some n` the next n bytes are at the
 -- front of the buffer, and n is 0 only at the end or where the buffer is empty.
 abbrev pub Fetched : Option (List ℕ) → Option (List ℕ) → List ℕ → Option ℕ → Type 0
 Fetched old new into None = Keeps old new
 Fetched old new into (Some n) = (n ≤ length into) × (n ≡ 0 → 0 < length into → IsAtEnd new) × Consumes old new (take n into)
 
--- Some front of the text was written, and nothing else.
+-- Some prefix of the text was written, and nothing else.
 pub record AppendsFront (old new : Option (List ℕ)) (text : List ℕ) : Type 0 where
   pub front : List ℕ
   pub rest : List ℕ
   pub whole : text ≡ front ++ rest
   pub written : Appends old new front
 
--- A call that writes a text has written all of it where it succeeded, and a front of it where it failed.
+-- A call that writes a text has written all of it where it succeeded, and a prefix of it where it failed.
 abbrev pub Writes : {T E : Type 0} → Option (List ℕ) → Option (List ℕ) → Result T E → List ℕ → Type 0
 Writes old new (Ok x) text = Appends old new text
 Writes old new (Err e) text = AppendsFront old new text
@@ -32,7 +32,7 @@ Writes old new (Err e) text = AppendsFront old new text
 abbrev pub joined : List (List ℕ) → List ℕ
 joined = flat_map (λ piece. piece)
 
--- Of the text a front has been written, and the rest is what is left to write.
+-- Of the text a prefix has been written, and the rest is what is left to write.
 pub record Leaves (old new : Option (List ℕ)) (rest text : List ℕ) : Type 0 where
   pub front : List ℕ
   pub whole : text ≡ front ++ rest

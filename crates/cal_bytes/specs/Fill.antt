@@ -1,4 +1,4 @@
--- What stands in front of digits that have a width to fill.
+-- What comes before digits that have a width to fill.
 use Rattle.std.specs.Prelude.{ℕ}
 use Rattle.cal_bytes.specs.declared.short_text.Fill.{Fill}
 use Rattle.cal_bytes.specs.declared.short_text.Fill.TheVariants.{Zero, Blank}

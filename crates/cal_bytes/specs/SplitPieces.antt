@@ -2,7 +2,7 @@
 use Rattle.std.specs.Prelude.{ℕ, ◌+◌, Bool, List, [], length, Option, None, Some}
 use Rattle.std.specs.List.{slice_split}
 
--- the pieces that stand after the first separator, where there is one
+-- the pieces that come after the first separator, where there is one
 abbrev pub pieces_after : (ℕ → Bool) → Option (List ℕ) → List (List ℕ)
 pieces_after p None = []
 pieces_after p (Some text) = slice_split p text

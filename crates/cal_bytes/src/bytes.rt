@@ -15,7 +15,7 @@ pub trait Sink {
     /// Whether a call has failed.
     ghost is_failed: { Self → Bool };
 
-    /// Offers a piece, and answers how many bytes from its front were written: at least one of a piece
+    /// Offers a piece, and answers how many bytes from its start were written: at least one of a piece
     /// that isn't empty. `None` says that it failed in this call and wrote nothing.
     fn offer(&mut self, piece: &[u8]) -> Option<usize>
         requires { is_failed self.old ≡ false }
@@ -36,7 +36,7 @@ pub trait Source {
     /// Whether a call may fail.
     ghost may_fail: { Self → Bool } = { λ _. true };
 
-    /// Puts the next bytes at the front of `into`, and answers how many: 0 for an `into` that isn't
+    /// Puts the next bytes at the start of `into`, and answers how many: 0 for an `into` that isn't
     /// empty only at the end. `None` says that it failed in this call and gave nothing.
     fn fetch(&mut self, into: &mut [u8]) -> Option<usize>
         requires { is_failed self.old ≡ false }

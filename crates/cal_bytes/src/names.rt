@@ -1,4 +1,4 @@
-//! Names among which a word may stand.
+//! Names among which a word may be.
 
 ghost use Rattle.std.specs.Prelude.{◌≡◌, map};
 ghost use Rattle.std.specs.List.{list_any};

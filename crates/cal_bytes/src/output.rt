@@ -15,7 +15,7 @@ pub trait Output: Sink {
     ghost reached: { Self → Option (List ℕ) } = { λ _. None };
 
     /// Writes out what is held back, and answers whether no call has failed, this one among them. Then all bytes
-    /// written so far have gone through it, and else the front of them.
+    /// written so far have gone through it, and else the prefix of them.
     fn settle(&mut self) -> bool
         ensures answer { result ≡ not (Self.is_failed self.new) }
         ensures failed { Self.is_failed self.old ≡ true → Self.is_failed self.new ≡ true }

@@ -7,7 +7,7 @@ ghost use Rattle.cal_bytes.specs.declared.short_text.TheConstants.{ROOM};
 
 use arrayvec::ArrayVec;
 
-/// What stands in front of digits that have a width to fill.
+/// What comes before digits that have a width to fill.
 #[derive(Clone, Copy, PartialEq, Eq, Debug)]
 pub enum Fill {
     /// `0`.

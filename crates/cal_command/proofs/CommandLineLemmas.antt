@@ -41,7 +41,7 @@ refused_by : (p : ErrorKind → Bool) (kind : ErrorKind) (kinds : Kinds) → (ki
 refused_by p kind kinds (inl memory) other holds = absurd (other memory)
 refused_by p kind kinds (inr at) other holds = among p kind kinds at holds
 
--- what is told of a fault of `clap` is its fault
+-- what is reported of a fault of `clap` is its fault
 pub reported_fault : (words : List Text) (kind : ErrorKind) (said : CommandSaid) → (takes_words words ≡ true → kind ≡ OutOfMemory)
     → (kind ≡ OutOfMemory) ⊎ IsAmong kind (faults_in words) → IsReportedOf kind said → IsFaultOf words said
 reported_fault words kind (usage text) passes kinds reported =

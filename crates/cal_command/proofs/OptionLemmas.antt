@@ -117,7 +117,7 @@ parts_at-split c text (Some x) h small =
     let cut = split_once_first c text (Some x) h small in
     rw (any_below (λ byte. byte == c) text cut.0, cut.1, cut.2) refl
 
--- an item, and what stands after its comma
+-- an item, and what comes after its comma
 pub item_some : (text : List ℕ) (x : Bor (List ℕ) × Bor (List ℕ)) → IsSplitOnceResult 44 text (Some x)
     → slice_split is_comma text ≡ x.0.now ∷ slice_split is_comma x.1.now
 item_some text x h =

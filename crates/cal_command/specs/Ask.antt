@@ -16,7 +16,7 @@ use Rattle.cal_request.specs.declared.request.Verb.{Verb}
 abbrev pub texts_of : List (Bor (List ℕ)) → List (List ℕ)
 texts_of = map (λ word. word.now)
 
--- what is said of the local zone: UTC itself, so many seconds ahead of it, a POSIX rule, or a name of the table
+-- what is said of the local zone: UTC itself, that many seconds ahead of it, a POSIX rule, or a name of the table
 pub data LocalSaid : Type 0 where
   in_utc : LocalSaid
   ahead : ℤ → LocalSaid
@@ -58,7 +58,7 @@ wanted_of ask = record {
   zones = map zone_said ask.zones.items;
 }
 
--- why the words ask for nothing, by what is told: the text of `clap`, or which value is bad
+-- why the words ask for nothing, by what is reported: the text of `clap`, or which value is bad
 pub data CommandSaid : Type 0 where
   usage : List ℕ → CommandSaid
   help : List ℕ → CommandSaid

@@ -82,7 +82,7 @@ pub record Given : Type 0 where
 abbrev pub value_given : Bool → Text → List Row → Option Text
 value_given has name rows = if has then first_of name rows else None
 
--- the texts; of a timer one alone
+-- the texts; of a timer only one
 abbrev pub texts_kept : Verb → List Text → List Text
 texts_kept verb texts = if is_timer verb then take 1 texts else texts
 
@@ -166,7 +166,7 @@ abbrev pub IsAskOf : List Text → Result Wanted CommandSaid → Type 0
 IsAskOf words (Ok wanted) = HasRead words (Ok wanted)
 IsAskOf words (Err fault) = IsFaultOf words fault
 
--- the fault that is told of what `clap` answers in place of matches, by the kind of its answer
+-- the fault that is reported of what `clap` answers in place of matches, by the kind of its answer
 abbrev pub IsReportedOf : ErrorKind → CommandSaid → Type 0
 IsReportedOf kind (usage text) = (is_of_help kind ≡ false) × (kind ≢ OutOfMemory)
 IsReportedOf kind (help text) = (is_of_help kind ≡ true) × (kind ≢ OutOfMemory)

@@ -10,7 +10,7 @@ use Rattle.cal_zone.specs.ZoneName.{is_zone_name}
 use Rattle.cal_command.specs.Ask.{LocalSaid, in_utc, ahead, by_rule, of_name, ZoneSaid}
 use Rattle.cal_request.specs.Request.{most_iterations}
 
--- the number that a text of digits alone writes, where it is from least to most
+-- the number that a text of only digits writes, where it is from least to most
 unfoldable pub number_between : ℕ → ℕ → List ℕ → Option ℕ
 number_between least most text =
     let number = digits_value 10 text in
@@ -32,7 +32,7 @@ is_equals byte = byte == 61
 abbrev pub is_comma : ℕ → Bool
 is_comma byte = byte == 44
 
--- what stands before and after the first separator, where there is one
+-- what comes before and after the first separator, where there is one
 abbrev pub parts_at : (ℕ → Bool) → List ℕ → Option (List ℕ × List ℕ)
 parts_at is_separator text =
     if list_any is_separator text then Some (before_first is_separator text, after_first is_separator text) else None
@@ -56,7 +56,7 @@ zone_items_in (item ∷ items) =
 abbrev pub most_zones : ℕ
 most_zones = 64
 
--- `--zones`: items between commas, at most so many
+-- `--zones`: items between commas, at most that many
 unfoldable pub zones_in : List ℕ → Option (List ZoneSaid)
 zones_in text =
     let items = slice_split is_comma text in if nat_le (length items) most_zones then zone_items_in items else None

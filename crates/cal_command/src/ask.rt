@@ -12,7 +12,7 @@ use cal_zone::Instant;
 /// The field of an option that the verb lacks holds what it holds where the option isn't given.
 #[derive(Debug, Drop)]
 pub struct Ask {
-    /// What is asked of each text. There is at least one text, for a timer one alone, and a base only where elapses are
+    /// What is asked of each text. There is at least one text, for a timer only one, and a base only where elapses are
     /// sought.
     pub request: Request,
     /// The present instant, or `None` for the clock's.

@@ -5,7 +5,7 @@ ghost use Rattle.cal_command.specs.declared.command_fault.CommandFault.TheVarian
 
 use std::alloc::AllocError;
 
-/// Why the words of a command line are refused, or that they ask for help alone.
+/// Why the words of a command line are rejected, or that they ask only for help.
 #[derive(Debug, Drop)]
 pub enum CommandFault {
     /// The words aren't those of a command; the text says why and how to ask for help. Its number is 1.
@@ -27,7 +27,7 @@ pub enum CommandFault {
 impl CommandFault {
     ghost use Rattle.cal_command.specs.CommandFault.{words_of};
 
-    /// What a user is told; for usage and help the whole text, with the end of its last line; lack of memory has no
+    /// What is reported to a user; for usage and help the whole text, with the end of its last line; running out of memory has no
     /// words.
     pub fn words(&self) -> &str
         ensures { result.now ≡ words_of self.now }

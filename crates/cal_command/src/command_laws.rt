@@ -6,7 +6,7 @@ ghost use Rattle.cal_command.specs.CommandLine.{IsAskOf, asked_in, parsed_in, ta
 ghost use Rattle.cal_command.specs.WorkedWords.{daily_given, daily_wanted, daily_words, help_words};
 ghost use Rattle.cal_command.specs.WorkedWords.{none_words, options_wanted, options_words, stray_words};
 
-/// Words that `clap` takes are answered by what they ask for, unless memory was refused: neither usage nor help is told.
+/// Words that `clap` takes are answered by what they ask for, unless memory was refused: neither usage nor help is reported.
 pub fn taken_words_are_answered()
     ensures { (words : List (List ℕ)) (said : Result Wanted CommandSaid) → IsAskOf words said → takes_words words ≡ true
         → (said ≡ Err no_memory) ⊎ (said ≡ asked_in words) }
@@ -21,7 +21,7 @@ pub fn worked_words_are_taken()
     ensures options_asked { IsAskOf options_words (Ok options_wanted) }
 {}
 
-/// A number of elapses that is 0, a call for help and a verb that there isn't are told as such, with any text.
+/// A number of elapses that is 0, a call for help and a verb that there isn't are reported as such, with any text.
 pub fn worked_words_are_refused()
     ensures none { IsAskOf none_words (Err bad_iterations) }
     ensures help { (text : List ℕ) → IsAskOf help_words (Err (help text)) }

@@ -31,7 +31,7 @@ impl Ask {
     ///   zone's name, else [`CommandFault::BadLocal`]; UTC where it isn't given.
     ///
     /// Words that `clap` doesn't parse, an option that is given twice among them, are [`CommandFault::Usage`], and a
-    /// call for help or the version is [`CommandFault::Help`]. Of several bad values the first in this order is told.
+    /// call for help or the version is [`CommandFault::Help`]. Of several bad values the first in this order is reported.
     /// [`CommandFault::NoMemory`] comes where memory is refused.
     pub fn of<'a>(alloc: Global, words: &'a [&'a str]) -> Result<Ask, CommandFault>
         ensures exact { IsAskOf (texts_of words.now) (ask_said result) }
@@ -121,7 +121,7 @@ fn values_for<'b, 'a>(verb: Verb, values: &'b ArgMatches<'a>) -> Option<Given<'b
     })
 }
 
-/// The texts; of a timer one alone.
+/// The texts; of a timer only one.
 fn texts_for<'b, 'a>(verb: Verb, values: &'b ArgMatches<'a>) -> Option<&'b [&'a str]>
     ensures file { IfSome result (λ texts. is_timer verb ≡ true → length texts.now ≤ 1) }
     ensures value { option_map (λ texts. texts_of texts.now) result ≡ texts_given verb (rows_of (found_of values.now)) }
@@ -130,7 +130,7 @@ fn texts_for<'b, 'a>(verb: Verb, values: &'b ArgMatches<'a>) -> Option<&'b [&'a 
     Some(texts_kept(verb, texts))
 }
 
-/// The texts; of a timer the first alone.
+/// The texts; of a timer only the first.
 fn texts_kept<'b, 'a>(verb: Verb, texts: &'b [&'a str]) -> &'b [&'a str]
     ensures file { is_timer verb ≡ true → length result.now ≤ 1 }
     ensures value { texts_of result.now ≡ texts_kept verb (texts_of texts.entry.now) }
@@ -174,7 +174,7 @@ fn parse<'a>(alloc: Global, words: &'a [&'a str]) -> Result<ArgMatches<'a>, Comm
     }
 }
 
-/// What is told where `clap` gives no matches.
+/// What is reported where `clap` gives no matches.
 fn reported(alloc: Global, error: &Error) -> CommandFault
     ensures { IsReportedOf (kind_of error.now) (fault_said result) }
 {

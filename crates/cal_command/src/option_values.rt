@@ -95,7 +95,7 @@ pub(crate) fn present_in(value: &str) -> Option<Instant>
     Instant::new(number as i64)
 }
 
-/// The number that a text of digits alone writes, where it is from `least` to `most`.
+/// The number that a text of only digits writes, where it is from `least` to `most`.
 fn number_between(text: &str, least: u64, most: u64) -> Option<u64>
     ensures { result ≡ number_between least most text.now }
 {
@@ -128,7 +128,7 @@ fn zones_in(alloc: Global, text: &str) -> Result<Option<Vec<ZoneItem>>, AllocErr
     Ok(Some(items))
 }
 
-/// The item before the first comma, and what stands after it.
+/// The item before the first comma, and what comes after it.
 fn first_item(text: &str) -> (&str, Option<&str>)
     ensures items { slice_split is_comma text.now ≡ result.0.now ∷ pieces_after is_comma (option_copied result.1) }
     ensures shorter { left (option_copied result.1) ≤ length text.now }
@@ -162,7 +162,7 @@ fn zone_item(alloc: Global, name: &str, path: &str) -> Result<ZoneItem, AllocErr
     })
 }
 
-/// What stands before and after the first separator, where there is one.
+/// What comes before and after the first separator, where there is one.
 fn parts_at(text: &str, separator: char) -> Option<(&str, &str)>
     requires { separator < 128 }
     ensures { option_map (λ parts. (parts.0.now, parts.1.now)) result ≡ parts_at (λ byte. byte == separator) text.now }

@@ -21,7 +21,7 @@ ones_are length k short =
       | inr high ↦ (let out : nat_lt k length ≡ false = grind (arith, nat_tests) in rw out (is_bit-zero (2 ^ length - 1) k (bit_at_ones_above length k high)))
     ])
 
--- a day's number stands as far above that of the month's first day as the day itself
+-- a day's number is as far above that of the month's first day as the day itself
 day_at : (days : ℕ) (from_end : Bool) (length k : ℕ) → length ≤ 31 → k < length
     → ((nat_le 1 (if from_end then length - k else k + 1) && nat_le (if from_end then length - k else k + 1) 31)
     && is_bit days (day_place from_end (if from_end then length - k else k + 1)))

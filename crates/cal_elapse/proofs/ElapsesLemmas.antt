@@ -155,7 +155,7 @@ pub elapses_except-none : (es : List Timed) (b : ℤ) → elapses_except es [] b
 unfolding elapses_except elapses_after union
 elapses_except-none es b = without-none (elapses_after es b)
 
--- what stands after the k-th of a rising list rises, and is what is above the k-th
+-- what comes after the k-th of a rising list rises, and is what is above the k-th
 pub IsRising-drop : (xs : List ℤ) (k : ℕ) → IsRising xs → IsRising (drop k xs)
 IsRising-drop xs zero h = h
 IsRising-drop [] (suc k) h = tt

@@ -102,7 +102,7 @@ next_left m found from left bit h lowest =
 pub left_inside : (m : Masks) (found from left bit : ℕ) → IsLeft m found from left → IsFirstPassing (is_bit left) 0 64 (Some bit) → from + bit < seconds_in_all
 left_inside m found from left bit h lowest = match_inside (sets_in m) (from + bit) (bit_matches m found from left bit h lowest.2)
 
--- what is still left stands higher, and was left before
+-- what is still left is higher, and was left before
 still_left : (left bit rest i : ℕ) → IsFirstPassing (is_bit left) 0 64 (Some bit) → rest < 2 ^ 64 → is_bit rest bit ≡ false
     → ((j : ℕ) → j < 64 → j ≢ bit → is_bit rest j ≡ is_bit left j) → is_bit rest i ≡ true → (bit < i) × (i < 64) × (is_bit left i ≡ true)
 still_left left bit rest i lowest fits cleared others set =

@@ -107,7 +107,7 @@ month_of-date n k low small = omega arith
 pub month_of-is : (n k : ℕ) → n ≤ 2_760 → k < length_of n → month_of (civil_date (first_day n + k)) ≡ n
 month_of-is n k low small = ap month_of (date_is n k low small) ∙ month_of-date n k low small
 
--- where a day stands in its month
+-- where a day is in its month
 pub record Located (day n : ℕ) : Type 0 where
   pub within : n < 2_760
   pub first : first_day n + (civil_date day).day ≡ day + 1

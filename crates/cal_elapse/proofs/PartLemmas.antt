@@ -84,7 +84,7 @@ and_assoc : (x y z : Bool) → ((x && y) && z) ≡ (x && (y && z))
 and_assoc true y z = refl
 and_assoc false y z = refl
 
--- where they stand in a window
+-- where they are in a window
 pub part_in_window : (slot : Slot) (p : Part) (step : Option ℕ) (first count low high i : ℕ) → IsWindow slot first count → p.step ≡ step
     → low ≡ p.start - first → high ≡ min (last_number p.start p.end p.step + 1 - first) count
     → ((nat_le low i && nat_lt i high) && is_stepped step (first + i - p.start)) ≡ (nat_lt i count && part_has slot p (first + i))

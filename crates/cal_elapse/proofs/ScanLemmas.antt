@@ -22,7 +22,7 @@ head_zero : (b : Bool) (n k : ℕ) → b ≡ false → n ≡ k → cond (not b) 
 head_zero true n k e f = absurd (cc)
 head_zero false n k e f = omega arith
 
--- so many words are 0, and the next isn't
+-- that many words are 0, and the next isn't
 at_first : (xs : List ℕ) (k : ℕ) → k < length xs → ((j : ℕ) → j < k → is_set (get_or xs j 0) ≡ false) → is_set (get_or xs k 0) ≡ true → position_or_len is_set xs ≡ k
 at_first [] k h zeros here = absurd (omega arith)
 at_first (x ∷ xs) zero h zeros here = head_set (is_set x) (position_or_len is_set xs) here

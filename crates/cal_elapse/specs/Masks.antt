@@ -10,8 +10,8 @@ use Rattle.cal_spec.specs.declared.field.Field.TheVariants as field
 use Rattle.cal_spec.specs.declared.slot.Slot.{Slot}
 use Rattle.cal_spec.specs.declared.slot.Slot.TheVariants.{Year, Month, Hour, Minute, Second}
 
--- where a day's number stands among the bits: the first day lowest, and as a count from the month's end the last
--- day highest, so that each later day of a month stands one higher
+-- where a day's number is among the bits: the first day lowest, and as a count from the month's end the last
+-- day highest, so that each later day of a month is one higher
 abbrev pub day_place : Bool → ℕ → ℕ
 day_place from_end n = if from_end then 31 - n else n - 1
 
@@ -28,7 +28,7 @@ sets_in masks = record {
   from_end = masks.from_end;
 }
 
--- where a field's numbers stand; the days may be counted from the month's end
+-- where a field's numbers are; the days may be counted from the month's end
 abbrev pub slot_of : Field → Bool → Slot
 slot_of field.Year from_end = Year
 slot_of field.Month from_end = Month
@@ -37,7 +37,7 @@ slot_of field.Hour from_end = Hour
 slot_of field.Minute from_end = Minute
 slot_of field.Second from_end = Second
 
--- so many numbers from the first on, all of them numbers of the slot, which doesn't count from the month's end
+-- that many numbers from the first on, all of them numbers of the slot, which doesn't count from the month's end
 pub record IsWindow (slot : Slot) (first count : ℕ) : Type 0 where
   pub upwards : is_from_end slot ≡ false
   pub from : least slot ≤ first

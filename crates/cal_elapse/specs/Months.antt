@@ -41,6 +41,6 @@ month_in sets n = sets.year (year_of n) && sets.month (number_of n)
 unfoldable pub day_in : Sets → ℕ → Bool
 day_in sets day = date_in sets (civil_date day)
 
--- the hour and the minute of so many minutes after midnight are members
+-- the hour and the minute of that many minutes after midnight are members
 unfoldable pub minute_in : Sets → ℕ → Bool
 minute_in sets m = sets.hour (m / 60) && sets.minute (m % 60)

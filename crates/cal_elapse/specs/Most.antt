@@ -5,7 +5,7 @@ use Rattle.cal_elapse.specs.Looks.{month_looks}
 use Rattle.cal_elapse.specs.Search.{IsFirstPassing}
 use Rattle.cal_spec.specs.Match.{Sets, matches}
 
--- a search from a local second on looks at so many months
+-- a search from a local second on looks at that many months
 pub record IsLooked (sets : Sets) (from months : ℕ) : Type 0 where
   pub answer : Option ℕ
   pub first : IsFirstPassing (matches sets) from seconds_in_all answer

@@ -4,8 +4,8 @@ ghost use Rattle.std.specs.Prelude.{◌≡◌, ◌%◌, ◌<◌, ◌≤◌, ℕ,
 ghost use Rattle.cal_elapse.specs.Bits.{is_bit, is_in_words};
 
 /// The members of each field of a calendar expression: one bit for each value of the field, from its least value on,
-/// which is the lowest bit. Days that are counts from the month's end stand the other way round, count 31 at bit 0, so
-/// that each later day of a month stands one bit higher. Each time of day has a member.
+/// which is the lowest bit. Days that are counts from the month's end are the other way round, count 31 at bit 0, so
+/// that each later day of a month is one bit higher. Each time of day has a member.
 #[derive(Clone, Copy)]
 pub struct Masks {
     /// The weekdays from Monday on, six weeks of them, so that a month's days find theirs in one run of bits.

@@ -47,7 +47,7 @@ fn weeks(weekdays: &[bool; 7]) -> u64
     mask
 }
 
-/// Which of so many numbers from the first on are members of a field that has them all.
+/// Which of that many numbers from the first on are members of a field that has them all.
 fn members(expr: &Expr, field: Field, first: u16, count: u32) -> u64
     requires few { count ≤ 64 }
     requires window { IsWindow (slot_of field expr.now.from_end) first count }
@@ -59,7 +59,7 @@ fn members(expr: &Expr, field: Field, first: u16, count: u32) -> u64
     }
 }
 
-/// Which of so many numbers from the first on one of the parts has.
+/// Which of that many numbers from the first on one of the parts has.
 fn in_parts(parts: &[Part], first: u16, count: u32) -> u64
     requires few { count ≤ 64 }
     requires within { first ≤ 2_200 }
@@ -73,7 +73,7 @@ fn in_parts(parts: &[Part], first: u16, count: u32) -> u64
     mask
 }
 
-/// Which of so many numbers from the first on the part has.
+/// Which of that many numbers from the first on the part has.
 fn in_part(part: Part, first: u16, count: u32) -> u64
     requires few { count ≤ 64 }
     requires within { first ≤ 2_200 }

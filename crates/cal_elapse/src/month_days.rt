@@ -53,7 +53,7 @@ impl MonthDays {
     }
 }
 
-/// Where a month's first day stands in the mask of days.
+/// Where a month's first day is in the mask of days.
 fn lowest_place(from_end: bool, length: u32) -> u32
     requires { length ≤ 31 }
     ensures { result ≡ (if from_end then 31 - length else 0) }

@@ -35,7 +35,7 @@ fn read(alloc: Global, reader: Faulty, limit: usize) -> (Result<Vec<u8>, WholeFa
     (whole, port.into_inner().calls())
 }
 
-/// The reading gives the reader's bytes or the fault, after so many calls.
+/// The reading gives the reader's bytes or the fault, after that many calls.
 fn expect_reading(rt: &(impl Abort + AllocGlobal), reading: Reading) -> Result<(), Fail> {
     let (text, step, then, limit, wanted, calls) = reading;
     assert!(rt; step > 0);
@@ -68,7 +68,7 @@ fn reads_whole(rt: HostRuntime) -> Result<(), Fail> {
     expect_readings(&rt, &READINGS)
 }
 
-/// Makes the next call of a reader, which has to give so many bytes, and then to hold these; or to fail.
+/// Makes the next call of a reader, which has to give that many bytes, and then to hold these; or to fail.
 fn expect_fetch(
     rt: &impl Abort,
     reader: &mut Port<Faulty>,
@@ -128,7 +128,7 @@ fn write(writer: Faulty) -> (Option<WriteFault>, Faulty) {
     (fault, port.into_inner())
 }
 
-/// A text is written by as many calls as it takes, and where the writer fails, its front was written.
+/// A text is written by as many calls as it takes, and where the writer fails, a prefix of it was written.
 fn expect_written(rt: &(impl Abort + AllocGlobal), writers: &[Writer]) {
     for (step, limit, then, written, calls) in writers {
         assert!(rt; *step > 0);
@@ -143,7 +143,7 @@ fn writes_until_it_fails(rt: HostRuntime) {
     expect_written(&rt, &WRITERS);
 }
 
-/// What a buffer answers to `abc` and to being settled over a writer that takes so many bytes, whether it has failed, and
+/// What a buffer answers to `abc` and to being settled over a writer that takes that many bytes, whether it has failed, and
 /// the writer.
 fn hold_back(alloc: Global, limit: usize) -> Result<((Option<usize>, bool, bool), Faulty), Fail> {
     let writer = Faulty::new(Vec::new(alloc), 2, limit, Then::Error);

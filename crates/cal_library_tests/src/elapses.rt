@@ -115,7 +115,7 @@ fn at_offsets(rt: HostRuntime) -> Result<(), Fail> {
 }
 
 /// One search by `new`, one for each of the seconds from the base less 93,599 to the third elapse plus 93,599, and so
-/// one more than these. Each ends in the month in which it begins, and looks at that one alone.
+/// one more than these. Each ends in the month in which it begins, and looks only at that one.
 #[test]
 fn searches_of_every_second(rt: HostRuntime) -> Result<(), Fail> {
     let mut elapses = elapses_of(rt.alloc(), "*:*:*", Zone::utc(), NEW_YEAR)?;

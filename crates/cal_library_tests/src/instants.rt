@@ -13,7 +13,7 @@ fn text_of(alloc: Global, zone: Zone, instant: Instant) -> Option<Vec<u8>> {
     Some(out.into_inner())
 }
 
-/// The clock of a zone shows so many seconds of Unix time as a text, also where one clock shows them one after another.
+/// The clock of a zone shows that many seconds of Unix time as a text, also where one clock shows them one after another.
 fn expect_texts(
     rt: &(impl Abort + AllocGlobal),
     zone: Zone,

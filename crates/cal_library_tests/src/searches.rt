@@ -1,4 +1,4 @@
-//! The search for the next matching local second, and what it stands on: rows worked out by hand.
+//! The search for the next matching local second, and what it is built on: rows worked out by hand.
 
 ghost use Rattle.std.specs.Prelude.{◌≡◌, []};
 

@@ -1,4 +1,4 @@
-//! Time spans: what texts are read as, what they are refused for, and how spans are written. The values are those of
+//! Time spans: what texts are read as, what they are rejected for, and how spans are written. The values are those of
 //! systemd.time(7), Parsing Time Spans, worked out by hand.
 
 use cal_base::{Port, Span, SpanFault, read_span, write_span};
@@ -103,7 +103,7 @@ fn expect_values(rt: &impl Abort, rows: &str) -> Result<(), Fail> {
     Ok(())
 }
 
-/// Each of the texts, which are joined by `|`, is refused for the fault.
+/// Each of the texts, which are joined by `|`, is rejected for the fault.
 fn expect_fault(rt: &impl Abort, fault: SpanFault, texts: &str) {
     for text in texts.split('|') {
         assert!(rt; micros(text) == Err(fault), "at {text:?}");
@@ -117,7 +117,7 @@ fn text_of(alloc: Global, span: Span) -> Option<Vec<u8>> {
     Some(out.into_inner())
 }
 
-/// Each span of so many microseconds is written so.
+/// Each span of that many microseconds is written so.
 fn expect_written(rt: &(impl Abort + AllocGlobal), rows: &[(&str, u64, &str)]) -> Result<(), Fail> {
     for (text, micros, human) in rows {
         let span = Span::new(*micros).ok_or("above the limit")?;

@@ -1,4 +1,4 @@
-//! Timer files: the expressions that a file has in the end, and why a file is refused.
+//! Timer files: the expressions that a file has in the end, and why a file is rejected.
 
 use crate::shared::TIMER_FILE;
 use cal_base::Port;
@@ -24,7 +24,7 @@ pub(crate) const EXCEPT_EXCEPTIONS: Lines = &[(3, "Sat,Sun 12:00")];
 /// The expressions of a file: the number of each one's line, and its text.
 pub type Lines = &'static [(u32, &'static str)];
 
-/// A file with its expressions, or with the fault for which it is refused.
+/// A file with its expressions, or with the fault for which it is rejected.
 type Row = (&'static str, Result<Lines, TimerFault>);
 
 /// What a file of these bytes is read as.
@@ -48,7 +48,7 @@ fn expect_lines(rt: &impl Abort, timer: &Timer, expected: Lines, file: &[u8]) {
     expect_list(rt, timer.lines(), expected, file);
 }
 
-/// The file has these expressions, or it is refused for this fault.
+/// The file has these expressions, or it is rejected for this fault.
 fn expect_file(rt: &impl Abort, alloc: Global, file: &str, expected: &Result<Lines, TimerFault>) {
     match (read(alloc, file.as_bytes()), expected) {
         (Ok(timer), Ok(lines)) => expect_lines(rt, &timer, lines, file.as_bytes()),
@@ -56,7 +56,7 @@ fn expect_file(rt: &impl Abort, alloc: Global, file: &str, expected: &Result<Lin
     }
 }
 
-/// Each file has the expressions beside it, or is refused for the fault beside it.
+/// Each file has the expressions beside it, or is rejected for the fault beside it.
 fn expect_files(rt: &impl Abort, alloc: Global, rows: &[Row]) {
     for (file, expected) in rows {
         expect_file(rt, alloc, file, expected);

@@ -120,7 +120,7 @@ fn expect_fault(rt: &impl Abort, place: Place<'_>, fault: StampFault, texts: &st
     }
 }
 
-/// The texts of the table mean what stands beside them.
+/// The texts of the table mean what is beside them.
 fn expect_moments(
     rt: &impl Abort,
     now: i64,
@@ -140,7 +140,7 @@ fn expect_moments(
     Ok(())
 }
 
-/// The texts of each setting mean what stands beside them, where no zone has a name.
+/// The texts of each setting mean what is beside them, where no zone has a name.
 fn expect_settings(rt: &impl Abort, alloc: Global, settings: &[Setting]) -> Result<(), Fail> {
     let zones = ZoneTable::new(alloc);
     for setting in settings {
@@ -150,12 +150,12 @@ fn expect_settings(rt: &impl Abort, alloc: Global, settings: &[Setting]) -> Resu
     Ok(())
 }
 
-/// The texts mean what stands beside them, at the present in UTC.
+/// The texts mean what is beside them, at the present in UTC.
 fn expect_in_utc(rt: &impl Abort, alloc: Global, table: &Table) -> Result<(), Fail> {
     expect_moments(rt, PRESENT, Zone::utc(), &ZoneTable::new(alloc), table)
 }
 
-/// The zone that is so many seconds east of UTC, and UTC itself for 0.
+/// The zone that is that many seconds east of UTC, and UTC itself for 0.
 fn zone_east(rt: &impl Abort, seconds: i32) -> Zone<'static> {
     if seconds == 0 {
         return Zone::utc();

@@ -21,7 +21,7 @@ pub fn logical_lines_are_those_of_the_rule()
         → all ≡ logical_lines number text }
 {}
 
-/// What `trim` leaves of a text has blanks alone before and after it, neither begins nor ends with one, and is the only
+/// What `trim` leaves of a text has only blanks before and after it, neither begins nor ends with one, and is the only
 /// such part.
 pub fn one_trimmed_text()
     ensures this { (text : List ℕ) → IsTrimmed text (trim text) }

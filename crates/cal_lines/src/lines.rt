@@ -15,7 +15,7 @@ fn is_blank(byte: u8) -> bool
     matches!(byte, b' ' | b'\t' | b'\r')
 }
 
-/// How many blanks stand at the start.
+/// How many blanks are at the start.
 fn leading_blanks(text: &str) -> usize
     ensures { result ≡ prefix_len is_blank text.now }
 {
@@ -25,7 +25,7 @@ fn leading_blanks(text: &str) -> usize
         .count()
 }
 
-/// How many blanks stand at the end.
+/// How many blanks are at the end.
 fn trailing_blanks(text: &str) -> usize
     ensures { result ≡ suffix_len is_blank text.now }
 {
@@ -69,7 +69,7 @@ fn without_return(line: &str) -> &str
     }
 }
 
-/// The first physical line of a text without its end, and what stands after it.
+/// The first physical line of a text without its end, and what comes after it.
 fn first_line(text: &str) -> Option<(&str, &str)>
     ensures lines { MatchOption result (lines text.now ≡ [])
         (λ found. lines text.now ≡ found.0.now ∷ lines found.1.now) }
@@ -98,7 +98,7 @@ struct Plain<'t> {
     line: &'t str,
     /// The number of the line after it.
     next: u32,
-    /// What stands after it.
+    /// What comes after it.
     rest: &'t str,
 }
 
@@ -129,7 +129,7 @@ fn first_plain(number: u32, text: &str) -> Option<Plain<'_>>
     None
 }
 
-/// How many backslashes stand at the end.
+/// How many backslashes are at the end.
 fn trailing_backslashes(line: &str) -> usize
     ensures { result ≡ suffix_len (λ b. b == 92) line.now }
 {
@@ -181,7 +181,7 @@ pub struct Logical<'t> {
     pub text: String,
     /// The number of the line after it.
     pub next: u32,
-    /// What stands after it.
+    /// What comes after it.
     pub rest: &'t str,
 }
 

@@ -18,7 +18,7 @@ use Rattle.cal_read.specs.declared.timer.fault.TimerFault.{TimerFault}
 use Rattle.cal_read.specs.declared.timer.fault.TimerFault.TheVariants.{BadLine}
 use Rattle.cal_read.proofs.ResumedLemmas.{joined_bad, joined_many, joined_read, resumed_exception, resumed_exception_reset, resumed_expression, resumed_other, resumed_reset}
 
--- what stands after the last that passes, where one more comes
+-- what comes after the last that passes, where one more comes
 suffix_more : {X : Type 0} (p : X → Bool) (xs : List X) (x : X) → p x ≡ true → suffix_len p (xs ++ x ∷ []) ≡ 1 + suffix_len p xs
 suffix_more p xs x e = ap (prefix_len p) (reverse-append xs (x ∷ [])) ∙ rw e refl
 

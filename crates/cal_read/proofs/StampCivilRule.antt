@@ -124,7 +124,7 @@ date_begins word day h =
     let p = date_word word _ day refl h in
     rw p.whole (no_letter_first (p.year ++ (45 ∷ (p.month ++ (45 ∷ p.day)))) (digit_first p.year (45 ∷ (p.month ++ (45 ∷ p.day))) p.is_year))
 
--- the hour of a time, and what stands after it
+-- the hour of a time, and what comes after it
 record AreTimePieces (word : List ℕ) : Type 0 where
   hour : List ℕ
   after : List ℕ

@@ -166,7 +166,7 @@ then_zone at day number micros word zone meant = rw meant refl
 no_zone : (at : Setting) (day : Option Weekday) (number : Option ℤ) (micros : ℕ) (word : List ℕ) → zone_meant at.find word ≡ Err StrayWord → written_in at day number micros (word ∷ []) ≡ Err StrayWord
 no_zone at day number micros word meant = rw meant refl
 
--- The line of a date, of so many seconds after its midnight and of a zone's word
+-- The line of a date, of that many seconds after its midnight and of a zone's word
 
 abbrev date_in : Date → List ℕ
 date_in date = date_word (year_of date) date.month date.day

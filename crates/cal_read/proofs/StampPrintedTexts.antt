@@ -31,11 +31,11 @@ use Rattle.cal_read.specs.declared.stamp.fault.StampFault.TheVariants.{NoSuchDat
 
 -- Numbers
 
--- the digits of a number in at least so many digits
+-- the digits of a number in at least that many digits
 abbrev padded : ℕ → ℕ → List ℕ
 padded width n = zeros width n ++ decimal n
 
--- digits that are a number in so many digits
+-- digits that are a number in that many digits
 record IsPrinted (width n : ℕ) (ds : List ℕ) : Type 0 where
   all : list_all is_ascii_digit ds ≡ true
   some : 0 < length ds

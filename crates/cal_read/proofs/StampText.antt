@@ -125,7 +125,7 @@ first_word text some =
           ∙ rw (take_all n text past, drop_all n text past, words-nil) refl
     ]
 
--- a text without blanks at its front begins with a word
+-- a text without blanks at its start begins with a word
 begins_solid : (text : List ℕ) → 0 < length text → is_blank (get_or text 0 0) ≡ false → 0 < position_or_len is_blank text
 begins_solid [] some solid = absurd (omega arith)
 begins_solid (b ∷ bs) some solid = rw solid (omega arith)

@@ -74,7 +74,7 @@ time_after_offset : Means (codes "+02:00" ∷ codes "12:00" ∷ []) (Err StrayWo
 unfolding offset_in clock_in two_digits
 time_after_offset = refl
 
--- the first word at fault is told
+-- the first word at fault is reported
 no_name_first : Means (codes "Mars/One" ∷ codes "+02:00" ∷ []) (Err NoSuchZone)
 unfolding is_utc_name
 no_name_first = refl

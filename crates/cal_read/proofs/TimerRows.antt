@@ -1,4 +1,4 @@
--- The worked files of the rule, computed by the definitions; texts read as themselves, or as refused.
+-- The worked files of the rule, computed by the definitions; texts read as themselves, or as rejected.
 use Rattle.std.proofs.Common.{◌≡◌, ℕ, List, [], ◌∷◌, ◌++◌, codes, refl, Result, Ok, Err}
 use Rattle.std.specs.List.{flat_map}
 use Rattle.std.specs.Str.{chars, is_utf8}

@@ -27,7 +27,7 @@ no_header false (line ∷ lines) h =
     let parts = or_parts (is_header line.text) (list_any (λ line. is_header line.text) lines) h in
     rw parts.0 (no_header false lines parts.1)
 
--- what stands after the last header
+-- what comes after the last header
 abbrev opened : Line → List Line → List Line
 opened header rest = if bytes_eq (section_of header.text) (codes "Timer") then rest else []
 
@@ -77,7 +77,7 @@ pub excepted_without_reset : (all : List Assigned) → list_any is_exception_res
 unfolding excepted
 excepted_without_reset = kept_without_reset is_exception is_exception_reset
 
--- The first fault. Where these stand before, no assignment of the others has a fault.
+-- The first fault. Where these come before, no assignment of the others has a fault.
 abbrev AreFineBehind : {E : Type 0} → (List ℕ → Result E SpecFault) → List Assigned → List Assigned → Type 0
 AreFineBehind read first all = (before : List Assigned) (a : Assigned) (after : List Assigned) → all ≡ before ++ (a ∷ after) → fault_following read (first ++ before) a ≡ None
 

@@ -15,7 +15,7 @@ section_of text = take (length text - 2) (drop 1 text)
 abbrev pub trimmed : Line → Line
 trimmed line = record { number = line.number; text = trim line.text }
 
--- The lines of the section `Timer`, headers apart, where the first of them stand in it or not. Names of sections are
+-- The lines of the section `Timer`, headers apart, where the first of them are in it or not. Names of sections are
 -- exact.
 unfoldable pub timer_lines : Bool → List Line → List Line
 timer_lines inside [] = []
@@ -32,7 +32,7 @@ pub record Assigned : Type 0 where
 abbrev pub is_equals : ℕ → Bool
 is_equals b = b == 61
 
--- the key stands before the first `=`, and the value after it; a line without one assigns nothing
+-- the key comes before the first `=`, and the value after it; a line without one assigns nothing
 unfoldable pub assignment_of : Line → Option Assigned
 assignment_of line =
     if list_any is_equals line.text

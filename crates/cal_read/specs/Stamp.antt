@@ -36,7 +36,7 @@ abbrev pub ◌>>=◌ : {A B : Type 0} → Result A StampFault → (A → Result 
 
 -- Spans
 
--- the moment of so many microseconds of Unix time, where there is one
+-- the moment of that many microseconds of Unix time, where there is one
 unfoldable pub in_moments : ℤ → Result ℤ StampFault
 in_moments micros =
     if not (int_lt micros (pos 0)) && not (int_lt last_moment micros) then Ok micros else Err OutOfRange
@@ -60,7 +60,7 @@ before_second second (Err fault) = Err (BadSpan fault)
 unfoldable pub today : ℤ → TimeZone → ℤ
 today now zone = day_of (local_of zone now)
 
--- the moment of so many microseconds after a day's midnight: a local time that the clock skips is moved on by what is
+-- the moment of that many microseconds after a day's midnight: a local time that the clock skips is moved on by what is
 -- skipped, and of one that it shows twice this is the first
 unfoldable pub settled : TimeZone → ℤ → ℕ → Result ℤ StampFault
 settled zone day micros =
@@ -83,7 +83,7 @@ offset_found (Some seconds) = Ok (zone_ahead seconds)
 abbrev pub zone_meant : (List ℕ → Option TimeZone) → List ℕ → Result TimeZone StampFault
 zone_meant find w = if begins_with_letter w then name_found (find w) else offset_found (offset_in w)
 
--- no word stands after a zone
+-- no word comes after a zone
 abbrev pub zone_alone : TimeZone → List (List ℕ) → Result TimeZone StampFault
 zone_alone zone [] = Ok zone
 zone_alone zone (w ∷ ws) = Err StrayWord

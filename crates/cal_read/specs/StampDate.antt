@@ -9,7 +9,7 @@ use Rattle.cal_spec.specs.Parts.{with_century}
 use Rattle.cal_read.specs.declared.stamp.fault.StampFault.{StampFault}
 use Rattle.cal_read.specs.declared.stamp.fault.StampFault.TheVariants.{BadDate, NoSuchDate}
 
--- the number that one or more digits write, at most so many
+-- the number that one or more digits write, at most that many
 unfoldable pub digits_number : ℕ → List ℕ → Option ℕ
 digits_number most word =
     if nat_le 1 (length word) && nat_le (length word) most && list_all is_ascii_digit word then Some (digits_value 10 word)

@@ -4,7 +4,7 @@ use Rattle.std.specs.List.{list_any, prefix_len, suffix_len, before_last, after_
 use Rattle.std.specs.Str.{bytes_eq}
 use Rattle.cal_spec.specs.Words.{is_blank, words}
 
--- the text without the blanks at its front
+-- the text without the blanks at its start
 abbrev pub from_solid : List ℕ → List ℕ
 from_solid text = drop (prefix_len is_blank text) text
 
@@ -16,7 +16,7 @@ to_solid text = take (length text - suffix_len is_blank text) text
 unfoldable pub solid : List ℕ → List ℕ
 solid text = to_solid (from_solid text)
 
--- what a text asks for: nothing at all, the present, a span text after the present, before it or after 0, so many
+-- what a text asks for: nothing at all, the present, a span text after the present, before it or after 0, that many
 -- days from the present day with the words after, or the words of a civil time
 pub data Form : Type 0 where
   nothing : Form
@@ -27,7 +27,7 @@ pub data Form : Type 0 where
   from_today : ℤ → List (List ℕ) → Form
   civil : List (List ℕ) → Form
 
--- what stands before the last blank, where this word stands after it
+-- what comes before the last blank, where this word comes after it
 abbrev pub before_word : List ℕ → List ℕ → Option (List ℕ)
 before_word word text =
     if list_any is_blank text && bytes_eq (after_last is_blank text) word then Some (before_last is_blank text) else None

@@ -5,7 +5,7 @@ use Rattle.std.specs.List.{list_all}
 use Rattle.cal_spec.specs.Words.{is_blank, words}
 use Rattle.cal_read.specs.StampForm.{Form, nothing, present, later, earlier, counted, from_today, civil}
 
--- the text is the core with blanks round it, and no blank stands at the ends of the core
+-- the text is the core with blanks round it, and no blank is at the ends of the core
 pub record IsBetweenBlanks (text core : List ℕ) : Type 0 where
   pub front : List ℕ
   pub back : List ℕ

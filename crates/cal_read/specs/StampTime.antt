@@ -26,7 +26,7 @@ fraction_in digits =
     if nat_le 1 (length digits) && list_all is_ascii_digit digits then Some (fraction_worth 1_000_000 1 (take kept_digits digits))
     else None
 
--- so many seconds and microseconds, in microseconds
+-- that many seconds and microseconds, in microseconds
 abbrev pub both : Option ℕ → Option ℕ → Option ℕ
 both (Some seconds) (Some micros) = Some (seconds * 1_000_000 + micros)
 both seconds micros = None

@@ -1,4 +1,4 @@
--- What is said of a timer file that is refused: this project's own words.
+-- What is said of a timer file that is rejected: this project's own words.
 use Rattle.std.specs.Prelude.{ℕ, List, [], codes, Option, None, Some}
 use Rattle.cal_spec.specs.SpecFault as spec_fault
 use Rattle.cal_read.specs.declared.timer.fault.TimerFault.{TimerFault}

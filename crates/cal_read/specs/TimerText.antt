@@ -1,5 +1,5 @@
 -- What the text of a timer file says: systemd.timer(5), OnCalendar=, and this project's own key for exceptions. Each of
--- the two lists is a filter over all assignments, and so is the count of those that stand before one.
+-- the two lists is a filter over all assignments, and so is the count of those that come before one.
 use Rattle.std.specs.Prelude.{ℕ, ◌+◌, ◌==◌, nat_eq, nat_le, Bool, false, not, ◌&&◌, if◌then◌else◌, List, [], ◌∷◌, ◌++◌, length, filter, take, drop, codes, Option, None, Some, Result, Ok, Err, count_by}
 use Rattle.std.specs.List.{after_last, filter_map, list_any, starts_with}
 use Rattle.std.specs.Option.{option_or}
@@ -130,7 +130,7 @@ without_mark text = if starts_with nat_eq text byte_order_mark then drop 3 text 
 unfoldable pub timer_of : {E : Type 0} → (List ℕ → Result E SpecFault) → List ℕ → Result (Lists E) TimerFault
 timer_of read text = lists_of read (assignments_in false (logical_lines 1 (without_mark text)))
 
--- the number of the physical line in which the first bytes stand that are no UTF-8
+-- the number of the physical line that has the first bytes which aren't UTF-8
 unfoldable pub broken_line : List ℕ → ℕ
 broken_line bytes = count_by (λ b. b == 10) (take (utf8_valid_len bytes) bytes) + 1
 

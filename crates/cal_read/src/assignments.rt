@@ -79,7 +79,7 @@ pub(crate) fn section(line: &str) -> Option<&[u8]>
     }
 }
 
-/// The assignment in a line: the key stands before the first `=`, and the value after it.
+/// The assignment in a line: the key comes before the first `=`, and the value after it.
 #[tactic(auto, unfolding(crate::specs::Assignments::assignment_of))]
 pub(crate) fn read_assignment(number: u32, line: &str) -> Option<Assignment<'_>>
     ensures { option_map shown_assignment result ≡ assignment_of (line_at number line.now) }

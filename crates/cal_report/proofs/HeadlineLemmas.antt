@@ -103,7 +103,7 @@ none_fails one asked base [] verb all = refl
 none_fails one asked base (e ∷ es) verb all =
     rw (is_answered one asked base e verb all.0) (none_fails one asked base es verb all.1)
 
--- what is reported of texts, where the base isn't refused
+-- what is reported of texts, where the base isn't rejected
 pub report_of_texts : (asked : Asked) (read : Result (List ℕ) WholeFault) (base : ℤ) → asked.verb ≡ Calendar → base_in asked ≡ Ok base
     → report asked read ≡ texts_report asked base
 unfolding report
@@ -237,7 +237,7 @@ unfolding unzoned
 all_there asked lists s h =
     rw (none_lacks asked lists.expressions s.expressions h.expressions, none_lacks asked lists.exceptions s.exceptions h.exceptions) refl
 
--- what is reported of a file's bytes, where the base isn't refused
+-- what is reported of a file's bytes, where the base isn't rejected
 report_of_file : (asked : Asked) (bytes : List ℕ) (base : ℤ) (text : List ℕ) → asked.verb ≡ Timer → base_in asked ≡ Ok base
     → timer_answer asked base (file_name asked) (Ok bytes) ≡ Ok text → report asked (Ok bytes) ≡ record { out = text; err = []; status = Fine }
 unfolding report

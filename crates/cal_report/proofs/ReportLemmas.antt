@@ -41,7 +41,7 @@ unread_if : (timer : Bool) (a : Option (List ℕ)) → ReadsIf (timer && false) 
 unread_if true a = (refl, refl)
 unread_if false a = (refl, refl)
 
--- a base that is refused
+-- a base that is rejected
 pub base_refused : (asked : Asked) (a b d e : Option (List ℕ)) (failed : Bool) (r : Result Status RunFault) (fault : StampFault) → base_in asked ≡ Err fault → failed ≡ false
     → IfOk r (λ status. status ≡ Refused) → Writes d e r (refusal_line (codes "--base-time") (words_of fault)) → ByReading asked a a failed (IsReported r b b d e)
 unfolding report
@@ -61,7 +61,7 @@ texts_reported asked a b c d e failed r base is plain works status out err =
       holds = rw (is, plain) (record { status = status; had = if_ok r (IsHad (Ok [])) nothing_had; out = out; err = err; unread = λ h. absurd (nothing_had h) });
     }
 
--- nothing written is a front of any text, and so is the whole of it
+-- nothing written is a prefix of any text, and so is the whole of it
 pub nothing_front : (a : Option (List ℕ)) (text : List ℕ) → AppendsFront a a text
 nothing_front a text = record { front = []; rest = text; whole = refl; written = Appends-nil a }
 

@@ -1,4 +1,4 @@
--- The law on a cut output: how many elapses stand in a front of a report, and what the same begun again shows.
+-- The law on a cut output: how many elapses are in a prefix of a report, and what the same begun again shows.
 use Rattle.std.proofs.Common.{◌≡◌, ◌↔◌, ◌≤◌, ◌<◌, ◌+◌, ◌++◌, ◌∙◌, ℕ, zero, suc, ℤ, Bool, true, false, List, [], ◌∷◌, Option, None, Some, Result, Ok, Err, map, take, drop, length, codes, nat_le, refl, sym, ap, subst, arith, append-nil, append_assoc, length-append, length-take}
 use Rattle.std.proofs.Math.Seq.{take-append_seam}
 use Rattle.std.proofs.lemmas.Bool.Decides.{nat_tests}
@@ -91,7 +91,7 @@ end_low local now number start x xs (y ∷ before) elapse after split =
     let line : length (first_line local number x) ≡ length (first_line local number y) = ap (λ (e : ℤ). length (first_line local number e)) same in
     omega (arith, line, line_within local now number y, end_of_later local now number start y before elapse)
 
--- exactly the first k first lines end within so many bytes
+-- exactly the first k first lines end within that many bytes
 record End (local : Zone) (now : ℤ) (number start size : ℕ) (xs : List ℤ) (k : ℕ) : Type 0 where
   few : k ≤ length xs
   whole : (before : List ℤ) (elapse : ℤ) (after : List ℤ) → xs ≡ before ++ (elapse ∷ after)
@@ -152,9 +152,9 @@ ends local now number start size (x ∷ xs) =
     let later = ends local now (number + 1) (start + length (elapse_text local now number x)) size xs in
     ends_from local now number start size x xs later.0 later.1 (nat_le (start + length (first_line local number x)) size) refl
 
--- The elapses that stand in a front
+-- The elapses that are in a prefix
 
--- of two fronts of one text the shorter begins the longer
+-- of two prefixes of one text the shorter begins the longer
 longer_begins : (front rest lead more : List ℕ) → front ++ rest ≡ lead ++ more → length lead ≤ length front → Begins front lead
 longer_begins front rest lead more same within =
     let is : take (length lead) front ≡ lead
@@ -251,7 +251,7 @@ split_at (x ∷ xs) (suc k) within =
       number = ap suc later.number;
     }
 
--- the line after the fewer ones stands by the greater number and doesn't by the lesser
+-- the line after the fewer ones is complete by the greater number, and isn't by the lesser
 not_fewer : (asked : Asked) (s : Schedule) (shown : List ℤ) (front : List ℕ) (k m : ℕ)
     → Stand asked s shown front k → Stand asked s shown front m → k < m → ⊥
 not_fewer asked s shown front k m h g less =
@@ -375,7 +375,7 @@ file_resumes one asked bytes base s front rest verb sought file all cut =
 
 -- What a run leaves, cut or whole
 
--- what it wrote is a front of what it was to write
+-- what it wrote is a prefix of what it was to write
 front_written : {T E : Type 0} (result : Result T E) (old new : Option (List ℕ)) (text : List ℕ) → Writes old new result text → AppendsFront old new text
 front_written (Ok x) old new text h = record { front = text; rest = []; whole = sym (append-nil text); written = h }
 front_written (Err e) old new text h = h

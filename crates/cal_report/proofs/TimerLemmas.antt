@@ -104,7 +104,7 @@ pub plan_answers : (asked : Asked) (base : ℤ) (read : Result (List ℕ) WholeF
 unfolding timer_answer timer_report
 plan_answers asked base read lists merge is m name = rw (is, m.found, merge_whole asked base lists merge m) refl
 
--- what was read where a list, or a fault other than lack of memory, came of it
+-- what was read where a list, or a fault other than out of memory, came of it
 pub had_lists : (read : Result (List ℕ) WholeFault) (lists : Lists Fields) → timer_text expr_in read ≡ Ok lists → IsHad read
 had_lists read lists is none = let never = rw none at is in cc
 

@@ -1,4 +1,4 @@
--- What is reported of a text that a verb accepted, and what is said of one that it refused.
+-- What is reported of a text that a verb accepted, and what is said of one that it rejected.
 use Rattle.std.specs.Prelude.{ℕ, List, [], codes}
 use Rattle.cal_span.specs.SpanFault.{words_of as span_words}
 use Rattle.cal_elapse.specs.Rest.{rest_of}

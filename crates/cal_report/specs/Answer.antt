@@ -20,12 +20,12 @@ report_in (Err words) = []
 abbrev pub refusal_line : List ℕ → List ℕ → List ℕ
 refusal_line text words = joined (text ∷ codes ": " ∷ words ∷ codes "\n" ∷ [])
 
--- this line, if the text was refused
+-- this line, if the text was rejected
 abbrev pub refusal_in : List ℕ → Answer → List ℕ
 refusal_in text (Ok report) = []
 refusal_in text (Err words) = refusal_line text words
 
--- what stands in front of a report: an empty line, unless it is the first
+-- what comes before a report: an empty line, unless it is the first
 abbrev pub lead_text : Bool → List ℕ
 lead_text is_later = if is_later then codes "\n" else []
 
@@ -47,7 +47,7 @@ reports_text answer texts = join_by (λ report. report) (codes "\n") (flat_map (
 unfoldable pub refusals_text : (List ℕ → Answer) → List (List ℕ) → List ℕ
 refusals_text answer = flat_map (λ text. refusal_in text (answer text))
 
--- refused where some text was
+-- rejected where some text was
 unfoldable pub texts_status : (List ℕ → Answer) → List (List ℕ) → Status
 texts_status answer texts = if list_any (λ text. is_err (answer text)) texts then Refused else Fine
 

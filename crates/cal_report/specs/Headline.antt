@@ -116,7 +116,7 @@ pub record IsFine (report : Report) : Type 0 where
 abbrev pub assigned_in : List ℕ → List Assigned
 assigned_in bytes = assignments_in false (logical_lines 1 (without_mark bytes))
 
--- each assignment of an expression or of an exception is one by the grammar's rule, and isn't one too many where it stands
+-- each assignment of an expression or of an exception is one by the grammar's rule, and isn't one too many where it is
 abbrev pub AreSpelled : List Assigned → Type 0
 AreSpelled all =
     (before : List Assigned) (a : Assigned) (after : List Assigned) → all ≡ before ++ (a ∷ after)

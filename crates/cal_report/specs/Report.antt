@@ -76,7 +76,7 @@ abbrev pub report_after : Asked → ℤ → Result (List ℕ) WholeFault → Rep
 report_after asked base read =
     if is_timer asked.verb then whole_report (timer_answer asked base (file_name asked) read) else texts_report asked base
 
--- a base that is refused is all that is told
+-- a base that is rejected is all that is reported
 abbrev pub report_from : Asked → Result (List ℕ) WholeFault → Result ℤ StampFault → Report
 report_from asked read (Err fault) = whole_report (Err (refusal_line (codes "--base-time") (words_of fault)))
 report_from asked read (Ok base) = report_after asked base read
@@ -85,7 +85,7 @@ report_from asked read (Ok base) = report_after asked base read
 unfoldable pub report : Asked → Result (List ℕ) WholeFault → Report
 report asked read = report_from asked read (base_in asked)
 
--- the input is read for a timer alone, and only after a base that isn't refused
+-- the input is read only for a timer, and only after a base that isn't rejected
 abbrev pub reads_input : Asked → Bool
 reads_input asked = is_timer asked.verb && is_ok (base_in asked)
 
@@ -94,7 +94,7 @@ abbrev pub ReadsIf : Bool → Option (List ℕ) → Option (List ℕ) → Result
 ReadsIf true old new read = ReadsWhole old new most_file_bytes read
 ReadsIf false old new read = (new ≡ old) × (read ≡ Ok [])
 
--- A run wrote the report, or a front of it where it ended with a fault, and ended as it says. Where it ended well, no
+-- A run wrote the report, or a prefix of it where it ended with a fault, and ended as it says. Where it ended well, no
 -- memory was refused to its reads; where it was, nothing is written.
 pub record IsReported (result : Result Status RunFault) (out_old out_new err_old err_new : Option (List ℕ)) (read : Result (List ℕ) WholeFault) (report : Report) : Type 0 where
   pub status : IfOk result (λ status. status ≡ report.status)
@@ -110,7 +110,7 @@ pub record ByReading (asked : Asked) (old new : Option (List ℕ)) (failed : Boo
   pub fails : failed ≡ is_read_failed read
   pub holds : holds_of read (report asked read)
 
--- What a run has written that ended for lack of memory: the whole answers to the texts before the one at which memory
+-- What a run has written that ran out of memory: the whole answers to the texts before the one at which memory
 -- was refused, and nothing more. A timer's one text is its file, so that nothing is written there.
 pub record IsCut (asked : Asked) (out_old out_new err_old err_new : Option (List ℕ)) : Type 0 where
   pub base : ℤ

@@ -15,7 +15,7 @@ original_line text = joined (codes "  Original form: " ∷ text ∷ codes "\nNor
 abbrev pub micros_of : ℤ → ℤ
 micros_of secs = secs *ℤ pos 1_000_000
 
--- the line of the instant in UTC, which stands where the local zone isn't UTC itself
+-- the line of the instant in UTC, which is there unless the local zone is UTC itself
 unfoldable pub utc_line : Zone → ℤ → List ℕ
 utc_line local secs =
     if is_utc local then []

@@ -1,4 +1,4 @@
--- How a cut output resumes: which of the elapses shown stand in a front of a report, and what is asked to go on after
+-- How a cut output resumes: which of the elapses shown are in a prefix of a report, and what is asked to go on after
 -- the last of them: systemd-analyze(1), calendar, --iterations= and --base-time=; systemd.timer(5), OnCalendar=.
 use Rattle.std.specs.Prelude.{◌≡◌, ◌↔◌, ◌≤◌, ◌<◌, ◌+◌, ◌++◌, ℕ, zero, suc, ℤ, List, ◌∷◌, Result, Ok, Some, take, drop, length, slice_get, codes}
 use Rattle.cal_bytes.specs.declared.whole.WholeFault.{WholeFault}
@@ -28,18 +28,18 @@ pub record Begins (text lead : List ℕ) : Type 0 where
   pub rest : List ℕ
   pub is : text ≡ lead ++ rest
 
--- Exactly the first k of the elapses shown stand with their first line whole in the front.
+-- Exactly the first k of the elapses shown are complete in the prefix.
 pub record Stand (asked : Asked) (s : Schedule) (shown : List ℤ) (front : List ℕ) (k : ℕ) : Type 0 where
   pub few : k ≤ length shown
   pub whole : (before : List ℤ) (elapse : ℤ) (after : List ℤ) → shown ≡ before ++ (elapse ∷ after)
       → Begins front (up_to_line asked s before elapse) ↔ (length before < k)
 
--- the base to go on from: the k-th of the elapses shown, or the old one where none stands
+-- the base to go on from: the k-th of the elapses shown, or the old one where there is none
 abbrev pub IsBaseAfter : ℤ → List ℤ → ℕ → ℤ → Type 0
 IsBaseAfter base shown zero from = from ≡ base
 IsBaseAfter base shown (suc before) from = slice_get shown before ≡ Some from
 
--- The request is the other one begun again after the first k elapses: from the k-th on, and for so many fewer.
+-- The request is the other one begun again after the first k elapses: from the k-th on, and for that many fewer.
 pub record IsBegunAgain (asked : Asked) (base : ℤ) (shown : List ℤ) (k : ℕ) (again : Asked) : Type 0 where
   pub verb : again.verb ≡ asked.verb
   pub texts : again.texts ≡ asked.texts
@@ -51,8 +51,8 @@ pub record IsBegunAgain (asked : Asked) (base : ℤ) (shown : List ℤ) (k : ℕ
   pub sought : base_in again ≡ Ok from
   pub after : IsBaseAfter base shown k from
 
--- Of a front of the report: there is one number of elapses that stand in it, and the report of the same begun again
--- after so many shows exactly the others.
+-- Of a prefix of the report: there is one number of elapses that are in it, and the report of the same begun again
+-- after that many shows exactly the others.
 pub record Resumes (asked : Asked) (base : ℤ) (s : Schedule) (read : Result (List ℕ) WholeFault) (front : List ℕ) : Type 0 where
   pub shown : List ℤ
   pub these : AreShown asked base s shown

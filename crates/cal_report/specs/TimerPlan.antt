@@ -1,4 +1,4 @@
--- What is written of a timer file that was read, and what is said of one that was refused.
+-- What is written of a timer file that was read, and what is said of one that was rejected.
 use Rattle.std.specs.Prelude.{◌≡◌, ◌++◌, ℕ, ℤ, false, map, List, [], ◌∷◌, take, Option, None, Some, codes}
 use Rattle.cal_bytes.specs.Bytes.{joined}
 use Rattle.cal_rising.specs.Merge.{Merging, merged}

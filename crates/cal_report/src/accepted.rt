@@ -1,4 +1,4 @@
-//! What each verb reads from a text, and why it refuses one.
+//! What each verb reads from a text, and why it rejects one.
 
 ghost use Rattle.std.specs.Prelude.{◌≡◌, [], ◌∷◌, ℤ, Ok, Err, IfOk, IfErr, IsErrOf, false, is_err, option_map};
 ghost use Rattle.cal_bytes.specs.Bytes.{Writes, joined};
@@ -37,7 +37,7 @@ pub enum Accepted<'a> {
     Timespan(Span),
 }
 
-/// Why a text is refused.
+/// Why a text is rejected.
 #[derive(Clone, Copy, PartialEq, Eq, Debug)]
 pub enum Refusal {
     /// It is no calendar expression.
@@ -53,7 +53,7 @@ pub enum Refusal {
 }
 
 impl Refusal {
-    /// What a user is told; nothing where memory was refused.
+    /// What is reported to a user; nothing where memory was refused.
     pub fn words(&self) -> &str
         ensures { result.now ≡ refusal_words self.now }
     {

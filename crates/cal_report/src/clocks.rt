@@ -9,7 +9,7 @@ use cal_bytes::{ShortText, push};
 use cal_zone::{Clock, Instant, Zone};
 use std::marker::Model;
 
-/// The clocks of a local zone and of UTC. A contract sees the local zone alone.
+/// The clocks of a local zone and of UTC. A contract sees only the local zone.
 #[derive(Drop)]
 pub struct Clocks<'z> {
     local: Clock<'z>,

@@ -106,9 +106,9 @@ pub fn headline()
     one_normal_form_of_fields();
 }
 
-/// Whatever front of its report is left of a run, the bytes say how to go on: there is exactly one number of elapses
-/// whose first line stands whole in it, and the same request from the last of these on, for so many fewer elapses,
-/// prints exactly the others, with labels that count anew. Where none stands, that is the whole report again.
+/// Whatever prefix of its report is left of a run, the bytes say how to go on: there is exactly one number of elapses
+/// whose first line is complete in it, and the same request from the last of these on, for that many fewer elapses,
+/// prints exactly the others, with labels that count anew. Where there is none, that is the whole report again.
 pub fn cut_output_resumes()
     // A request for one text, whose report begins so.
     ensures calendar { (asked : Asked) (read : Result (List ℕ) WholeFault) (base : ℤ) (e : Expression)
@@ -119,7 +119,7 @@ pub fn cut_output_resumes()
         → asked.verb ≡ Timer → base_in asked ≡ Ok base → IsFileOf bytes s → AreAllAccepted asked s
         → (report asked (Ok bytes)).out ≡ front ++ rest → Resumes asked base s (Ok bytes) front }
 
-    // What a run adds to its writer, however it ended, is such a front: by the contract of `run`.
+    // What a run adds to its writer, however it ended, is such a prefix: by the contract of `run`.
     ensures written { (asked : Asked) (base : ℤ) (e : Expression) (result : Result Status RunFault)
         (old new : Option (List ℕ)) (failed : Bool) (out_old out_new err_old err_new : Option (List ℕ))
         → asked.verb ≡ Calendar → base_in asked ≡ Ok base → asked.texts ≡ e.text ∷ [] → IsAccepted asked e

@@ -31,7 +31,7 @@ use std::alloc::Global;
 /// other verbs.
 ///
 /// The elapses shown are the first `iterations` (1 to 1,000,000) after the base, a timestamp, or after the present
-/// where none is given; only verbs that seek elapses have a base. A base that is refused is one line on `err`, and
+/// where none is given; only verbs that seek elapses have a base. A base that is rejected is one line on `err`, and
 /// nothing else is done. An expression is meant in the zone that it names, which has to be in the table, and otherwise
 /// in the local zone. Instants are printed in the local zone, and once more in UTC where that is another.
 ///
@@ -220,7 +220,7 @@ pub fn file_name(request: &Request) -> &str
     }
 }
 
-/// Tells that a text is refused, or a file, in that line where there is one.
+/// Reports that a text is rejected, or a file, in that line where there is one.
 fn refuse<E: Sink>(
     err: &mut E,
     text: &str,

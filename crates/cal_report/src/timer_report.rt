@@ -37,7 +37,7 @@ pub struct TimerPlan<'a> {
     merge: Merge<Elapses<'a>>,
 }
 
-/// Why a timer file is refused.
+/// Why a timer file is rejected.
 #[derive(Clone, Copy, PartialEq, Eq, Debug)]
 pub enum TimerRefusal {
     /// Its bytes or its lines are.
@@ -49,7 +49,7 @@ pub enum TimerRefusal {
 }
 
 impl TimerRefusal {
-    /// What a user is told; nothing where memory was refused.
+    /// What is reported to a user; nothing where memory was refused.
     pub fn words(&self) -> &str
         ensures { result.now ≡ refused_words self.now }
     {

@@ -16,14 +16,14 @@ most_iterations = 1_000_000
 abbrev pub IsCount : ℕ → Type 0
 IsCount n = (1 ≤ n) × (n ≤ most_iterations)
 
--- whether a verb seeks elapses: such a verb alone has a base, and takes memory
+-- whether a verb seeks elapses: only such a verb has a base, and takes memory
 abbrev pub seeks_elapses : Verb → Bool
 seeks_elapses Calendar = true
 seeks_elapses Timestamp = false
 seeks_elapses Timespan = false
 seeks_elapses Timer = true
 
--- whether a verb reads or shows instants: such a verb alone has a present and zones
+-- whether a verb reads or shows instants: only such a verb has a present and zones
 abbrev pub has_zones : Verb → Bool
 has_zones Calendar = true
 has_zones Timestamp = true

@@ -17,14 +17,14 @@ impl Verb {
     ghost use Rattle.std.specs.Prelude.{◌≡◌};
     ghost use Rattle.cal_request.specs.Request.{has_zones, is_timer, seeks_elapses};
 
-    /// Whether the verb seeks elapses: such a verb alone has a base, and takes memory.
+    /// Whether the verb seeks elapses: only such a verb has a base, and takes memory.
     pub fn seeks_elapses(self) -> bool
         ensures { result ≡ seeks_elapses self }
     {
         matches!(self, Verb::Calendar | Verb::Timer)
     }
 
-    /// Whether the verb reads or shows instants: such a verb alone has a present and zones.
+    /// Whether the verb reads or shows instants: only such a verb has a present and zones.
     pub fn has_zones(self) -> bool
         ensures { result ≡ has_zones self }
     {
@@ -44,7 +44,7 @@ impl Verb {
 pub struct Request {
     /// What is asked of each text.
     pub verb: Verb,
-    /// The texts, in order; of a timer the file's name alone.
+    /// The texts, in order; of a timer only the file's name.
     pub texts: Vec<String>,
     /// How many elapses are shown at most: 1 to 1,000,000.
     pub iterations: u32,
@@ -57,7 +57,7 @@ pub struct Request {
 pub enum Status {
     /// Every text was accepted.
     Fine,
-    /// Some text was refused, and told so on standard error.
+    /// Some text was rejected, and reported on standard error.
     Refused,
 }
 
@@ -65,7 +65,7 @@ impl Status {
     ghost use Rattle.std.specs.Prelude.{◌≡◌};
     ghost use Rattle.cal_request.specs.Status.{is_fine, status_and};
 
-    /// Whether nothing was refused.
+    /// Whether nothing was rejected.
     pub fn is_fine(self) -> bool
         ensures { result ≡ is_fine self }
     {

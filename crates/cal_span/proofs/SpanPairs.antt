@@ -17,7 +17,7 @@ use Rattle.cal_span.proofs.SpanNumbers.{top}
 pub no_kind : (j k : CharKind) → (k ≡ j → ⊥) → is_kind j k ≡ false
 no_kind j k differs = false_from_ne_true (is_kind j k) (λ e. differs (sym (same_from_is_kind j k e)))
 
--- a word that is no number, where one is due
+-- a word that is no number, where one is expected
 pub stray_first : (w : Piece) (ws : List Piece) → is_kind Numeric w.kind ≡ false → pairs_of (w ∷ ws) ≡ record { number = []; unit = None } ∷ pairs_of ws
 stray_first w [] other = rw other refl
 stray_first w (v ∷ ws) other = rw other refl

@@ -58,7 +58,7 @@ runs_longest text = runs_apart (symbols text)
 
 -- Only these are
 
--- a run of this kind may not stand in front of them
+-- a run of this kind may not come before them
 BeginsApart : CharKind → List Piece → Type 0
 BeginsApart k [] = Unit {0}
 BeginsApart k (v ∷ ws) = is_kind k v.kind ≡ false

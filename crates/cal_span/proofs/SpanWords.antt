@@ -41,13 +41,13 @@ runs_second s t ss true test by_rest =
     ap at (sym (same_from_is_kind s.kind t.kind test))
 runs_second s t ss false test by_rest = rw append-nil (ap (λ ws. s ∷ ws) (sym by_rest))
 
--- the first run of characters is the front of the first one's kind
+-- the first run of characters is the prefix of the first one's kind
 pub runs_first : (s : Piece) (ss : List Piece) → runs (s ∷ ss) ≡ record { kind = s.kind; text = s.text ++ front_of s.kind ss } ∷ runs (after_front s.kind ss)
 runs_first s [] = rw append-nil refl
 runs_first s (t ∷ ss) =
     ap (with_front s) (runs_first t ss) ∙ runs_second s t ss (is_kind s.kind t.kind) refl (runs_first t ss)
 
--- one more character of the front's kind
+-- one more character of the prefix's kind
 pub front_more : (kind : CharKind) (bytes : List ℕ) (len width : ℕ) (rest : List ℕ) → rest ≡ drop len bytes → symbols rest ≡ record { kind = kind; text = take width rest } ∷ symbols (drop width rest) → front_of kind (symbols (drop len bytes)) ≡ take width (drop len bytes) ++ front_of kind (symbols (drop (len + width) bytes))
 front_more kind bytes len width rest at first =
     ap (λ s. front_of kind (symbols s)) (sym at) ∙ ap (front_of kind) first ∙ rw (is_kind-same kind) (rw at (rw drop-drop refl))
@@ -56,7 +56,7 @@ pub after_more : (kind : CharKind) (bytes : List ℕ) (len width : ℕ) (rest : 
 after_more kind bytes len width rest at first =
     ap (λ s. after_front kind (symbols s)) (sym at) ∙ ap (after_front kind) first ∙ rw (is_kind-same kind) (rw at (rw drop-drop refl))
 
--- blanks at the front are in no word
+-- blanks at the start are in no word
 without_blanks_first : (s : Piece) (ss : List Piece) (blank : Bool) → is_kind Blank s.kind ≡ blank → without_blanks (runs (s ∷ ss)) ≡ without_blanks (runs (cond blank (after_front Blank ss) (s ∷ ss)))
 without_blanks_first s ss true test =
     let same : Blank ≡ s.kind = same_from_is_kind Blank s.kind test in
@@ -67,7 +67,7 @@ without_blanks_after : (ss : List Piece) → without_blanks (runs ss) ≡ withou
 without_blanks_after [] = refl
 without_blanks_after (s ∷ ss) = without_blanks_first s ss (is_kind Blank s.kind) refl
 
--- what stands after the blanks is none
+-- what comes after the blanks is none
 after_blanks_step : (t : Piece) (ts : List Piece) (s : Piece) (rest : List Piece) (blank : Bool) → is_kind Blank t.kind ≡ blank → (after_front Blank ts ≡ s ∷ rest → is_kind Blank s.kind ≡ false) → cond blank (after_front Blank ts) (t ∷ ts) ≡ s ∷ rest → is_kind Blank s.kind ≡ false
 after_blanks_step t ts s rest true test further at = further at
 after_blanks_step t ts s rest false test further at =
@@ -85,7 +85,7 @@ word_first ss s rest at =
     without_blanks_after ss ∙ ap (λ ts. without_blanks (runs ts)) at ∙ ap without_blanks (runs_first s rest) ∙ rw solid (rw (is_kind-same s.kind) refl)
 
 -- the first word of a text by what the code found: the bytes after the blanks, the kind of the
--- first of them, and the front of that kind
+-- first of them, and the prefix of that kind
 pub first_word_is : (bytes solid : List ℕ) (kind : CharKind) (width : ℕ) (text rest : List ℕ) → symbols solid ≡ after_front Blank (symbols bytes) → symbols solid ≡ record { kind = kind; text = take width solid } ∷ symbols (drop width solid) → text ≡ front_of kind (symbols solid) → symbols rest ≡ after_front kind (symbols solid) → words_in bytes ≡ record { kind = kind; text = text } ∷ words_in rest
 unfolding words_in
 first_word_is bytes solid kind width text rest at first front after =

@@ -51,7 +51,7 @@ pub record IsWithoutUnit (ws : List Piece) (p : Pair) (rest : List Piece) : Type
   pub no_unit : BeginsWithNoUnit rest
   pub pair : p ≡ record { number = number.text; unit = None }
 
--- a word that stands where a number is due and is none
+-- a word that is where a number is expected, and isn't one
 pub record IsNoNumber (ws : List Piece) (p : Pair) (rest : List Piece) : Type 0 where
   pub word : Piece
   pub words : ws ≡ word ∷ rest

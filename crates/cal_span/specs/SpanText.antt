@@ -6,7 +6,7 @@ use Rattle.cal_bytes.specs.Bytes.{joined}
 use Rattle.cal_span.specs.Scale.{size_of, scales, name_of}
 use Rattle.cal_span.specs.declared.scale.Scale.{Scale}
 
--- so many of one unit
+-- that many of one unit
 pub record Count : Type 0 where
   pub number : ℕ
   pub unit : Scale

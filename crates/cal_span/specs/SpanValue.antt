@@ -48,7 +48,7 @@ pub record Piece : Type 0 where
   pub kind : CharKind
   pub text : List ℕ
 
--- the characters of a text: a mu is a letter, and each byte of any other character stands alone
+-- the characters of a text: a mu is a letter, and each byte of any other character is by itself
 abbrev pub symbols : List ℕ → List Piece
 symbols [] = []
 symbols (b ∷ []) = record { kind = kind_of b; text = b ∷ [] } ∷ []
@@ -56,7 +56,7 @@ symbols (b ∷ c ∷ bytes) =
     if is_micro b c then record { kind = Letter; text = b ∷ c ∷ [] } ∷ symbols bytes
     else record { kind = kind_of b; text = b ∷ [] } ∷ symbols (c ∷ bytes)
 
--- Words (systemd.time(7), Parsing Time Spans: blanks may stand before, between and after them)
+-- Words (systemd.time(7), Parsing Time Spans: blanks may come before, between and after them)
 
 -- a piece in front of others: it joins the first of them where that is of its kind
 abbrev pub with_front : Piece → List Piece → List Piece
@@ -76,12 +76,12 @@ words_in bytes = filter (λ w. not (is_kind Blank w.kind)) (runs (symbols bytes)
 
 -- Pairs (systemd.time(7), Parsing Time Spans)
 
--- a number and its unit word, if it has one; where a number is due and none stands, the number is []
+-- a number and its unit word, if it has one; where a number is expected and there is none, the number is []
 pub record Pair : Type 0 where
   pub number : List ℕ
   pub unit : Option (List ℕ)
 
--- what stands where a number is due: the word itself, where it is one of digits and points
+-- what is where a number is expected: the word itself, where it is one of digits and points
 abbrev pub numeral_in : Piece → List ℕ
 numeral_in w = if is_kind Numeric w.kind then w.text else []
 
@@ -89,7 +89,7 @@ numeral_in w = if is_kind Numeric w.kind then w.text else []
 abbrev pub is_unit_of : Piece → Piece → Bool
 is_unit_of w v = is_kind Numeric w.kind && is_kind Letter v.kind
 
--- A number and the unit word after it, if any, are a pair. Any other word stands where a number is
+-- A number and the unit word after it, if any, are a pair. Any other word is where a number is
 -- due, and is a pair with no number.
 abbrev pub pairs_of : List Piece → List Pair
 pairs_of [] = []

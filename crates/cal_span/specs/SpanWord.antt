@@ -1,14 +1,14 @@
--- What stands at the front of a span text, as the steps that read it take it.
+-- What is at the start of a span text, as the steps that read it take it.
 use Rattle.std.specs.Prelude.{List, [], ◌∷◌, ◌++◌, ℕ, if◌then◌else◌}
 use Rattle.cal_span.specs.declared.span.word.CharKind.{CharKind}
 use Rattle.cal_span.specs.SpanValue.{Piece, is_kind}
 
--- the text of the longest front of this kind
+-- the text of the longest prefix of this kind
 abbrev pub front_of : CharKind → List Piece → List ℕ
 front_of kind [] = []
 front_of kind (s ∷ ss) = if is_kind kind s.kind then s.text ++ front_of kind ss else []
 
--- what stands after that front
+-- what comes after that prefix
 abbrev pub after_front : CharKind → List Piece → List Piece
 after_front kind [] = []
 after_front kind (s ∷ ss) = if is_kind kind s.kind then after_front kind ss else s ∷ ss

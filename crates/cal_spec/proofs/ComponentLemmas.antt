@@ -1,4 +1,4 @@
--- Components that were read have a meaning, and no more counted parts than may stand.
+-- Components that were read have a meaning, and no more counted parts than are allowed.
 use Rattle.std.proofs.Common.{ℕ, suc, ◌+◌, ◌-◌, ◌<◌, ◌≤◌, ◌≡◌, Bool, true, false, cond, ◌&&◌, List, [], ◌∷◌, length, Option, Some, None, Ok, refl, ap, arith, leb, eqb}
 use Rattle.std.specs.List.{AllByRecursion, slice_split}
 use Rattle.std.specs.Option.{option_or}
@@ -81,7 +81,7 @@ sound_parts slot (p ∷ ps) at =
     let none = or_none (fault_of slot p) (first_fault slot ps) at in
     (sound_part slot p none.0, sound_parts slot ps none.1)
 
--- as many parts as texts, and no more than may stand
+-- as many parts as texts, and no more than are allowed
 
 pub part_due_ok : (slot : Slot) (room : ℕ) (text : List ℕ) (p : Part) → part_due slot room text ≡ Ok p → 0 < room
 unfolding part_due

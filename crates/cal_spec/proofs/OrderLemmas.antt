@@ -91,7 +91,7 @@ module _ {A : Type 0} (cmp : A → A → Ordering) (total : IsTotalOrder cmp) (e
   sorted_placed x [] h = (tt, tt)
   sorted_placed x (y ∷ ys) h = sorted_placed_by (cmp x y) x y ys refl h (sorted_placed x ys (tail_sorted y ys h))
 
-  -- each element stands once, in its place
+  -- each element occurs once, in its place
   pub sorted_in_order : (xs : List A) → IsStrictlySortedBy cmp (in_order cmp xs)
   unfolding IsStrictlySortedBy
   sorted_in_order [] = tt

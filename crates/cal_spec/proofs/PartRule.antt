@@ -97,7 +97,7 @@ at_end_is : (slot : Slot) (p : Part) (ss : List Sign) (q : Part) → part_at_end
 at_end_is slot p [] q at = (refl, cc)
 at_end_is slot p (s ∷ ss) q at = cc
 
--- what stands after a number of a part
+-- what comes after a number of a part
 pub record IsBehind (ss : List Sign) (a : ℕ) (last : Option ℕ) (p : Part) : Type 0 where
   pub step : Option ℕ
   pub back : IsNext (codes "/") (written ss) step
@@ -125,7 +125,7 @@ end_read slot a b (dots ∷ ss) p sound at = cc
 end_read slot a b (point ∷ ss) p sound at = cc
 end_read slot a b (other c ∷ ss) p sound at = cc
 
--- what stands after the first number of a part
+-- what comes after the first number of a part
 pub record IsRest (text : List ℕ) (a : ℕ) (p : Part) : Type 0 where
   pub middle : List ℕ
   pub back : List ℕ
@@ -200,7 +200,7 @@ number_signs (d ∷ ds) n rest number apart =
     let parts = and_parts (is_ascii_digit d) (list_all is_ascii_digit ds) number.digits in
     signs_number d ds rest parts.0 parts.1 apart
 
--- a slash stands alone
+-- a slash is by itself
 slash_signs : (bs : List ℕ) → signs (47 ∷ bs) ≡ slash ∷ signs bs
 slash_signs bs = signs_lone 47 bs refl refl
 
@@ -221,7 +221,7 @@ unfolding after_start
 start_only slot a back None none = rw none refl
 start_only slot a back (Some r) next = rw (next.1, slash_signs next.0) (step_only slot a None next.0 r next.2)
 
--- what stands after a number begins with no digit, and with no lone point
+-- what comes after a number begins with no digit, and with no lone point
 back_no_digit : (back : List ℕ) (step : Option ℕ) → IsNext (codes "/") back step → begins_with is_ascii_digit back ≡ false
 back_no_digit back None none = rw none refl
 back_no_digit back (Some r) next = rw next.1 refl

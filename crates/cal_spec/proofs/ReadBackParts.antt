@@ -26,7 +26,7 @@ use Rattle.cal_spec.proofs.SignLemmas.{begins_with, signs_lone, signs_number}
 
 -- Numbers
 
--- the digits of a number in at least so many digits
+-- the digits of a number in at least that many digits
 abbrev pub padded : ℕ → ℕ → List ℕ
 padded width n = zeros width n ++ decimal n
 
@@ -70,7 +70,7 @@ signs_of_number (d ∷ ds) rest all some apart =
     let parts = and_parts (is_ascii_digit d) (list_all is_ascii_digit ds) all in
     signs_number d ds rest parts.0 parts.1 apart
 
--- and it is read where a number is due
+-- and it is read where a number is expected
 due_by : (slot : Slot) (n : ℕ) (ss : List Sign) → n < 10_000 → starts_with_point ss ≡ false → after_number slot n ss ≡ Ok (record { number = n; after = ss })
 due_by slot n ss small whole =
     let fits : nat_lt 9_999 n ≡ false = le-ltb 9_999 n (omega arith) in

@@ -20,7 +20,7 @@ pub signs_digit : (b : ℕ) (bs : List ℕ) → is_ascii_digit b ≡ true → si
 signs_digit b [] digit = rw digit refl
 signs_digit b (c ∷ bs) digit = rw (digit_no_point b digit, digit) refl
 
--- a byte that is neither a digit nor the first of two points stands alone
+-- a byte that is neither a digit nor the first of two points is by itself
 pub signs_lone : (b : ℕ) (bs : List ℕ) → is_ascii_digit b ≡ false → (is_point b && begins_with is_point bs) ≡ false → signs (b ∷ bs) ≡ lone b ∷ signs bs
 signs_lone b [] digit apart = rw digit refl
 signs_lone b (c ∷ bs) digit apart = rw (apart, digit) refl
@@ -48,7 +48,7 @@ signs_number b (d ∷ ds) rest digit all apart =
     let parts = and_parts (is_ascii_digit d) (list_all is_ascii_digit ds) all in
     signs_digit b (d ∷ (ds ++ rest)) digit ∙ ap (with_digit b) (signs_number d ds rest parts.0 parts.1 apart)
 
--- the digits at the front
+-- the digits at the start
 front_step : (b : ℕ) (bs : List ℕ) (digit : Bool) → is_ascii_digit b ≡ digit → list_all is_ascii_digit (take (prefix_len is_ascii_digit bs) bs) ≡ true → list_all is_ascii_digit (take (cond digit (1 + prefix_len is_ascii_digit bs) 0) (b ∷ bs)) ≡ true
 front_step b bs true is all = let e : 1 + prefix_len is_ascii_digit bs ≡ suc (prefix_len is_ascii_digit bs) = omega arith in rw e (rw is all)
 front_step b bs false is all = refl
@@ -107,7 +107,7 @@ signs_sound (b ∷ c ∷ bs) = pair_of_signs b (signs bs) (signs (c ∷ bs)) (is
 pub sound_at : (text : List ℕ) (ss : List Sign) → signs text ≡ ss → AllByRecursion IsSign ss
 sound_at text ss at = rw at at (signs_sound text)
 
--- the number of digits at the front, from place to place
+-- the number of digits at the start, from place to place
 pub digits_here : (text : List ℕ) (i : ℕ) → i < length text → is_ascii_digit (get_or text i 0) ≡ true → prefix_len is_ascii_digit (drop i text) ≡ 1 + prefix_len is_ascii_digit (drop (i + 1) text)
 digits_here text i within digit = at_drop_more (prefix_len is_ascii_digit) text i 0 within ∙ rw digit refl
 
@@ -116,6 +116,6 @@ pub digits_at_front : (text : List ℕ) → 0 < length text → 48 ≤ get_or te
 digits_at_front [] some low high = absurd (omega arith)
 digits_at_front (b ∷ bs) some low high = digits_first b bs (and_from _ _ (le-leb 48 b low) (le-leb b 57 high))
 
--- a number that stands first has only digits
+-- a number that is first has only digits
 pub first_has_digits : (text : List ℕ) (ds : List ℕ) (ss : List Sign) → signs text ≡ digits ds ∷ ss → list_all is_ascii_digit ds ≡ true
 first_has_digits text ds ss at = (sound_at text (digits ds ∷ ss) at).0.0

@@ -23,7 +23,7 @@ pub parts_text-first : (width : ℕ) (p : Part) (ps : List Part) → parts_text 
 unfolding parts_text
 parts_text-first width p ps = refl
 
--- what leads up to a part stands in front of it
+-- what leads up to a part comes before it
 pub part_text-comma : (width : ℕ) (p : Part) → part_text (codes ",") width p ≡ codes "," ++ part_text [] width p
 unfolding part_text number_text
 part_text-comma width p = refl

@@ -12,7 +12,7 @@ use Rattle.cal_spec.specs.WeekdayRuns.{Run, AreApartFrom, AreRuns, is_in, with_d
 run : ℕ → ℕ → Run
 run first last = record { first = first; last = last }
 
--- how many days at the front are chosen
+-- how many days at the start are chosen
 abbrev pub front : List Bool → ℕ
 front = prefix_len (λ day. day)
 
@@ -51,13 +51,13 @@ with_day-alone day (r ∷ rs) a =
 with_day-joins : (day last : ℕ) (rs : List Run) → with_day day (record { first = day + 1; last = last } ∷ rs) ≡ record { first = day; last = last } ∷ rs
 with_day-joins day last rs = let same : nat_eq (day + 1) (day + 1) ≡ true = eq-eqb (day + 1) (day + 1) refl in rw same
 
--- no chosen day at the front
+-- no chosen day at the start
 pub runs_skip : (day : ℕ) (bs : List Bool) → front bs ≡ 0 → runs_from day bs ≡ runs_from (day + 1) (drop 1 bs)
 runs_skip day [] h = refl
 runs_skip day (true ∷ bs) h = absurd (omega arith)
 runs_skip day (false ∷ bs) h = refl
 
--- the chosen days at the front are the first run
+-- the chosen days at the start are the first run
 pub runs_front : (n day : ℕ) (bs : List Bool) → front bs ≡ suc n
     → runs_from day bs ≡ record { first = day; last = day + n } ∷ runs_from (day + n + 2) (drop (suc (suc n)) bs)
 runs_front n day [] h = absurd (omega arith)

@@ -61,7 +61,7 @@ name_only text Saturday (inr is) = rw is refl
 name_only text Sunday (inl is) = rw is refl
 name_only text Sunday (inr is) = rw is refl
 
--- a name has letters alone
+-- a name has only letters
 
 letter_by : (b : ℕ) → is_ascii_lowercase (to_ascii_lowercase b) ≡ true → is_ascii_alphabetic b ≡ true
 letter_by b test = grind (arith, nat_tests)
@@ -96,7 +96,7 @@ pub name_letters : (text : List ℕ) (day : Weekday) → IsName text day → lis
 name_letters text day (inl is) = letters_by text (ap (list_all is_ascii_lowercase) is ∙ long_letters day)
 name_letters text day (inr is) = letters_by text (ap (list_all is_ascii_lowercase) is ∙ short_letters day)
 
--- the letters at the front
+-- the letters at the start
 
 no_letter : (b : ℕ) → is_ascii_alphabetic b ≡ true → not (is_no_letter b) ≡ true
 no_letter b letter = rw letter refl

@@ -81,7 +81,7 @@ time_colon room word h at =
     let found = time_found room word h at in
     true_from_ne_false (list_any is_colon word) (time_needs word found.texts found.shape)
 
--- What stands after a date, and after the weekdays
+-- What comes after a date, and after the weekdays
 
 pub record AfterDate (weekdays : Option (List ℕ)) (date : List ℕ) (ws : List (List ℕ)) (p : Places) (last : Option (List ℕ)) : Type 0 where
   pub time : Option (List ℕ)

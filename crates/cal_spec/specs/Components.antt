@@ -16,7 +16,7 @@ is_comma b = b == 44
 abbrev pub is_star : List ℕ → Bool
 is_star text = bytes_eq text (codes "*")
 
--- how many counted parts may stand in all
+-- how many counted parts are allowed in all
 abbrev pub most_counted : ℕ
 most_counted = 240
 
@@ -25,11 +25,11 @@ abbrev pub counted : Slot → Option (List Part) → ℕ
 counted slot None = 0
 counted slot (Some ps) = if is_time slot then length ps - 1 else length ps
 
--- how many parts may stand where so many counted ones may
+-- how many parts are allowed where that many counted ones are
 abbrev pub room_in : Slot → ℕ → ℕ
 room_in slot room = if is_time slot then room + 1 else room
 
--- the part that is due where so many may stand
+-- the part that is expected where that many are allowed
 unfoldable pub part_due : Slot → ℕ → List ℕ → Result Part SpecFault
 part_due slot room text =
     if room == 0 then Err TooManyParts else (part_of slot text >>= λ p. Ok (with_values slot p))
@@ -49,6 +49,6 @@ unfoldable pub listed : Slot → ℕ → List ℕ → Result (List Part) SpecFau
 listed slot room text =
     parts_of slot (room_in slot room) (slice_split is_comma text) >>= λ ps. unless (first_fault slot ps) ps
 
--- a component, where so many counted parts may stand
+-- a component, where that many counted parts are allowed
 unfoldable pub component_of : Slot → ℕ → List ℕ → Result (Option (List Part)) SpecFault
 component_of slot room text = if is_star text then Ok None else (listed slot room text >>= λ ps. Ok (Some ps))

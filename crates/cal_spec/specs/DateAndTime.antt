@@ -38,7 +38,7 @@ pub record TimeFields : Type 0 where
 abbrev pub is_tilde : ℕ → Bool
 is_tilde b = b == 126
 
--- what stands between the components of a date
+-- what comes between the components of a date
 abbrev pub is_date_sign : ℕ → Bool
 is_date_sign b = (b == 45) || is_tilde b
 
@@ -73,12 +73,12 @@ date_fields t =
     >>= λ month. component_of (day_slot t.from_end) (most_counted - counted Year year - counted Month month) t.day
     >>= λ day. Ok (record { year = year; month = month; day = day; from_end = t.from_end })
 
--- how many counted parts may stand after the date
+-- how many counted parts are allowed after the date
 abbrev pub room_after : DateFields → ℕ
 room_after d =
     most_counted - counted Year d.year - counted Month d.month - counted (day_slot d.from_end) d.day
 
--- the components of a time from the left, where so many counted parts may stand
+-- the components of a time from the left, where that many counted parts are allowed
 unfoldable pub time_fields : ℕ → TimeTexts → Result TimeFields SpecFault
 time_fields room t =
     component_of Hour room t.hour

@@ -9,7 +9,7 @@ use Rattle.cal_spec.specs.WeekdayRuns.{weekdays_text}
 use Rattle.cal_spec.specs.ZoneSuffix.{Suffix, suffix_text}
 use Rattle.cal_spec.specs.declared.part.Part.{Part}
 
--- a number in at least so many digits, with what leads up to it in front
+-- a number in at least that many digits, with what leads up to it in front
 unfoldable pub number_text : List ℕ → ℕ → ℕ → List ℕ
 number_text lead width n = joined (lead ∷ zeros width n ∷ decimal n ∷ [])
 

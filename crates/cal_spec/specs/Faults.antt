@@ -26,7 +26,7 @@ abbrev pub numbered : Slot → List ℕ → ℕ
 numbered slot text =
     if is_star text then 0 else (if is_time slot then length (pieces_of text) - 1 else length (pieces_of text))
 
--- the number of the first part, where so many counted ones stand before it
+-- the number of the first part, where that many counted ones come before it
 abbrev pub first_number : Slot → ℕ → ℕ
 first_number slot before = if is_time slot then before else before + 1
 

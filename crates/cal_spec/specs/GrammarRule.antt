@@ -68,12 +68,12 @@ IsComponent slot text (Some ps) = AreListed slot text ps
 
 -- Dates and times
 
--- what stands before the day
+-- what comes before the day
 abbrev pub last_sign : Bool → List ℕ
 last_sign true = codes "~"
 last_sign false = codes "-"
 
--- `year-month-day` or `month-day`, where `~` may stand in place of the last `-`
+-- `year-month-day` or `month-day`, where `~` may be in place of the last `-`
 abbrev pub IsDateShape : List ℕ → DateTexts → Type 0
 IsDateShape word t =
     (word ≡ t.year ++ (codes "-" ++ (t.month ++ (last_sign t.from_end ++ t.day)))) ⊎ ((t.year ≡ codes "*") × (word ≡ t.month ++ (last_sign t.from_end ++ t.day)))
@@ -153,14 +153,14 @@ AreWords text (w ∷ ws) =
 
 -- What the words stand for
 
--- the word that stands there, if one does
+-- the word that is there, if any
 abbrev pub given : Option (List ℕ) → List (List ℕ)
 given word = option_to_list word
 
 abbrev pub IsSignless : List ℕ → Type 0
 IsSignless word = begins_with_sign word ≡ false
 
--- `[weekdays] [date] [time] [zone]`, where one of the first three stands; what a word is shows at its first letter and
+-- `[weekdays] [date] [time] [zone]`, where one of the first three is there; what a word is shows at its first letter and
 -- at a colon, and after the first word a sign begins the zone alone
 pub record ArePlain (ws : List (List ℕ)) (p : Places) (last : Option (List ℕ)) : Type 0 where
   pub date : Option (List ℕ)

@@ -26,7 +26,7 @@ date_in sets date =
     sets.weekday (weekday_of date)
     && (sets.year (unsigned_abs date.year) && (sets.month date.month && sets.day (day_number sets.from_end date)))
 
--- the hour, minute and second of so many seconds after midnight are members
+-- the hour, minute and second of that many seconds after midnight are members
 unfoldable pub time_in : Sets → ℕ → Bool
 time_in sets second =
     sets.hour (hour_of second) && (sets.minute (minute_of second) && sets.second (second_of second))

@@ -1,5 +1,5 @@
 -- The normal form of a calendar expression: systemd.time(7), Calendar Events. Ranges end at the last number that they
--- reach, parts stand in order, and equal parts stand once. Overlapping parts stay.
+-- reach, parts are in order, and equal parts occur once. Overlapping parts stay.
 use Rattle.std.specs.Prelude.{◌≡◌, ◌==◌, ◌&&◌, ℕ, ◌+◌, ◌-◌, ◌*◌, ◌/◌, ◌%◌, ◌<◌, ◌≤◌, Bool, false, if◌then◌else◌, List, [], ◌∷◌, map, Option, None, Some, unwrap_or, nat_eq}
 use Rattle.std.specs.List.{AllByRecursion}
 use Rattle.std.specs.List.Sorted.{IsStrictlySortedBy}

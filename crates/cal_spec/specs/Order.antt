@@ -1,4 +1,4 @@
--- Lists in an order, in which each element stands once.
+-- Lists in an order, in which each element occurs once.
 use Rattle.std.specs.Prelude.{◌≡◌, ◌⊎◌, List, [], ◌∷◌}
 use Rattle.std.specs.declared.cmp.Ordering.{Ordering}
 use Rattle.std.specs.declared.cmp.Ordering.TheVariants.{Less, Equal, Greater}

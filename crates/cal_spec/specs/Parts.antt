@@ -58,7 +58,7 @@ abbrev pub with_digit : ℕ → List Sign → List Sign
 with_digit b (digits ds ∷ ss) = digits (b ∷ ds) ∷ ss
 with_digit b ss = digits (b ∷ []) ∷ ss
 
--- the sign of a byte that stands alone
+-- the sign of a byte that is by itself
 abbrev pub lone : ℕ → Sign
 lone b = if is_point b then point else (if is_slash b then slash else other b)
 
@@ -93,7 +93,7 @@ after_number slot n ss =
     else (if is_second slot && starts_with_point ss then Err FractionalSecond
     else Ok (record { number = n; after = ss }))
 
--- where a number is due
+-- where a number is expected
 abbrev pub number_due : Slot → List Sign → Result Counted SpecFault
 number_due slot (digits ds ∷ ss) = after_number slot (digits_value 10 ds) ss
 number_due slot ss = Err (bad slot)

@@ -28,21 +28,21 @@ is_covered day days = nat_le (days_until days.first day) (days_until days.first 
 abbrev pub is_no_letter : ℕ → Bool
 is_no_letter b = not (is_ascii_alphabetic b)
 
--- the letters at the front, and what stands after them
+-- the letters at the start, and what comes after them
 abbrev pub leading_letters : List ℕ → List ℕ
 leading_letters word = take (position_or_len is_no_letter word) word
 
 abbrev pub after_letters : List ℕ → List ℕ
 after_letters word = drop (position_or_len is_no_letter word) word
 
--- what stands after `-` or `..`
+-- what comes after `-` or `..`
 abbrev pub after_joint : List ℕ → Option (List ℕ)
 after_joint [] = None
 after_joint (b ∷ []) = if b == 45 then Some [] else None
 after_joint (b ∷ c ∷ bs) =
     if b == 45 then Some (c ∷ bs) else (if (b == 46) && (c == 46) then Some bs else None)
 
--- the days from the first one to the one that stands after a joint
+-- the days from the first one to the one that comes after a joint
 abbrev pub days_to : Weekday → Option (List ℕ) → Option Days
 days_to first None = None
 days_to first (Some name) = option_map (λ last. record { first = first; last = last }) (day_named name)

@@ -12,7 +12,7 @@ use crate::slot::Slot;
 use crate::{Part, SpecFault};
 use std::alloc::Global;
 
-/// The component that the text writes, `None` for `*`, where so many counted parts may stand
+/// The component that the text writes, `None` for `*`, where that many counted parts are allowed
 /// (systemd.time(7), Calendar Events). First the shapes of all its parts are judged, then their values.
 #[tactic(auto, unfolding(crate::specs::Components::component_of))]
 pub(crate) fn read_component(
@@ -76,7 +76,7 @@ fn read_parts(alloc: Global, slot: Slot, room: usize, text: &[u8]) -> Result<Vec
     Ok(parts)
 }
 
-/// The part that is due where so many may stand.
+/// The part that is expected where that many are allowed.
 #[tactic(auto, unfolding(crate::specs::Components::part_due))]
 fn part_due(slot: Slot, room: usize, text: &[u8]) -> Result<Part, SpecFault>
     ensures { Gives (λ part. part) result (part_due slot room text.now) }

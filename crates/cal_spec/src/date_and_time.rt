@@ -16,7 +16,7 @@ use crate::raw::{RawDate, RawTime};
 use crate::slot::Slot;
 use std::alloc::Global;
 
-/// How many counted parts may stand in all: the first part of the hour, of the minute and of the second isn't counted.
+/// How many counted parts are allowed in all: the first part of the hour, of the minute and of the second isn't counted.
 const MOST_COUNTED: usize = 240;
 
 /// The date that the word writes, `year-month-day` or `month-day`, with `~` in place of the last `-` where the day is
@@ -32,7 +32,7 @@ pub(crate) fn read_date(alloc: Global, word: &[u8]) -> Result<RawDate, SpecFault
     }
 }
 
-/// The time that the word writes, `hour:minute` or `hour:minute:second`, where so many counted parts may stand
+/// The time that the word writes, `hour:minute` or `hour:minute:second`, where that many counted parts are allowed
 /// (systemd.time(7), Calendar Events). First the number of components is judged, then these from the left.
 #[tactic(auto, unfolding(crate::specs::DateAndTime::time_of))]
 pub(crate) fn read_time(alloc: Global, room: usize, word: &[u8]) -> Result<RawTime, SpecFault>
@@ -45,7 +45,7 @@ pub(crate) fn read_time(alloc: Global, room: usize, word: &[u8]) -> Result<RawTi
     }
 }
 
-/// How many counted parts may stand after the date.
+/// How many counted parts are allowed after the date.
 pub(crate) fn room_after(date: &RawDate) -> usize
     ensures value { result ≡ room_after (date_in date.now) }
     ensures bound { result ≤ most_counted }
@@ -98,7 +98,7 @@ fn date_words(word: &[u8]) -> Option<DateWords<'_>>
     })
 }
 
-/// What stands before the first `-` or `~`, that sign, and what stands after it.
+/// What comes before the first `-` or `~`, that sign, and what comes after it.
 fn cut_at_sign(word: &[u8]) -> Option<(&[u8], u8, &[u8])>
     ensures { MatchOption result
         ((slice_split is_date_sign word.now ≡ word.now ∷ []) × (filter is_date_sign word.now ≡ []))
@@ -141,7 +141,7 @@ fn time_words(word: &[u8]) -> Option<TimeWords<'_>>
     }
 }
 
-/// Where the day stands, which may be counted from the month's end.
+/// Where the day is, which may be counted from the month's end.
 fn day_slot(from_end: bool) -> Slot
     ensures { result ≡ day_slot from_end }
 {
@@ -170,7 +170,7 @@ fn date_fields(alloc: Global, words: DateWords<'_>) -> Result<RawDate, SpecFault
     })
 }
 
-/// The components of a time from the left, where so many counted parts may stand.
+/// The components of a time from the left, where that many counted parts are allowed.
 #[tactic(auto, unfolding(crate::specs::DateAndTime::time_fields))]
 fn time_fields(alloc: Global, room: usize, words: TimeWords<'_>) -> Result<RawTime, SpecFault>
     requires { room ≤ most_counted }

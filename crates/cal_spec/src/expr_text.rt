@@ -152,7 +152,7 @@ fn put_optional<W: Sink>(
     }
 }
 
-/// Writes a number in at least so many digits, with what leads up to it in front.
+/// Writes a number in at least that many digits, with what leads up to it in front.
 #[tactic(auto, unfolding(crate::specs::ExprText::number_text))]
 fn put_number<W: Sink>(
     out: &mut W,

@@ -45,7 +45,7 @@ fn has_weekday(weekdays: &[bool; 7], weekday: Weekday) -> bool
     weekdays[usize::from(weekday.index())]
 }
 
-/// Whether so many seconds after midnight are a time of the expression's.
+/// Whether that many seconds after midnight are a time of the expression's.
 #[tactic(auto, unfolding(crate::specs::Match::time_in, crate::specs::Members::sets_of, crate::specs::Fields::fields_of))]
 fn has_time(raw: &Raw, second: u64) -> bool
     requires { second < 86_400 }
@@ -69,7 +69,7 @@ pub fn day_number(from_end: bool, date: Date) -> u16
     day.unsigned_abs().into()
 }
 
-/// Where a day stands, which may be counted from the month's end.
+/// Where a day is, which may be counted from the month's end.
 pub fn day_slot(from_end: bool) -> Slot
     ensures { result ≡ day_slot from_end }
 {

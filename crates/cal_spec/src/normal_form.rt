@@ -1,4 +1,4 @@
-//! The normal form of components: ranges end at the last number that they reach, and parts stand in order, equal ones
+//! The normal form of components: ranges end at the last number that they reach, and parts are in order, equal ones
 //! once.
 
 ghost use Rattle.std.specs.Prelude.{◌≡◌, None, Some, map, option_map, if◌then◌else◌};

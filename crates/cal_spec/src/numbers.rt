@@ -9,10 +9,10 @@ ghost use Rattle.cal_spec.specs.Symbol.{sign_of};
 
 use cal_span::whole_of;
 
-/// What stands in a part of a component.
+/// What is in a part of a component.
 #[derive(Clone, Copy)]
 pub(crate) enum Symbol<'a> {
-    /// As many digits as stand together.
+    /// As many digits as come in a row.
     Digits(&'a [u8]),
     /// Two points.
     Dots,
@@ -23,7 +23,7 @@ pub(crate) enum Symbol<'a> {
     Other(u8),
 }
 
-/// The first symbol of the text and what stands after it.
+/// The first symbol of the text and what comes after it.
 pub(crate) fn first_symbol(text: &[u8]) -> Option<(Symbol<'_>, &[u8])>
     ensures { MatchOption result (text.now ≡ [])
         (λ found. signs text.now ≡ sign_of found.0 ∷ signs found.1.now) }
@@ -41,7 +41,7 @@ pub(crate) fn first_symbol(text: &[u8]) -> Option<(Symbol<'_>, &[u8])>
     }
 }
 
-/// The number of digits at the front of the text.
+/// The number of digits at the start of the text.
 fn digits_len(text: &[u8]) -> usize
     ensures value { result ≡ prefix_len is_ascii_digit text.now }
     ensures within { result ≤ length text.now }

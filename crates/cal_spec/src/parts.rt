@@ -72,7 +72,7 @@ fn bad_shape(slot: Slot) -> SpecFault
     }
 }
 
-/// The number that is due here, and what stands after it.
+/// The number that is expected here, and what comes after it.
 fn read_number(slot: Slot, text: &[u8]) -> Result<(u16, &[u8]), SpecFault>
     ensures { Gives (λ found. record { number = found.0; after = signs found.1.now }) result
         (number_due slot (signs text.now)) }
@@ -97,7 +97,7 @@ fn begins_with_point(text: &[u8]) -> bool
     matches!(first_symbol(text), Some((Symbol::Point, _)))
 }
 
-/// What stands after the first number.
+/// What comes after the first number.
 #[tactic(auto, unfolding(crate::specs::Parts::after_start))]
 fn after_start(slot: Slot, start: u16, text: &[u8]) -> Result<Part, SpecFault>
     ensures { Gives (λ part. part) result (after_start slot start (signs text.now)) }
@@ -117,7 +117,7 @@ fn after_start(slot: Slot, start: u16, text: &[u8]) -> Result<Part, SpecFault>
     }
 }
 
-/// What stands after the end of a range.
+/// What comes after the end of a range.
 #[tactic(auto, unfolding(crate::specs::Parts::after_end))]
 fn after_end(slot: Slot, start: u16, end: u16, text: &[u8]) -> Result<Part, SpecFault>
     ensures { Gives (λ part. part) result (after_end slot start end (signs text.now)) }
@@ -133,7 +133,7 @@ fn after_end(slot: Slot, start: u16, end: u16, text: &[u8]) -> Result<Part, Spec
     }
 }
 
-/// What stands after a slash: the step, and nothing else.
+/// What comes after a slash: the step, and nothing else.
 #[tactic(auto, unfolding(crate::specs::Parts::with_step))]
 fn with_step(slot: Slot, start: u16, end: Option<u16>, text: &[u8]) -> Result<Part, SpecFault>
     ensures { Gives (λ part. part) result (with_step slot start end (signs text.now)) }

@@ -12,7 +12,7 @@ pub(crate) fn place_of(text: &[u8], separator: u8) -> Option<usize>
     text.iter().position(|byte| *byte == separator)
 }
 
-/// What stands before the first separator, and what stands after it, where there is one.
+/// What comes before the first separator, and what comes after it, where there is one.
 pub(crate) fn cut_at(text: &[u8], place: Option<usize>) -> (&[u8], Option<&[u8]>)
     requires { IfSome place (λ index. index < length text.now) }
     ensures pieces { (p : ℕ → Bool) → place ≡ position p text.now
@@ -25,7 +25,7 @@ pub(crate) fn cut_at(text: &[u8], place: Option<usize>) -> (&[u8], Option<&[u8]>
     }
 }
 
-/// The text before the first separator of this kind, and what stands after it.
+/// The text before the first separator of this kind, and what comes after it.
 pub fn first_piece(text: &[u8], separator: u8) -> (&[u8], Option<&[u8]>)
     ensures pieces { slice_split (λ byte. byte == separator) text.now
         ≡ result.0.now ∷ pieces_after (λ byte. byte == separator) (option_copied result.1) }

@@ -26,7 +26,7 @@ const MOST_TEXT_BYTES: usize = 4096;
 ///
 /// The fault is the first one: [`SpecFault::TextTooLong`] above 4,096 bytes, then [`SpecFault::Empty`] where there is
 /// no word, then that of the words from the left. [`SpecFault::NoMemory`] comes only where memory was refused; nothing
-/// stands then. The zone is a name or an offset, `+hh:mm` or `-hh:mm`; whether there is a zone of that name isn't asked
+/// is said then. The zone is a name or an offset, `+hh:mm` or `-hh:mm`; whether there is a zone of that name isn't asked
 /// here.
 #[tactic(auto, unfolding(crate::specs::Expr::expr_in))]
 pub fn read_expr(alloc: Global, text: &str) -> Result<Expr, SpecFault>
@@ -40,7 +40,7 @@ pub fn read_expr(alloc: Global, text: &str) -> Result<Expr, SpecFault>
 /// Calendar Events).
 ///
 /// The fault is the first one: `TextTooLong` above 4,096 bytes, then `Empty` where there is no word, then that of the
-/// words from the left. `NoMemory` comes only where memory was refused; nothing stands then.
+/// words from the left. `NoMemory` comes only where memory was refused; nothing is said then.
 #[tactic(auto, unfolding(crate::specs::Grammar::fields_in))]
 fn read_fields(alloc: Global, text: &str) -> Result<Raw, SpecFault>
     ensures fields { GivesUnlessNoMemory fields_of result (fields_in text.now) }

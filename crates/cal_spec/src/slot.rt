@@ -1,9 +1,9 @@
-//! Where a number of a calendar expression stands, and the numbers that are allowed there.
+//! Where a number of a calendar expression is, and the numbers that are allowed there.
 
 ghost use Rattle.std.specs.Prelude.{◌≡◌, ◌≤◌};
 ghost use Rattle.cal_spec.specs.Slot.{least, greatest};
 
-/// Where a number stands. A count from the month's end has bounds of its own.
+/// Where a number is. A count from the month's end has bounds of its own.
 #[derive(Clone, Copy, PartialEq, Eq, Debug)]
 pub enum Slot {
     Year,

@@ -44,7 +44,7 @@ pub enum SpecFault {
     /// There are more than 240 parts, the first one of the hour, the minute and the second not counted.
     #[error("more than 240 parts")]
     TooManyParts = 12,
-    /// A word stands where none may stand.
+    /// A word is where none may be.
     #[error("stray word")]
     StrayWord = 13,
     /// The first word is none of the shorthands.
@@ -58,7 +58,7 @@ pub enum SpecFault {
 impl SpecFault {
     ghost use Rattle.cal_spec.specs.SpecFault.{words_of};
 
-    /// What a user is told, the text of `Display` too; nothing where memory was refused.
+    /// What is reported to a user, the text of `Display` too; nothing where memory was refused.
     pub fn words(&self) -> &str
         ensures { result.now ≡ words_of self.now }
     {

@@ -46,7 +46,7 @@ fn put_runs<W: Sink>(out: &mut W, days: &[bool]) -> Result<(), WriteFault>
     Ok(())
 }
 
-/// How many days at the front are chosen.
+/// How many days at the start are chosen.
 #[tactic(auto, using(crate::proofs::WeekdayLemmas::front_within))]
 fn front_len(days: &[bool]) -> usize
     ensures value { result ≡ prefix_len (λ day. day) days.now }

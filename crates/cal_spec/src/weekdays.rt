@@ -72,7 +72,7 @@ fn read_days(item: &[u8]) -> Option<Days>
     Some(Days { first, last })
 }
 
-/// What stands after `..` or `-`.
+/// What comes after `..` or `-`.
 fn after_joint(text: &[u8]) -> Option<&[u8]>
     ensures { option_copied result ≡ after_joint text.now }
 {
@@ -103,7 +103,7 @@ fn find_named(days: &[Weekday], word: &[u8]) -> Option<Weekday>
     None
 }
 
-/// The number of letters at the front of the word.
+/// The number of letters at the start of the word.
 fn letters_len(word: &[u8]) -> usize
     ensures value { result ≡ position_or_len is_no_letter word.now }
     ensures within { result ≤ length word.now }

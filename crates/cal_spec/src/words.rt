@@ -20,7 +20,7 @@ pub(crate) struct Places<'a> {
     pub(crate) date: &'a [u8],
     /// The time, or `00:00:00`.
     pub(crate) time: &'a [u8],
-    /// What stands after the time.
+    /// What comes after the time.
     pub(crate) rest: &'a [u8],
 }
 
@@ -46,7 +46,7 @@ pub(crate) fn find_places(text: &[u8]) -> Option<Places<'_>>
     Some(date_or_time(None, word, after))
 }
 
-/// The first word of the text and what stands after it, or `None` where there are only blanks.
+/// The first word of the text and what comes after it, or `None` where there are only blanks.
 pub(crate) fn first_word(text: &[u8]) -> Option<(&[u8], &[u8])>
     ensures { MatchOption result (words text.now ≡ [])
         (λ found. words text.now ≡ found.0.now ∷ words found.1.now) }

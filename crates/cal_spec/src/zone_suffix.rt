@@ -19,11 +19,11 @@ use std::alloc::Global;
 pub enum ZoneSuffix {
     /// The zone of this name.
     Name(String),
-    /// The clock so many seconds ahead of UTC.
+    /// The clock that many seconds ahead of UTC.
     Offset(i32),
 }
 
-/// The zone, if there is one, in what stands after the time (systemd.time(7), Calendar Events): a name or an offset. Any
+/// The zone, if there is one, in what comes after the time (systemd.time(7), Calendar Events): a name or an offset. Any
 /// other word there is a `StrayWord`.
 #[tactic(auto, unfolding(crate::specs::ZoneSuffix::suffix_of))]
 pub(crate) fn read_suffix(alloc: Global, text: &[u8]) -> Result<Option<ZoneSuffix>, SpecFault>

@@ -1,4 +1,4 @@
-//! Command lines: which words ask for what, and what is told of the others.
+//! Command lines: which words ask for what, and what is reported of the others.
 
 use cal_command::{Ask, CommandFault, LocalZone, ZoneItem};
 use cal_request::Verb;
@@ -86,7 +86,7 @@ fn expect_shown(rt: &(impl Abort + AllocGlobal), line: &str, want: &str) -> Resu
     Ok(())
 }
 
-/// On each line stand words, an arrow, and what they come to.
+/// On each line are words, an arrow, and what they come to.
 fn check(rt: &(impl Abort + AllocGlobal), lines: &str) -> Result<(), Fail> {
     for line in lines.lines() {
         let (words, want) = line.split_once(" -> ").ok_or("no arrow")?;
@@ -142,7 +142,7 @@ fn commands(rt: HostRuntime) -> Result<(), Fail> {
     check(&rt, COMMANDS)
 }
 
-/// Bad values, of which the first is told, and calls for help.
+/// Bad values, of which the first is reported, and calls for help.
 const OTHERS: &str = "\
 calendar|--iterations=0|--now=5|daily -> bad iterations
 calendar|--local=5x|--zones=x|--now=5|--iterations=0|daily -> bad iterations
@@ -201,7 +201,7 @@ fn no_word(rt: HostRuntime) {
     assert!(rt; matches!(Ask::of(rt.alloc(), &[]), Err(CommandFault::Usage(_))));
 }
 
-/// Each of the values, which are joined by `|`, is refused by these words where it is that option's.
+/// Each of the values, which are joined by `|`, is rejected by these words where it is that option's.
 fn check_values(
     rt: &(impl Abort + AllocGlobal),
     option: &str,
@@ -215,7 +215,7 @@ fn check_values(
     Ok(())
 }
 
-/// Options with bad values of theirs, which are joined by `|`, and the words that refuse them.
+/// Options with bad values of theirs, which are joined by `|`, and the words that reject them.
 static BAD_VALUES: [(&str, &str, &str); 4] = [
     (
         "iterations",
@@ -247,7 +247,7 @@ fn bad_values(rt: HostRuntime) -> Result<(), Fail> {
     Ok(())
 }
 
-/// A line with so many zone files.
+/// A line with that many zone files.
 fn with_zones(alloc: Global, count: usize) -> Result<String, Fail> {
     let mut line = String::from_str(alloc, "calendar|--zones=A=f")?;
     for _ in 1..count {

@@ -1,4 +1,4 @@
-//! The tests of the whole, on public calls alone: a room for each subject, in which each row stands under its name. What
+//! The tests of the whole, only on public calls: a module for each subject, in which each row has its name. What
 //! the contracts say of all arguments is not tested again.
 #![tactic(auto)]
 

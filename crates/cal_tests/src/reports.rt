@@ -18,7 +18,7 @@ use std::alloc::{AllocError, Global};
 use std::process::Abort;
 use std::test::Fail;
 
-/// A request, what goes with it, and the whole texts that it must write. The run ends well, and has refused
+/// A request, what goes with it, and the whole texts that it must write. The run ends well, and has rejected
 /// something where there is a text on standard error.
 #[derive(Clone, Copy)]
 struct Row<'a> {

@@ -44,14 +44,14 @@ fn perform_words<S: System>(alloc: Global, system: &S, words: &[&str]) -> Result
 /// A line of words, the texts on standard output and on standard error, and the status.
 type Row<'a> = (&'a str, &'a str, &'a str, u8);
 
-/// The line of words does what stands beside it.
+/// The line of words does what is beside it.
 fn check<S: System>(rt: &(impl Abort + AllocGlobal), system: &S, row: Row<'_>) -> Result<(), Fail> {
     let done = perform(rt.alloc(), system, row.0)?;
     expect_done(rt, &done, row);
     Ok(())
 }
 
-/// On each line stand words, an arrow, and the line that is told of them on standard error. All end with this status.
+/// On each line are words, an arrow, and the line that is reported of them on standard error. All end with this status.
 fn check_refused<S: System>(
     rt: &(impl Abort + AllocGlobal),
     system: &S,
@@ -66,7 +66,7 @@ fn check_refused<S: System>(
     Ok(())
 }
 
-/// What was done is what stands beside the line.
+/// What was done is what is beside the line.
 fn expect_done(rt: &impl Abort, done: &Done, row: Row<'_>) {
     let (line, out, err, status) = row;
     assert_eq!(rt;

@@ -1,4 +1,4 @@
-//! Zone files that are loaded into the table of zones, and refused ones.
+//! Zone files that are loaded into the table of zones, and rejected ones.
 
 use cal_bytes::{Faulty, Port, Then};
 use cal_library_tests::shared::zone_file;
@@ -99,7 +99,7 @@ const CUT: usize = 9;
 
 const WHOLE: usize = 999;
 
-/// A name, after how many bytes the reader does what, and the fault. The first fault is told: a name that is none, then
+/// A name, after how many bytes the reader does what, and the fault. The first fault is reported: a name that is none, then
 /// what the reader does, then the bytes, and last of all a name that is taken.
 static REFUSALS: [(&str, usize, Then, LoadFault); 8] = [
     ("1x", CUT, Then::Error, Zone(BadName)),
@@ -130,7 +130,7 @@ fn refusals_in_order(rt: HostRuntime) -> Result<(), Fail> {
     Ok(())
 }
 
-/// Bytes that are no zone file are refused by this fault.
+/// Bytes that are no zone file are rejected by this fault.
 fn check_bytes(
     rt: &(impl Abort + AllocGlobal),
     bytes: &[u8],

@@ -73,7 +73,7 @@ fn stop_of(alloc: Global, error: &io::Error) -> Stop {
 fn refuse<E: Sink>(err: &mut E, stop: &Stop) -> ExitCode
     requires { E.is_failed err.old ≡ false }
 {
-    // Where its line can't be written, the status alone tells.
+    // Where its line can't be written, only the status tells.
     let _ = write_stop(err, stop);
     ExitCode::from(stop.status())
 }

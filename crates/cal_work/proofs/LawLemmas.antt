@@ -1,4 +1,4 @@
--- Where a system tells all, what is seen is what is told.
+-- Where a system tells all, what is seen is what it tells.
 use Rattle.std.proofs.Common.{◌≡◌, ◌⊎◌, inl, inr, ℕ, ℤ, ◌<◌, ◌≤◌, Bool, true, false, List, [], ◌∷◌, length, Option, None, Some, Result, Ok, Err, IfOk, IfNone, refl, sym, ap, ◌∙◌, arith, nat_le}
 use Rattle.std.specs.Prelude.{IsSome, is_some}
 use Rattle.std.specs.FinMap.{empty}
@@ -50,7 +50,7 @@ seen_known limit (Some (Some all)) (Some (Err whole.NoMemory)) some h sure = inr
 some_none : {A : Type 0} (x : A) → Some x ≡ None → ⊥
 some_none x h = cc
 
--- a file that is open is told as one
+-- a file that is open is reported as one
 known_open : (limit : ℕ) (known : Option (Option (List ℕ))) (came : Result (List ℕ) WholeFault) → IsSome known → SeesBytes known limit (Some came) → (c : Result (List ℕ) WholeFault) × (known_seen limit known ≡ Some c)
 unfolding known_seen
 known_open limit None came some h = absurd (false≢true some)

@@ -1,4 +1,4 @@
--- Lemmas on what is told of an end: the texts and lines on both outputs, the buffer, and the status.
+-- Lemmas on what is reported of an end: the texts and lines on both outputs, the buffer, and the status.
 use Rattle.std.proofs.Common.{◌≡◌, ℕ, Bool, true, false, List, [], Option, None, Some, Result, Ok, Err, refl, sym, ap, ◌∙◌, append-nil}
 use Rattle.std.specs.Io.KnownBytes.{Keeps, Appends, append_known}
 use Rattle.std.proofs.KnownBytes.{Appends-nil, Appends-kept}
@@ -117,7 +117,7 @@ append_nothing : (b : Option (List ℕ)) → append_known b [] ≡ b
 append_nothing None = refl
 append_nothing (Some xs) = ap (λ l. Some l) (append-nil xs)
 
--- where a call failed, a front of the text has gone through the buffer, and what it still holds
+-- where a call failed, a prefix of the text has gone through the buffer, and what it still holds
 reaches_front : (before written reached : Option (List ℕ)) (text : List ℕ) (b : Bool) → AppendsFront before written text → Settles written reached b → (held : List ℕ) × AppendsFront before (append_known reached held) text
 reaches_front before written reached text true w s =
     ([], record { front = w.front; rest = w.rest; whole = w.whole; written = rw (append_nothing reached) (Appends-kept before written reached w.front w.written s) })

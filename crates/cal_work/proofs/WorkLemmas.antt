@@ -51,7 +51,7 @@ use Rattle.cal_report.proofs.ReportLemmas.{no_ok, nothing_front}
 pub is_stop : {X : Type 0} (stop : Stop) (said : Said) → is_out_stop stop ≡ false → is_err_stop stop ≡ false → said_of stop ≡ said → StopsAs {X = X} stop (Err said)
 is_stop stop said out err is = record { before_out = out; before_err = err; stopped = refl; said = λ h. ap (λ s. Err s) (sym is) }
 
--- a lack of memory, whatever is come to
+-- running out of memory, whatever is come to
 pub memory_stops : {X : Type 0} (said : Said) → StopsAs {X = X} (Run NoMemory) (Err said)
 memory_stops said = record { before_out = refl; before_err = refl; stopped = refl; said = λ h. absurd (false≢true (sym h)) }
 
@@ -78,7 +78,7 @@ none_some x h = cc
 some_inside : {A : Type 0} (x y : A) → Some x ≡ Some y → x ≡ y
 some_inside x y h = cc
 
--- what comes of a file fits where nothing is told of it
+-- what comes of a file fits where nothing is reported of it
 unknown_comes : (old : Option (List ℕ)) (limit : ℕ) (came : Result (List ℕ) WholeFault) → Comes old limit came → Comes None limit came
 unknown_comes old limit (Ok bytes) c = (c.0, tt)
 unknown_comes old limit (Err whole.ReadFailed) c = tt
@@ -148,7 +148,7 @@ reads_unnamed : (name : List ℕ) (came : Result (List ℕ) WholeFault) → is_z
 reads_unnamed name (Ok bytes) h = λ named. absurd (false≢true (sym h ∙ named))
 reads_unnamed name (Err fault) h = tt
 
--- a file that was opened and loaded, or refused
+-- a file that was opened and loaded, or rejected
 pub loads : (known : Known) (before after : ZoneMap) (item : ZoneSaid) (r : Result Unit LoadFault) (old new : Option (List ℕ)) (may failed : Bool) → Opens (known.file item.path) (Some old) → may ≡ known.may_fail item.path
     → failed ≡ is_load_unread r → MatchResult r (λ done. IsLoaded old new before after item.name) (IsLoadFault old new before item.name) → (may ≡ false → failed ≡ false) → Loads known before after item r
 unfolding loaded

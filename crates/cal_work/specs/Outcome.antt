@@ -83,7 +83,7 @@ local_by (of_name name) table zone = if is_some (zone_named table name) then Ok 
 
 -- The present instant
 
--- the instant of so many seconds, where there is one
+-- the instant of that many seconds, where there is one
 unfoldable pub instant_in : ℤ → Option ℤ
 instant_in secs = if not (int_lt secs (pos 0)) && not (int_lt last_instant secs) then Some secs else None
 

@@ -44,7 +44,7 @@ unread_line path = joined (path ∷ codes ": cannot be read\n" ∷ [])
 abbrev pub memory_stop : Said
 memory_stop = with_line (own_line (codes "out of memory")) 1
 
--- the words of the command line ask for nothing that can be done, or for help alone
+-- the words of the command line ask for nothing that can be done, or only for help
 abbrev pub command_stop : CommandSaid → Said
 command_stop (usage text) = with_line text 2
 command_stop (help text) = record { out = text; err = []; status = 0 }
@@ -102,8 +102,8 @@ abbrev pub text_of : Stop → List ℕ
 text_of (Command fault) = command_text fault
 text_of stop = (said_of stop).err
 
--- where each stop is told of: help on standard output, others on standard error; what couldn't be written, and a want of
--- memory, is told once the output is settled
+-- where each stop is reported: help on standard output, others on standard error; what couldn't be written, and running out of
+-- memory, is reported once the output is settled
 abbrev pub zone_outlet : ZoneFault → Outlet
 zone_outlet zone.NoMemory = Later run.NoMemory
 zone_outlet fault = OnErr
@@ -126,7 +126,7 @@ outlet_of Clock = OnErr
 outlet_of (Open path) = OnErr
 outlet_of (Run fault) = Later fault
 
--- whether it is the failure of standard output or of standard error, or stands for a lack of memory
+-- whether it is the failure of standard output or of standard error, or stands for running out of memory
 abbrev pub is_out_outlet : Outlet → Bool
 is_out_outlet (Later run.OutFailed) = true
 is_out_outlet outlet = false

@@ -29,7 +29,7 @@ Opens (Some (Some bytes)) opened = opened ≡ Some (Some bytes)
 abbrev pub Seen : Type 0
 Seen = Option (Result (List ℕ) WholeFault)
 
--- what comes of a file that is open, where at most so many bytes are taken
+-- what comes of a file that is open, where at most that many bytes are taken
 abbrev pub Comes : Option (List ℕ) → ℕ → Result (List ℕ) WholeFault → Type 0
 Comes known limit (Ok bytes) = (length bytes ≤ limit) × IfSome known (λ all. bytes ≡ all)
 Comes known limit (Err ReadFailed) = Unit {0}

@@ -17,7 +17,7 @@ pub record TellsAll (known : Known) : Type 0 where
   pub sure : (path : List ℕ) → known.may_fail path ≡ false
   pub time : IsSome known.time
 
--- what is seen of a file of these bytes, where at most so many are taken
+-- what is seen of a file of these bytes, where at most that many are taken
 abbrev pub taken_of : Bool → List ℕ → Result (List ℕ) WholeFault
 taken_of true all = Ok all
 taken_of false all = Err TooLarge

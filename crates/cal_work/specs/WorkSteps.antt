@@ -34,7 +34,7 @@ abbrev pub is_err_cut : {T : Type 0} → Result T Stop → Bool
 is_err_cut (Ok x) = false
 is_err_cut (Err stop) = is_err_stop stop
 
--- a stop before any run is what is said, unless it stands for a lack of memory
+-- a stop before any run is what is said, unless it stands for running out of memory
 pub record StopsAs {X : Type 0} (stop : Stop) (come : Result X Said) : Type 0 where
   pub before_out : is_out_stop stop ≡ false
   pub before_err : is_err_stop stop ≡ false
@@ -151,7 +151,7 @@ IsSettled (Ok all) (Ok settled) = Unit {0}
 IsSettled (Ok all) (Err fault) = fault ≡ OutFailed
 IsSettled (Err fault) settled = settled ≡ Err fault
 
--- a stop is told on its output, or later
+-- a stop is reported on its output, or later
 abbrev pub TellsOn : Outlet → List ℕ → Result Unit RunFault → Option (List ℕ) → Option (List ℕ) → Option (List ℕ) → Option (List ℕ) → Type 0
 TellsOn OnOut text result out out' err err' = Writes out out' result text × (err' ≡ err)
 TellsOn OnErr text result out out' err err' = Writes err err' result text × (out' ≡ out)

@@ -82,18 +82,18 @@ pub record FitsWords (known : Known) (words : List (List ℕ)) (world : World) :
 
 -- What is written
 
--- all of a text, or a front of it and no more through a buffer that couldn't be written out
+-- all of a text, or a prefix of it and no more through a buffer that couldn't be written out
 abbrev pub Reaches : {T : Type 0} → Option (List ℕ) → Option (List ℕ) → Result T RunFault → List ℕ → Type 0
 Reaches old reached (Ok all) text = Appends old reached text
 Reaches old reached (Err fault) text = (held : List ℕ) × AppendsFront old (append_known reached held) text
 
--- the line of a fault, or a front of it where standard error fails
+-- the line of a fault, or a prefix of it where standard error fails
 abbrev pub TellsFault : {T : Type 0} → Option (List ℕ) → Option (List ℕ) → Bool → Result T RunFault → Type 0
 TellsFault old new failed (Ok all) = Keeps old new
 TellsFault old new false (Err fault) = Appends old new (fault_stop fault).err
 TellsFault old new true (Err fault) = AppendsFront old new (fault_stop fault).err
 
--- a text, or a front of it and then the line of the fault
+-- a text, or a prefix of it and then the line of the fault
 pub record Tells {T : Type 0} (old new : Option (List ℕ)) (failed : Bool) (written : Result T RunFault) (text : List ℕ) : Type 0 where
   pub before : Option (List ℕ)
   pub text_bytes : Writes old before written text

@@ -14,7 +14,7 @@ use cal_zone::ZoneFault;
 /// Why the program stops.
 #[derive(Debug, Drop)]
 pub enum Stop {
-    /// The words of the command line ask for nothing that can be done, or for help alone.
+    /// The words of the command line ask for nothing that can be done, or only for help.
     Command(CommandFault),
     /// The zone file of that name can't be loaded.
     Zones(String, LoadFault),
@@ -44,7 +44,7 @@ impl Stop {
         }
     }
 
-    /// Where it is told of.
+    /// Where it is reported.
     pub(crate) fn outlet(&self) -> Outlet
         ensures { result ≡ outlet_of self.now }
     {
@@ -57,18 +57,18 @@ impl Stop {
     }
 }
 
-/// Where a stop is told of.
+/// Where a stop is reported.
 #[derive(Clone, Copy, PartialEq, Eq, Debug)]
 pub(crate) enum Outlet {
     /// On standard output, as help is.
     OnOut,
     /// On standard error.
     OnErr,
-    /// On standard error, but only once the output is settled: what couldn't be written, and a lack of memory.
+    /// On standard error, but only once the output is settled: what couldn't be written, and running out of memory.
     Later(RunFault),
 }
 
-/// Where it is told that the words ask for nothing that can be done.
+/// Where it is reported that the words ask for nothing that can be done.
 fn command_outlet(fault: &CommandFault) -> Outlet
     ensures { result ≡ command_outlet fault.now }
 {
@@ -83,7 +83,7 @@ fn command_outlet(fault: &CommandFault) -> Outlet
     }
 }
 
-/// Where it is told that a zone file can't be loaded.
+/// Where it is reported that a zone file can't be loaded.
 fn load_outlet(fault: LoadFault) -> Outlet
     ensures { result ≡ load_outlet fault }
 {
@@ -212,7 +212,7 @@ fn write_own<W: Sink>(out: &mut W, words: &str) -> Result<(), WriteFault>
     put_pieces(out, &[b"calendar-analyze: ", words.as_bytes(), b"\n"])
 }
 
-/// The exit status of a run that could write all of its text: 0, or 1 where a text was refused.
+/// The exit status of a run that could write all of its text: 0, or 1 where a text was rejected.
 pub fn exit_status(status: Status) -> u8
     ensures { result ≡ exit_status status }
 {

@@ -2,7 +2,7 @@
 //! (systemd-analyze(1)).
 //!
 //! The order is the command line, the zone files in order, the local zone, the clock, opening the file of a timer, the
-//! run. The first that stops is the only one that is told of.
+//! run. The first that stops is the only one that is reported.
 
 ghost use Rattle.std.specs.Prelude.{◌≡◌, ℕ, List, Option, Result, Ok, Err, Some, None, true, false, is_err, length, map, option_map, IfOk, IfErr};
 ghost use Rattle.cal_bytes.specs.Bytes.{Writes};
@@ -32,7 +32,7 @@ use std::alloc::Global;
 pub struct Ended {
     /// The exit status.
     pub status: u8,
-    /// Whether all of the text was written; else the cause is told on standard error, where that works.
+    /// Whether all of the text was written; else the cause is reported on standard error, where that works.
     pub written: Result<(), RunFault>,
 }
 
@@ -40,7 +40,7 @@ pub struct Ended {
 /// end; refusals and the line of a stop go to `err`.
 ///
 /// The status is that of the report or of the stop; it is 1 where `out` fails or memory is refused, and where `err`
-/// fails in a report. Where it failed, each output has a front of its whole text, and `err` the line of the fault
+/// fails in a report. Where it failed, each output has a prefix of its whole text, and `err` the line of the fault
 /// after it.
 pub fn work<S: System, O: Output, E: Sink>(
     alloc: Global,
@@ -240,7 +240,7 @@ fn read_clock<S: System>(system: &S) -> Result<Instant, Stop>
     }
 }
 
-/// The instant of so many seconds, where there is one.
+/// The instant of that many seconds, where there is one.
 #[tactic(auto, unfolding(crate::specs::Outcome::instant_in))]
 fn instant_in(secs: i64) -> Option<Instant>
     ensures { option_map (λ now. now.secs) result ≡ instant_in secs }
@@ -308,10 +308,10 @@ fn open_file<S: System>(alloc: Global, system: &S, path: &str) -> Result<S::File
     }
 }
 
-// What is told of a stop
+// What is reported of a stop
 
 /// Writes what is said of a stop, and answers the status beside whether it could be written. Lack of memory and what
-/// couldn't be written are told at the end.
+/// couldn't be written are reported at the end.
 fn tell<O: Sink, E: Sink>(answered: &Result<Status, Stop>, out: &mut O, err: &mut E) -> Ended
     requires out { O.is_failed out.old ≡ is_out_cut answered.now }
     requires err { E.is_failed err.old ≡ is_err_cut answered.now }
@@ -333,7 +333,7 @@ fn tell<O: Sink, E: Sink>(answered: &Result<Status, Stop>, out: &mut O, err: &mu
     }
 }
 
-/// Writes what is said of a stop that is neither a run's nor for lack of memory: help on `out`, and else on `err`.
+/// Writes what is said of a stop that is neither a run's nor for running out of memory: help on `out`, and else on `err`.
 fn tell_stop<O: Sink, E: Sink>(stop: &Stop, out: &mut O, err: &mut E) -> Result<(), RunFault>
     requires out { O.is_failed out.old ≡ is_out_stop stop.now }
     requires err { E.is_failed err.old ≡ is_err_stop stop.now }
@@ -354,7 +354,7 @@ fn tell_stop<O: Sink, E: Sink>(stop: &Stop, out: &mut O, err: &mut E) -> Result<
     }
 }
 
-/// Settles the output, also where something failed, so that what stands before the fault goes out.
+/// Settles the output, also where something failed, so that what comes before the fault goes out.
 fn settled<O: Output>(written: Result<(), RunFault>, out: &mut O) -> Result<(), RunFault>
     requires { O.is_failed out.old ≡ is_out_failed written }
     ensures bytes { (before : Option (List ℕ)) (text : List ℕ) → Writes before (O.written out.old) written text
@@ -381,7 +381,7 @@ fn tell_fault<E: Sink>(written: Result<(), RunFault>, err: &mut E)
     match written {
         Ok(()) | Err(RunFault::ErrFailed) => {}
         Err(fault) => {
-            // Where this line can't be written, the status alone tells.
+            // Where this line can't be written, only the status tells.
             let _ = write_stop(err, &Stop::Run(fault));
         }
     }

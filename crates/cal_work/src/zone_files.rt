@@ -12,14 +12,14 @@ use std::alloc::Global;
 pub enum LoadFault {
     /// The reader failed. Its number is 1.
     ReadFailed,
-    /// The name or the file is refused. Its number is 2.
+    /// The name or the file is rejected. Its number is 2.
     Zone(ZoneFault),
 }
 
 impl LoadFault {
     ghost use Rattle.cal_work.specs.LoadFault.{words_of};
 
-    /// What a user is told; for a refused name or file these are the words of that fault.
+    /// What is reported to a user; for a rejected name or file these are the words of that fault.
     pub fn words(&self) -> &str
         ensures { result.now ≡ words_of self.now }
     {

@@ -20,7 +20,7 @@ two_digits_are n h = elim (cases_lt n 10) [
   | inr more ↦ from_ten n more h
 ]
 
--- behind the 1 of a hundred more they stand alike
+-- behind the 1 of a hundred more they are alike
 pub hundred_more : (n : ℕ) → n < 100 → decimal (100 + n) ≡ 49 ∷ (48 + n / 10) ∷ (48 + n % 10) ∷ []
 hundred_more n h =
     let front : (100 + n) / 10 / 10 ≡ 1 = omega arith in

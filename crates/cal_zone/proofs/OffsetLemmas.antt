@@ -5,7 +5,7 @@ use mathlib.Core.HLevel.{is_prop→PathP}
 use Rattle.jiff.specs.Types.{Offset}
 use Rattle.jiff.specs.Words.{IsOffsetSeconds}
 
--- there is one offset of so many seconds
+-- there is one offset of that many seconds
 pub same_offset : (a b : Offset) → a.seconds ≡ b.seconds → a ≡ b
 same_offset a b e =
     λ i. record {

@@ -39,7 +39,7 @@ civil_of tz second =
     let local = local_of tz second in
     fields_of (date_of (day_of local)) (second_of_day local) (offset_at tz (nanos_of_seconds second))
 
--- the same day at a time so many seconds after its midnight
+-- the same day at a time that many seconds after its midnight
 abbrev pub at_second : Civil → ℕ → Civil
 at_second c second = record {
   year = c.year;

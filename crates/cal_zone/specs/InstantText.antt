@@ -8,7 +8,7 @@ use Rattle.cal_zone.specs.Zone.{is_utc, zone_of}
 use Rattle.cal_zone.specs.declared.civil_fields.Civil.{Civil}
 use Rattle.cal_zone.specs.declared.zone.Zone.{Zone}
 
--- the zeros in front of a number that is printed in at least so many digits
+-- the zeros in front of a number that is printed in at least that many digits
 abbrev pub zeros : ℕ → ℕ → List ℕ
 zeros width n = replicate (width - length (decimal n)) 48
 

@@ -34,7 +34,7 @@ day_of local = int_div_euclid local (pos 86_400)
 abbrev pub second_of_day : ℤ → ℕ
 second_of_day local = unsigned_abs (int_rem_euclid local (pos 86_400))
 
--- the hour, minute and second of so many seconds after midnight
+-- the hour, minute and second of that many seconds after midnight
 abbrev pub hour_of : ℕ → ℕ
 hour_of second = second / 3_600
 

@@ -14,7 +14,7 @@ abbrev pub begins_with_sign : List ℕ → Bool
 begins_with_sign [] = false
 begins_with_sign (b ∷ bs) = is_sign b
 
--- where a zone may stand, a word that begins with a letter or a sign is one
+-- where a zone may be, a word that begins with a letter or a sign is one
 abbrev pub begins_zone : List ℕ → Bool
 begins_zone word = begins_with_letter word || begins_with_sign word
 
@@ -24,7 +24,7 @@ two_digits greatest tens ones =
     let number = digits_value 10 (tens ∷ ones ∷ []) in
     if is_ascii_digit tens && is_ascii_digit ones && nat_le number greatest then Some number else None
 
--- the seconds of so many hours and minutes
+-- the seconds of that many hours and minutes
 abbrev pub clock_by : Option ℕ → Option ℕ → Option ℕ
 clock_by (Some hours) (Some minutes) = Some (hours * 3_600 + minutes * 60)
 clock_by hours minutes = None

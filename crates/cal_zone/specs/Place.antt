@@ -9,7 +9,7 @@ use Rattle.cal_zone.specs.Days.{date_of}
 use Rattle.cal_zone.specs.Local.{day_of, second_of_day, hour_of, minute_of, second_of}
 use Rattle.cal_zone.specs.Zone.{local_of}
 
--- the time of day so many seconds after midnight
+-- the time of day that many seconds after midnight
 unfoldable pub time_of : (second : ℕ) → second < 86_400 → Time
 time_of second h = record {
   hour = hour_of second;

@@ -7,7 +7,7 @@ use Rattle.cal_zone.specs.Local.{hour_of, minute_of, second_of}
 use Rattle.cal_zone.specs.declared.shown_day.ShownDay.{ShownDay}
 use Rattle.cal_zone.specs.declared.zone.Zone.{Zone}
 
--- the day's text, the time so many seconds after midnight, and the zone's word
+-- the day's text, the time that many seconds after midnight, and the zone's word
 abbrev pub text_after : ShownDay → ℕ → List ℕ
 text_after day second =
     joined (day.day.items ∷ time_text (hour_of second) (minute_of second) (second_of second) ∷ day.word.items ∷ [])

@@ -1,4 +1,4 @@
--- The zone whose clock is always so many seconds ahead of UTC. An offset of `jiff` holds that it is in range, and a
+-- The zone whose clock is always that many seconds ahead of UTC. An offset of `jiff` holds that it is in range, and a
 -- definition can hold that only where it is shown.
 use Rattle.std.specs.Prelude.{ℕ, ℤ, pos, negsuc, neg_ℤ, min, suc}
 use Rattle.std.proofs.Common.{arith}
@@ -12,7 +12,7 @@ east_in n = (omega (arith, signed_arith), omega (arith, signed_arith))
 pub west_in : (n : ℕ) → IsOffsetSeconds (neg_ℤ (pos (min (suc n) 93_599)))
 west_in n = (omega (arith, signed_arith), omega (arith, signed_arith))
 
--- an offset of so many seconds; one past 25:59:59, which no caller has, is taken to the nearer end
+-- an offset of that many seconds; one past 25:59:59, which no caller has, is taken to the nearer end
 unfoldable pub offset_of_seconds : ℤ → Offset
 offset_of_seconds (pos n) = record { seconds = pos (min n 93_599); in_range = east_in n }
 offset_of_seconds (negsuc n) = record { seconds = neg_ℤ (pos (min (suc n) 93_599)); in_range = west_in n }

@@ -1,4 +1,4 @@
--- What is said of a zone that is refused: this project's own words.
+-- What is said of a zone that is rejected: this project's own words.
 use Rattle.std.specs.Prelude.{ℕ, List, [], codes}
 use Rattle.cal_zone.specs.declared.zone_fault.ZoneFault.{ZoneFault}
 use Rattle.cal_zone.specs.declared.zone_fault.ZoneFault.TheVariants.{BadName, BadRule, BadFile, TooLarge, NoMemory, NameTaken}

@@ -28,7 +28,7 @@ pub record IsReadable (name bytes : List ℕ) : Type 0 where
 abbrev pub IsFileZone : List ℕ → List ℕ → TimeZone → Type 0
 IsFileZone name bytes zone = IsReadable name bytes × IsReadFrom bytes zone
 
--- Why a file gives no zone. The name is judged first, then the size, then the bytes, which are refused where
+-- Why a file gives no zone. The name is judged first, then the size, then the bytes, which are rejected where
 -- they are no such file or where the rule in them disagrees with their table.
 abbrev pub IsFileFault : List ℕ → List ℕ → ZoneFault → Type 0
 IsFileFault name bytes BadName = is_zone_name name ≡ false

@@ -18,7 +18,7 @@ use jiff::tz::Offset;
 use std::marker::Model;
 
 /// Shows instants in a zone, cheaply where they lie near each other: it keeps a period, at whose instants the clock is
-/// equally far ahead of UTC, and the day that it showed last. A contract sees the zone alone.
+/// equally far ahead of UTC, and the day that it showed last. A contract sees only the zone.
 #[derive(Drop)]
 pub struct Clock<'z> {
     zone: Zone<'z>,

@@ -6,7 +6,7 @@ ghost use Rattle.cal_zone.specs.OffsetWord.{begins_zone, clock_in, offset_in, tw
 
 use crate::begins_with_letter;
 
-/// Whether the word is a zone where a zone may stand: it begins with a letter, as a name does, or with `+` or `-`, as an
+/// Whether the word is a zone where a zone may be: it begins with a letter, as a name does, or with `+` or `-`, as an
 /// offset does (systemd.time(7), Calendar Events and Parsing Timestamps).
 pub fn begins_zone(word: &[u8]) -> bool
     ensures { result ≡ begins_zone word.now }

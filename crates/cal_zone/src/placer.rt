@@ -15,7 +15,7 @@ use std::marker::Model;
 const ONE_BY_ONE: i64 = 1_000;
 
 /// Places local seconds of a zone, cheaply where they rise: it keeps a steady stretch, whose local seconds all lie
-/// equally far from their places. A contract sees the zone alone.
+/// equally far from their places. A contract sees only the zone.
 #[derive(Drop)]
 pub struct Placer<'z> {
     zone: Zone<'z>,

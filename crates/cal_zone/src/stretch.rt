@@ -184,7 +184,7 @@ fn second_of_row(table: &Tzif, row: usize) -> Option<i64>
     Some(table.transitions().get(row)?.second)
 }
 
-/// How far the clock is ahead of UTC after so many rows of a table.
+/// How far the clock is ahead of UTC after that many rows of a table.
 fn offset_after(table: &Tzif, rows: usize) -> i64
     requires { rows ≤ vec_len table.now.transitions }
     ensures { result ≡ (type_after table.now rows).offset.seconds }

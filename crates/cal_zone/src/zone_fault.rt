@@ -1,8 +1,8 @@
-//! Why a zone is refused.
+//! Why a zone is rejected.
 
 ghost use Rattle.std.specs.Prelude.{◌≡◌};
 
-/// Why the rules of a zone, or its name in a table, are refused.
+/// Why the rules of a zone, or its name in a table, are rejected.
 #[derive(Clone, Copy, PartialEq, Eq, Debug)]
 pub enum ZoneFault {
     /// The name isn't of the form of a zone's name.
@@ -22,7 +22,7 @@ pub enum ZoneFault {
 impl ZoneFault {
     ghost use Rattle.cal_zone.specs.ZoneFault.{words_of};
 
-    /// What a user is told; lack of memory has no words.
+    /// What is reported to a user; running out of memory has no words.
     pub fn words(&self) -> &str
         ensures { result.now ≡ words_of self.now }
     {

@@ -40,7 +40,7 @@ fn is_zone_byte(byte: u8) -> bool
     byte.is_ascii_alphanumeric() || byte == b'/' || byte == b'_' || byte == b'+' || byte == b'-'
 }
 
-/// Whether the text is the name of UTC, which may stand in any case.
+/// Whether the text is the name of UTC, which may be in any case.
 pub(crate) fn is_utc_name(text: &str) -> bool
     ensures { result ≡ is_utc_name text.now }
 {

@@ -6,7 +6,7 @@ use std::alloc::{AllocError, Global};
 use std::process::Abort;
 use std::test::Fail;
 
-/// Long texts. Each line begins with a count, and in what follows `#` stands for the piece so many times.
+/// Long texts. Each line begins with a count, and in what follows `#` stands for the piece that many times.
 struct Table {
     piece: &'static str,
     /// After the text an arrow and its normal text.
@@ -14,7 +14,7 @@ struct Table {
     refused: &'static [(SpecFault, &'static str)],
 }
 
-/// 4,096 bytes may stand, and no more; one too many is told before all other faults. A zone name has at most 255.
+/// 4,096 bytes are allowed, and no more; one too many is reported before all other faults. A zone name has at most 255.
 static BYTES: [Table; 4] = [
     Table {
         piece: " ",
@@ -38,8 +38,8 @@ static BYTES: [Table; 4] = [
     },
 ];
 
-/// The 240th part of a component of a date may stand, and the next not. Of a component of a time it is the 241st,
-/// since the first one isn't counted. The first part too many is a fault where it is due: before its shape, and before
+/// The 240th part of a component of a date is allowed, and the next not. Of a component of a time it is the 241st,
+/// since the first one isn't counted. The first part too many is a fault where it is expected: before its shape, and before
 /// the values of its component.
 static PARTS: [Table; 1] = [Table {
     piece: ",1",

@@ -1,4 +1,4 @@
-//! Fixed offsets in the place of a zone's name: where an offset may stand, its bounds, and what is none.
+//! Fixed offsets in the place of a zone's name: where an offset may be, its bounds, and what is none.
 
 use super::normal_texts::expect_normal_texts;
 use super::refusals::{Refused, expect_refusals};
@@ -6,7 +6,7 @@ use crate::shared::expr;
 use cal_spec::SpecFault::*;
 use std::test::Fail;
 
-/// An offset after each word that may stand before it.
+/// An offset after each word that may come before it.
 const PLACES: &str = "\
 daily +02:00 -> *-*-* 00:00:00 +02:00|12:00 +02:00 -> *-*-* 12:00:00 +02:00|\
 12:00:30 -05:30 -> *-*-* 12:00:30 -05:30|*:*:* +05:45 -> *-*-* *:*:* +05:45|\
@@ -31,7 +31,7 @@ const BOUNDS: &str = "\
 12:00 -24:00 -> *-*-* 12:00:00 -24:00|12:00 +25:00 -> *-*-* 12:00:00 +25:00|\
 12:00 +25:59 -> *-*-* 12:00:00 +25:59|12:00 -25:59 -> *-*-* 12:00:00 -25:59";
 
-/// What begins with a sign where a zone may stand and is no offset, and what stands after a zone.
+/// What begins with a sign where a zone may be and is no offset, and what comes after a zone.
 static NO_OFFSETS: [Refused; 1] = [(
     StrayWord,
     "\
@@ -54,7 +54,7 @@ static FIRST_WORDS: [Refused; 3] = [
     (UnknownShorthand, "Foo +02:00|fortnightly +02:00"),
 ];
 
-/// Of two faults the one on the left is told, whichever it is.
+/// Of two faults the one on the left is reported, whichever it is.
 static ORDER: [Refused; 5] = [
     (BadWeekday, "Mon,,Tue +02:00|Mon,,Tue +x"),
     (BadDate, "7 +02:00|7 +x|1 -1"),

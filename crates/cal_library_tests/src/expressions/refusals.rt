@@ -8,7 +8,7 @@ use std::process::Abort;
 /// A fault, and texts that have it, of which bars part one from the next.
 pub(super) type Refused = (SpecFault, &'static str);
 
-/// The refused texts: one at least of each fault of a short text, and the refusals of the grammar.
+/// The rejected texts: one at least of each fault of a short text, and the refusals of the grammar.
 static REFUSED_TEXTS: [Refused; 12] = [
     (Empty, ""),
     (BadWeekday, "Mon,,Tue"),
@@ -27,7 +27,7 @@ static REFUSED_TEXTS: [Refused; 12] = [
 /// No word at all.
 static BLANKS: [Refused; 1] = [(Empty, " |\t| \t \t")];
 
-/// Which words may stand where.
+/// Which words may be where.
 static WORDS: [Refused; 2] = [
     (
         StrayWord,
@@ -107,7 +107,7 @@ static NUMBERS: [Refused; 6] = [
     ),
 ];
 
-/// Texts with two faults, of which the first by the rule is told.
+/// Texts with two faults, of which the first by the rule is reported.
 static ORDER: [Refused; 11] = [
     (
         BadDate,

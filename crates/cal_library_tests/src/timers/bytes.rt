@@ -34,7 +34,7 @@ static WRONG_BYTES: [(&[u8], u32); 13] = [
     (b"[Unit]\\\n\\\n\xFF", 3),
 ];
 
-/// The file is refused for what is not UTF-8 in this line.
+/// The file is rejected for what is not UTF-8 in this line.
 fn expect_broken(rt: &impl Abort, alloc: Global, file: &[u8], line: u32) {
     let fault = read(alloc, file).err();
     assert!(rt; fault == Some(TimerFault::NotUtf8(line)), "in {file:?}");

@@ -13,10 +13,10 @@ const EXCEPTION: &str = "X-ExceptOnCalendar=Sat";
 
 const RESET: &str = "OnCalendar=";
 
-/// Lines after a header, each so many times, with the expressions or the fault of that file.
+/// Lines after a header, each that many times, with the expressions or the fault of that file.
 type Counted = (&'static [(u32, &'static str)], Result<Lines, TimerFault>);
 
-/// At most 256 expressions may stand at a time, and the one too many is told where it stands.
+/// At most 256 expressions are allowed at a time, and the one too many is reported where it is.
 static COUNTED: [Counted; 4] = [
     (
         &[(256, DAILY), (1, RESET), (1, "OnCalendar=hourly")],
@@ -35,7 +35,7 @@ static COUNTED: [Counted; 4] = [
     ),
 ];
 
-/// Appends the line so many times.
+/// Appends the line that many times.
 fn push_lines(file: &mut String, count: u32, line: &str) -> Result<(), AllocError> {
     for _ in 0..count {
         file.push_str(line)?;
@@ -44,7 +44,7 @@ fn push_lines(file: &mut String, count: u32, line: &str) -> Result<(), AllocErro
     Ok(())
 }
 
-/// The header, and then each line so many times.
+/// The header, and then each line that many times.
 fn counted_file(alloc: Global, lines: &[(u32, &str)]) -> Result<String, AllocError> {
     let mut file = String::from_str(alloc, "[Timer]\n")?;
     for (count, line) in lines {

@@ -1,4 +1,4 @@
-//! Timer files with exceptions: their lists, and why a file is refused.
+//! Timer files with exceptions: their lists, and why a file is rejected.
 
 use super::{EXCEPT_EXCEPTIONS, EXCEPT_LINES, Lines, expect_list, read};
 use crate::shared::EXCEPT_FILE;
@@ -11,13 +11,13 @@ use std::test::Fail;
 /// Files with their expressions and their exceptions.
 static READ: [(&[u8], Lines, Lines); 4] = [
     (EXCEPT_FILE, EXCEPT_LINES, EXCEPT_EXCEPTIONS),
-    // An empty value of their key empties the exceptions alone.
+    // An empty value of their key empties only the exceptions.
     (
         b"[Timer]\nOnCalendar=daily\nX-ExceptOnCalendar=Sat\nX-ExceptOnCalendar = \nX-ExceptOnCalendar=Sun",
         &[(2, "daily")],
         &[(5, "Sun")],
     ),
-    // The key is exact, and read in the section `Timer` alone.
+    // The key is exact, and read only in the section `Timer`.
     (
         b"[Unit]\nX-ExceptOnCalendar=x!\n[Timer]\nOnCalendar=daily\nx-exceptoncalendar=x!\nExceptOnCalendar=x!\nX-ExceptOnCalendars=x!",
         &[(4, "daily")],
@@ -30,7 +30,7 @@ static READ: [(&[u8], Lines, Lines); 4] = [
     ),
 ];
 
-/// Files with the faults for which they are refused.
+/// Files with the faults for which they are rejected.
 static REFUSED: [(&str, TimerFault); 4] = [
     // Nothing to do is judged by the expressions.
     ("[Timer]\nX-ExceptOnCalendar=Sat", TimerFault::NothingToDo),
@@ -38,7 +38,7 @@ static REFUSED: [(&str, TimerFault); 4] = [
         "[Timer]\nOnCalendar=daily\nX-ExceptOnCalendar=Sat\nOnBootSec=",
         TimerFault::NothingToDo,
     ),
-    // A refused exception refuses the file, also where a later line drops it.
+    // A rejected exception rejects the file, also where a later line drops it.
     (
         "[Timer]\nOnCalendar=daily\nX-ExceptOnCalendar=20/4:00\nX-ExceptOnCalendar=",
         TimerFault::BadLine(3, SpecFault::NoRepeat),
@@ -70,7 +70,7 @@ fn lists(rt: HostRuntime) -> Result<(), Fail> {
     Ok(())
 }
 
-/// What a file is refused for, if it is.
+/// What a file is rejected for, if it is.
 fn fault_of(alloc: Global, file: &str) -> Option<TimerFault> {
     read(alloc, file.as_bytes()).err()
 }

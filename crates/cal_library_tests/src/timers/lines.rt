@@ -61,7 +61,7 @@ static CONTINUED_LINES: [Row; 10] = [
         "[Timer]\nOnCalendar\\\n=\\\ndaily\nOnCalendar=hourly",
         Ok(&[(2, "daily"), (5, "hourly")]),
     ),
-    // A line of blanks and a backslash adds a space, whatever stands before it.
+    // A line of blanks and a backslash adds a space, whatever comes before it.
     (
         "[Timer]\nOnCalendar=Mon\\\n \\\n12:00",
         Ok(&[(2, "Mon  12:00")]),

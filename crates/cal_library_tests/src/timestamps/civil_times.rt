@@ -91,7 +91,7 @@ Fri..Fri 2012-11-23|UTC|utc 1:2|a|daily|infinity|T1:2|x2012-11-23|Fri\n2012-11-2
     ],
 };
 
-/// What may stand after a date and after a time.
+/// What may come after a date and after a time.
 static WORDS_AFTER: Table = Table {
     moments: "\
 2012-11-23 1:2 -> 1353632520000000|2012-11-23\t \t1:2:3\tUTC -> 1353632523000000|\

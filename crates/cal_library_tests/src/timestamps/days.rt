@@ -32,7 +32,7 @@ Fri 0:0 UTC -> 1353628800000000",
     },
 ];
 
-/// Other cases, and what may not stand after a day.
+/// Other cases, and what may not come after a day.
 static REFUSED_DAYS: Table = Table {
     moments: "",
     refusals: &[

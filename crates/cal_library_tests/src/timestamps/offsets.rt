@@ -5,7 +5,7 @@ use cal_base::SpanFault;
 use cal_read::StampFault::*;
 use std::test::Fail;
 
-/// An offset after each word that may stand before it, its bounds, and what is none.
+/// An offset after each word that may come before it, its bounds, and what is none.
 static OFFSETS: Table = Table {
     moments: "\
 2012-11-23 11:12 +08:00 -> 1353640320000000|today +08:00 -> 1353600000000000|\

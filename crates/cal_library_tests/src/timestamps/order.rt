@@ -4,7 +4,7 @@ use super::{PRESENT, Setting, Table, expect_in_utc, expect_settings};
 use cal_read::StampFault::*;
 use std::test::Fail;
 
-/// Of two faults the one on the left is told, whichever it is.
+/// Of two faults the one on the left is reported, whichever it is.
 static EARLIER_WORDS_FIRST: Table = Table {
     moments: "",
     refusals: &[

@@ -11,7 +11,7 @@ static BLANKS_ALONE: Table = Table {
     refusals: &[(Empty, "|\x20|\t|\x20\t \t")],
 };
 
-/// `now` alone, in this case alone.
+/// `now` alone, only in this case.
 static THE_PRESENT: Table = Table {
     moments: "\
 now -> 1353665722000000|\x20now -> 1353665722000000|now\t -> 1353665722000000|\t now \t\x20 -> 1353665722000000",
@@ -66,7 +66,7 @@ static BAD_SPANS: Table = Table {
     ],
 };
 
-/// `left` and `ago` are whole words, in this case alone, with a blank before them.
+/// `left` and `ago` are whole words, in only this case, with a blank before them.
 static WORDS_AT_THE_END: Table = Table {
     moments: "",
     refusals: &[

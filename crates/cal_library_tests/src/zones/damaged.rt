@@ -1,4 +1,4 @@
-//! Zone files that are cut short or have a wrong byte: each is refused, or gives a zone with rising elapses.
+//! Zone files that are cut short or have a wrong byte: each is rejected, or gives a zone with rising elapses.
 
 use crate::elapses::elapses_of;
 use crate::shared::{NEW_YEAR, zone_file};
@@ -21,7 +21,7 @@ fn rises(alloc: Global, zone: Zone<'_>) -> Result<bool, Fail> {
     Ok(true)
 }
 
-/// Whether the bytes are refused as a bad zone file, or those midnights rise.
+/// Whether the bytes are rejected as a bad zone file, or those midnights rise.
 fn is_bad_or_rises(alloc: Global, bytes: &[u8]) -> Result<bool, Fail> {
     match Rules::file(alloc, "Test/Fixed", bytes) {
         Ok(rules) => rises(alloc, Zone::rules(&rules)),
@@ -29,7 +29,7 @@ fn is_bad_or_rises(alloc: Global, bytes: &[u8]) -> Result<bool, Fail> {
     }
 }
 
-/// The zone file, and each of its fronts.
+/// The zone file, and each of its prefixes.
 #[test]
 fn cut_zone_files(rt: HostRuntime) -> Result<(), Fail> {
     let whole = zone_file(rt.alloc())?;

@@ -60,7 +60,7 @@ fn expect_found(rt: &impl Abort, table: &ZoneTable, rows: &[(&str, Option<i64>)]
     }
 }
 
-/// Names that are refused where `Test/Fixed` is taken, as `UTC` always is.
+/// Names that are rejected where `Test/Fixed` is taken, as `UTC` always is.
 static REFUSED: [(&str, ZoneFault); 7] = [
     ("Test/Fixed", ZoneFault::NameTaken),
     ("utc", ZoneFault::NameTaken),
@@ -71,7 +71,7 @@ static REFUSED: [(&str, ZoneFault); 7] = [
     ("a b", ZoneFault::BadName),
 ];
 
-/// Adding each name is refused for its fault. The rules are handed back, those of a clock two hours ahead of UTC, and
+/// Adding each name is rejected for its fault. The rules are handed back, those of a clock two hours ahead of UTC, and
 /// the table stays as it was.
 fn expect_refused(
     rt: &(impl Abort + AllocGlobal),

@@ -1,4 +1,4 @@
-//! Rules that are read and rules that are refused, typed from POSIX (Environment Variables, `TZ`) with the longer
+//! Rules that are read and rules that are rejected, typed from POSIX (Environment Variables, `TZ`) with the longer
 //! rule times of RFC 8536 and with names of at most 15 bytes; and zone files.
 
 use crate::shared::{NEW_YEAR, zone_file};
@@ -24,7 +24,7 @@ EST5EDT,M3.0.0,M11.1.0|EST5EDT,M3.6.0,M11.1.0|EST5EDT,M3.2.7,M11.1.0|EST5EDT,J0,
 EST5EDT,366,1|EST5EDT,M3.2.0/168,M11.1.0|EST5EDT,M3.2.0/2:60,M11.1.0|EST5ED4,M3.2.0,M11.1.0|:Europe/Berlin|\
 EST5EDT M3.2.0 M11.1.0|ÉST5|EST5EDT,M3.2,M11.1.0";
 
-/// Each of the rules, which are joined by `|`, is refused for this fault, or read where it is none.
+/// Each of the rules, which are joined by `|`, is rejected for this fault, or read where it is none.
 fn expect_faults(rt: &(impl Abort + AllocGlobal), rules: &str, fault: Option<ZoneFault>) {
     for rule in rules.split('|') {
         assert_eq!(rt; Rules::posix(rt.alloc(), rule).err(), fault, "{rule}");
@@ -54,7 +54,7 @@ fn reads_a_zone_file(rt: HostRuntime) -> Result<(), Fail> {
     Ok(())
 }
 
-/// The bytes are refused as a zone file of each name, for its fault.
+/// The bytes are rejected as a zone file of each name, for its fault.
 fn expect_refused(rt: &(impl Abort + AllocGlobal), bytes: &[u8], rows: &[(&str, ZoneFault)]) {
     for (name, fault) in rows {
         assert_eq!(rt; file_fault(rt.alloc(), name, bytes), Some(*fault), "{name}");

@@ -41,7 +41,7 @@ pub(crate) fn read_civil<'t>(
     }
 }
 
-/// What stands after the weekday: a word with a colon is the time, any other the date.
+/// What comes after the weekday: a word with a colon is the time, any other the date.
 fn after_weekday<'t>(
     weekday: Option<Weekday>,
     text: &str,
@@ -66,7 +66,7 @@ fn after_weekday<'t>(
     after_date(weekday, day, after, local, table)
 }
 
-/// What stands after the date: a word that begins with a digit is the time.
+/// What comes after the date: a word that begins with a digit is the time.
 fn after_date<'t>(
     weekday: Option<Weekday>,
     day: i64,

@@ -51,7 +51,7 @@ fn date_numbers(word: &[u8]) -> Option<DateNumbers>
     }
 }
 
-/// The number that one or more digits write, at most so many, or `None` where these aren't digits.
+/// The number that one or more digits write, at most that many, or `None` where these aren't digits.
 #[tactic(auto, unfolding(crate::specs::StampDate::digits_number))]
 pub(crate) fn read_number(word: &[u8], most: usize) -> Option<u16>
     requires { most ≤ 4 }

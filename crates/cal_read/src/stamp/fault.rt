@@ -13,17 +13,17 @@ pub enum StampFault {
     Empty,
     /// The first word begins with a letter and is no weekday's name. Its number is 2.
     BadWeekday,
-    /// Where a date is due stands none. Its number is 3.
+    /// There is no date where one is expected. Its number is 3.
     BadDate,
-    /// Where a time is due stands none. Its number is 4.
+    /// There is no time where one is expected. Its number is 4.
     BadTime,
     /// The date is no day from 1970-01-01 to 2199-12-31. Its number is 5.
     NoSuchDate,
     /// The weekday named isn't the date's. Its number is 6.
     WrongWeekday,
-    /// The text that is due a time span is none. Its number is 7.
+    /// The text that has to be a time span isn't one. Its number is 7.
     BadSpan(SpanFault),
-    /// Where a zone may stand, a word begins with a letter and names none. Its number is 8.
+    /// Where a zone may be, a word begins with a letter and names none. Its number is 8.
     NoSuchZone,
     /// A word is left over. So is one in a zone's place that begins with `+` or `-` and is no offset. Its number is 9.
     StrayWord,
@@ -34,7 +34,7 @@ pub enum StampFault {
 impl StampFault {
     ghost use Rattle.cal_read.specs.StampFault.{words_of};
 
-    /// What a user is told.
+    /// What is reported to a user.
     pub fn words(&self) -> &str
         ensures { result.now ≡ words_of self.now }
     {
@@ -63,7 +63,7 @@ impl From<SpanFault> for StampFault {
     }
 }
 
-/// What a user is told where the time span is at fault.
+/// What is reported to a user where the time span is at fault.
 fn span_words(fault: SpanFault) -> &'static str
     ensures { result.now ≡ codes "bad time span: " ++ span_words_of fault }
 {

@@ -13,7 +13,7 @@ use crate::stamp::time::SECOND;
 use cal_span::Span;
 use cal_zone::{DAY, Instant, Moment, Zone, civil, settle};
 
-/// The moment of so many microseconds of Unix time, where there is one.
+/// The moment of that many microseconds of Unix time, where there is one.
 #[tactic(auto, unfolding(crate::specs::Stamp::in_moments))]
 pub(crate) fn moment_of(micros: i64) -> Result<Moment, StampFault>
     ensures { micros_or_fault result ≡ in_moments micros }
@@ -57,7 +57,7 @@ fn local_second(now: Instant, zone: Zone) -> i64
     now.secs() + i64::from(civil(zone, now).offset)
 }
 
-/// The moment of so many microseconds after midnight of the day. A local time that the zone's clock skips is moved on
+/// The moment of that many microseconds after midnight of the day. A local time that the zone's clock skips is moved on
 /// by what is skipped, and of one that it shows twice this is the first (systemd.time(7), Parsing Timestamps).
 #[tactic(auto, unfolding(crate::specs::Stamp::settled))]
 pub(crate) fn settled(zone: Zone, day: i64, micros: u64) -> Result<Moment, StampFault>
@@ -69,7 +69,7 @@ pub(crate) fn settled(zone: Zone, day: i64, micros: u64) -> Result<Moment, Stamp
     moment_of(with_micros(second, micros % SECOND))
 }
 
-/// The local second so many seconds after midnight of the day.
+/// The local second that many seconds after midnight of the day.
 fn local_time(day: i64, seconds: u64) -> i64
     requires day { IsBetween (neg_ℤ (pos 3)) (pos 84_009) day }
     requires seconds { seconds ≤ 90_000 }
@@ -78,7 +78,7 @@ fn local_time(day: i64, seconds: u64) -> i64
     day * DAY as i64 + seconds as i64
 }
 
-/// The microseconds of Unix time so many after the second, which lies near the instants.
+/// The microseconds of Unix time that many after the second, which lies near the instants.
 fn with_micros(second: i64, micros: u64) -> i64
     requires second { IsBetween (neg_ℤ (pos 400_000)) (pos 7_259_000_000) second }
     requires micros { micros < 1_000_000 }

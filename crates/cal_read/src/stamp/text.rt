@@ -6,7 +6,7 @@ ghost use Rattle.std.specs.Option.{option_copied};
 ghost use Rattle.cal_spec.specs.Words.{is_blank, words};
 ghost use Rattle.cal_read.specs.StampForm.{before_word, from_solid, solid, to_solid};
 
-/// The first word of the text and what stands after it, or `None` where there are only blanks.
+/// The first word of the text and what comes after it, or `None` where there are only blanks.
 pub(crate) fn first_word(text: &str) -> Option<(&str, &str)>
     ensures { MatchOption result (words text.now ≡ [])
         (λ found. words text.now ≡ found.0.now ∷ words found.1.now) }
@@ -26,7 +26,7 @@ pub(crate) fn solid(text: &str) -> &str
     to_solid(from_solid(text))
 }
 
-/// The text without the blanks at its front.
+/// The text without the blanks at its start.
 fn from_solid(text: &str) -> &str
     ensures { result.now ≡ from_solid text.now }
 {
@@ -40,7 +40,7 @@ fn to_solid(text: &str) -> &str
     &text[..text.len() - blanks_at_end(text.as_bytes())]
 }
 
-/// What stands after the first character, which is an ASCII one.
+/// What comes after the first character, which is an ASCII one.
 pub(crate) fn text_after_first(text: &str) -> &str
     requires some { 0 < length text.now }
     requires ascii { slice_index text.now 0 < 128 }
@@ -49,7 +49,7 @@ pub(crate) fn text_after_first(text: &str) -> &str
     &text[1..]
 }
 
-/// What stands before the last blank, where this word stands after it.
+/// What comes before the last blank, where this word comes after it.
 pub(crate) fn before_word<'a>(word: &str, text: &'a str) -> Option<&'a str>
     ensures { option_copied result ≡ before_word word.now text.now }
 {
@@ -57,7 +57,7 @@ pub(crate) fn before_word<'a>(word: &str, text: &'a str) -> Option<&'a str>
     if last == word { Some(before) } else { None }
 }
 
-/// What stands before the last blank and after it, or `None` where there is no blank.
+/// What comes before the last blank and after it, or `None` where there is no blank.
 fn last_word(text: &str) -> Option<(&str, &str)>
     ensures { MatchOption result (list_any is_blank text.now ≡ false) (λ found.
         (list_any is_blank text.now ≡ true)
@@ -78,7 +78,7 @@ fn is_blank(byte: u8) -> bool
     byte == b' ' || byte == b'\t'
 }
 
-/// How many blanks stand at the front.
+/// How many blanks are at the start.
 fn blanks_in_front(text: &[u8]) -> usize
     ensures value { result ≡ prefix_len is_blank text.now }
     ensures within { result ≤ length text.now }
@@ -86,7 +86,7 @@ fn blanks_in_front(text: &[u8]) -> usize
     text.iter().take_while(|byte| is_blank(**byte)).count()
 }
 
-/// How many blanks stand at the end.
+/// How many blanks are at the end.
 fn blanks_at_end(text: &[u8]) -> usize
     ensures value { result ≡ suffix_len is_blank text.now }
     ensures within { result ≤ length text.now }
@@ -97,7 +97,7 @@ fn blanks_at_end(text: &[u8]) -> usize
         .count()
 }
 
-/// How many bytes stand before the first blank.
+/// How many bytes come before the first blank.
 fn word_len(text: &[u8]) -> usize
     ensures value { result ≡ position_or_len is_blank text.now }
     ensures within { result ≤ length text.now }
@@ -105,7 +105,7 @@ fn word_len(text: &[u8]) -> usize
     text.iter().take_while(|byte| !is_blank(**byte)).count()
 }
 
-/// How many bytes stand after the last blank.
+/// How many bytes come after the last blank.
 fn last_word_len(text: &[u8]) -> usize
     ensures value { result ≡ suffix_len (λ byte. not (is_blank byte)) text.now }
     ensures within { result ≤ length text.now }

@@ -43,7 +43,7 @@ fn time_numbers(word: &[u8]) -> Option<u64>
     }
 }
 
-/// The microseconds after midnight at this hour and minute, and so many microseconds after them.
+/// The microseconds after midnight at this hour and minute, and that many microseconds after them.
 fn time_of(hour: &[u8], minute: &[u8], micros: Option<u64>) -> Option<u64>
     requires { IfSome micros (λ micros. micros ≤ 120_000_000) }
     ensures value { result ≡ time_by (clock_number 23 hour.now) (clock_number 59 minute.now) micros }

@@ -13,7 +13,7 @@ use cal_zone::{Zone, ZoneTable, begins_with_letter, read_offset};
 
 /// The zone that the text names, or the local one where it has no word (systemd.time(7), Parsing Timestamps): a name of
 /// the table, or an offset, which is never looked up there. `StrayWord` where the word begins with no letter and is no
-/// offset, or another one stands after it; `NoSuchZone` where it is a name that has no zone.
+/// offset, or another one comes after it; `NoSuchZone` where it is a name that has no zone.
 pub(crate) fn read_zone<'t>(
     text: &str,
     local: Zone<'t>,

@@ -1,4 +1,4 @@
-//! Why a timer file is refused.
+//! Why a timer file is rejected.
 
 ghost use Rattle.std.specs.Prelude.{◌≡◌};
 ghost use Rattle.cal_read.specs.declared.timer.fault.TimerFault.TheVariants.{NoMemory};
@@ -6,7 +6,7 @@ ghost use Rattle.cal_read.specs.declared.timer.fault.TimerFault.TheVariants.{NoM
 use cal_spec::SpecFault;
 use std::alloc::{AllocError, AllocFailed};
 
-/// Why a timer file is refused: the first fault, in the order in which the input, its bytes and then its lines are
+/// Why a timer file is rejected: the first fault, in the order in which the input, its bytes and then its lines are
 /// judged. Lines are counted from 1, and a logical line has the number of its first physical line.
 #[derive(Clone, Copy, PartialEq, Eq, Debug)]
 pub enum TimerFault {
@@ -16,7 +16,7 @@ pub enum TimerFault {
     TooLarge,
     /// The bytes are no UTF-8; the physical line of the first of them. Its number is 3.
     NotUtf8(u32),
-    /// The text of an expression or of an exception is refused, in this line and for this cause. Its number is 4.
+    /// The text of an expression or of an exception is rejected, in this line and for this cause. Its number is 4.
     BadLine(u32, SpecFault),
     /// There are more than 256 expressions, or more than 256 exceptions; the line of the one too many. Its number is 5.
     TooMany(u32),
@@ -29,7 +29,7 @@ pub enum TimerFault {
 impl TimerFault {
     ghost use Rattle.cal_read.specs.TimerFault.{line_of, words_of};
 
-    /// What a user is told, for a bad line the words of its text's fault; lack of memory has no words.
+    /// What is reported to a user, for a bad line the words of its text's fault; running out of memory has no words.
     pub fn words(&self) -> &str
         ensures { result.now ≡ words_of self.now }
     {

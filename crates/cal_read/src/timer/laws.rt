@@ -12,7 +12,7 @@ ghost use Rattle.cal_read.specs.TimerRule.{Judges};
 ghost use Rattle.cal_read.specs.declared.timer.fault.TimerFault.{TimerFault};
 ghost use Rattle.cal_read.specs.TimerText.{Lists, excepted, is_exception, is_exception_reset, is_expression, is_reset, lists_of, listed};
 
-/// A line stands in the section `Timer` where the last header before it opens that section; a header stands in none.
+/// A line is in the section `Timer` where the last header before it opens that section; a header is in none.
 pub fn one_section()
     ensures header { (inside : Bool) (front rest : List Line) (header : Line)
         → is_header header.text ≡ true → list_any (λ line. is_header line.text) rest ≡ false

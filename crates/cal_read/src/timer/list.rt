@@ -29,7 +29,7 @@ pub(crate) struct ReadLists {
     pub(crate) exceptions: Vec<TimerLine>,
 }
 
-/// Takes a logical line into the lists, where it stands in the section `Timer` or not, and answers whether the line
+/// Takes a logical line into the lists, where it is in the section `Timer` or not, and answers whether the line
 /// after it does.
 pub(crate) fn take_line(
     alloc: Global,

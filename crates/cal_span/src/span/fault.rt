@@ -11,7 +11,7 @@ pub enum SpanFault {
     /// There is no pair at all.
     #[error("empty time span")]
     Empty = 1,
-    /// Where a number is due stands none with a digit and at most one point.
+    /// There is no number where one is expected: a digit or more and at most one point.
     #[error("bad number")]
     BadNumber = 2,
     /// The word after the number is no unit.
@@ -25,7 +25,7 @@ pub enum SpanFault {
 impl SpanFault {
     ghost use Rattle.cal_span.specs.SpanFault.{words_of};
 
-    /// What a user is told, the text of `Display` too.
+    /// What is reported to a user, the text of `Display` too.
     pub fn words(&self) -> &str
         ensures { result.now ≡ words_of self.now }
     {

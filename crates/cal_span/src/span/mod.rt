@@ -23,7 +23,7 @@ impl Span {
 
     const LIMIT: u64 = 9_223_372_036_854_775_807;
 
-    /// The span of so many microseconds, or `None` where they are more than
+    /// The span of that many microseconds, or `None` where they are more than
     /// 9,223,372,036,854,775,807.
     pub fn new(micros: u64) -> Option<Span>
         ensures { MatchOption result

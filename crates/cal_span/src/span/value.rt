@@ -18,7 +18,7 @@ use cal_bytes::is_among;
 /// (systemd.time(7), Parsing Time Spans).
 ///
 /// The fault is that of the first pair at fault, from the left; in a pair first `BadNumber`, then
-/// `UnknownUnit`, then `TooLarge`. A text of blanks alone is `Empty`.
+/// `UnknownUnit`, then `TooLarge`. A text of only blanks is `Empty`.
 #[tactic(auto, unfolding(crate::specs::SpanValue::span_of))]
 pub fn read_span(text: &str) -> Result<Span, SpanFault>
     ensures { MatchResult result
@@ -43,8 +43,8 @@ struct Pair<'a> {
     unit: Option<&'a [u8]>,
 }
 
-/// The first pair of the bytes and what stands after it, or `None` where there are only blanks. A
-/// word that stands where a number is due is a pair with the empty number.
+/// The first pair of the bytes and what comes after it, or `None` where there are only blanks. A
+/// word that is where a number is expected is a pair with the empty number.
 fn first_pair(bytes: &[u8]) -> Option<(Pair<'_>, &[u8])>
     ensures { MatchOption result (pairs_in bytes.now ≡ []) (λ found.
         (pairs_in bytes.now

@@ -18,14 +18,14 @@ pub(crate) enum CharKind {
     Other,
 }
 
-/// Characters of one kind, as many as stand together.
+/// Characters of one kind, as many as come in a row.
 #[derive(Clone, Copy)]
 pub(crate) struct Word<'a> {
     pub(crate) kind: CharKind,
     pub(crate) text: &'a [u8],
 }
 
-/// The first word of the bytes and what stands after it, or `None` where there are only blanks.
+/// The first word of the bytes and what comes after it, or `None` where there are only blanks.
 pub(crate) fn first_word(bytes: &[u8]) -> Option<(Word<'_>, &[u8])>
     ensures { MatchOption result (words_in bytes.now ≡ []) (λ found.
         (words_in bytes.now
@@ -38,7 +38,7 @@ pub(crate) fn first_word(bytes: &[u8]) -> Option<(Word<'_>, &[u8])>
     Some((Word { kind, text }, rest))
 }
 
-/// The number of bytes of the longest front of this kind.
+/// The number of bytes of the longest prefix of this kind.
 fn front_len(bytes: &[u8], kind: CharKind) -> usize
     ensures within { result ≤ length bytes.now }
     ensures front { take result bytes.now ≡ front_of kind (symbols bytes.now) }
@@ -55,7 +55,7 @@ fn front_len(bytes: &[u8], kind: CharKind) -> usize
 }
 
 /// The kind of the first character and the number of its bytes: two for a mu. Each byte of any
-/// other character outside ASCII stands alone.
+/// other character outside ASCII is by itself.
 fn first(bytes: &[u8]) -> Option<(CharKind, usize)>
     ensures { MatchOption result (bytes.now ≡ []) (λ found.
         (symbols bytes.now

@@ -90,7 +90,7 @@ pub(super) const EXCEPT_TIMER: Row<'static> = Row {
     ..TIMER
 };
 
-/// The exception has midnights alone.
+/// The exception has only midnights.
 const MIDNIGHTS: &str = "  Original form: 12:00
 Normalized form: *-*-* 12:00:00
     Except form: Sat,Sun
@@ -141,7 +141,7 @@ fn exceptions(rt: HostRuntime) -> Result<(), Fail> {
     check(&rt, &EXCEPTIONS)
 }
 
-/// A file is refused as a whole, by one line.
+/// A file is rejected as a whole, by one line.
 static REFUSED_TIMERS: [Row<'static>; 4] = [
     Row {
         about: "a refused expression",
@@ -174,7 +174,7 @@ fn refused_timers(rt: HostRuntime) -> Result<(), Fail> {
     check(&rt, &REFUSED_TIMERS)
 }
 
-/// A file with so many times `OnCalendar=daily`, and then these lines.
+/// A file with that many times `OnCalendar=daily`, and then these lines.
 fn many(alloc: Global, count: usize, last: &str) -> Result<String, AllocError> {
     let mut file = String::from_str(alloc, "[Timer]\n")?;
     for _ in 0..count {
@@ -184,7 +184,7 @@ fn many(alloc: Global, count: usize, last: &str) -> Result<String, AllocError> {
     Ok(file)
 }
 
-/// The report of a file with so many times `OnCalendar=daily` and a line of another kind, up to the elapses.
+/// The report of a file with that many times `OnCalendar=daily` and a line of another kind, up to the elapses.
 fn headings(alloc: Global, count: usize, last: &str) -> Result<String, AllocError> {
     let mut out = String::new(alloc);
     for _ in 0..count {
@@ -284,7 +284,7 @@ fn unread<'a>(row: Row<'a>, err: &'a str) -> Row<'a> {
     }
 }
 
-/// Readers that fail after so many bytes, also after the last one.
+/// Readers that fail after that many bytes, also after the last one.
 #[test]
 fn failing_readers(rt: HostRuntime) -> Result<(), Fail> {
     for row in &READ {

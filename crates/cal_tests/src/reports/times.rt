@@ -4,7 +4,7 @@ use super::{CALENDAR, Local, Row, check};
 use cal_request::Verb;
 use std::test::Fail;
 
-/// The span list, of which one is refused.
+/// The span list, of which one is rejected.
 pub(super) const SPAN_LIST: Row<'static> = Row {
     about: "span list",
     texts: &["1year 0.000001s", "300ms20s 5day", ".7", "0", "5x"],
@@ -68,7 +68,7 @@ today Mars/One: no such zone
 11:12 UTC x: stray word
 ";
 
-/// The stamp list, of which most are refused, where the clock is 8 hours ahead of UTC.
+/// The stamp list, of which most are rejected, where the clock is 8 hours ahead of UTC.
 pub(super) const STAMP_LIST: Row<'static> = Row {
     about: "stamp list",
     texts: &[

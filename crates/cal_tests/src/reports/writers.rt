@@ -60,7 +60,7 @@ fn expect_cut(rt: &impl Abort, row: Row<'_>, cut: Cut<'_>, wanted: Cut<'_>) {
     assert_eq!(rt; cut, wanted, "at {}", row.about);
 }
 
-/// A writer of reports that fails once it has this front of them has exactly that, and the run says that it failed.
+/// A writer of reports that fails once it has this prefix of them has exactly that, and the run says that it failed.
 fn check_cut_out(
     rt: &(impl Abort + AllocGlobal),
     row: Row<'_>,
@@ -145,7 +145,7 @@ fn second_runs(rt: HostRuntime) -> Result<(), Fail> {
     check(&rt, &EXCEPT_TIMER_RESUMED)
 }
 
-/// Puts the instants of the elapses whose first lines stand whole in a text at the end of a list.
+/// Puts the instants of the elapses whose first lines are complete in a text at the end of a list.
 fn push_instants<'t>(instants: &mut Vec<&'t str>, text: &'t str) -> Result<(), AllocError> {
     let Some((whole, _)) = text.rsplit_once('\n') else {
         return Ok(());
@@ -158,7 +158,7 @@ fn push_instants<'t>(instants: &mut Vec<&'t str>, text: &'t str) -> Result<(), A
     Ok(())
 }
 
-/// Puts the instants that stand whole in a front of a report, and those that a second run gives, at the end of a list.
+/// Puts the instants that are complete in a prefix of a report, and those that a second run gives, at the end of a list.
 fn push_resumed(
     instants: &mut Vec<&'static str>,
     front: &'static str,
@@ -171,7 +171,7 @@ fn push_resumed(
     Ok(())
 }
 
-/// What stands whole in the first run's report, cut after each of its bytes, and what a second run gives is together
+/// What is complete in the first run's report, cut after each of its bytes, and what a second run gives is together
 /// the whole.
 fn expect_resumed(
     rt: &(impl Abort + AllocGlobal),
@@ -194,7 +194,7 @@ fn each_cut_is_resumed(rt: HostRuntime) -> Result<(), Fail> {
     expect_resumed(&rt, EXCEPT_TIMER.out, &EXCEPT_TIMER_RESUMED)
 }
 
-/// A writer of refusals that fails once it has this front of them has exactly that, and the run says that it failed. All
+/// A writer of refusals that fails once it has this prefix of them has exactly that, and the run says that it failed. All
 /// of the reports were written.
 fn check_cut_err(
     rt: &(impl Abort + AllocGlobal),
@@ -231,7 +231,7 @@ fn check_cuts_err(rt: &(impl Abort + AllocGlobal), row: Row<'_>, then: Then) -> 
     Ok(())
 }
 
-/// A base that is refused is told on standard error, where that can be written.
+/// A base that is rejected is reported on standard error, where that can be written.
 const REFUSED_BASE: Row<'static> = Row {
     about: "a refused base",
     texts: &["*-*-* 12:30:00"],
@@ -254,7 +254,7 @@ fn refusals_that_are_cut(rt: HostRuntime) -> Result<(), Fail> {
     Ok(())
 }
 
-/// What stands in a text before these words.
+/// What is in a text before these words.
 fn before<'t>(text: &'t str, words: &str) -> Result<&'t str, Fail> {
     let end = text.find(words).ok_or("the words are missing")?;
     Ok(text.get(..end).unwrap_or(""))

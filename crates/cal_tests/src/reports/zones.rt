@@ -232,7 +232,7 @@ pub(super) const FROM_THE_FIRST: Row<'static> = Row {
     ..FROM_THE_SECOND
 };
 
-/// Bases: a run that starts at an elapse gives those after it; one that is refused is all that is told.
+/// Bases: a run that starts at an elapse gives those after it; one that is rejected is all that is reported.
 static BASES: [Row<'static>; 4] = [
     FROM_THE_SECOND,
     FROM_THE_FIRST,

@@ -35,7 +35,7 @@ impl<'a> System for Disk<'a> {
     }
 }
 
-/// After how many bytes a file does what, and what is told.
+/// After how many bytes a file does what, and what is reported.
 type Failing = (usize, Then, &'static str);
 
 static ZONE_FILES: [Failing; 3] = [
@@ -50,7 +50,7 @@ static TIMER_FILES: [Failing; 3] = [
     (8, Then::Zero, "no calendar expression\n"),
 ];
 
-/// Of the line of words each failing file of these bytes is told after these words, with this status.
+/// Of the line of words each failing file of these bytes is reported after these words, with this status.
 fn check_failing(
     rt: &(impl Abort + AllocGlobal),
     bytes: &[u8],
@@ -96,7 +96,7 @@ fn expect_cut(rt: &impl Abort, words: &[&str], cut: (Ended, &[u8]), wanted: (End
     assert_eq!(rt; cut, wanted, "at {words:?}");
 }
 
-/// Standard output that fails after 3 bytes has these of the whole text, and the fault is told on standard error.
+/// Standard output that fails after 3 bytes has these of the whole text, and the fault is reported on standard error.
 fn check_cut_out(
     rt: &(impl Abort + AllocGlobal),
     words: &[&str],

@@ -74,7 +74,7 @@ fn reports(rt: HostRuntime) -> Result<(), Fail> {
     check(&rt, &timer, ("timer|f", HOURLY, "", 0))
 }
 
-/// Lines whose option can't be taken, with what is told: two bad values, of which the first is told, and each alone; the
+/// Lines whose option can't be taken, with what is reported: two bad values, of which the first is reported, and each alone; the
 /// empty rule, and a name that isn't in the table; names that are taken, the first by the same list, and a file that
 /// can't be opened.
 const REFUSED_OPTIONS: &str = "\
@@ -110,7 +110,7 @@ fn refusals(rt: HostRuntime) -> Result<(), Fail> {
 }
 
 /// Two faults at once, where the clock gives no instant and the file is no zone file: the one that comes first in the
-/// program's work is told of alone.
+/// program's work is reported alone.
 const WITHOUT_CLOCK: &str = "\
 calendar|--now=5|--zones=A=f|daily -> calendar-analyze: bad now
 calendar|--zones=A=f|daily -> calendar-analyze: --zones: A: bad zone file

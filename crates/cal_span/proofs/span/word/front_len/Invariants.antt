@@ -3,7 +3,7 @@ use Rattle.cal_span.specs.SpanValue.{symbols}
 use Rattle.cal_span.specs.SpanWord.{front_of, after_front}
 use Rattle.cal_span.proofs.span.word.front_len.Given as goal
 
--- so far all is of the kind, and the rest gives what is left of the front
+-- so far all is of the kind, and the rest gives what is left of the prefix
 abbrev pub invariant-loop-found : goal.invariant-loop-found
 invariant-loop-found l = record {
   in_range : l.len ≤ length l.bytes;
