@@ -1,5 +1,6 @@
 -- The members of an expression that are among those of another.
 use Rattle.std.proofs.Common.{◌≡◌, ◌&&◌, ◌||◌, ◌⊎◌, ◌/◌, ◌%◌, ◌++◌, ℕ, zero, suc, ◌-◌, ◌≤◌, Bool, true, false, List, [], ◌∷◌, ℤ, inl, inr, refl, sym, ap, ◌∙◌, arith, bit_or, get_or, length}
+use Rattle.std.proofs.lemmas.Bool.{or_right}
 use Rattle.std.proofs.Math.Bool.{beq}
 use Rattle.std.proofs.Math.ListN.{get_or-eq_default}
 use Rattle.cal_elapse.specs.Bits.{is_bit, is_in_words}
@@ -14,16 +15,7 @@ use Rattle.cal_spec.specs.Match.{Sets, date_in, matches, time_in}
 -- a word that another adds nothing to has all of the other's numbers
 pub has_all : (mask others : ℕ) → bit_or mask others ≡ mask → HasAll (is_bit mask) (is_bit others)
 has_all mask others same i other =
-    ap (λ (m : ℕ). is_bit m i) (sym same) ∙ is_bit-or mask others i ∙ either (is_bit mask i) (is_bit others i) other
-  where
-    either : (a b : Bool) → b ≡ true → (a || b) ≡ true
-    either true b h = refl
-    either false b h = h
-
--- both of two tests
-pub both_true : (a b : Bool) → (a && b) ≡ true → (a ≡ true) × (b ≡ true)
-both_true true b h = (refl, h)
-both_true false b h = absurd (cc)
+    ap (λ (m : ℕ). is_bit m i) (sym same) ∙ is_bit-or mask others i ∙ or_right (is_bit mask i) (is_bit others i) other
 
 pub same_test : (a b : Bool) → beq a b ≡ true → a ≡ b
 same_test true true h = refl
