@@ -8,7 +8,7 @@ use crate::Rising;
 use std::marker::Model;
 
 /// How often a source is asked before it takes a step, as a step of a source with few numbers costs far more.
-const ASKED_FOR_A_STEP: u8 = 32;
+const ASKED_FOR_A_STEP: u8 = 128;
 
 /// A source of numbers that rise, seen as the number taken from it, if there is one, and what is after that.
 #[derive(Drop)]
