@@ -11,5 +11,6 @@ returns c = λ all.
     let days = and_parts _ _ hours.0 in
     let months = and_parts _ _ days.0 in
     let years = and_parts _ _ months.0 in
-    among c.args.self.now c.args.others.now (c.has_all.ensures years.0) (c.have_all.ensures years.1) (c.has_all-2.ensures months.1) (c.has_all-3.ensures days.1)
-    (c.has_all-4.ensures hours.1) (c.has_all-5.ensures minutes.1) (c.has_all-6.ensures seconds.1) (same_test _ _ turned.1)
+    among c.args.self.now c.args.others.now (search (c.has_all.ensures years.0)) (search (c.have_all.ensures years.1)) (search (c.has_all-2.ensures months.1))
+    (search (c.has_all-3.ensures days.1)) (search (c.has_all-4.ensures hours.1)) (search (c.has_all-5.ensures minutes.1)) (search (c.has_all-6.ensures seconds.1))
+    (same_test _ _ turned.1)
