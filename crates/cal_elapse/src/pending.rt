@@ -18,22 +18,22 @@ const NONE: u64 = u64::MAX;
 /// Only `new` takes memory.
 #[derive(Drop)]
 pub struct Pending {
-    /// One bit for each cell, in `WORDS` words: a `Vec`, so that they are written once, where they stay.
-    cells: Vec<u64>,
+    /// One bit for each cell.
+    cells: Box<[u64; WORDS]>,
     /// The least member, or `NONE`: the round begins with it. It is kept, so that it is sought once for each that is
     /// taken.
     least: u64,
 }
 
 impl Model for Pending {
-    ghost use Rattle.std.specs.Prelude.{ℤ, List};
+    ghost use Rattle.std.specs.Prelude.{ℤ, List, box_value};
     ghost use Rattle.cal_elapse.specs.Ring.{IsRoundFrom, instants_in};
 
     ghost Value = { List ℤ };
 
-    ghost view = { λ p. instants_in p.cells.items p.least };
+    ghost view = { λ p. instants_in (box_value p.cells) p.least };
 
-    ghost invariant = { λ p. IsRoundFrom p.cells.items p.least };
+    ghost invariant = { λ p. IsRoundFrom (box_value p.cells) p.least };
 }
 
 impl Pending {
@@ -45,7 +45,7 @@ impl Pending {
         ensures { IfOk result (λ pending. pending ≡ []) }
     {
         Ok(Pending {
-            cells: Vec::from_elem(alloc, 0, WORDS)?,
+            cells: Box::new(alloc, [0; WORDS])?,
             least: NONE,
         })
     }

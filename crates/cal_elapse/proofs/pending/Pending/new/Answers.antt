@@ -4,7 +4,7 @@ use Rattle.cal_elapse.proofs.RingLemmas.{empty_from, nothing_seen}
 use Rattle.cal_elapse.proofs.pending.Pending.new.Goals as goal
 
 pub invariant_of-result : goal.invariant_of-result
-invariant_of-result c = empty_from _ 2_925 refl (c.in_ok-from_elem.ensures.items_if_clones_equal (λ y same. same))
+invariant_of-result c = empty_from _ 2_925 refl c.in_ok-new.ensures.ok
 
 pub returns : goal.returns
-returns c = nothing_seen _ 2_925 no_second (c.in_ok-from_elem.ensures.items_if_clones_equal (λ y same. same))
+returns c = nothing_seen _ 2_925 no_second c.in_ok-new.ensures.ok

@@ -1,33 +1,30 @@
-use Rattle.std.proofs.Common.{sym, ◌≡◌, ◌∙◌, List, ap, length, pos, w64, ℕ}
-use Rattle.std.proofs.lemmas.List.{with_items_is}
+use Rattle.std.proofs.Common.{◌≡◌, ◌∙◌, List, ap, length, pos, w64, ℕ}
 use Rattle.std.proofs.lemmas.Int.{to_z-of_z}
 use Rattle.cal_elapse.specs.Bits.{is_in_words}
 use Rattle.cal_elapse.proofs.RingLemmas.{HasMore, near_there, put_answer, put_from, second_inside, second_is}
 use Rattle.cal_elapse.proofs.pending.Pending.put.Goals as goal
 
 pub set_cell-requires-clause-whole : goal.set_cell-requires-clause-whole
-set_cell-requires-clause-whole c = ap length c.as_mut_slice.ensures.value ∙ c.self.invariant.round.whole
+set_cell-requires-clause-whole c = ap length (c.as_mut_slice.ensures.value ∙ c.deref_mut.ensures.value) ∙ c.self.invariant.round.whole
 
 pub invariant_of-self : goal.invariant_of-self
 invariant_of-self c =
-    let kept = with_items_is c.self.inside.cells c.set_cell.new.words (c.set_cell.ensures.whole ∙ sym (c.self.inside.cells.ok.0 ∙ c.self.invariant.round.whole)) in
-    let same = c.as_mut_slice.ensures.value in
+    let same = c.as_mut_slice.ensures.value ∙ c.deref_mut.ensures.value in
     let second : pos c.unsigned_abs-second.result ≡ c.args.instant
     = second_is c.args.instant c.unsigned_abs-second.result c.requires.instant (rw (to_z-of_z w64 c.args.instant c.ranges.instant) at c.unsigned_abs-second.ensures.value) in
-    let more : HasMore c.self.inside.cells.items c.set_cell.new.words c.unsigned_abs-second.result
+    let more : HasMore c.self.inside.cells.value c.set_cell.new.words c.unsigned_abs-second.result
     = record { here = c.set_cell.ensures.set; others = λ cell other. c.set_cell.ensures.others cell other ∙ ap (λ (words : List ℕ). is_in_words words cell) same } in
-    rw (kept, c.min-self-inside.ensures)
-    (put_from c.self.inside.cells.items c.set_cell.new.words c.self.inside.least c.unsigned_abs-second.result more c.self.invariant
+    rw c.min-self-inside.ensures
+    (put_from c.self.inside.cells.value c.set_cell.new.words c.self.inside.least c.unsigned_abs-second.result more c.self.invariant
     (near_there _ c.self.inside.least c.unsigned_abs-second.result c.args.instant c.args.self.now c.self.view_is second c.requires.near)
     (second_inside c.args.instant c.unsigned_abs-second.result c.requires.instant second) c.set_cell.ensures.whole)
 
 pub returns : goal.returns
 returns c =
-    let kept = with_items_is c.self.inside.cells c.set_cell.new.words (c.set_cell.ensures.whole ∙ sym (c.self.inside.cells.ok.0 ∙ c.self.invariant.round.whole)) in
-    let same = c.as_mut_slice.ensures.value in
+    let same = c.as_mut_slice.ensures.value ∙ c.deref_mut.ensures.value in
     let second : pos c.unsigned_abs-second.result ≡ c.args.instant
     = second_is c.args.instant c.unsigned_abs-second.result c.requires.instant (rw (to_z-of_z w64 c.args.instant c.ranges.instant) at c.unsigned_abs-second.ensures.value) in
-    rw (kept, c.min-self-inside.ensures)
-    (put_answer c.self.inside.cells.items c.set_cell.new.words c.self.inside.least c.unsigned_abs-second.result c.args.instant c.args.self.now
+    rw c.min-self-inside.ensures
+    (put_answer c.self.inside.cells.value c.set_cell.new.words c.self.inside.least c.unsigned_abs-second.result c.args.instant c.args.self.now
     (record { here = c.set_cell.ensures.set; others = λ cell other. c.set_cell.ensures.others cell other ∙ ap (λ (words : List ℕ). is_in_words words cell) same })
     c.self.invariant c.self.view_is second (second_inside c.args.instant c.unsigned_abs-second.result c.requires.instant second) c.requires.near)

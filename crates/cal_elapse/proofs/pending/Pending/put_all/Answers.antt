@@ -1,5 +1,4 @@
-use Rattle.std.proofs.Common.{sym, ◌∙◌, ◌||◌, ◌%◌, List, ap, arith, length, w64, ℕ}
-use Rattle.std.proofs.lemmas.List.{with_items_is}
+use Rattle.std.proofs.Common.{◌∙◌, ◌||◌, ◌%◌, List, ap, arith, length, w64, ℕ}
 use Rattle.std.proofs.lemmas.Int.{to_z-of_z}
 use Rattle.cal_elapse.specs.Bits.{is_bit, is_in_words}
 use Rattle.cal_elapse.specs.Ring.{cells_behind}
@@ -8,14 +7,13 @@ use Rattle.cal_elapse.proofs.RingLemmas.{IsRising-instants}
 use Rattle.cal_elapse.proofs.pending.Pending.put_all.Goals as goal
 
 pub set_cells-requires-clause-whole : goal.set_cells-requires-clause-whole
-set_cells-requires-clause-whole c = ap length c.as_mut_slice.ensures.value ∙ c.self.invariant.round.whole
+set_cells-requires-clause-whole c = ap length (c.as_mut_slice.ensures.value ∙ c.deref_mut.ensures.value) ∙ c.self.invariant.round.whole
 
 pub invariant_of-self : goal.invariant_of-self
 invariant_of-self c =
-    let kept = with_items_is c.self.inside.cells c.set_cells.new.words (c.set_cells.ensures.whole ∙ sym (c.self.inside.cells.ok.0 ∙ c.self.invariant.round.whole)) in
-    let old = c.self.inside.cells.items in
+    let old = c.self.inside.cells.value in
     let bits = c.args.bits in
-    let same = c.as_mut_slice.ensures.value in
+    let same = c.as_mut_slice.ensures.value ∙ c.deref_mut.ensures.value in
     let begun = begun_least old c.self.inside.least c.args.start c.args.self.now c.self.view_is c.self.invariant c.requires.begun in
     let second = start_is c.args.start c.unsigned_abs-second.result c.self.inside.least begun.below (rw (to_z-of_z w64 c.args.start c.ranges.start) at c.unsigned_abs-second.ensures.value) in
     let all : HasAll old c.set_cells.new.words c.unsigned_abs-second.result bits
@@ -23,20 +21,18 @@ invariant_of-self c =
       held = λ i there. c.set_cells.ensures.set i there
           ∙ ap (λ (words : List ℕ). is_in_words words i || is_bit bits (cells_behind (c.unsigned_abs-second.result % 187_200) i)) same;
     } in
-    rw kept
-    (filled_from old c.set_cells.new.words c.self.inside.least c.unsigned_abs-second.result bits c.args.start all
+    filled_from old c.set_cells.new.words c.self.inside.least c.unsigned_abs-second.result bits c.args.start all
     (round_of_all old c.self.inside.least c.unsigned_abs-second.result bits c.args.start c.args.self.now c.self.view_is begun second c.requires.instants c.requires.near)
-    (omega arith) c.set_cells.ensures.whole begun c.self.invariant)
+    (omega arith) c.set_cells.ensures.whole begun c.self.invariant
 
 pub returns-clause-rises : goal.returns-clause-rises
-returns-clause-rises c = IsRising-instants _ c.self.inside.least
+returns-clause-rises c = IsRising-instants c.set_cells.new.words c.self.inside.least
 
 pub returns-clause-members : goal.returns-clause-members
 returns-clause-members c = λ i.
-    let kept = with_items_is c.self.inside.cells c.set_cells.new.words (c.set_cells.ensures.whole ∙ sym (c.self.inside.cells.ok.0 ∙ c.self.invariant.round.whole)) in
-    let old = c.self.inside.cells.items in
+    let old = c.self.inside.cells.value in
     let bits = c.args.bits in
-    let same = c.as_mut_slice.ensures.value in
+    let same = c.as_mut_slice.ensures.value ∙ c.deref_mut.ensures.value in
     let begun = begun_least old c.self.inside.least c.args.start c.args.self.now c.self.view_is c.self.invariant c.requires.begun in
     let second = start_is c.args.start c.unsigned_abs-second.result c.self.inside.least begun.below (rw (to_z-of_z w64 c.args.start c.ranges.start) at c.unsigned_abs-second.ensures.value) in
     let all : HasAll old c.set_cells.new.words c.unsigned_abs-second.result bits
@@ -44,7 +40,6 @@ returns-clause-members c = λ i.
       held = λ j there. c.set_cells.ensures.set j there
           ∙ ap (λ (words : List ℕ). is_in_words words j || is_bit bits (cells_behind (c.unsigned_abs-second.result % 187_200) j)) same;
     } in
-    rw kept
-    (filled_answer old c.set_cells.new.words c.self.inside.least c.unsigned_abs-second.result bits c.args.start c.args.self.now all
+    filled_answer old c.set_cells.new.words c.self.inside.least c.unsigned_abs-second.result bits c.args.start c.args.self.now all
     (round_of_all old c.self.inside.least c.unsigned_abs-second.result bits c.args.start c.args.self.now c.self.view_is begun second c.requires.instants c.requires.near)
-    (omega arith) c.self.view_is second i)
+    (omega arith) c.self.view_is second i

@@ -1,5 +1,4 @@
-use Rattle.std.proofs.Common.{sym, ◌∙◌, ◌+◌, List, ap, arith, length, subst, ℕ}
-use Rattle.std.proofs.lemmas.List.{with_items_is}
+use Rattle.std.proofs.Common.{◌∙◌, ◌+◌, List, ap, arith, length, subst, ℕ}
 use Rattle.cal_elapse.specs.Bits.{is_in_words}
 use Rattle.cal_elapse.specs.Ring.{is_held}
 use Rattle.cal_elapse.specs.Search.{IsFirstPassing}
@@ -14,7 +13,7 @@ pub returns-then-second-clause-left : goal.returns-then-second-clause-left
 returns-then-second-clause-left c = none_left c.args.self.now (returns-then-second-clause-least c)
 
 pub clear_cell-requires-clause-whole : goal.clear_cell-requires-clause-whole
-clear_cell-requires-clause-whole c = ap length c.as_mut_slice.ensures.value ∙ c.self.invariant.round.whole
+clear_cell-requires-clause-whole c = ap length (c.as_mut_slice.ensures.value ∙ c.deref_mut.ensures.value) ∙ c.self.invariant.round.whole
 
 pub first_held-requires-clause-low : goal.first_held-requires-clause-low
 first_held-requires-clause-low c =
@@ -27,14 +26,13 @@ overflow_cast-result c =
 
 pub invariant_of-self : goal.invariant_of-self
 invariant_of-self c =
-    let kept = with_items_is c.self.inside.cells c.clear_cell.new.words (c.clear_cell.ensures.whole ∙ sym (c.self.inside.cells.ok.0 ∙ c.self.invariant.round.whole)) in
-    let same = c.as_mut_slice.ensures.value in
-    rw (kept, c.unwrap_or-self-inside.ensures)
-    (taken_from c.self.inside.cells.items c.clear_cell.new.words c.self.inside.least c.first_held.result (found_kept _ c.self.inside.least c.self.invariant.first c.if-second.false)
+    let same = c.as_mut_slice.ensures.value ∙ c.deref_mut.ensures.value in
+    rw c.unwrap_or-self-inside.ensures
+    (taken_from c.self.inside.cells.value c.clear_cell.new.words c.self.inside.least c.first_held.result (found_kept _ c.self.inside.least c.self.invariant.first c.if-second.false)
     (record { here = c.clear_cell.ensures.cleared; others = λ cell other. c.clear_cell.ensures.others cell other ∙ ap (λ (words : List ℕ). is_in_words words cell) same })
     c.clear_cell.ensures.whole c.self.invariant.round
     (subst (λ (words : List ℕ). IsFirstPassing (is_held words) c.self.inside.least (c.self.inside.least + 187_200) c.first_held.result)
-    (c.as_slice.ensures.value ∙ kept) c.first_held.ensures))
+    (c.as_slice.ensures ∙ c.deref.ensures) c.first_held.ensures))
 
 pub returns-clause-least : goal.returns-clause-least
 returns-clause-least c =
@@ -43,12 +41,11 @@ returns-clause-least c =
 
 pub returns-clause-left : goal.returns-clause-left
 returns-clause-left c =
-    let kept = with_items_is c.self.inside.cells c.clear_cell.new.words (c.clear_cell.ensures.whole ∙ sym (c.self.inside.cells.ok.0 ∙ c.self.invariant.round.whole)) in
-    let same = c.as_mut_slice.ensures.value in
-    rw (kept, c.unwrap_or-self-inside.ensures)
-    (taken_answer c.self.inside.cells.items c.clear_cell.new.words c.self.inside.least c.first_held.result c.args.self.now
+    let same = c.as_mut_slice.ensures.value ∙ c.deref_mut.ensures.value in
+    rw c.unwrap_or-self-inside.ensures
+    (taken_answer c.self.inside.cells.value c.clear_cell.new.words c.self.inside.least c.first_held.result c.args.self.now
     (found_kept _ c.self.inside.least c.self.invariant.first c.if-second.false)
     (record { here = c.clear_cell.ensures.cleared; others = λ cell other. c.clear_cell.ensures.others cell other ∙ ap (λ (words : List ℕ). is_in_words words cell) same })
     (subst (λ (words : List ℕ). IsFirstPassing (is_held words) c.self.inside.least (c.self.inside.least + 187_200) c.first_held.result)
-    (c.as_slice.ensures.value ∙ kept) c.first_held.ensures)
+    (c.as_slice.ensures ∙ c.deref.ensures) c.first_held.ensures)
     c.self.view_is)
