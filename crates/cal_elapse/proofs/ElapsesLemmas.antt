@@ -9,7 +9,7 @@ use Rattle.cal_elapse.specs.Elapses.{Timed, places, elapses_after, elapses_excep
 use Rattle.cal_elapse.specs.Merged.{each_after}
 use Rattle.cal_rising.specs.Rises.{IsRising-without}
 use Rattle.cal_rising.specs.RisingList.{Has, HasAny, IsRising, first, later, union, without}
-use Rattle.cal_rising.proofs.RisingLemmas.{above_has, later_members, same_rising, Has-union, IsRising-union}
+use Rattle.cal_rising.proofs.RisingLemmas.{above_has, chained, later_members, same_rising, Has-union, IsRising-union}
 use Rattle.cal_rising.proofs.WithoutLemmas.{Has-without, without-none}
 
 -- a local second among n from a on that matches has its place here
@@ -71,9 +71,6 @@ not_above b x i ge lt e = omega (arith, ints)
 
 not_both : (x e i : ℤ) → x <ℤ e → e <ℤ i → x ≡ i → ⊥
 not_both x e i h k f = omega (arith, ints)
-
-chained : (b e i : ℤ) → b <ℤ e → e <ℤ i → b <ℤ i
-chained b e i h k = omega (arith, ints)
 
 -- a filter keeps the members above b
 above-one : (b x : ℤ) (keep : Bool) (rest : List ℤ) (i : ℤ) → int_lt b x ≡ keep → Has (cond keep (x ∷ rest) rest) i ↔ (((b <ℤ i) × (x ≡ i)) ⊎ Has rest i)

@@ -17,7 +17,7 @@ use Rattle.cal_elapse.specs.Search.{NonePasses}
 use Rattle.cal_elapse.specs.Window.{IsMatchAhead, IsPlacedBelow, IsReady, Windowed, bound_of, start_of, timed_by, timed_of, to_place, with_place}
 use Rattle.cal_elapse.specs.declared.window.Window.{Window}
 use Rattle.cal_elapse.proofs.ElapsesLemmas.{elapses_after-first, first_elapse-least, first_elapse-none}
-use Rattle.cal_rising.proofs.RisingLemmas.{Has-placed, IsRising-placed, above_has, later_members, list-first, lt_test, not_lt_test}
+use Rattle.cal_rising.proofs.RisingLemmas.{Has-placed, IsRising-placed, above_has, chained, later_members, list-first, lt_test, not_lt_test}
 
 -- a place is near its local second
 abbrev pub AreNear : Timed → Type 0
@@ -161,9 +161,6 @@ windowed_more e from a b last xs ys h w rises more near = record {
   );
   reach = λ i m t low high k. near i m t high;
 }
-
-chained : (a b c : ℤ) → a <ℤ b → b <ℤ c → a <ℤ c
-chained a b c h k = omega (arith, ints)
 
 -- the first member is given
 pub windowed_later : (e : Timed) (from bound : ℕ) (last x : ℤ) (xs : List ℤ) → Windowed e from bound last (x ∷ xs) → Windowed e from bound x xs

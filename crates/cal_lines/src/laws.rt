@@ -1,4 +1,4 @@
-//! Laws of the definitions that the contracts cite. Each is a function that does nothing, and whose contract is the law.
+//! Laws of the definitions that the contracts cite. Each is a function that does nothing, with the law as its contract.
 
 ghost use Rattle.std.specs.Prelude.{◌≡◌, ℕ, List};
 ghost use Rattle.cal_lines.specs.LineRule.{AreGroups, lines_of};

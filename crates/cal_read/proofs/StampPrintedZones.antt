@@ -9,7 +9,7 @@ use Rattle.jiff.proofs.SpanFacts.{signed_arith}
 use Rattle.jiff.specs.Types.{TimeZone, UTC}
 use Rattle.jiff.specs.Words.{nanos_of_seconds, offset_at, IsOffsetSeconds}
 use Rattle.cal_bytes.specs.Bytes.{joined}
-use Rattle.cal_zone.proofs.OffsetWordLemmas.{nearest, offset-back, offset-found, two_printed}
+use Rattle.cal_zone.proofs.OffsetWordLemmas.{both_all, nearest, offset-back, offset-found, two_printed}
 use Rattle.cal_zone.proofs.PlaceLemmas.{place_of-Some, place_of-UTC, settle_of-UTC, settle_of-fixed_zone}
 use Rattle.cal_zone.proofs.ZoneLemmas.{offset_at-in_range}
 use Rattle.cal_zone.specs.InstantText.{offset_text, sign_text, zeros, zone_word}
@@ -23,7 +23,7 @@ use Rattle.cal_zone.specs.ZoneTable.{zone_named}
 use Rattle.cal_zone.specs.declared.zone.Zone.{Zone}
 use Rattle.cal_zone.specs.declared.zone.ZoneKind.{ZoneKind}
 use Rattle.cal_zone.specs.declared.zone.ZoneKind.TheVariants.{Utc, Offset as Fixed, Rules}
-use Rattle.cal_spec.proofs.CleanLemmas.{any_clear, clear_from, list_all-append}
+use Rattle.cal_spec.proofs.CleanLemmas.{any_clear, clear_from}
 use Rattle.cal_spec.specs.GrammarRule.{IsWord}
 use Rattle.cal_spec.specs.Words.{is_blank}
 use Rattle.cal_read.specs.Stamp.{zone_meant}
@@ -141,7 +141,7 @@ minutes_fit offset h =
     let most = abs_within offset h in
     let hour = digits_fit (hour_in offset) (two_printed (unsigned_abs offset / 3_600) (omega arith)).digits in
     let minute = digits_fit (minute_in offset) (two_printed (unsigned_abs offset / 60 % 60) (omega arith)).digits in
-    list_all-append is_offset_byte (hour_in offset) (58 ∷ minute_in offset) hour minute
+    both_all is_offset_byte (hour_in offset) (58 ∷ minute_in offset) hour minute
 
 seconds_fit : (offset : ℤ) → IsOffsetSeconds offset → list_all is_offset_byte (hour_in offset ++ (58 ∷ (minute_in offset ++ (58 ∷ second_in offset)))) ≡ true
 seconds_fit offset h =
@@ -149,8 +149,8 @@ seconds_fit offset h =
     let hour = digits_fit (hour_in offset) (two_printed (unsigned_abs offset / 3_600) (omega arith)).digits in
     let minute = digits_fit (minute_in offset) (two_printed (unsigned_abs offset / 60 % 60) (omega arith)).digits in
     let second = digits_fit (second_in offset) (two_printed (unsigned_abs offset % 60) (omega arith)).digits in
-    list_all-append is_offset_byte (hour_in offset) (58 ∷ (minute_in offset ++ (58 ∷ second_in offset))) hour
-    (list_all-append is_offset_byte (minute_in offset) (58 ∷ second_in offset) minute second)
+    both_all is_offset_byte (hour_in offset) (58 ∷ (minute_in offset ++ (58 ∷ second_in offset))) hour
+    (both_all is_offset_byte (minute_in offset) (58 ∷ second_in offset) minute second)
 
 offset_signed_by : (offset : ℤ) (whole : Bool) → IsOffsetSeconds offset → (unsigned_abs offset % 60 == 0) ≡ whole → IsSigned (offset_text offset)
 offset_signed_by offset true h e = rw (in_minutes offset e) (signed_by offset _ _ refl (minutes_fit offset h))

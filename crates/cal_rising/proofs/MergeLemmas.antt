@@ -9,7 +9,7 @@ use Rattle.std.proofs.lemmas.List.Elements.{All-head, All-tail}
 use Rattle.std.specs.List.{All}
 use Rattle.cal_rising.specs.Merge.{HasHead, Stream, lesser, numbers, passed}
 use Rattle.cal_rising.specs.RisingList.{Has, HasAny, IsRising, first, later, placed, placed_all, union}
-use Rattle.cal_rising.proofs.RisingLemmas.{above_has, later_members, lt_test, not_lt_test, same_rising, Has-union, IsRising-union}
+use Rattle.cal_rising.proofs.RisingLemmas.{above_has, chained, later_members, lt_test, not_lt_test, same_rising, Has-union, IsRising-union}
 
 -- the lesser of none and another is the other
 lesser-none : (a : Option ℤ) → lesser a None ≡ a
@@ -92,9 +92,6 @@ least_more ss ts i s least head next same heads lt so_far there its now =
     ∙ ap (λ (b : Option ℤ). lesser before b) (its ∙ ap (λ (t : Stream). t.head) there)
     ∙ sym (first-union_more ss i s lt all)
     )
-
-chained : (b e i : ℤ) → b <ℤ e → e <ℤ i → b <ℤ i
-chained b e i h k = omega (arith, ints)
 
 -- what is left of a rising list once its least number, or a lesser one, was given
 Has-passed : (m : ℤ) (xs : List ℤ) → IsRising xs → ((i : ℤ) → Has xs i → m ≤ℤ i) → (i : ℤ) → Has (passed m xs) i ↔ ((m <ℤ i) × Has xs i)

@@ -1,5 +1,5 @@
 -- Rising lists: two with the same members are equal, and a union has the members of its lists.
-use Rattle.std.proofs.Common.{◌≡◌, ◌⊎◌, ◌↔◌, ℕ, suc, true, false, List, [], ◌∷◌, take, inl, inr, None, Some, ℤ, ◌<ℤ◌, ◌≤ℤ◌, int_lt, refl, sym, ap, ◌∙◌, subst, arith}
+use Rattle.std.proofs.Common.{◌≡◌, ◌⊎◌, ◌↔◌, true, false, List, [], ◌∷◌, inl, inr, None, Some, ℤ, ◌<ℤ◌, ◌≤ℤ◌, int_lt, refl, sym, ap, ◌∙◌, subst, arith}
 use Rattle.std.proofs.lemmas.Int.{by_lt_z, ints}
 pub use Rattle.cal_rising.specs.Rises.{IsAbove-lower, IsRising-placed, IsRising-placed_all, IsRising-union}
 use Rattle.cal_rising.specs.RisingList.{Has, HasAny, IsAbove, IsRising, IsUnion, first, later, placed, placed_all, union}
@@ -9,6 +9,9 @@ pub above_has : (b i : ℤ) (xs : List ℤ) → IsAbove b xs → Has xs i → b 
 above_has b i [] h m = absurd m
 above_has b i (x ∷ xs) h (inl e) = subst (λ (j : ℤ). b <ℤ j) e h.0
 above_has b i (x ∷ xs) h (inr m) = above_has b i xs h.1 m
+
+pub chained : (a b c : ℤ) → a <ℤ b → b <ℤ c → a <ℤ c
+chained a b c h k = omega (arith, ints)
 
 not_below_itself : (x : ℤ) → x <ℤ x → ⊥
 not_below_itself x h = omega (arith, ints)
@@ -115,8 +118,3 @@ list-first (y ∷ ys) x h = let same : y ≡ x = cc in ap (λ (z : ℤ). z ∷ y
 pub list-no_first : (xs : List ℤ) → first xs ≡ None → xs ≡ []
 list-no_first [] h = refl
 list-no_first (y ∷ ys) h = absurd (cc)
-
--- so the first n + 1 are the first and then n of the later ones
-pub take-first : (xs : List ℤ) (x : ℤ) (n : ℕ) → first xs ≡ Some x → take (suc n) xs ≡ x ∷ take n (later xs)
-take-first [] x n h = absurd (cc)
-take-first (y ∷ ys) x n h = let same : y ≡ x = cc in ap (λ (z : ℤ). z ∷ take n ys) same

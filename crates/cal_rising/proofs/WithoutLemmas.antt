@@ -1,64 +1,31 @@
 -- A rising list without the numbers of another: its members, and what one turn of a merge leaves of both.
-use Rattle.std.proofs.Common.{◌≡◌, ◌⊎◌, ◌↔◌, ◌||◌, ◌&&◌, ◌<◌, ℕ, suc, ◌<◌, cond, Bool, true, false, not, List, [], ◌∷◌, length, get_or, set, map, zero, inl, inr, Option, None, Some, ℤ, ◌<ℤ◌, ◌≤ℤ◌, int_eq, int_lt, nat_eq, FitsSigned, of_z, to_z, refl, sym, ap, ◌∙◌, subst, arith}
+use Rattle.std.proofs.Common.{◌≡◌, ◌≢◌, ◌⊎◌, ◌↔◌, ◌||◌, ◌&&◌, ◌<◌, ◌≤◌, ◌+◌, ℕ, suc, cond, Bool, true, false, not, List, [], ◌∷◌, length, get_or, get_or-set_other, set, map, zero, inl, inr, Option, None, Some, ℤ, ◌<ℤ◌, ◌≤ℤ◌, int_eq, nat_eq, FitsSigned, of_z, to_z, refl, sym, ap, ◌∙◌, subst, arith}
 use Rattle.std.specs.Int.{Width}
 use Rattle.std.specs.List.{filter, list_any}
+use Rattle.std.proofs.Math.Bool.{or-false, or-true}
+use Rattle.std.proofs.lemmas.Bool.{and_from, and_parts, or_cases}
+use Rattle.std.proofs.lemmas.Bool.Decides.{Decides-int_eq}
 use Rattle.std.proofs.lemmas.Int.{ints, to_z-of_z}
-use Rattle.cal_rising.specs.Merge.{Stream, numbers, numbers_by, passed}
+use Rattle.std.proofs.lemmas.List.{get_or_default}
+use borrow.Author.Count.{below_more}
+use Rattle.cal_rising.specs.Merge.{Stream, numbers, numbers_by}
 use Rattle.cal_rising.specs.Rises.{IsRising-union, IsRising-without}
 use Rattle.cal_rising.specs.RisingList.{Has, HasAny, IsAbove, IsRising, IsSameFrom, IsUnionWithout, first, is_in, later, union, without}
-use Rattle.cal_rising.proofs.RisingLemmas.{Has-union, not_lt_test, same_rising}
-
-same_value : (a b : ℤ) → int_eq a b ≡ true → a ≡ b
-same_value a b h = grind (arith, ints)
-
-value_same : (a b : ℤ) → a ≡ b → int_eq a b ≡ true
-value_same a b h = grind (arith, ints)
-
-other_value : (a b : ℤ) → a <ℤ b → int_eq a b ≡ false
-other_value a b h = grind (arith, ints)
+use Rattle.cal_rising.proofs.RisingLemmas.{Has-union, same_rising}
 
 value_above : (a b : ℤ) → b <ℤ a → int_eq a b ≡ false
 value_above a b h = grind (arith, ints)
-
-pub below : (a b : ℤ) → int_lt a b ≡ true → a <ℤ b
-below a b h = grind (arith, ints)
-
-pub not_below : (a b : ℤ) → int_lt a b ≡ false → b ≤ℤ a
-not_below a b h = grind (arith, ints)
-
-either_true : (p q : Bool) → (p || q) ≡ true → (p ≡ true) ⊎ (q ≡ true)
-either_true true q h = inl refl
-either_true false q h = inr h
-
-or_true : (p : Bool) → (p || true) ≡ true
-or_true true = refl
-or_true false = refl
-
-and_both : (p q : Bool) → p ≡ true → q ≡ true → (p && q) ≡ true
-and_both p q h k = rw (h, k) refl
-
-and_left : (p q : Bool) → (p && q) ≡ true → p ≡ true
-and_left true q h = refl
-and_left false q h = h
-
-and_right : (p q : Bool) → (p && q) ≡ true → q ≡ true
-and_right true q h = h
-and_right false q h = absurd (cc)
-
-or_false : (p : Bool) → (p || false) ≡ p
-or_false true = refl
-or_false false = refl
 
 -- whether a number is in a list
 pub Has-is_in : (xs : List ℤ) (i : ℤ) → is_in xs i ≡ true → Has xs i
 Has-is_in [] i h = absurd (cc)
 Has-is_in (x ∷ xs) i h =
-    elim (either_true (int_eq x i) (is_in xs i) h) [ inl e ↦ inl (same_value x i e) | inr e ↦ inr (Has-is_in xs i e) ]
+    elim (or_cases (int_eq x i) (is_in xs i) h) [ inl e ↦ inl ((Decides-int_eq x i).0 e) | inr e ↦ inr (Has-is_in xs i e) ]
 
 pub is_in-Has : (xs : List ℤ) (i : ℤ) → Has xs i → is_in xs i ≡ true
 is_in-Has [] i m = absurd m
-is_in-Has (x ∷ xs) i (inl e) = rw (value_same x i e)
-is_in-Has (x ∷ xs) i (inr m) = rw (is_in-Has xs i m) (or_true (int_eq x i))
+is_in-Has (x ∷ xs) i (inl e) = rw ((Decides-int_eq x i).1 e)
+is_in-Has (x ∷ xs) i (inr m) = rw (is_in-Has xs i m) (or-true (int_eq x i))
 
 not_in-Has : (xs : List ℤ) (i : ℤ) → not (is_in xs i) ≡ true → Has xs i → ⊥
 not_in-Has xs i h m = let there = is_in-Has xs i m in absurd (cc)
@@ -133,7 +100,7 @@ pub is_in-first : (m n : ℤ) (xs : List ℤ) → IsRising xs → first xs ≡ S
 is_in-first m n [] h at le = absurd (cc)
 is_in-first m n (x ∷ xs) h at le =
     let same : x ≡ m = cc in
-    rw (same, above_not_in m n xs le (subst (λ (z : ℤ). IsAbove z xs) same h.0)) (or_false (int_eq m n))
+    rw (same, above_not_in m n xs le (subst (λ (z : ℤ). IsAbove z xs) same h.0)) (or-false (int_eq m n))
 
 pub is_in-head : (head : Option ℤ) (xs : List ℤ) (m n : ℤ) → IsRising (numbers_by head xs) → head ≡ Some m → n ≤ℤ m
     → is_in (numbers_by head xs) n ≡ int_eq m n
@@ -147,13 +114,7 @@ pub same_word : (w : Width) (a b : ℤ) → FitsSigned w a → FitsSigned w b �
 same_word w a b f g =
     same_test (of_z w a) (of_z w b) a b (λ e. sym (to_z-of_z w a f) ∙ ap (to_z w) e ∙ to_z-of_z w b g) (ap (of_z w))
 
--- a list with a number in front has from above that number on what it had
-IsSameFrom-later : (m n : ℤ) (xs : List ℤ) → m <ℤ n → IsSameFrom n xs (m ∷ xs)
-IsSameFrom-later m n xs h i le =
-    let lt : m <ℤ i = omega (arith, ints) in
-    rw (other_value m i lt)
-
--- so a source that has taken its next number in the place of one below
+-- a source that has taken its next number in the place of one below has from there on what it had
 pub followed : (m n : ℤ) (xs ys zs : List ℤ) → m <ℤ n → xs ≡ ys → IsSameFrom n zs ys → IsSameFrom n zs xs
 followed m n xs ys zs h e same i le = same i le ∙ ap (λ (l : List ℤ). is_in l i) (sym e)
 
@@ -199,14 +160,6 @@ unfolding without
 without-later-nothing [] ys h = refl
 without-later-nothing (x ∷ xs) ys h = absurd (cc)
 
--- the first number of a list, once it was given, is passed over
-pub passed-first : (m : ℤ) (xs : List ℤ) → first xs ≡ Some m → passed m xs ≡ later xs
-passed-first m [] at = refl
-passed-first m (x ∷ xs) at =
-    let same : x ≡ m = cc in
-    let le : x ≤ℤ m = omega (arith, ints) in
-    rw (not_lt_test m x le) refl
-
 -- a union has a number where one of the lists has it
 pub same_truth : (a b : Bool) → (a ≡ true → b ≡ true) → (b ≡ true → a ≡ true) → a ≡ b
 same_truth true b h k = sym (h refl)
@@ -216,12 +169,12 @@ same_truth false false h k = refl
 any-HasAny : (n : ℤ) (xss : List (List ℤ)) → list_any (λ xs. is_in xs n) xss ≡ true → HasAny xss n
 any-HasAny n [] h = absurd (cc)
 any-HasAny n (xs ∷ xss) h =
-    elim (either_true (is_in xs n) (list_any (λ xs. is_in xs n) xss) h) [ inl e ↦ inl (Has-is_in xs n e) | inr e ↦ inr (any-HasAny n xss e) ]
+    elim (or_cases (is_in xs n) (list_any (λ xs. is_in xs n) xss) h) [ inl e ↦ inl (Has-is_in xs n e) | inr e ↦ inr (any-HasAny n xss e) ]
 
 HasAny-any : (n : ℤ) (xss : List (List ℤ)) → HasAny xss n → list_any (λ xs. is_in xs n) xss ≡ true
 HasAny-any n [] m = absurd m
 HasAny-any n (xs ∷ xss) (inl m) = rw (is_in-Has xs n m) refl
-HasAny-any n (xs ∷ xss) (inr m) = rw (HasAny-any n xss m) (or_true (is_in xs n))
+HasAny-any n (xs ∷ xss) (inr m) = rw (HasAny-any n xss m) (or-true (is_in xs n))
 
 pub any-union : (n : ℤ) (xss : List (List ℤ)) → list_any (λ xs. is_in xs n) xss ≡ is_in (union xss) n
 any-union n xss =
@@ -230,17 +183,45 @@ any-union n xss =
     (λ h. HasAny-any n xss ((Has-union xss n).0 (Has-is_in (union xss) n h)))
 
 -- whether one of the sources has it: none of them has, or this one has
-pub any-none : (n : ℤ) (ss : List Stream) → ((k : ℕ) → k < length ss → (d : Stream) → is_in (numbers (get_or ss k d)) n ≡ false)
+any-none : (n : ℤ) (ss : List Stream) → ((k : ℕ) → k < length ss → (d : Stream) → is_in (numbers (get_or ss k d)) n ≡ false)
     → list_any (λ xs. is_in xs n) (map numbers ss) ≡ false
 any-none n [] h = refl
 any-none n (s ∷ ss) h =
     rw (h zero (omega arith) s) (any-none n ss (λ (k : ℕ) (lt : k < length ss) (d : Stream). h (suc k) (omega arith) d))
 
-pub any-here : (n : ℤ) (ss : List Stream) (i : ℕ) (d : Stream) → i < length ss → is_in (numbers (get_or ss i d)) n ≡ true
+any-here : (n : ℤ) (ss : List Stream) (i : ℕ) (d : Stream) → i < length ss → is_in (numbers (get_or ss i d)) n ≡ true
     → list_any (λ xs. is_in xs n) (map numbers ss) ≡ true
 any-here n [] i d lt h = absurd (omega arith)
 any-here n (s ∷ ss) zero d lt h = rw h refl
-any-here n (s ∷ ss) (suc i) d lt h = rw (any-here n ss i d (omega arith) h) (or_true (is_in (numbers s) n))
+any-here n (s ∷ ss) (suc i) d lt h = rw (any-here n ss i d (omega arith) h) (or-true (is_in (numbers s) n))
+
+-- none of the sources below a place has the number, and those from there on are as they were given
+pub record AreBehind (n : ℤ) (at : ℕ) (given now : List Stream) : Type 0 where
+  pub none : (k : ℕ) → k < at → (d : Stream) → is_in (numbers (get_or given k d)) n ≡ false
+  pub untouched : (k : ℕ) (d : Stream) → at ≤ k → get_or now k d ≡ get_or given k d
+
+-- so it is with one more, whatever became of it
+pub behind_more : (n : ℤ) (at : ℕ) (given now : List Stream) (s t : Stream) → AreBehind n at given now → at < length given
+    → is_in (numbers (get_or now at s)) n ≡ false → AreBehind n (at + 1) given (set now at t)
+behind_more n at given now s t h lt lacks = record {
+  none = below_more (λ k. (d : Stream) → is_in (numbers (get_or given k d)) n ≡ false) at h.none (λ d.
+      ap (λ (s : Stream). is_in (numbers s) n) (get_or_default given at d s lt ∙ sym (h.untouched at s (omega arith))) ∙ lacks);
+  untouched = λ k d above.
+      let other : k ≢ at = omega arith in
+      get_or-set_other now at k t d other ∙ h.untouched k d (omega arith);
+}
+
+-- with all of them none of the sources has it
+pub behind_all : (n number : ℤ) (at : ℕ) (given now ss : List Stream) → AreBehind n at given now → n ≡ number → given ≡ ss → length given ≤ at
+    → false ≡ list_any (λ xs. is_in xs number) (map numbers ss)
+behind_all n number at given now ss h same whole all =
+    rw (← same, ← whole) (sym (any-none n given (λ k lt. h.none k (omega arith))))
+
+-- and the one at the place may have it
+pub behind_here : (n number : ℤ) (at : ℕ) (given now ss : List Stream) (s : Stream) → AreBehind n at given now → n ≡ number → given ≡ ss → at < length given
+    → is_in (numbers (get_or now at s)) n ≡ true → true ≡ list_any (λ xs. is_in xs number) (map numbers ss)
+behind_here n number at given now ss s h same whole lt has =
+    rw (← same, ← whole) (sym (any-here n given at s lt (ap (λ (s : Stream). is_in (numbers s) n) (sym (h.untouched at s (omega arith))) ∙ has)))
 
 -- one source in the place of another that has it too, or lacks it too
 pub any-set : (n : ℤ) (ss : List Stream) (i : ℕ) (s d : Stream) → i < length ss → is_in (numbers s) n ≡ is_in (numbers (get_or ss i d)) n
@@ -255,5 +236,6 @@ unfolding without
 is_in-without xs ys n =
     same_truth (is_in (without xs ys) n) (is_in xs n && not (is_in ys n))
     (λ h. let m = (Has-without xs ys n).0 (Has-is_in (without xs ys) n h) in
-    and_both (is_in xs n) (not (is_in ys n)) (is_in-Has xs n m.0) (not_in-by (is_in ys n) (λ e. m.1 (Has-is_in ys n e))))
-    (λ h. is_in-Has (without xs ys) n ((Has-without xs ys n).1 (Has-is_in xs n (and_left (is_in xs n) (not (is_in ys n)) h), not_in-Has ys n (and_right (is_in xs n) (not (is_in ys n)) h))))
+    and_from (is_in xs n) (not (is_in ys n)) (is_in-Has xs n m.0) (not_in-by (is_in ys n) (λ e. m.1 (Has-is_in ys n e))))
+    (λ h. let kept = and_parts (is_in xs n) (not (is_in ys n)) h in
+    is_in-Has (without xs ys) n ((Has-without xs ys n).1 (Has-is_in xs n kept.0, not_in-Has ys n kept.1)))

@@ -1,5 +1,5 @@
--- A rising list with numbers more, or with numbers less, rises, and so does a union, whatever its lists are: what laws of
--- rising sources cite.
+-- A rising list with numbers more, or with numbers less, rises, and so does a union, whatever its lists are: what laws
+-- of rising sources cite.
 use Rattle.std.specs.Prelude.{◌≡◌, cond, Bool, true, false, not, filter, List, [], ◌∷◌, ℤ, ◌<ℤ◌, int_lt}
 use Rattle.std.proofs.Common.{arith, refl}
 use Rattle.std.proofs.lemmas.Int.{ints}

@@ -1,4 +1,4 @@
--- Strictly rising lists of numbers, the union of several lists as one of these, and a list without the numbers of another.
+-- Strictly rising lists of numbers, the union of several as one of these, and a list without the numbers of another.
 use Rattle.std.specs.Prelude.{◌≡◌, ◌⊎◌, ◌↔◌, cond, Bool, not, filter, List, [], ◌∷◌, Option, None, Some, ℤ, ◌<ℤ◌, ◌≤ℤ◌, int_lt}
 use Rattle.std.specs.List.{list_any}
 use Rattle.std.specs.Ordering.{int_eq}

@@ -1,4 +1,4 @@
-//! Laws of the definitions that the contracts cite. Each is a function that does nothing, and whose contract is the law.
+//! Laws of the definitions that the contracts cite. Each is a function that does nothing, with the law as its contract.
 
 ghost use Rattle.std.specs.Prelude.{◌≡◌, [], ℤ, List};
 ghost use Rattle.cal_rising.specs.RisingList.{IsUnion, IsUnionWithout, union, without};
@@ -9,8 +9,8 @@ pub fn union_is_one_list()
     ensures only { (lists : List (List ℤ)) (list : List ℤ) → IsUnion lists list → list ≡ union lists }
 {}
 
-/// So is a union without the numbers of exceptions: it rises, has exactly the numbers of the lists that no exception has,
-/// and no other list does. Without exceptions it is the union.
+/// So is a union without the numbers of exceptions: it rises, has exactly the numbers of the lists that no exception
+/// has, and no other list does. Without exceptions it is the union.
 pub fn union_without_is_one_list()
     ensures this { (lists excepts : List (List ℤ)) → IsUnionWithout lists excepts (without (union lists) (union excepts)) }
     ensures only { (lists excepts : List (List ℤ)) (list : List ℤ) → IsUnionWithout lists excepts list

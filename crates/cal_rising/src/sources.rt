@@ -128,7 +128,7 @@ fn any_has<S: Rising>(branches: &mut Vec<Branch<S>>, number: i64) -> bool
     false
 }
 
-/// The same, where no number below this one is asked for again: a source that is behind it and lacks it may take a step.
+/// The same, where no number below this one is asked for again: a source behind it that lacks it may take a step.
 fn follow_all<S: Rising>(branches: &mut Vec<Branch<S>>, number: i64) -> bool
     ensures has { result ≡ list_any (λ xs. is_in xs number) (map numbers branches.old.items) }
     ensures left { (i : ℤ) → number ≤ℤ i → list_any (λ xs. is_in xs i) (map numbers branches.new.items)

@@ -2,7 +2,7 @@
 use Rattle.std.proofs.Common.{ℕ, ◌<◌, ◌≡◌, Bool, true, false, cond, List, [], ◌∷◌, ◌++◌, length, refl, ap, ◌∙◌, arith, eqb}
 use Rattle.std.specs.Prelude.{filter, ◌==◌}
 use Rattle.std.specs.List.{AllByRecursion, list_all, list_any, slice_split, onto_first, join_with_byte}
-use Rattle.std.proofs.lemmas.Bool.{and_parts, and_from, or_from}
+use Rattle.std.proofs.lemmas.Bool.{and_parts, or_from}
 
 -- no byte of the text passes p
 abbrev pub IsClear : (ℕ → Bool) → List ℕ → Type 0
@@ -19,11 +19,6 @@ clear_from q p (b ∷ bs) apart all =
 pub clear_append : (p : ℕ → Bool) (xs ys : List ℕ) → IsClear p xs → IsClear p ys → IsClear p (xs ++ ys)
 clear_append p [] ys first second = second
 clear_append p (x ∷ xs) ys first second = (first.0, clear_append p xs ys first.1 second)
-
-pub list_all-append : (q : ℕ → Bool) (xs ys : List ℕ) → list_all q xs ≡ true → list_all q ys ≡ true → list_all q (xs ++ ys) ≡ true
-list_all-append q [] ys first second = second
-list_all-append q (x ∷ xs) ys first second =
-    let parts = and_parts (q x) (list_all q xs) first in and_from (q x) (list_all q (xs ++ ys)) parts.0 (list_all-append q xs ys parts.1 second)
 
 -- a piece ends at the first separator
 pub split_at : (p : ℕ → Bool) (xs : List ℕ) (c : ℕ) (ys : List ℕ) → IsClear p xs → p c ≡ true → slice_split p (xs ++ (c ∷ ys)) ≡ xs ∷ slice_split p ys

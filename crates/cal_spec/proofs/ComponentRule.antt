@@ -16,12 +16,13 @@ use Rattle.cal_spec.specs.Sound.{IsWithin, IsEndWithin, EndsAfter, IsStep, GoesO
 use Rattle.cal_spec.specs.declared.part.Part.{Part}
 use Rattle.cal_spec.specs.declared.slot.Slot.{Slot}
 use Rattle.cal_spec.specs.declared.slot.Slot.TheVariants.{Year, Month, Day, DayFromEnd, Hour, Minute, Second}
-use Rattle.cal_spec.proofs.CleanLemmas.{IsClear, Apart, clear_from, list_all-append, split_joined}
+use Rattle.cal_spec.proofs.CleanLemmas.{IsClear, Apart, clear_from, split_joined}
 use Rattle.cal_spec.proofs.ComponentLemmas.{parts_of-cons, sound_parts, listed_ok}
 use Rattle.cal_spec.proofs.FaultLemmas.{part_due_is}
 use Rattle.cal_spec.proofs.PartRule.{part_found, part_only}
 use Rattle.cal_spec.proofs.PieceLemmas.{some_piece}
 use Rattle.cal_spec.proofs.ReadLemmas.{bind_ok}
+use Rattle.cal_zone.proofs.OffsetWordLemmas.{both_all}
 
 -- A part with a meaning has no fault
 
@@ -137,7 +138,7 @@ step_bytes text (Some n) is = rw is.1 (number_bytes is.0 n is.2)
 
 part_bytes : (text : List ℕ) (p : Part) → IsPartText text p → list_all is_part_byte text ≡ true
 part_bytes text p is =
-    rw is.whole (list_all-append is_part_byte is.front (is.middle ++ is.back) (number_bytes is.front p.start is.start) (list_all-append is_part_byte is.middle is.back (end_bytes is.middle p.end is.end) (step_bytes is.back p.step is.step)))
+    rw is.whole (both_all is_part_byte is.front (is.middle ++ is.back) (number_bytes is.front p.start is.start) (both_all is_part_byte is.middle is.back (end_bytes is.middle p.end is.end) (step_bytes is.back p.step is.step)))
 
 part_no_comma : Apart is_part_byte is_comma
 part_no_comma b h = ne_eqb b 44 (λ e. omega (arith, e, leb-true 46 b (and_parts (leb 46 b) (leb b 57) h).0))
@@ -160,7 +161,7 @@ joined_bytes slot [] ps zip = refl
 joined_bytes slot (t ∷ ts) [] zip = absurd zip
 joined_bytes slot (t ∷ []) (p ∷ ps) zip = part_byte_in t (part_bytes t zip.0.0 zip.0.1)
 joined_bytes slot (t ∷ u ∷ ts) (p ∷ ps) zip =
-    list_all-append is_component_byte t (44 ∷ join_with_byte 44 (u ∷ ts)) (part_byte_in t (part_bytes t zip.0.0 zip.0.1)) (joined_bytes slot (u ∷ ts) ps zip.1)
+    both_all is_component_byte t (44 ∷ join_with_byte 44 (u ∷ ts)) (part_byte_in t (part_bytes t zip.0.0 zip.0.1)) (joined_bytes slot (u ∷ ts) ps zip.1)
 
 pub component_bytes : (slot : Slot) (text : List ℕ) (c : Option (List Part)) → IsComponent slot text c → list_all is_component_byte text ≡ true
 component_bytes slot text None is = rw is refl

@@ -26,10 +26,11 @@ use Rattle.cal_spec.specs.declared.part.Part.{Part}
 use Rattle.cal_spec.specs.declared.slot.Slot.TheVariants.{Year, Month, Hour, Minute, Second}
 use Rattle.cal_spec.proofs.LengthLemmas.{AreSmall, expr_length, small_component, small_second}
 use Rattle.cal_spec.proofs.NormalFieldsLemmas.{fields_valid}
-use Rattle.cal_spec.proofs.ReadBackParts.{both_all, clear_of, component_back, component_bytes, component_some, is_component_byte, split_alone, split_at, wider}
+use Rattle.cal_spec.proofs.ReadBackParts.{clear_of, component_back, component_bytes, component_some, is_component_byte, split_alone, split_at, wider}
 use Rattle.cal_spec.proofs.ReadBackWeekdays.{ReadsDays, weekdays_all, weekdays_some}
 use Rattle.cal_spec.proofs.WordRule.{no_shorthand}
 use Rattle.cal_spec.proofs.WeekdayLemmas.{weekdays_text-all, weekdays_text-some}
+use Rattle.cal_zone.proofs.OffsetWordLemmas.{both_all}
 
 -- fields that are read back: valid, with small numbers
 pub record IsReadable (f : Fields) : Type 0 where

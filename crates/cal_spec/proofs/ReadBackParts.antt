@@ -8,7 +8,6 @@ use Rattle.std.specs.Str.Parse.{AllDigits, digits_value}
 use Rattle.std.proofs.lemmas.Bool.{and_from, and_parts, le-leb, le-ltb, leb-true, ne_eqb, or_left, or_parts, and_right}
 use Rattle.std.proofs.lemmas.Fmt.{decimal_is_IsNumeral}
 use Rattle.std.proofs.lemmas.List.{append-nil}
-use Rattle.std.proofs.lemmas.List.Folds.{list_all-append}
 use Rattle.std.proofs.lemmas.Str.Parse.{digit_from_value}
 use Rattle.cal_zone.specs.InstantText.{zeros}
 use Rattle.cal_spec.specs.Components.{component_of, counted, is_comma, is_star, listed, part_due, parts_of, room_in}
@@ -23,6 +22,7 @@ use Rattle.cal_spec.proofs.ComponentRule.{no_first_fault}
 use Rattle.cal_spec.proofs.LengthLemmas.{AreSmall, IsBelow, IsSmall, step_small}
 use Rattle.cal_spec.proofs.NormalLemmas.{same_part}
 use Rattle.cal_spec.proofs.SignLemmas.{begins_with, signs_lone, signs_number}
+use Rattle.cal_zone.proofs.OffsetWordLemmas.{both_all}
 
 -- Numbers
 
@@ -214,9 +214,6 @@ wider q p [] holds all = refl
 wider q p (b ∷ bs) holds all =
     let parts = and_parts (q b) (list_all q bs) all in
     and_from (p b) (list_all p bs) (holds b parts.0) (wider q p bs holds parts.1)
-
-pub both_all : (q : ℕ → Bool) (xs ys : List ℕ) → list_all q xs ≡ true → list_all q ys ≡ true → list_all q (xs ++ ys) ≡ true
-both_all q xs ys h k = list_all-append q xs ys ∙ and_from (list_all q xs) (list_all q ys) h k
 
 -- the bytes of a part: digits, `.` and `/`
 abbrev pub is_part_byte : ℕ → Bool

@@ -113,15 +113,6 @@ pub normal_stays : (p : Part) → IsNormal p → reduced p ≡ p
 unfolding IsNormal reduced
 normal_stays p h = normal_stays_to p.start p.end p.step h ∙ same_part _ p refl refl refl
 
-normal_is_part_to : (a : ℕ) (end step : Option ℕ) → IsNormalTo a end step → EndsAfter a end × IsStep step
-normal_is_part_to a None step h = (tt, h)
-normal_is_part_to a (Some b) None h = (omega arith, tt)
-normal_is_part_to a (Some b) (Some r) h = (omega (arith, h.0), omega (arith, h.1))
-
-pub normal_is_part : (p : Part) → IsNormal p → IsPart p
-unfolding IsNormal
-normal_is_part p h = let both = normal_is_part_to p.start p.end p.step h in record { forward = both.0; steps = both.1 }
-
 -- it has a meaning where the part has one
 sound_by : (t : Bool) (slot : Slot) (a e : ℕ) (step : Option ℕ) → IsWithin slot a → IsWithin slot e → a ≤ e → IsStep step
     → IsSound slot (cond t (point a) (record { start = a; end = Some e; step = range_step step }))

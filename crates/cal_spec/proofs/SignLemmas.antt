@@ -4,7 +4,7 @@ use Rattle.std.specs.Prelude.{⊤, cond, leb}
 use Rattle.std.specs.List.{AllByRecursion, list_all, prefix_len}
 use Rattle.std.specs.Char.{is_ascii_digit}
 use Rattle.std.proofs.lemmas.Bool.{and_parts, and_from, leb-true, le-leb, ne_eqb}
-use Rattle.std.proofs.lemmas.List.{take-append-drop, at_drop_more}
+use Rattle.std.proofs.lemmas.List.{take-append-drop}
 use Rattle.cal_spec.specs.Parts.{Sign, digits, dots, slash, point, other, is_point, is_slash, with_digit, with_byte, lone, signs}
 
 abbrev pub begins_with : (ℕ → Bool) → List ℕ → Bool
@@ -107,11 +107,7 @@ signs_sound (b ∷ c ∷ bs) = pair_of_signs b (signs bs) (signs (c ∷ bs)) (is
 pub sound_at : (text : List ℕ) (ss : List Sign) → signs text ≡ ss → AllByRecursion IsSign ss
 sound_at text ss at = rw at at (signs_sound text)
 
--- the number of digits at the start, from place to place
-pub digits_here : (text : List ℕ) (i : ℕ) → i < length text → is_ascii_digit (get_or text i 0) ≡ true → prefix_len is_ascii_digit (drop i text) ≡ 1 + prefix_len is_ascii_digit (drop (i + 1) text)
-digits_here text i within digit = at_drop_more (prefix_len is_ascii_digit) text i 0 within ∙ rw digit refl
-
--- the same, by the first byte
+-- a first byte that is a digit begins a number
 pub digits_at_front : (text : List ℕ) → 0 < length text → 48 ≤ get_or text 0 0 → get_or text 0 0 ≤ 57 → signs text ≡ digits (take (prefix_len is_ascii_digit text) text) ∷ signs (drop (prefix_len is_ascii_digit text) text)
 digits_at_front [] some low high = absurd (omega arith)
 digits_at_front (b ∷ bs) some low high = digits_first b bs (and_from _ _ (le-leb 48 b low) (le-leb b 57 high))

@@ -18,8 +18,9 @@ use Rattle.cal_spec.specs.GrammarRule.{IsName, IsItem, AreWeekdays, HasWeekdays}
 use Rattle.cal_spec.specs.Weekdays.{day_named, is_no_letter, leading_letters, after_letters, after_joint, days_to, days_by, days_of, items_of, without_comma, set_of, listed_days, weekdays_of, weekdays_in}
 use Rattle.cal_zone.specs.ZoneName.{begins_with_letter}
 use Rattle.cal_spec.specs.declared.weekdays.Days.{Days}
-use Rattle.cal_spec.proofs.CleanLemmas.{IsClear, Apart, clear_from, list_all-append, split_joined, some_pieces}
+use Rattle.cal_spec.proofs.CleanLemmas.{IsClear, Apart, clear_from, split_joined, some_pieces}
 use Rattle.cal_spec.proofs.FieldLemmas.{items_of-cons, weekdays_found}
+use Rattle.cal_zone.proofs.OffsetWordLemmas.{both_all}
 
 -- Names
 
@@ -309,7 +310,7 @@ joint_bytes joint (inr is) = rw is refl
 item_bytes : (text : List ℕ) (days : Days) → IsItem text days → list_all is_item_byte text ≡ true
 item_bytes text days (inl one) = name_bytes text days.first one.0
 item_bytes text days (inr two) =
-    rw two.whole (list_all-append is_item_byte two.first (two.joint ++ two.last) (name_bytes two.first days.first two.first_name) (list_all-append is_item_byte two.joint two.last (joint_bytes two.joint two.joint_is) (name_bytes two.last days.last two.last_name)))
+    rw two.whole (both_all is_item_byte two.first (two.joint ++ two.last) (name_bytes two.first days.first two.first_name) (both_all is_item_byte two.joint two.last (joint_bytes two.joint two.joint_is) (name_bytes two.last days.last two.last_name)))
 
 items_clear : (ts : List (List ℕ)) (items : List Days) → AllZip IsItem ts items → AllByRecursion (IsClear is_comma) ts
 items_clear [] [] zip = tt

@@ -160,8 +160,8 @@ given word = option_to_list word
 abbrev pub IsSignless : List ℕ → Type 0
 IsSignless word = begins_with_sign word ≡ false
 
--- `[weekdays] [date] [time] [zone]`, where one of the first three is there; what a word is shows at its first letter and
--- at a colon, and after the first word a sign begins the zone alone
+-- `[weekdays] [date] [time] [zone]`, where one of the first three is there; what a word is shows at its first letter
+-- and at a colon, and after the first word a sign begins the zone alone
 pub record ArePlain (ws : List (List ℕ)) (p : Places) (last : Option (List ℕ)) : Type 0 where
   pub date : Option (List ℕ)
   pub time : Option (List ℕ)

@@ -16,7 +16,7 @@ use crate::raw::{RawDate, RawTime};
 use crate::slot::Slot;
 use std::alloc::Global;
 
-/// How many counted parts are allowed in all: the first part of the hour, of the minute and of the second isn't counted.
+/// The most counted parts in all: the first part of the hour, of the minute and of the second isn't counted.
 const MOST_COUNTED: usize = 240;
 
 /// The date that the word writes, `year-month-day` or `month-day`, with `~` in place of the last `-` where the day is

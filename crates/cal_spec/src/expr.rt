@@ -91,7 +91,7 @@ impl Expr {
         }
     }
 
-    /// Whether each weekday is chosen, from Monday on. A caller learns that the fields are valid and in their normal form.
+    /// Whether each weekday is chosen, from Monday on. A caller learns that the fields are valid and in normal form.
     #[tactic(auto, unfolding(crate::specs::Fields::fields_of))]
     pub fn weekdays(&self) -> [bool; 7]
         ensures chosen { result ≡ self.now.weekdays }

@@ -10,9 +10,9 @@ ghost use Rattle.cal_spec.specs.GrammarRule.{AreWords, IsValid};
 ghost use Rattle.cal_spec.specs.Reads.{first_of};
 ghost use Rattle.cal_spec.specs.Words.{words};
 
-/// A text has fields exactly where it is an expression by the productions of systemd.time(7), Calendar Events, and these
-/// are its fields. It is at most one expression. Where it is none, its fault is the first of all judgements in the
-/// order of refusals.
+/// A text has fields exactly where it is an expression by the productions of systemd.time(7), Calendar Events, and
+/// these are its fields. It is at most one expression. Where it is none, its fault is the first of all judgements in
+/// the order of refusals.
 pub fn expressions_are_those_of_the_rule()
     ensures found { (text : List ℕ) (f : Fields) → fields_in text ≡ Ok f → IsValid text f }
     ensures only { (text : List ℕ) (f : Fields) → IsValid text f → fields_in text ≡ Ok f }

@@ -57,7 +57,7 @@ fn has_time(raw: &Raw, second: u64) -> bool
         && component_has(Slot::Second, &time.second, (second % 60) as u16)
 }
 
-/// The number that is tested for the day: the day itself, or its count from the month's end, of which the last day is 1.
+/// The number that is tested for the day: the day itself, or its count from the month's end, where the last day is 1.
 pub fn day_number(from_end: bool, date: Date) -> u16
     ensures { result ≡ day_number from_end date }
 {

@@ -26,8 +26,8 @@ const MOST_TEXT_BYTES: usize = 4096;
 ///
 /// The fault is the first one: [`SpecFault::TextTooLong`] above 4,096 bytes, then [`SpecFault::Empty`] where there is
 /// no word, then that of the words from the left. [`SpecFault::NoMemory`] comes only where memory was refused; nothing
-/// is said then. The zone is a name or an offset, `+hh:mm` or `-hh:mm`; whether there is a zone of that name isn't asked
-/// here.
+/// is said then. The zone is a name or an offset, `+hh:mm` or `-hh:mm`; whether there is a zone of that name isn't
+/// asked here.
 #[tactic(auto, unfolding(crate::specs::Expr::expr_in))]
 pub fn read_expr(alloc: Global, text: &str) -> Result<Expr, SpecFault>
     ensures { GivesUnlessNoMemory (λ expr. expr) result (expr_in text.now) }

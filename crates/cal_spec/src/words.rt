@@ -24,8 +24,8 @@ pub(crate) struct Places<'a> {
     pub(crate) rest: &'a [u8],
 }
 
-/// The places of the words of a text, or `None` where it has none (systemd.time(7), Calendar Events). A shorthand stands
-/// for the texts of its meaning.
+/// The places of the words of a text, or `None` where it has none (systemd.time(7), Calendar Events). A shorthand
+/// stands for the texts of its meaning.
 #[tactic(auto, unfolding(crate::specs::Words::places_of))]
 pub(crate) fn find_places(text: &[u8]) -> Option<Places<'_>>
     ensures { option_map places_seen result ≡ places_of (words text.now) }

@@ -26,7 +26,8 @@ use Rattle.cal_zone.proofs.PlaceLemmas.{civil_nanos-datetime_of}
 use Rattle.cal_zone.proofs.PlacerLemmas.{AreAlikeBy, alike_behind_rows, count_behind, offset_behind, rule_behind}
 use Rattle.cal_zone.proofs.RuleLemmas.{IsApart, IsPart, ambiguous_beside, ambiguous_in, far, in_its_year, moments_apart, next_behind, next_found, of_the_year, transition_at_moment, utc_year, walls_beside, window_apart, window_of, year_begun, year_goes_on}
 
--- where a rule's moments of a year are far enough away from two local seconds of it, the clock goes at their civil times alike
+-- where a rule's moments of a year are far enough away from two local seconds of it, the clock goes at their civil
+-- times alike
 civil_apart : (rule : Posix) (d : Dst) (y low high local other : ℤ) → rule.dst ≡ Some d → IsLocalSecond local → IsEpochDay (day_of other)
     → (datetime_of local).date.year ≡ y → (datetime_of other).date.year ≡ y → civil_min ≤ℤ low → high ≤ℤ civil_max
     → IsApart low high (pos 0) (rule_nanos y d.rule.start rule.std_offset.seconds) → IsApart low high (pos 93_599_000_000_000) (rule_nanos y d.rule.end d.offset.seconds)

@@ -1,10 +1,11 @@
 -- What a clock shows, against the local second that it stands for.
 use Rattle.std.proofs.Common.{◌≡◌, ◌+◌, ◌*◌, ℕ, ℤ, pos, sym, ap, ◌∙◌, arith}
-use Rattle.jiff.specs.Types.{DateTime, TimeZone}
-use Rattle.jiff.specs.Words.{civil_nanos, epoch_day, nanos_of_seconds, offset_at, weekday_of, IsBetween}
+use Rattle.jiff.specs.Types.{DateTime, Offset, TimeZone}
+use Rattle.jiff.specs.Words.{civil_nanos, epoch_day, nanos_of_seconds, offset_at, weekday_of}
 use Rattle.jiff_core.specs.Time.{time_seconds}
+use Rattle.jiff_core.proofs.CalendarLemmas.{days_in_month_bounds, weekday_number_bound}
 use Rattle.jiff.proofs.SpanFacts.{signed_arith}
-use Rattle.cal_zone.specs.Civil.{civil_of, shown_at}
+use Rattle.cal_zone.specs.Civil.{civil_of, shown_at, IsCivil}
 use Rattle.cal_zone.specs.Days.{date_of}
 use Rattle.cal_zone.proofs.DayLemmas.{date_of-epoch_day}
 use Rattle.cal_zone.specs.Local.{civil_date, day_of, second_of_day, hour_of, minute_of, second_of}
@@ -45,13 +46,24 @@ shown_at-civil_of tz second dt e =
       offset = offset_at tz (nanos_of_seconds second);
     }
 
--- at an instant a clock shows a year from 1969 to 2200
-pub year_shown : (tz : TimeZone) (dt : DateTime) (secs : ℤ) → civil_nanos dt ≡ nanos_of_seconds (local_of tz secs) → IsInstant secs → IsBetween (pos 1969) (pos 2200) dt.date.year
+-- at an instant they are in their ranges
+pub IsCivil-shown_at : (tz : TimeZone) (dt : DateTime) (secs : ℤ) (offset : Offset) → civil_nanos dt ≡ nanos_of_seconds (local_of tz secs) → IsInstant secs → IsCivil (shown_at offset.seconds dt)
 unfolding local_of
-year_shown tz dt secs e h =
+IsCivil-shown_at tz dt secs offset e h =
     let day = epoch_day-whole dt (local_of tz secs) e in
-    let offset = offset_at-in_range tz (nanos_of_seconds secs) in
-    (year-from_1969 dt.date (omega (arith, signed_arith, h.0)), year-to_2200 dt.date (omega (arith, signed_arith, h.1)))
+    let ahead = offset_at-in_range tz (nanos_of_seconds secs) in
+    let long = days_in_month_bounds dt.date.year dt.date.month in
+    let bound = weekday_number_bound (epoch_day dt.date) in
+    record {
+      year = (year-from_1969 dt.date (omega (arith, signed_arith, h.0)), year-to_2200 dt.date (omega (arith, signed_arith, h.1)));
+      month = dt.date.month_in;
+      day = (dt.date.day_in.0, omega (arith, dt.date.day_in.1));
+      weekday = (omega arith, omega arith);
+      hour = omega (arith, dt.time.hour_in);
+      minute = omega (arith, dt.time.minute_in);
+      second = omega (arith, dt.time.second_in);
+      offset = offset.in_range;
+    }
 
 -- the date that a clock in UTC shows at a day's first second is that day's
 pub date_of_midnight : (shown : DateTime) (day : ℕ) → civil_nanos shown ≡ nanos_of_seconds (pos (day * 86_400)) → shown.date ≡ civil_date day

@@ -1,6 +1,7 @@
 -- The local second that has its place at an instant is the one that the clock shows then.
 use Rattle.std.proofs.Common.{◌≡◌, ◌∙◌, None, Some, ℤ, pos, ◌≤ℤ◌, ◌<ℤ◌, arith, ap, negsuc, refl, subst, sym}
 use Rattle.std.proofs.lemmas.Int.{ints}
+use Rattle.std.specs.Int.Signed.{pos-nat_abs, yes_non_neg}
 use Rattle.std.specs.Prelude.{unsigned_abs}
 use Rattle.jiff.proofs.SpanFacts.{signed_arith}
 use Rattle.jiff.specs.Types.{TimeZone}
@@ -24,13 +25,9 @@ pub local_at-elsewhere : (tz : TimeZone) (instant shown : ℤ) → shown ≡ loc
 local_at-elsewhere tz instant shown at elsewhere = λ local inside placed.
     elsewhere (subst (λ (z : ℤ). place_of tz z ≡ Some instant) (sym (place_of-Some tz (pos local) instant placed).1 ∙ sym at) placed)
 
-pos-abs : (z : ℤ) → pos 0 ≤ℤ z → pos (unsigned_abs z) ≡ z
-pos-abs (pos n) h = refl
-pos-abs (negsuc n) h = absurd (omega (arith, ints))
-
 -- and where it has its place there
 pub local_at-here : (tz : TimeZone) (instant shown : ℤ) → pos 0 ≤ℤ shown → shown <ℤ pos 7_258_118_400 → place_of tz shown ≡ Some instant → IsLocalAt tz instant (Some (unsigned_abs shown))
 local_at-here tz instant shown low high placed =
     let count = seconds_in_all-is in
-    let same : pos (unsigned_abs shown) ≡ shown = pos-abs shown low in
+    let same : pos (unsigned_abs shown) ≡ shown = pos-nat_abs shown (yes_non_neg low) in
     (omega (arith, signed_arith), ap (place_of tz) same ∙ placed)

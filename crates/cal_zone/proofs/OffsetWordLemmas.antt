@@ -4,8 +4,9 @@ use Rattle.std.specs.Char.{is_ascii_digit}
 use Rattle.std.specs.Fmt.{digits}
 use Rattle.std.specs.List.{list_all}
 use Rattle.std.specs.Str.Parse.{digits_value}
-use Rattle.std.proofs.lemmas.Bool.{and_parts, cases_lt, eqb-true, le-ltb}
+use Rattle.std.proofs.lemmas.Bool.{and_from, and_parts, cases_lt, eqb-true, le-ltb}
 use Rattle.std.proofs.lemmas.Bool.Decides.{nat_tests}
+use Rattle.std.proofs.lemmas.List.Folds.{list_all-append}
 use Rattle.std.proofs.lemmas.Option.{cond_some}
 use Rattle.jiff.proofs.SpanFacts.{signed_arith}
 use Rattle.jiff.specs.Types.{Offset}
@@ -127,23 +128,19 @@ offset-only word seconds h = signed-only word h.clock h.distance seconds (clock-
 abbrev pub is_offset_byte : ℕ → Bool
 is_offset_byte b = is_ascii_digit b || (is_sign b || (b == 58))
 
-digit_byte : (b : ℕ) → is_ascii_digit b ≡ true → is_offset_byte b ≡ true
-digit_byte b h = rw h refl
-
 digit_bytes : (bs : List ℕ) → list_all is_ascii_digit bs ≡ true → list_all is_offset_byte bs ≡ true
 digit_bytes [] h = refl
 digit_bytes (b ∷ bs) h = let parts = and_parts (is_ascii_digit b) (list_all is_ascii_digit bs) h in rw (parts.0, digit_bytes bs parts.1) refl
 
-all-append : (p : ℕ → Bool) (xs ys : List ℕ) → list_all p xs ≡ true → list_all p ys ≡ true → list_all p (xs ++ ys) ≡ true
-all-append p [] ys h k = k
-all-append p (x ∷ xs) ys h k = let parts = and_parts (p x) (list_all p xs) h in rw (parts.0, all-append p xs ys parts.1 k) refl
+pub both_all : (q : ℕ → Bool) (xs ys : List ℕ) → list_all q xs ≡ true → list_all q ys ≡ true → list_all q (xs ++ ys) ≡ true
+both_all q xs ys h k = list_all-append q xs ys ∙ and_from (list_all q xs) (list_all q ys) h k
 
 clock-bytes : (text : List ℕ) (n : ℕ) → IsClock text n → (list_all is_offset_byte text ≡ true) × (length text ≡ 5)
 clock-bytes text n h =
     let hour = digit_bytes h.hour h.hour_is.digits in
     let minute = digit_bytes h.minute h.minute_is.digits in
     let long : length (h.hour ++ (codes ":" ++ h.minute)) ≡ 5 = omega (arith, length-append h.hour (codes ":" ++ h.minute), h.hour_is.two, h.minute_is.two) in
-    rw h.whole (all-append is_offset_byte h.hour (codes ":" ++ h.minute) hour minute, long)
+    rw h.whole (both_all is_offset_byte h.hour (codes ":" ++ h.minute) hour minute, long)
 
 bytes-by : (word clock : List ℕ) (distance : ℕ) (seconds : ℤ) → (list_all is_offset_byte clock ≡ true) × (length clock ≡ 5)
     → ((word ≡ codes "+" ++ clock) × (seconds ≡ pos distance)) ⊎ ((word ≡ codes "-" ++ clock) × (seconds ≡ neg_ℤ (pos distance)))
@@ -261,7 +258,3 @@ pub nearest : (seconds : ℤ) → IsOffsetSeconds seconds → (offset_of_seconds
 unfolding offset_of_seconds
 nearest (pos n) h = let least : min n 93_599 ≡ n = omega (arith, signed_arith, h.1) in ap pos least
 nearest (negsuc n) h = let least : min (suc n) 93_599 ≡ suc n = omega (arith, signed_arith, h.0) in ap (λ k. neg_ℤ (pos k)) least
-
-pub zone_ahead-offset : (offset : Offset) → zone_ahead offset.seconds ≡ fixed_zone offset
-unfolding zone_ahead
-zone_ahead-offset offset = ap fixed_zone (same_offset _ offset (nearest offset.seconds offset.in_range))

@@ -1,5 +1,6 @@
 -- Places of local seconds.
 use Rattle.std.proofs.Common.{◌≡◌, ◌∙◌, ℤ, pos, ◌+ℤ◌, ◌-ℤ◌, Bool, Option, Some, None, refl, sym, ap, arith, int_eq, true, false, if◌then◌else◌}
+use Rattle.std.proofs.lemmas.Bool.Decides.{Decides-int_eq}
 use Rattle.std.proofs.lemmas.Int.{ints}
 use Rattle.jiff.specs.Types.{AmbiguousOffset, DateTime, Fixed, Offset, TimeZone, UTC}
 use Rattle.jiff.specs.Words.{ambiguous_at, compatible_offset, civil_nanos, fixed_zone, instant_of, nanos_of_seconds, offset_at, picked_instant, IsEpochDay, IsOffsetSeconds}
@@ -16,9 +17,6 @@ pub civil_nanos-datetime_of : (local : ℤ) → IsEpochDay (day_of local) → ci
 unfolding civil_nanos datetime_of time_of
 civil_nanos-datetime_of local h = omega (arith, signed_arith, epoch_day-date_of (day_of local) h)
 
-same_test : (a b : ℤ) → a ≡ b → int_eq a b ≡ true
-same_test a b e = grind (arith, ints)
-
 pub settle_of-UTC : (local : ℤ) → settle_of UTC local ≡ local
 unfolding settle_of ambiguous_at
 settle_of-UTC local = omega (arith, ints)
@@ -30,7 +28,7 @@ local_of-UTC second = omega (arith, ints)
 -- the civil clock of UTC is the Unix clock
 pub place_of-UTC : (local : ℤ) → place_of UTC local ≡ Some local
 unfolding place_of
-place_of-UTC local = rw (settle_of-UTC local, local_of-UTC local, same_test local local refl)
+place_of-UTC local = rw (settle_of-UTC local, local_of-UTC local, (Decides-int_eq local local).1 refl)
 
 -- the second that a local second settles at is `jiff`'s own instant
 pub picked_instant-settle_of : (tz : TimeZone) (local : ℤ) → IsEpochDay (day_of local) → picked_instant tz (datetime_of local) ≡ nanos_of_seconds (settle_of tz local)
@@ -55,7 +53,7 @@ local_of-fixed_zone o local = omega (arith, signed_arith, offset_at-fixed_zone o
 -- such a zone places each local second at itself less the offset
 pub place_of-fixed_zone : (o : Offset) (local : ℤ) → place_of (fixed_zone o) local ≡ Some (local -ℤ o.seconds)
 unfolding place_of
-place_of-fixed_zone o local = rw (settle_of-fixed_zone o local, local_of-fixed_zone o local, same_test local local refl)
+place_of-fixed_zone o local = rw (settle_of-fixed_zone o local, local_of-fixed_zone o local, (Decides-int_eq local local).1 refl)
 
 -- the instant that `jiff` picks for a local second is where it settles
 pub instant_of-settled : (tz : TimeZone) (offsets : AmbiguousOffset) (shown : DateTime) (local : ℤ) → IsEpochDay (day_of local)
@@ -77,7 +75,7 @@ settle_of-near tz local =
 pub place_of-shown : (tz : TimeZone) (local second : ℤ) → second ≡ settle_of tz local → local_of tz second ≡ local → place_of tz local ≡ Some second
 unfolding place_of
 place_of-shown tz local second settled shown =
-    rw (← settled, same_test (local_of tz second) local shown)
+    rw (← settled, (Decides-int_eq (local_of tz second) local).1 shown)
 
 other_test : (a b : ℤ) → (a ≡ b → ⊥) → int_eq a b ≡ false
 other_test a b e = grind (arith, ints)
@@ -91,15 +89,12 @@ by_test : (b : Bool) (s place : ℤ) → ◌≡◌ {A = Option ℤ} (if b then S
 by_test true s place e = (refl, cc)
 by_test false s place e = cc
 
-test_true : (a b : ℤ) → int_eq a b ≡ true → a ≡ b
-test_true a b e = grind (arith, ints)
-
 -- a place is where its local second settles, and the clock shows the local second there
 pub place_of-Some : (tz : TimeZone) (local place : ℤ) → place_of tz local ≡ Some place → (settle_of tz local ≡ place) × (local_of tz place ≡ local)
 unfolding place_of
 place_of-Some tz local place e =
     let h = by_test _ (settle_of tz local) place e in
-    (h.1, ap (local_of tz) (sym h.1) ∙ test_true (local_of tz (settle_of tz local)) local h.0)
+    (h.1, ap (local_of tz) (sym h.1) ∙ (Decides-int_eq (local_of tz (settle_of tz local)) local).0 h.0)
 
 pub by_the_offset : (tz : TimeZone) (local place : ℤ) → place_of tz local ≡ Some place → local -ℤ place ≡ offset_at tz (nanos_of_seconds place)
 unfolding local_of
@@ -130,7 +125,7 @@ place_of-tried tz local offsets e =
 pub place_at-there : (tz : TimeZone) (local : ℤ) (offset : Offset) → offset_at tz (nanos_of_seconds (local -ℤ offset.seconds)) ≡ offset.seconds
     → place_at tz local offset ≡ Some (local -ℤ offset.seconds)
 unfolding place_at
-place_at-there tz local offset e = rw (same_test (offset_at tz (nanos_of_seconds (local -ℤ offset.seconds))) offset.seconds e)
+place_at-there tz local offset e = rw ((Decides-int_eq (offset_at tz (nanos_of_seconds (local -ℤ offset.seconds))) offset.seconds).1 e)
 
 pub place_at-elsewhere : (tz : TimeZone) (local : ℤ) (offset : Offset) → (offset_at tz (nanos_of_seconds (local -ℤ offset.seconds)) ≡ offset.seconds → ⊥)
     → place_at tz local offset ≡ None

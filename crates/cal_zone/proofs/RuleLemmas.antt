@@ -19,6 +19,7 @@ use Rattle.jiff_tz.specs.declared.tzif.Tzif.{Tzif as Table}
 use Rattle.jiff_tz.specs.Tzif as OfTable
 use Rattle.jiff_tz.specs.Tzif.{count_at}
 use Rattle.std.proofs.lemmas.Bool.Decides.{nat_tests}
+use Rattle.std.proofs.lemmas.Int.{ints}
 use Rattle.cal_zone.proofs.DayLemmas.{epoch_day-date_of}
 use Rattle.cal_zone.proofs.PlaceLemmas.{civil_nanos-datetime_of}
 use Rattle.jiff.proofs.SpanFacts.{signed_arith}
@@ -31,16 +32,10 @@ use Rattle.jiff_tz.specs.PosixRule as ByPosix
 use Rattle.jiff_tz.proofs.TzifLemmas.{le_no, le_yes}
 
 pub lt_yes : (a b : ℤ) → a <ℤ b → int_lt a b ≡ true
-lt_yes a b h = elim (int_lt a b) as (λ v. int_lt a b ≡ v → v ≡ true) [
-  | true ↦ λ e. refl
-  | false ↦ λ e. let over = lt-false a b e in absurd (omega (arith, signed_arith))
-] refl
+lt_yes a b h = grind (arith, ints)
 
 pub lt_no : (a b : ℤ) → b ≤ℤ a → int_lt a b ≡ false
-lt_no a b h = elim (int_lt a b) as (λ v. int_lt a b ≡ v → v ≡ false) [
-  | true ↦ λ e. let under = lt-true a b e in absurd (omega (arith, signed_arith))
-  | false ↦ λ e. refl
-] refl
+lt_no a b h = grind (arith, ints)
 
 -- two moments are on one side of a third
 pub record IsBeside (moment at other : ℤ) : Type 0 where
@@ -209,7 +204,7 @@ window_apart rule d y low high next e h =
     let ends = window_by rule d y low high next e h in
     ordered_apart low high (utc_window d y rule.std_offset) ends.0 ends.1
 
--- where daylight saving time begins as the year does, its end may be left out of the window: it lies at an edge of the year
+-- where summer time begins as the year does, its end may be left out of the window: it lies at an edge of the year
 end_passed : (low high first last end std : ℤ) → first ≤ℤ low → low ≤ℤ civil_max → IsOffsetSeconds std → clamp_to civil_min civil_max (end +ℤ nanos_of_seconds std) <ℤ first
     → ((end +ℤ nanos_of_seconds std) ≤ℤ clamp_to civil_min civil_max (end +ℤ nanos_of_seconds std)) ⊎ (civil_max ≤ℤ clamp_to civil_min civil_max (end +ℤ nanos_of_seconds std))
     → IsApart low high (pos 93_599_000_000_000) end

@@ -1,6 +1,7 @@
 -- Instants that a clock shows on one day.
 use Rattle.std.proofs.Common.{◌≡◌, ◌∙◌, ◌+◌, ◌*◌, ℕ, ℤ, pos, ◌+ℤ◌, ◌-ℤ◌, ◌≤ℤ◌, ◌<ℤ◌, negsuc, cond, int_lt, true, false, unsigned_abs, codes, List, [], ◌∷◌, ◌++◌, refl, ap, arith}
 use Rattle.std.specs.Int.{int_max}
+use Rattle.std.specs.Int.Signed.{pos-nat_abs, yes_non_neg}
 use Rattle.std.proofs.lemmas.List.{append-nil, append_assoc}
 use Rattle.jiff.specs.Types.{TimeZone}
 use Rattle.jiff.specs.Words.{nanos_of_seconds, offset_at, weekday_of}
@@ -18,10 +19,6 @@ use Rattle.cal_zone.specs.declared.zone.Zone.{Zone}
 abbrev pub seconds_shown : Civil → ℕ
 seconds_shown c = c.hour * 3_600 + c.minute * 60 + c.second
 
-pub magnitude : (z : ℤ) → pos 0 ≤ℤ z → pos (unsigned_abs z) ≡ z
-magnitude (pos n) h = refl
-magnitude (negsuc n) h = absurd (omega (arith, signed_arith))
-
 -- before the next midnight the day goes on, where the clock does
 pub day_goes_on : (tz : TimeZone) (here second midnight : ℤ) → offset_at tz (nanos_of_seconds second) ≡ offset_at tz (nanos_of_seconds here)
     → midnight ≡ here -ℤ pos (seconds_shown (civil_of tz here)) → midnight ≤ℤ second → second <ℤ (midnight +ℤ pos 86_400)
@@ -30,7 +27,8 @@ unfolding civil_of local_of
 day_goes_on tz here second midnight offset is from before =
     let local : ℤ = here +ℤ offset_at tz (nanos_of_seconds here) in
     let later : ℤ = second +ℤ offset_at tz (nanos_of_seconds second) in
-    let since = magnitude (second -ℤ midnight) (omega (arith, signed_arith)) in
+    let after : pos 0 ≤ℤ (second -ℤ midnight) = omega (arith, signed_arith) in
+    let since = pos-nat_abs (second -ℤ midnight) (yes_non_neg after) in
     let day : day_of later ≡ day_of local = omega (arith, signed_arith) in
     let within : second_of_day later ≡ unsigned_abs (second -ℤ midnight) = omega (arith, signed_arith, since) in
     λ i. record {

@@ -1,7 +1,8 @@
 -- What a clock in a zone shows at an instant.
-use Rattle.std.specs.Prelude.{ℕ, ◌+◌, ℤ}
+use Rattle.std.specs.Prelude.{ℕ, ◌+◌, ◌≤◌, ℤ, pos}
+use Rattle.std.specs.Int.{IsInRange}
 use Rattle.jiff.specs.Types.{Date, DateTime, TimeZone}
-use Rattle.jiff.specs.Words.{nanos_of_seconds, offset_at, weekday_of}
+use Rattle.jiff.specs.Words.{nanos_of_seconds, offset_at, weekday_of, IsBetween, IsOffsetSeconds}
 use Rattle.cal_zone.specs.declared.civil_fields.Civil.{Civil}
 use Rattle.cal_zone.specs.Days.{date_of}
 use Rattle.cal_zone.specs.Local.{day_of, second_of_day, hour_of, minute_of, second_of}
@@ -38,6 +39,17 @@ unfoldable pub civil_of : TimeZone → ℤ → Civil
 civil_of tz second =
     let local = local_of tz second in
     fields_of (date_of (day_of local)) (second_of_day local) (offset_at tz (nanos_of_seconds second))
+
+-- the ranges of what is shown at an instant
+pub record IsCivil (shown : Civil) : Type 0 where
+  pub year : IsBetween (pos 1969) (pos 2200) shown.year
+  pub month : IsInRange 1 12 shown.month
+  pub day : IsInRange 1 31 shown.day
+  pub weekday : IsInRange 1 7 shown.weekday
+  pub hour : shown.hour ≤ 23
+  pub minute : shown.minute ≤ 59
+  pub second : shown.second ≤ 59
+  pub offset : IsOffsetSeconds shown.offset
 
 -- the same day at a time that many seconds after its midnight
 abbrev pub at_second : Civil → ℕ → Civil

@@ -1,9 +1,8 @@
 //! The civil time that a zone's clocks show at an instant.
-ghost use Rattle.std.specs.Prelude.{◌≡◌, ◌<◌, ◌≤◌, pos};
-ghost use Rattle.std.specs.Int.{IsInRange};
+ghost use Rattle.std.specs.Prelude.{◌≡◌, ◌<◌};
 ghost use Rattle.jiff.specs.Types.{TimeZone};
-ghost use Rattle.jiff.specs.Words.{nanos_of_seconds, offset_at, IsBetween, IsOffsetSeconds};
-ghost use Rattle.cal_zone.specs.Civil.{civil_of, shown_at};
+ghost use Rattle.jiff.specs.Words.{nanos_of_seconds, offset_at};
+ghost use Rattle.cal_zone.specs.Civil.{civil_of, shown_at, IsCivil};
 ghost use Rattle.cal_zone.specs.Local.{civil_date};
 ghost use Rattle.cal_zone.specs.Zone.{offset_of, zone_of};
 
@@ -22,14 +21,7 @@ pub const DAYS: u64 = 84_006;
 /// What a clock in the zone shows at the instant.
 pub fn civil(zone: Zone, instant: Instant) -> Civil
     ensures value { result ≡ civil_of (zone_of zone.entry) instant.secs }
-    ensures year { IsBetween (pos 1969) (pos 2200) result.year }
-    ensures month { IsInRange 1 12 result.month }
-    ensures day { IsInRange 1 31 result.day }
-    ensures weekday { IsInRange 1 7 result.weekday }
-    ensures hour { result.hour ≤ 23 }
-    ensures minute { result.minute ≤ 59 }
-    ensures second { result.second ≤ 59 }
-    ensures offset { IsOffsetSeconds result.offset }
+    ensures ranges { IsCivil result }
 {
     let Ok(timestamp) = Timestamp::from_second(instant.secs()) else {
         unreachable!()
@@ -41,14 +33,7 @@ pub fn civil(zone: Zone, instant: Instant) -> Civil
 pub(crate) fn civil_at(offset: Offset, instant: Instant) -> Civil
     ensures value { (tz : TimeZone) → offset_at tz (nanos_of_seconds instant.secs) ≡ offset.seconds
         → result ≡ civil_of tz instant.secs }
-    ensures year { IsBetween (pos 1969) (pos 2200) result.year }
-    ensures month { IsInRange 1 12 result.month }
-    ensures day { IsInRange 1 31 result.day }
-    ensures weekday { IsInRange 1 7 result.weekday }
-    ensures hour { result.hour ≤ 23 }
-    ensures minute { result.minute ≤ 59 }
-    ensures second { result.second ≤ 59 }
-    ensures offset { IsOffsetSeconds result.offset }
+    ensures ranges { IsCivil result }
 {
     let Ok(timestamp) = Timestamp::from_second(instant.secs()) else {
         unreachable!()

@@ -1,10 +1,8 @@
 //! What a zone's clock shows at many instants, most of them without a look at its rules.
 
-ghost use Rattle.std.specs.Prelude.{◌≡◌, ◌+◌, ◌≤◌, ◌++◌, length, pos};
-ghost use Rattle.std.specs.Int.{IsInRange};
-ghost use Rattle.jiff.specs.Words.{IsBetween, IsOffsetSeconds};
+ghost use Rattle.std.specs.Prelude.{◌≡◌, ◌+◌, ◌≤◌, ◌++◌, length};
 ghost use Rattle.cal_bytes.specs.declared.short_text.TheConstants.{ROOM};
-ghost use Rattle.cal_zone.specs.Civil.{civil_of};
+ghost use Rattle.cal_zone.specs.Civil.{civil_of, IsCivil};
 ghost use Rattle.cal_zone.specs.InstantText.{instant_text};
 ghost use Rattle.cal_zone.specs.Period.{IsPeriodAt};
 ghost use Rattle.cal_zone.specs.Zone.{zone_of};
@@ -65,14 +63,7 @@ impl<'z> Clock<'z> {
     /// What the clock shows at the instant, as [`civil`](crate::civil) has it.
     pub fn civil(&mut self, instant: Instant) -> Civil
         ensures value { result ≡ civil_of (zone_of self.old) instant.secs }
-        ensures year { IsBetween (pos 1969) (pos 2200) result.year }
-        ensures month { IsInRange 1 12 result.month }
-        ensures day { IsInRange 1 31 result.day }
-        ensures weekday { IsInRange 1 7 result.weekday }
-        ensures hour { result.hour ≤ 23 }
-        ensures minute { result.minute ≤ 59 }
-        ensures second { result.second ≤ 59 }
-        ensures offset { IsOffsetSeconds result.offset }
+        ensures ranges { IsCivil result }
         ensures zone { self.new ≡ self.old }
     {
         civil_at(self.period_at(instant).offset, instant)

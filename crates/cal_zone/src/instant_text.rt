@@ -3,6 +3,7 @@
 ghost use Rattle.std.specs.Prelude.{◌≡◌, ◌+◌, ◌<◌, ◌≤◌, decimal, ◌++◌, false, is_err, length};
 ghost use Rattle.std.specs.Int.{IsInRange};
 ghost use Rattle.cal_bytes.specs.Bytes.{Writes};
+ghost use Rattle.cal_zone.specs.Civil.{IsCivil};
 ghost use Rattle.cal_zone.specs.InstantText.{weekday_name, day_text, instant_text, offset_text, shown_text, sign_text, time_text, zeros, zone_word};
 ghost use Rattle.cal_bytes.specs.declared.short_text.TheConstants.{ROOM};
 
@@ -41,10 +42,7 @@ pub fn write_instant<W: Sink>(out: &mut W, zone: Zone, instant: Instant) -> Resu
 /// Appends what a clock shows, up to the word of its zone.
 #[tactic(auto, unfolding(crate::specs::InstantText::shown_text, crate::specs::InstantText::day_text))]
 fn push_civil(text: &mut ShortText, shown: &Civil)
-    requires weekday { IsInRange 1 7 shown.now.weekday }
-    requires hour { shown.now.hour < 100 }
-    requires minute { shown.now.minute < 100 }
-    requires second { shown.now.second < 100 }
+    requires ranges { IsCivil shown.now }
     requires room { length text.old.items + 44 ≤ ROOM }
     ensures text { text.new.items ≡ text.old.items ++ shown_text shown.now }
     ensures short { length text.new.items ≤ length text.old.items + 44 }
@@ -57,7 +55,7 @@ fn push_civil(text: &mut ShortText, shown: &Civil)
 /// Appends the day that a clock shows.
 #[tactic(auto, unfolding(crate::specs::InstantText::day_text, crate::specs::InstantText::date_text))]
 pub(crate) fn push_day(text: &mut ShortText, shown: &Civil)
-    requires weekday { IsInRange 1 7 shown.now.weekday }
+    requires ranges { IsCivil shown.now }
     requires room { length text.old.items + 26 ≤ ROOM }
     ensures text { text.new.items ≡ text.old.items ++ day_text shown.now }
     ensures short { length text.new.items ≤ length text.old.items + 26 }

@@ -96,9 +96,9 @@ pub fn tables_change_at_one_name()
         → zone_named (insert table name zone) other ≡ zone_named table other }
 {}
 
-/// A word is an offset exactly where it is a sign, two digits of hours, a colon and two digits of minutes (systemd.time(7),
-/// Calendar Events and Parsing Timestamps), and it is at most one. What is printed of a clock that is whole minutes from
-/// UTC is such a word again.
+/// A word is an offset exactly where it is a sign, two digits of hours, a colon and two digits of minutes
+/// (systemd.time(7), Calendar Events and Parsing Timestamps), and it is at most one. What is printed of a clock that is
+/// whole minutes from UTC is such a word again.
 pub fn one_offset_word()
     ensures found { (word : List ℕ) (seconds : ℤ) → offset_in word ≡ Some seconds → IsOffsetWord word seconds }
     ensures only { (word : List ℕ) (seconds : ℤ) → IsOffsetWord word seconds → offset_in word ≡ Some seconds }

@@ -11,8 +11,8 @@ use jiff::Timestamp;
 
 /// The local second of the years 1970 to 2199 whose place is the instant; `None` where it is the place of none.
 ///
-/// It is the one that the zone's clock shows then, unless the clock showed it before: an instant of the second pass, where
-/// the clock is turned back, is no place. (systemd.time(7), Calendar Events.)
+/// It is the one that the zone's clock shows then, unless the clock showed it before: an instant of the second pass,
+/// where the clock is turned back, is no place. (systemd.time(7), Calendar Events.)
 pub fn local_at(zone: Zone, instant: Instant) -> Option<u64>
     ensures { IsLocalAt (zone_of zone.entry) instant.secs result }
 {

@@ -47,8 +47,8 @@ fn whole(offset: Offset) -> Period
     }
 }
 
-/// The period that begins at the instant where the clock goes by rules: to the next change, and at most to the end of the
-/// year.
+/// The period that begins at the instant where the clock goes by rules: to the next change, and at most to the end of
+/// the year.
 fn period_by(rules: &Rules, instant: Instant) -> Period
     ensures { IsPeriodAt rules.now instant.secs result }
 {
@@ -65,8 +65,8 @@ fn period_by(rules: &Rules, instant: Instant) -> Period
     }
 }
 
-/// An instant before which the clock of these rules is as far ahead of UTC as at this one: past the end of the year, where it
-/// doesn't change there.
+/// An instant before which the clock of these rules is as far ahead of UTC as at this one: past the end of the year,
+/// where it doesn't change there.
 pub(crate) fn even_until(rules: &Rules, from: Instant) -> Instant
     ensures { IsEvenUntil rules.now from.secs result.secs }
 {

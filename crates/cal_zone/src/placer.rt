@@ -102,8 +102,8 @@ impl<'z> Placer<'z> {
         self.local_outside(instant)
     }
 
-    /// The same of an instant that the stretch doesn't reach, as the zone's rules say. A stretch that does is sought for
-    /// those that come next.
+    /// The same of an instant that the stretch doesn't reach, as the zone's rules say. A stretch that does is sought
+    /// for those that come next.
     #[cold]
     #[inline(never)]
     fn local_outside(&mut self, instant: Instant) -> Option<u64>

@@ -118,8 +118,8 @@ impl Rules {
         self.stretch_by_rule(local)
     }
 
-    /// A steady stretch that begins at a local second where the clock goes by a POSIX rule: of a file's rules, after its
-    /// last row.
+    /// A steady stretch that begins at a local second where the clock goes by a POSIX rule: of a file's rules, after
+    /// its last row.
     fn stretch_by_rule(&self, local: i64) -> Option<Stretch>
         requires { IsLocalSecond local }
         ensures { IfSome result (IsSteadyAt self.now local) }

@@ -13,8 +13,8 @@ use crate::period::Period;
 use crate::{Civil, DAY, Instant, Zone};
 use cal_bytes::{ShortText, push};
 
-/// The instants from `from` on and before `to`, which a clock shows on one day: their texts are the day's, the time since
-/// its midnight, and the word of the zone.
+/// The instants from `from` on and before `to`, which a clock shows on one day: their texts are the day's, the time
+/// since its midnight, and the word of the zone.
 #[derive(Drop)]
 pub(crate) struct ShownDay {
     pub(crate) from: i64,

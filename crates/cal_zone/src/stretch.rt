@@ -21,8 +21,8 @@ use jiff_tz::{TimeZone, Transition, posix, tzif};
 /// How far a place can lie from its local second.
 const FARTHEST: i64 = 93_599;
 
-/// How far a stretch stays away from the changes of a rule: a change at UTC and what it touches on the civil clock lie up to
-/// four offsets apart.
+/// How far a stretch stays away from the changes of a rule: a change at UTC and what it touches on the civil clock lie
+/// up to four offsets apart.
 pub(crate) const FAR: i64 = 4 * FARTHEST + 1;
 
 /// The local seconds from `from` on and before `to`, and how far each of them is ahead of its place.
@@ -79,8 +79,9 @@ pub(crate) fn stretch_of_table(table: &Tzif, local: i64) -> Option<Stretch>
     })
 }
 
-/// The local second before which a table's clock goes on as it does at this one, once all rows are passed. It does so for
-/// ever where no rule has summer time. The clock is even from [`FAR`] before this local second on, and before `even`.
+/// The local second before which a table's clock goes on as it does at this one, once all rows are passed. It does so
+/// for ever where no rule has summer time. The clock is even from [`FAR`] before this local second on, and before
+/// `even`.
 pub(crate) fn alike_behind(table: &Tzif, local: i64, even: Instant) -> i64
     requires local_in { IsLocalSecond local }
     requires even { IsEvenUntil (zone_of_table table.now) (local -ℤ pos 374_397) even.secs }
@@ -98,8 +99,8 @@ pub(crate) fn alike_behind(table: &Tzif, local: i64, even: Instant) -> i64
     }
 }
 
-/// The local second before which the clock of a zone by a POSIX rule goes on as it does at this one. The clock is even from
-/// [`FAR`] before this local second on, and before `even`.
+/// The local second before which the clock of a zone by a POSIX rule goes on as it does at this one. The clock is even
+/// from [`FAR`] before this local second on, and before `even`.
 pub(crate) fn alike_in_zone(zone: TimeZone<'_>, local: i64, even: Instant) -> i64
     requires local_in { IsLocalSecond local }
     requires even { IsEvenUntil zone (local -ℤ pos 374_397) even.secs }
@@ -124,8 +125,8 @@ fn alike_by_rule(rule: posix::TimeZone, local: i64, even: Instant) -> i64
     END
 }
 
-/// The local second before which a rule's civil clock goes on as it does [`FAR`] after this second: far enough before the
-/// rule's next change, and within a year.
+/// The local second before which a rule's civil clock goes on as it does [`FAR`] after this second: far enough before
+/// the rule's next change, and within a year.
 fn quiet_until(next: Option<Transition>, past: i64) -> i64
     requires { past ≤ℤ pos 7_258_500_000 }
     ensures { IsQuietUntil (option_map transition_view next) past result }

@@ -39,7 +39,7 @@ impl<'t> Zone<'t> {
         }
     }
 
-    /// The zone whose clock is always that many seconds ahead of UTC. It is distinguished from UTC also where these are 0.
+    /// The zone whose clock is always that many seconds ahead of UTC. It differs from UTC also where these are 0.
     pub fn offset(seconds: i32) -> Zone<'static>
         requires { IsOffsetSeconds seconds }
         ensures zone { (offset : Offset) → offset.seconds ≡ seconds → zone_of result ≡ fixed_zone offset }

@@ -7,4 +7,4 @@ use Rattle.cal_read.proofs.stamp.moment.local_second.Goals as goal
 pub returns-clause-value : goal.returns-clause-value
 returns-clause-value c =
     let shown = local_of-civil (zone_of c.args.zone) c.args.now.secs c.civil.result c.civil.ensures.value in
-    omega (arith, signed_arith, shown, c.civil.ensures.offset, c.secs.ensures, c.from.ensures)
+    omega (arith, signed_arith, shown, c.civil.ensures.ranges.offset, c.secs.ensures, c.from.ensures)

@@ -12,12 +12,12 @@ use Rattle.cal_zone.proofs.shown_day.ShownDay.of.Goals as goal
 pub overflow_sub-midnight : goal.overflow_sub-midnight
 overflow_sub-midnight c =
     let years = c.args.instant.in_range in
-    omega (arith, signed_arith, c.secs.ensures.value, c.since_midnight.ensures, c.civil_at-shown.ensures.hour, c.civil_at-shown.ensures.minute, c.civil_at-shown.ensures.second)
+    omega (arith, signed_arith, c.secs.ensures.value, c.since_midnight.ensures, c.civil_at-shown.ensures.ranges.hour, c.civil_at-shown.ensures.ranges.minute, c.civil_at-shown.ensures.ranges.second)
 
 pub overflow_add-midnight : goal.overflow_add-midnight
 overflow_add-midnight c =
     let years = c.args.instant.in_range in
-    omega (arith, signed_arith, c.secs.ensures.value, c.since_midnight.ensures, c.civil_at-shown.ensures.hour, c.civil_at-shown.ensures.minute, c.civil_at-shown.ensures.second)
+    omega (arith, signed_arith, c.secs.ensures.value, c.since_midnight.ensures, c.civil_at-shown.ensures.ranges.hour, c.civil_at-shown.ensures.ranges.minute, c.civil_at-shown.ensures.ranges.second)
 
 -- the midnight as the code computes it
 abbrev midnight_of : ℤ → ℤ → ℤ
@@ -27,7 +27,7 @@ midnight_of second since = to_z w64 (of_z w64 (to_z w64 (of_z w64 second) -ℤ t
 midnight : (c : goal.After-min) → midnight_of c.secs.result c.since_midnight.result ≡ c.args.instant.secs -ℤ pos (seconds_shown c.civil_at-shown.result)
 midnight c =
     let years = c.args.instant.in_range in
-    omega (arith, signed_arith, c.secs.ensures.value, c.since_midnight.ensures, c.civil_at-shown.ensures.hour, c.civil_at-shown.ensures.minute, c.civil_at-shown.ensures.second)
+    omega (arith, signed_arith, c.secs.ensures.value, c.since_midnight.ensures, c.civil_at-shown.ensures.ranges.hour, c.civil_at-shown.ensures.ranges.minute, c.civil_at-shown.ensures.ranges.second)
 
 abbrev next_midnight_of : ℤ → ℤ → ℤ
 next_midnight_of second since = to_z w64 (of_z w64 (midnight_of second since +ℤ pos 86_400))
@@ -36,7 +36,7 @@ next_midnight : (c : goal.After-min) → next_midnight_of c.secs.result c.since_
 next_midnight c =
     let years = c.args.instant.in_range in
     let start = midnight c in
-    omega (arith, signed_arith, c.civil_at-shown.ensures.hour, c.civil_at-shown.ensures.minute, c.civil_at-shown.ensures.second)
+    omega (arith, signed_arith, c.civil_at-shown.ensures.ranges.hour, c.civil_at-shown.ensures.ranges.minute, c.civil_at-shown.ensures.ranges.second)
 
 -- what lies on the day lies in the period, and between the two midnights
 at_midnight : (c : goal.After-min) (second : ℤ) → to_z w64 (of_z w64 c.max.result) ≤ℤ second
@@ -63,7 +63,7 @@ space c = c.push.ensures ∙ ap (λ front. front ++ codes " ") c.new-word.ensure
 
 word : (c : goal.After-min) → c.push_zone.new.text.items ≡ codes " " ++ zone_word (is_utc c.args.zone) c.civil_at-shown.result.offset
 word c =
-    let in_range = c.civil_at-shown.ensures.offset in
+    let in_range = c.civil_at-shown.ensures.ranges.offset in
     let fits : FitsSigned w32 c.civil_at-shown.result.offset = omega (arith, signed_arith) in
     c.push_zone.ensures.text
     ∙ ap (λ offset. c.push.new.text.items ++ zone_word c.is_utc.result offset) (to_z-of_z w32 c.civil_at-shown.result.offset fits)
