@@ -1,4 +1,5 @@
 use Rattle.std.proofs.Common.{◌∙◌, ◌+◌, List, ap, arith, length, subst, ℕ}
+use Rattle.std.proofs.lemmas.Int.{ints}
 use Rattle.cal_elapse.specs.Bits.{is_in_words}
 use Rattle.cal_elapse.specs.Ring.{is_held}
 use Rattle.cal_elapse.specs.Search.{IsFirstPassing}
@@ -17,7 +18,8 @@ clear_cell-requires-clause-whole c = ap length (c.as_mut_slice.ensures.value ∙
 
 pub first_held-requires-clause-low : goal.first_held-requires-clause-low
 first_held-requires-clause-low c =
-    found_inside _ c.self.inside.least c.self.inside.least c.self.invariant.round (found_kept _ c.self.inside.least c.self.invariant.first c.if-second.false)
+    let inside = found_inside _ c.self.inside.least c.self.inside.least c.self.invariant.round (found_kept _ c.self.inside.least c.self.invariant.first c.if-second.false) in
+    omega (arith, ints)
 
 pub overflow_cast-result : goal.overflow_cast-result
 overflow_cast-result c =
