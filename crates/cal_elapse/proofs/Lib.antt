@@ -1,3 +1,4 @@
+pub mod AmongLemmas
 pub mod BitLemmas
 pub mod CarryLemmas
 pub mod CellLemmas
