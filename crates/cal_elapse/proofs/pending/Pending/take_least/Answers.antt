@@ -31,7 +31,7 @@ invariant_of-self c =
     let same = c.as_mut_slice.ensures.value ∙ c.deref_mut.ensures.value in
     rw c.unwrap_or-self-inside.ensures
     (taken_from c.self.inside.cells.value c.clear_cell.new.words c.self.inside.least c.first_held.result (found_kept _ c.self.inside.least c.self.invariant.first c.if-second.false)
-    (record { here = c.clear_cell.ensures.cleared; others = λ cell other. c.clear_cell.ensures.others cell other ∙ ap (λ (words : List ℕ). is_in_words words cell) same })
+    (record { here = search (c.clear_cell.ensures.cleared); others = λ cell other. c.clear_cell.ensures.others cell other ∙ ap (λ (words : List ℕ). is_in_words words cell) same })
     c.clear_cell.ensures.whole c.self.invariant.round
     (subst (λ (words : List ℕ). IsFirstPassing (is_held words) c.self.inside.least (c.self.inside.least + 187_200) c.first_held.result)
     (c.as_slice.ensures ∙ c.deref.ensures) c.first_held.ensures))
@@ -45,9 +45,10 @@ pub returns-clause-left : goal.returns-clause-left
 returns-clause-left c =
     let same = c.as_mut_slice.ensures.value ∙ c.deref_mut.ensures.value in
     rw c.unwrap_or-self-inside.ensures
+    (search
     (taken_answer c.self.inside.cells.value c.clear_cell.new.words c.self.inside.least c.first_held.result c.args.self.now
     (found_kept _ c.self.inside.least c.self.invariant.first c.if-second.false)
     (record { here = c.clear_cell.ensures.cleared; others = λ cell other. c.clear_cell.ensures.others cell other ∙ ap (λ (words : List ℕ). is_in_words words cell) same })
     (subst (λ (words : List ℕ). IsFirstPassing (is_held words) c.self.inside.least (c.self.inside.least + 187_200) c.first_held.result)
     (c.as_slice.ensures ∙ c.deref.ensures) c.first_held.ensures)
-    c.self.view_is)
+    c.self.view_is))

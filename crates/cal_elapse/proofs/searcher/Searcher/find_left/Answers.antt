@@ -28,7 +28,7 @@ invariant_of-self c =
     }
 
 pub returns-clause-found : goal.returns-clause-found
-returns-clause-found c = rw c.from.ensures (search_left c.args.self.now.masks c.args.self.now.found c.args.self.now.from c.args.self.now.left c.lowest_bit-bit.result c.args.self.now.is_left c.lowest_bit-bit.ensures)
+returns-clause-found c = rw c.from.ensures (search (search_left c.args.self.now.masks c.args.self.now.found c.args.self.now.from c.args.self.now.left c.lowest_bit-bit.result c.args.self.now.is_left c.lowest_bit-bit.ensures))
 
 pub returns-clause-last : goal.returns-clause-last
 returns-clause-last c =
