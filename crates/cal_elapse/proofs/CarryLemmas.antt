@@ -28,9 +28,6 @@ below_end passes n s none holds =
       | inr high ↦ (let no : passes s ≡ false = none s high in let clash : true ≡ false = sym holds ∙ no in absurd (cc))
     ]
 
-pub first_narrow : (passes : ℕ → Bool) (from n end s : ℕ) → ((i : ℕ) → n ≤ i → passes i ≡ false) → IsFirstPassing passes from end (Some s) → IsFirstPassing passes from n (Some s)
-first_narrow passes from n end s none found = (found.0, below_end passes n s none found.2, found.2, found.3)
-
 -- a test of numbers a * size + b, for a below the limit and b below the size
 pub record Splits (passes high low : ℕ → Bool) (size limit : ℕ) : Type 0 where
   pub positive : 0 < size

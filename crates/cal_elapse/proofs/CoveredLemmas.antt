@@ -1,67 +1,19 @@
--- The members of an expression that are among those of another.
-use Rattle.std.proofs.Common.{◌≡◌, ◌&&◌, ◌||◌, ◌⊎◌, ◌/◌, ◌%◌, ◌++◌, ℕ, zero, suc, ◌-◌, ◌≤◌, Bool, true, false, List, [], ◌∷◌, ℤ, inl, inr, refl, sym, ap, ◌∙◌, arith, bit_or, get_or, length}
-use Rattle.std.proofs.lemmas.Bool.{or_right}
-use Rattle.std.proofs.Math.Bool.{beq}
-use Rattle.std.proofs.Math.ListN.{get_or-eq_default}
-use Rattle.cal_elapse.specs.Bits.{is_bit, is_in_words}
-use Rattle.cal_elapse.specs.Covered.{AreAmong, AreKept, HasAll, IsCovered}
-use Rattle.cal_elapse.specs.Elapses.{IsElapse, Timed, elapses_except}
-use Rattle.cal_elapse.specs.Masks.{day_place, sets_in}
-use Rattle.cal_elapse.specs.declared.masks.Masks.{Masks}
-use Rattle.cal_elapse.proofs.BitLemmas.{is_bit-none, is_bit-or}
-use Rattle.cal_elapse.proofs.ElapsesLemmas.{AreElapses-elapses_except, AreElapses-only}
+-- An expression that elapses only where others do, and the elapses that are left without it.
+use Rattle.std.proofs.Common.{◌≡◌, ◌⊎◌, ◌↔◌, ◌++◌, ℕ, Bool, true, false, List, [], ◌∷◌, ℤ, pos, ◌-ℤ◌, ◌<ℤ◌, inl, inr, refl, sym, subst, ◌∙◌, arith}
+use Rattle.std.proofs.lemmas.Bool.{false≢true}
+use Rattle.std.proofs.lemmas.Int.{ints}
+use Rattle.jiff.specs.Types.{TimeZone}
+use Rattle.cal_spec.specs.Fields.{Fields}
 use Rattle.cal_spec.specs.Match.{Sets, date_in, matches, time_in}
-
--- a word that another adds nothing to has all of the other's numbers
-pub has_all : (mask others : ℕ) → bit_or mask others ≡ mask → HasAll (is_bit mask) (is_bit others)
-has_all mask others same i other =
-    ap (λ (m : ℕ). is_bit m i) (sym same) ∙ is_bit-or mask others i ∙ or_right (is_bit mask i) (is_bit others i) other
-
-pub same_test : (a b : Bool) → beq a b ≡ true → a ≡ b
-same_test true true h = refl
-same_test true false h = absurd (cc)
-same_test false true h = absurd (cc)
-same_test false false h = refl
-
--- four words, of which each has all numbers of the other's
-pub have_all : (words others : List ℕ) → length others ≡ 4 → HasAll (is_bit (get_or words 0 0)) (is_bit (get_or others 0 0))
-    → HasAll (is_bit (get_or words 1 0)) (is_bit (get_or others 1 0)) → HasAll (is_bit (get_or words 2 0)) (is_bit (get_or others 2 0))
-    → HasAll (is_bit (get_or words 3 0)) (is_bit (get_or others 3 0)) → HasAll (is_in_words words) (is_in_words others)
-unfolding is_in_words
-have_all words others four first second third fourth i = in_word (i / 64)
-  where
-    in_word : (word : ℕ) → is_bit (get_or others word 0) (i % 64) ≡ true → is_bit (get_or words word 0) (i % 64) ≡ true
-    in_word zero there = first (i % 64) there
-    in_word (suc zero) there = second (i % 64) there
-    in_word (suc (suc zero)) there = third (i % 64) there
-    in_word (suc (suc (suc zero))) there = fourth (i % 64) there
-    in_word (suc (suc (suc (suc word)))) there =
-        let past : length others ≤ suc (suc (suc (suc word))) = omega arith in
-        let nothing : get_or others (suc (suc (suc (suc word)))) 0 ≡ 0 = get_or-eq_default others 0 past in
-        let never : true ≡ false = sym there ∙ ap (λ (m : ℕ). is_bit m (i % 64)) nothing ∙ is_bit-none (i % 64) in
-        absurd (cc)
-
-both : (a b c d : Bool) → (a ≡ true → c ≡ true) → (b ≡ true → d ≡ true) → (a && b) ≡ true → (c && d) ≡ true
-both true true c d p q h = rw (p refl, q refl) refl
-both true false c d p q h = absurd (cc)
-both false b c d p q h = absurd (cc)
-
--- so the sets of the one masks are among those of the other
-pub among : (masks others : Masks) → HasAll (is_bit masks.weekdays) (is_bit others.weekdays) → HasAll (is_in_words masks.years) (is_in_words others.years)
-    → HasAll (is_bit masks.months) (is_bit others.months) → HasAll (is_bit masks.days) (is_bit others.days) → HasAll (is_bit masks.hours) (is_bit others.hours)
-    → HasAll (is_bit masks.minutes) (is_bit others.minutes) → HasAll (is_bit masks.seconds) (is_bit others.seconds) → masks.from_end ≡ others.from_end
-    → AreAmong (sets_in others) (sets_in masks)
-unfolding sets_in
-among masks others weekdays years months days hours minutes seconds turned = record {
-  weekday = λ v. both _ _ _ _ (λ h. h) (weekdays v);
-  year = λ v. both _ _ _ _ (λ h. h) (years (v - 1_970));
-  month = λ v. both _ _ _ _ (λ h. h) (months (v - 1));
-  day = λ v. rw turned (both _ _ _ _ (λ h. h) (days (day_place others.from_end v)));
-  hour = hours;
-  minute = minutes;
-  second = seconds;
-  from_end = sym turned;
-}
+use Rattle.cal_spec.specs.Members.{sets_of}
+use Rattle.cal_rising.specs.RisingList.{Has, is_in}
+use Rattle.cal_rising.proofs.RisingLemmas.{list-no_first}
+use Rattle.cal_rising.proofs.WithoutLemmas.{Has-is_in, is_in-Has}
+use Rattle.cal_elapse.specs.Covered.{AreAmong, AreKept, IsCovered}
+use Rattle.cal_elapse.specs.Elapses.{IsElapse, IsPlace, Timed, elapses_after, elapses_except}
+use Rattle.cal_elapse.specs.Timed.{timed}
+use Rattle.cal_elapse.proofs.AmongLemmas.{both}
+use Rattle.cal_elapse.proofs.ElapsesLemmas.{AreAbove-elapses_after, AreElapses-elapses_except, AreElapses-only, first-none}
 
 -- what matches sets matches those that they are among
 pub matches_among : (sets others : Sets) → AreAmong sets others → (local : ℕ) → matches sets local ≡ true → matches others local ≡ true
@@ -71,6 +23,39 @@ matches_among sets others h local =
     (both _ _ _ _
     (both _ _ _ _ (h.weekday _) (both _ _ _ _ (h.year _) (both _ _ _ _ (h.month _) (rw h.from_end (h.day _)))))
     (both _ _ _ _ (h.hour _) (both _ _ _ _ (h.minute _) (h.second _))))
+
+-- so in one zone it elapses only where they do
+pub place_among : (fields others : Fields) (zone : TimeZone) → AreAmong (sets_of fields) (sets_of others) → IsCovered (timed fields zone) (timed others zone ∷ [])
+unfolding timed
+place_among fields others zone among i p = inl (record {
+  local = p.local;
+  within = p.within;
+  is_match = matches_among (sets_of fields) (sets_of others) among p.local p.is_match;
+  placed = p.placed;
+})
+
+below : (i : ℤ) → (i -ℤ pos 1) <ℤ i
+below i = omega (arith, ints)
+
+-- an elapse is above some base, and either one of the exceptions or left by them there
+not_left : (e : Timed) (excepts : List Timed) (i : ℤ) (b : Bool) → is_in (elapses_after excepts (i -ℤ pos 1)) i ≡ b → elapses_except (e ∷ []) excepts (i -ℤ pos 1) ≡ []
+    → IsPlace e i → IsElapse excepts i
+not_left e excepts i true has none p = (((AreAbove-elapses_after excepts (i -ℤ pos 1)).members i).0 (Has-is_in (elapses_after excepts (i -ℤ pos 1)) i has)).1
+not_left e excepts i false lacks none p =
+    let base = i -ℤ pos 1 in
+    let excepted = λ (x : IsElapse excepts i). let has = is_in-Has (elapses_after excepts base) i (((AreAbove-elapses_after excepts base).members i).1 (below i, x)) in false≢true (sym lacks ∙ has) in
+    absurd (subst (λ (xs : List ℤ). Has xs i) none (((AreElapses-elapses_except (e ∷ []) excepts base).members i).1 (below i, (inl p, excepted))))
+
+-- an expression is covered exactly if none of its elapses is left
+pub elapses_of_covered : (e : Timed) (excepts : List Timed) → IsCovered e excepts ↔ ((base : ℤ) → elapses_except (e ∷ []) excepts base ≡ [])
+elapses_of_covered e excepts = (
+  λ covered base.
+      let these = AreElapses-elapses_except (e ∷ []) excepts base in
+      list-no_first (elapses_except (e ∷ []) excepts base)
+      (first-none (elapses_except (e ∷ []) excepts base)
+      (λ i m. let here = ((these.members i).0 m).1 in here.1 (covered i (elim here.0 [ inl p ↦ p | inr none ↦ absurd none ])))),
+  λ none i p. not_left e excepts i (is_in (elapses_after excepts (i -ℤ pos 1)) i) refl (none (i -ℤ pos 1)) p,
+)
 
 -- an elapse of some or of others
 pub IsElapse-left : (es fs : List Timed) (i : ℤ) → IsElapse es i → IsElapse (es ++ fs) i

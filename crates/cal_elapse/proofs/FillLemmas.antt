@@ -1,7 +1,7 @@
 -- Cells that are filled all at once, and the instants that are seen then.
 use Rattle.std.proofs.Common.{◌≡◌, ◌≢◌, ◌⊎◌, ◌↔◌, ◌<ℤ◌, ◌+ℤ◌, ◌≤ℤ◌, ℕ, ℤ, ◌+◌, ◌-◌, ◌*◌, ◌/◌, ◌%◌, ◌^◌, ◌<◌, ◌≤◌, ◌||◌, Bool, true, false, List, Option, None, Some, bit_or, length, get_or, set, pos, negsuc, unsigned_abs, IsSomeAnd, inl, inr, refl, sym, ap, ◌∙◌, subst, arith, get_or-set_same, get_or-set_other}
 use Rattle.std.proofs.Math.ListN.{length-set}
-use Rattle.std.proofs.lemmas.Bool.{cases_eq, cases_lt, or_cases}
+use Rattle.std.proofs.lemmas.Bool.{cases_eq, cases_lt, or_cases, or_left, or_right}
 use Rattle.std.proofs.lemmas.Int.{ints}
 use Rattle.cal_zone.specs.Instant.{IsInstant}
 use Rattle.cal_rising.specs.RisingList.{Has, first}
@@ -89,13 +89,6 @@ pub record HasAll (old new : List ℕ) (start bits : ℕ) : Type 0 where
 held_all : (old new : List ℕ) (start bits t : ℕ) → HasAll old new start bits → is_held new t ≡ (is_held old t || is_bit bits (cells_behind (start % 187_200) (t % 187_200)))
 unfolding is_held
 held_all old new start bits t all = all.held (t % 187_200) (omega arith)
-
-or_left : (a b : Bool) → a ≡ true → (a || b) ≡ true
-or_left a b h = rw h refl
-
-or_right : (a b : Bool) → b ≡ true → (a || b) ≡ true
-or_right true b h = refl
-or_right false b h = h
 
 still_held : (old new : List ℕ) (start bits t : ℕ) → HasAll old new start bits → is_held old t ≡ true → is_held new t ≡ true
 still_held old new start bits t all holds = held_all old new start bits t all ∙ or_left _ _ holds

@@ -1,10 +1,11 @@
-pub mod AskedLemmas
+pub mod AmongLemmas
 pub mod BitLemmas
 pub mod CarryLemmas
 pub mod CellLemmas
 pub mod CountLemmas
 pub mod CoveredLemmas
 pub mod DayLemmas
+pub mod ElapseSetLemmas
 pub mod ElapsesLemmas
 pub mod FillLemmas
 pub mod InstantLemmas

@@ -1,6 +1,6 @@
 -- What is left of the minute of a match, as a search takes bit after bit.
 use Rattle.std.proofs.Common.{IsSome, ◌≡◌, ◌≢◌, ◌∙◌, ℕ, ◌+◌, ◌-◌, ◌*◌, ◌/◌, ◌%◌, ◌^◌, ◌<◌, ◌≤◌, Bool, true, false, ◌&&◌, nat_lt, Option, None, Some, IfSome, ℤ, pos, negsuc, unsigned_abs, to_z, w64, ap, sym, subst, refl, inl, inr, rules, arith}
-use Rattle.std.proofs.lemmas.Bool.{and_parts, cases_eq, cases_lt}
+use Rattle.std.proofs.lemmas.Bool.{and_parts, cases_eq, cases_lt, false_from_ne_true}
 use Rattle.std.proofs.lemmas.Int.{ints, to_z_pos}
 use Rattle.std.specs.Int.{trailing_zeros}
 use Rattle.std.specs.Option.{option_map}
@@ -59,12 +59,8 @@ left_none m end is = record {
   begun = omega arith;
   behind = λ i bit. absurd (no_bit i bit);
   minute = λ i bit. absurd (no_bit i bit);
-  matching = λ t above same. none_past (matches (sets_in m) t) (λ holds. let inside = match_inside (sets_in m) t holds in omega arith) ∙ sym (is_bit-none (t - 0));
+  matching = λ t above same. false_from_ne_true (matches (sets_in m) t) (λ holds. let inside = match_inside (sets_in m) t holds in omega arith) ∙ sym (is_bit-none (t - 0));
 }
-  where
-    none_past : (b : Bool) → (b ≡ true → ⊥) → b ≡ false
-    none_past true h = absurd (h refl)
-    none_past false h = refl
 
 -- what the seconds leave behind a match
 pub left_after : (m : Masks) (local : ℕ) → matches (sets_in m) local ≡ true → IsLeft m local (local + 1) (m.seconds / 2 ^ (local % 60 + 1))
@@ -115,11 +111,12 @@ still_left left bit rest i lowest fits cleared others set =
     ]
 
 -- without it the others are left
-pub left_on : (m : Masks) (found from left bit rest : ℕ) → IsLeft m found from left → IsFirstPassing (is_bit left) 0 64 (Some bit) → left < 2 ^ 64 → rest < 2 ^ 64
-    → is_bit rest bit ≡ false → ((i : ℕ) → i < 64 → i ≢ bit → is_bit rest i ≡ is_bit left i) → IsLeft m (from + bit) from rest
-left_on m found from left bit rest h lowest was_fits fits cleared others =
+pub left_on : (m : Masks) (found from left bit rest now : ℕ) → IsLeft m found from left → IsFirstPassing (is_bit left) 0 64 (Some bit) → left < 2 ^ 64 → rest < 2 ^ 64
+    → is_bit rest bit ≡ false → ((i : ℕ) → i < 64 → i ≢ bit → is_bit rest i ≡ is_bit left i) → now ≡ rest → IsLeft m (from + bit) from now
+left_on m found from left bit rest now h lowest was_fits fits cleared others is =
     let still = λ (i : ℕ) (set : is_bit rest i ≡ true). still_left left bit rest i lowest fits cleared others set in
-    record {
+    subst (IsLeft m (from + bit) from) (sym is)
+    (record {
       begun = omega arith;
       behind = λ i set. let after = (still i set).0 in omega arith;
       minute = λ i set. h.minute i (still i set).2 ∙ sym (h.minute bit lowest.2);
@@ -130,7 +127,7 @@ left_on m found from left bit rest h lowest was_fits fits cleared others =
             | inl small ↦ sym (others (t - from) small (omega arith))
             | inr high ↦ is_bit-above left 64 (t - from) was_fits high ∙ sym (is_bit-above rest 64 (t - from) fits high)
           ];
-    }
+    })
 
 -- a search that takes it
 pub search_left : (m : Masks) (found from left bit : ℕ) → IsLeft m found from left → IsFirstPassing (is_bit left) 0 64 (Some bit)
@@ -228,13 +225,9 @@ rest_on passes local bits last next more place rest same first set others at =
     place_of : (t : ℕ) → t ≡ next → t - (local + 1) ≡ place
     place_of t here = omega arith
 
-    no_match : (b : Bool) → (b ≡ true → ⊥) → false ≡ b
-    no_match true h = absurd (h refl)
-    no_match false h = refl
-
     before : (t : ℕ) → local < t → t < next → passes t ≡ is_bit bits (t - (local + 1))
     before t above below = elim (cases_lt last t) [
-      | inl late ↦ first.3 t (omega arith) below ∙ no_match (is_bit bits (t - (local + 1))) (λ set. let early = rest.within (t - (local + 1)) set in omega arith)
+      | inl late ↦ first.3 t (omega arith) below ∙ sym (false_from_ne_true (is_bit bits (t - (local + 1))) (λ set. let early = rest.within (t - (local + 1)) set in omega arith))
       | inr early ↦ rest.matching t above early
     ]
 

@@ -123,13 +123,6 @@ few_searches v local h =
     let counted = h.counted in
     omega arith
 
-pub ahead_is_match : (v : Window) (local : ℕ) → IsReady v → v.ahead ≡ Some local → (local < seconds_in_all) × (matches (sets_in v.searcher.masks) local ≡ true)
-unfolding timed_by
-ahead_is_match v local h at = subst (IsMatchAhead (timed_of v)) at h.found
-
-pub ahead_inside : (v : Window) (local : ℕ) → IsReady v → v.ahead ≡ Some local → local < seconds_in_all
-ahead_inside v local h at = (subst (IsMatchAhead (timed_of v)) at h.found).0
-
 -- the members are the places of earlier local seconds
 pub placed_before : (v : Window) (local : ℕ) → IsReady v → v.ahead ≡ Some local → (i : ℤ) → Has v.pending i → i ≤ℤ (pos local +ℤ pos 93_599)
 placed_before v local h at i m =

@@ -1,6 +1,6 @@
 -- How often the matches were searched, once an elapse was given or none was left.
-use Rattle.std.proofs.Common.{◌≡◌, ◌∙◌, ℕ, ◌+◌, ◌-◌, ◌<◌, ◌≤◌, nat_lt, Bool, true, false, ◌&&◌, Option, None, Some, ℤ, pos, negsuc, ◌<ℤ◌, ◌≤ℤ◌, ◌+ℤ◌, ◌-ℤ◌, int_lt, unsigned_abs, List, sym, ap, subst, arith, inl, inr, refl}
-use Rattle.std.proofs.lemmas.Bool.{cases_lt}
+use Rattle.std.proofs.Common.{◌≡◌, ◌∙◌, ℕ, ◌+◌, ◌-◌, ◌<◌, ◌≤◌, nat_lt, Bool, true, false, Option, None, Some, ℤ, pos, negsuc, ◌<ℤ◌, ◌≤ℤ◌, ◌+ℤ◌, ◌-ℤ◌, int_lt, unsigned_abs, List, sym, ap, subst, arith, inl, inr, refl}
+use Rattle.std.proofs.lemmas.Bool.{and_left, cases_lt, false_from_ne_true}
 use Rattle.std.proofs.lemmas.Int.{ints}
 use Rattle.cal_zone.specs.Local.{seconds_in_all}
 use Rattle.cal_zone.specs.declared.zone.Zone.{Zone}
@@ -19,10 +19,6 @@ use Rattle.cal_rising.proofs.RisingLemmas.{list-first}
 use Rattle.cal_elapse.proofs.WindowLemmas.{all_placed, by_test, is_above}
 use Rattle.cal_spec.specs.Match.{matches}
 
-false_by : (b : Bool) → (b ≡ true → ⊥) → b ≡ false
-false_by true h = absurd (h refl)
-false_by false h = refl
-
 -- as many pass below one bound as below a later one, where none passes between
 count_on : (passes : ℕ → Bool) (start a b : ℕ) → start ≤ a → a ≤ b → NonePasses passes a b → count_from passes start (b - start) ≡ count_from passes start (a - start)
 count_on passes start a b low high none =
@@ -32,13 +28,9 @@ count_on passes start a b low high none =
     ap (count_from passes start) (omega arith) ∙ count_from-none passes start k n nothing
 
 -- nothing matches past the last local second
-past_all : (b c : Bool) → b ≡ false → (b && c) ≡ false
-past_all true c h = absurd (cc)
-past_all false c h = refl
-
 none_past : (masks : Masks) (zone : Zone) (t : ℕ) → seconds_in_all ≤ t → (timed_by masks zone).matches t ≡ false
 unfolding timed_by matches
-none_past masks zone t late = past_all (nat_lt t seconds_in_all) _ (grind (arith))
+none_past masks zone t late = and_left (nat_lt t seconds_in_all) _ (grind (arith))
 
 -- a match is below the bound
 matches_below : (v : Window) (i : ℤ) (top : ℕ) → IsReady v → Has v.pending i → (pos top) ≡ (i +ℤ pos 93_600) → start_of v.base ≤ top → (t : ℕ) → top ≤ t → t < bound_of v.ahead
@@ -51,7 +43,7 @@ count_down : (v : Window) (i : ℤ) (top : ℕ) → IsReady v → Has v.pending 
     → count_from (timed_of v).matches (start_of v.base) (bound_of v.ahead - start_of v.base) ≡ count_from (timed_of v).matches (start_of v.base) (top - start_of v.base)
 count_down v i top h m is begun inside =
     count_on (timed_of v).matches (start_of v.base) top (bound_of v.ahead) begun inside
-    (λ t late below. false_by ((timed_of v).matches t) (matches_below v i top h m is begun t late below))
+    (λ t late below. false_from_ne_true ((timed_of v).matches t) (matches_below v i top h m is begun t late below))
 
 late_bound : (ahead : Option ℕ) (i : ℤ) (top : ℕ) → to_place ahead (Some i) ≡ None → (pos top) ≡ (i +ℤ pos 93_600) → bound_of ahead < top → bound_of ahead ≡ seconds_in_all
 late_bound None i top full is late = refl

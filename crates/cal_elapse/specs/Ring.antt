@@ -1,6 +1,7 @@
 -- A round of cells, one bit each: an instant has the cell at its number modulo the count of cells. Among as many seconds
 -- in a row as there are cells, each cell is that of one second alone.
 use Rattle.std.specs.Prelude.{◌≡◌, ◌+◌, ◌-◌, ◌%◌, ◌+ℤ◌, true, cond, if◌then◌else◌, ◌==◌, ℕ, zero, suc, Bool, List, [], ◌∷◌, length, Option, None, Some, ℤ, pos, ◌≤ℤ◌, refl}
+use Rattle.cal_zone.specs.Instant.{last_instant}
 use Rattle.cal_elapse.specs.Bits.{is_bit, is_in_words}
 use Rattle.cal_rising.specs.RisingList.{Has}
 use Rattle.cal_elapse.specs.Search.{IsFirstPassing}
@@ -39,7 +40,7 @@ instants_in words low = rising_from (is_held words) low cells_in_all
 -- there is a bit for each cell, and each member is an instant
 pub record IsRound (words : List ℕ) (low : ℕ) : Type 0 where
   pub whole : length words ≡ 2_925
-  pub members : (i : ℤ) → Has (instants_in words low) i → i ≤ℤ pos 7_258_211_998
+  pub members : (i : ℤ) → Has (instants_in words low) i → i ≤ℤ last_instant
 
 -- what is kept for the least second where there is none: no instant is as late
 abbrev pub no_second : ℕ

@@ -1,6 +1,6 @@
 //! Whether the members of one calendar expression are among those of another (systemd.time(7), Calendar Events).
 
-ghost use Rattle.std.specs.Prelude.{◌≡◌, ◌↔◌, ℕ, true};
+ghost use Rattle.std.specs.Prelude.{◌≡◌, true};
 ghost use Rattle.cal_elapse.specs.Bits.{is_bit, is_in_words};
 ghost use Rattle.cal_elapse.specs.Covered.{AreAmong, HasAll};
 ghost use Rattle.cal_elapse.specs.Masks.{sets_in};

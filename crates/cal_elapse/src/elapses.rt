@@ -1,6 +1,6 @@
 //! The elapses of a calendar expression in a zone, one after another (systemd.time(7), Calendar Events).
 
-use crate::asked::Asked;
+use crate::elapse_set::ElapseSet;
 use crate::window::Window;
 use cal_rising::Rising;
 use cal_spec::Expr;
@@ -16,13 +16,13 @@ use std::marker::Model;
 #[derive(Drop)]
 pub struct Elapses<'z> {
     window: Window<'z>,
-    /// What is asked whether it has an instant.
-    asked: Asked<'z>,
+    /// All that the expression has, those before the base and those given too.
+    all: ElapseSet<'z>,
 }
 
 impl<'z> Model for Elapses<'z> {
     ghost use Rattle.std.specs.Prelude.{◌≡◌};
-    ghost use Rattle.cal_elapse.specs.Asked.{timed_asked};
+    ghost use Rattle.cal_elapse.specs.ElapseSet.{timed_set};
     ghost use Rattle.cal_elapse.specs.Window.{IsReady, timed_of};
     ghost use Rattle.cal_elapse.specs.declared.window.Window.{Window as PlainWindow};
 
@@ -30,7 +30,7 @@ impl<'z> Model for Elapses<'z> {
 
     ghost view = { λ e. e.window };
 
-    ghost invariant = { λ e. IsReady e.window × (timed_asked e.asked ≡ timed_of e.window) };
+    ghost invariant = { λ e. IsReady e.window × (timed_set e.all ≡ timed_of e.window) };
 }
 
 impl<'z> Elapses<'z> {
@@ -65,7 +65,7 @@ impl<'z> Elapses<'z> {
     {
         Ok(Elapses {
             window: Window::new(alloc, expr, zone, base)?,
-            asked: Asked::of(expr, zone),
+            all: ElapseSet::of(expr, zone),
         })
     }
 
@@ -122,7 +122,7 @@ impl Rising for Elapses<'_> {
         ensures window { self.new ≡ self.old }
     {
         match Instant::new(number) {
-            Some(instant) if self.window.last() < number => self.asked.has(instant),
+            Some(instant) if self.window.last() < number => self.all.has(instant),
             _ => false,
         }
     }

@@ -1,12 +1,13 @@
 //! Laws of the definitions that the contracts cite. Each is a function that does nothing, and whose
 //! contract is the law.
 
-ghost use Rattle.std.specs.Prelude.{◌≡◌, ◌+◌, ◌++◌, ◌∷◌, [], ℕ, ℤ, pos, ◌≤ℤ◌, List, Some, map, suc, take, drop, slice_get};
+ghost use Rattle.std.specs.Prelude.{◌≡◌, ◌↔◌, ◌+◌, ◌++◌, ◌∷◌, [], ℕ, ℤ, pos, ◌≤ℤ◌, List, Some, map, suc, take, drop, slice_get};
 ghost use Rattle.jiff.specs.Types.{TimeZone};
 ghost use Rattle.cal_zone.specs.Instant.{IsInstant};
 ghost use Rattle.cal_spec.specs.Fields.{Fields};
+ghost use Rattle.cal_spec.specs.Members.{sets_of};
 ghost use Rattle.cal_elapse.specs.Elapses.{Timed, AreElapses, elapses_after, elapses_except};
-ghost use Rattle.cal_elapse.specs.Covered.{AreKept};
+ghost use Rattle.cal_elapse.specs.Covered.{AreAmong, AreKept, IsCovered};
 ghost use Rattle.cal_elapse.specs.Merged.{each_after};
 ghost use Rattle.cal_rising.specs.RisingList.{first, Has, union, without};
 ghost use Rattle.cal_elapse.specs.Timed.{timed};
@@ -27,10 +28,15 @@ pub fn elapses_of_each()
         ≡ elapses_except es excepts base }
 {}
 
-/// An expression of which each elapse is one of the exceptions may be left out: of expressions in whose place some of them
-/// are kept, the elapses stay the same where each elapse of the others is one of the exceptions.
+/// An expression is covered exactly if no elapse of it is left without those of the exceptions, and it is covered by one
+/// in the same zone whose members of each field have its own among them. Covered expressions may be left out: where some
+/// expressions are kept, and each elapse of the others is one of the exceptions, the elapses stay the same.
 pub fn covered_are_left_out()
-    ensures { (all excepts kept : List Timed) (base : ℤ) → AreKept all excepts kept
+    ensures covered { (e : Timed) (excepts : List Timed) → IsCovered e excepts
+        ↔ ((base : ℤ) → elapses_except (e ∷ []) excepts base ≡ []) }
+    ensures among { (fields others : Fields) (zone : TimeZone) → AreAmong (sets_of fields) (sets_of others)
+        → IsCovered (timed fields zone) (timed others zone ∷ []) }
+    ensures kept { (all excepts kept : List Timed) (base : ℤ) → AreKept all excepts kept
         → elapses_except kept excepts base ≡ elapses_except all excepts base }
 {}
 

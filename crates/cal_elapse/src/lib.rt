@@ -1,10 +1,10 @@
 //! The elapses of calendar expressions under every zone (systemd.time(7), Calendar Events).
 #![tactic(auto)]
 
-mod asked;
 mod bits;
 mod covers;
 mod day_search;
+mod elapse_set;
 mod elapses;
 pub mod laws;
 mod masks;

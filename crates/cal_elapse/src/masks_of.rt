@@ -1,6 +1,6 @@
 //! The bits of a calendar expression's members (systemd.time(7), Calendar Events).
 
-ghost use Rattle.std.specs.Prelude.{◌≡◌, ◌==◌, ◌+◌, ◌-◌, ◌%◌, ◌<◌, ◌≤◌, ◌&&◌, ◌||◌, ◌≢◌, ℕ, Bool, false, nat_le, nat_lt, slice_index_or, if◌then◌else◌};
+ghost use Rattle.std.specs.Prelude.{◌≡◌, ◌==◌, ◌+◌, ◌-◌, ◌%◌, ◌<◌, ◌≤◌, ◌&&◌, ◌||◌, ◌≢◌, ℕ, false, nat_le, nat_lt, slice_index_or, if◌then◌else◌};
 ghost use Rattle.std.specs.List.{list_any};
 ghost use Rattle.cal_elapse.specs.Bits.{is_bit};
 ghost use Rattle.cal_elapse.specs.Masks.{IsWindow, last_number, sets_in, slot_of};

@@ -1,6 +1,6 @@
 //! The next month whose year and month number are members, by jumps from bit to bit (systemd.time(7), Calendar Events).
 
-ghost use Rattle.std.specs.Prelude.{◌≡◌, ◌+◌, ◌*◌, ◌/◌, ◌<◌, ◌≤◌, slice_index_or};
+ghost use Rattle.std.specs.Prelude.{◌≡◌, ◌+◌, ◌*◌, ◌/◌, ◌<◌, ◌≤◌};
 ghost use Rattle.cal_elapse.specs.Bits.{is_in_words};
 ghost use Rattle.cal_elapse.specs.Masks.{sets_in};
 ghost use Rattle.cal_elapse.specs.Months.{month_in};

@@ -1,7 +1,8 @@
 //! A round of cells, one bit each, in words of 64 bits: an instant has the cell at its number modulo the count of
 //! cells.
 
-ghost use Rattle.std.specs.Prelude.{◌≡◌, ◌≢◌, ◌+◌, ◌*◌, ◌<◌, ◌≤◌, ℕ, true, false, ◌||◌, length};
+ghost use Rattle.std.specs.Prelude.{◌≡◌, ◌≢◌, ◌+◌, ◌*◌, ◌<◌, ◌≤ℤ◌, ℕ, pos, true, false, ◌||◌, length};
+ghost use Rattle.cal_zone.specs.Instant.{last_instant};
 ghost use Rattle.cal_elapse.specs.Bits.{is_bit, is_in_words};
 ghost use Rattle.cal_elapse.specs.Ring.{cells_behind, is_held};
 ghost use Rattle.cal_elapse.specs.Search.{IsFirstPassing};
@@ -18,7 +19,7 @@ pub const CELLS: u64 = 187_200;
 /// The first second from `low` on whose cell has it, of the seconds of one round.
 pub fn first_held(words: &[u64], low: u64) -> Option<u64>
     requires whole { length words.now ≡ 2_925 }
-    requires low { low ≤ 7_258_211_998 }
+    requires low { pos low ≤ℤ last_instant }
     ensures { IsFirstPassing (is_held words.now) low (low + 187_200) result }
 {
     let cell = low % CELLS;

@@ -40,7 +40,7 @@ impl<'z> Window<'z> {
     ghost use Rattle.cal_elapse.specs.Most.{IsLooked};
     ghost use Rattle.cal_elapse.specs.Searched.{IsMostSearched, IsSearched};
     ghost use Rattle.cal_elapse.specs.Timed.{timed};
-    ghost use Rattle.cal_elapse.specs.Window.{IsPlacedTo, IsReady, bound_of, timed_of, to_place};
+    ghost use Rattle.cal_elapse.specs.Window.{IsPlacedTo, IsReady, timed_of, to_place};
     ghost use Rattle.cal_spec.specs.Members.{sets_of};
 
     /// Before anything is placed. The first search begins where a place can be above the base.

@@ -6,4 +6,4 @@ pub returns-then-rest-eq0 : goal.returns-then-rest-eq0
 returns-then-rest-eq0 c = next_none c.args.mask c.args.from c.if-rest-eq0.true
 
 pub returns-else-rest-eq0 : goal.returns-else-rest-eq0
-returns-else-rest-eq0 c = next_some c.args.mask c.args.from (omega arith) (omega arith)
+returns-else-rest-eq0 c = search (next_some c.args.mask c.args.from (omega arith) (omega arith))

@@ -1,5 +1,5 @@
 use Rattle.std.proofs.lemmas.Bool.{eqb-true}
-use Rattle.cal_elapse.proofs.CoveredLemmas.{has_all}
+use Rattle.cal_elapse.proofs.AmongLemmas.{has_all}
 use Rattle.cal_elapse.proofs.covers.has_all.Goals as goal
 
 pub returns : goal.returns

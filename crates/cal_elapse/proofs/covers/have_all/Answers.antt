@@ -1,6 +1,6 @@
 use Rattle.std.proofs.Common.{arith}
 use Rattle.std.proofs.lemmas.Bool.{and_parts}
-use Rattle.cal_elapse.proofs.CoveredLemmas.{have_all}
+use Rattle.cal_elapse.proofs.AmongLemmas.{have_all}
 use Rattle.cal_elapse.proofs.covers.have_all.Goals as goal
 
 pub returns : goal.returns

@@ -60,7 +60,7 @@ returns-in-Some-next-clause-first c =
     let start : 0 ≡ month.first - month.first = omega arith in
     let here = first_in_month (sets_in c.args.masks.now) month.first month.length c.of.result.bits month.first c.in-Some-next.place
     (record { days = c.of.ensures.days; within = c.of.ensures.within }) (omega arith)
-    (subst (λ (n : ℕ). IsFirstPassing (is_bit c.of.result.bits) n 64 (Some c.in-Some-next.place)) start c.in-Some-next.ensures) in
+    (subst (λ (n : ℕ). IsFirstPassing (is_bit c.of.result.bits) n 64 (Some c.in-Some-next.place)) start (search (c.in-Some-next.ensures))) in
     let none = months_none (sets_in c.args.masks.now) index c.in-Some.next (omega (arith, found.1)) found.3 in
     let rises_from = first_day-rises c.args.from index inv.from_in in
     let rises = first_day-rises index c.in-Some.next found.0 in

@@ -11,4 +11,4 @@ loop-place-init c = filled_none (λ i. members_of Day (sets_of c.args.expr.now) 
 pub loop-place-preserved : goal.loop-place-preserved
 loop-place-preserved c =
     filled_more c.loop-place.mask c.put_bit-mask.result c.loop-place.place (λ i. members_of Day (sets_of c.args.expr.now) (31 - i)) c.loop-place.invariant
-    (c.put_bit-mask.ensures.here ∙ ap (λ (b : Bool). b || is_bit c.loop-place.mask c.loop-place.place) c.has_member.ensures) c.put_bit-mask.ensures.others
+    (search (c.put_bit-mask.ensures.here ∙ ap (λ (b : Bool). b || is_bit c.loop-place.mask c.loop-place.place) c.has_member.ensures)) c.put_bit-mask.ensures.others

@@ -13,10 +13,11 @@ loop-part-init c = λ slot w i. is_bit-none i ∙ sym (and_none (nat_lt i c.args
 
 pub loop-part-preserved : goal.loop-part-preserved
 loop-part-preserved c = λ slot w i.
-    is_bit-or c.loop-part.mask c.in_part-mask.result i
+    search
+    (is_bit-or c.loop-part.mask c.in_part-mask.result i
     ∙ parts_more (λ part. part_has slot part (c.args.first + i)) c.args.parts.now c.loop-part.part-index (nat_lt i c.args.count)
     (is_bit c.loop-part.mask i) (is_bit c.in_part-mask.result i) c.loop-part-test.true (c.loop-part.invariant slot w i)
-    (c.in_part-mask.ensures slot w i)
+    (c.in_part-mask.ensures slot w i))
 
 pub returns : goal.returns
 returns c = λ slot w i.

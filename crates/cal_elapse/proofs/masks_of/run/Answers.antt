@@ -4,7 +4,7 @@ use Rattle.cal_elapse.proofs.PartLemmas.{nowhere}
 use Rattle.cal_elapse.proofs.masks_of.run.Goals as goal
 
 pub returns-then-low-high : goal.returns-then-low-high
-returns-then-low-high c = λ i. is_bit-run c.args.low c.args.high i c.if-low-high.true c.requires
+returns-then-low-high c = λ i. search (is_bit-run c.args.low c.args.high i c.if-low-high.true c.requires)
 
 pub returns-else-low-high : goal.returns-else-low-high
 returns-else-low-high c = λ i. is_bit-none i ∙ sym (nowhere c.args.low c.args.high i c.if-low-high.false)

@@ -24,7 +24,7 @@ invariant_of-result c =
     let word : to_z w16 (of_z w16 c.year_at-year.result) ≡ pos (year_of c.args.index) =
     ap (λ (z : ℤ). to_z w16 (of_z w16 z)) c.year_at-year.ensures ∙ to_z_pos w16 (year_of c.args.index) (omega arith) in
     let first : pos c.first_of.result ≡ pos (first_day c.args.index) =
-    c.first_of.ensures ∙ (ap (λ (z : ℤ). days_from_civil z (c.args.index % 12 + 1) 1) word ∙ first_is c.args.index) in
+    search (c.first_of.ensures) ∙ (ap (λ (z : ℤ). days_from_civil z (c.args.index % 12 + 1) 1) word ∙ first_is c.args.index) in
     record {
       index_in = c.requires;
       first_is = omega (arith, signed_arith, first);

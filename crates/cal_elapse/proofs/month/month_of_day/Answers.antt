@@ -36,7 +36,7 @@ invariant_of-result c =
 pub returns-clause-index : goal.returns-clause-index
 returns-clause-index c =
     let at = located c.args.day c.requires in
-    index_by c.date_of-date.result (civil_date c.args.day) c.years_since.result c.from.result c.date_of-date.ensures c.years_since.ensures c.from.ensures at.year_low at.year_high
+    index_by c.date_of-date.result (civil_date c.args.day) c.years_since.result c.from.result (search (c.date_of-date.ensures)) c.years_since.ensures c.from.ensures at.year_low at.year_high
 
 pub returns-clause-low : goal.returns-clause-low
 returns-clause-low c =

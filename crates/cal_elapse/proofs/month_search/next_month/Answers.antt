@@ -8,4 +8,4 @@ returns-in-Some c =
 
 pub returns-in-None : goal.returns-in-None
 returns-in-None c =
-    first_then _ c.args.from ((c.args.from / 12 + 1) * 12) 2_760 c.month_later.result c.in-None.ensures (omega arith) c.month_later.ensures
+    first_then _ c.args.from ((c.args.from / 12 + 1) * 12) 2_760 c.month_later.result c.in-None.ensures (omega arith) (search (c.month_later.ensures))

@@ -2,7 +2,7 @@ use Rattle.cal_elapse.proofs.CellLemmas.{held_first, held_never, held_turned}
 use Rattle.cal_elapse.proofs.ring.first_held.Goals as goal
 
 pub returns-in-Some : goal.returns-in-Some
-returns-in-Some c = held_first c.args.words.now c.args.low c.in-Some.found c.in-Some.ensures
+returns-in-Some c = held_first c.args.words.now c.args.low c.in-Some.found (search (c.in-Some.ensures))
 
 pub returns-in-Some-next_cell : goal.returns-in-Some-next_cell
 returns-in-Some-next_cell c = held_turned c.args.words.now c.args.low c.in-Some-next_cell.found c.in_default.ensures c.in-Some-next_cell.ensures

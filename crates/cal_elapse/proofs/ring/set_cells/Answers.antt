@@ -7,7 +7,7 @@ pub returns-clause-set : goal.returns-clause-set
 returns-clause-set c = λ i there.
     elim c.if-word-eq-WORDS.branch [
       | then-word-eq-WORDS w ↦
-          filled c.args.words.now c.args.cell c.args.bits c.if-word-eq-WORDS.next i c.requires.whole c.requires.inside (omega arith) (inr (omega arith, omega arith)) (omega arith) there
+          search (filled c.args.words.now c.args.cell c.args.bits c.if-word-eq-WORDS.next i c.requires.whole c.requires.inside (omega arith) (inr (omega arith, omega arith)) (omega arith) there)
       | else-word-eq-WORDS w ↦
-          filled c.args.words.now c.args.cell c.args.bits c.if-word-eq-WORDS.next i c.requires.whole c.requires.inside (omega arith) (inl (omega arith)) (omega arith) there
+          search (filled c.args.words.now c.args.cell c.args.bits c.if-word-eq-WORDS.next i c.requires.whole c.requires.inside (omega arith) (inl (omega arith)) (omega arith) there)
     ]

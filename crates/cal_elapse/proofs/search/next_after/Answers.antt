@@ -30,4 +30,4 @@ pub returns-in-Some : goal.returns-in-Some
 returns-in-Some c =
     let found : c.args.local / 86_400 * 86_400 + c.from.result ≡ c.args.local / 86_400 * 86_400 + c.in-Some.second =
     ap (λ second. c.args.local / 86_400 * 86_400 + second) c.from.ensures in
-    search_today (sets_in c.args.masks.now) c.args.local c.in-Some.second _ c.requires.inside c.requires.is_match c.in-Some.ensures found
+    search (search_today (sets_in c.args.masks.now) c.args.local c.in-Some.second _ c.requires.inside c.requires.is_match c.in-Some.ensures found)

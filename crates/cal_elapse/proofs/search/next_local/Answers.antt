@@ -36,4 +36,4 @@ returns-in-None-clause-counted c =
     let s = sets_in c.args.masks.now in
     let start : pos c.unsigned_abs.result ≡ c.args.from = ap pos c.unsigned_abs.ensures.value ∙ begins c.args.from c.requires.low c.requires.high in
     let begin : c.unsigned_abs.result ≡ unsigned_abs c.args.from = ap unsigned_abs start in
-    c.in-None.ensures.counted ∙ ap (λ (n : ℕ). month_looks s n None) begin
+    search (c.in-None.ensures.counted ∙ ap (λ (n : ℕ). month_looks s n None) begin)

@@ -20,4 +20,4 @@ pub returns-in-Some : goal.returns-in-Some
 returns-in-Some c =
     let m = c.args.masks.now in
     let small = below_end (is_bit m.seconds) 60 c.lowest_bit.result m.last_second c.lowest_bit.ensures.2 in
-    first_later _ _ _ 60 1_440 (seconds_split m) c.args.minute 1_440 c.in-Some.minute 64 c.lowest_bit.result c.in-Some.ensures.1 small c.in-Some.ensures c.lowest_bit.ensures
+    search (first_later _ _ _ 60 1_440 (seconds_split m) c.args.minute 1_440 c.in-Some.minute 64 c.lowest_bit.result c.in-Some.ensures.1 small c.in-Some.ensures c.lowest_bit.ensures)

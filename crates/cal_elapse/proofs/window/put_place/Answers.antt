@@ -23,7 +23,7 @@ returns-in_default-clause-put c = with_place-none _ c.args.last c.args.pending.n
 pub returns-then-instant-last-clause-put : goal.returns-then-instant-last-clause-put
 returns-then-instant-last-clause-put c =
     let h = c.if-instant-last.true in
-    with_place-given _ c.in-Some.instant c.args.last c.args.pending.now (place_found (zone_of c.args.placer.now) c.args.local c.place.result c.requires.local_in c.place.ensures.value ∙ c.in-Some.is) (search rules)
+    with_place-given _ c.in-Some.instant c.args.last c.args.pending.now (place_found (zone_of c.args.placer.now) c.args.local c.place.result c.requires.local_in c.place.ensures.value ∙ search (c.in-Some.is)) (search rules)
 
 pub put-requires-clause-instant : goal.put-requires-clause-instant
 put-requires-clause-instant c =

@@ -7,7 +7,7 @@ use Rattle.cal_elapse.specs.Elapses.{IsPlace, Timed}
 use Rattle.cal_elapse.specs.Rest.{rest_of}
 use Rattle.cal_elapse.specs.Window.{timed_of}
 use Rattle.cal_elapse.specs.declared.window.Window.{Window}
-use Rattle.cal_elapse.proofs.AskedLemmas.{in_rest, not_above, not_instant}
+use Rattle.cal_elapse.proofs.ElapseSetLemmas.{in_rest, not_above, not_instant}
 use Rattle.cal_elapse.proofs.elapses.ElapsesRising.has.Goals as goal
 
 pub returns-in-Some-clause-has : goal.returns-in-Some-clause-has

@@ -10,7 +10,7 @@ use Rattle.cal_elapse.proofs.elapses.ElapsesRising.next.Goals as goal
 pub returns-clause-given : goal.returns-clause-given
 unfolding rest_of
 returns-clause-given c =
-    c.take.ensures.given ∙ ap first (rest_of-same c.fill.new.self c.self.inside.window c.fill.ensures.timed c.fill.ensures.last ∙ ap rest_of c.self.view_is)
+    search (c.take.ensures.given ∙ ap first (rest_of-same c.fill.new.self c.self.inside.window c.fill.ensures.timed c.fill.ensures.last ∙ ap rest_of c.self.view_is))
 
 pub returns-clause-left : goal.returns-clause-left
 unfolding rest_of

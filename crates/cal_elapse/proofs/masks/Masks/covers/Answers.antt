@@ -1,5 +1,5 @@
 use Rattle.std.proofs.lemmas.Bool.{and_parts}
-use Rattle.cal_elapse.proofs.CoveredLemmas.{among, same_test}
+use Rattle.cal_elapse.proofs.AmongLemmas.{among, same_test}
 use Rattle.cal_elapse.proofs.masks.Masks.covers.Goals as goal
 
 pub returns : goal.returns

@@ -19,8 +19,9 @@ returns-then-self-clause-near c = near_answer _ c.self.inside.least c.args.self.
 
 pub returns-else-self-clause-least : goal.returns-else-self-clause-least
 returns-else-self-clause-least c =
-    least_answer _ c.self.inside.least c.self.inside.least c.args.self.now c.self.view_is c.self.invariant.round
-    (found_kept _ c.self.inside.least c.self.invariant.first c.if-self.false)
+    search
+    (least_answer _ c.self.inside.least c.self.inside.least c.args.self.now c.self.view_is c.self.invariant.round
+    (found_kept _ c.self.inside.least c.self.invariant.first c.if-self.false))
 
 pub returns-else-self-clause-rises : goal.returns-else-self-clause-rises
 returns-else-self-clause-rises c = rises_answer _ c.self.inside.least c.args.self.now c.self.view_is

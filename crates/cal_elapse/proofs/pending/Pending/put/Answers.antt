@@ -13,7 +13,7 @@ invariant_of-self c =
     let second : pos c.unsigned_abs-second.result ≡ c.args.instant
     = second_is c.args.instant c.unsigned_abs-second.result c.requires.instant (rw (to_z-of_z w64 c.args.instant c.ranges.instant) at c.unsigned_abs-second.ensures.value) in
     let more : HasMore c.self.inside.cells.value c.set_cell.new.words c.unsigned_abs-second.result
-    = record { here = c.set_cell.ensures.set; others = λ cell other. c.set_cell.ensures.others cell other ∙ ap (λ (words : List ℕ). is_in_words words cell) same } in
+    = record { here = search (c.set_cell.ensures.set); others = λ cell other. c.set_cell.ensures.others cell other ∙ ap (λ (words : List ℕ). is_in_words words cell) same } in
     rw c.min-self-inside.ensures
     (put_from c.self.inside.cells.value c.set_cell.new.words c.self.inside.least c.unsigned_abs-second.result more c.self.invariant
     (near_there _ c.self.inside.least c.unsigned_abs-second.result c.args.instant c.args.self.now c.self.view_is second c.requires.near)
@@ -25,6 +25,7 @@ returns c =
     let second : pos c.unsigned_abs-second.result ≡ c.args.instant
     = second_is c.args.instant c.unsigned_abs-second.result c.requires.instant (rw (to_z-of_z w64 c.args.instant c.ranges.instant) at c.unsigned_abs-second.ensures.value) in
     rw c.min-self-inside.ensures
+    (search
     (put_answer c.self.inside.cells.value c.set_cell.new.words c.self.inside.least c.unsigned_abs-second.result c.args.instant c.args.self.now
     (record { here = c.set_cell.ensures.set; others = λ cell other. c.set_cell.ensures.others cell other ∙ ap (λ (words : List ℕ). is_in_words words cell) same })
-    c.self.invariant c.self.view_is second (second_inside c.args.instant c.unsigned_abs-second.result c.requires.instant second) c.requires.near)
+    c.self.invariant c.self.view_is second (second_inside c.args.instant c.unsigned_abs-second.result c.requires.instant second) c.requires.near))

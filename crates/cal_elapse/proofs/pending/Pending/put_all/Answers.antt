@@ -18,7 +18,7 @@ invariant_of-self c =
     let second = start_is c.args.start c.unsigned_abs-second.result c.self.inside.least begun.below (rw (to_z-of_z w64 c.args.start c.ranges.start) at c.unsigned_abs-second.ensures.value) in
     let all : HasAll old c.set_cells.new.words c.unsigned_abs-second.result bits
     = record {
-      held = λ i there. c.set_cells.ensures.set i there
+      held = λ i there. search (c.set_cells.ensures.set i there)
           ∙ ap (λ (words : List ℕ). is_in_words words i || is_bit bits (cells_behind (c.unsigned_abs-second.result % 187_200) i)) same;
     } in
     filled_from old c.set_cells.new.words c.self.inside.least c.unsigned_abs-second.result bits c.args.start all

@@ -1,4 +1,5 @@
 use Rattle.std.proofs.Common.{◌∙◌, ◌+◌, List, ap, arith, length, subst, ℕ}
+use Rattle.std.proofs.lemmas.Int.{ints}
 use Rattle.cal_elapse.specs.Bits.{is_in_words}
 use Rattle.cal_elapse.specs.Ring.{is_held}
 use Rattle.cal_elapse.specs.Search.{IsFirstPassing}
@@ -17,7 +18,8 @@ clear_cell-requires-clause-whole c = ap length (c.as_mut_slice.ensures.value ∙
 
 pub first_held-requires-clause-low : goal.first_held-requires-clause-low
 first_held-requires-clause-low c =
-    found_inside _ c.self.inside.least c.self.inside.least c.self.invariant.round (found_kept _ c.self.inside.least c.self.invariant.first c.if-second.false)
+    let inside = found_inside _ c.self.inside.least c.self.inside.least c.self.invariant.round (found_kept _ c.self.inside.least c.self.invariant.first c.if-second.false) in
+    omega (arith, ints)
 
 pub overflow_cast-result : goal.overflow_cast-result
 overflow_cast-result c =
@@ -29,7 +31,7 @@ invariant_of-self c =
     let same = c.as_mut_slice.ensures.value ∙ c.deref_mut.ensures.value in
     rw c.unwrap_or-self-inside.ensures
     (taken_from c.self.inside.cells.value c.clear_cell.new.words c.self.inside.least c.first_held.result (found_kept _ c.self.inside.least c.self.invariant.first c.if-second.false)
-    (record { here = c.clear_cell.ensures.cleared; others = λ cell other. c.clear_cell.ensures.others cell other ∙ ap (λ (words : List ℕ). is_in_words words cell) same })
+    (record { here = search (c.clear_cell.ensures.cleared); others = λ cell other. c.clear_cell.ensures.others cell other ∙ ap (λ (words : List ℕ). is_in_words words cell) same })
     c.clear_cell.ensures.whole c.self.invariant.round
     (subst (λ (words : List ℕ). IsFirstPassing (is_held words) c.self.inside.least (c.self.inside.least + 187_200) c.first_held.result)
     (c.as_slice.ensures ∙ c.deref.ensures) c.first_held.ensures))
@@ -43,9 +45,10 @@ pub returns-clause-left : goal.returns-clause-left
 returns-clause-left c =
     let same = c.as_mut_slice.ensures.value ∙ c.deref_mut.ensures.value in
     rw c.unwrap_or-self-inside.ensures
+    (search
     (taken_answer c.self.inside.cells.value c.clear_cell.new.words c.self.inside.least c.first_held.result c.args.self.now
     (found_kept _ c.self.inside.least c.self.invariant.first c.if-second.false)
     (record { here = c.clear_cell.ensures.cleared; others = λ cell other. c.clear_cell.ensures.others cell other ∙ ap (λ (words : List ℕ). is_in_words words cell) same })
     (subst (λ (words : List ℕ). IsFirstPassing (is_held words) c.self.inside.least (c.self.inside.least + 187_200) c.first_held.result)
     (c.as_slice.ensures ∙ c.deref.ensures) c.first_held.ensures)
-    c.self.view_is)
+    c.self.view_is))

@@ -23,12 +23,12 @@ invariant_of-self c =
     record {
       few_months = c.args.self.now.few_months;
       is_left = rw c.from.ensures
-          (left_on _ c.args.self.now.found c.args.self.now.from c.args.self.now.left c.lowest_bit-bit.result c.without_lowest-self.result c.args.self.now.is_left c.lowest_bit-bit.ensures
-          (omega arith) (omega arith) (c.without_lowest-self.ensures.cleared _ c.lowest_bit-bit.ensures) (λ i low other. c.without_lowest-self.ensures.others _ i c.lowest_bit-bit.ensures other));
+          (left_on _ c.args.self.now.found c.args.self.now.from c.args.self.now.left c.lowest_bit-bit.result c.without_lowest-self.result _ c.args.self.now.is_left c.lowest_bit-bit.ensures
+          (omega arith) (omega arith) (c.without_lowest-self.ensures.cleared _ c.lowest_bit-bit.ensures) (λ i low other. c.without_lowest-self.ensures.others _ i c.lowest_bit-bit.ensures other) (omega arith));
     }
 
 pub returns-clause-found : goal.returns-clause-found
-returns-clause-found c = rw c.from.ensures (search_left c.args.self.now.masks c.args.self.now.found c.args.self.now.from c.args.self.now.left c.lowest_bit-bit.result c.args.self.now.is_left c.lowest_bit-bit.ensures)
+returns-clause-found c = rw c.from.ensures (search (search_left c.args.self.now.masks c.args.self.now.found c.args.self.now.from c.args.self.now.left c.lowest_bit-bit.result c.args.self.now.is_left c.lowest_bit-bit.ensures))
 
 pub returns-clause-last : goal.returns-clause-last
 returns-clause-last c =

@@ -12,4 +12,4 @@ overflow_add-self c =
 pub invariant_of-self : goal.invariant_of-self
 invariant_of-self c =
     let found = rw c.in-Some.is at c.requires in
-    record { few_months = c.args.self.now.few_months; is_left = left_after c.args.self.now.masks c.in-Some.local found.1 }
+    record { few_months = c.args.self.now.few_months; is_left = search (left_after c.args.self.now.masks c.in-Some.local found.1) }

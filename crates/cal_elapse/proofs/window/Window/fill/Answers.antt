@@ -21,7 +21,7 @@ place_rest-placed-requires c =
     (rw (to_z-of_z w64 c.loop-ahead.self.last fits) at c.put_place.ensures.put))
 
 pub search-requires-clause-start : goal.search-requires-clause-start
-search-requires-clause-start c = placed_is_match _ c.place_rest-placed.result c.place_rest-placed.ensures.placed
+search-requires-clause-start c = search (placed_is_match _ c.place_rest-placed.result c.place_rest-placed.ensures.placed)
 
 pub search-requires-clause-few : goal.search-requires-clause-few
 search-requires-clause-few c =

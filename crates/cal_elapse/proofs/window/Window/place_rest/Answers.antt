@@ -96,7 +96,7 @@ put_all-requires-clause-begun c =
     let behind = behind_of v c.args.local rest.bits rest.last c.in-Some.offset c.in-Some-least.least _ c.requires c.search_left-rest.ensures.rest c.in-Some.ensures fits
     (sym c.in-Some-least.is ∙ c.least-least.ensures.least) refl (omega (arith, signed_arith)) near in
     let start = start_is (zone_of v.zone) c.args.local c.in-Some.offset c.requires.found.0 c.in-Some.ensures fits in
-    rest_begun v c.args.local rest.bits rest.last c.in-Some.offset (pos c.args.local -ℤ c.in-Some.offset) c.in-Some-least.least _ behind start
+    search (rest_begun v c.args.local rest.bits rest.last c.in-Some.offset (pos c.args.local -ℤ c.in-Some.offset) c.in-Some-least.least _ behind start)
 
 pub put_all-requires-clause-instants : goal.put_all-requires-clause-instants
 put_all-requires-clause-instants c = λ i one.
@@ -133,7 +133,7 @@ returns-in-Some-least-clause-placed c =
     let least = to_z-of_z w64 c.in-Some-least.least least_fits in
     let near = near_ahead v.pending _ c.least-least.result c.is_to_place.result c.least-least.ensures.rises c.least-least.ensures.least c.is_to_place.ensures c.if-not-is_to_place.false in
     let behind = behind_of v c.args.local rest.bits rest.last c.in-Some.offset c.in-Some-least.least _ c.requires c.search_left-rest.ensures.rest c.in-Some.ensures fits
-    (sym c.in-Some-least.is ∙ c.least-least.ensures.least) refl (omega (arith, signed_arith)) near in
+    (sym c.in-Some-least.is ∙ c.least-least.ensures.least) refl (omega (arith, signed_arith)) (search near) in
     rest_put v c.args.local c.search_left-rest.new.self rest.bits rest.last c.in-Some.offset (pos c.args.local -ℤ c.in-Some.offset) c.in-Some-least.least c.put_all.new.self c.requires
     c.search_left-rest.ensures.masks c.search_left-rest.ensures.counted c.search_left-rest.ensures.most behind c.put_all.ensures.rises
     (subst (λ (s : ℤ). (i : ℤ) → Has c.put_all.new.self i ↔ (Has v.pending i ⊎ IsOneOf s rest.bits i)) (start_is (zone_of v.zone) c.args.local c.in-Some.offset c.requires.found.0 c.in-Some.ensures fits) c.put_all.ensures.members)

@@ -20,10 +20,10 @@ use Rattle.cal_elapse.specs.declared.window.Window.{Window}
 use Rattle.cal_elapse.proofs.ElapsesLemmas.{AreAbove-elapses_after}
 
 -- the one local second that can have its place there is tested
-pub asked-local : (masks : Masks) (zone : Zone) (instant : ℤ) (local : ℕ) (b : Bool) → IsLocalAt (zone_of zone) instant (Some local) → b ≡ matches (sets_in masks) local
+pub has-local : (masks : Masks) (zone : Zone) (instant : ℤ) (local : ℕ) (b : Bool) → IsLocalAt (zone_of zone) instant (Some local) → b ≡ matches (sets_in masks) local
     → (b ≡ true) ↔ IsPlace (timed_by masks zone) instant
 unfolding timed_by
-asked-local masks zone instant local b at is = (
+has-local masks zone instant local b at is = (
   λ h. record { local = local; within = at.0; is_match = sym is ∙ h; placed = at.1 },
   λ p.
       let same : pos local ≡ pos p.local = one_local_second (zone_of zone) (pos local) (pos p.local) instant at.1 p.placed in
@@ -31,9 +31,9 @@ asked-local masks zone instant local b at is = (
       is ∙ ap (matches (sets_in masks)) one ∙ p.is_match,
 )
 
-pub asked-none : (masks : Masks) (zone : Zone) (instant : ℤ) → IsLocalAt (zone_of zone) instant None → (false ≡ true) ↔ IsPlace (timed_by masks zone) instant
+pub has-none : (masks : Masks) (zone : Zone) (instant : ℤ) → IsLocalAt (zone_of zone) instant None → (false ≡ true) ↔ IsPlace (timed_by masks zone) instant
 unfolding timed_by
-asked-none masks zone instant none = (
+has-none masks zone instant none = (
   λ h. absurd (false≢true h),
   λ p. absurd (none p.local p.within p.placed),
 )

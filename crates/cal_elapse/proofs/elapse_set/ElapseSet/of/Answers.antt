@@ -1,7 +1,7 @@
 use Rattle.std.proofs.Common.{◌∙◌, ap}
 use Rattle.cal_elapse.specs.Window.{timed_by}
 use Rattle.cal_elapse.proofs.ReadyLemmas.{timed_by-timed}
-use Rattle.cal_elapse.proofs.asked.Asked.of.Goals as goal
+use Rattle.cal_elapse.proofs.elapse_set.ElapseSet.of.Goals as goal
 
 pub returns : goal.returns
 returns c =
