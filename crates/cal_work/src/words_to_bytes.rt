@@ -24,7 +24,7 @@ use cal_bytes::{Output, Port, Sink};
 use cal_command::{Ask, CommandFault, LocalZone, ZoneItem};
 use cal_report::{file_name, run};
 use cal_request::{Request, RunFault, Status, Verb};
-use cal_zone::{Instant, Rules, Zone, ZoneFault, ZoneTable};
+use cal_zone::{Instant, Rules, Zone, ZoneTable};
 use std::alloc::Global;
 
 /// How the work ended.
@@ -188,7 +188,6 @@ fn read_rules(alloc: Global, local: &LocalZone) -> Result<Option<Rules>, Stop>
     };
     match Rules::posix(alloc, rule.as_str()) {
         Ok(rules) => Ok(Some(rules)),
-        Err(ZoneFault::NoMemory) => Err(Stop::Run(RunFault::NoMemory)),
         Err(_) => Err(Stop::LocalRule),
     }
 }

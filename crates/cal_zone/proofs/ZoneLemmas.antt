@@ -1,7 +1,7 @@
 -- Zones of each kind.
 use Rattle.std.proofs.Common.{◌≡◌, ℤ, ap}
 use Rattle.std.specs.Borrow.{Bor}
-use Rattle.jiff.specs.Types.{Fixed, Posix, TimeZone, Tzif, UTC, Unknown}
+use Rattle.jiff.specs.Types.{Fixed, Offset, Posix, TimeZone, Tzif, UTC, Unknown}
 use Rattle.jiff.specs.Words.{fixed_zone, offset_at, IsOffsetSeconds}
 use Rattle.jiff_tz.specs.PosixRule as PosixRule
 use Rattle.jiff_tz.specs.Tzif as Table
@@ -11,6 +11,7 @@ use Rattle.cal_zone.specs.declared.zone.Ahead.{Ahead}
 use Rattle.cal_zone.specs.declared.zone.ZoneKind.TheVariants.{Utc, Offset as AtOffset, Rules as ByRules}
 use Rattle.cal_zone.specs.declared.zone.Zone.{Zone}
 use Rattle.cal_zone.specs.Zone.{offset_of, zone_of, zone_of_kind}
+use Rattle.cal_zone.proofs.OffsetLemmas.{same_offset}
 
 pub zone_of-utc : (zone : Zone) → zone.kind ≡ Utc → zone_of zone ≡ UTC
 unfolding zone_of
@@ -19,6 +20,10 @@ zone_of-utc zone e = ap zone_of_kind e
 pub zone_of-offset : (zone : Zone) (ahead : Ahead) → zone.kind ≡ AtOffset ahead → zone_of zone ≡ fixed_zone (offset_of ahead)
 unfolding zone_of
 zone_of-offset zone ahead e = ap zone_of_kind e
+
+pub zone_of-ahead : (ahead : Ahead) (offset : Offset) → ahead.seconds ≡ offset.seconds → zone_of (record { kind = AtOffset ahead }) ≡ fixed_zone offset
+unfolding zone_of
+zone_of-ahead ahead offset e = ap fixed_zone (same_offset (offset_of ahead) offset e)
 
 pub zone_of-rules : (zone : Zone) (rules : Bor Rules) → zone.kind ≡ ByRules rules → zone_of zone ≡ rules.now
 unfolding zone_of

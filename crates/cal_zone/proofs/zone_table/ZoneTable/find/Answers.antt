@@ -9,5 +9,6 @@ returns-in-Some-clause-zone c =
 
 pub returns-in-None-clause-zone : goal.returns-in-None-clause-zone
 returns-in-None-clause-zone c =
-    c.in-None.ensures.value
-    ∙ sym (zone_named-zones_in c.self.inside.zones _ c.args.name.now c.self.view_is (sym c.if-is_utc_name.ensures))
+    let named = zone_named-zones_in c.self.inside.zones _ c.args.name.now c.self.view_is (sym c.if-is_utc_name.ensures) in
+    let absent = c.in-None.ensures.value ∙ sym named in
+    search absent
