@@ -6,8 +6,8 @@ pub use cal_bytes::{
     is_among, padding, push, push_all, put_all, put_pieces, read_whole,
 };
 pub use cal_span::{
-    Scale, Span, SpanFault, are_digits, format_span, fraction_of, one_text, one_value, push_span,
-    read_span, text_reads_back, whole_of, write_span,
+    SPAN_ROOM, Scale, Span, SpanFault, are_digits, format_span, fraction_of, one_text, one_value,
+    push_span, read_span, text_reads_back, whole_of, write_span,
 };
 pub use cal_zone::{
     Civil, Clock, DAY, DAYS, Instant, Moment, Placer, Rules, WEEK, Zone, ZoneFault, ZoneTable,

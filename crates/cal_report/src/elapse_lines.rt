@@ -3,6 +3,7 @@
 ghost use Rattle.std.specs.Prelude.{◌≡◌, ◌+◌, ◌-◌, ◌≤◌, ◌++◌, length, false, is_err, option_map, take};
 ghost use Rattle.cal_bytes.specs.Bytes.{Writes};
 ghost use Rattle.cal_bytes.specs.declared.short_text.TheConstants.{ROOM};
+ghost use Rattle.cal_span.specs.declared.span.text.TheConstants.{SPAN_ROOM};
 ghost use Rattle.cal_rising.specs.RisingList.{first, later};
 ghost use Rattle.cal_report.specs.ElapseLines.{AreInstants, label_text, elapse_text, elapse_texts, elapses_text};
 ghost use Rattle.cal_request.specs.Request.{IsCount};
@@ -107,7 +108,7 @@ fn push_elapse(
     clocks: &mut Clocks<'_>,
     now: Instant,
 )
-    requires { length text.old.items + 474 ≤ ROOM }
+    requires { length text.old.items + SPAN_ROOM + 240 ≤ ROOM }
     ensures text { text.new.items ≡ text.old.items ++ elapse_text clocks.old now.secs number elapse.secs }
     ensures local { clocks.new ≡ clocks.old }
 {

@@ -3,6 +3,7 @@
 ghost use Rattle.std.specs.Prelude.{◌≡◌, ◌+◌, ◌≤◌, ◌++◌, ◌-ℤ◌, false, is_err, length, unsigned_abs};
 ghost use Rattle.cal_bytes.specs.Bytes.{Writes};
 ghost use Rattle.cal_bytes.specs.declared.short_text.TheConstants.{ROOM};
+ghost use Rattle.cal_span.specs.declared.span.text.TheConstants.{SPAN_ROOM};
 ghost use Rattle.cal_report.specs.ReportLines.{direction_text, distance_text, micros_of, original_line, utc_line};
 
 use cal_bytes::{ShortText, Sink, WriteFault, push, put_pieces};
@@ -40,12 +41,12 @@ pub fn push_utc_line(text: &mut ShortText, local: Zone<'_>, instant: Instant)
     }
 }
 
-/// Appends the span between the present and a moment, and which of the two is later. It takes at most 239 bytes.
+/// Appends the span between the present and a moment, and which of the two is later. It takes at most [`cal_base::SPAN_ROOM`] and 5 bytes.
 #[tactic(auto, unfolding(crate::specs::ReportLines::distance_text))]
 pub fn push_distance(text: &mut ShortText, now: Instant, moment: Moment)
-    requires room { length text.old.items + 239 ≤ ROOM }
+    requires room { length text.old.items + SPAN_ROOM + 5 ≤ ROOM }
     ensures text { text.new.items ≡ text.old.items ++ distance_text (micros_of now.secs) moment.micros }
-    ensures short { length text.new.items ≤ length text.old.items + 239 }
+    ensures short { length text.new.items ≤ length text.old.items + SPAN_ROOM + 5 }
 {
     let now = first_moment(now);
     push_span(text, distance(now, moment));

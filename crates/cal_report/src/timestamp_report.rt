@@ -4,6 +4,7 @@
 ghost use Rattle.std.specs.Prelude.{◌≡◌, ◌+◌, ◌≤◌, ◌++◌, false, is_err, length, unsigned_abs};
 ghost use Rattle.cal_bytes.specs.Bytes.{Writes};
 ghost use Rattle.cal_bytes.specs.declared.short_text.TheConstants.{ROOM};
+ghost use Rattle.cal_span.specs.declared.span.text.TheConstants.{SPAN_ROOM};
 ghost use Rattle.cal_report.specs.Context.{asked_by};
 ghost use Rattle.cal_report.specs.TimestampReport.{moment_lines, timestamp_report, unix_text};
 
@@ -50,7 +51,7 @@ fn put_moment<W: Sink>(
 /// Appends what is said of a moment.
 #[tactic(auto, unfolding(crate::specs::TimestampReport::moment_lines))]
 fn push_moment(text: &mut ShortText, local: Zone<'_>, now: Instant, moment: Moment)
-    requires { length text.old.items + 512 ≤ ROOM }
+    requires { length text.old.items + SPAN_ROOM + 276 ≤ ROOM }
     ensures { text.new.items ≡ text.old.items ++ moment_lines local.entry now.secs moment.micros }
 {
     push_instant(text, local, moment.instant());

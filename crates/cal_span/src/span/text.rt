@@ -7,6 +7,7 @@ ghost use Rattle.cal_span.specs.SpanValue.{span_of};
 ghost use Rattle.cal_bytes.specs.Bytes.{Writes, joined};
 ghost use Rattle.cal_span.specs.Scale.{name_of};
 ghost use Rattle.cal_bytes.specs.declared.short_text.TheConstants.{ROOM};
+ghost use Rattle.cal_span.specs.declared.span.text.TheConstants.{SPAN_ROOM};
 ghost use Rattle.cal_span.specs.SpanText.{IsSpanText, span_text, row_text, positive, counts_of};
 
 use crate::scale::Scale;
@@ -14,12 +15,15 @@ use crate::span::Span;
 use cal_bytes::{ShortText, Sink, WriteFault, push, put_all};
 use itoa::Buffer;
 
+/// The most bytes of a span's text: of each of its nine units a space, 20 digits and a name of 5 bytes.
+pub const SPAN_ROOM: usize = 234;
+
 /// Appends the text of a span from the largest unit down, counts of zero left out, as `1h 30min`, or `0` where it is
-/// nothing (systemd.time(7), Parsing Time Spans). It takes at most 234 bytes.
+/// nothing (systemd.time(7), Parsing Time Spans). It takes at most [`SPAN_ROOM`] bytes.
 pub fn push_span(text: &mut ShortText, span: Span)
-    requires room { length text.old.items + 234 ≤ ROOM }
+    requires room { length text.old.items + SPAN_ROOM ≤ ROOM }
     ensures text { text.new.items ≡ text.old.items ++ span_text span.micros }
-    ensures short { length text.new.items ≤ length text.old.items + 234 }
+    ensures short { length text.new.items ≤ length text.old.items + SPAN_ROOM }
 {
     match span.micros() {
         0 => push(text, b"0"),
@@ -62,9 +66,9 @@ pub fn text_reads_back()
 /// Appends the counts that aren't zero, one space between them.
 fn push_counts(text: &mut ShortText, scales: &[Scale], micros: u64)
     requires few { length scales.now ≤ 9 }
-    requires room { length text.old.items + 234 ≤ ROOM }
+    requires room { length text.old.items + SPAN_ROOM ≤ ROOM }
     ensures text { text.new.items ≡ text.old.items ++ row_text (positive (counts_of scales.now micros)) }
-    ensures short { length text.new.items ≤ length text.old.items + 234 }
+    ensures short { length text.new.items ≤ length text.old.items + SPAN_ROOM }
 {
     let mut lead: &[u8] = b"";
     let mut rest = micros;
