@@ -7,7 +7,7 @@ use Rattle.clap.specs.Words.{App, IsAmong, Kinds, Rule, Text, is_simple, is_simp
 use Rattle.clap.specs.declared.error.kind.ErrorKind.{ErrorKind}
 use Rattle.clap.specs.declared.error.kind.ErrorKind.TheVariants.{OutOfMemory}
 use Rattle.clap.proofs.OnLiterals.{clap_on_literals}
-use Rattle.cal_command.specs.Ask.{CommandSaid, usage, help, bad_iterations, bad_now, bad_zones, bad_local, no_memory, Wanted}
+use Rattle.cal_command.specs.Ask.{CommandFault, usage, help, bad_iterations, bad_now, bad_zones, bad_local, no_memory, Ask}
 use Rattle.cal_command.specs.GivenView.{IsReadAs}
 use Rattle.cal_command.specs.CommandLine.{Given, parsed_in, read_options, IsAskOf, IsFaultOf, IsReportedOf, asked_in, command_app, faults_in, is_of_help, takes_words, with_rules}
 
@@ -42,7 +42,7 @@ refused_by p kind kinds (inl memory) other holds = absurd (other memory)
 refused_by p kind kinds (inr at) other holds = among p kind kinds at holds
 
 -- what is reported of a fault of `clap` is its fault
-pub reported_fault : (words : List Text) (kind : ErrorKind) (said : CommandSaid) → (takes_words words ≡ true → kind ≡ OutOfMemory)
+pub reported_fault : (words : List Text) (kind : ErrorKind) (said : CommandFault) → (takes_words words ≡ true → kind ≡ OutOfMemory)
     → (kind ≡ OutOfMemory) ⊎ IsAmong kind (faults_in words) → IsReportedOf kind said → IsFaultOf words said
 reported_fault words kind (usage text) passes kinds reported =
     (not_taken (takes_words words) kind passes reported.1, refused_by (λ k. not (is_of_help k)) kind (faults_in words) kinds reported.1 (ap not reported.0))
@@ -78,10 +78,10 @@ few_kept (t ∷ []) few = refl
 few_kept (t ∷ u ∷ ts) few = absurd (omega (arith, few))
 
 -- what is read of the values that were parsed is what the words ask for
-pub read_said : (words : List Text) (given : Given) (said : Result Wanted CommandSaid) → faults_in words ≡ [] → Some given ≡ parsed_in words
+pub read_said : (words : List Text) (given : Given) (said : Result Ask CommandFault) → faults_in words ≡ [] → Some given ≡ parsed_in words
     → IsReadAs said (read_options given) → IsAskOf words said
 unfolding asked_in
-read_said words given (Ok wanted) none parsed is = (none, rw (← parsed) (sym is))
+read_said words given (Ok ask) none parsed is = (none, rw (← parsed) (sym is))
 read_said words given (Err (usage text)) none parsed is = absurd is
 read_said words given (Err (help text)) none parsed is = absurd is
 read_said words given (Err bad_iterations) none parsed is = (none, rw (← parsed) (sym is))
@@ -91,9 +91,9 @@ read_said words given (Err bad_local) none parsed is = (none, rw (← parsed) (s
 read_said words given (Err no_memory) none parsed is = tt
 
 -- where `clap` takes the words, they are answered, or memory is refused
-pub taken_words : (words : List Text) (said : Result Wanted CommandSaid) → IsAskOf words said → takes_words words ≡ true
+pub taken_words : (words : List Text) (said : Result Ask CommandFault) → IsAskOf words said → takes_words words ≡ true
     → (said ≡ Err no_memory) ⊎ (said ≡ asked_in words)
-taken_words words (Ok wanted) is takes = inr (sym is.1)
+taken_words words (Ok ask) is takes = inr (sym is.1)
 taken_words words (Err (usage text)) is takes = let bad : true ≡ false = sym takes ∙ is.0 in absurd (cc)
 taken_words words (Err (help text)) is takes = let bad : true ≡ false = sym takes ∙ is.0 in absurd (cc)
 taken_words words (Err bad_iterations) is takes = inr (sym is.1)

@@ -13,8 +13,8 @@ use Rattle.std.proofs.lemmas.Str.Parse.{IsNumeralModel, numerals_by_value, tells
 use Rattle.cal_zone.specs.Instant.{IsInstant}
 use Rattle.cal_zone.specs.declared.instant.Instant.{Instant}
 use Rattle.cal_command.specs.OptionValues.{number_between, present_in, is_comma, parts_at, zone_item_in, zone_items_in, zones_in}
-use Rattle.cal_command.specs.Ask.{ZoneSaid, zone_said}
-use Rattle.cal_command.specs.declared.ask.ZoneItem.{ZoneItem}
+use Rattle.cal_command.specs.Ask.{ZoneItem, shown_item}
+use Rattle.cal_command.specs.declared.ask.ZoneItem as declared_item
 use Rattle.std.proofs.lemmas.List.{map-append}
 
 own : IsNumeralModel (λ ds. all_ascii_digits ds ≡ true) (digits_value 10)
@@ -130,12 +130,12 @@ item_none text h =
     slice_split_none is_comma text (λ k d within. not-true _ (prefix_len_passes (λ x. not (is_comma x)) text k d (omega (arith, cut))))
 
 -- the items read so far, n of them, with those that are left
-abbrev pub ZonesRead : List ZoneSaid → ℕ → List (List ℕ) → List ℕ → Type 0
+abbrev pub ZonesRead : List ZoneItem → ℕ → List (List ℕ) → List ℕ → Type 0
 ZonesRead done n left text =
     (option_map (λ later. done ++ later) (zone_items_in left) ≡ zone_items_in (slice_split is_comma text))
     × (n + length left ≡ length (slice_split is_comma text)) × (n ≤ 64)
 
-guard-zones : (b : Bool) (found : Option (List ZoneSaid)) → found ≡ None → cond b found None ≡ None
+guard-zones : (b : Bool) (found : Option (List ZoneItem)) → found ≡ None → cond b found None ≡ None
 guard-zones true found none = none
 guard-zones false found none = refl
 
@@ -143,12 +143,12 @@ items-bad : (item : List ℕ) (items : List (List ℕ)) → None ≡ zone_item_i
 unfolding zone_items_in
 items-bad item items bad = rw (← bad) refl
 
-items-good : (item : List ℕ) (items : List (List ℕ)) (zone : ZoneSaid) → Some zone ≡ zone_item_in item
+items-good : (item : List ℕ) (items : List (List ℕ)) (zone : ZoneItem) → Some zone ≡ zone_item_in item
     → zone_items_in (item ∷ items) ≡ option_map (λ zones. zone ∷ zones) (zone_items_in items)
 unfolding zone_items_in
 items-good item items zone good = rw (← good) refl
 
-pub zones-bad : (text item : List ℕ) (left items : List (List ℕ)) (done : List ZoneSaid) (n : ℕ) → ZonesRead done n left text → left ≡ item ∷ items
+pub zones-bad : (text item : List ℕ) (left items : List (List ℕ)) (done : List ZoneItem) (n : ℕ) → ZonesRead done n left text → left ≡ item ∷ items
     → None ≡ zone_item_in item → None ≡ zones_in text
 unfolding zones_in
 zones-bad text item left items done n read is bad =
@@ -157,38 +157,38 @@ zones-bad text item left items done n read is bad =
 above_most : (n : ℕ) → 64 < n → nat_le n 64 ≡ false
 above_most n more = grind (arith, nat_tests, more)
 
-pub zones-full : (text item : List ℕ) (left items : List (List ℕ)) (done : List ZoneSaid) (n : ℕ) → ZonesRead done n left text → left ≡ item ∷ items
+pub zones-full : (text item : List ℕ) (left items : List (List ℕ)) (done : List ZoneItem) (n : ℕ) → ZonesRead done n left text → left ≡ item ∷ items
     → n ≡ 64 → None ≡ zones_in text
 unfolding zones_in
 zones-full text item left items done n read is full =
     let more = ap length is in
     rw (above_most (length (slice_split is_comma text)) (omega (arith, more, read.1))) refl
 
-pub zones-end : (text : List ℕ) (left : List (List ℕ)) (done : List ZoneSaid) (n : ℕ) → ZonesRead done n left text → left ≡ [] → Some done ≡ zones_in text
+pub zones-end : (text : List ℕ) (left : List (List ℕ)) (done : List ZoneItem) (n : ℕ) → ZonesRead done n left text → left ≡ [] → Some done ≡ zones_in text
 unfolding zones_in zone_items_in
 zones-end text left done n read is =
     let none = ap length is in
     rw (le-leb (length (slice_split is_comma text)) 64 (omega (arith, none, read.1, read.2)), ← read.0, is) (ap Some (sym (append-nil done)))
 
-onto : (done : List ZoneSaid) (zone : ZoneSaid) (found : Option (List ZoneSaid))
+onto : (done : List ZoneItem) (zone : ZoneItem) (found : Option (List ZoneItem))
     → option_map (λ later. (done ++ zone ∷ []) ++ later) found ≡ option_map (λ later. done ++ later) (option_map (λ zones. zone ∷ zones) found)
 onto done zone None = refl
 onto done zone (Some later) = ap Some (append_assoc done (zone ∷ []) later)
 
-pub zones-more : (text item : List ℕ) (left items : List (List ℕ)) (before after : List ZoneItem) (zone : ZoneItem) (n : ℕ)
-    → ZonesRead (map zone_said before) n left text → left ≡ item ∷ items → Some (zone_said zone) ≡ zone_item_in item → after ≡ before ++ zone ∷ [] → n ≢ 64
-    → ZonesRead (map zone_said after) (n + 1) items text
+pub zones-more : (text item : List ℕ) (left items : List (List ℕ)) (before after : List declared_item.ZoneItem) (zone : declared_item.ZoneItem) (n : ℕ)
+    → ZonesRead (map shown_item before) n left text → left ≡ item ∷ items → Some (shown_item zone) ≡ zone_item_in item → after ≡ before ++ zone ∷ [] → n ≢ 64
+    → ZonesRead (map shown_item after) (n + 1) items text
 zones-more text item left items before after zone n read is good pushed below =
     let more = ap length is in (
-      ap (λ done. option_map (λ later. done ++ later) (zone_items_in items)) (ap (map zone_said) pushed ∙ map-append zone_said before (zone ∷ []))
-          ∙ onto (map zone_said before) (zone_said zone) (zone_items_in items)
-          ∙ ap (option_map (λ later. map zone_said before ++ later)) (sym (ap zone_items_in is ∙ items-good item items (zone_said zone) good)) ∙ read.0,
+      ap (λ done. option_map (λ later. done ++ later) (zone_items_in items)) (ap (map shown_item) pushed ∙ map-append shown_item before (zone ∷ []))
+          ∙ onto (map shown_item before) (shown_item zone) (zone_items_in items)
+          ∙ ap (option_map (λ later. map shown_item before ++ later)) (sym (ap zone_items_in is ∙ items-good item items (shown_item zone) good)) ∙ read.0,
       omega (arith, more, read.1),
       omega (arith, read.2, below),
     )
 
-pub zones-pushed : (text item : List ℕ) (left items : List (List ℕ)) (before after : List ZoneItem) (zone : ZoneItem) (n count : ℕ)
-    → ZonesRead (map zone_said before) n left text → left ≡ item ∷ items → Some (zone_said zone) ≡ zone_item_in item → after ≡ before ++ zone ∷ [] → n ≢ 64
-    → count ≡ n + 1 → ZonesRead (map zone_said after) count items text
+pub zones-pushed : (text item : List ℕ) (left items : List (List ℕ)) (before after : List declared_item.ZoneItem) (zone : declared_item.ZoneItem) (n count : ℕ)
+    → ZonesRead (map shown_item before) n left text → left ≡ item ∷ items → Some (shown_item zone) ≡ zone_item_in item → after ≡ before ++ zone ∷ [] → n ≢ 64
+    → count ≡ n + 1 → ZonesRead (map shown_item after) count items text
 zones-pushed text item left items before after zone n count read is good pushed below counted =
     rw counted (zones-more text item left items before after zone n read is good pushed below)

@@ -5,7 +5,7 @@ use Rattle.cal_command.specs.Ask.{bad_iterations, help, usage}
 use Rattle.cal_command.specs.CommandLine.{IsAskOf, asked_in, faults_in, given_in, parsed_in, read_options, takes_words}
 use Rattle.cal_command.specs.OptionValues.{count_in, local_in, number_between, present_in, zone_item_in, zone_items_in, zones_in}
 use Rattle.cal_zone.specs.ZoneName.{is_zone_name}
-use Rattle.cal_command.specs.WorkedWords.{daily_given, daily_wanted, daily_words, help_words, none_words, options_wanted, options_words, stray_words}
+use Rattle.cal_command.specs.WorkedWords.{daily_given, daily_ask, daily_words, help_words, none_words, options_ask, options_words, stray_words}
 
 pub daily_taken : takes_words daily_words ≡ true
 unfolding takes_words clap_on_literals
@@ -15,7 +15,7 @@ pub daily_found : parsed_in daily_words ≡ Some daily_given
 unfolding parsed_in given_in clap_on_literals
 daily_found = refl
 
-pub daily_asked : IsAskOf daily_words (Ok daily_wanted)
+pub daily_asked : IsAskOf daily_words (Ok daily_ask)
 unfolding faults_in asked_in parsed_in given_in read_options clap_on_literals
 daily_asked = (refl, refl)
 
@@ -23,7 +23,7 @@ pub options_taken : takes_words options_words ≡ true
 unfolding takes_words clap_on_literals
 options_taken = refl
 
-pub options_asked : IsAskOf options_words (Ok options_wanted)
+pub options_asked : IsAskOf options_words (Ok options_ask)
 unfolding faults_in asked_in parsed_in given_in read_options count_in number_between present_in zones_in zone_items_in zone_item_in local_in is_zone_name clap_on_literals
 options_asked = (refl, refl)
 

@@ -7,7 +7,7 @@ use Rattle.clap.specs.Words.{App, Kinds, Row, Rule, Shape, Text, all_of, fault_o
 use Rattle.clap.specs.declared.builder.ArgAction.TheVariants.{Append, Set}
 use Rattle.clap.specs.declared.error.kind.ErrorKind.{ErrorKind}
 use Rattle.clap.specs.declared.error.kind.ErrorKind.TheVariants.{DisplayHelp, DisplayVersion, OutOfMemory}
-use Rattle.cal_command.specs.Ask.{CommandSaid, usage, help, bad_iterations, bad_now, bad_zones, bad_local, no_memory, Wanted, in_utc}
+use Rattle.cal_command.specs.Ask.{CommandFault, usage, help, bad_iterations, bad_now, bad_zones, bad_local, no_memory, Ask, in_utc}
 use Rattle.cal_command.specs.OptionValues.{count_in, local_in, present_in, zones_in}
 use Rattle.cal_request.specs.Request.{has_zones, is_timer, seeks_elapses}
 use Rattle.cal_request.specs.declared.request.Verb.{Verb}
@@ -112,13 +112,13 @@ unfoldable pub parsed_in : List Text → Option Given
 parsed_in words = given_in (subcommand_of command_app words)
 
 -- a bad value is this fault
-abbrev pub judged : {A : Type 0} → CommandSaid → Option A → (A → Result Wanted CommandSaid) → Result Wanted CommandSaid
+abbrev pub judged : {A : Type 0} → CommandFault → Option A → (A → Result Ask CommandFault) → Result Ask CommandFault
 judged fault None next = Err fault
 judged fault (Some value) next = next value
 
 -- what the values ask for, or the first of them that is bad: one iteration, the clock's present, UTC and no zone file
 -- where nothing is given
-unfoldable pub read_options : Given → Result Wanted CommandSaid
+unfoldable pub read_options : Given → Result Ask CommandFault
 read_options given =
     judged bad_iterations (option_map_or count_in given.iterations (Some 1)) (λ iterations.
     judged bad_now (option_map_or (λ text. option_map Some (present_in text)) given.now (Some None)) (λ now.
@@ -134,7 +134,7 @@ read_options given =
     })))))
 
 -- what the words ask for, where `clap` parses them: then there is a verb with its texts
-unfoldable pub asked_in : List Text → Result Wanted CommandSaid
+unfoldable pub asked_in : List Text → Result Ask CommandFault
 asked_in words = option_map_or read_options (parsed_in words) (Err (usage []))
 
 -- ---- command line is exact
@@ -145,14 +145,14 @@ is_of_help DisplayVersion = true
 is_of_help _ = false
 
 -- `clap` parses the words, and this is what they ask for
-abbrev pub HasRead : List Text → Result Wanted CommandSaid → Type 0
+abbrev pub HasRead : List Text → Result Ask CommandFault → Type 0
 HasRead words said = (faults_in words ≡ []) × (asked_in words ≡ said)
 
 -- `clap` gives no matches, by a fault of this kind
 abbrev pub HasRefused : List Text → (ErrorKind → Bool) → Type 0
 HasRefused words is_kind = (takes_words words ≡ false) × (list_any is_kind (faults_in words) ≡ true)
 
-abbrev pub IsFaultOf : List Text → CommandSaid → Type 0
+abbrev pub IsFaultOf : List Text → CommandFault → Type 0
 IsFaultOf words (usage text) = HasRefused words (λ kind. not (is_of_help kind))
 IsFaultOf words (help text) = HasRefused words is_of_help
 IsFaultOf words bad_iterations = HasRead words (Err bad_iterations)
@@ -162,12 +162,12 @@ IsFaultOf words bad_local = HasRead words (Err bad_local)
 IsFaultOf words no_memory = ⊤
 
 -- what the words ask for by what `clap` parses of them, or its text where it gives no matches; or memory was refused
-abbrev pub IsAskOf : List Text → Result Wanted CommandSaid → Type 0
-IsAskOf words (Ok wanted) = HasRead words (Ok wanted)
+abbrev pub IsAskOf : List Text → Result Ask CommandFault → Type 0
+IsAskOf words (Ok ask) = HasRead words (Ok ask)
 IsAskOf words (Err fault) = IsFaultOf words fault
 
 -- the fault that is reported of what `clap` answers in place of matches, by the kind of its answer
-abbrev pub IsReportedOf : ErrorKind → CommandSaid → Type 0
+abbrev pub IsReportedOf : ErrorKind → CommandFault → Type 0
 IsReportedOf kind (usage text) = (is_of_help kind ≡ false) × (kind ≢ OutOfMemory)
 IsReportedOf kind (help text) = (is_of_help kind ≡ true) × (kind ≢ OutOfMemory)
 IsReportedOf kind no_memory = ⊤

@@ -1,7 +1,7 @@
 -- The values that `clap` found, without where they lie in memory, and what is read of them.
 use Rattle.std.specs.Prelude.{◌≡◌, ⊤, Result, Ok, Err}
 use Rattle.std.specs.Option.{option_copied}
-use Rattle.cal_command.specs.Ask.{CommandSaid, usage, help, bad_iterations, bad_now, bad_zones, bad_local, no_memory, Wanted, texts_of}
+use Rattle.cal_command.specs.Ask.{CommandFault, usage, help, bad_iterations, bad_now, bad_zones, bad_local, no_memory, Ask, texts_of}
 use Rattle.cal_command.specs.CommandLine.{Given as Values}
 use Rattle.cal_command.specs.declared.command_line.Given.{Given}
 
@@ -16,7 +16,7 @@ values_of given = record {
   zones = option_copied given.zones;
 }
 
-abbrev pub IsFaultRead : CommandSaid → Result Wanted CommandSaid → Type 0
+abbrev pub IsFaultRead : CommandFault → Result Ask CommandFault → Type 0
 IsFaultRead (usage text) said = ⊥
 IsFaultRead (help text) said = ⊥
 IsFaultRead bad_iterations said = Err bad_iterations ≡ said
@@ -26,6 +26,6 @@ IsFaultRead bad_local said = Err bad_local ≡ said
 IsFaultRead no_memory said = ⊤
 
 -- this is what was read, unless memory was refused
-abbrev pub IsReadAs : Result Wanted CommandSaid → Result Wanted CommandSaid → Type 0
-IsReadAs (Ok wanted) said = Ok wanted ≡ said
+abbrev pub IsReadAs : Result Ask CommandFault → Result Ask CommandFault → Type 0
+IsReadAs (Ok ask) said = Ok ask ≡ said
 IsReadAs (Err fault) said = IsFaultRead fault said

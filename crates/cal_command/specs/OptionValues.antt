@@ -7,7 +7,7 @@ use Rattle.std.specs.Str.Parse.{digits_value}
 use Rattle.cal_zone.specs.Instant.{last_instant}
 use Rattle.cal_zone.specs.OffsetWord.{offset_in}
 use Rattle.cal_zone.specs.ZoneName.{is_zone_name}
-use Rattle.cal_command.specs.Ask.{LocalSaid, in_utc, ahead, by_rule, of_name, ZoneSaid}
+use Rattle.cal_command.specs.Ask.{LocalZone, in_utc, ahead, by_rule, of_name, ZoneItem}
 use Rattle.cal_request.specs.Request.{most_iterations}
 
 -- the number that a text of only digits writes, where it is from least to most
@@ -38,16 +38,16 @@ parts_at is_separator text =
     if list_any is_separator text then Some (before_first is_separator text, after_first is_separator text) else None
 
 -- a zone's name and a file, where the name has a name's form and the file is not empty
-abbrev pub named_file : List ℕ × List ℕ → Option ZoneSaid
+abbrev pub named_file : List ℕ × List ℕ → Option ZoneItem
 named_file parts =
     if is_zone_name parts.0 && nat_lt 0 (length parts.1) then Some (record { name = parts.0; path = parts.1 }) else None
 
 -- an item of `--zones`, `NAME=FILE`: the first `=` splits it
-unfoldable pub zone_item_in : List ℕ → Option ZoneSaid
+unfoldable pub zone_item_in : List ℕ → Option ZoneItem
 zone_item_in item = option_and_then named_file (parts_at is_equals item)
 
 -- each of the items
-unfoldable pub zone_items_in : List (List ℕ) → Option (List ZoneSaid)
+unfoldable pub zone_items_in : List (List ℕ) → Option (List ZoneItem)
 zone_items_in [] = Some []
 zone_items_in (item ∷ items) =
     option_and_then (λ zone. option_map (λ zones. zone ∷ zones) (zone_items_in items)) (zone_item_in item)
@@ -57,12 +57,12 @@ abbrev pub most_zones : ℕ
 most_zones = 64
 
 -- `--zones`: items between commas, at most that many
-unfoldable pub zones_in : List ℕ → Option (List ZoneSaid)
+unfoldable pub zones_in : List ℕ → Option (List ZoneItem)
 zones_in text =
     let items = slice_split is_comma text in if nat_le (length items) most_zones then zone_items_in items else None
 
 -- `--local`: `UTC` in any case, `posix:` and a rule, an offset, or what has the form of a zone's name
-unfoldable pub local_in : List ℕ → Option LocalSaid
+unfoldable pub local_in : List ℕ → Option LocalZone
 local_in text =
     if str_eq_ignore_ascii_case text (codes "UTC") then Some in_utc
     else if starts_with nat_eq text (codes "posix:") then Some (by_rule (drop 6 text))

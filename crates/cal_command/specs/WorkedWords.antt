@@ -1,6 +1,6 @@
 -- Words of the command line, with what is found in them and what they ask for: systemd-analyze(1).
 use Rattle.std.specs.Prelude.{ℕ, List, [], ◌∷◌, None, Some, codes, pos}
-use Rattle.cal_command.specs.Ask.{Wanted, in_utc, of_name}
+use Rattle.cal_command.specs.Ask.{Ask, in_utc, of_name}
 use Rattle.cal_command.specs.CommandLine.{Given}
 use Rattle.cal_request.specs.declared.request.Verb.TheVariants.{Calendar}
 
@@ -13,8 +13,8 @@ abbrev pub daily_given : Given
 daily_given = record { verb = Calendar; texts = codes "daily" ∷ []; iterations = None; base = None; now = None; local = None; zones = None }
 
 -- one elapse after the clock's present, in UTC and with no zone file
-abbrev pub daily_wanted : Wanted
-daily_wanted = record { verb = Calendar; texts = codes "daily" ∷ []; iterations = 1; base = None; now = None; local = in_utc; zones = [] }
+abbrev pub daily_ask : Ask
+daily_ask = record { verb = Calendar; texts = codes "daily" ∷ []; iterations = 1; base = None; now = None; local = in_utc; zones = [] }
 
 -- each option of `calendar`, `daily` among them and `weekly` after them
 abbrev pub options_words : List (List ℕ)
@@ -22,8 +22,8 @@ options_words =
     codes "calendar" ∷ codes "--iterations=3" ∷ codes "--base-time" ∷ codes "now" ∷ codes "daily" ∷ codes "--now" ∷ codes "@5"
     ∷ codes "--zones" ∷ codes "Here=here.tz" ∷ codes "--local" ∷ codes "Here" ∷ codes "weekly" ∷ []
 
-abbrev pub options_wanted : Wanted
-options_wanted = record {
+abbrev pub options_ask : Ask
+options_ask = record {
   verb = Calendar;
   texts = codes "daily" ∷ codes "weekly" ∷ [];
   iterations = 3;

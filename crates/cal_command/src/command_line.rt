@@ -4,14 +4,14 @@ ghost use Rattle.std.specs.Prelude.{◌≡◌, ◌<◌, ◌≤◌, [], None, IfS
 ghost use Rattle.std.specs.Option.{option_copied};
 ghost use Rattle.clap.specs.Words.{app_of, found_of, kind_of, rows_of, rule_of, shape_of, subcommand_rows_of};
 ghost use Rattle.clap.specs.declared.builder.command.Command.TheViews.{out-Command as fields_of};
-ghost use Rattle.cal_command.specs.Ask.{ask_said, fault_said, texts_of};
+ghost use Rattle.cal_command.specs.Ask.{shown_answer, shown_fault, texts_of};
 ghost use Rattle.cal_command.specs.CommandLine.{IsAskOf, IsFaultOf, IsReportedOf, command_app, elapse_rules, faults_in, file_rule, given_by, given_in, is_of_help, option_rule, parsed_in, read_options, texts_given, texts_kept, texts_rule, value_given, verb_named, verb_shape, with_rules, zone_rules};
 ghost use Rattle.cal_command.specs.GivenView.{IsReadAs, values_of};
 ghost use Rattle.cal_request.specs.Request.{is_timer, seeks_elapses};
 
 use crate::ask::Ask;
 use crate::command_fault::CommandFault;
-use crate::option_values::{base_of, iterations_of, local_of, now_of, owned, zones_of};
+use crate::option_values::{base_of, iterations_of, local_of, now_of, to_owned, zones_of};
 use cal_request::{Request, Verb};
 use clap::error::ErrorKind;
 use clap::{Arg, ArgAction, ArgMatches, Command, Error};
@@ -34,16 +34,16 @@ impl Ask {
     /// call for help or the version is [`CommandFault::Help`]. Of several bad values the first in this order is reported.
     /// [`CommandFault::NoMemory`] comes where memory is refused.
     pub fn of<'a>(alloc: Global, words: &'a [&'a str]) -> Result<Ask, CommandFault>
-        ensures exact { IsAskOf (texts_of words.now) (ask_said result) }
+        ensures exact { IsAskOf (texts_of words.now) (shown_answer result) }
     {
         let matches = parse(alloc, words)?;
-        let Some(given) = found(&matches) else {
+        let Some(given) = find_values(&matches) else {
             return Err(CommandFault::NoMemory);
         };
         if given.texts.is_empty() {
             return Err(CommandFault::NoMemory);
         }
-        asked(alloc, given)
+        read_options(alloc, given)
     }
 }
 
@@ -61,11 +61,11 @@ struct Given<'b, 'a> {
 
 /// What the values ask for.
 #[tactic(auto, unfolding(crate::specs::CommandLine::read_options))]
-fn asked(alloc: Global, given: Given) -> Result<Ask, CommandFault>
+fn read_options(alloc: Global, given: Given) -> Result<Ask, CommandFault>
     requires some_text { 0 < length given.texts.now }
     requires file { is_timer given.verb ≡ true → length given.texts.now ≡ 1 }
     requires base { seeks_elapses given.verb ≡ false → given.base ≡ None }
-    ensures { IsReadAs (ask_said result) (read_options (values_of given.entry)) }
+    ensures { IsReadAs (shown_answer result) (read_options (values_of given.entry)) }
 {
     let Some(iterations) = iterations_of(given.iterations) else {
         return Err(CommandFault::BadIterations);
@@ -81,7 +81,7 @@ fn asked(alloc: Global, given: Given) -> Result<Ask, CommandFault>
     };
     let request = Request {
         verb: given.verb,
-        texts: owned(alloc, given.texts)?,
+        texts: to_owned(alloc, given.texts)?,
         iterations,
         base: base_of(alloc, given.base)?,
     };
@@ -94,7 +94,7 @@ fn asked(alloc: Global, given: Given) -> Result<Ask, CommandFault>
 }
 
 /// What `clap` found.
-fn found<'b, 'a>(matches: &'b ArgMatches<'a>) -> Option<Given<'b, 'a>>
+fn find_values<'b, 'a>(matches: &'b ArgMatches<'a>) -> Option<Given<'b, 'a>>
     ensures file { IfSome result (λ given. is_timer given.verb ≡ true → length given.texts.now ≤ 1) }
     ensures base { IfSome result (λ given. seeks_elapses given.verb ≡ false → given.base ≡ None) }
     ensures value { option_map values_of result ≡ given_in (subcommand_rows_of matches.now) }
@@ -166,17 +166,17 @@ fn verb_named(name: &str) -> Option<Verb>
 fn parse<'a>(alloc: Global, words: &'a [&'a str]) -> Result<ArgMatches<'a>, CommandFault>
     ensures faults { IfOk result (λ _. faults_in (texts_of words.now) ≡ []) }
     ensures found { IfOk result (λ matches. given_in (subcommand_rows_of matches) ≡ parsed_in (texts_of words.now)) }
-    ensures fault { IfErr result (λ fault. IsFaultOf (texts_of words.now) (fault_said fault)) }
+    ensures fault { IfErr result (λ fault. IsFaultOf (texts_of words.now) (shown_fault fault)) }
 {
-    match command(alloc)?.try_get_matches_from(words) {
+    match build_command(alloc)?.try_get_matches_from(words) {
         Ok(matches) => Ok(matches),
-        Err(error) => Err(reported(alloc, &error)),
+        Err(error) => Err(convert_error(alloc, &error)),
     }
 }
 
 /// What is reported where `clap` gives no matches.
-fn reported(alloc: Global, error: &Error) -> CommandFault
-    ensures { IsReportedOf (kind_of error.now) (fault_said result) }
+fn convert_error(alloc: Global, error: &Error) -> CommandFault
+    ensures { IsReportedOf (kind_of error.now) (shown_fault result) }
 {
     if error.kind() == ErrorKind::OutOfMemory {
         return CommandFault::NoMemory;
@@ -210,7 +210,7 @@ fn is_of_help(kind: ErrorKind) -> bool
 }
 
 /// The command, with a subcommand for each verb.
-fn command<'a>(alloc: Global) -> Result<Command<'a>, AllocError>
+fn build_command<'a>(alloc: Global) -> Result<Command<'a>, AllocError>
     ensures { IfOk result (λ command. app_of command ≡ command_app) }
 {
     Command::new(alloc, "calendar-analyze")
@@ -221,14 +221,14 @@ fn command<'a>(alloc: Global) -> Result<Command<'a>, AllocError>
         .disable_help_subcommand(true)
         .subcommand_required(true)
         .bin_name("calendar-analyze")?
-        .subcommand(calendar(alloc)?)?
-        .subcommand(timestamp(alloc)?)?
-        .subcommand(timespan(alloc)?)?
-        .subcommand(timer(alloc)?)
+        .subcommand(build_calendar(alloc)?)?
+        .subcommand(build_timestamp(alloc)?)?
+        .subcommand(build_timespan(alloc)?)?
+        .subcommand(build_timer(alloc)?)
 }
 
 /// `calendar TEXT..`
-fn calendar<'a>(alloc: Global) -> Result<Command<'a>, AllocError>
+fn build_calendar<'a>(alloc: Global) -> Result<Command<'a>, AllocError>
     ensures app { IfOk result (λ command. shape_of command ≡ verb_shape (codes "calendar") elapse_rules texts_rule) }
     ensures local { IfOk result (λ command. (fields_of command).has_globals ≡ false) }
 {
@@ -242,7 +242,7 @@ fn calendar<'a>(alloc: Global) -> Result<Command<'a>, AllocError>
 }
 
 /// `timestamp TEXT..`
-fn timestamp<'a>(alloc: Global) -> Result<Command<'a>, AllocError>
+fn build_timestamp<'a>(alloc: Global) -> Result<Command<'a>, AllocError>
     ensures app { IfOk result (λ command. shape_of command ≡ verb_shape (codes "timestamp") zone_rules texts_rule) }
     ensures local { IfOk result (λ command. (fields_of command).has_globals ≡ false) }
 {
@@ -253,7 +253,7 @@ fn timestamp<'a>(alloc: Global) -> Result<Command<'a>, AllocError>
 }
 
 /// `timespan TEXT..`
-fn timespan<'a>(alloc: Global) -> Result<Command<'a>, AllocError>
+fn build_timespan<'a>(alloc: Global) -> Result<Command<'a>, AllocError>
     ensures app { IfOk result (λ command. shape_of command ≡ verb_shape (codes "timespan") [] texts_rule) }
     ensures local { IfOk result (λ command. (fields_of command).has_globals ≡ false) }
 {
@@ -264,7 +264,7 @@ fn timespan<'a>(alloc: Global) -> Result<Command<'a>, AllocError>
 }
 
 /// `timer FILE`
-fn timer<'a>(alloc: Global) -> Result<Command<'a>, AllocError>
+fn build_timer<'a>(alloc: Global) -> Result<Command<'a>, AllocError>
     ensures app { IfOk result (λ command. shape_of command ≡ verb_shape (codes "timer") elapse_rules file_rule) }
     ensures local { IfOk result (λ command. (fields_of command).has_globals ≡ false) }
 {

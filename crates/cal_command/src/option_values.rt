@@ -4,7 +4,7 @@ ghost use Rattle.std.specs.Prelude.{◌≡◌, ◌≤◌, ◌<◌, ◌==◌, ◌
 ghost use Rattle.std.specs.List.{slice_split};
 ghost use Rattle.std.specs.Option.{option_copied, option_map_or};
 ghost use Rattle.cal_bytes.specs.SplitPieces.{left, pieces_after};
-ghost use Rattle.cal_command.specs.Ask.{in_utc, local_said, texts_of, zone_said};
+ghost use Rattle.cal_command.specs.Ask.{in_utc, shown_local, texts_of, shown_item};
 ghost use Rattle.cal_command.specs.LocalZone.{IsLocalOffset};
 ghost use Rattle.cal_command.specs.OptionValues.{count_in, is_comma, local_in, number_between, parts_at, present_in, zone_item_in, zones_in};
 ghost use Rattle.cal_request.specs.Request.{IsCount};
@@ -57,7 +57,7 @@ pub(crate) fn zones_of(
     alloc: Global,
     text: Option<&str>,
 ) -> Result<Option<Vec<ZoneItem>>, AllocError>
-    ensures { IfOk result (λ zones. option_map (λ items. map zone_said items.items) zones
+    ensures { IfOk result (λ zones. option_map (λ items. map shown_item items.items) zones
         ≡ option_map_or zones_in (option_copied text.entry) (Some [])) }
 {
     match text {
@@ -68,7 +68,7 @@ pub(crate) fn zones_of(
 
 /// What `--local` says: UTC where it isn't given.
 pub(crate) fn local_of(alloc: Global, text: Option<&str>) -> Result<Option<LocalZone>, AllocError>
-    ensures value { IfOk result (λ local. option_map local_said local
+    ensures value { IfOk result (λ local. option_map shown_local local
         ≡ option_map_or local_in (option_copied text.entry) (Some in_utc)) }
     ensures offset { IfOk result (λ local. IfSome local IsLocalOffset) }
 {
@@ -110,7 +110,7 @@ fn number_between(text: &str, least: u64, most: u64) -> Option<u64>
 
 /// Zone files, as items between commas.
 fn zones_in(alloc: Global, text: &str) -> Result<Option<Vec<ZoneItem>>, AllocError>
-    ensures { IfOk result (λ zones. option_map (λ items. map zone_said items.items) zones ≡ zones_in text.now) }
+    ensures { IfOk result (λ zones. option_map (λ items. map shown_item items.items) zones ≡ zones_in text.now) }
 {
     let mut items = Vec::new(alloc);
     let mut rest = Some(text);
@@ -154,7 +154,7 @@ fn zone_item_in(item: &str) -> Option<(&str, &str)>
 
 /// The item on the heap.
 fn zone_item(alloc: Global, name: &str, path: &str) -> Result<ZoneItem, AllocError>
-    ensures { IfOk result (λ item. zone_said item ≡ record { name = name.now; path = path.now }) }
+    ensures { IfOk result (λ item. shown_item item ≡ record { name = name.now; path = path.now }) }
 {
     Ok(ZoneItem {
         name: String::from_str(alloc, name)?,
@@ -173,7 +173,7 @@ fn parts_at(text: &str, separator: char) -> Option<(&str, &str)>
 /// A local zone.
 #[tactic(auto, unfolding(crate::specs::OptionValues::local_in))]
 fn local_in(alloc: Global, text: &str) -> Result<Option<LocalZone>, AllocError>
-    ensures value { IfOk result (λ local. option_map local_said local ≡ local_in text.now) }
+    ensures value { IfOk result (λ local. option_map shown_local local ≡ local_in text.now) }
     ensures offset { IfOk result (λ local. IfSome local IsLocalOffset) }
 {
     if text.eq_ignore_ascii_case("UTC") {
@@ -190,7 +190,7 @@ fn local_in(alloc: Global, text: &str) -> Result<Option<LocalZone>, AllocError>
 }
 
 /// The texts on the heap.
-pub(crate) fn owned(alloc: Global, texts: &[&str]) -> Result<Vec<String>, AllocError>
+pub(crate) fn to_owned(alloc: Global, texts: &[&str]) -> Result<Vec<String>, AllocError>
     ensures texts { IfOk result (λ all. map string_bytes all.items ≡ texts_of texts.now) }
     ensures count { IfOk result (λ all. vec_len all ≡ length texts.now) }
 {

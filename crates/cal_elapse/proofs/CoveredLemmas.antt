@@ -38,23 +38,23 @@ below : (i : ℤ) → (i -ℤ pos 1) <ℤ i
 below i = omega (arith, ints)
 
 -- an elapse is above some base, and either one of the exceptions or left by them there
-not_left : (e : Timed) (excepts : List Timed) (i : ℤ) (b : Bool) → is_in (elapses_after excepts (i -ℤ pos 1)) i ≡ b → elapses_except (e ∷ []) excepts (i -ℤ pos 1) ≡ []
-    → IsPlace e i → IsElapse excepts i
-not_left e excepts i true has none p = (((AreAbove-elapses_after excepts (i -ℤ pos 1)).members i).0 (Has-is_in (elapses_after excepts (i -ℤ pos 1)) i has)).1
-not_left e excepts i false lacks none p =
+not_left : (e : Timed) (exceptions : List Timed) (i : ℤ) (b : Bool) → is_in (elapses_after exceptions (i -ℤ pos 1)) i ≡ b → elapses_except (e ∷ []) exceptions (i -ℤ pos 1) ≡ []
+    → IsPlace e i → IsElapse exceptions i
+not_left e exceptions i true has none p = (((AreAbove-elapses_after exceptions (i -ℤ pos 1)).members i).0 (Has-is_in (elapses_after exceptions (i -ℤ pos 1)) i has)).1
+not_left e exceptions i false lacks none p =
     let base = i -ℤ pos 1 in
-    let excepted = λ (x : IsElapse excepts i). let has = is_in-Has (elapses_after excepts base) i (((AreAbove-elapses_after excepts base).members i).1 (below i, x)) in false≢true (sym lacks ∙ has) in
-    absurd (subst (λ (xs : List ℤ). Has xs i) none (((AreElapses-elapses_except (e ∷ []) excepts base).members i).1 (below i, (inl p, excepted))))
+    let excepted = λ (x : IsElapse exceptions i). let has = is_in-Has (elapses_after exceptions base) i (((AreAbove-elapses_after exceptions base).members i).1 (below i, x)) in false≢true (sym lacks ∙ has) in
+    absurd (subst (λ (xs : List ℤ). Has xs i) none (((AreElapses-elapses_except (e ∷ []) exceptions base).members i).1 (below i, (inl p, excepted))))
 
 -- an expression is covered exactly if none of its elapses is left
-pub elapses_of_covered : (e : Timed) (excepts : List Timed) → IsCovered e excepts ↔ ((base : ℤ) → elapses_except (e ∷ []) excepts base ≡ [])
-elapses_of_covered e excepts = (
+pub elapses_of_covered : (e : Timed) (exceptions : List Timed) → IsCovered e exceptions ↔ ((base : ℤ) → elapses_except (e ∷ []) exceptions base ≡ [])
+elapses_of_covered e exceptions = (
   λ covered base.
-      let these = AreElapses-elapses_except (e ∷ []) excepts base in
-      list-no_first (elapses_except (e ∷ []) excepts base)
-      (first-none (elapses_except (e ∷ []) excepts base)
+      let these = AreElapses-elapses_except (e ∷ []) exceptions base in
+      list-no_first (elapses_except (e ∷ []) exceptions base)
+      (first-none (elapses_except (e ∷ []) exceptions base)
       (λ i m. let here = ((these.members i).0 m).1 in here.1 (covered i (elim here.0 [ inl p ↦ p | inr none ↦ absurd none ])))),
-  λ none i p. not_left e excepts i (is_in (elapses_after excepts (i -ℤ pos 1)) i) refl (none (i -ℤ pos 1)) p,
+  λ none i p. not_left e exceptions i (is_in (elapses_after exceptions (i -ℤ pos 1)) i) refl (none (i -ℤ pos 1)) p,
 )
 
 -- an elapse of some or of others
@@ -73,11 +73,11 @@ IsElapse-either (e ∷ es) fs i (inl here) = inl (inl here)
 IsElapse-either (e ∷ es) fs i (inr rest) = elim (IsElapse-either es fs i rest) [ inl h ↦ inl (inr h) | inr h ↦ inr h ]
 
 -- none are kept of none; one more is kept, or left out where it is covered
-pub kept_none : (excepts : List Timed) → AreKept [] excepts []
-kept_none excepts = record { within = λ i h. h; rest = λ i h. inl h }
+pub kept_none : (exceptions : List Timed) → AreKept [] exceptions []
+kept_none exceptions = record { within = λ i h. h; rest = λ i h. inl h }
 
-pub kept_one : (all excepts kept : List Timed) (e : Timed) → AreKept all excepts kept → AreKept (all ++ e ∷ []) excepts (kept ++ e ∷ [])
-kept_one all excepts kept e h = record {
+pub kept_one : (all exceptions kept : List Timed) (e : Timed) → AreKept all exceptions kept → AreKept (all ++ e ∷ []) exceptions (kept ++ e ∷ [])
+kept_one all exceptions kept e h = record {
   within = λ i m.
       elim (IsElapse-either kept (e ∷ []) i m) [
         | inl p ↦ IsElapse-left all (e ∷ []) i (h.within i p)
@@ -90,8 +90,8 @@ kept_one all excepts kept e h = record {
       ];
 }
 
-pub kept_without : (all excepts kept : List Timed) (e : Timed) → IsCovered e excepts → AreKept all excepts kept → AreKept (all ++ e ∷ []) excepts kept
-kept_without all excepts kept e covered h = record {
+pub kept_without : (all exceptions kept : List Timed) (e : Timed) → IsCovered e exceptions → AreKept all exceptions kept → AreKept (all ++ e ∷ []) exceptions kept
+kept_without all exceptions kept e covered h = record {
   within = λ i m. IsElapse-left all (e ∷ []) i (h.within i m);
   rest = λ i m.
       elim (IsElapse-either all (e ∷ []) i m) [
@@ -101,10 +101,10 @@ kept_without all excepts kept e covered h = record {
 }
 
 -- so the elapses stay the same
-pub elapses_except-kept : (all excepts kept : List Timed) (b : ℤ) → AreKept all excepts kept → elapses_except kept excepts b ≡ elapses_except all excepts b
-elapses_except-kept all excepts kept b h =
-    let these = AreElapses-elapses_except kept excepts b in
-    AreElapses-only all excepts b (elapses_except kept excepts b) (record {
+pub elapses_except-kept : (all exceptions kept : List Timed) (b : ℤ) → AreKept all exceptions kept → elapses_except kept exceptions b ≡ elapses_except all exceptions b
+elapses_except-kept all exceptions kept b h =
+    let these = AreElapses-elapses_except kept exceptions b in
+    AreElapses-only all exceptions b (elapses_except kept exceptions b) (record {
       rises = these.rises;
       members = λ i. (
         λ m. let here = (these.members i).0 m in (here.0, (h.within i here.1.0, here.1.1)),

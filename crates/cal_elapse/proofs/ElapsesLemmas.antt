@@ -119,14 +119,14 @@ AreAbove-elapses_after es b =
     }
 
 -- also without those of exceptions
-pub AreElapses-elapses_except : (es excepts : List Timed) (b : ℤ) → AreElapses es excepts b (elapses_except es excepts b)
+pub AreElapses-elapses_except : (es exceptions : List Timed) (b : ℤ) → AreElapses es exceptions b (elapses_except es exceptions b)
 unfolding elapses_except
-AreElapses-elapses_except es excepts b =
+AreElapses-elapses_except es exceptions b =
     let these = AreAbove-elapses_after es b in
-    let those = AreAbove-elapses_after excepts b in
-    let left = Has-without (elapses_after es b) (elapses_after excepts b) in
+    let those = AreAbove-elapses_after exceptions b in
+    let left = Has-without (elapses_after es b) (elapses_after exceptions b) in
     record {
-      rises = IsRising-without (elapses_after es b) (elapses_after excepts b) these.rises;
+      rises = IsRising-without (elapses_after es b) (elapses_after exceptions b) these.rises;
       members = λ i. (
         λ m.
             let here = (these.members i).0 ((left i).0 m).0 in
@@ -144,8 +144,8 @@ same_above b xs ys h k =
 pub AreAbove-only : (es : List Timed) (b : ℤ) (xs : List ℤ) → AreAbove (IsElapse es) b xs → xs ≡ elapses_after es b
 AreAbove-only es b xs h = same_above b xs (elapses_after es b) h (AreAbove-elapses_after es b)
 
-pub AreElapses-only : (es excepts : List Timed) (b : ℤ) (xs : List ℤ) → AreElapses es excepts b xs → xs ≡ elapses_except es excepts b
-AreElapses-only es excepts b xs h = same_above b xs (elapses_except es excepts b) h (AreElapses-elapses_except es excepts b)
+pub AreElapses-only : (es exceptions : List Timed) (b : ℤ) (xs : List ℤ) → AreElapses es exceptions b xs → xs ≡ elapses_except es exceptions b
+AreElapses-only es exceptions b xs h = same_above b xs (elapses_except es exceptions b) h (AreElapses-elapses_except es exceptions b)
 
 -- without exceptions, they are the elapses after the base
 pub elapses_except-none : (es : List Timed) (b : ℤ) → elapses_except es [] b ≡ elapses_after es b
@@ -192,16 +192,16 @@ pub elapses_after-later : (es : List Timed) (b e : ℤ) (k : ℕ) → slice_get 
 elapses_after-later es b e k at =
     later_above b e (elapses_after es b) (elapses_after es e) k (AreAbove-elapses_after es b) (AreAbove-elapses_after es e) at
 
-pub elapses_except-later : (es excepts : List Timed) (b e : ℤ) (k : ℕ) → slice_get (elapses_except es excepts b) k ≡ Some e
-    → elapses_except es excepts e ≡ drop (suc k) (elapses_except es excepts b)
-elapses_except-later es excepts b e k at =
-    later_above b e (elapses_except es excepts b) (elapses_except es excepts e) k (AreElapses-elapses_except es excepts b) (AreElapses-elapses_except es excepts e) at
+pub elapses_except-later : (es exceptions : List Timed) (b e : ℤ) (k : ℕ) → slice_get (elapses_except es exceptions b) k ≡ Some e
+    → elapses_except es exceptions e ≡ drop (suc k) (elapses_except es exceptions b)
+elapses_except-later es exceptions b e k at =
+    later_above b e (elapses_except es exceptions b) (elapses_except es exceptions e) k (AreElapses-elapses_except es exceptions b) (AreElapses-elapses_except es exceptions e) at
 
 -- so the first k + 1 and then the first m after the last of these are the first k + 1 + m
-pub elapses_except-parts : (es excepts : List Timed) (b e : ℤ) (k m : ℕ) → slice_get (elapses_except es excepts b) k ≡ Some e
-    → take (suc k) (elapses_except es excepts b) ++ take m (elapses_except es excepts e) ≡ take (suc k + m) (elapses_except es excepts b)
-elapses_except-parts es excepts b e k m at =
-    rw (elapses_except-later es excepts b e k at) (sym (take-add (suc k) m (elapses_except es excepts b)))
+pub elapses_except-parts : (es exceptions : List Timed) (b e : ℤ) (k m : ℕ) → slice_get (elapses_except es exceptions b) k ≡ Some e
+    → take (suc k) (elapses_except es exceptions b) ++ take m (elapses_except es exceptions e) ≡ take (suc k + m) (elapses_except es exceptions b)
+elapses_except-parts es exceptions b e k m at =
+    rw (elapses_except-later es exceptions b e k at) (sym (take-add (suc k) m (elapses_except es exceptions b)))
 
 first_at : (xs : List ℤ) (e : ℤ) → first xs ≡ Some e → slice_get xs zero ≡ Some e
 first_at [] e h = absurd (cc)
@@ -265,6 +265,6 @@ union-elapses_after es b =
       );
     })
 
-pub without-elapses : (es excepts : List Timed) (b : ℤ) → without (union (each_after es b)) (union (each_after excepts b)) ≡ elapses_except es excepts b
+pub without-elapses : (es exceptions : List Timed) (b : ℤ) → without (union (each_after es b)) (union (each_after exceptions b)) ≡ elapses_except es exceptions b
 unfolding elapses_except
-without-elapses es excepts b = rw (union-elapses_after es b, union-elapses_after excepts b)
+without-elapses es exceptions b = rw (union-elapses_after es b, union-elapses_after exceptions b)

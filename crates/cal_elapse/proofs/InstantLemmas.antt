@@ -29,22 +29,22 @@ places_in fields tz [] i low h = absurd h
 places_in fields tz (x ∷ xs) i low (inl here) = place_in (fields x) (tz x) i low here
 places_in fields tz (x ∷ xs) i low (inr there) = places_in fields tz xs i low there
 
-pub IsInstant-elapse : {A : Type 0} (fields : A → Fields) (tz : A → TimeZone) (xs : List A) (excepts : List Timed) (base i : ℤ) → pos 0 ≤ℤ base
-    → Has (elapses_except (map (λ x. timed (fields x) (tz x)) xs) excepts base) i → IsInstant i
-IsInstant-elapse fields tz xs excepts base i low m =
-    let here = ((AreElapses-elapses_except (map (λ x. timed (fields x) (tz x)) xs) excepts base).members i).0 m in
+pub IsInstant-elapse : {A : Type 0} (fields : A → Fields) (tz : A → TimeZone) (xs : List A) (exceptions : List Timed) (base i : ℤ) → pos 0 ≤ℤ base
+    → Has (elapses_except (map (λ x. timed (fields x) (tz x)) xs) exceptions base) i → IsInstant i
+IsInstant-elapse fields tz xs exceptions base i low m =
+    let here = ((AreElapses-elapses_except (map (λ x. timed (fields x) (tz x)) xs) exceptions base).members i).0 m in
     places_in fields tz xs i (above_zero base i low here.0) here.1.0
 
 -- of expressions in zones, as pairs of both
-pub IsInstant-pairs : (pairs : List (Fields × TimeZone)) (excepts : List Timed) (base i : ℤ) → pos 0 ≤ℤ base
-    → Has (elapses_except (map (λ (p : Fields × TimeZone). timed p.0 p.1) pairs) excepts base) i → IsInstant i
-IsInstant-pairs pairs excepts base i low m = IsInstant-elapse (λ (p : Fields × TimeZone). p.0) (λ (p : Fields × TimeZone). p.1) pairs excepts base i low m
+pub IsInstant-pairs : (pairs : List (Fields × TimeZone)) (exceptions : List Timed) (base i : ℤ) → pos 0 ≤ℤ base
+    → Has (elapses_except (map (λ (p : Fields × TimeZone). timed p.0 p.1) pairs) exceptions base) i → IsInstant i
+IsInstant-pairs pairs exceptions base i low m = IsInstant-elapse (λ (p : Fields × TimeZone). p.0) (λ (p : Fields × TimeZone). p.1) pairs exceptions base i low m
 
 first_has : (xs : List ℤ) (i : ℤ) → first xs ≡ Some i → Has xs i
 first_has [] i e = absurd (cc)
 first_has (x ∷ xs) i e = inl (cc)
 
-pub IsInstant-first : (pairs : List (Fields × TimeZone)) (excepts : List Timed) (base i : ℤ) → pos 0 ≤ℤ base
-    → first (elapses_except (map (λ (p : Fields × TimeZone). timed p.0 p.1) pairs) excepts base) ≡ Some i → IsInstant i
-IsInstant-first pairs excepts base i low e =
-    IsInstant-pairs pairs excepts base i low (first_has (elapses_except (map (λ (p : Fields × TimeZone). timed p.0 p.1) pairs) excepts base) i e)
+pub IsInstant-first : (pairs : List (Fields × TimeZone)) (exceptions : List Timed) (base i : ℤ) → pos 0 ≤ℤ base
+    → first (elapses_except (map (λ (p : Fields × TimeZone). timed p.0 p.1) pairs) exceptions base) ≡ Some i → IsInstant i
+IsInstant-first pairs exceptions base i low e =
+    IsInstant-pairs pairs exceptions base i low (first_has (elapses_except (map (λ (p : Fields × TimeZone). timed p.0 p.1) pairs) exceptions base) i e)

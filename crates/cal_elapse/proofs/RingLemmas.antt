@@ -10,10 +10,10 @@ use Rattle.cal_elapse.specs.Bits.{is_bit, is_in_words}
 use Rattle.cal_elapse.proofs.BitLemmas.{is_bit-zero}
 use Rattle.cal_elapse.specs.Near.{IsNear}
 use Rattle.cal_elapse.specs.Ring.{cells_in_all, cells_in_all-is, instants_in, is_held, least_kept, no_second, rising_from, IsRound, IsRoundFrom}
-use Rattle.cal_rising.specs.RisingList.{Has, IsAbove, IsRising, first, later, placed}
+use Rattle.cal_rising.specs.RisingList.{Has, IsAbove, IsRising, first, later, with_number}
 use Rattle.cal_elapse.specs.Search.{IsFirstPassing}
 use Rattle.cal_elapse.proofs.ElapsesLemmas.{first-least, first-none}
-use Rattle.cal_rising.proofs.RisingLemmas.{Has-placed, IsRising-placed, later_members, list-first, list-no_first, same_rising}
+use Rattle.cal_rising.proofs.RisingLemmas.{Has-with_number, IsRising-with_number, later_members, list-first, list-no_first, same_rising}
 
 -- Numbers in a row
 
@@ -237,12 +237,12 @@ put_back old new low at from i more round near (inr m) =
 
 -- what is seen with one more is what was seen with that placed
 put_seen : (old new : List ℕ) (low at from : ℕ) → HasMore old new at → IsRoundWith low at from → ((i : ℤ) → Has (instants_in old low) i → IsNear i (pos at))
-    → instants_in new from ≡ placed (pos at) (instants_in old low)
+    → instants_in new from ≡ with_number (pos at) (instants_in old low)
 put_seen old new low at from more round near =
-    same_rising (instants_in new from) (placed (pos at) (instants_in old low)) (IsRising-instants new from) (IsRising-placed (pos at) (instants_in old low) (IsRising-instants old low))
+    same_rising (instants_in new from) (with_number (pos at) (instants_in old low)) (IsRising-instants new from) (IsRising-with_number (pos at) (instants_in old low) (IsRising-instants old low))
     (λ i. (
-      λ m. (Has-placed (pos at) (instants_in old low) i).1 (put_there old new low at from i more round near ((Has-instants new from i).0 m)),
-      λ m. put_back old new low at from i more round near ((Has-placed (pos at) (instants_in old low) i).0 m),
+      λ m. (Has-with_number (pos at) (instants_in old low) i).1 (put_there old new low at from i more round near ((Has-instants new from i).0 m)),
+      λ m. put_back old new low at from i more round near ((Has-with_number (pos at) (instants_in old low) i).0 m),
     ))
 
 last_at : (at : ℕ) (i : ℤ) → pos at ≡ i → at ≤ 7_258_211_998 → i ≤ℤ pos 7_258_211_998
@@ -465,10 +465,10 @@ near_there old low at instant members view is near i m =
     subst (IsNear i) (sym is) (near i (subst (λ (xs : List ℤ). Has xs i) view m))
 
 pub put_answer : (old new : List ℕ) (least at : ℕ) (instant : ℤ) (members : List ℤ) → HasMore old new at → IsRoundFrom old least → instants_in old least ≡ members → pos at ≡ instant
-    → at ≤ 7_258_211_998 → ((i : ℤ) → Has members i → IsNear i instant) → instants_in new (min least at) ≡ placed instant members
+    → at ≤ 7_258_211_998 → ((i : ℤ) → Has members i → IsNear i instant) → instants_in new (min least at) ≡ with_number instant members
 put_answer old new least at instant members more was view is high near =
     let there = near_there old least at instant members view is near in
-    put_seen old new least at (min least at) more (with_least least at (put_reach old least at was there high)) there ∙ (λ k. placed (is k) (view k))
+    put_seen old new least at (min least at) more (with_least least at (put_reach old least at was there high)) there ∙ (λ k. with_number (is k) (view k))
 
 pub taken_answer : (old new : List ℕ) (least : ℕ) (next : Option ℕ) (members : List ℤ) → IsFirstPassing (is_held old) least (least + 187_200) (Some least) → HasLess old new least
     → IsFirstPassing (is_held new) least (least + 187_200) next → instants_in old least ≡ members → instants_in new (unwrap_or next no_second) ≡ later members

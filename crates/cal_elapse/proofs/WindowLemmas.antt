@@ -12,12 +12,12 @@ use Rattle.cal_elapse.specs.Near.{IsNear}
 use Rattle.cal_zone.proofs.PlaceLemmas.{within}
 use Rattle.cal_elapse.specs.declared.masks.Masks.{Masks}
 use Rattle.cal_elapse.specs.Elapses.{Timed, IsPlace, elapses_after}
-use Rattle.cal_rising.specs.RisingList.{Has, IsRising, first, later, placed}
+use Rattle.cal_rising.specs.RisingList.{Has, IsRising, first, later, with_number}
 use Rattle.cal_elapse.specs.Search.{NonePasses}
 use Rattle.cal_elapse.specs.Window.{IsMatchAhead, IsPlacedBelow, IsReady, Windowed, bound_of, start_of, timed_by, timed_of, to_place, with_place}
 use Rattle.cal_elapse.specs.declared.window.Window.{Window}
 use Rattle.cal_elapse.proofs.ElapsesLemmas.{elapses_after-first, first_elapse-least, first_elapse-none}
-use Rattle.cal_rising.proofs.RisingLemmas.{Has-placed, IsRising-placed, above_has, chained, later_members, list-first, lt_test, not_lt_test}
+use Rattle.cal_rising.proofs.RisingLemmas.{Has-with_number, IsRising-with_number, above_has, chained, later_members, list-first, lt_test, not_lt_test}
 
 -- a place is near its local second
 abbrev pub AreNear : Timed → Type 0
@@ -76,27 +76,27 @@ put_none e from bound last xs w nowhere near = record {
 }
 
 put_some : (e : Timed) (from bound : ℕ) (last p : ℤ) (xs : List ℤ) → Windowed e from bound last xs → e.matches bound ≡ true → e.place bound ≡ Some p
-    → last <ℤ p → pos bound ≤ℤ (p +ℤ pos 93_599) → ((i : ℤ) → Has xs i → pos bound ≤ℤ (i +ℤ pos 93_599)) → Windowed e from (bound + 1) last (placed p xs)
+    → last <ℤ p → pos bound ≤ℤ (p +ℤ pos 93_599) → ((i : ℤ) → Has xs i → pos bound ≤ℤ (i +ℤ pos 93_599)) → Windowed e from (bound + 1) last (with_number p xs)
 put_some e from bound last p xs w is_match at above far near = record {
-  rises = IsRising-placed p xs w.rises;
+  rises = IsRising-with_number p xs w.rises;
   members = λ i. (
-    λ m. elim ((Has-placed p xs i).0 m) [
+    λ m. elim ((Has-with_number p xs i).0 m) [
       | inl same ↦ (
         subst (λ (j : ℤ). last <ℤ j) same above,
         record { local = bound; below = omega arith; is_match = is_match; placed = at ∙ ap Some same },
       )
       | inr k ↦ (((w.members i).0 k).0, placed_on e bound (bound + 1) i (omega arith) ((w.members i).0 k).1)
     ],
-    λ q. (Has-placed p xs i).1 (elim (placed_split e bound i q.1) [ inl here ↦ inl (cc) | inr r ↦ inr ((w.members i).1 (q.0, r)) ]),
+    λ q. (Has-with_number p xs i).1 (elim (placed_split e bound i q.1) [ inl here ↦ inl (cc) | inr r ↦ inr ((w.members i).1 (q.0, r)) ]),
   );
-  reach = λ i m. elim ((Has-placed p xs i).0 m) [
+  reach = λ i m. elim ((Has-with_number p xs i).0 m) [
     | inl same ↦ λ t low high k. up_to bound t i (subst (λ (j : ℤ). pos bound ≤ℤ (j +ℤ pos 93_599)) same far) high
     | inr k ↦ reach_on e from bound i (w.reach i k) (near i k)
   ];
 }
 
 put_test : (e : Timed) (from bound : ℕ) (last p : ℤ) (xs : List ℤ) (b : Bool) → int_lt last p ≡ b → AreNear e → Windowed e from bound last xs → e.matches bound ≡ true
-    → e.place bound ≡ Some p → ((i : ℤ) → Has xs i → pos bound ≤ℤ (i +ℤ pos 93_599)) → Windowed e from (bound + 1) last (cond b (placed p xs) xs)
+    → e.place bound ≡ Some p → ((i : ℤ) → Has xs i → pos bound ≤ℤ (i +ℤ pos 93_599)) → Windowed e from (bound + 1) last (cond b (with_number p xs) xs)
 put_test e from bound last p xs true test near w is_match at close =
     put_some e from bound last p xs w is_match at (is_above last p test) (near bound p at).0 close
 put_test e from bound last p xs false test near w is_match at close =
@@ -288,7 +288,7 @@ with_place-none o last xs e = rw e refl
 pub with_place-given : (o : Option ℤ) (i last : ℤ) (xs : List ℤ) → o ≡ Some i → i ≤ℤ last → xs ≡ with_place o last xs
 with_place-given o i last xs e h = rw (e, not_lt_test last i h) refl
 
-pub with_place-above : (o : Option ℤ) (i last : ℤ) (xs : List ℤ) → o ≡ Some i → last <ℤ i → placed i xs ≡ with_place o last xs
+pub with_place-above : (o : Option ℤ) (i last : ℤ) (xs : List ℤ) → o ≡ Some i → last <ℤ i → with_number i xs ≡ with_place o last xs
 with_place-above o i last xs e h = rw (e, lt_test last i h) refl
 
 -- the place of a local second that lies no farther from a member than a place can is near to the member

@@ -20,9 +20,9 @@ pub record AreAmong (sets others : Sets) : Type 0 where
 
 -- each elapse of the expression is one of the exceptions
 abbrev pub IsCovered : Timed → List Timed → Type 0
-IsCovered e excepts = (i : ℤ) → IsPlace e i → IsElapse excepts i
+IsCovered e exceptions = (i : ℤ) → IsPlace e i → IsElapse exceptions i
 
 -- of all these, some are kept, and each elapse of the others is one of the exceptions
-pub record AreKept (all excepts kept : List Timed) : Type 0 where
+pub record AreKept (all exceptions kept : List Timed) : Type 0 where
   pub within : (i : ℤ) → IsElapse kept i → IsElapse all i
-  pub rest : (i : ℤ) → IsElapse all i → IsElapse kept i ⊎ IsElapse excepts i
+  pub rest : (i : ℤ) → IsElapse all i → IsElapse kept i ⊎ IsElapse exceptions i

@@ -20,7 +20,7 @@ elapses_after es b = union (map (λ e. filter (int_lt b) (places e)) es)
 
 -- the elapses after b of the first ones that are elapses of none of the second ones, the exceptions
 unfoldable pub elapses_except : List Timed → List Timed → ℤ → List ℤ
-elapses_except es excepts b = without (elapses_after es b) (elapses_after excepts b)
+elapses_except es exceptions b = without (elapses_after es b) (elapses_after exceptions b)
 
 -- a local second that matches has its place here
 pub record IsPlace (e : Timed) (i : ℤ) : Type 0 where
@@ -36,7 +36,7 @@ IsElapse (e ∷ es) i = IsPlace e i ⊎ IsElapse es i
 
 -- the number is an elapse of one of the first ones, and of no exception
 abbrev pub IsElapseExcept : List Timed → List Timed → ℤ → Type 0
-IsElapseExcept es excepts i = IsElapse es i × (IsElapse excepts i → ⊥)
+IsElapseExcept es exceptions i = IsElapse es i × (IsElapse exceptions i → ⊥)
 
 -- the list rises, and has exactly the numbers above b of which this holds
 pub record AreAbove (Holds : ℤ → Type 0) (b : ℤ) (xs : List ℤ) : Type 0 where
@@ -45,4 +45,4 @@ pub record AreAbove (Holds : ℤ → Type 0) (b : ℤ) (xs : List ℤ) : Type 0 
 
 -- the list is the elapses above b of these expressions, without those of their exceptions
 abbrev pub AreElapses : List Timed → List Timed → ℤ → List ℤ → Type 0
-AreElapses es excepts b xs = AreAbove (IsElapseExcept es excepts) b xs
+AreElapses es exceptions b xs = AreAbove (IsElapseExcept es exceptions) b xs

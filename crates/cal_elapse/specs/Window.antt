@@ -8,7 +8,7 @@ unfoldable pub use Rattle.cal_elapse.specs.Count.{count_from}
 use Rattle.cal_elapse.specs.Elapses.{Timed}
 use Rattle.cal_elapse.specs.Masks.{sets_in}
 use Rattle.cal_elapse.specs.Most.{IsMost}
-use Rattle.cal_rising.specs.RisingList.{Has, IsRising, placed}
+use Rattle.cal_rising.specs.RisingList.{Has, IsRising, with_number}
 use Rattle.cal_elapse.specs.declared.masks.Masks.{Masks}
 use Rattle.cal_elapse.specs.declared.window.Window.{Window}
 use Rattle.cal_spec.specs.Match.{matches}
@@ -51,7 +51,7 @@ to_place (Some local) (Some least) = cond (int_lt least (pos local -ℤ pos 93_5
 -- a place is put where it is above the last instant given
 abbrev pub with_place : Option ℤ → ℤ → List ℤ → List ℤ
 with_place None last xs = xs
-with_place (Some i) last xs = cond (int_lt last i) (placed i xs) xs
+with_place (Some i) last xs = cond (int_lt last i) (with_number i xs) xs
 
 -- what masks mean in a zone: the local seconds that match, and their places
 unfoldable pub timed_by : Masks → Zone → Timed

@@ -5,29 +5,29 @@ ghost use Rattle.cal_elapse.specs.Bits.{is_bit};
 ghost use Rattle.cal_elapse.specs.Search.{IsFirstPassing};
 
 /// Whether a word has a number below 64.
-pub(crate) fn has_bit(mask: u64, place: u32) -> bool
-    requires { place < 64 }
-    ensures { result ≡ is_bit mask place }
+pub(crate) fn has_bit(mask: u64, index: u32) -> bool
+    requires { index < 64 }
+    ensures { result ≡ is_bit mask index }
 {
-    mask >> place & 1 == 1
+    mask >> index & 1 == 1
 }
 
 /// A word with a number below 64 more, which it may have already.
-pub(crate) fn with_bit(mask: u64, place: u32) -> u64
-    requires { place < 64 }
-    ensures set { is_bit result place ≡ true }
-    ensures others { (i : ℕ) → i ≢ place → is_bit result i ≡ is_bit mask i }
+pub(crate) fn with_bit(mask: u64, index: u32) -> u64
+    requires { index < 64 }
+    ensures set { is_bit result index ≡ true }
+    ensures others { (i : ℕ) → i ≢ index → is_bit result i ≡ is_bit mask i }
 {
-    mask | 1 << place
+    mask | 1 << index
 }
 
 /// A word without a number below 64.
-pub(crate) fn without_bit(mask: u64, place: u32) -> u64
-    requires { place < 64 }
-    ensures cleared { is_bit result place ≡ false }
-    ensures others { (i : ℕ) → i < 64 → i ≢ place → is_bit result i ≡ is_bit mask i }
+pub(crate) fn without_bit(mask: u64, index: u32) -> u64
+    requires { index < 64 }
+    ensures cleared { is_bit result index ≡ false }
+    ensures others { (i : ℕ) → i < 64 → i ≢ index → is_bit result i ≡ is_bit mask i }
 {
-    mask & !(1 << place)
+    mask & !(1 << index)
 }
 
 /// A word without its least number.

@@ -39,7 +39,7 @@ fn next_in_month(masks: &Masks, month: Month, from: u32, looks: &mut u32) -> Opt
         return None;
     }
     match MonthDays::of(masks, month, looks).next(from - month.first) {
-        Some(place) => Some(month.first + place),
+        Some(day) => Some(month.first + day),
         None => None,
     }
 }
@@ -54,8 +54,8 @@ fn next_from_month(masks: &Masks, from: u32, looks: &mut u32) -> Option<u32>
     let mut index = from;
     while let Some(next) = next_month(masks, index) {
         let month = month_at(next);
-        if let Some(place) = MonthDays::of(masks, month, looks).next(0) {
-            return Some(month.first + place);
+        if let Some(day) = MonthDays::of(masks, month, looks).next(0) {
+            return Some(month.first + day);
         }
         index = next + 1;
     }

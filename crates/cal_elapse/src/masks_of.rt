@@ -41,8 +41,8 @@ fn weeks(weekdays: &[bool; 7]) -> u64
     ensures { (i : ℕ) → is_bit result i ≡ (nat_lt i 42 && slice_index_or weekdays.now (i % 7) false) }
 {
     let mut mask = 0;
-    for place in 0..42 {
-        mask = put_bit(mask, place, weekdays[place as usize % 7]);
+    for index in 0..42 {
+        mask = put_bit(mask, index, weekdays[index as usize % 7]);
     }
     mask
 }
@@ -101,7 +101,7 @@ fn last_of(part: Part) -> u16
     }
 }
 
-/// The places from one on, and below another.
+/// The indices from one on, and below another.
 fn run(low: u32, high: u32) -> u64
     requires { high ≤ 64 }
     ensures { (i : ℕ) → is_bit result i ≡ (nat_le low i && nat_lt i high) }
@@ -120,9 +120,9 @@ fn steps(low: u32, high: u32, first: u16, start: u16, step: u16) -> u64
     ensures { (i : ℕ) → is_bit result i ≡ ((nat_le low i && nat_lt i high) && ((first + i - start) % step == 0)) }
 {
     let mut mask = 0;
-    for place in low..high {
-        let distance = (first + place as u16).saturating_sub(start);
-        mask = put_bit(mask, place, distance.is_multiple_of(step));
+    for index in low..high {
+        let distance = (first + index as u16).saturating_sub(start);
+        mask = put_bit(mask, index, distance.is_multiple_of(step));
     }
     mask
 }
@@ -145,17 +145,17 @@ fn counts_from_end(expr: &Expr) -> u64
     ensures { (i : ℕ) → is_bit result i ≡ (nat_lt i 31 && members_of Day (sets_of expr.now) (31 - i)) }
 {
     let mut mask = 0;
-    for place in 0..31 {
-        mask = put_bit(mask, place, expr.has_member(Field::Day, 31 - place as u16));
+    for index in 0..31 {
+        mask = put_bit(mask, index, expr.has_member(Field::Day, 31 - index as u16));
     }
     mask
 }
 
 /// A word with a number more where that is a member.
-fn put_bit(mask: u64, place: u32, member: bool) -> u64
-    requires { place < 64 }
-    ensures here { is_bit result place ≡ (member || is_bit mask place) }
-    ensures others { (i : ℕ) → i ≢ place → is_bit result i ≡ is_bit mask i }
+fn put_bit(mask: u64, index: u32, member: bool) -> u64
+    requires { index < 64 }
+    ensures here { is_bit result index ≡ (member || is_bit mask index) }
+    ensures others { (i : ℕ) → i ≢ index → is_bit result i ≡ is_bit mask i }
 {
-    if member { with_bit(mask, place) } else { mask }
+    if member { with_bit(mask, index) } else { mask }
 }

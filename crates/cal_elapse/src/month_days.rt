@@ -29,7 +29,7 @@ impl MonthDays {
         ensures within { (k : ℕ) → is_bit result.bits k ≡ true → k < month.length }
     {
         *looks += 1;
-        let days = masks.days >> lowest_place(masks.from_end, month.length);
+        let days = masks.days >> lowest_bit(masks.from_end, month.length);
         let weekdays = masks.weekdays >> ((month.first + 3) % 7);
         MonthDays {
             bits: days & weekdays & all_days(month.length),
@@ -44,17 +44,17 @@ impl MonthDays {
         next_bit(self.bits, from)
     }
 
-    /// Whether the day at that place is one of them, which is counted from 0 and at most 31.
-    pub(crate) fn has(self, place: u32) -> bool
-        requires { place ≤ 31 }
-        ensures { result ≡ is_bit self.bits place }
+    /// Whether the day of that index is one of them, which is counted from 0 and at most 31.
+    pub(crate) fn has(self, index: u32) -> bool
+        requires { index ≤ 31 }
+        ensures { result ≡ is_bit self.bits index }
     {
-        has_bit(self.bits, place)
+        has_bit(self.bits, index)
     }
 }
 
 /// Where a month's first day is in the mask of days.
-fn lowest_place(from_end: bool, length: u32) -> u32
+fn lowest_bit(from_end: bool, length: u32) -> u32
     requires { length ≤ 31 }
     ensures { result ≡ (if from_end then 31 - length else 0) }
 {

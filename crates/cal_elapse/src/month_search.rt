@@ -86,7 +86,7 @@ fn year_here(years: &[u64; 4], from: u32) -> Option<u32>
     ensures { IsFirstPassing (is_in_words years.now) from ((from / 64 + 1) * 64) result }
 {
     match next_bit(years[from as usize / 64], from % 64) {
-        Some(place) => Some(from / 64 * 64 + place),
+        Some(bit) => Some(from / 64 * 64 + bit),
         None => None,
     }
 }

@@ -3,7 +3,7 @@
 ghost use Rattle.std.specs.Prelude.{◌≡◌, [], ℤ, IfOk};
 ghost use Rattle.cal_zone.specs.Instant.{IsInstant};
 ghost use Rattle.cal_elapse.specs.Near.{IsNear};
-ghost use Rattle.cal_rising.specs.RisingList.{Has, IsRising, first, later, placed};
+ghost use Rattle.cal_rising.specs.RisingList.{Has, IsRising, first, later, with_number};
 
 use crate::ring::{CELLS, WORDS, clear_cell, first_held, set_cell, set_cells};
 use std::alloc::{AllocError, Global};
@@ -54,7 +54,7 @@ impl Pending {
     pub fn put(&mut self, instant: i64)
         requires instant { IsInstant instant }
         requires near { (member : ℤ) → Has self.old member → IsNear member instant }
-        ensures { self.new ≡ placed instant self.old }
+        ensures { self.new ≡ with_number instant self.old }
     {
         let second = instant.unsigned_abs();
         set_cell(self.cells.as_mut_slice(), second % CELLS);

@@ -1,15 +1,15 @@
 -- Lines of a unit file without where they lie in memory.
 use Rattle.std.specs.Prelude.{ℕ, List, string_bytes}
 use Rattle.cal_lines.specs.Lines.{Line}
-use Rattle.cal_lines.specs.declared.lines.Logical.{Logical}
-use Rattle.cal_lines.specs.declared.lines.Plain.{Plain}
+use Rattle.cal_lines.specs.declared.lines.LogicalLine.{LogicalLine}
+use Rattle.cal_lines.specs.declared.lines.PlainLine.{PlainLine}
 
 -- a text in the line of this number
 abbrev pub line_at : ℕ → List ℕ → Line
 line_at number text = record { number = number; text = text }
 
-abbrev pub plain_line : Plain → Line
+abbrev pub plain_line : PlainLine → Line
 plain_line plain = line_at plain.number plain.line.now
 
-abbrev pub logical_line : Logical → Line
+abbrev pub logical_line : LogicalLine → Line
 logical_line logical = line_at logical.number (string_bytes logical.text)

@@ -20,7 +20,8 @@ trim_end text = take (length text - suffix_len is_blank text) text
 unfoldable pub trim : List ℕ → List ℕ
 trim text = trim_end (trim_start text)
 
--- a line, and the number of it in the file; of a logical line it is that of its first physical line
+-- what contracts see of a plain line and of a logical one: its text, and its number in the file; of a logical
+-- line that is the number of its first physical line
 pub record Line : Type 0 where
   pub number : ℕ
   pub text : List ℕ

@@ -4,4 +4,4 @@
 pub mod laws;
 mod lines;
 
-pub use lines::{Logical, first_logical, trim};
+pub use lines::{LogicalLine, first_logical, trim};

@@ -93,7 +93,7 @@ fn is_comment(line: &str) -> bool
 
 /// A physical line that is no comment.
 #[derive(Clone, Copy)]
-struct Plain<'t> {
+struct PlainLine<'t> {
     number: u32,
     line: &'t str,
     /// The number of the line after it.
@@ -104,7 +104,7 @@ struct Plain<'t> {
 
 /// The first line of a text that is no comment, where the first of all has this number.
 #[tactic(auto, using(crate::proofs::GroupLemmas::plain_here, crate::proofs::GroupLemmas::plain_skipped, crate::proofs::GroupLemmas::plain_none))]
-fn first_plain(number: u32, text: &str) -> Option<Plain<'_>>
+fn first_plain(number: u32, text: &str) -> Option<PlainLine<'_>>
     requires { number + length text.now < 2 ^ 32 }
     ensures lines { MatchOption result (plain_lines number text.now ≡ [])
         (λ found. plain_lines number text.now ≡ plain_line found ∷ plain_lines found.next found.rest.now) }
@@ -116,7 +116,7 @@ fn first_plain(number: u32, text: &str) -> Option<Plain<'_>>
     while let Some((line, after)) = first_line(rest) {
         let line = trim_start(line);
         if !is_comment(line) {
-            return Some(Plain {
+            return Some(PlainLine {
                 number: at,
                 line,
                 next: at + 1,
@@ -174,7 +174,7 @@ fn push_part(joined: &mut String, line: &str) -> Result<bool, AllocError>
 
 /// A logical line.
 #[derive(Drop)]
-pub struct Logical<'t> {
+pub struct LogicalLine<'t> {
     /// The number of its first physical line.
     pub number: u32,
     /// Its text, blanks at its ends included.
@@ -190,7 +190,7 @@ pub fn first_logical(
     alloc: Global,
     number: u32,
     text: &str,
-) -> Result<Option<Logical<'_>>, AllocError>
+) -> Result<Option<LogicalLine<'_>>, AllocError>
     requires { number + length text.now < 2 ^ 32 }
     ensures lines { IfOk result (λ found. MatchOption found (logical_lines number text.now ≡ [])
         (λ logical. logical_lines number text.now ≡ logical_line logical ∷ logical_lines logical.next logical.rest.now)) }
@@ -213,7 +213,7 @@ pub fn first_logical(
         next = line.next;
         rest = line.rest;
     }
-    Ok(Some(Logical {
+    Ok(Some(LogicalLine {
         number: first.number,
         text: joined,
         next,

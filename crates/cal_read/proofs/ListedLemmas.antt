@@ -7,12 +7,12 @@ use Rattle.std.proofs.lemmas.Slice.Eq.{bytes_eq-Decides}
 use Rattle.std.proofs.lemmas.List.{drop-append-le, drop_all, reverse-append}
 use Rattle.std.proofs.lemmas.List.Elements.{filter-append, filter_map-append}
 use Rattle.cal_spec.specs.declared.spec_fault.SpecFault.{SpecFault}
-use Rattle.cal_read.specs.Assignments.{Assigned}
+use Rattle.cal_read.specs.Assignments.{Assignment}
 use Rattle.std.specs.Str.{bytes_eq}
 use Rattle.std.specs.List.{list_any}
 use Rattle.std.specs.Option.{option_or}
 use Rattle.std.proofs.lemmas.Bool.{and_right, and_parts, false_from_ne_true}
-use Rattle.cal_read.specs.TimerText.{Entry, Lists, bad_line, entries, entries_of, entry_of, excepted, exception_key, fault_following, fault_joining, first_fault, has_no_value, is_exception, is_exception_reset, is_expression, is_reset, listed, lists_of, most_expressions, some_entries, timer_keys, unless_fault}
+use Rattle.cal_read.specs.TimerText.{TimerLine, Timer, bad_line, entries, entries_of, entry_of, excepted, exception_key, fault_following, fault_joining, first_fault, has_no_value, is_exception, is_exception_reset, is_expression, is_reset, listed, lists_of, most_expressions, some_entries, timer_keys, unless_fault}
 use Rattle.cal_read.specs.TimerView.{joined, resumed, with_list}
 use Rattle.cal_read.specs.declared.timer.fault.TimerFault.{TimerFault}
 use Rattle.cal_read.specs.declared.timer.fault.TimerFault.TheVariants.{BadLine}
@@ -37,47 +37,47 @@ after_last_more p xs x e =
     ap (λ n. drop n (xs ++ x ∷ [])) same ∙ drop-append-le (length xs - suffix_len (λ y. not (p y)) xs) xs (x ∷ []) (omega arith)
 
 -- of a list that one test adds to and another empties, where one more assignment comes
-abbrev Kept : (adds resets : Assigned → Bool) → List Assigned → List Assigned
+abbrev Kept : (adds resets : Assignment → Bool) → List Assignment → List Assignment
 Kept adds resets all = filter adds (after_last resets all)
 
-kept_reset : (adds resets : Assigned → Bool) (before : List Assigned) (a : Assigned) → resets a ≡ true → Kept adds resets (before ++ a ∷ []) ≡ []
+kept_reset : (adds resets : Assignment → Bool) (before : List Assignment) (a : Assignment) → resets a ≡ true → Kept adds resets (before ++ a ∷ []) ≡ []
 kept_reset adds resets before a e = ap (filter adds) (after_last_here resets before a e)
 
-kept_other : (adds resets : Assigned → Bool) (before : List Assigned) (a : Assigned) → resets a ≡ false → adds a ≡ false → Kept adds resets (before ++ a ∷ []) ≡ Kept adds resets before
+kept_other : (adds resets : Assignment → Bool) (before : List Assignment) (a : Assignment) → resets a ≡ false → adds a ≡ false → Kept adds resets (before ++ a ∷ []) ≡ Kept adds resets before
 kept_other adds resets before a e f =
     ap (filter adds) (after_last_more resets before a e)
     ∙ filter-append adds (after_last resets before) (a ∷ [])
     ∙ rw f (append-nil (filter adds (after_last resets before)))
 
-kept_more : (adds resets : Assigned → Bool) (before : List Assigned) (a : Assigned) → resets a ≡ false → adds a ≡ true → Kept adds resets (before ++ a ∷ []) ≡ Kept adds resets before ++ a ∷ []
+kept_more : (adds resets : Assignment → Bool) (before : List Assignment) (a : Assignment) → resets a ≡ false → adds a ≡ true → Kept adds resets (before ++ a ∷ []) ≡ Kept adds resets before ++ a ∷ []
 kept_more adds resets before a e f =
     ap (filter adds) (after_last_more resets before a e)
     ∙ filter-append adds (after_last resets before) (a ∷ [])
     ∙ rw f refl
 
 -- the list of expressions
-listed_reset : (before : List Assigned) (a : Assigned) → is_reset a ≡ true → listed (before ++ a ∷ []) ≡ []
+listed_reset : (before : List Assignment) (a : Assignment) → is_reset a ≡ true → listed (before ++ a ∷ []) ≡ []
 unfolding listed
 listed_reset before a e = kept_reset is_expression is_reset before a e
 
-listed_other : (before : List Assigned) (a : Assigned) → is_reset a ≡ false → is_expression a ≡ false → listed (before ++ a ∷ []) ≡ listed before
+listed_other : (before : List Assignment) (a : Assignment) → is_reset a ≡ false → is_expression a ≡ false → listed (before ++ a ∷ []) ≡ listed before
 unfolding listed
 listed_other before a e f = kept_other is_expression is_reset before a e f
 
-listed_more : (before : List Assigned) (a : Assigned) → is_reset a ≡ false → is_expression a ≡ true → listed (before ++ a ∷ []) ≡ listed before ++ a ∷ []
+listed_more : (before : List Assignment) (a : Assignment) → is_reset a ≡ false → is_expression a ≡ true → listed (before ++ a ∷ []) ≡ listed before ++ a ∷ []
 unfolding listed
 listed_more before a e f = kept_more is_expression is_reset before a e f
 
 -- and that of exceptions
-excepted_reset : (before : List Assigned) (a : Assigned) → is_exception_reset a ≡ true → excepted (before ++ a ∷ []) ≡ []
+excepted_reset : (before : List Assignment) (a : Assignment) → is_exception_reset a ≡ true → excepted (before ++ a ∷ []) ≡ []
 unfolding excepted
 excepted_reset before a e = kept_reset is_exception is_exception_reset before a e
 
-excepted_other : (before : List Assigned) (a : Assigned) → is_exception_reset a ≡ false → is_exception a ≡ false → excepted (before ++ a ∷ []) ≡ excepted before
+excepted_other : (before : List Assignment) (a : Assignment) → is_exception_reset a ≡ false → is_exception a ≡ false → excepted (before ++ a ∷ []) ≡ excepted before
 unfolding excepted
 excepted_other before a e f = kept_other is_exception is_exception_reset before a e f
 
-excepted_more : (before : List Assigned) (a : Assigned) → is_exception_reset a ≡ false → is_exception a ≡ true → excepted (before ++ a ∷ []) ≡ excepted before ++ a ∷ []
+excepted_more : (before : List Assignment) (a : Assignment) → is_exception_reset a ≡ false → is_exception a ≡ true → excepted (before ++ a ∷ []) ≡ excepted before ++ a ∷ []
 unfolding excepted
 excepted_more before a e f = kept_more is_exception is_exception_reset before a e f
 
@@ -99,58 +99,58 @@ other_key key e =
 no_exception_key : (key : List ℕ) → list_any (bytes_eq key) timer_keys ≡ true → bytes_eq key exception_key ≡ false
 no_exception_key key e = false_from_ne_true (bytes_eq key exception_key) (λ h. let other = (other_key key h).0 in absurd (cc))
 
-pub reset_is_no_expression : (a : Assigned) → is_reset a ≡ true → is_expression a ≡ false
+pub reset_is_no_expression : (a : Assignment) → is_reset a ≡ true → is_expression a ≡ false
 unfolding is_reset is_expression
 reset_is_no_expression a e = no_value (has_no_value a) _ _ e
 
-reset_is_no_exception : (a : Assigned) → is_reset a ≡ true → is_exception a ≡ false
+reset_is_no_exception : (a : Assignment) → is_reset a ≡ true → is_exception a ≡ false
 unfolding is_reset is_exception
 reset_is_no_exception a e = no_value (has_no_value a) _ _ e
 
-reset_is_no_exception_reset : (a : Assigned) → is_reset a ≡ true → is_exception_reset a ≡ false
+reset_is_no_exception_reset : (a : Assignment) → is_reset a ≡ true → is_exception_reset a ≡ false
 unfolding is_reset is_exception_reset
 reset_is_no_exception_reset a e = and_right (has_no_value a) (bytes_eq a.key exception_key) (no_exception_key a.key (and_parts (has_no_value a) _ e).1)
 
-exception_reset_is_no_reset : (a : Assigned) → is_exception_reset a ≡ true → is_reset a ≡ false
+exception_reset_is_no_reset : (a : Assignment) → is_exception_reset a ≡ true → is_reset a ≡ false
 unfolding is_reset is_exception_reset
 exception_reset_is_no_reset a e = and_right (has_no_value a) _ (other_key a.key (and_parts (has_no_value a) _ e).1).0
 
-exception_reset_is_no_expression : (a : Assigned) → is_exception_reset a ≡ true → is_expression a ≡ false
+exception_reset_is_no_expression : (a : Assignment) → is_exception_reset a ≡ true → is_expression a ≡ false
 unfolding is_exception_reset is_expression
 exception_reset_is_no_expression a e = no_value (has_no_value a) _ _ e
 
-exception_reset_is_no_exception : (a : Assigned) → is_exception_reset a ≡ true → is_exception a ≡ false
+exception_reset_is_no_exception : (a : Assignment) → is_exception_reset a ≡ true → is_exception a ≡ false
 unfolding is_exception_reset is_exception
 exception_reset_is_no_exception a e = no_value (has_no_value a) _ _ e
 
-expression_is_no_exception : (a : Assigned) → is_expression a ≡ true → is_exception a ≡ false
+expression_is_no_exception : (a : Assignment) → is_expression a ≡ true → is_exception a ≡ false
 unfolding is_expression is_exception
 expression_is_no_exception a e =
     and_right (not (has_no_value a)) (bytes_eq a.key exception_key)
     (false_from_ne_true (bytes_eq a.key exception_key) (λ h. let other = (other_key a.key h).1 in let here = (and_parts (not (has_no_value a)) _ e).1 in absurd (cc)))
 
-exception_is_no_expression : (a : Assigned) → is_exception a ≡ true → is_expression a ≡ false
+exception_is_no_expression : (a : Assignment) → is_exception a ≡ true → is_expression a ≡ false
 exception_is_no_expression a e = false_from_ne_true (is_expression a) (λ h. let other = expression_is_no_exception a h in absurd (cc))
 
 -- what empties one list leaves the other
-pub excepted_kept : (before : List Assigned) (a : Assigned) → is_reset a ≡ true → excepted (before ++ a ∷ []) ≡ excepted before
+pub excepted_kept : (before : List Assignment) (a : Assignment) → is_reset a ≡ true → excepted (before ++ a ∷ []) ≡ excepted before
 excepted_kept before a e = excepted_other before a (reset_is_no_exception_reset a e) (reset_is_no_exception a e)
 
-pub listed_kept : (before : List Assigned) (a : Assigned) → is_exception_reset a ≡ true → listed (before ++ a ∷ []) ≡ listed before
+pub listed_kept : (before : List Assignment) (a : Assignment) → is_exception_reset a ≡ true → listed (before ++ a ∷ []) ≡ listed before
 listed_kept before a e = listed_other before a (exception_reset_is_no_reset a e) (exception_reset_is_no_expression a e)
 
 -- the entries of these assignments are as many as the assignments
-abbrev AreAll : {E : Type 0} → (List ℕ → Result E SpecFault) → List Assigned → Type 0
+abbrev AreAll : {E : Type 0} → (List ℕ → Result E SpecFault) → List Assignment → Type 0
 AreAll read list = length (entries_of read list) ≡ length list
 
-entries_more : {E : Type 0} (read : List ℕ → Result E SpecFault) (list : List Assigned) (a : Assigned) (entry : Entry E) → entry_of a (read a.value) ≡ Some entry
+entries_more : {E : Type 0} (read : List ℕ → Result E SpecFault) (list : List Assignment) (a : Assignment) (entry : TimerLine E) → entry_of a (read a.value) ≡ Some entry
     → entries_of read (list ++ a ∷ []) ≡ entries_of read list ++ entry ∷ []
 entries_more read list a entry good =
     filter_map-append (λ a. entry_of a (read a.value)) list (a ∷ [])
     ∙ rw good refl
 
 -- An assignment that comes to a list whose entries are all there has its fault, or its entry comes to the entries.
-joins_by : {E : Type 0} (read : List ℕ → Result E SpecFault) (list : List Assigned) (a : Assigned) (many : Bool) (r : Result E SpecFault)
+joins_by : {E : Type 0} (read : List ℕ → Result E SpecFault) (list : List Assignment) (a : Assignment) (many : Bool) (r : Result E SpecFault)
     → nat_le most_expressions (length list) ≡ many → read a.value ≡ r → AreAll read list
     → (joined read (entries_of read list) a ≡ unless_fault (fault_joining read list a) (Ok (entries_of read (list ++ a ∷ []))))
     × (fault_joining read list a ≡ None → AreAll read (list ++ a ∷ []))
@@ -164,7 +164,7 @@ joins_by read list a false (Err fault) m v all =
     rw (m, bad) (joined_bad read (entries_of read list) a (BadLine a.number fault) few bad, λ h. cc)
 joins_by {E} read list a false (Ok expr) m v all =
     let few : length (entries_of read list) < most_expressions = grind (arith, nat_tests) in
-    let entry : Entry E = record { number = a.number; text = a.value; expr = expr } in
+    let entry : TimerLine E = record { number = a.number; text = a.value; expr = expr } in
     let good : entry_of a (read a.value) ≡ Some entry = rw v refl in
     let none : bad_line a.number (read a.value) ≡ None = rw v refl in
     let more : entries_of read (list ++ a ∷ []) ≡ entries_of read list ++ entry ∷ [] = entries_more read list a entry good in
@@ -174,31 +174,31 @@ joins_by {E} read list a false (Ok expr) m v all =
     )
 
 -- an assignment without a fault is passed over, and the first that has one decides
-decides : {E : Type 0} (o p : Option TimerFault) (es : List (Entry E)) (next : List (Entry E) → Result (Lists E) TimerFault) (r : Result (Lists E) TimerFault)
+decides : {E : Type 0} (o p : Option TimerFault) (es : List (TimerLine E)) (next : List (TimerLine E) → Result (Timer E) TimerFault) (r : Result (Timer E) TimerFault)
     → (o ≡ None → next es ≡ unless_fault p r) → with_list (unless_fault o (Ok es)) next ≡ unless_fault (option_or o p) r
 decides None p es next r h = h refl
 decides (Some fault) p es next r h = refl
 
 -- what is left to do with these entries gives what all assignments give
-abbrev Resumes : {E : Type 0} → (List ℕ → Result E SpecFault) → List Assigned → List Assigned → Type 0
+abbrev Resumes : {E : Type 0} → (List ℕ → Result E SpecFault) → List Assignment → List Assignment → Type 0
 Resumes read before after = resumed read (entries read before) after ≡ unless_fault (first_fault read before after) (some_entries (entries read (before ++ after)))
 
 -- both lists have all their entries
-abbrev AreAllRead : {E : Type 0} → (List ℕ → Result E SpecFault) → List Assigned → Type 0
+abbrev AreAllRead : {E : Type 0} → (List ℕ → Result E SpecFault) → List Assignment → Type 0
 AreAllRead read before = AreAll read (listed before) × AreAll read (excepted before)
 
-fault_of_other : {E : Type 0} (read : List ℕ → Result E SpecFault) (before : List Assigned) (a : Assigned) → is_expression a ≡ false → is_exception a ≡ false → fault_following read before a ≡ None
+fault_of_other : {E : Type 0} (read : List ℕ → Result E SpecFault) (before : List Assignment) (a : Assignment) → is_expression a ≡ false → is_exception a ≡ false → fault_following read before a ≡ None
 unfolding fault_following
 fault_of_other read before a e f = rw (e, f) refl
 
 -- the lists, where an assignment changes them
-lists_are : {E : Type 0} (read : List ℕ → Result E SpecFault) (before : List Assigned) (list others : List Assigned) → listed before ≡ list → excepted before ≡ others
+lists_are : {E : Type 0} (read : List ℕ → Result E SpecFault) (before : List Assignment) (list others : List Assignment) → listed before ≡ list → excepted before ≡ others
     → entries read before ≡ record { expressions = entries_of read list; exceptions = entries_of read others }
 unfolding entries
 lists_are read before list others e f = rw (e, f) refl
 
 -- the first fault after others is that of the assignment or one after it
-ends : {E : Type 0} (read : List ℕ → Result E SpecFault) (before : List Assigned) (a : Assigned) (after : List Assigned) (o : Option TimerFault) → fault_following read before a ≡ o
+ends : {E : Type 0} (read : List ℕ → Result E SpecFault) (before : List Assignment) (a : Assignment) (after : List Assignment) (o : Option TimerFault) → fault_following read before a ≡ o
     → unless_fault (option_or o (first_fault read (before ++ a ∷ []) after)) (some_entries (entries read ((before ++ a ∷ []) ++ after)))
     ≡ unless_fault (first_fault read before (a ∷ after)) (some_entries (entries read (before ++ (a ∷ after))))
 unfolding first_fault
@@ -206,29 +206,29 @@ ends read before a after o same =
     rw same (ap (λ all. unless_fault (option_or o (first_fault read (before ++ a ∷ []) after)) (some_entries (entries read all))) (append_assoc before (a ∷ []) after))
 
 -- an assignment that isn't an expression's or an exception's has none
-passes : {E : Type 0} (read : List ℕ → Result E SpecFault) (before : List Assigned) (a : Assigned) (after : List Assigned)
+passes : {E : Type 0} (read : List ℕ → Result E SpecFault) (before : List Assignment) (a : Assignment) (after : List Assignment)
     → is_expression a ≡ false → is_exception a ≡ false → Resumes read (before ++ a ∷ []) after
     → resumed read (entries read (before ++ a ∷ [])) after ≡ unless_fault (first_fault read before (a ∷ after)) (some_entries (entries read (before ++ (a ∷ after))))
 passes read before a after e f next = next ∙ ends read before a after None (fault_of_other read before a e f)
 
-all_with : {E : Type 0} (read : List ℕ → Result E SpecFault) (list now : List Assigned) → now ≡ list → AreAll read list → AreAll read now
-all_with read list now e all = subst (λ (l : List Assigned). AreAll read l) (sym e) all
+all_with : {E : Type 0} (read : List ℕ → Result E SpecFault) (list now : List Assignment) → now ≡ list → AreAll read list → AreAll read now
+all_with read list now e all = subst (λ (l : List Assignment). AreAll read l) (sym e) all
 
 -- an expression, or an exception, that comes to its list
-joins : {E : Type 0} (read : List ℕ → Result E SpecFault) (list : List Assigned) (a : Assigned) → AreAll read list
+joins : {E : Type 0} (read : List ℕ → Result E SpecFault) (list : List Assignment) (a : Assignment) → AreAll read list
     → (joined read (entries_of read list) a ≡ unless_fault (fault_joining read list a) (Ok (entries_of read (list ++ a ∷ []))))
     × (fault_joining read list a ≡ None → AreAll read (list ++ a ∷ []))
 joins read list a all = joins_by read list a (nat_le most_expressions (length list)) (read a.value) refl refl all
 
-pub fault_of_expression : {E : Type 0} (read : List ℕ → Result E SpecFault) (before : List Assigned) (a : Assigned) → is_expression a ≡ true → fault_following read before a ≡ fault_joining read (listed before) a
+pub fault_of_expression : {E : Type 0} (read : List ℕ → Result E SpecFault) (before : List Assignment) (a : Assignment) → is_expression a ≡ true → fault_following read before a ≡ fault_joining read (listed before) a
 unfolding fault_following
 fault_of_expression read before a e = rw e refl
 
-pub fault_of_exception : {E : Type 0} (read : List ℕ → Result E SpecFault) (before : List Assigned) (a : Assigned) → is_exception a ≡ true → fault_following read before a ≡ fault_joining read (excepted before) a
+pub fault_of_exception : {E : Type 0} (read : List ℕ → Result E SpecFault) (before : List Assignment) (a : Assignment) → is_exception a ≡ true → fault_following read before a ≡ fault_joining read (excepted before) a
 unfolding fault_following
 fault_of_exception read before a f = rw (exception_is_no_expression a f, f) refl
 
-resumes_here : {E : Type 0} (read : List ℕ → Result E SpecFault) (before : List Assigned) (a : Assigned) (after : List Assigned) (resets excludes expresses excepts : Bool)
+resumes_here : {E : Type 0} (read : List ℕ → Result E SpecFault) (before : List Assignment) (a : Assignment) (after : List Assignment) (resets excludes expresses excepts : Bool)
     → is_reset a ≡ resets → is_exception_reset a ≡ excludes → is_expression a ≡ expresses → is_exception a ≡ excepts
     → AreAllRead read before → (AreAllRead read (before ++ a ∷ []) → Resumes read (before ++ a ∷ []) after) → Resumes read before (a ∷ after)
 unfolding entries
@@ -278,13 +278,13 @@ resumes_here read before a after false false false false e f g h all next =
     ∙ passes read before a after g h
     (next (all_with read (listed before) (listed (before ++ a ∷ [])) these all.0, all_with read (excepted before) (excepted (before ++ a ∷ [])) those all.1))
 
-resumes_from : {E : Type 0} (read : List ℕ → Result E SpecFault) (before after : List Assigned) → AreAllRead read before → Resumes read before after
+resumes_from : {E : Type 0} (read : List ℕ → Result E SpecFault) (before after : List Assignment) → AreAllRead read before → Resumes read before after
 unfolding resumed first_fault
 resumes_from read before [] all = ap (λ all. some_entries (entries read all)) (sym (append-nil before))
 resumes_from read before (a ∷ after) all =
     resumes_here read before a after (is_reset a) (is_exception_reset a) (is_expression a) (is_exception a) refl refl refl refl all (resumes_from read (before ++ a ∷ []) after)
 
 -- one assignment after the other gives the lists of all
-pub resumed_is_list : {E : Type 0} (read : List ℕ → Result E SpecFault) (assignments : List Assigned) → resumed read (record { expressions = []; exceptions = [] }) assignments ≡ lists_of read assignments
+pub resumed_is_list : {E : Type 0} (read : List ℕ → Result E SpecFault) (assignments : List Assignment) → resumed read (record { expressions = []; exceptions = [] }) assignments ≡ lists_of read assignments
 unfolding lists_of entries listed excepted
 resumed_is_list read assignments = resumes_from read [] assignments (refl, refl)

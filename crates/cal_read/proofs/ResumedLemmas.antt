@@ -4,63 +4,63 @@ use Rattle.std.specs.Str.{bytes_eq}
 use Rattle.std.specs.Prelude.{nat_le}
 use Rattle.std.proofs.lemmas.Bool.Decides.{nat_tests}
 use Rattle.cal_spec.specs.declared.spec_fault.SpecFault.{SpecFault}
-use Rattle.cal_read.specs.Assignments.{Assigned, assignment_of, assignments_in, is_header, section_of, timer_lines, trimmed}
+use Rattle.cal_read.specs.Assignments.{Assignment, assignment_of, assignments_in, is_header, section_of, timer_lines, trimmed}
 use Rattle.cal_lines.specs.Lines.{Line, trim}
-use Rattle.cal_read.specs.TimerText.{Entry, Lists, bad_line, entry_of, is_exception, is_exception_reset, is_expression, is_reset, most_expressions, some_entries}
+use Rattle.cal_read.specs.TimerText.{TimerLine, Timer, bad_line, entry_of, is_exception, is_exception_reset, is_expression, is_reset, most_expressions, some_entries}
 use Rattle.cal_read.specs.TimerView.{joined, resumed, with_list, with_read}
 use Rattle.cal_read.specs.declared.timer.fault.TimerFault.{TimerFault}
 use Rattle.cal_read.specs.declared.timer.fault.TimerFault.TheVariants.{TooMany}
 
 -- an empty value empties a list
-pub resumed_reset : {E : Type 0} (read : List ℕ → Result E SpecFault) (lists : Lists E) (a : Assigned) (after : List Assigned) → is_reset a ≡ true
+pub resumed_reset : {E : Type 0} (read : List ℕ → Result E SpecFault) (lists : Timer E) (a : Assignment) (after : List Assignment) → is_reset a ≡ true
     → resumed read lists (a ∷ after) ≡ resumed read (record { expressions = []; exceptions = lists.exceptions }) after
 unfolding resumed
 resumed_reset read lists a after e = rw e refl
 
-pub resumed_exception_reset : {E : Type 0} (read : List ℕ → Result E SpecFault) (lists : Lists E) (a : Assigned) (after : List Assigned) → is_reset a ≡ false
+pub resumed_exception_reset : {E : Type 0} (read : List ℕ → Result E SpecFault) (lists : Timer E) (a : Assignment) (after : List Assignment) → is_reset a ≡ false
     → is_exception_reset a ≡ true → resumed read lists (a ∷ after) ≡ resumed read (record { expressions = lists.expressions; exceptions = [] }) after
 unfolding resumed
 resumed_exception_reset read lists a after e f = rw (e, f) refl
 
 -- an expression comes to its list, or its fault is the fault
-pub resumed_expression : {E : Type 0} (read : List ℕ → Result E SpecFault) (lists : Lists E) (a : Assigned) (after : List Assigned) (r : Result (List (Entry E)) TimerFault)
+pub resumed_expression : {E : Type 0} (read : List ℕ → Result E SpecFault) (lists : Timer E) (a : Assignment) (after : List Assignment) (r : Result (List (TimerLine E)) TimerFault)
     → is_reset a ≡ false → is_exception_reset a ≡ false → is_expression a ≡ true → joined read lists.expressions a ≡ r
     → resumed read lists (a ∷ after) ≡ with_list r (λ es. resumed read (record { expressions = es; exceptions = lists.exceptions }) after)
 unfolding resumed
 resumed_expression read lists a after r e f g h = rw (e, f, g, h) refl
 
 -- and so does an exception
-pub resumed_exception : {E : Type 0} (read : List ℕ → Result E SpecFault) (lists : Lists E) (a : Assigned) (after : List Assigned) (r : Result (List (Entry E)) TimerFault)
+pub resumed_exception : {E : Type 0} (read : List ℕ → Result E SpecFault) (lists : Timer E) (a : Assignment) (after : List Assignment) (r : Result (List (TimerLine E)) TimerFault)
     → is_reset a ≡ false → is_exception_reset a ≡ false → is_expression a ≡ false → is_exception a ≡ true → joined read lists.exceptions a ≡ r
     → resumed read lists (a ∷ after) ≡ with_list r (λ es. resumed read (record { expressions = lists.expressions; exceptions = es }) after)
 unfolding resumed
 resumed_exception read lists a after r e f g h i = rw (e, f, g, h, i) refl
 
 -- other assignments leave both
-pub resumed_other : {E : Type 0} (read : List ℕ → Result E SpecFault) (lists : Lists E) (a : Assigned) (after : List Assigned)
+pub resumed_other : {E : Type 0} (read : List ℕ → Result E SpecFault) (lists : Timer E) (a : Assignment) (after : List Assignment)
     → is_reset a ≡ false → is_exception_reset a ≡ false → is_expression a ≡ false → is_exception a ≡ false → resumed read lists (a ∷ after) ≡ resumed read lists after
 unfolding resumed
 resumed_other read lists a after e f g h = rw (e, f, g, h) refl
 
 -- an expression too many
-pub joined_many : {E : Type 0} (read : List ℕ → Result E SpecFault) (es : List (Entry E)) (a : Assigned) → most_expressions ≤ length es → joined read es a ≡ Err (TooMany a.number)
+pub joined_many : {E : Type 0} (read : List ℕ → Result E SpecFault) (es : List (TimerLine E)) (a : Assignment) → most_expressions ≤ length es → joined read es a ≡ Err (TooMany a.number)
 unfolding joined
 joined_many read es a many = let is_many : nat_le most_expressions (length es) ≡ true = grind (arith, nat_tests) in rw is_many refl
 
 -- an expression's text
-read_bad : {E : Type 0} (es : List (Entry E)) (a : Assigned) (r : Result E SpecFault) (fault : TimerFault) → bad_line a.number r ≡ Some fault → with_read es a r ≡ Err fault
+read_bad : {E : Type 0} (es : List (TimerLine E)) (a : Assignment) (r : Result E SpecFault) (fault : TimerFault) → bad_line a.number r ≡ Some fault → with_read es a r ≡ Err fault
 read_bad es a (Ok expr) fault e = cc
 read_bad es a (Err f) fault e = cc
 
-read_good : {E : Type 0} (es : List (Entry E)) (a : Assigned) (r : Result E SpecFault) (entry : Entry E) → entry_of a r ≡ Some entry → with_read es a r ≡ Ok (es ++ entry ∷ [])
+read_good : {E : Type 0} (es : List (TimerLine E)) (a : Assignment) (r : Result E SpecFault) (entry : TimerLine E) → entry_of a r ≡ Some entry → with_read es a r ≡ Ok (es ++ entry ∷ [])
 read_good es a (Ok expr) entry e = cc
 read_good es a (Err f) entry e = cc
 
-pub joined_bad : {E : Type 0} (read : List ℕ → Result E SpecFault) (es : List (Entry E)) (a : Assigned) (fault : TimerFault) → length es < most_expressions → bad_line a.number (read a.value) ≡ Some fault → joined read es a ≡ Err fault
+pub joined_bad : {E : Type 0} (read : List ℕ → Result E SpecFault) (es : List (TimerLine E)) (a : Assignment) (fault : TimerFault) → length es < most_expressions → bad_line a.number (read a.value) ≡ Some fault → joined read es a ≡ Err fault
 unfolding joined
 joined_bad read es a fault few bad = let is_few : nat_le most_expressions (length es) ≡ false = grind (arith, nat_tests) in rw is_few (read_bad es a (read a.value) fault bad)
 
-pub joined_read : {E : Type 0} (read : List ℕ → Result E SpecFault) (es : List (Entry E)) (a : Assigned) (entry : Entry E) → length es < most_expressions → entry_of a (read a.value) ≡ Some entry → joined read es a ≡ Ok (es ++ entry ∷ [])
+pub joined_read : {E : Type 0} (read : List ℕ → Result E SpecFault) (es : List (TimerLine E)) (a : Assignment) (entry : TimerLine E) → length es < most_expressions → entry_of a (read a.value) ≡ Some entry → joined read es a ≡ Ok (es ++ entry ∷ [])
 unfolding joined
 joined_read read es a entry few good = let is_few : nat_le most_expressions (length es) ≡ false = grind (arith, nat_tests) in rw is_few (read_good es a (read a.value) entry good)
 
@@ -79,11 +79,11 @@ pub nothing_here : (line : Line) (after : List Line) → is_header (trim line.te
 unfolding assignments_in timer_lines
 nothing_here line after e f = rw (e, f) refl
 
-pub assigned_here : (line : Line) (after : List Line) (a : Assigned) → is_header (trim line.text) ≡ false → assignment_of (trimmed line) ≡ Some a → assignments_in true (line ∷ after) ≡ a ∷ assignments_in true after
+pub assigned_here : (line : Line) (after : List Line) (a : Assignment) → is_header (trim line.text) ≡ false → assignment_of (trimmed line) ≡ Some a → assignments_in true (line ∷ after) ≡ a ∷ assignments_in true after
 unfolding assignments_in timer_lines
 assigned_here line after a e f = rw (e, f) refl
 
 -- where no line is left, the entries so far are the lists
-pub no_lines : {E : Type 0} (read : List ℕ → Result E SpecFault) (lists : Lists E) (inside : Bool) → resumed read lists (assignments_in inside []) ≡ some_entries lists
+pub no_lines : {E : Type 0} (read : List ℕ → Result E SpecFault) (lists : Timer E) (inside : Bool) → resumed read lists (assignments_in inside []) ≡ some_entries lists
 unfolding resumed assignments_in timer_lines
 no_lines read lists inside = refl

@@ -5,9 +5,9 @@ use Rattle.std.specs.Option.{option_or}
 use Rattle.std.specs.Str.{is_utf8, IsUtf8}
 use Rattle.std.proofs.lemmas.Str.{IsUtf8-from_is_utf8}
 use Rattle.cal_spec.specs.declared.spec_fault.SpecFault.{SpecFault}
-use Rattle.cal_read.specs.Assignments.{Assigned, assignments_in}
+use Rattle.cal_read.specs.Assignments.{Assignment, assignments_in}
 use Rattle.cal_lines.specs.Lines.{logical_lines}
-use Rattle.cal_read.specs.TimerText.{Entry, bad_line, broken_line, excepted, fault_following, fault_joining, first_fault, is_exception, is_expression, listed, lists_of, most_expressions, some_expressions, timer_in, timer_of, unless_fault, without_mark}
+use Rattle.cal_read.specs.TimerText.{TimerLine, bad_line, broken_line, excepted, fault_following, fault_joining, first_fault, is_exception, is_expression, listed, lists_of, most_expressions, some_expressions, timer_in, timer_of, unless_fault, without_mark}
 use Rattle.cal_read.specs.declared.timer.fault.TimerFault.{TimerFault}
 use Rattle.cal_read.specs.declared.timer.fault.TimerFault.TheVariants.{BadLine, NoMemory, NothingToDo, NotUtf8, ReadFailed, TooLarge, TooMany}
 
@@ -25,12 +25,12 @@ text_is_of_line : {E : Type 0} (number : ℕ) (r : Result E SpecFault) (fault : 
 text_is_of_line number (Ok expr) fault e = cc
 text_is_of_line number (Err f) fault e = let same : BadLine number f ≡ fault = cc in rw (← same) refl
 
-joining_is_of_line : {E : Type 0} (read : List ℕ → Result E SpecFault) (list : List Assigned) (a : Assigned) (fault : TimerFault) (many : Bool) → nat_le most_expressions (length list) ≡ many → fault_joining read list a ≡ Some fault → is_of_line fault ≡ true
+joining_is_of_line : {E : Type 0} (read : List ℕ → Result E SpecFault) (list : List Assignment) (a : Assignment) (fault : TimerFault) (many : Bool) → nat_le most_expressions (length list) ≡ many → fault_joining read list a ≡ Some fault → is_of_line fault ≡ true
 unfolding fault_joining
 joining_is_of_line read list a fault true e = rw e (λ h. let same : TooMany a.number ≡ fault = cc in rw (← same) refl)
 joining_is_of_line read list a fault false e = rw e (text_is_of_line a.number (read a.value) fault)
 
-one_is_of_line : {E : Type 0} (read : List ℕ → Result E SpecFault) (before : List Assigned) (a : Assigned) (fault : TimerFault) (expresses excepts : Bool) → is_expression a ≡ expresses → is_exception a ≡ excepts → fault_following read before a ≡ Some fault → is_of_line fault ≡ true
+one_is_of_line : {E : Type 0} (read : List ℕ → Result E SpecFault) (before : List Assignment) (a : Assignment) (fault : TimerFault) (expresses excepts : Bool) → is_expression a ≡ expresses → is_exception a ≡ excepts → fault_following read before a ≡ Some fault → is_of_line fault ≡ true
 unfolding fault_following
 one_is_of_line read before a fault true excepts e f = rw e (joining_is_of_line read (listed before) a fault (nat_le most_expressions (length (listed before))) refl)
 one_is_of_line read before a fault false true e f = rw (e, f) (joining_is_of_line read (excepted before) a fault (nat_le most_expressions (length (excepted before))) refl)
@@ -40,7 +40,7 @@ either_is_of_line : (o p : Option TimerFault) (fault : TimerFault) → (o ≡ So
 either_is_of_line None p fault first rest h = rest h
 either_is_of_line (Some f) p fault first rest h = first h
 
-pub first_is_of_line : {E : Type 0} (read : List ℕ → Result E SpecFault) (before after : List Assigned) (fault : TimerFault) → first_fault read before after ≡ Some fault → is_of_line fault ≡ true
+pub first_is_of_line : {E : Type 0} (read : List ℕ → Result E SpecFault) (before after : List Assignment) (fault : TimerFault) → first_fault read before after ≡ Some fault → is_of_line fault ≡ true
 unfolding first_fault
 first_is_of_line read before [] fault h = cc
 first_is_of_line read before (a ∷ after) fault h =
@@ -49,7 +49,7 @@ first_is_of_line read before (a ∷ after) fault h =
 never_of_line : is_of_line ReadFailed ≡ true → ⊥
 never_of_line h = cc
 
-never_of_list : {E : Type 0} (o : Option TimerFault) (es xs : List (Entry E)) → (o ≡ Some ReadFailed → ⊥) → unless_fault o (some_expressions es xs) ≡ Err ReadFailed → ⊥
+never_of_list : {E : Type 0} (o : Option TimerFault) (es xs : List (TimerLine E)) → (o ≡ Some ReadFailed → ⊥) → unless_fault o (some_expressions es xs) ≡ Err ReadFailed → ⊥
 never_of_list None [] xs never h = cc
 never_of_list None (e ∷ es) xs never h = cc
 never_of_list (Some fault) es xs never h = never cc

@@ -8,7 +8,7 @@ use Rattle.cal_spec.specs.declared.spec_fault.SpecFault.{SpecFault}
 use Rattle.cal_spec.specs.declared.spec_fault.SpecFault.TheVariants.{NoRepeat}
 use Rattle.cal_read.specs.Assignments.{assignment_of, assignments_in, timer_lines}
 use Rattle.cal_lines.specs.Lines.{groups, is_continued, logical_lines, part_of, physical_lines, plain_lines, trim, trim_end, trim_start}
-use Rattle.cal_read.specs.TimerText.{Entry, broken_line, entries, excepted, fault_following, fault_joining, first_fault, is_exception, is_exception_reset, is_expression, is_reset, listed, lists_of, timer_in, timer_of, without_mark}
+use Rattle.cal_read.specs.TimerText.{TimerLine, broken_line, entries, excepted, fault_following, fault_joining, first_fault, is_exception, is_exception_reset, is_expression, is_reset, listed, lists_of, timer_in, timer_of, without_mark}
 use Rattle.cal_read.specs.declared.timer.fault.TimerFault.{TimerFault}
 use Rattle.cal_read.specs.declared.timer.fault.TimerFault.TheVariants.{BadLine, NothingToDo, NotUtf8}
 
@@ -21,10 +21,10 @@ abbrev continued : List ℕ → List ℕ
 continued line = line ++ 92 ∷ []
 
 -- an expression that reads as its own text
-abbrev entry : ℕ → List ℕ → Entry (List ℕ)
+abbrev entry : ℕ → List ℕ → TimerLine (List ℕ)
 entry number text = record { number = number; text = text; expr = text }
 
-abbrev Gives : List ℕ → List (Entry (List ℕ)) → Type 0
+abbrev Gives : List ℕ → List (TimerLine (List ℕ)) → Type 0
 Gives bytes es = timer_in (λ text. Ok text) bytes ≡ Ok (record { expressions = es; exceptions = [] })
 
 abbrev refused : List ℕ → Result (List ℕ) SpecFault
@@ -81,7 +81,7 @@ unfolding timer_in timer_of lists_of first_fault fault_following fault_joining l
 comment_continues_nothing = refl
 
 -- exceptions: their own key empties their list, and what empties the other leaves it
-abbrev GivesBoth : List ℕ → List (Entry (List ℕ)) → List (Entry (List ℕ)) → Type 0
+abbrev GivesBoth : List ℕ → List (TimerLine (List ℕ)) → List (TimerLine (List ℕ)) → Type 0
 GivesBoth bytes es xs = timer_in (λ text. Ok text) bytes ≡ Ok (record { expressions = es; exceptions = xs })
 
 worked_exception : GivesBoth (file (codes "[Timer]" ∷ codes "OnCalendar=daily" ∷ codes "X-ExceptOnCalendar=Sat,Sun 12:00" ∷ codes "OnBootSec=" ∷ codes "OnCalendar=12:00" ∷ [])) (entry 5 (codes "12:00") ∷ []) (entry 3 (codes "Sat,Sun 12:00") ∷ [])

@@ -6,10 +6,10 @@ use Rattle.std.specs.Prelude.{if◌then◌else◌}
 use Rattle.std.specs.Str.{bytes_eq}
 use Rattle.std.proofs.lemmas.Bool.{or_parts}
 use Rattle.cal_spec.specs.declared.spec_fault.SpecFault.{SpecFault}
-use Rattle.cal_read.specs.Assignments.{Assigned, is_header, section_of, timer_lines}
+use Rattle.cal_read.specs.Assignments.{Assignment, is_header, section_of, timer_lines}
 use Rattle.cal_lines.specs.Lines.{Line}
 use Rattle.cal_read.specs.TimerRule.{AreFine, IsFirstFault, Judges}
-use Rattle.cal_read.specs.TimerText.{Entry, Lists, entries, excepted, fault_following, first_fault, is_exception, is_exception_reset, is_expression, is_reset, lists_of, listed, some_entries, some_expressions, unless_fault}
+use Rattle.cal_read.specs.TimerText.{TimerLine, Timer, entries, excepted, fault_following, first_fault, is_exception, is_exception_reset, is_expression, is_reset, lists_of, listed, some_entries, some_expressions, unless_fault}
 use Rattle.cal_read.specs.declared.timer.fault.TimerFault.{TimerFault}
 use Rattle.cal_read.specs.declared.timer.fault.TimerFault.TheVariants.{ReadFailed, TooLarge, NotUtf8, BadLine, TooMany, NothingToDo, NoMemory}
 use Rattle.cal_read.proofs.ListedLemmas.{after_last_here, after_last_more}
@@ -53,76 +53,76 @@ after_last_after p xs (y ∷ ys) none =
     ∙ append_assoc (after_last p xs) (y ∷ []) ys
 
 -- a list that one test adds to and another empties
-kept_after_reset : (adds resets : Assigned → Bool) (front rest : List Assigned) (reset : Assigned) → resets reset ≡ true → list_any resets rest ≡ false → filter adds (after_last resets (front ++ (reset ∷ rest))) ≡ filter adds rest
+kept_after_reset : (adds resets : Assignment → Bool) (front rest : List Assignment) (reset : Assignment) → resets reset ≡ true → list_any resets rest ≡ false → filter adds (after_last resets (front ++ (reset ∷ rest))) ≡ filter adds rest
 kept_after_reset adds resets front rest reset e none =
     ap (λ all. filter adds (after_last resets all)) (sym (append_assoc front (reset ∷ []) rest))
     ∙ ap (filter adds) (after_last_after resets (front ++ reset ∷ []) rest none ∙ ap (λ before. before ++ rest) (after_last_here resets front reset e))
 
-kept_without_reset : (adds resets : Assigned → Bool) (all : List Assigned) → list_any resets all ≡ false → filter adds (after_last resets all) ≡ filter adds all
+kept_without_reset : (adds resets : Assignment → Bool) (all : List Assignment) → list_any resets all ≡ false → filter adds (after_last resets all) ≡ filter adds all
 kept_without_reset adds resets all none = ap (filter adds) (after_last_after resets [] all none)
 
-pub listed_after_reset : (front rest : List Assigned) (reset : Assigned) → is_reset reset ≡ true → list_any is_reset rest ≡ false → listed (front ++ (reset ∷ rest)) ≡ filter is_expression rest
+pub listed_after_reset : (front rest : List Assignment) (reset : Assignment) → is_reset reset ≡ true → list_any is_reset rest ≡ false → listed (front ++ (reset ∷ rest)) ≡ filter is_expression rest
 unfolding listed
 listed_after_reset = kept_after_reset is_expression is_reset
 
-pub listed_without_reset : (all : List Assigned) → list_any is_reset all ≡ false → listed all ≡ filter is_expression all
+pub listed_without_reset : (all : List Assignment) → list_any is_reset all ≡ false → listed all ≡ filter is_expression all
 unfolding listed
 listed_without_reset = kept_without_reset is_expression is_reset
 
-pub excepted_after_reset : (front rest : List Assigned) (reset : Assigned) → is_exception_reset reset ≡ true → list_any is_exception_reset rest ≡ false → excepted (front ++ (reset ∷ rest)) ≡ filter is_exception rest
+pub excepted_after_reset : (front rest : List Assignment) (reset : Assignment) → is_exception_reset reset ≡ true → list_any is_exception_reset rest ≡ false → excepted (front ++ (reset ∷ rest)) ≡ filter is_exception rest
 unfolding excepted
 excepted_after_reset = kept_after_reset is_exception is_exception_reset
 
-pub excepted_without_reset : (all : List Assigned) → list_any is_exception_reset all ≡ false → excepted all ≡ filter is_exception all
+pub excepted_without_reset : (all : List Assignment) → list_any is_exception_reset all ≡ false → excepted all ≡ filter is_exception all
 unfolding excepted
 excepted_without_reset = kept_without_reset is_exception is_exception_reset
 
 -- The first fault. Where these come before, no assignment of the others has a fault.
-abbrev AreFineBehind : {E : Type 0} → (List ℕ → Result E SpecFault) → List Assigned → List Assigned → Type 0
-AreFineBehind read first all = (before : List Assigned) (a : Assigned) (after : List Assigned) → all ≡ before ++ (a ∷ after) → fault_following read (first ++ before) a ≡ None
+abbrev AreFineBehind : {E : Type 0} → (List ℕ → Result E SpecFault) → List Assignment → List Assignment → Type 0
+AreFineBehind read first all = (before : List Assignment) (a : Assignment) (after : List Assignment) → all ≡ before ++ (a ∷ after) → fault_following read (first ++ before) a ≡ None
 
 option_parts : (o p : Option TimerFault) → option_or o p ≡ None → (o ≡ None) × (p ≡ None)
 option_parts None p h = (refl, h)
 option_parts (Some fault) p h = cc
 
-no_split : (before : List Assigned) (a : Assigned) (after : List Assigned) → [] ≡ before ++ (a ∷ after) → ⊥
+no_split : (before : List Assignment) (a : Assignment) (after : List Assignment) → [] ≡ before ++ (a ∷ after) → ⊥
 no_split [] a after e = cc
 no_split (b ∷ before) a after e = cc
 
-fine_more : {E : Type 0} (read : List ℕ → Result E SpecFault) (first : List Assigned) (x : Assigned) (xs : List Assigned) → fault_following read first x ≡ None → AreFineBehind read (first ++ x ∷ []) xs → AreFineBehind read first (x ∷ xs)
+fine_more : {E : Type 0} (read : List ℕ → Result E SpecFault) (first : List Assignment) (x : Assignment) (xs : List Assignment) → fault_following read first x ≡ None → AreFineBehind read (first ++ x ∷ []) xs → AreFineBehind read first (x ∷ xs)
 fine_more read first x xs here fine [] a after split =
     let same : x ≡ a = cc in
     rw (append-nil first, ← same) here
 fine_more read first x xs here fine (b ∷ before) a after split =
     let same : x ≡ b = cc in
     let rest : xs ≡ before ++ (a ∷ after) = cc in
-    rw (← same) (subst (λ (front : List Assigned). fault_following read front a ≡ None) (append_assoc first (x ∷ []) before) (fine before a after rest))
+    rw (← same) (subst (λ (front : List Assignment). fault_following read front a ≡ None) (append_assoc first (x ∷ []) before) (fine before a after rest))
 
-fine_from_none : {E : Type 0} (read : List ℕ → Result E SpecFault) (first all : List Assigned) → first_fault read first all ≡ None → AreFineBehind read first all
+fine_from_none : {E : Type 0} (read : List ℕ → Result E SpecFault) (first all : List Assignment) → first_fault read first all ≡ None → AreFineBehind read first all
 unfolding first_fault
 fine_from_none read first [] h = λ before a after split. absurd (no_split before a after split)
 fine_from_none read first (x ∷ xs) h =
     let parts = option_parts (fault_following read first x) (first_fault read (first ++ x ∷ []) xs) h in
     fine_more read first x xs parts.0 (fine_from_none read (first ++ x ∷ []) xs parts.1)
 
-none_from_fine : {E : Type 0} (read : List ℕ → Result E SpecFault) (first all : List Assigned) → AreFineBehind read first all → first_fault read first all ≡ None
+none_from_fine : {E : Type 0} (read : List ℕ → Result E SpecFault) (first all : List Assignment) → AreFineBehind read first all → first_fault read first all ≡ None
 unfolding first_fault
 none_from_fine read first [] fine = refl
 none_from_fine read first (x ∷ xs) fine =
-    let here : fault_following read first x ≡ None = subst (λ (front : List Assigned). fault_following read front x ≡ None) (append-nil first) (fine [] x xs refl) in
-    let rest : first_fault read (first ++ x ∷ []) xs ≡ None = none_from_fine read (first ++ x ∷ []) xs (λ before a after e. subst (λ (front : List Assigned). fault_following read front a ≡ None) (sym (append_assoc first (x ∷ []) before)) (fine (x ∷ before) a after (ap (λ ys. x ∷ ys) e))) in
+    let here : fault_following read first x ≡ None = subst (λ (front : List Assignment). fault_following read front x ≡ None) (append-nil first) (fine [] x xs refl) in
+    let rest : first_fault read (first ++ x ∷ []) xs ≡ None = none_from_fine read (first ++ x ∷ []) xs (λ before a after e. subst (λ (front : List Assignment). fault_following read front a ≡ None) (sym (append_assoc first (x ∷ []) before)) (fine (x ∷ before) a after (ap (λ ys. x ∷ ys) e))) in
     rw here rest
 
 -- an assignment with a fault, after fine ones
-record FirstFault {E : Type 0} (read : List ℕ → Result E SpecFault) (first all : List Assigned) (fault : TimerFault) : Type 0 where
-  before : List Assigned
-  at : Assigned
-  after : List Assigned
+record FirstFault {E : Type 0} (read : List ℕ → Result E SpecFault) (first all : List Assignment) (fault : TimerFault) : Type 0 where
+  before : List Assignment
+  at : Assignment
+  after : List Assignment
   whole : all ≡ before ++ (at ∷ after)
   is_fault : fault_following read (first ++ before) at ≡ Some fault
   fine : AreFineBehind read first before
 
-fault_at : {E : Type 0} (read : List ℕ → Result E SpecFault) (first : List Assigned) (x : Assigned) (xs : List Assigned) (fault : TimerFault) (o : Option TimerFault) → fault_following read first x ≡ o → option_or o (first_fault read (first ++ x ∷ []) xs) ≡ Some fault → (first_fault read (first ++ x ∷ []) xs ≡ Some fault → FirstFault read (first ++ x ∷ []) xs fault) → FirstFault read first (x ∷ xs) fault
+fault_at : {E : Type 0} (read : List ℕ → Result E SpecFault) (first : List Assignment) (x : Assignment) (xs : List Assignment) (fault : TimerFault) (o : Option TimerFault) → fault_following read first x ≡ o → option_or o (first_fault read (first ++ x ∷ []) xs) ≡ Some fault → (first_fault read (first ++ x ∷ []) xs ≡ Some fault → FirstFault read (first ++ x ∷ []) xs fault) → FirstFault read first (x ∷ xs) fault
 fault_at read first x xs fault (Some found) e h next = record {
   before = [];
   at = x;
@@ -138,29 +138,29 @@ fault_at read first x xs fault None e h next =
       at = found.at;
       after = found.after;
       whole = ap (λ ys. x ∷ ys) found.whole;
-      is_fault = subst (λ (front : List Assigned). fault_following read front found.at ≡ Some fault) (append_assoc first (x ∷ []) found.before) found.is_fault;
+      is_fault = subst (λ (front : List Assignment). fault_following read front found.at ≡ Some fault) (append_assoc first (x ∷ []) found.before) found.is_fault;
       fine = λ before a after split. fine_more read first x found.before e found.fine before a after split;
     }
 
-fault_from_some : {E : Type 0} (read : List ℕ → Result E SpecFault) (first all : List Assigned) (fault : TimerFault) → first_fault read first all ≡ Some fault → FirstFault read first all fault
+fault_from_some : {E : Type 0} (read : List ℕ → Result E SpecFault) (first all : List Assignment) (fault : TimerFault) → first_fault read first all ≡ Some fault → FirstFault read first all fault
 unfolding first_fault
 fault_from_some read first [] fault h = cc
 fault_from_some read first (x ∷ xs) fault h = fault_at read first x xs fault (fault_following read first x) refl h (fault_from_some read (first ++ x ∷ []) xs fault)
 
 -- the first of all faults, where an assignment after fine ones has one
-some_from_fault : {E : Type 0} (read : List ℕ → Result E SpecFault) (first before : List Assigned) (a : Assigned) (after : List Assigned) (fault : TimerFault) → AreFineBehind read first before → fault_following read (first ++ before) a ≡ Some fault → first_fault read first (before ++ (a ∷ after)) ≡ Some fault
+some_from_fault : {E : Type 0} (read : List ℕ → Result E SpecFault) (first before : List Assignment) (a : Assignment) (after : List Assignment) (fault : TimerFault) → AreFineBehind read first before → fault_following read (first ++ before) a ≡ Some fault → first_fault read first (before ++ (a ∷ after)) ≡ Some fault
 unfolding first_fault
 some_from_fault read first [] a after fault fine e =
-    let here : fault_following read first a ≡ Some fault = subst (λ (front : List Assigned). fault_following read front a ≡ Some fault) (append-nil first) e in
+    let here : fault_following read first a ≡ Some fault = subst (λ (front : List Assignment). fault_following read front a ≡ Some fault) (append-nil first) e in
     rw here refl
 some_from_fault read first (x ∷ before) a after fault fine e =
-    let here : fault_following read first x ≡ None = subst (λ (front : List Assigned). fault_following read front x ≡ None) (append-nil first) (fine [] x before refl) in
-    let fine_after : AreFineBehind read (first ++ x ∷ []) before = λ bs b cs split. subst (λ (front : List Assigned). fault_following read front b ≡ None) (sym (append_assoc first (x ∷ []) bs)) (fine (x ∷ bs) b cs (ap (λ ys. x ∷ ys) split)) in
-    let there : fault_following read ((first ++ x ∷ []) ++ before) a ≡ Some fault = subst (λ (front : List Assigned). fault_following read front a ≡ Some fault) (sym (append_assoc first (x ∷ []) before)) e in
+    let here : fault_following read first x ≡ None = subst (λ (front : List Assignment). fault_following read front x ≡ None) (append-nil first) (fine [] x before refl) in
+    let fine_after : AreFineBehind read (first ++ x ∷ []) before = λ bs b cs split. subst (λ (front : List Assignment). fault_following read front b ≡ None) (sym (append_assoc first (x ∷ []) bs)) (fine (x ∷ bs) b cs (ap (λ ys. x ∷ ys) split)) in
+    let there : fault_following read ((first ++ x ∷ []) ++ before) a ≡ Some fault = subst (λ (front : List Assignment). fault_following read front a ≡ Some fault) (sym (append_assoc first (x ∷ []) before)) e in
     rw here (some_from_fault read (first ++ x ∷ []) before a after fault fine_after there)
 
 -- The one result
-judged_fault : {E : Type 0} (read : List ℕ → Result E SpecFault) (all : List Assigned) (fault : TimerFault) → is_of_line fault ≡ true → IsFirstFault read all fault → Judges read all (Err fault)
+judged_fault : {E : Type 0} (read : List ℕ → Result E SpecFault) (all : List Assignment) (fault : TimerFault) → is_of_line fault ≡ true → IsFirstFault read all fault → Judges read all (Err fault)
 judged_fault read all ReadFailed e h = h
 judged_fault read all TooLarge e h = h
 judged_fault read all (NotUtf8 n) e h = h
@@ -169,11 +169,11 @@ judged_fault read all (TooMany n) e h = h
 judged_fault read all NothingToDo e h = cc
 judged_fault read all NoMemory e h = h
 
-judged_lists : {E : Type 0} (read : List ℕ → Result E SpecFault) (all : List Assigned) (es xs : List (Entry E)) → AreFine read all → entries read all ≡ record { expressions = es; exceptions = xs } → Judges read all (some_expressions es xs)
-judged_lists {E} read all [] xs fine e = (fine, ap (λ (lists : Lists E). lists.expressions) e)
+judged_lists : {E : Type 0} (read : List ℕ → Result E SpecFault) (all : List Assignment) (es xs : List (TimerLine E)) → AreFine read all → entries read all ≡ record { expressions = es; exceptions = xs } → Judges read all (some_expressions es xs)
+judged_lists {E} read all [] xs fine e = (fine, ap (λ (lists : Timer E). lists.expressions) e)
 judged_lists read all (entry ∷ es) xs fine e = (fine, e, omega arith)
 
-judged_as : {E : Type 0} (read : List ℕ → Result E SpecFault) (all : List Assigned) (o : Option TimerFault) → first_fault read [] all ≡ o → Judges read all (unless_fault o (some_entries (entries read all)))
+judged_as : {E : Type 0} (read : List ℕ → Result E SpecFault) (all : List Assignment) (o : Option TimerFault) → first_fault read [] all ≡ o → Judges read all (unless_fault o (some_entries (entries read all)))
 judged_as read all None e = judged_lists read all (entries read all).expressions (entries read all).exceptions (fine_from_none read [] all e) refl
 judged_as read all (Some fault) e =
     let found = fault_from_some read [] all fault e in
@@ -186,21 +186,21 @@ judged_as read all (Some fault) e =
       fine = found.fine;
     })
 
-pub judged : {E : Type 0} (read : List ℕ → Result E SpecFault) (all : List Assigned) → Judges read all (lists_of read all)
+pub judged : {E : Type 0} (read : List ℕ → Result E SpecFault) (all : List Assignment) → Judges read all (lists_of read all)
 unfolding lists_of
 judged read all = judged_as read all (first_fault read [] all) refl
 
-faulted : {E : Type 0} (read : List ℕ → Result E SpecFault) (all : List Assigned) (fault : TimerFault) → IsFirstFault read all fault → Err fault ≡ lists_of read all
+faulted : {E : Type 0} (read : List ℕ → Result E SpecFault) (all : List Assignment) (fault : TimerFault) → IsFirstFault read all fault → Err fault ≡ lists_of read all
 unfolding lists_of
 faulted read all fault h =
     let first : first_fault read [] all ≡ Some fault = rw h.whole (some_from_fault read [] h.before h.at h.after fault h.fine h.is_fault) in
     rw first refl
 
-some_if_any : {E : Type 0} (es xs : List (Entry E)) → 0 < length es → some_expressions es xs ≡ Ok (record { expressions = es; exceptions = xs })
+some_if_any : {E : Type 0} (es xs : List (TimerLine E)) → 0 < length es → some_expressions es xs ≡ Ok (record { expressions = es; exceptions = xs })
 some_if_any [] xs h = absurd (omega arith)
 some_if_any (e ∷ es) xs h = refl
 
-pub only_judged : {E : Type 0} (read : List ℕ → Result E SpecFault) (all : List Assigned) (result : Result (Lists E) TimerFault) → Judges read all result → result ≡ lists_of read all
+pub only_judged : {E : Type 0} (read : List ℕ → Result E SpecFault) (all : List Assignment) (result : Result (Timer E) TimerFault) → Judges read all result → result ≡ lists_of read all
 unfolding lists_of
 only_judged read all (Ok lists) h = rw (none_from_fine read [] all h.0, h.1) (sym (some_if_any lists.expressions lists.exceptions h.2))
 only_judged read all (Err NothingToDo) h = rw (none_from_fine read [] all h.0, h.1) refl

@@ -1,6 +1,6 @@
 -- Assignments of a unit file without where they lie in memory.
-use Rattle.cal_read.specs.Assignments.{Assigned}
+use Rattle.cal_read.specs.Assignments.{Assignment}
 use Rattle.cal_read.specs.declared.assignments.Assignment as declared_assignment
 
-abbrev pub shown_assignment : declared_assignment.Assignment → Assigned
+abbrev pub shown_assignment : declared_assignment.Assignment → Assignment
 shown_assignment a = record { number = a.number; key = a.key.now; value = a.value.now }

@@ -24,7 +24,7 @@ timer_lines inside (line ∷ lines) =
     else (if inside then line ∷ timer_lines inside lines else timer_lines inside lines)
 
 -- a key and its value, and the number of their line
-pub record Assigned : Type 0 where
+pub record Assignment : Type 0 where
   pub number : ℕ
   pub key : List ℕ
   pub value : List ℕ
@@ -33,7 +33,7 @@ abbrev pub is_equals : ℕ → Bool
 is_equals b = b == 61
 
 -- the key comes before the first `=`, and the value after it; a line without one assigns nothing
-unfoldable pub assignment_of : Line → Option Assigned
+unfoldable pub assignment_of : Line → Option Assignment
 assignment_of line =
     if list_any is_equals line.text
     then Some (record {
@@ -44,5 +44,5 @@ assignment_of line =
     else None
 
 -- the assignments of the section `Timer` in these logical lines
-unfoldable pub assignments_in : Bool → List Line → List Assigned
+unfoldable pub assignments_in : Bool → List Line → List Assignment
 assignments_in inside lines = filter_map assignment_of (timer_lines inside (map trimmed lines))

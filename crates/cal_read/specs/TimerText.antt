@@ -5,7 +5,7 @@ use Rattle.std.specs.List.{after_last, filter_map, list_any, starts_with}
 use Rattle.std.specs.Option.{option_or}
 use Rattle.std.specs.Str.{bytes_eq, is_utf8}
 use Rattle.std.specs.Str.Lossy.{utf8_valid_len}
-use Rattle.cal_read.specs.Assignments.{Assigned, assignments_in}
+use Rattle.cal_read.specs.Assignments.{Assignment, assignments_in}
 use Rattle.cal_lines.specs.Lines.{logical_lines}
 use Rattle.cal_bytes.specs.Whole.{GivesAll, IsWholeFault}
 use Rattle.cal_bytes.specs.declared.whole.WholeFault.{WholeFault}
@@ -24,29 +24,29 @@ timer_keys =
 abbrev pub exception_key : List ℕ
 exception_key = codes "X-ExceptOnCalendar"
 
-abbrev pub has_no_value : Assigned → Bool
+abbrev pub has_no_value : Assignment → Bool
 has_no_value a = length a.value == 0
 
-unfoldable pub is_reset : Assigned → Bool
+unfoldable pub is_reset : Assignment → Bool
 is_reset a = has_no_value a && list_any (bytes_eq a.key) timer_keys
 
 -- an assignment of `OnCalendar` with a value is an expression's
-unfoldable pub is_expression : Assigned → Bool
+unfoldable pub is_expression : Assignment → Bool
 is_expression a = not (has_no_value a) && bytes_eq a.key (codes "OnCalendar")
 
 -- the key of exceptions empties their list by an empty value, and with a value it is an exception's
-unfoldable pub is_exception_reset : Assigned → Bool
+unfoldable pub is_exception_reset : Assignment → Bool
 is_exception_reset a = has_no_value a && bytes_eq a.key exception_key
 
-unfoldable pub is_exception : Assigned → Bool
+unfoldable pub is_exception : Assignment → Bool
 is_exception a = not (has_no_value a) && bytes_eq a.key exception_key
 
 -- the assignments that are on the list of expressions: those of expressions that follow the last reset
-unfoldable pub listed : List Assigned → List Assigned
+unfoldable pub listed : List Assignment → List Assignment
 listed assignments = filter is_expression (after_last is_reset assignments)
 
 -- and those that are on the list of exceptions
-unfoldable pub excepted : List Assigned → List Assigned
+unfoldable pub excepted : List Assignment → List Assignment
 excepted assignments = filter is_exception (after_last is_exception_reset assignments)
 
 -- the most expressions on a list
@@ -54,7 +54,7 @@ abbrev pub most_expressions : ℕ
 most_expressions = 256
 
 -- an expression of a list: the number of its line, its text, and what it reads as
-pub record Entry (E : Type 0) : Type 0 where
+pub record TimerLine (E : Type 0) : Type 0 where
   pub number : ℕ
   pub text : List ℕ
   pub expr : E
@@ -66,48 +66,48 @@ bad_line number (Err fault) = Some (BadLine number fault)
 
 -- The fault of an assignment that comes to a list of these. It is one too many where the list holds the most already;
 -- else its text is judged, also where a later reset drops it.
-unfoldable pub fault_joining : {E : Type 0} → (List ℕ → Result E SpecFault) → List Assigned → Assigned → Option TimerFault
+unfoldable pub fault_joining : {E : Type 0} → (List ℕ → Result E SpecFault) → List Assignment → Assignment → Option TimerFault
 fault_joining read list a =
     if nat_le most_expressions (length list) then Some (TooMany a.number) else bad_line a.number (read a.value)
 
 -- the fault of an assignment after others, each list judged by its own resets
-unfoldable pub fault_following : {E : Type 0} → (List ℕ → Result E SpecFault) → List Assigned → Assigned → Option TimerFault
+unfoldable pub fault_following : {E : Type 0} → (List ℕ → Result E SpecFault) → List Assignment → Assignment → Option TimerFault
 fault_following read before a =
     if is_expression a then fault_joining read (listed before) a
     else (if is_exception a then fault_joining read (excepted before) a else None)
 
 -- the first fault of assignments after others
-unfoldable pub first_fault : {E : Type 0} → (List ℕ → Result E SpecFault) → List Assigned → List Assigned → Option TimerFault
+unfoldable pub first_fault : {E : Type 0} → (List ℕ → Result E SpecFault) → List Assignment → List Assignment → Option TimerFault
 first_fault read before [] = None
 first_fault read before (a ∷ after) = option_or (fault_following read before a) (first_fault read (before ++ a ∷ []) after)
 
 -- the entry of an assignment whose text reads so
-abbrev pub entry_of : {E : Type 0} → Assigned → Result E SpecFault → Option (Entry E)
+abbrev pub entry_of : {E : Type 0} → Assignment → Result E SpecFault → Option (TimerLine E)
 entry_of a (Ok expr) = Some (record { number = a.number; text = a.value; expr = expr })
 entry_of a (Err fault) = None
 
 -- the entries of these assignments
-abbrev pub entries_of : {E : Type 0} → (List ℕ → Result E SpecFault) → List Assigned → List (Entry E)
+abbrev pub entries_of : {E : Type 0} → (List ℕ → Result E SpecFault) → List Assignment → List (TimerLine E)
 entries_of read list = filter_map (λ a. entry_of a (read a.value)) list
 
 -- what a timer file gives: its expressions and its exceptions, each in the order of the file
-pub record Lists (E : Type 0) : Type 0 where
-  pub expressions : List (Entry E)
-  pub exceptions : List (Entry E)
+pub record Timer (E : Type 0) : Type 0 where
+  pub expressions : List (TimerLine E)
+  pub exceptions : List (TimerLine E)
 
 -- the entries of both lists
-unfoldable pub entries : {E : Type 0} → (List ℕ → Result E SpecFault) → List Assigned → Lists E
+unfoldable pub entries : {E : Type 0} → (List ℕ → Result E SpecFault) → List Assignment → Timer E
 entries read assignments = record {
   expressions = entries_of read (listed assignments);
   exceptions = entries_of read (excepted assignments);
 }
 
 -- an empty list of expressions is nothing to do, whatever the exceptions are
-abbrev pub some_expressions : {E : Type 0} → List (Entry E) → List (Entry E) → Result (Lists E) TimerFault
+abbrev pub some_expressions : {E : Type 0} → List (TimerLine E) → List (TimerLine E) → Result (Timer E) TimerFault
 some_expressions [] exceptions = Err NothingToDo
 some_expressions (e ∷ es) exceptions = Ok (record { expressions = e ∷ es; exceptions = exceptions })
 
-abbrev pub some_entries : {E : Type 0} → Lists E → Result (Lists E) TimerFault
+abbrev pub some_entries : {E : Type 0} → Timer E → Result (Timer E) TimerFault
 some_entries lists = some_expressions lists.expressions lists.exceptions
 
 abbrev pub unless_fault : {A : Type 0} → Option TimerFault → Result A TimerFault → Result A TimerFault
@@ -115,7 +115,7 @@ unless_fault None result = result
 unless_fault (Some fault) result = Err fault
 
 -- the lists, or the first fault
-unfoldable pub lists_of : {E : Type 0} → (List ℕ → Result E SpecFault) → List Assigned → Result (Lists E) TimerFault
+unfoldable pub lists_of : {E : Type 0} → (List ℕ → Result E SpecFault) → List Assignment → Result (Timer E) TimerFault
 lists_of read assignments = unless_fault (first_fault read [] assignments) (some_entries (entries read assignments))
 
 -- the bytes of the byte order mark, U+FEFF
@@ -127,7 +127,7 @@ unfoldable pub without_mark : List ℕ → List ℕ
 without_mark text = if starts_with nat_eq text byte_order_mark then drop 3 text else text
 
 -- the lists that a text gives, or its fault
-unfoldable pub timer_of : {E : Type 0} → (List ℕ → Result E SpecFault) → List ℕ → Result (Lists E) TimerFault
+unfoldable pub timer_of : {E : Type 0} → (List ℕ → Result E SpecFault) → List ℕ → Result (Timer E) TimerFault
 timer_of read text = lists_of read (assignments_in false (logical_lines 1 (without_mark text)))
 
 -- the number of the physical line that has the first bytes which aren't UTF-8
@@ -135,7 +135,7 @@ unfoldable pub broken_line : List ℕ → ℕ
 broken_line bytes = count_by (λ b. b == 10) (take (utf8_valid_len bytes) bytes) + 1
 
 -- the lists that a file's bytes give, or their fault
-unfoldable pub timer_in : {E : Type 0} → (List ℕ → Result E SpecFault) → List ℕ → Result (Lists E) TimerFault
+unfoldable pub timer_in : {E : Type 0} → (List ℕ → Result E SpecFault) → List ℕ → Result (Timer E) TimerFault
 timer_in read bytes = if is_utf8 bytes then timer_of read bytes else Err (NotUtf8 (broken_line bytes))
 
 -- the fault of an input that can't be had whole
@@ -145,7 +145,7 @@ input_fault whole.TooLarge = TooLarge
 input_fault whole.NoMemory = NoMemory
 
 -- what reading a timer gives, by what the reads gave
-abbrev pub timer_text : {E : Type 0} → (List ℕ → Result E SpecFault) → Result (List ℕ) WholeFault → Result (Lists E) TimerFault
+abbrev pub timer_text : {E : Type 0} → (List ℕ → Result E SpecFault) → Result (List ℕ) WholeFault → Result (Timer E) TimerFault
 timer_text read (Ok bytes) = timer_in read bytes
 timer_text read (Err fault) = Err (input_fault fault)
 

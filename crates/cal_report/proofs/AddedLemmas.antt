@@ -9,20 +9,20 @@ use Rattle.cal_elapse.specs.Masks.{sets_in}
 use Rattle.cal_elapse.specs.Merged.{each_after}
 use Rattle.cal_elapse.specs.Timed.{timed}
 use Rattle.cal_elapse.specs.declared.masks.Masks.{Masks}
-use Rattle.cal_read.specs.TimerText.{Entry, Lists}
+use Rattle.cal_read.specs.TimerText.{TimerLine, Timer}
 use Rattle.cal_read.specs.TimerView.{shown}
-use Rattle.cal_read.specs.declared.timer.TimerLine.{TimerLine}
-use Rattle.cal_rising.specs.Merge.{Merging, merged}
+use Rattle.cal_read.specs.declared.timer.TimerLine as declared_line
+use Rattle.cal_rising.specs.Merge.{Merge, merged}
 use Rattle.cal_spec.specs.Fields.{Fields}
 use Rattle.cal_spec.specs.Match.{Sets}
-use Rattle.cal_spec.specs.ZoneSuffix.{Suffix, ahead, name_in, of_name, offset_said}
+use Rattle.cal_spec.specs.ZoneSuffix.{ZoneSuffix, ahead, name_in, of_name, offset_said}
 use Rattle.cal_report.proofs.TimerLemmas.{shown_more}
 use Rattle.cal_report.specs.TimerPlan.{IsAdded, IsCoveredEntry, each_of, entry_sets}
 use Rattle.cal_report.specs.TimerReport.{elapses_of_lists, timed_entry}
-use Rattle.cal_request.specs.Request.{Asked}
+use Rattle.cal_request.specs.Request.{Request}
 
 -- a zone is known by its name and its offset
-pub same_suffix : (a b : Option Suffix) → offset_said a ≡ offset_said b → name_in a ≡ name_in b → a ≡ b
+pub same_suffix : (a b : Option ZoneSuffix) → offset_said a ≡ offset_said b → name_in a ≡ name_in b → a ≡ b
 same_suffix None None h k = refl
 same_suffix None (Some (of_name name)) h k = absurd (cc)
 same_suffix None (Some (ahead seconds)) h k = absurd (cc)
@@ -34,7 +34,7 @@ same_suffix (Some (ahead seconds)) (Some (of_name name)) h k = absurd (cc)
 same_suffix (Some (ahead seconds)) (Some (ahead others)) h k = cc
 
 -- in the same zone, an expression whose members are among those of another elapses only where the other does
-place_among : (e f : Entry Fields) → e.expr.zone ≡ f.expr.zone → AreAmong (entry_sets e) (entry_sets f) → (asked : Asked) (i : ℤ)
+place_among : (e f : TimerLine Fields) → e.expr.zone ≡ f.expr.zone → AreAmong (entry_sets e) (entry_sets f) → (asked : Request) (i : ℤ)
     → IsPlace (timed_entry asked e) i → IsPlace (timed_entry asked f) i
 unfolding timed_entry timed
 place_among e f zone among asked i p = record {
@@ -44,68 +44,68 @@ place_among e f zone among asked i p = record {
   placed = rw (← zone) p.placed;
 }
 
-pub covered_at : (e : Entry Fields) (lines : List TimerLine) (masks : List Masks) (own : Sets) (i : ℕ) (line : TimerLine) (theirs : Masks)
+pub covered_at : (e : TimerLine Fields) (lines : List declared_line.TimerLine) (masks : List Masks) (own : Sets) (i : ℕ) (line : declared_line.TimerLine) (theirs : Masks)
     → map sets_in masks ≡ map entry_sets (map shown lines) → i < length lines → i < length masks → line ≡ get_or lines i line → theirs ≡ get_or masks i theirs
     → own ≡ entry_sets e → e.expr.zone ≡ line.expr.zone → AreAmong own (sets_in theirs) → IsCoveredEntry e (map shown lines)
 covered_at e [] masks own i line theirs all h k is so same zone among asked j p = absurd (omega arith)
 covered_at e (x ∷ lines) [] own i line theirs all h k is so same zone among asked j p = absurd (omega arith)
 covered_at e (x ∷ lines) (m ∷ masks) own zero line theirs all h k is so same zone among asked j p =
     let sets : sets_in theirs ≡ entry_sets (shown line) = cc in
-    inl (subst (λ (l : TimerLine). IsPlace (timed_entry asked (shown l)) j) is (place_among e (shown line) zone (rw (same, sets) at among) asked j p))
+    inl (subst (λ (l : declared_line.TimerLine). IsPlace (timed_entry asked (shown l)) j) is (place_among e (shown line) zone (rw (same, sets) at among) asked j p))
 covered_at e (x ∷ lines) (m ∷ masks) own (suc i) line theirs all h k is so same zone among asked j p =
     inr (covered_at e lines masks own i line theirs (cc) (omega arith) (omega arith) is so same zone among asked j p)
 
 -- nothing is added, one expression more, or one that is covered
-pub added_none : (asked : Asked) (base : ℤ) (excepts : List (Entry Fields)) (merge : Merging) → merge.started ≡ false → IsAdded asked base [] excepts merge merge
-added_none asked base excepts merge h = record {
+pub added_none : (asked : Request) (base : ℤ) (exceptions : List (TimerLine Fields)) (merge : Merge) → merge.started ≡ false → IsAdded asked base [] exceptions merge merge
+added_none asked base exceptions merge h = record {
   kept = [];
-  are_kept = kept_none (map (timed_entry asked) excepts);
-  is = λ i. record { started = h i; lists = sym (append-nil merge.lists) i; excepts = merge.excepts };
+  are_kept = kept_none (map (timed_entry asked) exceptions);
+  is = λ i. record { started = h i; lists = sym (append-nil merge.lists) i; exceptions = merge.exceptions };
 }
 
-pub added_one : (asked : Asked) (base : ℤ) (lines : List TimerLine) (excepts : List (Entry Fields)) (i : ℕ) (line : TimerLine) (old mid new : Merging) (elapses : List ℤ)
-    → i < length lines → line ≡ get_or lines i line → IsAdded asked base (map shown (take i lines)) excepts old mid
-    → elapses ≡ elapses_after (timed_entry asked (shown line) ∷ []) base → new ≡ record { started = false; lists = mid.lists ++ elapses ∷ []; excepts = mid.excepts }
-    → IsAdded asked base (map shown (take (i + 1) lines)) excepts old new
-added_one asked base lines excepts i line old mid new elapses h is a so with_it =
+pub added_one : (asked : Request) (base : ℤ) (lines : List declared_line.TimerLine) (exceptions : List (TimerLine Fields)) (i : ℕ) (line : declared_line.TimerLine) (old mid new : Merge) (elapses : List ℤ)
+    → i < length lines → line ≡ get_or lines i line → IsAdded asked base (map shown (take i lines)) exceptions old mid
+    → elapses ≡ elapses_after (timed_entry asked (shown line) ∷ []) base → new ≡ record { started = false; lists = mid.lists ++ elapses ∷ []; exceptions = mid.exceptions }
+    → IsAdded asked base (map shown (take (i + 1) lines)) exceptions old new
+added_one asked base lines exceptions i line old mid new elapses h is a so with_it =
     let e = timed_entry asked (shown line) in
     let more : map (timed_entry asked) (map shown (take (i + 1) lines)) ≡ map (timed_entry asked) (map shown (take i lines)) ++ e ∷ []
     = ap (map (timed_entry asked)) (shown_more lines i line h ∙ ap (λ x. map shown (take i lines) ++ shown x ∷ []) (sym is)) ∙ map-append (timed_entry asked) (map shown (take i lines)) (shown line ∷ []) in
     let each = λ (t : Timed). elapses_after (t ∷ []) base in
     let lists : mid.lists ++ elapses ∷ [] ≡ old.lists ++ each_after (a.kept ++ e ∷ []) base
-    = ap (λ (m : Merging). m.lists ++ elapses ∷ []) a.is ∙ append_assoc old.lists (each_after a.kept base) (elapses ∷ [])
+    = ap (λ (m : Merge). m.lists ++ elapses ∷ []) a.is ∙ append_assoc old.lists (each_after a.kept base) (elapses ∷ [])
     ∙ ap (λ (l : List (List ℤ)). old.lists ++ l) (ap (λ (l : List ℤ). each_after a.kept base ++ l ∷ []) so ∙ sym (map-append each a.kept (e ∷ []))) in
     record {
       kept = a.kept ++ e ∷ [];
-      are_kept = rw more (kept_one (map (timed_entry asked) (map shown (take i lines))) (map (timed_entry asked) excepts) a.kept e a.are_kept);
-      is = with_it ∙ (λ j. record { started = false; lists = lists j; excepts = ap (λ (m : Merging). m.excepts) a.is j });
+      are_kept = rw more (kept_one (map (timed_entry asked) (map shown (take i lines))) (map (timed_entry asked) exceptions) a.kept e a.are_kept);
+      is = with_it ∙ (λ j. record { started = false; lists = lists j; exceptions = ap (λ (m : Merge). m.exceptions) a.is j });
     }
 
-pub added_without : (asked : Asked) (base : ℤ) (lines : List TimerLine) (excepts : List (Entry Fields)) (i : ℕ) (line : TimerLine) (old new : Merging)
-    → i < length lines → line ≡ get_or lines i line → IsAdded asked base (map shown (take i lines)) excepts old new → IsCoveredEntry (shown line) excepts
-    → IsAdded asked base (map shown (take (i + 1) lines)) excepts old new
-added_without asked base lines excepts i line old new h is a covered =
+pub added_without : (asked : Request) (base : ℤ) (lines : List declared_line.TimerLine) (exceptions : List (TimerLine Fields)) (i : ℕ) (line : declared_line.TimerLine) (old new : Merge)
+    → i < length lines → line ≡ get_or lines i line → IsAdded asked base (map shown (take i lines)) exceptions old new → IsCoveredEntry (shown line) exceptions
+    → IsAdded asked base (map shown (take (i + 1) lines)) exceptions old new
+added_without asked base lines exceptions i line old new h is a covered =
     let e = timed_entry asked (shown line) in
     let more : map (timed_entry asked) (map shown (take (i + 1) lines)) ≡ map (timed_entry asked) (map shown (take i lines)) ++ e ∷ []
     = ap (map (timed_entry asked)) (shown_more lines i line h ∙ ap (λ x. map shown (take i lines) ++ shown x ∷ []) (sym is)) ∙ map-append (timed_entry asked) (map shown (take i lines)) (shown line ∷ []) in
     record {
       kept = a.kept;
-      are_kept = rw more (kept_without (map (timed_entry asked) (map shown (take i lines))) (map (timed_entry asked) excepts) a.kept e (covered asked) a.are_kept);
+      are_kept = rw more (kept_without (map (timed_entry asked) (map shown (take i lines))) (map (timed_entry asked) exceptions) a.kept e (covered asked) a.are_kept);
       is = a.is;
     }
 
 -- with the exceptions, the merge has the elapses of the lists
-pub merge_added : (asked : Asked) (base : ℤ) (lists : Lists Fields) (empty some merge : Merging) → empty ≡ record { started = false; lists = []; excepts = [] }
+pub merge_added : (asked : Request) (base : ℤ) (lists : Timer Fields) (empty some merge : Merge) → empty ≡ record { started = false; lists = []; exceptions = [] }
     → IsAdded asked base lists.expressions lists.exceptions empty some
-    → merge ≡ record { started = false; lists = some.lists; excepts = some.excepts ++ each_of asked base lists.exceptions }
+    → merge ≡ record { started = false; lists = some.lists; exceptions = some.exceptions ++ each_of asked base lists.exceptions }
     → merged merge ≡ elapses_of_lists asked base lists
 unfolding elapses_of_lists
 merge_added asked base lists empty some merge none a all =
-    let excepts = map (timed_entry asked) lists.exceptions in
-    let whole : merge ≡ record { started = false; lists = each_after a.kept base; excepts = each_after excepts base }
+    let exceptions = map (timed_entry asked) lists.exceptions in
+    let whole : merge ≡ record { started = false; lists = each_after a.kept base; exceptions = each_after exceptions base }
     = all ∙ (λ j. record {
       started = false;
-      lists = (ap (λ (m : Merging). m.lists) a.is ∙ ap (λ (m : Merging). m.lists ++ each_after a.kept base) none) j;
-      excepts = ap (λ (m : Merging). m.excepts ++ each_after excepts base) (a.is ∙ ap (λ (m : Merging). record { started = false; lists = m.lists ++ each_after a.kept base; excepts = m.excepts }) none) j;
+      lists = (ap (λ (m : Merge). m.lists) a.is ∙ ap (λ (m : Merge). m.lists ++ each_after a.kept base) none) j;
+      exceptions = ap (λ (m : Merge). m.exceptions ++ each_after exceptions base) (a.is ∙ ap (λ (m : Merge). record { started = false; lists = m.lists ++ each_after a.kept base; exceptions = m.exceptions }) none) j;
     }) in
-    ap merged whole ∙ (without-elapses a.kept excepts base ∙ elapses_except-kept (map (timed_entry asked) lists.expressions) excepts a.kept base a.are_kept)
+    ap merged whole ∙ (without-elapses a.kept exceptions base ∙ elapses_except-kept (map (timed_entry asked) lists.expressions) exceptions a.kept base a.are_kept)

@@ -14,14 +14,14 @@ use Rattle.cal_spec.specs.Grammar.{fields_in}
 use Rattle.cal_spec.specs.NormalForm.{IsNormalFieldsOf, normal_fields}
 use Rattle.cal_spec.specs.Reads.{◌>>=◌}
 use Rattle.cal_spec.specs.ValidFields.{IsValidFields}
-use Rattle.cal_spec.specs.ZoneSuffix.{Suffix, of_name, ahead}
+use Rattle.cal_spec.specs.ZoneSuffix.{ZoneSuffix, of_name, ahead}
 use Rattle.cal_zone.specs.ZoneAhead.{zone_ahead}
 use Rattle.cal_spec.specs.declared.spec_fault.SpecFault.{SpecFault}
 use Rattle.cal_spec.proofs.FieldLemmas.{valid_fields}
 use Rattle.cal_spec.proofs.WholeRule.{valid_found}
-use Rattle.cal_read.specs.Assignments.{Assigned}
+use Rattle.cal_read.specs.Assignments.{Assignment}
 use Rattle.cal_read.specs.TimerRule.{AreFine, Judges}
-use Rattle.cal_read.specs.TimerText.{Entry, Lists, bad_line, entries, entry_of, excepted, fault_joining, is_exception, is_exception_reset, is_expression, is_reset, listed, most_expressions, timer_in, timer_of}
+use Rattle.cal_read.specs.TimerText.{TimerLine, Timer, bad_line, entries, entry_of, excepted, fault_joining, is_exception, is_exception_reset, is_expression, is_reset, listed, most_expressions, timer_in, timer_of}
 use Rattle.cal_read.specs.declared.timer.fault.TimerFault.{TimerFault}
 use Rattle.cal_read.proofs.ListedLemmas.{fault_of_exception, fault_of_expression}
 use Rattle.cal_read.proofs.TimerRuleLemmas.{judged}
@@ -30,9 +30,9 @@ use Rattle.cal_report.specs.CalendarReport.{answer_in, answer_with, calendar_ans
 use Rattle.cal_report.specs.Headline.{AreAccepted, AreSpelled, Expression, IsAccepted, IsAcceptedFile, IsZoneFor, Spells, assigned_in}
 use Rattle.cal_report.specs.Report.{Report, answer_by, answer_to, base_in, file_name, report, texts_report, whole_report}
 use Rattle.cal_report.specs.TimerReport.{answer_of_timer, answer_unless, lacks_zone, timer_answer, unzoned}
-use Rattle.cal_request.specs.Request.{Asked, is_timer}
+use Rattle.cal_request.specs.Request.{Request, is_timer}
 use Rattle.cal_request.specs.declared.request.Status.TheVariants.{Fine, Refused}
-use Rattle.cal_request.specs.declared.request.Verb.TheVariants.{Calendar, Timer}
+use Rattle.cal_request.specs.declared.request.Verb.TheVariants as verb
 use Rattle.cal_report.proofs.HeadlineLemmas.{HaveOneNormalForm, report_of_texts, spelled_is_read, text_of}
 use Rattle.cal_report.proofs.TimerLemmas.{all_zoned, none_mapped}
 
@@ -53,19 +53,19 @@ read_is_spelled : AreNormalForms → (text : List ℕ) (fields : Fields) → exp
 unfolding expr_in
 read_is_spelled some text fields h = spelled_by some text fields (fields_in text) refl h
 
-found_is_zone : (asked : Asked) (suffix : Option Suffix) (tz : TimeZone) → zone_for asked suffix ≡ Some tz → IsZoneFor asked suffix tz
+found_is_zone : (asked : Request) (suffix : Option ZoneSuffix) (tz : TimeZone) → zone_for asked suffix ≡ Some tz → IsZoneFor asked suffix tz
 unfolding zone_for
 found_is_zone asked None tz h = let same : zone_of asked.local ≡ tz = cc in sym same
 found_is_zone asked (Some (of_name name)) tz h = h
 found_is_zone asked (Some (ahead seconds)) tz h = let same : zone_ahead seconds ≡ tz = cc in sym same
 
 -- a text that is accepted
-pub record IsAcceptedText (asked : Asked) (text : List ℕ) : Type 0 where
+pub record IsAcceptedText (asked : Request) (text : List ℕ) : Type 0 where
   pub expression : Expression
   pub same : text ≡ expression.text
   pub accepted : IsAccepted asked expression
 
-accepted_in : AreNormalForms → (asked : Asked) (base : ℤ) (text : List ℕ) (fields : Fields) (o : Option TimeZone) → expr_in text ≡ Ok fields
+accepted_in : AreNormalForms → (asked : Request) (base : ℤ) (text : List ℕ) (fields : Fields) (o : Option TimeZone) → expr_in text ≡ Ok fields
     → zone_for asked fields.zone ≡ o → is_err (answer_in asked base text fields o) ≡ false → IsAcceptedText asked text
 accepted_in some asked base text fields None read found h = cc
 accepted_in some asked base text fields (Some tz) read found h = record {
@@ -74,18 +74,18 @@ accepted_in some asked base text fields (Some tz) read found h = record {
   accepted = record { spelled = read_is_spelled some text fields read; zone = found_is_zone asked fields.zone tz found };
 }
 
-accepted_with : AreNormalForms → (asked : Asked) (base : ℤ) (text : List ℕ) (r : Result Fields SpecFault) → expr_in text ≡ r
+accepted_with : AreNormalForms → (asked : Request) (base : ℤ) (text : List ℕ) (r : Result Fields SpecFault) → expr_in text ≡ r
     → is_err (answer_with asked base text r) ≡ false → IsAcceptedText asked text
 accepted_with some asked base text (Ok fields) read h = accepted_in some asked base text fields (zone_for asked fields.zone) read refl h
 accepted_with some asked base text (Err fault) read h = cc
 
-pub text_accepted : AreNormalForms → (asked : Asked) (base : ℤ) (text : List ℕ) → asked.verb ≡ Calendar
+pub text_accepted : AreNormalForms → (asked : Request) (base : ℤ) (text : List ℕ) → asked.verb ≡ verb.Calendar
     → is_err (answer_to asked base text) ≡ false → IsAcceptedText asked text
 unfolding calendar_answer
 text_accepted some asked base text verb h =
     accepted_with some asked base text (expr_in text) refl (sym (ap (λ v. is_err (answer_by v asked base text)) verb) ∙ h)
 
-texts_accepted : AreNormalForms → (asked : Asked) (base : ℤ) (texts : List (List ℕ)) → asked.verb ≡ Calendar
+texts_accepted : AreNormalForms → (asked : Request) (base : ℤ) (texts : List (List ℕ)) → asked.verb ≡ verb.Calendar
     → list_any (λ text. is_err (answer_to asked base text)) texts ≡ false → AreAccepted asked texts
 texts_accepted some asked base [] verb h = record { expressions = []; same = refl; each = tt }
 texts_accepted some asked base (text ∷ texts) verb h =
@@ -99,7 +99,7 @@ none_by_status : (b : Bool) → (if b then Refused else Fine) ≡ Fine → b ≡
 none_by_status true h = cc
 none_by_status false h = refl
 
-pub fine_texts_are_accepted : AreNormalForms → (asked : Asked) (read : Result (List ℕ) WholeFault) (base : ℤ) → asked.verb ≡ Calendar → base_in asked ≡ Ok base
+pub fine_texts_are_accepted : AreNormalForms → (asked : Request) (read : Result (List ℕ) WholeFault) (base : ℤ) → asked.verb ≡ verb.Calendar → base_in asked ≡ Ok base
     → (report asked read).status ≡ Fine → AreAccepted asked asked.texts
 unfolding texts_report texts_status
 fine_texts_are_accepted some asked read base verb sought h =
@@ -113,71 +113,71 @@ spelled_unless : AreNormalForms → (number : ℕ) (text : List ℕ) (r : Result
 spelled_unless some number text (Ok fields) read h = (fields, read_is_spelled some text fields read)
 spelled_unless some number text (Err fault) read h = cc
 
-joining_by : AreNormalForms → (list : List Assigned) (a : Assigned) (many : Bool) → nat_le most_expressions (length list) ≡ many
+joining_by : AreNormalForms → (list : List Assignment) (a : Assignment) (many : Bool) → nat_le most_expressions (length list) ≡ many
     → fault_joining expr_in list a ≡ None → (length list < most_expressions) × ((fields : Fields) × Spells a.value fields)
 unfolding fault_joining
 joining_by some list a true few = rw few (λ h. cc)
 joining_by some list a false few = rw few (λ h. (grind (arith, few), spelled_unless some a.number a.value (expr_in a.value) refl h))
 
-joining_spelled : AreNormalForms → (list : List Assigned) (a : Assigned) → fault_joining expr_in list a ≡ None
+joining_spelled : AreNormalForms → (list : List Assignment) (a : Assignment) → fault_joining expr_in list a ≡ None
     → (length list < most_expressions) × ((fields : Fields) × Spells a.value fields)
 joining_spelled some list a h = joining_by some list a (nat_le most_expressions (length list)) refl h
 
-fine_spelled : AreNormalForms → (all : List Assigned) → AreFine expr_in all → AreSpelled all
+fine_spelled : AreNormalForms → (all : List Assignment) → AreFine expr_in all → AreSpelled all
 fine_spelled some all fine before a after split = (
   λ is. joining_spelled some (listed before) a (sym (fault_of_expression expr_in before a is) ∙ fine before a after split),
   λ is. joining_spelled some (excepted before) a (sym (fault_of_exception expr_in before a is) ∙ fine before a after split),
 )
 
 -- the text of an assignment is one
-abbrev IsSpelled : Assigned → Type 0
+abbrev IsSpelled : Assignment → Type 0
 IsSpelled a = (fields : Fields) × Spells a.value fields
 
 -- of a list that a test adds to, where each assignment that it passes is one
-kept_spelled : (adds : Assigned → Bool) (a : Assigned) (rest : List Assigned) (is : Bool) → (is ≡ true → IsSpelled a) → AllByRecursion IsSpelled (filter adds rest)
+kept_spelled : (adds : Assignment → Bool) (a : Assignment) (rest : List Assignment) (is : Bool) → (is ≡ true → IsSpelled a) → AllByRecursion IsSpelled (filter adds rest)
     → AllByRecursion IsSpelled (cond is (a ∷ filter adds rest) (filter adds rest))
 kept_spelled adds a rest true here later = (here refl, later)
 kept_spelled adds a rest false here later = later
 
-each_spelled : (adds : Assigned → Bool) (all front rest : List Assigned) → all ≡ front ++ rest
-    → ((before : List Assigned) (a : Assigned) (after : List Assigned) → all ≡ before ++ (a ∷ after) → adds a ≡ true → IsSpelled a)
+each_spelled : (adds : Assignment → Bool) (all front rest : List Assignment) → all ≡ front ++ rest
+    → ((before : List Assignment) (a : Assignment) (after : List Assignment) → all ≡ before ++ (a ∷ after) → adds a ≡ true → IsSpelled a)
     → AllByRecursion IsSpelled (filter adds rest)
 each_spelled adds all front [] split h = tt
 each_spelled adds all front (a ∷ rest) split h =
     kept_spelled adds a rest (adds a) (λ is. h front a rest split is)
     (each_spelled adds all (front ++ a ∷ []) rest (split ∙ sym (append_assoc front (a ∷ []) rest)) h)
 
-listed_spelled : (all : List Assigned) → AreSpelled all → AllByRecursion IsSpelled (listed all)
+listed_spelled : (all : List Assignment) → AreSpelled all → AllByRecursion IsSpelled (listed all)
 unfolding listed
 listed_spelled all h =
     let before = length all - suffix_len (λ a. not (is_reset a)) all in
     each_spelled is_expression all (take before all) (drop before all) (sym (take-append-drop before all)) (λ front a rest split is. ((h front a rest split).0 is).1)
 
-excepted_spelled : (all : List Assigned) → AreSpelled all → AllByRecursion IsSpelled (excepted all)
+excepted_spelled : (all : List Assignment) → AreSpelled all → AllByRecursion IsSpelled (excepted all)
 unfolding excepted
 excepted_spelled all h =
     let before = length all - suffix_len (λ a. not (is_exception_reset a)) all in
     each_spelled is_exception all (take before all) (drop before all) (sym (take-append-drop before all)) (λ front a rest split is. ((h front a rest split).1 is).1)
 
 -- the expressions of assignments
-record AreExpressionsOf (asked : Asked) (list : List Assigned) : Type 0 where
+record AreExpressionsOf (asked : Request) (list : List Assignment) : Type 0 where
   expressions : List Expression
-  same : map (λ (a : Assigned). a.value) list ≡ map text_of expressions
+  same : map (λ (a : Assignment). a.value) list ≡ map text_of expressions
   each : AllByRecursion (IsAccepted asked) expressions
   many : length expressions ≡ length (filter_map (λ a. entry_of a (expr_in a.value)) list)
 
-no_expressions : (asked : Asked) → AreExpressionsOf asked []
+no_expressions : (asked : Request) → AreExpressionsOf asked []
 no_expressions asked = record { expressions = []; same = refl; each = tt; many = refl }
 
 found_by : {A : Type 0} (o : Option A) → is_none o ≡ false → (x : A) × (o ≡ Some x)
 found_by None h = cc
 found_by (Some x) h = (x, refl)
 
-found_none : (p : Entry Fields → Bool) (x : Entry Fields) (xs : List (Entry Fields)) (here : Bool) → p x ≡ here → find p (x ∷ xs) ≡ None → (p x ≡ false) × (find p xs ≡ None)
-found_none p x xs true is h = absurd (let never : ◌≡◌ {A = Option (Entry Fields)} (Some x) None = rw is at h in cc)
+found_none : (p : TimerLine Fields → Bool) (x : TimerLine Fields) (xs : List (TimerLine Fields)) (here : Bool) → p x ≡ here → find p (x ∷ xs) ≡ None → (p x ≡ false) × (find p xs ≡ None)
+found_none p x xs true is h = absurd (let never : ◌≡◌ {A = Option (TimerLine Fields)} (Some x) None = rw is at h in cc)
 found_none p x xs false is h = (is, rw is at h)
 
-one_more : (asked : Asked) (a : Assigned) (list : List Assigned) (spelled : IsSpelled a) → expr_in a.value ≡ Ok spelled.0 → lacks_zone asked (record { number = a.number; text = a.value; expr = spelled.0 }) ≡ false
+one_more : (asked : Request) (a : Assignment) (list : List Assignment) (spelled : IsSpelled a) → expr_in a.value ≡ Ok spelled.0 → lacks_zone asked (record { number = a.number; text = a.value; expr = spelled.0 }) ≡ false
     → AreExpressionsOf asked list → AreExpressionsOf asked (a ∷ list)
 one_more asked a list spelled read there rest =
     let zone = found_by (zone_for asked (spelled.0).zone) there in
@@ -188,22 +188,22 @@ one_more asked a list spelled read there rest =
       many = rw read (ap suc rest.many);
     }
 
-expressions_of : HaveOneNormalForm → (asked : Asked) (list : List Assigned) → AllByRecursion IsSpelled list
+expressions_of : HaveOneNormalForm → (asked : Request) (list : List Assignment) → AllByRecursion IsSpelled list
     → find (lacks_zone asked) (filter_map (λ a. entry_of a (expr_in a.value)) list) ≡ None → AreExpressionsOf asked list
 expressions_of one asked [] spelled h = no_expressions asked
 expressions_of one asked (a ∷ list) spelled h =
     let read = spelled_is_read one a.value (spelled.0).0 (spelled.0).1 in
-    let entry : Entry Fields = record { number = a.number; text = a.value; expr = (spelled.0).0 } in
+    let entry : TimerLine Fields = record { number = a.number; text = a.value; expr = (spelled.0).0 } in
     let rest = filter_map (λ a. entry_of a (expr_in a.value)) list in
     let parts = found_none (lacks_zone asked) entry rest (lacks_zone asked entry) refl (rw read at h) in
     one_more asked a list spelled.0 read parts.0 (expressions_of one asked list spelled.1 parts.1)
 
-read_parts : (utf8 : Bool) (good bad : Result (Lists Fields) TimerFault) (lists : Lists Fields) (fault : TimerFault) → bad ≡ Err fault
+read_parts : (utf8 : Bool) (good bad : Result (Timer Fields) TimerFault) (lists : Timer Fields) (fault : TimerFault) → bad ≡ Err fault
     → (if utf8 then good else bad) ≡ Ok lists → (utf8 ≡ true) × (good ≡ Ok lists)
 read_parts true good bad lists fault is h = (refl, h)
-read_parts false good bad lists fault is h = absurd (let never : ◌≡◌ {A = Result (Lists Fields) TimerFault} (Err fault) (Ok lists) = sym is ∙ h in cc)
+read_parts false good bad lists fault is h = absurd (let never : ◌≡◌ {A = Result (Timer Fields) TimerFault} (Err fault) (Ok lists) = sym is ∙ h in cc)
 
-lists_accepted : HaveOneNormalForm → AreNormalForms → (asked : Asked) (bytes : List ℕ) (lists : Lists Fields) → timer_in expr_in bytes ≡ Ok lists
+lists_accepted : HaveOneNormalForm → AreNormalForms → (asked : Request) (bytes : List ℕ) (lists : Timer Fields) → timer_in expr_in bytes ≡ Ok lists
     → unzoned asked lists ≡ None → IsAcceptedFile asked bytes
 unfolding timer_in timer_of entries
 lists_accepted one some asked bytes lists read there =
@@ -213,36 +213,36 @@ lists_accepted one some asked bytes lists read there =
     let spelled = fine_spelled some all judges.0 in
     let zoned = all_zoned asked lists there in
     let none : find (lacks_zone asked) (entries expr_in all).expressions ≡ None
-    = ap (λ (l : Lists Fields). find (lacks_zone asked) l.expressions) judges.1 ∙ none_mapped (find (lacks_zone asked) lists.expressions) zoned.0 in
+    = ap (λ (l : Timer Fields). find (lacks_zone asked) l.expressions) judges.1 ∙ none_mapped (find (lacks_zone asked) lists.expressions) zoned.0 in
     let nor : find (lacks_zone asked) (entries expr_in all).exceptions ≡ None
-    = ap (λ (l : Lists Fields). find (lacks_zone asked) l.exceptions) judges.1 ∙ none_mapped (find (lacks_zone asked) lists.exceptions) zoned.1 in
+    = ap (λ (l : Timer Fields). find (lacks_zone asked) l.exceptions) judges.1 ∙ none_mapped (find (lacks_zone asked) lists.exceptions) zoned.1 in
     let found = expressions_of one asked (listed all) (listed_spelled all spelled) none in
     let except = expressions_of one asked (excepted all) (excepted_spelled all spelled) nor in
-    let many : length found.expressions ≡ length lists.expressions = found.many ∙ ap (λ (l : Lists Fields). length l.expressions) judges.1 in
+    let many : length found.expressions ≡ length lists.expressions = found.many ∙ ap (λ (l : Timer Fields). length l.expressions) judges.1 in
     record {
       schedule = record { expressions = found.expressions; exceptions = except.expressions };
       lists = record { utf8 = parts.0; spelled = spelled; expressions = found.same; exceptions = except.same; some = omega (arith, many, judges.2) };
       each = record { expressions = found.each; exceptions = except.each };
     }
 
-accepted_unless : HaveOneNormalForm → AreNormalForms → (asked : Asked) (bytes name : List ℕ) (base : ℤ) (lists : Lists Fields) (o : Option ℕ)
+accepted_unless : HaveOneNormalForm → AreNormalForms → (asked : Request) (bytes name : List ℕ) (base : ℤ) (lists : Timer Fields) (o : Option ℕ)
     → timer_in expr_in bytes ≡ Ok lists → unzoned asked lists ≡ o → (whole_report (answer_unless asked base name lists o)).status ≡ Fine → IsAcceptedFile asked bytes
 accepted_unless one some asked bytes name base lists None read there h = lists_accepted one some asked bytes lists read there
 accepted_unless one some asked bytes name base lists (Some number) read there h = cc
 
-accepted_of : HaveOneNormalForm → AreNormalForms → (asked : Asked) (bytes name : List ℕ) (base : ℤ) (r : Result (Lists Fields) TimerFault)
+accepted_of : HaveOneNormalForm → AreNormalForms → (asked : Request) (bytes name : List ℕ) (base : ℤ) (r : Result (Timer Fields) TimerFault)
     → timer_in expr_in bytes ≡ r → (whole_report (answer_of_timer asked base name r)).status ≡ Fine → IsAcceptedFile asked bytes
 accepted_of one some asked bytes name base (Ok lists) read h = accepted_unless one some asked bytes name base lists (unzoned asked lists) read refl h
 accepted_of one some asked bytes name base (Err fault) read h = cc
 
-report_of_timer : (asked : Asked) (bytes : List ℕ) (base : ℤ) → asked.verb ≡ Timer → base_in asked ≡ Ok base
+report_of_timer : (asked : Request) (bytes : List ℕ) (base : ℤ) → asked.verb ≡ verb.Timer → base_in asked ≡ Ok base
     → report asked (Ok bytes) ≡ whole_report (timer_answer asked base (file_name asked) (Ok bytes))
 unfolding report
 report_of_timer asked bytes base verb sought =
     let timer : is_timer asked.verb ≡ true = ap is_timer verb in
     rw (sought, timer) refl
 
-pub fine_file_is_accepted : HaveOneNormalForm → AreNormalForms → (asked : Asked) (bytes : List ℕ) (base : ℤ) → asked.verb ≡ Timer → base_in asked ≡ Ok base
+pub fine_file_is_accepted : HaveOneNormalForm → AreNormalForms → (asked : Request) (bytes : List ℕ) (base : ℤ) → asked.verb ≡ verb.Timer → base_in asked ≡ Ok base
     → (report asked (Ok bytes)).status ≡ Fine → IsAcceptedFile asked bytes
 unfolding timer_answer
 fine_file_is_accepted one some asked bytes base verb sought h =

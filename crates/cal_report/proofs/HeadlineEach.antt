@@ -8,7 +8,7 @@ use Rattle.cal_bytes.specs.declared.whole.WholeFault.{WholeFault}
 use Rattle.cal_report.specs.Answer.{Answer, refusal_in, refusal_line, refusals_text, report_in, reports_text, texts_status}
 use Rattle.cal_report.specs.Headline.{AreAnswered, IsAnswerTo, IsReportOf, alone}
 use Rattle.cal_report.specs.Report.{ByReading, IsReported, Report, answer_to, base_in, report, texts_report}
-use Rattle.cal_request.specs.Request.{Asked}
+use Rattle.cal_request.specs.Request.{Request}
 use Rattle.cal_request.specs.declared.request.Status.{Status}
 use Rattle.cal_request.specs.declared.request.Status.TheVariants.{Fine, Refused}
 use Rattle.cal_request.specs.declared.request.Verb.TheVariants.{Calendar}
@@ -29,7 +29,7 @@ same_report a b h = cc
 never_both : (words report : List ℕ) → ◌≡◌ {A = Answer} (Err words) (Ok report) → ⊥
 never_both words report h = cc
 
-answered_so : HaveOneNormalForm → AreNormalForms → (asked : Asked) (base : ℤ) (text : List ℕ) (a : Answer) → asked.verb ≡ Calendar
+answered_so : HaveOneNormalForm → AreNormalForms → (asked : Request) (base : ℤ) (text : List ℕ) (a : Answer) → asked.verb ≡ Calendar
     → answer_to asked base text ≡ a → IsAnswerTo asked base text (lined text a)
 answered_so one some asked base text (Ok report) verb is =
     let it = text_accepted some asked base text verb (ap is_err is) in
@@ -45,7 +45,7 @@ answered_so one some asked base text (Err words) verb is = (
   (words, search rules),
 )
 
-each_answered : HaveOneNormalForm → AreNormalForms → (asked : Asked) (base : ℤ) (texts : List (List ℕ)) → asked.verb ≡ Calendar
+each_answered : HaveOneNormalForm → AreNormalForms → (asked : Request) (base : ℤ) (texts : List (List ℕ)) → asked.verb ≡ Calendar
     → AllZip (IsAnswerTo asked base) texts (map (lined_by (answer_to asked base)) texts)
 each_answered one some asked base [] verb = tt
 each_answered one some asked base (text ∷ texts) verb =
@@ -81,7 +81,7 @@ some_fails answer [] = refl
 some_fails answer (text ∷ texts) =
     ap (λ b. b || list_any (λ text. is_err (answer text)) texts) (fails_so text (answer text)) ∙ ap (λ b. is_err (lined_by answer text) || b) (some_fails answer texts)
 
-texts_answered : HaveOneNormalForm → AreNormalForms → (asked : Asked) (base : ℤ) → asked.verb ≡ Calendar → AreAnswered asked base asked.texts (texts_report asked base)
+texts_answered : HaveOneNormalForm → AreNormalForms → (asked : Request) (base : ℤ) → asked.verb ≡ Calendar → AreAnswered asked base asked.texts (texts_report asked base)
 unfolding texts_report reports_text refusals_text texts_status
 texts_answered one some asked base verb =
     let answer = answer_to asked base in
@@ -93,12 +93,12 @@ texts_answered one some asked base verb =
       status = ap (λ b. if b then Refused else Fine) (some_fails answer asked.texts);
     }
 
-pub each_is_answered : HaveOneNormalForm → AreNormalForms → (asked : Asked) (read : Result (List ℕ) WholeFault) (base : ℤ)
+pub each_is_answered : HaveOneNormalForm → AreNormalForms → (asked : Request) (read : Result (List ℕ) WholeFault) (base : ℤ)
     → asked.verb ≡ Calendar → base_in asked ≡ Ok base → AreAnswered asked base asked.texts (report asked read)
 each_is_answered one some asked read base verb sought =
     rw (report_of_texts asked read base verb sought) (texts_answered one some asked base verb)
 
-pub each_is_written : HaveOneNormalForm → AreNormalForms → (asked : Asked) (base : ℤ) (old new : Option (List ℕ)) (failed : Bool) (status : Status)
+pub each_is_written : HaveOneNormalForm → AreNormalForms → (asked : Request) (base : ℤ) (old new : Option (List ℕ)) (failed : Bool) (status : Status)
     (out_old out_new err_old err_new : Option (List ℕ)) → asked.verb ≡ Calendar → base_in asked ≡ Ok base
     → ByReading asked old new failed (IsReported (Ok status) out_old out_new err_old err_new)
     → (it : Report) × AreAnswered asked base asked.texts it × Appends out_old out_new it.out × Appends err_old err_new it.err × (status ≡ it.status)

@@ -23,7 +23,7 @@ use Rattle.cal_report.specs.ElapseLines.{AreInstants}
 use Rattle.cal_report.specs.Headline.{AreElapsesOf, Expression, Schedule, meaning}
 use Rattle.cal_report.specs.Report.{base_from, base_in, second_or_fault}
 use Rattle.cal_report.specs.TimestampReport.{second_at, stamp_in}
-use Rattle.cal_request.specs.Request.{Asked}
+use Rattle.cal_request.specs.Request.{Request}
 use Rattle.cal_report.proofs.HeadlineLemmas.{one_elapses}
 
 -- Instants
@@ -34,15 +34,15 @@ second_low (Ok micros) base h =
     subst (λ (b : ℤ). pos 0 ≤ℤ b) same (omega (arith, ints))
 second_low (Err fault) base h = cc
 
-base_from_low : (asked : Asked) (text : Option (List ℕ)) (base : ℤ) → pos 0 ≤ℤ asked.now → base_from asked text ≡ Ok base → pos 0 ≤ℤ base
+base_from_low : (asked : Request) (text : Option (List ℕ)) (base : ℤ) → pos 0 ≤ℤ asked.now → base_from asked text ≡ Ok base → pos 0 ≤ℤ base
 base_from_low asked None base low h = subst (λ (b : ℤ). pos 0 ≤ℤ b) (let same : asked.now ≡ base = cc in same) low
 base_from_low asked (Some text) base low h = second_low (stamp_in asked text) base h
 
-pub base_low : (asked : Asked) (base : ℤ) → IsInstant asked.now → base_in asked ≡ Ok base → pos 0 ≤ℤ base
+pub base_low : (asked : Request) (base : ℤ) → IsInstant asked.now → base_in asked ≡ Ok base → pos 0 ≤ℤ base
 unfolding base_in
 base_low asked base now h = base_from_low asked asked.base base now.0 h
 
-pub elapses_are_instants : (asked : Asked) (base : ℤ) (s : Schedule) (xs : List ℤ) → IsInstant asked.now → base_in asked ≡ Ok base
+pub elapses_are_instants : (asked : Request) (base : ℤ) (s : Schedule) (xs : List ℤ) → IsInstant asked.now → base_in asked ≡ Ok base
     → AreElapsesOf s base xs → AreInstants xs
 elapses_are_instants asked base s xs now sought h i there =
     let elapse = ((AreElapses-elapses_except (map meaning s.expressions) (map meaning s.exceptions) base).members i).1 ((h.members i).0 there) in
@@ -50,16 +50,16 @@ elapses_are_instants asked base s xs now sought h i there =
 
 -- Starting again
 
-pub goes_on : (ts excepts : List Timed) (base e : ℤ) (xs : List ℤ) (k : ℕ) → AreElapses ts excepts base xs → slice_get xs k ≡ Some e → AreElapses ts excepts e (drop (suc k) xs)
-goes_on ts excepts base e xs k h at =
-    let same = AreElapses-only ts excepts base xs h in
-    let at_all : slice_get (elapses_except ts excepts base) k ≡ Some e = subst (λ (ys : List ℤ). slice_get ys k ≡ Some e) same at in
-    subst (AreElapses ts excepts e) (elapses_except-later ts excepts base e k at_all ∙ ap (drop (suc k)) (sym same)) (AreElapses-elapses_except ts excepts e)
+pub goes_on : (ts exceptions : List Timed) (base e : ℤ) (xs : List ℤ) (k : ℕ) → AreElapses ts exceptions base xs → slice_get xs k ≡ Some e → AreElapses ts exceptions e (drop (suc k) xs)
+goes_on ts exceptions base e xs k h at =
+    let same = AreElapses-only ts exceptions base xs h in
+    let at_all : slice_get (elapses_except ts exceptions base) k ≡ Some e = subst (λ (ys : List ℤ). slice_get ys k ≡ Some e) same at in
+    subst (AreElapses ts exceptions e) (elapses_except-later ts exceptions base e k at_all ∙ ap (drop (suc k)) (sym same)) (AreElapses-elapses_except ts exceptions e)
 
-pub in_parts : (ts excepts : List Timed) (base e : ℤ) (xs ys : List ℤ) (k m : ℕ) → AreElapses ts excepts base xs → slice_get xs k ≡ Some e → AreElapses ts excepts e ys
+pub in_parts : (ts exceptions : List Timed) (base e : ℤ) (xs ys : List ℤ) (k m : ℕ) → AreElapses ts exceptions base xs → slice_get xs k ≡ Some e → AreElapses ts exceptions e ys
     → take (suc k) xs ++ take m ys ≡ take (suc k + m) xs
-in_parts ts excepts base e xs ys k m h at more =
-    let rest : ys ≡ drop (suc k) xs = one_elapses ts excepts e ys (drop (suc k) xs) more (goes_on ts excepts base e xs k h at) in
+in_parts ts exceptions base e xs ys k m h at more =
+    let rest : ys ≡ drop (suc k) xs = one_elapses ts exceptions e ys (drop (suc k) xs) more (goes_on ts exceptions base e xs k h at) in
     rw rest (sym (take-add (suc k) m xs))
 
 -- What a zone's clock shows

@@ -15,21 +15,21 @@ use Rattle.cal_spec.proofs.WholeRule.{valid_only}
 use Rattle.cal_bytes.specs.Bytes.{joined}
 use Rattle.cal_elapse.specs.Elapses.{AreElapses, Timed, elapses_after, elapses_except}
 use Rattle.cal_elapse.proofs.ElapsesLemmas.{AreElapses-elapses_except, AreElapses-only, elapses_except-none}
-use Rattle.cal_read.specs.Assignments.{Assigned}
+use Rattle.cal_read.specs.Assignments.{Assignment}
 use Rattle.cal_read.specs.TimerRule.{AreFine}
-use Rattle.cal_read.specs.TimerText.{Entry, Lists, entries, entry_of, excepted, fault_following, fault_joining, is_exception, is_expression, listed, most_expressions, timer_in, timer_of}
+use Rattle.cal_read.specs.TimerText.{TimerLine, Timer, entries, entry_of, excepted, fault_following, fault_joining, is_exception, is_expression, listed, most_expressions, timer_in, timer_of}
 use Rattle.cal_read.proofs.TimerRuleLemmas.{only_judged}
 use Rattle.cal_report.specs.Answer.{refusals_text, report_in, reports_text, texts_status}
-use Rattle.cal_spec.specs.ZoneSuffix.{Suffix, of_name, ahead}
+use Rattle.cal_spec.specs.ZoneSuffix.{ZoneSuffix, of_name, ahead}
 use Rattle.cal_report.specs.CalendarReport.{answer_in, answer_with, calendar_answer, calendar_report, heading_text, zone_for}
 use Rattle.cal_report.specs.ElapseLines.{elapses_text}
 use Rattle.cal_report.specs.Headline.{AreAllAccepted, AreReportsOf, AreSpelled, Expression, IsAccepted, IsFileOf, IsFine, IsReportOf, IsZoneFor, Schedule, Spells, alone, assigned_in, headings, meaning}
 use Rattle.cal_report.specs.Report.{ByReading, IsReported, answer_by, answer_to, base_in, file_name, report, texts_report}
 use Rattle.cal_report.specs.TimerReport.{elapses_of_lists, exception_text, exceptions_text, headings_text, lacks_zone, timed_entry, timer_answer, timer_report, unzoned}
-use Rattle.cal_request.specs.Request.{Asked, is_timer}
+use Rattle.cal_request.specs.Request.{Request, is_timer}
 use Rattle.cal_request.specs.declared.request.Status.{Status}
 use Rattle.cal_request.specs.declared.request.Status.TheVariants.{Fine, Refused}
-use Rattle.cal_request.specs.declared.request.Verb.TheVariants.{Calendar, Timer}
+use Rattle.cal_request.specs.declared.request.Verb.TheVariants as verb
 
 -- What is accepted is read so
 
@@ -43,7 +43,7 @@ spelled_is_read one text fields h =
     let found = valid_only text h.raw h.valid in
     rw found (ap Ok (sym (one h.raw fields (valid_fields text h.raw found) h.normal)))
 
-zone_is_found : (asked : Asked) (suffix : Option Suffix) (tz : TimeZone) → IsZoneFor asked suffix tz → zone_for asked suffix ≡ Some tz
+zone_is_found : (asked : Request) (suffix : Option ZoneSuffix) (tz : TimeZone) → IsZoneFor asked suffix tz → zone_for asked suffix ≡ Some tz
 unfolding zone_for
 zone_is_found asked None tz h = ap Some (sym h)
 zone_is_found asked (Some (of_name name)) tz h = h
@@ -52,10 +52,10 @@ zone_is_found asked (Some (ahead seconds)) tz h = ap Some (sym h)
 -- Texts
 
 -- the report of an accepted expression
-abbrev pub report_of : Asked → ℤ → Expression → List ℕ
+abbrev pub report_of : Request → ℤ → Expression → List ℕ
 report_of asked base e = calendar_report asked base e.text e.fields e.tz
 
-pub is_answered : HaveOneNormalForm → (asked : Asked) (base : ℤ) (e : Expression) → asked.verb ≡ Calendar → IsAccepted asked e
+pub is_answered : HaveOneNormalForm → (asked : Request) (base : ℤ) (e : Expression) → asked.verb ≡ verb.Calendar → IsAccepted asked e
     → answer_to asked base e.text ≡ Ok (report_of asked base e)
 unfolding calendar_answer
 is_answered one asked base e verb h =
@@ -67,7 +67,7 @@ is_answered one asked base e verb h =
 alone_elapses : (t : Timed) (base : ℤ) → AreElapses (t ∷ []) [] base (elapses_after (t ∷ []) base)
 alone_elapses t base = subst (AreElapses (t ∷ []) [] base) (elapses_except-none (t ∷ []) base) (AreElapses-elapses_except (t ∷ []) [] base)
 
-pub is_report : (asked : Asked) (base : ℤ) (e : Expression) → IsReportOf asked base (alone e) (report_of asked base e)
+pub is_report : (asked : Request) (base : ℤ) (e : Expression) → IsReportOf asked base (alone e) (report_of asked base e)
 unfolding calendar_report
 is_report asked base e = record {
   elapses = elapses_after (meaning e ∷ []) base;
@@ -75,7 +75,7 @@ is_report asked base e = record {
   layout = rw (append-nil (heading_text e.text e.fields), append-nil (heading_text e.text e.fields)) (ap (λ (t : List ℕ). heading_text e.text e.fields ++ t) (append-nil _));
 }
 
-each_report : (asked : Asked) (base : ℤ) (es : List Expression)
+each_report : (asked : Request) (base : ℤ) (es : List Expression)
     → AllZip (λ e report. IsReportOf asked base (alone e) report) es (map (report_of asked base) es)
 each_report asked base [] = tt
 each_report asked base (e ∷ es) = (is_report asked base e, each_report asked base es)
@@ -84,34 +84,34 @@ each_report asked base (e ∷ es) = (is_report asked base e, each_report asked b
 abbrev pub text_of : Expression → List ℕ
 text_of e = e.text
 
-reports_are : HaveOneNormalForm → (asked : Asked) (base : ℤ) (es : List Expression) → asked.verb ≡ Calendar → AllByRecursion (IsAccepted asked) es
+reports_are : HaveOneNormalForm → (asked : Request) (base : ℤ) (es : List Expression) → asked.verb ≡ verb.Calendar → AllByRecursion (IsAccepted asked) es
     → flat_map (λ text. report_in (answer_to asked base text)) (map text_of es) ≡ map (report_of asked base) es
 reports_are one asked base [] verb all = refl
 reports_are one asked base (e ∷ es) verb all =
     rw (is_answered one asked base e verb all.0) (ap (λ (rs : List (List ℕ)). report_of asked base e ∷ rs) (reports_are one asked base es verb all.1))
 
-none_refused : HaveOneNormalForm → (asked : Asked) (base : ℤ) (es : List Expression) → asked.verb ≡ Calendar → AllByRecursion (IsAccepted asked) es
+none_refused : HaveOneNormalForm → (asked : Request) (base : ℤ) (es : List Expression) → asked.verb ≡ verb.Calendar → AllByRecursion (IsAccepted asked) es
     → refusals_text (answer_to asked base) (map text_of es) ≡ []
 unfolding refusals_text
 none_refused one asked base [] verb all = refl
 none_refused one asked base (e ∷ es) verb all =
     rw (is_answered one asked base e verb all.0) (none_refused one asked base es verb all.1)
 
-none_fails : HaveOneNormalForm → (asked : Asked) (base : ℤ) (es : List Expression) → asked.verb ≡ Calendar → AllByRecursion (IsAccepted asked) es
+none_fails : HaveOneNormalForm → (asked : Request) (base : ℤ) (es : List Expression) → asked.verb ≡ verb.Calendar → AllByRecursion (IsAccepted asked) es
     → list_any (λ text. is_err (answer_to asked base text)) (map text_of es) ≡ false
 none_fails one asked base [] verb all = refl
 none_fails one asked base (e ∷ es) verb all =
     rw (is_answered one asked base e verb all.0) (none_fails one asked base es verb all.1)
 
 -- what is reported of texts, where the base isn't rejected
-pub report_of_texts : (asked : Asked) (read : Result (List ℕ) WholeFault) (base : ℤ) → asked.verb ≡ Calendar → base_in asked ≡ Ok base
+pub report_of_texts : (asked : Request) (read : Result (List ℕ) WholeFault) (base : ℤ) → asked.verb ≡ verb.Calendar → base_in asked ≡ Ok base
     → report asked read ≡ texts_report asked base
 unfolding report
 report_of_texts asked read base verb sought =
     let plain : is_timer asked.verb ≡ false = ap is_timer verb in
     rw (sought, plain) refl
 
-texts_report_is : HaveOneNormalForm → (asked : Asked) (base : ℤ) (es : List Expression) → asked.verb ≡ Calendar
+texts_report_is : HaveOneNormalForm → (asked : Request) (base : ℤ) (es : List Expression) → asked.verb ≡ verb.Calendar
     → asked.texts ≡ map text_of es → AllByRecursion (IsAccepted asked) es
     → AreReportsOf asked base es (texts_report asked base).out × IsFine (texts_report asked base)
 unfolding texts_report reports_text texts_status
@@ -128,8 +128,8 @@ texts_report_is one asked base es verb texts all =
       },
     )
 
-pub calendar_report_is : HaveOneNormalForm → (asked : Asked) (read : Result (List ℕ) WholeFault) (base : ℤ) (es : List Expression)
-    → asked.verb ≡ Calendar → base_in asked ≡ Ok base → asked.texts ≡ map (λ (e : Expression). e.text) es → AllByRecursion (IsAccepted asked) es
+pub calendar_report_is : HaveOneNormalForm → (asked : Request) (read : Result (List ℕ) WholeFault) (base : ℤ) (es : List Expression)
+    → asked.verb ≡ verb.Calendar → base_in asked ≡ Ok base → asked.texts ≡ map (λ (e : Expression). e.text) es → AllByRecursion (IsAccepted asked) es
     → AreReportsOf asked base es (report asked read).out × IsFine (report asked read)
 calendar_report_is one asked read base es verb sought texts all =
     rw (report_of_texts asked read base verb sought) (texts_report_is one asked base es verb texts all)
@@ -137,14 +137,14 @@ calendar_report_is one asked read base es verb sought texts all =
 -- Timer files
 
 -- an assignment of an expression, or of an exception, by the rule has no fault
-joins_well : HaveOneNormalForm → (list : List Assigned) (a : Assigned) → (length list < most_expressions) × ((fields : Fields) × Spells a.value fields)
+joins_well : HaveOneNormalForm → (list : List Assignment) (a : Assignment) → (length list < most_expressions) × ((fields : Fields) × Spells a.value fields)
     → fault_joining expr_in list a ≡ None
 unfolding fault_joining
 joins_well one list a spelled =
     let few : nat_le most_expressions (length list) ≡ false = grind (arith, spelled.0) in
     rw (few, spelled_is_read one a.value spelled.1.0 spelled.1.1) refl
 
-no_fault : HaveOneNormalForm → (before : List Assigned) (a : Assigned) (expresses excepts : Bool) → is_expression a ≡ expresses → is_exception a ≡ excepts
+no_fault : HaveOneNormalForm → (before : List Assignment) (a : Assignment) (expresses excepts : Bool) → is_expression a ≡ expresses → is_exception a ≡ excepts
     → (is_expression a ≡ true → (length (listed before) < most_expressions) × ((fields : Fields) × Spells a.value fields))
     × (is_exception a ≡ true → (length (excepted before) < most_expressions) × ((fields : Fields) × Spells a.value fields))
     → fault_following expr_in before a ≡ None
@@ -153,31 +153,31 @@ no_fault one before a true excepts e f h = rw e (joins_well one (listed before) 
 no_fault one before a false true e f h = rw (e, f) (joins_well one (excepted before) a (h.1 f))
 no_fault one before a false false e f h = rw (e, f) refl
 
-all_fine : HaveOneNormalForm → (all : List Assigned) → AreSpelled all → AreFine expr_in all
+all_fine : HaveOneNormalForm → (all : List Assignment) → AreSpelled all → AreFine expr_in all
 all_fine one all h before a after split = no_fault one before a (is_expression a) (is_exception a) refl refl (h before a after split)
 
 -- the entry of an expression
-record IsEntryOf (asked : Asked) (entry : Entry Fields) (e : Expression) : Type 0 where
+record IsEntryOf (asked : Request) (entry : TimerLine Fields) (e : Expression) : Type 0 where
   text : entry.text ≡ e.text
   expr : entry.expr ≡ e.fields
   zone : zone_for asked e.fields.zone ≡ Some e.tz
 
-entries_are : HaveOneNormalForm → (asked : Asked) (list : List Assigned) (es : List Expression)
-    → map (λ (a : Assigned). a.value) list ≡ map text_of es → AllByRecursion (IsAccepted asked) es
+entries_are : HaveOneNormalForm → (asked : Request) (list : List Assignment) (es : List Expression)
+    → map (λ (a : Assignment). a.value) list ≡ map text_of es → AllByRecursion (IsAccepted asked) es
     → AllZip (IsEntryOf asked) (filter_map (λ a. entry_of a (expr_in a.value)) list) es
 entries_are one asked [] [] same all = tt
 entries_are one asked [] (e ∷ es) same all = cc
 entries_are one asked (a ∷ list) [] same all = cc
 entries_are one asked (a ∷ list) (e ∷ es) same all =
     let text : a.value ≡ e.text = cc in
-    let rest : map (λ (a : Assigned). a.value) list ≡ map text_of es = cc in
+    let rest : map (λ (a : Assignment). a.value) list ≡ map text_of es = cc in
     let read : expr_in a.value ≡ Ok e.fields = ap expr_in text ∙ spelled_is_read one e.text e.fields all.0.spelled in
     rw read (
       record { text = text; expr = refl; zone = zone_is_found asked e.fields.zone e.tz all.0.zone },
       entries_are one asked list es rest all.1,
     )
 
-none_lacks : (asked : Asked) (list : List (Entry Fields)) (es : List Expression) → AllZip (IsEntryOf asked) list es
+none_lacks : (asked : Request) (list : List (TimerLine Fields)) (es : List Expression) → AllZip (IsEntryOf asked) list es
     → find (lacks_zone asked) list ≡ None
 none_lacks asked [] [] h = refl
 none_lacks asked [] (e ∷ es) h = absurd h
@@ -185,7 +185,7 @@ none_lacks asked (entry ∷ list) [] h = absurd h
 none_lacks asked (entry ∷ list) (e ∷ es) h =
     rw (h.0.expr, h.0.zone) (none_lacks asked list es h.1)
 
-meanings_are : (asked : Asked) (list : List (Entry Fields)) (es : List Expression) → AllZip (IsEntryOf asked) list es
+meanings_are : (asked : Request) (list : List (TimerLine Fields)) (es : List Expression) → AllZip (IsEntryOf asked) list es
     → map (timed_entry asked) list ≡ map meaning es
 unfolding timed_entry
 meanings_are asked [] [] h = refl
@@ -195,29 +195,29 @@ meanings_are asked (entry ∷ list) (e ∷ es) h =
     rw (h.0.expr, h.0.zone) (ap (λ (ts : List Timed). meaning e ∷ ts) (meanings_are asked list es h.1))
 
 -- the texts of entries that are shown so
-shown_are : (shows : List ℕ → Fields → List ℕ) (asked : Asked) (list : List (Entry Fields)) (es : List Expression) → AllZip (IsEntryOf asked) list es
-    → flat_map (λ (entry : Entry Fields). shows entry.text entry.expr) list ≡ flat_map (λ (e : Expression). shows e.text e.fields) es
+shown_are : (shows : List ℕ → Fields → List ℕ) (asked : Request) (list : List (TimerLine Fields)) (es : List Expression) → AllZip (IsEntryOf asked) list es
+    → flat_map (λ (entry : TimerLine Fields). shows entry.text entry.expr) list ≡ flat_map (λ (e : Expression). shows e.text e.fields) es
 shown_are shows asked [] [] h = refl
 shown_are shows asked [] (e ∷ es) h = absurd h
 shown_are shows asked (entry ∷ list) [] h = absurd h
 shown_are shows asked (entry ∷ list) (e ∷ es) h =
     rw (h.0.text, h.0.expr) (ap (λ (t : List ℕ). shows e.text e.fields ++ t) (shown_are shows asked list es h.1))
 
-as_many : (asked : Asked) (list : List (Entry Fields)) (es : List Expression) → AllZip (IsEntryOf asked) list es → 0 < length es → 0 < length list
+as_many : (asked : Request) (list : List (TimerLine Fields)) (es : List Expression) → AllZip (IsEntryOf asked) list es → 0 < length es → 0 < length list
 as_many asked [] [] h some = some
 as_many asked [] (e ∷ es) h some = absurd h
 as_many asked (entry ∷ list) es h some = omega arith
 
 -- the entries of both lists are those of a schedule
-record AreEntriesOf (asked : Asked) (lists : Lists Fields) (s : Schedule) : Type 0 where
+record AreEntriesOf (asked : Request) (lists : Timer Fields) (s : Schedule) : Type 0 where
   expressions : AllZip (IsEntryOf asked) lists.expressions s.expressions
   exceptions : AllZip (IsEntryOf asked) lists.exceptions s.exceptions
 
 -- the entries of a file's lists
-abbrev entries_in : List ℕ → Lists Fields
+abbrev entries_in : List ℕ → Timer Fields
 entries_in bytes = entries expr_in (assigned_in bytes)
 
-file_entries : HaveOneNormalForm → (asked : Asked) (bytes : List ℕ) (s : Schedule) → IsFileOf bytes s → AreAllAccepted asked s
+file_entries : HaveOneNormalForm → (asked : Request) (bytes : List ℕ) (s : Schedule) → IsFileOf bytes s → AreAllAccepted asked s
     → AreEntriesOf asked (entries_in bytes) s
 unfolding entries
 file_entries one asked bytes s file all = record {
@@ -225,27 +225,27 @@ file_entries one asked bytes s file all = record {
   exceptions = entries_are one asked (excepted (assigned_in bytes)) s.exceptions file.exceptions all.exceptions;
 }
 
-file_is_read : HaveOneNormalForm → (asked : Asked) (bytes : List ℕ) (s : Schedule) → IsFileOf bytes s → AreAllAccepted asked s
+file_is_read : HaveOneNormalForm → (asked : Request) (bytes : List ℕ) (s : Schedule) → IsFileOf bytes s → AreAllAccepted asked s
     → timer_in expr_in bytes ≡ Ok (entries_in bytes)
 unfolding timer_in timer_of
 file_is_read one asked bytes s file all =
     let some = as_many asked (entries_in bytes).expressions s.expressions (file_entries one asked bytes s file all).expressions file.some in
     rw file.utf8 (sym (only_judged expr_in (assigned_in bytes) (Ok (entries_in bytes)) (all_fine one (assigned_in bytes) file.spelled, refl, some)))
 
-all_there : (asked : Asked) (lists : Lists Fields) (s : Schedule) → AreEntriesOf asked lists s → unzoned asked lists ≡ None
+all_there : (asked : Request) (lists : Timer Fields) (s : Schedule) → AreEntriesOf asked lists s → unzoned asked lists ≡ None
 unfolding unzoned
 all_there asked lists s h =
     rw (none_lacks asked lists.expressions s.expressions h.expressions, none_lacks asked lists.exceptions s.exceptions h.exceptions) refl
 
 -- what is reported of a file's bytes, where the base isn't rejected
-report_of_file : (asked : Asked) (bytes : List ℕ) (base : ℤ) (text : List ℕ) → asked.verb ≡ Timer → base_in asked ≡ Ok base
+report_of_file : (asked : Request) (bytes : List ℕ) (base : ℤ) (text : List ℕ) → asked.verb ≡ verb.Timer → base_in asked ≡ Ok base
     → timer_answer asked base (file_name asked) (Ok bytes) ≡ Ok text → report asked (Ok bytes) ≡ record { out = text; err = []; status = Fine }
 unfolding report
 report_of_file asked bytes base text verb sought answered =
     let timer : is_timer asked.verb ≡ true = ap is_timer verb in
     rw (sought, timer, answered) refl
 
-file_is_answered : HaveOneNormalForm → (asked : Asked) (bytes name : List ℕ) (base : ℤ) (s : Schedule) → IsFileOf bytes s
+file_is_answered : HaveOneNormalForm → (asked : Request) (bytes name : List ℕ) (base : ℤ) (s : Schedule) → IsFileOf bytes s
     → AreAllAccepted asked s → timer_answer asked base name (Ok bytes) ≡ Ok (timer_report asked base (entries_in bytes))
 unfolding timer_answer
 file_is_answered one asked bytes name base s file all =
@@ -255,7 +255,7 @@ file_is_answered one asked bytes name base s file all =
 layout_is : (a b c : List ℕ) → joined (joined (a ∷ b ∷ []) ∷ c ∷ []) ≡ (a ++ b) ++ c
 layout_is a b c = rw (append-nil b, append-nil c) refl
 
-timer_is_report : (asked : Asked) (base : ℤ) (lists : Lists Fields) (s : Schedule) → AreEntriesOf asked lists s
+timer_is_report : (asked : Request) (base : ℤ) (lists : Timer Fields) (s : Schedule) → AreEntriesOf asked lists s
     → IsReportOf asked base s (timer_report asked base lists)
 unfolding timer_report headings_text exceptions_text elapses_of_lists
 timer_is_report asked base lists s h =
@@ -273,8 +273,8 @@ timer_is_report asked base lists s h =
           (elapses_text asked.local asked.now (take asked.iterations elapses)));
     }
 
-pub timer_report_is : HaveOneNormalForm → (asked : Asked) (bytes : List ℕ) (base : ℤ) (s : Schedule)
-    → asked.verb ≡ Timer → base_in asked ≡ Ok base → IsFileOf bytes s → AreAllAccepted asked s
+pub timer_report_is : HaveOneNormalForm → (asked : Request) (bytes : List ℕ) (base : ℤ) (s : Schedule)
+    → asked.verb ≡ verb.Timer → base_in asked ≡ Ok base → IsFileOf bytes s → AreAllAccepted asked s
     → IsReportOf asked base s (report asked (Ok bytes)).out × IsFine (report asked (Ok bytes))
 timer_report_is one asked bytes base s verb sought file all =
     rw (report_of_file asked bytes base _ verb sought (file_is_answered one asked bytes (file_name asked) base s file all))
@@ -282,16 +282,16 @@ timer_report_is one asked bytes base s verb sought file all =
 
 -- What a run has written that ended without a fault
 
-pub calendar_is_written : HaveOneNormalForm → (asked : Asked) (base : ℤ) (es : List Expression) (old new : Option (List ℕ)) (failed : Bool) (status : Status)
-    (out_old out_new err_old err_new : Option (List ℕ)) → asked.verb ≡ Calendar → base_in asked ≡ Ok base → asked.texts ≡ map (λ (e : Expression). e.text) es
+pub calendar_is_written : HaveOneNormalForm → (asked : Request) (base : ℤ) (es : List Expression) (old new : Option (List ℕ)) (failed : Bool) (status : Status)
+    (out_old out_new err_old err_new : Option (List ℕ)) → asked.verb ≡ verb.Calendar → base_in asked ≡ Ok base → asked.texts ≡ map (λ (e : Expression). e.text) es
     → AllByRecursion (IsAccepted asked) es → ByReading asked old new failed (IsReported (Ok status) out_old out_new err_old err_new)
     → (text : List ℕ) × AreReportsOf asked base es text × Appends out_old out_new text × Appends err_old err_new [] × (status ≡ Fine)
 calendar_is_written one asked base es old new failed status out_old out_new err_old err_new verb sought texts all run =
     let printed = calendar_report_is one asked run.read base es verb sought texts all in
     ((report asked run.read).out, printed.0, run.holds.out, subst (Appends err_old err_new) printed.1.err run.holds.err, run.holds.status ∙ printed.1.status)
 
-pub timer_is_written : HaveOneNormalForm → (asked : Asked) (base : ℤ) (bytes : List ℕ) (s : Schedule) (old new : Option (List ℕ)) (failed : Bool) (status : Status)
-    (out_old out_new err_old err_new : Option (List ℕ)) → asked.verb ≡ Timer → base_in asked ≡ Ok base → IsFileOf bytes s
+pub timer_is_written : HaveOneNormalForm → (asked : Request) (base : ℤ) (bytes : List ℕ) (s : Schedule) (old new : Option (List ℕ)) (failed : Bool) (status : Status)
+    (out_old out_new err_old err_new : Option (List ℕ)) → asked.verb ≡ verb.Timer → base_in asked ≡ Ok base → IsFileOf bytes s
     → AreAllAccepted asked s → (run : ByReading asked old new failed (IsReported (Ok status) out_old out_new err_old err_new)) → run.read ≡ Ok bytes
     → (text : List ℕ) × IsReportOf asked base s text × Appends out_old out_new text × Appends err_old err_new [] × (status ≡ Fine)
 timer_is_written one asked base bytes s old new failed status out_old out_new err_old err_new verb sought file all run read =
@@ -301,17 +301,17 @@ timer_is_written one asked base bytes s old new failed status out_old out_new er
 
 -- Only one
 
-pub one_elapses : (ts excepts : List Timed) (base : ℤ) (xs ys : List ℤ) → AreElapses ts excepts base xs → AreElapses ts excepts base ys → xs ≡ ys
-one_elapses ts excepts base xs ys h k = AreElapses-only ts excepts base xs h ∙ sym (AreElapses-only ts excepts base ys k)
+pub one_elapses : (ts exceptions : List Timed) (base : ℤ) (xs ys : List ℤ) → AreElapses ts exceptions base xs → AreElapses ts exceptions base ys → xs ≡ ys
+one_elapses ts exceptions base xs ys h k = AreElapses-only ts exceptions base xs h ∙ sym (AreElapses-only ts exceptions base ys k)
 
-pub one_report : (asked : Asked) (base : ℤ) (s : Schedule) (a b : List ℕ) → IsReportOf asked base s a → IsReportOf asked base s b → a ≡ b
+pub one_report : (asked : Request) (base : ℤ) (s : Schedule) (a b : List ℕ) → IsReportOf asked base s a → IsReportOf asked base s b → a ≡ b
 one_report asked base s a b h k =
     h.layout
     ∙ (ap (λ (xs : List ℤ). headings s ++ elapses_text asked.local asked.now (take asked.iterations xs))
     (one_elapses (map meaning s.expressions) (map meaning s.exceptions) base h.elapses k.elapses h.these k.these)
     ∙ sym k.layout)
 
-same_reports : (asked : Asked) (base : ℤ) (es : List Expression) (rs bs : List (List ℕ))
+same_reports : (asked : Request) (base : ℤ) (es : List Expression) (rs bs : List (List ℕ))
     → AllZip (λ e report. IsReportOf asked base (alone e) report) es rs → AllZip (λ e report. IsReportOf asked base (alone e) report) es bs → rs ≡ bs
 same_reports asked base [] [] [] h k = refl
 same_reports asked base [] [] (b ∷ bs) h k = absurd k
@@ -323,7 +323,7 @@ same_reports asked base (e ∷ es) (a ∷ rs) (b ∷ bs) h k =
     let rest = same_reports asked base es rs bs h.1 k.1 in
     cc
 
-pub one_text : (asked : Asked) (base : ℤ) (es : List Expression) (a b : List ℕ) → AreReportsOf asked base es a → AreReportsOf asked base es b → a ≡ b
+pub one_text : (asked : Request) (base : ℤ) (es : List Expression) (a b : List ℕ) → AreReportsOf asked base es a → AreReportsOf asked base es b → a ≡ b
 one_text asked base es a b h k =
     h.layout ∙ (ap (join_by (λ report. report) (codes "\n")) (same_reports asked base es h.reports k.reports h.each k.each) ∙ sym k.layout)
 
@@ -332,7 +332,7 @@ same_expression e f text fields tz =
     let same : ◌≡◌ {A = Expression} (record { text = e.text; fields = e.fields; tz = e.tz }) (record { text = f.text; fields = f.fields; tz = f.tz }) = cc in
     same
 
-pub one_meaning : HaveOneNormalForm → (asked : Asked) (e f : Expression) → IsAccepted asked e → IsAccepted asked f → e.text ≡ f.text → e ≡ f
+pub one_meaning : HaveOneNormalForm → (asked : Request) (e f : Expression) → IsAccepted asked e → IsAccepted asked f → e.text ≡ f.text → e ≡ f
 one_meaning one asked e f h k text =
     let here = spelled_is_read one e.text e.fields h.spelled in
     let there = spelled_is_read one f.text f.fields k.spelled in

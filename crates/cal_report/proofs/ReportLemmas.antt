@@ -10,7 +10,7 @@ use Rattle.cal_read.specs.declared.stamp.fault.StampFault.{StampFault}
 use Rattle.cal_report.specs.Answer.{refusal_line}
 use Rattle.cal_bytes.specs.declared.whole.WholeFault.{WholeFault}
 use Rattle.cal_report.specs.TimerReport.{IsHad}
-use Rattle.cal_request.specs.Request.{Asked, is_timer}
+use Rattle.cal_request.specs.Request.{Request, is_timer}
 use Rattle.cal_bytes.specs.Bytes.{AppendsFront, Writes}
 use Rattle.cal_report.specs.Report.{ByReading, IsReported, ReadsIf, base_in, report, texts_report, whole_report}
 use Rattle.cal_request.specs.declared.request.RunFault.{RunFault}
@@ -42,14 +42,14 @@ unread_if true a = (refl, refl)
 unread_if false a = (refl, refl)
 
 -- a base that is rejected
-pub base_refused : (asked : Asked) (a b d e : Option (List ℕ)) (failed : Bool) (r : Result Status RunFault) (fault : StampFault) → base_in asked ≡ Err fault → failed ≡ false
+pub base_refused : (asked : Request) (a b d e : Option (List ℕ)) (failed : Bool) (r : Result Status RunFault) (fault : StampFault) → base_in asked ≡ Err fault → failed ≡ false
     → IfOk r (λ status. status ≡ Refused) → Writes d e r (refusal_line (codes "--base-time") (words_of fault)) → ByReading asked a a failed (IsReported r b b d e)
 unfolding report
 base_refused asked a b d e failed r fault is works status err =
     record { read = Ok []; input = rw is (unread_if (is_timer asked.verb) a); fails = works; holds = rw is (refusal_reported r b d e (Ok []) _ _ refl status nothing_had err) }
 
 -- texts
-pub texts_reported : (asked : Asked) (a b c d e : Option (List ℕ)) (failed : Bool) (r : Result Status RunFault) (base : ℤ) → base_in asked ≡ Ok base → is_timer asked.verb ≡ false
+pub texts_reported : (asked : Request) (a b c d e : Option (List ℕ)) (failed : Bool) (r : Result Status RunFault) (base : ℤ) → base_in asked ≡ Ok base → is_timer asked.verb ≡ false
     → failed ≡ false → IfOk r (λ status. status ≡ (texts_report asked base).status) → Writes b c r (texts_report asked base).out → Writes d e r (texts_report asked base).err
     → ByReading asked a a failed (IsReported r b c d e)
 unfolding report

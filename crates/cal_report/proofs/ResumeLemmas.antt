@@ -13,12 +13,12 @@ use Rattle.cal_zone.specs.InstantText.{instant_text}
 use Rattle.cal_zone.specs.declared.zone.Zone.{Zone}
 use Rattle.cal_elapse.specs.Elapses.{AreElapses, Timed}
 use Rattle.cal_report.specs.ElapseLines.{elapse_text, elapse_texts, elapses_text, label_text}
-use Rattle.cal_spec.specs.ZoneSuffix.{Suffix, of_name, ahead}
+use Rattle.cal_spec.specs.ZoneSuffix.{ZoneSuffix, of_name, ahead}
 use Rattle.cal_report.specs.Headline.{AreAllAccepted, AreReportsOf, Expression, IsAccepted, IsFileOf, IsReportOf, IsZoneFor, Schedule, alone, headings, meaning}
 use Rattle.cal_report.specs.Report.{ByReading, IsReported, base_in, report}
 use Rattle.cal_report.specs.ReportLines.{distance_text, micros_of, utc_line}
 use Rattle.cal_report.specs.Resume.{AreShown, Begins, IsBaseAfter, IsBegunAgain, Resumes, Stand, showing, up_to_line}
-use Rattle.cal_request.specs.Request.{Asked}
+use Rattle.cal_request.specs.Request.{Request}
 use Rattle.cal_request.specs.declared.request.RunFault.{RunFault}
 use Rattle.cal_request.specs.declared.request.Status.{Status}
 use Rattle.cal_request.specs.declared.request.Verb.TheVariants.{Calendar, Timer}
@@ -173,11 +173,11 @@ some_shown local now [] elapse after = refl
 some_shown local now (x ∷ before) elapse after = refl
 
 -- what follows an elapse's first line in a report
-abbrev after_line : Asked → List ℤ → ℤ → List ℤ → List ℕ
+abbrev after_line : Request → List ℤ → ℤ → List ℤ → List ℕ
 after_line asked before elapse after =
     more_lines asked.local asked.now elapse ++ elapse_texts asked.local asked.now (length before + 1 + 1) after
 
-elapses_begin : (asked : Asked) (before : List ℤ) (elapse : ℤ) (after : List ℤ)
+elapses_begin : (asked : Request) (before : List ℤ) (elapse : ℤ) (after : List ℤ)
     → elapses_text asked.local asked.now (before ++ (elapse ∷ after))
     ≡ elapse_texts asked.local asked.now 1 before ++ (first_line asked.local (length before + 1) elapse ++ after_line asked before elapse after)
 elapses_begin asked before elapse after =
@@ -191,7 +191,7 @@ elapses_begin asked before elapse after =
     ∙ (ap (λ (t : List ℕ). t ++ elapse_texts local now (length before + 1 + 1) after) (text_begins local now (length before + 1) elapse)
     ∙ append_assoc (first_line local (length before + 1) elapse) (more_lines local now elapse) (elapse_texts local now (length before + 1 + 1) after))))
 
-report_begins : (asked : Asked) (s : Schedule) (before : List ℤ) (elapse : ℤ) (after : List ℤ)
+report_begins : (asked : Request) (s : Schedule) (before : List ℤ) (elapse : ℤ) (after : List ℤ)
     → showing asked s (before ++ (elapse ∷ after)) ≡ up_to_line asked s before elapse ++ after_line asked before elapse after
 report_begins asked s before elapse after =
     let texts = elapse_texts asked.local asked.now 1 before in
@@ -200,7 +200,7 @@ report_begins asked s before elapse after =
     ap (λ (t : List ℕ). headings s ++ t) (elapses_begin asked before elapse after ∙ sym (append_assoc texts line rest))
     ∙ sym (append_assoc (headings s) (texts ++ line) rest)
 
-length_up_to : (asked : Asked) (s : Schedule) (before : List ℤ) (elapse : ℤ)
+length_up_to : (asked : Request) (s : Schedule) (before : List ℤ) (elapse : ℤ)
     → length (up_to_line asked s before elapse) ≡ line_end asked.local asked.now 1 (length (headings s)) before elapse
 length_up_to asked s before elapse =
     let texts = elapse_texts asked.local asked.now 1 before in
@@ -209,7 +209,7 @@ length_up_to asked s before elapse =
     = ap (λ (n : ℕ). length (first_line asked.local n elapse)) (omega arith) in
     omega (arith, same, length-append (headings s) (texts ++ line), length-append texts line)
 
-some_stand : (asked : Asked) (s : Schedule) (shown : List ℤ) (front rest : List ℕ) → showing asked s shown ≡ front ++ rest
+some_stand : (asked : Request) (s : Schedule) (shown : List ℤ) (front rest : List ℕ) → showing asked s shown ≡ front ++ rest
     → (k : ℕ) × Stand asked s shown front k
 some_stand asked s shown front rest cut =
     let counted = ends asked.local asked.now 1 (length (headings s)) (length front) shown in (
@@ -252,7 +252,7 @@ split_at (x ∷ xs) (suc k) within =
     }
 
 -- the line after the fewer ones is complete by the greater number, and isn't by the lesser
-not_fewer : (asked : Asked) (s : Schedule) (shown : List ℤ) (front : List ℕ) (k m : ℕ)
+not_fewer : (asked : Request) (s : Schedule) (shown : List ℤ) (front : List ℕ) (k m : ℕ)
     → Stand asked s shown front k → Stand asked s shown front m → k < m → ⊥
 not_fewer asked s shown front k m h g less =
     let split = split_at shown k (omega (arith, g.few)) in
@@ -260,7 +260,7 @@ not_fewer asked s shown front k m h g less =
     let below : length split.before < k = (h.whole split.before split.elapse split.after split.is).0 begins in
     omega (arith, split.number, below)
 
-one_stands : (asked : Asked) (s : Schedule) (shown : List ℤ) (front : List ℕ) (k m : ℕ)
+one_stands : (asked : Request) (s : Schedule) (shown : List ℤ) (front : List ℕ) (k m : ℕ)
     → Stand asked s shown front k → Stand asked s shown front m → k ≡ m
 one_stands asked s shown front k m h g =
     let at_least : k < m → ⊥ = not_fewer asked s shown front k m h g in
@@ -278,18 +278,18 @@ get_of_taken n xs k e at =
     (sym (get_or_from_slice_get (take n xs) k e e at) ∙ get_or-take n xs k e (omega arith))
 
 -- the elapses after the base to go on from are those after the first k
-elapses_from : (ts excepts : List Timed) (base from : ℤ) (n : ℕ) (xs : List ℤ) (k : ℕ) → AreElapses ts excepts base xs → IsBaseAfter base (take n xs) k from
-    → AreElapses ts excepts from (drop k xs)
-elapses_from ts excepts base from n xs zero h after = subst (λ (b : ℤ). AreElapses ts excepts b xs) (sym after) h
-elapses_from ts excepts base from n xs (suc k) h after = goes_on ts excepts base from xs k h (get_of_taken n xs k from after)
+elapses_from : (ts exceptions : List Timed) (base from : ℤ) (n : ℕ) (xs : List ℤ) (k : ℕ) → AreElapses ts exceptions base xs → IsBaseAfter base (take n xs) k from
+    → AreElapses ts exceptions from (drop k xs)
+elapses_from ts exceptions base from n xs zero h after = subst (λ (b : ℤ). AreElapses ts exceptions b xs) (sym after) h
+elapses_from ts exceptions base from n xs (suc k) h after = goes_on ts exceptions base from xs k h (get_of_taken n xs k from after)
 
-zone_again : (asked again : Asked) (suffix : Option Suffix) (tz : TimeZone) → again.local ≡ asked.local → again.zones ≡ asked.zones
+zone_again : (asked again : Request) (suffix : Option ZoneSuffix) (tz : TimeZone) → again.local ≡ asked.local → again.zones ≡ asked.zones
     → IsZoneFor asked suffix tz → IsZoneFor again suffix tz
 zone_again asked again None tz local zones h = rw local h
 zone_again asked again (Some (of_name name)) tz local zones h = rw zones h
 zone_again asked again (Some (ahead seconds)) tz local zones h = h
 
-module _ (asked : Asked) (base : ℤ) (shown : List ℤ) (k : ℕ) (again : Asked) (begun : IsBegunAgain asked base shown k again) where
+module _ (asked : Request) (base : ℤ) (shown : List ℤ) (k : ℕ) (again : Request) (begun : IsBegunAgain asked base shown k again) where
   accepted_again : (e : Expression) → IsAccepted asked e → IsAccepted again e
   accepted_again e h = record { spelled = h.spelled; zone = zone_again asked again e.fields.zone e.tz begun.local begun.zones h.zone }
 
@@ -319,26 +319,26 @@ module _ (asked : Asked) (base : ℤ) (shown : List ℤ) (k : ℕ) (again : Aske
 
 -- Reports
 
-of_reports : (asked : Asked) (base : ℤ) (e : Expression) (text : List ℕ) (reports : List (List ℕ))
+of_reports : (asked : Request) (base : ℤ) (e : Expression) (text : List ℕ) (reports : List (List ℕ))
     → AllZip (λ e report. IsReportOf asked base (alone e) report) (e ∷ []) reports
     → text ≡ join_by (λ report. report) (codes "\n") reports → IsReportOf asked base (alone e) text
 of_reports asked base e text [] each layout = absurd each
 of_reports asked base e text (a ∷ []) each layout = subst (IsReportOf asked base (alone e)) (sym (layout ∙ append-nil a)) each.0
 of_reports asked base e text (a ∷ (b ∷ reports)) each layout = absurd each.1
 
-one_report_of : (asked : Asked) (base : ℤ) (e : Expression) (text : List ℕ) → AreReportsOf asked base (e ∷ []) text → IsReportOf asked base (alone e) text
+one_report_of : (asked : Request) (base : ℤ) (e : Expression) (text : List ℕ) → AreReportsOf asked base (e ∷ []) text → IsReportOf asked base (alone e) text
 one_report_of asked base e text h = of_reports asked base e text h.reports h.each h.layout
 
 -- the report of one accepted text
-text_report : HaveOneNormalForm → (asked : Asked) (read : Result (List ℕ) WholeFault) (base : ℤ) (e : Expression)
+text_report : HaveOneNormalForm → (asked : Request) (read : Result (List ℕ) WholeFault) (base : ℤ) (e : Expression)
     → asked.verb ≡ Calendar → base_in asked ≡ Ok base → asked.texts ≡ e.text ∷ [] → IsAccepted asked e
     → IsReportOf asked base (alone e) (report asked read).out
 text_report one asked read base e verb sought texts accepted =
     one_report_of asked base e (report asked read).out (calendar_report_is one asked read base (e ∷ []) verb sought texts (accepted, tt)).0
 
-resumes_by : (asked : Asked) (base : ℤ) (s : Schedule) (read : Result (List ℕ) WholeFault) (front rest : List ℕ)
+resumes_by : (asked : Request) (base : ℤ) (s : Schedule) (read : Result (List ℕ) WholeFault) (front rest : List ℕ)
     → IsReportOf asked base s (report asked read).out → (report asked read).out ≡ front ++ rest
-    → ((shown : List ℤ) (k : ℕ) (again : Asked) → (begun : IsBegunAgain asked base shown k again) → IsReportOf again begun.from s (report again read).out)
+    → ((shown : List ℤ) (k : ℕ) (again : Request) → (begun : IsBegunAgain asked base shown k again) → IsReportOf again begun.from s (report again read).out)
     → Resumes asked base s read front
 resumes_by asked base s read front rest h cut reported =
     let shown = take asked.iterations h.elapses in
@@ -355,7 +355,7 @@ resumes_by asked base s read front rest h cut reported =
           shows_others asked base shown found.0 again begun s (report again read).out these (reported shown found.0 again begun);
     }
 
-pub text_resumes : HaveOneNormalForm → (asked : Asked) (read : Result (List ℕ) WholeFault) (base : ℤ) (e : Expression) (front rest : List ℕ)
+pub text_resumes : HaveOneNormalForm → (asked : Request) (read : Result (List ℕ) WholeFault) (base : ℤ) (e : Expression) (front rest : List ℕ)
     → asked.verb ≡ Calendar → base_in asked ≡ Ok base → asked.texts ≡ e.text ∷ [] → IsAccepted asked e
     → (report asked read).out ≡ front ++ rest → Resumes asked base (alone e) read front
 text_resumes one asked read base e front rest verb sought texts accepted cut =
@@ -364,7 +364,7 @@ text_resumes one asked read base e front rest verb sought texts accepted cut =
     text_report one again read begun.from e (begun.verb ∙ verb) begun.sought (begun.texts ∙ texts)
     (accepted_again asked base shown k again begun e accepted))
 
-pub file_resumes : HaveOneNormalForm → (asked : Asked) (bytes : List ℕ) (base : ℤ) (s : Schedule) (front rest : List ℕ)
+pub file_resumes : HaveOneNormalForm → (asked : Request) (bytes : List ℕ) (base : ℤ) (s : Schedule) (front rest : List ℕ)
     → asked.verb ≡ Timer → base_in asked ≡ Ok base → IsFileOf bytes s → AreAllAccepted asked s
     → (report asked (Ok bytes)).out ≡ front ++ rest → Resumes asked base s (Ok bytes) front
 file_resumes one asked bytes base s front rest verb sought file all cut =
@@ -380,7 +380,7 @@ front_written : {T E : Type 0} (result : Result T E) (old new : Option (List ℕ
 front_written (Ok x) old new text h = record { front = text; rest = []; whole = sym (append-nil text); written = h }
 front_written (Err e) old new text h = h
 
-pub text_cut : HaveOneNormalForm → (asked : Asked) (base : ℤ) (e : Expression) (result : Result Status RunFault) (old new : Option (List ℕ)) (failed : Bool)
+pub text_cut : HaveOneNormalForm → (asked : Request) (base : ℤ) (e : Expression) (result : Result Status RunFault) (old new : Option (List ℕ)) (failed : Bool)
     (out_old out_new err_old err_new : Option (List ℕ)) → asked.verb ≡ Calendar → base_in asked ≡ Ok base → asked.texts ≡ e.text ∷ [] → IsAccepted asked e
     → (run : ByReading asked old new failed (IsReported result out_old out_new err_old err_new))
     → (front : List ℕ) × Appends out_old out_new front × Resumes asked base (alone e) run.read front
@@ -388,7 +388,7 @@ text_cut one asked base e result old new failed out_old out_new err_old err_new 
     let there = front_written result out_old out_new (report asked run.read).out run.holds.out in
     (there.front, there.written, text_resumes one asked run.read base e there.front there.rest verb sought texts accepted there.whole)
 
-pub file_cut : HaveOneNormalForm → (asked : Asked) (bytes : List ℕ) (base : ℤ) (s : Schedule) (result : Result Status RunFault) (old new : Option (List ℕ)) (failed : Bool)
+pub file_cut : HaveOneNormalForm → (asked : Request) (bytes : List ℕ) (base : ℤ) (s : Schedule) (result : Result Status RunFault) (old new : Option (List ℕ)) (failed : Bool)
     (out_old out_new err_old err_new : Option (List ℕ)) → asked.verb ≡ Timer → base_in asked ≡ Ok base → IsFileOf bytes s → AreAllAccepted asked s
     → (run : ByReading asked old new failed (IsReported result out_old out_new err_old err_new)) → run.read ≡ Ok bytes
     → (front : List ℕ) × Appends out_old out_new front × Resumes asked base s (Ok bytes) front

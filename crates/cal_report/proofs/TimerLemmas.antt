@@ -5,18 +5,18 @@ use Rattle.std.specs.Option.{option_map, unwrap_or}
 use Rattle.std.proofs.lemmas.List.{take_more, map-append}
 use Rattle.std.proofs.lemmas.List.Folds.{flat_map-map}
 use Rattle.jiff.specs.Types.{UTC}
-use Rattle.cal_rising.specs.Merge.{Merging, merged}
+use Rattle.cal_rising.specs.Merge.{Merge, merged}
 use Rattle.cal_elapse.proofs.InstantLemmas.{IsInstant-elapse}
-use Rattle.cal_read.specs.TimerText.{Entry, Lists, timer_text}
+use Rattle.cal_read.specs.TimerText.{TimerLine, Timer, timer_text}
 use Rattle.cal_read.specs.declared.timer.fault.TimerFault.{TimerFault}
 use Rattle.cal_read.specs.declared.timer.fault.TimerFault.TheVariants as timer
 use Rattle.cal_read.specs.TimerView.{shown}
-use Rattle.cal_read.specs.declared.timer.TimerLine.{TimerLine}
+use Rattle.cal_read.specs.declared.timer.TimerLine as declared_line
 use Rattle.cal_bytes.specs.declared.whole.WholeFault.{WholeFault}
 use Rattle.cal_spec.specs.Expr.{expr_in}
 use Rattle.cal_spec.specs.Fields.{Fields}
 use Rattle.cal_report.specs.ElapseLines.{AreInstants}
-use Rattle.cal_request.specs.Request.{Asked}
+use Rattle.cal_request.specs.Request.{Request}
 use Rattle.cal_report.specs.TimerPlan.{IsMergeOf, plan_text}
 use Rattle.cal_report.specs.TimerReport.{IsHad, elapses_of_lists, exception_text, exceptions_text, first_unzoned, headings_text, lacks_zone, lesser_line, timed_entry, timer_answer, timer_report, unzoned}
 use Rattle.cal_report.specs.CalendarReport.{heading_text, zone_for}
@@ -24,28 +24,28 @@ use Rattle.std.specs.Io.KnownBytes.{Appends}
 use Rattle.cal_bytes.specs.Bytes.{AppendsFront, Leaves}
 use Rattle.cal_bytes.proofs.Pieces.{step_piece, stop_piece}
 
-pub none_mapped : (o : Option (Entry Fields)) → option_map (λ (e : Entry Fields). e.number) o ≡ None → o ≡ None
+pub none_mapped : (o : Option (TimerLine Fields)) → option_map (λ (e : TimerLine Fields). e.number) o ≡ None → o ≡ None
 none_mapped None h = refl
 none_mapped (Some e) h = cc
 
 -- one line more
-pub shown_more : (lines : List TimerLine) (i : ℕ) (d : TimerLine) → i < length lines → map shown (take (i + 1) lines) ≡ map shown (take i lines) ++ shown (get_or lines i d) ∷ []
+pub shown_more : (lines : List declared_line.TimerLine) (i : ℕ) (d : declared_line.TimerLine) → i < length lines → map shown (take (i + 1) lines) ≡ map shown (take i lines) ++ shown (get_or lines i d) ∷ []
 shown_more lines i d h = rw (take_more lines i d h) (map-append shown (take i lines) (get_or lines i d ∷ []))
 
 -- where the zone of a line isn't there, some line is the first
-found_there : (p : Entry Fields → Bool) (e : Entry Fields) (es : List (Entry Fields)) (here : Bool) → p e ≡ here → (find p es ≢ None) → find p (e ∷ es) ≢ None
+found_there : (p : TimerLine Fields → Bool) (e : TimerLine Fields) (es : List (TimerLine Fields)) (here : Bool) → p e ≡ here → (find p es ≢ None) → find p (e ∷ es) ≢ None
 found_there p e es true is h = rw is (λ never. cc)
 found_there p e es false is h = rw is h
 
-pub found_at : (p : Entry Fields → Bool) (lines : List TimerLine) (i : ℕ) (line : TimerLine) → i < length lines → line ≡ get_or lines i line → p (shown line) ≡ true → find p (map shown lines) ≢ None
+pub found_at : (p : TimerLine Fields → Bool) (lines : List declared_line.TimerLine) (i : ℕ) (line : declared_line.TimerLine) → i < length lines → line ≡ get_or lines i line → p (shown line) ≡ true → find p (map shown lines) ≢ None
 found_at p [] i line h is lacks = absurd (omega arith)
 found_at p (x ∷ lines) zero line h is lacks =
-    let here : p (shown x) ≡ true = subst (λ (l : TimerLine). p (shown l) ≡ true) is lacks in
+    let here : p (shown x) ≡ true = subst (λ (l : declared_line.TimerLine). p (shown l) ≡ true) is lacks in
     rw here (λ never. cc)
 found_at p (x ∷ lines) (suc i) line h is lacks =
     found_there p (shown x) (map shown lines) (p (shown x)) refl (found_at p lines i line (omega arith) is lacks)
 
-pub unzoned_at : (asked : Asked) (lines : List TimerLine) (i : ℕ) (line : TimerLine) → i < length lines → line ≡ get_or lines i line
+pub unzoned_at : (asked : Request) (lines : List declared_line.TimerLine) (i : ℕ) (line : declared_line.TimerLine) → i < length lines → line ≡ get_or lines i line
     → lacks_zone asked (shown line) ≡ true → first_unzoned asked (map shown lines) ≢ None
 unzoned_at asked lines i line h is lacks never =
     found_at (lacks_zone asked) lines i line h is lacks (none_mapped (find (lacks_zone asked) (map shown lines)) never)
@@ -56,56 +56,56 @@ lesser_none None b h = (refl, h)
 lesser_none (Some x) None h = cc
 lesser_none (Some x) (Some y) h = cc
 
-pub all_zoned : (asked : Asked) (lists : Lists Fields) → unzoned asked lists ≡ None
+pub all_zoned : (asked : Request) (lists : Timer Fields) → unzoned asked lists ≡ None
     → (first_unzoned asked lists.expressions ≡ None) × (first_unzoned asked lists.exceptions ≡ None)
 unfolding unzoned
 all_zoned asked lists h = lesser_none (first_unzoned asked lists.expressions) (first_unzoned asked lists.exceptions) h
 
 -- the elapses of all of them
-pub merge_whole : (asked : Asked) (base : ℤ) (lists : Lists Fields) (merge : Merging) → IsMergeOf asked base lists merge
+pub merge_whole : (asked : Request) (base : ℤ) (lists : Timer Fields) (merge : Merge) → IsMergeOf asked base lists merge
     → merged merge ≡ elapses_of_lists asked base lists
 merge_whole asked base lists merge m = m.is
 
 -- which are instants
-pub merge_instants : (asked : Asked) (base : ℤ) (lists : Lists Fields) (merge : Merging) → IsMergeOf asked base lists merge → pos 0 ≤ℤ base → AreInstants (merged merge)
+pub merge_instants : (asked : Request) (base : ℤ) (lists : Timer Fields) (merge : Merge) → IsMergeOf asked base lists merge → pos 0 ≤ℤ base → AreInstants (merged merge)
 unfolding timed_entry elapses_of_lists
 merge_instants asked base lists merge m low i h =
-    IsInstant-elapse (λ (e : Entry Fields). e.expr) (λ (e : Entry Fields). unwrap_or (zone_for asked e.expr.zone) UTC) lists.expressions
+    IsInstant-elapse (λ (e : TimerLine Fields). e.expr) (λ (e : TimerLine Fields). unwrap_or (zone_for asked e.expr.zone) UTC) lists.expressions
     (map (timed_entry asked) lists.exceptions) base i low (rw (merge_whole asked base lists merge m) at h)
 
 -- the text of one line of a list whose lines are shown so
-abbrev pub line_text : (List ℕ → Fields → List ℕ) → TimerLine → List ℕ
+abbrev pub line_text : (List ℕ → Fields → List ℕ) → declared_line.TimerLine → List ℕ
 line_text shows line = shows (string_bytes line.text) line.expr
 
 -- the texts of the lines from an index on begin with that of the line there
-pub headings-next : (shows : List ℕ → Fields → List ℕ) (a b c : Option (List ℕ)) (lines : List TimerLine) (i : ℕ) (line : TimerLine) (text whole : List ℕ) → i < length lines
+pub headings-next : (shows : List ℕ → Fields → List ℕ) (a b c : Option (List ℕ)) (lines : List declared_line.TimerLine) (i : ℕ) (line : declared_line.TimerLine) (text whole : List ℕ) → i < length lines
     → line ≡ get_or lines i line → text ≡ string_bytes line.text → Leaves a b (flat_map (line_text shows) (drop i lines)) whole
     → Appends b c (shows text line.expr) → Leaves a c (flat_map (line_text shows) (drop (i + 1) lines)) whole
 headings-next shows a b c lines i line text whole h is so l w =
-    step_piece a b c (line_text shows) i lines line whole h l (subst (λ (x : TimerLine). Appends b c (line_text shows x)) is (rw so at w))
+    step_piece a b c (line_text shows) i lines line whole h l (subst (λ (x : declared_line.TimerLine). Appends b c (line_text shows x)) is (rw so at w))
 
-pub headings-stop : (shows : List ℕ → Fields → List ℕ) (a b c : Option (List ℕ)) (lines : List TimerLine) (i : ℕ) (line : TimerLine) (text whole : List ℕ) → i < length lines
+pub headings-stop : (shows : List ℕ → Fields → List ℕ) (a b c : Option (List ℕ)) (lines : List declared_line.TimerLine) (i : ℕ) (line : declared_line.TimerLine) (text whole : List ℕ) → i < length lines
     → line ≡ get_or lines i line → text ≡ string_bytes line.text → Leaves a b (flat_map (line_text shows) (drop i lines)) whole
     → AppendsFront b c (shows text line.expr) → AppendsFront a c whole
 headings-stop shows a b c lines i line text whole h is so l w =
-    stop_piece a b c (line_text shows) i lines line whole h l (subst (λ (x : TimerLine). AppendsFront b c (line_text shows x)) is (rw so at w))
+    stop_piece a b c (line_text shows) i lines line whole h l (subst (λ (x : declared_line.TimerLine). AppendsFront b c (line_text shows x)) is (rw so at w))
 
-pub headings-all : (lines : List TimerLine) → headings_text (map shown lines) ≡ flat_map (line_text heading_text) lines
+pub headings-all : (lines : List declared_line.TimerLine) → headings_text (map shown lines) ≡ flat_map (line_text heading_text) lines
 unfolding headings_text
 headings-all lines = flat_map-map (λ e. heading_text e.text e.expr) shown lines
 
-pub exceptions-all : (lines : List TimerLine) → exceptions_text (map shown lines) ≡ flat_map (line_text exception_text) lines
+pub exceptions-all : (lines : List declared_line.TimerLine) → exceptions_text (map shown lines) ≡ flat_map (line_text exception_text) lines
 unfolding exceptions_text
 exceptions-all lines = flat_map-map (λ e. exception_text e.text e.expr) shown lines
 
 -- what was read is what the report is of
-pub plan_answers : (asked : Asked) (base : ℤ) (read : Result (List ℕ) WholeFault) (lists : Lists Fields) (merge : Merging) → timer_text expr_in read ≡ Ok lists
+pub plan_answers : (asked : Request) (base : ℤ) (read : Result (List ℕ) WholeFault) (lists : Timer Fields) (merge : Merge) → timer_text expr_in read ≡ Ok lists
     → IsMergeOf asked base lists merge → (name : List ℕ) → timer_answer asked base name read ≡ Ok (plan_text asked (record { timer = lists; merge = merge }))
 unfolding timer_answer timer_report
 plan_answers asked base read lists merge is m name = rw (is, m.found, merge_whole asked base lists merge m) refl
 
 -- what was read where a list, or a fault other than out of memory, came of it
-pub had_lists : (read : Result (List ℕ) WholeFault) (lists : Lists Fields) → timer_text expr_in read ≡ Ok lists → IsHad read
+pub had_lists : (read : Result (List ℕ) WholeFault) (lists : Timer Fields) → timer_text expr_in read ≡ Ok lists → IsHad read
 had_lists read lists is none = let never = rw none at is in cc
 
 pub had_fault : (read : Result (List ℕ) WholeFault) (fault : TimerFault) → timer_text expr_in read ≡ Err fault → fault ≢ timer.NoMemory → IsHad read

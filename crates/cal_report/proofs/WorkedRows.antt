@@ -26,7 +26,7 @@ use Rattle.cal_spec.specs.Members.{sets_of, part_has}
 use Rattle.cal_report.specs.Answer.{reports_text, refusals_text, texts_status}
 use Rattle.cal_elapse.specs.Elapses.{IsElapse}
 use Rattle.cal_report.specs.Report.{base_in, report, texts_report}
-use Rattle.cal_request.specs.Request.{Asked}
+use Rattle.cal_request.specs.Request.{Request}
 use Rattle.cal_elapse.specs.Timed.{timed}
 use Rattle.cal_report.specs.TimespanReport.{timespan_answer, timespan_report}
 use Rattle.cal_request.specs.declared.request.Status.TheVariants.{Refused}
@@ -36,7 +36,7 @@ use Rattle.std.proofs.lemmas.Int.{ints}
 use lib.Utf8.{encode}
 use Rattle.std.specs.Str.{chars, is_utf8}
 use Rattle.cal_lines.specs.Lines.{groups, is_continued, logical_lines, part_of as part_of_line, physical_lines, plain_lines, trim, trim_end, trim_start}
-use Rattle.cal_read.specs.Assignments.{Assigned, assignment_of, assignments_in, timer_lines}
+use Rattle.cal_read.specs.Assignments.{Assignment, assignment_of, assignments_in, timer_lines}
 use Rattle.cal_read.specs.TimerText.{excepted, is_exception, is_exception_reset, is_expression, is_reset, listed as listed_in, most_expressions, without_mark}
 use Rattle.std.specs.Prelude.{ℤ, ◌<ℤ◌, ◌≤ℤ◌, List, length, map, slice_get, take}
 use Rattle.cal_zone.specs.Weekday as weekday
@@ -47,7 +47,7 @@ use Rattle.cal_spec.specs.Grammar.{fields_in, fields_at}
 use Rattle.cal_spec.specs.Parts.{with_step, after_end, after_start, part_of, fault_of}
 use Rattle.cal_spec.specs.Shorthand.{shorthand_named}
 use Rattle.cal_spec.specs.Weekdays.{day_named, days_of, listed_days, weekdays_of}
-use Rattle.cal_spec.specs.Words.{words, places_of}
+use Rattle.cal_spec.specs.Words.{words, roles_of}
 use Rattle.cal_spec.proofs.WholeRule.{valid_found}
 use Rattle.cal_rising.specs.RisingList.{first}
 use Rattle.cal_elapse.proofs.ElapsesLemmas.{AreElapses-only, elapses_except-none, first_elapse-least}
@@ -143,7 +143,7 @@ noon_thirty-elapses_again = elapse_at 1_704_198_600 (omega arith) noon_thirty-ma
 
 -- A report with a refusal
 
-two_spans : Asked
+two_spans : Request
 two_spans = record { verb = Timespan; texts = codes "1h" ∷ codes "5x" ∷ []; iterations = 1; base = None; now = pos 0; local = utc; zones = empty }
 
 two_spans-out : (report two_spans (Ok [])).out ≡ codes "Original: 1h\n" ++ (codes "      " ++ (206 ∷ 188 ∷ codes "s: 3600000000\n   Human: 1h\n"))
@@ -175,7 +175,7 @@ every_second = record {
 }
 
 every_second-read : fields_in (codes "*:*:*") ≡ Ok every_second
-unfolding every_second fields_in fields_at words places_of shorthand_named day_named days_of listed_days weekdays_of date_texts time_texts date_fields time_fields date_in_word time_of part_due listed component_of with_step after_end after_start part_of fault_of is_zone_name weekday.name_of
+unfolding every_second fields_in fields_at words roles_of shorthand_named day_named days_of listed_days weekdays_of date_texts time_texts date_fields time_fields date_in_word time_of part_due listed component_of with_step after_end after_start part_of fault_of is_zone_name weekday.name_of
 every_second-read = refl
 
 every_second-spelled : Spells (codes "*:*:*") every_second
@@ -187,7 +187,7 @@ every_second-spelled = record {
 }
 
 -- Mon 2024-01-01 12:30:00 is the present
-two_seconds : Asked
+two_seconds : Request
 two_seconds = record { verb = Calendar; texts = codes "*:*:*" ∷ []; iterations = 2; base = None; now = pos 1_704_112_200; local = utc; zones = empty }
 
 every : Expression
@@ -227,7 +227,7 @@ every-first xs h =
 every_file : List ℕ
 every_file = codes "[Timer]\nOnCalendar=*:*:*\n"
 
-one_line : Assigned
+one_line : Assignment
 one_line = record { number = 2; key = codes "OnCalendar"; value = codes "*:*:*" }
 
 every_file-assigned : assigned_in every_file ≡ one_line ∷ []
@@ -238,11 +238,11 @@ every_file-utf8 : is_utf8 every_file ≡ true
 unfolding every_file is_utf8 chars encode
 every_file-utf8 = refl
 
-nothing_there : (before : List Assigned) (a : Assigned) (after : List Assigned) → [] ≡ before ++ (a ∷ after) → ⊥
+nothing_there : (before : List Assignment) (a : Assignment) (after : List Assignment) → [] ≡ before ++ (a ∷ after) → ⊥
 nothing_there [] a after split = cc
 nothing_there (b ∷ before) a after split = cc
 
-only_split : (x : Assigned) (before : List Assigned) (a : Assigned) (after : List Assigned) → x ∷ [] ≡ before ++ (a ∷ after) → (before ≡ []) × (a ≡ x)
+only_split : (x : Assignment) (before : List Assignment) (a : Assignment) (after : List Assignment) → x ∷ [] ≡ before ++ (a ∷ after) → (before ≡ []) × (a ≡ x)
 only_split x [] a after split = (refl, cc)
 only_split x (b ∷ before) a after split =
     let rest : [] ≡ before ++ (a ∷ after) = cc in
@@ -262,11 +262,11 @@ every_file-spelled before a after split =
     let parts = only_split one_line before a after split in
     rw (parts.0, parts.1) (λ _. (none_listed, (every_second, every_second-spelled)), λ is. absurd (let never : false ≡ true = sym no_exception ∙ is in cc))
 
-every_file-listed : map (λ (a : Assigned). a.value) (listed_in (one_line ∷ [])) ≡ map (λ (e : Expression). e.text) (every ∷ [])
+every_file-listed : map (λ (a : Assignment). a.value) (listed_in (one_line ∷ [])) ≡ map (λ (e : Expression). e.text) (every ∷ [])
 unfolding one_line every listed_in is_reset is_expression
 every_file-listed = refl
 
-every_file-excepted : map (λ (a : Assigned). a.value) (excepted (one_line ∷ [])) ≡ []
+every_file-excepted : map (λ (a : Assignment). a.value) (excepted (one_line ∷ [])) ≡ []
 unfolding one_line excepted is_exception_reset is_exception
 every_file-excepted = refl
 
@@ -281,7 +281,7 @@ every_file-is = record {
 
 -- The same begun again after its first elapse, which is the base then
 
-one_second : Asked
+one_second : Request
 one_second = record { verb = Calendar; texts = codes "*:*:*" ∷ []; iterations = 1; base = Some (codes "@1704112201"); now = pos 1_704_112_200; local = utc; zones = empty }
 
 one_second-sought : base_in one_second ≡ Ok (pos 1_704_112_201)

@@ -6,7 +6,7 @@ use Rattle.cal_read.specs.StampFault.{words_of as stamp_words}
 use Rattle.cal_spec.specs.SpecFault.{words_of as spec_words}
 use Rattle.cal_report.specs.CalendarReport.{report_of_elapses}
 use Rattle.cal_report.specs.ElapseLines.{AreInstants}
-use Rattle.cal_request.specs.Request.{Asked}
+use Rattle.cal_request.specs.Request.{Request}
 use Rattle.cal_report.specs.TimespanReport.{timespan_report}
 use Rattle.cal_report.specs.TimestampReport.{timestamp_report}
 use Rattle.cal_report.specs.declared.accepted.Accepted.{Accepted}
@@ -28,7 +28,7 @@ IsTimely (Timestamp moment) = Unit {0}
 IsTimely (Timespan span) = Unit {0}
 
 -- the report of what was read from the text
-abbrev pub report_text : Asked → List ℕ → Accepted → List ℕ
+abbrev pub report_text : Request → List ℕ → Accepted → List ℕ
 report_text asked text (Calendar expr elapses) = report_of_elapses asked text expr (rest_of elapses)
 report_text asked text (Timestamp moment) = timestamp_report asked text moment.micros
 report_text asked text (Timespan span) = timespan_report text span.micros

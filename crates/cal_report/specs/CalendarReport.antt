@@ -11,12 +11,12 @@ use Rattle.cal_spec.specs.Expr.{expr_in}
 use Rattle.cal_spec.specs.ExprText.{expr_text}
 use Rattle.cal_spec.specs.Fields.{Fields}
 use Rattle.cal_spec.specs.SpecFault.{words_of}
-use Rattle.cal_spec.specs.ZoneSuffix.{Suffix, of_name, ahead}
+use Rattle.cal_spec.specs.ZoneSuffix.{ZoneSuffix, of_name, ahead}
 use Rattle.cal_spec.specs.declared.spec_fault.SpecFault.{SpecFault}
 use Rattle.cal_report.specs.Answer.{Answer}
 use Rattle.cal_report.specs.ElapseLines.{elapses_text}
 use Rattle.cal_report.specs.ReportLines.{original_line}
-use Rattle.cal_request.specs.Request.{Asked}
+use Rattle.cal_request.specs.Request.{Request}
 
 -- the line of the normal form, after its label
 unfoldable pub normal_line : Fields → List ℕ
@@ -28,30 +28,30 @@ heading_text text fields = joined (original_line text ∷ normal_line fields ∷
 
 -- the report of an expression with these elapses: the text, its normal form, and as many of the elapses as are asked
 -- for, or all where there are fewer
-abbrev pub report_of_elapses : Asked → List ℕ → Fields → List ℤ → List ℕ
+abbrev pub report_of_elapses : Request → List ℕ → Fields → List ℤ → List ℕ
 report_of_elapses asked text fields elapses =
     joined (heading_text text fields ∷ elapses_text asked.local asked.now (take asked.iterations elapses) ∷ [])
 
 -- the report of an expression in a zone, whose elapses are those after the base
-unfoldable pub calendar_report : Asked → ℤ → List ℕ → Fields → TimeZone → List ℕ
+unfoldable pub calendar_report : Request → ℤ → List ℕ → Fields → TimeZone → List ℕ
 calendar_report asked base text fields tz = report_of_elapses asked text fields (elapses_after (timed fields tz ∷ []) base)
 
 -- the zone of an expression: the one that it names, which may not be there, the clock at the offset that it has, or else
 -- the local one
-unfoldable pub zone_for : Asked → Option Suffix → Option TimeZone
+unfoldable pub zone_for : Request → Option ZoneSuffix → Option TimeZone
 zone_for asked None = Some (zone_of asked.local)
 zone_for asked (Some (of_name name)) = zone_named asked.zones name
 zone_for asked (Some (ahead seconds)) = Some (zone_ahead seconds)
 
 -- the report of an expression whose zone is there
-abbrev pub answer_in : Asked → ℤ → List ℕ → Fields → Option TimeZone → Answer
+abbrev pub answer_in : Request → ℤ → List ℕ → Fields → Option TimeZone → Answer
 answer_in asked base text fields None = Err (codes "no such zone")
 answer_in asked base text fields (Some tz) = Ok (calendar_report asked base text fields tz)
 
 -- the report, or the words of the refusal
-abbrev pub answer_with : Asked → ℤ → List ℕ → Result Fields SpecFault → Answer
+abbrev pub answer_with : Request → ℤ → List ℕ → Result Fields SpecFault → Answer
 answer_with asked base text (Err fault) = Err (words_of fault)
 answer_with asked base text (Ok fields) = answer_in asked base text fields (zone_for asked fields.zone)
 
-unfoldable pub calendar_answer : Asked → ℤ → List ℕ → Answer
+unfoldable pub calendar_answer : Request → ℤ → List ℕ → Answer
 calendar_answer asked base text = answer_with asked base text (expr_in text)

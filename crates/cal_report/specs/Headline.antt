@@ -10,18 +10,18 @@ use Rattle.cal_zone.specs.ZoneAhead.{zone_ahead}
 use Rattle.cal_zone.specs.ZoneTable.{zone_named}
 use Rattle.cal_lines.specs.Lines.{logical_lines}
 use Rattle.cal_spec.specs.Fields.{Fields}
-use Rattle.cal_spec.specs.ZoneSuffix.{Suffix, of_name, ahead}
+use Rattle.cal_spec.specs.ZoneSuffix.{ZoneSuffix, of_name, ahead}
 use Rattle.cal_spec.specs.GrammarRule.{IsValid}
 use Rattle.cal_spec.specs.NormalForm.{IsNormalFieldsOf}
 use Rattle.cal_elapse.specs.Elapses.{AreElapses, Timed}
 use Rattle.cal_elapse.specs.Timed.{timed}
-use Rattle.cal_read.specs.Assignments.{Assigned, assignments_in}
+use Rattle.cal_read.specs.Assignments.{Assignment, assignments_in}
 use Rattle.cal_read.specs.TimerText.{excepted, is_exception, is_expression, listed, most_expressions, without_mark}
 use Rattle.cal_report.specs.CalendarReport.{heading_text}
 use Rattle.cal_report.specs.TimerReport.{exception_text}
 use Rattle.cal_report.specs.ElapseLines.{elapses_text}
 use Rattle.cal_report.specs.Report.{Report}
-use Rattle.cal_request.specs.Request.{Asked}
+use Rattle.cal_request.specs.Request.{Request}
 use Rattle.cal_request.specs.declared.request.Status.TheVariants.{Fine, Refused}
 
 -- an expression that is asked for: its text, its fields in their normal form, and the zone in which it is meant
@@ -35,7 +35,7 @@ abbrev pub meaning : Expression → Timed
 meaning e = timed e.fields e.tz
 
 -- the zone is the one of that name in the table, the clock at that offset, or the local one where none is written
-abbrev pub IsZoneFor : Asked → Option Suffix → TimeZone → Type 0
+abbrev pub IsZoneFor : Request → Option ZoneSuffix → TimeZone → Type 0
 IsZoneFor asked None tz = tz ≡ zone_of asked.local
 IsZoneFor asked (Some (of_name name)) tz = zone_named asked.zones name ≡ Some tz
 IsZoneFor asked (Some (ahead seconds)) tz = tz ≡ zone_ahead seconds
@@ -47,7 +47,7 @@ pub record Spells (text : List ℕ) (fields : Fields) : Type 0 where
   pub normal : IsNormalFieldsOf raw fields
 
 -- the expression is accepted: its text spells its fields, and its zone is there
-pub record IsAccepted (asked : Asked) (e : Expression) : Type 0 where
+pub record IsAccepted (asked : Request) (e : Expression) : Type 0 where
   pub spelled : Spells e.text e.fields
   pub zone : IsZoneFor asked e.fields.zone e.tz
 
@@ -61,7 +61,7 @@ abbrev pub alone : Expression → Schedule
 alone e = record { expressions = e ∷ []; exceptions = [] }
 
 -- each of both lists is accepted
-pub record AreAllAccepted (asked : Asked) (s : Schedule) : Type 0 where
+pub record AreAllAccepted (asked : Request) (s : Schedule) : Type 0 where
   pub expressions : AllByRecursion (IsAccepted asked) s.expressions
   pub exceptions : AllByRecursion (IsAccepted asked) s.exceptions
 
@@ -76,23 +76,23 @@ headings s =
 
 -- The text is the report of a schedule: a heading for each, and then the first n, as many as are asked for, of the one
 -- rising list that has exactly its elapses above the base.
-pub record IsReportOf (asked : Asked) (base : ℤ) (s : Schedule) (text : List ℕ) : Type 0 where
+pub record IsReportOf (asked : Request) (base : ℤ) (s : Schedule) (text : List ℕ) : Type 0 where
   pub elapses : List ℤ
   pub these : AreElapsesOf s base elapses
   pub layout : text ≡ headings s ++ elapses_text asked.local asked.now (take asked.iterations elapses)
 
 -- the text is the report of each of these expressions alone, in their order, with an empty line between each two
-pub record AreReportsOf (asked : Asked) (base : ℤ) (es : List Expression) (text : List ℕ) : Type 0 where
+pub record AreReportsOf (asked : Request) (base : ℤ) (es : List Expression) (text : List ℕ) : Type 0 where
   pub reports : List (List ℕ)
   pub each : AllZip (λ e report. IsReportOf asked base (alone e) report) es reports
   pub layout : text ≡ join_by (λ report. report) (codes "\n") reports
 
 -- the text is rejected: it is that of no accepted expression
-abbrev pub IsRejected : Asked → List ℕ → Type 0
+abbrev pub IsRejected : Request → List ℕ → Type 0
 IsRejected asked text = (e : Expression) → e.text ≡ text → IsAccepted asked e → ⊥
 
 -- what is answered to a text: the report of the expression that it is, or, where it is rejected, a line that begins with it
-abbrev pub IsAnswerTo : Asked → ℤ → List ℕ → Result (List ℕ) (List ℕ) → Type 0
+abbrev pub IsAnswerTo : Request → ℤ → List ℕ → Result (List ℕ) (List ℕ) → Type 0
 IsAnswerTo asked base text (Ok report) =
     (e : Expression) × (e.text ≡ text) × IsAccepted asked e × IsReportOf asked base (alone e) report
 IsAnswerTo asked base text (Err line) =
@@ -100,7 +100,7 @@ IsAnswerTo asked base text (Err line) =
 
 -- Each of the texts is answered, whatever the others are: standard output has the reports in the order of the texts, with an
 -- empty line between each two, standard error the lines, and the status is Fine unless a text is rejected.
-pub record AreAnswered (asked : Asked) (base : ℤ) (texts : List (List ℕ)) (report : Report) : Type 0 where
+pub record AreAnswered (asked : Request) (base : ℤ) (texts : List (List ℕ)) (report : Report) : Type 0 where
   pub answers : List (Result (List ℕ) (List ℕ))
   pub each : AllZip (IsAnswerTo asked base) texts answers
   pub out : report.out ≡ join_by (λ report. report) (codes "\n") (filter_map result_ok answers)
@@ -113,19 +113,19 @@ pub record IsFine (report : Report) : Type 0 where
   pub status : report.status ≡ Fine
 
 -- the assignments of the section `Timer` of a file, in their order
-abbrev pub assigned_in : List ℕ → List Assigned
+abbrev pub assigned_in : List ℕ → List Assignment
 assigned_in bytes = assignments_in false (logical_lines 1 (without_mark bytes))
 
 -- each assignment of an expression or of an exception is one by the grammar's rule, and isn't one too many where it is
-abbrev pub AreSpelled : List Assigned → Type 0
+abbrev pub AreSpelled : List Assignment → Type 0
 AreSpelled all =
-    (before : List Assigned) (a : Assigned) (after : List Assigned) → all ≡ before ++ (a ∷ after)
+    (before : List Assignment) (a : Assignment) (after : List Assignment) → all ≡ before ++ (a ∷ after)
     → (is_expression a ≡ true → (length (listed before) < most_expressions) × ((fields : Fields) × Spells a.value fields))
     × (is_exception a ≡ true → (length (excepted before) < most_expressions) × ((fields : Fields) × Spells a.value fields))
 
 -- the texts of the assignments are those of these expressions
-abbrev pub HaveTexts : List Assigned → List Expression → Type 0
-HaveTexts list es = map (λ (a : Assigned). a.value) list ≡ map (λ (e : Expression). e.text) es
+abbrev pub HaveTexts : List Assignment → List Expression → Type 0
+HaveTexts list es = map (λ (a : Assignment). a.value) list ≡ map (λ (e : Expression). e.text) es
 
 -- the bytes are a text whose lists have the texts of this schedule, of which one at least is an expression
 pub record IsFileOf (bytes : List ℕ) (s : Schedule) : Type 0 where
@@ -136,13 +136,13 @@ pub record IsFileOf (bytes : List ℕ) (s : Schedule) : Type 0 where
   pub some : 0 < length s.expressions
 
 -- the texts are accepted, each as an expression
-pub record AreAccepted (asked : Asked) (texts : List (List ℕ)) : Type 0 where
+pub record AreAccepted (asked : Request) (texts : List (List ℕ)) : Type 0 where
   pub expressions : List Expression
   pub same : texts ≡ map (λ (e : Expression). e.text) expressions
   pub each : AllByRecursion (IsAccepted asked) expressions
 
 -- the bytes are accepted, as the file of a schedule
-pub record IsAcceptedFile (asked : Asked) (bytes : List ℕ) : Type 0 where
+pub record IsAcceptedFile (asked : Request) (bytes : List ℕ) : Type 0 where
   pub schedule : Schedule
   pub lists : IsFileOf bytes schedule
   pub each : AreAllAccepted asked schedule

@@ -11,7 +11,7 @@ use Rattle.cal_read.specs.TimerText.{ReadsWhole, most_file_bytes}
 use Rattle.cal_read.specs.declared.stamp.fault.StampFault.{StampFault}
 use Rattle.cal_report.specs.Answer.{Answer, IsAnsweredBefore, refusal_line, reports_text, refusals_text, texts_status}
 use Rattle.cal_report.specs.CalendarReport.{calendar_answer}
-use Rattle.cal_request.specs.Request.{Asked, is_timer}
+use Rattle.cal_request.specs.Request.{Request, is_timer}
 use Rattle.cal_report.specs.TimerReport.{IsHad, timer_answer}
 use Rattle.cal_report.specs.TimespanReport.{timespan_answer}
 use Rattle.cal_report.specs.TimestampReport.{second_at, stamp_in, timestamp_answer}
@@ -29,21 +29,21 @@ pub record Report : Type 0 where
 
 -- what a verb answers to one text, where elapses are sought after the base; the text of `timer` is a file's name, and
 -- isn't answered by itself
-abbrev pub answer_by : Verb → Asked → ℤ → List ℕ → Answer
+abbrev pub answer_by : Verb → Request → ℤ → List ℕ → Answer
 answer_by Calendar asked base text = calendar_answer asked base text
 answer_by Timestamp asked base text = timestamp_answer asked text
 answer_by Timespan asked base text = timespan_answer text
 answer_by Timer asked base text = Err []
 
 -- what is answered to one text of a request
-abbrev pub answer_to : Asked → ℤ → List ℕ → Answer
+abbrev pub answer_to : Request → ℤ → List ℕ → Answer
 answer_to asked base = answer_by asked.verb asked base
 
 -- the base: the instant of a timestamp's moment, or else the present
 abbrev pub second_or_fault : Result ℤ StampFault → Result ℤ StampFault
 second_or_fault = result_map_both second_at (λ fault. fault)
 
-abbrev pub base_from : Asked → Option (List ℕ) → Result ℤ StampFault
+abbrev pub base_from : Request → Option (List ℕ) → Result ℤ StampFault
 base_from asked None = Ok asked.now
 base_from asked (Some text) = second_or_fault (stamp_in asked text)
 
@@ -51,11 +51,11 @@ base_from asked (Some text) = second_or_fault (stamp_in asked text)
 abbrev pub secs_or_fault : Result Instant StampFault → Result ℤ StampFault
 secs_or_fault = result_map_both (λ instant. instant.secs) (λ fault. fault)
 
-unfoldable pub base_in : Asked → Result ℤ StampFault
+unfoldable pub base_in : Request → Result ℤ StampFault
 base_in asked = base_from asked asked.base
 
 -- the report of all texts, in their order
-unfoldable pub texts_report : Asked → ℤ → Report
+unfoldable pub texts_report : Request → ℤ → Report
 texts_report asked base = record {
   out = reports_text (answer_to asked base) asked.texts;
   err = refusals_text (answer_to asked base) asked.texts;
@@ -68,25 +68,25 @@ whole_report (Ok text) = record { out = text; err = []; status = Fine }
 whole_report (Err line) = record { out = []; err = line; status = Refused }
 
 -- the file that a timer is read from
-abbrev pub file_name : Asked → List ℕ
+abbrev pub file_name : Request → List ℕ
 file_name asked = slice_index_or asked.texts 0 []
 
 -- the report where elapses are sought after the base, by what was read of the input
-abbrev pub report_after : Asked → ℤ → Result (List ℕ) WholeFault → Report
+abbrev pub report_after : Request → ℤ → Result (List ℕ) WholeFault → Report
 report_after asked base read =
     if is_timer asked.verb then whole_report (timer_answer asked base (file_name asked) read) else texts_report asked base
 
 -- a base that is rejected is all that is reported
-abbrev pub report_from : Asked → Result (List ℕ) WholeFault → Result ℤ StampFault → Report
+abbrev pub report_from : Request → Result (List ℕ) WholeFault → Result ℤ StampFault → Report
 report_from asked read (Err fault) = whole_report (Err (refusal_line (codes "--base-time") (words_of fault)))
 report_from asked read (Ok base) = report_after asked base read
 
 -- the report of a request, by what was read of its input
-unfoldable pub report : Asked → Result (List ℕ) WholeFault → Report
+unfoldable pub report : Request → Result (List ℕ) WholeFault → Report
 report asked read = report_from asked read (base_in asked)
 
 -- the input is read only for a timer, and only after a base that isn't rejected
-abbrev pub reads_input : Asked → Bool
+abbrev pub reads_input : Request → Bool
 reads_input asked = is_timer asked.verb && is_ok (base_in asked)
 
 -- what was read: all of the input, or the cause why it can't be had; and nothing where none is read
@@ -104,7 +104,7 @@ pub record IsReported (result : Result Status RunFault) (out_old out_new err_old
   pub unread : read ≡ Err NoMemory → (out_new ≡ out_old) × (err_new ≡ err_old)
 
 -- There is an answer of the reads for whose report this holds. The input has failed exactly where a read failed.
-pub record ByReading (asked : Asked) (old new : Option (List ℕ)) (failed : Bool) (holds_of : Result (List ℕ) WholeFault → Report → Type 0) : Type 0 where
+pub record ByReading (asked : Request) (old new : Option (List ℕ)) (failed : Bool) (holds_of : Result (List ℕ) WholeFault → Report → Type 0) : Type 0 where
   pub read : Result (List ℕ) WholeFault
   pub input : ReadsIf (reads_input asked) old new read
   pub fails : failed ≡ is_read_failed read
@@ -112,7 +112,7 @@ pub record ByReading (asked : Asked) (old new : Option (List ℕ)) (failed : Boo
 
 -- What a run has written that ran out of memory: the whole answers to the texts before the one at which memory
 -- was refused, and nothing more. A timer's one text is its file, so that nothing is written there.
-pub record IsCut (asked : Asked) (out_old out_new err_old err_new : Option (List ℕ)) : Type 0 where
+pub record IsCut (asked : Request) (out_old out_new err_old err_new : Option (List ℕ)) : Type 0 where
   pub base : ℤ
   pub sought : base_in asked ≡ Ok base
   pub answered : IsAnsweredBefore (answer_to asked base) asked.texts out_old out_new err_old err_new

@@ -6,20 +6,20 @@ use Rattle.cal_zone.specs.InstantText.{instant_text}
 use Rattle.cal_report.specs.ElapseLines.{elapse_texts, elapses_text, label_text}
 use Rattle.cal_report.specs.Headline.{AreElapsesOf, Schedule, headings}
 use Rattle.cal_report.specs.Report.{base_in, report}
-use Rattle.cal_request.specs.Request.{Asked}
+use Rattle.cal_request.specs.Request.{Request}
 
 -- the elapses that a report shows: the first n, as many as are asked for, of those after the base
-pub record AreShown (asked : Asked) (base : ℤ) (s : Schedule) (shown : List ℤ) : Type 0 where
+pub record AreShown (asked : Request) (base : ℤ) (s : Schedule) (shown : List ℤ) : Type 0 where
   pub elapses : List ℤ
   pub these : AreElapsesOf s base elapses
   pub first : shown ≡ take asked.iterations elapses
 
 -- the report that shows them: the headings, and then these elapses with labels that count from 1, or `never`
-abbrev pub showing : Asked → Schedule → List ℤ → List ℕ
+abbrev pub showing : Request → Schedule → List ℤ → List ℕ
 showing asked s shown = headings s ++ elapses_text asked.local asked.now shown
 
 -- such a report up to the line feed that ends the first line of an elapse, which comes right after the ones before
-abbrev pub up_to_line : Asked → Schedule → List ℤ → ℤ → List ℕ
+abbrev pub up_to_line : Request → Schedule → List ℤ → ℤ → List ℕ
 up_to_line asked s before elapse =
     headings s ++ (elapse_texts asked.local asked.now 1 before ++ (label_text (length before + 1) ++ (instant_text asked.local elapse ++ codes "\n")))
 
@@ -29,7 +29,7 @@ pub record Begins (text lead : List ℕ) : Type 0 where
   pub is : text ≡ lead ++ rest
 
 -- Exactly the first k of the elapses shown are complete in the prefix.
-pub record Stand (asked : Asked) (s : Schedule) (shown : List ℤ) (front : List ℕ) (k : ℕ) : Type 0 where
+pub record Stand (asked : Request) (s : Schedule) (shown : List ℤ) (front : List ℕ) (k : ℕ) : Type 0 where
   pub few : k ≤ length shown
   pub whole : (before : List ℤ) (elapse : ℤ) (after : List ℤ) → shown ≡ before ++ (elapse ∷ after)
       → Begins front (up_to_line asked s before elapse) ↔ (length before < k)
@@ -40,7 +40,7 @@ IsBaseAfter base shown zero from = from ≡ base
 IsBaseAfter base shown (suc before) from = slice_get shown before ≡ Some from
 
 -- The request is the other one begun again after the first k elapses: from the k-th on, and for that many fewer.
-pub record IsBegunAgain (asked : Asked) (base : ℤ) (shown : List ℤ) (k : ℕ) (again : Asked) : Type 0 where
+pub record IsBegunAgain (asked : Request) (base : ℤ) (shown : List ℤ) (k : ℕ) (again : Request) : Type 0 where
   pub verb : again.verb ≡ asked.verb
   pub texts : again.texts ≡ asked.texts
   pub now : again.now ≡ asked.now
@@ -53,12 +53,12 @@ pub record IsBegunAgain (asked : Asked) (base : ℤ) (shown : List ℤ) (k : ℕ
 
 -- Of a prefix of the report: there is one number of elapses that are in it, and the report of the same begun again
 -- after that many shows exactly the others.
-pub record Resumes (asked : Asked) (base : ℤ) (s : Schedule) (read : Result (List ℕ) WholeFault) (front : List ℕ) : Type 0 where
+pub record Resumes (asked : Request) (base : ℤ) (s : Schedule) (read : Result (List ℕ) WholeFault) (front : List ℕ) : Type 0 where
   pub shown : List ℤ
   pub these : AreShown asked base s shown
   pub printed : (report asked read).out ≡ showing asked s shown
   pub number : ℕ
   pub stand : Stand asked s shown front number
   pub only : (k : ℕ) → Stand asked s shown front k → k ≡ number
-  pub others : (again : Asked) → IsBegunAgain asked base shown number again
+  pub others : (again : Request) → IsBegunAgain asked base shown number again
       → (report again read).out ≡ showing asked s (drop number shown)

@@ -1,62 +1,62 @@
 -- What is written of a timer file that was read, and what is said of one that was rejected.
 use Rattle.std.specs.Prelude.{◌≡◌, ◌++◌, ℕ, ℤ, false, map, List, [], ◌∷◌, take, Option, None, Some, codes}
 use Rattle.cal_bytes.specs.Bytes.{joined}
-use Rattle.cal_rising.specs.Merge.{Merging, merged}
+use Rattle.cal_rising.specs.Merge.{Merge, merged}
 use Rattle.cal_elapse.specs.Covered.{AreKept, IsCovered}
 use Rattle.cal_elapse.specs.Elapses.{Timed}
 use Rattle.cal_elapse.specs.Merged.{each_after}
 use Rattle.cal_read.specs.TimerFault.{line_of, words_of}
-use Rattle.cal_read.specs.TimerText.{Entry, Lists}
+use Rattle.cal_read.specs.TimerText.{TimerLine, Timer}
 use Rattle.cal_spec.specs.Fields.{Fields}
 use Rattle.cal_spec.specs.Match.{Sets}
 use Rattle.cal_spec.specs.Members.{sets_of}
 use Rattle.cal_report.specs.ElapseLines.{elapses_text}
-use Rattle.cal_request.specs.Request.{Asked}
+use Rattle.cal_request.specs.Request.{Request}
 use Rattle.cal_report.specs.TimerReport.{elapses_of_lists, lists_text, timed_entry, unzoned}
 use Rattle.cal_report.specs.declared.timer_report.TimerPlan.{TimerPlan}
 use Rattle.cal_report.specs.declared.timer_report.TimerRefusal.{TimerRefusal}
-use Rattle.cal_report.specs.declared.timer_report.TimerRefusal.TheVariants.{Timer, NoSuchZone, NoMemory}
+use Rattle.cal_report.specs.declared.timer_report.TimerRefusal.TheVariants as refused
 
 -- the report of what was read
-abbrev pub plan_text : Asked → TimerPlan → List ℕ
+abbrev pub plan_text : Request → TimerPlan → List ℕ
 plan_text asked plan =
     joined (lists_text plan.timer ∷ elapses_text asked.local asked.now (take asked.iterations (merged plan.merge)) ∷ [])
 
 -- the words of a refusal, and the line that it is about
 abbrev pub refused_words : TimerRefusal → List ℕ
-refused_words (Timer fault) = words_of fault
-refused_words (NoSuchZone line) = codes "no such zone"
-refused_words NoMemory = []
+refused_words (refused.Timer fault) = words_of fault
+refused_words (refused.NoSuchZone line) = codes "no such zone"
+refused_words refused.NoMemory = []
 
 abbrev pub refused_line : TimerRefusal → Option ℕ
-refused_line (Timer fault) = line_of fault
-refused_line (NoSuchZone line) = Some line
-refused_line NoMemory = None
+refused_line (refused.Timer fault) = line_of fault
+refused_line (refused.NoSuchZone line) = Some line
+refused_line refused.NoMemory = None
 
 -- the refusal is that of the first line whose zone isn't there
 abbrev pub IsUnzoned : Option ℕ → TimerRefusal → Type 0
 IsUnzoned None refusal = ⊥
-IsUnzoned (Some number) refusal = refusal ≡ NoSuchZone number
+IsUnzoned (Some number) refusal = refusal ≡ refused.NoSuchZone number
 
 -- the elapses after a base of each expression of a list, in its zone
-abbrev pub each_of : Asked → ℤ → List (Entry Fields) → List (List ℤ)
+abbrev pub each_of : Request → ℤ → List (TimerLine Fields) → List (List ℤ)
 each_of asked base list = each_after (map (timed_entry asked) list) base
 
 -- the members of each field of an expression of a list
-abbrev pub entry_sets : Entry Fields → Sets
+abbrev pub entry_sets : TimerLine Fields → Sets
 entry_sets e = sets_of e.expr
 
 -- each elapse of an expression is one of the exceptions, whatever the present and the local zone are
-abbrev pub IsCoveredEntry : Entry Fields → List (Entry Fields) → Type 0
-IsCoveredEntry e excepts = (asked : Asked) → IsCovered (timed_entry asked e) (map (timed_entry asked) excepts)
+abbrev pub IsCoveredEntry : TimerLine Fields → List (TimerLine Fields) → Type 0
+IsCoveredEntry e exceptions = (asked : Request) → IsCovered (timed_entry asked e) (map (timed_entry asked) exceptions)
 
 -- to a merge the elapses of expressions are added, of those at least that have one which isn't one of the exceptions
-pub record IsAdded (asked : Asked) (base : ℤ) (list excepts : List (Entry Fields)) (old new : Merging) : Type 0 where
+pub record IsAdded (asked : Request) (base : ℤ) (list exceptions : List (TimerLine Fields)) (old new : Merge) : Type 0 where
   pub kept : List Timed
-  pub are_kept : AreKept (map (timed_entry asked) list) (map (timed_entry asked) excepts) kept
-  pub is : new ≡ record { started = false; lists = old.lists ++ each_after kept base; excepts = old.excepts }
+  pub are_kept : AreKept (map (timed_entry asked) list) (map (timed_entry asked) exceptions) kept
+  pub is : new ≡ record { started = false; lists = old.lists ++ each_after kept base; exceptions = old.exceptions }
 
 -- the merge has the elapses of all expressions without those of the exceptions, whose zones are all there
-pub record IsMergeOf (asked : Asked) (base : ℤ) (lists : Lists Fields) (merge : Merging) : Type 0 where
+pub record IsMergeOf (asked : Request) (base : ℤ) (lists : Timer Fields) (merge : Merge) : Type 0 where
   pub found : unzoned asked lists ≡ None
   pub is : merged merge ≡ elapses_of_lists asked base lists

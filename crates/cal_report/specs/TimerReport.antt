@@ -9,14 +9,14 @@ use Rattle.cal_bytes.specs.declared.whole.WholeFault.TheVariants.{NoMemory}
 use Rattle.cal_elapse.specs.Elapses.{Timed, elapses_except}
 use Rattle.cal_elapse.specs.Timed.{timed}
 use Rattle.cal_read.specs.TimerFault.{line_of, words_of}
-use Rattle.cal_read.specs.TimerText.{Entry, Lists, timer_text}
+use Rattle.cal_read.specs.TimerText.{TimerLine, Timer, timer_text}
 use Rattle.cal_read.specs.declared.timer.fault.TimerFault.{TimerFault}
 use Rattle.cal_spec.specs.Expr.{expr_in}
 use Rattle.cal_spec.specs.Fields.{Fields}
 use Rattle.cal_report.specs.Answer.{refusal_line}
 use Rattle.cal_report.specs.CalendarReport.{heading_text, normal_line, zone_for}
 use Rattle.cal_report.specs.ElapseLines.{elapses_text}
-use Rattle.cal_request.specs.Request.{Asked}
+use Rattle.cal_request.specs.Request.{Request}
 
 -- the line of a refusal: `FILE:LINE: WORDS` where the fault has a line, and else `FILE: WORDS`
 unfoldable pub refusal_at : List ℕ → Option ℕ → List ℕ → List ℕ
@@ -24,11 +24,11 @@ refusal_at name None words = refusal_line name words
 refusal_at name (Some line) words = joined (name ∷ codes ":" ∷ decimal line ∷ codes ": " ∷ words ∷ codes "\n" ∷ [])
 
 -- an expression whose zone isn't there
-abbrev pub lacks_zone : Asked → Entry Fields → Bool
+abbrev pub lacks_zone : Request → TimerLine Fields → Bool
 lacks_zone asked e = is_none (zone_for asked e.expr.zone)
 
 -- what an expression of a list means, in its zone
-unfoldable pub timed_entry : Asked → Entry Fields → Timed
+unfoldable pub timed_entry : Request → TimerLine Fields → Timed
 timed_entry asked e = timed e.expr (unwrap_or (zone_for asked e.expr.zone) UTC)
 
 -- the line of an exception's text, and the label of the next; and with its normal form
@@ -39,29 +39,29 @@ unfoldable pub exception_text : List ℕ → Fields → List ℕ
 exception_text text fields = joined (exception_line text ∷ normal_line fields ∷ [])
 
 -- the texts and normal forms of the expressions, in the order of the file, and those of the exceptions
-unfoldable pub headings_text : List (Entry Fields) → List ℕ
+unfoldable pub headings_text : List (TimerLine Fields) → List ℕ
 headings_text = flat_map (λ e. heading_text e.text e.expr)
 
-unfoldable pub exceptions_text : List (Entry Fields) → List ℕ
+unfoldable pub exceptions_text : List (TimerLine Fields) → List ℕ
 exceptions_text = flat_map (λ e. exception_text e.text e.expr)
 
 -- those of both lists
-abbrev pub lists_text : Lists Fields → List ℕ
+abbrev pub lists_text : Timer Fields → List ℕ
 lists_text lists = joined (headings_text lists.expressions ∷ exceptions_text lists.exceptions ∷ [])
 
 -- the elapses after a base of the expressions that are elapses of no exception
-unfoldable pub elapses_of_lists : Asked → ℤ → Lists Fields → List ℤ
+unfoldable pub elapses_of_lists : Request → ℤ → Timer Fields → List ℤ
 elapses_of_lists asked base lists =
     elapses_except (map (timed_entry asked) lists.expressions) (map (timed_entry asked) lists.exceptions) base
 
 -- the report of both lists: their texts, and as many of their elapses as are asked for
-unfoldable pub timer_report : Asked → ℤ → Lists Fields → List ℕ
+unfoldable pub timer_report : Request → ℤ → Timer Fields → List ℕ
 timer_report asked base lists =
     joined (lists_text lists ∷ elapses_text asked.local asked.now (take asked.iterations (elapses_of_lists asked base lists)) ∷ [])
 
 -- the number of the first line of a list whose zone isn't there
-abbrev pub first_unzoned : Asked → List (Entry Fields) → Option ℕ
-first_unzoned asked list = option_map (λ (e : Entry Fields). e.number) (find (lacks_zone asked) list)
+abbrev pub first_unzoned : Request → List (TimerLine Fields) → Option ℕ
+first_unzoned asked list = option_map (λ (e : TimerLine Fields). e.number) (find (lacks_zone asked) list)
 
 -- the lesser of two numbers, of which either may be missing
 abbrev pub lesser_line : Option ℕ → Option ℕ → Option ℕ
@@ -70,15 +70,15 @@ lesser_line (Some x) None = Some x
 lesser_line (Some x) (Some y) = Some (min x y)
 
 -- the number of the first line of either list whose zone isn't there
-unfoldable pub unzoned : Asked → Lists Fields → Option ℕ
+unfoldable pub unzoned : Request → Timer Fields → Option ℕ
 unzoned asked lists = lesser_line (first_unzoned asked lists.expressions) (first_unzoned asked lists.exceptions)
 
 -- the report of lists whose zones are all there, or the line of the first whose zone isn't
-abbrev pub answer_unless : Asked → ℤ → List ℕ → Lists Fields → Option ℕ → Result (List ℕ) (List ℕ)
+abbrev pub answer_unless : Request → ℤ → List ℕ → Timer Fields → Option ℕ → Result (List ℕ) (List ℕ)
 answer_unless asked base name lists None = Ok (timer_report asked base lists)
 answer_unless asked base name lists (Some number) = Err (refusal_at name (Some number) (codes "no such zone"))
 
-abbrev pub answer_of_timer : Asked → ℤ → List ℕ → Result (Lists Fields) TimerFault → Result (List ℕ) (List ℕ)
+abbrev pub answer_of_timer : Request → ℤ → List ℕ → Result (Timer Fields) TimerFault → Result (List ℕ) (List ℕ)
 answer_of_timer asked base name (Ok lists) = answer_unless asked base name lists (unzoned asked lists)
 answer_of_timer asked base name (Err fault) = Err (refusal_at name (line_of fault) (words_of fault))
 
@@ -87,5 +87,5 @@ abbrev pub IsHad : Result (List ℕ) WholeFault → Type 0
 IsHad read = read ≢ Err NoMemory
 
 -- the report of a file of that name, or the line of its refusal, by what the reads gave
-unfoldable pub timer_answer : Asked → ℤ → List ℕ → Result (List ℕ) WholeFault → Result (List ℕ) (List ℕ)
+unfoldable pub timer_answer : Request → ℤ → List ℕ → Result (List ℕ) WholeFault → Result (List ℕ) (List ℕ)
 timer_answer asked base name read = answer_of_timer asked base name (timer_text expr_in read)

@@ -12,7 +12,7 @@ use Rattle.cal_read.specs.StampViews.{setting}
 use Rattle.cal_read.specs.declared.stamp.fault.StampFault.{StampFault}
 use Rattle.cal_report.specs.Answer.{Answer}
 use Rattle.cal_report.specs.ReportLines.{distance_text, micros_of, original_line, utc_line}
-use Rattle.cal_request.specs.Request.{Asked}
+use Rattle.cal_request.specs.Request.{Request}
 
 -- the second that a moment lies in
 abbrev pub second_at : ℤ → ℤ
@@ -32,13 +32,13 @@ moment_lines local now micros =
     joined (instant_text local (second_at micros) ∷ codes "\n" ∷ utc_line local (second_at micros) ∷ codes "   UNIX seconds: " ∷ unix_text (unsigned_abs micros) ∷ codes "\n       From now: " ∷ distance_text (micros_of now) micros ∷ codes "\n" ∷ [])
 
 -- the text as it was handed in, and its moment
-unfoldable pub timestamp_report : Asked → List ℕ → ℤ → List ℕ
+unfoldable pub timestamp_report : Request → List ℕ → ℤ → List ℕ
 timestamp_report asked text micros = joined (original_line text ∷ moment_lines asked.local asked.now micros ∷ [])
 
 -- the microseconds of the moment that a text means, or its fault
-unfoldable pub stamp_in : Asked → List ℕ → Result ℤ StampFault
+unfoldable pub stamp_in : Request → List ℕ → Result ℤ StampFault
 stamp_in asked text = moment_in asked.now (setting (zone_of asked.local) (zone_named asked.zones)) text
 
 -- the report, or the words of the refusal
-unfoldable pub timestamp_answer : Asked → List ℕ → Answer
+unfoldable pub timestamp_answer : Request → List ℕ → Answer
 timestamp_answer asked text = result_map_both (timestamp_report asked text) words_of (stamp_in asked text)

@@ -19,7 +19,7 @@ ghost use Rattle.cal_report.specs.ElapseLines.{AreInstants};
 ghost use Rattle.cal_report.specs.Headline.{AreAccepted, AreAllAccepted, AreAnswered, AreElapsesOf, AreReportsOf, Expression, IsAccepted, IsAcceptedFile, IsFileOf, IsFine, IsReportOf, Schedule, alone};
 ghost use Rattle.cal_report.specs.Report.{ByReading, IsReported, Report, base_in, report};
 ghost use Rattle.cal_report.specs.Resume.{Resumes};
-ghost use Rattle.cal_request.specs.Request.{Asked};
+ghost use Rattle.cal_request.specs.Request.{Request};
 ghost use Rattle.cal_request.specs.declared.request.RunFault.{RunFault};
 ghost use Rattle.cal_request.specs.declared.request.Status.{Status};
 ghost use Rattle.cal_request.specs.declared.request.Status.TheVariants.{Fine};
@@ -33,33 +33,33 @@ use cal_spec::laws::one_normal_form_of_fields;
 /// Starting again at any of them gives exactly those after it.
 pub fn headline()
     // The report of each text is its heading and the first of its elapses.
-    ensures calendar { (asked : Asked) (read : Result (List ℕ) WholeFault) (base : ℤ) (es : List Expression)
+    ensures calendar { (asked : Request) (read : Result (List ℕ) WholeFault) (base : ℤ) (es : List Expression)
         → asked.verb ≡ Calendar → base_in asked ≡ Ok base
         → asked.texts ≡ map (λ (e : Expression). e.text) es → AllByRecursion (IsAccepted asked) es
         → AreReportsOf asked base es (report asked read).out × IsFine (report asked read) }
     // So is that of each accepted text where another is rejected, which has a line on standard error.
-    ensures each { (asked : Asked) (read : Result (List ℕ) WholeFault) (base : ℤ) → asked.verb ≡ Calendar
+    ensures each { (asked : Request) (read : Result (List ℕ) WholeFault) (base : ℤ) → asked.verb ≡ Calendar
         → base_in asked ≡ Ok base → AreAnswered asked base asked.texts (report asked read) }
     // The report of a timer file is its headings and the first of the elapses of all of its expressions
     // that are elapses of no exception.
-    ensures timer { (asked : Asked) (bytes : List ℕ) (base : ℤ) (s : Schedule)
+    ensures timer { (asked : Request) (bytes : List ℕ) (base : ℤ) (s : Schedule)
         → asked.verb ≡ Timer → base_in asked ≡ Ok base → IsFileOf bytes s → AreAllAccepted asked s
         → IsReportOf asked base s (report asked (Ok bytes)).out × IsFine (report asked (Ok bytes)) }
 
     // These are the bytes that a run adds which ended without a fault, so with memory and writers that took them all:
     // the premise `ByReading` is what the contract of `run` says of it.
-    ensures written { (asked : Asked) (base : ℤ) (es : List Expression) (old new : Option (List ℕ)) (failed : Bool)
+    ensures written { (asked : Request) (base : ℤ) (es : List Expression) (old new : Option (List ℕ)) (failed : Bool)
         (status : Status) (out_old out_new err_old err_new : Option (List ℕ)) → asked.verb ≡ Calendar
         → base_in asked ≡ Ok base → asked.texts ≡ map (λ (e : Expression). e.text) es → AllByRecursion (IsAccepted asked) es
         → ByReading asked old new failed (IsReported (Ok status) out_old out_new err_old err_new)
         → (text : List ℕ) × AreReportsOf asked base es text × Appends out_old out_new text
         × Appends err_old err_new [] × (status ≡ Fine) }
-    ensures written_each { (asked : Asked) (base : ℤ) (old new : Option (List ℕ)) (failed : Bool) (status : Status)
+    ensures written_each { (asked : Request) (base : ℤ) (old new : Option (List ℕ)) (failed : Bool) (status : Status)
         (out_old out_new err_old err_new : Option (List ℕ)) → asked.verb ≡ Calendar → base_in asked ≡ Ok base
         → ByReading asked old new failed (IsReported (Ok status) out_old out_new err_old err_new)
         → (it : Report) × AreAnswered asked base asked.texts it × Appends out_old out_new it.out
         × Appends err_old err_new it.err × (status ≡ it.status) }
-    ensures written_file { (asked : Asked) (base : ℤ) (bytes : List ℕ) (s : Schedule) (old new : Option (List ℕ))
+    ensures written_file { (asked : Request) (base : ℤ) (bytes : List ℕ) (s : Schedule) (old new : Option (List ℕ))
         (failed : Bool) (status : Status) (out_old out_new err_old err_new : Option (List ℕ)) → asked.verb ≡ Timer
         → base_in asked ≡ Ok base → IsFileOf bytes s → AreAllAccepted asked s
         → (run : ByReading asked old new failed (IsReported (Ok status) out_old out_new err_old err_new)) → run.read ≡ Ok bytes
@@ -67,28 +67,28 @@ pub fn headline()
         × Appends err_old err_new [] × (status ≡ Fine) }
 
     // A run that ends well has accepted all of it.
-    ensures accepted { (asked : Asked) (read : Result (List ℕ) WholeFault) (base : ℤ) → asked.verb ≡ Calendar
+    ensures accepted { (asked : Request) (read : Result (List ℕ) WholeFault) (base : ℤ) → asked.verb ≡ Calendar
         → base_in asked ≡ Ok base → (report asked read).status ≡ Fine → AreAccepted asked asked.texts }
-    ensures accepted_file { (asked : Asked) (bytes : List ℕ) (base : ℤ) → asked.verb ≡ Timer
+    ensures accepted_file { (asked : Request) (bytes : List ℕ) (base : ℤ) → asked.verb ≡ Timer
         → base_in asked ≡ Ok base → (report asked (Ok bytes)).status ≡ Fine → IsAcceptedFile asked bytes }
 
     // Nothing else could be printed.
-    ensures one_meaning { (asked : Asked) (e f : Expression) → IsAccepted asked e → IsAccepted asked f
+    ensures one_meaning { (asked : Request) (e f : Expression) → IsAccepted asked e → IsAccepted asked f
         → e.text ≡ f.text → e ≡ f }
-    ensures one_text { (asked : Asked) (base : ℤ) (es : List Expression) (a b : List ℕ)
+    ensures one_text { (asked : Request) (base : ℤ) (es : List Expression) (a b : List ℕ)
         → AreReportsOf asked base es a → AreReportsOf asked base es b → a ≡ b }
-    ensures one_report { (asked : Asked) (base : ℤ) (s : Schedule) (a b : List ℕ)
+    ensures one_report { (asked : Request) (base : ℤ) (s : Schedule) (a b : List ℕ)
         → IsReportOf asked base s a → IsReportOf asked base s b → a ≡ b }
-    ensures one_list { (ts excepts : List Timed) (base : ℤ) (xs ys : List ℤ)
-        → AreElapses ts excepts base xs → AreElapses ts excepts base ys → xs ≡ ys }
+    ensures one_list { (ts exceptions : List Timed) (base : ℤ) (xs ys : List ℤ)
+        → AreElapses ts exceptions base xs → AreElapses ts exceptions base ys → xs ≡ ys }
 
     // Each elapse is an instant, so that it can be a base. From there on the rest follows, and nothing else.
-    ensures instants { (asked : Asked) (base : ℤ) (s : Schedule) (xs : List ℤ) → IsInstant asked.now
+    ensures instants { (asked : Request) (base : ℤ) (s : Schedule) (xs : List ℤ) → IsInstant asked.now
         → base_in asked ≡ Ok base → AreElapsesOf s base xs → AreInstants xs }
-    ensures again { (ts excepts : List Timed) (base e : ℤ) (xs : List ℤ) (k : ℕ) → AreElapses ts excepts base xs
-        → slice_get xs k ≡ Some e → AreElapses ts excepts e (drop (suc k) xs) }
-    ensures in_parts { (ts excepts : List Timed) (base e : ℤ) (xs ys : List ℤ) (k m : ℕ) → AreElapses ts excepts base xs
-        → slice_get xs k ≡ Some e → AreElapses ts excepts e ys → take (suc k) xs ++ take m ys ≡ take (suc k + m) xs }
+    ensures again { (ts exceptions : List Timed) (base e : ℤ) (xs : List ℤ) (k : ℕ) → AreElapses ts exceptions base xs
+        → slice_get xs k ≡ Some e → AreElapses ts exceptions e (drop (suc k) xs) }
+    ensures in_parts { (ts exceptions : List Timed) (base e : ℤ) (xs ys : List ℤ) (k m : ℕ) → AreElapses ts exceptions base xs
+        → slice_get xs k ≡ Some e → AreElapses ts exceptions e ys → take (suc k) xs ++ take m ys ≡ take (suc k + m) xs }
 
     // At an elapse the zone's clock shows a local second that matches, and at no other elapse the same one.
     ensures shown { (fields : Fields) (tz : TimeZone) (i : ℤ) → IsPlace (timed fields tz) i
@@ -111,21 +111,21 @@ pub fn headline()
 /// prints exactly the others, with labels that count anew. Where there is none, that is the whole report again.
 pub fn cut_output_resumes()
     // A request for one text, whose report begins so.
-    ensures calendar { (asked : Asked) (read : Result (List ℕ) WholeFault) (base : ℤ) (e : Expression)
+    ensures calendar { (asked : Request) (read : Result (List ℕ) WholeFault) (base : ℤ) (e : Expression)
         (front rest : List ℕ) → asked.verb ≡ Calendar → base_in asked ≡ Ok base → asked.texts ≡ e.text ∷ []
         → IsAccepted asked e → (report asked read).out ≡ front ++ rest → Resumes asked base (alone e) read front }
     // A request for a timer file, whose report begins so.
-    ensures timer { (asked : Asked) (bytes : List ℕ) (base : ℤ) (s : Schedule) (front rest : List ℕ)
+    ensures timer { (asked : Request) (bytes : List ℕ) (base : ℤ) (s : Schedule) (front rest : List ℕ)
         → asked.verb ≡ Timer → base_in asked ≡ Ok base → IsFileOf bytes s → AreAllAccepted asked s
         → (report asked (Ok bytes)).out ≡ front ++ rest → Resumes asked base s (Ok bytes) front }
 
     // What a run adds to its writer, however it ended, is such a prefix: by the contract of `run`.
-    ensures written { (asked : Asked) (base : ℤ) (e : Expression) (result : Result Status RunFault)
+    ensures written { (asked : Request) (base : ℤ) (e : Expression) (result : Result Status RunFault)
         (old new : Option (List ℕ)) (failed : Bool) (out_old out_new err_old err_new : Option (List ℕ))
         → asked.verb ≡ Calendar → base_in asked ≡ Ok base → asked.texts ≡ e.text ∷ [] → IsAccepted asked e
         → (run : ByReading asked old new failed (IsReported result out_old out_new err_old err_new))
         → (front : List ℕ) × Appends out_old out_new front × Resumes asked base (alone e) run.read front }
-    ensures written_file { (asked : Asked) (bytes : List ℕ) (base : ℤ) (s : Schedule)
+    ensures written_file { (asked : Request) (bytes : List ℕ) (base : ℤ) (s : Schedule)
         (result : Result Status RunFault) (old new : Option (List ℕ)) (failed : Bool)
         (out_old out_new err_old err_new : Option (List ℕ))
         → asked.verb ≡ Timer → base_in asked ≡ Ok base → IsFileOf bytes s → AreAllAccepted asked s

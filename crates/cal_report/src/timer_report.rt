@@ -111,7 +111,7 @@ fn merge_of<'a>(
         (IsMergeOf (asked_by context.entry) context.entry.base.secs timer.now)
         (λ refusal. refusal ≢ NoMemory → IsUnzoned (unzoned (asked_by context.entry) timer.now) refusal) }
 {
-    if let Some(number) = unzoned(context, timer) {
+    if let Some(number) = find_unzoned(context, timer) {
         return Err(TimerRefusal::NoSuchZone(number));
     }
     let mut merge = Merge::new(alloc);
@@ -128,7 +128,7 @@ fn merge_of<'a>(
 
 /// The number of the first line of either list whose zone isn't there.
 #[tactic(auto, unfolding(crate::specs::TimerReport::unzoned))]
-fn unzoned(context: Context<'_>, timer: &Timer) -> Option<u32>
+fn find_unzoned(context: Context<'_>, timer: &Timer) -> Option<u32>
     ensures { result ≡ unzoned (asked_by context.entry) timer.now }
 {
     let expression = first_unzoned(context, timer.lines());
@@ -223,7 +223,7 @@ fn add_exceptions<'a>(
 ) -> Result<(), TimerRefusal>
     requires { merge.old.started ≡ false }
     ensures { let list = map shown lines.now in MatchResult result
-        (λ _. merge.new ≡ record { started = false; lists = merge.old.lists; excepts = merge.old.excepts ++ each_of (asked_by context.entry) context.entry.base.secs list })
+        (λ _. merge.new ≡ record { started = false; lists = merge.old.lists; exceptions = merge.old.exceptions ++ each_of (asked_by context.entry) context.entry.base.secs list })
         (λ refusal. refusal ≢ NoMemory → first_unzoned (asked_by context.entry) list ≢ None) }
 {
     for line in lines {

@@ -4,7 +4,7 @@ use Rattle.std.specs.String.{string_bytes}
 use Rattle.std.specs.Option.{option_map}
 use Rattle.cal_zone.specs.ZoneMap.{ZoneMap}
 use Rattle.cal_zone.specs.declared.zone.Zone.{Zone}
-use Rattle.cal_request.specs.declared.request.Request.{Request}
+use Rattle.cal_request.specs.declared.request.Request as declared_request
 use Rattle.cal_request.specs.declared.request.Verb.{Verb}
 use Rattle.cal_request.specs.declared.request.Verb.TheVariants.{Calendar, Timer, Timestamp, Timespan}
 
@@ -38,7 +38,7 @@ is_timer Timespan = false
 is_timer Timer = true
 
 -- what is asked: a request without where its texts lie in memory, the present instant, and the zones
-pub record Asked : Type 0 where
+pub record Request : Type 0 where
   pub verb : Verb
   pub texts : List (List ℕ)
   pub iterations : ℕ
@@ -47,7 +47,7 @@ pub record Asked : Type 0 where
   pub local : Zone
   pub zones : ZoneMap
 
-abbrev pub asked : Request → ℤ → Zone → ZoneMap → Asked
+abbrev pub asked : declared_request.Request → ℤ → Zone → ZoneMap → Request
 asked request now local zones = record {
   verb = request.verb;
   texts = map string_bytes request.texts.items;

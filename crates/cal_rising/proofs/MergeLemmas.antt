@@ -7,8 +7,8 @@ use Rattle.std.proofs.lemmas.Int.{by_lt_z, ints}
 use Rattle.std.proofs.lemmas.List.{append-nil}
 use Rattle.std.proofs.lemmas.List.Elements.{All-head, All-tail}
 use Rattle.std.specs.List.{All}
-use Rattle.cal_rising.specs.Merge.{HasHead, Stream, lesser, numbers, passed}
-use Rattle.cal_rising.specs.RisingList.{Has, HasAny, IsRising, first, later, placed, placed_all, union}
+use Rattle.cal_rising.specs.Merge.{HasHead, Branch, lesser, numbers, passed}
+use Rattle.cal_rising.specs.RisingList.{Has, HasAny, IsRising, first, later, with_number, with_numbers, union}
 use Rattle.cal_rising.proofs.RisingLemmas.{above_has, chained, later_members, lt_test, not_lt_test, same_rising, Has-union, IsRising-union}
 
 -- the lesser of none and another is the other
@@ -42,9 +42,9 @@ both_ways : (a b : ℤ) → a ≤ℤ b → b ≤ℤ a → a ≡ b
 both_ways a b h k = omega (arith, ints)
 
 -- the first number of a list with one more
-first-placed : (x : ℤ) (ys : List ℤ) → first (placed x ys) ≡ lesser (Some x) (first ys)
-first-placed x [] = refl
-first-placed x (y ∷ ys) =
+first-with_number : (x : ℤ) (ys : List ℤ) → first (with_number x ys) ≡ lesser (Some x) (first ys)
+first-with_number x [] = refl
+first-with_number x (y ∷ ys) =
     by_lt_z x y
     (λ h. rw (lt_test x y h, lesser-below x y (omega (arith, ints))))
     (λ h. by_lt_z y x
@@ -56,40 +56,40 @@ lesser-first : (x : ℤ) (xs : List ℤ) → IsRising (x ∷ xs) → lesser (Som
 lesser-first x [] h = refl
 lesser-first x (y ∷ ys) h = lesser-below x y (omega (arith, ints, h.0.0))
 
-first-placed_all : (xs ys : List ℤ) → IsRising xs → first (placed_all xs ys) ≡ lesser (first xs) (first ys)
-first-placed_all [] ys h = refl
-first-placed_all (x ∷ xs) ys h =
-    first-placed x (placed_all xs ys)
-    ∙ ap (lesser (Some x)) (first-placed_all xs ys h.1)
+first-with_numbers : (xs ys : List ℤ) → IsRising xs → first (with_numbers xs ys) ≡ lesser (first xs) (first ys)
+first-with_numbers [] ys h = refl
+first-with_numbers (x ∷ xs) ys h =
+    first-with_number x (with_numbers xs ys)
+    ∙ ap (lesser (Some x)) (first-with_numbers xs ys h.1)
     ∙ lesser-assoc (Some x) (first xs) (first ys)
     ∙ ap (λ a. lesser a (first ys)) (lesser-first x xs h)
 
 -- the first number of a union with one list more is the lesser of two
-first-union_more : (ss : List Stream) (i : ℕ) (d : Stream) → i < length ss → All HasHead ss
+first-union_more : (ss : List Branch) (i : ℕ) (d : Branch) → i < length ss → All HasHead ss
     → first (union (map numbers (take (suc i) ss))) ≡ lesser (first (union (map numbers (take i ss)))) (get_or ss i d).head
 unfolding union
 first-union_more [] i d lt h = absurd (omega arith)
 first-union_more (s ∷ ss) zero d lt h =
     let here = All-head HasHead s ss h in
-    first-placed_all (numbers s) [] here.1 ∙ lesser-none (first (numbers s)) ∙ sym here.0
+    first-with_numbers (numbers s) [] here.1 ∙ lesser-none (first (numbers s)) ∙ sym here.0
 first-union_more (s ∷ ss) (suc i) d lt h =
     let here = All-head HasHead s ss h in
-    first-placed_all (numbers s) (union (map numbers (take (suc i) ss))) here.1
+    first-with_numbers (numbers s) (union (map numbers (take (suc i) ss))) here.1
     ∙ ap (lesser (first (numbers s))) (first-union_more ss i d (omega arith) (All-tail HasHead s ss h))
     ∙ lesser-assoc (first (numbers s)) (first (union (map numbers (take i ss)))) (get_or ss i d).head
-    ∙ ap (λ a. lesser a (get_or ss i d).head) (sym (first-placed_all (numbers s) (union (map numbers (take i ss))) here.1))
+    ∙ ap (λ a. lesser a (get_or ss i d).head) (sym (first-with_numbers (numbers s) (union (map numbers (take i ss))) here.1))
 
 -- the least head, once one source more is looked at
-pub least_more : (ss ts : List Stream) (i : ℕ) (s : Stream) (least head next : Option ℤ) → ss ≡ ts → All HasHead ts → i < length ss
+pub least_more : (ss ts : List Branch) (i : ℕ) (s : Branch) (least head next : Option ℤ) → ss ≡ ts → All HasHead ts → i < length ss
     → least ≡ first (union (map numbers (take i ss))) → s ≡ get_or ss i s → head ≡ s.head → next ≡ lesser least head
     → next ≡ first (union (map numbers (take (i + 1) ss)))
 least_more ss ts i s least head next same heads lt so_far there its now =
-    let all : All HasHead ss = subst (λ (l : List Stream). All HasHead l) (sym same) heads in
+    let all : All HasHead ss = subst (λ (l : List Branch). All HasHead l) (sym same) heads in
     let before = first (union (map numbers (take i ss))) in
     rw (add-one i) (
     now
     ∙ ap (λ (a : Option ℤ). lesser a head) so_far
-    ∙ ap (λ (b : Option ℤ). lesser before b) (its ∙ ap (λ (t : Stream). t.head) there)
+    ∙ ap (λ (b : Option ℤ). lesser before b) (its ∙ ap (λ (t : Branch). t.head) there)
     ∙ sym (first-union_more ss i s lt all)
     )
 
@@ -107,7 +107,7 @@ Has-passed m (y ∷ ys) h low i =
     subst (λ (z : ℤ). Has ys i ↔ ((z <ℤ i) × Has (y ∷ ys) i)) same (later_members y ys h i)
     ))
 
-HasAny-passed : (m : ℤ) (ss : List Stream) → All HasHead ss → ((i : ℤ) → HasAny (map numbers ss) i → m ≤ℤ i)
+HasAny-passed : (m : ℤ) (ss : List Branch) → All HasHead ss → ((i : ℤ) → HasAny (map numbers ss) i → m ≤ℤ i)
     → (i : ℤ) → HasAny (map (passed m) (map numbers ss)) i ↔ ((m <ℤ i) × HasAny (map numbers ss) i)
 HasAny-passed m [] h low i = (λ n. absurd n, λ p. p.1)
 HasAny-passed m (s ∷ ss) h low i =
@@ -134,7 +134,7 @@ IsRising-later [] h = tt
 IsRising-later (x ∷ xs) h = h.1
 
 -- once the least number is given, what is left is the union of what is left of each
-pub union-passed : (m : ℤ) (ss : List Stream) → All HasHead ss
+pub union-passed : (m : ℤ) (ss : List Branch) → All HasHead ss
     → first (union (map numbers ss)) ≡ Some m → union (map (passed m) (map numbers ss)) ≡ later (union (map numbers ss))
 union-passed m ss h e =
     let lists = map numbers ss in
@@ -149,7 +149,7 @@ union-passed m ss h e =
     ))
 
 -- one source more has become what a function makes of it
-changed_next : (f : List ℤ → List ℤ) (xs ys : List Stream) (i : ℕ) (y d : Stream) → i < length xs → i < length ys
+changed_next : (f : List ℤ → List ℤ) (xs ys : List Branch) (i : ℕ) (y d : Branch) → i < length xs → i < length ys
     → map numbers (take i xs) ≡ map f (map numbers (take i ys)) → numbers y ≡ f (numbers (get_or ys i d))
     → map numbers (take (suc i) (set xs i y)) ≡ map f (map numbers (take (suc i) ys))
 changed_next f [] ys i y d lt lu h e = absurd (omega arith)
@@ -161,22 +161,22 @@ changed_next f (x ∷ xs) (z ∷ ys) (suc i) y d lt lu h e =
     let more = changed_next f xs ys i y d (omega arith) (omega arith) tail e in
     cc
 
-pub changed_more : (f : List ℤ → List ℤ) (xs ys : List Stream) (i : ℕ) (y d : Stream) → i < length xs → i < length ys
+pub changed_more : (f : List ℤ → List ℤ) (xs ys : List Branch) (i : ℕ) (y d : Branch) → i < length xs → i < length ys
     → map numbers (take i xs) ≡ map f (map numbers (take i ys)) → get_or xs i d ≡ get_or ys i d
     → numbers y ≡ f (numbers (get_or xs i d))
     → map numbers (take (i + 1) (set xs i y)) ≡ map f (map numbers (take (i + 1) ys))
 changed_more f xs ys i y d lt lu so_far same now =
-    rw (add-one i) (changed_next f xs ys i y d lt lu so_far (now ∙ ap (λ (s : Stream). f (numbers s)) same))
+    rw (add-one i) (changed_next f xs ys i y d lt lu so_far (now ∙ ap (λ (s : Branch). f (numbers s)) same))
 
 -- one source more has a head
-pub has_head_more : (ss : List Stream) (i : ℕ) (s : Stream) → i < length ss → HasHead s → ((k : ℕ) (d : Stream) → k < i → HasHead (get_or ss k d))
-    → (k : ℕ) (d : Stream) → k < suc i → HasHead (get_or (set ss i s) k d)
+pub has_head_more : (ss : List Branch) (i : ℕ) (s : Branch) → i < length ss → HasHead s → ((k : ℕ) (d : Branch) → k < i → HasHead (get_or ss k d))
+    → (k : ℕ) (d : Branch) → k < suc i → HasHead (get_or (set ss i s) k d)
 has_head_more [] i s lt h below k d le = absurd (omega arith)
 has_head_more (x ∷ ss) zero s lt h below zero d le = h
 has_head_more (x ∷ ss) zero s lt h below (suc k) d le = absurd (omega arith)
 has_head_more (x ∷ ss) (suc i) s lt h below zero d le = below zero d (omega arith)
 has_head_more (x ∷ ss) (suc i) s lt h below (suc k) d le =
-    has_head_more ss i s (omega arith) h (λ (j : ℕ) (e : Stream) (l : j < i). below (suc j) e (omega arith)) k d (omega arith)
+    has_head_more ss i s (omega arith) h (λ (j : ℕ) (e : Branch) (l : j < i). below (suc j) e (omega arith)) k d (omega arith)
 
 -- a list that takes the place of another as long
 pub whole_again : {X : Type 0} (xs ys : List X) (n : ℕ) → length xs ≡ length ys → n ≡ length ys → take n (xs ++ drop (length xs) ys) ≡ xs

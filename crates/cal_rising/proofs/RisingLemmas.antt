@@ -1,8 +1,8 @@
 -- Rising lists: two with the same members are equal, and a union has the members of its lists.
 use Rattle.std.proofs.Common.{◌≡◌, ◌⊎◌, ◌↔◌, true, false, List, [], ◌∷◌, inl, inr, None, Some, ℤ, ◌<ℤ◌, ◌≤ℤ◌, int_lt, refl, sym, ap, ◌∙◌, subst, arith}
 use Rattle.std.proofs.lemmas.Int.{by_lt_z, ints}
-pub use Rattle.cal_rising.specs.Rises.{IsAbove-lower, IsRising-placed, IsRising-placed_all, IsRising-union}
-use Rattle.cal_rising.specs.RisingList.{Has, HasAny, IsAbove, IsRising, IsUnion, first, later, placed, placed_all, union}
+pub use Rattle.cal_rising.specs.Rises.{IsAbove-lower, IsRising-with_number, IsRising-with_numbers, IsRising-union}
+use Rattle.cal_rising.specs.RisingList.{Has, HasAny, IsAbove, IsRising, IsUnion, first, later, with_number, with_numbers, union}
 
 -- what is in a list above b is above b
 pub above_has : (b i : ℤ) (xs : List ℤ) → IsAbove b xs → Has xs i → b <ℤ i
@@ -55,38 +55,38 @@ by_order : {P : Type 0} (a b : ℤ) → (a <ℤ b → P) → (b <ℤ a → P) �
 by_order a b below above same =
     by_lt_z a b below (λ ge. by_lt_z b a above (λ le. same (omega (arith, ints))))
 
-placed-below : (x y : ℤ) (ys : List ℤ) → x <ℤ y → placed x (y ∷ ys) ≡ x ∷ y ∷ ys
-placed-below x y ys h = rw (lt_test x y h)
+with_number-below : (x y : ℤ) (ys : List ℤ) → x <ℤ y → with_number x (y ∷ ys) ≡ x ∷ y ∷ ys
+with_number-below x y ys h = rw (lt_test x y h)
 
-placed-above : (x y : ℤ) (ys : List ℤ) → y <ℤ x → placed x (y ∷ ys) ≡ y ∷ placed x ys
-placed-above x y ys h =
+with_number-above : (x y : ℤ) (ys : List ℤ) → y <ℤ x → with_number x (y ∷ ys) ≡ y ∷ with_number x ys
+with_number-above x y ys h =
     let le : y ≤ℤ x = omega (arith, ints) in
     rw (not_lt_test x y le, lt_test y x h)
 
-placed-same : (x y : ℤ) (ys : List ℤ) → x ≡ y → placed x (y ∷ ys) ≡ y ∷ ys
-placed-same x y ys e =
+with_number-same : (x y : ℤ) (ys : List ℤ) → x ≡ y → with_number x (y ∷ ys) ≡ y ∷ ys
+with_number-same x y ys e =
     let le : y ≤ℤ x = omega (arith, ints) in
     let ge : x ≤ℤ y = omega (arith, ints) in
     rw (not_lt_test x y le, not_lt_test y x ge)
 
 -- placing adds the number to the members
-pub Has-placed : (x : ℤ) (ys : List ℤ) (i : ℤ) → Has (placed x ys) i ↔ ((x ≡ i) ⊎ Has ys i)
-Has-placed x [] i = (λ m. m, λ m. m)
-Has-placed x (y ∷ ys) i =
+pub Has-with_number : (x : ℤ) (ys : List ℤ) (i : ℤ) → Has (with_number x ys) i ↔ ((x ≡ i) ⊎ Has ys i)
+Has-with_number x [] i = (λ m. m, λ m. m)
+Has-with_number x (y ∷ ys) i =
     by_order x y
-    (λ h. rw (placed-below x y ys h) (λ m. m, λ m. m))
-    (λ h. rw (placed-above x y ys h) (
-      λ m. elim m [ inl e ↦ inr (inl e) | inr n ↦ elim ((Has-placed x ys i).0 n) [ inl e ↦ inl e | inr k ↦ inr (inr k) ] ],
-      λ m. elim m [ inl e ↦ inr ((Has-placed x ys i).1 (inl e)) | inr n ↦ elim n [ inl e ↦ inl e | inr k ↦ inr ((Has-placed x ys i).1 (inr k)) ] ],
+    (λ h. rw (with_number-below x y ys h) (λ m. m, λ m. m))
+    (λ h. rw (with_number-above x y ys h) (
+      λ m. elim m [ inl e ↦ inr (inl e) | inr n ↦ elim ((Has-with_number x ys i).0 n) [ inl e ↦ inl e | inr k ↦ inr (inr k) ] ],
+      λ m. elim m [ inl e ↦ inr ((Has-with_number x ys i).1 (inl e)) | inr n ↦ elim n [ inl e ↦ inl e | inr k ↦ inr ((Has-with_number x ys i).1 (inr k)) ] ],
     ))
-    (λ e. rw (placed-same x y ys e) (λ m. inr m, λ m. elim m [ inl f ↦ inl (sym e ∙ f) | inr n ↦ n ]))
+    (λ e. rw (with_number-same x y ys e) (λ m. inr m, λ m. elim m [ inl f ↦ inl (sym e ∙ f) | inr n ↦ n ]))
 
 -- placing several adds them all
-pub Has-placed_all : (xs ys : List ℤ) (i : ℤ) → Has (placed_all xs ys) i ↔ (Has xs i ⊎ Has ys i)
-Has-placed_all [] ys i = (λ m. inr m, λ m. elim m [ inl n ↦ absurd n | inr n ↦ n ])
-Has-placed_all (x ∷ xs) ys i =
-    let one = Has-placed x (placed_all xs ys) i in
-    let rest = Has-placed_all xs ys i in (
+pub Has-with_numbers : (xs ys : List ℤ) (i : ℤ) → Has (with_numbers xs ys) i ↔ (Has xs i ⊎ Has ys i)
+Has-with_numbers [] ys i = (λ m. inr m, λ m. elim m [ inl n ↦ absurd n | inr n ↦ n ])
+Has-with_numbers (x ∷ xs) ys i =
+    let one = Has-with_number x (with_numbers xs ys) i in
+    let rest = Has-with_numbers xs ys i in (
       λ m. elim (one.0 m) [ inl e ↦ inl (inl e) | inr n ↦ elim (rest.0 n) [ inl k ↦ inl (inr k) | inr k ↦ inr k ] ],
       λ m. elim m [ inl n ↦ elim n [ inl e ↦ one.1 (inl e) | inr k ↦ one.1 (inr (rest.1 (inl k))) ] | inr k ↦ one.1 (inr (rest.1 (inr k))) ],
     )
@@ -96,7 +96,7 @@ pub Has-union : (xss : List (List ℤ)) (i : ℤ) → Has (union xss) i ↔ HasA
 unfolding union
 Has-union [] i = (λ m. m, λ m. m)
 Has-union (xs ∷ xss) i =
-    let here = Has-placed_all xs (union xss) i in
+    let here = Has-with_numbers xs (union xss) i in
     let rest = Has-union xss i in (
       λ m. elim (here.0 m) [ inl n ↦ inl n | inr n ↦ inr (rest.0 n) ],
       λ m. elim m [ inl n ↦ here.1 (inl n) | inr n ↦ here.1 (inr (rest.1 n)) ],

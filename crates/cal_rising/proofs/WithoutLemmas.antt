@@ -8,7 +8,7 @@ use Rattle.std.proofs.lemmas.Bool.Decides.{Decides-int_eq}
 use Rattle.std.proofs.lemmas.Int.{ints, to_z-of_z}
 use Rattle.std.proofs.lemmas.List.{get_or_default}
 use borrow.Author.Count.{below_more}
-use Rattle.cal_rising.specs.Merge.{Stream, numbers, numbers_by}
+use Rattle.cal_rising.specs.Merge.{Branch, numbers, numbers_by}
 use Rattle.cal_rising.specs.Rises.{IsRising-union, IsRising-without}
 use Rattle.cal_rising.specs.RisingList.{Has, HasAny, IsAbove, IsRising, IsSameFrom, IsUnionWithout, first, is_in, later, union, without}
 use Rattle.cal_rising.proofs.RisingLemmas.{Has-union, same_rising}
@@ -183,48 +183,48 @@ any-union n xss =
     (λ h. HasAny-any n xss ((Has-union xss n).0 (Has-is_in (union xss) n h)))
 
 -- whether one of the sources has it: none of them has, or this one has
-any-none : (n : ℤ) (ss : List Stream) → ((k : ℕ) → k < length ss → (d : Stream) → is_in (numbers (get_or ss k d)) n ≡ false)
+any-none : (n : ℤ) (ss : List Branch) → ((k : ℕ) → k < length ss → (d : Branch) → is_in (numbers (get_or ss k d)) n ≡ false)
     → list_any (λ xs. is_in xs n) (map numbers ss) ≡ false
 any-none n [] h = refl
 any-none n (s ∷ ss) h =
-    rw (h zero (omega arith) s) (any-none n ss (λ (k : ℕ) (lt : k < length ss) (d : Stream). h (suc k) (omega arith) d))
+    rw (h zero (omega arith) s) (any-none n ss (λ (k : ℕ) (lt : k < length ss) (d : Branch). h (suc k) (omega arith) d))
 
-any-here : (n : ℤ) (ss : List Stream) (i : ℕ) (d : Stream) → i < length ss → is_in (numbers (get_or ss i d)) n ≡ true
+any-here : (n : ℤ) (ss : List Branch) (i : ℕ) (d : Branch) → i < length ss → is_in (numbers (get_or ss i d)) n ≡ true
     → list_any (λ xs. is_in xs n) (map numbers ss) ≡ true
 any-here n [] i d lt h = absurd (omega arith)
 any-here n (s ∷ ss) zero d lt h = rw h refl
 any-here n (s ∷ ss) (suc i) d lt h = rw (any-here n ss i d (omega arith) h) (or-true (is_in (numbers s) n))
 
 -- none of the sources below a place has the number, and those from there on are as they were given
-pub record AreBehind (n : ℤ) (at : ℕ) (given now : List Stream) : Type 0 where
-  pub none : (k : ℕ) → k < at → (d : Stream) → is_in (numbers (get_or given k d)) n ≡ false
-  pub untouched : (k : ℕ) (d : Stream) → at ≤ k → get_or now k d ≡ get_or given k d
+pub record AreBehind (n : ℤ) (at : ℕ) (given now : List Branch) : Type 0 where
+  pub none : (k : ℕ) → k < at → (d : Branch) → is_in (numbers (get_or given k d)) n ≡ false
+  pub untouched : (k : ℕ) (d : Branch) → at ≤ k → get_or now k d ≡ get_or given k d
 
 -- so it is with one more, whatever became of it
-pub behind_more : (n : ℤ) (at : ℕ) (given now : List Stream) (s t : Stream) → AreBehind n at given now → at < length given
+pub behind_more : (n : ℤ) (at : ℕ) (given now : List Branch) (s t : Branch) → AreBehind n at given now → at < length given
     → is_in (numbers (get_or now at s)) n ≡ false → AreBehind n (at + 1) given (set now at t)
 behind_more n at given now s t h lt lacks = record {
-  none = below_more (λ k. (d : Stream) → is_in (numbers (get_or given k d)) n ≡ false) at h.none (λ d.
-      ap (λ (s : Stream). is_in (numbers s) n) (get_or_default given at d s lt ∙ sym (h.untouched at s (omega arith))) ∙ lacks);
+  none = below_more (λ k. (d : Branch) → is_in (numbers (get_or given k d)) n ≡ false) at h.none (λ d.
+      ap (λ (s : Branch). is_in (numbers s) n) (get_or_default given at d s lt ∙ sym (h.untouched at s (omega arith))) ∙ lacks);
   untouched = λ k d above.
       let other : k ≢ at = omega arith in
       get_or-set_other now at k t d other ∙ h.untouched k d (omega arith);
 }
 
 -- with all of them none of the sources has it
-pub behind_all : (n number : ℤ) (at : ℕ) (given now ss : List Stream) → AreBehind n at given now → n ≡ number → given ≡ ss → length given ≤ at
+pub behind_all : (n number : ℤ) (at : ℕ) (given now ss : List Branch) → AreBehind n at given now → n ≡ number → given ≡ ss → length given ≤ at
     → false ≡ list_any (λ xs. is_in xs number) (map numbers ss)
 behind_all n number at given now ss h same whole all =
     rw (← same, ← whole) (sym (any-none n given (λ k lt. h.none k (omega arith))))
 
 -- and the one at the place may have it
-pub behind_here : (n number : ℤ) (at : ℕ) (given now ss : List Stream) (s : Stream) → AreBehind n at given now → n ≡ number → given ≡ ss → at < length given
+pub behind_here : (n number : ℤ) (at : ℕ) (given now ss : List Branch) (s : Branch) → AreBehind n at given now → n ≡ number → given ≡ ss → at < length given
     → is_in (numbers (get_or now at s)) n ≡ true → true ≡ list_any (λ xs. is_in xs number) (map numbers ss)
 behind_here n number at given now ss s h same whole lt has =
-    rw (← same, ← whole) (sym (any-here n given at s lt (ap (λ (s : Stream). is_in (numbers s) n) (sym (h.untouched at s (omega arith))) ∙ has)))
+    rw (← same, ← whole) (sym (any-here n given at s lt (ap (λ (s : Branch). is_in (numbers s) n) (sym (h.untouched at s (omega arith))) ∙ has)))
 
 -- one source in the place of another that has it too, or lacks it too
-pub any-set : (n : ℤ) (ss : List Stream) (i : ℕ) (s d : Stream) → i < length ss → is_in (numbers s) n ≡ is_in (numbers (get_or ss i d)) n
+pub any-set : (n : ℤ) (ss : List Branch) (i : ℕ) (s d : Branch) → i < length ss → is_in (numbers s) n ≡ is_in (numbers (get_or ss i d)) n
     → list_any (λ xs. is_in xs n) (map numbers (set ss i s)) ≡ list_any (λ xs. is_in xs n) (map numbers ss)
 any-set n [] i s d lt h = absurd (omega arith)
 any-set n (x ∷ ss) zero s d lt h = ap (λ (b : Bool). b || list_any (λ xs. is_in xs n) (map numbers ss)) h

@@ -4,17 +4,17 @@ use Rattle.std.specs.Prelude.{◌≡◌, cond, Bool, List, [], ◌∷◌, Option
 use Rattle.cal_rising.specs.RisingList.{IsRising, first, union, without}
 
 -- what is left of a merge: whether a number was asked for already, and what each source and each exception has to give
-pub record Merging : Type 0 where
+pub record Merge : Type 0 where
   pub started : Bool
   pub lists : List (List ℤ)
-  pub excepts : List (List ℤ)
+  pub exceptions : List (List ℤ)
 
 -- the rest of a merge: the numbers of all its sources that no exception has
-abbrev pub merged : Merging → List ℤ
-merged m = without (union m.lists) (union m.excepts)
+abbrev pub merged : Merge → List ℤ
+merged m = without (union m.lists) (union m.exceptions)
 
 -- one source of a merge: the number taken from it that was not given yet, and what is after that number
-pub record Stream : Type 0 where
+pub record Branch : Type 0 where
   pub head : Option ℤ
   pub after : List ℤ
 
@@ -23,11 +23,11 @@ abbrev pub numbers_by : Option ℤ → List ℤ → List ℤ
 numbers_by None xs = xs
 numbers_by (Some x) xs = x ∷ xs
 
-abbrev pub numbers : Stream → List ℤ
+abbrev pub numbers : Branch → List ℤ
 numbers s = numbers_by s.head s.after
 
 -- the first number is taken, if there is one
-abbrev pub HasHead : Stream → Type 0
+abbrev pub HasHead : Branch → Type 0
 HasHead s = (s.head ≡ first (numbers s)) × IsRising (numbers s)
 
 -- what a rising list has to give once a number was given that is none above its first

@@ -3,7 +3,7 @@
 use Rattle.std.specs.Prelude.{◌≡◌, cond, Bool, true, false, not, filter, List, [], ◌∷◌, ℤ, ◌<ℤ◌, int_lt}
 use Rattle.std.proofs.Common.{arith, refl}
 use Rattle.std.proofs.lemmas.Int.{ints}
-use Rattle.cal_rising.specs.RisingList.{IsAbove, IsRising, is_in, placed, placed_all, union, without}
+use Rattle.cal_rising.specs.RisingList.{IsAbove, IsRising, is_in, with_number, with_numbers, union, without}
 
 -- a list above a number is above what is below that number
 pub IsAbove-lower : (a b : ℤ) (xs : List ℤ) → a <ℤ b → IsAbove b xs → IsAbove a xs
@@ -19,28 +19,28 @@ above_by b x y ys zs true q h k m = (h, k)
 above_by b x y ys zs false true h k m = (k.0, m)
 above_by b x y ys zs false false h k m = k
 
-IsAbove-placed : (b x : ℤ) (ys : List ℤ) → b <ℤ x → IsAbove b ys → IsAbove b (placed x ys)
-IsAbove-placed b x [] h k = (h, tt)
-IsAbove-placed b x (y ∷ ys) h k = above_by b x y ys (placed x ys) (int_lt x y) (int_lt y x) h k (IsAbove-placed b x ys h k.1)
+IsAbove-with_number : (b x : ℤ) (ys : List ℤ) → b <ℤ x → IsAbove b ys → IsAbove b (with_number x ys)
+IsAbove-with_number b x [] h k = (h, tt)
+IsAbove-with_number b x (y ∷ ys) h k = above_by b x y ys (with_number x ys) (int_lt x y) (int_lt y x) h k (IsAbove-with_number b x ys h k.1)
 
-rising_by : (x y : ℤ) (ys : List ℤ) (p q : Bool) → int_lt x y ≡ p → int_lt y x ≡ q → IsRising (y ∷ ys) → IsRising (placed x ys)
-    → IsRising (cond p (x ∷ y ∷ ys) (cond q (y ∷ placed x ys) (y ∷ ys)))
+rising_by : (x y : ℤ) (ys : List ℤ) (p q : Bool) → int_lt x y ≡ p → int_lt y x ≡ q → IsRising (y ∷ ys) → IsRising (with_number x ys)
+    → IsRising (cond p (x ∷ y ∷ ys) (cond q (y ∷ with_number x ys) (y ∷ ys)))
 rising_by x y ys true q low high h k = ((below x y low, IsAbove-lower x y ys (below x y low) h.0), h)
-rising_by x y ys false true low high h k = (IsAbove-placed y x ys (below y x high) h.0, k)
+rising_by x y ys false true low high h k = (IsAbove-with_number y x ys (below y x high) h.0, k)
 rising_by x y ys false false low high h k = h
 
-pub IsRising-placed : (x : ℤ) (ys : List ℤ) → IsRising ys → IsRising (placed x ys)
-IsRising-placed x [] h = (tt, tt)
-IsRising-placed x (y ∷ ys) h = rising_by x y ys (int_lt x y) (int_lt y x) refl refl h (IsRising-placed x ys h.1)
+pub IsRising-with_number : (x : ℤ) (ys : List ℤ) → IsRising ys → IsRising (with_number x ys)
+IsRising-with_number x [] h = (tt, tt)
+IsRising-with_number x (y ∷ ys) h = rising_by x y ys (int_lt x y) (int_lt y x) refl refl h (IsRising-with_number x ys h.1)
 
-pub IsRising-placed_all : (xs ys : List ℤ) → IsRising ys → IsRising (placed_all xs ys)
-IsRising-placed_all [] ys h = h
-IsRising-placed_all (x ∷ xs) ys h = IsRising-placed x (placed_all xs ys) (IsRising-placed_all xs ys h)
+pub IsRising-with_numbers : (xs ys : List ℤ) → IsRising ys → IsRising (with_numbers xs ys)
+IsRising-with_numbers [] ys h = h
+IsRising-with_numbers (x ∷ xs) ys h = IsRising-with_number x (with_numbers xs ys) (IsRising-with_numbers xs ys h)
 
 pub IsRising-union : (xss : List (List ℤ)) → IsRising (union xss)
 unfolding union
 IsRising-union [] = tt
-IsRising-union (xs ∷ xss) = IsRising-placed_all xs (union xss) (IsRising-union xss)
+IsRising-union (xs ∷ xss) = IsRising-with_numbers xs (union xss) (IsRising-union xss)
 
 IsAbove-kept : (b x : ℤ) (xs : List ℤ) (keep : Bool) → b <ℤ x → IsAbove b xs → IsAbove b (cond keep (x ∷ xs) xs)
 IsAbove-kept b x xs true h k = (h, k)

@@ -33,19 +33,19 @@ later [] = []
 later (x ∷ xs) = xs
 
 -- a rising list with one number more, which it may have already
-abbrev pub placed : ℤ → List ℤ → List ℤ
-placed x [] = x ∷ []
-placed x (y ∷ ys) = cond (int_lt x y) (x ∷ y ∷ ys) (cond (int_lt y x) (y ∷ placed x ys) (y ∷ ys))
+abbrev pub with_number : ℤ → List ℤ → List ℤ
+with_number x [] = x ∷ []
+with_number x (y ∷ ys) = cond (int_lt x y) (x ∷ y ∷ ys) (cond (int_lt y x) (y ∷ with_number x ys) (y ∷ ys))
 
 -- a rising list with the numbers of a list more
-abbrev pub placed_all : List ℤ → List ℤ → List ℤ
-placed_all [] ys = ys
-placed_all (x ∷ xs) ys = placed x (placed_all xs ys)
+abbrev pub with_numbers : List ℤ → List ℤ → List ℤ
+with_numbers [] ys = ys
+with_numbers (x ∷ xs) ys = with_number x (with_numbers xs ys)
 
 -- the rising list of the numbers that are in one of the lists
 unfoldable pub union : List (List ℤ) → List ℤ
 union [] = []
-union (xs ∷ xss) = placed_all xs (union xss)
+union (xs ∷ xss) = with_numbers xs (union xss)
 
 -- the list rises, and its numbers are those of the lists
 pub record IsUnion (xss : List (List ℤ)) (xs : List ℤ) : Type 0 where

@@ -20,10 +20,10 @@ pub struct Branch<S: Rising> {
 }
 
 impl<S: Rising> Model for Branch<S> {
-    ghost use Rattle.cal_rising.specs.Merge.{Stream, numbers_by};
+    ghost use Rattle.cal_rising.specs.Merge.{Branch, numbers_by};
     ghost use Rattle.cal_rising.specs.RisingList.{IsRising};
 
-    ghost Value = { Stream };
+    ghost Value = { Branch };
 
     ghost view = { λ branch. record { head = branch.head; after = S.rest branch.source } };
 

@@ -12,8 +12,8 @@ pub fn union_is_one_list()
 /// So is a union without the numbers of exceptions: it rises, has exactly the numbers of the lists that no exception
 /// has, and no other list does. Without exceptions it is the union.
 pub fn union_without_is_one_list()
-    ensures this { (lists excepts : List (List ℤ)) → IsUnionWithout lists excepts (without (union lists) (union excepts)) }
-    ensures only { (lists excepts : List (List ℤ)) (list : List ℤ) → IsUnionWithout lists excepts list
-        → list ≡ without (union lists) (union excepts) }
+    ensures this { (lists exceptions : List (List ℤ)) → IsUnionWithout lists exceptions (without (union lists) (union exceptions)) }
+    ensures only { (lists exceptions : List (List ℤ)) (list : List ℤ) → IsUnionWithout lists exceptions list
+        → list ≡ without (union lists) (union exceptions) }
     ensures none { (lists : List (List ℤ)) → without (union lists) (union []) ≡ union lists }
 {}

@@ -20,17 +20,17 @@ pub struct Merge<S: Rising> {
 }
 
 impl<S: Rising> Model for Merge<S> {
-    ghost use Rattle.cal_rising.specs.Merge.{Merging};
+    ghost use Rattle.cal_rising.specs.Merge.{Merge};
 
-    ghost Value = { Merging };
+    ghost Value = { Merge };
 
-    ghost view = { λ merge. record { started = merge.started; lists = merge.sources; excepts = merge.exceptions } };
+    ghost view = { λ merge. record { started = merge.started; lists = merge.sources; exceptions = merge.exceptions } };
 }
 
 impl<S: Rising> Merge<S> {
     /// The merge of no source and no exception, which gives nothing.
     pub fn new(alloc: Global) -> Self
-        ensures { result ≡ record { started = false; lists = []; excepts = [] } }
+        ensures { result ≡ record { started = false; lists = []; exceptions = [] } }
     {
         Merge {
             sources: Sources::new(alloc),
@@ -45,7 +45,7 @@ impl<S: Rising> Merge<S> {
     pub fn add(&mut self, source: S) -> Result<(), (S, AllocError)>
         requires { self.old.started ≡ false }
         ensures added { OnOk result
-            (self.new ≡ record { started = false; lists = self.old.lists ++ S.rest source ∷ []; excepts = self.old.excepts }) }
+            (self.new ≡ record { started = false; lists = self.old.lists ++ S.rest source ∷ []; exceptions = self.old.exceptions }) }
         ensures unchanged { OnErr result (self.new ≡ self.old) }
         ensures handed_back { IfErr result (λ refused. refused.0 ≡ source) }
     {
@@ -58,7 +58,7 @@ impl<S: Rising> Merge<S> {
     pub fn add_except(&mut self, exception: S) -> Result<(), (S, AllocError)>
         requires { self.old.started ≡ false }
         ensures added { OnOk result
-            (self.new ≡ record { started = false; lists = self.old.lists; excepts = self.old.excepts ++ S.rest exception ∷ [] }) }
+            (self.new ≡ record { started = false; lists = self.old.lists; exceptions = self.old.exceptions ++ S.rest exception ∷ [] }) }
         ensures unchanged { OnErr result (self.new ≡ self.old) }
         ensures handed_back { IfErr result (λ refused. refused.0 ≡ exception) }
     {
@@ -91,5 +91,5 @@ impl<S: Rising> Rising for Merge<S> {
     ghost use Rattle.cal_rising.specs.RisingList.{union};
     ghost use Rattle.cal_rising.specs.Rises.{IsRising-union, IsRising-without};
 
-    ghost rises = { λ merging. IsRising-without (union merging.lists) (union merging.excepts) (IsRising-union merging.lists) };
+    ghost rises = { λ merge. IsRising-without (union merge.lists) (union merge.exceptions) (IsRising-union merge.lists) };
 }

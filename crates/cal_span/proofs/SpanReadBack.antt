@@ -15,16 +15,16 @@ use Rattle.cal_span.specs.declared.span.word.CharKind.TheVariants.{Blank, Numeri
 use Rattle.cal_span.specs.Scale.{size_of, scales, words_for, name_of}
 use Rattle.cal_span.specs.Span.{limit}
 use Rattle.cal_span.specs.SpanText.{Count, weight, count_text, row_text, positive, counts_of, span_text}
-use Rattle.cal_span.specs.SpanValue.{is_micro, kind_of, is_kind, Piece, symbols, with_front, runs, words_in, Pair, pairs_of, pairs_in, is_number, unit_named, number_worth, worth_of, judged, value_of_pairs, span_of}
+use Rattle.cal_span.specs.SpanValue.{is_micro, kind_of, is_kind, Piece, characters, with_front, runs, words_in, Pair, pairs_of, pairs_in, is_number, unit_named, number_worth, worth_of, judged, value_of_pairs, span_of}
 use Rattle.cal_span.proofs.SpanCounts.{size_of_positive, are_counts_of, weight-positive, span_text_zero, span_text_row}
 use Rattle.cal_span.proofs.SpanDigits.{AreDigits, are_digits-decimal, kind_of_digit, is_number-decimal, number_worth-decimal}
 
 -- Words
 
--- a symbol of one ASCII byte
-symbols-ascii : (b : ℕ) (bytes : List ℕ) → b < 128 → symbols (b ∷ bytes) ≡ record { kind = kind_of b; text = b ∷ [] } ∷ symbols bytes
-symbols-ascii b [] small = refl
-symbols-ascii b (c ∷ bytes) small =
+-- a character of one ASCII byte
+characters-ascii : (b : ℕ) (bytes : List ℕ) → b < 128 → characters (b ∷ bytes) ≡ record { kind = kind_of b; text = b ∷ [] } ∷ characters bytes
+characters-ascii b [] small = refl
+characters-ascii b (c ∷ bytes) small =
     let plain : is_micro b c ≡ false = grind (arith, nat_tests, small) in rw plain refl
 
 -- each byte is an ASCII character of this kind
@@ -51,18 +51,18 @@ with_front-same : (kind : CharKind) (b : ℕ) (text : List ℕ) (ps : List Piece
 with_front-same kind b text ps = rw (is_kind_self kind) refl
 
 -- bytes of one kind are one run, where another kind or nothing follows
-pub runs-of_kind : (kind : CharKind) (b : ℕ) (front rest : List ℕ) → AllOfKind kind (b ∷ front) → IsApart kind (runs (symbols rest)) → runs (symbols ((b ∷ front) ++ rest)) ≡ record { kind = kind; text = b ∷ front } ∷ runs (symbols rest)
+pub runs-of_kind : (kind : CharKind) (b : ℕ) (front rest : List ℕ) → AllOfKind kind (b ∷ front) → IsApart kind (runs (characters rest)) → runs (characters ((b ∷ front) ++ rest)) ≡ record { kind = kind; text = b ∷ front } ∷ runs (characters rest)
 runs-of_kind kind b [] rest same apart =
-    ap runs (symbols-ascii b rest same.0)
-    ∙ ap (λ (k : CharKind). with_front (record { kind = k; text = b ∷ [] }) (runs (symbols rest))) same.1
-    ∙ with_front-apart kind (b ∷ []) (runs (symbols rest)) apart
+    ap runs (characters-ascii b rest same.0)
+    ∙ ap (λ (k : CharKind). with_front (record { kind = k; text = b ∷ [] }) (runs (characters rest))) same.1
+    ∙ with_front-apart kind (b ∷ []) (runs (characters rest)) apart
 runs-of_kind kind b (c ∷ front) rest same apart =
-    ap runs (symbols-ascii b ((c ∷ front) ++ rest) same.0)
-    ∙ ap (λ (k : CharKind). with_front (record { kind = k; text = b ∷ [] }) (runs (symbols ((c ∷ front) ++ rest)))) same.1
+    ap runs (characters-ascii b ((c ∷ front) ++ rest) same.0)
+    ∙ ap (λ (k : CharKind). with_front (record { kind = k; text = b ∷ [] }) (runs (characters ((c ∷ front) ++ rest)))) same.1
     ∙ ap (with_front (record { kind = kind; text = b ∷ [] })) (runs-of_kind kind c front rest same.2 apart)
-    ∙ with_front-same kind b (c ∷ front) (runs (symbols rest))
+    ∙ with_front-same kind b (c ∷ front) (runs (characters rest))
 
-runs-of_kind_front : (kind : CharKind) (front rest : List ℕ) → 0 < length front → AllOfKind kind front → IsApart kind (runs (symbols rest)) → runs (symbols (front ++ rest)) ≡ record { kind = kind; text = front } ∷ runs (symbols rest)
+runs-of_kind_front : (kind : CharKind) (front rest : List ℕ) → 0 < length front → AllOfKind kind front → IsApart kind (runs (characters rest)) → runs (characters (front ++ rest)) ≡ record { kind = kind; text = front } ∷ runs (characters rest)
 runs-of_kind_front kind [] rest some same apart = absurd (omega arith)
 runs-of_kind_front kind (b ∷ front) rest some same apart = runs-of_kind kind b front rest same apart
 
@@ -101,11 +101,11 @@ count_words (c ∷ cs) =
     record { kind = Numeric; text = decimal c.number } ∷ record { kind = Letter; text = name_of c.unit } ∷ count_words cs
 
 -- a count is two runs, where no letter follows
-runs-count : (c : Count) (rest : List ℕ) → c.number < 2 ^ 64 → IsApart Letter (runs (symbols rest)) → runs (symbols (count_text c ++ rest)) ≡ record { kind = Numeric; text = decimal c.number } ∷ record { kind = Letter; text = name_of c.unit } ∷ runs (symbols rest)
+runs-count : (c : Count) (rest : List ℕ) → c.number < 2 ^ 64 → IsApart Letter (runs (characters rest)) → runs (characters (count_text c ++ rest)) ≡ record { kind = Numeric; text = decimal c.number } ∷ record { kind = Letter; text = name_of c.unit } ∷ runs (characters rest)
 runs-count c rest small apart =
     let unit = runs-of_kind_front Letter (name_of c.unit) rest (name_of_nonempty c.unit) (letters-name_of c.unit) apart in
     let grouped : count_text c ++ rest ≡ decimal c.number ++ (name_of c.unit ++ rest) = append_assoc (decimal c.number) (name_of c.unit ++ []) rest ∙ ap (λ (name : List ℕ). decimal c.number ++ (name ++ rest)) (append-nil (name_of c.unit)) in
-    ap (λ (bytes : List ℕ). runs (symbols bytes)) grouped
+    ap (λ (bytes : List ℕ). runs (characters bytes)) grouped
     ∙ runs-of_kind_front Numeric (decimal c.number) (name_of c.unit ++ rest) (decimal_nonempty c.number small) (numeric_digits (decimal c.number) (are_digits-decimal c.number small)) (subst (IsApart Numeric) (sym unit) refl)
     ∙ ap (λ (ps : List Piece). record { kind = Numeric; text = decimal c.number } ∷ ps) unit
 
@@ -125,7 +125,7 @@ spaced_runs-apart : (cs : List Count) → IsApart Letter (spaced_runs cs)
 spaced_runs-apart [] = tt
 spaced_runs-apart (c ∷ cs) = refl
 
-runs-spaced : (cs : List Count) → weight cs ≤ limit → runs (symbols (spaced cs)) ≡ spaced_runs cs
+runs-spaced : (cs : List Count) → weight cs ≤ limit → runs (characters (spaced cs)) ≡ spaced_runs cs
 runs-spaced [] within = refl
 runs-spaced (c ∷ cs) within =
     let others = runs-spaced cs (omega arith) in

@@ -4,7 +4,7 @@ use Rattle.std.specs.List.{AllByRecursion, flat_map}
 use Rattle.std.proofs.lemmas.List.{append-nil}
 use Rattle.cal_span.specs.declared.span.word.CharKind.{CharKind}
 use Rattle.cal_span.proofs.SpanWords.{is_kind-same, same_from_is_kind}
-use Rattle.cal_span.specs.SpanValue.{Piece, is_kind, symbols, with_front, runs}
+use Rattle.cal_span.specs.SpanValue.{Piece, is_kind, characters, with_front, runs}
 use Rattle.cal_span.specs.SpanRule.{IsRun, AreRuns, AreApart}
 
 -- one character is a run
@@ -32,8 +32,8 @@ are_runs : (ss : List Piece) → AreRuns ss (runs ss)
 are_runs [] = refl
 are_runs (s ∷ ss) = runs_first s ss (runs ss) (are_runs ss)
 
-pub runs_cut : (text : List ℕ) → AreRuns (symbols text) (runs (symbols text))
-runs_cut text = are_runs (symbols text)
+pub runs_cut : (text : List ℕ) → AreRuns (characters text) (runs (characters text))
+runs_cut text = are_runs (characters text)
 
 -- no two neighbours are of one kind
 apart_joined : (s w : Piece) (ws : List Piece) → is_kind s.kind w.kind ≡ true → AreApart (w ∷ ws) → AreApart (record { kind = s.kind; text = s.text ++ w.text } ∷ ws)
@@ -53,8 +53,8 @@ runs_apart : (ss : List Piece) → AreApart (runs ss)
 runs_apart [] = tt
 runs_apart (s ∷ ss) = apart_first s (runs ss) (runs_apart ss)
 
-pub runs_longest : (text : List ℕ) → AreApart (runs (symbols text))
-runs_longest text = runs_apart (symbols text)
+pub runs_longest : (text : List ℕ) → AreApart (runs (characters text))
+runs_longest text = runs_apart (characters text)
 
 -- Only these are
 
@@ -105,5 +105,5 @@ only_runs ss (w ∷ ws) (front, rest, split, run, more) apart =
     let later = only_runs rest ws more (apart_after w ws apart) in
     sym (ap runs split ∙ run_front front rest w.kind ws run.some run.kinds (apart_before w ws apart) (sym later) ∙ run_is front w ws run)
 
-pub runs_only : (text : List ℕ) (ws : List Piece) → AreRuns (symbols text) ws → AreApart ws → ws ≡ runs (symbols text)
-runs_only text ws all apart = only_runs (symbols text) ws all apart
+pub runs_only : (text : List ℕ) (ws : List Piece) → AreRuns (characters text) ws → AreApart ws → ws ≡ runs (characters text)
+runs_only text ws all apart = only_runs (characters text) ws all apart

@@ -4,7 +4,7 @@ use Rattle.std.specs.Prelude.{filter, not}
 use Rattle.std.proofs.lemmas.List.{append-nil, drop-drop, length-append, length-take-le}
 use Rattle.cal_span.specs.declared.span.word.CharKind.{CharKind}
 use Rattle.cal_span.specs.declared.span.word.CharKind.TheVariants.{Blank, Numeric, Letter, Other}
-use Rattle.cal_span.specs.SpanValue.{Piece, is_kind, with_front, runs, symbols, words_in}
+use Rattle.cal_span.specs.SpanValue.{Piece, is_kind, with_front, runs, characters, words_in}
 use Rattle.cal_span.specs.SpanWord.{front_of, after_front}
 
 pub is_kind-same : (j : CharKind) → is_kind j j ≡ true
@@ -48,13 +48,13 @@ runs_first s (t ∷ ss) =
     ap (with_front s) (runs_first t ss) ∙ runs_second s t ss (is_kind s.kind t.kind) refl (runs_first t ss)
 
 -- one more character of the prefix's kind
-pub front_more : (kind : CharKind) (bytes : List ℕ) (len width : ℕ) (rest : List ℕ) → rest ≡ drop len bytes → symbols rest ≡ record { kind = kind; text = take width rest } ∷ symbols (drop width rest) → front_of kind (symbols (drop len bytes)) ≡ take width (drop len bytes) ++ front_of kind (symbols (drop (len + width) bytes))
+pub front_more : (kind : CharKind) (bytes : List ℕ) (len width : ℕ) (rest : List ℕ) → rest ≡ drop len bytes → characters rest ≡ record { kind = kind; text = take width rest } ∷ characters (drop width rest) → front_of kind (characters (drop len bytes)) ≡ take width (drop len bytes) ++ front_of kind (characters (drop (len + width) bytes))
 front_more kind bytes len width rest at first =
-    ap (λ s. front_of kind (symbols s)) (sym at) ∙ ap (front_of kind) first ∙ rw (is_kind-same kind) (rw at (rw drop-drop refl))
+    ap (λ s. front_of kind (characters s)) (sym at) ∙ ap (front_of kind) first ∙ rw (is_kind-same kind) (rw at (rw drop-drop refl))
 
-pub after_more : (kind : CharKind) (bytes : List ℕ) (len width : ℕ) (rest : List ℕ) → rest ≡ drop len bytes → symbols rest ≡ record { kind = kind; text = take width rest } ∷ symbols (drop width rest) → after_front kind (symbols (drop len bytes)) ≡ after_front kind (symbols (drop (len + width) bytes))
+pub after_more : (kind : CharKind) (bytes : List ℕ) (len width : ℕ) (rest : List ℕ) → rest ≡ drop len bytes → characters rest ≡ record { kind = kind; text = take width rest } ∷ characters (drop width rest) → after_front kind (characters (drop len bytes)) ≡ after_front kind (characters (drop (len + width) bytes))
 after_more kind bytes len width rest at first =
-    ap (λ s. after_front kind (symbols s)) (sym at) ∙ ap (after_front kind) first ∙ rw (is_kind-same kind) (rw at (rw drop-drop refl))
+    ap (λ s. after_front kind (characters s)) (sym at) ∙ ap (after_front kind) first ∙ rw (is_kind-same kind) (rw at (rw drop-drop refl))
 
 -- blanks at the start are in no word
 without_blanks_first : (s : Piece) (ss : List Piece) (blank : Bool) → is_kind Blank s.kind ≡ blank → without_blanks (runs (s ∷ ss)) ≡ without_blanks (runs (cond blank (after_front Blank ss) (s ∷ ss)))
@@ -86,19 +86,19 @@ word_first ss s rest at =
 
 -- the first word of a text by what the code found: the bytes after the blanks, the kind of the
 -- first of them, and the prefix of that kind
-pub first_word_is : (bytes solid : List ℕ) (kind : CharKind) (width : ℕ) (text rest : List ℕ) → symbols solid ≡ after_front Blank (symbols bytes) → symbols solid ≡ record { kind = kind; text = take width solid } ∷ symbols (drop width solid) → text ≡ front_of kind (symbols solid) → symbols rest ≡ after_front kind (symbols solid) → words_in bytes ≡ record { kind = kind; text = text } ∷ words_in rest
+pub first_word_is : (bytes solid : List ℕ) (kind : CharKind) (width : ℕ) (text rest : List ℕ) → characters solid ≡ after_front Blank (characters bytes) → characters solid ≡ record { kind = kind; text = take width solid } ∷ characters (drop width solid) → text ≡ front_of kind (characters solid) → characters rest ≡ after_front kind (characters solid) → words_in bytes ≡ record { kind = kind; text = text } ∷ words_in rest
 unfolding words_in
 first_word_is bytes solid kind width text rest at first front after =
-    let by_front = word_first (symbols bytes) _ _ (sym at ∙ first) in
-    by_front ∙ ap (λ (ts : List Piece). record { kind = kind; text = front_of kind ts } ∷ without_blanks (runs (after_front kind ts))) (sym first) ∙ ap (λ (t : List ℕ). record { kind = kind; text = t } ∷ without_blanks (runs (after_front kind (symbols solid)))) (sym front) ∙ ap (λ (ts : List Piece). record { kind = kind; text = text } ∷ without_blanks (runs ts)) (sym after)
+    let by_front = word_first (characters bytes) _ _ (sym at ∙ first) in
+    by_front ∙ ap (λ (ts : List Piece). record { kind = kind; text = front_of kind ts } ∷ without_blanks (runs (after_front kind ts))) (sym first) ∙ ap (λ (t : List ℕ). record { kind = kind; text = t } ∷ without_blanks (runs (after_front kind (characters solid)))) (sym front) ∙ ap (λ (ts : List Piece). record { kind = kind; text = text } ∷ without_blanks (runs ts)) (sym after)
 
 -- a word has at least the bytes of its first character
-pub word_length : (solid : List ℕ) (kind : CharKind) (width : ℕ) (text : List ℕ) → symbols solid ≡ record { kind = kind; text = take width solid } ∷ symbols (drop width solid) → text ≡ front_of kind (symbols solid) → width ≤ length solid → width ≤ length text
+pub word_length : (solid : List ℕ) (kind : CharKind) (width : ℕ) (text : List ℕ) → characters solid ≡ record { kind = kind; text = take width solid } ∷ characters (drop width solid) → text ≡ front_of kind (characters solid) → width ≤ length solid → width ≤ length text
 word_length solid kind width text first front fits =
-    let parts : text ≡ take width solid ++ front_of kind (symbols (drop width solid)) = front ∙ ap (front_of kind) first ∙ rw (is_kind-same kind) refl in
-    omega (arith, ap length parts, length-append (take width solid) (front_of kind (symbols (drop width solid))), length-take-le width solid fits)
+    let parts : text ≡ take width solid ++ front_of kind (characters (drop width solid)) = front ∙ ap (front_of kind) first ∙ rw (is_kind-same kind) refl in
+    omega (arith, ap length parts, length-append (take width solid) (front_of kind (characters (drop width solid))), length-take-le width solid fits)
 
-pub no_word_is : (bytes solid : List ℕ) → symbols solid ≡ after_front Blank (symbols bytes) → solid ≡ [] → words_in bytes ≡ []
+pub no_word_is : (bytes solid : List ℕ) → characters solid ≡ after_front Blank (characters bytes) → solid ≡ [] → words_in bytes ≡ []
 unfolding words_in
 no_word_is bytes solid at none =
-    without_blanks_after (symbols bytes) ∙ ap (λ ts. without_blanks (runs ts)) (sym at ∙ ap symbols none)
+    without_blanks_after (characters bytes) ∙ ap (λ ts. without_blanks (runs ts)) (sym at ∙ ap characters none)

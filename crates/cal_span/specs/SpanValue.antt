@@ -49,12 +49,12 @@ pub record Piece : Type 0 where
   pub text : List ℕ
 
 -- the characters of a text: a mu is a letter, and each byte of any other character is by itself
-abbrev pub symbols : List ℕ → List Piece
-symbols [] = []
-symbols (b ∷ []) = record { kind = kind_of b; text = b ∷ [] } ∷ []
-symbols (b ∷ c ∷ bytes) =
-    if is_micro b c then record { kind = Letter; text = b ∷ c ∷ [] } ∷ symbols bytes
-    else record { kind = kind_of b; text = b ∷ [] } ∷ symbols (c ∷ bytes)
+abbrev pub characters : List ℕ → List Piece
+characters [] = []
+characters (b ∷ []) = record { kind = kind_of b; text = b ∷ [] } ∷ []
+characters (b ∷ c ∷ bytes) =
+    if is_micro b c then record { kind = Letter; text = b ∷ c ∷ [] } ∷ characters bytes
+    else record { kind = kind_of b; text = b ∷ [] } ∷ characters (c ∷ bytes)
 
 -- Words (systemd.time(7), Parsing Time Spans: blanks may come before, between and after them)
 
@@ -72,7 +72,7 @@ runs (s ∷ ss) = with_front s (runs ss)
 
 -- the words of a text: its runs without the blanks between them
 unfoldable pub words_in : List ℕ → List Piece
-words_in bytes = filter (λ w. not (is_kind Blank w.kind)) (runs (symbols bytes))
+words_in bytes = filter (λ w. not (is_kind Blank w.kind)) (runs (characters bytes))
 
 -- Pairs (systemd.time(7), Parsing Time Spans)
 

@@ -14,7 +14,7 @@ use Rattle.cal_spec.specs.declared.part.Part.{Part}
 use Rattle.cal_spec.specs.declared.slot.Slot.{Slot}
 use Rattle.cal_spec.specs.declared.slot.Slot.TheVariants.{Year, Month, Hour, Minute, Second}
 use Rattle.cal_spec.proofs.CleanLemmas.{IsClear, Apart, clear_from, split_at, split_alone, filter_at, filter_alone, woven, woven_whole, filter_passes}
-use Rattle.cal_spec.specs.ZoneSuffix.{Suffix}
+use Rattle.cal_spec.specs.ZoneSuffix.{ZoneSuffix}
 use Rattle.cal_spec.proofs.ComponentRule.{is_component_byte, component_found, component_only, component_bytes}
 use Rattle.cal_spec.proofs.FieldLemmas.{fields_with, date_found, time_found, counted_date, counted_time, day_no_time}
 
@@ -129,7 +129,7 @@ clear_of p slot text c apart is = clear_from is_component_byte p text apart (com
 
 -- What was read is a date or a time by the rule
 
-pub is_date : (word : List ℕ) (weekdays : List Bool) (d : DateFields) (h : TimeFields) (name : Option Suffix) → date_of word ≡ Ok d → IsDate word (fields_with weekdays d h name)
+pub is_date : (word : List ℕ) (weekdays : List Bool) (d : DateFields) (h : TimeFields) (name : Option ZoneSuffix) → date_of word ≡ Ok d → IsDate word (fields_with weekdays d h name)
 is_date word weekdays d h name at =
     let found = date_found word d at in
     let read = found.read in
@@ -143,7 +143,7 @@ is_date word weekdays d h name at =
       day = component_found (day_slot d.from_end) (most_counted - counted Year d.year - counted Month d.month) t.day d.day (rw read.from_end at read.day);
     }
 
-pub is_time : (room : ℕ) (word : List ℕ) (weekdays : List Bool) (d : DateFields) (h : TimeFields) (name : Option Suffix) → time_of room word ≡ Ok h → IsTime word (fields_with weekdays d h name)
+pub is_time : (room : ℕ) (word : List ℕ) (weekdays : List Bool) (d : DateFields) (h : TimeFields) (name : Option ZoneSuffix) → time_of room word ≡ Ok h → IsTime word (fields_with weekdays d h name)
 is_time room word weekdays d h name at =
     let found = time_found room word h at in
     let read = found.read in

@@ -12,8 +12,8 @@ use Rattle.cal_spec.specs.Parts.{is_time, part_of, with_values}
 use Rattle.cal_spec.specs.Reads.{◌>>=◌, unless, first_of}
 use Rattle.cal_spec.specs.Slot.{day_slot}
 use Rattle.cal_spec.specs.Weekdays.{weekdays_in}
-use Rattle.cal_spec.specs.Words.{Places, words, places_of}
-use Rattle.cal_spec.specs.ZoneSuffix.{Suffix, suffix_in}
+use Rattle.cal_spec.specs.Words.{Roles, words, roles_of}
+use Rattle.cal_spec.specs.ZoneSuffix.{ZoneSuffix, suffix_in}
 use Rattle.cal_spec.specs.declared.part.Part.{Part}
 use Rattle.cal_spec.specs.declared.slot.Slot.{Slot}
 use Rattle.cal_spec.specs.declared.slot.Slot.TheVariants.{Year, Month, Hour, Minute, Second}
@@ -175,11 +175,11 @@ time_of_fault before room word sum = time_fault before room (time_texts word) su
 
 -- The whole text
 
-zone_fault : {A : Type 0} (r : Result (Option Suffix) SpecFault) (make : Option Suffix → A) → result_err (r >>= λ name. Ok (make name)) ≡ first_of (result_err r ∷ [])
+zone_fault : {A : Type 0} (r : Result (Option ZoneSuffix) SpecFault) (make : Option ZoneSuffix → A) → result_err (r >>= λ name. Ok (make name)) ≡ first_of (result_err r ∷ [])
 zone_fault (Ok x) make = refl
 zone_fault (Err e) make = refl
 
-fields_fault : (p : Places) → result_err (fields_at p) ≡ first_of (faults_at (Some p))
+fields_fault : (p : Roles) → result_err (fields_at p) ≡ first_of (faults_at (Some p))
 unfolding fields_at
 fields_fault p =
     let dates = date_faults (date_texts p.date) in
@@ -190,14 +190,14 @@ fields_fault p =
     err_of_bind (time_of (room_after date) p.time) (λ time. suffix_in p.rest >>= λ name. Ok (fields_with weekdays date time name)) (first_of times) (first_of zones) (time_of_fault (numbered_in (date_texts p.date)) (room_after date) p.time (date_room p.date date at)) (λ time _.
     zone_fault (suffix_in p.rest) (λ name. fields_with weekdays date time name)))) ∙ ap (option_or (result_err (weekdays_in p.weekdays))) (first_of_three dates times zones)
 
-due_faults : (o : Option Places) → result_err (fields_due o) ≡ first_of (faults_at o)
+due_faults : (o : Option Roles) → result_err (fields_due o) ≡ first_of (faults_at o)
 due_faults None = refl
 due_faults (Some p) = fields_fault p
 
-long_fault : (long : Bool) (o : Option Places) → result_err (cond long (Err TextTooLong) (fields_due o)) ≡ first_of (cond long (Some TextTooLong) None ∷ faults_at o)
+long_fault : (long : Bool) (o : Option Roles) → result_err (cond long (Err TextTooLong) (fields_due o)) ≡ first_of (cond long (Some TextTooLong) None ∷ faults_at o)
 long_fault true o = refl
 long_fault false o = due_faults o
 
 pub first_fault_of_text : (text : List ℕ) → result_err (fields_in text) ≡ first_of (faults_in text)
 unfolding fields_in faults_in
-first_fault_of_text text = long_fault (ltb most_text_bytes (length text)) (places_of (words text))
+first_fault_of_text text = long_fault (ltb most_text_bytes (length text)) (roles_of (words text))

@@ -14,15 +14,15 @@ use Rattle.cal_spec.specs.Fields.{Fields, fields_of, parts_in, counted_parts}
 use Rattle.cal_spec.specs.Parts.{is_time}
 use Rattle.cal_spec.specs.Grammar.{most_text_bytes, fields_at, fields_due, fields_in}
 use Rattle.cal_spec.specs.Reads.{◌>>=◌, GivesUnlessNoMemory}
-use Rattle.cal_spec.specs.declared.raw.Raw.{Raw}
+use Rattle.cal_spec.specs.declared.fields.Fields as declared_fields
 use Rattle.cal_spec.specs.Slot.{day_slot}
 use Rattle.cal_spec.specs.ValidFields.{IsValidFields}
 use Rattle.cal_spec.specs.Weekdays.{day_named, leading_letters, days_until, is_covered, days_of, items_of, without_comma, set_of, listed_days, is_like_shorthand, weekdays_of, weekdays_in}
-use Rattle.cal_spec.specs.Words.{Places, words, places_of}
+use Rattle.cal_spec.specs.Words.{Roles, words, roles_of}
 use Rattle.cal_zone.specs.ZoneName.{is_zone_name}
 use Rattle.cal_zone.specs.OffsetWord.{offset_in}
 use Rattle.cal_zone.proofs.OffsetWordLemmas.{offset-minutes}
-use Rattle.cal_spec.specs.ZoneSuffix.{IsSuffixOption, Suffix, ahead, kept_name, of_name, suffix_due, suffix_in, suffix_of}
+use Rattle.cal_spec.specs.ZoneSuffix.{IsSuffixOption, ZoneSuffix, ahead, kept_name, of_name, suffix_due, suffix_in, suffix_of}
 use Rattle.cal_spec.specs.declared.part.Part.{Part}
 use Rattle.cal_spec.specs.declared.slot.Slot.{Slot}
 use Rattle.cal_spec.specs.declared.slot.Slot.TheVariants.{Year, Month, Hour, Minute, Second}
@@ -185,20 +185,20 @@ name_twice : (word : List ℕ) (utc : Bool) → str_eq_ignore_ascii_case word (c
 name_twice word true is = refl
 name_twice word false is = rw is refl
 
-suffix_by : (word : List ℕ) (o : Option ℤ) (suffix : Option Suffix) → offset_in word ≡ o → suffix_due (option_map ahead o) ≡ Ok suffix → IsSuffixOption suffix
+suffix_by : (word : List ℕ) (o : Option ℤ) (suffix : Option ZoneSuffix) → offset_in word ≡ o → suffix_due (option_map ahead o) ≡ Ok suffix → IsSuffixOption suffix
 suffix_by word None suffix is at = cc
 suffix_by word (Some seconds) suffix is at =
     let same : Some (ahead seconds) ≡ suffix = cc in
-    subst (λ (s : Option Suffix). IsSuffixOption s) same (offset-minutes word seconds is)
+    subst (λ (s : Option ZoneSuffix). IsSuffixOption s) same (offset-minutes word seconds is)
 
-zone_by : (word : List ℕ) (test : Bool) (suffix : Option Suffix) → is_zone_name word ≡ test → suffix_due (cond test (Some (of_name (kept_name word))) (option_map ahead (offset_in word))) ≡ Ok suffix → IsSuffixOption suffix
+zone_by : (word : List ℕ) (test : Bool) (suffix : Option ZoneSuffix) → is_zone_name word ≡ test → suffix_due (cond test (Some (of_name (kept_name word))) (option_map ahead (offset_in word))) ≡ Ok suffix → IsSuffixOption suffix
 zone_by word true suffix is at =
     let same : Some (of_name (kept_name word)) ≡ suffix = cc in
     let utc = str_eq_ignore_ascii_case word (codes "UTC") in
-    subst (λ (s : Option Suffix). IsSuffixOption s) same (name_kept word utc is, name_twice word utc refl)
+    subst (λ (s : Option ZoneSuffix). IsSuffixOption s) same (name_kept word utc is, name_twice word utc refl)
 zone_by word false suffix is at = suffix_by word (offset_in word) suffix refl at
 
-pub is_zone : (ws : List (List ℕ)) (suffix : Option Suffix) → suffix_in ws ≡ Ok suffix → IsSuffixOption suffix
+pub is_zone : (ws : List (List ℕ)) (suffix : Option ZoneSuffix) → suffix_in ws ≡ Ok suffix → IsSuffixOption suffix
 unfolding suffix_of
 is_zone [] None at = tt
 is_zone [] (Some suffix) at = cc
@@ -207,7 +207,7 @@ is_zone (w ∷ v ∷ ws) suffix at = cc
 
 -- The whole text
 
-abbrev pub fields_with : List Bool → DateFields → TimeFields → Option Suffix → Fields
+abbrev pub fields_with : List Bool → DateFields → TimeFields → Option ZoneSuffix → Fields
 fields_with weekdays date time name = record {
   weekdays = weekdays;
   year = date.year;
@@ -220,18 +220,18 @@ fields_with weekdays date time name = record {
   zone = name;
 }
 
-pub record FieldsFound (p : Places) (f : Fields) : Type 0 where
+pub record FieldsFound (p : Roles) (f : Fields) : Type 0 where
   pub weekdays : List Bool
   pub date : DateFields
   pub time : TimeFields
-  pub name : Option Suffix
+  pub name : Option ZoneSuffix
   pub weekdays_is : weekdays_in p.weekdays ≡ Ok weekdays
   pub date_is : date_of p.date ≡ Ok date
   pub time_is : time_of (room_after date) p.time ≡ Ok time
   pub name_is : suffix_in p.rest ≡ Ok name
   pub is : fields_with weekdays date time name ≡ f
 
-pub fields_found : (p : Places) (f : Fields) → fields_at p ≡ Ok f → FieldsFound p f
+pub fields_found : (p : Roles) (f : Fields) → fields_at p ≡ Ok f → FieldsFound p f
 unfolding fields_at
 fields_found p f at =
     let read = four_ok (weekdays_in p.weekdays) (date_of p.date) (λ date. time_of (room_after date) p.time) (suffix_in p.rest) fields_with f at in
@@ -249,20 +249,20 @@ fields_found p f at =
 
 pub record TextFound (text : List ℕ) (f : Fields) : Type 0 where
   pub short : length text ≤ most_text_bytes
-  pub places : Places
-  pub placed : places_of (words text) ≡ Some places
-  pub fields : FieldsFound places f
+  pub roles : Roles
+  pub roles_are : roles_of (words text) ≡ Some roles
+  pub fields : FieldsFound roles f
 
-text_found_by : (text : List ℕ) (o : Option Places) (f : Fields) → length text ≤ most_text_bytes → places_of (words text) ≡ o → fields_due o ≡ Ok f → TextFound text f
+text_found_by : (text : List ℕ) (o : Option Roles) (f : Fields) → length text ≤ most_text_bytes → roles_of (words text) ≡ o → fields_due o ≡ Ok f → TextFound text f
 text_found_by text None f short is at = cc
 text_found_by text (Some p) f short is at =
-    record { short = short; places = p; placed = is; fields = fields_found p f at }
+    record { short = short; roles = p; roles_are = is; fields = fields_found p f at }
 
 pub text_found : (text : List ℕ) (f : Fields) → fields_in text ≡ Ok f → TextFound text f
 unfolding fields_in
 text_found text f at =
-    let read = cond_ok (ltb most_text_bytes (length text)) TextTooLong (fields_due (places_of (words text))) f at in
-    text_found_by text (places_of (words text)) f (ltb-false most_text_bytes (length text) read.0) refl read.1
+    let read = cond_ok (ltb most_text_bytes (length text)) TextTooLong (fields_due (roles_of (words text))) f at in
+    text_found_by text (roles_of (words text)) f (ltb-false most_text_bytes (length text) read.0) refl read.1
 
 -- how many counted parts
 
@@ -310,12 +310,12 @@ time_read room t h read = record {
 pub is_time_read : (room : ℕ) (word : List ℕ) (h : TimeFields) → time_of room word ≡ Ok h → IsTimeRead room h
 is_time_read room word h at = let found = time_found room word h at in time_read room found.texts h found.read
 
-few_parts : (weekdays : List Bool) (d : DateFields) (h : TimeFields) (name : Option Suffix) → IsDateRead d → IsTimeRead (room_after d) h → counted_parts (fields_with weekdays d h name) ≤ 240
+few_parts : (weekdays : List Bool) (d : DateFields) (h : TimeFields) (name : Option ZoneSuffix) → IsDateRead d → IsTimeRead (room_after d) h → counted_parts (fields_with weekdays d h name) ≤ 240
 unfolding counted_parts
 few_parts weekdays d h name date time =
     omega (arith, counted_date Year d.year refl, counted_date Month d.month refl, counted_date (day_slot d.from_end) d.day (day_no_time d.from_end), counted_time Hour h.hour refl, counted_time Minute h.minute refl, counted_time Second h.second refl, date.year.few, date.month.few, date.day.few, time.hour.few, time.minute.few, time.second.few)
 
-valid_with : (weekdays : List Bool) (d : DateFields) (h : TimeFields) (name : Option Suffix) → IsWeek weekdays → IsDateRead d → IsTimeRead (room_after d) h → IsSuffixOption name → IsValidFields (fields_with weekdays d h name)
+valid_with : (weekdays : List Bool) (d : DateFields) (h : TimeFields) (name : Option ZoneSuffix) → IsWeek weekdays → IsDateRead d → IsTimeRead (room_after d) h → IsSuffixOption name → IsValidFields (fields_with weekdays d h name)
 valid_with weekdays d h name week date time zone_is = record {
   seven = week.seven;
   chosen = week.chosen;
@@ -334,10 +334,10 @@ pub valid_fields : (text : List ℕ) (f : Fields) → fields_in text ≡ Ok f �
 valid_fields text f at =
     let found = text_found text f at in
     let read = found.fields in
-    let p = found.places in
+    let p = found.roles in
     rw read.is at (valid_with read.weekdays read.date read.time read.name (is_week p.weekdays read.weekdays read.weekdays_is) (is_date_read p.date read.date read.date_is) (is_time_read (room_after read.date) p.time read.time read.time_is) (is_zone p.rest read.name read.name_is))
 
 -- what a call gives that reads a text
-pub gives_valid : (text : List ℕ) (r : Result Raw SpecFault) → GivesUnlessNoMemory fields_of r (fields_in text) → IfOk r (λ raw. IsValidFields (fields_of raw))
+pub gives_valid : (text : List ℕ) (r : Result declared_fields.Fields SpecFault) → GivesUnlessNoMemory fields_of r (fields_in text) → IfOk r (λ raw. IsValidFields (fields_of raw))
 gives_valid text (Ok raw) gives = valid_fields text (fields_of raw) gives
 gives_valid text (Err e) gives = tt

@@ -15,7 +15,7 @@ use Rattle.cal_spec.specs.Slot.{least, greatest, day_slot}
 use Rattle.cal_spec.specs.Sound.{AreSound, GoesOn, IsEndWithin, IsSecondWithin, IsSound, IsWithin}
 use Rattle.cal_spec.specs.ValidFields.{IsValidFields}
 use Rattle.cal_spec.specs.WeekdayRuns.{run_text, runs_text, weekdays_text}
-use Rattle.cal_spec.specs.ZoneSuffix.{IsSuffixOption, Suffix, suffix_text}
+use Rattle.cal_spec.specs.ZoneSuffix.{IsSuffixOption, ZoneSuffix, suffix_text}
 use Rattle.cal_spec.proofs.SuffixLemmas.{suffix_word}
 use Rattle.cal_spec.specs.declared.part.Part.{Part}
 use Rattle.cal_spec.specs.declared.slot.Slot.{Slot}
@@ -195,7 +195,7 @@ short_weekdays = refl
 weekdays_length : (days : List Bool) → length days ≡ 7 → length (weekdays_text days) ≤ 20
 weekdays_length days seven = leb-true _ 20 (each_checked 7 (λ ds. nat_le (length (weekdays_text ds)) 20) days short_weekdays seven)
 
-zone_length : (suffix : Option Suffix) → IsSuffixOption suffix → length (zone_text suffix) ≤ 256
+zone_length : (suffix : Option ZoneSuffix) → IsSuffixOption suffix → length (zone_text suffix) ≤ 256
 zone_length None h = omega arith
 zone_length (Some suffix) h = let word = suffix_word suffix h in omega (arith, word.short, length-append (suffix_text suffix) [])
 

@@ -21,7 +21,7 @@ pub mod PartRule
 pub mod PieceLemmas
 pub mod ReadBackParts
 pub mod ReadLemmas
-pub mod SignLemmas
+pub mod SymbolLemmas
 pub mod WeekdayRule
 pub mod WholeRule
 pub mod SuffixLemmas

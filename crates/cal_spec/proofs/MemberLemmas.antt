@@ -91,10 +91,10 @@ unfolding normal_parts
 parts_have slot ps v all =
     let f = λ (p : Part). part_has slot p v in
     let xs = map reduced ps in
-    let placed = λ (z : Part). has_in_order part_cmp part_total part_exact z xs in
+    let ordered = λ (z : Part). has_in_order part_cmp part_total part_exact z xs in
     same_tests (list_any f (in_order part_cmp xs)) (list_any f xs)
-    (λ h. let found = has_any f (in_order part_cmp xs) h in any_has f xs found.0 ((placed found.0).0 found.1) found.2)
-    (λ h. let found = has_any f xs h in any_has f (in_order part_cmp xs) found.0 ((placed found.0).1 found.1) found.2)
+    (λ h. let found = has_any f (in_order part_cmp xs) h in any_has f xs found.0 ((ordered found.0).0 found.1) found.2)
+    (λ h. let found = has_any f xs h in any_has f (in_order part_cmp xs) found.0 ((ordered found.0).1 found.1) found.2)
     ∙ any_map f reduced ps
     ∙ any_same (λ p. f (reduced p)) f IsPart ps all (λ p h. reduced_has slot p v h)
 

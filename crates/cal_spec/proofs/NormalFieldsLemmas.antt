@@ -7,7 +7,7 @@ use Rattle.std.specs.declared.cmp.Ordering.{Ordering}
 use Rattle.std.specs.declared.cmp.Ordering.TheVariants.{Less, Equal, Greater}
 use Rattle.cal_spec.specs.Fields.{Fields, counted_parts, parts_in}
 use Rattle.cal_spec.specs.NormalForm.{AreNormal, AreNormalOf, AreParts, IsNormal, IsNormalFieldsOf, IsNormalOf, IsNormalSecondOf, IsPart, IsReduced, IsStarred, each, normal_component, normal_fields, normal_from_end, normal_parts, normal_second, part_cmp, part_eq, reduced, starred}
-use Rattle.cal_spec.specs.Order.{Has, in_order, placed, placed_by}
+use Rattle.cal_spec.specs.Order.{Has, in_order, inserted, inserted_by}
 use Rattle.cal_spec.specs.Slot.{day_slot}
 use Rattle.cal_spec.specs.Sound.{AreSound, IsSound}
 use Rattle.cal_spec.specs.ValidFields.{IsValidFields}
@@ -87,21 +87,21 @@ pub normal_twice : (raw : List Part) → AllByRecursion IsPart raw → normal_pa
 normal_twice raw all = normal_fixed (normal_parts raw) (are_normal raw all)
 
 -- no more parts than before, and some where there were some
-length_placed_by : (o : Ordering) (x y : Part) (ys more : List Part) → 0 < length more → length more ≤ length ys + 1
-    → (0 < length (placed_by o x y ys more)) × (length (placed_by o x y ys more) ≤ length (y ∷ ys) + 1)
-length_placed_by Less x y ys more some few = (omega arith, omega arith)
-length_placed_by Equal x y ys more some few = (omega arith, omega arith)
-length_placed_by Greater x y ys more some few = (omega arith, omega arith)
+length_inserted_by : (o : Ordering) (x y : Part) (ys more : List Part) → 0 < length more → length more ≤ length ys + 1
+    → (0 < length (inserted_by o x y ys more)) × (length (inserted_by o x y ys more) ≤ length (y ∷ ys) + 1)
+length_inserted_by Less x y ys more some few = (omega arith, omega arith)
+length_inserted_by Equal x y ys more some few = (omega arith, omega arith)
+length_inserted_by Greater x y ys more some few = (omega arith, omega arith)
 
-length_placed : (x : Part) (ys : List Part) → (0 < length (placed part_cmp x ys)) × (length (placed part_cmp x ys) ≤ length ys + 1)
-length_placed x [] = (omega arith, omega arith)
-length_placed x (y ∷ ys) =
-    let rest = length_placed x ys in
-    length_placed_by (part_cmp x y) x y ys (placed part_cmp x ys) rest.0 rest.1
+length_inserted : (x : Part) (ys : List Part) → (0 < length (inserted part_cmp x ys)) × (length (inserted part_cmp x ys) ≤ length ys + 1)
+length_inserted x [] = (omega arith, omega arith)
+length_inserted x (y ∷ ys) =
+    let rest = length_inserted x ys in
+    length_inserted_by (part_cmp x y) x y ys (inserted part_cmp x ys) rest.0 rest.1
 
 length_in_order : (xs : List Part) → length (in_order part_cmp xs) ≤ length xs
 length_in_order [] = omega arith
-length_in_order (x ∷ xs) = omega (arith, length_in_order xs, (length_placed x (in_order part_cmp xs)).1)
+length_in_order (x ∷ xs) = omega (arith, length_in_order xs, (length_inserted x (in_order part_cmp xs)).1)
 
 pub length_normal : (ps : List Part) → length (normal_parts ps) ≤ length ps
 unfolding normal_parts
@@ -110,7 +110,7 @@ length_normal ps = omega (arith, length_in_order (map reduced ps), length-map ps
 pub some_normal : (ps : List Part) → 0 < length ps → 0 < length (normal_parts ps)
 unfolding normal_parts
 some_normal [] h = absurd (omega arith)
-some_normal (p ∷ ps) h = (length_placed (reduced p) (in_order part_cmp (map reduced ps))).0
+some_normal (p ∷ ps) h = (length_inserted (reduced p) (in_order part_cmp (map reduced ps))).0
 
 -- components
 sound_parts : (slot : Slot) (ps : List Part) → AllByRecursion (IsSound slot) ps → AllByRecursion (IsSound slot) (normal_parts ps)

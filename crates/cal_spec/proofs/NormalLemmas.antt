@@ -104,7 +104,7 @@ sorted_deduped raw ys moved sorted =
     (IsStrictlySortedBy-dedup part_total part_ties ys sorted)
     (sorted_in_order part_cmp part_total part_exact xs)
     (λ z.
-    let placed = has_in_order part_cmp part_total part_exact z xs in (
-      λ h. placed.1 (has_from_contains xs z (Contains-permutation _ _ _ (IsPermutation-sym xs ys moved) (contains_from_has ys z ((has_dedup ys z).0 h)))),
-      λ h. (has_dedup ys z).1 (has_from_contains ys z (Contains-permutation _ _ _ moved (contains_from_has xs z (placed.0 h)))),
+    let ordered = has_in_order part_cmp part_total part_exact z xs in (
+      λ h. ordered.1 (has_from_contains xs z (Contains-permutation _ _ _ (IsPermutation-sym xs ys moved) (contains_from_has ys z ((has_dedup ys z).0 h)))),
+      λ h. (has_dedup ys z).1 (has_from_contains ys z (Contains-permutation _ _ _ moved (contains_from_has xs z (ordered.0 h)))),
     ))

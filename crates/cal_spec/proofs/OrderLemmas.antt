@@ -7,7 +7,7 @@ use Rattle.std.specs.Ordering.{ordering_reverse}
 use Rattle.std.proofs.lemmas.Cmp.{tied_itself}
 use Rattle.std.specs.declared.cmp.Ordering.{Ordering}
 use Rattle.std.specs.declared.cmp.Ordering.TheVariants.{Less, Equal, Greater}
-use Rattle.cal_spec.specs.Order.{Has, placed_by, placed, in_order}
+use Rattle.cal_spec.specs.Order.{Has, inserted_by, inserted, in_order}
 
 -- std's word for an element
 pub contains_from_has : {A : Type 0} (xs : List A) (x : A) → Has xs x → Contains xs x
@@ -35,15 +35,15 @@ all_from P [] each = tt
 all_from P (y ∷ ys) each = (each y (inl refl), all_from P ys (λ x h. each x (inr h)))
 
 module _ {A : Type 0} (cmp : A → A → Ordering) (total : IsTotalOrder cmp) (exact : (x y : A) → cmp x y ≡ Equal → x ≡ y) where
-  -- the elements once x is placed
-  has_placed_by : (o : Ordering) (x y z : A) (ys more : List A) → cmp x y ≡ o → (Has more z ↔ ((x ≡ z) ⊎ Has ys z))
-      → Has (placed_by o x y ys more) z ↔ ((x ≡ z) ⊎ Has (y ∷ ys) z)
-  has_placed_by Less x y z ys more e rest = (λ h. h, λ h. h)
-  has_placed_by Equal x y z ys more e rest = (
+  -- the elements once x is inserted
+  has_inserted_by : (o : Ordering) (x y z : A) (ys more : List A) → cmp x y ≡ o → (Has more z ↔ ((x ≡ z) ⊎ Has ys z))
+      → Has (inserted_by o x y ys more) z ↔ ((x ≡ z) ⊎ Has (y ∷ ys) z)
+  has_inserted_by Less x y z ys more e rest = (λ h. h, λ h. h)
+  has_inserted_by Equal x y z ys more e rest = (
     λ h. inr h,
     λ h. elim h [ inl same ↦ inl (sym (exact x y e) ∙ same) | inr k ↦ k ],
   )
-  has_placed_by Greater x y z ys more e rest = (
+  has_inserted_by Greater x y z ys more e rest = (
     λ h. elim h [
       | inl same ↦ inr (inl same)
       | inr k ↦ elim (rest.0 k) [ inl same ↦ inl same | inr m ↦ inr (inr m) ]
@@ -54,48 +54,48 @@ module _ {A : Type 0} (cmp : A → A → Ordering) (total : IsTotalOrder cmp) (e
     ],
   )
 
-  has_placed : (x z : A) (ys : List A) → Has (placed cmp x ys) z ↔ ((x ≡ z) ⊎ Has ys z)
-  has_placed x z [] = (λ h. h, λ h. h)
-  has_placed x z (y ∷ ys) = has_placed_by (cmp x y) x y z ys (placed cmp x ys) refl (has_placed x z ys)
+  has_inserted : (x z : A) (ys : List A) → Has (inserted cmp x ys) z ↔ ((x ≡ z) ⊎ Has ys z)
+  has_inserted x z [] = (λ h. h, λ h. h)
+  has_inserted x z (y ∷ ys) = has_inserted_by (cmp x y) x y z ys (inserted cmp x ys) refl (has_inserted x z ys)
 
   -- the same elements
   pub has_in_order : (z : A) (xs : List A) → Has (in_order cmp xs) z ↔ Has xs z
   has_in_order z [] = (λ h. h, λ h. h)
   has_in_order z (x ∷ xs) =
       let rest = has_in_order z xs in
-      let here = has_placed x z (in_order cmp xs) in (
+      let here = has_inserted x z (in_order cmp xs) in (
         λ h. elim (here.0 h) [ inl same ↦ inl same | inr k ↦ inr (rest.0 k) ],
         λ h. elim h [ inl same ↦ here.1 (inl same) | inr k ↦ here.1 (inr (rest.1 k)) ],
       )
 
-  all_placed : (P : A → Type 0) (x : A) (ys : List A) → P x → AllByRecursion P ys → AllByRecursion P (placed cmp x ys)
-  all_placed P x ys here rest =
-      all_from P (placed cmp x ys) (λ z h. elim ((has_placed x z ys).0 h) [ inl same ↦ subst P same here | inr k ↦ all_at P ys z rest k ])
+  all_inserted : (P : A → Type 0) (x : A) (ys : List A) → P x → AllByRecursion P ys → AllByRecursion P (inserted cmp x ys)
+  all_inserted P x ys here rest =
+      all_from P (inserted cmp x ys) (λ z h. elim ((has_inserted x z ys).0 h) [ inl same ↦ subst P same here | inr k ↦ all_at P ys z rest k ])
 
-  sorted_placed_by : (o : Ordering) (x y : A) (ys : List A) → cmp x y ≡ o → IsStrictlySortedBy cmp (y ∷ ys)
-      → IsStrictlySortedBy cmp (placed cmp x ys) → IsStrictlySortedBy cmp (placed_by o x y ys (placed cmp x ys))
+  sorted_inserted_by : (o : Ordering) (x y : A) (ys : List A) → cmp x y ≡ o → IsStrictlySortedBy cmp (y ∷ ys)
+      → IsStrictlySortedBy cmp (inserted cmp x ys) → IsStrictlySortedBy cmp (inserted_by o x y ys (inserted cmp x ys))
   unfolding IsStrictlySortedBy
-  sorted_placed_by Less x y ys e sorted more =
+  sorted_inserted_by Less x y ys e sorted more =
       ((e, all_from (λ z. cmp x z ≡ Less) ys (λ z h. total.trans x y z e (all_at (λ w. cmp y w ≡ Less) ys z sorted.0 h))), sorted)
-  sorted_placed_by Equal x y ys e sorted more = sorted
-  sorted_placed_by Greater x y ys e sorted more =
+  sorted_inserted_by Equal x y ys e sorted more = sorted
+  sorted_inserted_by Greater x y ys e sorted more =
       let below : cmp y x ≡ Less = total.antisymm y x ∙ ap ordering_reverse e in
-      (all_placed (λ z. cmp y z ≡ Less) x ys below sorted.0, more)
+      (all_inserted (λ z. cmp y z ≡ Less) x ys below sorted.0, more)
 
   tail_sorted : (y : A) (ys : List A) → IsStrictlySortedBy cmp (y ∷ ys) → IsStrictlySortedBy cmp ys
   unfolding IsStrictlySortedBy
   tail_sorted y ys h = h.1
 
-  sorted_placed : (x : A) (ys : List A) → IsStrictlySortedBy cmp ys → IsStrictlySortedBy cmp (placed cmp x ys)
+  sorted_inserted : (x : A) (ys : List A) → IsStrictlySortedBy cmp ys → IsStrictlySortedBy cmp (inserted cmp x ys)
   unfolding IsStrictlySortedBy
-  sorted_placed x [] h = (tt, tt)
-  sorted_placed x (y ∷ ys) h = sorted_placed_by (cmp x y) x y ys refl h (sorted_placed x ys (tail_sorted y ys h))
+  sorted_inserted x [] h = (tt, tt)
+  sorted_inserted x (y ∷ ys) h = sorted_inserted_by (cmp x y) x y ys refl h (sorted_inserted x ys (tail_sorted y ys h))
 
-  -- each element occurs once, in its place
+  -- each element occurs once, in order
   pub sorted_in_order : (xs : List A) → IsStrictlySortedBy cmp (in_order cmp xs)
   unfolding IsStrictlySortedBy
   sorted_in_order [] = tt
-  sorted_in_order (x ∷ xs) = sorted_placed x (in_order cmp xs) (sorted_in_order xs)
+  sorted_in_order (x ∷ xs) = sorted_inserted x (in_order cmp xs) (sorted_in_order xs)
 
   not_below_itself : (x : A) → cmp x x ≡ Less → ⊥
   not_below_itself x h = let tied = tied_itself total x in cc

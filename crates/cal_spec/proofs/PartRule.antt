@@ -1,4 +1,4 @@
--- A part by its signs is a part by the rule.
+-- A part by its symbols is a part by the rule.
 use Rattle.std.proofs.Common.{ℕ, ◌≡◌, Bool, true, false, cond, ◌&&◌, List, [], ◌∷◌, ◌++◌, codes, Option, Some, None, Ok, Err, refl, sym, ap, ◌∙◌, arith, ltb}
 use Rattle.std.specs.List.{AllByRecursion, flat_map, list_all}
 use Rattle.std.specs.Char.{is_ascii_digit}
@@ -6,27 +6,27 @@ use Rattle.std.specs.Str.Parse.{digits_value}
 use Rattle.std.proofs.lemmas.Bool.{ltb-false, le-ltb, and_parts, and_right, eqb-true}
 use Rattle.std.proofs.lemmas.List.{append-nil}
 use Rattle.cal_spec.specs.GrammarRule.{IsNumber, IsNext, IsPartText}
-use Rattle.cal_spec.specs.Parts.{Sign, digits, dots, slash, point, other, is_point, is_slash, with_digit, with_byte, lone, signs, starts_with_point, most, is_second, Counted, after_number, number_due, part_at_end, with_step, after_end, after_start, part_of}
+use Rattle.cal_spec.specs.Parts.{Symbol, digits, dots, slash, point, other, is_point, is_slash, with_digit, with_byte, lone, symbols, starts_with_point, most, is_second, Counted, after_number, number_due, part_at_end, with_step, after_end, after_start, part_of}
 use Rattle.cal_spec.specs.Reads.{◌>>=◌}
 use Rattle.cal_spec.specs.declared.part.Part.{Part}
 use Rattle.cal_spec.specs.declared.slot.Slot.{Slot}
 use Rattle.cal_spec.specs.declared.spec_fault.SpecFault.TheVariants.{NumberTooLarge, FractionalSecond}
 use Rattle.cal_spec.proofs.ReadLemmas.{bind_ok, cond_ok}
-use Rattle.cal_spec.proofs.SignLemmas.{IsSign, begins_with, signs_lone, signs_number, signs_sound}
+use Rattle.cal_spec.proofs.SymbolLemmas.{IsSymbol, begins_with, symbols_lone, symbols_number, symbols_sound}
 
--- The signs are the text
+-- The symbols are the text
 
-abbrev pub spelled : Sign → List ℕ
+abbrev pub spelled : Symbol → List ℕ
 spelled (digits ds) = ds
 spelled dots = 46 ∷ 46 ∷ []
 spelled slash = 47 ∷ []
 spelled point = 46 ∷ []
 spelled (other b) = b ∷ []
 
-abbrev pub written : List Sign → List ℕ
+abbrev pub written : List Symbol → List ℕ
 written = flat_map spelled
 
-written-digit : (b : ℕ) (ss : List Sign) → written (with_digit b ss) ≡ b ∷ written ss
+written-digit : (b : ℕ) (ss : List Symbol) → written (with_digit b ss) ≡ b ∷ written ss
 written-digit b [] = refl
 written-digit b (digits ds ∷ ss) = refl
 written-digit b (dots ∷ ss) = refl
@@ -39,33 +39,33 @@ spelled-lone b true s is_p is_s = ap (λ c. c ∷ []) (sym (eqb-true b 46 is_p))
 spelled-lone b false true is_p is_s = ap (λ c. c ∷ []) (sym (eqb-true b 47 is_s))
 spelled-lone b false false is_p is_s = refl
 
-written-byte : (b : ℕ) (ss : List Sign) (digit : Bool) → written (cond digit (with_digit b ss) (lone b ∷ ss)) ≡ b ∷ written ss
+written-byte : (b : ℕ) (ss : List Symbol) (digit : Bool) → written (cond digit (with_digit b ss) (lone b ∷ ss)) ≡ b ∷ written ss
 written-byte b ss true = written-digit b ss
 written-byte b ss false = ap (λ front. front ++ written ss) (spelled-lone b (is_point b) (is_slash b) refl refl)
 
-written-pair : (b c : ℕ) (ss ts : List Sign) (pair : Bool) → (is_point b && is_point c) ≡ pair → written ts ≡ c ∷ written ss → written (cond pair (dots ∷ ss) (with_byte b ts)) ≡ b ∷ c ∷ written ss
+written-pair : (b c : ℕ) (ss ts : List Symbol) (pair : Bool) → (is_point b && is_point c) ≡ pair → written ts ≡ c ∷ written ss → written (cond pair (dots ∷ ss) (with_byte b ts)) ≡ b ∷ c ∷ written ss
 written-pair b c ss ts true is rest =
     let points = and_parts (is_point b) (is_point c) is in
     rw (eqb-true b 46 points.0, eqb-true c 46 points.1) refl
 written-pair b c ss ts false is rest = written-byte b ts (is_ascii_digit b) ∙ ap (λ more. b ∷ more) rest
 
-pub written-signs : (bs : List ℕ) → written (signs bs) ≡ bs
-written-signs [] = refl
-written-signs (b ∷ []) = written-byte b [] (is_ascii_digit b)
-written-signs (b ∷ c ∷ bs) =
-    written-pair b c (signs bs) (signs (c ∷ bs)) (is_point b && is_point c) refl (written-signs (c ∷ bs) ∙ ap (λ more. c ∷ more) (sym (written-signs bs))) ∙ ap (λ more. b ∷ c ∷ more) (written-signs bs)
+pub written-symbols : (bs : List ℕ) → written (symbols bs) ≡ bs
+written-symbols [] = refl
+written-symbols (b ∷ []) = written-byte b [] (is_ascii_digit b)
+written-symbols (b ∷ c ∷ bs) =
+    written-pair b c (symbols bs) (symbols (c ∷ bs)) (is_point b && is_point c) refl (written-symbols (c ∷ bs) ∙ ap (λ more. c ∷ more) (sym (written-symbols bs))) ∙ ap (λ more. b ∷ c ∷ more) (written-symbols bs)
 
 -- What was read is a part by the rule
 
-pub record NumberRead (ss : List Sign) (r : Counted) : Type 0 where
+pub record NumberRead (ss : List Symbol) (r : Counted) : Type 0 where
   pub text : List ℕ
   pub is : ss ≡ digits text ∷ r.after
   pub number : IsNumber text r.number
 
-counted_is : (n : ℕ) (ss : List Sign) (r : Counted) → record { number = n; after = ss } ≡ r → (n ≡ r.number) × (ss ≡ r.after)
+counted_is : (n : ℕ) (ss : List Symbol) (r : Counted) → record { number = n; after = ss } ≡ r → (n ≡ r.number) × (ss ≡ r.after)
 counted_is n ss r is = (ap (λ (c : Counted). c.number) is, ap (λ (c : Counted). c.after) is)
 
-digits_read : (slot : Slot) (ds : List ℕ) (ss : List Sign) (r : Counted) → IsSign (digits ds) → after_number slot (digits_value 10 ds) ss ≡ Ok r → NumberRead (digits ds ∷ ss) r
+digits_read : (slot : Slot) (ds : List ℕ) (ss : List Symbol) (r : Counted) → IsSymbol (digits ds) → after_number slot (digits_value 10 ds) ss ≡ Ok r → NumberRead (digits ds ∷ ss) r
 digits_read slot ds ss r sound at =
     let small = cond_ok (ltb most (digits_value 10 ds)) NumberTooLarge (cond (is_second slot && starts_with_point ss) (Err FractionalSecond) (Ok (record { number = digits_value 10 ds; after = ss }))) r at in
     let whole = cond_ok (is_second slot && starts_with_point ss) FractionalSecond (Ok (record { number = digits_value 10 ds; after = ss })) r small.1 in
@@ -82,7 +82,7 @@ digits_read slot ds ss r sound at =
       };
     }
 
-number_read : (slot : Slot) (ss : List Sign) (r : Counted) → AllByRecursion IsSign ss → number_due slot ss ≡ Ok r → NumberRead ss r
+number_read : (slot : Slot) (ss : List Symbol) (r : Counted) → AllByRecursion IsSymbol ss → number_due slot ss ≡ Ok r → NumberRead ss r
 number_read slot [] r sound at = cc
 number_read slot (digits ds ∷ ss) r sound at = digits_read slot ds ss r sound.0 at
 number_read slot (dots ∷ ss) r sound at = cc
@@ -90,20 +90,20 @@ number_read slot (slash ∷ ss) r sound at = cc
 number_read slot (point ∷ ss) r sound at = cc
 number_read slot (other b ∷ ss) r sound at = cc
 
-after_sound : (ss : List Sign) (r : Counted) → AllByRecursion IsSign ss → NumberRead ss r → AllByRecursion IsSign r.after
+after_sound : (ss : List Symbol) (r : Counted) → AllByRecursion IsSymbol ss → NumberRead ss r → AllByRecursion IsSymbol r.after
 after_sound ss r sound read = (rw read.is at sound).1
 
-at_end_is : (slot : Slot) (p : Part) (ss : List Sign) (q : Part) → part_at_end slot p ss ≡ Ok q → (ss ≡ []) × (p ≡ q)
+at_end_is : (slot : Slot) (p : Part) (ss : List Symbol) (q : Part) → part_at_end slot p ss ≡ Ok q → (ss ≡ []) × (p ≡ q)
 at_end_is slot p [] q at = (refl, cc)
 at_end_is slot p (s ∷ ss) q at = cc
 
 -- what comes after a number of a part
-pub record IsBehind (ss : List Sign) (a : ℕ) (last : Option ℕ) (p : Part) : Type 0 where
+pub record IsBehind (ss : List Symbol) (a : ℕ) (last : Option ℕ) (p : Part) : Type 0 where
   pub step : Option ℕ
   pub back : IsNext (codes "/") (written ss) step
   pub is : record { start = a; end = last; step = step } ≡ p
 
-step_read : (slot : Slot) (a : ℕ) (last : Option ℕ) (ss : List Sign) (p : Part) → AllByRecursion IsSign ss → with_step slot a last ss ≡ Ok p → IsBehind (slash ∷ ss) a last p
+step_read : (slot : Slot) (a : ℕ) (last : Option ℕ) (ss : List Symbol) (p : Part) → AllByRecursion IsSymbol ss → with_step slot a last ss ≡ Ok p → IsBehind (slash ∷ ss) a last p
 unfolding with_step
 step_read slot a last ss p sound at =
     let one = bind_ok (number_due slot ss) (λ r. part_at_end slot (record { start = a; end = last; step = Some r.number }) r.after) p at in
@@ -112,11 +112,11 @@ step_read slot a last ss p sound at =
     let alone : ss ≡ digits read.text ∷ [] = read.is ∙ ap (λ more. digits read.text ∷ more) ends.0 in
     record {
       step = Some one.value.number;
-      back = (read.text, ap (λ (more : List Sign). 47 ∷ written more) alone ∙ ap (λ more. 47 ∷ more) (append-nil read.text), read.number);
+      back = (read.text, ap (λ (more : List Symbol). 47 ∷ written more) alone ∙ ap (λ more. 47 ∷ more) (append-nil read.text), read.number);
       is = ends.1;
     }
 
-end_read : (slot : Slot) (a b : ℕ) (ss : List Sign) (p : Part) → AllByRecursion IsSign ss → after_end slot a b ss ≡ Ok p → IsBehind ss a (Some b) p
+end_read : (slot : Slot) (a b : ℕ) (ss : List Symbol) (p : Part) → AllByRecursion IsSymbol ss → after_end slot a b ss ≡ Ok p → IsBehind ss a (Some b) p
 unfolding after_end
 end_read slot a b [] p sound at = record { step = None; back = refl; is = cc }
 end_read slot a b (slash ∷ ss) p sound at = step_read slot a (Some b) ss p sound.1 at
@@ -136,7 +136,7 @@ pub record IsRest (text : List ℕ) (a : ℕ) (p : Part) : Type 0 where
   pub step_is : IsNext (codes "/") back step
   pub is : record { start = a; end = last; step = step } ≡ p
 
-range_read : (slot : Slot) (a : ℕ) (ss : List Sign) (p : Part) → AllByRecursion IsSign ss → (number_due slot ss >>= λ b. after_end slot a b.number b.after) ≡ Ok p → IsRest (46 ∷ 46 ∷ written ss) a p
+range_read : (slot : Slot) (a : ℕ) (ss : List Symbol) (p : Part) → AllByRecursion IsSymbol ss → (number_due slot ss >>= λ b. after_end slot a b.number b.after) ≡ Ok p → IsRest (46 ∷ 46 ∷ written ss) a p
 range_read slot a ss p sound at =
     let one = bind_ok (number_due slot ss) (λ b. after_end slot a b.number b.after) p at in
     let read = number_read slot ss one.value sound one.first in
@@ -146,13 +146,13 @@ range_read slot a ss p sound at =
       back = written one.value.after;
       last = Some one.value.number;
       step = after.step;
-      whole = ap (λ (more : List Sign). 46 ∷ 46 ∷ written more) read.is;
+      whole = ap (λ (more : List Symbol). 46 ∷ 46 ∷ written more) read.is;
       end_is = (read.text, refl, read.number);
       step_is = after.back;
       is = after.is;
     }
 
-rest_from_step : (ss : List Sign) (a : ℕ) (p : Part) → IsBehind ss a None p → IsRest (written ss) a p
+rest_from_step : (ss : List Symbol) (a : ℕ) (p : Part) → IsBehind ss a None p → IsRest (written ss) a p
 rest_from_step ss a p after = record {
   middle = [];
   back = written ss;
@@ -164,7 +164,7 @@ rest_from_step ss a p after = record {
   is = after.is;
 }
 
-start_read : (slot : Slot) (a : ℕ) (ss : List Sign) (p : Part) → AllByRecursion IsSign ss → after_start slot a ss ≡ Ok p → IsRest (written ss) a p
+start_read : (slot : Slot) (a : ℕ) (ss : List Symbol) (p : Part) → AllByRecursion IsSymbol ss → after_start slot a ss ≡ Ok p → IsRest (written ss) a p
 unfolding after_start
 start_read slot a [] p sound at = rest_from_step [] a p (record { step = None; back = refl; is = cc })
 start_read slot a (dots ∷ ss) p sound at = range_read slot a ss p sound.1 at
@@ -181,69 +181,69 @@ part_by text front middle back a last step p is whole start_is end_is step_is =
 pub part_found : (slot : Slot) (text : List ℕ) (p : Part) → part_of slot text ≡ Ok p → IsPartText text p
 unfolding part_of
 part_found slot text p at =
-    let one = bind_ok (number_due slot (signs text)) (λ a. after_start slot a.number a.after) p at in
-    let read = number_read slot (signs text) one.value (signs_sound text) one.first in
-    let rest = start_read slot one.value.number one.value.after p (after_sound (signs text) one.value (signs_sound text) read) one.next in
-    let whole : text ≡ read.text ++ (rest.middle ++ rest.back) = sym (written-signs text) ∙ ap written read.is ∙ ap (λ more. read.text ++ more) rest.whole in
+    let one = bind_ok (number_due slot (symbols text)) (λ a. after_start slot a.number a.after) p at in
+    let read = number_read slot (symbols text) one.value (symbols_sound text) one.first in
+    let rest = start_read slot one.value.number one.value.after p (after_sound (symbols text) one.value (symbols_sound text) read) one.next in
+    let whole : text ≡ read.text ++ (rest.middle ++ rest.back) = sym (written-symbols text) ∙ ap written read.is ∙ ap (λ more. read.text ++ more) rest.whole in
     part_by text read.text rest.middle rest.back one.value.number rest.last rest.step p rest.is whole read.number rest.end_is rest.step_is
 
 -- What the rule writes is read
 
-number_due_is : (slot : Slot) (ds : List ℕ) (n : ℕ) (ss : List Sign) → IsNumber ds n → starts_with_point ss ≡ false → number_due slot (digits ds ∷ ss) ≡ Ok (record { number = n; after = ss })
+number_due_is : (slot : Slot) (ds : List ℕ) (n : ℕ) (ss : List Symbol) → IsNumber ds n → starts_with_point ss ≡ false → number_due slot (digits ds ∷ ss) ≡ Ok (record { number = n; after = ss })
 number_due_is slot ds n ss number apart =
     rw (number.value, le-ltb most n number.small, and_right (is_second slot) (starts_with_point ss) apart) refl
 
--- the signs of a number in front of what begins with no digit
-number_signs : (ds : List ℕ) (n : ℕ) (rest : List ℕ) → IsNumber ds n → begins_with is_ascii_digit rest ≡ false → signs (ds ++ rest) ≡ digits ds ∷ signs rest
-number_signs [] n rest number apart = absurd (omega (arith, number.some))
-number_signs (d ∷ ds) n rest number apart =
+-- the symbols of a number in front of what begins with no digit
+number_symbols : (ds : List ℕ) (n : ℕ) (rest : List ℕ) → IsNumber ds n → begins_with is_ascii_digit rest ≡ false → symbols (ds ++ rest) ≡ digits ds ∷ symbols rest
+number_symbols [] n rest number apart = absurd (omega (arith, number.some))
+number_symbols (d ∷ ds) n rest number apart =
     let parts = and_parts (is_ascii_digit d) (list_all is_ascii_digit ds) number.digits in
-    signs_number d ds rest parts.0 parts.1 apart
+    symbols_number d ds rest parts.0 parts.1 apart
 
 -- a slash is by itself
-slash_signs : (bs : List ℕ) → signs (47 ∷ bs) ≡ slash ∷ signs bs
-slash_signs bs = signs_lone 47 bs refl refl
+slash_symbols : (bs : List ℕ) → symbols (47 ∷ bs) ≡ slash ∷ symbols bs
+slash_symbols bs = symbols_lone 47 bs refl refl
 
 -- after the end of a range, or after the first number
-step_only : (slot : Slot) (a : ℕ) (last : Option ℕ) (rs : List ℕ) (r : ℕ) → IsNumber rs r → with_step slot a last (signs rs) ≡ Ok (record { start = a; end = last; step = Some r })
+step_only : (slot : Slot) (a : ℕ) (last : Option ℕ) (rs : List ℕ) (r : ℕ) → IsNumber rs r → with_step slot a last (symbols rs) ≡ Ok (record { start = a; end = last; step = Some r })
 unfolding with_step
 step_only slot a last rs r number =
-    let alone : signs rs ≡ digits rs ∷ [] = ap signs (sym (append-nil rs)) ∙ number_signs rs r [] number refl in
+    let alone : symbols rs ≡ digits rs ∷ [] = ap symbols (sym (append-nil rs)) ∙ number_symbols rs r [] number refl in
     rw (alone, number_due_is slot rs r [] number refl) refl
 
-end_only : (slot : Slot) (a b : ℕ) (back : List ℕ) (step : Option ℕ) → IsNext (codes "/") back step → after_end slot a b (signs back) ≡ Ok (record { start = a; end = Some b; step = step })
+end_only : (slot : Slot) (a b : ℕ) (back : List ℕ) (step : Option ℕ) → IsNext (codes "/") back step → after_end slot a b (symbols back) ≡ Ok (record { start = a; end = Some b; step = step })
 unfolding after_end
 end_only slot a b back None none = rw none refl
-end_only slot a b back (Some r) next = rw (next.1, slash_signs next.0) (step_only slot a (Some b) next.0 r next.2)
+end_only slot a b back (Some r) next = rw (next.1, slash_symbols next.0) (step_only slot a (Some b) next.0 r next.2)
 
-start_only : (slot : Slot) (a : ℕ) (back : List ℕ) (step : Option ℕ) → IsNext (codes "/") back step → after_start slot a (signs back) ≡ Ok (record { start = a; end = None; step = step })
+start_only : (slot : Slot) (a : ℕ) (back : List ℕ) (step : Option ℕ) → IsNext (codes "/") back step → after_start slot a (symbols back) ≡ Ok (record { start = a; end = None; step = step })
 unfolding after_start
 start_only slot a back None none = rw none refl
-start_only slot a back (Some r) next = rw (next.1, slash_signs next.0) (step_only slot a None next.0 r next.2)
+start_only slot a back (Some r) next = rw (next.1, slash_symbols next.0) (step_only slot a None next.0 r next.2)
 
 -- what comes after a number begins with no digit, and with no lone point
 back_no_digit : (back : List ℕ) (step : Option ℕ) → IsNext (codes "/") back step → begins_with is_ascii_digit back ≡ false
 back_no_digit back None none = rw none refl
 back_no_digit back (Some r) next = rw next.1 refl
 
-back_no_point : (back : List ℕ) (step : Option ℕ) → IsNext (codes "/") back step → starts_with_point (signs back) ≡ false
+back_no_point : (back : List ℕ) (step : Option ℕ) → IsNext (codes "/") back step → starts_with_point (symbols back) ≡ false
 back_no_point back None none = rw none refl
-back_no_point back (Some r) next = rw (next.1, slash_signs next.0) refl
+back_no_point back (Some r) next = rw (next.1, slash_symbols next.0) refl
 
 middle_no_digit : (middle back : List ℕ) (last step : Option ℕ) → IsNext (codes "..") middle last → IsNext (codes "/") back step → begins_with is_ascii_digit (middle ++ back) ≡ false
 middle_no_digit middle back None step none next = rw none (back_no_digit back step next)
 middle_no_digit middle back (Some b) step some next = rw some.1 refl
 
-middle_no_point : (middle back : List ℕ) (last step : Option ℕ) → IsNext (codes "..") middle last → IsNext (codes "/") back step → starts_with_point (signs (middle ++ back)) ≡ false
+middle_no_point : (middle back : List ℕ) (last step : Option ℕ) → IsNext (codes "..") middle last → IsNext (codes "/") back step → starts_with_point (symbols (middle ++ back)) ≡ false
 middle_no_point middle back None step none next = rw none (back_no_point back step next)
 middle_no_point middle back (Some b) step some next = rw some.1 refl
 
-range_only : (slot : Slot) (a b : ℕ) (number back : List ℕ) (step : Option ℕ) → IsNumber number b → IsNext (codes "/") back step → after_start slot a (dots ∷ signs (number ++ back)) ≡ Ok (record { start = a; end = Some b; step = step })
+range_only : (slot : Slot) (a b : ℕ) (number back : List ℕ) (step : Option ℕ) → IsNumber number b → IsNext (codes "/") back step → after_start slot a (dots ∷ symbols (number ++ back)) ≡ Ok (record { start = a; end = Some b; step = step })
 unfolding after_start
 range_only slot a b number back step is next =
-    rw (number_signs number b back is (back_no_digit back step next), number_due_is slot number b (signs back) is (back_no_point back step next)) (end_only slot a b back step next)
+    rw (number_symbols number b back is (back_no_digit back step next), number_due_is slot number b (symbols back) is (back_no_point back step next)) (end_only slot a b back step next)
 
-rest_only : (slot : Slot) (a : ℕ) (middle back : List ℕ) (last step : Option ℕ) → IsNext (codes "..") middle last → IsNext (codes "/") back step → after_start slot a (signs (middle ++ back)) ≡ Ok (record { start = a; end = last; step = step })
+rest_only : (slot : Slot) (a : ℕ) (middle back : List ℕ) (last step : Option ℕ) → IsNext (codes "..") middle last → IsNext (codes "/") back step → after_start slot a (symbols (middle ++ back)) ≡ Ok (record { start = a; end = last; step = step })
 rest_only slot a middle back None step none next = rw none (start_only slot a back step next)
 rest_only slot a middle back (Some b) step some next = rw some.1 (range_only slot a b some.0 back step some.2 next)
 
@@ -252,5 +252,5 @@ pub part_only : (slot : Slot) (text : List ℕ) (p : Part) → IsPartText text p
 unfolding part_of
 part_only slot text p is =
     let rest = is.middle ++ is.back in
-    let first : signs text ≡ digits is.front ∷ signs rest = ap signs is.whole ∙ number_signs is.front p.start rest is.start (middle_no_digit is.middle is.back p.end p.step is.end is.step) in
-    rw (first, number_due_is slot is.front p.start (signs rest) is.start (middle_no_point is.middle is.back p.end p.step is.end is.step)) (rest_only slot p.start is.middle is.back p.end p.step is.end is.step)
+    let first : symbols text ≡ digits is.front ∷ symbols rest = ap symbols is.whole ∙ number_symbols is.front p.start rest is.start (middle_no_digit is.middle is.back p.end p.step is.end is.step) in
+    rw (first, number_due_is slot is.front p.start (symbols rest) is.start (middle_no_point is.middle is.back p.end p.step is.end is.step)) (rest_only slot p.start is.middle is.back p.end p.step is.end is.step)

@@ -76,13 +76,13 @@ unfolding time_texts
 no_time word hour minute second b1 b2 b3 first next last =
     let more = some_piece is_colon b3 in rw (first, next, last, more.2) refl
 
--- the first place that passes, and the length where there is none
-pub place_some : (p : ℕ → Bool) (xs : List ℕ) (n : ℕ) → position p xs ≡ Some n → (n ≡ position_or_len p xs) × (n ≤ length xs)
-place_some p xs n at =
+-- the first index that passes, and the length where there is none
+pub index_some : (p : ℕ → Bool) (xs : List ℕ) (n : ℕ) → position p xs ≡ Some n → (n ≡ position_or_len p xs) × (n ≤ length xs)
+index_some p xs n at =
     let found = cond_some (nat_lt (position_or_len p xs) (length xs)) (position_or_len p xs) n at in
     let within = ltb-true _ _ found.0 in (sym found.1, omega (arith, found.1, within))
 
-pub place_none : (p : ℕ → Bool) (xs : List ℕ) → position p xs ≡ None → length xs ≡ position_or_len p xs
-place_none p xs at =
+pub index_none : (p : ℕ → Bool) (xs : List ℕ) → position p xs ≡ None → length xs ≡ position_or_len p xs
+index_none p xs at =
     let none = ltb-false _ _ (not_found (nat_lt (position_or_len p xs) (length xs)) (position_or_len p xs) at) in
     omega (arith, none, prefix_len-le-length (λ x. not (p x)) xs)

@@ -17,10 +17,10 @@ use Rattle.cal_spec.specs.Slot.{day_slot}
 use Rattle.cal_spec.specs.ValidFields.{IsValidFields}
 use Rattle.cal_spec.specs.WeekdayRuns.{runs_from, runs_text}
 use Rattle.cal_spec.specs.Weekdays.{weekdays_in}
-use Rattle.cal_spec.specs.Words.{Places, after_weekdays, date_or_time, is_blank, places_of, words}
+use Rattle.cal_spec.specs.Words.{Roles, after_weekdays, date_or_time, is_blank, roles_of, words}
 use Rattle.cal_zone.specs.ZoneName.{begins_with_letter, is_zone_byte}
 use Rattle.cal_zone.specs.OffsetWord.{begins_with_sign, begins_zone, is_sign}
-use Rattle.cal_spec.specs.ZoneSuffix.{IsSuffixOption, Suffix, suffix_due, suffix_in, suffix_text}
+use Rattle.cal_spec.specs.ZoneSuffix.{IsSuffixOption, ZoneSuffix, suffix_due, suffix_in, suffix_text}
 use Rattle.cal_spec.proofs.SuffixLemmas.{suffix_word}
 use Rattle.cal_spec.specs.declared.part.Part.{Part}
 use Rattle.cal_spec.specs.declared.slot.Slot.TheVariants.{Year, Month, Hour, Minute, Second}
@@ -297,7 +297,7 @@ word_last w clear some =
     let kept : nat_lt 0 (length w) ≡ true = lt-ltb 0 (length w) some in
     ap (filter (λ word. nat_lt 0 (length word))) (split_alone is_blank w clear) ∙ rw kept refl
 
-abbrev zone_words : Option Suffix → List (List ℕ)
+abbrev zone_words : Option ZoneSuffix → List (List ℕ)
 zone_words None = []
 zone_words (Some suffix) = suffix_text suffix ∷ []
 
@@ -305,7 +305,7 @@ name_letter : (name : List ℕ) → begins_with_letter name ≡ true → 0 < len
 name_letter [] h = cc
 name_letter (b ∷ bs) h = omega arith
 
-words_to_zone : (w : List ℕ) (suffix : Option Suffix) → list_any is_blank w ≡ false → 0 < length w → IsSuffixOption suffix → words (w ++ (zone_text suffix ++ [])) ≡ w ∷ zone_words suffix
+words_to_zone : (w : List ℕ) (suffix : Option ZoneSuffix) → list_any is_blank w ≡ false → 0 < length w → IsSuffixOption suffix → words (w ++ (zone_text suffix ++ [])) ≡ w ∷ zone_words suffix
 words_to_zone w None clear some h = ap words (append-nil w) ∙ word_last w clear some
 words_to_zone w (Some suffix) clear some h =
     let text = suffix_text suffix in
@@ -321,43 +321,43 @@ words_of_fields f h =
     ∙ word_first (date_word f) (time_word f ++ after) (clear_of is_date_byte is_blank (date_word f) date_no_blank (date_bytes f h)) (date_some f h)
     ∙ ap (λ ws. date_word f ∷ ws) (words_to_zone (time_word f) f.zone (clear_of is_time_byte is_blank (time_word f) time_no_blank (time_bytes f h)) (time_some f h) h.valid.zone)
 
--- Places
+-- Roles
 
-places : Option (List ℕ) → Fields → Places
-places weekdays f = record { weekdays = weekdays; date = date_word f; time = time_word f; rest = zone_words f.zone }
+roles : Option (List ℕ) → Fields → Roles
+roles weekdays f = record { weekdays = weekdays; date = date_word f; time = time_word f; rest = zone_words f.zone }
 
 -- a date and a time, and a zone after them
-date_placed : (weekdays : Option (List ℕ)) (date time : List ℕ) (rest : List (List ℕ)) → list_any is_colon date ≡ false → begins_zone time ≡ false
+date_roles : (weekdays : Option (List ℕ)) (date time : List ℕ) (rest : List (List ℕ)) → list_any is_colon date ≡ false → begins_zone time ≡ false
     → date_or_time weekdays date (time ∷ rest) ≡ record { weekdays = weekdays; date = date; time = time; rest = rest }
-date_placed weekdays date time rest no_time no_zone = rw (no_time, no_zone) refl
+date_roles weekdays date time rest no_time no_zone = rw (no_time, no_zone) refl
 
 after_days : (word date time : List ℕ) (rest : List (List ℕ)) → begins_zone date ≡ false → list_any is_colon date ≡ false → begins_zone time ≡ false
     → after_weekdays (Some word) (date ∷ time ∷ rest) ≡ record { weekdays = Some word; date = date; time = time; rest = rest }
-after_days word date time rest no_zone no_time next = rw no_zone (date_placed (Some word) date time rest no_time next)
+after_days word date time rest no_zone no_time next = rw no_zone (date_roles (Some word) date time rest no_time next)
 
-places_all : (f : Fields) → IsReadable f → places_of (date_word f ∷ time_word f ∷ zone_words f.zone) ≡ Some (places None f)
-unfolding places_of places
-places_all f h =
+roles_all : (f : Fields) → IsReadable f → roles_of (date_word f ∷ time_word f ∷ zone_words f.zone) ≡ Some (roles None f)
+unfolding roles_of roles
+roles_all f h =
     let plain = no_letter_first is_date_byte (date_word f) date_no_letter (date_bytes f h) in
     let no_time = clear_of is_date_byte is_colon (date_word f) date_no_colon (date_bytes f h) in
-    rw (no_shorthand (date_word f) plain, plain) (ap Some (date_placed None (date_word f) (time_word f) (zone_words f.zone) no_time (time_zone f h)))
+    rw (no_shorthand (date_word f) plain, plain) (ap Some (date_roles None (date_word f) (time_word f) (zone_words f.zone) no_time (time_zone f h)))
 
-places_some : (f : Fields) (word : List ℕ) → IsReadable f → ReadsDays word f.weekdays → places_of (word ∷ date_word f ∷ time_word f ∷ zone_words f.zone) ≡ Some (places (Some word) f)
-unfolding places_of places
-places_some f word h days =
+roles_some : (f : Fields) (word : List ℕ) → IsReadable f → ReadsDays word f.weekdays → roles_of (word ∷ date_word f ∷ time_word f ∷ zone_words f.zone) ≡ Some (roles (Some word) f)
+unfolding roles_of roles
+roles_some f word h days =
     let no_time = clear_of is_date_byte is_colon (date_word f) date_no_colon (date_bytes f h) in
     rw (days.plain, days.letter) (ap Some (after_days word (date_word f) (time_word f) (zone_words f.zone) (date_zone f h) no_time (time_zone f h)))
 
-zone_back : (suffix : Option Suffix) → IsSuffixOption suffix → suffix_in (zone_words suffix) ≡ Ok suffix
+zone_back : (suffix : Option ZoneSuffix) → IsSuffixOption suffix → suffix_in (zone_words suffix) ≡ Ok suffix
 zone_back None h = refl
 zone_back (Some suffix) h = ap suffix_due (suffix_word suffix h).back
 
 same_fields : (f : Fields) → record { weekdays = f.weekdays; year = f.year; month = f.month; day = f.day; hour = f.hour; minute = f.minute; second = f.second; from_end = f.from_end; zone = f.zone } ≡ f
 same_fields f = refl
 
-places_back : (f : Fields) (weekdays : Option (List ℕ)) → IsReadable f → weekdays_in weekdays ≡ Ok f.weekdays → fields_at (places weekdays f) ≡ Ok f
-unfolding fields_at places
-places_back f weekdays h days =
+roles_back : (f : Fields) (weekdays : Option (List ℕ)) → IsReadable f → weekdays_in weekdays ≡ Ok f.weekdays → fields_at (roles weekdays f) ≡ Ok f
+unfolding fields_at roles
+roles_back f weekdays h days =
     let date = date_back f h in
     let time = time_back f h in
     let name = zone_back f.zone h.valid.zone in
@@ -365,18 +365,18 @@ places_back f weekdays h days =
 
 -- The whole text
 
-back_by : (f : Fields) (ws : List (List ℕ)) (p : Places) → length (expr_text f) < 4_096 → words (expr_text f) ≡ ws → places_of ws ≡ Some p → fields_at p ≡ Ok f → fields_in (expr_text f) ≡ Ok f
+back_by : (f : Fields) (ws : List (List ℕ)) (p : Roles) → length (expr_text f) < 4_096 → words (expr_text f) ≡ ws → roles_of ws ≡ Some p → fields_at p ≡ Ok f → fields_in (expr_text f) ≡ Ok f
 unfolding fields_in
-back_by f ws p short split placed read =
+back_by f ws p short split roles_are read =
     let fits : nat_lt 4_096 (length (expr_text f)) ≡ false = le-ltb 4_096 (length (expr_text f)) (omega arith) in
-    rw (fits, split, placed) read
+    rw (fits, split, roles_are) read
 
 back_all : (f : Fields) → IsReadable f → length (expr_text f) < 4_096 → list_all (λ d. d) f.weekdays ≡ true → fields_in (expr_text f) ≡ Ok f
 unfolding expr_text
 back_all f h short all =
     let text : expr_text f ≡ fields_text f ++ (zone_text f.zone ++ []) = ap (λ t. t ++ (fields_text f ++ (zone_text f.zone ++ []))) (weekdays_text-all f.weekdays all) in
-    back_by f (date_word f ∷ time_word f ∷ zone_words f.zone) (places None f) short (ap words text ∙ words_of_fields f h) (places_all f h)
-    (places_back f None h (ap Ok (weekdays_all f.weekdays h.valid.seven all)))
+    back_by f (date_word f ∷ time_word f ∷ zone_words f.zone) (roles None f) short (ap words text ∙ words_of_fields f h) (roles_all f h)
+    (roles_back f None h (ap Ok (weekdays_all f.weekdays h.valid.seven all)))
 
 back_some : (f : Fields) → IsReadable f → length (expr_text f) < 4_096 → list_all (λ d. d) f.weekdays ≡ false → fields_in (expr_text f) ≡ Ok f
 unfolding expr_text
@@ -386,10 +386,10 @@ back_some f h short some =
     let rest = fields_text f ++ (zone_text f.zone ++ []) in
     let text : expr_text f ≡ word ++ (32 ∷ rest) =
     ap (λ t. t ++ rest) (weekdays_text-some f.weekdays some) ∙ append_assoc word (32 ∷ []) rest in
-    back_by f (word ∷ date_word f ∷ time_word f ∷ zone_words f.zone) (places (Some word) f) short
+    back_by f (word ∷ date_word f ∷ time_word f ∷ zone_words f.zone) (roles (Some word) f) short
     (ap words text ∙ word_first word rest days.clear (name_letter word days.letter) ∙ ap (λ ws. word ∷ ws) (words_of_fields f h))
-    (places_some f word h days)
-    (places_back f (Some word) h days.read)
+    (roles_some f word h days)
+    (roles_back f (Some word) h days.read)
 
 back_by_days : (f : Fields) (t : Bool) → IsReadable f → length (expr_text f) < 4_096 → list_all (λ d. d) f.weekdays ≡ t → fields_in (expr_text f) ≡ Ok f
 back_by_days f true h short is = back_all f h short is

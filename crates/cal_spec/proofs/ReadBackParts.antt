@@ -12,7 +12,7 @@ use Rattle.std.proofs.lemmas.Str.Parse.{digit_from_value}
 use Rattle.cal_zone.specs.InstantText.{zeros}
 use Rattle.cal_spec.specs.Components.{component_of, counted, is_comma, is_star, listed, part_due, parts_of, room_in}
 use Rattle.cal_spec.specs.ExprText.{component_text, number_text, optional_text, part_text, parts_text}
-use Rattle.cal_spec.specs.Parts.{Sign, digits, slash, after_end, after_number, after_start, is_second, is_time, number_due, part_at_end, part_of, signs, starts_with_point, with_century, with_step, with_values}
+use Rattle.cal_spec.specs.Parts.{Symbol, digits, slash, after_end, after_number, after_start, is_second, is_time, number_due, part_at_end, part_of, symbols, starts_with_point, with_century, with_step, with_values}
 use Rattle.cal_spec.specs.Reads.{◌>>=◌}
 use Rattle.cal_spec.specs.Sound.{AreSound, IsEndWithin, IsSound}
 use Rattle.cal_spec.specs.declared.part.Part.{Part}
@@ -21,7 +21,7 @@ use Rattle.cal_spec.specs.declared.slot.Slot.TheVariants.{Year, Month, Day, DayF
 use Rattle.cal_spec.proofs.ComponentRule.{no_first_fault}
 use Rattle.cal_spec.proofs.LengthLemmas.{AreSmall, IsBelow, IsSmall, step_small}
 use Rattle.cal_spec.proofs.NormalLemmas.{same_part}
-use Rattle.cal_spec.proofs.SignLemmas.{begins_with, signs_lone, signs_number}
+use Rattle.cal_spec.proofs.SymbolLemmas.{begins_with, symbols_lone, symbols_number}
 use Rattle.cal_zone.proofs.OffsetWordLemmas.{both_all}
 
 -- Numbers
@@ -63,30 +63,30 @@ number_printed width n small =
       value = zeros_value k (decimal n) ∙ numeral.1;
     }
 
--- a number in front of what begins with no digit is its sign
-signs_of_number : (ds rest : List ℕ) → list_all is_ascii_digit ds ≡ true → 0 < length ds → begins_with is_ascii_digit rest ≡ false → signs (ds ++ rest) ≡ digits ds ∷ signs rest
-signs_of_number [] rest all some apart = absurd (omega arith)
-signs_of_number (d ∷ ds) rest all some apart =
+-- a number in front of what begins with no digit is its symbol
+symbols_of_number : (ds rest : List ℕ) → list_all is_ascii_digit ds ≡ true → 0 < length ds → begins_with is_ascii_digit rest ≡ false → symbols (ds ++ rest) ≡ digits ds ∷ symbols rest
+symbols_of_number [] rest all some apart = absurd (omega arith)
+symbols_of_number (d ∷ ds) rest all some apart =
     let parts = and_parts (is_ascii_digit d) (list_all is_ascii_digit ds) all in
-    signs_number d ds rest parts.0 parts.1 apart
+    symbols_number d ds rest parts.0 parts.1 apart
 
 -- and it is read where a number is expected
-due_by : (slot : Slot) (n : ℕ) (ss : List Sign) → n < 10_000 → starts_with_point ss ≡ false → after_number slot n ss ≡ Ok (record { number = n; after = ss })
+due_by : (slot : Slot) (n : ℕ) (ss : List Symbol) → n < 10_000 → starts_with_point ss ≡ false → after_number slot n ss ≡ Ok (record { number = n; after = ss })
 due_by slot n ss small whole =
     let fits : nat_lt 9_999 n ≡ false = le-ltb 9_999 n (omega arith) in
     rw (fits, and_right (is_second slot) (starts_with_point ss) whole) refl
 
-due : (slot : Slot) (n : ℕ) (ds rest : List ℕ) → IsPrinted n ds → n < 10_000 → begins_with is_ascii_digit rest ≡ false → starts_with_point (signs rest) ≡ false
-    → number_due slot (signs (ds ++ rest)) ≡ Ok (record { number = n; after = signs rest })
+due : (slot : Slot) (n : ℕ) (ds rest : List ℕ) → IsPrinted n ds → n < 10_000 → begins_with is_ascii_digit rest ≡ false → starts_with_point (symbols rest) ≡ false
+    → number_due slot (symbols (ds ++ rest)) ≡ Ok (record { number = n; after = symbols rest })
 due slot n ds rest printed small apart whole =
-    ap (number_due slot) (signs_of_number ds rest printed.all printed.some apart)
-    ∙ ap (λ k. after_number slot k (signs rest)) printed.value
-    ∙ due_by slot n (signs rest) small whole
+    ap (number_due slot) (symbols_of_number ds rest printed.all printed.some apart)
+    ∙ ap (λ k. after_number slot k (symbols rest)) printed.value
+    ∙ due_by slot n (symbols rest) small whole
 
 -- Parts
 
-slash_signs : (rest : List ℕ) → signs (47 ∷ rest) ≡ slash ∷ signs rest
-slash_signs rest = signs_lone 47 rest refl refl
+slash_symbols : (rest : List ℕ) → symbols (47 ∷ rest) ≡ slash ∷ symbols rest
+slash_symbols rest = symbols_lone 47 rest refl refl
 
 -- the text after a number
 step_text : Option ℕ → List ℕ
@@ -97,33 +97,33 @@ end_text : ℕ → Option ℕ → Option ℕ → List ℕ
 end_text width None step = step_text step
 end_text width (Some b) step = 46 ∷ 46 ∷ (padded width b ++ step_text step)
 
-no_digit_step : (step : Option ℕ) → (begins_with is_ascii_digit (step_text step) ≡ false) × (starts_with_point (signs (step_text step)) ≡ false)
+no_digit_step : (step : Option ℕ) → (begins_with is_ascii_digit (step_text step) ≡ false) × (starts_with_point (symbols (step_text step)) ≡ false)
 unfolding step_text
 no_digit_step None = (refl, refl)
-no_digit_step (Some r) = (refl, ap starts_with_point (slash_signs (padded 0 r)))
+no_digit_step (Some r) = (refl, ap starts_with_point (slash_symbols (padded 0 r)))
 
-no_digit_end : (width : ℕ) (end step : Option ℕ) → (begins_with is_ascii_digit (end_text width end step) ≡ false) × (starts_with_point (signs (end_text width end step)) ≡ false)
+no_digit_end : (width : ℕ) (end step : Option ℕ) → (begins_with is_ascii_digit (end_text width end step) ≡ false) × (starts_with_point (symbols (end_text width end step)) ≡ false)
 unfolding end_text
 no_digit_end width None step = no_digit_step step
 no_digit_end width (Some b) step = (refl, refl)
 
-with_step_back : (slot : Slot) (a : ℕ) (last : Option ℕ) (r : ℕ) → r < 10_000 → with_step slot a last (signs (padded 0 r)) ≡ Ok (record { start = a; end = last; step = Some r })
+with_step_back : (slot : Slot) (a : ℕ) (last : Option ℕ) (r : ℕ) → r < 10_000 → with_step slot a last (symbols (padded 0 r)) ≡ Ok (record { start = a; end = last; step = Some r })
 unfolding with_step
 with_step_back slot a last r small =
     let read = due slot r (padded 0 r) [] (number_printed 0 r small) small refl refl in
-    let whole : number_due slot (signs (padded 0 r)) ≡ Ok (record { number = r; after = [] }) = ap (λ t. number_due slot (signs t)) (sym (append-nil (padded 0 r))) ∙ read in
+    let whole : number_due slot (symbols (padded 0 r)) ≡ Ok (record { number = r; after = [] }) = ap (λ t. number_due slot (symbols t)) (sym (append-nil (padded 0 r))) ∙ read in
     ap (λ o. o >>= λ c. part_at_end slot (record { start = a; end = last; step = Some c.number }) c.after) whole
 
-after_end_back : (slot : Slot) (a b : ℕ) (step : Option ℕ) → IsBelow 10_000 step → after_end slot a b (signs (step_text step)) ≡ Ok (record { start = a; end = Some b; step = step })
+after_end_back : (slot : Slot) (a b : ℕ) (step : Option ℕ) → IsBelow 10_000 step → after_end slot a b (symbols (step_text step)) ≡ Ok (record { start = a; end = Some b; step = step })
 unfolding after_end step_text
 after_end_back slot a b None small = refl
-after_end_back slot a b (Some r) small = ap (after_end slot a b) (slash_signs (padded 0 r)) ∙ with_step_back slot a (Some b) r small
+after_end_back slot a b (Some r) small = ap (after_end slot a b) (slash_symbols (padded 0 r)) ∙ with_step_back slot a (Some b) r small
 
 after_start_back : (slot : Slot) (width a : ℕ) (end step : Option ℕ) → IsBelow 10_000 end → IsBelow 10_000 step
-    → after_start slot a (signs (end_text width end step)) ≡ Ok (record { start = a; end = end; step = step })
+    → after_start slot a (symbols (end_text width end step)) ≡ Ok (record { start = a; end = end; step = step })
 unfolding after_start end_text step_text
 after_start_back slot width a None None below small = refl
-after_start_back slot width a None (Some r) below small = ap (after_start slot a) (slash_signs (padded 0 r)) ∙ with_step_back slot a None r small
+after_start_back slot width a None (Some r) below small = ap (after_start slot a) (slash_symbols (padded 0 r)) ∙ with_step_back slot a None r small
 after_start_back slot width a (Some b) step below small =
     let apart = no_digit_step step in
     let read = due slot b (padded width b) (step_text step) (number_printed width b below) below apart.0 apart.1 in
@@ -154,7 +154,7 @@ unfolding part_of
 part_back slot width p small =
     let apart = no_digit_end width p.end p.step in
     let read = due slot p.start (padded width p.start) (end_text width p.end p.step) (number_printed width p.start small.start) small.start apart.0 apart.1 in
-    ap (λ t. number_due slot (signs t) >>= λ a. after_start slot a.number a.after) (part_printed width p)
+    ap (λ t. number_due slot (symbols t) >>= λ a. after_start slot a.number a.after) (part_printed width p)
     ∙ ap (λ o. o >>= λ a. after_start slot a.number a.after) read
     ∙ after_start_back slot width p.start p.end p.step small.end (step_small p.step small.step)
     ∙ ap Ok (same_part _ p refl refl refl)

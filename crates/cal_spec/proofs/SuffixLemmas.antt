@@ -10,7 +10,7 @@ use Rattle.cal_zone.specs.OffsetWord.{IsOffsetWord, begins_with_sign, is_sign}
 use Rattle.cal_zone.specs.ZoneName.{begins_with_letter, is_zone_byte, is_zone_name}
 use Rattle.cal_zone.proofs.OffsetWordLemmas.{is_offset_byte, offset-bytes, offset-only, printed-word}
 use Rattle.cal_spec.specs.Words.{is_blank}
-use Rattle.cal_spec.specs.ZoneSuffix.{IsSuffix, Suffix, ahead, of_name, suffix_of, suffix_text}
+use Rattle.cal_spec.specs.ZoneSuffix.{IsSuffix, ZoneSuffix, ahead, of_name, suffix_of, suffix_text}
 use Rattle.cal_spec.proofs.CleanLemmas.{any_clear, clear_from}
 
 -- what begins with a sign begins with no letter, so it is no name
@@ -40,13 +40,13 @@ letter_some : (name : List ℕ) → begins_with_letter name ≡ true → 0 < len
 letter_some [] h = absurd (cc)
 letter_some (b ∷ bs) h = omega arith
 
-pub record IsSuffixWord (suffix : Suffix) : Type 0 where
+pub record IsSuffixWord (suffix : ZoneSuffix) : Type 0 where
   pub clear : list_any is_blank (suffix_text suffix) ≡ false
   pub some : 0 < length (suffix_text suffix)
   pub short : length (suffix_text suffix) ≤ 255
   pub back : suffix_of (suffix_text suffix) ≡ Some suffix
 
-pub suffix_word : (suffix : Suffix) → IsSuffix suffix → IsSuffixWord suffix
+pub suffix_word : (suffix : ZoneSuffix) → IsSuffix suffix → IsSuffixWord suffix
 unfolding suffix_of is_zone_name
 suffix_word (of_name name) h =
     let long = and_parts (begins_with_letter name && list_all is_zone_byte name) (nat_le (length name) 255) h.0 in

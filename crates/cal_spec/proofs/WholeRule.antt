@@ -6,20 +6,20 @@ use Rattle.cal_spec.specs.Fields.{Fields}
 use Rattle.cal_spec.specs.Grammar.{most_text_bytes, fields_at, fields_in}
 use Rattle.cal_spec.specs.GrammarRule.{given, ArePlain, AreShort, IsExpression, IsValid}
 use Rattle.cal_spec.specs.Weekdays.{weekdays_in}
-use Rattle.cal_spec.specs.Words.{Places, words, places_of}
-use Rattle.cal_spec.specs.ZoneSuffix.{Suffix, suffix_in}
+use Rattle.cal_spec.specs.Words.{Roles, words, roles_of}
+use Rattle.cal_spec.specs.ZoneSuffix.{ZoneSuffix, suffix_in}
 use Rattle.cal_spec.proofs.DateRule.{is_date, is_time, AreFew, are_few, date_only, time_only}
 use Rattle.cal_spec.proofs.FieldLemmas.{fields_with, text_found, valid_fields}
 use Rattle.cal_spec.proofs.WeekdayRule.{weekdays_by_rule, weekdays_only}
-use Rattle.cal_spec.proofs.WordRule.{zone_read, zone_only, zone_begins, time_colon, places_found, places_only}
+use Rattle.cal_spec.proofs.WordRule.{zone_read, zone_only, zone_begins, time_colon, roles_found, roles_only}
 
-expression_with : (text : List ℕ) (p : Places) (weekdays : List Bool) (d : DateFields) (h : TimeFields) (kept : Option Suffix) → places_of (words text) ≡ Some p → weekdays_in p.weekdays ≡ Ok weekdays → date_of p.date ≡ Ok d → time_of (room_after d) p.time ≡ Ok h → suffix_in p.rest ≡ Ok kept → IsExpression text (fields_with weekdays d h kept)
-expression_with text p weekdays d h kept placed week date time last =
+expression_with : (text : List ℕ) (p : Roles) (weekdays : List Bool) (d : DateFields) (h : TimeFields) (kept : Option ZoneSuffix) → roles_of (words text) ≡ Some p → weekdays_in p.weekdays ≡ Ok weekdays → date_of p.date ≡ Ok d → time_of (room_after d) p.time ≡ Ok h → suffix_in p.rest ≡ Ok kept → IsExpression text (fields_with weekdays d h kept)
+expression_with text p weekdays d h kept roles_are week date time last =
     let read = zone_read p.rest kept last in
     record {
-      places = p;
+      roles = p;
       last = read.last;
-      placed = places_found (words text) p read.last placed read.rest_is (time_colon (room_after d) p.time h time);
+      roles_are = roles_found (words text) p read.last roles_are read.rest_is (time_colon (room_after d) p.time h time);
       weekdays = weekdays_by_rule p.weekdays weekdays week;
       date = is_date p.date weekdays d h kept date;
       time = is_time (room_after d) p.time weekdays d h kept time;
@@ -31,18 +31,18 @@ pub valid_found : (text : List ℕ) (f : Fields) → fields_in text ≡ Ok f →
 valid_found text f at =
     let found = text_found text f at in
     let read = found.fields in
-    let expression : IsExpression text f = rw read.is at (expression_with text found.places read.weekdays read.date read.time read.name found.placed read.weekdays_is read.date_is read.time_is read.name_is) in
+    let expression : IsExpression text f = rw read.is at (expression_with text found.roles read.weekdays read.date read.time read.name found.roles_are read.weekdays_is read.date_is read.time_is read.name_is) in
     record { short = found.short; expression = expression; few = (valid_fields text f at).few }
 
-rest_of : (ws : List (List ℕ)) (p : Places) (last : Option (List ℕ)) → ArePlain ws p last ⊎ AreShort ws p last → p.rest ≡ given last
+rest_of : (ws : List (List ℕ)) (p : Roles) (last : Option (List ℕ)) → ArePlain ws p last ⊎ AreShort ws p last → p.rest ≡ given last
 rest_of ws p last (inl plain) = plain.rest_is
 rest_of ws p last (inr short) = short.rest_is
 
-fields_only : (text : List ℕ) (f : Fields) (e : IsExpression text f) → AreFew f → fields_at e.places ≡ Ok f
+fields_only : (text : List ℕ) (f : Fields) (e : IsExpression text f) → AreFew f → fields_at e.roles ≡ Ok f
 unfolding fields_at
 fields_only text f e few =
-    let p = e.places in
-    let last : suffix_in p.rest ≡ Ok f.zone = ap suffix_in (rest_of (words text) p e.last e.placed) ∙ zone_only e.last f.zone e.zone in
+    let p = e.roles in
+    let last : suffix_in p.rest ≡ Ok f.zone = ap suffix_in (rest_of (words text) p e.last e.roles_are) ∙ zone_only e.last f.zone e.zone in
     rw (weekdays_only p.weekdays f.weekdays e.weekdays, date_only p.date f few e.date, time_only p.time f few e.time, last) refl
 
 -- an expression by the rule is read
@@ -50,8 +50,8 @@ pub valid_only : (text : List ℕ) (f : Fields) → IsValid text f → fields_in
 unfolding fields_in
 valid_only text f valid =
     let e = valid.expression in
-    let placed = places_only (words text) e.places e.last (zone_begins e.last f.zone e.zone) e.placed in
-    rw (le-ltb most_text_bytes (length text) valid.short, placed) (fields_only text f e (are_few f valid.few))
+    let roles_are = roles_only (words text) e.roles e.last (zone_begins e.last f.zone e.zone) e.roles_are in
+    rw (le-ltb most_text_bytes (length text) valid.short, roles_are) (fields_only text f e (are_few f valid.few))
 
 -- a text is at most one expression
 pub one_expression : (text : List ℕ) (f g : Fields) → IsValid text f → IsValid text g → f ≡ g

@@ -1,29 +1,29 @@
 -- What contracts see of the date and of the time of a calendar expression.
 use Rattle.std.specs.Option.{option_map}
 use Rattle.cal_spec.specs.DateAndTime.{DateFields, DateTexts, TimeFields, TimeTexts}
-use Rattle.cal_spec.specs.declared.date_and_time.DateWords.{DateWords}
-use Rattle.cal_spec.specs.declared.date_and_time.TimeWords.{TimeWords}
-use Rattle.cal_spec.specs.declared.raw.RawDate.{RawDate}
-use Rattle.cal_spec.specs.declared.raw.RawTime.{RawTime}
+use Rattle.cal_spec.specs.declared.date_and_time.DateTexts as declared_date_texts
+use Rattle.cal_spec.specs.declared.date_and_time.TimeTexts as declared_time_texts
+use Rattle.cal_spec.specs.declared.fields.DateFields as declared_date
+use Rattle.cal_spec.specs.declared.fields.TimeFields as declared_time
 
-abbrev pub date_in : RawDate → DateFields
-date_in raw = record {
-  year = option_map (λ parts. parts.items) raw.year;
-  month = option_map (λ parts. parts.items) raw.month;
-  day = option_map (λ parts. parts.items) raw.day;
-  from_end = raw.from_end;
+abbrev pub date_in : declared_date.DateFields → DateFields
+date_in date = record {
+  year = option_map (λ parts. parts.items) date.year;
+  month = option_map (λ parts. parts.items) date.month;
+  day = option_map (λ parts. parts.items) date.day;
+  from_end = date.from_end;
 }
 
-abbrev pub time_in : RawTime → TimeFields
-time_in raw = record {
-  hour = option_map (λ parts. parts.items) raw.hour;
-  minute = option_map (λ parts. parts.items) raw.minute;
-  second = option_map (λ parts. parts.items) raw.second;
+abbrev pub time_in : declared_time.TimeFields → TimeFields
+time_in time = record {
+  hour = option_map (λ parts. parts.items) time.hour;
+  minute = option_map (λ parts. parts.items) time.minute;
+  second = option_map (λ parts. parts.items) time.second;
 }
 
-abbrev pub date_texts_in : DateWords → DateTexts
-date_texts_in words =
-    record { year = words.year.now; month = words.month.now; day = words.day.now; from_end = words.from_end }
+abbrev pub date_texts_in : declared_date_texts.DateTexts → DateTexts
+date_texts_in texts =
+    record { year = texts.year.now; month = texts.month.now; day = texts.day.now; from_end = texts.from_end }
 
-abbrev pub time_texts_in : TimeWords → TimeTexts
-time_texts_in words = record { hour = words.hour.now; minute = words.minute.now; second = words.second.now }
+abbrev pub time_texts_in : declared_time_texts.TimeTexts → TimeTexts
+time_texts_in texts = record { hour = texts.hour.now; minute = texts.minute.now; second = texts.second.now }

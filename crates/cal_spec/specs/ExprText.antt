@@ -6,7 +6,7 @@ use Rattle.cal_bytes.specs.Bytes.{joined}
 use Rattle.cal_zone.specs.InstantText.{zeros}
 use Rattle.cal_spec.specs.Fields.{Fields}
 use Rattle.cal_spec.specs.WeekdayRuns.{weekdays_text}
-use Rattle.cal_spec.specs.ZoneSuffix.{Suffix, suffix_text}
+use Rattle.cal_spec.specs.ZoneSuffix.{ZoneSuffix, suffix_text}
 use Rattle.cal_spec.specs.declared.part.Part.{Part}
 
 -- a number in at least that many digits, with what leads up to it in front
@@ -43,7 +43,7 @@ fields_text f =
     joined (row_text [] 4 f.year ∷ row_text (codes "-") 2 f.month ∷ row_text (day_lead f.from_end) 2 f.day ∷ row_text (codes " ") 2 f.hour ∷ row_text (codes ":") 2 f.minute ∷ row_text (codes ":") 2 f.second ∷ [])
 
 -- the zone after a space
-abbrev pub zone_text : Option Suffix → List ℕ
+abbrev pub zone_text : Option ZoneSuffix → List ℕ
 zone_text None = []
 zone_text (Some suffix) = joined (codes " " ∷ suffix_text suffix ∷ [])
 

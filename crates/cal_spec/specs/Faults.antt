@@ -9,7 +9,7 @@ use Rattle.cal_spec.specs.Grammar.{most_text_bytes}
 use Rattle.cal_spec.specs.Parts.{is_time, part_of, with_values, fault_of}
 use Rattle.cal_spec.specs.Slot.{day_slot}
 use Rattle.cal_spec.specs.Weekdays.{weekdays_in}
-use Rattle.cal_spec.specs.Words.{Places, words, places_of}
+use Rattle.cal_spec.specs.Words.{Roles, words, roles_of}
 use Rattle.cal_spec.specs.ZoneSuffix.{suffix_in}
 use Rattle.cal_spec.specs.declared.part.Part.{Part}
 use Rattle.cal_spec.specs.declared.slot.Slot.{Slot}
@@ -70,7 +70,7 @@ time_faults before (Some t) =
     ++ component_faults Second (before + numbered Hour t.hour + numbered Minute t.minute) t.second)
 
 -- the words from the left
-abbrev pub faults_at : Option Places → List (Option SpecFault)
+abbrev pub faults_at : Option Roles → List (Option SpecFault)
 faults_at None = Some Empty ∷ []
 faults_at (Some p) =
     result_err (weekdays_in p.weekdays)
@@ -80,4 +80,4 @@ faults_at (Some p) =
 
 -- all judgements of a text
 unfoldable pub faults_in : List ℕ → List (Option SpecFault)
-faults_in text = (if nat_lt most_text_bytes (length text) then Some TextTooLong else None) ∷ faults_at (places_of (words text))
+faults_in text = (if nat_lt most_text_bytes (length text) then Some TextTooLong else None) ∷ faults_at (roles_of (words text))

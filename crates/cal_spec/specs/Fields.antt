@@ -2,10 +2,10 @@
 -- Calendar Events.
 use Rattle.std.specs.Prelude.{ℕ, ◌+◌, ◌-◌, Bool, List, length, Option, None, Some}
 use Rattle.std.specs.Option.{option_map}
-use Rattle.cal_spec.specs.SuffixView.{suffix_seen}
-use Rattle.cal_spec.specs.ZoneSuffix.{Suffix}
+use Rattle.cal_spec.specs.SuffixView.{shown_suffix}
+use Rattle.cal_spec.specs.ZoneSuffix.{ZoneSuffix}
 use Rattle.cal_spec.specs.declared.part.Part.{Part}
-use Rattle.cal_spec.specs.declared.raw.Raw.{Raw}
+use Rattle.cal_spec.specs.declared.fields.Fields as declared_fields
 
 -- the weekdays from Monday on, six components of which None is `*`, whether the day is counted from the month's
 -- end, and the zone
@@ -18,20 +18,20 @@ pub record Fields : Type 0 where
   pub minute : Option (List Part)
   pub second : Option (List Part)
   pub from_end : Bool
-  pub zone : Option Suffix
+  pub zone : Option ZoneSuffix
 
 -- the fields without where they lie in memory
-unfoldable pub fields_of : Raw → Fields
-fields_of raw = record {
-  weekdays = raw.weekdays;
-  year = option_map (λ parts. parts.items) raw.date.year;
-  month = option_map (λ parts. parts.items) raw.date.month;
-  day = option_map (λ parts. parts.items) raw.date.day;
-  hour = option_map (λ parts. parts.items) raw.time.hour;
-  minute = option_map (λ parts. parts.items) raw.time.minute;
-  second = option_map (λ parts. parts.items) raw.time.second;
-  from_end = raw.date.from_end;
-  zone = option_map suffix_seen raw.zone;
+unfoldable pub fields_of : declared_fields.Fields → Fields
+fields_of fields = record {
+  weekdays = fields.weekdays;
+  year = option_map (λ parts. parts.items) fields.date.year;
+  month = option_map (λ parts. parts.items) fields.date.month;
+  day = option_map (λ parts. parts.items) fields.date.day;
+  hour = option_map (λ parts. parts.items) fields.time.hour;
+  minute = option_map (λ parts. parts.items) fields.time.minute;
+  second = option_map (λ parts. parts.items) fields.time.second;
+  from_end = fields.date.from_end;
+  zone = option_map shown_suffix fields.zone;
 }
 
 -- how many parts a component has

@@ -5,7 +5,7 @@ use Rattle.cal_spec.specs.DateAndTime.{date_of, time_of, room_after}
 use Rattle.cal_spec.specs.Fields.{Fields}
 use Rattle.cal_spec.specs.Reads.{◌>>=◌}
 use Rattle.cal_spec.specs.Weekdays.{weekdays_in}
-use Rattle.cal_spec.specs.Words.{Places, words, places_of}
+use Rattle.cal_spec.specs.Words.{Roles, words, roles_of}
 use Rattle.cal_spec.specs.ZoneSuffix.{suffix_in}
 use Rattle.cal_spec.specs.declared.spec_fault.SpecFault.{SpecFault}
 use Rattle.cal_spec.specs.declared.spec_fault.SpecFault.TheVariants.{Empty, TextTooLong}
@@ -14,8 +14,8 @@ use Rattle.cal_spec.specs.declared.spec_fault.SpecFault.TheVariants.{Empty, Text
 abbrev pub most_text_bytes : ℕ
 most_text_bytes = 4096
 
--- the fields of the texts at their places
-unfoldable pub fields_at : Places → Result Fields SpecFault
+-- the fields of the texts by their roles
+unfoldable pub fields_at : Roles → Result Fields SpecFault
 fields_at p =
     weekdays_in p.weekdays
     >>= λ weekdays. date_of p.date
@@ -34,10 +34,10 @@ fields_at p =
     })
 
 -- a text without a word has no fields
-abbrev pub fields_due : Option Places → Result Fields SpecFault
+abbrev pub fields_due : Option Roles → Result Fields SpecFault
 fields_due None = Err Empty
 fields_due (Some p) = fields_at p
 
 -- the fields of a text, or its fault
 unfoldable pub fields_in : List ℕ → Result Fields SpecFault
-fields_in text = if nat_lt most_text_bytes (length text) then Err TextTooLong else fields_due (places_of (words text))
+fields_in text = if nat_lt most_text_bytes (length text) then Err TextTooLong else fields_due (roles_of (words text))

@@ -13,10 +13,10 @@ use Rattle.cal_spec.specs.Shorthand.{any_date, midnight, shorthand_named, meanin
 use Rattle.cal_spec.specs.Slot.{day_slot}
 use Rattle.cal_spec.specs.Sound.{IsSound}
 use Rattle.cal_spec.specs.Weekdays.{set_of}
-use Rattle.cal_spec.specs.Words.{Places, is_blank, words}
+use Rattle.cal_spec.specs.Words.{Roles, is_blank, words}
 use Rattle.cal_zone.specs.OffsetWord.{IsOffsetWord, begins_with_sign}
 use Rattle.cal_zone.specs.ZoneName.{begins_with_letter, is_zone_name}
-use Rattle.cal_spec.specs.ZoneSuffix.{Suffix, of_name, ahead, kept_name}
+use Rattle.cal_spec.specs.ZoneSuffix.{ZoneSuffix, of_name, ahead, kept_name}
 use Rattle.cal_spec.specs.declared.part.Part.{Part}
 use Rattle.cal_spec.specs.declared.shorthand.Shorthand.{Shorthand}
 use Rattle.cal_spec.specs.declared.slot.Slot.{Slot}
@@ -162,7 +162,7 @@ IsSignless word = begins_with_sign word ≡ false
 
 -- `[weekdays] [date] [time] [zone]`, where one of the first three is there; what a word is shows at its first letter
 -- and at a colon, and after the first word a sign begins the zone alone
-pub record ArePlain (ws : List (List ℕ)) (p : Places) (last : Option (List ℕ)) : Type 0 where
+pub record ArePlain (ws : List (List ℕ)) (p : Roles) (last : Option (List ℕ)) : Type 0 where
   pub date : Option (List ℕ)
   pub time : Option (List ℕ)
   pub whole : ws ≡ given p.weekdays ++ (given date ++ (given time ++ given last))
@@ -176,7 +176,7 @@ pub record ArePlain (ws : List (List ℕ)) (p : Places) (last : Option (List ℕ
   pub rest_is : p.rest ≡ given last
 
 -- `shorthand [zone]`, which stands for the texts of the shorthand's meaning
-pub record AreShort (ws : List (List ℕ)) (p : Places) (last : Option (List ℕ)) : Type 0 where
+pub record AreShort (ws : List (List ℕ)) (p : Roles) (last : Option (List ℕ)) : Type 0 where
   pub word : List ℕ
   pub shorthand : Shorthand
   pub whole : ws ≡ word ∷ given last
@@ -187,7 +187,7 @@ pub record AreShort (ws : List (List ℕ)) (p : Places) (last : Option (List ℕ
   pub rest_is : p.rest ≡ given last
 
 -- no word, a zone's name, or an offset
-abbrev pub IsZoneWord : Option (List ℕ) → Option Suffix → Type 0
+abbrev pub IsZoneWord : Option (List ℕ) → Option ZoneSuffix → Type 0
 IsZoneWord None suffix = suffix ≡ None
 IsZoneWord (Some word) suffix =
     ((is_zone_name word ≡ true) × (suffix ≡ Some (of_name (kept_name word)))) ⊎ ((seconds : ℤ) × IsOffsetWord word seconds × (suffix ≡ Some (ahead seconds)))
@@ -196,12 +196,12 @@ IsZoneWord (Some word) suffix =
 
 -- a text and its fields
 pub record IsExpression (text : List ℕ) (f : Fields) : Type 0 where
-  pub places : Places
+  pub roles : Roles
   pub last : Option (List ℕ)
-  pub placed : ArePlain (words text) places last ⊎ AreShort (words text) places last
-  pub weekdays : HasWeekdays places.weekdays f.weekdays
-  pub date : IsDate places.date f
-  pub time : IsTime places.time f
+  pub roles_are : ArePlain (words text) roles last ⊎ AreShort (words text) roles last
+  pub weekdays : HasWeekdays roles.weekdays f.weekdays
+  pub date : IsDate roles.date f
+  pub time : IsTime roles.time f
   pub zone : IsZoneWord last f.zone
 
 -- an expression that is neither too long nor has too many parts

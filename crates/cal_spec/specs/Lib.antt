@@ -12,8 +12,8 @@ pub mod Members
 pub mod NormalForm
 pub mod Order
 pub mod Parts
-pub mod PlacesView
 pub mod Reads
+pub mod RolesView
 pub mod Shorthand
 pub mod ShorthandViews
 pub mod Slot

@@ -8,18 +8,18 @@ abbrev pub Has : {A : Type 0} → List A → A → Type 0
 Has [] x = ⊥
 Has (y ∷ ys) x = (y ≡ x) ⊎ Has ys x
 
--- x before y, in the place of y, or after y, where `more` is what follows y once x is placed there
-abbrev pub placed_by : {A : Type 0} → Ordering → A → A → List A → List A → List A
-placed_by Less x y ys more = x ∷ y ∷ ys
-placed_by Equal x y ys more = y ∷ ys
-placed_by Greater x y ys more = y ∷ more
+-- x before y, in place of y, or after y, where `more` is what follows y once x is inserted there
+abbrev pub inserted_by : {A : Type 0} → Ordering → A → A → List A → List A → List A
+inserted_by Less x y ys more = x ∷ y ∷ ys
+inserted_by Equal x y ys more = y ∷ ys
+inserted_by Greater x y ys more = y ∷ more
 
--- the list with x in its place
-abbrev pub placed : {A : Type 0} → (A → A → Ordering) → A → List A → List A
-placed cmp x [] = x ∷ []
-placed cmp x (y ∷ ys) = placed_by (cmp x y) x y ys (placed cmp x ys)
+-- the list with x in it
+abbrev pub inserted : {A : Type 0} → (A → A → Ordering) → A → List A → List A
+inserted cmp x [] = x ∷ []
+inserted cmp x (y ∷ ys) = inserted_by (cmp x y) x y ys (inserted cmp x ys)
 
 -- the elements in order, equal ones once
 abbrev pub in_order : {A : Type 0} → (A → A → Ordering) → List A → List A
 in_order cmp [] = []
-in_order cmp (x ∷ xs) = placed cmp x (in_order cmp xs)
+in_order cmp (x ∷ xs) = inserted cmp x (in_order cmp xs)

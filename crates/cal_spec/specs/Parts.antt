@@ -1,4 +1,4 @@
--- One part of a component: systemd.time(7), Calendar Events. The text is taken apart into signs, and these are judged
+-- One part of a component: systemd.time(7), Calendar Events. The text is taken apart into symbols, and these are judged
 -- from the left.
 use Rattle.std.specs.Prelude.{ℕ, ◌+◌, ◌==◌, nat_lt, nat_le, Bool, true, false, not, ◌&&◌, if◌then◌else◌, List, [], ◌∷◌, Option, None, Some, Result, Ok, Err}
 use Rattle.std.specs.Option.{option_map}
@@ -46,34 +46,34 @@ abbrev pub is_slash : ℕ → Bool
 is_slash b = b == 47
 
 -- a longest run of digits, two points, a slash, a point that is followed by none, or any other byte
-pub data Sign : Type 0 where
-  digits : List ℕ → Sign
-  dots : Sign
-  slash : Sign
-  point : Sign
-  other : ℕ → Sign
+pub data Symbol : Type 0 where
+  digits : List ℕ → Symbol
+  dots : Symbol
+  slash : Symbol
+  point : Symbol
+  other : ℕ → Symbol
 
--- a digit in front of signs
-abbrev pub with_digit : ℕ → List Sign → List Sign
+-- a digit in front of symbols
+abbrev pub with_digit : ℕ → List Symbol → List Symbol
 with_digit b (digits ds ∷ ss) = digits (b ∷ ds) ∷ ss
 with_digit b ss = digits (b ∷ []) ∷ ss
 
--- the sign of a byte that is by itself
-abbrev pub lone : ℕ → Sign
+-- the symbol of a byte that is by itself
+abbrev pub lone : ℕ → Symbol
 lone b = if is_point b then point else (if is_slash b then slash else other b)
 
-abbrev pub with_byte : ℕ → List Sign → List Sign
+abbrev pub with_byte : ℕ → List Symbol → List Symbol
 with_byte b ss = if is_ascii_digit b then with_digit b ss else lone b ∷ ss
 
--- the signs of a text; points are paired from the left
-abbrev pub signs : List ℕ → List Sign
-signs [] = []
-signs (b ∷ []) = with_byte b []
-signs (b ∷ c ∷ bs) = if is_point b && is_point c then dots ∷ signs bs else with_byte b (signs (c ∷ bs))
+-- the symbols of a text; points are paired from the left
+abbrev pub symbols : List ℕ → List Symbol
+symbols [] = []
+symbols (b ∷ []) = with_byte b []
+symbols (b ∷ c ∷ bs) = if is_point b && is_point c then dots ∷ symbols bs else with_byte b (symbols (c ∷ bs))
 
 -- Shapes: `a`, `a/r`, `a..b` and `a..b/r`
 
-abbrev pub starts_with_point : List Sign → Bool
+abbrev pub starts_with_point : List Symbol → Bool
 starts_with_point (point ∷ ss) = true
 starts_with_point ss = false
 
@@ -81,40 +81,40 @@ starts_with_point ss = false
 abbrev pub most : ℕ
 most = 9999
 
--- a number with the signs after it
+-- a number with the symbols after it
 pub record Counted : Type 0 where
   pub number : ℕ
-  pub after : List Sign
+  pub after : List Symbol
 
 -- a number is judged at its last digit, and in the seconds the point of a fraction after it
-abbrev pub after_number : Slot → ℕ → List Sign → Result Counted SpecFault
+abbrev pub after_number : Slot → ℕ → List Symbol → Result Counted SpecFault
 after_number slot n ss =
     if nat_lt most n then Err NumberTooLarge
     else (if is_second slot && starts_with_point ss then Err FractionalSecond
     else Ok (record { number = n; after = ss }))
 
 -- where a number is expected
-abbrev pub number_due : Slot → List Sign → Result Counted SpecFault
+abbrev pub number_due : Slot → List Symbol → Result Counted SpecFault
 number_due slot (digits ds ∷ ss) = after_number slot (digits_value 10 ds) ss
 number_due slot ss = Err (bad slot)
 
-abbrev pub part_at_end : Slot → Part → List Sign → Result Part SpecFault
+abbrev pub part_at_end : Slot → Part → List Symbol → Result Part SpecFault
 part_at_end slot p [] = Ok p
 part_at_end slot p ss = Err (bad slot)
 
 -- after a slash
-unfoldable pub with_step : Slot → ℕ → Option ℕ → List Sign → Result Part SpecFault
+unfoldable pub with_step : Slot → ℕ → Option ℕ → List Symbol → Result Part SpecFault
 with_step slot a last ss =
     number_due slot ss >>= λ r. part_at_end slot (record { start = a; end = last; step = Some r.number }) r.after
 
 -- after the end of a range
-unfoldable pub after_end : Slot → ℕ → ℕ → List Sign → Result Part SpecFault
+unfoldable pub after_end : Slot → ℕ → ℕ → List Symbol → Result Part SpecFault
 after_end slot a b [] = Ok (record { start = a; end = Some b; step = None })
 after_end slot a b (slash ∷ ss) = with_step slot a (Some b) ss
 after_end slot a b ss = Err (bad slot)
 
 -- after the first number
-unfoldable pub after_start : Slot → ℕ → List Sign → Result Part SpecFault
+unfoldable pub after_start : Slot → ℕ → List Symbol → Result Part SpecFault
 after_start slot a [] = Ok (record { start = a; end = None; step = None })
 after_start slot a (dots ∷ ss) = number_due slot ss >>= λ b. after_end slot a b.number b.after
 after_start slot a (slash ∷ ss) = with_step slot a None ss
@@ -122,7 +122,7 @@ after_start slot a ss = Err (bad slot)
 
 -- the part that the text writes, or the fault of its shape
 unfoldable pub part_of : Slot → List ℕ → Result Part SpecFault
-part_of slot text = number_due slot (signs text) >>= λ a. after_start slot a.number a.after
+part_of slot text = number_due slot (symbols text) >>= λ a. after_start slot a.number a.after
 
 -- Values
 

@@ -16,40 +16,40 @@ words text = filter (λ word. nat_lt 0 (length word)) (slice_split is_blank text
 
 -- the texts of the weekdays, of the date and of the time, and the words after these; a missing date is the text
 -- `*-*-*`, and a missing time `00:00:00`
-pub record Places : Type 0 where
+pub record Roles : Type 0 where
   pub weekdays : Option (List ℕ)
   pub date : List ℕ
   pub time : List ℕ
   pub rest : List (List ℕ)
 
 -- after a date, a word that begins with a letter or a sign is a zone; any other is the time
-abbrev pub after_date : Option (List ℕ) → List ℕ → List (List ℕ) → Places
+abbrev pub after_date : Option (List ℕ) → List ℕ → List (List ℕ) → Roles
 after_date weekdays date [] = record { weekdays = weekdays; date = date; time = midnight; rest = [] }
 after_date weekdays date (w ∷ ws) =
     if begins_zone w then record { weekdays = weekdays; date = date; time = midnight; rest = w ∷ ws }
     else record { weekdays = weekdays; date = date; time = w; rest = ws }
 
 -- a word with a colon is the time, any other the date
-abbrev pub date_or_time : Option (List ℕ) → List ℕ → List (List ℕ) → Places
+abbrev pub date_or_time : Option (List ℕ) → List ℕ → List (List ℕ) → Roles
 date_or_time weekdays w ws =
     if list_any is_colon w then record { weekdays = weekdays; date = any_date; time = w; rest = ws }
     else after_date weekdays w ws
 
 -- after the weekdays, a word that begins with a letter or a sign is a zone
-abbrev pub after_weekdays : Option (List ℕ) → List (List ℕ) → Places
+abbrev pub after_weekdays : Option (List ℕ) → List (List ℕ) → Roles
 after_weekdays weekdays [] = record { weekdays = weekdays; date = any_date; time = midnight; rest = [] }
 after_weekdays weekdays (w ∷ ws) =
     if begins_zone w then record { weekdays = weekdays; date = any_date; time = midnight; rest = w ∷ ws }
     else date_or_time weekdays w ws
 
 -- a first word that begins with a letter is the weekday list; it is no zone, also where it begins with a sign
-abbrev pub places_in : List ℕ → List (List ℕ) → Places
-places_in w ws = if begins_with_letter w then after_weekdays (Some w) ws else date_or_time None w ws
+abbrev pub roles_in : List ℕ → List (List ℕ) → Roles
+roles_in w ws = if begins_with_letter w then after_weekdays (Some w) ws else date_or_time None w ws
 
 -- a shorthand stands for the texts of its meaning
-abbrev pub places_by : Option Shorthand → List ℕ → List (List ℕ) → Places
-places_by None w ws = places_in w ws
-places_by (Some shorthand) w ws =
+abbrev pub roles_by : Option Shorthand → List ℕ → List (List ℕ) → Roles
+roles_by None w ws = roles_in w ws
+roles_by (Some shorthand) w ws =
     record {
       weekdays = (meaning_of shorthand).weekdays;
       date = (meaning_of shorthand).date;
@@ -57,7 +57,7 @@ places_by (Some shorthand) w ws =
       rest = ws;
     }
 
--- the places of the words of a text, where there is a word
-unfoldable pub places_of : List (List ℕ) → Option Places
-places_of [] = None
-places_of (w ∷ ws) = Some (places_by (shorthand_named w) w ws)
+-- the roles of the words of a text, where there is a word
+unfoldable pub roles_of : List (List ℕ) → Option Roles
+roles_of [] = None
+roles_of (w ∷ ws) = Some (roles_by (shorthand_named w) w ws)

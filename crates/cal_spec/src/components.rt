@@ -33,7 +33,7 @@ pub(crate) fn read_component(
 }
 
 /// How many counted parts the component has: of a time's component all but the first.
-pub(crate) fn counted(slot: Slot, component: &Option<Vec<Part>>) -> usize
+pub(crate) fn count_parts(slot: Slot, component: &Option<Vec<Part>>) -> usize
     ensures { result ≡ counted slot (option_map (λ parts. parts.items) component.now) }
 {
     match component {

@@ -10,9 +10,9 @@ ghost use Rattle.cal_spec.specs.Reads.{GivesUnlessNoMemory};
 ghost use Rattle.cal_spec.specs.Slot.{day_slot};
 
 use crate::SpecFault;
-use crate::components::{counted, read_component};
+use crate::components::{count_parts, read_component};
+use crate::fields::{DateFields, TimeFields};
 use crate::pieces::{cut_at, first_piece};
-use crate::raw::{RawDate, RawTime};
 use crate::slot::Slot;
 use std::alloc::Global;
 
@@ -23,11 +23,11 @@ const MOST_COUNTED: usize = 240;
 /// counted from the month's end (systemd.time(7), Calendar Events). First the number of components is judged, and
 /// with it the place of `~`, then the components from the left.
 #[tactic(auto, unfolding(crate::specs::DateAndTime::date_of))]
-pub(crate) fn read_date(alloc: Global, word: &[u8]) -> Result<RawDate, SpecFault>
+pub(crate) fn read_date(alloc: Global, word: &[u8]) -> Result<DateFields, SpecFault>
     ensures { GivesUnlessNoMemory date_in result (date_of word.now) }
 {
-    match date_words(word) {
-        Some(words) => date_fields(alloc, words),
+    match date_texts(word) {
+        Some(texts) => date_fields(alloc, texts),
         None => Err(SpecFault::BadDate),
     }
 }
@@ -35,30 +35,30 @@ pub(crate) fn read_date(alloc: Global, word: &[u8]) -> Result<RawDate, SpecFault
 /// The time that the word writes, `hour:minute` or `hour:minute:second`, where that many counted parts are allowed
 /// (systemd.time(7), Calendar Events). First the number of components is judged, then these from the left.
 #[tactic(auto, unfolding(crate::specs::DateAndTime::time_of))]
-pub(crate) fn read_time(alloc: Global, room: usize, word: &[u8]) -> Result<RawTime, SpecFault>
+pub(crate) fn read_time(alloc: Global, room: usize, word: &[u8]) -> Result<TimeFields, SpecFault>
     requires { room ≤ most_counted }
     ensures { GivesUnlessNoMemory time_in result (time_of room word.now) }
 {
-    match time_words(word) {
-        Some(words) => time_fields(alloc, room, words),
+    match time_texts(word) {
+        Some(texts) => time_fields(alloc, room, texts),
         None => Err(SpecFault::BadTime),
     }
 }
 
 /// How many counted parts are allowed after the date.
-pub(crate) fn room_after(date: &RawDate) -> usize
+pub(crate) fn room_after(date: &DateFields) -> usize
     ensures value { result ≡ room_after (date_in date.now) }
     ensures bound { result ≤ most_counted }
 {
     MOST_COUNTED
-        .saturating_sub(counted(Slot::Year, &date.year))
-        .saturating_sub(counted(Slot::Month, &date.month))
-        .saturating_sub(counted(day_slot(date.from_end), &date.day))
+        .saturating_sub(count_parts(Slot::Year, &date.year))
+        .saturating_sub(count_parts(Slot::Month, &date.month))
+        .saturating_sub(count_parts(day_slot(date.from_end), &date.day))
 }
 
 /// The texts of a date's components.
 #[derive(Clone, Copy)]
-struct DateWords<'a> {
+struct DateTexts<'a> {
     year: &'a [u8],
     month: &'a [u8],
     day: &'a [u8],
@@ -67,7 +67,7 @@ struct DateWords<'a> {
 
 /// The texts of a time's components.
 #[derive(Clone, Copy)]
-struct TimeWords<'a> {
+struct TimeTexts<'a> {
     hour: &'a [u8],
     minute: &'a [u8],
     second: &'a [u8],
@@ -75,12 +75,12 @@ struct TimeWords<'a> {
 
 /// The texts of the components, or `None` where these are not two or three, or `~` isn't the last sign.
 #[tactic(auto, unfolding(crate::specs::DateAndTime::date_texts))]
-fn date_words(word: &[u8]) -> Option<DateWords<'_>>
+fn date_texts(word: &[u8]) -> Option<DateTexts<'_>>
     ensures { option_map date_texts_in result ≡ date_texts word.now }
 {
     let (first, sign, after) = cut_at_sign(word)?;
     let Some((second, last_sign, third)) = cut_at_sign(after) else {
-        return Some(DateWords {
+        return Some(DateTexts {
             year: b"*",
             month: first,
             day: after,
@@ -90,7 +90,7 @@ fn date_words(word: &[u8]) -> Option<DateWords<'_>>
     if sign == b'~' || cut_at_sign(third).is_some() {
         return None;
     }
-    Some(DateWords {
+    Some(DateTexts {
         year: first,
         month: second,
         day: third,
@@ -105,12 +105,12 @@ fn cut_at_sign(word: &[u8]) -> Option<(&[u8], u8, &[u8])>
         (λ found. (slice_split is_date_sign word.now ≡ found.0.now ∷ slice_split is_date_sign found.2.now)
         × (filter is_date_sign word.now ≡ found.1 ∷ filter is_date_sign found.2.now)) }
 {
-    let index = sign_place(word)?;
+    let index = sign_index(word)?;
     Some((&word[..index], word[index], &word[index + 1..]))
 }
 
-/// The place of the first `-` or `~`.
-fn sign_place(word: &[u8]) -> Option<usize>
+/// The index of the first `-` or `~`.
+fn sign_index(word: &[u8]) -> Option<usize>
     ensures { result ≡ position is_date_sign word.now }
 {
     word.iter().position(|byte| *byte == b'-' || *byte == b'~')
@@ -118,13 +118,13 @@ fn sign_place(word: &[u8]) -> Option<usize>
 
 /// The texts of the components, or `None` where these are not two or three. Missing seconds are `00`.
 #[tactic(auto, unfolding(crate::specs::DateAndTime::time_texts))]
-fn time_words(word: &[u8]) -> Option<TimeWords<'_>>
+fn time_texts(word: &[u8]) -> Option<TimeTexts<'_>>
     ensures { option_map time_texts_in result ≡ time_texts word.now }
 {
     let (hour, after) = first_piece(word, b':');
     let (minute, after) = first_piece(after?, b':');
     let Some(after) = after else {
-        return Some(TimeWords {
+        return Some(TimeTexts {
             hour,
             minute,
             second: b"00",
@@ -133,7 +133,7 @@ fn time_words(word: &[u8]) -> Option<TimeWords<'_>>
     let (second, after) = first_piece(after, b':');
     match after {
         Some(_) => None,
-        None => Some(TimeWords {
+        None => Some(TimeTexts {
             hour,
             minute,
             second,
@@ -154,34 +154,34 @@ fn day_slot(from_end: bool) -> Slot
 
 /// The components of a date from the left.
 #[tactic(auto, unfolding(crate::specs::DateAndTime::date_fields))]
-fn date_fields(alloc: Global, words: DateWords<'_>) -> Result<RawDate, SpecFault>
-    ensures { GivesUnlessNoMemory date_in result (date_fields (date_texts_in words.entry)) }
+fn date_fields(alloc: Global, texts: DateTexts<'_>) -> Result<DateFields, SpecFault>
+    ensures { GivesUnlessNoMemory date_in result (date_fields (date_texts_in texts.entry)) }
 {
-    let year = read_component(alloc, Slot::Year, MOST_COUNTED, words.year)?;
-    let room = MOST_COUNTED.saturating_sub(counted(Slot::Year, &year));
-    let month = read_component(alloc, Slot::Month, room, words.month)?;
-    let room = room.saturating_sub(counted(Slot::Month, &month));
-    let day = read_component(alloc, day_slot(words.from_end), room, words.day)?;
-    Ok(RawDate {
+    let year = read_component(alloc, Slot::Year, MOST_COUNTED, texts.year)?;
+    let room = MOST_COUNTED.saturating_sub(count_parts(Slot::Year, &year));
+    let month = read_component(alloc, Slot::Month, room, texts.month)?;
+    let room = room.saturating_sub(count_parts(Slot::Month, &month));
+    let day = read_component(alloc, day_slot(texts.from_end), room, texts.day)?;
+    Ok(DateFields {
         year,
         month,
         day,
-        from_end: words.from_end,
+        from_end: texts.from_end,
     })
 }
 
 /// The components of a time from the left, where that many counted parts are allowed.
 #[tactic(auto, unfolding(crate::specs::DateAndTime::time_fields))]
-fn time_fields(alloc: Global, room: usize, words: TimeWords<'_>) -> Result<RawTime, SpecFault>
+fn time_fields(alloc: Global, room: usize, texts: TimeTexts<'_>) -> Result<TimeFields, SpecFault>
     requires { room ≤ most_counted }
-    ensures { GivesUnlessNoMemory time_in result (time_fields room (time_texts_in words.entry)) }
+    ensures { GivesUnlessNoMemory time_in result (time_fields room (time_texts_in texts.entry)) }
 {
-    let hour = read_component(alloc, Slot::Hour, room, words.hour)?;
-    let room = room.saturating_sub(counted(Slot::Hour, &hour));
-    let minute = read_component(alloc, Slot::Minute, room, words.minute)?;
-    let room = room.saturating_sub(counted(Slot::Minute, &minute));
-    let second = read_component(alloc, Slot::Second, room, words.second)?;
-    Ok(RawTime {
+    let hour = read_component(alloc, Slot::Hour, room, texts.hour)?;
+    let room = room.saturating_sub(count_parts(Slot::Hour, &hour));
+    let minute = read_component(alloc, Slot::Minute, room, texts.minute)?;
+    let room = room.saturating_sub(count_parts(Slot::Minute, &minute));
+    let second = read_component(alloc, Slot::Second, room, texts.second)?;
+    Ok(TimeFields {
         hour,
         minute,
         second,

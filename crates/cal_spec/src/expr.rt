@@ -4,10 +4,10 @@ ghost use Rattle.std.specs.Prelude.{◌≡◌, ◌<◌, ◌≤ℤ◌, ◌<ℤ◌
 ghost use Rattle.jiff.specs.Words.{IsOffsetSeconds};
 ghost use Rattle.cal_spec.specs.NormalForm.{AreParts, normal_component, normal_from_end, normal_second};
 
+use crate::fields::{DateFields, Fields, TimeFields};
 use crate::matching::{day_slot, has_local};
 use crate::members::component_has;
 use crate::normal_form::{normal_component, normal_second};
-use crate::raw::{Raw, RawDate, RawTime};
 use crate::slot::Slot;
 use crate::zone_suffix::ZoneSuffix;
 use crate::{Field, Part};
@@ -18,7 +18,7 @@ use std::marker::Model;
 /// A contract sees its fields.
 #[derive(Debug, Drop)]
 pub struct Expr {
-    raw: Raw,
+    fields: Fields,
 }
 
 impl Model for Expr {
@@ -27,9 +27,9 @@ impl Model for Expr {
 
     ghost Value = { Fields };
 
-    ghost view = { λ e. fields_of e.raw };
+    ghost view = { λ e. fields_of e.fields };
 
-    ghost invariant = { λ e. IsExpr (fields_of e.raw) };
+    ghost invariant = { λ e. IsExpr (fields_of e.fields) };
 }
 
 impl Expr {
@@ -39,23 +39,23 @@ impl Expr {
     ghost use Rattle.cal_spec.specs.Match.{matches};
     ghost use Rattle.cal_spec.specs.Members.{members_of, sets_of};
     ghost use Rattle.cal_spec.specs.NormalForm.{normal_fields};
-    ghost use Rattle.cal_spec.specs.SuffixView.{suffix_seen};
+    ghost use Rattle.cal_spec.specs.SuffixView.{shown_suffix};
     ghost use Rattle.cal_spec.specs.ValidFields.{IsValidFields};
     ghost use Rattle.cal_spec.specs.ZoneSuffix.{name_in, offset_said};
 
     /// The normal form of what a text says. Takes no memory.
-    pub(crate) fn normal(raw: Raw) -> Expr
-        requires { IsValidFields (fields_of raw) }
-        ensures { result ≡ normal_fields (fields_of raw) }
+    pub(crate) fn normal(fields: Fields) -> Expr
+        requires { IsValidFields (fields_of fields) }
+        ensures { result ≡ normal_fields (fields_of fields) }
     {
-        let Raw {
+        let Fields {
             weekdays,
             date,
             time,
             zone,
-        } = raw;
+        } = fields;
         Expr {
-            raw: Raw {
+            fields: Fields {
                 weekdays,
                 date: normal_date(date),
                 time: normal_time(time),
@@ -71,7 +71,7 @@ impl Expr {
         requires before { local <ℤ pos seconds_in_all }
         ensures { result ≡ matches (sets_of self.now) (unsigned_abs local) }
     {
-        has_local(&self.raw, local.unsigned_abs())
+        has_local(&self.fields, local.unsigned_abs())
     }
 
     /// Whether a number is a member of a field: of the day, whether it is a day of the month, or its count from the
@@ -80,7 +80,7 @@ impl Expr {
     pub fn has_member(&self, field: Field, value: u16) -> bool
         ensures { result ≡ members_of field (sets_of self.now) value }
     {
-        let Raw { date, time, .. } = &self.raw;
+        let Fields { date, time, .. } = &self.fields;
         match field {
             Field::Year => component_has(Slot::Year, &date.year, value),
             Field::Month => component_has(Slot::Month, &date.month, value),
@@ -97,7 +97,7 @@ impl Expr {
         ensures chosen { result ≡ self.now.weekdays }
         ensures expr { IsExpr self.now }
     {
-        self.raw.weekdays
+        self.fields.weekdays
     }
 
     /// The parts of a component; `None` is `*`. A caller learns that the fields are valid and in their normal form.
@@ -106,7 +106,7 @@ impl Expr {
         ensures parts { option_copied result ≡ component field self.now }
         ensures expr { IsExpr self.now }
     {
-        let Raw { date, time, .. } = &self.raw;
+        let Fields { date, time, .. } = &self.fields;
         let parts = match field {
             Field::Year => &date.year,
             Field::Month => &date.month,
@@ -123,7 +123,7 @@ impl Expr {
     pub fn from_end(&self) -> bool
         ensures { result ≡ self.now.from_end }
     {
-        self.raw.date.from_end
+        self.fields.date.from_end
     }
 
     /// The name of the zone, where it has one. Then [`Expr::zone_offset`] is `None`.
@@ -151,14 +151,14 @@ impl Expr {
     /// The zone, where one is written. A caller learns that the fields are valid and in their normal form.
     #[tactic(auto, unfolding(crate::specs::Fields::fields_of))]
     pub(crate) fn zone(&self) -> Option<&ZoneSuffix>
-        ensures zone { option_map suffix_seen (option_copied result) ≡ self.now.zone }
+        ensures zone { option_map shown_suffix (option_copied result) ≡ self.now.zone }
         ensures expr { IsExpr self.now }
     {
-        self.raw.zone.as_ref()
+        self.fields.zone.as_ref()
     }
 }
 
-fn normal_date(date: RawDate) -> RawDate
+fn normal_date(date: DateFields) -> DateFields
     requires year { AreParts (option_map (λ v. v.items) date.year) }
     requires month { AreParts (option_map (λ v. v.items) date.month) }
     requires day { AreParts (option_map (λ v. v.items) date.day) }
@@ -167,14 +167,14 @@ fn normal_date(date: RawDate) -> RawDate
     ensures day { option_map (λ v. v.items) result.day ≡ normal_component (option_map (λ v. v.items) date.day) }
     ensures from_end { result.from_end ≡ normal_from_end date.from_end (option_map (λ v. v.items) date.day) }
 {
-    let RawDate {
+    let DateFields {
         year,
         month,
         day,
         from_end,
     } = date;
     let from_end = from_end && day.is_some();
-    RawDate {
+    DateFields {
         year: normal_component(year),
         month: normal_component(month),
         day: normal_component(day),
@@ -182,7 +182,7 @@ fn normal_date(date: RawDate) -> RawDate
     }
 }
 
-fn normal_time(time: RawTime) -> RawTime
+fn normal_time(time: TimeFields) -> TimeFields
     requires hour { AreParts (option_map (λ v. v.items) time.hour) }
     requires minute { AreParts (option_map (λ v. v.items) time.minute) }
     requires second { AreParts (option_map (λ v. v.items) time.second) }
@@ -190,12 +190,12 @@ fn normal_time(time: RawTime) -> RawTime
     ensures minute { option_map (λ v. v.items) result.minute ≡ normal_component (option_map (λ v. v.items) time.minute) }
     ensures second { option_map (λ v. v.items) result.second ≡ normal_second (option_map (λ v. v.items) time.second) }
 {
-    let RawTime {
+    let TimeFields {
         hour,
         minute,
         second,
     } = time;
-    RawTime {
+    TimeFields {
         hour: normal_component(hour),
         minute: normal_component(minute),
         second: normal_second(second),

@@ -5,7 +5,7 @@ ghost use Rattle.std.specs.List.{flat_map};
 ghost use Rattle.cal_bytes.specs.Bytes.{Writes, joined};
 ghost use Rattle.cal_zone.specs.InstantText.{offset_text};
 ghost use Rattle.cal_spec.specs.Expr.{component};
-ghost use Rattle.cal_spec.specs.SuffixView.{suffix_seen};
+ghost use Rattle.cal_spec.specs.SuffixView.{shown_suffix};
 ghost use Rattle.cal_spec.specs.ExprText.{component_text, day_lead, expr_text, fields_text, number_text, optional_text, part_text, parts_text, row_text, zone_text};
 
 use crate::weekday_runs::put_weekdays;
@@ -177,7 +177,7 @@ fn put_zone<W: Sink>(out: &mut W, zone: Option<&ZoneSuffix>) -> Result<(), Write
     requires { W.is_failed out.old ≡ false }
     ensures failed { W.is_failed out.new ≡ is_err result }
     ensures bytes { Writes (W.written out.old) (W.written out.new) result
-        (zone_text (option_map suffix_seen (option_copied zone.entry))) }
+        (zone_text (option_map shown_suffix (option_copied zone.entry))) }
 {
     match zone {
         Some(ZoneSuffix::Name(name)) => put_pieces(out, &[b" ", name.as_bytes()]),

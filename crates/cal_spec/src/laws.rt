@@ -12,7 +12,7 @@ ghost use Rattle.cal_spec.specs.Members.{component_has, sets_of};
 ghost use Rattle.cal_spec.specs.NormalForm.{AreNormal, AreNormalOf, AreParts, IsNormalFieldsOf, IsNormalOf, IsNormalSecondOf, IsPart, normal_component, normal_fields, normal_parts, normal_second};
 ghost use Rattle.cal_spec.specs.ValidFields.{IsValidFields};
 ghost use Rattle.cal_spec.specs.WeekdayRuns.{AreRuns, Run, runs_from};
-ghost use Rattle.cal_spec.specs.ZoneSuffix.{Suffix, name_in, offset_said};
+ghost use Rattle.cal_spec.specs.ZoneSuffix.{ZoneSuffix, name_in, offset_said};
 ghost use Rattle.cal_spec.specs.declared.part.Part.{Part};
 ghost use Rattle.cal_spec.specs.declared.slot.Slot.{Slot};
 ghost use Rattle.cal_spec.specs.declared.slot.Slot.TheVariants.{Second};
@@ -77,5 +77,5 @@ pub fn normal_texts_read_back()
 
 /// The zone of an expression is a name or an offset, and never both.
 pub fn zones_are_names_or_offsets()
-    ensures { (suffix : Option Suffix) → (name_in suffix ≡ None) ⊎ (offset_said suffix ≡ None) }
+    ensures { (suffix : Option ZoneSuffix) → (name_in suffix ≡ None) ⊎ (offset_said suffix ≡ None) }
 {}

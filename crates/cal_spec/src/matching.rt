@@ -8,35 +8,35 @@ ghost use Rattle.cal_spec.specs.Match.{date_in, day_number, matches, time_in};
 ghost use Rattle.cal_spec.specs.Members.{sets_of};
 ghost use Rattle.cal_spec.specs.Slot.{day_slot};
 
+use crate::fields::{Fields, TimeFields};
 use crate::members::component_has;
-use crate::raw::{Raw, RawTime};
 use crate::slot::Slot;
 use cal_zone::{DAY, date_of_day};
 use jiff::civil::{Date, Weekday};
 
 /// Whether a local second of the years 1970 to 2199 matches: whether its weekday, date and time all do.
 #[tactic(auto, unfolding(crate::specs::Match::matches))]
-pub fn has_local(raw: &Raw, local: u64) -> bool
+pub fn has_local(fields: &Fields, local: u64) -> bool
     requires { local < seconds_in_all }
-    ensures { result ≡ matches (sets_of (fields_of raw.now)) local }
+    ensures { result ≡ matches (sets_of (fields_of fields.now)) local }
 {
-    has_date(raw, date_of_day(local / DAY)) && has_time(raw, local % DAY)
+    has_date(fields, date_of_day(local / DAY)) && has_time(fields, local % DAY)
 }
 
 /// Whether the date is one of the expression's.
 #[tactic(auto, unfolding(crate::specs::Match::date_in, crate::specs::Members::sets_of, crate::specs::Fields::fields_of))]
-fn has_date(raw: &Raw, date: Date) -> bool
-    ensures { result ≡ date_in (sets_of (fields_of raw.now)) date }
+fn has_date(fields: &Fields, date: Date) -> bool
+    ensures { result ≡ date_in (sets_of (fields_of fields.now)) date }
 {
-    let day = day_number(raw.date.from_end, date);
-    has_weekday(&raw.weekdays, date.weekday())
-        && component_has(Slot::Year, &raw.date.year, date.year().unsigned_abs())
+    let day = day_number(fields.date.from_end, date);
+    has_weekday(&fields.weekdays, date.weekday())
+        && component_has(Slot::Year, &fields.date.year, date.year().unsigned_abs())
         && component_has(
             Slot::Month,
-            &raw.date.month,
+            &fields.date.month,
             date.month().unsigned_abs().into(),
         )
-        && component_has(day_slot(raw.date.from_end), &raw.date.day, day)
+        && component_has(day_slot(fields.date.from_end), &fields.date.day, day)
 }
 
 fn has_weekday(weekdays: &[bool; 7], weekday: Weekday) -> bool
@@ -47,11 +47,11 @@ fn has_weekday(weekdays: &[bool; 7], weekday: Weekday) -> bool
 
 /// Whether that many seconds after midnight are a time of the expression's.
 #[tactic(auto, unfolding(crate::specs::Match::time_in, crate::specs::Members::sets_of, crate::specs::Fields::fields_of))]
-fn has_time(raw: &Raw, second: u64) -> bool
+fn has_time(fields: &Fields, second: u64) -> bool
     requires { second < 86_400 }
-    ensures { result ≡ time_in (sets_of (fields_of raw.now)) second }
+    ensures { result ≡ time_in (sets_of (fields_of fields.now)) second }
 {
-    let time: &RawTime = &raw.time;
+    let time: &TimeFields = &fields.time;
     component_has(Slot::Hour, &time.hour, (second / 3_600) as u16)
         && component_has(Slot::Minute, &time.minute, (second / 60 % 60) as u16)
         && component_has(Slot::Second, &time.second, (second % 60) as u16)

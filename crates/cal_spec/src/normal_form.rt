@@ -67,13 +67,13 @@ fn reduce_each(parts: &mut Vec<Part>)
     ensures { parts.new.items ≡ map reduced parts.old.items }
 {
     for part in parts.iter_mut() {
-        *part = reduced(*part);
+        *part = reduce(*part);
     }
 }
 
 /// The part with its end at the last number that is reached; a point where that is the start. A step of 1 is dropped.
 #[tactic(auto, unfolding(crate::specs::NormalForm::reduced))]
-fn reduced(part: Part) -> Part
+fn reduce(part: Part) -> Part
     requires { IsPart part }
     ensures { result ≡ reduced part }
 {

@@ -1,11 +1,11 @@
-//! The signs of which a part of a component is made, and the value of its numbers.
+//! The symbols of which a part of a component is made, and the value of its numbers.
 
 ghost use Rattle.std.specs.Prelude.{◌≡◌, ◌≤◌, ◌∷◌, [], IsTrue, MatchOption, min, length};
 ghost use Rattle.std.specs.List.{list_all, prefix_len};
 ghost use Rattle.std.specs.Char.{is_ascii_digit};
 ghost use Rattle.std.specs.Str.Parse.{digits_value};
-ghost use Rattle.cal_spec.specs.Parts.{signs};
-ghost use Rattle.cal_spec.specs.Symbol.{sign_of};
+ghost use Rattle.cal_spec.specs.Parts.{symbols};
+ghost use Rattle.cal_spec.specs.Symbol.{symbol_of};
 
 use cal_span::whole_of;
 
@@ -26,7 +26,7 @@ pub(crate) enum Symbol<'a> {
 /// The first symbol of the text and what comes after it.
 pub(crate) fn first_symbol(text: &[u8]) -> Option<(Symbol<'_>, &[u8])>
     ensures { MatchOption result (text.now ≡ [])
-        (λ found. signs text.now ≡ sign_of found.0 ∷ signs found.1.now) }
+        (λ found. symbols text.now ≡ symbol_of found.0 ∷ symbols found.1.now) }
 {
     match text {
         [] => None,

@@ -2,7 +2,7 @@
 
 ghost use Rattle.std.specs.Prelude.{◌≡◌};
 ghost use Rattle.std.specs.Option.{option_map};
-ghost use Rattle.cal_spec.specs.Parts.{signs, starts_with_point, bad, is_time, number_due, with_step, after_end, after_start, part_of, with_century, with_values, is_within, is_outside, is_backward, is_zero, is_idle, fault_of};
+ghost use Rattle.cal_spec.specs.Parts.{symbols, starts_with_point, bad, is_time, number_due, with_step, after_end, after_start, part_of, with_century, with_values, is_within, is_outside, is_backward, is_zero, is_idle, fault_of};
 ghost use Rattle.cal_spec.specs.Reads.{Gives};
 
 use crate::numbers::{Symbol, first_symbol, value_of};
@@ -74,8 +74,8 @@ fn bad_shape(slot: Slot) -> SpecFault
 
 /// The number that is expected here, and what comes after it.
 fn read_number(slot: Slot, text: &[u8]) -> Result<(u16, &[u8]), SpecFault>
-    ensures { Gives (λ found. record { number = found.0; after = signs found.1.now }) result
-        (number_due slot (signs text.now)) }
+    ensures { Gives (λ found. record { number = found.0; after = symbols found.1.now }) result
+        (number_due slot (symbols text.now)) }
 {
     let Some((Symbol::Digits(digits), after)) = first_symbol(text) else {
         return Err(bad_shape(slot));
@@ -92,7 +92,7 @@ fn read_number(slot: Slot, text: &[u8]) -> Result<(u16, &[u8]), SpecFault>
 
 /// Whether the text begins with a point that is followed by none.
 fn begins_with_point(text: &[u8]) -> bool
-    ensures { result ≡ starts_with_point (signs text.now) }
+    ensures { result ≡ starts_with_point (symbols text.now) }
 {
     matches!(first_symbol(text), Some((Symbol::Point, _)))
 }
@@ -100,7 +100,7 @@ fn begins_with_point(text: &[u8]) -> bool
 /// What comes after the first number.
 #[tactic(auto, unfolding(crate::specs::Parts::after_start))]
 fn after_start(slot: Slot, start: u16, text: &[u8]) -> Result<Part, SpecFault>
-    ensures { Gives (λ part. part) result (after_start slot start (signs text.now)) }
+    ensures { Gives (λ part. part) result (after_start slot start (symbols text.now)) }
 {
     match first_symbol(text) {
         None => Ok(Part {
@@ -120,7 +120,7 @@ fn after_start(slot: Slot, start: u16, text: &[u8]) -> Result<Part, SpecFault>
 /// What comes after the end of a range.
 #[tactic(auto, unfolding(crate::specs::Parts::after_end))]
 fn after_end(slot: Slot, start: u16, end: u16, text: &[u8]) -> Result<Part, SpecFault>
-    ensures { Gives (λ part. part) result (after_end slot start end (signs text.now)) }
+    ensures { Gives (λ part. part) result (after_end slot start end (symbols text.now)) }
 {
     match first_symbol(text) {
         None => Ok(Part {
@@ -136,7 +136,7 @@ fn after_end(slot: Slot, start: u16, end: u16, text: &[u8]) -> Result<Part, Spec
 /// What comes after a slash: the step, and nothing else.
 #[tactic(auto, unfolding(crate::specs::Parts::with_step))]
 fn with_step(slot: Slot, start: u16, end: Option<u16>, text: &[u8]) -> Result<Part, SpecFault>
-    ensures { Gives (λ part. part) result (with_step slot start end (signs text.now)) }
+    ensures { Gives (λ part. part) result (with_step slot start end (symbols text.now)) }
 {
     let (step, after) = read_number(slot, text)?;
     if first_symbol(after).is_some() {

@@ -5,15 +5,15 @@ ghost use Rattle.std.specs.Option.{option_copied};
 ghost use Rattle.cal_spec.specs.Expr.{expr_in};
 ghost use Rattle.cal_spec.specs.Fields.{fields_of};
 ghost use Rattle.cal_spec.specs.Grammar.{fields_at, fields_in};
-ghost use Rattle.cal_spec.specs.PlacesView.{places_seen};
+ghost use Rattle.cal_spec.specs.RolesView.{shown_roles};
 ghost use Rattle.cal_spec.specs.Reads.{GivesUnlessNoMemory};
 ghost use Rattle.cal_spec.specs.ValidFields.{IsValidFields};
 ghost use Rattle.cal_spec.specs.Weekdays.{weekdays_in};
 
 use crate::date_and_time::{read_date, read_time, room_after};
-use crate::raw::Raw;
+use crate::fields::Fields;
 use crate::weekdays::read_weekdays;
-use crate::words::{Places, find_places};
+use crate::words::{Roles, find_roles};
 use crate::zone_suffix::read_suffix;
 use crate::{Expr, SpecFault};
 use std::alloc::Global;
@@ -32,8 +32,8 @@ const MOST_TEXT_BYTES: usize = 4096;
 pub fn read_expr(alloc: Global, text: &str) -> Result<Expr, SpecFault>
     ensures { GivesUnlessNoMemory (λ expr. expr) result (expr_in text.now) }
 {
-    let raw = read_fields(alloc, text)?;
-    Ok(Expr::normal(raw))
+    let fields = read_fields(alloc, text)?;
+    Ok(Expr::normal(fields))
 }
 
 /// The fields of a text, `[weekdays] [date] [time] [zone]` or `shorthand [zone]`, as it writes them (systemd.time(7),
@@ -42,29 +42,29 @@ pub fn read_expr(alloc: Global, text: &str) -> Result<Expr, SpecFault>
 /// The fault is the first one: `TextTooLong` above 4,096 bytes, then `Empty` where there is no word, then that of the
 /// words from the left. `NoMemory` comes only where memory was refused; nothing is said then.
 #[tactic(auto, unfolding(crate::specs::Grammar::fields_in))]
-fn read_fields(alloc: Global, text: &str) -> Result<Raw, SpecFault>
+fn read_fields(alloc: Global, text: &str) -> Result<Fields, SpecFault>
     ensures fields { GivesUnlessNoMemory fields_of result (fields_in text.now) }
-    ensures valid { IfOk result (λ raw. IsValidFields (fields_of raw)) }
+    ensures valid { IfOk result (λ fields. IsValidFields (fields_of fields)) }
 {
     if text.len() > MOST_TEXT_BYTES {
         return Err(SpecFault::TextTooLong);
     }
-    match find_places(text.as_bytes()) {
-        Some(places) => read_places(alloc, places),
+    match find_roles(text.as_bytes()) {
+        Some(roles) => read_roles(alloc, roles),
         None => Err(SpecFault::Empty),
     }
 }
 
-/// The fields of the texts at their places, judged from the left.
+/// The fields of the texts by their roles, judged from the left.
 #[tactic(auto, unfolding(crate::specs::Grammar::fields_at, crate::specs::Fields::fields_of))]
-fn read_places(alloc: Global, places: Places<'_>) -> Result<Raw, SpecFault>
-    ensures { GivesUnlessNoMemory fields_of result (fields_at (places_seen places.entry)) }
+fn read_roles(alloc: Global, roles: Roles<'_>) -> Result<Fields, SpecFault>
+    ensures { GivesUnlessNoMemory fields_of result (fields_at (shown_roles roles.entry)) }
 {
-    let weekdays = chosen_weekdays(alloc, places.weekdays)?;
-    let date = read_date(alloc, places.date)?;
-    let time = read_time(alloc, room_after(&date), places.time)?;
-    let zone = read_suffix(alloc, places.rest)?;
-    Ok(Raw {
+    let weekdays = chosen_weekdays(alloc, roles.weekdays)?;
+    let date = read_date(alloc, roles.date)?;
+    let time = read_time(alloc, room_after(&date), roles.time)?;
+    let zone = read_suffix(alloc, roles.rest)?;
+    Ok(Fields {
         weekdays,
         date,
         time,

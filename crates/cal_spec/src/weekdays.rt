@@ -108,14 +108,14 @@ fn letters_len(word: &[u8]) -> usize
     ensures value { result ≡ position_or_len is_no_letter word.now }
     ensures within { result ≤ length word.now }
 {
-    match place_after_letters(word) {
+    match index_after_letters(word) {
         Some(index) => index,
         None => word.len(),
     }
 }
 
-/// The place of the first byte that is no letter.
-fn place_after_letters(word: &[u8]) -> Option<usize>
+/// The index of the first byte that is no letter.
+fn index_after_letters(word: &[u8]) -> Option<usize>
     ensures { result ≡ position is_no_letter word.now }
 {
     word.iter().position(|byte| !byte.is_ascii_alphabetic())

@@ -4,16 +4,16 @@ ghost use Rattle.std.specs.Prelude.{◌≡◌, ◌∷◌, [], MatchOption};
 ghost use Rattle.std.specs.List.{list_any, position};
 ghost use Rattle.std.specs.Option.{option_copied, option_map, unwrap_or};
 ghost use Rattle.cal_spec.specs.DateAndTime.{is_colon};
-ghost use Rattle.cal_spec.specs.PlacesView.{places_seen};
-ghost use Rattle.cal_spec.specs.Words.{is_blank, words, after_date, after_weekdays, date_or_time, places_of};
+ghost use Rattle.cal_spec.specs.RolesView.{shown_roles};
+ghost use Rattle.cal_spec.specs.Words.{is_blank, words, after_date, after_weekdays, date_or_time, roles_of};
 
 use crate::pieces::cut_at;
 use crate::shorthand::{ANY_DATE, MIDNIGHT, find_shorthand};
 use cal_zone::{begins_with_letter, begins_zone};
 
-/// The texts at the places of an expression, and the words after these.
+/// The texts of an expression by their roles, and the words after these.
 #[derive(Clone, Copy)]
-pub(crate) struct Places<'a> {
+pub(crate) struct Roles<'a> {
     /// The weekday list, if there is one.
     pub(crate) weekdays: Option<&'a [u8]>,
     /// The date, or `*-*-*`.
@@ -24,16 +24,16 @@ pub(crate) struct Places<'a> {
     pub(crate) rest: &'a [u8],
 }
 
-/// The places of the words of a text, or `None` where it has none (systemd.time(7), Calendar Events). A shorthand
+/// The roles of the words of a text, or `None` where it has none (systemd.time(7), Calendar Events). A shorthand
 /// stands for the texts of its meaning.
-#[tactic(auto, unfolding(crate::specs::Words::places_of))]
-pub(crate) fn find_places(text: &[u8]) -> Option<Places<'_>>
-    ensures { option_map places_seen result ≡ places_of (words text.now) }
+#[tactic(auto, unfolding(crate::specs::Words::roles_of))]
+pub(crate) fn find_roles(text: &[u8]) -> Option<Roles<'_>>
+    ensures { option_map shown_roles result ≡ roles_of (words text.now) }
 {
     let (word, after) = first_word(text)?;
     if let Some(shorthand) = find_shorthand(word) {
         let meaning = shorthand.meaning();
-        return Some(Places {
+        return Some(Roles {
             weekdays: meaning.weekdays,
             date: meaning.date,
             time: meaning.time,
@@ -53,7 +53,7 @@ pub(crate) fn first_word(text: &[u8]) -> Option<(&[u8], &[u8])>
 {
     let mut rest = Some(text);
     while let Some(texts) = rest {
-        let (piece, after) = cut_at(texts, blank_place(texts));
+        let (piece, after) = cut_at(texts, blank_index(texts));
         if !piece.is_empty() {
             return Some((piece, or_empty(after)));
         }
@@ -62,8 +62,8 @@ pub(crate) fn first_word(text: &[u8]) -> Option<(&[u8], &[u8])>
     None
 }
 
-/// The place of the first blank.
-fn blank_place(text: &[u8]) -> Option<usize>
+/// The index of the first blank.
+fn blank_index(text: &[u8]) -> Option<usize>
     ensures { result ≡ position is_blank text.now }
 {
     text.iter().position(|byte| *byte == b' ' || *byte == b'\t')
@@ -79,13 +79,13 @@ fn or_empty(text: Option<&[u8]>) -> &[u8]
     }
 }
 
-/// The places after the weekdays: a word that begins with a letter or a sign is a zone.
-fn after_weekdays<'a>(weekdays: Option<&'a [u8]>, text: &'a [u8]) -> Places<'a>
-    ensures { places_seen result ≡ after_weekdays (option_copied weekdays.entry) (words text.now) }
+/// The roles after the weekdays: a word that begins with a letter or a sign is a zone.
+fn after_weekdays<'a>(weekdays: Option<&'a [u8]>, text: &'a [u8]) -> Roles<'a>
+    ensures { shown_roles result ≡ after_weekdays (option_copied weekdays.entry) (words text.now) }
 {
     match first_word(text) {
         Some((word, rest)) if !begins_zone(word) => date_or_time(weekdays, word, rest),
-        _ => Places {
+        _ => Roles {
             weekdays,
             date: ANY_DATE,
             time: MIDNIGHT,
@@ -94,14 +94,14 @@ fn after_weekdays<'a>(weekdays: Option<&'a [u8]>, text: &'a [u8]) -> Places<'a>
     }
 }
 
-/// The places from the date on, or from the time on where there is no date: a word with a colon is the time, and any
+/// The roles from the date on, or from the time on where there is no date: a word with a colon is the time, and any
 /// other is the date.
-fn date_or_time<'a>(weekdays: Option<&'a [u8]>, word: &'a [u8], rest: &'a [u8]) -> Places<'a>
-    ensures { places_seen result
+fn date_or_time<'a>(weekdays: Option<&'a [u8]>, word: &'a [u8], rest: &'a [u8]) -> Roles<'a>
+    ensures { shown_roles result
         ≡ date_or_time (option_copied weekdays.entry) word.now (words rest.now) }
 {
     if has_colon(word) {
-        return Places {
+        return Roles {
             weekdays,
             date: ANY_DATE,
             time: word,
@@ -111,19 +111,19 @@ fn date_or_time<'a>(weekdays: Option<&'a [u8]>, word: &'a [u8], rest: &'a [u8]) 
     after_date(weekdays, word, rest)
 }
 
-/// The places after the date: a word that begins with a letter or a sign is a zone, and any other is the time.
-fn after_date<'a>(weekdays: Option<&'a [u8]>, date: &'a [u8], text: &'a [u8]) -> Places<'a>
-    ensures { places_seen result
+/// The roles after the date: a word that begins with a letter or a sign is a zone, and any other is the time.
+fn after_date<'a>(weekdays: Option<&'a [u8]>, date: &'a [u8], text: &'a [u8]) -> Roles<'a>
+    ensures { shown_roles result
         ≡ after_date (option_copied weekdays.entry) date.now (words text.now) }
 {
     match first_word(text) {
-        Some((time, rest)) if !begins_zone(time) => Places {
+        Some((time, rest)) if !begins_zone(time) => Roles {
             weekdays,
             date,
             time,
             rest,
         },
-        _ => Places {
+        _ => Roles {
             weekdays,
             date,
             time: MIDNIGHT,

@@ -3,7 +3,7 @@
 ghost use Rattle.std.specs.Prelude.{◌≡◌, IsTrue};
 ghost use Rattle.std.specs.Option.{option_map};
 ghost use Rattle.cal_spec.specs.Reads.{GivesUnlessNoMemory};
-ghost use Rattle.cal_spec.specs.SuffixView.{suffix_seen};
+ghost use Rattle.cal_spec.specs.SuffixView.{shown_suffix};
 ghost use Rattle.cal_spec.specs.Words.{words};
 ghost use Rattle.cal_zone.specs.ZoneName.{is_zone_name};
 ghost use Rattle.cal_spec.specs.ZoneSuffix.{kept_name, suffix_in};
@@ -27,7 +27,7 @@ pub enum ZoneSuffix {
 /// other word there is a `StrayWord`.
 #[tactic(auto, unfolding(crate::specs::ZoneSuffix::suffix_of))]
 pub(crate) fn read_suffix(alloc: Global, text: &[u8]) -> Result<Option<ZoneSuffix>, SpecFault>
-    ensures { GivesUnlessNoMemory (λ suffix. option_map suffix_seen suffix) result (suffix_in (words text.now)) }
+    ensures { GivesUnlessNoMemory (λ suffix. option_map shown_suffix suffix) result (suffix_in (words text.now)) }
 {
     let Some((word, after)) = first_word(text) else {
         return Ok(None);

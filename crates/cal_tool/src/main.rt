@@ -37,7 +37,7 @@ fn main(rt: HostRuntime) -> ExitCode {
         Err(error) => return refuse(&mut err, &stop_of(rt.alloc(), &error)),
     };
     let (Ok(words), Ok(buffer)) = (
-        borrowed(rt.alloc(), words.as_slice()),
+        borrow_words(rt.alloc(), words.as_slice()),
         BufWriter::with_capacity(rt.alloc(), capacity, out),
     ) else {
         return refuse(&mut err, &Stop::Run(RunFault::NoMemory));
@@ -54,7 +54,7 @@ fn given_words<R: Env + AllocGlobal>(rt: &R) -> io::Result<Vec<String>> {
 }
 
 /// The words as they are read.
-fn borrowed<'a>(alloc: Global, words: &'a [String]) -> Result<Vec<&'a str>, AllocError> {
+fn borrow_words<'a>(alloc: Global, words: &'a [String]) -> Result<Vec<&'a str>, AllocError> {
     words.iter().map(|word| word.as_str()).collect(alloc)
 }
 

@@ -12,12 +12,12 @@ use Rattle.cal_bytes.specs.declared.whole.WholeFault.TheVariants as whole
 use Rattle.cal_zone.specs.declared.zone.Zone.{Zone as ClockZone}
 use Rattle.cal_zone.specs.declared.zone_fault.ZoneFault.TheVariants as zone
 use Rattle.cal_read.specs.TimerText.{most_file_bytes}
-use Rattle.cal_command.specs.Ask.{Wanted, CommandSaid, ZoneSaid, no_memory}
+use Rattle.cal_command.specs.Ask.{Ask, CommandFault, ZoneItem, no_memory}
 use Rattle.cal_command.specs.CommandLine.{IsAskOf, asked_in, takes_words}
 use Rattle.cal_work.specs.Outcome.{World, ZoneFound, and_then, loaded, or_load_stop, table_by, local_by, present_by, input_if, run_by, asked_at, outcome, outcome_of}
 use Rattle.cal_report.specs.Report.{Report, file_name, report}
-use Rattle.cal_request.specs.Request.{Asked, is_timer}
-use Rattle.cal_work.specs.Stop.{Said, command_stop, load_stop, memory_stop}
+use Rattle.cal_request.specs.Request.{Request, is_timer}
+use Rattle.cal_work.specs.Stop.{Stop, command_stop, load_stop, memory_stop}
 use Rattle.cal_work.specs.System.{Known, Seen, IsTime, SeesBytes, Sees, is_cut}
 use Rattle.cal_work.specs.WorkLaw.{TellsAll, taken_of, known_seen, known_time, known_zones, known_world, known_outcome, IsOr}
 use Rattle.cal_work.specs.Works.{SeesZone, SeesZones, SeesIf, SeesFile, FitsAt, Fits, FitsWords}
@@ -59,14 +59,14 @@ known_open limit (Some (Some all)) came some h = (taken_of (nat_le (length all) 
 
 -- Steps in a row
 
-and_then_or : {A B : Type 0} (next other : A → Result B Said) (r s : Result A Said) → IsOr r s → ((x : A) → r ≡ Ok x → IsOr (next x) (other x)) → IsOr (and_then next r) (and_then other s)
+and_then_or : {A B : Type 0} (next other : A → Result B Stop) (r s : Result A Stop) → IsOr r s → ((x : A) → r ≡ Ok x → IsOr (next x) (other x)) → IsOr (and_then next r) (and_then other s)
 and_then_or next other (Ok x) s (inl e) h = rw (sym e) (h x refl)
 and_then_or next other (Err said) s (inl e) h = rw (sym e) (inl refl)
 and_then_or next other r s (inr e) h = rw e (inr refl)
 
 -- Zone files
 
-after_load : (known : Known) (items : List ZoneSaid) (found : List ZoneFound) (name : List ℕ)
+after_load : (known : Known) (items : List ZoneItem) (found : List ZoneFound) (name : List ℕ)
     → ((more : ZoneMap) → SeesZones known more items found → IsOr (table_by more items found) (table_by more items (known_zones known items found)))
     → (r : Result ZoneMap LoadFault) → IfOk r (λ more. SeesZones known more items found)
     → IsOr (and_then (λ more. table_by more items found) (or_load_stop name r)) (and_then (λ more. table_by more items (known_zones known items found)) (or_load_stop name r))
@@ -74,13 +74,13 @@ after_load known items found name later (Ok more) h = later more h
 after_load known items found name later (Err fault) h = inl refl
 
 -- memory was refused to the reads of a file, whose name may be refused before
-zone_unread : {A : Type 0} (next other : ZoneMap → Result A Said) (table : ZoneMap) (item : ZoneSaid) (f : ZoneFound) (c : Result (List ℕ) WholeFault) (seen : Seen) (b : Bool) → is_zone_name item.name ≡ b → f.seen ≡ Some (Err whole.NoMemory) → seen ≡ Some c
+zone_unread : {A : Type 0} (next other : ZoneMap → Result A Stop) (table : ZoneMap) (item : ZoneItem) (f : ZoneFound) (c : Result (List ℕ) WholeFault) (seen : Seen) (b : Bool) → is_zone_name item.name ≡ b → f.seen ≡ Some (Err whole.NoMemory) → seen ≡ Some c
     → IsOr (and_then next (or_load_stop item.name (loaded table item f))) (and_then other (or_load_stop item.name (loaded table item (record { seen = seen; zone = f.zone }))))
 unfolding loaded
 zone_unread next other table item f c seen true named e o = rw (e, named) (inr refl)
 zone_unread next other table item f c seen false named e o = rw (e, o, named) (inl refl)
 
-zones_known : (known : Known) (table : ZoneMap) (items : List ZoneSaid) (found : List ZoneFound) → TellsAll known → SeesZones known table items found → IsOr (table_by table items found) (table_by table items (known_zones known items found))
+zones_known : (known : Known) (table : ZoneMap) (items : List ZoneItem) (found : List ZoneFound) → TellsAll known → SeesZones known table items found → IsOr (table_by table items found) (table_by table items (known_zones known items found))
 unfolding table_by known_zones
 zones_known known table [] found all h = inl refl
 zones_known known table (item ∷ items) [] all h = absurd h
@@ -100,7 +100,7 @@ present_known (Some now) clock time some h = refl
 present_known None clock None some h = absurd (false≢true some)
 present_known None clock (Some t) some h = rw h refl
 
-run_known : (known : Known) (asked : Asked) (seen : Seen) (t : Bool) → is_timer asked.verb ≡ t → TellsAll known → SeesIf t known (file_name asked) seen
+run_known : (known : Known) (asked : Request) (seen : Seen) (t : Bool) → is_timer asked.verb ≡ t → TellsAll known → SeesIf t known (file_name asked) seen
     → IsOr (run_by asked seen) (run_by asked (known_seen most_file_bytes (known.file (file_name asked))))
 unfolding run_by
 run_known known asked seen false is all h = rw is (inl refl)
@@ -112,19 +112,19 @@ run_known known asked seen true is all h =
 
 -- The whole
 
-wanted_known : (known : Known) (wanted : Wanted) (world : World) → TellsAll known → Fits known wanted world → IsOr (outcome_of wanted world) (outcome (known_world known wanted world))
+ask_known : (known : Known) (ask : Ask) (world : World) → TellsAll known → Fits known ask world → IsOr (outcome_of ask world) (outcome (known_world known ask world))
 unfolding outcome outcome_of known_world
-wanted_known known wanted world all fits =
-    and_then_or _ _ _ _ (zones_known known empty wanted.zones world.zones all fits.zones) (λ table is_table.
+ask_known known ask world all fits =
+    and_then_or _ _ _ _ (zones_known known empty ask.zones world.zones all fits.zones) (λ table is_table.
     let after = rw is_table at fits.after in
-    and_then_or _ _ (local_by wanted.local table world.local) (local_by wanted.local table world.local) (inl refl) (λ local is_local.
+    and_then_or _ _ (local_by ask.local table world.local) (local_by ask.local table world.local) (inl refl) (λ local is_local.
     let later = rw is_local at after in
-    and_then_or _ _ (present_by wanted.now world.clock) (present_by wanted.now (known_time known.time)) (inl (present_known wanted.now world.clock known.time all.time later.1)) (λ now is_now.
-    run_known known (asked_at wanted table local now) world.file (is_timer wanted.verb) refl all (rw is_now at later.2))))
+    and_then_or _ _ (present_by ask.now world.clock) (present_by ask.now (known_time known.time)) (inl (present_known ask.now world.clock known.time all.time later.1)) (λ now is_now.
+    run_known known (asked_at ask table local now) world.file (is_timer ask.verb) refl all (rw is_now at later.2))))
 
-said_known : (known : Known) (world : World) (said : Result Wanted CommandSaid) → TellsAll known → world.said ≡ said → IfOk said (λ wanted. Fits known wanted world) → IsOr (outcome world) (known_outcome known said world)
+said_known : (known : Known) (world : World) (said : Result Ask CommandFault) → TellsAll known → world.said ≡ said → IfOk said (λ ask. Fits known ask world) → IsOr (outcome world) (known_outcome known said world)
 unfolding outcome outcome_of known_world
-said_known known world (Ok wanted) all is fits = rw is (wanted_known known wanted world all fits)
+said_known known world (Ok ask) all is fits = rw is (ask_known known ask world all fits)
 said_known known world (Err said) all is fits = rw is (inl refl)
 
 pub known_decides : (known : Known) (words : List (List ℕ)) (world : World) → TellsAll known → takes_words words ≡ true → FitsWords known words world → IsOr (outcome world) (known_outcome known (asked_in words) world)

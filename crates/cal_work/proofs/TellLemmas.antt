@@ -7,7 +7,7 @@ use Rattle.cal_bytes.specs.Bytes.{AppendsFront, Writes}
 use Rattle.cal_bytes.specs.Output.{Settles}
 use Rattle.cal_work.specs.Outcome.{World, outcome, out_text, err_text, outcome_status, ended_status}
 use Rattle.cal_report.specs.Report.{Report}
-use Rattle.cal_work.specs.Stop.{Said, exit_status, fault_stop, outlet_of, said_of, text_of}
+use Rattle.cal_work.specs.Stop.{Stop, exit_status, fault_stop, outlet_of, shown_stop, text_of}
 use Rattle.cal_work.specs.System.{Known}
 use Rattle.cal_work.specs.WorkSteps.{StopsAs, StopEnds, EndsAs, AnsweredWords, IsSettled, TellsOn, TellsStop, status_by, WritesOf}
 use Rattle.cal_work.specs.Works.{FitsWords, Reaches, TellsFault, Tells, Works}
@@ -20,7 +20,7 @@ use Rattle.cal_work.specs.declared.zone_files.LoadFault.TheVariants.{ReadFailed,
 use Rattle.cal_zone.specs.declared.zone_fault.ZoneFault.TheVariants as zone
 use Rattle.cal_work.specs.declared.stop.Outlet.{Outlet}
 use Rattle.cal_work.specs.declared.stop.Outlet.TheVariants.{OnOut, OnErr, Later}
-use Rattle.cal_work.specs.declared.stop.Stop.{Stop}
+use Rattle.cal_work.specs.declared.stop.Stop as declared_stop
 use Rattle.cal_work.specs.declared.stop.Stop.TheVariants.{Command, Zones, LocalRule, LocalName, Clock, Open, Run}
 use Rattle.cal_work.specs.declared.words_to_bytes.Ended.{Ended}
 use Rattle.cal_report.proofs.AnswerLemmas.{writes_nothing}
@@ -29,22 +29,22 @@ use Rattle.cal_report.proofs.ReportLemmas.{nothing_front, whole_front}
 -- What was written of a stop
 
 -- a run that was cut
-fault_written : (fault : RunFault) (come : Result Report Said) (out out' err err' : Option (List ℕ)) → ended_status {T = Unit} (Err fault) come ≡ 1 → AppendsFront out out' (out_text come) → AppendsFront err err' (err_text come)
+fault_written : (fault : RunFault) (come : Result Report Stop) (out out' err err' : Option (List ℕ)) → ended_status {T = Unit} (Err fault) come ≡ 1 → AppendsFront out out' (out_text come) → AppendsFront err err' (err_text come)
     → WritesOf {T = Unit} (Err fault) (fault_stop fault).status come out out' err err'
 fault_written OutFailed come out out' err err' status o e = record { by_status = refl; out_bytes = o; err_bytes = e }
 fault_written ErrFailed come out out' err err' status o e = record { by_status = status; out_bytes = o; err_bytes = e }
 fault_written NoMemory come out out' err err' status o e = record { by_status = refl; out_bytes = o; err_bytes = e }
 
-same_status : (r : Result Unit RunFault) (said : Said) → ended_status r (Err said) ≡ status_by r said.status
+same_status : (r : Result Unit RunFault) (said : Stop) → ended_status r (Err said) ≡ status_by r said.status
 same_status (Ok done) said = refl
 same_status (Err OutFailed) said = refl
 same_status (Err ErrFailed) said = refl
 same_status (Err NoMemory) said = refl
 
 -- what is written of a stop is what is said of it
-TextsFit : Outlet → Stop → Type 0
-TextsFit OnOut stop = ((said_of stop).out ≡ text_of stop) × ((said_of stop).err ≡ [])
-TextsFit OnErr stop = ((said_of stop).out ≡ []) × ((said_of stop).err ≡ text_of stop)
+TextsFit : Outlet → declared_stop.Stop → Type 0
+TextsFit OnOut stop = ((shown_stop stop).out ≡ text_of stop) × ((shown_stop stop).err ≡ [])
+TextsFit OnErr stop = ((shown_stop stop).out ≡ []) × ((shown_stop stop).err ≡ text_of stop)
 TextsFit (Later fault) stop = Unit {0}
 
 command_fits : (fault : CommandFault) → TextsFit (outlet_of (Command fault)) (Command fault)
@@ -57,7 +57,7 @@ command_fits command.BadZones = (refl, refl)
 command_fits command.BadLocal = (refl, refl)
 command_fits command.NoMemory = tt
 
-texts_fit : (stop : Stop) → TextsFit (outlet_of stop) stop
+texts_fit : (stop : declared_stop.Stop) → TextsFit (outlet_of stop) stop
 unfolding TextsFit
 texts_fit (Command fault) = command_fits fault
 texts_fit (Zones name ReadFailed) = (refl, refl)
@@ -73,21 +73,21 @@ texts_fit Clock = (refl, refl)
 texts_fit (Open path) = (refl, refl)
 texts_fit (Run fault) = tt
 
-module _ (stop : Stop) (r : Result Unit RunFault) (come : Result Report Said) (out out1 out' err err1 err' : Option (List ℕ)) (s : StopsAs stop come) (at_out : out1 ≡ out) (at_err : err1 ≡ err) where
+module _ (stop : declared_stop.Stop) (r : Result Unit RunFault) (come : Result Report Stop) (out out1 out' err err1 err' : Option (List ℕ)) (s : StopsAs stop come) (at_out : out1 ≡ out) (at_err : err1 ≡ err) where
   -- a stop before any run, by its outlet
-  early_written : (outlet : Outlet) → outlet_of stop ≡ outlet → TextsFit outlet stop → TellsOn outlet (text_of stop) r out1 out' err1 err' → WritesOf r (said_of stop).status come out out' err err'
+  early_written : (outlet : Outlet) → outlet_of stop ≡ outlet → TextsFit outlet stop → TellsOn outlet (text_of stop) r out1 out' err1 err' → WritesOf r (shown_stop stop).status come out out' err err'
   unfolding TextsFit
   early_written OnOut is fits (w, same) =
-      let stopped : come ≡ Err (said_of stop) = s.said (rw is refl) in
+      let stopped : come ≡ Err (shown_stop stop) = s.said (rw is refl) in
       rw stopped (record {
-        by_status = same_status r (said_of stop);
+        by_status = same_status r (shown_stop stop);
         out_bytes = rw fits.0 (rw at_out at w);
         err_bytes = rw (fits.1, same ∙ at_err) (writes_nothing err r);
       })
   early_written OnErr is fits (w, same) =
-      let stopped : come ≡ Err (said_of stop) = s.said (rw is refl) in
+      let stopped : come ≡ Err (shown_stop stop) = s.said (rw is refl) in
       rw stopped (record {
-        by_status = same_status r (said_of stop);
+        by_status = same_status r (shown_stop stop);
         out_bytes = rw (fits.0, same ∙ at_out) (writes_nothing out r);
         err_bytes = rw fits.1 (rw at_err at w);
       })
@@ -100,8 +100,8 @@ module _ (stop : Stop) (r : Result Unit RunFault) (come : Result Report Said) (o
         err_bytes = rw (same_err ∙ at_err) (nothing_front err (err_text come));
       })
 
-pub tells_stop : (stop : Stop) (r : Result Unit RunFault) (out1 out' err1 err' : Option (List ℕ)) → TellsStop stop r out1 out' err1 err' → (come : Result Report Said) (out err : Option (List ℕ)) → StopEnds stop come out out1 err err1
-    → WritesOf r (said_of stop).status come out out' err err'
+pub tells_stop : (stop : declared_stop.Stop) (r : Result Unit RunFault) (out1 out' err1 err' : Option (List ℕ)) → TellsStop stop r out1 out' err1 err' → (come : Result Report Stop) (out err : Option (List ℕ)) → StopEnds stop come out out1 err err1
+    → WritesOf r (shown_stop stop).status come out out' err err'
 tells_stop (Run fault) r out1 out' err1 err' t come out err s =
     rw (t.0, t.1, t.2) (fault_written fault come out out1 err err1 s.0 s.1 s.2)
 tells_stop (Command fault) r out1 out' err1 err' t come out err s = early_written (Command fault) r come out out1 out' err err1 err' s.0 s.1 s.2 (outlet_of (Command fault)) refl (texts_fit (Command fault)) t
@@ -142,14 +142,14 @@ err_before (Ok done) (Ok settled) a b text is w = w
 err_before (Ok done) (Err fault) a b text is w = whole_front a b text w
 err_before (Err fault) settled a b text is w = rw is w
 
-settled_status : (r settled : Result Unit RunFault) (status : ℕ) (come : Result Report Said) → IsSettled r settled → ended_status r come ≡ status_by r status → status_by settled status ≡ ended_status settled come
+settled_status : (r settled : Result Unit RunFault) (status : ℕ) (come : Result Report Stop) → IsSettled r settled → ended_status r come ≡ status_by r status → status_by settled status ≡ ended_status settled come
 settled_status (Ok done) (Ok settled) status come is same = sym same
 settled_status (Ok done) (Err fault) status come is same = rw is refl
 settled_status (Err fault) settled status come is same = rw is (sym same)
 
-pub works : (known : Known) (words : List (List ℕ)) (answered : Result Status Stop) (out out1 out2 reached err err1 err2 err3 : Option (List ℕ)) (failed : Bool) (written settled : Result Unit RunFault) (status last : ℕ)
+pub works : (known : Known) (words : List (List ℕ)) (answered : Result Status declared_stop.Stop) (out out1 out2 reached err err1 err2 err3 : Option (List ℕ)) (failed : Bool) (written settled : Result Unit RunFault) (status last : ℕ)
     → AnsweredWords known words answered out out1 err err1
-    → ((come : Result Report Said) (a b : Option (List ℕ)) → EndsAs answered come a out1 b err1 → WritesOf written status come a out2 b err2)
+    → ((come : Result Report Stop) (a b : Option (List ℕ)) → EndsAs answered come a out1 b err1 → WritesOf written status come a out2 b err2)
     → ((before : Option (List ℕ)) (text : List ℕ) → Writes before out2 written text → Reaches before reached settled text)
     → IsSettled written settled → TellsFault err2 err3 failed settled → last ≡ status_by settled status
     → Works known words out reached err err3 failed (record { status = last; written = settled })

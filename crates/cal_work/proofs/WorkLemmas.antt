@@ -24,48 +24,48 @@ use Rattle.cal_zone.specs.declared.zone_fault.ZoneFault.TheVariants as zone
 use Rattle.cal_read.specs.StampFault.{words_of}
 use Rattle.cal_read.specs.TimerText.{ReadsWhole, most_file_bytes}
 use Rattle.cal_read.specs.declared.stamp.fault.StampFault.{StampFault}
-use Rattle.cal_command.specs.Ask.{Wanted, CommandSaid, LocalSaid, in_utc, ahead, by_rule, of_name, ZoneSaid, fault_said, bad_iterations, bad_now, bad_zones, bad_local, no_memory}
+use Rattle.cal_command.specs.Ask.{Ask, CommandFault, LocalZone, in_utc, ahead, by_rule, of_name, ZoneItem, shown_fault, bad_iterations, bad_now, bad_zones, bad_local, no_memory}
 use Rattle.cal_command.specs.CommandLine.{IsAskOf}
 use Rattle.cal_work.specs.LoadZone.{IsLoaded, IsLoadFault, is_load_unread}
 use Rattle.cal_work.specs.Outcome.{World, ZoneFound, and_then, loaded, or_load_stop, table_by, local_by, clock_by, present_by, input_if, run_by, asked_at, outcome, outcome_of, out_text, err_text, outcome_status, ended_status}
 use Rattle.cal_report.specs.Report.{ByReading, IsReported, ReadsIf, Report, base_in, file_name, reads_input, report, report_from}
-use Rattle.cal_request.specs.Request.{Asked, is_timer}
-use Rattle.cal_work.specs.Stop.{Said, command_stop, exit_status, load_stop, name_stop, rule_stop, said_of, unread_stop, memory_stop, is_for_memory, is_out_stop, is_err_stop}
+use Rattle.cal_request.specs.Request.{Request, is_timer}
+use Rattle.cal_work.specs.Stop.{Stop, command_stop, exit_status, load_stop, name_stop, rule_stop, shown_stop, unread_stop, memory_stop, is_for_memory, is_out_stop, is_err_stop}
 use Rattle.cal_work.specs.System.{Known, Seen, Opens, IsTime, Comes, SeesBytes, Sees}
 use Rattle.cal_work.specs.WorkSteps.{StopsAs, Answers, Loads, ReadsZones, FindsLocal, IsUnread, Presents, StopEnds, EndsAs, Runs, Answered, AnsweredWords, ran}
 use Rattle.cal_work.specs.Works.{SeesZone, SeesZones, ReadsZone, IsLocal, SeesIf, SeesFile, FitsAt, Fits, FitsWords}
-use Rattle.cal_command.specs.declared.command_fault.CommandFault.{CommandFault}
+use Rattle.cal_command.specs.declared.command_fault.CommandFault as declared_fault
 use Rattle.cal_command.specs.declared.command_fault.CommandFault.TheVariants as command
 use Rattle.cal_work.specs.declared.zone_files.LoadFault.{LoadFault}
 use Rattle.cal_work.specs.declared.zone_files.LoadFault.TheVariants.{ReadFailed, Zone}
 use Rattle.cal_request.specs.declared.request.RunFault.{RunFault}
 use Rattle.cal_request.specs.declared.request.RunFault.TheVariants.{OutFailed, ErrFailed, NoMemory}
 use Rattle.cal_request.specs.declared.request.Status.{Status}
-use Rattle.cal_work.specs.declared.stop.Stop.{Stop}
+use Rattle.cal_work.specs.declared.stop.Stop as declared_stop
 use Rattle.cal_work.specs.declared.stop.Stop.TheVariants.{Command, Zones, LocalRule, LocalName, Clock, Open, Run}
 use Rattle.cal_report.proofs.ReportLemmas.{no_ok, nothing_front}
 
 -- Stops
 
 -- a stop of the program's own words
-pub is_stop : {X : Type 0} (stop : Stop) (said : Said) → is_out_stop stop ≡ false → is_err_stop stop ≡ false → said_of stop ≡ said → StopsAs {X = X} stop (Err said)
+pub is_stop : {X : Type 0} (stop : declared_stop.Stop) (said : Stop) → is_out_stop stop ≡ false → is_err_stop stop ≡ false → shown_stop stop ≡ said → StopsAs {X = X} stop (Err said)
 is_stop stop said out err is = record { before_out = out; before_err = err; stopped = refl; said = λ h. ap (λ s. Err s) (sym is) }
 
 -- running out of memory, whatever is come to
-pub memory_stops : {X : Type 0} (said : Said) → StopsAs {X = X} (Run NoMemory) (Err said)
+pub memory_stops : {X : Type 0} (said : Stop) → StopsAs {X = X} (Run NoMemory) (Err said)
 memory_stops said = record { before_out = refl; before_err = refl; stopped = refl; said = λ h. absurd (false≢true (sym h)) }
 
 -- a step that stopped is the stop of all that would come after it
-pub stops : {A B : Type 0} (stop : Stop) (next : A → Result B Said) (come : Result A Said) → StopsAs stop come → StopsAs stop (and_then next come)
+pub stops : {A B : Type 0} (stop : declared_stop.Stop) (next : A → Result B Stop) (come : Result A Stop) → StopsAs stop come → StopsAs stop (and_then next come)
 stops stop next (Ok value) s = absurd (false≢true s.stopped)
 stops stop next (Err said) s = record { before_out = s.before_out; before_err = s.before_err; stopped = refl; said = λ h. ap (λ r. and_then next r) (s.said h) }
 
-said_inside : {A : Type 0} (x y : Result A Said) (a b : Said) → x ≡ Err a → y ≡ Err b → x ≡ y → a ≡ b
+said_inside : {A : Type 0} (x y : Result A Stop) (a b : Stop) → x ≡ Err a → y ≡ Err b → x ≡ y → a ≡ b
 said_inside x y a b p q h = cc
 
 -- and it stops others that stop at the same
-pub stops_other : {A B : Type 0} (stop : Stop) (said : Said) → StopsAs {X = A} stop (Err said) → StopsAs {X = B} stop (Err said)
-stops_other {A = A} stop said s = record { before_out = s.before_out; before_err = s.before_err; stopped = refl; said = λ h. ap (λ x. Err x) (said_inside {A = A} (Err said) (Err (said_of stop)) said (said_of stop) refl refl (s.said h)) }
+pub stops_other : {A B : Type 0} (stop : declared_stop.Stop) (said : Stop) → StopsAs {X = A} stop (Err said) → StopsAs {X = B} stop (Err said)
+stops_other {A = A} stop said s = record { before_out = s.before_out; before_err = s.before_err; stopped = refl; said = λ h. ap (λ x. Err x) (said_inside {A = A} (Err said) (Err (shown_stop stop)) said (shown_stop stop) refl refl (s.said h)) }
 
 -- What is seen
 
@@ -149,7 +149,7 @@ reads_unnamed name (Ok bytes) h = λ named. absurd (false≢true (sym h ∙ name
 reads_unnamed name (Err fault) h = tt
 
 -- a file that was opened and loaded, or rejected
-pub loads : (known : Known) (before after : ZoneMap) (item : ZoneSaid) (r : Result Unit LoadFault) (old new : Option (List ℕ)) (may failed : Bool) → Opens (known.file item.path) (Some old) → may ≡ known.may_fail item.path
+pub loads : (known : Known) (before after : ZoneMap) (item : ZoneItem) (r : Result Unit LoadFault) (old new : Option (List ℕ)) (may failed : Bool) → Opens (known.file item.path) (Some old) → may ≡ known.may_fail item.path
     → failed ≡ is_load_unread r → MatchResult r (λ done. IsLoaded old new before after item.name) (IsLoadFault old new before item.name) → (may ≡ false → failed ≡ false) → Loads known before after item r
 unfolding loaded
 loads known before after item (Ok done) old new may failed opens mays fails h sure = record {
@@ -211,7 +211,7 @@ loads known before after item (Err (Zone zone.NameTaken)) old new may failed ope
 }
 
 -- a file that can't be opened
-pub loads_none : (known : Known) (table : ZoneMap) (item : ZoneSaid) → Opens (known.file item.path) None → Loads known table table item (Err ReadFailed)
+pub loads_none : (known : Known) (table : ZoneMap) (item : ZoneItem) → Opens (known.file item.path) None → Loads known table table item (Err ReadFailed)
 unfolding loaded
 loads_none known table item opens = record {
   found = record { seen = None; zone = None };
@@ -220,19 +220,19 @@ loads_none known table item opens = record {
 }
 
 -- The files in order: what was found so far goes on with whatever is found of those that are left.
-pub record Continues (known : Known) (items : List ZoneSaid) (table : ZoneMap) (left : List ZoneSaid) (rest : List ZoneFound) : Type 0 where
+pub record Continues (known : Known) (items : List ZoneItem) (table : ZoneMap) (left : List ZoneItem) (rest : List ZoneFound) : Type 0 where
   pub found : List ZoneFound
   pub sees : SeesZones known empty items found
   pub same : table_by empty items found ≡ table_by table left rest
 
-abbrev pub GoesOn : Known → List ZoneSaid → ZoneMap → List ZoneSaid → Type 0
+abbrev pub GoesOn : Known → List ZoneItem → ZoneMap → List ZoneItem → Type 0
 GoesOn known items table left = (rest : List ZoneFound) → SeesZones known table left rest → Continues known items table left rest
 
-pub begin : (known : Known) (items : List ZoneSaid) → GoesOn known items empty items
+pub begin : (known : Known) (items : List ZoneItem) → GoesOn known items empty items
 begin known items rest h = record { found = rest; sees = h; same = refl }
 
 -- the next of those that are left is loaded
-pub next_loaded : (known : Known) (items left more : List ZoneSaid) (item : ZoneSaid) (table after : ZoneMap) → left ≡ item ∷ more → GoesOn known items table left → Loads known table after item (Ok tt) → GoesOn known items after more
+pub next_loaded : (known : Known) (items left more : List ZoneItem) (item : ZoneItem) (table after : ZoneMap) → left ≡ item ∷ more → GoesOn known items table left → Loads known table after item (Ok tt) → GoesOn known items after more
 unfolding table_by
 next_loaded known items left more item table after is goes l rest h =
     let first = rw is at goes in
@@ -241,7 +241,7 @@ next_loaded known items left more item table after is goes l rest h =
     record { found = on.found; sees = on.sees; same = on.same ∙ (rw is_loaded refl) }
 
 -- or it stops the work
-pub next_stops : {T : Type 0} (view : T → ZoneMap) (known : Known) (items left more : List ZoneSaid) (item : ZoneSaid) (table after : ZoneMap) (fault : LoadFault) (stop : Stop) → left ≡ item ∷ more
+pub next_stops : {T : Type 0} (view : T → ZoneMap) (known : Known) (items left more : List ZoneItem) (item : ZoneItem) (table after : ZoneMap) (fault : LoadFault) (stop : declared_stop.Stop) → left ≡ item ∷ more
     → GoesOn known items table left → Loads known table after item (Err fault) → StopsAs {X = Unit} stop (Err (load_stop item.name fault)) → ReadsZones view known items (Err stop)
 unfolding table_by
 next_stops view known items left more item table after fault stop is goes l s =
@@ -252,7 +252,7 @@ next_stops view known items left more item table after fault stop is goes l s =
     record { found = on.found; sees = on.sees; answers = rw same (stops_other stop (load_stop item.name fault) s) }
 
 -- none is left
-pub none_left : {T : Type 0} (view : T → ZoneMap) (known : Known) (items left : List ZoneSaid) (table : ZoneMap) (result : T) → left ≡ [] → table ≡ view result → GoesOn known items table left → ReadsZones view known items (Ok result)
+pub none_left : {T : Type 0} (view : T → ZoneMap) (known : Known) (items left : List ZoneItem) (table : ZoneMap) (result : T) → left ≡ [] → table ≡ view result → GoesOn known items table left → ReadsZones view known items (Ok result)
 unfolding table_by
 none_left view known items left table result is same goes =
     let on = (rw is at goes) [] tt in
@@ -286,7 +286,7 @@ unread_rule rule table true is h = absurd (h is)
 unread_rule rule table false is h = rw is refl
 
 -- a rule that isn't read
-pub local_refused : (said : LocalSaid) (table : ZoneMap) → IsUnread said → local_by said table utc ≡ Err rule_stop
+pub local_refused : (said : LocalZone) (table : ZoneMap) → IsUnread said → local_by said table utc ≡ Err rule_stop
 local_refused in_utc table h = absurd h
 local_refused (ahead seconds) table h = absurd h
 local_refused (by_rule rule) table h = unread_rule rule table (is_some (rule_read rule)) refl h
@@ -295,7 +295,7 @@ local_refused (of_name name) table h = absurd h
 -- Ends
 
 -- a stop before any run
-pub early : (stop : Stop) (come : Result Report Said) (out err : Option (List ℕ)) → StopsAs stop come → EndsAs (Err stop) come out out err err
+pub early : (stop : declared_stop.Stop) (come : Result Report Stop) (out err : Option (List ℕ)) → StopsAs stop come → EndsAs (Err stop) come out out err err
 early (Command fault) come out err s = (s, refl, refl)
 early (Zones name fault) come out err s = (s, refl, refl)
 early LocalRule come out err s = (s, refl, refl)
@@ -324,29 +324,29 @@ unread_ends (Err ErrFailed) report out out' err err' t = (refl, still_front out 
 unread_ends (Err NoMemory) report out out' err err' t = (refl, still_front out out' _ (t.unread refl).0, still_front err err' _ (t.unread refl).1)
 
 -- what isn't read doesn't count
-same_from : (asked : Asked) (a b : Result (List ℕ) WholeFault) (t : Bool) (base : Result ℤ StampFault) → is_timer asked.verb ≡ t → (t && is_ok base) ≡ false → report_from asked a base ≡ report_from asked b base
+same_from : (asked : Request) (a b : Result (List ℕ) WholeFault) (t : Bool) (base : Result ℤ StampFault) → is_timer asked.verb ≡ t → (t && is_ok base) ≡ false → report_from asked a base ≡ report_from asked b base
 same_from asked a b t (Err fault) is h = refl
 same_from asked a b true (Ok base) is h = absurd (false≢true (sym h))
 same_from asked a b false (Ok base) is h = rw is refl
 
-unread_same : (asked : Asked) (a b : Result (List ℕ) WholeFault) → reads_input asked ≡ false → report asked a ≡ report asked b
+unread_same : (asked : Request) (a b : Result (List ℕ) WholeFault) → reads_input asked ≡ false → report asked a ≡ report asked b
 unfolding report
 unread_same asked a b h = same_from asked a b (is_timer asked.verb) (base_in asked) refl h
 
-within_had : (asked : Asked) (all : List ℕ) (b : Bool) → reads_input asked ≡ false
+within_had : (asked : Request) (all : List ℕ) (b : Bool) → reads_input asked ≡ false
     → and_then (λ read. Ok (report asked read)) (input_if true (file_name asked) (Some (came_within b all))) ≡ Ok (report asked (Ok []))
 unfolding came_within
 within_had asked all true h = ap (λ r. Ok r) (unread_same asked (Ok all) (Ok []) h)
 within_had asked all false h = ap (λ r. Ok r) (unread_same asked (Err whole.TooLarge) (Ok []) h)
 
-report_had : (asked : Asked) (old : Option (List ℕ)) (limit : ℕ) → reads_input asked ≡ false → is_timer asked.verb ≡ true
+report_had : (asked : Request) (old : Option (List ℕ)) (limit : ℕ) → reads_input asked ≡ false → is_timer asked.verb ≡ true
     → run_by asked (Some (came_of old limit)) ≡ Ok (report asked (Ok []))
 unfolding run_by came_of came_within
 report_had asked None limit h timer = rw timer refl
 report_had asked (Some all) limit h timer = rw timer (within_had asked all (nat_le (length all) limit) h)
 
 -- the run of a timer whose file was opened, by what was read of it
-timer_by : (known : Known) (asked : Asked) (r : Result Status RunFault) (old new : Option (List ℕ)) (may failed : Bool) (out out' err err' : Option (List ℕ)) (read : Result (List ℕ) WholeFault) (b : Bool)
+timer_by : (known : Known) (asked : Request) (r : Result Status RunFault) (old new : Option (List ℕ)) (may failed : Bool) (out out' err err' : Option (List ℕ)) (read : Result (List ℕ) WholeFault) (b : Bool)
     → reads_input asked ≡ b → is_timer asked.verb ≡ true → Opens (known.file (file_name asked)) (Some old) → may ≡ known.may_fail (file_name asked) → (may ≡ false → failed ≡ false)
     → failed ≡ is_read_failed read → ReadsIf b old new read → IsReported r out out' err err' read (report asked read) → Runs known asked (ran r) out out' err err'
 unfolding run_by
@@ -376,14 +376,14 @@ timer_by known asked r old new may failed out out' err err' read false reads tim
   ends = rw (report_had asked old most_file_bytes reads timer) (run_ends r (Ok []) _ out out' err err' (rw input.1 at t));
 }
 
-pub timer_runs : (known : Known) (asked : Asked) (r : Result Status RunFault) (old new : Option (List ℕ)) (may failed : Bool) (out out' err err' : Option (List ℕ))
+pub timer_runs : (known : Known) (asked : Request) (r : Result Status RunFault) (old new : Option (List ℕ)) (may failed : Bool) (out out' err err' : Option (List ℕ))
     → is_timer asked.verb ≡ true → Opens (known.file (file_name asked)) (Some old) → may ≡ known.may_fail (file_name asked) → (may ≡ false → failed ≡ false)
     → ByReading asked old new failed (IsReported r out out' err err') → Runs known asked (ran r) out out' err err'
 timer_runs known asked r old new may failed out out' err err' timer opens mays sure by =
     timer_by known asked r old new may failed out out' err err' by.read (reads_input asked) refl timer opens mays sure by.fails by.input by.holds
 
 -- the run of another verb
-pub texts_run : (known : Known) (asked : Asked) (r : Result Status RunFault) (old new : Option (List ℕ)) (failed : Bool) (out out' err err' : Option (List ℕ))
+pub texts_run : (known : Known) (asked : Request) (r : Result Status RunFault) (old new : Option (List ℕ)) (failed : Bool) (out out' err err' : Option (List ℕ))
     → is_timer asked.verb ≡ false → ByReading asked old new failed (IsReported r out out' err err') → Runs known asked (ran r) out out' err err'
 unfolding run_by
 texts_run known asked r old new failed out out' err err' plain by =
@@ -391,7 +391,7 @@ texts_run known asked r old new failed out out' err err' plain by =
     record { seen = None; sees = rw plain tt; ends = rw plain (rw (sym same) (run_ends r by.read _ out out' err err' by.holds)) }
 
 -- the file of a timer can't be opened
-pub file_stops : (known : Known) (asked : Asked) (stop : Stop) (out err : Option (List ℕ)) → is_timer asked.verb ≡ true → Opens (known.file (file_name asked)) None → StopsAs {X = Unit} stop (Err (unread_stop (file_name asked)))
+pub file_stops : (known : Known) (asked : Request) (stop : declared_stop.Stop) (out err : Option (List ℕ)) → is_timer asked.verb ≡ true → Opens (known.file (file_name asked)) None → StopsAs {X = Unit} stop (Err (unread_stop (file_name asked)))
     → Runs known asked (Err stop) out out err err
 unfolding run_by
 file_stops known asked stop out err timer opens s = record {
@@ -402,59 +402,59 @@ file_stops known asked stop out err timer opens s = record {
 
 -- The whole, by how far it came
 
-module _ (known : Known) (wanted : Wanted) (stop : Stop) (out err : Option (List ℕ)) where
-  pub zones_stop : ReadsZones (λ table. table) known wanted.zones (Err stop) → Answered known wanted (Err stop) out out err err
+module _ (known : Known) (ask : Ask) (stop : declared_stop.Stop) (out err : Option (List ℕ)) where
+  pub zones_stop : ReadsZones (λ table. table) known ask.zones (Err stop) → Answered known ask (Err stop) out out err err
   unfolding outcome_of
   zones_stop z = record {
-    world = record { said = Ok wanted; zones = z.found; local = utc; clock = None; file = None };
-    fits = record { zones = z.sees; after = no_ok (table_by empty wanted.zones z.found) _ z.answers.stopped };
-    ends = early stop _ out err (stops stop _ (table_by empty wanted.zones z.found) z.answers);
+    world = record { said = Ok ask; zones = z.found; local = utc; clock = None; file = None };
+    fits = record { zones = z.sees; after = no_ok (table_by empty ask.zones z.found) _ z.answers.stopped };
+    ends = early stop _ out err (stops stop _ (table_by empty ask.zones z.found) z.answers);
   }
 
-  pub local_stops : (table : ZoneMap) (zone : ClockZone) → ReadsZones (λ table. table) known wanted.zones (Ok table) → StopsAs stop (local_by wanted.local table zone) → Answered known wanted (Err stop) out out err err
+  pub local_stops : (table : ZoneMap) (zone : ClockZone) → ReadsZones (λ table. table) known ask.zones (Ok table) → StopsAs stop (local_by ask.local table zone) → Answered known ask (Err stop) out out err err
   unfolding outcome_of
   local_stops table zone z s = record {
-    world = record { said = Ok wanted; zones = z.found; local = zone; clock = None; file = None };
-    fits = record { zones = z.sees; after = rw z.answers (no_ok (local_by wanted.local table zone) _ s.stopped) };
-    ends = early stop _ out err (rw z.answers (stops stop _ (local_by wanted.local table zone) s));
+    world = record { said = Ok ask; zones = z.found; local = zone; clock = None; file = None };
+    fits = record { zones = z.sees; after = rw z.answers (no_ok (local_by ask.local table zone) _ s.stopped) };
+    ends = early stop _ out err (rw z.answers (stops stop _ (local_by ask.local table zone) s));
   }
 
-  pub clock_stops : (table : ZoneMap) (local : ClockZone) → ReadsZones (λ table. table) known wanted.zones (Ok table) → FindsLocal (λ zone. zone) wanted.local table (Ok local)
-      → (clock : Option ℤ) → IfNone wanted.now (IsTime known.time clock) → StopsAs stop (present_by wanted.now clock) → Answered known wanted (Err stop) out out err err
+  pub clock_stops : (table : ZoneMap) (local : ClockZone) → ReadsZones (λ table. table) known ask.zones (Ok table) → FindsLocal (λ zone. zone) ask.local table (Ok local)
+      → (clock : Option ℤ) → IfNone ask.now (IsTime known.time clock) → StopsAs stop (present_by ask.now clock) → Answered known ask (Err stop) out out err err
   unfolding outcome_of
   clock_stops table local z l clock is_time s =
       let found = rw l.answers at l.is_local in
       record {
-        world = record { said = Ok wanted; zones = z.found; local = l.zone; clock = clock; file = None };
-        fits = record { zones = z.sees; after = rw (z.answers, l.answers) (found, is_time, no_ok (present_by wanted.now clock) _ s.stopped) };
-        ends = early stop _ out err (rw (z.answers, l.answers) (stops stop _ (present_by wanted.now clock) s));
+        world = record { said = Ok ask; zones = z.found; local = l.zone; clock = clock; file = None };
+        fits = record { zones = z.sees; after = rw (z.answers, l.answers) (found, is_time, no_ok (present_by ask.now clock) _ s.stopped) };
+        ends = early stop _ out err (rw (z.answers, l.answers) (stops stop _ (present_by ask.now clock) s));
       }
 
-pub ran_whole : (known : Known) (wanted : Wanted) (result : Result Status Stop) (out out' err err' : Option (List ℕ)) (table : ZoneMap) (local : ClockZone) (now : ℤ)
-    → ReadsZones (λ table. table) known wanted.zones (Ok table) → FindsLocal (λ zone. zone) wanted.local table (Ok local)
-    → (clock : Option ℤ) → IfNone wanted.now (IsTime known.time clock) → present_by wanted.now clock ≡ Ok now
-    → Runs known (asked_at wanted table local now) result out out' err err' → Answered known wanted result out out' err err'
+pub ran_whole : (known : Known) (ask : Ask) (result : Result Status declared_stop.Stop) (out out' err err' : Option (List ℕ)) (table : ZoneMap) (local : ClockZone) (now : ℤ)
+    → ReadsZones (λ table. table) known ask.zones (Ok table) → FindsLocal (λ zone. zone) ask.local table (Ok local)
+    → (clock : Option ℤ) → IfNone ask.now (IsTime known.time clock) → present_by ask.now clock ≡ Ok now
+    → Runs known (asked_at ask table local now) result out out' err err' → Answered known ask result out out' err err'
 unfolding outcome_of
-ran_whole known wanted result out out' err err' table local now z l clock is_time is_now r =
+ran_whole known ask result out out' err err' table local now z l clock is_time is_now r =
     let found = rw l.answers at l.is_local in
     record {
-      world = record { said = Ok wanted; zones = z.found; local = l.zone; clock = clock; file = r.seen };
+      world = record { said = Ok ask; zones = z.found; local = l.zone; clock = clock; file = r.seen };
       fits = record { zones = z.sees; after = rw (z.answers, l.answers) (found, is_time, rw is_now r.sees) };
       ends = rw (z.answers, l.answers, is_now) r.ends;
     }
 
--- the words came to what is wanted
-pub words_answered : (known : Known) (words : List (List ℕ)) (wanted : Wanted) (result : Result Status Stop) (out out' err err' : Option (List ℕ)) → IsAskOf words (Ok wanted) → Answered known wanted result out out' err err' → AnsweredWords known words result out out' err err'
+-- the words came to what is ask
+pub words_answered : (known : Known) (words : List (List ℕ)) (ask : Ask) (result : Result Status declared_stop.Stop) (out out' err err' : Option (List ℕ)) → IsAskOf words (Ok ask) → Answered known ask result out out' err err' → AnsweredWords known words result out out' err err'
 unfolding outcome outcome_of
-words_answered known words wanted result out out' err err' asks a = record {
-  world = record { said = Ok wanted; zones = a.world.zones; local = a.world.local; clock = a.world.clock; file = a.world.file };
+words_answered known words ask result out out' err err' asks a = record {
+  world = record { said = Ok ask; zones = a.world.zones; local = a.world.local; clock = a.world.clock; file = a.world.file };
   fits = record { said = asks; fits = record { zones = a.fits.zones; after = a.fits.after } };
   ends = a.ends;
 }
 
-command_stops : (fault : CommandFault) → StopsAs {X = Report} (Command fault) (Err (command_stop (fault_said fault)))
-command_stops (command.Usage text) = is_stop (Command (command.Usage text)) (command_stop (fault_said (command.Usage text))) refl refl refl
-command_stops (command.Help text) = is_stop (Command (command.Help text)) (command_stop (fault_said (command.Help text))) refl refl refl
+command_stops : (fault : declared_fault.CommandFault) → StopsAs {X = Report} (Command fault) (Err (command_stop (shown_fault fault)))
+command_stops (command.Usage text) = is_stop (Command (command.Usage text)) (command_stop (shown_fault (command.Usage text))) refl refl refl
+command_stops (command.Help text) = is_stop (Command (command.Help text)) (command_stop (shown_fault (command.Help text))) refl refl refl
 command_stops command.BadIterations = is_stop (Command command.BadIterations) (command_stop bad_iterations) refl refl refl
 command_stops command.BadNow = is_stop (Command command.BadNow) (command_stop bad_now) refl refl refl
 command_stops command.BadZones = is_stop (Command command.BadZones) (command_stop bad_zones) refl refl refl
@@ -462,10 +462,10 @@ command_stops command.BadLocal = is_stop (Command command.BadLocal) (command_sto
 command_stops command.NoMemory = is_stop (Command command.NoMemory) (command_stop no_memory) refl refl refl
 
 -- or to nothing that can be done
-pub words_refused : (known : Known) (words : List (List ℕ)) (fault : CommandFault) (out err : Option (List ℕ)) → IsAskOf words (Err (fault_said fault)) → AnsweredWords known words (Err (Command fault)) out out err err
+pub words_refused : (known : Known) (words : List (List ℕ)) (fault : declared_fault.CommandFault) (out err : Option (List ℕ)) → IsAskOf words (Err (shown_fault fault)) → AnsweredWords known words (Err (Command fault)) out out err err
 unfolding outcome
 words_refused known words fault out err asks = record {
-  world = record { said = Err (fault_said fault); zones = []; local = utc; clock = None; file = None };
+  world = record { said = Err (shown_fault fault); zones = []; local = utc; clock = None; file = None };
   fits = record { said = asks; fits = tt };
   ends = (command_stops fault, refl, refl);
 }

@@ -12,10 +12,10 @@ use Rattle.cal_bytes.specs.declared.whole.WholeFault.{WholeFault}
 use Rattle.cal_bytes.specs.declared.whole.WholeFault.TheVariants as whole
 use Rattle.cal_zone.specs.declared.zone.Zone.{Zone as ClockZone}
 use Rattle.cal_zone.specs.declared.zone_fault.ZoneFault.TheVariants.{BadName, BadFile, TooLarge, NoMemory, NameTaken}
-use Rattle.cal_command.specs.Ask.{Wanted, LocalSaid, in_utc, ahead, by_rule, of_name, ZoneSaid, CommandSaid}
+use Rattle.cal_command.specs.Ask.{Ask, LocalZone, in_utc, ahead, by_rule, of_name, ZoneItem, CommandFault}
 use Rattle.cal_report.specs.Report.{Report, file_name, report}
-use Rattle.cal_request.specs.Request.{Asked, is_timer}
-use Rattle.cal_work.specs.Stop.{Said, command_stop, load_stop, rule_stop, name_stop, clock_stop, unread_stop, memory_stop, exit_status}
+use Rattle.cal_request.specs.Request.{Request, is_timer}
+use Rattle.cal_work.specs.Stop.{Stop, command_stop, load_stop, rule_stop, name_stop, clock_stop, unread_stop, memory_stop, exit_status}
 use Rattle.cal_work.specs.System.{Seen}
 use Rattle.cal_work.specs.declared.zone_files.LoadFault.{LoadFault}
 use Rattle.cal_work.specs.declared.zone_files.LoadFault.TheVariants.{ReadFailed, Zone}
@@ -30,7 +30,7 @@ pub record ZoneFound : Type 0 where
 -- What the outcome takes from outside: what the words came to, what is found of each zone file in order, the local
 -- zone, the seconds of the clock, and what is seen of the file of a timer.
 pub record World : Type 0 where
-  pub said : Result Wanted CommandSaid
+  pub said : Result Ask CommandFault
   pub zones : List ZoneFound
   pub local : ClockZone
   pub clock : Option ℤ
@@ -59,15 +59,15 @@ abbrev pub with_file : ZoneMap → List ℕ → Option TimeZone → Seen → Res
 with_file table name read None = Err ReadFailed
 with_file table name read (Some came) = if is_zone_name name then with_bytes table name read came else Err (Zone BadName)
 
-unfoldable pub loaded : ZoneMap → ZoneSaid → ZoneFound → Result ZoneMap LoadFault
+unfoldable pub loaded : ZoneMap → ZoneItem → ZoneFound → Result ZoneMap LoadFault
 loaded table item found = with_file table item.name found.zone found.seen
 
-abbrev pub or_load_stop : List ℕ → Result ZoneMap LoadFault → Result ZoneMap Said
+abbrev pub or_load_stop : List ℕ → Result ZoneMap LoadFault → Result ZoneMap Stop
 or_load_stop name (Ok table) = Ok table
 or_load_stop name (Err fault) = Err (load_stop name fault)
 
 -- the table of all zone files, in order, or the first that can't be loaded
-unfoldable pub table_by : ZoneMap → List ZoneSaid → List ZoneFound → Result ZoneMap Said
+unfoldable pub table_by : ZoneMap → List ZoneItem → List ZoneFound → Result ZoneMap Stop
 table_by table [] found = Ok table
 table_by table (item ∷ items) [] = Ok table
 table_by table (item ∷ items) (f ∷ found) =
@@ -75,7 +75,7 @@ table_by table (item ∷ items) (f ∷ found) =
 
 -- The local zone
 
-unfoldable pub local_by : LocalSaid → ZoneMap → ClockZone → Result ClockZone Said
+unfoldable pub local_by : LocalZone → ZoneMap → ClockZone → Result ClockZone Stop
 local_by in_utc table zone = Ok utc
 local_by (ahead seconds) table zone = Ok zone
 local_by (by_rule rule) table zone = if is_some (rule_read rule) then Ok zone else Err rule_stop
@@ -87,23 +87,23 @@ local_by (of_name name) table zone = if is_some (zone_named table name) then Ok 
 unfoldable pub instant_in : ℤ → Option ℤ
 instant_in secs = if not (int_lt secs (pos 0)) && not (int_lt last_instant secs) then Some secs else None
 
-abbrev pub or_clock_stop : Option ℤ → Result ℤ Said
+abbrev pub or_clock_stop : Option ℤ → Result ℤ Stop
 or_clock_stop None = Err clock_stop
 or_clock_stop (Some now) = Ok now
 
-abbrev pub clock_by : Option ℤ → Result ℤ Said
+abbrev pub clock_by : Option ℤ → Result ℤ Stop
 clock_by None = Err clock_stop
 clock_by (Some secs) = or_clock_stop (instant_in secs)
 
 -- that of the words, or else the clock's
-unfoldable pub present_by : Option ℤ → Option ℤ → Result ℤ Said
+unfoldable pub present_by : Option ℤ → Option ℤ → Result ℤ Stop
 present_by (Some now) clock = Ok now
 present_by None clock = clock_by clock
 
 -- The run
 
 -- what is read of the file of a timer
-abbrev pub input_by : List ℕ → Seen → Result (Result (List ℕ) WholeFault) Said
+abbrev pub input_by : List ℕ → Seen → Result (Result (List ℕ) WholeFault) Stop
 input_by path None = Err (unread_stop path)
 input_by path (Some (Ok bytes)) = Ok (Ok bytes)
 input_by path (Some (Err whole.ReadFailed)) = Ok (Err whole.ReadFailed)
@@ -111,64 +111,64 @@ input_by path (Some (Err whole.TooLarge)) = Ok (Err whole.TooLarge)
 input_by path (Some (Err whole.NoMemory)) = Err memory_stop
 
 -- other verbs have no file
-abbrev pub input_if : Bool → List ℕ → Seen → Result (Result (List ℕ) WholeFault) Said
+abbrev pub input_if : Bool → List ℕ → Seen → Result (Result (List ℕ) WholeFault) Stop
 input_if true path seen = input_by path seen
 input_if false path seen = Ok (Ok [])
 
-unfoldable pub run_by : Asked → Seen → Result Report Said
+unfoldable pub run_by : Request → Seen → Result Report Stop
 run_by asked seen = and_then (λ read. Ok (report asked read)) (input_if (is_timer asked.verb) (file_name asked) seen)
 
 -- The whole
 
-abbrev pub asked_at : Wanted → ZoneMap → ClockZone → ℤ → Asked
-asked_at wanted table local now = record {
-  verb = wanted.verb;
-  texts = wanted.texts;
-  iterations = wanted.iterations;
-  base = wanted.base;
+abbrev pub asked_at : Ask → ZoneMap → ClockZone → ℤ → Request
+asked_at ask table local now = record {
+  verb = ask.verb;
+  texts = ask.texts;
+  iterations = ask.iterations;
+  base = ask.base;
   now = now;
   local = local;
   zones = table;
 }
 
--- the report of what is wanted, or the first stop: the zone files in order, the local zone, the clock, the file
-unfoldable pub outcome_of : Wanted → World → Result Report Said
-outcome_of wanted world =
+-- the report of what is ask, or the first stop: the zone files in order, the local zone, the clock, the file
+unfoldable pub outcome_of : Ask → World → Result Report Stop
+outcome_of ask world =
     and_then (λ table.
     and_then (λ local.
-    and_then (λ now. run_by (asked_at wanted table local now) world.file)
-    (present_by wanted.now world.clock))
-    (local_by wanted.local table world.local))
-    (table_by empty wanted.zones world.zones)
+    and_then (λ now. run_by (asked_at ask table local now) world.file)
+    (present_by ask.now world.clock))
+    (local_by ask.local table world.local))
+    (table_by empty ask.zones world.zones)
 
-abbrev pub outcome_said : Result Wanted CommandSaid → World → Result Report Said
-outcome_said (Ok wanted) world = outcome_of wanted world
+abbrev pub outcome_said : Result Ask CommandFault → World → Result Report Stop
+outcome_said (Ok ask) world = outcome_of ask world
 outcome_said (Err said) world = Err (command_stop said)
 
-unfoldable pub outcome : World → Result Report Said
+unfoldable pub outcome : World → Result Report Stop
 outcome world = outcome_said world.said world
 
 -- What an outcome writes, and its status
 
-abbrev pub out_text : Result Report Said → List ℕ
+abbrev pub out_text : Result Report Stop → List ℕ
 out_text (Ok report) = report.out
 out_text (Err said) = said.out
 
-abbrev pub err_text : Result Report Said → List ℕ
+abbrev pub err_text : Result Report Stop → List ℕ
 err_text (Ok report) = report.err
 err_text (Err said) = said.err
 
-abbrev pub outcome_status : Result Report Said → ℕ
+abbrev pub outcome_status : Result Report Stop → ℕ
 outcome_status (Ok report) = exit_status report.status
 outcome_status (Err said) = said.status
 
 -- a report that couldn't be written whole has status 1; a stop keeps its own where its line couldn't be written
-abbrev pub cut_status : Result Report Said → ℕ
+abbrev pub cut_status : Result Report Stop → ℕ
 cut_status (Ok report) = 1
 cut_status (Err said) = said.status
 
 -- the status, by what couldn't be written
-abbrev pub ended_status : {T : Type 0} → Result T RunFault → Result Report Said → ℕ
+abbrev pub ended_status : {T : Type 0} → Result T RunFault → Result Report Stop → ℕ
 ended_status (Ok all) outcome = outcome_status outcome
 ended_status (Err run.OutFailed) outcome = 1
 ended_status (Err run.ErrFailed) outcome = cut_status outcome

@@ -3,9 +3,9 @@ use Rattle.std.specs.Prelude.{ℕ, Bool, true, false, List, [], ◌∷◌, strin
 use Rattle.cal_bytes.specs.Bytes.{joined}
 use Rattle.cal_zone.specs.declared.zone_fault.ZoneFault.{ZoneFault}
 use Rattle.cal_zone.specs.declared.zone_fault.ZoneFault.TheVariants as zone
-use Rattle.cal_command.specs.Ask.{CommandSaid, usage, help, bad_iterations, bad_now, bad_zones, bad_local, no_memory, fault_said}
+use Rattle.cal_command.specs.Ask.{CommandFault, usage, help, bad_iterations, bad_now, bad_zones, bad_local, no_memory, shown_fault}
 use Rattle.cal_work.specs.LoadFault.{words_of}
-use Rattle.cal_command.specs.declared.command_fault.CommandFault.{CommandFault}
+use Rattle.cal_command.specs.declared.command_fault.CommandFault as declared_fault
 use Rattle.cal_command.specs.declared.command_fault.CommandFault.TheVariants as command
 use Rattle.cal_work.specs.declared.zone_files.LoadFault.{LoadFault}
 use Rattle.cal_work.specs.declared.zone_files.LoadFault.TheVariants.{ReadFailed, Zone}
@@ -15,17 +15,17 @@ use Rattle.cal_request.specs.declared.request.Status.{Status}
 use Rattle.cal_request.specs.declared.request.Status.TheVariants.{Fine, Refused}
 use Rattle.cal_work.specs.declared.stop.Outlet.{Outlet}
 use Rattle.cal_work.specs.declared.stop.Outlet.TheVariants.{OnOut, OnErr, Later}
-use Rattle.cal_work.specs.declared.stop.Stop.{Stop}
+use Rattle.cal_work.specs.declared.stop.Stop as declared_stop
 use Rattle.cal_work.specs.declared.stop.Stop.TheVariants.{Command, Zones, LocalRule, LocalName, Clock, Open, Run}
 
 -- what is said of a stop: the text of help on standard output, or a line on standard error, and the status
-pub record Said : Type 0 where
+pub record Stop : Type 0 where
   pub out : List ℕ
   pub err : List ℕ
   pub status : ℕ
 
 -- a line on standard error
-abbrev pub with_line : List ℕ → ℕ → Said
+abbrev pub with_line : List ℕ → ℕ → Stop
 with_line line status = record { out = []; err = line; status = status }
 
 -- a line of the program's own
@@ -40,12 +40,12 @@ zones_line name words = joined (codes "calendar-analyze: --zones: " ∷ name ∷
 unfoldable pub unread_line : List ℕ → List ℕ
 unread_line path = joined (path ∷ codes ": cannot be read\n" ∷ [])
 
--- memory was refused, whatever it was wanted for
-abbrev pub memory_stop : Said
+-- memory was refused, whatever it was ask for
+abbrev pub memory_stop : Stop
 memory_stop = with_line (own_line (codes "out of memory")) 1
 
 -- the words of the command line ask for nothing that can be done, or only for help
-abbrev pub command_stop : CommandSaid → Said
+abbrev pub command_stop : CommandFault → Stop
 command_stop (usage text) = with_line text 2
 command_stop (help text) = record { out = text; err = []; status = 0 }
 command_stop bad_iterations = with_line (own_line (codes "bad iterations")) 2
@@ -55,52 +55,52 @@ command_stop bad_local = with_line (own_line (codes "bad local zone")) 2
 command_stop no_memory = memory_stop
 
 -- a zone file can't be loaded
-abbrev pub zone_stop : List ℕ → ZoneFault → Said
+abbrev pub zone_stop : List ℕ → ZoneFault → Stop
 zone_stop name zone.NoMemory = memory_stop
 zone_stop name fault = with_line (zones_line name (words_of (Zone fault))) 2
 
-abbrev pub load_stop : List ℕ → LoadFault → Said
+abbrev pub load_stop : List ℕ → LoadFault → Stop
 load_stop name ReadFailed = with_line (zones_line name (words_of ReadFailed)) 2
 load_stop name (Zone fault) = zone_stop name fault
 
 -- the local zone can't be had, or no present instant
-abbrev pub rule_stop : Said
+abbrev pub rule_stop : Stop
 rule_stop = with_line (own_line (codes "--local: bad rule")) 2
 
-abbrev pub name_stop : Said
+abbrev pub name_stop : Stop
 name_stop = with_line (own_line (codes "--local: no such zone")) 2
 
-abbrev pub clock_stop : Said
+abbrev pub clock_stop : Stop
 clock_stop = with_line (own_line (codes "clock out of range")) 2
 
 -- the file of a timer can't be opened
-abbrev pub unread_stop : List ℕ → Said
+abbrev pub unread_stop : List ℕ → Stop
 unread_stop path = with_line (unread_line path) 1
 
 -- a run was cut; nothing is said where standard error itself failed
-abbrev pub fault_stop : RunFault → Said
+abbrev pub fault_stop : RunFault → Stop
 fault_stop run.OutFailed = with_line (own_line (codes "output failed")) 1
 fault_stop run.ErrFailed = with_line [] 1
 fault_stop run.NoMemory = memory_stop
 
 -- what is said of each stop
-abbrev pub said_of : Stop → Said
-said_of (Command fault) = command_stop (fault_said fault)
-said_of (Zones name fault) = load_stop (string_bytes name) fault
-said_of LocalRule = rule_stop
-said_of LocalName = name_stop
-said_of Clock = clock_stop
-said_of (Open path) = unread_stop (string_bytes path)
-said_of (Run fault) = fault_stop fault
+abbrev pub shown_stop : declared_stop.Stop → Stop
+shown_stop (Command fault) = command_stop (shown_fault fault)
+shown_stop (Zones name fault) = load_stop (string_bytes name) fault
+shown_stop LocalRule = rule_stop
+shown_stop LocalName = name_stop
+shown_stop Clock = clock_stop
+shown_stop (Open path) = unread_stop (string_bytes path)
+shown_stop (Run fault) = fault_stop fault
 
 -- the text that is written of a stop, to whichever output
-abbrev pub command_text : CommandFault → List ℕ
+abbrev pub command_text : declared_fault.CommandFault → List ℕ
 command_text (command.Help text) = string_bytes text
-command_text fault = (command_stop (fault_said fault)).err
+command_text fault = (command_stop (shown_fault fault)).err
 
-abbrev pub text_of : Stop → List ℕ
+abbrev pub text_of : declared_stop.Stop → List ℕ
 text_of (Command fault) = command_text fault
-text_of stop = (said_of stop).err
+text_of stop = (shown_stop stop).err
 
 -- where each stop is reported: help on standard output, others on standard error; what couldn't be written, and running out of
 -- memory, is reported once the output is settled
@@ -112,12 +112,12 @@ abbrev pub load_outlet : LoadFault → Outlet
 load_outlet ReadFailed = OnErr
 load_outlet (Zone fault) = zone_outlet fault
 
-abbrev pub command_outlet : CommandFault → Outlet
+abbrev pub command_outlet : declared_fault.CommandFault → Outlet
 command_outlet (command.Help text) = OnOut
 command_outlet command.NoMemory = Later run.NoMemory
 command_outlet fault = OnErr
 
-abbrev pub outlet_of : Stop → Outlet
+abbrev pub outlet_of : declared_stop.Stop → Outlet
 outlet_of (Command fault) = command_outlet fault
 outlet_of (Zones name fault) = load_outlet fault
 outlet_of LocalRule = OnErr
@@ -139,13 +139,13 @@ abbrev pub is_memory_outlet : Outlet → Bool
 is_memory_outlet (Later run.NoMemory) = true
 is_memory_outlet outlet = false
 
-abbrev pub is_out_stop : Stop → Bool
+abbrev pub is_out_stop : declared_stop.Stop → Bool
 is_out_stop stop = is_out_outlet (outlet_of stop)
 
-abbrev pub is_err_stop : Stop → Bool
+abbrev pub is_err_stop : declared_stop.Stop → Bool
 is_err_stop stop = is_err_outlet (outlet_of stop)
 
-abbrev pub is_for_memory : Stop → Bool
+abbrev pub is_for_memory : declared_stop.Stop → Bool
 is_for_memory stop = is_memory_outlet (outlet_of stop)
 
 -- the exit status of a run that could write all of its text

@@ -5,10 +5,10 @@ use Rattle.cal_zone.specs.ZoneFile.{file_limit}
 use Rattle.cal_bytes.specs.declared.whole.WholeFault.{WholeFault}
 use Rattle.cal_bytes.specs.declared.whole.WholeFault.TheVariants.{TooLarge}
 use Rattle.cal_read.specs.TimerText.{most_file_bytes}
-use Rattle.cal_command.specs.Ask.{Wanted, CommandSaid, ZoneSaid}
+use Rattle.cal_command.specs.Ask.{Ask, CommandFault, ZoneItem}
 use Rattle.cal_work.specs.Outcome.{World, ZoneFound, outcome}
 use Rattle.cal_report.specs.Report.{Report}
-use Rattle.cal_work.specs.Stop.{Said, command_stop, memory_stop}
+use Rattle.cal_work.specs.Stop.{Stop, command_stop, memory_stop}
 use Rattle.cal_work.specs.System.{Known, Seen}
 
 -- all is known of each file and of the clock, and no read fails
@@ -32,26 +32,26 @@ known_time None = None
 known_time (Some time) = time
 
 -- each zone file is seen as it is known, with the zone that `jiff` reads from it
-unfoldable pub known_zones : Known → List ZoneSaid → List ZoneFound → List ZoneFound
+unfoldable pub known_zones : Known → List ZoneItem → List ZoneFound → List ZoneFound
 known_zones known [] found = []
 known_zones known (item ∷ items) [] = []
 known_zones known (item ∷ items) (f ∷ found) =
     record { seen = known_seen file_limit (known.file item.path); zone = f.zone } ∷ known_zones known items found
 
 -- the world that is known, where `clap` takes the words as this and `jiff` reads the zones of a world
-unfoldable pub known_world : Known → Wanted → World → World
-known_world known wanted world = record {
-  said = Ok wanted;
-  zones = known_zones known wanted.zones world.zones;
+unfoldable pub known_world : Known → Ask → World → World
+known_world known ask world = record {
+  said = Ok ask;
+  zones = known_zones known ask.zones world.zones;
   local = world.local;
   clock = known_time known.time;
-  file = known_seen most_file_bytes (known.file (slice_index_or wanted.texts 0 []));
+  file = known_seen most_file_bytes (known.file (slice_index_or ask.texts 0 []));
 }
 
-abbrev pub known_outcome : Known → Result Wanted CommandSaid → World → Result Report Said
-known_outcome known (Ok wanted) world = outcome (known_world known wanted world)
+abbrev pub known_outcome : Known → Result Ask CommandFault → World → Result Report Stop
+known_outcome known (Ok ask) world = outcome (known_world known ask world)
 known_outcome known (Err said) world = Err (command_stop said)
 
 -- the one, unless memory was refused
-abbrev pub IsOr : {T : Type 0} → Result T Said → Result T Said → Type 0
+abbrev pub IsOr : {T : Type 0} → Result T Stop → Result T Stop → Type 0
 IsOr come known = (come ≡ known) ⊎ (come ≡ Err memory_stop)

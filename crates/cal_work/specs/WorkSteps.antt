@@ -9,11 +9,11 @@ use Rattle.cal_bytes.specs.Bytes.{AppendsFront, Writes}
 use Rattle.cal_zone.specs.ZoneMap.{ZoneMap}
 use Rattle.cal_zone.specs.declared.instant.Instant.{Instant}
 use Rattle.cal_zone.specs.declared.zone.Zone.{Zone as ClockZone}
-use Rattle.cal_command.specs.Ask.{Wanted, LocalSaid, in_utc, ahead, by_rule, of_name, ZoneSaid}
+use Rattle.cal_command.specs.Ask.{Ask, LocalZone, in_utc, ahead, by_rule, of_name, ZoneItem}
 use Rattle.cal_work.specs.Outcome.{World, ZoneFound, loaded, table_by, local_by, clock_by, present_by, outcome, outcome_of, run_by, out_text, err_text, outcome_status, ended_status}
 use Rattle.cal_report.specs.Report.{Report}
-use Rattle.cal_request.specs.Request.{Asked}
-use Rattle.cal_work.specs.Stop.{Said, exit_status, is_for_memory, is_out_stop, is_err_stop, outlet_of, said_of, text_of}
+use Rattle.cal_request.specs.Request.{Request}
+use Rattle.cal_work.specs.Stop.{Stop, exit_status, is_for_memory, is_out_stop, is_err_stop, outlet_of, shown_stop, text_of}
 use Rattle.cal_work.specs.System.{Known, Seen, IsTime}
 use Rattle.cal_work.specs.Works.{Fits, FitsWords, IsLocal, SeesFile, SeesZone, SeesZones}
 use Rattle.cal_work.specs.declared.zone_files.LoadFault.{LoadFault}
@@ -22,27 +22,27 @@ use Rattle.cal_request.specs.declared.request.RunFault.TheVariants.{OutFailed, E
 use Rattle.cal_request.specs.declared.request.Status.{Status}
 use Rattle.cal_work.specs.declared.stop.Outlet.{Outlet}
 use Rattle.cal_work.specs.declared.stop.Outlet.TheVariants.{OnOut, OnErr, Later}
-use Rattle.cal_work.specs.declared.stop.Stop.{Stop}
+use Rattle.cal_work.specs.declared.stop.Stop as declared_stop
 use Rattle.cal_work.specs.declared.stop.Stop.TheVariants.{Command, Zones, LocalRule, LocalName, Clock, Open, Run}
 
 -- whether it is the failure of standard output, or of standard error
-abbrev pub is_out_cut : {T : Type 0} → Result T Stop → Bool
+abbrev pub is_out_cut : {T : Type 0} → Result T declared_stop.Stop → Bool
 is_out_cut (Ok x) = false
 is_out_cut (Err stop) = is_out_stop stop
 
-abbrev pub is_err_cut : {T : Type 0} → Result T Stop → Bool
+abbrev pub is_err_cut : {T : Type 0} → Result T declared_stop.Stop → Bool
 is_err_cut (Ok x) = false
 is_err_cut (Err stop) = is_err_stop stop
 
 -- a stop before any run is what is said, unless it stands for running out of memory
-pub record StopsAs {X : Type 0} (stop : Stop) (come : Result X Said) : Type 0 where
+pub record StopsAs {X : Type 0} (stop : declared_stop.Stop) (come : Result X Stop) : Type 0 where
   pub before_out : is_out_stop stop ≡ false
   pub before_err : is_err_stop stop ≡ false
   pub stopped : IsErr come
-  pub said : is_for_memory stop ≡ false → come ≡ Err (said_of stop)
+  pub said : is_for_memory stop ≡ false → come ≡ Err (shown_stop stop)
 
 -- a step answers what is come to
-abbrev pub Answers : {A B : Type 0} → (A → B) → Result A Stop → Result B Said → Type 0
+abbrev pub Answers : {A B : Type 0} → (A → B) → Result A declared_stop.Stop → Result B Stop → Type 0
 Answers view (Ok value) come = come ≡ Ok (view value)
 Answers view (Err stop) come = StopsAs stop come
 
@@ -53,19 +53,19 @@ abbrev pub LoadsAs : Result Unit LoadFault → ZoneMap → Result ZoneMap LoadFa
 LoadsAs (Ok done) table come = come ≡ Ok table
 LoadsAs (Err fault) table come = come ≡ Err fault
 
-pub record Loads (known : Known) (before after : ZoneMap) (item : ZoneSaid) (result : Result Unit LoadFault) : Type 0 where
+pub record Loads (known : Known) (before after : ZoneMap) (item : ZoneItem) (result : Result Unit LoadFault) : Type 0 where
   pub found : ZoneFound
   pub sees : SeesZone known item found
   pub loads : LoadsAs result after (loaded before item found)
 
 -- all zone files
-pub record ReadsZones {T : Type 0} (view : T → ZoneMap) (known : Known) (items : List ZoneSaid) (result : Result T Stop) : Type 0 where
+pub record ReadsZones {T : Type 0} (view : T → ZoneMap) (known : Known) (items : List ZoneItem) (result : Result T declared_stop.Stop) : Type 0 where
   pub found : List ZoneFound
   pub sees : SeesZones known empty items found
   pub answers : Answers view result (table_by empty items found)
 
 -- the rule of the local zone, where there is one
-abbrev pub HasRules : LocalSaid → Option TimeZone → Type 0
+abbrev pub HasRules : LocalZone → Option TimeZone → Type 0
 HasRules in_utc rules = Unit {0}
 HasRules (ahead seconds) rules = Unit {0}
 HasRules (by_rule rule) None = ⊥
@@ -73,60 +73,60 @@ HasRules (by_rule rule) (Some zone) = IsSome (rule_read rule) × IsPosixZone rul
 HasRules (of_name name) rules = Unit {0}
 
 -- a rule that `jiff` doesn't read
-abbrev pub IsUnread : LocalSaid → Type 0
+abbrev pub IsUnread : LocalZone → Type 0
 IsUnread in_utc = ⊥
 IsUnread (ahead seconds) = ⊥
 IsUnread (by_rule rule) = IsSome (rule_read rule) → ⊥
 IsUnread (of_name name) = ⊥
 
 -- the local zone
-pub record FindsLocal {T : Type 0} (view : T → ClockZone) (said : LocalSaid) (table : ZoneMap) (result : Result T Stop) : Type 0 where
+pub record FindsLocal {T : Type 0} (view : T → ClockZone) (said : LocalZone) (table : ZoneMap) (result : Result T declared_stop.Stop) : Type 0 where
   pub zone : ClockZone
   pub is_local : IfOk (local_by said table zone) (IsLocal said table)
   pub answers : Answers view result (local_by said table zone)
 
 -- the clock
-pub record Reads {T : Type 0} (view : T → ℤ) (known : Known) (result : Result T Stop) : Type 0 where
+pub record Reads {T : Type 0} (view : T → ℤ) (known : Known) (result : Result T declared_stop.Stop) : Type 0 where
   pub clock : Option ℤ
   pub is_time : IsTime known.time clock
   pub answers : Answers view result (clock_by clock)
 
 -- the present instant
-pub record Presents {T : Type 0} (view : T → ℤ) (known : Known) (given : Option ℤ) (result : Result T Stop) : Type 0 where
+pub record Presents {T : Type 0} (view : T → ℤ) (known : Known) (given : Option ℤ) (result : Result T declared_stop.Stop) : Type 0 where
   pub clock : Option ℤ
   pub asked : IfNone given (IsTime known.time clock)
   pub answers : Answers view result (present_by given clock)
 
--- How the work for what is wanted ended
+-- How the work for what is ask ended
 
 -- the run's end
-abbrev pub ran : Result Status RunFault → Result Status Stop
+abbrev pub ran : Result Status RunFault → Result Status declared_stop.Stop
 ran (Ok status) = Ok status
 ran (Err fault) = Err (Run fault)
 
 -- the run of a request was cut, or there was none
-abbrev pub StopEnds : Stop → Result Report Said → Option (List ℕ) → Option (List ℕ) → Option (List ℕ) → Option (List ℕ) → Type 0
+abbrev pub StopEnds : declared_stop.Stop → Result Report Stop → Option (List ℕ) → Option (List ℕ) → Option (List ℕ) → Option (List ℕ) → Type 0
 StopEnds (Run fault) come out out' err err' =
     (ended_status {T = Unit} (Err fault) come ≡ 1) × AppendsFront out out' (out_text come) × AppendsFront err err' (err_text come)
 StopEnds stop come out out' err err' = StopsAs stop come × (out' ≡ out) × (err' ≡ err)
 
-abbrev pub EndsAs : Result Status Stop → Result Report Said → Option (List ℕ) → Option (List ℕ) → Option (List ℕ) → Option (List ℕ) → Type 0
+abbrev pub EndsAs : Result Status declared_stop.Stop → Result Report Stop → Option (List ℕ) → Option (List ℕ) → Option (List ℕ) → Option (List ℕ) → Type 0
 EndsAs (Ok status) come out out' err err' =
     (outcome_status come ≡ exit_status status) × Appends out out' (out_text come) × Appends err err' (err_text come)
 EndsAs (Err stop) come out out' err err' = StopEnds stop come out out' err err'
 
 -- the run of a request, with what was seen of its file
-pub record Runs (known : Known) (asked : Asked) (result : Result Status Stop) (out out' err err' : Option (List ℕ)) : Type 0 where
+pub record Runs (known : Known) (asked : Request) (result : Result Status declared_stop.Stop) (out out' err err' : Option (List ℕ)) : Type 0 where
   pub seen : Seen
   pub sees : SeesFile known asked seen
   pub ends : EndsAs result (run_by asked seen) out out' err err'
 
-pub record Answered (known : Known) (wanted : Wanted) (result : Result Status Stop) (out out' err err' : Option (List ℕ)) : Type 0 where
+pub record Answered (known : Known) (ask : Ask) (result : Result Status declared_stop.Stop) (out out' err err' : Option (List ℕ)) : Type 0 where
   pub world : World
-  pub fits : Fits known wanted world
-  pub ends : EndsAs result (outcome_of wanted world) out out' err err'
+  pub fits : Fits known ask world
+  pub ends : EndsAs result (outcome_of ask world) out out' err err'
 
-pub record AnsweredWords (known : Known) (words : List (List ℕ)) (result : Result Status Stop) (out out' err err' : Option (List ℕ)) : Type 0 where
+pub record AnsweredWords (known : Known) (words : List (List ℕ)) (result : Result Status declared_stop.Stop) (out out' err err' : Option (List ℕ)) : Type 0 where
   pub world : World
   pub fits : FitsWords known words world
   pub ends : EndsAs result (outcome world) out out' err err'
@@ -140,7 +140,7 @@ status_by (Err OutFailed) status = 1
 status_by (Err ErrFailed) status = status
 status_by (Err NoMemory) status = 1
 
-pub record WritesOf {T : Type 0} (written : Result T RunFault) (status : ℕ) (come : Result Report Said) (out out' err err' : Option (List ℕ)) : Type 0 where
+pub record WritesOf {T : Type 0} (written : Result T RunFault) (status : ℕ) (come : Result Report Stop) (out out' err err' : Option (List ℕ)) : Type 0 where
   pub by_status : ended_status written come ≡ status_by written status
   pub out_bytes : Writes out out' written (out_text come)
   pub err_bytes : Writes err err' written (err_text come)
@@ -157,5 +157,5 @@ TellsOn OnOut text result out out' err err' = Writes out out' result text × (er
 TellsOn OnErr text result out out' err err' = Writes err err' result text × (out' ≡ out)
 TellsOn (Later fault) text result out out' err err' = (result ≡ Err fault) × (out' ≡ out) × (err' ≡ err)
 
-abbrev pub TellsStop : Stop → Result Unit RunFault → Option (List ℕ) → Option (List ℕ) → Option (List ℕ) → Option (List ℕ) → Type 0
+abbrev pub TellsStop : declared_stop.Stop → Result Unit RunFault → Option (List ℕ) → Option (List ℕ) → Option (List ℕ) → Option (List ℕ) → Type 0
 TellsStop stop result out out' err err' = TellsOn (outlet_of stop) (text_of stop) result out out' err err'

@@ -16,12 +16,12 @@ use Rattle.cal_bytes.specs.declared.whole.WholeFault.{WholeFault}
 use Rattle.cal_zone.specs.declared.zone.Zone.{Zone as ClockZone}
 use Rattle.cal_zone.specs.declared.zone_fault.ZoneFault.TheVariants.{BadFile}
 use Rattle.cal_read.specs.TimerText.{most_file_bytes}
-use Rattle.cal_command.specs.Ask.{Wanted, LocalSaid, in_utc, ahead, by_rule, of_name, ZoneSaid, CommandSaid}
+use Rattle.cal_command.specs.Ask.{Ask, LocalZone, in_utc, ahead, by_rule, of_name, ZoneItem, CommandFault}
 use Rattle.cal_command.specs.CommandLine.{IsAskOf}
 use Rattle.cal_work.specs.Outcome.{World, ZoneFound, loaded, table_by, local_by, present_by, asked_at, outcome, out_text, err_text, ended_status}
 use Rattle.cal_report.specs.Report.{file_name}
-use Rattle.cal_request.specs.Request.{Asked, is_timer}
-use Rattle.cal_work.specs.Stop.{Said, fault_stop}
+use Rattle.cal_request.specs.Request.{Request, is_timer}
+use Rattle.cal_work.specs.Stop.{Stop, fault_stop}
 use Rattle.cal_work.specs.System.{Known, Seen, Sees, IsTime}
 use Rattle.cal_request.specs.declared.request.RunFault.{RunFault}
 use Rattle.cal_work.specs.declared.words_to_bytes.Ended.{Ended}
@@ -38,19 +38,19 @@ ReadsZone name None read = Unit {0}
 ReadsZone name (Some (Err fault)) read = Unit {0}
 ReadsZone name (Some (Ok bytes)) read = is_zone_name name ≡ true → IsReadZone name bytes read
 
-pub record SeesZone (known : Known) (item : ZoneSaid) (found : ZoneFound) : Type 0 where
+pub record SeesZone (known : Known) (item : ZoneItem) (found : ZoneFound) : Type 0 where
   pub sees : Sees known file_limit item.path found.seen
   pub reads : ReadsZone item.name found.seen found.zone
 
 -- each zone file in order is found so, up to the first that can't be loaded
-abbrev pub SeesZones : Known → ZoneMap → List ZoneSaid → List ZoneFound → Type 0
+abbrev pub SeesZones : Known → ZoneMap → List ZoneItem → List ZoneFound → Type 0
 SeesZones known table [] found = Unit {0}
 SeesZones known table (item ∷ items) [] = ⊥
 SeesZones known table (item ∷ items) (f ∷ found) =
     SeesZone known item f × IfOk (loaded table item f) (λ more. SeesZones known more items found)
 
 -- the local zone is the one that is said, as `jiff` has it
-abbrev pub IsLocal : LocalSaid → ZoneMap → ClockZone → Type 0
+abbrev pub IsLocal : LocalZone → ZoneMap → ClockZone → Type 0
 IsLocal in_utc table zone = zone ≡ utc
 IsLocal (ahead seconds) table zone =
     (is_utc zone ≡ false) × ((offset : Offset) → offset.seconds ≡ seconds → zone_of zone ≡ fixed_zone offset)
@@ -62,23 +62,23 @@ abbrev pub SeesIf : Bool → Known → List ℕ → Seen → Type 0
 SeesIf true known path seen = Sees known most_file_bytes path seen
 SeesIf false known path seen = Unit {0}
 
-abbrev pub SeesFile : Known → Asked → Seen → Type 0
+abbrev pub SeesFile : Known → Request → Seen → Type 0
 SeesFile known asked seen = SeesIf (is_timer asked.verb) known (file_name asked) seen
 
-abbrev pub FitsAt : Known → Wanted → World → ZoneMap → Type 0
-FitsAt known wanted world table =
-    IfOk (local_by wanted.local table world.local) (λ local. IsLocal wanted.local table local
-    × IfNone wanted.now (IsTime known.time world.clock)
-    × IfOk (present_by wanted.now world.clock) (λ now. SeesFile known (asked_at wanted table local now) world.file))
+abbrev pub FitsAt : Known → Ask → World → ZoneMap → Type 0
+FitsAt known ask world table =
+    IfOk (local_by ask.local table world.local) (λ local. IsLocal ask.local table local
+    × IfNone ask.now (IsTime known.time world.clock)
+    × IfOk (present_by ask.now world.clock) (λ now. SeesFile known (asked_at ask table local now) world.file))
 
-pub record Fits (known : Known) (wanted : Wanted) (world : World) : Type 0 where
-  pub zones : SeesZones known empty wanted.zones world.zones
-  pub after : IfOk (table_by empty wanted.zones world.zones) (FitsAt known wanted world)
+pub record Fits (known : Known) (ask : Ask) (world : World) : Type 0 where
+  pub zones : SeesZones known empty ask.zones world.zones
+  pub after : IfOk (table_by empty ask.zones world.zones) (FitsAt known ask world)
 
 -- and so do the words
 pub record FitsWords (known : Known) (words : List (List ℕ)) (world : World) : Type 0 where
   pub said : IsAskOf words world.said
-  pub fits : IfOk world.said (λ wanted. Fits known wanted world)
+  pub fits : IfOk world.said (λ ask. Fits known ask world)
 
 -- What is written
 

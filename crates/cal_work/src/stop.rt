@@ -2,8 +2,8 @@
 
 ghost use Rattle.std.specs.Prelude.{◌≡◌, [], false, is_err};
 ghost use Rattle.cal_bytes.specs.Bytes.{Writes};
-ghost use Rattle.cal_command.specs.Ask.{fault_said};
-ghost use Rattle.cal_work.specs.Stop.{command_outlet, command_stop, command_text, exit_status, fault_stop, load_outlet, load_stop, outlet_of, own_line, said_of, text_of, unread_line, zones_line};
+ghost use Rattle.cal_command.specs.Ask.{shown_fault};
+ghost use Rattle.cal_work.specs.Stop.{command_outlet, command_stop, command_text, exit_status, fault_stop, load_outlet, load_stop, outlet_of, own_line, shown_stop, text_of, unread_line, zones_line};
 
 use crate::zone_files::LoadFault;
 use cal_bytes::{Sink, WriteFault, put_all, put_pieces};
@@ -33,7 +33,7 @@ pub enum Stop {
 impl Stop {
     /// The exit status: 0 for help, 1 for a file or a run and where memory is refused, and else 2.
     pub fn status(&self) -> u8
-        ensures { result ≡ (said_of self.now).status }
+        ensures { result ≡ (shown_stop self.now).status }
     {
         match self {
             Stop::Command(fault) => command_status(fault),
@@ -95,7 +95,7 @@ fn load_outlet(fault: LoadFault) -> Outlet
 
 /// The status where the words ask for nothing that can be done.
 fn command_status(fault: &CommandFault) -> u8
-    ensures { result ≡ (command_stop (fault_said fault.now)).status }
+    ensures { result ≡ (command_stop (shown_fault fault.now)).status }
 {
     match fault {
         CommandFault::Usage(_) => 2,

@@ -6,13 +6,14 @@
 
 ghost use Rattle.std.specs.Prelude.{◌≡◌, ℕ, List, Option, Result, Ok, Err, Some, None, true, false, is_err, length, map, option_map, IfOk, IfErr};
 ghost use Rattle.cal_bytes.specs.Bytes.{Writes};
-ghost use Rattle.cal_command.specs.Ask.{local_said, texts_of, wanted_of, zone_said};
+ghost use Rattle.cal_command.specs.Ask.{shown_local, texts_of, shown_ask, shown_item};
 ghost use Rattle.cal_command.specs.LocalZone.{IsLocalOffset};
 ghost use Rattle.cal_work.specs.Outcome.{instant_in};
 ghost use Rattle.cal_report.specs.Report.{Report};
 ghost use Rattle.cal_request.specs.Request.{IsCount, asked, is_timer, seeks_elapses};
 ghost use Rattle.cal_request.specs.RunFault.{is_out_failed, is_err_failed};
-ghost use Rattle.cal_work.specs.Stop.{Said, is_out_stop, is_err_stop, load_stop, rule_stop, unread_stop};
+ghost use Rattle.cal_work.specs.Stop as stops;
+ghost use Rattle.cal_work.specs.Stop.{is_out_stop, is_err_stop, load_stop, rule_stop, unread_stop};
 ghost use Rattle.cal_work.specs.System.{Opens};
 ghost use Rattle.cal_work.specs.WorkSteps.{is_out_cut, is_err_cut, ran, status_by, Answered, AnsweredWords, EndsAs, FindsLocal, HasRules, IsSettled, IsUnread, Loads, Presents, Reads, ReadsZones, Runs, StopsAs, TellsStop, WritesOf};
 ghost use Rattle.cal_work.specs.Works.{Reaches, TellsFault, Works};
@@ -59,7 +60,7 @@ pub fn work<S: System, O: Output, E: Sink>(
 {
     let answered = answer_words(alloc, system, words, out, err);
     let reported = tell(&answered, out, err);
-    let written = settled(reported.written, out);
+    let written = settle_output(reported.written, out);
     tell_fault(written, err);
     Ended {
         status: status_by(written, reported.status),
@@ -110,7 +111,7 @@ fn answer<S: System, O: Sink, E: Sink>(
 ) -> Result<Status, Stop>
     requires out { O.is_failed out.old ≡ false }
     requires err { E.is_failed err.old ≡ false }
-    ensures answered { Answered (S.tells system.now) (wanted_of ask.entry.now) result
+    ensures answered { Answered (S.tells system.now) (shown_ask ask.entry.now) result
         (O.written out.old) (O.written out.new) (E.written err.old) (E.written err.new) }
     ensures out_failed { O.is_failed out.new ≡ is_out_cut result }
     ensures err_failed { E.is_failed err.new ≡ is_err_cut result }
@@ -127,7 +128,7 @@ fn answer<S: System, O: Sink, E: Sink>(
         Ok(local) => local,
         Err(stop) => return Err(stop),
     };
-    let now = match present(system, ask.now) {
+    let now = match find_present(system, ask.now) {
         Ok(now) => now,
         Err(stop) => return Err(stop),
     };
@@ -138,7 +139,7 @@ fn answer<S: System, O: Sink, E: Sink>(
 
 /// The table of the zone files, which are read in order.
 fn read_zones<S: System>(alloc: Global, system: &S, items: &[ZoneItem]) -> Result<ZoneTable, Stop>
-    ensures { ReadsZones (λ table. table) (S.tells system.now) (map zone_said items.now) result }
+    ensures { ReadsZones (λ table. table) (S.tells system.now) (map shown_item items.now) result }
 {
     let mut table = ZoneTable::new(alloc);
     for item in items {
@@ -160,7 +161,7 @@ fn load_item<S: System>(
     table: &mut ZoneTable,
     item: &ZoneItem,
 ) -> Result<(), LoadFault>
-    ensures { Loads (S.tells system.now) table.old table.new (zone_said item.now) result }
+    ensures { Loads (S.tells system.now) table.old table.new (shown_item item.now) result }
 {
     match system.open(item.path.as_str()) {
         Some(mut file) => load_zone(alloc, table, item.name.as_str(), &mut file),
@@ -180,8 +181,8 @@ fn zone_stop(alloc: Global, name: &str, fault: LoadFault) -> Stop
 
 /// The rules of the local zone, where it is said by a rule.
 fn read_rules(alloc: Global, local: &LocalZone) -> Result<Option<Rules>, Stop>
-    ensures rules { IfOk result (HasRules (local_said local.now)) }
-    ensures refused { IfErr result (λ stop. StopsAs {X = Unit} stop (Err rule_stop) × IsUnread (local_said local.now)) }
+    ensures rules { IfOk result (HasRules (shown_local local.now)) }
+    ensures refused { IfErr result (λ stop. StopsAs {X = Unit} stop (Err rule_stop) × IsUnread (shown_local local.now)) }
 {
     let LocalZone::Posix(rule) = local else {
         return Ok(None);
@@ -198,9 +199,9 @@ fn local_zone<'t>(
     rules: &'t Option<Rules>,
     table: &'t ZoneTable,
 ) -> Result<Zone<'t>, Stop>
-    requires rules { HasRules (local_said local.now) rules.now }
+    requires rules { HasRules (shown_local local.now) rules.now }
     requires offset { IsLocalOffset local.now }
-    ensures { FindsLocal (λ zone. zone) (local_said local.now) table.now result }
+    ensures { FindsLocal (λ zone. zone) (shown_local local.now) table.now result }
 {
     match local {
         LocalZone::Utc => Ok(Zone::utc()),
@@ -217,7 +218,7 @@ fn local_zone<'t>(
 }
 
 /// The present instant: the one that is given, or the clock's.
-fn present<S: System>(system: &S, given: Option<Instant>) -> Result<Instant, Stop>
+fn find_present<S: System>(system: &S, given: Option<Instant>) -> Result<Instant, Stop>
     ensures { Presents (λ now. now.secs) (S.tells system.now) (option_map (λ now. now.secs) given) result }
 {
     match given {
@@ -314,7 +315,7 @@ fn open_file<S: System>(alloc: Global, system: &S, path: &str) -> Result<S::File
 fn tell<O: Sink, E: Sink>(answered: &Result<Status, Stop>, out: &mut O, err: &mut E) -> Ended
     requires out { O.is_failed out.old ≡ is_out_cut answered.now }
     requires err { E.is_failed err.old ≡ is_err_cut answered.now }
-    ensures reported { (come : Result Report Said) (before_out before_err : Option (List ℕ))
+    ensures reported { (come : Result Report stops.Stop) (before_out before_err : Option (List ℕ))
         → EndsAs answered.now come before_out (O.written out.old) before_err (E.written err.old)
         → WritesOf result.written result.status come before_out (O.written out.new) before_err (E.written err.new) }
     ensures out_failed { O.is_failed out.new ≡ is_out_failed result.written }
@@ -354,7 +355,7 @@ fn tell_stop<O: Sink, E: Sink>(stop: &Stop, out: &mut O, err: &mut E) -> Result<
 }
 
 /// Settles the output, also where something failed, so that what comes before the fault goes out.
-fn settled<O: Output>(written: Result<(), RunFault>, out: &mut O) -> Result<(), RunFault>
+fn settle_output<O: Output>(written: Result<(), RunFault>, out: &mut O) -> Result<(), RunFault>
     requires { O.is_failed out.old ≡ is_out_failed written }
     ensures bytes { (before : Option (List ℕ)) (text : List ℕ) → Writes before (O.written out.old) written text
         → Reaches before (O.reached out.new) result text }

@@ -6,11 +6,11 @@ ghost use Rattle.std.specs.List.{list_any};
 ghost use Rattle.std.specs.Str.{bytes_eq};
 ghost use Rattle.cal_spec.specs.Fields.{Fields};
 ghost use Rattle.cal_spec.specs.declared.spec_fault.SpecFault.{SpecFault};
-ghost use Rattle.cal_read.specs.Assignments.{Assigned, is_header, section_of, timer_lines};
+ghost use Rattle.cal_read.specs.Assignments.{Assignment, is_header, section_of, timer_lines};
 ghost use Rattle.cal_lines.specs.Lines.{Line};
 ghost use Rattle.cal_read.specs.TimerRule.{Judges};
 ghost use Rattle.cal_read.specs.declared.timer.fault.TimerFault.{TimerFault};
-ghost use Rattle.cal_read.specs.TimerText.{Lists, excepted, is_exception, is_exception_reset, is_expression, is_reset, lists_of, listed};
+ghost use Rattle.cal_read.specs.TimerText.{Timer, excepted, is_exception, is_exception_reset, is_expression, is_reset, lists_of, listed};
 
 /// A line is in the section `Timer` where the last header before it opens that section; a header is in none.
 pub fn one_section()
@@ -24,31 +24,31 @@ pub fn one_section()
 
 /// The list of expressions is those after the last reset, or all of them where there is no reset.
 pub fn one_list()
-    ensures after_reset { (front rest : List Assigned) (reset : Assigned)
+    ensures after_reset { (front rest : List Assignment) (reset : Assignment)
         → is_reset reset ≡ true → list_any is_reset rest ≡ false
         → listed (front ++ (reset ∷ rest)) ≡ filter is_expression rest }
-    ensures no_reset { (all : List Assigned) → list_any is_reset all ≡ false → listed all ≡ filter is_expression all }
+    ensures no_reset { (all : List Assignment) → list_any is_reset all ≡ false → listed all ≡ filter is_expression all }
 {}
 
 /// The list of exceptions is those after the last empty value of their own key, or all of them where there is none. What
 /// empties the list of expressions leaves it, and the other way round.
 pub fn one_list_of_exceptions()
-    ensures after_reset { (front rest : List Assigned) (reset : Assigned)
+    ensures after_reset { (front rest : List Assignment) (reset : Assignment)
         → is_exception_reset reset ≡ true → list_any is_exception_reset rest ≡ false
         → excepted (front ++ (reset ∷ rest)) ≡ filter is_exception rest }
-    ensures no_reset { (all : List Assigned) → list_any is_exception_reset all ≡ false
+    ensures no_reset { (all : List Assignment) → list_any is_exception_reset all ≡ false
         → excepted all ≡ filter is_exception all }
-    ensures kept { (before : List Assigned) (reset : Assigned) → is_reset reset ≡ true
+    ensures kept { (before : List Assignment) (reset : Assignment) → is_reset reset ≡ true
         → excepted (before ++ reset ∷ []) ≡ excepted before }
-    ensures keeps { (before : List Assigned) (reset : Assigned) → is_exception_reset reset ≡ true
+    ensures keeps { (before : List Assignment) (reset : Assignment) → is_exception_reset reset ≡ true
         → listed (before ++ reset ∷ []) ≡ listed before }
 {}
 
 /// Assignments have exactly one result: the lists, where none of them has a fault and there is an expression; the first
 /// fault; or that there is nothing to do.
 pub fn one_judgement()
-    ensures some { (read : List ℕ → Result Fields SpecFault) (all : List Assigned)
+    ensures some { (read : List ℕ → Result Fields SpecFault) (all : List Assignment)
         → Judges read all (lists_of read all) }
-    ensures only { (read : List ℕ → Result Fields SpecFault) (all : List Assigned)
-        (result : Result (Lists Fields) TimerFault) → Judges read all result → result ≡ lists_of read all }
+    ensures only { (read : List ℕ → Result Fields SpecFault) (all : List Assignment)
+        (result : Result (Timer Fields) TimerFault) → Judges read all result → result ≡ lists_of read all }
 {}

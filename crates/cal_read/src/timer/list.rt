@@ -3,7 +3,8 @@
 
 ghost use Rattle.std.specs.Prelude.{◌≡◌, ◌≢◌, ◌∷◌, List, Some, Ok, Err, MatchResult, map};
 ghost use Rattle.cal_spec.specs.Expr.{expr_in};
-ghost use Rattle.cal_read.specs.Assignments.{Assigned, assignments_in};
+ghost use Rattle.cal_read.specs.Assignments as assignments;
+ghost use Rattle.cal_read.specs.Assignments.{assignments_in};
 ghost use Rattle.cal_lines.specs.LineView.{line_at};
 ghost use Rattle.cal_read.specs.AssignmentView.{shown_assignment};
 ghost use Rattle.cal_lines.specs.Lines.{Line};
@@ -67,10 +68,10 @@ fn assign(
     assignment: Assignment<'_>,
 ) -> Result<(), TimerFault>
     ensures { MatchResult result
-        (λ _. (after : List Assigned)
+        (λ _. (after : List assignments.Assignment)
         → resumed expr_in (shown_lists lists.old) (shown_assignment assignment.entry ∷ after)
         ≡ resumed expr_in (shown_lists lists.new) after)
-        (λ fault. fault ≢ TimerFault.NoMemory → (after : List Assigned)
+        (λ fault. fault ≢ TimerFault.NoMemory → (after : List assignments.Assignment)
         → resumed expr_in (shown_lists lists.old) (shown_assignment assignment.entry ∷ after)
         ≡ Err fault) }
 {

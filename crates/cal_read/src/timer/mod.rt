@@ -33,10 +33,10 @@ pub struct Timer {
 impl Model for Timer {
     ghost use Rattle.std.specs.Prelude.{map};
     ghost use Rattle.cal_spec.specs.Fields.{Fields};
-    ghost use Rattle.cal_read.specs.TimerText.{Lists};
+    ghost use Rattle.cal_read.specs.TimerText.{Timer};
     ghost use Rattle.cal_read.specs.TimerView.{shown};
 
-    ghost Value = { Lists Fields };
+    ghost Value = { Timer Fields };
 
     ghost view = { λ timer. record { expressions = map shown timer.lines.items; exceptions = map shown timer.exceptions.items } };
 }

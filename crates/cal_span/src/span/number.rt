@@ -61,7 +61,7 @@ fn split_at_point(word: &[u8]) -> (&[u8], &[u8])
     }
 }
 
-/// The place of the first point.
+/// The index of the first point.
 fn point_index(word: &[u8]) -> Option<usize>
     ensures { result ≡ position is_point word.now }
 {

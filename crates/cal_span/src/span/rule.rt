@@ -6,16 +6,16 @@ ghost use Rattle.cal_span.specs.declared.scale.Scale.{Scale};
 ghost use Rattle.cal_span.specs.declared.span.fault.SpanFault.{SpanFault};
 ghost use Rattle.cal_span.specs.Scale.{words_for};
 ghost use Rattle.cal_span.specs.SpanRule.{AreRuns, AreApart, ArePairs, Judges};
-ghost use Rattle.cal_span.specs.SpanValue.{Piece, Pair, symbols, runs, pairs_of, unit_named, pairs_in, span_of};
+ghost use Rattle.cal_span.specs.SpanValue.{Piece, Pair, characters, runs, pairs_of, unit_named, pairs_in, span_of};
 
 /// Each text has exactly one value or fault by the rule of systemd.time(7), Parsing Time Spans, and
 /// it is the one that `read_span` gives.
 pub fn one_value()
     // The longest runs are the characters, cut wherever their kind changes, and nothing else is.
-    ensures cut { (text : List ℕ) → AreRuns (symbols text) (runs (symbols text)) }
-    ensures longest { (text : List ℕ) → AreApart (runs (symbols text)) }
+    ensures cut { (text : List ℕ) → AreRuns (characters text) (runs (characters text)) }
+    ensures longest { (text : List ℕ) → AreApart (runs (characters text)) }
     ensures only_runs { (text : List ℕ) (words : List Piece)
-        → AreRuns (symbols text) words → AreApart words → words ≡ runs (symbols text) }
+        → AreRuns (characters text) words → AreApart words → words ≡ runs (characters text) }
 
     // The pairs are those of the words, and nothing else is.
     ensures paired { (words : List Piece) → ArePairs words (pairs_of words) }

@@ -2,7 +2,7 @@
 //! them (systemd.time(7), Parsing Time Spans).
 
 ghost use Rattle.std.specs.Prelude.{◌≡◌, ◌≤◌, ◌<◌, ◌∷◌, [], MatchOption, length, take, drop};
-ghost use Rattle.cal_span.specs.SpanValue.{symbols, words_in};
+ghost use Rattle.cal_span.specs.SpanValue.{characters, words_in};
 ghost use Rattle.cal_span.specs.SpanWord.{front_of, after_front};
 
 /// What a character of a span text is.
@@ -41,8 +41,8 @@ pub(crate) fn first_word(bytes: &[u8]) -> Option<(Word<'_>, &[u8])>
 /// The number of bytes of the longest prefix of this kind.
 fn front_len(bytes: &[u8], kind: CharKind) -> usize
     ensures within { result ≤ length bytes.now }
-    ensures front { take result bytes.now ≡ front_of kind (symbols bytes.now) }
-    ensures rest { symbols (drop result bytes.now) ≡ after_front kind (symbols bytes.now) }
+    ensures front { take result bytes.now ≡ front_of kind (characters bytes.now) }
+    ensures rest { characters (drop result bytes.now) ≡ after_front kind (characters bytes.now) }
 {
     let mut len = 0;
     while let Some((found, width)) = first(&bytes[len..]) {
@@ -58,8 +58,8 @@ fn front_len(bytes: &[u8], kind: CharKind) -> usize
 /// other character outside ASCII is by itself.
 fn first(bytes: &[u8]) -> Option<(CharKind, usize)>
     ensures { MatchOption result (bytes.now ≡ []) (λ found.
-        (symbols bytes.now
-        ≡ record { kind = found.0; text = take found.1 bytes.now } ∷ symbols (drop found.1 bytes.now))
+        (characters bytes.now
+        ≡ record { kind = found.0; text = take found.1 bytes.now } ∷ characters (drop found.1 bytes.now))
         × (0 < found.1) × (found.1 ≤ length bytes.now)) }
 {
     match bytes {

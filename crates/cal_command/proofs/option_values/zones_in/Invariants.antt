@@ -1,14 +1,14 @@
 use Rattle.std.proofs.Common.{map, vec_len}
 use Rattle.std.specs.Option.{option_copied}
 use Rattle.cal_bytes.specs.SplitPieces.{left, pieces_after}
-use Rattle.cal_command.specs.Ask.{zone_said}
+use Rattle.cal_command.specs.Ask.{shown_item}
 use Rattle.cal_command.specs.OptionValues.{is_comma}
 use Rattle.cal_command.proofs.OptionLemmas.{ZonesRead}
 use Rattle.cal_command.proofs.option_values.zones_in.Given as goal
 
 -- the items so far with those that are left
 abbrev pub invariant-loop-rest : goal.invariant-loop-rest
-invariant-loop-rest l = ZonesRead (map zone_said l.items.items) (vec_len l.items) (pieces_after is_comma (option_copied l.rest)) l.fn.text
+invariant-loop-rest l = ZonesRead (map shown_item l.items.items) (vec_len l.items) (pieces_after is_comma (option_copied l.rest)) l.fn.text
 
 abbrev pub decreases-loop-rest : goal.decreases-loop-rest
 decreases-loop-rest l = left (option_copied l.rest)

@@ -5,4 +5,4 @@ use Rattle.cal_elapse.proofs.bits.has_bit.Goals as goal
 
 pub returns : goal.returns
 unfolding is_bit
-returns c = search (ap (λ (b : ℕ). b == 1) (shr_and_one c.args.mask c.args.place))
+returns c = search (ap (λ (b : ℕ). b == 1) (shr_and_one c.args.mask c.args.index))

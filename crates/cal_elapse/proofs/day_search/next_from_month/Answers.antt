@@ -58,16 +58,16 @@ returns-in-Some-next-clause-first c =
     let all = first_day-end in
     let last_day : first_day (month.index + 1) ≡ month.first + month.length = ap first_day next ∙ (last ∙ omega (arith, month.first_is, month.length_is)) in
     let start : 0 ≡ month.first - month.first = omega arith in
-    let here = first_in_month (sets_in c.args.masks.now) month.first month.length c.of.result.bits month.first c.in-Some-next.place
+    let here = first_in_month (sets_in c.args.masks.now) month.first month.length c.of.result.bits month.first c.in-Some-next.day
     (record { days = c.of.ensures.days; within = c.of.ensures.within }) (omega arith)
-    (subst (λ (n : ℕ). IsFirstPassing (is_bit c.of.result.bits) n 64 (Some c.in-Some-next.place)) start (search (c.in-Some-next.ensures))) in
+    (subst (λ (n : ℕ). IsFirstPassing (is_bit c.of.result.bits) n 64 (Some c.in-Some-next.day)) start (search (c.in-Some-next.ensures))) in
     let none = months_none (sets_in c.args.masks.now) index c.in-Some.next (omega (arith, found.1)) found.3 in
     let rises_from = first_day-rises c.args.from index inv.from_in in
     let rises = first_day-rises index c.in-Some.next found.0 in
     let before = subst (λ (t : ℕ). NonePasses days (first_day index) t) (sym begins) none in
-    first_then days (first_day c.args.from) (first_day index) 84_006 (Some (month.first + c.in-Some-next.place)) inv.none rises_from
-    (first_then days (first_day index) month.first 84_006 (Some (month.first + c.in-Some-next.place)) before (omega arith)
-    (first_within days month.first (month.first + month.length) 84_006 (month.first + c.in-Some-next.place) (omega arith) here))
+    first_then days (first_day c.args.from) (first_day index) 84_006 (Some (month.first + c.in-Some-next.day)) inv.none rises_from
+    (first_then days (first_day index) month.first 84_006 (Some (month.first + c.in-Some-next.day)) before (omega arith)
+    (first_within days month.first (month.first + month.length) 84_006 (month.first + c.in-Some-next.day) (omega arith) here))
 
 pub returns-in-Some-next-clause-counted : goal.returns-in-Some-next-clause-counted
 returns-in-Some-next-clause-counted c =
@@ -77,9 +77,9 @@ returns-in-Some-next-clause-counted c =
     let same = c.month_at-month.ensures in
     let begins : month.first ≡ first_day c.in-Some.next = month.first_is ∙ ap first_day same in
     let long : month.length ≡ length_of c.in-Some.next = month.length_is ∙ ap length_of same in
-    let inside = c.of.ensures.within c.in-Some-next.place c.in-Some-next.ensures.2 in
+    let inside = c.of.ensures.within c.in-Some-next.day c.in-Some-next.ensures.2 in
     let s = sets_in c.args.masks.now in
-    let looks = looks_some s c.args.from c.loop-next.index c.in-Some.next c.in-Some-next.place
+    let looks = looks_some s c.args.from c.loop-next.index c.in-Some.next c.in-Some-next.day
     (count_from (month_in s) c.args.from (c.loop-next.index - c.args.from)) 0 inv.from_in found.0 found.1 (omega arith) found.3 found.2 refl in
     rw (begins, looks) (omega (arith, c.of.ensures.counted, inv.counted))
 

@@ -30,7 +30,7 @@ overflow_add-result c =
 pub returns-in-Some-clause-first : goal.returns-in-Some-clause-first
 returns-in-Some-clause-first c =
     let month = c.args.month in
-    first_in_month (sets_in c.args.masks.now) month.first month.length c.of.result.bits c.args.from c.in-Some.place
+    first_in_month (sets_in c.args.masks.now) month.first month.length c.of.result.bits c.args.from c.in-Some.day
     (record { days = c.of.ensures.days; within = c.of.ensures.within }) c.requires.low (search (c.in-Some.ensures))
 
 pub returns-in-None-clause-first : goal.returns-in-None-clause-first

@@ -4,5 +4,5 @@ use Rattle.cal_spec.specs.Members.{members_of, sets_of}
 use Rattle.cal_spec.specs.declared.field.Field.TheVariants.{Day}
 use Rattle.cal_elapse.proofs.masks_of.counts_from_end.Given as goal
 
-abbrev pub invariant-loop-place : goal.invariant-loop-place
-invariant-loop-place l = (i : ℕ) → is_bit l.mask i ≡ (nat_lt i l.place && members_of Day (sets_of l.expr) (31 - i))
+abbrev pub invariant-loop-index : goal.invariant-loop-index
+invariant-loop-index l = (i : ℕ) → is_bit l.mask i ≡ (nat_lt i l.index && members_of Day (sets_of l.expr) (31 - i))

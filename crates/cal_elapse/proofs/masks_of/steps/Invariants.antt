@@ -2,6 +2,6 @@ use Rattle.std.proofs.Common.{◌≡◌, ◌==◌, ◌&&◌, ◌+◌, ◌-◌, �
 use Rattle.cal_elapse.specs.Bits.{is_bit}
 use Rattle.cal_elapse.proofs.masks_of.steps.Given as goal
 
-abbrev pub invariant-loop-place : goal.invariant-loop-place
-invariant-loop-place l =
-    (i : ℕ) → is_bit l.mask i ≡ ((nat_le l.low i && nat_lt i (min l.place l.high)) && ((l.first + i - l.start) % l.step == 0))
+abbrev pub invariant-loop-index : goal.invariant-loop-index
+invariant-loop-index l =
+    (i : ℕ) → is_bit l.mask i ≡ ((nat_le l.low i && nat_lt i (min l.index l.high)) && ((l.first + i - l.start) % l.step == 0))

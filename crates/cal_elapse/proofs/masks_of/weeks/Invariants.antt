@@ -2,5 +2,5 @@ use Rattle.std.proofs.Common.{◌≡◌, ◌&&◌, ◌%◌, slice_index_or, fals
 use Rattle.cal_elapse.specs.Bits.{is_bit}
 use Rattle.cal_elapse.proofs.masks_of.weeks.Given as goal
 
-abbrev pub invariant-loop-place : goal.invariant-loop-place
-invariant-loop-place l = (i : ℕ) → is_bit l.mask i ≡ (nat_lt i l.place && slice_index_or l.weekdays (i % 7) false)
+abbrev pub invariant-loop-index : goal.invariant-loop-index
+invariant-loop-index l = (i : ℕ) → is_bit l.mask i ≡ (nat_lt i l.index && slice_index_or l.weekdays (i % 7) false)

@@ -5,7 +5,7 @@ use Rattle.cal_zone.specs.Instant.{IsInstant}
 use Rattle.cal_zone.specs.Local.{seconds_in_all-is}
 use Rattle.cal_zone.specs.Zone.{zone_of}
 use Rattle.cal_elapse.specs.Near.{IsNear}
-use Rattle.cal_rising.specs.RisingList.{placed}
+use Rattle.cal_rising.specs.RisingList.{with_number}
 use Rattle.cal_elapse.proofs.WindowLemmas.{place_found, put_instant, put_near, with_place-above, with_place-given, with_place-none}
 use Rattle.cal_elapse.proofs.window.put_place.Goals as goal
 
@@ -43,5 +43,5 @@ returns-clause-put c =
     let fits : FitsSigned w64 c.in-Some.instant = search rules in
     let above = c.if-instant-last.false in
     c.put.ensures
-    ∙ (ap (λ (i : ℤ). placed i c.args.pending.now) (to_z-of_z w64 c.in-Some.instant fits)
+    ∙ (ap (λ (i : ℤ). with_number i c.args.pending.now) (to_z-of_z w64 c.in-Some.instant fits)
     ∙ with_place-above _ c.in-Some.instant c.args.last c.args.pending.now (place_found (zone_of c.args.placer.now) c.args.local c.place.result c.requires.local_in c.place.ensures.value ∙ c.in-Some.is) (search rules))

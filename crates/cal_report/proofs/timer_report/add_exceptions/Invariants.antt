@@ -1,6 +1,6 @@
 -- The merge has the elapses of each exception so far.
 use Rattle.std.proofs.Common.{◌≡◌, ◌++◌, false, map, take}
-use Rattle.cal_rising.specs.Merge.{Merging}
+use Rattle.cal_rising.specs.Merge.{Merge}
 use Rattle.cal_read.specs.TimerView.{shown}
 use Rattle.cal_report.specs.Context.{asked_by}
 use Rattle.cal_report.specs.TimerPlan.{each_of}
@@ -8,8 +8,8 @@ use Rattle.cal_report.proofs.timer_report.add_exceptions.Given as goal
 
 abbrev pub invariant-loop-line : goal.invariant-loop-line
 invariant-loop-line l =
-    ◌≡◌ {A = Merging} l.merge (record {
+    ◌≡◌ {A = Merge} l.merge (record {
       started = false;
       lists = l.fn.merge.lists;
-      excepts = l.fn.merge.excepts ++ each_of (asked_by l.context) l.context.base.secs (map shown (take l.line-index l.lines));
+      exceptions = l.fn.merge.exceptions ++ each_of (asked_by l.context) l.context.base.secs (map shown (take l.line-index l.lines));
     })

@@ -1,10 +1,10 @@
 use Rattle.std.proofs.Common.{◌≡◌, ◌<◌, ℕ, map, slice_index_or}
-use Rattle.cal_rising.specs.Merge.{HasHead, Stream, numbers}
+use Rattle.cal_rising.specs.Merge.{HasHead, Branch, numbers}
 use Rattle.cal_rising.proofs.sources.fetch_all.Given as goal
 
 -- the sources give what they gave, and the ones gone through have a head
 abbrev pub invariant-loop-branch : goal.invariant-loop-branch
 invariant-loop-branch g l = record {
   same : map numbers l.branch-items ≡ map numbers l.initial.branch-items;
-  taken : (k : ℕ) (d : Stream) → k < l.branch-index → HasHead (slice_index_or l.branch-items k d);
+  taken : (k : ℕ) (d : Branch) → k < l.branch-index → HasHead (slice_index_or l.branch-items k d);
 }

@@ -1,7 +1,7 @@
 use Rattle.std.proofs.Common.{rules, ◌∙◌, FitsSigned, List, ap, arith, length-set, map, set, sym, w64, ℤ}
 use Rattle.std.proofs.lemmas.Int.{to_z-of_z}
 use Rattle.std.specs.List.{list_any}
-use Rattle.cal_rising.specs.Merge.{Stream, numbers}
+use Rattle.cal_rising.specs.Merge.{Branch, numbers}
 use Rattle.cal_rising.specs.RisingList.{is_in}
 use Rattle.cal_rising.proofs.MergeLemmas.{whole_again}
 use Rattle.cal_rising.proofs.WithoutLemmas.{any-set, behind_all, behind_here, behind_more}
@@ -21,8 +21,8 @@ pub returns-then-has-clause-left : goal.returns-then-has-clause-left
 returns-then-has-clause-left g c = λ i le.
     let number = c.args.number in
     let fits : FitsSigned w64 number = search rules in
-    let whole = whole_again (set c.loop-branch.branch-items c.loop-branch.branch-index c.has.new.self) c.args.branches.now.items c.args.branches.now.len (omega (arith, length-set {A = Stream})) (omega arith) in
-    let any = λ (ss : List Stream). list_any (λ xs. is_in xs i) (map numbers ss) in
+    let whole = whole_again (set c.loop-branch.branch-items c.loop-branch.branch-index c.has.new.self) c.args.branches.now.items c.args.branches.now.len (omega (arith, length-set {A = Branch})) (omega arith) in
+    let any = λ (ss : List Branch). list_any (λ xs. is_in xs i) (map numbers ss) in
     ap any whole
     ∙ any-set i c.loop-branch.branch-items c.loop-branch.branch-index c.has.new.self c.branch-item.result (omega arith)
     (ap (λ (xs : List ℤ). is_in xs i) c.has.ensures.same)

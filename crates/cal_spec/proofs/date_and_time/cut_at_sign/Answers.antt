@@ -6,10 +6,10 @@ use Rattle.cal_spec.proofs.date_and_time.cut_at_sign.Goals as goal
 
 pub returns-in_err-index : goal.returns-in_err-index
 returns-in_err-index c =
-    rw c.from_residual.ensures (cut_none is_date_sign c.args.word.now (sym c.sign_place.ensures ∙ c.in_err-index.was))
+    rw c.from_residual.ensures (cut_none is_date_sign c.args.word.now (sym c.sign_index.ensures ∙ c.in_err-index.was))
 
 pub returns : goal.returns
 returns c =
     let word = c.args.word.now in
     let n = c.in_ok-index.index in
-    rw (take_rest word (n + 1)) (cut_some is_date_sign word n (sym c.sign_place.ensures ∙ c.in_ok-index.was))
+    rw (take_rest word (n + 1)) (cut_some is_date_sign word n (sym c.sign_index.ensures ∙ c.in_ok-index.was))

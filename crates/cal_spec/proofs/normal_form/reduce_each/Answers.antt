@@ -8,5 +8,5 @@ pub loop-part-preserved : goal.loop-part-preserved
 loop-part-preserved c =
     let at = c.loop-part.part-index in
     let part = get_or c.loop-part.part-items at (point 0) in
-    rw c.reduced.ensures
+    rw c.reduce.ensures
     (map_over_more reduced c.args.parts.now.items c.loop-part.part-items at part (omega arith) c.loop-part.invariant (get_or_default c.loop-part.part-items at (point 0) part (omega arith)))

@@ -1,5 +1,5 @@
 use Rattle.std.proofs.Common.{◌<◌, ◌≤◌, rules, length, get_or}
-use Rattle.cal_spec.proofs.SignLemmas.{digits_at_front}
+use Rattle.cal_spec.proofs.SymbolLemmas.{digits_at_front}
 use Rattle.cal_spec.proofs.numbers.first_symbol.Goals as goal
 
 pub returns-in-48-to-57 : goal.returns-in-48-to-57

@@ -1,4 +1,4 @@
-use Rattle.cal_spec.proofs.SignLemmas.{first_has_digits}
+use Rattle.cal_spec.proofs.SymbolLemmas.{first_has_digits}
 use Rattle.cal_spec.proofs.parts.read_number.Goals as goal
 
 pub value_of-number-requires : goal.value_of-number-requires

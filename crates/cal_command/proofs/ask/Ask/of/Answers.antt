@@ -1,11 +1,11 @@
 use Rattle.std.proofs.Common.{◌∙◌}
-use Rattle.cal_command.specs.Ask.{ask_said, texts_of}
+use Rattle.cal_command.specs.Ask.{shown_answer, texts_of}
 use Rattle.cal_command.specs.GivenView.{values_of}
 use Rattle.cal_command.proofs.CommandLineLemmas.{read_said}
 use Rattle.cal_command.proofs.ask.Ask.of.Goals as goal
 
 pub returns : goal.returns
 returns c = record {
-  exact = read_said (texts_of c.args.words.now) (values_of c.in-Some.given) (ask_said c.asked.result) c.in_ok-matches.ensures.faults
-      (c.in-Some.ensures.value ∙ c.in_ok-matches.ensures.found) c.asked.ensures;
+  exact = read_said (texts_of c.args.words.now) (values_of c.in-Some.given) (shown_answer c.read_options.result) c.in_ok-matches.ensures.faults
+      (c.in-Some.ensures.value ∙ c.in_ok-matches.ensures.found) c.read_options.ensures;
 }

@@ -10,56 +10,56 @@ returns-then-not-has_onward-clause-given g c =
     let number = c.in-Some.number in
     let fits : FitsSigned w64 number = search rules in
     let lists = c.loop-number.self-inside.sources in
-    let excepts = union c.loop-number.self-inside.exceptions in
+    let exceptions = union c.loop-number.self-inside.exceptions in
     let left = union c.has_onward.new.self in
-    let onward : IsSameFrom number left excepts = λ i le. c.has_onward.ensures.left i (rw (to_z-of_z w64 number fits) le) in
+    let onward : IsSameFrom number left exceptions = λ i le. c.has_onward.ensures.left i (rw (to_z-of_z w64 number fits) le) in
     let at : first (union lists) ≡ Some number = sym c.next.ensures.given ∙ c.in-Some.is in
-    let lacks : is_in excepts number ≡ false = sym (rw (to_z-of_z w64 number fits) at c.has_onward.ensures.has) ∙ c.if-not-has_onward.true in
+    let lacks : is_in exceptions number ≡ false = sym (rw (to_z-of_z w64 number fits) at c.has_onward.ensures.has) ∙ c.if-not-has_onward.true in
     rw (to_z-of_z w64 number fits)
-    (ap first (sym (without-given number (union lists) excepts left at (IsRising-union lists) onward lacks) ∙ c.loop-number.invariant.same))
+    (ap first (sym (without-given number (union lists) exceptions left at (IsRising-union lists) onward lacks) ∙ c.loop-number.invariant.same))
 
 pub returns-then-not-has_onward-clause-left : goal.returns-then-not-has_onward-clause-left
 returns-then-not-has_onward-clause-left g c =
     let number = c.in-Some.number in
     let fits : FitsSigned w64 number = search rules in
     let lists = c.loop-number.self-inside.sources in
-    let excepts = union c.loop-number.self-inside.exceptions in
+    let exceptions = union c.loop-number.self-inside.exceptions in
     let left = union c.has_onward.new.self in
-    let onward : IsSameFrom number left excepts = λ i le. c.has_onward.ensures.left i (rw (to_z-of_z w64 number fits) le) in
+    let onward : IsSameFrom number left exceptions = λ i le. c.has_onward.ensures.left i (rw (to_z-of_z w64 number fits) le) in
     let at : first (union lists) ≡ Some number = sym c.next.ensures.given ∙ c.in-Some.is in
-    let lacks : is_in excepts number ≡ false = sym (rw (to_z-of_z w64 number fits) at c.has_onward.ensures.has) ∙ c.if-not-has_onward.true in
+    let lacks : is_in exceptions number ≡ false = sym (rw (to_z-of_z w64 number fits) at c.has_onward.ensures.has) ∙ c.if-not-has_onward.true in
     ap (λ (xs : List ℤ). without xs left) c.next.ensures.left
-    ∙ ap later (sym (without-given number (union lists) excepts left at (IsRising-union lists) onward lacks) ∙ c.loop-number.invariant.same)
+    ∙ ap later (sym (without-given number (union lists) exceptions left at (IsRising-union lists) onward lacks) ∙ c.loop-number.invariant.same)
 
 pub loop-number-preserved : goal.loop-number-preserved
 loop-number-preserved g c =
     let number = c.in-Some.number in
     let fits : FitsSigned w64 number = search rules in
     let lists = c.loop-number.self-inside.sources in
-    let excepts = union c.loop-number.self-inside.exceptions in
+    let exceptions = union c.loop-number.self-inside.exceptions in
     let left = union c.has_onward.new.self in
-    let onward : IsSameFrom number left excepts = λ i le. c.has_onward.ensures.left i (rw (to_z-of_z w64 number fits) le) in
+    let onward : IsSameFrom number left exceptions = λ i le. c.has_onward.ensures.left i (rw (to_z-of_z w64 number fits) le) in
     let at : first (union lists) ≡ Some number = sym c.next.ensures.given ∙ c.in-Some.is in
-    let there : is_in excepts number ≡ true = sym (rw (to_z-of_z w64 number fits) at c.has_onward.ensures.has) ∙ c.if-not-has_onward.false in
+    let there : is_in exceptions number ≡ true = sym (rw (to_z-of_z w64 number fits) at c.has_onward.ensures.has) ∙ c.if-not-has_onward.false in
     record {
       started = c.loop-number.invariant.started;
       same = ap (λ (xs : List ℤ). without xs left) c.next.ensures.left
-          ∙ without-passed number (union lists) excepts left at (IsRising-union lists) onward there
+          ∙ without-passed number (union lists) exceptions left at (IsRising-union lists) onward there
           ∙ c.loop-number.invariant.same;
     }
 
 pub returns-clause-given : goal.returns-clause-given
 returns-clause-given g c =
     let lists = c.loop-number.self-inside.sources in
-    let excepts = union c.loop-number.self-inside.exceptions in
+    let exceptions = union c.loop-number.self-inside.exceptions in
     let at : first (union lists) ≡ None = sym c.next.ensures.given ∙ c.in_default.is in
-    ap first (sym (without-nothing (union lists) excepts at) ∙ c.loop-number.invariant.same)
+    ap first (sym (without-nothing (union lists) exceptions at) ∙ c.loop-number.invariant.same)
 
 pub returns-clause-left : goal.returns-clause-left
 returns-clause-left g c =
     let lists = c.loop-number.self-inside.sources in
-    let excepts = union c.loop-number.self-inside.exceptions in
+    let exceptions = union c.loop-number.self-inside.exceptions in
     let at : first (union lists) ≡ None = sym c.next.ensures.given ∙ c.in_default.is in
-    ap (λ (xs : List ℤ). without xs excepts) c.next.ensures.left
-    ∙ without-later-nothing (union lists) excepts at
-    ∙ ap later (sym (without-nothing (union lists) excepts at) ∙ c.loop-number.invariant.same)
+    ap (λ (xs : List ℤ). without xs exceptions) c.next.ensures.left
+    ∙ without-later-nothing (union lists) exceptions at
+    ∙ ap later (sym (without-nothing (union lists) exceptions at) ∙ c.loop-number.invariant.same)

@@ -1,5 +1,5 @@
 use Rattle.std.proofs.Common.{◌≡◌, ◌≤◌, ◌-◌, ◌++◌, length, take, drop}
-use Rattle.cal_span.specs.SpanValue.{symbols}
+use Rattle.cal_span.specs.SpanValue.{characters}
 use Rattle.cal_span.specs.SpanWord.{front_of, after_front}
 use Rattle.cal_span.proofs.span.word.front_len.Given as goal
 
@@ -7,8 +7,8 @@ use Rattle.cal_span.proofs.span.word.front_len.Given as goal
 abbrev pub invariant-loop-found : goal.invariant-loop-found
 invariant-loop-found l = record {
   in_range : l.len ≤ length l.bytes;
-  front : front_of l.kind (symbols l.bytes) ≡ take l.len l.bytes ++ front_of l.kind (symbols (drop l.len l.bytes));
-  rest : after_front l.kind (symbols l.bytes) ≡ after_front l.kind (symbols (drop l.len l.bytes));
+  front : front_of l.kind (characters l.bytes) ≡ take l.len l.bytes ++ front_of l.kind (characters (drop l.len l.bytes));
+  rest : after_front l.kind (characters l.bytes) ≡ after_front l.kind (characters (drop l.len l.bytes));
 }
 
 abbrev pub decreases-loop-found : goal.decreases-loop-found

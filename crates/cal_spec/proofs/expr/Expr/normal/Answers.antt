@@ -1,6 +1,6 @@
 use Rattle.std.proofs.Common.{◌≡◌, refl, sym, subst}
 use Rattle.cal_spec.specs.Expr.{IsExpr}
-use Rattle.cal_spec.specs.declared.raw.Raw.{Raw}
+use Rattle.cal_spec.specs.declared.fields.Fields as declared_fields
 use Rattle.cal_spec.specs.Fields.{fields_of}
 use Rattle.cal_spec.specs.NormalForm.{normal_fields}
 use Rattle.cal_spec.specs.Slot.{day_slot}
@@ -19,7 +19,7 @@ normal_date-requires-clause-month c = parts_from_sound Month _ c.requires.month
 
 pub normal_date-requires-clause-day : goal.normal_date-requires-clause-day
 unfolding fields_of
-normal_date-requires-clause-day c = parts_from_sound (day_slot c.args.raw.date.from_end) _ c.requires.day
+normal_date-requires-clause-day c = parts_from_sound (day_slot c.args.fields.date.from_end) _ c.requires.day
 
 pub normal_time-requires-clause-hour : goal.normal_time-requires-clause-hour
 unfolding fields_of
@@ -36,10 +36,10 @@ normal_time-requires-clause-second c = parts_from_sound Second _ c.requires.seco
 pub invariant_of-result : goal.invariant_of-result
 unfolding fields_of normal_fields
 invariant_of-result c =
-    let f = fields_of c.args.raw in
+    let f = fields_of c.args.fields in
     let date = c.normal_date.ensures in
     let time = c.normal_time.ensures in
-    let made : Raw = record { weekdays = c.args.raw.weekdays; date = c.normal_date.result; time = c.normal_time.result; zone = c.args.raw.zone } in
+    let made : declared_fields.Fields = record { weekdays = c.args.fields.weekdays; date = c.normal_date.result; time = c.normal_time.result; zone = c.args.fields.zone } in
     let same : fields_of made ≡ normal_fields f = rw (date.year, date.month, date.day, time.hour, time.minute, time.second, date.from_end) refl in
     subst IsExpr (sym same) (record { valid = fields_valid f c.requires; normal = fields_twice f c.requires })
 

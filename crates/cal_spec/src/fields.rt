@@ -1,11 +1,11 @@
-//! What a text says before it is brought into its normal form.
+//! What a calendar expression says, as it was written or in its normal form.
 
 use crate::Part;
 use crate::zone_suffix::ZoneSuffix;
 
-/// The components of a date as they were written; `None` is `*`.
+/// The components of a date; `None` is `*`.
 #[derive(PartialEq, Eq, Debug, Drop)]
-pub struct RawDate {
+pub struct DateFields {
     pub year: Option<Vec<Part>>,
     pub month: Option<Vec<Part>>,
     pub day: Option<Vec<Part>>,
@@ -13,20 +13,20 @@ pub struct RawDate {
     pub from_end: bool,
 }
 
-/// The components of a time of day as they were written; `None` is `*`.
+/// The components of a time of day; `None` is `*`.
 #[derive(PartialEq, Eq, Debug, Drop)]
-pub struct RawTime {
+pub struct TimeFields {
     pub hour: Option<Vec<Part>>,
     pub minute: Option<Vec<Part>>,
     pub second: Option<Vec<Part>>,
 }
 
-/// The fields of a calendar expression as they were written.
+/// The fields of a calendar expression.
 #[derive(PartialEq, Eq, Debug, Drop)]
-pub struct Raw {
+pub struct Fields {
     /// Whether each weekday is chosen, from Monday on.
     pub weekdays: [bool; 7],
-    pub date: RawDate,
-    pub time: RawTime,
+    pub date: DateFields,
+    pub time: TimeFields,
     pub zone: Option<ZoneSuffix>,
 }

@@ -1,5 +1,5 @@
 use Rattle.std.proofs.Common.{◌≡◌, map, take, string_bytes}
-use Rattle.cal_command.proofs.option_values.owned.Given as goal
+use Rattle.cal_command.proofs.option_values.to_owned.Given as goal
 
 -- the texts so far are on the heap
 abbrev pub invariant-loop-text : goal.invariant-loop-text

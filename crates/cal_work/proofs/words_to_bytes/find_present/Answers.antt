@@ -1,6 +1,6 @@
 use Rattle.std.proofs.Common.{None, refl}
 use Rattle.cal_work.specs.Outcome.{present_by}
-use Rattle.cal_work.proofs.words_to_bytes.present.Goals as goal
+use Rattle.cal_work.proofs.words_to_bytes.find_present.Goals as goal
 
 pub returns-in-Some : goal.returns-in-Some
 unfolding present_by

@@ -1,6 +1,6 @@
 use Rattle.std.proofs.Common.{false}
 use Rattle.cal_work.proofs.TellLemmas.{reaches_fault, reaches_settled, reaches_unsettled}
-use Rattle.cal_work.proofs.words_to_bytes.settled.Goals as goal
+use Rattle.cal_work.proofs.words_to_bytes.settle_output.Goals as goal
 
 pub returns-then-settle-clause-bytes : goal.returns-then-settle-clause-bytes
 returns-then-settle-clause-bytes g c =

@@ -2,7 +2,7 @@ use Rattle.std.proofs.Common.{◌∙◌, rules}
 use Rattle.clap.specs.Words.{subcommand_rows_of}
 use Rattle.cal_command.specs.CommandLine.{given_in}
 use Rattle.cal_command.proofs.CommandLineLemmas.{found_none, found_some, map-first}
-use Rattle.cal_command.proofs.command_line.found.Goals as goal
+use Rattle.cal_command.proofs.command_line.find_values.Goals as goal
 
 pub returns-in_err-name-clause-value : goal.returns-in_err-name-clause-value
 unfolding given_in

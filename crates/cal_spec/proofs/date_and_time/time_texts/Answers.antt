@@ -1,5 +1,5 @@
 use Rattle.cal_spec.proofs.PieceLemmas.{no_time}
-use Rattle.cal_spec.proofs.date_and_time.time_words.Goals as goal
+use Rattle.cal_spec.proofs.date_and_time.time_texts.Goals as goal
 
 pub returns-in-Some-after : goal.returns-in-Some-after
 returns-in-Some-after c =

@@ -1,0 +1,8 @@
+-- What contracts see of the texts of an expression by their roles.
+use Rattle.std.specs.Option.{option_copied}
+use Rattle.cal_spec.specs.Words.{Roles, words}
+use Rattle.cal_spec.specs.declared.words.Roles as declared
+
+abbrev pub shown_roles : declared.Roles → Roles
+shown_roles p =
+    record { weekdays = option_copied p.weekdays; date = p.date.now; time = p.time.now; rest = words p.rest.now }
