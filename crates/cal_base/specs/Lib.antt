@@ -11,8 +11,6 @@ pub use Rattle.cal_span.specs.SpanText
 pub use Rattle.cal_span.specs.SpanValue
 pub use Rattle.cal_span.specs.SpanWord
 pub use Rattle.cal_zone.specs.Civil
-pub use Rattle.cal_zone.specs.DayAfter
-pub use Rattle.cal_zone.specs.Days
 pub use Rattle.cal_zone.specs.Instant
 pub use Rattle.cal_zone.specs.InstantText
 pub use Rattle.cal_zone.specs.Local
@@ -22,11 +20,10 @@ pub use Rattle.cal_zone.specs.Place
 pub use Rattle.cal_zone.specs.Rules
 pub use Rattle.cal_zone.specs.ShownDay
 pub use Rattle.cal_zone.specs.Steady
-pub use Rattle.cal_zone.specs.Weekday
-pub use Rattle.cal_zone.specs.Zone
-pub use Rattle.cal_zone.specs.ZoneAhead
 pub use Rattle.cal_zone.specs.ZoneFault
 pub use Rattle.cal_zone.specs.ZoneFile
 pub use Rattle.cal_zone.specs.ZoneMap
-pub use Rattle.cal_zone.specs.ZoneName
 pub use Rattle.cal_zone.specs.ZoneTable
+pub use Rattle.cal_bytes.specs.headline as BytesHeadline
+pub use Rattle.cal_span.specs.headline as SpanHeadline
+pub use Rattle.cal_zone.specs.headline as ZoneHeadline

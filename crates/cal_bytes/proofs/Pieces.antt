@@ -7,7 +7,8 @@ use Rattle.std.specs.List.{flat_map}
 use Rattle.std.specs.Prelude.{IsErr}
 use Rattle.std.proofs.lemmas.Bool.{false≢true}
 use Rattle.std.specs.Io.KnownBytes.{Appends}
-use Rattle.cal_bytes.specs.Bytes.{AppendsFront, Writes, Leaves, joined}
+use Rattle.cal_bytes.specs.Bytes.{AppendsFront, Writes, Leaves}
+use Rattle.cal_bytes.specs.headline.Bytes.{joined}
 
 -- a text that is written under another spelling
 appends_respelled : (a b : Option (List ℕ)) (xs ys : List ℕ) → xs ≡ ys → Appends a b xs → Appends a b ys

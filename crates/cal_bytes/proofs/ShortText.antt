@@ -4,7 +4,7 @@ use Rattle.std.proofs.lemmas.List.{append-nil, append_assoc, length-append, take
 use Rattle.std.proofs.lemmas.List.Concat.{flat_map-append}
 use Rattle.std.proofs.lemmas.List.Folds.{length-flat_map-take}
 use Rattle.std.specs.List.{flat_map}
-use Rattle.cal_bytes.specs.Bytes.{joined}
+use Rattle.cal_bytes.specs.headline.Bytes.{joined}
 
 -- the front of eight bytes of one kind
 pub taken : (n byte : ℕ) → n ≤ 8 → take n (replicate 8 byte) ≡ replicate n byte

@@ -1,7 +1,5 @@
--- Bytes out and in: what one call of a writer or a reader does to its bytes, what a call that writes a
--- text leaves behind, and how the texts of calls in a row come together.
+-- What one call of a writer or a reader does to its bytes, and what a call that writes a text leaves behind.
 use Rattle.std.specs.Prelude.{◌≡◌, ℕ, ◌<◌, ◌≤◌, List, ◌++◌, length, take, Option, None, Some, Result, Ok, Err}
-use Rattle.std.specs.List.{flat_map}
 use Rattle.std.specs.Io.KnownBytes.{Keeps, Appends, Consumes, IsAtEnd}
 
 -- What an `offer` of a piece does: `None` wrote nothing; `Some n` wrote the first n bytes of the piece,
@@ -27,10 +25,6 @@ pub record AppendsFront (old new : Option (List ℕ)) (text : List ℕ) : Type 0
 abbrev pub Writes : {T E : Type 0} → Option (List ℕ) → Option (List ℕ) → Result T E → List ℕ → Type 0
 Writes old new (Ok x) text = Appends old new text
 Writes old new (Err e) text = AppendsFront old new text
-
--- The text of pieces in a row. Every layout is written as one such list.
-abbrev pub joined : List (List ℕ) → List ℕ
-joined = flat_map (λ piece. piece)
 
 -- Of the text a prefix has been written, and the rest is what is left to write.
 pub record Leaves (old new : Option (List ℕ)) (rest text : List ℕ) : Type 0 where

@@ -3,3 +3,4 @@ pub mod Fill
 pub mod Output
 pub mod SplitPieces
 pub mod Whole
+pub mod headline

@@ -6,7 +6,7 @@ use Rattle.std.specs.Str.{all_ascii_digits, str_eq_ignore_ascii_case}
 use Rattle.std.specs.Str.Parse.{digits_value}
 use Rattle.cal_zone.specs.Instant.{last_instant}
 use Rattle.cal_zone.specs.OffsetWord.{offset_in}
-use Rattle.cal_zone.specs.ZoneName.{is_zone_name}
+use Rattle.cal_zone.specs.headline.ZoneName.{is_zone_name}
 use Rattle.cal_command.specs.Ask.{LocalZone, in_utc, ahead, by_rule, of_name, ZoneItem}
 use Rattle.cal_request.specs.Request.{most_iterations}
 

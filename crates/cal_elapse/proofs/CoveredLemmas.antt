@@ -3,15 +3,17 @@ use Rattle.std.proofs.Common.{◌≡◌, ◌⊎◌, ◌↔◌, ◌++◌, ℕ, Bo
 use Rattle.std.proofs.lemmas.Bool.{false≢true}
 use Rattle.std.proofs.lemmas.Int.{ints}
 use Rattle.jiff.specs.Types.{TimeZone}
-use Rattle.cal_spec.specs.Fields.{Fields}
-use Rattle.cal_spec.specs.Match.{Sets, date_in, matches, time_in}
-use Rattle.cal_spec.specs.Members.{sets_of}
-use Rattle.cal_rising.specs.RisingList.{Has, is_in}
+use Rattle.cal_spec.specs.headline.Fields.{Fields}
+use Rattle.cal_spec.specs.headline.Match.{Sets, date_in, matches, time_in}
+use Rattle.cal_spec.specs.headline.Members.{sets_of}
+use Rattle.cal_rising.specs.RisingList.{is_in}
+use Rattle.cal_rising.specs.headline.RisingList.{Has}
 use Rattle.cal_rising.proofs.RisingLemmas.{list-no_first}
 use Rattle.cal_rising.proofs.WithoutLemmas.{Has-is_in, is_in-Has}
 use Rattle.cal_elapse.specs.Covered.{AreAmong, AreKept, IsCovered}
-use Rattle.cal_elapse.specs.Elapses.{IsElapse, IsPlace, Timed, elapses_after, elapses_except}
-use Rattle.cal_elapse.specs.Timed.{timed}
+use Rattle.cal_elapse.specs.Elapses.{elapses_after, elapses_except}
+use Rattle.cal_elapse.specs.headline.Elapses.{IsElapse, IsPlace, Timed}
+use Rattle.cal_elapse.specs.headline.Timed.{timed}
 use Rattle.cal_elapse.proofs.AmongLemmas.{both}
 use Rattle.cal_elapse.proofs.ElapsesLemmas.{AreAbove-elapses_after, AreElapses-elapses_except, AreElapses-only, first-none}
 

@@ -3,15 +3,16 @@ use Rattle.std.proofs.Common.{◌≡◌, ◌↔◌, ◌∙◌, ℕ, Bool, true, 
 use Rattle.std.proofs.lemmas.Bool.{false≢true}
 use Rattle.jiff.proofs.SpanFacts.{signed_arith}
 use Rattle.cal_zone.specs.Instant.{IsInstant}
-use Rattle.cal_zone.specs.Local.{seconds_in_all-is}
+use Rattle.cal_zone.specs.headline.Local.{seconds_in_all-is}
 use Rattle.cal_zone.specs.LocalAt.{IsLocalAt}
-use Rattle.cal_zone.specs.Zone.{zone_of}
+use Rattle.cal_zone.specs.headline.Zone.{zone_of}
 use Rattle.cal_zone.specs.declared.zone.Zone.{Zone}
 use Rattle.cal_zone.proofs.PlaceLemmas.{one_local_second, within}
-use Rattle.cal_spec.specs.Match.{matches}
+use Rattle.cal_spec.specs.headline.Match.{matches}
 use Rattle.cal_rising.specs.RisingList.{is_in}
 use Rattle.cal_rising.proofs.WithoutLemmas.{Has-is_in, is_in-Has, same_truth}
-use Rattle.cal_elapse.specs.Elapses.{IsPlace, elapses_after}
+use Rattle.cal_elapse.specs.Elapses.{elapses_after}
+use Rattle.cal_elapse.specs.headline.Elapses.{IsPlace}
 use Rattle.cal_elapse.specs.Masks.{sets_in}
 use Rattle.cal_elapse.specs.Rest.{rest_of}
 use Rattle.cal_elapse.specs.Window.{timed_by, timed_of}

@@ -4,11 +4,13 @@ use Rattle.std.specs.List.{filter, filter_map, cons_option, range_with_len, slic
 use Rattle.std.proofs.Math.Seq.{take-add}
 use Rattle.std.proofs.lemmas.Bool.{cases_eq}
 use Rattle.std.proofs.lemmas.Int.{ints}
-use Rattle.cal_zone.specs.Local.{seconds_in_all}
-use Rattle.cal_elapse.specs.Elapses.{Timed, places, elapses_after, elapses_except, IsPlace, IsElapse, AreAbove, AreElapses}
+use Rattle.cal_zone.specs.headline.Local.{seconds_in_all}
+use Rattle.cal_elapse.specs.Elapses.{places, elapses_after, elapses_except}
+use Rattle.cal_elapse.specs.headline.Elapses.{Timed, IsPlace, IsElapse, AreAbove, AreElapses}
 use Rattle.cal_elapse.specs.Merged.{each_after}
 use Rattle.cal_rising.specs.Rises.{IsRising-without}
-use Rattle.cal_rising.specs.RisingList.{Has, HasAny, IsRising, first, later, union, without}
+use Rattle.cal_rising.specs.RisingList.{HasAny, first, later, union, without}
+use Rattle.cal_rising.specs.headline.RisingList.{Has, IsRising}
 use Rattle.cal_rising.proofs.RisingLemmas.{above_has, chained, later_members, same_rising, Has-union, IsRising-union}
 use Rattle.cal_rising.proofs.WithoutLemmas.{Has-without, without-none}
 

@@ -4,13 +4,15 @@ use Rattle.std.proofs.lemmas.Int.{ints}
 use Rattle.jiff.proofs.SpanFacts.{signed_arith}
 use Rattle.jiff.specs.Types.{TimeZone}
 use Rattle.cal_zone.specs.Instant.{IsInstant}
-use Rattle.cal_zone.specs.Local.{seconds_in_all-is}
+use Rattle.cal_zone.specs.headline.Local.{seconds_in_all-is}
 use Rattle.cal_zone.proofs.PlaceLemmas.{within}
-use Rattle.cal_spec.specs.Fields.{Fields}
-use Rattle.cal_elapse.specs.Elapses.{IsElapse, IsPlace, elapses_except}
-use Rattle.cal_rising.specs.RisingList.{Has, first}
-use Rattle.cal_elapse.specs.Timed.{timed}
-use Rattle.cal_elapse.specs.Elapses.{Timed}
+use Rattle.cal_spec.specs.headline.Fields.{Fields}
+use Rattle.cal_elapse.specs.Elapses.{elapses_except}
+use Rattle.cal_elapse.specs.headline.Elapses.{IsElapse, IsPlace}
+use Rattle.cal_rising.specs.RisingList.{first}
+use Rattle.cal_rising.specs.headline.RisingList.{Has}
+use Rattle.cal_elapse.specs.headline.Timed.{timed}
+use Rattle.cal_elapse.specs.headline.Elapses.{Timed}
 use Rattle.cal_elapse.proofs.ElapsesLemmas.{AreElapses-elapses_except}
 
 place_in : (fields : Fields) (tz : TimeZone) (i : ℤ) → pos 0 ≤ℤ i → IsPlace (timed fields tz) i → IsInstant i

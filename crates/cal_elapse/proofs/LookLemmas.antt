@@ -1,7 +1,7 @@
 -- The days of a month, and how many months were looked at.
 use Rattle.std.proofs.Common.{◌≡◌, ℕ, zero, suc, ◌+◌, ◌-◌, ◌*◌, ◌/◌, ◌%◌, ◌<◌, ◌≤◌, cond, Bool, true, false, Option, None, Some, ap, subst, sym, ◌∙◌, arith}
 use Rattle.std.proofs.lemmas.Bool.{true_from_ne_false}
-use Rattle.cal_zone.specs.Local.{civil_date}
+use Rattle.cal_zone.specs.headline.Local.{civil_date}
 use Rattle.cal_elapse.specs.Bits.{is_bit}
 use Rattle.cal_elapse.specs.Count.{count_from}
 use Rattle.cal_elapse.specs.Looks.{looks_from, month_looks}
@@ -9,7 +9,7 @@ use Rattle.cal_elapse.specs.Months.{day_in, first_day, first_day-suc, length_of,
 use Rattle.cal_elapse.specs.Search.{IsFirstPassing, NonePasses}
 use Rattle.cal_elapse.proofs.CountLemmas.{count_from-most, count_from-none, count_from-one}
 use Rattle.cal_elapse.proofs.MonthLemmas.{first_day-end, length_bounds, located, month_low, month_of-is, months_none, no_day}
-use Rattle.cal_spec.specs.Match.{Sets}
+use Rattle.cal_spec.specs.headline.Match.{Sets}
 
 -- no day of a month whose year or number is no member
 pub none_of_month : (sets : Sets) (n first length from : ℕ) → n < 2_760 → first ≡ first_day n → length ≡ length_of n → first ≤ from → month_in sets n ≡ false

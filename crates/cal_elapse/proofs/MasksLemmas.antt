@@ -7,9 +7,10 @@ use Rattle.std.proofs.lemmas.Bool.Decides.{nat_tests}
 use Rattle.cal_elapse.specs.Bits.{is_bit, is_in_words}
 use Rattle.cal_elapse.specs.Masks.{day_place}
 use Rattle.cal_elapse.proofs.BitLemmas.{is_bit-none}
-use Rattle.cal_spec.specs.Members.{component_has, in_field, lies, lies_by, part_has, repeats, values}
-use Rattle.cal_spec.specs.Slot.{least, greatest, day_slot}
-use Rattle.cal_spec.specs.Sound.{AreSound, EndsAfter, IsSound, IsEndWithin, IsStep, IsWithin}
+use Rattle.cal_spec.specs.headline.Members.{component_has, in_field, lies, lies_by, part_has, repeats, values}
+use Rattle.cal_spec.specs.headline.Slot.{least, greatest, day_slot}
+use Rattle.cal_spec.specs.Sound.{AreSound}
+use Rattle.cal_spec.specs.headline.Sound.{EndsAfter, IsSound, IsEndWithin, IsStep, IsWithin}
 use Rattle.cal_spec.specs.declared.part.Part.{Part}
 use Rattle.cal_spec.specs.declared.slot.Slot.{Slot}
 use Rattle.cal_spec.specs.declared.slot.Slot.TheVariants.{Year, Month, Day, DayFromEnd, Hour, Minute, Second}

@@ -2,8 +2,8 @@
 use Rattle.std.proofs.Common.{◌≡◌, ◌⊎◌, ◌∙◌, ℕ, ◌+◌, ◌<◌, ◌≤◌, Bool, true, Option, None, Some, max, unsigned_abs, unwrap_or, IfSome, IsSome, ◌-◌, ℤ, pos, ap, arith, inl, inr, refl, subst, sym}
 use Rattle.std.proofs.lemmas.Bool.{cases_lt}
 use Rattle.std.specs.Option.{option_map}
-use Rattle.cal_spec.specs.Match.{Sets, matches}
-use Rattle.cal_zone.specs.Local.{seconds_in_all}
+use Rattle.cal_spec.specs.headline.Match.{Sets, matches}
+use Rattle.cal_zone.specs.headline.Local.{seconds_in_all}
 use Rattle.cal_elapse.specs.Count.{count_from}
 use Rattle.cal_elapse.specs.Left.{IsNextLeft}
 use Rattle.cal_elapse.specs.Looks.{IsSearch, month_looks}

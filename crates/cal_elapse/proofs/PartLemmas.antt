@@ -6,10 +6,11 @@ use Rattle.std.proofs.lemmas.Bool.{cases_lt, le-ltb, lt-ltb}
 use Rattle.std.proofs.lemmas.Bool.Decides.{nat_tests}
 use Rattle.cal_elapse.specs.Masks.{IsWindow, last_number, slot_of}
 use Rattle.cal_spec.specs.Expr.{component}
-use Rattle.cal_spec.specs.Fields.{Fields}
-use Rattle.cal_spec.specs.Members.{component_has, in_field, lies, lies_by, members_of, part_has, repeats, sets_of, values}
+use Rattle.cal_spec.specs.headline.Fields.{Fields}
+use Rattle.cal_spec.specs.Members.{members_of}
+use Rattle.cal_spec.specs.headline.Members.{component_has, in_field, lies, lies_by, part_has, repeats, sets_of, values}
 use Rattle.cal_spec.specs.Parts.{is_from_end}
-use Rattle.cal_spec.specs.Slot.{greatest}
+use Rattle.cal_spec.specs.headline.Slot.{greatest}
 use Rattle.cal_spec.specs.declared.field.Field.{Field}
 use Rattle.cal_spec.specs.declared.field.Field.TheVariants as field
 use Rattle.cal_spec.specs.declared.part.Part.{Part}

@@ -3,19 +3,19 @@ use Rattle.std.proofs.Common.{◌≡◌, ℕ, ◌+◌, ◌-◌, ◌<◌, ◌≤�
 use Rattle.std.proofs.lemmas.Int.{ints, to_z_pos}
 use Rattle.jiff.proofs.SpanFacts.{signed_arith}
 use Rattle.cal_zone.specs.Instant.{IsInstant}
-use Rattle.cal_spec.specs.Fields.{Fields}
-use Rattle.cal_spec.specs.Members.{sets_of}
-use Rattle.cal_elapse.specs.Timed.{timed}
-use Rattle.cal_zone.specs.Local.{seconds_in_all, seconds_in_all-is}
-use Rattle.cal_zone.specs.Place.{place_of}
-use Rattle.cal_zone.specs.Zone.{zone_of}
+use Rattle.cal_spec.specs.headline.Fields.{Fields}
+use Rattle.cal_spec.specs.headline.Members.{sets_of}
+use Rattle.cal_elapse.specs.headline.Timed.{timed}
+use Rattle.cal_zone.specs.headline.Local.{seconds_in_all, seconds_in_all-is}
+use Rattle.cal_zone.specs.headline.Place.{place_of}
+use Rattle.cal_zone.specs.headline.Zone.{zone_of}
 use Rattle.cal_zone.specs.declared.zone.Zone.{Zone}
-use Rattle.cal_elapse.specs.Elapses.{Timed}
+use Rattle.cal_elapse.specs.headline.Elapses.{Timed}
 use Rattle.cal_elapse.specs.Looks.{IsSearch}
 use Rattle.cal_elapse.specs.Masks.{sets_in}
 use Rattle.cal_elapse.specs.Most.{IsMost}
 use Rattle.cal_elapse.specs.Rest.{rest_of}
-use Rattle.cal_rising.specs.RisingList.{Has}
+use Rattle.cal_rising.specs.headline.RisingList.{Has}
 use Rattle.cal_elapse.specs.Search.{IsFirstPassing, NonePasses}
 use Rattle.cal_elapse.specs.Window.{IsMatchAhead, IsPlacedTo, IsReady, Windowed, bound_of, count_from, start_of, timed_by, timed_of, with_place}
 use Rattle.cal_elapse.specs.declared.masks.Masks.{Masks}
@@ -25,7 +25,7 @@ use Rattle.cal_elapse.specs.declared.window.Window.{Window}
 use Rattle.cal_elapse.proofs.CountLemmas.{count_from-begun, count_from-most, count_from-on, count_from-with}
 use Rattle.cal_elapse.proofs.MostLemmas.{most_more, most_next, most_start}
 use Rattle.cal_elapse.proofs.WindowLemmas.{timed_by-near, windowed_on, windowed_put, windowed_start}
-use Rattle.cal_spec.specs.Match.{matches}
+use Rattle.cal_spec.specs.headline.Match.{matches}
 
 -- what the search answered
 pub record IsNext (e : Timed) (from : ℕ) (answer : Option ℕ) : Type 0 where

@@ -4,19 +4,20 @@ use Rattle.std.proofs.lemmas.Int.{ints, to_z-of_z, to_z_pos}
 use Rattle.jiff.proofs.SpanFacts.{signed_arith}
 use Rattle.jiff.specs.Types.{TimeZone}
 use Rattle.cal_rising.proofs.RisingLemmas.{list-first, list-no_first}
-use Rattle.cal_rising.specs.RisingList.{Has, IsRising, first}
-use Rattle.cal_spec.specs.Match.{matches}
+use Rattle.cal_rising.specs.RisingList.{first}
+use Rattle.cal_rising.specs.headline.RisingList.{Has, IsRising}
+use Rattle.cal_spec.specs.headline.Match.{matches}
 use Rattle.cal_zone.proofs.PlaceLemmas.{within}
-use Rattle.cal_zone.specs.Local.{seconds_in_all, seconds_in_all-is}
+use Rattle.cal_zone.specs.headline.Local.{seconds_in_all, seconds_in_all-is}
 use Rattle.cal_zone.specs.Steady.{AreAhead}
-use Rattle.cal_zone.specs.Zone.{zone_of}
+use Rattle.cal_zone.specs.headline.Zone.{zone_of}
 use Rattle.cal_zone.specs.declared.zone.Zone.{Zone}
 use Rattle.cal_zone.specs.Instant.{IsInstant}
 use Rattle.cal_elapse.specs.Bits.{is_bit}
 use Rattle.cal_elapse.specs.Near.{IsNear}
 use Rattle.cal_elapse.specs.Ring.{IsOneOf}
 use Rattle.cal_elapse.specs.Count.{count_from}
-use Rattle.cal_elapse.specs.Elapses.{Timed}
+use Rattle.cal_elapse.specs.headline.Elapses.{Timed}
 use Rattle.cal_elapse.specs.Left.{IsRest}
 use Rattle.cal_elapse.specs.Masks.{sets_in}
 use Rattle.cal_elapse.specs.Most.{IsMost, IsMostAfter}

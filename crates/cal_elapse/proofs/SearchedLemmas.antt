@@ -2,9 +2,10 @@
 use Rattle.std.proofs.Common.{◌≡◌, ◌∙◌, ℕ, ◌+◌, ◌-◌, ◌<◌, ◌≤◌, nat_lt, Bool, true, false, Option, None, Some, ℤ, pos, negsuc, ◌<ℤ◌, ◌≤ℤ◌, ◌+ℤ◌, ◌-ℤ◌, int_lt, unsigned_abs, List, sym, ap, subst, arith, inl, inr, refl}
 use Rattle.std.proofs.lemmas.Bool.{and_left, cases_lt, false_from_ne_true}
 use Rattle.std.proofs.lemmas.Int.{ints}
-use Rattle.cal_zone.specs.Local.{seconds_in_all}
+use Rattle.cal_zone.specs.headline.Local.{seconds_in_all}
 use Rattle.cal_zone.specs.declared.zone.Zone.{Zone}
-use Rattle.cal_rising.specs.RisingList.{Has, first, later}
+use Rattle.cal_rising.specs.RisingList.{first, later}
+use Rattle.cal_rising.specs.headline.RisingList.{Has}
 use Rattle.cal_elapse.specs.Search.{NonePasses}
 use Rattle.cal_elapse.specs.Masks.{sets_in}
 use Rattle.cal_elapse.specs.Most.{IsMost}
@@ -17,7 +18,7 @@ use Rattle.cal_elapse.proofs.MinuteLemmas.{match_inside}
 use Rattle.cal_elapse.proofs.MostLemmas.{most_same}
 use Rattle.cal_rising.proofs.RisingLemmas.{list-first}
 use Rattle.cal_elapse.proofs.WindowLemmas.{all_placed, by_test, is_above}
-use Rattle.cal_spec.specs.Match.{matches}
+use Rattle.cal_spec.specs.headline.Match.{matches}
 
 -- as many pass below one bound as below a later one, where none passes between
 count_on : (passes : ℕ → Bool) (start a b : ℕ) → start ≤ a → a ≤ b → NonePasses passes a b → count_from passes start (b - start) ≡ count_from passes start (a - start)

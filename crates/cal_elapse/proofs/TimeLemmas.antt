@@ -5,7 +5,7 @@ use Rattle.cal_elapse.specs.Masks.{sets_in}
 use Rattle.cal_elapse.specs.Months.{minute_in}
 use Rattle.cal_elapse.specs.declared.masks.Masks.{Masks}
 use Rattle.cal_elapse.proofs.CarryLemmas.{Splits}
-use Rattle.cal_spec.specs.Match.{time_in}
+use Rattle.cal_spec.specs.headline.Match.{time_in}
 
 and_assoc : (a b c : Bool) → (a && (b && c)) ≡ ((a && b) && c)
 and_assoc true b c = refl

@@ -4,15 +4,17 @@ use Rattle.std.proofs.lemmas.Bool.{cases_eq, cases_lt}
 use Rattle.std.proofs.lemmas.Int.{ints, to_z_pos}
 use Rattle.jiff.proofs.SpanFacts.{signed_arith}
 use Rattle.cal_zone.specs.Instant.{IsInstant}
-use Rattle.cal_zone.specs.Local.{seconds_in_all, seconds_in_all-is}
+use Rattle.cal_zone.specs.headline.Local.{seconds_in_all, seconds_in_all-is}
 use Rattle.cal_zone.specs.declared.zone.Zone.{Zone}
-use Rattle.cal_zone.specs.Place.{place_of}
+use Rattle.cal_zone.specs.headline.Place.{place_of}
 use Rattle.jiff.specs.Types.{TimeZone}
 use Rattle.cal_elapse.specs.Near.{IsNear}
 use Rattle.cal_zone.proofs.PlaceLemmas.{within}
 use Rattle.cal_elapse.specs.declared.masks.Masks.{Masks}
-use Rattle.cal_elapse.specs.Elapses.{Timed, IsPlace, elapses_after}
-use Rattle.cal_rising.specs.RisingList.{Has, IsRising, first, later, with_number}
+use Rattle.cal_elapse.specs.Elapses.{elapses_after}
+use Rattle.cal_elapse.specs.headline.Elapses.{Timed, IsPlace}
+use Rattle.cal_rising.specs.RisingList.{first, later, with_number}
+use Rattle.cal_rising.specs.headline.RisingList.{Has, IsRising}
 use Rattle.cal_elapse.specs.Search.{NonePasses}
 use Rattle.cal_elapse.specs.Window.{IsMatchAhead, IsPlacedBelow, IsReady, Windowed, bound_of, start_of, timed_by, timed_of, to_place, with_place}
 use Rattle.cal_elapse.specs.declared.window.Window.{Window}

@@ -1,7 +1,7 @@
 -- Expressions that have no elapse of their own, since exceptions have all of theirs: systemd.timer(5), OnCalendar=.
 use Rattle.std.specs.Prelude.{◌≡◌, ◌⊎◌, ℕ, ℤ, Bool, true, List}
-use Rattle.cal_elapse.specs.Elapses.{IsElapse, IsPlace, Timed}
-use Rattle.cal_spec.specs.Match.{Sets}
+use Rattle.cal_elapse.specs.headline.Elapses.{IsElapse, IsPlace, Timed}
+use Rattle.cal_spec.specs.headline.Match.{Sets}
 
 -- the one set has each number of the other
 abbrev pub HasAll : (ℕ → Bool) → (ℕ → Bool) → Type 0

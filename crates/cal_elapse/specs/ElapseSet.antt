@@ -1,5 +1,5 @@
 -- The elapse set of an expression in a zone.
-use Rattle.cal_elapse.specs.Elapses.{Timed}
+use Rattle.cal_elapse.specs.headline.Elapses.{Timed}
 use Rattle.cal_elapse.specs.Window.{timed_by}
 use Rattle.cal_elapse.specs.declared.elapse_set.ElapseSet.{ElapseSet}
 

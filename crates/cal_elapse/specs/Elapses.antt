@@ -1,14 +1,9 @@
--- The elapses of calendar expressions: systemd.time(7), Calendar Events.
-use Rattle.std.specs.Prelude.{◌≡◌, ◌⊎◌, ◌↔◌, ◌<◌, ℕ, Bool, true, List, [], ◌∷◌, Option, Some, ℤ, ◌<ℤ◌, int_lt, map, filter}
+-- The elapses of calendar expressions, as lists that are computed.
+use Rattle.std.specs.Prelude.{◌≡◌, List, ℤ, int_lt, map, filter}
 use Rattle.std.specs.List.{filter_map, range_with_len}
-use Rattle.cal_zone.specs.Local.{seconds_in_all}
-use Rattle.cal_rising.specs.RisingList.{Has, IsRising, union, without}
-
--- what an expression in a zone means: the local seconds that match, and the place of a local second on the
--- clock of Unix time, which it lacks where the zone's clock skips it
-pub record Timed : Type 0 where
-  pub matches : ℕ → Bool
-  pub place : ℕ → Option ℤ
+use Rattle.cal_zone.specs.headline.Local.{seconds_in_all}
+use Rattle.cal_rising.specs.RisingList.{union, without}
+use Rattle.cal_elapse.specs.headline.Elapses.{Timed}
 
 -- the elapse set: the places of all local seconds that match
 unfoldable pub places : Timed → List ℤ
@@ -21,28 +16,3 @@ elapses_after es b = union (map (λ e. filter (int_lt b) (places e)) es)
 -- the elapses after b of the first ones that are elapses of none of the second ones, the exceptions
 unfoldable pub elapses_except : List Timed → List Timed → ℤ → List ℤ
 elapses_except es exceptions b = without (elapses_after es b) (elapses_after exceptions b)
-
--- a local second that matches has its place here
-pub record IsPlace (e : Timed) (i : ℤ) : Type 0 where
-  pub local : ℕ
-  pub within : local < seconds_in_all
-  pub is_match : e.matches local ≡ true
-  pub placed : e.place local ≡ Some i
-
--- the number is an elapse of one of them
-abbrev pub IsElapse : List Timed → ℤ → Type 0
-IsElapse [] i = ⊥
-IsElapse (e ∷ es) i = IsPlace e i ⊎ IsElapse es i
-
--- the number is an elapse of one of the first ones, and of no exception
-abbrev pub IsElapseExcept : List Timed → List Timed → ℤ → Type 0
-IsElapseExcept es exceptions i = IsElapse es i × (IsElapse exceptions i → ⊥)
-
--- the list rises, and has exactly the numbers above b of which this holds
-pub record AreAbove (Holds : ℤ → Type 0) (b : ℤ) (xs : List ℤ) : Type 0 where
-  pub rises : IsRising xs
-  pub members : (i : ℤ) → Has xs i ↔ ((b <ℤ i) × Holds i)
-
--- the list is the elapses above b of these expressions, without those of their exceptions
-abbrev pub AreElapses : List Timed → List Timed → ℤ → List ℤ → Type 0
-AreElapses es exceptions b xs = AreAbove (IsElapseExcept es exceptions) b xs

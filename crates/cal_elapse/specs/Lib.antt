@@ -17,5 +17,5 @@ pub mod Search
 pub mod Searched
 pub mod Start
 pub mod Steps
-pub mod Timed
 pub mod Window
+pub mod headline

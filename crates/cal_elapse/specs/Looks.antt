@@ -2,8 +2,8 @@
 -- answer, whose year and month number are both members; without an answer those to the end of 2199.
 use Rattle.std.specs.Prelude.{◌≡◌, ◌≤◌, ℕ, suc, ◌-◌, ◌/◌, Option, None, Some, pos, unsigned_abs}
 use Rattle.std.specs.Option.{option_map}
-use Rattle.cal_zone.specs.Local.{civil_date}
-use Rattle.cal_spec.specs.Match.{Sets, matches}
+use Rattle.cal_zone.specs.headline.Local.{civil_date}
+use Rattle.cal_spec.specs.headline.Match.{Sets, matches}
 use Rattle.cal_elapse.specs.Count.{count_from}
 use Rattle.cal_elapse.specs.Months.{month_in, month_of}
 use Rattle.cal_elapse.specs.Search.{IsFirstLocal}

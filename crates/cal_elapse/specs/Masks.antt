@@ -2,9 +2,9 @@
 use Rattle.std.specs.Prelude.{◌≡◌, ℕ, ◌+◌, ◌-◌, ◌≤◌, Bool, ◌&&◌, false, nat_le, nat_lt, if◌then◌else◌, Option, None, Some}
 use Rattle.cal_elapse.specs.Bits.{is_bit, is_in_words}
 use Rattle.cal_elapse.specs.declared.masks.Masks.{Masks}
-use Rattle.cal_spec.specs.Match.{Sets}
+use Rattle.cal_spec.specs.headline.Match.{Sets}
 use Rattle.cal_spec.specs.Parts.{is_from_end}
-use Rattle.cal_spec.specs.Slot.{least, greatest, day_slot}
+use Rattle.cal_spec.specs.headline.Slot.{least, greatest, day_slot}
 use Rattle.cal_spec.specs.declared.field.Field.{Field}
 use Rattle.cal_spec.specs.declared.field.Field.TheVariants as field
 use Rattle.cal_spec.specs.declared.slot.Slot.{Slot}

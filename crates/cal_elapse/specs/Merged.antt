@@ -1,6 +1,7 @@
 -- The elapses of several expressions, as those of each: systemd.timer(5), OnCalendar=.
 use Rattle.std.specs.Prelude.{map, List, [], ◌∷◌, ℤ}
-use Rattle.cal_elapse.specs.Elapses.{Timed, elapses_after}
+use Rattle.cal_elapse.specs.Elapses.{elapses_after}
+use Rattle.cal_elapse.specs.headline.Elapses.{Timed}
 
 -- the elapses after b of each of these
 abbrev pub each_after : List Timed → ℤ → List (List ℤ)

@@ -2,8 +2,8 @@
 use Rattle.std.specs.Prelude.{◌≡◌, ℕ, zero, suc, ◌+◌, ◌-◌, ◌*◌, ◌/◌, ◌%◌, Bool, ◌&&◌, pos, unsigned_abs, refl}
 use Rattle.jiff.specs.Types.{Date}
 use Rattle.jiff_core.specs.Calendar.{days_in_month}
-use Rattle.cal_zone.specs.Local.{civil_date}
-use Rattle.cal_spec.specs.Match.{Sets, date_in}
+use Rattle.cal_zone.specs.headline.Local.{civil_date}
+use Rattle.cal_spec.specs.headline.Match.{Sets, date_in}
 
 -- the year and the number of a month
 abbrev pub year_of : ℕ → ℕ

@@ -1,9 +1,9 @@
 -- The most months that one of several searches looks at: of a first one, and of one after each match.
 use Rattle.std.specs.Prelude.{◌≡◌, ◌⊎◌, ◌+◌, ◌<◌, ◌≤◌, ℕ, true, Option}
-use Rattle.cal_zone.specs.Local.{seconds_in_all}
+use Rattle.cal_zone.specs.headline.Local.{seconds_in_all}
 use Rattle.cal_elapse.specs.Looks.{month_looks}
 use Rattle.cal_elapse.specs.Search.{IsFirstPassing}
-use Rattle.cal_spec.specs.Match.{Sets, matches}
+use Rattle.cal_spec.specs.headline.Match.{Sets, matches}
 
 -- a search from a local second on looks at that many months
 pub record IsLooked (sets : Sets) (from months : ℕ) : Type 0 where

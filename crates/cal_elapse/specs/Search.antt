@@ -1,6 +1,6 @@
 -- What a search among local seconds answers.
 use Rattle.std.specs.Prelude.{◌≡◌, ◌<◌, ◌≤◌, ℕ, Bool, true, false, Option, None, Some, ℤ, pos, unsigned_abs, ◌≤ℤ◌, ◌<ℤ◌}
-use Rattle.cal_zone.specs.Local.{seconds_in_all}
+use Rattle.cal_zone.specs.headline.Local.{seconds_in_all}
 
 -- no local second from `from` up to and without `to` passes
 abbrev pub NonePasses : (ℕ → Bool) → ℕ → ℕ → Type 0

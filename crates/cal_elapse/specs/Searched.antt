@@ -1,10 +1,10 @@
 -- How often the matches of an expression were searched, and the most months that one search looked at.
 use Rattle.std.specs.Prelude.{◌≡◌, ◌+◌, ◌-◌, ℕ, Option, None, Some, ℤ, unsigned_abs}
-use Rattle.cal_zone.specs.Local.{seconds_in_all}
-use Rattle.cal_elapse.specs.Elapses.{Timed}
+use Rattle.cal_zone.specs.headline.Local.{seconds_in_all}
+use Rattle.cal_elapse.specs.headline.Elapses.{Timed}
 use Rattle.cal_elapse.specs.Most.{IsMost}
 use Rattle.cal_elapse.specs.Window.{count_from, start_of}
-use Rattle.cal_spec.specs.Match.{Sets}
+use Rattle.cal_spec.specs.headline.Match.{Sets}
 
 -- how many local seconds from the base less 93,599 on, and below the bound, match
 abbrev pub matches_up_to : Timed → ℤ → ℕ → ℕ

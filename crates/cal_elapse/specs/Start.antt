@@ -1,6 +1,6 @@
 -- Where a search of matches begins.
 use Rattle.std.specs.Prelude.{◌≡◌, ◌+◌, ◌<◌, ◌≤◌, ℕ, Bool, true}
-use Rattle.cal_zone.specs.Local.{seconds_in_all}
+use Rattle.cal_zone.specs.headline.Local.{seconds_in_all}
 use Rattle.cal_elapse.specs.declared.searcher.Start.{Start}
 use Rattle.cal_elapse.specs.declared.searcher.Start.TheVariants.{At, After}
 

@@ -1,17 +1,18 @@
 -- What is pending of an expression's elapses in a zone, while its matching local seconds are placed one after another.
 use Rattle.std.specs.Prelude.{◌≡◌, ◌↔◌, ◌+◌, ◌-◌, ◌<◌, ◌≤◌, cond, ℕ, true, List, Option, None, Some, ℤ, pos, negsuc, ◌+ℤ◌, ◌-ℤ◌, ◌<ℤ◌, ◌≤ℤ◌, int_lt}
-use Rattle.cal_zone.specs.Local.{seconds_in_all}
-use Rattle.cal_zone.specs.Place.{place_of}
-use Rattle.cal_zone.specs.Zone.{zone_of}
+use Rattle.cal_zone.specs.headline.Local.{seconds_in_all}
+use Rattle.cal_zone.specs.headline.Place.{place_of}
+use Rattle.cal_zone.specs.headline.Zone.{zone_of}
 use Rattle.cal_zone.specs.declared.zone.Zone.{Zone}
 unfoldable pub use Rattle.cal_elapse.specs.Count.{count_from}
-use Rattle.cal_elapse.specs.Elapses.{Timed}
+use Rattle.cal_elapse.specs.headline.Elapses.{Timed}
 use Rattle.cal_elapse.specs.Masks.{sets_in}
 use Rattle.cal_elapse.specs.Most.{IsMost}
-use Rattle.cal_rising.specs.RisingList.{Has, IsRising, with_number}
+use Rattle.cal_rising.specs.RisingList.{with_number}
+use Rattle.cal_rising.specs.headline.RisingList.{Has, IsRising}
 use Rattle.cal_elapse.specs.declared.masks.Masks.{Masks}
 use Rattle.cal_elapse.specs.declared.window.Window.{Window}
-use Rattle.cal_spec.specs.Match.{matches}
+use Rattle.cal_spec.specs.headline.Match.{matches}
 
 -- a local second below the bound matches and has its place here
 pub record IsPlacedBelow (e : Timed) (bound : ℕ) (i : ℤ) : Type 0 where

@@ -14,10 +14,10 @@ pub struct ElapseSet<'z> {
 
 impl<'z> ElapseSet<'z> {
     ghost use Rattle.std.specs.Prelude.{◌≡◌, ◌↔◌, true};
-    ghost use Rattle.cal_zone.specs.Zone.{zone_of};
+    ghost use Rattle.cal_zone.specs.headline.Zone.{zone_of};
     ghost use Rattle.cal_elapse.specs.ElapseSet.{timed_set};
-    ghost use Rattle.cal_elapse.specs.Elapses.{IsPlace};
-    ghost use Rattle.cal_elapse.specs.Timed.{timed};
+    ghost use Rattle.cal_elapse.specs.headline.Elapses.{IsPlace};
+    ghost use Rattle.cal_elapse.specs.headline.Timed.{timed};
 
     /// The elapses of an expression in a zone.
     pub fn of(expr: &Expr, zone: Zone<'z>) -> ElapseSet<'z>

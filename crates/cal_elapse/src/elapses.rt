@@ -35,14 +35,14 @@ impl<'z> Model for Elapses<'z> {
 
 impl<'z> Elapses<'z> {
     ghost use Rattle.std.specs.Prelude.{◌≡◌, ◌≤◌, [], ◌∷◌, IfOk};
-    ghost use Rattle.cal_zone.specs.Zone.{zone_of};
+    ghost use Rattle.cal_zone.specs.headline.Zone.{zone_of};
     ghost use Rattle.cal_elapse.specs.Elapses.{elapses_after};
     ghost use Rattle.cal_elapse.specs.Masks.{sets_in};
     ghost use Rattle.cal_elapse.specs.Most.{IsLooked};
     ghost use Rattle.cal_elapse.specs.Rest.{rest_of};
-    ghost use Rattle.cal_elapse.specs.Timed.{timed};
+    ghost use Rattle.cal_elapse.specs.headline.Timed.{timed};
     ghost use Rattle.cal_elapse.specs.Window.{start_of, timed_of};
-    ghost use Rattle.cal_spec.specs.Members.{sets_of};
+    ghost use Rattle.cal_spec.specs.headline.Members.{sets_of};
 
     /// The elapses of an expression in a zone that are later than the base.
     ///

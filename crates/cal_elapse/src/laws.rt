@@ -4,13 +4,15 @@
 ghost use Rattle.std.specs.Prelude.{◌≡◌, ◌↔◌, ◌+◌, ◌++◌, ◌∷◌, [], ℕ, ℤ, pos, ◌≤ℤ◌, List, Some, map, suc, take, drop, slice_get};
 ghost use Rattle.jiff.specs.Types.{TimeZone};
 ghost use Rattle.cal_zone.specs.Instant.{IsInstant};
-ghost use Rattle.cal_spec.specs.Fields.{Fields};
-ghost use Rattle.cal_spec.specs.Members.{sets_of};
-ghost use Rattle.cal_elapse.specs.Elapses.{Timed, AreElapses, elapses_after, elapses_except};
+ghost use Rattle.cal_spec.specs.headline.Fields.{Fields};
+ghost use Rattle.cal_spec.specs.headline.Members.{sets_of};
+ghost use Rattle.cal_elapse.specs.Elapses.{elapses_after, elapses_except};
+ghost use Rattle.cal_elapse.specs.headline.Elapses.{Timed, AreElapses};
 ghost use Rattle.cal_elapse.specs.Covered.{AreAmong, AreKept, IsCovered};
 ghost use Rattle.cal_elapse.specs.Merged.{each_after};
-ghost use Rattle.cal_rising.specs.RisingList.{first, Has, union, without};
-ghost use Rattle.cal_elapse.specs.Timed.{timed};
+ghost use Rattle.cal_rising.specs.RisingList.{first, union, without};
+ghost use Rattle.cal_rising.specs.headline.RisingList.{Has};
+ghost use Rattle.cal_elapse.specs.headline.Timed.{timed};
 
 /// The elapses after a base without those of exceptions are one list: it rises, has exactly the places of matching local
 /// seconds that lie above the base and are an elapse of no exception, and no other list does. Without exceptions they are

@@ -1,10 +1,10 @@
 //! Whether a local second matches, seen by looking at it (systemd.time(7), Calendar Events).
 
 ghost use Rattle.std.specs.Prelude.{◌≡◌, ◌<◌};
-ghost use Rattle.cal_zone.specs.Local.{seconds_in_all};
+ghost use Rattle.cal_zone.specs.headline.Local.{seconds_in_all};
 ghost use Rattle.cal_elapse.specs.Masks.{sets_in};
 ghost use Rattle.cal_elapse.specs.Months.{day_in};
-ghost use Rattle.cal_spec.specs.Match.{matches, time_in};
+ghost use Rattle.cal_spec.specs.headline.Match.{matches, time_in};
 
 use crate::Masks;
 use crate::bits::has_bit;

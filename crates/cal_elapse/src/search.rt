@@ -1,12 +1,12 @@
 //! The search for the next matching local second: the next day that matches, and on it the next time of day.
 ghost use Rattle.std.specs.Prelude.{◌≡◌, ◌+◌, ◌≤◌, ◌<◌, true, pos, ◌≤ℤ◌, IfSome, unsigned_abs};
 ghost use Rattle.std.specs.Option.{option_map};
-ghost use Rattle.cal_zone.specs.Local.{seconds_in_all};
+ghost use Rattle.cal_zone.specs.headline.Local.{seconds_in_all};
 ghost use Rattle.cal_elapse.specs.Looks.{IsSearch, month_looks};
 ghost use Rattle.cal_elapse.specs.Masks.{sets_in};
 ghost use Rattle.cal_elapse.specs.Search.{IsFirstLocal, IsFirstPassing};
 ghost use Rattle.cal_elapse.specs.Steps.{day_to_start, second_on};
-ghost use Rattle.cal_spec.specs.Match.{matches, time_in};
+ghost use Rattle.cal_spec.specs.headline.Match.{matches, time_in};
 
 use crate::Masks;
 use crate::day_search::next_day;

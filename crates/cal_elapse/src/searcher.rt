@@ -1,15 +1,15 @@
 //! The search of an expression's matches, whose calls are counted.
 
 ghost use Rattle.std.specs.Prelude.{◌≡◌, ◌+◌, ◌-◌, ◌<◌, ◌≤◌, true, false, max, None, IfSome, pos, unwrap_or};
-ghost use Rattle.cal_zone.specs.Local.{seconds_in_all};
+ghost use Rattle.cal_zone.specs.headline.Local.{seconds_in_all};
 ghost use Rattle.cal_elapse.specs.Count.{count_from};
 ghost use Rattle.cal_elapse.specs.Left.{IsLeft, IsMoreLeft, IsNextLeft, IsRest, NoneLeft};
 ghost use Rattle.cal_elapse.specs.Looks.{IsSearch};
 ghost use Rattle.cal_elapse.specs.Masks.{sets_in};
 ghost use Rattle.cal_elapse.specs.Most.{IsMostAfter};
 ghost use Rattle.cal_elapse.specs.Start.{CanStart, begin_of};
-ghost use Rattle.cal_spec.specs.Match.{matches};
-ghost use Rattle.cal_spec.specs.Members.{sets_of};
+ghost use Rattle.cal_spec.specs.headline.Match.{matches};
+ghost use Rattle.cal_spec.specs.headline.Members.{sets_of};
 
 use crate::Masks;
 use crate::bits::{lowest_bit, with_bit, without_lowest};

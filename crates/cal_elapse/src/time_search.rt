@@ -5,7 +5,7 @@ ghost use Rattle.std.specs.Prelude.{◌≡◌, ◌+◌, ◌*◌, ◌/◌, ◌<�
 ghost use Rattle.cal_elapse.specs.Masks.{sets_in};
 ghost use Rattle.cal_elapse.specs.Months.{minute_in};
 ghost use Rattle.cal_elapse.specs.Search.{IsFirstPassing};
-ghost use Rattle.cal_spec.specs.Match.{time_in};
+ghost use Rattle.cal_spec.specs.headline.Match.{time_in};
 
 use crate::Masks;
 use crate::bits::{has_bit, lowest_bit, next_bit};

@@ -1,10 +1,10 @@
 //! The matches of an expression in a zone, placed one after another.
 
 ghost use Rattle.std.specs.Prelude.{◌≡◌, ◌<◌, ◌≤◌, ℤ, pos, ◌+ℤ◌, ◌-ℤ◌, ◌≤ℤ◌, cond};
-ghost use Rattle.cal_zone.specs.Local.{seconds_in_all};
-ghost use Rattle.cal_zone.specs.Place.{place_of};
-ghost use Rattle.cal_zone.specs.Zone.{zone_of};
-ghost use Rattle.cal_rising.specs.RisingList.{Has};
+ghost use Rattle.cal_zone.specs.headline.Local.{seconds_in_all};
+ghost use Rattle.cal_zone.specs.headline.Place.{place_of};
+ghost use Rattle.cal_zone.specs.headline.Zone.{zone_of};
+ghost use Rattle.cal_rising.specs.headline.RisingList.{Has};
 ghost use Rattle.cal_elapse.specs.Window.{start_of, to_place, with_place};
 
 use crate::Pending;
@@ -33,15 +33,16 @@ pub struct Window<'z> {
 
 impl<'z> Window<'z> {
     ghost use Rattle.std.specs.Prelude.{◌≡◌, ◌<◌, ◌≤◌, [], ◌∷◌, ℤ, pos, ◌+ℤ◌, ◌≤ℤ◌, None, Some, IfOk};
-    ghost use Rattle.cal_zone.specs.Zone.{zone_of};
+    ghost use Rattle.cal_zone.specs.headline.Zone.{zone_of};
     ghost use Rattle.cal_elapse.specs.Elapses.{elapses_after};
-    ghost use Rattle.cal_rising.specs.RisingList.{Has, first, later};
+    ghost use Rattle.cal_rising.specs.RisingList.{first, later};
+    ghost use Rattle.cal_rising.specs.headline.RisingList.{Has};
     ghost use Rattle.cal_elapse.specs.Masks.{sets_in};
     ghost use Rattle.cal_elapse.specs.Most.{IsLooked};
     ghost use Rattle.cal_elapse.specs.Searched.{IsMostSearched, IsSearched};
-    ghost use Rattle.cal_elapse.specs.Timed.{timed};
+    ghost use Rattle.cal_elapse.specs.headline.Timed.{timed};
     ghost use Rattle.cal_elapse.specs.Window.{IsPlacedTo, IsReady, timed_of, to_place};
-    ghost use Rattle.cal_spec.specs.Members.{sets_of};
+    ghost use Rattle.cal_spec.specs.headline.Members.{sets_of};
 
     /// Before anything is placed. The first search begins where a place can be above the base.
     pub fn new(

@@ -1,7 +1,7 @@
 //! Sources of rising numbers and merges of them, for the rooms that try merges.
 
 ghost use Rattle.std.specs.Prelude.{◌≡◌, false, IfOk};
-ghost use Rattle.cal_rising.specs.RisingList.{IsRising};
+ghost use Rattle.cal_rising.specs.headline.RisingList.{IsRising};
 
 use cal_elapse::{Listed, Merge, Rising};
 use std::alloc::{AllocError, Global};

@@ -2,7 +2,7 @@
 use Rattle.std.proofs.Common.{◌≡◌, ℕ, ◌+◌, Bool, true, false, List, [], ◌∷◌, ◌++◌, map, refl, sym, ap, ◌∙◌, append_assoc, append-nil}
 use Rattle.std.specs.List.{flat_map}
 use Rattle.std.specs.Str.Lines.{lines}
-use Rattle.cal_lines.specs.Lines.{Group, Line, continued_by, groups, is_comment, is_continued, joined_line, logical_lines, part_of, physical_lines, plain_lines, trim_start}
+use Rattle.cal_lines.specs.headline.Lines.{Group, Line, continued_by, groups, is_comment, is_continued, joined_line, logical_lines, part_of, physical_lines, plain_lines, trim_start}
 
 -- the lines of a text after its first
 pub plain_here : (n : ℕ) (text line rest : List ℕ) → lines text ≡ line ∷ lines rest → is_comment (trim_start line) ≡ false → plain_lines n text ≡ record { number = n; text = trim_start line } ∷ plain_lines (n + 1) rest

@@ -1,7 +1,7 @@
 -- The definition of groups of lines against the rule's own words.
 use Rattle.std.proofs.Common.{◌≡◌, Bool, true, false, List, [], ◌∷◌, ◌++◌, refl, ap, ◌∙◌}
 use Rattle.cal_lines.specs.LineRule.{AreGroups, IsClosed, IsOpen, lines_of}
-use Rattle.cal_lines.specs.Lines.{Group, Line, continued_by, groups, is_continued}
+use Rattle.cal_lines.specs.headline.Lines.{Group, Line, continued_by, groups, is_continued}
 
 -- The groups have all the lines, in their order
 lines_of_continued : (line : Line) (all : List Group) → lines_of (continued_by line all) ≡ line ∷ lines_of all

@@ -8,7 +8,7 @@ use Rattle.std.proofs.lemmas.Bool.Decides.{nat_tests}
 use Rattle.std.proofs.lemmas.List.{get_or-reverse, length-append, length-reverse, reverse-append, reverse-reverse, take-append-drop, take_more}
 use Rattle.std.proofs.lemmas.List.Sums.{prefix_len_passes, suffix_len-le-length}
 use Rattle.cal_lines.specs.LineRule.{AreGroups, lines_of}
-use Rattle.cal_lines.specs.Lines.{Group, Line, groups, is_blank, is_comment, is_continued, joined_line, logical_lines, numbered, part_of, physical_lines, plain_lines, trim, trim_end, trim_start}
+use Rattle.cal_lines.specs.headline.Lines.{Group, Line, groups, is_blank, is_comment, is_continued, joined_line, logical_lines, numbered, part_of, physical_lines, plain_lines, trim, trim_end, trim_start}
 use Rattle.cal_lines.specs.LogicalRule.{AreJoined, AreLogical, ArePhysical, EachIsLogical, IsContinuedPart, IsFlush, IsLogical, IsPart, IsTrimmed, IsUnindented}
 use Rattle.cal_lines.proofs.GroupLemmas.{parts_of}
 use Rattle.cal_lines.proofs.LineRuleLemmas.{are_groups, groups_of_lines, lines_of_groups}

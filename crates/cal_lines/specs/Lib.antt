@@ -1,4 +1,4 @@
 pub mod LineRule
 pub mod LineView
-pub mod Lines
 pub mod LogicalRule
+pub mod headline

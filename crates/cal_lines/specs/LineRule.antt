@@ -1,7 +1,7 @@
 -- How physical lines are grouped into logical ones, in the rule's own words: systemd.syntax(7).
 use Rattle.std.specs.Prelude.{◌≡◌, true, false, List, [], ◌∷◌}
 use Rattle.std.specs.List.{flat_map}
-use Rattle.cal_lines.specs.Lines.{Group, Line, is_continued}
+use Rattle.cal_lines.specs.headline.Lines.{Group, Line, is_continued}
 
 -- the lines of groups, one after the other
 abbrev pub lines_of : List Group → List Line

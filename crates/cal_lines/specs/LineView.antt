@@ -1,6 +1,6 @@
 -- Lines of a unit file without where they lie in memory.
 use Rattle.std.specs.Prelude.{ℕ, List, string_bytes}
-use Rattle.cal_lines.specs.Lines.{Line}
+use Rattle.cal_lines.specs.headline.Lines.{Line}
 use Rattle.cal_lines.specs.declared.lines.LogicalLine.{LogicalLine}
 use Rattle.cal_lines.specs.declared.lines.PlainLine.{PlainLine}
 

@@ -4,7 +4,7 @@ use Rattle.std.specs.Prelude.{◌≡◌, ◌⊎◌, ◌+◌, ℕ, true, false, n
 use Rattle.std.specs.List.{AllByRecursion}
 use Rattle.std.specs.Str.Lines.{lines}
 use Rattle.cal_lines.specs.LineRule.{AreGroups, lines_of}
-use Rattle.cal_lines.specs.Lines.{Group, Line, is_blank, is_comment, is_continued}
+use Rattle.cal_lines.specs.headline.Lines.{Group, Line, is_blank, is_comment, is_continued}
 
 -- it is empty, or its first character is no blank
 abbrev pub IsFlush : List ℕ → Type 0

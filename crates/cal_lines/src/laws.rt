@@ -2,7 +2,7 @@
 
 ghost use Rattle.std.specs.Prelude.{◌≡◌, ℕ, List};
 ghost use Rattle.cal_lines.specs.LineRule.{AreGroups, lines_of};
-ghost use Rattle.cal_lines.specs.Lines.{Group, Line, groups, logical_lines, trim};
+ghost use Rattle.cal_lines.specs.headline.Lines.{Group, Line, groups, logical_lines, trim};
 ghost use Rattle.cal_lines.specs.LogicalRule.{AreLogical, IsTrimmed};
 
 /// Lines are grouped in exactly one way: each group ends at the first line that isn't continued, the last one with the

@@ -4,7 +4,7 @@ ghost use Rattle.std.specs.Prelude.{◌≡◌, ◌==◌, ◌∷◌, [], ◌+◌,
 ghost use Rattle.std.specs.List.{prefix_len, suffix_len};
 ghost use Rattle.std.specs.Str.Lines.{lines, strip_carriage_return};
 ghost use Rattle.cal_lines.specs.LineView.{logical_line, plain_line};
-ghost use Rattle.cal_lines.specs.Lines.{is_blank, is_comment, is_continued, logical_lines, part_of, plain_lines, trim, trim_end, trim_start};
+ghost use Rattle.cal_lines.specs.headline.Lines.{is_blank, is_comment, is_continued, logical_lines, part_of, plain_lines, trim, trim_end, trim_start};
 
 use std::alloc::{AllocError, Global};
 
@@ -51,7 +51,7 @@ fn trim_end(text: &str) -> &str
 }
 
 /// The text without the blanks at its ends.
-#[tactic(auto, unfolding(crate::specs::Lines::trim))]
+#[tactic(auto, unfolding(crate::specs::headline::Lines::trim))]
 pub fn trim(text: &str) -> &str
     ensures { result.now ≡ trim text.now }
 {
@@ -141,7 +141,7 @@ fn trailing_backslashes(line: &str) -> usize
 }
 
 /// Whether the line is continued: whether it ends in an odd number of backslashes.
-#[tactic(auto, unfolding(crate::specs::Lines::is_continued))]
+#[tactic(auto, unfolding(crate::specs::headline::Lines::is_continued))]
 fn is_continued(line: &str) -> bool
     ensures { result ≡ is_continued line.now }
 {
@@ -157,7 +157,7 @@ fn without_backslash(line: &str) -> &str
 }
 
 /// Adds to a logical line what a line of it says, and answers whether it is continued.
-#[tactic(auto, unfolding(crate::specs::Lines::part_of))]
+#[tactic(auto, unfolding(crate::specs::headline::Lines::part_of))]
 fn push_part(joined: &mut String, line: &str) -> Result<bool, AllocError>
     ensures text { OnOk result (string_bytes joined.new ≡ string_bytes joined.old ++ part_of line.now) }
     ensures goes_on { IfOk result (λ goes_on. goes_on ≡ is_continued line.now) }

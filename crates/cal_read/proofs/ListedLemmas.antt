@@ -7,12 +7,13 @@ use Rattle.std.proofs.lemmas.Slice.Eq.{bytes_eq-Decides}
 use Rattle.std.proofs.lemmas.List.{drop-append-le, drop_all, reverse-append}
 use Rattle.std.proofs.lemmas.List.Elements.{filter-append, filter_map-append}
 use Rattle.cal_spec.specs.declared.spec_fault.SpecFault.{SpecFault}
-use Rattle.cal_read.specs.Assignments.{Assignment}
+use Rattle.cal_read.specs.headline.Assignments.{Assignment}
 use Rattle.std.specs.Str.{bytes_eq}
 use Rattle.std.specs.List.{list_any}
 use Rattle.std.specs.Option.{option_or}
 use Rattle.std.proofs.lemmas.Bool.{and_right, and_parts, false_from_ne_true}
-use Rattle.cal_read.specs.TimerText.{TimerLine, Timer, bad_line, entries, entries_of, entry_of, excepted, exception_key, fault_following, fault_joining, first_fault, has_no_value, is_exception, is_exception_reset, is_expression, is_reset, listed, lists_of, most_expressions, some_entries, timer_keys, unless_fault}
+use Rattle.cal_read.specs.TimerText.{TimerLine, Timer, bad_line, entries, entries_of, entry_of, fault_following, fault_joining, first_fault, lists_of, some_entries, unless_fault}
+use Rattle.cal_read.specs.headline.TimerText.{excepted, exception_key, has_no_value, is_exception, is_exception_reset, is_expression, is_reset, listed, most_expressions, timer_keys}
 use Rattle.cal_read.specs.TimerView.{joined, resumed, with_list}
 use Rattle.cal_read.specs.declared.timer.fault.TimerFault.{TimerFault}
 use Rattle.cal_read.specs.declared.timer.fault.TimerFault.TheVariants.{BadLine}

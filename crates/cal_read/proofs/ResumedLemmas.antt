@@ -4,9 +4,10 @@ use Rattle.std.specs.Str.{bytes_eq}
 use Rattle.std.specs.Prelude.{nat_le}
 use Rattle.std.proofs.lemmas.Bool.Decides.{nat_tests}
 use Rattle.cal_spec.specs.declared.spec_fault.SpecFault.{SpecFault}
-use Rattle.cal_read.specs.Assignments.{Assignment, assignment_of, assignments_in, is_header, section_of, timer_lines, trimmed}
-use Rattle.cal_lines.specs.Lines.{Line, trim}
-use Rattle.cal_read.specs.TimerText.{TimerLine, Timer, bad_line, entry_of, is_exception, is_exception_reset, is_expression, is_reset, most_expressions, some_entries}
+use Rattle.cal_read.specs.headline.Assignments.{Assignment, assignment_of, assignments_in, is_header, section_of, timer_lines, trimmed}
+use Rattle.cal_lines.specs.headline.Lines.{Line, trim}
+use Rattle.cal_read.specs.TimerText.{TimerLine, Timer, bad_line, entry_of, some_entries}
+use Rattle.cal_read.specs.headline.TimerText.{is_exception, is_exception_reset, is_expression, is_reset, most_expressions}
 use Rattle.cal_read.specs.TimerView.{joined, resumed, with_list, with_read}
 use Rattle.cal_read.specs.declared.timer.fault.TimerFault.{TimerFault}
 use Rattle.cal_read.specs.declared.timer.fault.TimerFault.TheVariants.{TooMany}

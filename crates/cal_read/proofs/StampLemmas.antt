@@ -11,10 +11,10 @@ use Rattle.std.proofs.lemmas.Int.Digits.{digits_value-lt}
 use Rattle.jiff.specs.Types.{TimeZone}
 use Rattle.cal_zone.specs.declared.civil_fields.Civil.{Civil}
 use Rattle.cal_zone.specs.Instant.{last_moment}
-use Rattle.cal_zone.specs.Civil.{civil_of}
+use Rattle.cal_zone.specs.headline.Civil.{civil_of}
 use Rattle.cal_span.specs.SpanValue.{fraction_worth, is_point}
-use Rattle.cal_spec.specs.DateAndTime.{is_colon}
-use Rattle.cal_zone.specs.Zone.{local_of}
+use Rattle.cal_spec.specs.headline.DateAndTime.{is_colon}
+use Rattle.cal_zone.specs.headline.Zone.{local_of}
 use Rattle.cal_spec.proofs.PieceLemmas.{some_piece}
 use Rattle.cal_read.specs.Stamp.{in_moments}
 use Rattle.cal_read.specs.StampDate.{is_hyphen, date_numbers}

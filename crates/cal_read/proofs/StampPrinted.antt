@@ -14,22 +14,23 @@ use Rattle.jiff_core.specs.declared.civil.weekday.Weekday.TheVariants.{Sunday}
 use Rattle.cal_zone.proofs.DayLemmas.{epoch_day-date_of}
 use Rattle.cal_zone.proofs.YearLemmas.{year-from_1969, year-from_1970, year-to_2199}
 use Rattle.cal_zone.proofs.ZoneLemmas.{offset_at-in_range}
-use Rattle.cal_zone.specs.Civil.{civil_of, fields_of}
-use Rattle.cal_zone.specs.Days.{date_of}
+use Rattle.cal_zone.specs.headline.Civil.{civil_of, fields_of}
+use Rattle.cal_zone.specs.headline.Days.{date_of}
 use Rattle.cal_zone.specs.Instant.{IsInstant}
-use Rattle.cal_zone.specs.InstantText.{date_text, instant_text, shown_text, time_text, weekday_name, zeros}
-use Rattle.cal_zone.specs.Local.{IsLocalSecond, day_of, hour_of, minute_of, second_of, second_of_day}
-use Rattle.cal_zone.specs.Place.{settle_of}
-use Rattle.cal_zone.specs.Weekday.{short_name_of, week}
-use Rattle.cal_zone.specs.Zone.{local_of, utc, zone_of}
-use Rattle.cal_zone.specs.ZoneMap.{ZoneMap}
-use Rattle.cal_zone.specs.ZoneTable.{zone_named}
+use Rattle.cal_zone.specs.headline.InstantText.{date_text, instant_text, shown_text, time_text, weekday_name, zeros}
+use Rattle.cal_zone.specs.Local.{IsLocalSecond}
+use Rattle.cal_zone.specs.headline.Local.{day_of, hour_of, minute_of, second_of, second_of_day}
+use Rattle.cal_zone.specs.headline.Place.{settle_of}
+use Rattle.cal_zone.specs.headline.Weekday.{short_name_of, week}
+use Rattle.cal_zone.specs.headline.Zone.{local_of, utc, zone_of}
+use Rattle.cal_zone.specs.headline.ZoneMap.{ZoneMap}
+use Rattle.cal_zone.specs.headline.ZoneTable.{zone_named}
 use Rattle.cal_zone.specs.declared.civil_fields.Civil.{Civil}
 use Rattle.cal_zone.specs.declared.zone.Zone.{Zone}
 use Rattle.cal_spec.proofs.WordsBetween.{words_only}
-use Rattle.cal_spec.specs.DateAndTime.{is_colon}
+use Rattle.cal_spec.specs.headline.DateAndTime.{is_colon}
 use Rattle.cal_spec.specs.GrammarRule.{IsWord}
-use Rattle.cal_spec.specs.Words.{is_blank, words}
+use Rattle.cal_spec.specs.headline.Words.{is_blank, words}
 use Rattle.cal_read.proofs.StampPrintedTexts.{IsClock, IsDayName, date_back, date_no_colon, date_solid, date_some, date_word, in_week, other_date_back, short_names, time_back, time_digit, time_solid, time_some, time_word, year_of}
 use Rattle.cal_read.proofs.StampPrintedZones.{IsLastWord, last_byte, local_of-UTC, shown_last, shown_offset, shown_read, shown_unread, shown_word, utc_minutes}
 use Rattle.cal_read.proofs.StampRule.{only}

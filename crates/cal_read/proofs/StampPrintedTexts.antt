@@ -14,13 +14,13 @@ use Rattle.jiff.specs.Words.{epoch_day, monday_zero, month_length, IsBetween, Is
 use Rattle.jiff_core.proofs.CalendarLemmas.{days_in_month_bounds}
 use Rattle.jiff_core.specs.declared.civil.weekday.Weekday.TheVariants.{Monday, Tuesday, Wednesday, Thursday, Friday, Saturday, Sunday}
 use Rattle.cal_span.specs.SpanValue.{is_point}
-use Rattle.cal_zone.specs.InstantText.{zeros}
-use Rattle.cal_zone.specs.Weekday.{name_of, short_name_of, week}
-use Rattle.cal_zone.specs.ZoneName.{begins_with_letter}
-use Rattle.cal_spec.specs.DateAndTime.{is_colon}
-use Rattle.cal_spec.specs.Parts.{with_century}
+use Rattle.cal_zone.specs.headline.InstantText.{zeros}
+use Rattle.cal_zone.specs.headline.Weekday.{name_of, short_name_of, week}
+use Rattle.cal_zone.specs.headline.ZoneName.{begins_with_letter}
+use Rattle.cal_spec.specs.headline.DateAndTime.{is_colon}
+use Rattle.cal_spec.specs.headline.Parts.{with_century}
 use Rattle.cal_spec.specs.Weekdays.{day_named}
-use Rattle.cal_spec.specs.Words.{is_blank}
+use Rattle.cal_spec.specs.headline.Words.{is_blank}
 use Rattle.cal_spec.proofs.CleanLemmas.{IsClear, Apart, any_clear, clear_append, clear_from, split_alone, split_at}
 use Rattle.cal_spec.proofs.ReadBackParts.{digits_all, zeros_all, zeros_value}
 use Rattle.cal_read.proofs.StampCivilRule.{digit_first, digit_no_colon}

@@ -8,24 +8,25 @@ use Rattle.std.proofs.lemmas.List.Sums.{AllPass-from_list_all}
 use Rattle.jiff.proofs.SpanFacts.{signed_arith}
 use Rattle.jiff.specs.Types.{TimeZone, UTC}
 use Rattle.jiff.specs.Words.{nanos_of_seconds, offset_at, IsOffsetSeconds}
-use Rattle.cal_bytes.specs.Bytes.{joined}
+use Rattle.cal_bytes.specs.headline.Bytes.{joined}
 use Rattle.cal_zone.proofs.OffsetWordLemmas.{both_all, nearest, offset-back, offset-found, two_printed}
 use Rattle.cal_zone.proofs.PlaceLemmas.{place_of-Some, place_of-UTC, settle_of-UTC, settle_of-fixed_zone}
 use Rattle.cal_zone.proofs.ZoneLemmas.{offset_at-in_range}
-use Rattle.cal_zone.specs.InstantText.{offset_text, sign_text, zeros, zone_word}
-use Rattle.cal_zone.specs.OffsetWord.{AreWholeMinutes, IsOffsetWord, offset_in}
-use Rattle.cal_zone.specs.Place.{settle_of}
-use Rattle.cal_zone.specs.Zone.{is_utc, is_utc_kind, local_of, zone_of, zone_of_kind}
-use Rattle.cal_zone.specs.ZoneAhead.{offset_of_seconds, zone_ahead}
-use Rattle.cal_zone.specs.ZoneMap.{ZoneMap}
-use Rattle.cal_zone.specs.ZoneName.{begins_with_letter, is_utc_name}
-use Rattle.cal_zone.specs.ZoneTable.{zone_named}
+use Rattle.cal_zone.specs.headline.InstantText.{offset_text, sign_text, zeros, zone_word}
+use Rattle.cal_zone.specs.OffsetWord.{AreWholeMinutes, offset_in}
+use Rattle.cal_zone.specs.headline.OffsetWord.{IsOffsetWord}
+use Rattle.cal_zone.specs.headline.Place.{settle_of}
+use Rattle.cal_zone.specs.headline.Zone.{is_utc, is_utc_kind, local_of, zone_of, zone_of_kind}
+use Rattle.cal_zone.specs.headline.ZoneAhead.{offset_of_seconds, zone_ahead}
+use Rattle.cal_zone.specs.headline.ZoneMap.{ZoneMap}
+use Rattle.cal_zone.specs.headline.ZoneName.{begins_with_letter, is_utc_name}
+use Rattle.cal_zone.specs.headline.ZoneTable.{zone_named}
 use Rattle.cal_zone.specs.declared.zone.Zone.{Zone}
 use Rattle.cal_zone.specs.declared.zone.ZoneKind.{ZoneKind}
 use Rattle.cal_zone.specs.declared.zone.ZoneKind.TheVariants.{Utc, Offset as Fixed, Rules}
 use Rattle.cal_spec.proofs.CleanLemmas.{any_clear, clear_from}
 use Rattle.cal_spec.specs.GrammarRule.{IsWord}
-use Rattle.cal_spec.specs.Words.{is_blank}
+use Rattle.cal_spec.specs.headline.Words.{is_blank}
 use Rattle.cal_read.specs.Stamp.{zone_meant}
 use Rattle.cal_read.specs.declared.stamp.fault.StampFault.TheVariants.{StrayWord}
 

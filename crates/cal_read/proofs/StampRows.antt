@@ -9,15 +9,15 @@ use Rattle.jiff_core.proofs.MarchLemmas.{day_count-early, day_count-late}
 use Rattle.jiff_core.specs.Calendar.{days_from_civil, weekday_number}
 use Rattle.cal_span.specs.declared.span.fault.SpanFault.TheVariants.{BadNumber, UnknownUnit, Empty as NoPair}
 use Rattle.cal_zone.specs.OffsetWord.{clock_in, offset_in, two_digits}
-use Rattle.cal_zone.specs.Place.{datetime_of, settle_of}
+use Rattle.cal_zone.specs.headline.Place.{datetime_of, settle_of}
 use Rattle.cal_span.specs.Scale.{words_for}
 use Rattle.cal_span.specs.SpanValue.{span_of, pairs_in, words_in, worth_of, is_number, number_worth, unit_named}
-use Rattle.cal_zone.specs.Weekday.{name_of}
-use Rattle.cal_zone.specs.Zone.{local_of}
-use Rattle.cal_zone.specs.ZoneAhead.{offset_of_seconds, zone_ahead}
-use Rattle.cal_zone.specs.ZoneName.{is_utc_name}
+use Rattle.cal_zone.specs.headline.Weekday.{name_of}
+use Rattle.cal_zone.specs.headline.Zone.{local_of}
+use Rattle.cal_zone.specs.headline.ZoneAhead.{offset_of_seconds, zone_ahead}
+use Rattle.cal_zone.specs.headline.ZoneName.{is_utc_name}
 use Rattle.cal_spec.specs.Weekdays.{day_named}
-use Rattle.cal_spec.specs.Words.{words}
+use Rattle.cal_spec.specs.headline.Words.{words}
 use Rattle.cal_read.specs.Stamp.{Setting, moment_in, in_moments, today, settled, moment_of_written}
 use Rattle.cal_read.specs.StampDate.{digits_number, date_numbers, day_number, day_written}
 use Rattle.cal_read.specs.StampForm.{form_of, form_by_end, solid, day_shift}

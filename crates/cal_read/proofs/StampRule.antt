@@ -10,7 +10,7 @@ use Rattle.std.proofs.lemmas.Bool.{cases_lt, and_parts, eqb-true, false≢true}
 use Rattle.std.proofs.lemmas.List.{append_cancel_left, take-append-drop, length-take, get_or-drop, get_or-take, append-nil}
 use Rattle.std.proofs.lemmas.List.Sums.{AllPass-from_list_all, list_all-from_AllPass, prefix_len_passes, prefix_len_stops, suffix_len_is, suffix_len-le-length}
 use Rattle.std.proofs.lemmas.Slice.Eq.{bytes_eq-Decides}
-use Rattle.cal_spec.specs.Words.{is_blank, words}
+use Rattle.cal_spec.specs.headline.Words.{is_blank, words}
 use Rattle.cal_read.specs.StampForm.{Form, present, later, earlier, counted, from_today, civil, from_solid, to_solid, solid, day_shift, form_of, form_by_end, form_of_solid, form_of_words, form_by_day, form_by_ago, form_by_left}
 use Rattle.cal_read.specs.StampRule.{IsBetweenBlanks, IsNothing, IsPresent, IsBehindSign, IsBeforeWord, IsNearDay, IsCivil, OrElse, FitsByWords, FitsByEnd, FitsBySign, FitsFirst, HasForm}
 use Rattle.cal_read.proofs.StampText.{before_suffix, in_suffix, is_solid, last_blank, no_blank}

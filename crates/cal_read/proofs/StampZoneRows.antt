@@ -3,8 +3,8 @@ use Rattle.std.proofs.Common.{◌≡◌, ℕ, pos, neg_ℤ, List, [], ◌∷◌,
 use Rattle.std.specs.Prelude.{Result}
 use Rattle.jiff.specs.Types.{TimeZone, UTC}
 use Rattle.cal_zone.specs.OffsetWord.{clock_in, offset_in, two_digits}
-use Rattle.cal_zone.specs.ZoneAhead.{zone_ahead}
-use Rattle.cal_zone.specs.ZoneName.{is_utc_name}
+use Rattle.cal_zone.specs.headline.ZoneAhead.{zone_ahead}
+use Rattle.cal_zone.specs.headline.ZoneName.{is_utc_name}
 use Rattle.cal_read.specs.Stamp.{Setting, zone_by_words}
 use Rattle.cal_read.specs.declared.stamp.fault.StampFault.{StampFault}
 use Rattle.cal_read.specs.declared.stamp.fault.StampFault.TheVariants.{NoSuchZone, StrayWord}

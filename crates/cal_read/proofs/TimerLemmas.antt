@@ -5,9 +5,10 @@ use Rattle.std.specs.Option.{option_or}
 use Rattle.std.specs.Str.{is_utf8, IsUtf8}
 use Rattle.std.proofs.lemmas.Str.{IsUtf8-from_is_utf8}
 use Rattle.cal_spec.specs.declared.spec_fault.SpecFault.{SpecFault}
-use Rattle.cal_read.specs.Assignments.{Assignment, assignments_in}
-use Rattle.cal_lines.specs.Lines.{logical_lines}
-use Rattle.cal_read.specs.TimerText.{TimerLine, bad_line, broken_line, excepted, fault_following, fault_joining, first_fault, is_exception, is_expression, listed, lists_of, most_expressions, some_expressions, timer_in, timer_of, unless_fault, without_mark}
+use Rattle.cal_read.specs.headline.Assignments.{Assignment, assignments_in}
+use Rattle.cal_lines.specs.headline.Lines.{logical_lines}
+use Rattle.cal_read.specs.TimerText.{TimerLine, bad_line, broken_line, fault_following, fault_joining, first_fault, lists_of, some_expressions, timer_in, timer_of, unless_fault}
+use Rattle.cal_read.specs.headline.TimerText.{excepted, is_exception, is_expression, listed, most_expressions, without_mark}
 use Rattle.cal_read.specs.declared.timer.fault.TimerFault.{TimerFault}
 use Rattle.cal_read.specs.declared.timer.fault.TimerFault.TheVariants.{BadLine, NoMemory, NothingToDo, NotUtf8, ReadFailed, TooLarge, TooMany}
 

@@ -6,9 +6,10 @@ use Rattle.std.specs.Str.Lossy.{utf8_valid_len}
 use lib.Utf8.{encode}
 use Rattle.cal_spec.specs.declared.spec_fault.SpecFault.{SpecFault}
 use Rattle.cal_spec.specs.declared.spec_fault.SpecFault.TheVariants.{NoRepeat}
-use Rattle.cal_read.specs.Assignments.{assignment_of, assignments_in, timer_lines}
-use Rattle.cal_lines.specs.Lines.{groups, is_continued, logical_lines, part_of, physical_lines, plain_lines, trim, trim_end, trim_start}
-use Rattle.cal_read.specs.TimerText.{TimerLine, broken_line, entries, excepted, fault_following, fault_joining, first_fault, is_exception, is_exception_reset, is_expression, is_reset, listed, lists_of, timer_in, timer_of, without_mark}
+use Rattle.cal_read.specs.headline.Assignments.{assignment_of, assignments_in, timer_lines}
+use Rattle.cal_lines.specs.headline.Lines.{groups, is_continued, logical_lines, part_of, physical_lines, plain_lines, trim, trim_end, trim_start}
+use Rattle.cal_read.specs.TimerText.{TimerLine, broken_line, entries, fault_following, fault_joining, first_fault, lists_of, timer_in, timer_of}
+use Rattle.cal_read.specs.headline.TimerText.{excepted, is_exception, is_exception_reset, is_expression, is_reset, listed, without_mark}
 use Rattle.cal_read.specs.declared.timer.fault.TimerFault.{TimerFault}
 use Rattle.cal_read.specs.declared.timer.fault.TimerFault.TheVariants.{BadLine, NothingToDo, NotUtf8}
 

@@ -6,10 +6,11 @@ use Rattle.std.specs.Prelude.{if◌then◌else◌}
 use Rattle.std.specs.Str.{bytes_eq}
 use Rattle.std.proofs.lemmas.Bool.{or_parts}
 use Rattle.cal_spec.specs.declared.spec_fault.SpecFault.{SpecFault}
-use Rattle.cal_read.specs.Assignments.{Assignment, is_header, section_of, timer_lines}
-use Rattle.cal_lines.specs.Lines.{Line}
+use Rattle.cal_read.specs.headline.Assignments.{Assignment, is_header, section_of, timer_lines}
+use Rattle.cal_lines.specs.headline.Lines.{Line}
 use Rattle.cal_read.specs.TimerRule.{AreFine, IsFirstFault, Judges}
-use Rattle.cal_read.specs.TimerText.{TimerLine, Timer, entries, excepted, fault_following, first_fault, is_exception, is_exception_reset, is_expression, is_reset, lists_of, listed, some_entries, some_expressions, unless_fault}
+use Rattle.cal_read.specs.TimerText.{TimerLine, Timer, entries, fault_following, first_fault, lists_of, some_entries, some_expressions, unless_fault}
+use Rattle.cal_read.specs.headline.TimerText.{excepted, is_exception, is_exception_reset, is_expression, is_reset, listed}
 use Rattle.cal_read.specs.declared.timer.fault.TimerFault.{TimerFault}
 use Rattle.cal_read.specs.declared.timer.fault.TimerFault.TheVariants.{ReadFailed, TooLarge, NotUtf8, BadLine, TooMany, NothingToDo, NoMemory}
 use Rattle.cal_read.proofs.ListedLemmas.{after_last_here, after_last_more}

@@ -1,5 +1,5 @@
 -- Assignments of a unit file without where they lie in memory.
-use Rattle.cal_read.specs.Assignments.{Assignment}
+use Rattle.cal_read.specs.headline.Assignments.{Assignment}
 use Rattle.cal_read.specs.declared.assignments.Assignment as declared_assignment
 
 abbrev pub shown_assignment : declared_assignment.Assignment → Assignment

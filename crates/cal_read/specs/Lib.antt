@@ -1,5 +1,4 @@
 pub mod AssignmentView
-pub mod Assignments
 pub mod Stamp
 pub mod StampCivilRule
 pub mod StampDate
@@ -14,3 +13,4 @@ pub mod TimerFault
 pub mod TimerRule
 pub mod TimerText
 pub mod TimerView
+pub mod headline

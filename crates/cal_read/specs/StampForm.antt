@@ -2,7 +2,7 @@
 use Rattle.std.specs.Prelude.{ℕ, ◌-◌, ◌==◌, ◌&&◌, if◌then◌else◌, ℤ, pos, neg_ℤ, List, [], ◌∷◌, length, take, drop, codes, Option, None, Some}
 use Rattle.std.specs.List.{list_any, prefix_len, suffix_len, before_last, after_last}
 use Rattle.std.specs.Str.{bytes_eq}
-use Rattle.cal_spec.specs.Words.{is_blank, words}
+use Rattle.cal_spec.specs.headline.Words.{is_blank, words}
 
 -- the text without the blanks at its start
 abbrev pub from_solid : List ℕ → List ℕ

@@ -4,8 +4,8 @@ use Rattle.std.specs.Result.{result_map_both}
 use Rattle.jiff.specs.Types.{TimeZone}
 use Rattle.cal_zone.specs.declared.moment.Moment.{Moment}
 use Rattle.cal_zone.specs.declared.zone.Zone.{Zone}
-use Rattle.cal_zone.specs.Zone.{zone_of}
-use Rattle.cal_spec.specs.Words.{words}
+use Rattle.cal_zone.specs.headline.Zone.{zone_of}
+use Rattle.cal_spec.specs.headline.Words.{words}
 use Rattle.cal_read.specs.Stamp as meaning
 use Rattle.cal_read.specs.StampForm as forms
 use Rattle.cal_read.specs.declared.stamp.fault.StampFault.{StampFault}

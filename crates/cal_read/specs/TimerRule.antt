@@ -1,7 +1,7 @@
 -- The lists of a timer file in the rule's own words, each as a law: systemd.timer(5), OnCalendar=; systemd.syntax(7).
 use Rattle.std.specs.Prelude.{◌≡◌, ◌<◌, ℕ, List, [], ◌∷◌, ◌++◌, length, None, Some, Result, Ok, Err}
 use Rattle.cal_spec.specs.declared.spec_fault.SpecFault.{SpecFault}
-use Rattle.cal_read.specs.Assignments.{Assignment}
+use Rattle.cal_read.specs.headline.Assignments.{Assignment}
 use Rattle.cal_read.specs.TimerText.{Timer, entries, fault_following}
 use Rattle.cal_read.specs.declared.timer.fault.TimerFault.{TimerFault}
 use Rattle.cal_read.specs.declared.timer.fault.TimerFault.TheVariants.{NothingToDo}

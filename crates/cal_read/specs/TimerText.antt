@@ -1,57 +1,18 @@
--- What the text of a timer file says: systemd.timer(5), OnCalendar=, and this project's own key for exceptions. Each of
--- the two lists is a filter over all assignments, and so is the count of those that come before one.
-use Rattle.std.specs.Prelude.{ℕ, ◌+◌, ◌==◌, nat_eq, nat_le, Bool, false, not, ◌&&◌, if◌then◌else◌, List, [], ◌∷◌, ◌++◌, length, filter, take, drop, codes, Option, None, Some, Result, Ok, Err, count_by}
-use Rattle.std.specs.List.{after_last, filter_map, list_any, starts_with}
+-- What the text of a timer file comes to: its first fault, or its lists (systemd.timer(5), OnCalendar=).
+use Rattle.std.specs.Prelude.{ℕ, ◌+◌, ◌==◌, nat_le, false, if◌then◌else◌, List, [], ◌∷◌, ◌++◌, length, take, Option, None, Some, Result, Ok, Err, count_by}
+use Rattle.std.specs.List.{filter_map}
 use Rattle.std.specs.Option.{option_or}
-use Rattle.std.specs.Str.{bytes_eq, is_utf8}
+use Rattle.std.specs.Str.{is_utf8}
 use Rattle.std.specs.Str.Lossy.{utf8_valid_len}
-use Rattle.cal_read.specs.Assignments.{Assignment, assignments_in}
-use Rattle.cal_lines.specs.Lines.{logical_lines}
+use Rattle.cal_read.specs.headline.Assignments.{Assignment, assignments_in}
+use Rattle.cal_lines.specs.headline.Lines.{logical_lines}
 use Rattle.cal_bytes.specs.Whole.{GivesAll, IsWholeFault}
 use Rattle.cal_bytes.specs.declared.whole.WholeFault.{WholeFault}
 use Rattle.cal_bytes.specs.declared.whole.WholeFault.TheVariants as whole
 use Rattle.cal_spec.specs.declared.spec_fault.SpecFault.{SpecFault}
 use Rattle.cal_read.specs.declared.timer.fault.TimerFault.{TimerFault}
 use Rattle.cal_read.specs.declared.timer.fault.TimerFault.TheVariants.{ReadFailed, TooLarge, NotUtf8, BadLine, TooMany, NothingToDo, NoMemory}
-
--- the keys that empty the list of expressions by an empty value
-abbrev pub timer_keys : List (List ℕ)
-timer_keys =
-    codes "OnActiveSec" ∷ codes "OnBootSec" ∷ codes "OnStartupSec" ∷ codes "OnUnitActiveSec"
-    ∷ codes "OnUnitInactiveSec" ∷ codes "OnCalendar" ∷ []
-
--- the key of exceptions, which begins as systemd.unit(5) says of settings that it leaves to others
-abbrev pub exception_key : List ℕ
-exception_key = codes "X-ExceptOnCalendar"
-
-abbrev pub has_no_value : Assignment → Bool
-has_no_value a = length a.value == 0
-
-unfoldable pub is_reset : Assignment → Bool
-is_reset a = has_no_value a && list_any (bytes_eq a.key) timer_keys
-
--- an assignment of `OnCalendar` with a value is an expression's
-unfoldable pub is_expression : Assignment → Bool
-is_expression a = not (has_no_value a) && bytes_eq a.key (codes "OnCalendar")
-
--- the key of exceptions empties their list by an empty value, and with a value it is an exception's
-unfoldable pub is_exception_reset : Assignment → Bool
-is_exception_reset a = has_no_value a && bytes_eq a.key exception_key
-
-unfoldable pub is_exception : Assignment → Bool
-is_exception a = not (has_no_value a) && bytes_eq a.key exception_key
-
--- the assignments that are on the list of expressions: those of expressions that follow the last reset
-unfoldable pub listed : List Assignment → List Assignment
-listed assignments = filter is_expression (after_last is_reset assignments)
-
--- and those that are on the list of exceptions
-unfoldable pub excepted : List Assignment → List Assignment
-excepted assignments = filter is_exception (after_last is_exception_reset assignments)
-
--- the most expressions on a list
-abbrev pub most_expressions : ℕ
-most_expressions = 256
+use Rattle.cal_read.specs.headline.TimerText.{excepted, is_exception, is_expression, listed, most_expressions, without_mark}
 
 -- an expression of a list: the number of its line, its text, and what it reads as
 pub record TimerLine (E : Type 0) : Type 0 where
@@ -117,14 +78,6 @@ unless_fault (Some fault) result = Err fault
 -- the lists, or the first fault
 unfoldable pub lists_of : {E : Type 0} → (List ℕ → Result E SpecFault) → List Assignment → Result (Timer E) TimerFault
 lists_of read assignments = unless_fault (first_fault read [] assignments) (some_entries (entries read assignments))
-
--- the bytes of the byte order mark, U+FEFF
-abbrev pub byte_order_mark : List ℕ
-byte_order_mark = 239 ∷ 187 ∷ 191 ∷ []
-
--- without a byte order mark at the very start
-unfoldable pub without_mark : List ℕ → List ℕ
-without_mark text = if starts_with nat_eq text byte_order_mark then drop 3 text else text
 
 -- the lists that a text gives, or its fault
 unfoldable pub timer_of : {E : Type 0} → (List ℕ → Result E SpecFault) → List ℕ → Result (Timer E) TimerFault

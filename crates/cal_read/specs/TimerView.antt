@@ -1,10 +1,11 @@
 -- What contracts see of a timer: its expressions and exceptions without where they lie in memory, and what a step of
 -- reading does to their lists.
 use Rattle.std.specs.Prelude.{ℕ, nat_le, if◌then◌else◌, List, [], ◌∷◌, ◌++◌, length, map, Result, Ok, Err, string_bytes}
-use Rattle.cal_spec.specs.Fields.{Fields}
+use Rattle.cal_spec.specs.headline.Fields.{Fields}
 use Rattle.cal_spec.specs.declared.spec_fault.SpecFault.{SpecFault}
-use Rattle.cal_read.specs.Assignments.{Assignment}
-use Rattle.cal_read.specs.TimerText.{TimerLine, Timer, is_exception, is_exception_reset, is_expression, is_reset, most_expressions, some_entries}
+use Rattle.cal_read.specs.headline.Assignments.{Assignment}
+use Rattle.cal_read.specs.TimerText.{TimerLine, Timer, some_entries}
+use Rattle.cal_read.specs.headline.TimerText.{is_exception, is_exception_reset, is_expression, is_reset, most_expressions}
 use Rattle.cal_read.specs.declared.timer.TimerLine as declared_line
 use Rattle.cal_read.specs.declared.timer.list.ReadLists.{ReadLists}
 use Rattle.cal_read.specs.declared.timer.fault.TimerFault.{TimerFault}

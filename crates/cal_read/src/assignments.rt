@@ -4,10 +4,10 @@ ghost use Rattle.std.specs.Prelude.{◌≡◌, MatchOption, map, true, false};
 ghost use Rattle.std.specs.List.{list_any};
 ghost use Rattle.std.specs.Option.{option_map};
 ghost use Rattle.std.specs.Str.{bytes_eq};
-ghost use Rattle.cal_read.specs.Assignments.{assignment_of, is_header, section_of};
+ghost use Rattle.cal_read.specs.headline.Assignments.{assignment_of, is_header, section_of};
 ghost use Rattle.cal_lines.specs.LineView.{line_at};
 ghost use Rattle.cal_read.specs.AssignmentView.{shown_assignment};
-ghost use Rattle.cal_read.specs.TimerText.{is_exception, is_exception_reset, is_expression, is_reset};
+ghost use Rattle.cal_read.specs.headline.TimerText.{is_exception, is_exception_reset, is_expression, is_reset};
 
 use cal_bytes::is_among;
 use cal_lines::trim;
@@ -36,7 +36,7 @@ pub(crate) struct Assignment<'t> {
 
 impl Assignment<'_> {
     /// Whether it empties the list of expressions: whether one of the timer's keys has no value.
-    #[tactic(auto, unfolding(crate::specs::TimerText::is_reset))]
+    #[tactic(auto, unfolding(crate::specs::headline::TimerText::is_reset))]
     pub(crate) fn is_reset(self) -> bool
         ensures { result ≡ is_reset (shown_assignment self.entry) }
     {
@@ -44,7 +44,7 @@ impl Assignment<'_> {
     }
 
     /// Whether it is an expression's: whether `OnCalendar` has a value.
-    #[tactic(auto, unfolding(crate::specs::TimerText::is_expression))]
+    #[tactic(auto, unfolding(crate::specs::headline::TimerText::is_expression))]
     pub(crate) fn is_expression(self) -> bool
         ensures { result ≡ is_expression (shown_assignment self.entry) }
     {
@@ -52,7 +52,7 @@ impl Assignment<'_> {
     }
 
     /// Whether it empties the list of exceptions: whether their key has no value.
-    #[tactic(auto, unfolding(crate::specs::TimerText::is_exception_reset))]
+    #[tactic(auto, unfolding(crate::specs::headline::TimerText::is_exception_reset))]
     pub(crate) fn is_exception_reset(self) -> bool
         ensures { result ≡ is_exception_reset (shown_assignment self.entry) }
     {
@@ -60,7 +60,7 @@ impl Assignment<'_> {
     }
 
     /// Whether it is an exception's: whether their key has a value.
-    #[tactic(auto, unfolding(crate::specs::TimerText::is_exception))]
+    #[tactic(auto, unfolding(crate::specs::headline::TimerText::is_exception))]
     pub(crate) fn is_exception(self) -> bool
         ensures { result ≡ is_exception (shown_assignment self.entry) }
     {
@@ -80,7 +80,7 @@ pub(crate) fn section(line: &str) -> Option<&[u8]>
 }
 
 /// The assignment in a line: the key comes before the first `=`, and the value after it.
-#[tactic(auto, unfolding(crate::specs::Assignments::assignment_of))]
+#[tactic(auto, unfolding(crate::specs::headline::Assignments::assignment_of))]
 pub(crate) fn read_assignment(number: u32, line: &str) -> Option<Assignment<'_>>
     ensures { option_map shown_assignment result ≡ assignment_of (line_at number line.now) }
 {

@@ -4,22 +4,24 @@ use Rattle.std.proofs.lemmas.List.{append_assoc, append-nil, map-append}
 use Rattle.cal_elapse.proofs.CoveredLemmas.{elapses_except-kept, kept_none, kept_one, kept_without, matches_among}
 use Rattle.cal_elapse.proofs.ElapsesLemmas.{without-elapses}
 use Rattle.cal_elapse.specs.Covered.{AreAmong}
-use Rattle.cal_elapse.specs.Elapses.{IsPlace, Timed, elapses_after}
+use Rattle.cal_elapse.specs.Elapses.{elapses_after}
+use Rattle.cal_elapse.specs.headline.Elapses.{IsPlace, Timed}
 use Rattle.cal_elapse.specs.Masks.{sets_in}
 use Rattle.cal_elapse.specs.Merged.{each_after}
-use Rattle.cal_elapse.specs.Timed.{timed}
+use Rattle.cal_elapse.specs.headline.Timed.{timed}
 use Rattle.cal_elapse.specs.declared.masks.Masks.{Masks}
 use Rattle.cal_read.specs.TimerText.{TimerLine, Timer}
 use Rattle.cal_read.specs.TimerView.{shown}
 use Rattle.cal_read.specs.declared.timer.TimerLine as declared_line
 use Rattle.cal_rising.specs.Merge.{Merge, merged}
-use Rattle.cal_spec.specs.Fields.{Fields}
-use Rattle.cal_spec.specs.Match.{Sets}
-use Rattle.cal_spec.specs.ZoneSuffix.{ZoneSuffix, ahead, name_in, of_name, offset_said}
+use Rattle.cal_spec.specs.headline.Fields.{Fields}
+use Rattle.cal_spec.specs.headline.Match.{Sets}
+use Rattle.cal_spec.specs.ZoneSuffix.{name_in, offset_said}
+use Rattle.cal_spec.specs.headline.ZoneSuffix.{ZoneSuffix, ahead, of_name}
 use Rattle.cal_report.proofs.TimerLemmas.{shown_more}
 use Rattle.cal_report.specs.TimerPlan.{IsAdded, IsCoveredEntry, each_of, entry_sets}
 use Rattle.cal_report.specs.TimerReport.{elapses_of_lists, timed_entry}
-use Rattle.cal_request.specs.Request.{Request}
+use Rattle.cal_request.specs.headline.Request.{Request}
 
 -- a zone is known by its name and its offset
 pub same_suffix : (a b : Option ZoneSuffix) → offset_said a ≡ offset_said b → name_in a ≡ name_in b → a ≡ b

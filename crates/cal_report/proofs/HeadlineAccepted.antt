@@ -7,30 +7,34 @@ use Rattle.std.specs.Str.{is_utf8}
 use Rattle.std.proofs.lemmas.Bool.{or_parts}
 use Rattle.jiff.specs.Types.{TimeZone}
 use Rattle.cal_bytes.specs.declared.whole.WholeFault.{WholeFault}
-use Rattle.cal_zone.specs.Zone.{zone_of}
+use Rattle.cal_zone.specs.headline.Zone.{zone_of}
 use Rattle.cal_spec.specs.Expr.{expr_in}
-use Rattle.cal_spec.specs.Fields.{Fields}
+use Rattle.cal_spec.specs.headline.Fields.{Fields}
 use Rattle.cal_spec.specs.Grammar.{fields_in}
-use Rattle.cal_spec.specs.NormalForm.{IsNormalFieldsOf, normal_fields}
+use Rattle.cal_spec.specs.NormalForm.{normal_fields}
+use Rattle.cal_spec.specs.headline.NormalForm.{IsNormalFieldsOf}
 use Rattle.cal_spec.specs.Reads.{◌>>=◌}
 use Rattle.cal_spec.specs.ValidFields.{IsValidFields}
-use Rattle.cal_spec.specs.ZoneSuffix.{ZoneSuffix, of_name, ahead}
-use Rattle.cal_zone.specs.ZoneAhead.{zone_ahead}
+use Rattle.cal_spec.specs.headline.ZoneSuffix.{ZoneSuffix, of_name, ahead}
+use Rattle.cal_zone.specs.headline.ZoneAhead.{zone_ahead}
 use Rattle.cal_spec.specs.declared.spec_fault.SpecFault.{SpecFault}
 use Rattle.cal_spec.proofs.FieldLemmas.{valid_fields}
 use Rattle.cal_spec.proofs.WholeRule.{valid_found}
-use Rattle.cal_read.specs.Assignments.{Assignment}
+use Rattle.cal_read.specs.headline.Assignments.{Assignment}
 use Rattle.cal_read.specs.TimerRule.{AreFine, Judges}
-use Rattle.cal_read.specs.TimerText.{TimerLine, Timer, bad_line, entries, entry_of, excepted, fault_joining, is_exception, is_exception_reset, is_expression, is_reset, listed, most_expressions, timer_in, timer_of}
+use Rattle.cal_read.specs.TimerText.{TimerLine, Timer, bad_line, entries, entry_of, fault_joining, timer_in, timer_of}
+use Rattle.cal_read.specs.headline.TimerText.{excepted, is_exception, is_exception_reset, is_expression, is_reset, listed, most_expressions}
 use Rattle.cal_read.specs.declared.timer.fault.TimerFault.{TimerFault}
 use Rattle.cal_read.proofs.ListedLemmas.{fault_of_exception, fault_of_expression}
 use Rattle.cal_read.proofs.TimerRuleLemmas.{judged}
 use Rattle.cal_report.specs.Answer.{texts_status}
 use Rattle.cal_report.specs.CalendarReport.{answer_in, answer_with, calendar_answer, zone_for}
-use Rattle.cal_report.specs.Headline.{AreAccepted, AreSpelled, Expression, IsAccepted, IsAcceptedFile, IsZoneFor, Spells, assigned_in}
-use Rattle.cal_report.specs.Report.{Report, answer_by, answer_to, base_in, file_name, report, texts_report, whole_report}
+use Rattle.cal_report.specs.headline.Headline.{AreAccepted, AreSpelled, Expression, IsAccepted, IsAcceptedFile, IsZoneFor, Spells, assigned_in}
+use Rattle.cal_report.specs.Report.{answer_by, answer_to, base_in, file_name, report, texts_report, whole_report}
+use Rattle.cal_report.specs.headline.Report.{Report}
 use Rattle.cal_report.specs.TimerReport.{answer_of_timer, answer_unless, lacks_zone, timer_answer, unzoned}
-use Rattle.cal_request.specs.Request.{Request, is_timer}
+use Rattle.cal_request.specs.Request.{is_timer}
+use Rattle.cal_request.specs.headline.Request.{Request}
 use Rattle.cal_request.specs.declared.request.Status.TheVariants.{Fine, Refused}
 use Rattle.cal_request.specs.declared.request.Verb.TheVariants as verb
 use Rattle.cal_report.proofs.HeadlineLemmas.{HaveOneNormalForm, report_of_texts, spelled_is_read, text_of}

@@ -6,9 +6,10 @@ use Rattle.std.specs.List.{AllZip, cons_option, filter_map, flat_map, join_by, l
 use Rattle.std.specs.Result.{result_err, result_ok}
 use Rattle.cal_bytes.specs.declared.whole.WholeFault.{WholeFault}
 use Rattle.cal_report.specs.Answer.{Answer, refusal_in, refusal_line, refusals_text, report_in, reports_text, texts_status}
-use Rattle.cal_report.specs.Headline.{AreAnswered, IsAnswerTo, IsReportOf, alone}
-use Rattle.cal_report.specs.Report.{ByReading, IsReported, Report, answer_to, base_in, report, texts_report}
-use Rattle.cal_request.specs.Request.{Request}
+use Rattle.cal_report.specs.headline.Headline.{AreAnswered, IsAnswerTo, IsReportOf, alone}
+use Rattle.cal_report.specs.Report.{ByReading, IsReported, answer_to, base_in, report, texts_report}
+use Rattle.cal_report.specs.headline.Report.{Report}
+use Rattle.cal_request.specs.headline.Request.{Request}
 use Rattle.cal_request.specs.declared.request.Status.{Status}
 use Rattle.cal_request.specs.declared.request.Status.TheVariants.{Fine, Refused}
 use Rattle.cal_request.specs.declared.request.Verb.TheVariants.{Calendar}

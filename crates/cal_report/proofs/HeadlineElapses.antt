@@ -7,23 +7,24 @@ use Rattle.jiff.proofs.SpanFacts.{signed_arith}
 use Rattle.jiff.specs.Types.{Fold, Offset, TimeZone}
 use Rattle.jiff.specs.Words.{ambiguous_at, compatible_offset}
 use Rattle.cal_zone.specs.Instant.{IsInstant}
-use Rattle.cal_zone.specs.Local.{seconds_in_all-is}
-use Rattle.cal_zone.specs.Place.{datetime_of, place_of, settle_of}
-use Rattle.cal_zone.specs.Zone.{local_of}
+use Rattle.cal_zone.specs.headline.Local.{seconds_in_all-is}
+use Rattle.cal_zone.specs.headline.Place.{datetime_of, place_of, settle_of}
+use Rattle.cal_zone.specs.headline.Zone.{local_of}
 use Rattle.cal_zone.proofs.PlaceLemmas.{place_of-Some}
-use Rattle.cal_spec.specs.Fields.{Fields}
-use Rattle.cal_spec.specs.Match.{matches}
-use Rattle.cal_spec.specs.Members.{sets_of}
-use Rattle.cal_elapse.specs.Elapses.{AreElapses, IsPlace, Timed, elapses_except}
-use Rattle.cal_elapse.specs.Timed.{timed}
+use Rattle.cal_spec.specs.headline.Fields.{Fields}
+use Rattle.cal_spec.specs.headline.Match.{matches}
+use Rattle.cal_spec.specs.headline.Members.{sets_of}
+use Rattle.cal_elapse.specs.Elapses.{elapses_except}
+use Rattle.cal_elapse.specs.headline.Elapses.{AreElapses, IsPlace, Timed}
+use Rattle.cal_elapse.specs.headline.Timed.{timed}
 use Rattle.cal_elapse.proofs.ElapsesLemmas.{AreElapses-elapses_except, AreElapses-only, elapses_except-later}
 use Rattle.cal_elapse.proofs.InstantLemmas.{IsInstant-elapse}
 use Rattle.cal_read.specs.declared.stamp.fault.StampFault.{StampFault}
 use Rattle.cal_report.specs.ElapseLines.{AreInstants}
-use Rattle.cal_report.specs.Headline.{AreElapsesOf, Expression, Schedule, meaning}
+use Rattle.cal_report.specs.headline.Headline.{AreElapsesOf, Expression, Schedule, meaning}
 use Rattle.cal_report.specs.Report.{base_from, base_in, second_or_fault}
 use Rattle.cal_report.specs.TimestampReport.{second_at, stamp_in}
-use Rattle.cal_request.specs.Request.{Request}
+use Rattle.cal_request.specs.headline.Request.{Request}
 use Rattle.cal_report.proofs.HeadlineLemmas.{one_elapses}
 
 -- Instants

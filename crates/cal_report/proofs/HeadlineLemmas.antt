@@ -6,27 +6,33 @@ use Rattle.std.specs.List.{AllByRecursion, AllZip, filter_map, find, flat_map, j
 use Rattle.jiff.specs.Types.{TimeZone}
 use Rattle.cal_bytes.specs.declared.whole.WholeFault.{WholeFault}
 use Rattle.cal_spec.specs.Expr.{expr_in}
-use Rattle.cal_spec.specs.Fields.{Fields}
-use Rattle.cal_spec.specs.NormalForm.{IsNormalFieldsOf, normal_fields}
+use Rattle.cal_spec.specs.headline.Fields.{Fields}
+use Rattle.cal_spec.specs.NormalForm.{normal_fields}
+use Rattle.cal_spec.specs.headline.NormalForm.{IsNormalFieldsOf}
 use Rattle.cal_spec.specs.ValidFields.{IsValidFields}
 use Rattle.cal_spec.specs.declared.spec_fault.SpecFault.{SpecFault}
 use Rattle.cal_spec.proofs.FieldLemmas.{valid_fields}
 use Rattle.cal_spec.proofs.WholeRule.{valid_only}
-use Rattle.cal_bytes.specs.Bytes.{joined}
-use Rattle.cal_elapse.specs.Elapses.{AreElapses, Timed, elapses_after, elapses_except}
+use Rattle.cal_bytes.specs.headline.Bytes.{joined}
+use Rattle.cal_elapse.specs.Elapses.{elapses_after, elapses_except}
+use Rattle.cal_elapse.specs.headline.Elapses.{AreElapses, Timed}
 use Rattle.cal_elapse.proofs.ElapsesLemmas.{AreElapses-elapses_except, AreElapses-only, elapses_except-none}
-use Rattle.cal_read.specs.Assignments.{Assignment}
+use Rattle.cal_read.specs.headline.Assignments.{Assignment}
 use Rattle.cal_read.specs.TimerRule.{AreFine}
-use Rattle.cal_read.specs.TimerText.{TimerLine, Timer, entries, entry_of, excepted, fault_following, fault_joining, is_exception, is_expression, listed, most_expressions, timer_in, timer_of}
+use Rattle.cal_read.specs.TimerText.{TimerLine, Timer, entries, entry_of, fault_following, fault_joining, timer_in, timer_of}
+use Rattle.cal_read.specs.headline.TimerText.{excepted, is_exception, is_expression, listed, most_expressions}
 use Rattle.cal_read.proofs.TimerRuleLemmas.{only_judged}
 use Rattle.cal_report.specs.Answer.{refusals_text, report_in, reports_text, texts_status}
-use Rattle.cal_spec.specs.ZoneSuffix.{ZoneSuffix, of_name, ahead}
-use Rattle.cal_report.specs.CalendarReport.{answer_in, answer_with, calendar_answer, calendar_report, heading_text, zone_for}
-use Rattle.cal_report.specs.ElapseLines.{elapses_text}
-use Rattle.cal_report.specs.Headline.{AreAllAccepted, AreReportsOf, AreSpelled, Expression, IsAccepted, IsFileOf, IsFine, IsReportOf, IsZoneFor, Schedule, Spells, alone, assigned_in, headings, meaning}
+use Rattle.cal_spec.specs.headline.ZoneSuffix.{ZoneSuffix, of_name, ahead}
+use Rattle.cal_report.specs.CalendarReport.{answer_in, answer_with, calendar_answer, calendar_report, zone_for}
+use Rattle.cal_report.specs.headline.CalendarReport.{heading_text}
+use Rattle.cal_report.specs.headline.ElapseLines.{elapses_text}
+use Rattle.cal_report.specs.headline.Headline.{AreAllAccepted, AreReportsOf, AreSpelled, Expression, IsAccepted, IsFileOf, IsFine, IsReportOf, IsZoneFor, Schedule, Spells, alone, assigned_in, headings, meaning}
 use Rattle.cal_report.specs.Report.{ByReading, IsReported, answer_by, answer_to, base_in, file_name, report, texts_report}
-use Rattle.cal_report.specs.TimerReport.{elapses_of_lists, exception_text, exceptions_text, headings_text, lacks_zone, timed_entry, timer_answer, timer_report, unzoned}
-use Rattle.cal_request.specs.Request.{Request, is_timer}
+use Rattle.cal_report.specs.TimerReport.{elapses_of_lists, exceptions_text, headings_text, lacks_zone, timed_entry, timer_answer, timer_report, unzoned}
+use Rattle.cal_report.specs.headline.TimerReport.{exception_text}
+use Rattle.cal_request.specs.Request.{is_timer}
+use Rattle.cal_request.specs.headline.Request.{Request}
 use Rattle.cal_request.specs.declared.request.Status.{Status}
 use Rattle.cal_request.specs.declared.request.Status.TheVariants.{Fine, Refused}
 use Rattle.cal_request.specs.declared.request.Verb.TheVariants as verb

@@ -10,7 +10,8 @@ use Rattle.cal_read.specs.declared.stamp.fault.StampFault.{StampFault}
 use Rattle.cal_report.specs.Answer.{refusal_line}
 use Rattle.cal_bytes.specs.declared.whole.WholeFault.{WholeFault}
 use Rattle.cal_report.specs.TimerReport.{IsHad}
-use Rattle.cal_request.specs.Request.{Request, is_timer}
+use Rattle.cal_request.specs.Request.{is_timer}
+use Rattle.cal_request.specs.headline.Request.{Request}
 use Rattle.cal_bytes.specs.Bytes.{AppendsFront, Writes}
 use Rattle.cal_report.specs.Report.{ByReading, IsReported, ReadsIf, base_in, report, texts_report, whole_report}
 use Rattle.cal_request.specs.declared.request.RunFault.{RunFault}

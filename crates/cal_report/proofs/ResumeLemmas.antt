@@ -9,16 +9,16 @@ use Rattle.std.specs.List.{AllByRecursion, AllZip, join_by, slice_get}
 use Rattle.jiff.specs.Types.{TimeZone}
 use Rattle.cal_bytes.specs.Bytes.{AppendsFront, Writes}
 use Rattle.cal_bytes.specs.declared.whole.WholeFault.{WholeFault}
-use Rattle.cal_zone.specs.InstantText.{instant_text}
+use Rattle.cal_zone.specs.headline.InstantText.{instant_text}
 use Rattle.cal_zone.specs.declared.zone.Zone.{Zone}
-use Rattle.cal_elapse.specs.Elapses.{AreElapses, Timed}
-use Rattle.cal_report.specs.ElapseLines.{elapse_text, elapse_texts, elapses_text, label_text}
-use Rattle.cal_spec.specs.ZoneSuffix.{ZoneSuffix, of_name, ahead}
-use Rattle.cal_report.specs.Headline.{AreAllAccepted, AreReportsOf, Expression, IsAccepted, IsFileOf, IsReportOf, IsZoneFor, Schedule, alone, headings, meaning}
+use Rattle.cal_elapse.specs.headline.Elapses.{AreElapses, Timed}
+use Rattle.cal_report.specs.headline.ElapseLines.{elapse_text, elapse_texts, elapses_text, label_text}
+use Rattle.cal_spec.specs.headline.ZoneSuffix.{ZoneSuffix, of_name, ahead}
+use Rattle.cal_report.specs.headline.Headline.{AreAllAccepted, AreReportsOf, Expression, IsAccepted, IsFileOf, IsReportOf, IsZoneFor, Schedule, alone, headings, meaning}
 use Rattle.cal_report.specs.Report.{ByReading, IsReported, base_in, report}
-use Rattle.cal_report.specs.ReportLines.{distance_text, micros_of, utc_line}
+use Rattle.cal_report.specs.headline.ReportLines.{distance_text, micros_of, utc_line}
 use Rattle.cal_report.specs.Resume.{AreShown, Begins, IsBaseAfter, IsBegunAgain, Resumes, Stand, showing, up_to_line}
-use Rattle.cal_request.specs.Request.{Request}
+use Rattle.cal_request.specs.headline.Request.{Request}
 use Rattle.cal_request.specs.declared.request.RunFault.{RunFault}
 use Rattle.cal_request.specs.declared.request.Status.{Status}
 use Rattle.cal_request.specs.declared.request.Verb.TheVariants.{Calendar, Timer}

@@ -2,10 +2,10 @@
 use Rattle.std.proofs.Common.{[], ◌∷◌, ℤ, pos, ◌≤ℤ◌}
 use Rattle.jiff.specs.Types.{TimeZone}
 use Rattle.cal_elapse.specs.Elapses.{elapses_after}
-use Rattle.cal_elapse.specs.Timed.{timed}
+use Rattle.cal_elapse.specs.headline.Timed.{timed}
 use Rattle.cal_elapse.proofs.ElapsesLemmas.{elapses_except-none}
 use Rattle.cal_elapse.proofs.InstantLemmas.{IsInstant-pairs}
-use Rattle.cal_spec.specs.Fields.{Fields}
+use Rattle.cal_spec.specs.headline.Fields.{Fields}
 use Rattle.cal_report.specs.ElapseLines.{AreInstants}
 
 pub elapses_are_instants : (fields : Fields) (tz : TimeZone) (base : ℤ) → pos 0 ≤ℤ base → AreInstants (elapses_after (timed fields tz ∷ []) base)

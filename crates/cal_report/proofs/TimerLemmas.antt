@@ -14,12 +14,14 @@ use Rattle.cal_read.specs.TimerView.{shown}
 use Rattle.cal_read.specs.declared.timer.TimerLine as declared_line
 use Rattle.cal_bytes.specs.declared.whole.WholeFault.{WholeFault}
 use Rattle.cal_spec.specs.Expr.{expr_in}
-use Rattle.cal_spec.specs.Fields.{Fields}
+use Rattle.cal_spec.specs.headline.Fields.{Fields}
 use Rattle.cal_report.specs.ElapseLines.{AreInstants}
-use Rattle.cal_request.specs.Request.{Request}
+use Rattle.cal_request.specs.headline.Request.{Request}
 use Rattle.cal_report.specs.TimerPlan.{IsMergeOf, plan_text}
-use Rattle.cal_report.specs.TimerReport.{IsHad, elapses_of_lists, exception_text, exceptions_text, first_unzoned, headings_text, lacks_zone, lesser_line, timed_entry, timer_answer, timer_report, unzoned}
-use Rattle.cal_report.specs.CalendarReport.{heading_text, zone_for}
+use Rattle.cal_report.specs.TimerReport.{IsHad, elapses_of_lists, exceptions_text, first_unzoned, headings_text, lacks_zone, lesser_line, timed_entry, timer_answer, timer_report, unzoned}
+use Rattle.cal_report.specs.headline.TimerReport.{exception_text}
+use Rattle.cal_report.specs.CalendarReport.{zone_for}
+use Rattle.cal_report.specs.headline.CalendarReport.{heading_text}
 use Rattle.std.specs.Io.KnownBytes.{Appends}
 use Rattle.cal_bytes.specs.Bytes.{AppendsFront, Leaves}
 use Rattle.cal_bytes.proofs.Pieces.{step_piece, stop_piece}

@@ -1,7 +1,7 @@
 -- The definitions, tried on worked local seconds and on a whole request.
 use Rattle.jiff.specs.Types.{UTC}
 use Rattle.std.specs.FinMap.{empty}
-use Rattle.cal_zone.specs.Zone.{utc, zone_of}
+use Rattle.cal_zone.specs.headline.Zone.{utc, zone_of}
 use Rattle.std.proofs.Common.{nat_lt, ◌≡◌, ℕ, ◌<◌, [], ◌∷◌, ◌++◌, None, Some, Ok, codes, pos, ◌∙◌, ap, sym, inl, true, false, refl, rules, arith}
 use Rattle.std.specs.Fmt.{digits}
 use Rattle.jiff.specs.Types.{Date}
@@ -10,24 +10,25 @@ use Rattle.jiff_core.proofs.CalendarLemmas.{days_from_civil-day_count}
 use Rattle.jiff_core.proofs.MarchLemmas.{day_count-early}
 use Rattle.jiff.proofs.SpanFacts.{signed_arith}
 use Rattle.jiff_core.specs.Calendar.{weekday_number}
-use Rattle.cal_zone.specs.Days.{date_of}
+use Rattle.cal_zone.specs.headline.Days.{date_of}
 use Rattle.cal_zone.proofs.DayLemmas.{date_of-epoch_day}
-use Rattle.cal_zone.specs.Local.{civil_date, seconds_in_all, seconds_in_all-is}
+use Rattle.cal_zone.specs.headline.Local.{civil_date, seconds_in_all, seconds_in_all-is}
 use Rattle.cal_read.specs.Stamp.{in_moments, moment_in}
 use Rattle.cal_read.specs.StampForm.{day_shift, form_by_end, form_of, solid}
 use Rattle.cal_report.specs.Resume.{AreShown, IsBegunAgain}
 use Rattle.cal_report.specs.TimestampReport.{stamp_in}
-use Rattle.cal_span.specs.Scale.{words_for, name_of}
-use Rattle.cal_span.specs.SpanText.{units_text, row_text}
+use Rattle.cal_span.specs.Scale.{words_for}
+use Rattle.cal_span.specs.headline.Scale.{name_of}
+use Rattle.cal_span.specs.headline.SpanText.{units_text, row_text}
 use Rattle.cal_span.specs.SpanValue.{words_in, pairs_in, is_number, unit_named, number_worth, worth_of, span_of}
-use Rattle.cal_spec.specs.Fields.{Fields}
-use Rattle.cal_spec.specs.Match.{matches, date_in, time_in}
-use Rattle.cal_spec.specs.Members.{sets_of, part_has}
+use Rattle.cal_spec.specs.headline.Fields.{Fields}
+use Rattle.cal_spec.specs.headline.Match.{matches, date_in, time_in}
+use Rattle.cal_spec.specs.headline.Members.{sets_of, part_has}
 use Rattle.cal_report.specs.Answer.{reports_text, refusals_text, texts_status}
-use Rattle.cal_elapse.specs.Elapses.{IsElapse}
+use Rattle.cal_elapse.specs.headline.Elapses.{IsElapse}
 use Rattle.cal_report.specs.Report.{base_in, report, texts_report}
-use Rattle.cal_request.specs.Request.{Request}
-use Rattle.cal_elapse.specs.Timed.{timed}
+use Rattle.cal_request.specs.headline.Request.{Request}
+use Rattle.cal_elapse.specs.headline.Timed.{timed}
 use Rattle.cal_report.specs.TimespanReport.{timespan_answer, timespan_report}
 use Rattle.cal_request.specs.declared.request.Status.TheVariants.{Refused}
 use Rattle.cal_request.specs.declared.request.Verb.TheVariants.{Calendar, Timespan}
@@ -35,23 +36,24 @@ use Rattle.cal_zone.proofs.PlaceLemmas.{place_of-UTC}
 use Rattle.std.proofs.lemmas.Int.{ints}
 use lib.Utf8.{encode}
 use Rattle.std.specs.Str.{chars, is_utf8}
-use Rattle.cal_lines.specs.Lines.{groups, is_continued, logical_lines, part_of as part_of_line, physical_lines, plain_lines, trim, trim_end, trim_start}
-use Rattle.cal_read.specs.Assignments.{Assignment, assignment_of, assignments_in, timer_lines}
-use Rattle.cal_read.specs.TimerText.{excepted, is_exception, is_exception_reset, is_expression, is_reset, listed as listed_in, most_expressions, without_mark}
+use Rattle.cal_lines.specs.headline.Lines.{groups, is_continued, logical_lines, part_of as part_of_line, physical_lines, plain_lines, trim, trim_end, trim_start}
+use Rattle.cal_read.specs.headline.Assignments.{Assignment, assignment_of, assignments_in, timer_lines}
+use Rattle.cal_read.specs.headline.TimerText.{excepted, is_exception, is_exception_reset, is_expression, is_reset, listed as listed_in, most_expressions, without_mark}
 use Rattle.std.specs.Prelude.{ℤ, ◌<ℤ◌, ◌≤ℤ◌, List, length, map, slice_get, take}
-use Rattle.cal_zone.specs.Weekday as weekday
-use Rattle.cal_zone.specs.ZoneName.{is_zone_name}
+use Rattle.cal_zone.specs.headline.Weekday as weekday
+use Rattle.cal_zone.specs.headline.ZoneName.{is_zone_name}
 use Rattle.cal_spec.specs.Components.{part_due, listed, component_of}
 use Rattle.cal_spec.specs.DateAndTime.{date_texts, time_texts, date_fields, time_fields, date_of as date_in_word, time_of}
 use Rattle.cal_spec.specs.Grammar.{fields_in, fields_at}
 use Rattle.cal_spec.specs.Parts.{with_step, after_end, after_start, part_of, fault_of}
-use Rattle.cal_spec.specs.Shorthand.{shorthand_named}
+use Rattle.cal_spec.specs.headline.Shorthand.{shorthand_named}
 use Rattle.cal_spec.specs.Weekdays.{day_named, days_of, listed_days, weekdays_of}
-use Rattle.cal_spec.specs.Words.{words, roles_of}
+use Rattle.cal_spec.specs.Words.{roles_of}
+use Rattle.cal_spec.specs.headline.Words.{words}
 use Rattle.cal_spec.proofs.WholeRule.{valid_found}
 use Rattle.cal_rising.specs.RisingList.{first}
 use Rattle.cal_elapse.proofs.ElapsesLemmas.{AreElapses-only, elapses_except-none, first_elapse-least}
-use Rattle.cal_report.specs.Headline.{AreElapsesOf, AreSpelled, Expression, IsAccepted, IsFileOf, Spells, alone, assigned_in, meaning}
+use Rattle.cal_report.specs.headline.Headline.{AreElapsesOf, AreSpelled, Expression, IsAccepted, IsFileOf, Spells, alone, assigned_in, meaning}
 
 inside : (t : ℕ) → t < 7_258_118_400 → nat_lt t seconds_in_all ≡ true
 inside t h =

@@ -6,7 +6,7 @@ use Rattle.cal_read.specs.StampFault.{words_of as stamp_words}
 use Rattle.cal_spec.specs.SpecFault.{words_of as spec_words}
 use Rattle.cal_report.specs.CalendarReport.{report_of_elapses}
 use Rattle.cal_report.specs.ElapseLines.{AreInstants}
-use Rattle.cal_request.specs.Request.{Request}
+use Rattle.cal_request.specs.headline.Request.{Request}
 use Rattle.cal_report.specs.TimespanReport.{timespan_report}
 use Rattle.cal_report.specs.TimestampReport.{timestamp_report}
 use Rattle.cal_report.specs.declared.accepted.Accepted.{Accepted}

@@ -1,30 +1,21 @@
--- The report of one calendar expression (systemd-analyze(1), calendar).
+-- The report of one calendar expression, computed (systemd-analyze(1), calendar).
 use Rattle.std.specs.Prelude.{ℕ, ℤ, List, [], ◌∷◌, take, Option, None, Some, Result, Ok, Err, codes}
 use Rattle.jiff.specs.Types.{TimeZone}
-use Rattle.cal_bytes.specs.Bytes.{joined}
-use Rattle.cal_zone.specs.Zone.{zone_of}
-use Rattle.cal_zone.specs.ZoneAhead.{zone_ahead}
-use Rattle.cal_zone.specs.ZoneTable.{zone_named}
+use Rattle.cal_bytes.specs.headline.Bytes.{joined}
+use Rattle.cal_zone.specs.headline.Zone.{zone_of}
+use Rattle.cal_zone.specs.headline.ZoneAhead.{zone_ahead}
+use Rattle.cal_zone.specs.headline.ZoneTable.{zone_named}
 use Rattle.cal_elapse.specs.Elapses.{elapses_after}
-use Rattle.cal_elapse.specs.Timed.{timed}
+use Rattle.cal_elapse.specs.headline.Timed.{timed}
 use Rattle.cal_spec.specs.Expr.{expr_in}
-use Rattle.cal_spec.specs.ExprText.{expr_text}
-use Rattle.cal_spec.specs.Fields.{Fields}
+use Rattle.cal_spec.specs.headline.Fields.{Fields}
 use Rattle.cal_spec.specs.SpecFault.{words_of}
-use Rattle.cal_spec.specs.ZoneSuffix.{ZoneSuffix, of_name, ahead}
+use Rattle.cal_spec.specs.headline.ZoneSuffix.{ZoneSuffix, of_name, ahead}
 use Rattle.cal_spec.specs.declared.spec_fault.SpecFault.{SpecFault}
 use Rattle.cal_report.specs.Answer.{Answer}
-use Rattle.cal_report.specs.ElapseLines.{elapses_text}
-use Rattle.cal_report.specs.ReportLines.{original_line}
-use Rattle.cal_request.specs.Request.{Request}
-
--- the line of the normal form, after its label
-unfoldable pub normal_line : Fields → List ℕ
-normal_line fields = joined (expr_text fields ∷ codes "\n" ∷ [])
-
--- both lines
-unfoldable pub heading_text : List ℕ → Fields → List ℕ
-heading_text text fields = joined (original_line text ∷ normal_line fields ∷ [])
+use Rattle.cal_report.specs.headline.ElapseLines.{elapses_text}
+use Rattle.cal_request.specs.headline.Request.{Request}
+use Rattle.cal_report.specs.headline.CalendarReport.{heading_text}
 
 -- the report of an expression with these elapses: the text, its normal form, and as many of the elapses as are asked
 -- for, or all where there are fewer

@@ -3,11 +3,10 @@ pub mod Answer
 pub mod CalendarReport
 pub mod Context
 pub mod ElapseLines
-pub mod Headline
 pub mod Report
-pub mod ReportLines
 pub mod Resume
 pub mod TimerPlan
 pub mod TimerReport
 pub mod TimespanReport
 pub mod TimestampReport
+pub mod headline

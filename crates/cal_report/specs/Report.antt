@@ -6,12 +6,13 @@ use Rattle.cal_bytes.specs.Whole.{is_read_failed}
 use Rattle.cal_bytes.specs.declared.whole.WholeFault.{WholeFault}
 use Rattle.cal_bytes.specs.declared.whole.WholeFault.TheVariants.{NoMemory}
 use Rattle.cal_zone.specs.declared.instant.Instant.{Instant}
-use Rattle.cal_read.specs.StampFault.{words_of}
 use Rattle.cal_read.specs.TimerText.{ReadsWhole, most_file_bytes}
+use Rattle.cal_read.specs.StampFault.{words_of}
 use Rattle.cal_read.specs.declared.stamp.fault.StampFault.{StampFault}
 use Rattle.cal_report.specs.Answer.{Answer, IsAnsweredBefore, refusal_line, reports_text, refusals_text, texts_status}
 use Rattle.cal_report.specs.CalendarReport.{calendar_answer}
-use Rattle.cal_request.specs.Request.{Request, is_timer}
+use Rattle.cal_request.specs.Request.{is_timer}
+use Rattle.cal_request.specs.headline.Request.{Request}
 use Rattle.cal_report.specs.TimerReport.{IsHad, timer_answer}
 use Rattle.cal_report.specs.TimespanReport.{timespan_answer}
 use Rattle.cal_report.specs.TimestampReport.{second_at, stamp_in, timestamp_answer}
@@ -20,12 +21,7 @@ use Rattle.cal_request.specs.declared.request.Status.{Status}
 use Rattle.cal_request.specs.declared.request.Status.TheVariants.{Fine, Refused}
 use Rattle.cal_request.specs.declared.request.Verb.{Verb}
 use Rattle.cal_request.specs.declared.request.Verb.TheVariants.{Calendar, Timer, Timestamp, Timespan}
-
--- what a run writes and how it ends
-pub record Report : Type 0 where
-  pub out : List ℕ
-  pub err : List ℕ
-  pub status : Status
+use Rattle.cal_report.specs.headline.Report.{Report}
 
 -- what a verb answers to one text, where elapses are sought after the base; the text of `timer` is a file's name, and
 -- isn't answered by itself

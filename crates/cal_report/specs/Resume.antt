@@ -2,11 +2,11 @@
 -- the last of them: systemd-analyze(1), calendar, --iterations= and --base-time=; systemd.timer(5), OnCalendar=.
 use Rattle.std.specs.Prelude.{◌≡◌, ◌↔◌, ◌≤◌, ◌<◌, ◌+◌, ◌++◌, ℕ, zero, suc, ℤ, List, ◌∷◌, Result, Ok, Some, take, drop, length, slice_get, codes}
 use Rattle.cal_bytes.specs.declared.whole.WholeFault.{WholeFault}
-use Rattle.cal_zone.specs.InstantText.{instant_text}
-use Rattle.cal_report.specs.ElapseLines.{elapse_texts, elapses_text, label_text}
-use Rattle.cal_report.specs.Headline.{AreElapsesOf, Schedule, headings}
+use Rattle.cal_zone.specs.headline.InstantText.{instant_text}
+use Rattle.cal_report.specs.headline.ElapseLines.{elapse_texts, elapses_text, label_text}
+use Rattle.cal_report.specs.headline.Headline.{AreElapsesOf, Schedule, headings}
 use Rattle.cal_report.specs.Report.{base_in, report}
-use Rattle.cal_request.specs.Request.{Request}
+use Rattle.cal_request.specs.headline.Request.{Request}
 
 -- the elapses that a report shows: the first n, as many as are asked for, of those after the base
 pub record AreShown (asked : Request) (base : ℤ) (s : Schedule) (shown : List ℤ) : Type 0 where

@@ -1,17 +1,17 @@
 -- What is written of a timer file that was read, and what is said of one that was rejected.
 use Rattle.std.specs.Prelude.{◌≡◌, ◌++◌, ℕ, ℤ, false, map, List, [], ◌∷◌, take, Option, None, Some, codes}
-use Rattle.cal_bytes.specs.Bytes.{joined}
+use Rattle.cal_bytes.specs.headline.Bytes.{joined}
 use Rattle.cal_rising.specs.Merge.{Merge, merged}
 use Rattle.cal_elapse.specs.Covered.{AreKept, IsCovered}
-use Rattle.cal_elapse.specs.Elapses.{Timed}
+use Rattle.cal_elapse.specs.headline.Elapses.{Timed}
 use Rattle.cal_elapse.specs.Merged.{each_after}
 use Rattle.cal_read.specs.TimerFault.{line_of, words_of}
 use Rattle.cal_read.specs.TimerText.{TimerLine, Timer}
-use Rattle.cal_spec.specs.Fields.{Fields}
-use Rattle.cal_spec.specs.Match.{Sets}
-use Rattle.cal_spec.specs.Members.{sets_of}
-use Rattle.cal_report.specs.ElapseLines.{elapses_text}
-use Rattle.cal_request.specs.Request.{Request}
+use Rattle.cal_spec.specs.headline.Fields.{Fields}
+use Rattle.cal_spec.specs.headline.Match.{Sets}
+use Rattle.cal_spec.specs.headline.Members.{sets_of}
+use Rattle.cal_report.specs.headline.ElapseLines.{elapses_text}
+use Rattle.cal_request.specs.headline.Request.{Request}
 use Rattle.cal_report.specs.TimerReport.{elapses_of_lists, lists_text, timed_entry, unzoned}
 use Rattle.cal_report.specs.declared.timer_report.TimerPlan.{TimerPlan}
 use Rattle.cal_report.specs.declared.timer_report.TimerRefusal.{TimerRefusal}

@@ -1,22 +1,25 @@
--- The report of a timer file: this project's own verb, after systemd.timer(5), OnCalendar=.
+-- The report of a timer file, computed: this project's own verb, after systemd.timer(5), OnCalendar=.
 use Rattle.std.specs.Prelude.{◌≢◌, ℕ, ℤ, Bool, List, [], ◌∷◌, map, min, take, Option, None, Some, Result, Ok, Err, codes, decimal, is_none}
 use Rattle.std.specs.List.{find, flat_map}
 use Rattle.std.specs.Option.{option_map, unwrap_or}
 use Rattle.jiff.specs.Types.{UTC}
-use Rattle.cal_bytes.specs.Bytes.{joined}
+use Rattle.cal_bytes.specs.headline.Bytes.{joined}
 use Rattle.cal_bytes.specs.declared.whole.WholeFault.{WholeFault}
 use Rattle.cal_bytes.specs.declared.whole.WholeFault.TheVariants.{NoMemory}
-use Rattle.cal_elapse.specs.Elapses.{Timed, elapses_except}
-use Rattle.cal_elapse.specs.Timed.{timed}
+use Rattle.cal_elapse.specs.Elapses.{elapses_except}
+use Rattle.cal_elapse.specs.headline.Elapses.{Timed}
+use Rattle.cal_elapse.specs.headline.Timed.{timed}
 use Rattle.cal_read.specs.TimerFault.{line_of, words_of}
 use Rattle.cal_read.specs.TimerText.{TimerLine, Timer, timer_text}
 use Rattle.cal_read.specs.declared.timer.fault.TimerFault.{TimerFault}
 use Rattle.cal_spec.specs.Expr.{expr_in}
-use Rattle.cal_spec.specs.Fields.{Fields}
+use Rattle.cal_spec.specs.headline.Fields.{Fields}
 use Rattle.cal_report.specs.Answer.{refusal_line}
-use Rattle.cal_report.specs.CalendarReport.{heading_text, normal_line, zone_for}
-use Rattle.cal_report.specs.ElapseLines.{elapses_text}
-use Rattle.cal_request.specs.Request.{Request}
+use Rattle.cal_report.specs.CalendarReport.{zone_for}
+use Rattle.cal_report.specs.headline.CalendarReport.{heading_text}
+use Rattle.cal_report.specs.headline.ElapseLines.{elapses_text}
+use Rattle.cal_request.specs.headline.Request.{Request}
+use Rattle.cal_report.specs.headline.TimerReport.{exception_text}
 
 -- the line of a refusal: `FILE:LINE: WORDS` where the fault has a line, and else `FILE: WORDS`
 unfoldable pub refusal_at : List ℕ → Option ℕ → List ℕ → List ℕ
@@ -30,13 +33,6 @@ lacks_zone asked e = is_none (zone_for asked e.expr.zone)
 -- what an expression of a list means, in its zone
 unfoldable pub timed_entry : Request → TimerLine Fields → Timed
 timed_entry asked e = timed e.expr (unwrap_or (zone_for asked e.expr.zone) UTC)
-
--- the line of an exception's text, and the label of the next; and with its normal form
-unfoldable pub exception_line : List ℕ → List ℕ
-exception_line text = joined (codes "    Except form: " ∷ text ∷ codes "\nNormalized form: " ∷ [])
-
-unfoldable pub exception_text : List ℕ → Fields → List ℕ
-exception_text text fields = joined (exception_line text ∷ normal_line fields ∷ [])
 
 -- the texts and normal forms of the expressions, in the order of the file, and those of the exceptions
 unfoldable pub headings_text : List (TimerLine Fields) → List ℕ

@@ -1,9 +1,9 @@
 -- The report of one time span (systemd-analyze(1), timespan).
 use Rattle.std.specs.Prelude.{ℕ, List, [], ◌∷◌, ◌++◌, codes, decimal}
 use Rattle.std.specs.Result.{result_map_both}
-use Rattle.cal_bytes.specs.Bytes.{joined}
+use Rattle.cal_bytes.specs.headline.Bytes.{joined}
 use Rattle.cal_span.specs.SpanFault.{words_of}
-use Rattle.cal_span.specs.SpanText.{span_text}
+use Rattle.cal_span.specs.headline.SpanText.{span_text}
 use Rattle.cal_span.specs.SpanValue.{span_of}
 use Rattle.cal_report.specs.Answer.{Answer}
 

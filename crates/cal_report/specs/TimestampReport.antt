@@ -1,18 +1,18 @@
 -- The report of one timestamp (systemd-analyze(1), timestamp).
 use Rattle.std.specs.Prelude.{ℕ, ◌/◌, ◌%◌, ◌==◌, ℤ, pos, unsigned_abs, List, [], ◌∷◌, Result, if◌then◌else◌, codes, decimal}
 use Rattle.std.specs.Result.{result_map_both}
-use Rattle.cal_bytes.specs.Bytes.{joined}
-use Rattle.cal_zone.specs.InstantText.{instant_text, zeros}
-use Rattle.cal_zone.specs.Zone.{zone_of}
-use Rattle.cal_zone.specs.ZoneTable.{zone_named}
+use Rattle.cal_bytes.specs.headline.Bytes.{joined}
+use Rattle.cal_zone.specs.headline.InstantText.{instant_text, zeros}
+use Rattle.cal_zone.specs.headline.Zone.{zone_of}
+use Rattle.cal_zone.specs.headline.ZoneTable.{zone_named}
 use Rattle.cal_zone.specs.declared.zone.Zone.{Zone}
 use Rattle.cal_read.specs.Stamp.{moment_in}
 use Rattle.cal_read.specs.StampFault.{words_of}
 use Rattle.cal_read.specs.StampViews.{setting}
 use Rattle.cal_read.specs.declared.stamp.fault.StampFault.{StampFault}
 use Rattle.cal_report.specs.Answer.{Answer}
-use Rattle.cal_report.specs.ReportLines.{distance_text, micros_of, original_line, utc_line}
-use Rattle.cal_request.specs.Request.{Request}
+use Rattle.cal_report.specs.headline.ReportLines.{distance_text, micros_of, original_line, utc_line}
+use Rattle.cal_request.specs.headline.Request.{Request}
 
 -- the second that a moment lies in
 abbrev pub second_at : ℤ → ℤ

@@ -1,8 +1,9 @@
 //! What each verb reads from a text, and why it rejects one.
 
 ghost use Rattle.std.specs.Prelude.{◌≡◌, [], ◌∷◌, ℤ, Ok, Err, IfOk, IfErr, IsErrOf, false, is_err, option_map};
-ghost use Rattle.cal_bytes.specs.Bytes.{Writes, joined};
-ghost use Rattle.cal_zone.specs.Zone.{zone_of};
+ghost use Rattle.cal_bytes.specs.Bytes.{Writes};
+ghost use Rattle.cal_bytes.specs.headline.Bytes.{joined};
+ghost use Rattle.cal_zone.specs.headline.Zone.{zone_of};
 ghost use Rattle.cal_read.specs.StampViews.{micros_or_fault};
 ghost use Rattle.cal_report.specs.Accepted.{IsTimely, report_text, refusal_words, verb_of};
 ghost use Rattle.cal_report.specs.Answer.{lead_text};

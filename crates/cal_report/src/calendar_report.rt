@@ -3,7 +3,8 @@
 
 ghost use Rattle.std.specs.Prelude.{◌≡◌, [], ◌∷◌, false, is_err};
 ghost use Rattle.cal_bytes.specs.Bytes.{Writes};
-ghost use Rattle.cal_report.specs.CalendarReport.{report_of_elapses, heading_text, normal_line};
+ghost use Rattle.cal_report.specs.CalendarReport.{report_of_elapses};
+ghost use Rattle.cal_report.specs.headline.CalendarReport.{heading_text, normal_line};
 ghost use Rattle.cal_report.specs.Context.{asked_by};
 ghost use Rattle.cal_report.specs.ElapseLines.{AreInstants};
 ghost use Rattle.cal_request.specs.Request.{IsCount};
@@ -43,7 +44,7 @@ pub fn write_calendar<W: Sink, S: Rising>(
 }
 
 /// Writes the text as it was handed in, and its normal form.
-#[tactic(auto, using(cal_bytes::proofs::Pieces::first_fails, cal_bytes::proofs::Pieces::second_ends), unfolding(crate::specs::CalendarReport::heading_text))]
+#[tactic(auto, using(cal_bytes::proofs::Pieces::first_fails, cal_bytes::proofs::Pieces::second_ends), unfolding(crate::specs::headline::CalendarReport::heading_text))]
 pub fn put_heading<W: Sink>(out: &mut W, text: &str, expr: &Expr) -> Result<(), WriteFault>
     requires { W.is_failed out.old ≡ false }
     ensures failed { W.is_failed out.new ≡ is_err result }
@@ -55,7 +56,7 @@ pub fn put_heading<W: Sink>(out: &mut W, text: &str, expr: &Expr) -> Result<(), 
 }
 
 /// Writes the rest of the line of the normal form.
-#[tactic(auto, using(cal_bytes::proofs::Pieces::first_fails, cal_bytes::proofs::Pieces::second_ends), unfolding(crate::specs::CalendarReport::normal_line))]
+#[tactic(auto, using(cal_bytes::proofs::Pieces::first_fails, cal_bytes::proofs::Pieces::second_ends), unfolding(crate::specs::headline::CalendarReport::normal_line))]
 pub fn put_normal<W: Sink>(out: &mut W, expr: &Expr) -> Result<(), WriteFault>
     requires { W.is_failed out.old ≡ false }
     ensures failed { W.is_failed out.new ≡ is_err result }

@@ -2,8 +2,8 @@
 
 ghost use Rattle.std.specs.Prelude.{◌≡◌, ◌+◌, ◌≤◌, ◌++◌, length};
 ghost use Rattle.cal_bytes.specs.declared.short_text.TheConstants.{ROOM};
-ghost use Rattle.cal_zone.specs.InstantText.{instant_text};
-ghost use Rattle.cal_report.specs.ReportLines.{utc_line};
+ghost use Rattle.cal_zone.specs.headline.InstantText.{instant_text};
+ghost use Rattle.cal_report.specs.headline.ReportLines.{utc_line};
 
 use cal_bytes::{ShortText, push};
 use cal_zone::{Clock, Instant, Zone};
@@ -18,7 +18,7 @@ pub struct Clocks<'z> {
 
 impl<'z> Model for Clocks<'z> {
     ghost use Rattle.std.specs.Prelude.{◌≡◌};
-    ghost use Rattle.cal_zone.specs.Zone.{utc};
+    ghost use Rattle.cal_zone.specs.headline.Zone.{utc};
     ghost use Rattle.cal_zone.specs.declared.zone.Zone.{Zone};
 
     ghost Value = { Zone };
@@ -50,7 +50,7 @@ impl<'z> Clocks<'z> {
     }
 
     /// Appends the line of the instant in UTC; nothing where the local zone is UTC itself. It takes at most 102 bytes.
-    #[tactic(auto, unfolding(crate::specs::ReportLines::utc_line))]
+    #[tactic(auto, unfolding(crate::specs::headline::ReportLines::utc_line))]
     pub fn push_utc_line(&mut self, text: &mut ShortText, instant: Instant)
         requires room { length text.old.items + 102 ≤ ROOM }
         ensures text { text.new.items ≡ text.old.items ++ utc_line self.old instant.secs }

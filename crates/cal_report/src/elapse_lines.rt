@@ -5,7 +5,8 @@ ghost use Rattle.cal_bytes.specs.Bytes.{Writes};
 ghost use Rattle.cal_bytes.specs.declared.short_text.TheConstants.{ROOM};
 ghost use Rattle.cal_span.specs.declared.span.text.TheConstants.{SPAN_ROOM};
 ghost use Rattle.cal_rising.specs.RisingList.{first, later};
-ghost use Rattle.cal_report.specs.ElapseLines.{AreInstants, label_text, elapse_text, elapse_texts, elapses_text};
+ghost use Rattle.cal_report.specs.ElapseLines.{AreInstants};
+ghost use Rattle.cal_report.specs.headline.ElapseLines.{label_text, elapse_text, elapse_texts, elapses_text};
 ghost use Rattle.cal_request.specs.Request.{IsCount};
 
 use crate::clocks::Clocks;
@@ -100,7 +101,7 @@ fn put_elapse<W: Sink>(
 }
 
 /// Appends one elapse, and how far it lies from the present.
-#[tactic(auto, unfolding(crate::specs::ElapseLines::elapse_text))]
+#[tactic(auto, unfolding(crate::specs::headline::ElapseLines::elapse_text))]
 fn push_elapse(
     text: &mut ShortText,
     number: u32,
@@ -122,7 +123,7 @@ fn push_elapse(
 }
 
 /// Appends the label of the elapse with that number.
-#[tactic(auto, unfolding(crate::specs::ElapseLines::label_text))]
+#[tactic(auto, unfolding(crate::specs::headline::ElapseLines::label_text))]
 fn push_label(text: &mut ShortText, number: u32)
     requires room { length text.old.items + 30 ≤ ROOM }
     ensures text { text.new.items ≡ text.old.items ++ label_text number }

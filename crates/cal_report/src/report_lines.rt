@@ -4,14 +4,14 @@ ghost use Rattle.std.specs.Prelude.{◌≡◌, ◌+◌, ◌≤◌, ◌++◌, ◌
 ghost use Rattle.cal_bytes.specs.Bytes.{Writes};
 ghost use Rattle.cal_bytes.specs.declared.short_text.TheConstants.{ROOM};
 ghost use Rattle.cal_span.specs.declared.span.text.TheConstants.{SPAN_ROOM};
-ghost use Rattle.cal_report.specs.ReportLines.{direction_text, distance_text, micros_of, original_line, utc_line};
+ghost use Rattle.cal_report.specs.headline.ReportLines.{direction_text, distance_text, micros_of, original_line, utc_line};
 
 use cal_bytes::{ShortText, Sink, WriteFault, push, put_pieces};
 use cal_span::{Span, push_span};
 use cal_zone::{Instant, Moment, Zone, push_instant};
 
 /// Writes the line of the text as it was handed in, and the next label.
-#[tactic(auto, unfolding(crate::specs::ReportLines::original_line))]
+#[tactic(auto, unfolding(crate::specs::headline::ReportLines::original_line))]
 pub fn put_original<W: Sink>(out: &mut W, text: &str) -> Result<(), WriteFault>
     requires { W.is_failed out.old ≡ false }
     ensures failed { W.is_failed out.new ≡ is_err result }
@@ -28,7 +28,7 @@ pub fn put_original<W: Sink>(out: &mut W, text: &str) -> Result<(), WriteFault>
 }
 
 /// Appends the line of the instant in UTC; nothing where the local zone is UTC itself. It takes at most 102 bytes.
-#[tactic(auto, unfolding(crate::specs::ReportLines::utc_line))]
+#[tactic(auto, unfolding(crate::specs::headline::ReportLines::utc_line))]
 pub fn push_utc_line(text: &mut ShortText, local: Zone<'_>, instant: Instant)
     requires room { length text.old.items + 102 ≤ ROOM }
     ensures text { text.new.items ≡ text.old.items ++ utc_line local.entry instant.secs }
@@ -42,7 +42,7 @@ pub fn push_utc_line(text: &mut ShortText, local: Zone<'_>, instant: Instant)
 }
 
 /// Appends the span between the present and a moment, and which of the two is later. It takes at most [`cal_base::SPAN_ROOM`] and 5 bytes.
-#[tactic(auto, unfolding(crate::specs::ReportLines::distance_text))]
+#[tactic(auto, unfolding(crate::specs::headline::ReportLines::distance_text))]
 pub fn push_distance(text: &mut ShortText, now: Instant, moment: Moment)
     requires room { length text.old.items + SPAN_ROOM + 5 ≤ ROOM }
     ensures text { text.new.items ≡ text.old.items ++ distance_text (micros_of now.secs) moment.micros }

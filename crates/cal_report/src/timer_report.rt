@@ -3,9 +3,10 @@
 
 ghost use Rattle.std.specs.Prelude.{◌≡◌, ◌≢◌, ◌++◌, ℕ, List, Result, [], ◌∷◌, Ok, Err, None, Some, MatchResult, false, true, is_err, map, take, is_none, codes, length};
 ghost use Rattle.std.specs.List.{find, list_any};
-ghost use Rattle.cal_bytes.specs.Bytes.{Writes, joined};
+ghost use Rattle.cal_bytes.specs.Bytes.{Writes};
+ghost use Rattle.cal_bytes.specs.headline.Bytes.{joined};
 ghost use Rattle.cal_bytes.specs.Whole.{is_read_failed};
-ghost use Rattle.cal_zone.specs.Zone.{zone_of};
+ghost use Rattle.cal_zone.specs.headline.Zone.{zone_of};
 ghost use Rattle.cal_bytes.specs.declared.whole.WholeFault.{WholeFault};
 ghost use Rattle.cal_elapse.specs.Elapses.{elapses_after};
 ghost use Rattle.cal_elapse.specs.Masks.{sets_in};
@@ -14,9 +15,11 @@ ghost use Rattle.cal_elapse.specs.Rest.{rest_of};
 ghost use Rattle.cal_read.specs.TimerText.{ReadsWhole, most_file_bytes};
 ghost use Rattle.cal_read.specs.TimerView.{shown};
 ghost use Rattle.cal_report.specs.Context.{asked_by};
-ghost use Rattle.cal_report.specs.ElapseLines.{AreInstants, elapses_text};
+ghost use Rattle.cal_report.specs.ElapseLines.{AreInstants};
+ghost use Rattle.cal_report.specs.headline.ElapseLines.{elapses_text};
 ghost use Rattle.cal_request.specs.Request.{IsCount};
-ghost use Rattle.cal_report.specs.TimerReport.{IsHad, exception_line, exception_text, exceptions_text, first_unzoned, headings_text, lacks_zone, lists_text, refusal_at, timed_entry, timer_answer, timer_report, unzoned};
+ghost use Rattle.cal_report.specs.TimerReport.{IsHad, exceptions_text, first_unzoned, headings_text, lacks_zone, lists_text, refusal_at, timed_entry, timer_answer, timer_report, unzoned};
+ghost use Rattle.cal_report.specs.headline.TimerReport.{exception_line, exception_text};
 ghost use Rattle.cal_report.specs.TimerPlan.{IsAdded, IsCoveredEntry, IsMergeOf, IsUnzoned, each_of, entry_sets, plan_text, refused_line, refused_words};
 ghost use Rattle.cal_report.specs.declared.timer_report.TimerRefusal.TheVariants.{NoMemory};
 
@@ -320,7 +323,7 @@ fn put_exceptions<W: Sink>(out: &mut W, lines: &[TimerLine]) -> Result<(), Write
 }
 
 /// Writes the text and the normal form of an exception.
-#[tactic(auto, using(cal_bytes::proofs::Pieces::first_fails, cal_bytes::proofs::Pieces::second_ends), unfolding(crate::specs::TimerReport::exception_text))]
+#[tactic(auto, using(cal_bytes::proofs::Pieces::first_fails, cal_bytes::proofs::Pieces::second_ends), unfolding(crate::specs::headline::TimerReport::exception_text))]
 fn put_exception<W: Sink>(out: &mut W, text: &str, expr: &Expr) -> Result<(), WriteFault>
     requires { W.is_failed out.old ≡ false }
     ensures failed { W.is_failed out.new ≡ is_err result }
@@ -332,7 +335,7 @@ fn put_exception<W: Sink>(out: &mut W, text: &str, expr: &Expr) -> Result<(), Wr
 }
 
 /// Writes the line of an exception's text, and the next label.
-#[tactic(auto, unfolding(crate::specs::TimerReport::exception_line))]
+#[tactic(auto, unfolding(crate::specs::headline::TimerReport::exception_line))]
 fn put_exception_line<W: Sink>(out: &mut W, text: &str) -> Result<(), WriteFault>
     requires { W.is_failed out.old ≡ false }
     ensures failed { W.is_failed out.new ≡ is_err result }

@@ -1,3 +1,4 @@
 pub mod Request
 pub mod RunFault
 pub mod Status
+pub mod headline

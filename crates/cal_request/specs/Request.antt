@@ -1,12 +1,13 @@
--- What contracts see of a request.
-use Rattle.std.specs.Prelude.{ℕ, ◌≤◌, Bool, true, false, ℤ, List, Option, map}
+-- What a request may be, and what contracts see of it.
+use Rattle.std.specs.Prelude.{ℕ, ◌≤◌, Bool, true, false, ℤ, map}
 use Rattle.std.specs.String.{string_bytes}
 use Rattle.std.specs.Option.{option_map}
-use Rattle.cal_zone.specs.ZoneMap.{ZoneMap}
+use Rattle.cal_zone.specs.headline.ZoneMap.{ZoneMap}
 use Rattle.cal_zone.specs.declared.zone.Zone.{Zone}
 use Rattle.cal_request.specs.declared.request.Request as declared_request
 use Rattle.cal_request.specs.declared.request.Verb.{Verb}
 use Rattle.cal_request.specs.declared.request.Verb.TheVariants.{Calendar, Timer, Timestamp, Timespan}
+use Rattle.cal_request.specs.headline.Request.{Request}
 
 -- how many elapses a request can ask for at most
 abbrev pub most_iterations : ℕ
@@ -36,16 +37,6 @@ is_timer Calendar = false
 is_timer Timestamp = false
 is_timer Timespan = false
 is_timer Timer = true
-
--- what is asked: a request without where its texts lie in memory, the present instant, and the zones
-pub record Request : Type 0 where
-  pub verb : Verb
-  pub texts : List (List ℕ)
-  pub iterations : ℕ
-  pub base : Option (List ℕ)
-  pub now : ℤ
-  pub local : Zone
-  pub zones : ZoneMap
 
 abbrev pub asked : declared_request.Request → ℤ → Zone → ZoneMap → Request
 asked request now local zones = record {

@@ -8,7 +8,8 @@ use Rattle.std.proofs.lemmas.List.{append-nil}
 use Rattle.std.proofs.lemmas.List.Elements.{All-head, All-tail}
 use Rattle.std.specs.List.{All}
 use Rattle.cal_rising.specs.Merge.{HasHead, Branch, lesser, numbers, passed}
-use Rattle.cal_rising.specs.RisingList.{Has, HasAny, IsRising, first, later, with_number, with_numbers, union}
+use Rattle.cal_rising.specs.RisingList.{HasAny, first, later, with_number, with_numbers, union}
+use Rattle.cal_rising.specs.headline.RisingList.{Has, IsRising}
 use Rattle.cal_rising.proofs.RisingLemmas.{above_has, chained, later_members, lt_test, not_lt_test, same_rising, Has-union, IsRising-union}
 
 -- the lesser of none and another is the other

@@ -2,7 +2,8 @@
 use Rattle.std.proofs.Common.{◌≡◌, ◌⊎◌, ◌↔◌, true, false, List, [], ◌∷◌, inl, inr, None, Some, ℤ, ◌<ℤ◌, ◌≤ℤ◌, int_lt, refl, sym, ap, ◌∙◌, subst, arith}
 use Rattle.std.proofs.lemmas.Int.{by_lt_z, ints}
 pub use Rattle.cal_rising.specs.Rises.{IsAbove-lower, IsRising-with_number, IsRising-with_numbers, IsRising-union}
-use Rattle.cal_rising.specs.RisingList.{Has, HasAny, IsAbove, IsRising, IsUnion, first, later, with_number, with_numbers, union}
+use Rattle.cal_rising.specs.RisingList.{HasAny, IsUnion, first, later, with_number, with_numbers, union}
+use Rattle.cal_rising.specs.headline.RisingList.{Has, IsAbove, IsRising}
 
 -- what is in a list above b is above b
 pub above_has : (b i : ℤ) (xs : List ℤ) → IsAbove b xs → Has xs i → b <ℤ i

@@ -10,7 +10,8 @@ use Rattle.std.proofs.lemmas.List.{get_or_default}
 use borrow.Author.Count.{below_more}
 use Rattle.cal_rising.specs.Merge.{Branch, numbers, numbers_by}
 use Rattle.cal_rising.specs.Rises.{IsRising-union, IsRising-without}
-use Rattle.cal_rising.specs.RisingList.{Has, HasAny, IsAbove, IsRising, IsSameFrom, IsUnionWithout, first, is_in, later, union, without}
+use Rattle.cal_rising.specs.RisingList.{HasAny, IsSameFrom, IsUnionWithout, first, is_in, later, union, without}
+use Rattle.cal_rising.specs.headline.RisingList.{Has, IsAbove, IsRising}
 use Rattle.cal_rising.proofs.RisingLemmas.{Has-union, same_rising}
 
 value_above : (a b : ℤ) → b <ℤ a → int_eq a b ≡ false

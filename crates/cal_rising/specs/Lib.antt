@@ -2,3 +2,4 @@ pub mod Listed
 pub mod Merge
 pub mod Rises
 pub mod RisingList
+pub mod headline

@@ -3,7 +3,7 @@ use Rattle.std.specs.Prelude.{◌<ℤ◌, List, [], ◌∷◌, ℤ}
 use Rattle.std.specs.Coded.{×_prop, Unit-prop}
 use Rattle.std.proofs.Common.{ap}
 use Rattle.std.proofs.Math.Dec.{T_prop}
-use Rattle.cal_rising.specs.RisingList.{IsAbove, IsRising}
+use Rattle.cal_rising.specs.headline.RisingList.{IsAbove, IsRising}
 
 lt-prop : (a b : ℤ) → IsProp (a <ℤ b)
 lt-prop a b h k = ap (λ t. record { lt = t }) (T_prop _ h.lt k.lt)

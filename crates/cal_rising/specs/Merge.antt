@@ -1,7 +1,8 @@
 -- Several rising lists given as one, each number once, without the numbers of the lists of exceptions:
 -- systemd.timer(5), OnCalendar=, where a timer with several expressions elapses whenever one of them does.
 use Rattle.std.specs.Prelude.{◌≡◌, cond, Bool, List, [], ◌∷◌, Option, None, Some, ℤ, int_lt}
-use Rattle.cal_rising.specs.RisingList.{IsRising, first, union, without}
+use Rattle.cal_rising.specs.RisingList.{first, union, without}
+use Rattle.cal_rising.specs.headline.RisingList.{IsRising}
 
 -- what is left of a merge: whether a number was asked for already, and what each source and each exception has to give
 pub record Merge : Type 0 where

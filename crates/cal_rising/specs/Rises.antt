@@ -3,7 +3,8 @@
 use Rattle.std.specs.Prelude.{◌≡◌, cond, Bool, true, false, not, filter, List, [], ◌∷◌, ℤ, ◌<ℤ◌, int_lt}
 use Rattle.std.proofs.Common.{arith, refl}
 use Rattle.std.proofs.lemmas.Int.{ints}
-use Rattle.cal_rising.specs.RisingList.{IsAbove, IsRising, is_in, with_number, with_numbers, union, without}
+use Rattle.cal_rising.specs.RisingList.{is_in, with_number, with_numbers, union, without}
+use Rattle.cal_rising.specs.headline.RisingList.{IsAbove, IsRising}
 
 -- a list above a number is above what is below that number
 pub IsAbove-lower : (a b : ℤ) (xs : List ℤ) → a <ℤ b → IsAbove b xs → IsAbove a xs

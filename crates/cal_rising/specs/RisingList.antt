@@ -1,27 +1,13 @@
--- Strictly rising lists of numbers, the union of several as one of these, and a list without the numbers of another.
-use Rattle.std.specs.Prelude.{◌≡◌, ◌⊎◌, ◌↔◌, cond, Bool, not, filter, List, [], ◌∷◌, Option, None, Some, ℤ, ◌<ℤ◌, ◌≤ℤ◌, int_lt}
+-- The union of rising lists as one of these, and a list without the numbers of another.
+use Rattle.std.specs.Prelude.{◌≡◌, ◌⊎◌, ◌↔◌, cond, Bool, not, filter, List, [], ◌∷◌, Option, None, Some, ℤ, ◌≤ℤ◌, int_lt}
 use Rattle.std.specs.List.{list_any}
 use Rattle.std.specs.Ordering.{int_eq}
-
--- the number is in the list
-abbrev pub Has : List ℤ → ℤ → Type 0
-Has [] i = ⊥
-Has (x ∷ xs) i = (x ≡ i) ⊎ Has xs i
+use Rattle.cal_rising.specs.headline.RisingList.{Has, IsRising}
 
 -- the number is in one of the lists
 abbrev pub HasAny : List (List ℤ) → ℤ → Type 0
 HasAny [] i = ⊥
 HasAny (xs ∷ xss) i = Has xs i ⊎ HasAny xss i
-
--- each number of the list is above b
-abbrev pub IsAbove : ℤ → List ℤ → Type 0
-IsAbove b [] = Unit {0}
-IsAbove b (x ∷ xs) = (b <ℤ x) × IsAbove b xs
-
--- each number is below the ones after it
-abbrev pub IsRising : List ℤ → Type 0
-IsRising [] = Unit {0}
-IsRising (x ∷ xs) = IsAbove x xs × IsRising xs
 
 -- the first number of a list, and the list without it
 abbrev pub first : List ℤ → Option ℤ

@@ -21,7 +21,7 @@ pub struct Branch<S: Rising> {
 
 impl<S: Rising> Model for Branch<S> {
     ghost use Rattle.cal_rising.specs.Merge.{Branch, numbers_by};
-    ghost use Rattle.cal_rising.specs.RisingList.{IsRising};
+    ghost use Rattle.cal_rising.specs.headline.RisingList.{IsRising};
 
     ghost Value = { Branch };
 

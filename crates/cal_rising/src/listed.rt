@@ -2,7 +2,7 @@
 
 ghost use Rattle.std.specs.Prelude.{◌≡◌, drop};
 ghost use Rattle.cal_rising.specs.Listed.{IsRising-prop};
-ghost use Rattle.cal_rising.specs.RisingList.{IsRising};
+ghost use Rattle.cal_rising.specs.headline.RisingList.{IsRising};
 
 use crate::Rising;
 

@@ -1,7 +1,8 @@
 //! What gives numbers one after another, each greater than the one before.
 
 ghost use Rattle.std.specs.Prelude.{◌≡◌, ℤ, List};
-ghost use Rattle.cal_rising.specs.RisingList.{IsRising, first, is_in, later};
+ghost use Rattle.cal_rising.specs.RisingList.{first, is_in, later};
+ghost use Rattle.cal_rising.specs.headline.RisingList.{IsRising};
 
 /// A source of numbers that rise. What it is to give is its rest, a strictly rising list.
 pub trait Rising {

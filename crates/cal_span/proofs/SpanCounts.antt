@@ -8,9 +8,10 @@ use Rattle.std.specs.Prelude.{decimal}
 use Rattle.std.specs.List.{flat_map}
 use Rattle.cal_span.specs.declared.scale.Scale.{Scale}
 use Rattle.cal_span.specs.declared.scale.Scale.TheVariants.{Year, Month, Week, Day, Hour, Minute, Second, Millisecond, Microsecond}
-use Rattle.cal_bytes.specs.Bytes.{joined}
-use Rattle.cal_span.specs.Scale.{size_of, scales, name_of}
-use Rattle.cal_span.specs.SpanText.{Count, weight, AreReduced, AreCounts, IsSpanText, count_text, row_text, counts_text, positive, counts_of, units_text, span_text}
+use Rattle.cal_bytes.specs.headline.Bytes.{joined}
+use Rattle.cal_span.specs.headline.Scale.{size_of, scales, name_of}
+use Rattle.cal_span.specs.SpanText.{weight, AreReduced, AreCounts, IsSpanText}
+use Rattle.cal_span.specs.headline.SpanText.{Count, count_text, row_text, counts_text, positive, counts_of, units_text, span_text}
 
 -- no unit is empty
 pub size_of_positive : (unit : Scale) → 0 < size_of unit

@@ -12,9 +12,11 @@ use Rattle.cal_span.specs.declared.scale.Scale.{Scale}
 use Rattle.cal_span.specs.declared.scale.Scale.TheVariants.{Year, Month, Week, Day, Hour, Minute, Second, Millisecond, Microsecond}
 use Rattle.cal_span.specs.declared.span.word.CharKind.{CharKind}
 use Rattle.cal_span.specs.declared.span.word.CharKind.TheVariants.{Blank, Numeric, Letter, Other}
-use Rattle.cal_span.specs.Scale.{size_of, scales, words_for, name_of}
+use Rattle.cal_span.specs.Scale.{words_for}
+use Rattle.cal_span.specs.headline.Scale.{size_of, scales, name_of}
 use Rattle.cal_span.specs.Span.{limit}
-use Rattle.cal_span.specs.SpanText.{Count, weight, count_text, row_text, positive, counts_of, span_text}
+use Rattle.cal_span.specs.SpanText.{weight}
+use Rattle.cal_span.specs.headline.SpanText.{Count, count_text, row_text, positive, counts_of, span_text}
 use Rattle.cal_span.specs.SpanValue.{is_micro, kind_of, is_kind, Piece, characters, with_front, runs, words_in, Pair, pairs_of, pairs_in, is_number, unit_named, number_worth, worth_of, judged, value_of_pairs, span_of}
 use Rattle.cal_span.proofs.SpanCounts.{size_of_positive, are_counts_of, weight-positive, span_text_zero, span_text_row}
 use Rattle.cal_span.proofs.SpanDigits.{AreDigits, are_digits-decimal, kind_of_digit, is_number-decimal, number_worth-decimal}

@@ -1,8 +1,9 @@
 -- The definitions of time spans, tried on worked texts.
 use Rattle.std.proofs.Common.{◌≡◌, [], Ok, Err, codes, refl}
 use Rattle.std.specs.Fmt.{digits}
-use Rattle.cal_span.specs.Scale.{words_for, name_of}
-use Rattle.cal_span.specs.SpanText.{units_text, row_text, span_text}
+use Rattle.cal_span.specs.Scale.{words_for}
+use Rattle.cal_span.specs.headline.Scale.{name_of}
+use Rattle.cal_span.specs.headline.SpanText.{units_text, row_text, span_text}
 use Rattle.cal_span.specs.SpanValue.{words_in, pairs_in, is_number, unit_named, number_worth, worth_of, span_of}
 use Rattle.cal_span.specs.declared.span.fault.SpanFault.TheVariants.{Empty, BadNumber, UnknownUnit, TooLarge}
 

@@ -5,3 +5,4 @@ pub mod SpanRule
 pub mod SpanText
 pub mod SpanValue
 pub mod SpanWord
+pub mod headline

@@ -11,7 +11,8 @@ use Rattle.cal_span.specs.declared.span.fault.SpanFault.{SpanFault}
 use Rattle.cal_span.specs.declared.span.fault.SpanFault.TheVariants.{Empty, BadNumber, UnknownUnit, TooLarge}
 use Rattle.cal_span.specs.declared.span.word.CharKind.{CharKind}
 use Rattle.cal_span.specs.declared.span.word.CharKind.TheVariants.{Blank, Numeric, Letter, Other}
-use Rattle.cal_span.specs.Scale.{size_of, scales, words_for}
+use Rattle.cal_span.specs.Scale.{words_for}
+use Rattle.cal_span.specs.headline.Scale.{size_of, scales}
 use Rattle.cal_span.specs.Span.{limit}
 
 -- Characters

@@ -1,7 +1,8 @@
 //! The units of time that a time span is written in.
 
 ghost use Rattle.std.specs.Prelude.{◌≡◌, ◌≤◌, ◌<◌, length, map};
-ghost use Rattle.cal_span.specs.Scale.{size_of, words_for, name_of};
+ghost use Rattle.cal_span.specs.Scale.{words_for};
+ghost use Rattle.cal_span.specs.headline.Scale.{size_of, name_of};
 
 /// A unit of time, as in systemd.time(7), Parsing Time Spans.
 #[derive(Clone, Copy, PartialEq, Eq, Debug)]
@@ -81,7 +82,7 @@ impl Scale {
     }
 
     /// The spelling in which the unit is printed.
-    #[tactic(auto, unfolding(crate::specs::Scale::name_of))]
+    #[tactic(auto, unfolding(crate::specs::headline::Scale::name_of))]
     pub fn name(self) -> &'static str
         ensures name { result.now ≡ name_of self }
         ensures short { length result.now ≤ 5 }

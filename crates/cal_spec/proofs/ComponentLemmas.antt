@@ -6,8 +6,9 @@ use Rattle.std.proofs.lemmas.Bool.{and_parts, leb-true, ltb-false, leb-false, eq
 use Rattle.cal_spec.specs.Components.{is_comma, is_star, counted, room_in, part_due, parts_of, first_fault, listed, component_of}
 use Rattle.cal_spec.specs.Parts.{is_time, is_within, is_outside, is_backward, is_zero, is_idle, fault_of}
 use Rattle.cal_spec.specs.Reads.{◌>>=◌, unless}
-use Rattle.cal_spec.specs.Slot.{least, greatest}
-use Rattle.cal_spec.specs.Sound.{IsWithin, IsEndWithin, EndsAfter, IsStep, GoesOn, IsSound, AreSound}
+use Rattle.cal_spec.specs.headline.Slot.{least, greatest}
+use Rattle.cal_spec.specs.Sound.{AreSound}
+use Rattle.cal_spec.specs.headline.Sound.{IsWithin, IsEndWithin, EndsAfter, IsStep, GoesOn, IsSound}
 use Rattle.cal_spec.specs.declared.part.Part.{Part}
 use Rattle.cal_spec.specs.declared.slot.Slot.{Slot}
 use Rattle.cal_spec.specs.declared.slot.Slot.TheVariants.{Year, Month, Day, DayFromEnd, Hour, Minute, Second}

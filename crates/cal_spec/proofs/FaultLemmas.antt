@@ -5,15 +5,19 @@ use Rattle.std.specs.Result.{result_err}
 use Rattle.std.proofs.lemmas.Bool.{eqb-false}
 use Rattle.std.proofs.lemmas.Bool.Decides.{nat_tests}
 use Rattle.cal_spec.specs.Components.{most_counted, is_star, counted, room_in, part_due, parts_of, first_fault, listed, component_of}
-use Rattle.cal_spec.specs.DateAndTime.{DateTexts, TimeTexts, DateFields, date_texts, time_texts, date_fields, time_fields, date_due, time_due, room_after, date_of, time_of}
+use Rattle.cal_spec.specs.DateAndTime.{DateFields, date_texts, time_texts, date_fields, time_fields, date_due, time_due, room_after, date_of, time_of}
+use Rattle.cal_spec.specs.headline.DateAndTime.{DateTexts, TimeTexts}
 use Rattle.cal_spec.specs.Faults.{pieces_of, numbered, first_number, shape_fault, shape_faults, value_fault, component_faults, numbered_in, date_faults, time_faults, faults_at, faults_in}
 use Rattle.cal_spec.specs.Grammar.{most_text_bytes, fields_at, fields_due, fields_in}
-use Rattle.cal_spec.specs.Parts.{is_time, part_of, with_values}
+use Rattle.cal_spec.specs.Parts.{is_time, part_of}
+use Rattle.cal_spec.specs.headline.Parts.{with_values}
 use Rattle.cal_spec.specs.Reads.{◌>>=◌, unless, first_of}
-use Rattle.cal_spec.specs.Slot.{day_slot}
+use Rattle.cal_spec.specs.headline.Slot.{day_slot}
 use Rattle.cal_spec.specs.Weekdays.{weekdays_in}
-use Rattle.cal_spec.specs.Words.{Roles, words, roles_of}
-use Rattle.cal_spec.specs.ZoneSuffix.{ZoneSuffix, suffix_in}
+use Rattle.cal_spec.specs.Words.{roles_of}
+use Rattle.cal_spec.specs.headline.Words.{Roles, words}
+use Rattle.cal_spec.specs.ZoneSuffix.{suffix_in}
+use Rattle.cal_spec.specs.headline.ZoneSuffix.{ZoneSuffix}
 use Rattle.cal_spec.specs.declared.part.Part.{Part}
 use Rattle.cal_spec.specs.declared.slot.Slot.{Slot}
 use Rattle.cal_spec.specs.declared.slot.Slot.TheVariants.{Year, Month, Hour, Minute, Second}

@@ -7,22 +7,27 @@ use Rattle.std.specs.Str.{str_eq_ignore_ascii_case}
 use Rattle.std.proofs.lemmas.Bool.{or_left, or_right, le-leb, ltb-false}
 use Rattle.jiff_core.specs.declared.civil.weekday.Weekday.{Weekday}
 use Rattle.jiff_core.specs.declared.civil.weekday.Weekday.TheVariants.{Monday, Tuesday, Wednesday, Thursday, Friday, Saturday, Sunday}
-use Rattle.cal_zone.specs.Weekday.{week}
+use Rattle.cal_zone.specs.headline.Weekday.{week}
 use Rattle.cal_spec.specs.Components.{most_counted, is_comma, counted, component_of}
-use Rattle.cal_spec.specs.DateAndTime.{DateTexts, TimeTexts, DateFields, TimeFields, date_texts, time_texts, date_fields, time_fields, date_due, time_due, room_after, date_of, time_of}
-use Rattle.cal_spec.specs.Fields.{Fields, fields_of, parts_in, counted_parts}
+use Rattle.cal_spec.specs.DateAndTime.{DateFields, TimeFields, date_texts, time_texts, date_fields, time_fields, date_due, time_due, room_after, date_of, time_of}
+use Rattle.cal_spec.specs.headline.DateAndTime.{DateTexts, TimeTexts}
+use Rattle.cal_spec.specs.Fields.{fields_of}
+use Rattle.cal_spec.specs.headline.Fields.{Fields, parts_in, counted_parts}
 use Rattle.cal_spec.specs.Parts.{is_time}
 use Rattle.cal_spec.specs.Grammar.{most_text_bytes, fields_at, fields_due, fields_in}
 use Rattle.cal_spec.specs.Reads.{◌>>=◌, GivesUnlessNoMemory}
 use Rattle.cal_spec.specs.declared.fields.Fields as declared_fields
-use Rattle.cal_spec.specs.Slot.{day_slot}
+use Rattle.cal_spec.specs.headline.Slot.{day_slot}
 use Rattle.cal_spec.specs.ValidFields.{IsValidFields}
-use Rattle.cal_spec.specs.Weekdays.{day_named, leading_letters, days_until, is_covered, days_of, items_of, without_comma, set_of, listed_days, is_like_shorthand, weekdays_of, weekdays_in}
-use Rattle.cal_spec.specs.Words.{Roles, words, roles_of}
-use Rattle.cal_zone.specs.ZoneName.{is_zone_name}
+use Rattle.cal_spec.specs.Weekdays.{day_named, leading_letters, days_of, items_of, without_comma, listed_days, is_like_shorthand, weekdays_of, weekdays_in}
+use Rattle.cal_spec.specs.headline.Weekdays.{days_until, is_covered, set_of}
+use Rattle.cal_spec.specs.Words.{roles_of}
+use Rattle.cal_spec.specs.headline.Words.{Roles, words}
+use Rattle.cal_zone.specs.headline.ZoneName.{is_zone_name}
 use Rattle.cal_zone.specs.OffsetWord.{offset_in}
 use Rattle.cal_zone.proofs.OffsetWordLemmas.{offset-minutes}
-use Rattle.cal_spec.specs.ZoneSuffix.{IsSuffixOption, ZoneSuffix, ahead, kept_name, of_name, suffix_due, suffix_in, suffix_of}
+use Rattle.cal_spec.specs.ZoneSuffix.{IsSuffixOption, suffix_due, suffix_in, suffix_of}
+use Rattle.cal_spec.specs.headline.ZoneSuffix.{ZoneSuffix, ahead, kept_name, of_name}
 use Rattle.cal_spec.specs.declared.part.Part.{Part}
 use Rattle.cal_spec.specs.declared.slot.Slot.{Slot}
 use Rattle.cal_spec.specs.declared.slot.Slot.TheVariants.{Year, Month, Hour, Minute, Second}

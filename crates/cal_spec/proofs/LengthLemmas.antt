@@ -6,16 +6,19 @@ use Rattle.std.proofs.lemmas.Bool.{and_parts, leb-true}
 use Rattle.std.proofs.lemmas.Fmt.{length-decimal-le}
 use Rattle.std.proofs.lemmas.List.{length-replicate}
 use Rattle.std.proofs.lemmas.Nat.{div-add-mod'}
-use Rattle.cal_zone.specs.InstantText.{zeros}
-use Rattle.cal_zone.specs.Weekday.{name_of}
-use Rattle.cal_spec.specs.ExprText.{component_text, day_lead, expr_text, fields_text, number_text, optional_text, part_text, parts_text, row_text, zone_text}
-use Rattle.cal_spec.specs.Fields.{Fields, counted_parts, parts_in}
-use Rattle.cal_spec.specs.NormalForm.{IsNormal, IsNormalTo, IsStarred, normal_component, normal_fields, normal_parts, normal_second, starred}
-use Rattle.cal_spec.specs.Slot.{least, greatest, day_slot}
-use Rattle.cal_spec.specs.Sound.{AreSound, GoesOn, IsEndWithin, IsSecondWithin, IsSound, IsWithin}
+use Rattle.cal_zone.specs.headline.InstantText.{zeros}
+use Rattle.cal_zone.specs.headline.Weekday.{name_of}
+use Rattle.cal_spec.specs.headline.ExprText.{component_text, day_lead, expr_text, fields_text, number_text, optional_text, part_text, parts_text, row_text, zone_text}
+use Rattle.cal_spec.specs.headline.Fields.{Fields, counted_parts, parts_in}
+use Rattle.cal_spec.specs.NormalForm.{IsNormal, IsNormalTo, normal_component, normal_fields, normal_parts, normal_second, starred}
+use Rattle.cal_spec.specs.headline.NormalForm.{IsStarred}
+use Rattle.cal_spec.specs.headline.Slot.{least, greatest, day_slot}
+use Rattle.cal_spec.specs.Sound.{AreSound}
+use Rattle.cal_spec.specs.headline.Sound.{GoesOn, IsEndWithin, IsSecondWithin, IsSound, IsWithin}
 use Rattle.cal_spec.specs.ValidFields.{IsValidFields}
-use Rattle.cal_spec.specs.WeekdayRuns.{run_text, runs_text, weekdays_text}
-use Rattle.cal_spec.specs.ZoneSuffix.{IsSuffixOption, ZoneSuffix, suffix_text}
+use Rattle.cal_spec.specs.headline.WeekdayRuns.{run_text, runs_text, weekdays_text}
+use Rattle.cal_spec.specs.ZoneSuffix.{IsSuffixOption}
+use Rattle.cal_spec.specs.headline.ZoneSuffix.{ZoneSuffix, suffix_text}
 use Rattle.cal_spec.proofs.SuffixLemmas.{suffix_word}
 use Rattle.cal_spec.specs.declared.part.Part.{Part}
 use Rattle.cal_spec.specs.declared.slot.Slot.{Slot}

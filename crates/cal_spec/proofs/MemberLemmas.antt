@@ -6,14 +6,16 @@ use Rattle.std.proofs.lemmas.Bool.{eqb-true, le-leb, or_cases, or_left, or_right
 use Rattle.std.proofs.lemmas.Bool.Decides.{nat_tests}
 use Rattle.jiff.specs.Types.{Date}
 use Rattle.jiff_core.proofs.CalendarLemmas.{days_in_month_bounds}
-use Rattle.cal_zone.specs.Local.{civil_date}
-use Rattle.cal_spec.specs.Fields.{Fields}
-use Rattle.cal_spec.specs.Match.{date_in, day_number, matches, time_in}
-use Rattle.cal_spec.specs.Members.{component_has, lies, lies_by, part_has, sets_of, values}
-use Rattle.cal_spec.specs.NormalForm.{AreParts, IsPart, each, normal_component, normal_from_end, normal_fields, normal_parts, normal_second, part_cmp, part_eq, point, range_step, reduced, reduced_to, starred}
-use Rattle.cal_spec.specs.Order.{Has, in_order}
-use Rattle.cal_spec.specs.Slot.{day_slot}
-use Rattle.cal_spec.specs.Sound.{EndsAfter, IsStep}
+use Rattle.cal_zone.specs.headline.Local.{civil_date}
+use Rattle.cal_spec.specs.headline.Fields.{Fields}
+use Rattle.cal_spec.specs.headline.Match.{date_in, day_number, matches, time_in}
+use Rattle.cal_spec.specs.headline.Members.{component_has, lies, lies_by, part_has, sets_of, values}
+use Rattle.cal_spec.specs.NormalForm.{AreParts, IsPart, normal_component, normal_fields, normal_parts, normal_second, part_eq, reduced, reduced_to, starred}
+use Rattle.cal_spec.specs.headline.NormalForm.{each, normal_from_end, part_cmp, point, range_step}
+use Rattle.cal_spec.specs.Order.{in_order}
+use Rattle.cal_spec.specs.headline.Order.{Has}
+use Rattle.cal_spec.specs.headline.Slot.{day_slot}
+use Rattle.cal_spec.specs.headline.Sound.{EndsAfter, IsStep}
 use Rattle.cal_spec.specs.ValidFields.{IsValidFields}
 use Rattle.cal_spec.specs.declared.part.Part.{Part}
 use Rattle.cal_spec.specs.declared.slot.Slot.{Slot}

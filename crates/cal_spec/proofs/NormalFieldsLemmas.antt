@@ -5,11 +5,14 @@ use Rattle.std.specs.List.Sorted.{IsStrictlySortedBy}
 use Rattle.std.proofs.lemmas.List.{length-map}
 use Rattle.std.specs.declared.cmp.Ordering.{Ordering}
 use Rattle.std.specs.declared.cmp.Ordering.TheVariants.{Less, Equal, Greater}
-use Rattle.cal_spec.specs.Fields.{Fields, counted_parts, parts_in}
-use Rattle.cal_spec.specs.NormalForm.{AreNormal, AreNormalOf, AreParts, IsNormal, IsNormalFieldsOf, IsNormalOf, IsNormalSecondOf, IsPart, IsReduced, IsStarred, each, normal_component, normal_fields, normal_from_end, normal_parts, normal_second, part_cmp, part_eq, reduced, starred}
-use Rattle.cal_spec.specs.Order.{Has, in_order, inserted, inserted_by}
-use Rattle.cal_spec.specs.Slot.{day_slot}
-use Rattle.cal_spec.specs.Sound.{AreSound, IsSound}
+use Rattle.cal_spec.specs.headline.Fields.{Fields, counted_parts, parts_in}
+use Rattle.cal_spec.specs.NormalForm.{AreNormal, AreParts, IsNormal, IsPart, normal_component, normal_fields, normal_parts, normal_second, part_eq, reduced, starred}
+use Rattle.cal_spec.specs.headline.NormalForm.{AreNormalOf, IsNormalFieldsOf, IsNormalOf, IsNormalSecondOf, IsReduced, IsStarred, each, normal_from_end, part_cmp}
+use Rattle.cal_spec.specs.Order.{in_order, inserted, inserted_by}
+use Rattle.cal_spec.specs.headline.Order.{Has}
+use Rattle.cal_spec.specs.headline.Slot.{day_slot}
+use Rattle.cal_spec.specs.Sound.{AreSound}
+use Rattle.cal_spec.specs.headline.Sound.{IsSound}
 use Rattle.cal_spec.specs.ValidFields.{IsValidFields}
 use Rattle.cal_spec.specs.declared.part.Part.{Part}
 use Rattle.cal_spec.specs.declared.slot.Slot.{Slot}

@@ -12,9 +12,12 @@ use Rattle.std.proofs.lemmas.Bool.Decides.{nat_tests}
 use Rattle.std.proofs.lemmas.Cmp.{eq_by_cmp_equiv}
 use Rattle.std.proofs.lemmas.List.Kept.{IsStrictlySortedBy-dedup, Contains-dedup, Contains-from_dedup}
 use Rattle.std.proofs.lemmas.List.Sorted.{Contains-permutation, IsPermutation-sym}
-use Rattle.cal_spec.specs.NormalForm.{part_cmp, part_eq, normal_parts, reduced, IsPart, AreParts}
-use Rattle.cal_spec.specs.Order.{Has, in_order}
-use Rattle.cal_spec.specs.Sound.{IsSound, AreSound}
+use Rattle.cal_spec.specs.NormalForm.{part_eq, normal_parts, reduced, IsPart, AreParts}
+use Rattle.cal_spec.specs.headline.NormalForm.{part_cmp}
+use Rattle.cal_spec.specs.Order.{in_order}
+use Rattle.cal_spec.specs.headline.Order.{Has}
+use Rattle.cal_spec.specs.Sound.{AreSound}
+use Rattle.cal_spec.specs.headline.Sound.{IsSound}
 use Rattle.cal_spec.specs.declared.part.Part.{Part}
 use Rattle.cal_spec.specs.declared.slot.Slot.{Slot}
 use Rattle.cal_spec.proofs.OrderLemmas.{contains_from_has, has_from_contains, has_in_order, sorted_in_order, same_sorted}

@@ -1,13 +1,14 @@
 -- Worked rows of the normal form and its text.
 use Rattle.std.proofs.Common.{◌≡◌, ℕ, true, false, [], ◌∷◌, Option, None, Some, refl, codes}
 use Rattle.std.specs.Fmt.{digits}
-use Rattle.cal_zone.specs.Weekday.{name_of}
-use Rattle.cal_spec.specs.ZoneSuffix.{of_name}
+use Rattle.cal_zone.specs.headline.Weekday.{name_of}
+use Rattle.cal_spec.specs.headline.ZoneSuffix.{of_name}
 use Rattle.cal_spec.specs.declared.part.Part.{Part}
-use Rattle.cal_spec.specs.ExprText.{expr_text, fields_text, row_text, parts_text, part_text, number_text}
-use Rattle.cal_spec.specs.Fields.{Fields}
-use Rattle.cal_spec.specs.NormalForm.{normal_fields, normal_parts, normal_second, part_cmp, reduced, point}
-use Rattle.cal_spec.specs.WeekdayRuns.{weekdays_text, runs_text, run_text}
+use Rattle.cal_spec.specs.headline.ExprText.{expr_text, fields_text, row_text, parts_text, part_text, number_text}
+use Rattle.cal_spec.specs.headline.Fields.{Fields}
+use Rattle.cal_spec.specs.NormalForm.{normal_fields, normal_parts, normal_second, reduced}
+use Rattle.cal_spec.specs.headline.NormalForm.{part_cmp, point}
+use Rattle.cal_spec.specs.headline.WeekdayRuns.{weekdays_text, runs_text, run_text}
 
 range : ℕ → ℕ → Option ℕ → Part
 range a b step = record { start = a; end = Some b; step = step }

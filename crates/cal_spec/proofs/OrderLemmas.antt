@@ -7,7 +7,8 @@ use Rattle.std.specs.Ordering.{ordering_reverse}
 use Rattle.std.proofs.lemmas.Cmp.{tied_itself}
 use Rattle.std.specs.declared.cmp.Ordering.{Ordering}
 use Rattle.std.specs.declared.cmp.Ordering.TheVariants.{Less, Equal, Greater}
-use Rattle.cal_spec.specs.Order.{Has, inserted_by, inserted, in_order}
+use Rattle.cal_spec.specs.Order.{inserted_by, inserted, in_order}
+use Rattle.cal_spec.specs.headline.Order.{Has}
 
 -- std's word for an element
 pub contains_from_has : {A : Type 0} (xs : List A) (x : A) → Has xs x → Contains xs x

@@ -2,7 +2,8 @@
 use Rattle.std.proofs.Common.{ℕ, ◌+◌, ◌<◌, ◌≤◌, ◌≡◌, Bool, true, false, cond, List, [], ◌∷◌, suc, length, get_or, take, drop, Some, None, refl, sym, ap, ◌∙◌, arith}
 use Rattle.std.specs.Prelude.{not, nat_lt, filter}
 use Rattle.std.specs.List.{slice_split, onto_first, position, position_or_len}
-use Rattle.cal_spec.specs.DateAndTime.{is_colon, time_texts}
+use Rattle.cal_spec.specs.DateAndTime.{time_texts}
+use Rattle.cal_spec.specs.headline.DateAndTime.{is_colon}
 use Rattle.std.proofs.lemmas.Bool.{not-true, ltb-true, ltb-false}
 use Rattle.std.proofs.lemmas.List.Sums.{prefix_len_passes, prefix_len-le-length}
 use Rattle.std.proofs.lemmas.List.Splits.{slice_split_first, slice_split_none}

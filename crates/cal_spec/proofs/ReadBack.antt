@@ -6,21 +6,25 @@ use Rattle.std.specs.List.{list_all, list_any, slice_split}
 use Rattle.std.proofs.lemmas.Bool.{and_parts, le-ltb, lt-ltb, or_parts}
 use Rattle.std.proofs.lemmas.Bool.Decides.{nat_tests}
 use Rattle.std.proofs.lemmas.List.{append-nil, length-append}
-use Rattle.cal_bytes.specs.Bytes.{joined}
+use Rattle.cal_bytes.specs.headline.Bytes.{joined}
 use Rattle.cal_spec.specs.Components.{counted}
-use Rattle.cal_spec.specs.DateAndTime.{DateFields, TimeFields, date_due, date_fields, date_of, date_texts, is_colon, is_date_sign, is_tilde, room_after, time_due, time_fields, time_of, time_texts}
-use Rattle.cal_spec.specs.ExprText.{component_text, day_lead, expr_text, fields_text, row_text, zone_text}
-use Rattle.cal_spec.specs.Fields.{Fields, counted_parts, parts_in}
+use Rattle.cal_spec.specs.DateAndTime.{DateFields, TimeFields, date_due, date_fields, date_of, date_texts, is_date_sign, is_tilde, room_after, time_due, time_fields, time_of, time_texts}
+use Rattle.cal_spec.specs.headline.DateAndTime.{is_colon}
+use Rattle.cal_spec.specs.headline.ExprText.{component_text, day_lead, expr_text, fields_text, row_text, zone_text}
+use Rattle.cal_spec.specs.headline.Fields.{Fields, counted_parts, parts_in}
 use Rattle.cal_spec.specs.Grammar.{fields_at, fields_in}
 use Rattle.cal_spec.specs.NormalForm.{normal_fields}
-use Rattle.cal_spec.specs.Slot.{day_slot}
+use Rattle.cal_spec.specs.headline.Slot.{day_slot}
 use Rattle.cal_spec.specs.ValidFields.{IsValidFields}
-use Rattle.cal_spec.specs.WeekdayRuns.{runs_from, runs_text}
+use Rattle.cal_spec.specs.headline.WeekdayRuns.{runs_from, runs_text}
 use Rattle.cal_spec.specs.Weekdays.{weekdays_in}
-use Rattle.cal_spec.specs.Words.{Roles, after_weekdays, date_or_time, is_blank, roles_of, words}
-use Rattle.cal_zone.specs.ZoneName.{begins_with_letter, is_zone_byte}
-use Rattle.cal_zone.specs.OffsetWord.{begins_with_sign, begins_zone, is_sign}
-use Rattle.cal_spec.specs.ZoneSuffix.{IsSuffixOption, ZoneSuffix, suffix_due, suffix_in, suffix_text}
+use Rattle.cal_spec.specs.Words.{after_weekdays, date_or_time, roles_of}
+use Rattle.cal_spec.specs.headline.Words.{Roles, is_blank, words}
+use Rattle.cal_zone.specs.headline.ZoneName.{begins_with_letter, is_zone_byte}
+use Rattle.cal_zone.specs.OffsetWord.{begins_zone}
+use Rattle.cal_zone.specs.headline.OffsetWord.{begins_with_sign, is_sign}
+use Rattle.cal_spec.specs.ZoneSuffix.{IsSuffixOption, suffix_due, suffix_in}
+use Rattle.cal_spec.specs.headline.ZoneSuffix.{ZoneSuffix, suffix_text}
 use Rattle.cal_spec.proofs.SuffixLemmas.{suffix_word}
 use Rattle.cal_spec.specs.declared.part.Part.{Part}
 use Rattle.cal_spec.specs.declared.slot.Slot.TheVariants.{Year, Month, Hour, Minute, Second}

@@ -9,12 +9,14 @@ use Rattle.std.proofs.lemmas.Bool.{and_from, and_parts, le-leb, le-ltb, leb-true
 use Rattle.std.proofs.lemmas.Fmt.{decimal_is_IsNumeral}
 use Rattle.std.proofs.lemmas.List.{append-nil}
 use Rattle.std.proofs.lemmas.Str.Parse.{digit_from_value}
-use Rattle.cal_zone.specs.InstantText.{zeros}
+use Rattle.cal_zone.specs.headline.InstantText.{zeros}
 use Rattle.cal_spec.specs.Components.{component_of, counted, is_comma, is_star, listed, part_due, parts_of, room_in}
-use Rattle.cal_spec.specs.ExprText.{component_text, number_text, optional_text, part_text, parts_text}
-use Rattle.cal_spec.specs.Parts.{Symbol, digits, slash, after_end, after_number, after_start, is_second, is_time, number_due, part_at_end, part_of, symbols, starts_with_point, with_century, with_step, with_values}
+use Rattle.cal_spec.specs.headline.ExprText.{component_text, number_text, optional_text, part_text, parts_text}
+use Rattle.cal_spec.specs.Parts.{Symbol, digits, slash, after_end, after_number, after_start, is_second, is_time, number_due, part_at_end, part_of, symbols, starts_with_point, with_step}
+use Rattle.cal_spec.specs.headline.Parts.{with_century, with_values}
 use Rattle.cal_spec.specs.Reads.{◌>>=◌}
-use Rattle.cal_spec.specs.Sound.{AreSound, IsEndWithin, IsSound}
+use Rattle.cal_spec.specs.Sound.{AreSound}
+use Rattle.cal_spec.specs.headline.Sound.{IsEndWithin, IsSound}
 use Rattle.cal_spec.specs.declared.part.Part.{Part}
 use Rattle.cal_spec.specs.declared.slot.Slot.{Slot}
 use Rattle.cal_spec.specs.declared.slot.Slot.TheVariants.{Year, Month, Day, DayFromEnd, Hour, Minute, Second}

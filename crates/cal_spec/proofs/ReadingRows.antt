@@ -1,17 +1,18 @@
 -- The worked texts of the rule, computed by the definitions.
 use Rattle.std.proofs.Common.{◌≡◌, codes, refl, Err, List, ℕ}
 use Rattle.cal_spec.specs.Grammar.{fields_in, fields_at}
-use Rattle.cal_spec.specs.Words.{words, roles_of}
-use Rattle.cal_spec.specs.Shorthand.{shorthand_named}
+use Rattle.cal_spec.specs.Words.{roles_of}
+use Rattle.cal_spec.specs.headline.Words.{words}
+use Rattle.cal_spec.specs.headline.Shorthand.{shorthand_named}
 use Rattle.cal_spec.specs.Weekdays.{day_named, days_of, listed_days, weekdays_of}
 use Rattle.cal_spec.specs.DateAndTime.{date_texts, time_texts, date_fields, time_fields, date_of, time_of}
 use Rattle.cal_spec.specs.Components.{part_due, listed, component_of}
 use Rattle.cal_spec.specs.Parts.{with_step, after_end, after_start, part_of, fault_of}
 use Rattle.cal_zone.specs.OffsetWord.{clock_in, offset_in, two_digits}
-use Rattle.cal_zone.specs.ZoneName.{is_zone_name}
+use Rattle.cal_zone.specs.headline.ZoneName.{is_zone_name}
 use Rattle.cal_spec.specs.ZoneSuffix.{suffix_of}
 use Rattle.cal_spec.specs.declared.spec_fault.SpecFault.{SpecFault}
-use Rattle.cal_zone.specs.Weekday.{name_of}
+use Rattle.cal_zone.specs.headline.Weekday.{name_of}
 use Rattle.cal_spec.specs.declared.spec_fault.SpecFault.TheVariants.{Empty, BadWeekday, BadDate, BadTime, FractionalSecond, NumberTooLarge, OutOfField, BackwardRange, ZeroRepeat, NoRepeat, TooManyParts, StrayWord, UnknownShorthand}
 
 abbrev IsFault : List ℕ → SpecFault → Type 0

@@ -1,8 +1,9 @@
 -- The zone at the end of an expression, tried on worked words.
 use Rattle.std.proofs.Common.{◌≡◌, ℕ, pos, neg_ℤ, List, [], ◌∷◌, codes, Some, Ok, Err, refl}
 use Rattle.cal_zone.specs.OffsetWord.{clock_in, offset_in, two_digits}
-use Rattle.cal_zone.specs.ZoneName.{is_zone_name}
-use Rattle.cal_spec.specs.ZoneSuffix.{of_name, ahead, suffix_in, suffix_of}
+use Rattle.cal_zone.specs.headline.ZoneName.{is_zone_name}
+use Rattle.cal_spec.specs.ZoneSuffix.{suffix_in, suffix_of}
+use Rattle.cal_spec.specs.headline.ZoneSuffix.{of_name, ahead}
 use Rattle.cal_spec.specs.declared.spec_fault.SpecFault.TheVariants.{StrayWord}
 
 abbrev words_of : List ℕ → List (List ℕ)

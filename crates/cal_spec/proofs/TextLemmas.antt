@@ -5,7 +5,7 @@ use Rattle.std.specs.Io.KnownBytes.{Appends}
 use Rattle.std.specs.List.{flat_map}
 use Rattle.cal_bytes.specs.Bytes.{AppendsFront, Leaves}
 use Rattle.cal_bytes.proofs.Pieces.{step_piece, stop_piece}
-use Rattle.cal_spec.specs.ExprText.{part_text, parts_text, number_text}
+use Rattle.cal_spec.specs.headline.ExprText.{part_text, parts_text, number_text}
 use Rattle.cal_spec.specs.declared.part.Part.{Part}
 
 -- the item that was read at an index was written, or wasn't written whole

@@ -2,12 +2,14 @@
 use Rattle.std.proofs.Common.{ℕ, ◌≡◌, ◌⊎◌, inl, inr, List, Bool, length, Option, Some, Ok, refl, sym, ap, ◌∙◌}
 use Rattle.std.proofs.lemmas.Bool.{le-ltb}
 use Rattle.cal_spec.specs.DateAndTime.{DateFields, TimeFields, room_after, date_of, time_of}
-use Rattle.cal_spec.specs.Fields.{Fields}
+use Rattle.cal_spec.specs.headline.Fields.{Fields}
 use Rattle.cal_spec.specs.Grammar.{most_text_bytes, fields_at, fields_in}
-use Rattle.cal_spec.specs.GrammarRule.{given, ArePlain, AreShort, IsExpression, IsValid}
+use Rattle.cal_spec.specs.headline.GrammarRule.{given, ArePlain, AreShort, IsExpression, IsValid}
 use Rattle.cal_spec.specs.Weekdays.{weekdays_in}
-use Rattle.cal_spec.specs.Words.{Roles, words, roles_of}
-use Rattle.cal_spec.specs.ZoneSuffix.{ZoneSuffix, suffix_in}
+use Rattle.cal_spec.specs.Words.{roles_of}
+use Rattle.cal_spec.specs.headline.Words.{Roles, words}
+use Rattle.cal_spec.specs.ZoneSuffix.{suffix_in}
+use Rattle.cal_spec.specs.headline.ZoneSuffix.{ZoneSuffix}
 use Rattle.cal_spec.proofs.DateRule.{is_date, is_time, AreFew, are_few, date_only, time_only}
 use Rattle.cal_spec.proofs.FieldLemmas.{fields_with, text_found, valid_fields}
 use Rattle.cal_spec.proofs.WeekdayRule.{weekdays_by_rule, weekdays_only}

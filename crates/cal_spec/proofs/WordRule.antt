@@ -6,14 +6,18 @@ use Rattle.std.specs.Option.{option_map, unwrap_or}
 use Rattle.std.specs.Char.{is_ascii_alphabetic, to_ascii_lowercase}
 use Rattle.std.proofs.lemmas.Bool.{and_parts, or_parts, cond-false, true_from_ne_false}
 use Rattle.std.proofs.lemmas.Bool.Decides.{nat_tests}
-use Rattle.cal_spec.specs.DateAndTime.{TimeTexts, TimeFields, is_colon, time_texts, time_of}
-use Rattle.cal_spec.specs.GrammarRule.{given, ArePlain, AreShort, IsSignless, IsZoneWord}
-use Rattle.cal_spec.specs.Shorthand.{any_date, midnight, meaning_of, shorthand_named}
-use Rattle.cal_spec.specs.Words.{Roles, after_date, after_weekdays, date_or_time, roles_by, roles_of}
-use Rattle.cal_zone.specs.ZoneName.{begins_with_letter, is_zone_byte, is_zone_name}
-use Rattle.cal_zone.specs.OffsetWord.{begins_with_sign, begins_zone, offset_in}
+use Rattle.cal_spec.specs.DateAndTime.{TimeFields, time_texts, time_of}
+use Rattle.cal_spec.specs.headline.DateAndTime.{TimeTexts, is_colon}
+use Rattle.cal_spec.specs.headline.GrammarRule.{given, ArePlain, AreShort, IsSignless, IsZoneWord}
+use Rattle.cal_spec.specs.headline.Shorthand.{any_date, midnight, meaning_of, shorthand_named}
+use Rattle.cal_spec.specs.Words.{after_date, after_weekdays, date_or_time, roles_by, roles_of}
+use Rattle.cal_spec.specs.headline.Words.{Roles}
+use Rattle.cal_zone.specs.headline.ZoneName.{begins_with_letter, is_zone_byte, is_zone_name}
+use Rattle.cal_zone.specs.OffsetWord.{begins_zone, offset_in}
+use Rattle.cal_zone.specs.headline.OffsetWord.{begins_with_sign}
 use Rattle.cal_zone.proofs.OffsetWordLemmas.{offset-bytes, offset-found}
-use Rattle.cal_spec.specs.ZoneSuffix.{ZoneSuffix, ahead, kept_name, of_name, suffix_due, suffix_in, suffix_of}
+use Rattle.cal_spec.specs.ZoneSuffix.{suffix_due, suffix_in, suffix_of}
+use Rattle.cal_spec.specs.headline.ZoneSuffix.{ZoneSuffix, ahead, kept_name, of_name}
 use Rattle.cal_spec.proofs.SuffixLemmas.{no_letter, offset_suffix}
 use Rattle.cal_spec.specs.declared.shorthand.Shorthand.{Shorthand}
 use Rattle.cal_spec.proofs.CleanLemmas.{IsClear, split_alone}

@@ -5,7 +5,7 @@ use Rattle.std.specs.List.{list_all, list_any, slice_split, onto_first}
 use Rattle.std.proofs.lemmas.Bool.{and_parts, and_from, or_from, lt-ltb}
 use Rattle.std.proofs.lemmas.List.{append-nil}
 use Rattle.cal_spec.specs.GrammarRule.{IsWord, Ends, AreWords}
-use Rattle.cal_spec.specs.Words.{is_blank, words}
+use Rattle.cal_spec.specs.headline.Words.{is_blank, words}
 use Rattle.cal_spec.proofs.CleanLemmas.{split_at, split_alone}
 use Rattle.cal_spec.proofs.PieceLemmas.{some_piece}
 use Rattle.cal_spec.proofs.WordRule.{clear_by}

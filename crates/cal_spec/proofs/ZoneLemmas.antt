@@ -5,7 +5,7 @@ use Rattle.std.specs.List.{list_all}
 use Rattle.std.specs.Str.{IsAscii}
 use Rattle.std.proofs.lemmas.Bool.{and_parts}
 use Rattle.std.proofs.lemmas.Bool.Decides.{nat_tests}
-use Rattle.cal_zone.specs.ZoneName.{begins_with_letter, is_zone_byte, is_zone_name}
+use Rattle.cal_zone.specs.headline.ZoneName.{begins_with_letter, is_zone_byte, is_zone_name}
 
 zone_byte_below : (b : ℕ) → is_zone_byte b ≡ true → b < 128
 zone_byte_below b test = grind (arith, nat_tests)

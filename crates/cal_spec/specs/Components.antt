@@ -3,7 +3,8 @@ use Rattle.std.specs.Prelude.{ℕ, ◌+◌, ◌-◌, ◌==◌, Bool, if◌then�
 use Rattle.std.specs.List.{slice_split}
 use Rattle.std.specs.Str.{bytes_eq}
 use Rattle.cal_spec.specs.Reads.{◌>>=◌, unless, first_of}
-use Rattle.cal_spec.specs.Parts.{is_time, part_of, with_values, fault_of}
+use Rattle.cal_spec.specs.Parts.{is_time, part_of, fault_of}
+use Rattle.cal_spec.specs.headline.Parts.{with_values}
 use Rattle.cal_spec.specs.declared.part.Part.{Part}
 use Rattle.cal_spec.specs.declared.slot.Slot.{Slot}
 use Rattle.cal_spec.specs.declared.spec_fault.SpecFault.{SpecFault}

@@ -1,26 +1,14 @@
--- The date and the time of a calendar expression: systemd.time(7), Calendar Events.
+-- The date and the time of a calendar expression, computed from their texts: systemd.time(7), Calendar Events.
 use Rattle.std.specs.Prelude.{ℕ, ◌-◌, ◌==◌, Bool, ◌||◌, if◌then◌else◌, List, [], ◌∷◌, filter, codes, Option, None, Some, Result, Ok, Err}
 use Rattle.std.specs.List.{slice_split}
 use Rattle.cal_spec.specs.Components.{most_counted, counted, component_of}
 use Rattle.cal_spec.specs.Reads.{◌>>=◌}
-use Rattle.cal_spec.specs.Slot.{day_slot}
+use Rattle.cal_spec.specs.headline.Slot.{day_slot}
 use Rattle.cal_spec.specs.declared.part.Part.{Part}
 use Rattle.cal_spec.specs.declared.slot.Slot.TheVariants.{Year, Month, Hour, Minute, Second}
 use Rattle.cal_spec.specs.declared.spec_fault.SpecFault.{SpecFault}
 use Rattle.cal_spec.specs.declared.spec_fault.SpecFault.TheVariants.{BadDate, BadTime}
-
--- the texts of a date's components, and whether its day is counted from the month's end
-pub record DateTexts : Type 0 where
-  pub year : List ℕ
-  pub month : List ℕ
-  pub day : List ℕ
-  pub from_end : Bool
-
--- the texts of a time's components
-pub record TimeTexts : Type 0 where
-  pub hour : List ℕ
-  pub minute : List ℕ
-  pub second : List ℕ
+use Rattle.cal_spec.specs.headline.DateAndTime.{DateTexts, TimeTexts, is_colon}
 
 -- the components of a date
 pub record DateFields : Type 0 where
@@ -41,9 +29,6 @@ is_tilde b = b == 126
 -- what comes between the components of a date
 abbrev pub is_date_sign : ℕ → Bool
 is_date_sign b = (b == 45) || is_tilde b
-
-abbrev pub is_colon : ℕ → Bool
-is_colon b = b == 58
 
 -- two or three components; only the last sign may be `~`
 abbrev pub date_by : List ℕ → List (List ℕ) → Option DateTexts

@@ -1,6 +1,7 @@
 -- What contracts see of the date and of the time of a calendar expression.
 use Rattle.std.specs.Option.{option_map}
-use Rattle.cal_spec.specs.DateAndTime.{DateFields, DateTexts, TimeFields, TimeTexts}
+use Rattle.cal_spec.specs.DateAndTime.{DateFields, TimeFields}
+use Rattle.cal_spec.specs.headline.DateAndTime.{DateTexts, TimeTexts}
 use Rattle.cal_spec.specs.declared.date_and_time.DateTexts as declared_date_texts
 use Rattle.cal_spec.specs.declared.date_and_time.TimeTexts as declared_time_texts
 use Rattle.cal_spec.specs.declared.fields.DateFields as declared_date

@@ -1,6 +1,6 @@
 -- What contracts see of a calendar expression: systemd.time(7), Calendar Events.
 use Rattle.std.specs.Prelude.{◌≡◌, ℕ, List, Option, Result, Ok}
-use Rattle.cal_spec.specs.Fields.{Fields}
+use Rattle.cal_spec.specs.headline.Fields.{Fields}
 use Rattle.cal_spec.specs.Grammar.{fields_in}
 use Rattle.cal_spec.specs.NormalForm.{normal_fields}
 use Rattle.cal_spec.specs.Reads.{◌>>=◌}

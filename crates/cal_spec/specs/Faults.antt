@@ -4,12 +4,15 @@ use Rattle.std.specs.Prelude.{ℕ, ◌+◌, ◌-◌, nat_lt, if◌then◌else◌
 use Rattle.std.specs.List.{slice_split}
 use Rattle.std.specs.Result.{result_err}
 use Rattle.cal_spec.specs.Components.{most_counted, is_comma, is_star}
-use Rattle.cal_spec.specs.DateAndTime.{DateTexts, TimeTexts, date_texts, time_texts}
+use Rattle.cal_spec.specs.DateAndTime.{date_texts, time_texts}
+use Rattle.cal_spec.specs.headline.DateAndTime.{DateTexts, TimeTexts}
 use Rattle.cal_spec.specs.Grammar.{most_text_bytes}
-use Rattle.cal_spec.specs.Parts.{is_time, part_of, with_values, fault_of}
-use Rattle.cal_spec.specs.Slot.{day_slot}
+use Rattle.cal_spec.specs.Parts.{is_time, part_of, fault_of}
+use Rattle.cal_spec.specs.headline.Parts.{with_values}
+use Rattle.cal_spec.specs.headline.Slot.{day_slot}
 use Rattle.cal_spec.specs.Weekdays.{weekdays_in}
-use Rattle.cal_spec.specs.Words.{Roles, words, roles_of}
+use Rattle.cal_spec.specs.Words.{roles_of}
+use Rattle.cal_spec.specs.headline.Words.{Roles, words}
 use Rattle.cal_spec.specs.ZoneSuffix.{suffix_in}
 use Rattle.cal_spec.specs.declared.part.Part.{Part}
 use Rattle.cal_spec.specs.declared.slot.Slot.{Slot}

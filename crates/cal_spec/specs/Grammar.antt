@@ -2,10 +2,11 @@
 -- are judged from the left.
 use Rattle.std.specs.Prelude.{ℕ, nat_lt, if◌then◌else◌, List, length, Option, None, Some, Result, Ok, Err}
 use Rattle.cal_spec.specs.DateAndTime.{date_of, time_of, room_after}
-use Rattle.cal_spec.specs.Fields.{Fields}
+use Rattle.cal_spec.specs.headline.Fields.{Fields}
 use Rattle.cal_spec.specs.Reads.{◌>>=◌}
 use Rattle.cal_spec.specs.Weekdays.{weekdays_in}
-use Rattle.cal_spec.specs.Words.{Roles, words, roles_of}
+use Rattle.cal_spec.specs.Words.{roles_of}
+use Rattle.cal_spec.specs.headline.Words.{Roles, words}
 use Rattle.cal_spec.specs.ZoneSuffix.{suffix_in}
 use Rattle.cal_spec.specs.declared.spec_fault.SpecFault.{SpecFault}
 use Rattle.cal_spec.specs.declared.spec_fault.SpecFault.TheVariants.{Empty, TextTooLong}

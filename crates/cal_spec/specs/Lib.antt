@@ -2,21 +2,17 @@ pub mod Components
 pub mod DateAndTime
 pub mod DateAndTimeViews
 pub mod Expr
-pub mod ExprText
 pub mod Faults
 pub mod Fields
 pub mod Grammar
 pub mod GrammarRule
-pub mod Match
 pub mod Members
 pub mod NormalForm
 pub mod Order
 pub mod Parts
 pub mod Reads
 pub mod RolesView
-pub mod Shorthand
 pub mod ShorthandViews
-pub mod Slot
 pub mod Sound
 pub mod SpecFault
 pub mod SuffixView
@@ -26,3 +22,4 @@ pub mod WeekdayRuns
 pub mod Weekdays
 pub mod Words
 pub mod ZoneSuffix
+pub mod headline

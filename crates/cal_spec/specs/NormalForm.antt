@@ -1,15 +1,13 @@
--- The normal form of a calendar expression: systemd.time(7), Calendar Events. Ranges end at the last number that they
--- reach, parts are in order, and equal parts occur once. Overlapping parts stay.
-use Rattle.std.specs.Prelude.{◌≡◌, ◌==◌, ◌&&◌, ℕ, ◌+◌, ◌-◌, ◌*◌, ◌/◌, ◌%◌, ◌<◌, ◌≤◌, Bool, false, if◌then◌else◌, List, [], ◌∷◌, map, Option, None, Some, unwrap_or, nat_eq}
+-- The normal form of a calendar expression, computed: systemd.time(7), Calendar Events.
+use Rattle.std.specs.Prelude.{◌≡◌, ◌&&◌, ℕ, ◌+◌, ◌-◌, ◌*◌, ◌/◌, ◌%◌, ◌<◌, Bool, if◌then◌else◌, List, [], ◌∷◌, map, Option, None, Some, nat_eq}
 use Rattle.std.specs.List.{AllByRecursion}
 use Rattle.std.specs.List.Sorted.{IsStrictlySortedBy}
-use Rattle.std.specs.Option.{option_map, option_and_then, option_cmp, option_eq}
-use Rattle.std.specs.Ordering.{nat_cmp, ordering_then}
-use Rattle.std.specs.declared.cmp.Ordering.{Ordering}
-use Rattle.cal_spec.specs.Fields.{Fields}
-use Rattle.cal_spec.specs.Order.{Has, in_order}
-use Rattle.cal_spec.specs.Sound.{EndsAfter, IsStep}
+use Rattle.std.specs.Option.{option_map, option_and_then, option_eq}
+use Rattle.cal_spec.specs.headline.Fields.{Fields}
+use Rattle.cal_spec.specs.Order.{in_order}
+use Rattle.cal_spec.specs.headline.Sound.{EndsAfter, IsStep}
 use Rattle.cal_spec.specs.declared.part.Part.{Part}
+use Rattle.cal_spec.specs.headline.NormalForm.{each, normal_from_end, part_cmp, range_to, step_of}
 
 -- what a part has to be for a normal form: it doesn't run backwards, and steps on
 pub record IsPart (p : Part) : Type 0 where
@@ -20,38 +18,6 @@ abbrev pub AreParts : Option (List Part) → Type 0
 AreParts None = Unit {0}
 AreParts (Some ps) = AllByRecursion IsPart ps
 
--- e is the last number of a, a + r, .. that isn't above b
-pub record IsLastReached (a b r e : ℕ) : Type 0 where
-  pub from : a ≤ e
-  pub reached : (e - a) % r ≡ 0
-  pub within : e ≤ b
-  pub last : b < e + r
-
--- how far apart the numbers of a range are
-abbrev pub step_of : Option ℕ → ℕ
-step_of step = unwrap_or step 1
-
--- `/1` after a range is dropped
-abbrev pub range_step : Option ℕ → Option ℕ
-range_step None = None
-range_step (Some r) = if r == 1 then None else Some r
-
--- one number alone
-abbrev pub point : ℕ → Part
-point a = record { start = a; end = None; step = None }
-
--- a range that ends at e; the point where it is also the start
-abbrev pub range_to : ℕ → ℕ → Option ℕ → Part
-range_to a e step = if e == a then point a else record { start = a; end = Some e; step = range_step step }
-
--- q is the normal form of the part that starts at a: only a range is changed
-abbrev pub IsReducedTo : ℕ → Option ℕ → Option ℕ → Part → Type 0
-IsReducedTo a None step q = q ≡ record { start = a; end = None; step = step }
-IsReducedTo a (Some b) step q = (e : ℕ) × IsLastReached a b (step_of step) e × (q ≡ range_to a e step)
-
-unfoldable pub IsReduced : Part → Part → Type 0
-IsReduced p q = IsReducedTo p.start p.end p.step q
-
 -- the same by division
 abbrev pub reduced_to : ℕ → Option ℕ → Option ℕ → Part
 reduced_to a None step = record { start = a; end = None; step = step }
@@ -59,12 +25,6 @@ reduced_to a (Some b) step = range_to a (a + (b - a) / step_of step * step_of st
 
 unfoldable pub reduced : Part → Part
 reduced p = reduced_to p.start p.end p.step
-
--- parts are ordered by start, then by end and then by step, none first
-unfoldable pub part_cmp : Part → Part → Ordering
-part_cmp p q =
-    ordering_then (nat_cmp p.start q.start)
-    (ordering_then (option_cmp nat_cmp p.end q.end) (option_cmp nat_cmp p.step q.step))
 
 -- the normal form's own condition on a part: a range reaches its end, has two numbers or more, and no step 1
 abbrev pub IsNormalRange : ℕ → ℕ → Option ℕ → Type 0
@@ -83,35 +43,11 @@ pub record AreNormal (ps : List Part) : Type 0 where
   pub each : AllByRecursion IsNormal ps
   pub rising : IsStrictlySortedBy part_cmp ps
 
--- the normal form of a list of parts: in order, once each, with exactly the normal forms of its parts
-pub record AreNormalOf (raw normal : List Part) : Type 0 where
-  pub rising : IsStrictlySortedBy part_cmp normal
-  pub from_part : (q : Part) → Has normal q → (p : Part) × Has raw p × IsReduced p q
-  pub each_part : (p : Part) → Has raw p → (q : Part) × Has normal q × IsReduced p q
-
 unfoldable pub normal_parts : List Part → List Part
 normal_parts ps = in_order part_cmp (map reduced ps)
 
--- a component's normal form; `*` stays
-abbrev pub IsNormalOf : Option (List Part) → Option (List Part) → Type 0
-IsNormalOf None normal = normal ≡ None
-IsNormalOf (Some raw) normal = (ps : List Part) × AreNormalOf raw ps × (normal ≡ Some ps)
-
 abbrev pub normal_component : Option (List Part) → Option (List Part)
 normal_component = option_map normal_parts
-
--- the part `0/1`
-abbrev pub each : Part
-each = record { start = 0; end = None; step = Some 1 }
-
--- the seconds, where the one part `0/1` becomes `*`
-abbrev pub IsStarred : List Part → Option (List Part) → Type 0
-IsStarred ps None = ps ≡ each ∷ []
-IsStarred ps (Some qs) = (qs ≡ ps) × (ps ≡ each ∷ [] → ⊥)
-
-abbrev pub IsNormalSecondOf : Option (List Part) → Option (List Part) → Type 0
-IsNormalSecondOf None normal = normal ≡ None
-IsNormalSecondOf (Some raw) normal = (ps : List Part) × AreNormalOf raw ps × IsStarred ps normal
 
 abbrev pub part_eq : Part → Part → Bool
 part_eq p q = nat_eq p.start q.start && (option_eq nat_eq p.end q.end && option_eq nat_eq p.step q.step)
@@ -123,23 +59,6 @@ starred (p ∷ q ∷ ps) = Some (p ∷ q ∷ ps)
 
 unfoldable pub normal_second : Option (List Part) → Option (List Part)
 normal_second c = option_and_then starred (normal_component c)
-
--- `~*` becomes `-*`
-abbrev pub normal_from_end : Bool → Option (List Part) → Bool
-normal_from_end from_end None = false
-normal_from_end from_end (Some ps) = from_end
-
--- the normal form of the fields
-pub record IsNormalFieldsOf (raw normal : Fields) : Type 0 where
-  pub weekdays : normal.weekdays ≡ raw.weekdays
-  pub year : IsNormalOf raw.year normal.year
-  pub month : IsNormalOf raw.month normal.month
-  pub day : IsNormalOf raw.day normal.day
-  pub hour : IsNormalOf raw.hour normal.hour
-  pub minute : IsNormalOf raw.minute normal.minute
-  pub second : IsNormalSecondOf raw.second normal.second
-  pub from_end : normal.from_end ≡ normal_from_end raw.from_end raw.day
-  pub suffix : normal.zone ≡ raw.zone
 
 unfoldable pub normal_fields : Fields → Fields
 normal_fields f = record {

@@ -1,12 +1,7 @@
--- Lists in an order, in which each element occurs once.
-use Rattle.std.specs.Prelude.{◌≡◌, ◌⊎◌, List, [], ◌∷◌}
+-- A list put in an order, where each element occurs once.
+use Rattle.std.specs.Prelude.{◌≡◌, List, [], ◌∷◌}
 use Rattle.std.specs.declared.cmp.Ordering.{Ordering}
 use Rattle.std.specs.declared.cmp.Ordering.TheVariants.{Less, Equal, Greater}
-
--- x is an element of the list
-abbrev pub Has : {A : Type 0} → List A → A → Type 0
-Has [] x = ⊥
-Has (y ∷ ys) x = (y ≡ x) ⊎ Has ys x
 
 -- x before y, in place of y, or after y, where `more` is what follows y once x is inserted there
 abbrev pub inserted_by : {A : Type 0} → Ordering → A → A → List A → List A → List A

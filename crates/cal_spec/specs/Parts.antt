@@ -1,16 +1,16 @@
--- One part of a component: systemd.time(7), Calendar Events. The text is taken apart into symbols, and these are judged
--- from the left.
+-- One part of a component, computed: systemd.time(7), Calendar Events. The text is taken apart into signs, and these
+-- are judged from the left.
 use Rattle.std.specs.Prelude.{ℕ, ◌+◌, ◌==◌, nat_lt, nat_le, Bool, true, false, not, ◌&&◌, if◌then◌else◌, List, [], ◌∷◌, Option, None, Some, Result, Ok, Err}
-use Rattle.std.specs.Option.{option_map}
 use Rattle.std.specs.Char.{is_ascii_digit}
 use Rattle.std.specs.Str.Parse.{digits_value}
 use Rattle.cal_spec.specs.Reads.{◌>>=◌}
-use Rattle.cal_spec.specs.Slot.{least, greatest}
+use Rattle.cal_spec.specs.headline.Slot.{least, greatest}
 use Rattle.cal_spec.specs.declared.part.Part.{Part}
 use Rattle.cal_spec.specs.declared.slot.Slot.{Slot}
-use Rattle.cal_spec.specs.declared.slot.Slot.TheVariants.{Year, DayFromEnd, Hour, Minute, Second}
+use Rattle.cal_spec.specs.declared.slot.Slot.TheVariants.{DayFromEnd, Hour, Minute, Second}
 use Rattle.cal_spec.specs.declared.spec_fault.SpecFault.{SpecFault}
 use Rattle.cal_spec.specs.declared.spec_fault.SpecFault.TheVariants.{BadDate, BadTime, FractionalSecond, NumberTooLarge, OutOfField, BackwardRange, ZeroRepeat, NoRepeat}
+use Rattle.cal_spec.specs.headline.Parts.{most}
 
 -- Slots
 
@@ -20,10 +20,6 @@ is_time Hour = true
 is_time Minute = true
 is_time Second = true
 is_time slot = false
-
-abbrev pub is_year : Slot → Bool
-is_year Year = true
-is_year slot = false
 
 abbrev pub is_second : Slot → Bool
 is_second Second = true
@@ -77,10 +73,6 @@ abbrev pub starts_with_point : List Symbol → Bool
 starts_with_point (point ∷ ss) = true
 starts_with_point ss = false
 
--- the greatest number that may be written
-abbrev pub most : ℕ
-most = 9999
-
 -- a number with the symbols after it
 pub record Counted : Type 0 where
   pub number : ℕ
@@ -125,15 +117,6 @@ unfoldable pub part_of : Slot → List ℕ → Result Part SpecFault
 part_of slot text = number_due slot (symbols text) >>= λ a. after_start slot a.number a.after
 
 -- Values
-
--- a year below 100 is one of 2000 to 2069 or of 1970 to 1999
-abbrev pub with_century : ℕ → ℕ
-with_century n = if nat_lt n 70 then n + 2000 else (if nat_lt n 100 then n + 1900 else n)
-
--- the part with the numbers that are meant
-abbrev pub with_values : Slot → Part → Part
-with_values slot p =
-    if is_year slot then record { start = with_century p.start; end = option_map with_century p.end; step = p.step } else p
 
 abbrev pub is_within : Slot → ℕ → Bool
 is_within slot n = nat_le (least slot) n && nat_le n (greatest slot)

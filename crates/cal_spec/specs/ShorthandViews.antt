@@ -1,6 +1,6 @@
 -- What contracts see of the meaning of a shorthand.
 use Rattle.std.specs.Option.{option_copied}
-use Rattle.cal_spec.specs.Shorthand.{Meaning}
+use Rattle.cal_spec.specs.headline.Shorthand.{Meaning}
 use Rattle.cal_spec.specs.declared.shorthand.Meaning as declared
 
 abbrev pub meaning_in : declared.Meaning → Meaning

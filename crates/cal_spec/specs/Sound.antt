@@ -1,45 +1,9 @@
--- Which parts and components have a meaning: systemd.time(7), Calendar Events.
-use Rattle.std.specs.Prelude.{ℕ, ◌+◌, ◌<◌, ◌≤◌, List, length, Option, None, Some}
+-- Which components have a meaning: systemd.time(7), Calendar Events.
+use Rattle.std.specs.Prelude.{◌<◌, List, length, Option, None, Some}
 use Rattle.std.specs.List.{AllByRecursion}
-use Rattle.cal_spec.specs.Slot.{least, greatest}
 use Rattle.cal_spec.specs.declared.part.Part.{Part}
 use Rattle.cal_spec.specs.declared.slot.Slot.{Slot}
-use Rattle.cal_spec.specs.declared.slot.Slot.TheVariants.{DayFromEnd}
-
--- a number of the slot
-abbrev pub IsWithin : Slot → ℕ → Type 0
-IsWithin slot n = (least slot ≤ n) × (n ≤ greatest slot)
-
-abbrev pub IsEndWithin : Slot → Option ℕ → Type 0
-IsEndWithin slot None = Unit {0}
-IsEndWithin slot (Some b) = IsWithin slot b
-
--- a range doesn't run backwards
-abbrev pub EndsAfter : ℕ → Option ℕ → Type 0
-EndsAfter a None = Unit {0}
-EndsAfter a (Some b) = a ≤ b
-
--- a repetition steps on
-abbrev pub IsStep : Option ℕ → Type 0
-IsStep None = Unit {0}
-IsStep (Some r) = 0 < r
-
--- a repetition without an end reaches a second number: upwards, or downwards for a count from the month's end
-abbrev pub IsSecondWithin : Slot → ℕ → ℕ → Type 0
-IsSecondWithin DayFromEnd a r = r < a
-IsSecondWithin slot a r = a + r ≤ greatest slot
-
-abbrev pub GoesOn : Slot → ℕ → Option ℕ → Option ℕ → Type 0
-GoesOn slot a None (Some r) = IsSecondWithin slot a r
-GoesOn slot a _ _ = Unit {0}
-
--- a part that has a meaning
-pub record IsSound (slot : Slot) (p : Part) : Type 0 where
-  pub start_in : IsWithin slot p.start
-  pub end_in : IsEndWithin slot p.end
-  pub forward : EndsAfter p.start p.end
-  pub some_step : IsStep p.step
-  pub goes_on : GoesOn slot p.start p.end p.step
+use Rattle.cal_spec.specs.headline.Sound.{IsSound}
 
 -- a component that has a meaning: `*`, or one or more such parts
 abbrev pub AreSound : Slot → Option (List Part) → Type 0

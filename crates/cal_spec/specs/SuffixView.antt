@@ -1,6 +1,6 @@
 -- What contracts see of the zone at the end of an expression.
 use Rattle.std.specs.Prelude.{string_bytes}
-use Rattle.cal_spec.specs.ZoneSuffix.{ZoneSuffix, of_name, ahead}
+use Rattle.cal_spec.specs.headline.ZoneSuffix.{ZoneSuffix, of_name, ahead}
 use Rattle.cal_spec.specs.declared.zone_suffix.ZoneSuffix as declared
 use Rattle.cal_spec.specs.declared.zone_suffix.ZoneSuffix.TheVariants.{Name, Offset}
 

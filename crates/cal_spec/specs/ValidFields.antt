@@ -1,8 +1,8 @@
 -- The fields of which expressions are made: systemd.time(7), Calendar Events.
 use Rattle.std.specs.Prelude.{◌≡◌, ◌≤◌, true, length}
 use Rattle.std.specs.List.{list_any}
-use Rattle.cal_spec.specs.Fields.{Fields, counted_parts}
-use Rattle.cal_spec.specs.Slot.{day_slot}
+use Rattle.cal_spec.specs.headline.Fields.{Fields, counted_parts}
+use Rattle.cal_spec.specs.headline.Slot.{day_slot}
 use Rattle.cal_spec.specs.Sound.{AreSound}
 use Rattle.cal_spec.specs.ZoneSuffix.{IsSuffixOption}
 use Rattle.cal_spec.specs.declared.slot.Slot.TheVariants.{Year, Month, Hour, Minute, Second}

@@ -1,29 +1,22 @@
--- The weekday list of a calendar expression: systemd.time(7), Calendar Events.
-use Rattle.std.specs.Prelude.{ℕ, ◌+◌, ◌-◌, ◌%◌, ◌==◌, nat_le, Bool, true, not, ◌&&◌, ◌||◌, if◌then◌else◌, List, [], ◌∷◌, length, map, take, drop, slice_index, Option, None, Some, is_some, Result, Ok, Err}
-use Rattle.std.specs.List.{find, list_any, list_all, position_or_len, slice_split}
+-- The weekday list of a calendar expression, computed: systemd.time(7), Calendar Events.
+use Rattle.std.specs.Prelude.{ℕ, ◌-◌, ◌==◌, Bool, true, not, ◌&&◌, ◌||◌, if◌then◌else◌, List, [], ◌∷◌, length, map, take, drop, slice_index, Option, None, Some, is_some, Result, Ok, Err}
+use Rattle.std.specs.List.{find, list_all, position_or_len, slice_split}
 use Rattle.std.specs.Option.{ok_or, option_map}
 use Rattle.std.specs.Char.{is_ascii_alphabetic}
 use Rattle.std.specs.Str.{str_eq_ignore_ascii_case}
 use Rattle.jiff_core.specs.declared.civil.weekday.Weekday.{Weekday}
-use Rattle.jiff_core.specs.Weekday.{monday_zero}
-use Rattle.cal_zone.specs.Weekday.{week, name_of, short_name_of}
+use Rattle.cal_zone.specs.headline.Weekday.{week, name_of, short_name_of}
 use Rattle.cal_spec.specs.Components.{is_comma}
 use Rattle.cal_spec.specs.Reads.{◌>>=◌}
 use Rattle.cal_spec.specs.declared.weekdays.Days.{Days}
 use Rattle.cal_spec.specs.declared.spec_fault.SpecFault.{SpecFault}
 use Rattle.cal_spec.specs.declared.spec_fault.SpecFault.TheVariants.{BadWeekday, UnknownShorthand}
+use Rattle.cal_spec.specs.headline.Weekdays.{set_of}
 
 -- the weekday with this name, or with a name that has these first three letters, in any case
 unfoldable pub day_named : List ℕ → Option Weekday
 day_named word =
     find (λ day. str_eq_ignore_ascii_case word (name_of day) || str_eq_ignore_ascii_case word (short_name_of day)) week
-
--- how many days it is from one weekday to the next other
-abbrev pub days_until : Weekday → Weekday → ℕ
-days_until day other = (monday_zero other + 7 - monday_zero day) % 7
-
-abbrev pub is_covered : Weekday → Days → Bool
-is_covered day days = nat_le (days_until days.first day) (days_until days.first days.last)
 
 abbrev pub is_no_letter : ℕ → Bool
 is_no_letter b = not (is_ascii_alphabetic b)
@@ -66,10 +59,6 @@ items_of (t ∷ ts) = ok_or (days_of t) BadWeekday >>= λ days. items_of ts >>= 
 -- one trailing comma is allowed
 abbrev pub without_comma : List ℕ → List ℕ
 without_comma word = if is_comma (slice_index word (length word - 1)) then take (length word - 1) word else word
-
--- whether each weekday is chosen, from Monday on
-abbrev pub set_of : List Days → List Bool
-set_of items = map (λ day. list_any (is_covered day) items) week
 
 -- items joined by commas
 unfoldable pub listed_days : List ℕ → Result (List Bool) SpecFault

@@ -1,26 +1,12 @@
--- The words of a calendar expression, and what each stands for: systemd.time(7), Calendar Events.
-use Rattle.std.specs.Prelude.{ℕ, ◌==◌, nat_lt, Bool, ◌||◌, if◌then◌else◌, List, [], ◌∷◌, length, filter, Option, None, Some}
-use Rattle.std.specs.List.{list_any, slice_split}
-use Rattle.cal_spec.specs.DateAndTime.{is_colon}
-use Rattle.cal_spec.specs.Shorthand.{any_date, midnight, shorthand_named, meaning_of}
+-- What each word of a calendar expression stands for, computed: systemd.time(7), Calendar Events.
+use Rattle.std.specs.Prelude.{ℕ, if◌then◌else◌, List, [], ◌∷◌, Option, None, Some}
+use Rattle.std.specs.List.{list_any}
+use Rattle.cal_spec.specs.headline.DateAndTime.{is_colon}
+use Rattle.cal_spec.specs.headline.Shorthand.{any_date, midnight, shorthand_named, meaning_of}
 use Rattle.cal_zone.specs.OffsetWord.{begins_zone}
-use Rattle.cal_zone.specs.ZoneName.{begins_with_letter}
+use Rattle.cal_zone.specs.headline.ZoneName.{begins_with_letter}
 use Rattle.cal_spec.specs.declared.shorthand.Shorthand.{Shorthand}
-
-abbrev pub is_blank : ℕ → Bool
-is_blank b = (b == 32) || (b == 9)
-
--- the pieces between blanks that aren't empty
-unfoldable pub words : List ℕ → List (List ℕ)
-words text = filter (λ word. nat_lt 0 (length word)) (slice_split is_blank text)
-
--- the texts of the weekdays, of the date and of the time, and the words after these; a missing date is the text
--- `*-*-*`, and a missing time `00:00:00`
-pub record Roles : Type 0 where
-  pub weekdays : Option (List ℕ)
-  pub date : List ℕ
-  pub time : List ℕ
-  pub rest : List (List ℕ)
+use Rattle.cal_spec.specs.headline.Words.{Roles}
 
 -- after a date, a word that begins with a letter or a sign is a zone; any other is the time
 abbrev pub after_date : Option (List ℕ) → List ℕ → List (List ℕ) → Roles

@@ -1,20 +1,10 @@
--- The zone at the end of a calendar expression, a name or a fixed offset: systemd.time(7), Calendar Events.
-use Rattle.std.specs.Prelude.{ℕ, ℤ, ◌≡◌, true, if◌then◌else◌, List, [], ◌∷◌, codes, Option, None, Some, option_map, Result, Ok, Err}
-use Rattle.std.specs.Str.{str_eq_ignore_ascii_case}
-use Rattle.cal_zone.specs.InstantText.{offset_text}
+-- The zone at the end of a calendar expression, computed from its word: systemd.time(7), Calendar Events.
+use Rattle.std.specs.Prelude.{ℕ, ℤ, ◌≡◌, true, if◌then◌else◌, List, [], ◌∷◌, Option, None, Some, option_map, Result, Ok, Err}
 use Rattle.cal_zone.specs.OffsetWord.{AreWholeMinutes, offset_in}
-use Rattle.cal_zone.specs.ZoneName.{is_zone_name}
+use Rattle.cal_zone.specs.headline.ZoneName.{is_zone_name}
 use Rattle.cal_spec.specs.declared.spec_fault.SpecFault.{SpecFault}
 use Rattle.cal_spec.specs.declared.spec_fault.SpecFault.TheVariants.{StrayWord}
-
--- a zone's name, or how many seconds its clock is ahead of UTC
-pub data ZoneSuffix : Type 0 where
-  of_name : List ℕ → ZoneSuffix
-  ahead : ℤ → ZoneSuffix
-
--- `UTC` in any case is kept as `UTC`
-abbrev pub kept_name : List ℕ → List ℕ
-kept_name word = if str_eq_ignore_ascii_case word (codes "UTC") then codes "UTC" else word
+use Rattle.cal_spec.specs.headline.ZoneSuffix.{ZoneSuffix, ahead, kept_name, of_name}
 
 -- the zone that a word is, if it is one
 unfoldable pub suffix_of : List ℕ → Option ZoneSuffix
@@ -49,8 +39,3 @@ abbrev pub offset_said : Option ZoneSuffix → Option ℤ
 offset_said None = None
 offset_said (Some (of_name name)) = None
 offset_said (Some (ahead seconds)) = Some seconds
-
--- how it is printed
-abbrev pub suffix_text : ZoneSuffix → List ℕ
-suffix_text (of_name name) = name
-suffix_text (ahead seconds) = offset_text seconds

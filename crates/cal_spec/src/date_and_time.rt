@@ -7,7 +7,7 @@ ghost use Rattle.cal_spec.specs.Components.{most_counted};
 ghost use Rattle.cal_spec.specs.DateAndTime.{is_date_sign, date_texts, time_texts, date_of, time_of, date_fields, time_fields, room_after};
 ghost use Rattle.cal_spec.specs.DateAndTimeViews.{date_in, time_in, date_texts_in, time_texts_in};
 ghost use Rattle.cal_spec.specs.Reads.{GivesUnlessNoMemory};
-ghost use Rattle.cal_spec.specs.Slot.{day_slot};
+ghost use Rattle.cal_spec.specs.headline.Slot.{day_slot};
 
 use crate::SpecFault;
 use crate::components::{count_parts, read_component};

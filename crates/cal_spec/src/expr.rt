@@ -2,7 +2,8 @@
 
 ghost use Rattle.std.specs.Prelude.{◌≡◌, ◌<◌, ◌≤ℤ◌, ◌<ℤ◌, pos, unsigned_abs, option_copied, option_map, IfSome};
 ghost use Rattle.jiff.specs.Words.{IsOffsetSeconds};
-ghost use Rattle.cal_spec.specs.NormalForm.{AreParts, normal_component, normal_from_end, normal_second};
+ghost use Rattle.cal_spec.specs.NormalForm.{AreParts, normal_component, normal_second};
+ghost use Rattle.cal_spec.specs.headline.NormalForm.{normal_from_end};
 
 use crate::fields::{DateFields, Fields, TimeFields};
 use crate::matching::{day_slot, has_local};
@@ -22,7 +23,8 @@ pub struct Expr {
 }
 
 impl Model for Expr {
-    ghost use Rattle.cal_spec.specs.Fields.{Fields, fields_of};
+    ghost use Rattle.cal_spec.specs.Fields.{fields_of};
+    ghost use Rattle.cal_spec.specs.headline.Fields.{Fields};
     ghost use Rattle.cal_spec.specs.Expr.{IsExpr};
 
     ghost Value = { Fields };
@@ -33,11 +35,12 @@ impl Model for Expr {
 }
 
 impl Expr {
-    ghost use Rattle.cal_zone.specs.Local.{seconds_in_all};
+    ghost use Rattle.cal_zone.specs.headline.Local.{seconds_in_all};
     ghost use Rattle.cal_spec.specs.Expr.{IsExpr, component};
     ghost use Rattle.cal_spec.specs.Fields.{fields_of};
-    ghost use Rattle.cal_spec.specs.Match.{matches};
-    ghost use Rattle.cal_spec.specs.Members.{members_of, sets_of};
+    ghost use Rattle.cal_spec.specs.headline.Match.{matches};
+    ghost use Rattle.cal_spec.specs.Members.{members_of};
+    ghost use Rattle.cal_spec.specs.headline.Members.{sets_of};
     ghost use Rattle.cal_spec.specs.NormalForm.{normal_fields};
     ghost use Rattle.cal_spec.specs.SuffixView.{shown_suffix};
     ghost use Rattle.cal_spec.specs.ValidFields.{IsValidFields};
@@ -76,7 +79,7 @@ impl Expr {
 
     /// Whether a number is a member of a field: of the day, whether it is a day of the month, or its count from the
     /// month's end where the days are such counts.
-    #[tactic(auto, unfolding(crate::specs::Fields::fields_of, crate::specs::Members::sets_of))]
+    #[tactic(auto, unfolding(crate::specs::Fields::fields_of, crate::specs::headline::Members::sets_of))]
     pub fn has_member(&self, field: Field, value: u16) -> bool
         ensures { result ≡ members_of field (sets_of self.now) value }
     {

@@ -2,11 +2,12 @@
 
 ghost use Rattle.std.specs.Prelude.{◌≡◌, ◌≤◌, [], ◌∷◌, codes, drop, false, is_err, option_copied, option_map};
 ghost use Rattle.std.specs.List.{flat_map};
-ghost use Rattle.cal_bytes.specs.Bytes.{Writes, joined};
-ghost use Rattle.cal_zone.specs.InstantText.{offset_text};
+ghost use Rattle.cal_bytes.specs.Bytes.{Writes};
+ghost use Rattle.cal_bytes.specs.headline.Bytes.{joined};
+ghost use Rattle.cal_zone.specs.headline.InstantText.{offset_text};
 ghost use Rattle.cal_spec.specs.Expr.{component};
 ghost use Rattle.cal_spec.specs.SuffixView.{shown_suffix};
-ghost use Rattle.cal_spec.specs.ExprText.{component_text, day_lead, expr_text, fields_text, number_text, optional_text, part_text, parts_text, row_text, zone_text};
+ghost use Rattle.cal_spec.specs.headline.ExprText.{component_text, day_lead, expr_text, fields_text, number_text, optional_text, part_text, parts_text, row_text, zone_text};
 
 use crate::weekday_runs::put_weekdays;
 use crate::zone_suffix::ZoneSuffix;
@@ -39,7 +40,7 @@ pub fn write_expr<W: Sink>(out: &mut W, expr: &Expr) -> Result<(), WriteFault>
 }
 
 /// The components in the order in which they are printed.
-#[tactic(auto, unfolding(crate::specs::ExprText::fields_text))]
+#[tactic(auto, unfolding(crate::specs::headline::ExprText::fields_text))]
 fn rows(expr: &Expr) -> [Row<'_>; 6]
     ensures { flat_map (λ row. row_text row.lead.now row.width (option_copied row.parts)) result
         ≡ fields_text expr.now }
@@ -153,7 +154,7 @@ fn put_optional<W: Sink>(
 }
 
 /// Writes a number in at least that many digits, with what leads up to it in front.
-#[tactic(auto, unfolding(crate::specs::ExprText::number_text))]
+#[tactic(auto, unfolding(crate::specs::headline::ExprText::number_text))]
 fn put_number<W: Sink>(
     out: &mut W,
     lead: &[u8],

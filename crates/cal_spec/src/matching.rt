@@ -2,11 +2,11 @@
 
 ghost use Rattle.std.specs.Prelude.{◌≡◌, ◌<◌, ◌≤◌, false, length, slice_index_or};
 ghost use Rattle.jiff.specs.Words.{monday_zero};
-ghost use Rattle.cal_zone.specs.Local.{seconds_in_all};
+ghost use Rattle.cal_zone.specs.headline.Local.{seconds_in_all};
 ghost use Rattle.cal_spec.specs.Fields.{fields_of};
-ghost use Rattle.cal_spec.specs.Match.{date_in, day_number, matches, time_in};
-ghost use Rattle.cal_spec.specs.Members.{sets_of};
-ghost use Rattle.cal_spec.specs.Slot.{day_slot};
+ghost use Rattle.cal_spec.specs.headline.Match.{date_in, day_number, matches, time_in};
+ghost use Rattle.cal_spec.specs.headline.Members.{sets_of};
+ghost use Rattle.cal_spec.specs.headline.Slot.{day_slot};
 
 use crate::fields::{Fields, TimeFields};
 use crate::members::component_has;
@@ -15,7 +15,7 @@ use cal_zone::{DAY, date_of_day};
 use jiff::civil::{Date, Weekday};
 
 /// Whether a local second of the years 1970 to 2199 matches: whether its weekday, date and time all do.
-#[tactic(auto, unfolding(crate::specs::Match::matches))]
+#[tactic(auto, unfolding(crate::specs::headline::Match::matches))]
 pub fn has_local(fields: &Fields, local: u64) -> bool
     requires { local < seconds_in_all }
     ensures { result ≡ matches (sets_of (fields_of fields.now)) local }
@@ -24,7 +24,7 @@ pub fn has_local(fields: &Fields, local: u64) -> bool
 }
 
 /// Whether the date is one of the expression's.
-#[tactic(auto, unfolding(crate::specs::Match::date_in, crate::specs::Members::sets_of, crate::specs::Fields::fields_of))]
+#[tactic(auto, unfolding(crate::specs::headline::Match::date_in, crate::specs::headline::Members::sets_of, crate::specs::Fields::fields_of))]
 fn has_date(fields: &Fields, date: Date) -> bool
     ensures { result ≡ date_in (sets_of (fields_of fields.now)) date }
 {
@@ -46,7 +46,7 @@ fn has_weekday(weekdays: &[bool; 7], weekday: Weekday) -> bool
 }
 
 /// Whether that many seconds after midnight are a time of the expression's.
-#[tactic(auto, unfolding(crate::specs::Match::time_in, crate::specs::Members::sets_of, crate::specs::Fields::fields_of))]
+#[tactic(auto, unfolding(crate::specs::headline::Match::time_in, crate::specs::headline::Members::sets_of, crate::specs::Fields::fields_of))]
 fn has_time(fields: &Fields, second: u64) -> bool
     requires { second < 86_400 }
     ensures { result ≡ time_in (sets_of (fields_of fields.now)) second }

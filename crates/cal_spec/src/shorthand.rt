@@ -3,7 +3,7 @@
 ghost use Rattle.std.specs.Prelude.{◌≡◌, map};
 ghost use Rattle.std.specs.List.{find, list_any};
 ghost use Rattle.std.specs.Str.{str_eq_ignore_ascii_case};
-ghost use Rattle.cal_spec.specs.Shorthand.{dates, times, names_of, meaning_of, shorthand_named};
+ghost use Rattle.cal_spec.specs.headline.Shorthand.{dates, times, names_of, meaning_of, shorthand_named};
 ghost use Rattle.cal_spec.specs.ShorthandViews.{meaning_in};
 
 use crate::same_word::is_same_word;
@@ -91,7 +91,7 @@ impl Shorthand {
 }
 
 /// The shorthand with this name, in any case.
-#[tactic(auto, unfolding(crate::specs::Shorthand::shorthand_named))]
+#[tactic(auto, unfolding(crate::specs::headline::Shorthand::shorthand_named))]
 pub(crate) fn find_shorthand(word: &[u8]) -> Option<Shorthand>
     ensures { result ≡ shorthand_named word.now }
 {

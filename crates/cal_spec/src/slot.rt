@@ -1,7 +1,7 @@
 //! Where a number of a calendar expression is, and the numbers that are allowed there.
 
 ghost use Rattle.std.specs.Prelude.{◌≡◌, ◌≤◌};
-ghost use Rattle.cal_spec.specs.Slot.{least, greatest};
+ghost use Rattle.cal_spec.specs.headline.Slot.{least, greatest};
 
 /// Where a number is. A count from the month's end has bounds of its own.
 #[derive(Clone, Copy, PartialEq, Eq, Debug)]

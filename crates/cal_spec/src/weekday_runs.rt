@@ -2,8 +2,9 @@
 
 ghost use Rattle.std.specs.Prelude.{◌≡◌, ◌+◌, ◌<◌, ◌≤◌, [], ◌∷◌, codes, drop, false, is_err, length};
 ghost use Rattle.std.specs.List.{list_all, prefix_len};
-ghost use Rattle.cal_bytes.specs.Bytes.{Writes, joined};
-ghost use Rattle.cal_spec.specs.WeekdayRuns.{day_name, run_text, runs_from, runs_text, weekdays_text};
+ghost use Rattle.cal_bytes.specs.Bytes.{Writes};
+ghost use Rattle.cal_bytes.specs.headline.Bytes.{joined};
+ghost use Rattle.cal_spec.specs.headline.WeekdayRuns.{day_name, run_text, runs_from, runs_text, weekdays_text};
 
 use cal_bytes::{Sink, WriteFault, put_all, put_pieces};
 use cal_zone::{WEEK, short_weekday_name};

@@ -3,9 +3,10 @@
 ghost use Rattle.std.specs.Prelude.{◌≡◌, ◌∷◌, [], MatchOption};
 ghost use Rattle.std.specs.List.{list_any, position};
 ghost use Rattle.std.specs.Option.{option_copied, option_map, unwrap_or};
-ghost use Rattle.cal_spec.specs.DateAndTime.{is_colon};
+ghost use Rattle.cal_spec.specs.headline.DateAndTime.{is_colon};
 ghost use Rattle.cal_spec.specs.RolesView.{shown_roles};
-ghost use Rattle.cal_spec.specs.Words.{is_blank, words, after_date, after_weekdays, date_or_time, roles_of};
+ghost use Rattle.cal_spec.specs.Words.{after_date, after_weekdays, date_or_time, roles_of};
+ghost use Rattle.cal_spec.specs.headline.Words.{is_blank, words};
 
 use crate::pieces::cut_at;
 use crate::shorthand::{ANY_DATE, MIDNIGHT, find_shorthand};

@@ -4,9 +4,10 @@ ghost use Rattle.std.specs.Prelude.{◌≡◌, IsTrue};
 ghost use Rattle.std.specs.Option.{option_map};
 ghost use Rattle.cal_spec.specs.Reads.{GivesUnlessNoMemory};
 ghost use Rattle.cal_spec.specs.SuffixView.{shown_suffix};
-ghost use Rattle.cal_spec.specs.Words.{words};
-ghost use Rattle.cal_zone.specs.ZoneName.{is_zone_name};
-ghost use Rattle.cal_spec.specs.ZoneSuffix.{kept_name, suffix_in};
+ghost use Rattle.cal_spec.specs.headline.Words.{words};
+ghost use Rattle.cal_zone.specs.headline.ZoneName.{is_zone_name};
+ghost use Rattle.cal_spec.specs.ZoneSuffix.{suffix_in};
+ghost use Rattle.cal_spec.specs.headline.ZoneSuffix.{kept_name};
 
 use crate::SpecFault;
 use crate::same_word::is_same_word;

@@ -6,7 +6,7 @@ use Rattle.std.proofs.lemmas.Bool.{false≢true}
 use Rattle.cal_bytes.specs.Bytes.{AppendsFront, Writes}
 use Rattle.cal_bytes.specs.Output.{Settles}
 use Rattle.cal_work.specs.Outcome.{World, outcome, out_text, err_text, outcome_status, ended_status}
-use Rattle.cal_report.specs.Report.{Report}
+use Rattle.cal_report.specs.headline.Report.{Report}
 use Rattle.cal_work.specs.Stop.{Stop, exit_status, fault_stop, outlet_of, shown_stop, text_of}
 use Rattle.cal_work.specs.System.{Known}
 use Rattle.cal_work.specs.WorkSteps.{StopsAs, StopEnds, EndsAs, AnsweredWords, IsSettled, TellsOn, TellsStop, status_by, WritesOf}

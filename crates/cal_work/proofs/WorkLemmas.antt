@@ -12,11 +12,11 @@ use Rattle.jiff.specs.Types.{TimeZone}
 use Rattle.jiff.specs.Words.{read_whole as rule_read}
 use Rattle.cal_bytes.specs.Bytes.{AppendsFront, Writes}
 use Rattle.cal_bytes.specs.Whole.{GivesAll, CameBeyond, is_read_failed}
-use Rattle.cal_zone.specs.Zone.{is_utc, utc, zone_of}
+use Rattle.cal_zone.specs.headline.Zone.{is_utc, utc, zone_of}
 use Rattle.cal_zone.specs.ZoneFile.{file_limit}
-use Rattle.cal_zone.specs.ZoneMap.{ZoneMap}
-use Rattle.cal_zone.specs.ZoneName.{is_utc_name, is_zone_name}
-use Rattle.cal_zone.specs.ZoneTable.{zone_named}
+use Rattle.cal_zone.specs.headline.ZoneMap.{ZoneMap}
+use Rattle.cal_zone.specs.headline.ZoneName.{is_utc_name, is_zone_name}
+use Rattle.cal_zone.specs.headline.ZoneTable.{zone_named}
 use Rattle.cal_bytes.specs.declared.whole.WholeFault.{WholeFault}
 use Rattle.cal_bytes.specs.declared.whole.WholeFault.TheVariants as whole
 use Rattle.cal_zone.specs.declared.zone.Zone.{Zone as ClockZone}
@@ -28,8 +28,10 @@ use Rattle.cal_command.specs.Ask.{Ask, CommandFault, LocalZone, in_utc, ahead, b
 use Rattle.cal_command.specs.CommandLine.{IsAskOf}
 use Rattle.cal_work.specs.LoadZone.{IsLoaded, IsLoadFault, is_load_unread}
 use Rattle.cal_work.specs.Outcome.{World, ZoneFound, and_then, loaded, or_load_stop, table_by, local_by, clock_by, present_by, input_if, run_by, asked_at, outcome, outcome_of, out_text, err_text, outcome_status, ended_status}
-use Rattle.cal_report.specs.Report.{ByReading, IsReported, ReadsIf, Report, base_in, file_name, reads_input, report, report_from}
-use Rattle.cal_request.specs.Request.{Request, is_timer}
+use Rattle.cal_report.specs.Report.{ByReading, IsReported, ReadsIf, base_in, file_name, reads_input, report, report_from}
+use Rattle.cal_report.specs.headline.Report.{Report}
+use Rattle.cal_request.specs.Request.{is_timer}
+use Rattle.cal_request.specs.headline.Request.{Request}
 use Rattle.cal_work.specs.Stop.{Stop, command_stop, exit_status, load_stop, name_stop, rule_stop, shown_stop, unread_stop, memory_stop, is_for_memory, is_out_stop, is_err_stop}
 use Rattle.cal_work.specs.System.{Known, Seen, Opens, IsTime, Comes, SeesBytes, Sees}
 use Rattle.cal_work.specs.WorkSteps.{StopsAs, Answers, Loads, ReadsZones, FindsLocal, IsUnread, Presents, StopEnds, EndsAs, Runs, Answered, AnsweredWords, ran}

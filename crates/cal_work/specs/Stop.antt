@@ -1,6 +1,6 @@
 -- What the program says where it stops before all is done, and its status.
 use Rattle.std.specs.Prelude.{ℕ, Bool, true, false, List, [], ◌∷◌, string_bytes, codes}
-use Rattle.cal_bytes.specs.Bytes.{joined}
+use Rattle.cal_bytes.specs.headline.Bytes.{joined}
 use Rattle.cal_zone.specs.declared.zone_fault.ZoneFault.{ZoneFault}
 use Rattle.cal_zone.specs.declared.zone_fault.ZoneFault.TheVariants as zone
 use Rattle.cal_command.specs.Ask.{CommandFault, usage, help, bad_iterations, bad_now, bad_zones, bad_local, no_memory, shown_fault}

@@ -7,7 +7,7 @@ use Rattle.cal_bytes.specs.declared.whole.WholeFault.TheVariants.{TooLarge}
 use Rattle.cal_read.specs.TimerText.{most_file_bytes}
 use Rattle.cal_command.specs.Ask.{Ask, CommandFault, ZoneItem}
 use Rattle.cal_work.specs.Outcome.{World, ZoneFound, outcome}
-use Rattle.cal_report.specs.Report.{Report}
+use Rattle.cal_report.specs.headline.Report.{Report}
 use Rattle.cal_work.specs.Stop.{Stop, command_stop, memory_stop}
 use Rattle.cal_work.specs.System.{Known, Seen}
 

@@ -3,7 +3,7 @@ use Rattle.std.specs.Prelude.{false, [], None, Some, Ok, pos}
 use Rattle.cal_command.specs.WorkedWords.{daily_ask}
 use Rattle.cal_work.specs.Outcome.{World}
 use Rattle.cal_work.specs.System.{Known}
-use Rattle.cal_zone.specs.Zone.{utc}
+use Rattle.cal_zone.specs.headline.Zone.{utc}
 
 abbrev pub bare_system : Known
 bare_system = record { file = λ path. Some None; may_fail = λ path. false; time = Some (Some (pos 0)) }

@@ -7,11 +7,11 @@ use Rattle.jiff.specs.Placed.{IsPosixZone}
 use Rattle.jiff.specs.Types.{TimeZone, Offset}
 use Rattle.jiff.specs.Words.{fixed_zone, read_whole as rule_read}
 use Rattle.cal_bytes.specs.Bytes.{AppendsFront, Writes}
-use Rattle.cal_zone.specs.Zone.{is_utc, utc, zone_of}
+use Rattle.cal_zone.specs.headline.Zone.{is_utc, utc, zone_of}
 use Rattle.cal_zone.specs.ZoneFile.{file_limit, IsFileFault, IsFileZone}
-use Rattle.cal_zone.specs.ZoneMap.{ZoneMap}
-use Rattle.cal_zone.specs.ZoneName.{is_utc_name, is_zone_name}
-use Rattle.cal_zone.specs.ZoneTable.{zone_named}
+use Rattle.cal_zone.specs.headline.ZoneMap.{ZoneMap}
+use Rattle.cal_zone.specs.headline.ZoneName.{is_utc_name, is_zone_name}
+use Rattle.cal_zone.specs.headline.ZoneTable.{zone_named}
 use Rattle.cal_bytes.specs.declared.whole.WholeFault.{WholeFault}
 use Rattle.cal_zone.specs.declared.zone.Zone.{Zone as ClockZone}
 use Rattle.cal_zone.specs.declared.zone_fault.ZoneFault.TheVariants.{BadFile}
@@ -20,7 +20,8 @@ use Rattle.cal_command.specs.Ask.{Ask, LocalZone, in_utc, ahead, by_rule, of_nam
 use Rattle.cal_command.specs.CommandLine.{IsAskOf}
 use Rattle.cal_work.specs.Outcome.{World, ZoneFound, loaded, table_by, local_by, present_by, asked_at, outcome, out_text, err_text, ended_status}
 use Rattle.cal_report.specs.Report.{file_name}
-use Rattle.cal_request.specs.Request.{Request, is_timer}
+use Rattle.cal_request.specs.Request.{is_timer}
+use Rattle.cal_request.specs.headline.Request.{Request}
 use Rattle.cal_work.specs.Stop.{Stop, fault_stop}
 use Rattle.cal_work.specs.System.{Known, Seen, Sees, IsTime}
 use Rattle.cal_request.specs.declared.request.RunFault.{RunFault}

@@ -9,7 +9,7 @@ ghost use Rattle.cal_bytes.specs.Bytes.{Writes};
 ghost use Rattle.cal_command.specs.Ask.{shown_local, texts_of, shown_ask, shown_item};
 ghost use Rattle.cal_command.specs.LocalZone.{IsLocalOffset};
 ghost use Rattle.cal_work.specs.Outcome.{instant_in};
-ghost use Rattle.cal_report.specs.Report.{Report};
+ghost use Rattle.cal_report.specs.headline.Report.{Report};
 ghost use Rattle.cal_request.specs.Request.{IsCount, asked, is_timer, seeks_elapses};
 ghost use Rattle.cal_request.specs.RunFault.{is_out_failed, is_err_failed};
 ghost use Rattle.cal_work.specs.Stop as stops;

@@ -5,12 +5,13 @@ use Rattle.jiff.specs.Words.{civil_nanos, epoch_day, nanos_of_seconds, offset_at
 use Rattle.jiff_core.specs.Time.{time_seconds}
 use Rattle.jiff_core.proofs.CalendarLemmas.{days_in_month_bounds, weekday_number_bound}
 use Rattle.jiff.proofs.SpanFacts.{signed_arith}
-use Rattle.cal_zone.specs.Civil.{civil_of, shown_at, IsCivil}
-use Rattle.cal_zone.specs.Days.{date_of}
+use Rattle.cal_zone.specs.Civil.{shown_at, IsCivil}
+use Rattle.cal_zone.specs.headline.Civil.{civil_of}
+use Rattle.cal_zone.specs.headline.Days.{date_of}
 use Rattle.cal_zone.proofs.DayLemmas.{date_of-epoch_day}
-use Rattle.cal_zone.specs.Local.{civil_date, day_of, second_of_day, hour_of, minute_of, second_of}
+use Rattle.cal_zone.specs.headline.Local.{civil_date, day_of, second_of_day, hour_of, minute_of, second_of}
 use Rattle.cal_zone.specs.Instant.{IsInstant}
-use Rattle.cal_zone.specs.Zone.{local_of}
+use Rattle.cal_zone.specs.headline.Zone.{local_of}
 use Rattle.cal_zone.proofs.YearLemmas.{year-from_1969, year-to_2200}
 use Rattle.cal_zone.proofs.ZoneLemmas.{offset_at-in_range}
 

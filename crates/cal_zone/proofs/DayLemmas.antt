@@ -5,8 +5,8 @@ use Rattle.jiff.proofs.SpanFacts.{signed_arith}
 use Rattle.jiff.proofs.Family.{epoch_day_range, same_date}
 use Rattle.jiff.specs.Types.{Date}
 use Rattle.jiff.specs.Words.{epoch_day, IsEpochDay}
-use Rattle.cal_zone.specs.DayAfter.{dated, place_among}
-use Rattle.cal_zone.specs.Days.{date_of}
+use Rattle.cal_zone.specs.headline.DayAfter.{dated, place_among}
+use Rattle.cal_zone.specs.headline.Days.{date_of}
 
 place_among-within : (z : ℤ) → pos 0 ≤ℤ z → z ≤ℤ pos 7_304_483 → pos (place_among z) ≡ z
 unfolding place_among

@@ -5,10 +5,10 @@ use Rattle.std.specs.Int.Signed.{pos-nat_abs, yes_non_neg}
 use Rattle.std.specs.Prelude.{unsigned_abs}
 use Rattle.jiff.proofs.SpanFacts.{signed_arith}
 use Rattle.jiff.specs.Types.{TimeZone}
-use Rattle.cal_zone.specs.Local.{seconds_in_all-is}
+use Rattle.cal_zone.specs.headline.Local.{seconds_in_all-is}
 use Rattle.cal_zone.specs.LocalAt.{IsLocalAt}
-use Rattle.cal_zone.specs.Place.{place_of}
-use Rattle.cal_zone.specs.Zone.{local_of}
+use Rattle.cal_zone.specs.headline.Place.{place_of}
+use Rattle.cal_zone.specs.headline.Zone.{local_of}
 use Rattle.cal_zone.proofs.PlaceLemmas.{place_of-Some}
 
 -- where that is none of 1970 to 2199

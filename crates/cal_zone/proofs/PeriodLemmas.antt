@@ -20,10 +20,10 @@ use Rattle.jiff_tz.specs.PosixRule as ByPosix
 use Rattle.jiff_tz.specs.Tzif as OfTable
 use Rattle.jiff_tz.specs.Tzif.{count_at, rule_after, transition_at, type_after}
 use Rattle.jiff_tz.proofs.TzifLemmas.{le_no, le_yes}
-use Rattle.cal_zone.specs.Days.{date_of}
-use Rattle.cal_zone.specs.Local.{day_of}
+use Rattle.cal_zone.specs.headline.Days.{date_of}
+use Rattle.cal_zone.specs.headline.Local.{day_of}
 use Rattle.cal_zone.specs.Period.{IsPeriodAt, IsUnchanged}
-use Rattle.cal_zone.specs.Place.{datetime_of}
+use Rattle.cal_zone.specs.headline.Place.{datetime_of}
 use Rattle.cal_zone.specs.Steady.{IsEvenUntil, year_end}
 use Rattle.cal_zone.specs.declared.period.Period.{Period}
 use Rattle.cal_zone.proofs.DayLemmas.{epoch_day-date_of}

@@ -10,7 +10,7 @@ use Rattle.cal_zone.specs.declared.rules.Rules.{Rules}
 use Rattle.cal_zone.specs.declared.zone.Ahead.{Ahead}
 use Rattle.cal_zone.specs.declared.zone.ZoneKind.TheVariants.{Utc, Offset as AtOffset, Rules as ByRules}
 use Rattle.cal_zone.specs.declared.zone.Zone.{Zone}
-use Rattle.cal_zone.specs.Zone.{offset_of, zone_of, zone_of_kind}
+use Rattle.cal_zone.specs.headline.Zone.{offset_of, zone_of, zone_of_kind}
 use Rattle.cal_zone.proofs.OffsetLemmas.{same_offset}
 
 pub zone_of-utc : (zone : Zone) → zone.kind ≡ Utc → zone_of zone ≡ UTC

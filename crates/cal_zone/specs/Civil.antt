@@ -1,25 +1,10 @@
--- What a clock in a zone shows at an instant.
+-- Civil times of a day.
 use Rattle.std.specs.Prelude.{ℕ, ◌+◌, ◌≤◌, ℤ, pos}
 use Rattle.std.specs.Int.{IsInRange}
-use Rattle.jiff.specs.Types.{Date, DateTime, TimeZone}
-use Rattle.jiff.specs.Words.{nanos_of_seconds, offset_at, weekday_of, IsBetween, IsOffsetSeconds}
+use Rattle.jiff.specs.Types.{DateTime}
+use Rattle.jiff.specs.Words.{weekday_of, IsBetween, IsOffsetSeconds}
 use Rattle.cal_zone.specs.declared.civil_fields.Civil.{Civil}
-use Rattle.cal_zone.specs.Days.{date_of}
-use Rattle.cal_zone.specs.Local.{day_of, second_of_day, hour_of, minute_of, second_of}
-use Rattle.cal_zone.specs.Zone.{local_of}
-
--- the fields of a date, a second after its midnight and an offset; Monday is weekday 1
-abbrev pub fields_of : Date → ℕ → ℤ → Civil
-fields_of date second offset = record {
-  year = date.year;
-  month = date.month;
-  day = date.day;
-  weekday = weekday_of date + 1;
-  hour = hour_of second;
-  minute = minute_of second;
-  second = second_of second;
-  offset = offset;
-}
+use Rattle.cal_zone.specs.headline.Local.{hour_of, minute_of, second_of}
 
 -- the fields of a date with a time of day, at an offset
 abbrev pub shown_at : ℤ → DateTime → Civil
@@ -33,12 +18,6 @@ shown_at offset shown = record {
   second = shown.time.second;
   offset = offset;
 }
-
--- the civil time at a second of Unix time
-unfoldable pub civil_of : TimeZone → ℤ → Civil
-civil_of tz second =
-    let local = local_of tz second in
-    fields_of (date_of (day_of local)) (second_of_day local) (offset_at tz (nanos_of_seconds second))
 
 -- the ranges of what is shown at an instant
 pub record IsCivil (shown : Civil) : Type 0 where

@@ -1,64 +1,9 @@
--- How an instant is printed: `Sat 2020-02-29 00:00:00 UTC`, as systemd.time(7) shows timestamps.
-use Rattle.std.specs.Prelude.{ℕ, ◌-◌, ◌/◌, ◌%◌, ◌==◌, if◌then◌else◌, Bool, ℤ, pos, int_lt, unsigned_abs, List, [], ◌∷◌, ◌++◌, length, codes, decimal, replicate, slice_index_or}
-use Rattle.jiff_core.specs.declared.civil.weekday.Weekday.TheVariants.{Sunday}
-use Rattle.cal_bytes.specs.Bytes.{joined}
-use Rattle.cal_zone.specs.Civil.{civil_of}
-use Rattle.cal_zone.specs.Weekday.{week, short_name_of}
-use Rattle.cal_zone.specs.Zone.{is_utc, zone_of}
+-- The day in the text of an instant.
+use Rattle.std.specs.Prelude.{ℕ, List, [], ◌∷◌, codes}
+use Rattle.cal_bytes.specs.headline.Bytes.{joined}
 use Rattle.cal_zone.specs.declared.civil_fields.Civil.{Civil}
-use Rattle.cal_zone.specs.declared.zone.Zone.{Zone}
-
--- the zeros in front of a number that is printed in at least that many digits
-abbrev pub zeros : ℕ → ℕ → List ℕ
-zeros width n = replicate (width - length (decimal n)) 48
-
--- the short English name of a weekday, Monday being 1
-unfoldable pub weekday_name : ℕ → List ℕ
-weekday_name n = short_name_of (slice_index_or week (n - 1) Sunday)
-
--- `2020-02-29`: four digits of the year, two of the month and of the day
-unfoldable pub date_text : Civil → List ℕ
-date_text c =
-    let year = unsigned_abs c.year in
-    joined (zeros 4 year ∷ decimal year ∷ codes "-" ∷ zeros 2 c.month ∷ decimal c.month ∷ codes "-" ∷ zeros 2 c.day ∷ decimal c.day ∷ [])
-
--- `00:00:00`: two digits each of hour, minute and second
-unfoldable pub time_text : ℕ → ℕ → ℕ → List ℕ
-time_text hour minute second =
-    joined (zeros 2 hour ∷ decimal hour ∷ codes ":" ∷ zeros 2 minute ∷ decimal minute ∷ codes ":" ∷ zeros 2 second ∷ decimal second ∷ [])
-
--- `-` for a clock after UTC, and else `+`
-abbrev pub sign_text : ℤ → List ℕ
-sign_text offset = if int_lt offset (pos 0) then codes "-" else codes "+"
-
--- `+02:00`: the hours and the minutes
-abbrev pub minutes_pieces : ℤ → List (List ℕ)
-minutes_pieces offset =
-    let ahead = unsigned_abs offset in
-    sign_text offset ∷ zeros 2 (ahead / 3_600) ∷ decimal (ahead / 3_600) ∷ codes ":" ∷ zeros 2 (ahead / 60 % 60) ∷ decimal (ahead / 60 % 60) ∷ []
-
--- how far a clock is ahead of UTC: `+02:00`, and `+00:53:28` where the seconds aren't 0
-unfoldable pub offset_text : ℤ → List ℕ
-offset_text offset =
-    let second = unsigned_abs offset % 60 in
-    if second == 0 then joined (minutes_pieces offset)
-    else joined (minutes_pieces offset ++ (codes ":" ∷ zeros 2 second ∷ decimal second ∷ []))
-
--- the word of a zone after a time: `UTC` for UTC itself, and else how far its clock is ahead
-unfoldable pub zone_word : Bool → ℤ → List ℕ
-zone_word is_utc offset = if is_utc then codes "UTC" else offset_text offset
+use Rattle.cal_zone.specs.headline.InstantText.{date_text, weekday_name}
 
 -- the day that a clock shows: weekday and date, each with a space after it
 unfoldable pub day_text : Civil → List ℕ
 day_text c = joined (weekday_name c.weekday ∷ codes " " ∷ date_text c ∷ codes " " ∷ [])
-
--- what a clock shows: weekday, date and time, each with a space after it
-unfoldable pub shown_text : Civil → List ℕ
-shown_text c =
-    joined (weekday_name c.weekday ∷ codes " " ∷ date_text c ∷ codes " " ∷ time_text c.hour c.minute c.second ∷ codes " " ∷ [])
-
--- the instant as the zone's clock shows it
-unfoldable pub instant_text : Zone → ℤ → List ℕ
-instant_text zone second =
-    let shown = civil_of (zone_of zone) second in
-    shown_text shown ++ zone_word (is_utc zone) shown.offset

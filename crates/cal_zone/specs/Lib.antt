@@ -1,6 +1,4 @@
 pub mod Civil
-pub mod DayAfter
-pub mod Days
 pub mod Instant
 pub mod InstantText
 pub mod Local
@@ -11,11 +9,8 @@ pub mod Place
 pub mod Rules
 pub mod ShownDay
 pub mod Steady
-pub mod Weekday
-pub mod Zone
-pub mod ZoneAhead
 pub mod ZoneFault
 pub mod ZoneFile
 pub mod ZoneMap
-pub mod ZoneName
 pub mod ZoneTable
+pub mod headline

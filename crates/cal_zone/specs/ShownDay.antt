@@ -1,9 +1,9 @@
 -- Days as a zone's clock shows them.
 use Rattle.std.specs.Prelude.{◌≡◌, ℕ, ℤ, pos, ◌-ℤ◌, ◌≤ℤ◌, ◌<ℤ◌, ◌≤◌, unsigned_abs, length, List, [], ◌∷◌}
 use Rattle.jiff.specs.Words.{IsBetween}
-use Rattle.cal_bytes.specs.Bytes.{joined}
-use Rattle.cal_zone.specs.InstantText.{instant_text, time_text}
-use Rattle.cal_zone.specs.Local.{hour_of, minute_of, second_of}
+use Rattle.cal_bytes.specs.headline.Bytes.{joined}
+use Rattle.cal_zone.specs.headline.InstantText.{instant_text, time_text}
+use Rattle.cal_zone.specs.headline.Local.{hour_of, minute_of, second_of}
 use Rattle.cal_zone.specs.declared.shown_day.ShownDay.{ShownDay}
 use Rattle.cal_zone.specs.declared.zone.Zone.{Zone}
 

@@ -1,15 +1,10 @@
--- What a zone table answers: this project's own rule, where systemd.time(7) has the zones of the machine.
-use Rattle.std.specs.Prelude.{◌≡◌, ℕ, Bool, true, false, List, Option, Some, is_some, if◌then◌else◌}
-use Rattle.std.specs.FinMap.{get}
-use Rattle.jiff.specs.Types.{TimeZone, UTC}
-use Rattle.cal_zone.specs.ZoneMap.{ZoneMap}
-use Rattle.cal_zone.specs.ZoneName.{is_utc_name, is_zone_name}
+-- What a zone table has, and what can be added to it.
+use Rattle.std.specs.Prelude.{◌≡◌, ℕ, Bool, true, false, List, is_some}
+use Rattle.cal_zone.specs.headline.ZoneMap.{ZoneMap}
+use Rattle.cal_zone.specs.headline.ZoneName.{is_zone_name}
 use Rattle.cal_zone.specs.declared.zone_fault.ZoneFault.{ZoneFault}
 use Rattle.cal_zone.specs.declared.zone_fault.ZoneFault.TheVariants.{BadName, BadRule, BadFile, TooLarge, NoMemory, NameTaken}
-
--- the zone of a name: UTC for `UTC` in any case, and else what the map has at exactly that name
-unfoldable pub zone_named : ZoneMap → List ℕ → Option TimeZone
-zone_named table name = if is_utc_name name then Some UTC else get table name
+use Rattle.cal_zone.specs.headline.ZoneTable.{zone_named}
 
 -- the table has a zone of that name
 abbrev pub is_taken : ZoneMap → List ℕ → Bool

@@ -2,9 +2,10 @@
 ghost use Rattle.std.specs.Prelude.{◌≡◌, ◌<◌};
 ghost use Rattle.jiff.specs.Types.{TimeZone};
 ghost use Rattle.jiff.specs.Words.{nanos_of_seconds, offset_at};
-ghost use Rattle.cal_zone.specs.Civil.{civil_of, shown_at, IsCivil};
-ghost use Rattle.cal_zone.specs.Local.{civil_date};
-ghost use Rattle.cal_zone.specs.Zone.{offset_of, zone_of};
+ghost use Rattle.cal_zone.specs.Civil.{shown_at, IsCivil};
+ghost use Rattle.cal_zone.specs.headline.Civil.{civil_of};
+ghost use Rattle.cal_zone.specs.headline.Local.{civil_date};
+ghost use Rattle.cal_zone.specs.headline.Zone.{offset_of, zone_of};
 
 use crate::zone::{Ahead, ZoneKind};
 use crate::{Civil, Instant, Zone};

@@ -2,10 +2,11 @@
 
 ghost use Rattle.std.specs.Prelude.{◌≡◌, ◌+◌, ◌≤◌, ◌++◌, length};
 ghost use Rattle.cal_bytes.specs.declared.short_text.TheConstants.{ROOM};
-ghost use Rattle.cal_zone.specs.Civil.{civil_of, IsCivil};
-ghost use Rattle.cal_zone.specs.InstantText.{instant_text};
+ghost use Rattle.cal_zone.specs.Civil.{IsCivil};
+ghost use Rattle.cal_zone.specs.headline.Civil.{civil_of};
+ghost use Rattle.cal_zone.specs.headline.InstantText.{instant_text};
 ghost use Rattle.cal_zone.specs.Period.{IsPeriodAt};
-ghost use Rattle.cal_zone.specs.Zone.{zone_of};
+ghost use Rattle.cal_zone.specs.headline.Zone.{zone_of};
 
 use crate::civil_time::civil_at;
 use crate::period::{Period, period_of};
@@ -28,7 +29,7 @@ impl<'z> Model for Clock<'z> {
     ghost use Rattle.cal_zone.specs.declared.zone.Zone.{Zone};
     ghost use Rattle.cal_zone.specs.Period.{IsPeriod};
     ghost use Rattle.cal_zone.specs.ShownDay.{IsDay};
-    ghost use Rattle.cal_zone.specs.Zone.{zone_of};
+    ghost use Rattle.cal_zone.specs.headline.Zone.{zone_of};
 
     ghost Value = { Zone };
 

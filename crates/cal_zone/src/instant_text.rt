@@ -4,7 +4,8 @@ ghost use Rattle.std.specs.Prelude.{◌≡◌, ◌+◌, ◌<◌, ◌≤◌, deci
 ghost use Rattle.std.specs.Int.{IsInRange};
 ghost use Rattle.cal_bytes.specs.Bytes.{Writes};
 ghost use Rattle.cal_zone.specs.Civil.{IsCivil};
-ghost use Rattle.cal_zone.specs.InstantText.{weekday_name, day_text, instant_text, offset_text, shown_text, sign_text, time_text, zeros, zone_word};
+ghost use Rattle.cal_zone.specs.InstantText.{day_text};
+ghost use Rattle.cal_zone.specs.headline.InstantText.{weekday_name, instant_text, offset_text, shown_text, sign_text, time_text, zeros, zone_word};
 ghost use Rattle.cal_bytes.specs.declared.short_text.TheConstants.{ROOM};
 
 use crate::{Civil, Instant, Zone, civil, short_weekday_name};
@@ -16,7 +17,7 @@ use jiff::civil::Weekday;
 /// [`Zone::utc`] alone and otherwise how far the clock is ahead of UTC, with seconds where they aren't 0
 /// (systemd.time(7), Displaying Timestamps). So it is `Sat 2020-02-29 00:00:00 UTC` or
 /// `Thu 1970-01-01 00:53:28 +00:53:28`. It takes at most 84 bytes.
-#[tactic(auto, unfolding(crate::specs::InstantText::instant_text))]
+#[tactic(auto, unfolding(crate::specs::headline::InstantText::instant_text))]
 pub fn push_instant(text: &mut ShortText, zone: Zone, instant: Instant)
     requires room { length text.old.items + 84 ≤ ROOM }
     ensures text { text.new.items ≡ text.old.items ++ instant_text zone.entry instant.secs }
@@ -40,7 +41,7 @@ pub fn write_instant<W: Sink>(out: &mut W, zone: Zone, instant: Instant) -> Resu
 }
 
 /// Appends what a clock shows, up to the word of its zone.
-#[tactic(auto, unfolding(crate::specs::InstantText::shown_text, crate::specs::InstantText::day_text))]
+#[tactic(auto, unfolding(crate::specs::headline::InstantText::shown_text, crate::specs::InstantText::day_text))]
 fn push_civil(text: &mut ShortText, shown: &Civil)
     requires ranges { IsCivil shown.now }
     requires room { length text.old.items + 44 ≤ ROOM }
@@ -53,7 +54,7 @@ fn push_civil(text: &mut ShortText, shown: &Civil)
 }
 
 /// Appends the day that a clock shows.
-#[tactic(auto, unfolding(crate::specs::InstantText::day_text, crate::specs::InstantText::date_text))]
+#[tactic(auto, unfolding(crate::specs::InstantText::day_text, crate::specs::headline::InstantText::date_text))]
 pub(crate) fn push_day(text: &mut ShortText, shown: &Civil)
     requires ranges { IsCivil shown.now }
     requires room { length text.old.items + 26 ≤ ROOM }
@@ -83,7 +84,7 @@ pub(crate) fn push_day(text: &mut ShortText, shown: &Civil)
 }
 
 /// Appends a time of day.
-#[tactic(auto, unfolding(crate::specs::InstantText::time_text))]
+#[tactic(auto, unfolding(crate::specs::headline::InstantText::time_text))]
 pub(crate) fn push_time(text: &mut ShortText, hour: u8, minute: u8, second: u8)
     requires hour { hour < 100 }
     requires minute { minute < 100 }
@@ -113,7 +114,7 @@ fn two_digits(number: u8) -> [u8; 2]
 }
 
 /// Appends the word of a zone after a time: `UTC` for UTC itself, and otherwise how far its clock is ahead.
-#[tactic(auto, unfolding(crate::specs::InstantText::zone_word))]
+#[tactic(auto, unfolding(crate::specs::headline::InstantText::zone_word))]
 pub(crate) fn push_zone(text: &mut ShortText, is_utc: bool, offset: i32)
     requires room { length text.old.items + 40 ≤ ROOM }
     ensures text { text.new.items ≡ text.old.items ++ zone_word is_utc offset }
@@ -127,7 +128,7 @@ pub(crate) fn push_zone(text: &mut ShortText, is_utc: bool, offset: i32)
 }
 
 /// Appends how far a clock is ahead, as `+02:00`, or as `+00:53:28` where the seconds aren't 0.
-#[tactic(auto, unfolding(crate::specs::InstantText::offset_text))]
+#[tactic(auto, unfolding(crate::specs::headline::InstantText::offset_text))]
 pub fn push_offset(text: &mut ShortText, offset: i32)
     requires room { length text.old.items + 40 ≤ ROOM }
     ensures text { text.new.items ≡ text.old.items ++ offset_text offset }

@@ -4,15 +4,17 @@ ghost use Rattle.std.specs.Prelude.{◌≡◌, ℕ, ◌/◌, ◌<◌, ℤ, pos, 
 ghost use Rattle.std.specs.FinMap.{insert};
 ghost use Rattle.jiff.specs.Types.{Date, Fold, Gap, Offset, TimeZone, UTC, Unambiguous};
 ghost use Rattle.jiff.specs.Words.{ambiguous_at, civil_nanos, epoch_day, fixed_zone, nanos_of_seconds, offset_at, picked_instant, IsBetween, IsEpochDay, IsOffsetSeconds};
-ghost use Rattle.cal_zone.specs.Days.{date_of};
-ghost use Rattle.cal_zone.specs.InstantText.{offset_text};
-ghost use Rattle.cal_zone.specs.Local.{civil_date, day_of, seconds_in_all};
-ghost use Rattle.cal_zone.specs.OffsetWord.{AreWholeMinutes, IsOffsetWord, offset_in};
-ghost use Rattle.cal_zone.specs.Place.{datetime_of, place_at, place_of, settle_of};
-ghost use Rattle.cal_zone.specs.Zone.{local_of};
-ghost use Rattle.cal_zone.specs.ZoneMap.{ZoneMap};
-ghost use Rattle.cal_zone.specs.ZoneName.{is_utc_name};
-ghost use Rattle.cal_zone.specs.ZoneTable.{zone_named};
+ghost use Rattle.cal_zone.specs.headline.Days.{date_of};
+ghost use Rattle.cal_zone.specs.headline.InstantText.{offset_text};
+ghost use Rattle.cal_zone.specs.headline.Local.{civil_date, day_of, seconds_in_all};
+ghost use Rattle.cal_zone.specs.OffsetWord.{AreWholeMinutes, offset_in};
+ghost use Rattle.cal_zone.specs.headline.OffsetWord.{IsOffsetWord};
+ghost use Rattle.cal_zone.specs.Place.{place_at};
+ghost use Rattle.cal_zone.specs.headline.Place.{datetime_of, place_of, settle_of};
+ghost use Rattle.cal_zone.specs.headline.Zone.{local_of};
+ghost use Rattle.cal_zone.specs.headline.ZoneMap.{ZoneMap};
+ghost use Rattle.cal_zone.specs.headline.ZoneName.{is_utc_name};
+ghost use Rattle.cal_zone.specs.headline.ZoneTable.{zone_named};
 
 /// Each day number of `jiff`'s calendar has a date, and no other date has that number.
 pub fn days_have_one_date()

@@ -2,7 +2,7 @@
 
 ghost use Rattle.std.specs.Prelude.{◌≡◌};
 ghost use Rattle.cal_zone.specs.LocalAt.{IsLocalAt};
-ghost use Rattle.cal_zone.specs.Zone.{local_of, zone_of};
+ghost use Rattle.cal_zone.specs.headline.Zone.{local_of, zone_of};
 
 use crate::civil_time::offset_in;
 use crate::stretch::END;

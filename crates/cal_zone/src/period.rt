@@ -5,7 +5,7 @@ ghost use Rattle.jiff_tz.specs.PosixRule.{transition_view};
 ghost use Rattle.cal_zone.specs.Local.{CanSettle};
 ghost use Rattle.cal_zone.specs.Period.{IsPeriodAt, IsUnchangedUntil};
 ghost use Rattle.cal_zone.specs.Steady.{IsEvenUntil};
-ghost use Rattle.cal_zone.specs.Zone.{zone_of};
+ghost use Rattle.cal_zone.specs.headline.Zone.{zone_of};
 
 use crate::civil_time::fixed_offset;
 use crate::stretch::year_after;

@@ -3,8 +3,8 @@
 ghost use Rattle.std.specs.Prelude.{◌≡◌, IfSome};
 ghost use Rattle.cal_zone.specs.Local.{IsLocalSecond};
 ghost use Rattle.cal_zone.specs.LocalAt.{IsLocalAt};
-ghost use Rattle.cal_zone.specs.Place.{place_of};
-ghost use Rattle.cal_zone.specs.Zone.{zone_of};
+ghost use Rattle.cal_zone.specs.headline.Place.{place_of};
+ghost use Rattle.cal_zone.specs.headline.Zone.{zone_of};
 
 use crate::stretch::{END, Stretch, stretch_of};
 use crate::zone::ZoneKind;
@@ -27,7 +27,7 @@ pub struct Placer<'z> {
 impl<'z> Model for Placer<'z> {
     ghost use Rattle.cal_zone.specs.declared.zone.Zone.{Zone};
     ghost use Rattle.cal_zone.specs.Steady.{IsSteady};
-    ghost use Rattle.cal_zone.specs.Zone.{zone_of};
+    ghost use Rattle.cal_zone.specs.headline.Zone.{zone_of};
 
     ghost Value = { Zone };
 

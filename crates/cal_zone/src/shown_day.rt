@@ -5,7 +5,7 @@ ghost use Rattle.jiff.specs.Words.{IsBetween};
 ghost use Rattle.cal_bytes.specs.declared.short_text.TheConstants.{ROOM};
 ghost use Rattle.cal_zone.specs.Period.{IsPeriodAt};
 ghost use Rattle.cal_zone.specs.ShownDay.{AreShort, IsDay, text_on};
-ghost use Rattle.cal_zone.specs.Zone.{zone_of};
+ghost use Rattle.cal_zone.specs.headline.Zone.{zone_of};
 
 use crate::civil_time::civil_at;
 use crate::instant_text::{push_day, push_time, push_zone};

@@ -6,10 +6,10 @@ ghost use Rattle.jiff.specs.Words.{nanos_of_seconds, IsWithin};
 ghost use Rattle.jiff_tz.specs.Tzif.{count_at, type_after};
 ghost use Rattle.jiff_tz.specs.PosixRule.{transition_view};
 ghost use Rattle.cal_zone.specs.Local.{CanSettle, IsLocalSecond, IsNearSettled};
-ghost use Rattle.cal_zone.specs.Place.{datetime_of};
+ghost use Rattle.cal_zone.specs.headline.Place.{datetime_of};
 ghost use Rattle.cal_zone.specs.Rules.{zone_of_table};
 ghost use Rattle.cal_zone.specs.Steady.{IsAlikeUntil, IsEvenUntil, IsQuietUntil, IsSecondOfRow, IsSteadyAt, year_end};
-ghost use Rattle.cal_zone.specs.Zone.{zone_of};
+ghost use Rattle.cal_zone.specs.headline.Zone.{zone_of};
 
 use crate::places::datetime;
 use crate::zone::ZoneKind;

@@ -27,8 +27,8 @@ pub(crate) struct Ahead {
 }
 
 impl<'t> Zone<'t> {
-    ghost use Rattle.cal_zone.specs.Zone.{is_utc, utc, zone_of};
-    ghost use Rattle.cal_zone.specs.ZoneAhead.{zone_ahead};
+    ghost use Rattle.cal_zone.specs.headline.Zone.{is_utc, utc, zone_of};
+    ghost use Rattle.cal_zone.specs.headline.ZoneAhead.{zone_ahead};
 
     /// UTC, whose civil clock is the Unix clock.
     pub fn utc() -> Zone<'static>

@@ -2,14 +2,14 @@
 
 ghost use Rattle.std.specs.Prelude.{◌≡◌};
 ghost use Rattle.std.specs.List.{list_all};
-ghost use Rattle.cal_zone.specs.ZoneName.{begins_with_letter, is_utc_name, is_zone_byte, is_zone_name};
+ghost use Rattle.cal_zone.specs.headline.ZoneName.{begins_with_letter, is_utc_name, is_zone_byte, is_zone_name};
 
 /// The most bytes that the name of a zone may have.
 const MOST_NAME_BYTES: usize = 255;
 
 /// Whether the text has the form of a zone's name (systemd.time(7), Calendar Events): a letter followed by letters,
 /// digits, `/`, `_`, `+` and `-`, at most 255 bytes in all.
-#[tactic(auto, unfolding(crate::specs::ZoneName::is_zone_name))]
+#[tactic(auto, unfolding(crate::specs::headline::ZoneName::is_zone_name))]
 pub fn is_zone_name(text: &[u8]) -> bool
     ensures { result ≡ is_zone_name text.now }
 {

@@ -19,7 +19,7 @@ pub struct ZoneTable {
 impl Model for ZoneTable {
     ghost use Rattle.std.specs.Coded.{coded_list, coded_ℕ};
     ghost use Rattle.std.specs.FinMap as map;
-    ghost use Rattle.cal_zone.specs.ZoneMap.{ZoneMap};
+    ghost use Rattle.cal_zone.specs.headline.ZoneMap.{ZoneMap};
     ghost use Rattle.cal_zone.specs.contracts.rules.Rules.{the_row};
 
     ghost Value = { ZoneMap };
@@ -32,9 +32,10 @@ impl Model for ZoneTable {
 }
 
 impl ZoneTable {
-    ghost use Rattle.cal_zone.specs.Zone.{is_utc, zone_of};
-    ghost use Rattle.cal_zone.specs.ZoneName.{is_utc_name};
-    ghost use Rattle.cal_zone.specs.ZoneTable.{zone_named, IsAddable, IsAddFault};
+    ghost use Rattle.cal_zone.specs.headline.Zone.{is_utc, zone_of};
+    ghost use Rattle.cal_zone.specs.headline.ZoneName.{is_utc_name};
+    ghost use Rattle.cal_zone.specs.ZoneTable.{IsAddable, IsAddFault};
+    ghost use Rattle.cal_zone.specs.headline.ZoneTable.{zone_named};
 
     /// The table with no zone.
     pub fn new(alloc: Global) -> Self
@@ -78,7 +79,7 @@ impl ZoneTable {
 
     /// The zone of that name: UTC for `UTC` in any case, and otherwise the zone of exactly that name, if there is
     /// one.
-    #[tactic(auto, unfolding(crate::specs::Zone::zone_of, crate::specs::ZoneTable::zone_named))]
+    #[tactic(auto, unfolding(crate::specs::headline::Zone::zone_of, crate::specs::headline::ZoneTable::zone_named))]
     pub fn find(&self, name: &str) -> Option<Zone<'_>>
         ensures zone { option_map zone_of result ≡ zone_named self.now name.now }
         ensures distinct { IfSome result (λ zone. is_utc zone ≡ is_utc_name name.now) }

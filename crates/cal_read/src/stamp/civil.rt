@@ -3,10 +3,10 @@
 ghost use Rattle.std.specs.Prelude.{◌≡◌, ◌≤◌, pos, neg_ℤ, IfOk, IfSome};
 ghost use Rattle.std.specs.List.{list_any};
 ghost use Rattle.jiff.specs.Words.{IsBetween};
-ghost use Rattle.cal_zone.specs.Zone.{zone_of};
-ghost use Rattle.cal_zone.specs.ZoneTable.{zone_named};
-ghost use Rattle.cal_spec.specs.DateAndTime.{is_colon};
-ghost use Rattle.cal_spec.specs.Words.{words};
+ghost use Rattle.cal_zone.specs.headline.Zone.{zone_of};
+ghost use Rattle.cal_zone.specs.headline.ZoneTable.{zone_named};
+ghost use Rattle.cal_spec.specs.headline.DateAndTime.{is_colon};
+ghost use Rattle.cal_spec.specs.headline.Words.{words};
 ghost use Rattle.cal_read.specs.Stamp.{begins_with_digit, after_date, after_weekday, civil_time, fits_weekday, moment_of_written, written_in};
 ghost use Rattle.cal_read.specs.StampViews.{setting, micros_or_fault, written_seen, written_or_fault};
 

@@ -3,13 +3,13 @@
 
 ghost use Rattle.std.specs.Prelude.{◌≡◌, ℕ, ℤ, List, Ok, Err};
 ghost use Rattle.jiff.specs.Types.{TimeZone};
-ghost use Rattle.cal_zone.specs.Civil.{civil_of};
+ghost use Rattle.cal_zone.specs.headline.Civil.{civil_of};
 ghost use Rattle.cal_zone.specs.Instant.{IsInstant};
-ghost use Rattle.cal_zone.specs.InstantText.{instant_text};
+ghost use Rattle.cal_zone.specs.headline.InstantText.{instant_text};
 ghost use Rattle.cal_zone.specs.Local.{IsLocalSecond};
-ghost use Rattle.cal_zone.specs.Zone.{utc, zone_of};
-ghost use Rattle.cal_zone.specs.ZoneMap.{ZoneMap};
-ghost use Rattle.cal_zone.specs.ZoneTable.{zone_named};
+ghost use Rattle.cal_zone.specs.headline.Zone.{utc, zone_of};
+ghost use Rattle.cal_zone.specs.headline.ZoneMap.{ZoneMap};
+ghost use Rattle.cal_zone.specs.headline.ZoneTable.{zone_named};
 ghost use Rattle.cal_zone.specs.declared.zone.Zone.{Zone};
 ghost use Rattle.cal_read.specs.Stamp.{Setting, Written, civil_time, micros_of, moment_in};
 ghost use Rattle.cal_read.specs.StampCivilRule.{HasNoSuchDate, IsCivilTime};

@@ -1,8 +1,8 @@
 //! Timestamps: the moment that a text means.
 
 ghost use Rattle.std.specs.Prelude.{◌≡◌};
-ghost use Rattle.cal_zone.specs.Zone.{zone_of};
-ghost use Rattle.cal_zone.specs.ZoneTable.{zone_named};
+ghost use Rattle.cal_zone.specs.headline.Zone.{zone_of};
+ghost use Rattle.cal_zone.specs.headline.ZoneTable.{zone_named};
 ghost use Rattle.cal_read.specs.Stamp.{moment_in};
 ghost use Rattle.cal_read.specs.StampViews.{setting, micros_or_fault};
 

@@ -3,7 +3,7 @@
 ghost use Rattle.std.specs.Prelude.{◌≡◌, ◌≤◌, ◌<◌, ◌+ℤ◌, ◌-ℤ◌, ◌*ℤ◌, pos, neg_ℤ, Ok};
 ghost use Rattle.jiff.specs.Words.{IsBetween};
 ghost use Rattle.cal_zone.specs.Instant.{IsInstant};
-ghost use Rattle.cal_zone.specs.Zone.{local_of, zone_of};
+ghost use Rattle.cal_zone.specs.headline.Zone.{local_of, zone_of};
 ghost use Rattle.cal_read.specs.Stamp.{before_second, after_second, in_moments, micros_of, settled, today};
 ghost use Rattle.cal_read.specs.StampViews.{shift_of, micros_or_fault};
 

@@ -3,7 +3,7 @@
 ghost use Rattle.std.specs.Prelude.{◌≡◌, ◌<◌, ◌≤◌, ◌-◌, ◌∷◌, [], MatchOption, drop, false, length, not, slice_index, take, true};
 ghost use Rattle.std.specs.List.{after_last, before_last, list_any, prefix_len, suffix_len, position_or_len};
 ghost use Rattle.std.specs.Option.{option_copied};
-ghost use Rattle.cal_spec.specs.Words.{is_blank, words};
+ghost use Rattle.cal_spec.specs.headline.Words.{is_blank, words};
 ghost use Rattle.cal_read.specs.StampForm.{before_word, from_solid, solid, to_solid};
 
 /// The first word of the text and what comes after it, or `None` where there are only blanks.

@@ -1,9 +1,9 @@
 //! The zone that the words of a timestamp name.
 
 ghost use Rattle.std.specs.Prelude.{◌≡◌};
-ghost use Rattle.cal_zone.specs.Zone.{zone_of};
-ghost use Rattle.cal_zone.specs.ZoneTable.{zone_named};
-ghost use Rattle.cal_spec.specs.Words.{words};
+ghost use Rattle.cal_zone.specs.headline.Zone.{zone_of};
+ghost use Rattle.cal_zone.specs.headline.ZoneTable.{zone_named};
+ghost use Rattle.cal_spec.specs.headline.Words.{words};
 ghost use Rattle.cal_read.specs.Stamp.{zone_by_words, zone_meant};
 ghost use Rattle.cal_read.specs.StampViews.{setting, zone_or_fault};
 

@@ -5,9 +5,10 @@ ghost use Rattle.std.specs.Result.{IsErrOf};
 ghost use Rattle.cal_bytes.specs.Whole.{is_read_failed};
 ghost use Rattle.cal_bytes.specs.declared.whole.WholeFault.{WholeFault};
 ghost use Rattle.cal_spec.specs.Expr.{expr_in};
-ghost use Rattle.cal_read.specs.Assignments.{assignments_in};
-ghost use Rattle.cal_lines.specs.Lines.{logical_lines};
-ghost use Rattle.cal_read.specs.TimerText.{lists_of, most_file_bytes, some_entries, timer_in, timer_of, timer_text, without_mark, ReadsWhole};
+ghost use Rattle.cal_read.specs.headline.Assignments.{assignments_in};
+ghost use Rattle.cal_lines.specs.headline.Lines.{logical_lines};
+ghost use Rattle.cal_read.specs.TimerText.{lists_of, most_file_bytes, some_entries, timer_in, timer_of, timer_text, ReadsWhole};
+ghost use Rattle.cal_read.specs.headline.TimerText.{without_mark};
 ghost use Rattle.cal_read.specs.TimerView.{shown_lists};
 
 use crate::timer::list::{ReadLists, take_line};
@@ -82,7 +83,7 @@ fn read_text(alloc: Global, text: &str) -> Result<Timer, TimerFault>
 }
 
 /// The text without a byte order mark at its very start.
-#[tactic(auto, unfolding(crate::specs::TimerText::without_mark))]
+#[tactic(auto, unfolding(crate::specs::headline::TimerText::without_mark))]
 fn without_mark(text: &str) -> &str
     ensures mark { result.now ≡ without_mark text.now }
     ensures shorter { length result.now ≤ length text.now }

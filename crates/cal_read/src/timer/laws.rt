@@ -4,13 +4,14 @@
 ghost use Rattle.std.specs.Prelude.{◌≡◌, ◌∷◌, ◌++◌, [], ℕ, Bool, List, Result, codes, false, filter, true, if◌then◌else◌};
 ghost use Rattle.std.specs.List.{list_any};
 ghost use Rattle.std.specs.Str.{bytes_eq};
-ghost use Rattle.cal_spec.specs.Fields.{Fields};
+ghost use Rattle.cal_spec.specs.headline.Fields.{Fields};
 ghost use Rattle.cal_spec.specs.declared.spec_fault.SpecFault.{SpecFault};
-ghost use Rattle.cal_read.specs.Assignments.{Assignment, is_header, section_of, timer_lines};
-ghost use Rattle.cal_lines.specs.Lines.{Line};
+ghost use Rattle.cal_read.specs.headline.Assignments.{Assignment, is_header, section_of, timer_lines};
+ghost use Rattle.cal_lines.specs.headline.Lines.{Line};
 ghost use Rattle.cal_read.specs.TimerRule.{Judges};
 ghost use Rattle.cal_read.specs.declared.timer.fault.TimerFault.{TimerFault};
-ghost use Rattle.cal_read.specs.TimerText.{Timer, excepted, is_exception, is_exception_reset, is_expression, is_reset, lists_of, listed};
+ghost use Rattle.cal_read.specs.TimerText.{Timer, lists_of};
+ghost use Rattle.cal_read.specs.headline.TimerText.{excepted, is_exception, is_exception_reset, is_expression, is_reset, listed};
 
 /// A line is in the section `Timer` where the last header before it opens that section; a header is in none.
 pub fn one_section()

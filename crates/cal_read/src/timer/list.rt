@@ -3,11 +3,11 @@
 
 ghost use Rattle.std.specs.Prelude.{◌≡◌, ◌≢◌, ◌∷◌, List, Some, Ok, Err, MatchResult, map};
 ghost use Rattle.cal_spec.specs.Expr.{expr_in};
-ghost use Rattle.cal_read.specs.Assignments as assignments;
-ghost use Rattle.cal_read.specs.Assignments.{assignments_in};
+ghost use Rattle.cal_read.specs.headline.Assignments as assignments;
+ghost use Rattle.cal_read.specs.headline.Assignments.{assignments_in};
 ghost use Rattle.cal_lines.specs.LineView.{line_at};
 ghost use Rattle.cal_read.specs.AssignmentView.{shown_assignment};
-ghost use Rattle.cal_lines.specs.Lines.{Line};
+ghost use Rattle.cal_lines.specs.headline.Lines.{Line};
 ghost use Rattle.cal_read.specs.TimerText.{bad_line, entry_of};
 ghost use Rattle.cal_read.specs.TimerView.{joined, resumed, shown, shown_lists};
 

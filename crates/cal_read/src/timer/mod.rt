@@ -32,7 +32,7 @@ pub struct Timer {
 
 impl Model for Timer {
     ghost use Rattle.std.specs.Prelude.{map};
-    ghost use Rattle.cal_spec.specs.Fields.{Fields};
+    ghost use Rattle.cal_spec.specs.headline.Fields.{Fields};
     ghost use Rattle.cal_read.specs.TimerText.{Timer};
     ghost use Rattle.cal_read.specs.TimerView.{shown};
 

@@ -5,7 +5,7 @@ ghost use Rattle.std.specs.Prelude.{◌≡◌, ◌≤◌, IsTrue, MatchOption, m
 ghost use Rattle.std.specs.List.{list_all, position, before_first, after_first};
 ghost use Rattle.std.specs.Char.{is_ascii_digit};
 ghost use Rattle.std.specs.Str.Parse.{digits_value};
-ghost use Rattle.cal_span.specs.Scale.{size_of};
+ghost use Rattle.cal_span.specs.headline.Scale.{size_of};
 ghost use Rattle.cal_span.specs.SpanValue.{is_point, is_number, fraction_worth, digits_worth};
 
 use crate::Scale;

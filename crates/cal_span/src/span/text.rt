@@ -4,11 +4,13 @@
 ghost use Rattle.std.specs.Prelude.{◌≡◌, ◌+◌, ◌≤◌, ℕ, List, [], ◌∷◌, ◌++◌, length, false, is_err, decimal};
 ghost use Rattle.cal_span.specs.Span.{limit};
 ghost use Rattle.cal_span.specs.SpanValue.{span_of};
-ghost use Rattle.cal_bytes.specs.Bytes.{Writes, joined};
-ghost use Rattle.cal_span.specs.Scale.{name_of};
+ghost use Rattle.cal_bytes.specs.Bytes.{Writes};
+ghost use Rattle.cal_bytes.specs.headline.Bytes.{joined};
+ghost use Rattle.cal_span.specs.headline.Scale.{name_of};
 ghost use Rattle.cal_bytes.specs.declared.short_text.TheConstants.{ROOM};
 ghost use Rattle.cal_span.specs.declared.span.text.TheConstants.{SPAN_ROOM};
-ghost use Rattle.cal_span.specs.SpanText.{IsSpanText, span_text, row_text, positive, counts_of};
+ghost use Rattle.cal_span.specs.SpanText.{IsSpanText};
+ghost use Rattle.cal_span.specs.headline.SpanText.{span_text, row_text, positive, counts_of};
 
 use crate::scale::Scale;
 use crate::span::Span;

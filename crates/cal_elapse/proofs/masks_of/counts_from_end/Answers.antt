@@ -1,7 +1,8 @@
 use Rattle.std.proofs.Common.{◌-◌, ◌||◌, ◌∙◌, ap, Bool}
 use Rattle.cal_elapse.specs.Bits.{is_bit}
 use Rattle.cal_elapse.proofs.MasksLemmas.{filled_more, filled_none}
-use Rattle.cal_spec.specs.Members.{members_of, sets_of}
+use Rattle.cal_spec.specs.Members.{members_of}
+use Rattle.cal_spec.specs.headline.Members.{sets_of}
 use Rattle.cal_spec.specs.declared.field.Field.TheVariants.{Day}
 use Rattle.cal_elapse.proofs.masks_of.counts_from_end.Goals as goal
 

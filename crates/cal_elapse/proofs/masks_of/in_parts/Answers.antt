@@ -4,7 +4,7 @@ use Rattle.std.proofs.lemmas.List.{take_all}
 use Rattle.cal_elapse.specs.Bits.{is_bit}
 use Rattle.cal_elapse.proofs.BitLemmas.{is_bit-none, is_bit-or}
 use Rattle.cal_elapse.proofs.PartLemmas.{and_none, parts_more}
-use Rattle.cal_spec.specs.Members.{part_has}
+use Rattle.cal_spec.specs.headline.Members.{part_has}
 use Rattle.cal_spec.specs.declared.part.Part.{Part}
 use Rattle.cal_elapse.proofs.masks_of.in_parts.Goals as goal
 

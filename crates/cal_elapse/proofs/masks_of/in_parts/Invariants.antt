@@ -3,7 +3,7 @@ use Rattle.std.proofs.Common.{◌≡◌, ◌&&◌, ◌+◌, ℕ, nat_lt, take}
 use Rattle.std.specs.List.{list_any}
 use Rattle.cal_elapse.specs.Bits.{is_bit}
 use Rattle.cal_elapse.specs.Masks.{IsWindow}
-use Rattle.cal_spec.specs.Members.{part_has}
+use Rattle.cal_spec.specs.headline.Members.{part_has}
 use Rattle.cal_spec.specs.declared.slot.Slot.{Slot}
 use Rattle.cal_elapse.proofs.masks_of.in_parts.Given as goal
 

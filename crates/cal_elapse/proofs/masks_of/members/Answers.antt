@@ -1,7 +1,7 @@
 use Rattle.std.proofs.Common.{◌&&◌, ◌+◌, Bool, List, Option, nat_lt, sym, ap, ◌∙◌, arith}
 use Rattle.cal_elapse.specs.Masks.{slot_of}
 use Rattle.cal_elapse.proofs.PartLemmas.{greatest_of_all, members_by, whole_window}
-use Rattle.cal_spec.specs.Members.{component_has}
+use Rattle.cal_spec.specs.headline.Members.{component_has}
 use Rattle.cal_spec.specs.declared.part.Part.{Part}
 use Rattle.cal_elapse.proofs.masks_of.members.Goals as goal
 

@@ -2,7 +2,7 @@ use Rattle.std.proofs.Common.{◌≡◌, ◌&&◌, ◌/◌, ◌%◌, true, false
 use Rattle.cal_elapse.specs.Bits.{is_bit}
 use Rattle.cal_elapse.specs.Masks.{sets_in}
 use Rattle.cal_elapse.specs.Months.{minute_in}
-use Rattle.cal_spec.specs.Match.{time_in}
+use Rattle.cal_spec.specs.headline.Match.{time_in}
 use Rattle.cal_elapse.proofs.CarryLemmas.{split_at}
 use Rattle.cal_elapse.proofs.TimeLemmas.{seconds_split}
 use Rattle.cal_elapse.proofs.matched.has_time.Goals as goal

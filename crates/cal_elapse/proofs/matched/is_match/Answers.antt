@@ -1,9 +1,9 @@
 use Rattle.std.proofs.Common.{◌≡◌, ◌∙◌, ◌&&◌, ◌/◌, ◌%◌, Bool, true, false, arith, refl, sym}
 use Rattle.std.proofs.lemmas.Bool.{and_right}
-use Rattle.cal_zone.specs.Local.{seconds_in_all-is}
+use Rattle.cal_zone.specs.headline.Local.{seconds_in_all-is}
 use Rattle.cal_elapse.specs.Masks.{sets_in}
 use Rattle.cal_elapse.specs.Months.{day_in}
-use Rattle.cal_spec.specs.Match.{matches, time_in}
+use Rattle.cal_spec.specs.headline.Match.{matches, time_in}
 use Rattle.cal_elapse.proofs.CarryLemmas.{split_at}
 use Rattle.cal_elapse.proofs.SearchLemmas.{locals_split}
 use Rattle.cal_elapse.proofs.matched.is_match.Goals as goal

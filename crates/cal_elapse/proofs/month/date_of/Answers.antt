@@ -1,9 +1,9 @@
 use Rattle.std.proofs.Common.{◌≡◌, pos, to_z, of_z, w64, ap, sym, ◌∙◌, ℤ, arith}
 use Rattle.std.proofs.lemmas.Int.{to_z_pos}
 use Rattle.jiff.specs.Words.{epoch_day}
-use Rattle.cal_zone.specs.Days.{date_of}
+use Rattle.cal_zone.specs.headline.Days.{date_of}
 use Rattle.cal_zone.proofs.DayLemmas.{date_of-epoch_day}
-use Rattle.cal_zone.specs.Local.{civil_date}
+use Rattle.cal_zone.specs.headline.Local.{civil_date}
 use Rattle.cal_elapse.proofs.month.date_of.Goals as goal
 
 pub returns : goal.returns

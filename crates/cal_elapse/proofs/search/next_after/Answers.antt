@@ -1,5 +1,5 @@
 use Rattle.std.proofs.Common.{◌≡◌, ◌+◌, ◌*◌, ◌/◌, ap, arith}
-use Rattle.cal_zone.specs.Local.{seconds_in_all-is}
+use Rattle.cal_zone.specs.headline.Local.{seconds_in_all-is}
 use Rattle.cal_elapse.specs.Masks.{sets_in}
 use Rattle.cal_elapse.proofs.SearchLemmas.{search_today}
 use Rattle.cal_elapse.proofs.search.next_after.Goals as goal

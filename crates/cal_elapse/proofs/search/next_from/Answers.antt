@@ -1,7 +1,7 @@
 use Rattle.std.proofs.Common.{◌≡◌, ◌+◌, ◌*◌, ◌/◌, ◌%◌, ◌<◌, ℕ, Option, Some, None, ap, sym, ◌∙◌, subst, subst₂, Bool, ◌==◌, arith}
 use Rattle.std.proofs.lemmas.Bool.{cond_both}
-use Rattle.cal_zone.specs.Local.{civil_date, seconds_in_all, seconds_in_all-is}
-use Rattle.cal_spec.specs.Match.{matches, time_in}
+use Rattle.cal_zone.specs.headline.Local.{civil_date, seconds_in_all, seconds_in_all-is}
+use Rattle.cal_spec.specs.headline.Match.{matches, time_in}
 use Rattle.cal_elapse.specs.Looks.{looks_from}
 use Rattle.cal_elapse.specs.Masks.{sets_in}
 use Rattle.cal_elapse.specs.Months.{day_in, month_of}

@@ -1,6 +1,6 @@
 use Rattle.std.proofs.Common.{◌≡◌, ℕ, Some, None, ◌∙◌, ap, sym, pos, unsigned_abs, to_z, w64, arith}
 use Rattle.std.proofs.lemmas.Int.{to_z_pos}
-use Rattle.cal_zone.specs.Local.{seconds_in_all-is}
+use Rattle.cal_zone.specs.headline.Local.{seconds_in_all-is}
 use Rattle.cal_elapse.specs.Looks.{month_looks}
 use Rattle.cal_elapse.specs.Masks.{sets_in}
 use Rattle.cal_elapse.proofs.SearchLemmas.{IsFirstLocal-None, IsFirstLocal-Some, begins}

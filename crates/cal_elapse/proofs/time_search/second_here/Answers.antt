@@ -2,7 +2,7 @@ use Rattle.std.proofs.Common.{◌≡◌, ℕ, ◌+◌, ◌*◌, ◌/◌, ◌%◌
 use Rattle.cal_elapse.specs.Bits.{is_bit}
 use Rattle.cal_elapse.specs.Masks.{sets_in}
 use Rattle.cal_elapse.specs.Months.{minute_in}
-use Rattle.cal_spec.specs.Match.{time_in}
+use Rattle.cal_spec.specs.headline.Match.{time_in}
 use Rattle.cal_elapse.specs.Search.{IsFirstPassing, NonePasses}
 use Rattle.cal_elapse.proofs.CarryLemmas.{below_end, first_here, none_by_high, none_by_low}
 use Rattle.cal_elapse.proofs.TimeLemmas.{seconds_split}

@@ -2,8 +2,8 @@ use Rattle.std.proofs.Common.{◌∙◌, FitsSigned, ap, arith, rules, subst, sy
 use Rattle.std.proofs.lemmas.Int.{ints, to_z-of_z, to_z_pos}
 use Rattle.jiff.proofs.SpanFacts.{signed_arith}
 use Rattle.cal_zone.specs.Instant.{IsInstant}
-use Rattle.cal_zone.specs.Local.{seconds_in_all-is}
-use Rattle.cal_zone.specs.Zone.{zone_of}
+use Rattle.cal_zone.specs.headline.Local.{seconds_in_all-is}
+use Rattle.cal_zone.specs.headline.Zone.{zone_of}
 use Rattle.cal_elapse.specs.Near.{IsNear}
 use Rattle.cal_rising.specs.RisingList.{with_number}
 use Rattle.cal_elapse.proofs.WindowLemmas.{place_found, put_instant, put_near, with_place-above, with_place-given, with_place-none}

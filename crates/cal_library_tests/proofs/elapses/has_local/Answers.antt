@@ -1,6 +1,6 @@
 use Rattle.std.proofs.Common.{FitsSigned, arith, rules, w64}
 use Rattle.std.proofs.lemmas.Int.{ints, to_z-of_z}
-use Rattle.cal_base.specs.Local.{seconds_in_all-is}
+use Rattle.cal_base.specs.ZoneHeadline.Local.{seconds_in_all-is}
 use Rattle.cal_library_tests.proofs.elapses.has_local.Goals as goal
 
 pub has-requires-clause-before : goal.has-requires-clause-before

@@ -1,6 +1,6 @@
 use Rattle.std.proofs.Common.{◌∙◌, arith}
 use Rattle.std.proofs.lemmas.List.Sums.{suffix_len-le-length}
-use Rattle.cal_lines.specs.Lines.{is_blank, trim_end}
+use Rattle.cal_lines.specs.headline.Lines.{is_blank, trim_end}
 use Rattle.cal_lines.proofs.LineLemmas.{blank_is_ascii}
 use Rattle.cal_lines.proofs.TextEnds.{end_boundary}
 use Rattle.cal_lines.proofs.lines.trim_end.Goals as goal

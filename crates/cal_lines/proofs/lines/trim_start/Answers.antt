@@ -1,5 +1,5 @@
 use Rattle.std.proofs.Common.{◌∙◌, ap, drop}
-use Rattle.cal_lines.specs.Lines.{is_blank, trim_start}
+use Rattle.cal_lines.specs.headline.Lines.{is_blank, trim_start}
 use Rattle.cal_lines.proofs.LineLemmas.{blank_is_ascii}
 use Rattle.cal_lines.proofs.TextEnds.{front_boundary}
 use Rattle.cal_lines.proofs.lines.trim_start.Goals as goal

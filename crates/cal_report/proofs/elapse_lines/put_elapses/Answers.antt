@@ -1,6 +1,6 @@
 use Rattle.std.proofs.Common.{◌-◌, arith}
 use Rattle.cal_bytes.proofs.Pieces.{start, step, stop, respell, finish, writes_err}
-use Rattle.cal_report.specs.ElapseLines.{elapse_text}
+use Rattle.cal_report.specs.headline.ElapseLines.{elapse_text}
 use Rattle.cal_report.proofs.ElapseTexts.{shown_first, shown_none}
 use Rattle.cal_report.proofs.elapse_lines.put_elapses.Goals as goal
 

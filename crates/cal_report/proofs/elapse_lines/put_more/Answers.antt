@@ -1,6 +1,6 @@
 use Rattle.std.proofs.Common.{◌≡◌, ◌∙◌, ◌+◌, ◌-◌, arith}
 use Rattle.cal_bytes.proofs.Pieces.{step, stop, respell, writes_err}
-use Rattle.cal_report.specs.ElapseLines.{elapse_text}
+use Rattle.cal_report.specs.headline.ElapseLines.{elapse_text}
 use Rattle.cal_report.proofs.ElapseTexts.{texts_first}
 use Rattle.cal_report.proofs.elapse_lines.put_more.Goals as goal
 

@@ -1,7 +1,8 @@
 -- The writer works, and what is left to write is the elapses that are left, from this number on.
 use Rattle.std.proofs.Common.{◌≡◌, ◌+◌, ◌-◌, false, take}
 use Rattle.cal_bytes.specs.Bytes.{Leaves}
-use Rattle.cal_report.specs.ElapseLines.{AreInstants, elapse_texts}
+use Rattle.cal_report.specs.ElapseLines.{AreInstants}
+use Rattle.cal_report.specs.headline.ElapseLines.{elapse_texts}
 use Rattle.cal_report.proofs.elapse_lines.put_more.Given as goal
 
 abbrev pub invariant-loop-number : goal.invariant-loop-number

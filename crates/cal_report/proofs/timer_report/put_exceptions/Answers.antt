@@ -1,7 +1,7 @@
 use Rattle.std.proofs.Common.{arith}
 use Rattle.cal_bytes.proofs.Pieces.{start, respell, writes_err}
 use Rattle.cal_report.proofs.TimerLemmas.{exceptions-all, headings-next, headings-stop}
-use Rattle.cal_report.specs.TimerReport.{exception_text}
+use Rattle.cal_report.specs.headline.TimerReport.{exception_text}
 use Rattle.cal_report.proofs.timer_report.put_exceptions.Goals as goal
 
 pub loop-line-init : goal.loop-line-init

@@ -3,7 +3,8 @@ use Rattle.std.proofs.Common.{◌≡◌, false, drop, map}
 use Rattle.std.specs.List.{flat_map}
 use Rattle.cal_bytes.specs.Bytes.{Leaves}
 use Rattle.cal_read.specs.TimerView.{shown}
-use Rattle.cal_report.specs.TimerReport.{exception_text, exceptions_text}
+use Rattle.cal_report.specs.TimerReport.{exceptions_text}
+use Rattle.cal_report.specs.headline.TimerReport.{exception_text}
 use Rattle.cal_report.proofs.TimerLemmas.{line_text}
 use Rattle.cal_report.proofs.timer_report.put_exceptions.Given as goal
 

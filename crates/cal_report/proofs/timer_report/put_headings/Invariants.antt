@@ -5,7 +5,7 @@ use Rattle.cal_bytes.specs.Bytes.{Leaves}
 use Rattle.cal_read.specs.TimerView.{shown}
 use Rattle.cal_report.specs.TimerReport.{headings_text}
 use Rattle.cal_report.proofs.TimerLemmas.{line_text}
-use Rattle.cal_report.specs.CalendarReport.{heading_text}
+use Rattle.cal_report.specs.headline.CalendarReport.{heading_text}
 use Rattle.cal_report.proofs.timer_report.put_headings.Given as goal
 
 abbrev pub invariant-loop-line : goal.invariant-loop-line

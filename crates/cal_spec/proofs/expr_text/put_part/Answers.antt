@@ -1,7 +1,7 @@
 -- The text is written piece by piece: after each call the later pieces are left.
 use Rattle.std.proofs.Common.{codes}
 use Rattle.cal_bytes.proofs.Pieces.{start, step, stop, finish_last, writes_err}
-use Rattle.cal_spec.specs.ExprText.{number_text, optional_text, part_text}
+use Rattle.cal_spec.specs.headline.ExprText.{number_text, optional_text, part_text}
 use Rattle.cal_spec.proofs.expr_text.put_part.Goals as goal
 
 pub returns-in_err-put_number-clause-bytes : goal.returns-in_err-put_number-clause-bytes

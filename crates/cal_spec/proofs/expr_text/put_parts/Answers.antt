@@ -1,7 +1,7 @@
 use Rattle.std.proofs.Common.{◌++◌, [], codes, arith, ap, ◌∙◌}
 use Rattle.std.proofs.KnownBytes.{Appends-nil}
 use Rattle.cal_bytes.proofs.Pieces.{start, step, stop, respell, step_piece, stop_piece, writes_err}
-use Rattle.cal_spec.specs.ExprText.{part_text, parts_text}
+use Rattle.cal_spec.specs.headline.ExprText.{part_text, parts_text}
 use Rattle.cal_spec.proofs.TextLemmas.{parts_text-none, parts_text-first, part_text-comma}
 use Rattle.cal_spec.proofs.expr_text.put_parts.Goals as goal
 

@@ -2,7 +2,7 @@
 use Rattle.std.proofs.Common.{◌≡◌, [], ◌++◌, false, drop, codes}
 use Rattle.std.specs.List.{flat_map}
 use Rattle.cal_bytes.specs.Bytes.{Leaves}
-use Rattle.cal_spec.specs.ExprText.{part_text, parts_text}
+use Rattle.cal_spec.specs.headline.ExprText.{part_text, parts_text}
 use Rattle.cal_spec.proofs.expr_text.put_parts.Given as goal
 
 abbrev pub invariant-loop-part : goal.invariant-loop-part

@@ -1,6 +1,6 @@
 use Rattle.cal_bytes.proofs.Pieces.{start, step, stop, finish_last, writes_err}
 use Rattle.std.specs.Option.{option_copied}
-use Rattle.cal_spec.specs.ExprText.{component_text, row_text}
+use Rattle.cal_spec.specs.headline.ExprText.{component_text, row_text}
 use Rattle.cal_spec.proofs.expr_text.put_row.Goals as goal
 
 pub returns-in_err-put_all-clause-bytes : goal.returns-in_err-put_all-clause-bytes

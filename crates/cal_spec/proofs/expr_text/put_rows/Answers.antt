@@ -1,7 +1,7 @@
 use Rattle.std.proofs.Common.{arith}
 use Rattle.std.specs.Option.{option_copied}
 use Rattle.cal_bytes.proofs.Pieces.{writes_err}
-use Rattle.cal_spec.specs.ExprText.{row_text}
+use Rattle.cal_spec.specs.headline.ExprText.{row_text}
 use Rattle.cal_spec.proofs.TextLemmas.{step_item, stop_item}
 use Rattle.cal_spec.proofs.expr_text.put_rows.Goals as goal
 

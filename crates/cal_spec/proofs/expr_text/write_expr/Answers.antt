@@ -1,7 +1,7 @@
 -- The text is written piece by piece: after each call the later pieces are left.
 use Rattle.cal_bytes.proofs.Pieces.{start, step, stop, finish_last, writes_err}
-use Rattle.cal_spec.specs.ExprText.{expr_text, fields_text, zone_text}
-use Rattle.cal_spec.specs.WeekdayRuns.{weekdays_text}
+use Rattle.cal_spec.specs.headline.ExprText.{expr_text, fields_text, zone_text}
+use Rattle.cal_spec.specs.headline.WeekdayRuns.{weekdays_text}
 use Rattle.cal_spec.proofs.expr_text.write_expr.Goals as goal
 
 pub returns-in_err-put_weekdays-clause-bytes : goal.returns-in_err-put_weekdays-clause-bytes

@@ -1,5 +1,5 @@
 use Rattle.std.proofs.Common.{◌≡◌, Ok, subst}
-use Rattle.cal_spec.specs.ExprText.{expr_text}
+use Rattle.cal_spec.specs.headline.ExprText.{expr_text}
 use Rattle.cal_spec.specs.Grammar.{fields_in}
 use Rattle.cal_spec.proofs.ReadBack.{normal_back}
 use Rattle.cal_spec.proofs.laws.normal_texts_read_back.Goals as goal

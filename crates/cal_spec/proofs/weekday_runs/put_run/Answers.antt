@@ -1,6 +1,6 @@
 use Rattle.std.proofs.Common.{[], ◌∷◌, ◌++◌, ap, arith}
 use Rattle.cal_bytes.proofs.Pieces.{start, step_pieces, stop_pieces, respell, done, finish_last, writes_err}
-use Rattle.cal_spec.specs.WeekdayRuns.{day_name, run_text, text_after_first}
+use Rattle.cal_spec.specs.headline.WeekdayRuns.{day_name, run_text, text_after_first}
 use Rattle.cal_spec.proofs.WeekdayLemmas.{text_after_first-none, text_after_first-second, text_after_first-more}
 use Rattle.cal_spec.proofs.weekday_runs.put_run.Goals as goal
 

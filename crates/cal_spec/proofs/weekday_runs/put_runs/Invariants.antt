@@ -1,7 +1,7 @@
 -- The writer works, and what is left to write is the runs from a day on.
 use Rattle.std.proofs.Common.{◌≡◌, ◌-◌, false, drop, length}
 use Rattle.cal_bytes.specs.Bytes.{Leaves}
-use Rattle.cal_spec.specs.WeekdayRuns.{runs_from, runs_text}
+use Rattle.cal_spec.specs.headline.WeekdayRuns.{runs_from, runs_text}
 use Rattle.cal_spec.proofs.WeekdayLemmas.{led}
 use Rattle.cal_spec.proofs.weekday_runs.put_runs.Given as goal
 

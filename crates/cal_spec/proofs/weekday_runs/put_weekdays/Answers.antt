@@ -1,7 +1,7 @@
 use Rattle.std.proofs.Common.{codes, sym, ◌∙◌}
 use Rattle.std.proofs.KnownBytes.{Appends-nil}
 use Rattle.cal_bytes.proofs.Pieces.{start, step, stop, respell, finish_last, writes_err}
-use Rattle.cal_spec.specs.WeekdayRuns.{runs_from, runs_text, weekdays_text}
+use Rattle.cal_spec.specs.headline.WeekdayRuns.{runs_from, runs_text, weekdays_text}
 use Rattle.cal_spec.proofs.WeekdayLemmas.{weekdays_text-all, weekdays_text-some}
 use Rattle.cal_spec.proofs.weekday_runs.put_weekdays.Goals as goal
 

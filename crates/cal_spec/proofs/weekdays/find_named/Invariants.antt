@@ -1,7 +1,7 @@
 use Rattle.std.proofs.Common.{◌≡◌, drop, ◌||◌}
 use Rattle.std.specs.List.{find}
 use Rattle.std.specs.Str.{str_eq_ignore_ascii_case}
-use Rattle.cal_zone.specs.Weekday.{name_of, short_name_of}
+use Rattle.cal_zone.specs.headline.Weekday.{name_of, short_name_of}
 use Rattle.jiff_core.specs.declared.civil.weekday.Weekday.{Weekday}
 use Rattle.cal_spec.proofs.weekdays.find_named.Given as goal
 

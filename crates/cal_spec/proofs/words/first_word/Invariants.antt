@@ -1,7 +1,7 @@
 use Rattle.std.proofs.Common.{◌≡◌}
 use Rattle.std.specs.Option.{option_copied}
 use Rattle.cal_bytes.specs.SplitPieces.{left}
-use Rattle.cal_spec.specs.Words.{words}
+use Rattle.cal_spec.specs.headline.Words.{words}
 use Rattle.cal_spec.proofs.WordLemmas.{words_after}
 use Rattle.cal_spec.proofs.words.first_word.Given as goal
 

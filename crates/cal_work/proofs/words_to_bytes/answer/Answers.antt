@@ -1,4 +1,4 @@
-use Rattle.cal_zone.specs.Zone.{utc}
+use Rattle.cal_zone.specs.headline.Zone.{utc}
 use Rattle.cal_command.specs.Ask.{shown_local}
 use Rattle.cal_work.specs.Stop.{rule_stop}
 use Rattle.cal_work.proofs.WorkLemmas.{clock_stops, local_refused, local_stops, ran_whole, stops_other, zones_stop}

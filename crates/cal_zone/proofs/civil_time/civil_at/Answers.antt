@@ -3,7 +3,7 @@ use Rattle.jiff.specs.Types.{Fixed, TimeZone}
 use Rattle.jiff.specs.Words.{civil_nanos, nanos_of_seconds, offset_at}
 use Rattle.jiff.proofs.SpanFacts.{signed_arith}
 use Rattle.cal_zone.specs.Civil.{shown_at}
-use Rattle.cal_zone.specs.Zone.{local_of}
+use Rattle.cal_zone.specs.headline.Zone.{local_of}
 use Rattle.cal_zone.proofs.CivilLemmas.{shown_at-civil_of, IsCivil-shown_at}
 use Rattle.cal_zone.proofs.civil_time.civil_at.Goals as goal
 

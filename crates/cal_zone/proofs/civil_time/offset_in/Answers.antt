@@ -1,7 +1,7 @@
 use Rattle.std.proofs.Common.{◌∙◌, sym, ap}
 use Rattle.jiff.specs.Words.{offset_at}
 use Rattle.jiff.proofs.ZoneFacts.{offset_at-UTC, offset_at-fixed_zone}
-use Rattle.cal_zone.specs.Zone.{offset_of}
+use Rattle.cal_zone.specs.headline.Zone.{offset_of}
 use Rattle.cal_zone.proofs.ZoneLemmas.{zone_of-utc, zone_of-offset, zone_of-rules}
 use Rattle.cal_zone.proofs.civil_time.offset_in.Goals as goal
 

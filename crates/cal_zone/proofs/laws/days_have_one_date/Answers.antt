@@ -1,5 +1,5 @@
 use Rattle.std.proofs.Common.{sym, ap, ◌∙◌}
-use Rattle.cal_zone.specs.Days.{date_of}
+use Rattle.cal_zone.specs.headline.Days.{date_of}
 use Rattle.cal_zone.proofs.DayLemmas.{epoch_day-date_of, date_of-epoch_day}
 use Rattle.cal_zone.proofs.laws.days_have_one_date.Goals as goal
 

@@ -1,7 +1,7 @@
 use Rattle.std.proofs.Common.{◌≡◌, ◌∙◌, None, Some, FitsSigned, ap, arith, of_z, rules, sym, w64}
 use Rattle.std.proofs.lemmas.Int.{to_z-of_z}
 use Rattle.jiff.proofs.SpanFacts.{signed_arith}
-use Rattle.cal_zone.specs.Zone.{zone_of}
+use Rattle.cal_zone.specs.headline.Zone.{zone_of}
 use Rattle.cal_zone.proofs.LocalAtLemmas.{local_at-elsewhere, local_at-here, local_at-outside}
 use Rattle.cal_zone.proofs.locals.local_at.Goals as goal
 use Rattle.cal_zone.proofs.locals.local_at.Goals.{then-local-lt0-via-then-local-lt0, then-local-lt0-via-else-local-lt0+then-local-ge-END}

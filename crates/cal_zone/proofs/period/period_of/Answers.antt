@@ -2,7 +2,7 @@ use Rattle.std.proofs.Common.{◌∙◌, sym, ap, arith}
 use Rattle.jiff.specs.Words.{nanos_of_seconds, offset_at}
 use Rattle.jiff.proofs.SpanFacts.{signed_arith}
 use Rattle.jiff.proofs.ZoneFacts.{offset_at-UTC, offset_at-fixed_zone}
-use Rattle.cal_zone.specs.Zone.{offset_of}
+use Rattle.cal_zone.specs.headline.Zone.{offset_of}
 use Rattle.cal_zone.proofs.ZoneLemmas.{zone_of-utc, zone_of-offset, zone_of-rules}
 use Rattle.cal_zone.proofs.period.period_of.Goals as goal
 

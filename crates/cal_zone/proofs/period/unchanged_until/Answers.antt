@@ -1,7 +1,7 @@
 use Rattle.std.proofs.Common.{◌≡◌, ◌≤ℤ◌, ◌∙◌, ap, arith, neg_ℤ, of_z, pos, rules, to_z, w64, FitsSigned}
 use Rattle.std.proofs.lemmas.Int.{to_z-of_z}
 use Rattle.jiff.proofs.SpanFacts.{signed_arith}
-use Rattle.cal_zone.specs.Place.{datetime_of}
+use Rattle.cal_zone.specs.headline.Place.{datetime_of}
 use Rattle.cal_zone.specs.Steady.{year_end}
 use Rattle.cal_zone.proofs.RuleLemmas.{min_from}
 use Rattle.cal_zone.proofs.period.unchanged_until.Goals as goal

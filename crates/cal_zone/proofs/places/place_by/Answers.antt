@@ -1,7 +1,7 @@
 use Rattle.std.proofs.Common.{◌≡◌, ◌∙◌, ap, sym, Some, rules, w64, FitsSigned, to_z, of_z}
 use Rattle.std.proofs.lemmas.Int.{to_z-of_z}
-use Rattle.cal_zone.specs.Place.{settle_of}
-use Rattle.cal_zone.specs.Zone.{local_of}
+use Rattle.cal_zone.specs.headline.Place.{settle_of}
+use Rattle.cal_zone.specs.headline.Zone.{local_of}
 use Rattle.cal_zone.proofs.PlaceLemmas.{place_of-shown, place_of-skipped}
 use Rattle.cal_zone.proofs.places.place_by.Goals as goal
 

@@ -1,8 +1,8 @@
 use Rattle.std.proofs.Common.{◌≡◌, ◌-ℤ◌, ◌∙◌, sym, ap, arith, rules, w64, FitsSigned}
 use Rattle.std.proofs.lemmas.Int.{to_z-of_z}
 use Rattle.jiff.proofs.SpanFacts.{signed_arith}
-use Rattle.cal_zone.specs.Place.{settle_of}
-use Rattle.cal_zone.specs.Zone.{offset_of, zone_of}
+use Rattle.cal_zone.specs.headline.Place.{settle_of}
+use Rattle.cal_zone.specs.headline.Zone.{offset_of, zone_of}
 use Rattle.cal_zone.proofs.PlaceLemmas.{settle_of-UTC, settle_of-fixed_zone}
 use Rattle.cal_zone.proofs.ZoneLemmas.{zone_of-utc, zone_of-offset, zone_of-rules}
 use Rattle.cal_zone.proofs.places.settle.Goals as goal

@@ -3,7 +3,7 @@ use Rattle.std.proofs.lemmas.Int.{to_z-of_z}
 use Rattle.std.specs.Option.{option_map}
 use Rattle.jiff.proofs.SpanFacts.{signed_arith}
 use Rattle.jiff_tz.specs.PosixRule.{transition_view}
-use Rattle.cal_zone.specs.Place.{datetime_of}
+use Rattle.cal_zone.specs.headline.Place.{datetime_of}
 use Rattle.cal_zone.specs.Steady.{year_end}
 use Rattle.cal_zone.proofs.stretch.quiet_until.Goals as goal
 

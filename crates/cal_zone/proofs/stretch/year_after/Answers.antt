@@ -2,7 +2,7 @@ use Rattle.std.proofs.Common.{◌≡◌, ◌∙◌, ap, arith, rules, w64, FitsS
 use Rattle.std.proofs.lemmas.Int.{to_z-of_z}
 use Rattle.jiff.proofs.SpanFacts.{signed_arith}
 use Rattle.jiff.specs.Words.{epoch_day}
-use Rattle.cal_zone.specs.Place.{datetime_of}
+use Rattle.cal_zone.specs.headline.Place.{datetime_of}
 use Rattle.cal_zone.proofs.RuleLemmas.{year_end-december}
 use Rattle.cal_zone.proofs.stretch.year_after.Goals as goal
 

@@ -1,6 +1,6 @@
 use Rattle.std.proofs.Common.{None, Some, rules}
 use Rattle.cal_zone.specs.LocalAt.{IsLocalAt}
-use Rattle.cal_zone.specs.Zone.{zone_of}
+use Rattle.cal_zone.specs.headline.Zone.{zone_of}
 use Rattle.cal_elapse.proofs.ElapseSetLemmas.{has-local, has-none}
 use Rattle.cal_elapse.proofs.elapse_set.ElapseSet.has.Goals as goal
 

@@ -3,7 +3,7 @@ use Rattle.std.proofs.lemmas.Bool.{false≢true}
 use Rattle.std.proofs.lemmas.Int.{to_z-of_z}
 use Rattle.jiff.proofs.SpanFacts.{signed_arith}
 use Rattle.cal_rising.specs.RisingList.{is_in}
-use Rattle.cal_elapse.specs.Elapses.{IsPlace, Timed}
+use Rattle.cal_elapse.specs.headline.Elapses.{IsPlace, Timed}
 use Rattle.cal_elapse.specs.Rest.{rest_of}
 use Rattle.cal_elapse.specs.Window.{timed_of}
 use Rattle.cal_elapse.specs.declared.window.Window.{Window}

@@ -1,6 +1,6 @@
 use Rattle.std.proofs.Common.{arith, w64}
 use Rattle.std.proofs.lemmas.Int.{to_z_pos}
-use Rattle.cal_zone.specs.Local.{seconds_in_all-is}
+use Rattle.cal_zone.specs.headline.Local.{seconds_in_all-is}
 use Rattle.cal_elapse.proofs.MinuteLemmas.{left_inside, left_on, search_left}
 use Rattle.cal_elapse.proofs.searcher.Searcher.find_left.Goals as goal
 

@@ -1,5 +1,5 @@
 use Rattle.std.proofs.Common.{◌+◌, IsSome, arith, subst, sym, unwrap_or}
-use Rattle.cal_spec.specs.Match.{matches}
+use Rattle.cal_spec.specs.headline.Match.{matches}
 use Rattle.cal_elapse.specs.Masks.{sets_in}
 use Rattle.cal_elapse.specs.Most.{IsMostAfter}
 use Rattle.cal_elapse.proofs.CountLemmas.{count_from-nothing}

@@ -1,5 +1,5 @@
 use Rattle.std.proofs.Common.{arith}
-use Rattle.cal_zone.specs.Local.{seconds_in_all-is}
+use Rattle.cal_zone.specs.headline.Local.{seconds_in_all-is}
 use Rattle.cal_elapse.proofs.MinuteLemmas.{left_none}
 use Rattle.cal_elapse.proofs.searcher.Searcher.of.Goals as goal
 

@@ -1,5 +1,5 @@
 use Rattle.std.proofs.Common.{◌≡◌, ◌∙◌, ◌+◌, ◌-◌, Some, arith, refl, subst, sym, true}
-use Rattle.cal_spec.specs.Match.{matches}
+use Rattle.cal_spec.specs.headline.Match.{matches}
 use Rattle.cal_elapse.specs.Count.{count_from}
 use Rattle.cal_elapse.specs.Left.{IsNextLeft, NoneLeft}
 use Rattle.cal_elapse.specs.Masks.{sets_in}

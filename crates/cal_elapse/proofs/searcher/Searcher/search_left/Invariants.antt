@@ -1,6 +1,6 @@
 use Rattle.std.proofs.Common.{◌≡◌, ◌+◌, ◌-◌}
-use Rattle.cal_zone.specs.Local.{seconds_in_all}
-use Rattle.cal_spec.specs.Match.{matches}
+use Rattle.cal_zone.specs.headline.Local.{seconds_in_all}
+use Rattle.cal_spec.specs.headline.Match.{matches}
 use Rattle.cal_elapse.specs.Count.{count_from}
 use Rattle.cal_elapse.specs.Left.{IsRest}
 use Rattle.cal_elapse.specs.Masks.{sets_in}

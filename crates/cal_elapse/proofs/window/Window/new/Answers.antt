@@ -1,13 +1,13 @@
 use Rattle.std.proofs.Common.{◌≡◌, ◌∙◌, ℕ, FitsSigned, ap, of_z, rules, subst, subst₂, sym, to_z, w64}
 use Rattle.std.proofs.lemmas.Int.{to_z-of_z}
 use Rattle.cal_zone.specs.Instant.{IsInstant}
-use Rattle.cal_zone.specs.Local.{seconds_in_all}
+use Rattle.cal_zone.specs.headline.Local.{seconds_in_all}
 use Rattle.cal_elapse.specs.Looks.{IsSearch}
 use Rattle.cal_elapse.specs.Masks.{sets_in}
 use Rattle.cal_elapse.specs.Most.{IsLooked}
 use Rattle.cal_elapse.specs.Search.{IsFirstPassing}
 use Rattle.cal_elapse.specs.Window.{start_of, timed_by}
-use Rattle.cal_spec.specs.Match.{Sets, matches}
+use Rattle.cal_spec.specs.headline.Match.{Sets, matches}
 use Rattle.cal_elapse.proofs.MostLemmas.{most_of_first, search_looked}
 use Rattle.cal_elapse.proofs.ReadyLemmas.{begun_ready, timed_by-timed}
 use Rattle.cal_elapse.proofs.SearchLemmas.{found_low, passing_of}

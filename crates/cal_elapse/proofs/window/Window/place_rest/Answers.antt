@@ -1,10 +1,10 @@
 use Rattle.std.proofs.Common.{◌∙◌, ◌⊎◌, ◌↔◌, ◌+◌, ◌-◌, ◌*◌, ◌/◌, ◌-ℤ◌, FitsSigned, arith, pos, refl, rules, subst, sym, to_z, of_z, w64, ℤ}
 use Rattle.std.proofs.lemmas.Int.{to_z-of_z, to_z_pos}
 use Rattle.jiff.proofs.SpanFacts.{signed_arith}
-use Rattle.cal_zone.specs.Local.{seconds_in_all-is}
-use Rattle.cal_rising.specs.RisingList.{Has}
+use Rattle.cal_zone.specs.headline.Local.{seconds_in_all-is}
+use Rattle.cal_rising.specs.headline.RisingList.{Has}
 use Rattle.cal_elapse.specs.Ring.{IsOneOf}
-use Rattle.cal_zone.specs.Zone.{zone_of}
+use Rattle.cal_zone.specs.headline.Zone.{zone_of}
 use Rattle.cal_elapse.proofs.ReadyLemmas.{few_searches, placed_is_match}
 use Rattle.cal_elapse.proofs.RestLemmas.{ahead_near, ahead_there, behind_of, minute_end, place_is, rest_begun, rest_instants, rest_near, rest_passed, rest_put, start_is}
 use Rattle.cal_elapse.proofs.WindowLemmas.{near_ahead}

@@ -1,6 +1,6 @@
 use Rattle.std.proofs.Common.{arith}
 use Rattle.jiff.proofs.SpanFacts.{signed_arith}
-use Rattle.cal_zone.specs.Zone.{zone_of}
+use Rattle.cal_zone.specs.headline.Zone.{zone_of}
 use Rattle.cal_read.proofs.StampLemmas.{local_of-civil}
 use Rattle.cal_read.proofs.stamp.moment.local_second.Goals as goal
 

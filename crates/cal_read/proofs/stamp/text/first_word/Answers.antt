@@ -2,7 +2,7 @@ use Rattle.std.proofs.Common.{◌≡◌, ◌<◌, ap, sym, ◌∙◌, arith, len
 use Rattle.std.specs.List.{position_or_len}
 use Rattle.std.proofs.lemmas.Bool.Decides.{nat_tests}
 use Rattle.std.proofs.lemmas.List.{nil_from_length}
-use Rattle.cal_spec.specs.Words.{is_blank, words}
+use Rattle.cal_spec.specs.headline.Words.{is_blank, words}
 use Rattle.cal_read.proofs.StampText.{boundary_at, word_boundary, first_word, begins_with_word, words-from_solid, words-nil}
 use Rattle.cal_read.proofs.stamp.text.first_word.Goals as goal
 

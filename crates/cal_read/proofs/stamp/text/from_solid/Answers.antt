@@ -1,4 +1,4 @@
-use Rattle.cal_spec.specs.Words.{is_blank}
+use Rattle.cal_spec.specs.headline.Words.{is_blank}
 use Rattle.cal_read.proofs.StampText.{blank_ascii}
 use Rattle.cal_lines.proofs.TextEnds.{front_boundary}
 use Rattle.cal_read.proofs.stamp.text.from_solid.Goals as goal

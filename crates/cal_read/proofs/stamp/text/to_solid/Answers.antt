@@ -1,6 +1,6 @@
 use Rattle.std.proofs.Common.{arith, ap, ◌∙◌, ◌-◌, length}
 use Rattle.std.specs.List.{suffix_len}
-use Rattle.cal_spec.specs.Words.{is_blank}
+use Rattle.cal_spec.specs.headline.Words.{is_blank}
 use Rattle.cal_read.proofs.StampText.{blank_ascii, boundary_at}
 use Rattle.cal_lines.proofs.TextEnds.{end_boundary}
 use Rattle.cal_read.proofs.stamp.text.to_solid.Goals as goal

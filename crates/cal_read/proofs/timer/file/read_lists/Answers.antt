@@ -1,8 +1,8 @@
 use Rattle.std.proofs.Common.{◌∙◌, ap, false, sym}
 use Rattle.std.proofs.lemmas.Result.{err_from_is_err_and}
 use Rattle.cal_spec.specs.Expr.{expr_in}
-use Rattle.cal_read.specs.Assignments.{assignments_in}
-use Rattle.cal_lines.specs.Lines.{logical_lines}
+use Rattle.cal_read.specs.headline.Assignments.{assignments_in}
+use Rattle.cal_lines.specs.headline.Lines.{logical_lines}
 use Rattle.cal_read.specs.TimerView.{resumed, shown_lists}
 use Rattle.cal_read.proofs.ListedLemmas.{resumed_is_list}
 use Rattle.cal_read.proofs.ResumedLemmas.{no_lines}

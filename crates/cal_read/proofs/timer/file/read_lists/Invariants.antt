@@ -3,8 +3,8 @@ use Rattle.std.proofs.Common.{◌≡◌, ◌+◌, ◌≤◌, length, false, []}
 use denote.Shadow.{shadow}
 use denote.Text.{Utf8}
 use Rattle.cal_spec.specs.Expr.{expr_in}
-use Rattle.cal_read.specs.Assignments.{assignments_in}
-use Rattle.cal_lines.specs.Lines.{logical_lines}
+use Rattle.cal_read.specs.headline.Assignments.{assignments_in}
+use Rattle.cal_lines.specs.headline.Lines.{logical_lines}
 use Rattle.cal_read.specs.TimerView.{resumed, shown_lists}
 use Rattle.cal_read.proofs.timer.file.read_lists.Given as goal
 

@@ -2,7 +2,7 @@ use Rattle.std.proofs.Common.{◌∙◌, ap, sym, true, codes}
 use Rattle.std.specs.Str.{bytes_eq}
 use Rattle.std.proofs.lemmas.Result.{err_from_is_err_and}
 use Rattle.cal_spec.specs.Expr.{expr_in}
-use Rattle.cal_read.specs.Assignments.{assignments_in}
+use Rattle.cal_read.specs.headline.Assignments.{assignments_in}
 use Rattle.cal_lines.specs.LineView.{line_at}
 use Rattle.cal_read.specs.AssignmentView.{shown_assignment}
 use Rattle.cal_read.specs.TimerView.{resumed, shown_lists}

@@ -1,6 +1,6 @@
 -- The text and the counts of the units from the index on are the whole.
 use Rattle.std.proofs.Common.{◌≡◌, ◌+◌, ◌*◌, ◌≤◌, ◌++◌, length, drop}
-use Rattle.cal_span.specs.SpanText.{row_text, positive, counts_of}
+use Rattle.cal_span.specs.headline.SpanText.{row_text, positive, counts_of}
 use Rattle.cal_span.proofs.SpanCounts.{led}
 use Rattle.cal_span.proofs.span.text.push_counts.Given as goal
 

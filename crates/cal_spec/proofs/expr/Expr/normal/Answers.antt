@@ -3,7 +3,7 @@ use Rattle.cal_spec.specs.Expr.{IsExpr}
 use Rattle.cal_spec.specs.declared.fields.Fields as declared_fields
 use Rattle.cal_spec.specs.Fields.{fields_of}
 use Rattle.cal_spec.specs.NormalForm.{normal_fields}
-use Rattle.cal_spec.specs.Slot.{day_slot}
+use Rattle.cal_spec.specs.headline.Slot.{day_slot}
 use Rattle.cal_spec.specs.declared.slot.Slot.TheVariants.{Year, Month, Hour, Minute, Second}
 use Rattle.cal_spec.proofs.NormalLemmas.{parts_from_sound}
 use Rattle.cal_spec.proofs.NormalFieldsLemmas.{fields_valid, fields_twice}

@@ -2,7 +2,7 @@ use Rattle.std.proofs.Common.{◌≡◌, ◌∙◌, ◌++◌, ap, sym, arith, of
 use Rattle.std.proofs.lemmas.Int.{to_z-of_z}
 use Rattle.cal_zone.specs.ShownDay.{text_on}
 use Rattle.jiff.proofs.SpanFacts.{signed_arith}
-use Rattle.cal_zone.specs.InstantText.{instant_text}
+use Rattle.cal_zone.specs.headline.InstantText.{instant_text}
 use Rattle.cal_zone.proofs.clock.Clock.push_outside.Goals as goal
 
 pub push-requires-clause-day : goal.push-requires-clause-day

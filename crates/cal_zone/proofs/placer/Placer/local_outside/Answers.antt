@@ -1,7 +1,7 @@
 use Rattle.std.proofs.Common.{arith, w64}
 use Rattle.std.proofs.lemmas.Int.{to_z_pos}
 use Rattle.jiff.proofs.SpanFacts.{signed_arith}
-use Rattle.cal_zone.specs.Local.{seconds_in_all-is}
+use Rattle.cal_zone.specs.headline.Local.{seconds_in_all-is}
 use Rattle.cal_zone.proofs.placer.Placer.local_outside.Goals as goal
 
 pub overflow_cast-local : goal.overflow_cast-local

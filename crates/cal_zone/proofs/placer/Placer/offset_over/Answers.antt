@@ -1,8 +1,8 @@
 use Rattle.std.proofs.Common.{◌∙◌, ap, sym, Some, arith}
 use Rattle.std.proofs.lemmas.Bool.{false≢true}
 use Rattle.jiff.proofs.SpanFacts.{signed_arith}
-use Rattle.cal_zone.specs.Place.{place_of}
-use Rattle.cal_zone.specs.Zone.{zone_of}
+use Rattle.cal_zone.specs.headline.Place.{place_of}
+use Rattle.cal_zone.specs.headline.Zone.{zone_of}
 use Rattle.cal_zone.proofs.PlaceLemmas.{place_of-UTC}
 use Rattle.cal_zone.proofs.ZoneLemmas.{zone_of-utc}
 use Rattle.cal_zone.proofs.placer.Placer.offset_over.Goals as goal

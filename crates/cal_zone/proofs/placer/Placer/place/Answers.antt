@@ -2,8 +2,8 @@ use Rattle.std.proofs.Common.{◌≡◌, ◌-ℤ◌, ◌∙◌, ap, sym, Some, a
 use Rattle.std.proofs.lemmas.Bool.{false≢true}
 use Rattle.std.proofs.lemmas.Int.{to_z-of_z}
 use Rattle.jiff.proofs.SpanFacts.{signed_arith}
-use Rattle.cal_zone.specs.Place.{place_of}
-use Rattle.cal_zone.specs.Zone.{zone_of}
+use Rattle.cal_zone.specs.headline.Place.{place_of}
+use Rattle.cal_zone.specs.headline.Zone.{zone_of}
 use Rattle.cal_zone.proofs.PlaceLemmas.{place_of-UTC, within}
 use Rattle.cal_zone.proofs.ZoneLemmas.{zone_of-utc}
 use Rattle.cal_zone.proofs.placer.Placer.place.Goals as goal

@@ -1,7 +1,7 @@
 use Rattle.std.proofs.Common.{◌≡◌, ◌∙◌, ap, sym, Some, arith, rules, w64, FitsSigned}
 use Rattle.std.proofs.lemmas.Int.{to_z-of_z}
 use Rattle.jiff.proofs.SpanFacts.{signed_arith}
-use Rattle.cal_zone.specs.Place.{place_of}
+use Rattle.cal_zone.specs.headline.Place.{place_of}
 use Rattle.cal_zone.proofs.PlaceLemmas.{within}
 use Rattle.cal_zone.proofs.PlacerLemmas.{place_of-alike}
 use Rattle.cal_zone.proofs.rules.Rules.stretch_until.Goals as goal

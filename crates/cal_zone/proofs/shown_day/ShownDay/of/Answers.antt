@@ -3,8 +3,9 @@ use Rattle.std.proofs.lemmas.Int.{to_z-of_z}
 use Rattle.jiff.proofs.SpanFacts.{signed_arith}
 use Rattle.jiff.specs.Words.{nanos_of_seconds, offset_at}
 use Rattle.cal_zone.specs.Civil.{at_second}
-use Rattle.cal_zone.specs.InstantText.{day_text, zone_word}
-use Rattle.cal_zone.specs.Zone.{is_utc, zone_of}
+use Rattle.cal_zone.specs.InstantText.{day_text}
+use Rattle.cal_zone.specs.headline.InstantText.{zone_word}
+use Rattle.cal_zone.specs.headline.Zone.{is_utc, zone_of}
 use Rattle.cal_zone.proofs.RuleLemmas.{min_from}
 use Rattle.cal_zone.proofs.ShownDayLemmas.{day_goes_on, max_to, seconds_shown, text_on_day}
 use Rattle.cal_zone.proofs.shown_day.ShownDay.of.Goals as goal

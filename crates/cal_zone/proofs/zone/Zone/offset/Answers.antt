@@ -1,6 +1,6 @@
 use Rattle.std.proofs.Common.{arith, rules, w32, FitsSigned}
 use Rattle.std.proofs.lemmas.Int.{ints}
-use Rattle.cal_zone.specs.ZoneAhead.{offset_of_seconds, zone_ahead}
+use Rattle.cal_zone.specs.headline.ZoneAhead.{offset_of_seconds, zone_ahead}
 use Rattle.cal_zone.proofs.OffsetWordLemmas.{nearest}
 use Rattle.cal_zone.proofs.ZoneLemmas.{zone_of-ahead}
 use Rattle.cal_zone.proofs.zone.Zone.offset.Goals as goal

@@ -1,8 +1,8 @@
 use Rattle.std.proofs.Common.{◌∙◌, sym, ap, is_some}
 use Rattle.std.specs.FinMap.{insert}
-use Rattle.cal_zone.specs.Zone.{zone_of}
+use Rattle.cal_zone.specs.headline.Zone.{zone_of}
 use Rattle.cal_zone.specs.ZoneMap.{zones_in}
-use Rattle.cal_zone.specs.ZoneName.{is_zone_name}
+use Rattle.cal_zone.specs.headline.ZoneName.{is_zone_name}
 use Rattle.cal_zone.proofs.ZoneMapLemmas.{is_some-option_map, zones_in-insert}
 use Rattle.cal_zone.proofs.zone_table.ZoneTable.add.Goals as goal
 

@@ -1,10 +1,10 @@
 -- Lines of the reports (systemd-analyze(1), calendar and timestamp): the text as it was handed in, an instant in UTC, and
 -- how far it lies from the present.
 use Rattle.std.specs.Prelude.{ℕ, ℤ, pos, ◌-ℤ◌, ◌*ℤ◌, int_lt, unsigned_abs, List, [], ◌∷◌, if◌then◌else◌, codes}
-use Rattle.cal_bytes.specs.Bytes.{joined}
-use Rattle.cal_zone.specs.InstantText.{instant_text}
-use Rattle.cal_span.specs.SpanText.{span_text}
-use Rattle.cal_zone.specs.Zone.{is_utc, utc}
+use Rattle.cal_bytes.specs.headline.Bytes.{joined}
+use Rattle.cal_zone.specs.headline.InstantText.{instant_text}
+use Rattle.cal_span.specs.headline.SpanText.{span_text}
+use Rattle.cal_zone.specs.headline.Zone.{is_utc, utc}
 use Rattle.cal_zone.specs.declared.zone.Zone.{Zone}
 
 -- the line of a text as it was handed in, and the label of the next

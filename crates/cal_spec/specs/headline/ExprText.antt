@@ -2,11 +2,11 @@
 -- other numbers two, steps no padding.
 use Rattle.std.specs.Prelude.{ℕ, Bool, if◌then◌else◌, List, [], ◌∷◌, Option, None, Some, codes, decimal}
 use Rattle.std.specs.List.{join_by}
-use Rattle.cal_bytes.specs.Bytes.{joined}
-use Rattle.cal_zone.specs.InstantText.{zeros}
-use Rattle.cal_spec.specs.Fields.{Fields}
-use Rattle.cal_spec.specs.WeekdayRuns.{weekdays_text}
-use Rattle.cal_spec.specs.ZoneSuffix.{ZoneSuffix, suffix_text}
+use Rattle.cal_bytes.specs.headline.Bytes.{joined}
+use Rattle.cal_zone.specs.headline.InstantText.{zeros}
+use Rattle.cal_spec.specs.headline.Fields.{Fields}
+use Rattle.cal_spec.specs.headline.WeekdayRuns.{weekdays_text}
+use Rattle.cal_spec.specs.headline.ZoneSuffix.{ZoneSuffix, suffix_text}
 use Rattle.cal_spec.specs.declared.part.Part.{Part}
 
 -- a number in at least that many digits, with what leads up to it in front

@@ -2,7 +2,7 @@
 use Rattle.std.specs.Prelude.{ℕ, ◌+◌, ◌-◌, ◌/◌, ◌%◌, Bool, ◌&&◌, nat_lt, unsigned_abs, if◌then◌else◌}
 use Rattle.jiff.specs.Types.{Date}
 use Rattle.jiff.specs.Words.{month_length, weekday_of}
-use Rattle.cal_zone.specs.Local.{civil_date, hour_of, minute_of, second_of, seconds_in_all}
+use Rattle.cal_zone.specs.headline.Local.{civil_date, hour_of, minute_of, second_of, seconds_in_all}
 
 -- the members of each field; weekdays count from 0 for Monday, and the day is a count from the month's end
 -- where `from_end` is set

@@ -2,7 +2,7 @@
 use Rattle.std.specs.Prelude.{ℕ, ◌-◌, ◌==◌, Bool, ◌&&◌, if◌then◌else◌, List, [], ◌∷◌, length, map, take, drop, slice_index, codes, Option, None, Some}
 use Rattle.std.specs.List.{after_first, before_first, filter_map, list_any}
 use Rattle.std.specs.Str.{bytes_eq}
-use Rattle.cal_lines.specs.Lines.{Line, trim}
+use Rattle.cal_lines.specs.headline.Lines.{Line, trim}
 
 -- a logical line that begins with `[` and ends with `]` opens the section named between them
 abbrev pub is_header : List ℕ → Bool

@@ -1,11 +1,11 @@
 -- What a calendar expression in a zone means: systemd.time(7), Calendar Events.
 use Rattle.std.specs.Prelude.{pos}
 use Rattle.jiff.specs.Types.{TimeZone}
-use Rattle.cal_zone.specs.Place.{place_of}
-use Rattle.cal_elapse.specs.Elapses.{Timed}
-use Rattle.cal_spec.specs.Fields.{Fields}
-use Rattle.cal_spec.specs.Match.{matches}
-use Rattle.cal_spec.specs.Members.{sets_of}
+use Rattle.cal_zone.specs.headline.Place.{place_of}
+use Rattle.cal_elapse.specs.headline.Elapses.{Timed}
+use Rattle.cal_spec.specs.headline.Fields.{Fields}
+use Rattle.cal_spec.specs.headline.Match.{matches}
+use Rattle.cal_spec.specs.headline.Members.{sets_of}
 
 -- the local seconds that match, and their places on the zone's clock
 unfoldable pub timed : Fields → TimeZone → Timed

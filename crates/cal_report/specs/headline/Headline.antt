@@ -5,23 +5,23 @@ use Rattle.std.specs.List.{AllByRecursion, AllZip, filter_map, flat_map, join_by
 use Rattle.std.specs.Result.{result_err, result_ok}
 use Rattle.std.specs.Str.{is_utf8}
 use Rattle.jiff.specs.Types.{TimeZone}
-use Rattle.cal_zone.specs.Zone.{zone_of}
-use Rattle.cal_zone.specs.ZoneAhead.{zone_ahead}
-use Rattle.cal_zone.specs.ZoneTable.{zone_named}
-use Rattle.cal_lines.specs.Lines.{logical_lines}
-use Rattle.cal_spec.specs.Fields.{Fields}
-use Rattle.cal_spec.specs.ZoneSuffix.{ZoneSuffix, of_name, ahead}
-use Rattle.cal_spec.specs.GrammarRule.{IsValid}
-use Rattle.cal_spec.specs.NormalForm.{IsNormalFieldsOf}
-use Rattle.cal_elapse.specs.Elapses.{AreElapses, Timed}
-use Rattle.cal_elapse.specs.Timed.{timed}
-use Rattle.cal_read.specs.Assignments.{Assignment, assignments_in}
-use Rattle.cal_read.specs.TimerText.{excepted, is_exception, is_expression, listed, most_expressions, without_mark}
-use Rattle.cal_report.specs.CalendarReport.{heading_text}
-use Rattle.cal_report.specs.TimerReport.{exception_text}
-use Rattle.cal_report.specs.ElapseLines.{elapses_text}
-use Rattle.cal_report.specs.Report.{Report}
-use Rattle.cal_request.specs.Request.{Request}
+use Rattle.cal_zone.specs.headline.Zone.{zone_of}
+use Rattle.cal_zone.specs.headline.ZoneAhead.{zone_ahead}
+use Rattle.cal_zone.specs.headline.ZoneTable.{zone_named}
+use Rattle.cal_lines.specs.headline.Lines.{logical_lines}
+use Rattle.cal_spec.specs.headline.Fields.{Fields}
+use Rattle.cal_spec.specs.headline.ZoneSuffix.{ZoneSuffix, of_name, ahead}
+use Rattle.cal_spec.specs.headline.GrammarRule.{IsValid}
+use Rattle.cal_spec.specs.headline.NormalForm.{IsNormalFieldsOf}
+use Rattle.cal_elapse.specs.headline.Elapses.{AreElapses, Timed}
+use Rattle.cal_elapse.specs.headline.Timed.{timed}
+use Rattle.cal_read.specs.headline.Assignments.{Assignment, assignments_in}
+use Rattle.cal_read.specs.headline.TimerText.{excepted, is_exception, is_expression, listed, most_expressions, without_mark}
+use Rattle.cal_report.specs.headline.CalendarReport.{heading_text}
+use Rattle.cal_report.specs.headline.TimerReport.{exception_text}
+use Rattle.cal_report.specs.headline.ElapseLines.{elapses_text}
+use Rattle.cal_report.specs.headline.Report.{Report}
+use Rattle.cal_request.specs.headline.Request.{Request}
 use Rattle.cal_request.specs.declared.request.Status.TheVariants.{Fine, Refused}
 
 -- an expression that is asked for: its text, its fields in their normal form, and the zone in which it is meant

@@ -1,7 +1,7 @@
 -- The date of a day number, counted from 1970-01-01: the one date of `jiff`'s calendar that has this number.
 use Rattle.std.specs.Prelude.{ℤ}
 use Rattle.jiff.specs.Types.{Date}
-use Rattle.cal_zone.specs.DayAfter.{dated}
+use Rattle.cal_zone.specs.headline.DayAfter.{dated}
 
 unfoldable pub date_of : ℤ → Date
 date_of day = (dated day).date

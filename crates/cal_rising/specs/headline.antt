@@ -1,0 +1,2 @@
+-- The definitions that the headline rests on.
+pub mod RisingList

@@ -1,0 +1,34 @@
+-- The units of time of systemd.time(7), Parsing Time Spans.
+use Rattle.std.specs.Prelude.{ℕ, List, [], ◌∷◌, codes}
+use Rattle.cal_span.specs.declared.scale.Scale.{Scale}
+use Rattle.cal_span.specs.declared.scale.Scale.TheVariants.{Year, Month, Week, Day, Hour, Minute, Second, Millisecond, Microsecond}
+
+-- how many microseconds a unit has: a year is 365.25 days, and a month a twelfth of it
+-- (systemd.time(7), Parsing Time Spans)
+abbrev pub size_of : Scale → ℕ
+size_of Year = 31557600000000
+size_of Month = 2629800000000
+size_of Week = 604800000000
+size_of Day = 86400000000
+size_of Hour = 3600000000
+size_of Minute = 60000000
+size_of Second = 1000000
+size_of Millisecond = 1000
+size_of Microsecond = 1
+
+-- the units from the largest down
+abbrev pub scales : List Scale
+scales =
+    Year ∷ Month ∷ Week ∷ Day ∷ Hour ∷ Minute ∷ Second ∷ Millisecond ∷ Microsecond ∷ []
+
+-- the spelling in which a unit is printed (systemd.time(7), Parsing Time Spans)
+unfoldable pub name_of : Scale → List ℕ
+name_of Year = codes "y"
+name_of Month = codes "month"
+name_of Week = codes "w"
+name_of Day = codes "d"
+name_of Hour = codes "h"
+name_of Minute = codes "min"
+name_of Second = codes "s"
+name_of Millisecond = codes "ms"
+name_of Microsecond = codes "us"

@@ -1,0 +1,42 @@
+-- How a time span is printed (systemd.time(7), Parsing Time Spans): from the largest unit down, the
+-- greatest whole count that fits what is left, counts of zero left out.
+use Rattle.std.specs.Prelude.{◌≡◌, ℕ, ◌/◌, ◌%◌, List, [], ◌∷◌, codes, decimal, filter, nat_lt}
+use Rattle.std.specs.List.{join_by}
+use Rattle.cal_bytes.specs.headline.Bytes.{joined}
+use Rattle.cal_span.specs.headline.Scale.{size_of, scales, name_of}
+use Rattle.cal_span.specs.declared.scale.Scale.{Scale}
+
+-- that many of one unit
+pub record Count : Type 0 where
+  pub number : ℕ
+  pub unit : Scale
+
+-- the counts that aren't zero
+abbrev pub positive : List Count → List Count
+positive = filter (λ c. nat_lt 0 c.number)
+
+-- a count as it is printed: its digits, and with no blank between them its unit
+abbrev pub count_text : Count → List ℕ
+count_text c = joined (decimal c.number ∷ name_of c.unit ∷ [])
+
+-- counts in a row, one space between them
+unfoldable pub row_text : List Count → List ℕ
+row_text = join_by count_text (codes " ")
+
+-- counts as they are printed: `0` where there is none
+abbrev pub counts_text : List Count → List ℕ
+counts_text [] = codes "0"
+counts_text (c ∷ cs) = row_text (c ∷ cs)
+
+-- the counts by division, unit by unit
+abbrev pub counts_of : List Scale → ℕ → List Count
+counts_of [] n = []
+counts_of (unit ∷ units) n = record { number = n / size_of unit; unit = unit } ∷ counts_of units (n % size_of unit)
+
+-- the text of n in the given units
+unfoldable pub units_text : List Scale → ℕ → List ℕ
+units_text units n = counts_text (positive (counts_of units n))
+
+-- the span text of n
+abbrev pub span_text : ℕ → List ℕ
+span_text = units_text scales

@@ -1,0 +1,17 @@
+-- The definitions that the headline rests on.
+pub mod DateAndTime
+pub mod ExprText
+pub mod Fields
+pub mod GrammarRule
+pub mod Match
+pub mod Members
+pub mod NormalForm
+pub mod Order
+pub mod Parts
+pub mod Shorthand
+pub mod Slot
+pub mod Sound
+pub mod WeekdayRuns
+pub mod Weekdays
+pub mod Words
+pub mod ZoneSuffix

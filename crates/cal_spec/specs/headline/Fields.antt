@@ -1,0 +1,28 @@
+-- The fields of a calendar expression: systemd.time(7), Calendar Events.
+use Rattle.std.specs.Prelude.{ℕ, ◌+◌, ◌-◌, Bool, List, length, Option, None, Some}
+use Rattle.cal_spec.specs.headline.ZoneSuffix.{ZoneSuffix}
+use Rattle.cal_spec.specs.declared.part.Part.{Part}
+
+-- the weekdays from Monday on, six components of which None is `*`, whether the day is counted from the month's
+-- end, and the zone
+pub record Fields : Type 0 where
+  pub weekdays : List Bool
+  pub year : Option (List Part)
+  pub month : Option (List Part)
+  pub day : Option (List Part)
+  pub hour : Option (List Part)
+  pub minute : Option (List Part)
+  pub second : Option (List Part)
+  pub from_end : Bool
+  pub zone : Option ZoneSuffix
+
+-- how many parts a component has
+abbrev pub parts_in : Option (List Part) → ℕ
+parts_in None = 0
+parts_in (Some ps) = length ps
+
+-- the parts that are counted: all but the first of the hour, of the minute and of the second
+unfoldable pub counted_parts : Fields → ℕ
+counted_parts f =
+    parts_in f.year + parts_in f.month + parts_in f.day
+    + (parts_in f.hour - 1) + (parts_in f.minute - 1) + (parts_in f.second - 1)

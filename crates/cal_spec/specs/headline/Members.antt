@@ -1,0 +1,56 @@
+-- The numbers that a component of a calendar expression holds: systemd.time(7), Calendar Events.
+use Rattle.std.specs.Prelude.{◌==◌, ℕ, ◌-◌, ◌%◌, Bool, false, ◌&&◌, nat_le, List, Option, None, Some, slice_index_or}
+use Rattle.std.specs.List.{list_any}
+use Rattle.cal_spec.specs.headline.Fields.{Fields}
+use Rattle.cal_spec.specs.headline.Match.{Sets}
+use Rattle.cal_spec.specs.headline.Slot.{least, greatest, day_slot}
+use Rattle.cal_spec.specs.declared.field.Field.TheVariants as field
+use Rattle.cal_spec.specs.declared.part.Part.{Part}
+use Rattle.cal_spec.specs.declared.slot.Slot.{Slot}
+use Rattle.cal_spec.specs.declared.slot.Slot.TheVariants.{Year, Month, Day, DayFromEnd, Hour, Minute, Second}
+
+-- the numbers from a to b
+abbrev pub lies : ℕ → ℕ → ℕ → Bool
+lies a b v = nat_le a v && nat_le v b
+
+-- those of them whose distance is a multiple of r
+abbrev pub lies_by : ℕ → ℕ → ℕ → ℕ → ℕ → Bool
+lies_by a b r distance v = lies a b v && (distance % r == 0)
+
+-- `a/r`: a, a + r, .. up to the greatest number of the field; as counts from the month's end a, a - r, .. down to 1
+abbrev pub repeats : Slot → ℕ → ℕ → ℕ → Bool
+repeats DayFromEnd a r v = lies_by 1 a r (a - v) v
+repeats slot a r v = lies_by a (greatest slot) r (v - a) v
+
+-- `a`, `a/r`, `a..b` and `a..b/r`
+abbrev pub values : Slot → ℕ → Option ℕ → Option ℕ → ℕ → Bool
+values slot a None None v = v == a
+values slot a None (Some r) v = repeats slot a r v
+values slot a (Some b) None v = lies a b v
+values slot a (Some b) (Some r) v = lies_by a b r (v - a) v
+
+unfoldable pub part_has : Slot → Part → ℕ → Bool
+part_has slot p v = values slot p.start p.end p.step v
+
+-- `*`: the whole field; a count from the month's end goes as far as a day
+abbrev pub in_field : Slot → ℕ → Bool
+in_field DayFromEnd v = lies (least Day) (greatest Day) v
+in_field slot v = lies (least slot) (greatest slot) v
+
+-- the members of a component are those of its parts together
+abbrev pub component_has : Slot → Option (List Part) → ℕ → Bool
+component_has slot None v = in_field slot v
+component_has slot (Some ps) v = list_any (λ p. part_has slot p v) ps
+
+-- the members of each field
+unfoldable pub sets_of : Fields → Sets
+sets_of f = record {
+  weekday = λ v. slice_index_or f.weekdays v false;
+  year = component_has Year f.year;
+  month = component_has Month f.month;
+  day = component_has (day_slot f.from_end) f.day;
+  hour = component_has Hour f.hour;
+  minute = component_has Minute f.minute;
+  second = component_has Second f.second;
+  from_end = f.from_end;
+}

@@ -1,0 +1,14 @@
+-- The definitions that the headline rests on.
+pub mod Civil
+pub mod DayAfter
+pub mod Days
+pub mod InstantText
+pub mod Local
+pub mod OffsetWord
+pub mod Place
+pub mod Weekday
+pub mod Zone
+pub mod ZoneAhead
+pub mod ZoneMap
+pub mod ZoneName
+pub mod ZoneTable

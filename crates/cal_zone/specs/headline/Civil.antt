@@ -1,0 +1,27 @@
+-- What a clock in a zone shows at an instant.
+use Rattle.std.specs.Prelude.{ℕ, ◌+◌, ℤ}
+use Rattle.jiff.specs.Types.{Date, TimeZone}
+use Rattle.jiff.specs.Words.{nanos_of_seconds, offset_at, weekday_of}
+use Rattle.cal_zone.specs.declared.civil_fields.Civil.{Civil}
+use Rattle.cal_zone.specs.headline.Days.{date_of}
+use Rattle.cal_zone.specs.headline.Local.{day_of, second_of_day, hour_of, minute_of, second_of}
+use Rattle.cal_zone.specs.headline.Zone.{local_of}
+
+-- the fields of a date, a second after its midnight and an offset; Monday is weekday 1
+abbrev pub fields_of : Date → ℕ → ℤ → Civil
+fields_of date second offset = record {
+  year = date.year;
+  month = date.month;
+  day = date.day;
+  weekday = weekday_of date + 1;
+  hour = hour_of second;
+  minute = minute_of second;
+  second = second_of second;
+  offset = offset;
+}
+
+-- the civil time at a second of Unix time
+unfoldable pub civil_of : TimeZone → ℤ → Civil
+civil_of tz second =
+    let local = local_of tz second in
+    fields_of (date_of (day_of local)) (second_of_day local) (offset_at tz (nanos_of_seconds second))

@@ -1,0 +1,41 @@
+-- A fixed offset in a zone's place, `+hh:mm` or `-hh:mm`: systemd.time(7), Calendar Events and Parsing Timestamps, with
+-- this project's own form beside the names of zones.
+use Rattle.std.specs.Prelude.{ℕ, ℤ, ◌+◌, ◌*◌, ◌≤◌, ◌≡◌, ◌⊎◌, ◌||◌, ◌==◌, Bool, true, false, pos, neg_ℤ, List, [], ◌∷◌, ◌++◌, length, codes}
+use Rattle.std.specs.Char.{is_ascii_digit}
+use Rattle.std.specs.List.{list_all}
+use Rattle.std.specs.Str.Parse.{digits_value}
+
+-- `+` and `-`
+abbrev pub is_sign : ℕ → Bool
+is_sign b = (b == 43) || (b == 45)
+
+abbrev pub begins_with_sign : List ℕ → Bool
+begins_with_sign [] = false
+begins_with_sign (b ∷ bs) = is_sign b
+
+-- two digits that write the number
+pub record AreTwoDigits (text : List ℕ) (n : ℕ) : Type 0 where
+  pub two : length text ≡ 2
+  pub digits : list_all is_ascii_digit text ≡ true
+  pub value : digits_value 10 text ≡ n
+
+-- hours from 00 to 25, a colon, and minutes from 00 to 59
+pub record IsClock (text : List ℕ) (seconds : ℕ) : Type 0 where
+  pub hour : List ℕ
+  pub minute : List ℕ
+  pub hours : ℕ
+  pub minutes : ℕ
+  pub whole : text ≡ hour ++ (codes ":" ++ minute)
+  pub hour_is : AreTwoDigits hour hours
+  pub minute_is : AreTwoDigits minute minutes
+  pub hours_in : hours ≤ 25
+  pub minutes_in : minutes ≤ 59
+  pub sum : seconds ≡ hours * 3_600 + minutes * 60
+
+-- a sign before them
+pub record IsOffsetWord (word : List ℕ) (seconds : ℤ) : Type 0 where
+  pub clock : List ℕ
+  pub distance : ℕ
+  pub clock_is : IsClock clock distance
+  pub signed :
+      ((word ≡ codes "+" ++ clock) × (seconds ≡ pos distance)) ⊎ ((word ≡ codes "-" ++ clock) × (seconds ≡ neg_ℤ (pos distance)))

@@ -1,0 +1,36 @@
+-- Where the local seconds of a zone lie on the clock of Unix time.
+use Rattle.std.specs.Prelude.{◌<◌, ℕ, ℤ, ◌-ℤ◌, Option, Some, None, if◌then◌else◌}
+use Rattle.std.specs.Ordering.{int_eq}
+use Rattle.std.proofs.Common.{arith}
+use Rattle.jiff.proofs.SpanFacts.{signed_arith}
+use Rattle.jiff.specs.Types.{DateTime, Time, TimeZone}
+use Rattle.jiff.specs.Words.{ambiguous_at, compatible_offset}
+use Rattle.cal_zone.specs.headline.Days.{date_of}
+use Rattle.cal_zone.specs.headline.Local.{day_of, second_of_day, hour_of, minute_of, second_of}
+use Rattle.cal_zone.specs.headline.Zone.{local_of}
+
+-- the time of day that many seconds after midnight
+unfoldable pub time_of : (second : ℕ) → second < 86_400 → Time
+time_of second h = record {
+  hour = hour_of second;
+  minute = minute_of second;
+  second = second_of second;
+  subsec_nanosecond = 0;
+  hour_in = omega arith;
+  minute_in = omega arith;
+  second_in = omega arith;
+  subsec_in = omega arith;
+}
+
+-- the civil time of a local second
+unfoldable pub datetime_of : ℤ → DateTime
+datetime_of local = record { date = date_of (day_of local); time = time_of (second_of_day local) (omega (arith, signed_arith)) }
+
+-- the second of Unix time that `jiff`'s compatible conversion gives for a local second
+unfoldable pub settle_of : TimeZone → ℤ → ℤ
+settle_of tz local = local -ℤ (compatible_offset (ambiguous_at tz (datetime_of local))).seconds
+
+-- the place of a local second: that second, if the zone's clock shows the local second there; a local second
+-- that the clock skips has none, and of one that it shows twice this is the first
+unfoldable pub place_of : TimeZone → ℤ → Option ℤ
+place_of tz local = if int_eq (local_of tz (settle_of tz local)) local then Some (settle_of tz local) else None

@@ -1,0 +1,9 @@
+-- What contracts see of a zone table: a finite map from names to zones.
+use Rattle.std.specs.Cmp.Lexicographic.{slice_cmp}
+use Rattle.std.specs.FinMap.{FinMap}
+use Rattle.std.specs.Ordering.{nat_cmp}
+use Rattle.jiff.specs.Types.{TimeZone}
+
+-- a finite map from names to zones as `jiff` has them
+abbrev pub ZoneMap : Type 0
+ZoneMap = FinMap (slice_cmp nat_cmp) TimeZone
