@@ -1,4 +1,4 @@
-//! Sources of rising numbers and merges of them, for the rooms that try merges.
+//! Sources of rising numbers and merges of them, for the modules that try merges.
 
 ghost use Rattle.std.specs.Prelude.{◌≡◌, false, IfOk};
 ghost use Rattle.cal_rising.specs.headline.RisingList.{IsRising};

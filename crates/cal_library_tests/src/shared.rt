@@ -1,4 +1,4 @@
-//! What the rooms of both crates of tests share: values that are read from texts which are known to be good. Where one is
+//! What the modules of both crates of tests share: values that are read from texts which are known to be good. Where one is
 //! refused, or memory is, the test fails.
 
 use cal_base::{Instant, Rules};
