@@ -3,7 +3,7 @@ use Rattle.std.specs.Prelude.{◌≡◌, ⊤, Result, Ok, Err}
 use Rattle.std.specs.Option.{option_copied}
 use Rattle.cal_command.specs.Ask.{CommandFault, usage, help, bad_iterations, bad_now, bad_zones, bad_local, no_memory, Ask, texts_of}
 use Rattle.cal_command.specs.CommandLine.{Given as Values}
-use Rattle.cal_command.specs.declared.command_line.Given.{Given}
+use Rattle.cal_command.specs.declared.given.Given.{Given}
 
 abbrev pub values_of : Given → Values
 values_of given = record {

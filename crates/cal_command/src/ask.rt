@@ -1,8 +1,7 @@
 //! What the words of the command line ask for (systemd-analyze(1)).
 
-ghost use Rattle.std.specs.Prelude.{◌≡◌, ◌<◌, None, true, false, vec_len};
+ghost use Rattle.std.specs.Prelude.{◌<◌, vec_len};
 ghost use Rattle.cal_command.specs.LocalZone.{IsLocalOffset};
-ghost use Rattle.cal_request.specs.Request.{IsCount, is_timer, seeks_elapses};
 
 use cal_request::Request;
 use cal_zone::Instant;
@@ -12,8 +11,7 @@ use cal_zone::Instant;
 /// The field of an option that the verb lacks holds what it holds where the option isn't given.
 #[derive(Debug, Drop)]
 pub struct Ask {
-    /// What is asked of each text. There is at least one text, for a timer only one, and a base only where elapses are
-    /// sought.
+    /// What is asked of each text. There is at least one text.
     pub request: Request,
     /// The present instant, or `None` for the clock's.
     pub now: Option<Instant>,
@@ -22,9 +20,6 @@ pub struct Ask {
     /// The zone files, in the order in which they are named.
     pub zones: Vec<ZoneItem>,
     ghost some_text: { 0 < vec_len request.texts },
-    ghost iterations: { IsCount request.iterations },
-    ghost file: { is_timer request.verb ≡ true → vec_len request.texts ≡ 1 },
-    ghost base: { seeks_elapses request.verb ≡ false → request.base ≡ None },
     ghost offset: { IsLocalOffset local },
 }
 

@@ -1,16 +1,17 @@
 //! The command line: a subcommand of `clap` for each verb, and what the words ask for by the values that it finds.
 
-ghost use Rattle.std.specs.Prelude.{◌≡◌, ◌<◌, ◌≤◌, [], None, IfSome, false, true, codes, length, IfOk, IfErr, option_map};
+ghost use Rattle.std.specs.Prelude.{◌≡◌, ◌<◌, ◌≤◌, [], IfSome, false, true, codes, length, IfOk, IfErr, option_map};
 ghost use Rattle.std.specs.Option.{option_copied};
 ghost use Rattle.clap.specs.Words.{app_of, found_of, kind_of, rows_of, rule_of, shape_of, subcommand_rows_of};
 ghost use Rattle.clap.specs.declared.builder.command.Command.TheViews.{out-Command as fields_of};
 ghost use Rattle.cal_command.specs.Ask.{shown_answer, shown_fault, texts_of};
 ghost use Rattle.cal_command.specs.CommandLine.{IsAskOf, IsFaultOf, IsReportedOf, command_app, elapse_rules, faults_in, file_rule, given_by, given_in, is_of_help, option_rule, parsed_in, read_options, texts_given, texts_kept, texts_rule, value_given, verb_named, verb_shape, with_rules, zone_rules};
 ghost use Rattle.cal_command.specs.GivenView.{IsReadAs, values_of};
-ghost use Rattle.cal_request.specs.Request.{is_timer, seeks_elapses};
+ghost use Rattle.cal_request.specs.Request.{is_timer};
 
 use crate::ask::Ask;
 use crate::command_fault::CommandFault;
+use crate::given::Given;
 use crate::option_values::{base_of, iterations_of, local_of, now_of, to_owned, zones_of};
 use cal_request::{Request, Verb};
 use clap::error::ErrorKind;
@@ -47,24 +48,10 @@ impl Ask {
     }
 }
 
-/// The values that `clap` found for a verb.
-#[derive(Clone, Copy)]
-struct Given<'b, 'a> {
-    verb: Verb,
-    texts: &'b [&'a str],
-    iterations: Option<&'a str>,
-    base: Option<&'a str>,
-    now: Option<&'a str>,
-    local: Option<&'a str>,
-    zones: Option<&'a str>,
-}
-
 /// What the values ask for.
 #[tactic(auto, unfolding(crate::specs::CommandLine::read_options))]
 fn read_options(alloc: Global, given: Given) -> Result<Ask, CommandFault>
-    requires some_text { 0 < length given.texts.now }
-    requires file { is_timer given.verb ≡ true → length given.texts.now ≡ 1 }
-    requires base { seeks_elapses given.verb ≡ false → given.base ≡ None }
+    requires { 0 < length given.texts.now }
     ensures { IsReadAs (shown_answer result) (read_options (values_of given.entry)) }
 {
     let Some(iterations) = iterations_of(given.iterations) else {
@@ -95,9 +82,7 @@ fn read_options(alloc: Global, given: Given) -> Result<Ask, CommandFault>
 
 /// What `clap` found.
 fn find_values<'b, 'a>(matches: &'b ArgMatches<'a>) -> Option<Given<'b, 'a>>
-    ensures file { IfSome result (λ given. is_timer given.verb ≡ true → length given.texts.now ≤ 1) }
-    ensures base { IfSome result (λ given. seeks_elapses given.verb ≡ false → given.base ≡ None) }
-    ensures value { option_map values_of result ≡ given_in (subcommand_rows_of matches.now) }
+    ensures { option_map values_of result ≡ given_in (subcommand_rows_of matches.now) }
 {
     let (name, values) = matches.subcommand()?;
     values_for(verb_named(name)?, values)
@@ -105,9 +90,7 @@ fn find_values<'b, 'a>(matches: &'b ArgMatches<'a>) -> Option<Given<'b, 'a>>
 
 /// The values that `clap` found for the verb.
 fn values_for<'b, 'a>(verb: Verb, values: &'b ArgMatches<'a>) -> Option<Given<'b, 'a>>
-    ensures file { IfSome result (λ given. is_timer given.verb ≡ true → length given.texts.now ≤ 1) }
-    ensures base { IfSome result (λ given. seeks_elapses given.verb ≡ false → given.base ≡ None) }
-    ensures value { option_map values_of result ≡ given_by verb (rows_of (found_of values.now)) }
+    ensures { option_map values_of result ≡ given_by verb (rows_of (found_of values.now)) }
 {
     let texts = texts_for(verb, values)?;
     Some(Given {

@@ -1,5 +1,5 @@
 -- What is asked in a run, as the parts of a run hand it on.
-use Rattle.cal_request.specs.Request.{asked}
+use Rattle.cal_request.specs.RequestView.{asked}
 use Rattle.cal_request.specs.headline.Request.{Request}
 use Rattle.cal_report.specs.declared.context.Context.{Context}
 

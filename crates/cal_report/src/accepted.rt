@@ -12,7 +12,7 @@ ghost use Rattle.cal_report.specs.Context.{asked_by};
 ghost use Rattle.cal_report.specs.Report.{answer_to};
 ghost use Rattle.cal_report.specs.TimestampReport.{stamp_in};
 ghost use Rattle.cal_report.specs.declared.accepted.Refusal.TheVariants.{NoMemory};
-ghost use Rattle.cal_request.specs.Request.{IsCount, is_timer, seeks_elapses};
+ghost use Rattle.cal_request.specs.Request.{is_timer, seeks_elapses};
 
 use crate::calendar_report::write_calendar;
 use crate::context::Context;
@@ -159,7 +159,6 @@ pub fn put_report<W: Sink>(
     text: &str,
     accepted: Accepted<'_>,
 ) -> Result<(), WriteFault>
-    requires iterations { IsCount context.request.now.iterations }
     requires timely { IsTimely accepted }
     requires out { W.is_failed out.old ≡ false }
     ensures failed { W.is_failed out.new ≡ is_err result }
@@ -177,7 +176,6 @@ pub fn write_report<W: Sink>(
     text: &str,
     accepted: Accepted<'_>,
 ) -> Result<(), WriteFault>
-    requires iterations { IsCount context.request.now.iterations }
     requires timely { IsTimely accepted }
     requires out { W.is_failed out.old ≡ false }
     ensures failed { W.is_failed out.new ≡ is_err result }

@@ -7,7 +7,6 @@ ghost use Rattle.cal_report.specs.CalendarReport.{report_of_elapses};
 ghost use Rattle.cal_report.specs.headline.CalendarReport.{heading_text, normal_line};
 ghost use Rattle.cal_report.specs.Context.{asked_by};
 ghost use Rattle.cal_report.specs.ElapseLines.{AreInstants};
-ghost use Rattle.cal_request.specs.Request.{IsCount};
 
 use crate::context::Context;
 use crate::elapse_lines::put_elapses;
@@ -26,7 +25,6 @@ pub fn write_calendar<W: Sink, S: Rising>(
     expr: &Expr,
     elapses: &mut S,
 ) -> Result<(), WriteFault>
-    requires iterations { IsCount context.request.now.iterations }
     requires instants { AreInstants (S.rest elapses.old) }
     requires out { W.is_failed out.old ≡ false }
     ensures failed { W.is_failed out.new ≡ is_err result }

@@ -1,7 +1,7 @@
 //! The report of a whole request: the reports of its texts or of its timer file on standard output, the refusals on
 //! standard error, and the status (systemd-analyze(1)).
 
-ghost use Rattle.std.specs.Prelude.{ℕ, List, Result, slice_index_or, length, map, true, ◌≡◌, [], ◌∷◌, None, false, is_err, codes, IfOk, IsErrOf};
+ghost use Rattle.std.specs.Prelude.{ℕ, List, Result, slice_index_or, map, ◌≡◌, [], ◌∷◌, false, is_err, codes, IfOk, IsErrOf};
 ghost use Rattle.std.specs.String.{string_bytes};
 ghost use Rattle.cal_bytes.specs.Whole.{is_read_failed};
 ghost use Rattle.cal_bytes.specs.declared.whole.WholeFault.{WholeFault};
@@ -11,7 +11,8 @@ ghost use Rattle.cal_bytes.specs.headline.Bytes.{joined};
 ghost use Rattle.cal_report.specs.Answer.{IsAnsweredBefore, refusal_in, refusal_line, later_text, status_in, reports_text, refusals_text, texts_status};
 ghost use Rattle.cal_report.specs.Context.{asked_by};
 ghost use Rattle.cal_report.specs.Report.{ByReading, IsCut, IsReported, answer_to, base_in, file_name, secs_or_fault, whole_report};
-ghost use Rattle.cal_request.specs.Request.{IsCount, asked, is_timer, seeks_elapses};
+ghost use Rattle.cal_request.specs.Request.{is_timer, seeks_elapses};
+ghost use Rattle.cal_request.specs.RequestView.{asked};
 ghost use Rattle.cal_report.specs.TimerReport.{refusal_at, timer_answer};
 ghost use Rattle.cal_request.specs.RunFault.{is_out_failed, is_err_failed};
 ghost use Rattle.cal_request.specs.declared.request.RunFault.TheVariants.{NoMemory};
@@ -31,10 +32,10 @@ use std::alloc::Global;
 /// The file of [`Verb::Timer`], whose name is the one text, gets one or the other; it is `input`, which isn't read for
 /// other verbs.
 ///
-/// The elapses shown are the first `iterations` (1 to 1,000,000) after the base, a timestamp, or after the present
-/// where none is given; only verbs that seek elapses have a base. A base that is rejected is one line on `err`, and
-/// nothing else is done. An expression is meant in the zone that it names, which has to be in the table, and otherwise
-/// in the local zone. Instants are printed in the local zone, and once more in UTC where that is another.
+/// The elapses shown are the first `iterations` after the base, a timestamp, or after the present where none is given.
+/// A base that is rejected is one line on `err`, and nothing else is done. An expression is meant in the zone that it
+/// names, which has to be in the table, and otherwise in the local zone. Instants are printed in the local zone, and once
+/// more in UTC where that is another.
 ///
 /// [`RunFault::OutFailed`] and [`RunFault::ErrFailed`] come exactly where that writer failed in this call, and
 /// each writer has a prefix of its whole text then. All memory that a text needs is taken before the first byte of its
@@ -51,9 +52,6 @@ pub fn run<R: Source, O: Sink, E: Sink>(
     out: &mut O,
     err: &mut E,
 ) -> Result<Status, RunFault>
-    requires iterations { IsCount request.now.iterations }
-    requires file { is_timer request.now.verb ≡ true → length request.now.texts.items ≡ 1 }
-    requires base { seeks_elapses request.now.verb ≡ false → request.now.base ≡ None }
     requires input { R.is_failed input.old ≡ false }
     requires out { O.is_failed out.old ≡ false }
     requires err { E.is_failed err.old ≡ false }
@@ -110,7 +108,6 @@ fn answer_all<O: Sink, E: Sink>(
     err: &mut E,
 ) -> Result<Status, RunFault>
     requires texts { is_timer context.request.now.verb ≡ false }
-    requires iterations { IsCount context.request.now.iterations }
     requires out { O.is_failed out.old ≡ false }
     requires err { E.is_failed err.old ≡ false }
     ensures status { let asked = asked_by context.entry in
@@ -149,7 +146,6 @@ fn answer_one<O: Sink, E: Sink>(
     err: &mut E,
 ) -> Result<Status, RunFault>
     requires texts { is_timer context.request.now.verb ≡ false }
-    requires iterations { IsCount context.request.now.iterations }
     requires out { O.is_failed out.old ≡ false }
     requires err { E.is_failed err.old ≡ false }
     ensures status { IfOk result (λ status. status ≡ status_in (answer_to (asked_by context.entry) context.entry.base.secs text.now)) }
@@ -181,7 +177,6 @@ fn answer_timer<R: Source, O: Sink, E: Sink>(
     out: &mut O,
     err: &mut E,
 ) -> Result<Status, RunFault>
-    requires iterations { IsCount context.request.now.iterations }
     requires input { R.is_failed input.old ≡ false }
     requires out { O.is_failed out.old ≡ false }
     requires err { E.is_failed err.old ≡ false }

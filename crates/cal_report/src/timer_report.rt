@@ -17,7 +17,6 @@ ghost use Rattle.cal_read.specs.TimerView.{shown};
 ghost use Rattle.cal_report.specs.Context.{asked_by};
 ghost use Rattle.cal_report.specs.ElapseLines.{AreInstants};
 ghost use Rattle.cal_report.specs.headline.ElapseLines.{elapses_text};
-ghost use Rattle.cal_request.specs.Request.{IsCount};
 ghost use Rattle.cal_report.specs.TimerReport.{IsHad, exceptions_text, first_unzoned, headings_text, lacks_zone, lists_text, refusal_at, timed_entry, timer_answer, timer_report, unzoned};
 ghost use Rattle.cal_report.specs.headline.TimerReport.{exception_line, exception_text};
 ghost use Rattle.cal_report.specs.TimerPlan.{IsAdded, IsCoveredEntry, IsMergeOf, IsUnzoned, each_of, entry_sets, plan_text, refused_line, refused_words};
@@ -267,7 +266,6 @@ pub fn write_timer<W: Sink>(
     context: Context<'_>,
     plan: TimerPlan<'_>,
 ) -> Result<(), WriteFault>
-    requires iterations { IsCount context.request.now.iterations }
     requires instants { AreInstants (merged plan.merge) }
     requires out { W.is_failed out.old ≡ false }
     ensures failed { W.is_failed out.new ≡ is_err result }

@@ -1,13 +1,7 @@
--- What a request may be, and what contracts see of it.
-use Rattle.std.specs.Prelude.{ℕ, ◌≤◌, Bool, true, false, ℤ, map}
-use Rattle.std.specs.String.{string_bytes}
-use Rattle.std.specs.Option.{option_map}
-use Rattle.cal_zone.specs.headline.ZoneMap.{ZoneMap}
-use Rattle.cal_zone.specs.declared.zone.Zone.{Zone}
-use Rattle.cal_request.specs.declared.request.Request as declared_request
+-- What a request may be.
+use Rattle.std.specs.Prelude.{ℕ, ◌≤◌, Bool, true, false}
 use Rattle.cal_request.specs.declared.request.Verb.{Verb}
 use Rattle.cal_request.specs.declared.request.Verb.TheVariants.{Calendar, Timer, Timestamp, Timespan}
-use Rattle.cal_request.specs.headline.Request.{Request}
 
 -- how many elapses a request can ask for at most
 abbrev pub most_iterations : ℕ
@@ -37,14 +31,3 @@ is_timer Calendar = false
 is_timer Timestamp = false
 is_timer Timespan = false
 is_timer Timer = true
-
-abbrev pub asked : declared_request.Request → ℤ → Zone → ZoneMap → Request
-asked request now local zones = record {
-  verb = request.verb;
-  texts = map string_bytes request.texts.items;
-  iterations = request.iterations;
-  base = option_map string_bytes request.base;
-  now = now;
-  local = local;
-  zones = zones;
-}

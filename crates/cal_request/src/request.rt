@@ -1,5 +1,8 @@
 //! What the program is asked to do, and how a run ends.
 
+ghost use Rattle.std.specs.Prelude.{◌≡◌, None, false, true, vec_len};
+ghost use Rattle.cal_request.specs.Request.{IsCount, is_timer, seeks_elapses};
+
 /// What is asked of each text, or of a timer file (systemd-analyze(1)).
 #[derive(Clone, Copy, PartialEq, Eq, Debug)]
 pub enum Verb {
@@ -50,6 +53,9 @@ pub struct Request {
     pub iterations: u32,
     /// The timestamp after which elapses are sought, or `None` for the present. Only verbs that seek elapses have one.
     pub base: Option<String>,
+    ghost count: { IsCount iterations },
+    ghost file: { is_timer verb ≡ true → vec_len texts ≡ 1 },
+    ghost sought: { seeks_elapses verb ≡ false → base ≡ None },
 }
 
 /// How a run that could write all of its text ended.

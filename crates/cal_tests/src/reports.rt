@@ -161,7 +161,7 @@ fn run_row<R: Source, O: Sink, E: Sink>(
     requires out { O.is_failed out.old ≡ false }
     requires err { E.is_failed err.old ≡ false }
 {
-    let request = request(rt.alloc(), row)?;
+    let request = request(rt, row)?;
     let now = instant(row.now)?;
     Ok(run_request(rt, row, &request, now, zones, input, out, err))
 }
@@ -181,9 +181,6 @@ fn run_request<R: Source, O: Sink, E: Sink>(
     requires out { O.is_failed out.old ≡ false }
     requires err { E.is_failed err.old ≡ false }
 {
-    assert!(rt; request.iterations >= 1 && request.iterations <= 1_000_000);
-    assert!(rt; request.verb.seeks_elapses() || request.base.is_none());
-    assert!(rt; !request.verb.is_timer() || request.texts.len() == 1);
     let local = local_zone(rt, row.local, zones);
     let table = &zones.table;
     run(rt.alloc(), request, input, now, local, table, out, err)
@@ -202,19 +199,24 @@ fn local_zone<'z>(rt: &impl Abort, local: Local, zones: &'z KnownZones) -> Zone<
 }
 
 /// A row's request.
-fn request(alloc: Global, row: Row<'_>) -> Result<Request, AllocError> {
-    let mut texts = Vec::new(alloc);
+fn request(rt: &(impl Abort + AllocGlobal), row: Row<'_>) -> Result<Request, AllocError> {
+    let mut texts = Vec::new(rt.alloc());
     for text in row.texts {
-        texts.push(String::from_str(alloc, text)?)?;
+        texts.push(String::from_str(rt.alloc(), text)?)?;
     }
+    let base = match row.base {
+        Some(text) => Some(String::from_str(rt.alloc(), text)?),
+        None => None,
+    };
+    let iterations = row.iterations;
+    assert!(rt; iterations >= 1 && iterations <= 1_000_000);
+    assert!(rt; row.verb.seeks_elapses() || base.is_none());
+    assert!(rt; !row.verb.is_timer() || texts.len() == 1);
     Ok(Request {
         verb: row.verb,
         texts,
-        iterations: row.iterations,
-        base: match row.base {
-            Some(text) => Some(String::from_str(alloc, text)?),
-            None => None,
-        },
+        iterations,
+        base,
     })
 }
 
@@ -224,7 +226,7 @@ const NAMES: [(&[&str], &str); 3] = [(&["t"], "t"), (&["a/b", "c"], "a/b"), (&[]
 #[test]
 fn names_of_files(rt: HostRuntime) -> Result<(), Fail> {
     for (texts, name) in NAMES {
-        let request = request(rt.alloc(), Row { texts, ..CALENDAR })?;
+        let request = request(&rt, Row { texts, ..CALENDAR })?;
         assert_eq!(rt; file_name(&request), name);
     }
     Ok(())

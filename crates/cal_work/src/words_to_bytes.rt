@@ -4,13 +4,13 @@
 //! The order is the command line, the zone files in order, the local zone, the clock, opening the file of a timer, the
 //! run. The first that stops is the only one that is reported.
 
-ghost use Rattle.std.specs.Prelude.{◌≡◌, ℕ, List, Option, Result, Ok, Err, Some, None, true, false, is_err, length, map, option_map, IfOk, IfErr};
+ghost use Rattle.std.specs.Prelude.{◌≡◌, ℕ, List, Option, Result, Ok, Err, Some, None, true, false, is_err, map, option_map, IfOk, IfErr};
 ghost use Rattle.cal_bytes.specs.Bytes.{Writes};
 ghost use Rattle.cal_command.specs.Ask.{shown_local, texts_of, shown_ask, shown_item};
 ghost use Rattle.cal_command.specs.LocalZone.{IsLocalOffset};
 ghost use Rattle.cal_work.specs.Outcome.{instant_in};
 ghost use Rattle.cal_report.specs.headline.Report.{Report};
-ghost use Rattle.cal_request.specs.Request.{IsCount, asked, is_timer, seeks_elapses};
+ghost use Rattle.cal_request.specs.RequestView.{asked};
 ghost use Rattle.cal_request.specs.RunFault.{is_out_failed, is_err_failed};
 ghost use Rattle.cal_work.specs.Stop as stops;
 ghost use Rattle.cal_work.specs.Stop.{is_out_stop, is_err_stop, load_stop, rule_stop, unread_stop};
@@ -259,9 +259,6 @@ fn run_request<S: System, O: Sink, E: Sink>(
     out: &mut O,
     err: &mut E,
 ) -> Result<Status, Stop>
-    requires iterations { IsCount request.now.iterations }
-    requires file { is_timer request.now.verb ≡ true → length request.now.texts.items ≡ 1 }
-    requires base { seeks_elapses request.now.verb ≡ false → request.now.base ≡ None }
     requires out { O.is_failed out.old ≡ false }
     requires err { E.is_failed err.old ≡ false }
     ensures runs { Runs (S.tells system.now) (asked request.now now.secs local.entry table.now) result

@@ -13,7 +13,7 @@ use std::process::Abort;
 /// The row writes its texts, over writers that have their room; or it has one text, takes memory for it, and writes
 /// nothing where memory is refused. Where it is refused before the run there is nothing to see.
 fn check_refused(rt: &(impl Abort + AllocGlobal), row: Row<'_>) {
-    let (Ok(request), Some(now)) = (request(rt.alloc(), row), Instant::new(row.now)) else {
+    let (Ok(request), Some(now)) = (request(rt, row), Instant::new(row.now)) else {
         return;
     };
     let Ok(summer) = Rules::posix(rt.alloc(), SUMMER_TIME) else {

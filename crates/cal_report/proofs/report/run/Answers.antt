@@ -1,6 +1,7 @@
 use Rattle.std.proofs.Common.{◌≡◌, Err, Ok, arith, false, refl, sym, true, rules}
 use Rattle.cal_report.specs.Report.{base_in, texts_report}
-use Rattle.cal_request.specs.Request.{asked, is_timer}
+use Rattle.cal_request.specs.Request.{is_timer}
+use Rattle.cal_request.specs.RequestView.{asked}
 use Rattle.cal_report.specs.TimerReport.{refusal_at}
 use Rattle.std.proofs.lemmas.List.{length-map}
 use Rattle.std.specs.String.{string_bytes}
@@ -38,7 +39,7 @@ pub returns-in-Timer-clause-cut : goal.returns-in-Timer-clause-cut
 returns-in-Timer-clause-cut g c = λ refused.
     let base : base_in (asked c.args.request.now c.args.now.secs c.args.local c.args.table.now) ≡ Ok c.in-Ok.base.secs = sym c.in-Ok.ensures in
     let timer : is_timer c.args.request.now.verb ≡ true = search rules in
-    let one = c.requires.file timer in
+    let one = c.args.request.now.file timer in
     let count = length-map c.args.request.now.texts.items string_bytes in
     let same = c.answer_timer.ensures.unwritten refused in
     record { base = c.in-Ok.base.secs; sought = base; answered = unanswered _ _ _ _ _ _ (omega (arith, count, one)) same.0 same.1 }

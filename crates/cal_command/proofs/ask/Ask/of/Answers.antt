@@ -7,5 +7,5 @@ use Rattle.cal_command.proofs.ask.Ask.of.Goals as goal
 pub returns : goal.returns
 returns c = record {
   exact = read_said (texts_of c.args.words.now) (values_of c.in-Some.given) (shown_answer c.read_options.result) c.in_ok-matches.ensures.faults
-      (c.in-Some.ensures.value ∙ c.in_ok-matches.ensures.found) c.read_options.ensures;
+      (c.in-Some.ensures ∙ c.in_ok-matches.ensures.found) c.read_options.ensures;
 }
