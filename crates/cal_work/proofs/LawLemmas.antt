@@ -1,6 +1,6 @@
 -- Where a system tells all, what is seen is what it tells.
-use Rattle.std.proofs.Common.{◌≡◌, ◌⊎◌, inl, inr, ℕ, ℤ, ◌<◌, ◌≤◌, Bool, true, false, List, [], ◌∷◌, length, Option, None, Some, Result, Ok, Err, IfOk, IfNone, refl, sym, ap, ◌∙◌, arith, nat_le}
-use Rattle.std.specs.Prelude.{IsSome, is_some}
+use Rattle.std.proofs.Common.{◌≡◌, ◌⊎◌, inl, inr, ℕ, ℤ, ◌<◌, ◌≤◌, Bool, true, false, List, [], ◌∷◌, length, Option, None, Some, Result, Ok, Err, IfOk, IfNone, refl, sym, arith, nat_le}
+use Rattle.std.specs.Prelude.{IsSome}
 use Rattle.std.specs.FinMap.{empty}
 use Rattle.std.proofs.lemmas.Bool.{false≢true}
 use Rattle.std.proofs.lemmas.Bool.Decides.{nat_tests}
@@ -9,22 +9,18 @@ use Rattle.cal_zone.specs.headline.ZoneMap.{ZoneMap}
 use Rattle.cal_zone.specs.headline.ZoneName.{is_zone_name}
 use Rattle.cal_bytes.specs.declared.whole.WholeFault.{WholeFault}
 use Rattle.cal_bytes.specs.declared.whole.WholeFault.TheVariants as whole
-use Rattle.cal_zone.specs.declared.zone.Zone.{Zone as ClockZone}
-use Rattle.cal_zone.specs.declared.zone_fault.ZoneFault.TheVariants as zone
 use Rattle.cal_read.specs.TimerText.{most_file_bytes}
-use Rattle.cal_command.specs.Ask.{Ask, CommandFault, ZoneItem, no_memory}
-use Rattle.cal_command.specs.CommandLine.{IsAskOf, asked_in, takes_words}
-use Rattle.cal_work.specs.Outcome.{World, ZoneFound, and_then, loaded, or_load_stop, table_by, local_by, present_by, input_if, run_by, asked_at, outcome, outcome_of}
-use Rattle.cal_report.specs.Report.{file_name, report}
-use Rattle.cal_report.specs.headline.Report.{Report}
+use Rattle.cal_command.specs.Ask.{Ask, CommandFault, ZoneItem}
+use Rattle.cal_command.specs.CommandLine.{asked_in, takes_words}
+use Rattle.cal_work.specs.Outcome.{World, ZoneFound, and_then, loaded, or_load_stop, table_by, local_by, present_by, run_by, asked_at, outcome, outcome_of}
+use Rattle.cal_report.specs.Report.{file_name}
 use Rattle.cal_request.specs.Request.{is_timer}
 use Rattle.cal_request.specs.headline.Request.{Request}
-use Rattle.cal_work.specs.Stop.{Stop, command_stop, load_stop, memory_stop}
-use Rattle.cal_work.specs.System.{Known, Seen, IsTime, SeesBytes, Sees, is_cut}
+use Rattle.cal_work.specs.Stop.{Stop}
+use Rattle.cal_work.specs.System.{Known, Seen, IsTime, SeesBytes, is_cut}
 use Rattle.cal_work.specs.WorkLaw.{TellsAll, taken_of, known_seen, known_time, known_zones, known_world, known_outcome, IsOr}
-use Rattle.cal_work.specs.Works.{SeesZone, SeesZones, SeesIf, SeesFile, FitsAt, Fits, FitsWords}
+use Rattle.cal_work.specs.Works.{SeesZones, SeesIf, Fits, FitsWords}
 use Rattle.cal_work.specs.declared.zone_files.LoadFault.{LoadFault}
-use Rattle.cal_work.specs.declared.zone_files.LoadFault.TheVariants.{ReadFailed, Zone}
 use Rattle.cal_command.proofs.CommandLineLemmas.{taken_words}
 
 -- What is seen of one file

@@ -1,16 +1,16 @@
 -- Lemmas on what is reported of an end: the texts and lines on both outputs, the buffer, and the status.
 use Rattle.std.proofs.Common.{◌≡◌, ℕ, Bool, true, false, List, [], Option, None, Some, Result, Ok, Err, refl, sym, ap, ◌∙◌, append-nil}
-use Rattle.std.specs.Io.KnownBytes.{Keeps, Appends, append_known}
-use Rattle.std.proofs.KnownBytes.{Appends-nil, Appends-kept}
+use Rattle.std.specs.Io.KnownBytes.{append_known}
+use Rattle.std.proofs.KnownBytes.{Appends-kept}
 use Rattle.std.proofs.lemmas.Bool.{false≢true}
 use Rattle.cal_bytes.specs.Bytes.{AppendsFront, Writes}
 use Rattle.cal_bytes.specs.Output.{Settles}
-use Rattle.cal_work.specs.Outcome.{World, outcome, out_text, err_text, outcome_status, ended_status}
+use Rattle.cal_work.specs.Outcome.{outcome, out_text, err_text, ended_status}
 use Rattle.cal_report.specs.headline.Report.{Report}
-use Rattle.cal_work.specs.Stop.{Stop, exit_status, fault_stop, outlet_of, shown_stop, text_of}
+use Rattle.cal_work.specs.Stop.{Stop, fault_stop, outlet_of, shown_stop, text_of}
 use Rattle.cal_work.specs.System.{Known}
 use Rattle.cal_work.specs.WorkSteps.{StopsAs, StopEnds, EndsAs, AnsweredWords, IsSettled, TellsOn, TellsStop, status_by, WritesOf}
-use Rattle.cal_work.specs.Works.{FitsWords, Reaches, TellsFault, Tells, Works}
+use Rattle.cal_work.specs.Works.{Reaches, TellsFault, Works}
 use Rattle.cal_request.specs.declared.request.RunFault.{RunFault}
 use Rattle.cal_request.specs.declared.request.RunFault.TheVariants.{OutFailed, ErrFailed, NoMemory}
 use Rattle.cal_request.specs.declared.request.Status.{Status}
@@ -22,7 +22,6 @@ use Rattle.cal_work.specs.declared.stop.Outlet.{Outlet}
 use Rattle.cal_work.specs.declared.stop.Outlet.TheVariants.{OnOut, OnErr, Later}
 use Rattle.cal_work.specs.declared.stop.Stop as declared_stop
 use Rattle.cal_work.specs.declared.stop.Stop.TheVariants.{Command, Zones, LocalRule, LocalName, Clock, Open, Run}
-use Rattle.cal_work.specs.declared.words_to_bytes.Ended.{Ended}
 use Rattle.cal_report.proofs.AnswerLemmas.{writes_nothing}
 use Rattle.cal_report.proofs.ReportLemmas.{nothing_front, whole_front}
 

@@ -1,16 +1,15 @@
 -- Lemmas on the program's work: what each step found makes a world, and what was written is that of the outcome in it.
-use Rattle.std.proofs.Common.{◌≡◌, ℕ, ℤ, ◌+◌, ◌<◌, ◌≤◌, Bool, true, false, ◌&&◌, List, [], ◌∷◌, ◌++◌, length, Option, None, Some, Result, Ok, Err, IfOk, IfSome, IfNone, refl, sym, ap, subst, ◌∙◌, arith, length-append, nat_le, map, drop, drop-cons, add-one, suc, get_or}
+use Rattle.std.proofs.Common.{◌≡◌, ℕ, ℤ, ◌+◌, ◌<◌, ◌≤◌, Bool, true, false, ◌&&◌, List, [], ◌∷◌, length, Option, None, Some, Result, Ok, Err, IfNone, refl, sym, ap, subst, ◌∙◌, arith, length-append, nat_le, map, drop, drop-cons, add-one, suc, get_or}
 use Rattle.std.proofs.lemmas.List.{drop_all}
-use Rattle.std.specs.Prelude.{IsErr, IsSome, if◌then◌else◌, is_some, is_ok, is_err, MatchResult}
-use Rattle.std.specs.FinMap.{empty, insert}
-use Rattle.std.specs.Io.KnownBytes.{Keeps, Appends, Consumes, append_known}
-use Rattle.std.proofs.KnownBytes.{Appends-nil, Appends-kept, Consumes-whole}
+use Rattle.std.specs.Prelude.{IsSome, is_some, is_ok, MatchResult}
+use Rattle.std.specs.FinMap.{empty}
+use Rattle.std.proofs.KnownBytes.{Consumes-whole}
 use Rattle.std.proofs.lemmas.Bool.{false≢true, and_left}
 use Rattle.std.proofs.lemmas.Bool.Decides.{nat_tests}
 use Rattle.jiff.specs.Placed.{IsPosixZone}
 use Rattle.jiff.specs.Types.{TimeZone}
 use Rattle.jiff.specs.Words.{read_whole as rule_read}
-use Rattle.cal_bytes.specs.Bytes.{AppendsFront, Writes}
+use Rattle.cal_bytes.specs.Bytes.{AppendsFront}
 use Rattle.cal_bytes.specs.Whole.{GivesAll, CameBeyond, is_read_failed}
 use Rattle.cal_zone.specs.headline.Zone.{is_utc, utc, zone_of}
 use Rattle.cal_zone.specs.ZoneFile.{file_limit}
@@ -21,21 +20,20 @@ use Rattle.cal_bytes.specs.declared.whole.WholeFault.{WholeFault}
 use Rattle.cal_bytes.specs.declared.whole.WholeFault.TheVariants as whole
 use Rattle.cal_zone.specs.declared.zone.Zone.{Zone as ClockZone}
 use Rattle.cal_zone.specs.declared.zone_fault.ZoneFault.TheVariants as zone
-use Rattle.cal_read.specs.StampFault.{words_of}
-use Rattle.cal_read.specs.TimerText.{ReadsWhole, most_file_bytes}
+use Rattle.cal_read.specs.TimerText.{most_file_bytes}
 use Rattle.cal_read.specs.declared.stamp.fault.StampFault.{StampFault}
-use Rattle.cal_command.specs.Ask.{Ask, CommandFault, LocalZone, in_utc, ahead, by_rule, of_name, ZoneItem, shown_fault, bad_iterations, bad_now, bad_zones, bad_local, no_memory}
+use Rattle.cal_command.specs.Ask.{Ask, LocalZone, in_utc, ahead, by_rule, of_name, ZoneItem, shown_fault, bad_iterations, bad_now, bad_zones, bad_local, no_memory}
 use Rattle.cal_command.specs.CommandLine.{IsAskOf}
 use Rattle.cal_work.specs.LoadZone.{IsLoaded, IsLoadFault, is_load_unread}
-use Rattle.cal_work.specs.Outcome.{World, ZoneFound, and_then, loaded, or_load_stop, table_by, local_by, clock_by, present_by, input_if, run_by, asked_at, outcome, outcome_of, out_text, err_text, outcome_status, ended_status}
+use Rattle.cal_work.specs.Outcome.{ZoneFound, and_then, loaded, table_by, local_by, present_by, input_if, run_by, asked_at, outcome, outcome_of, out_text, err_text}
 use Rattle.cal_report.specs.Report.{ByReading, IsReported, ReadsIf, base_in, file_name, reads_input, report, report_from}
 use Rattle.cal_report.specs.headline.Report.{Report}
 use Rattle.cal_request.specs.Request.{is_timer}
 use Rattle.cal_request.specs.headline.Request.{Request}
-use Rattle.cal_work.specs.Stop.{Stop, command_stop, exit_status, load_stop, name_stop, rule_stop, shown_stop, unread_stop, memory_stop, is_for_memory, is_out_stop, is_err_stop}
-use Rattle.cal_work.specs.System.{Known, Seen, Opens, IsTime, Comes, SeesBytes, Sees}
-use Rattle.cal_work.specs.WorkSteps.{StopsAs, Answers, Loads, ReadsZones, FindsLocal, IsUnread, Presents, StopEnds, EndsAs, Runs, Answered, AnsweredWords, ran}
-use Rattle.cal_work.specs.Works.{SeesZone, SeesZones, ReadsZone, IsLocal, SeesIf, SeesFile, FitsAt, Fits, FitsWords}
+use Rattle.cal_work.specs.Stop.{Stop, command_stop, exit_status, load_stop, name_stop, rule_stop, shown_stop, unread_stop, memory_stop, is_out_stop, is_err_stop}
+use Rattle.cal_work.specs.System.{Known, Opens, IsTime, Comes, SeesBytes}
+use Rattle.cal_work.specs.WorkSteps.{StopsAs, Loads, ReadsZones, FindsLocal, IsUnread, EndsAs, Runs, Answered, AnsweredWords, ran}
+use Rattle.cal_work.specs.Works.{SeesZones, ReadsZone}
 use Rattle.cal_command.specs.declared.command_fault.CommandFault as declared_fault
 use Rattle.cal_command.specs.declared.command_fault.CommandFault.TheVariants as command
 use Rattle.cal_work.specs.declared.zone_files.LoadFault.{LoadFault}

@@ -1,6 +1,6 @@
 -- Where the system tells all of its files and its clock, there is one outcome: unless memory runs out it goes by what
 -- is known, by what `clap` makes of the words, and by the zones that `jiff` reads.
-use Rattle.std.specs.Prelude.{◌≡◌, ◌⊎◌, ℕ, ℤ, Bool, true, false, List, [], ◌∷◌, length, nat_le, Option, None, Some, IsSome, Result, Ok, Err, if◌then◌else◌, slice_index_or}
+use Rattle.std.specs.Prelude.{◌≡◌, ◌⊎◌, ℕ, ℤ, Bool, true, false, List, [], ◌∷◌, length, nat_le, Option, None, Some, IsSome, Result, Ok, Err, slice_index_or}
 use Rattle.cal_zone.specs.ZoneFile.{file_limit}
 use Rattle.cal_bytes.specs.declared.whole.WholeFault.{WholeFault}
 use Rattle.cal_bytes.specs.declared.whole.WholeFault.TheVariants.{TooLarge}

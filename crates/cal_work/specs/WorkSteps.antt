@@ -1,5 +1,5 @@
 -- What each step of the program's work answers, by the world that it found.
-use Rattle.std.specs.Prelude.{◌≡◌, ℕ, ℤ, Bool, true, false, List, Option, None, Some, Result, Ok, Err, IsErr, IsSome, IfOk, IfNone}
+use Rattle.std.specs.Prelude.{◌≡◌, ℕ, ℤ, Bool, false, List, Option, None, Some, Result, Ok, Err, IsErr, IsSome, IfOk, IfNone}
 use Rattle.std.specs.FinMap.{empty}
 use Rattle.std.specs.Io.KnownBytes.{Appends}
 use Rattle.jiff.specs.Types.{TimeZone}
@@ -7,7 +7,6 @@ use Rattle.jiff.specs.Words.{read_whole as rule_read}
 use Rattle.jiff.specs.Placed.{IsPosixZone}
 use Rattle.cal_bytes.specs.Bytes.{AppendsFront, Writes}
 use Rattle.cal_zone.specs.headline.ZoneMap.{ZoneMap}
-use Rattle.cal_zone.specs.declared.instant.Instant.{Instant}
 use Rattle.cal_zone.specs.declared.zone.Zone.{Zone as ClockZone}
 use Rattle.cal_command.specs.Ask.{Ask, LocalZone, in_utc, ahead, by_rule, of_name, ZoneItem}
 use Rattle.cal_work.specs.Outcome.{World, ZoneFound, loaded, table_by, local_by, clock_by, present_by, outcome, outcome_of, run_by, out_text, err_text, outcome_status, ended_status}
@@ -23,7 +22,7 @@ use Rattle.cal_request.specs.declared.request.Status.{Status}
 use Rattle.cal_work.specs.declared.stop.Outlet.{Outlet}
 use Rattle.cal_work.specs.declared.stop.Outlet.TheVariants.{OnOut, OnErr, Later}
 use Rattle.cal_work.specs.declared.stop.Stop as declared_stop
-use Rattle.cal_work.specs.declared.stop.Stop.TheVariants.{Command, Zones, LocalRule, LocalName, Clock, Open, Run}
+use Rattle.cal_work.specs.declared.stop.Stop.TheVariants.{Run}
 
 -- whether it is the failure of standard output, or of standard error
 abbrev pub is_out_cut : {T : Type 0} → Result T declared_stop.Stop → Bool

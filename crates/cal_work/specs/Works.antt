@@ -1,28 +1,27 @@
 -- From the words to the bytes: there is a world that fits all that the system tells, and what is written and the
 -- status are those of the outcome in that world.
-use Rattle.std.specs.Prelude.{◌≡◌, ℕ, ℤ, Bool, true, false, List, [], ◌∷◌, Option, None, Some, Result, Ok, Err, IfOk, IfNone, is_some}
+use Rattle.std.specs.Prelude.{◌≡◌, ℕ, Bool, true, false, List, [], ◌∷◌, Option, None, Some, Result, Ok, Err, IfOk, IfNone}
 use Rattle.std.specs.FinMap.{empty}
 use Rattle.std.specs.Io.KnownBytes.{Keeps, Appends, append_known}
 use Rattle.jiff.specs.Placed.{IsPosixZone}
 use Rattle.jiff.specs.Types.{TimeZone, Offset}
-use Rattle.jiff.specs.Words.{fixed_zone, read_whole as rule_read}
+use Rattle.jiff.specs.Words.{fixed_zone}
 use Rattle.cal_bytes.specs.Bytes.{AppendsFront, Writes}
 use Rattle.cal_zone.specs.headline.Zone.{is_utc, utc, zone_of}
 use Rattle.cal_zone.specs.ZoneFile.{file_limit, IsFileFault, IsFileZone}
 use Rattle.cal_zone.specs.headline.ZoneMap.{ZoneMap}
 use Rattle.cal_zone.specs.headline.ZoneName.{is_utc_name, is_zone_name}
 use Rattle.cal_zone.specs.headline.ZoneTable.{zone_named}
-use Rattle.cal_bytes.specs.declared.whole.WholeFault.{WholeFault}
 use Rattle.cal_zone.specs.declared.zone.Zone.{Zone as ClockZone}
 use Rattle.cal_zone.specs.declared.zone_fault.ZoneFault.TheVariants.{BadFile}
 use Rattle.cal_read.specs.TimerText.{most_file_bytes}
-use Rattle.cal_command.specs.Ask.{Ask, LocalZone, in_utc, ahead, by_rule, of_name, ZoneItem, CommandFault}
+use Rattle.cal_command.specs.Ask.{Ask, LocalZone, in_utc, ahead, by_rule, of_name, ZoneItem}
 use Rattle.cal_command.specs.CommandLine.{IsAskOf}
 use Rattle.cal_work.specs.Outcome.{World, ZoneFound, loaded, table_by, local_by, present_by, asked_at, outcome, out_text, err_text, ended_status}
 use Rattle.cal_report.specs.Report.{file_name}
 use Rattle.cal_request.specs.Request.{is_timer}
 use Rattle.cal_request.specs.headline.Request.{Request}
-use Rattle.cal_work.specs.Stop.{Stop, fault_stop}
+use Rattle.cal_work.specs.Stop.{fault_stop}
 use Rattle.cal_work.specs.System.{Known, Seen, Sees, IsTime}
 use Rattle.cal_request.specs.declared.request.RunFault.{RunFault}
 use Rattle.cal_work.specs.declared.words_to_bytes.Ended.{Ended}

@@ -1,5 +1,5 @@
 -- What a run writes and how it ends.
-use Rattle.std.specs.Prelude.{◌≡◌, ℕ, List}
+use Rattle.std.specs.Prelude.{ℕ, List}
 use Rattle.cal_request.specs.declared.request.Status.{Status}
 
 -- what a run writes and how it ends

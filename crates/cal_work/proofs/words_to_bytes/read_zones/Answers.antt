@@ -1,6 +1,6 @@
-use Rattle.std.proofs.Common.{arith, refl, rules}
+use Rattle.std.proofs.Common.{arith, refl}
 use Rattle.cal_command.specs.Ask.{shown_item}
-use Rattle.cal_work.proofs.WorkLemmas.{begin, items_end, items_next, next_loaded, next_stops, none_left}
+use Rattle.cal_work.proofs.WorkLemmas.{items_end, items_next, next_loaded, next_stops, none_left}
 use Rattle.cal_work.proofs.words_to_bytes.read_zones.Goals as goal
 
 pub returns-in-Err : goal.returns-in-Err
