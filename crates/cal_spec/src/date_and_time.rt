@@ -7,13 +7,12 @@ ghost use Rattle.cal_spec.specs.Components.{most_counted};
 ghost use Rattle.cal_spec.specs.DateAndTime.{is_date_sign, date_texts, time_texts, date_of, time_of, date_fields, time_fields, room_after};
 ghost use Rattle.cal_spec.specs.DateAndTimeViews.{date_in, time_in, date_texts_in, time_texts_in};
 ghost use Rattle.cal_spec.specs.Reads.{GivesUnlessNoMemory};
-ghost use Rattle.cal_spec.specs.headline.Slot.{day_slot};
 
 use crate::SpecFault;
 use crate::components::{count_parts, read_component};
 use crate::fields::{DateFields, TimeFields};
 use crate::pieces::{cut_at, first_piece};
-use crate::slot::Slot;
+use crate::slot::{Slot, day_slot};
 use std::alloc::Global;
 
 /// The most counted parts in all: the first part of the hour, of the minute and of the second isn't counted.
@@ -138,17 +137,6 @@ fn time_texts(word: &[u8]) -> Option<TimeTexts<'_>>
             minute,
             second,
         }),
-    }
-}
-
-/// Where the day is, which may be counted from the month's end.
-fn day_slot(from_end: bool) -> Slot
-    ensures { result ≡ day_slot from_end }
-{
-    if from_end {
-        Slot::DayFromEnd
-    } else {
-        Slot::Day
     }
 }
 

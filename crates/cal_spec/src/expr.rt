@@ -6,10 +6,10 @@ ghost use Rattle.cal_spec.specs.NormalForm.{AreParts, normal_component, normal_s
 ghost use Rattle.cal_spec.specs.headline.NormalForm.{normal_from_end};
 
 use crate::fields::{DateFields, Fields, TimeFields};
-use crate::matching::{day_slot, has_local};
+use crate::matching::has_local;
 use crate::members::component_has;
 use crate::normal_form::{normal_component, normal_second};
-use crate::slot::Slot;
+use crate::slot::{Slot, day_slot};
 use crate::zone_suffix::ZoneSuffix;
 use crate::{Field, Part};
 use std::marker::Model;

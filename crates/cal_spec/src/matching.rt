@@ -6,11 +6,10 @@ ghost use Rattle.cal_zone.specs.headline.Local.{seconds_in_all};
 ghost use Rattle.cal_spec.specs.Fields.{fields_of};
 ghost use Rattle.cal_spec.specs.headline.Match.{date_in, day_number, matches, time_in};
 ghost use Rattle.cal_spec.specs.headline.Members.{sets_of};
-ghost use Rattle.cal_spec.specs.headline.Slot.{day_slot};
 
 use crate::fields::{Fields, TimeFields};
 use crate::members::component_has;
-use crate::slot::Slot;
+use crate::slot::{Slot, day_slot};
 use cal_zone::{DAY, date_of_day};
 use jiff::civil::{Date, Weekday};
 
@@ -67,15 +66,4 @@ pub fn day_number(from_end: bool, date: Date) -> u16
         date.day()
     };
     day.unsigned_abs().into()
-}
-
-/// Where a day is, which may be counted from the month's end.
-pub fn day_slot(from_end: bool) -> Slot
-    ensures { result ≡ day_slot from_end }
-{
-    if from_end {
-        Slot::DayFromEnd
-    } else {
-        Slot::Day
-    }
 }

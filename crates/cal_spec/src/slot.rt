@@ -1,7 +1,7 @@
 //! Where a number of a calendar expression is, and the numbers that are allowed there.
 
 ghost use Rattle.std.specs.Prelude.{◌≡◌, ◌≤◌};
-ghost use Rattle.cal_spec.specs.headline.Slot.{least, greatest};
+ghost use Rattle.cal_spec.specs.headline.Slot.{day_slot, least, greatest};
 
 /// Where a number is. A count from the month's end has bounds of its own.
 #[derive(Clone, Copy, PartialEq, Eq, Debug)]
@@ -39,5 +39,16 @@ impl Slot {
             Slot::Hour => 23,
             Slot::Minute | Slot::Second => 59,
         }
+    }
+}
+
+/// Where a day is, which may be counted from the month's end.
+pub fn day_slot(from_end: bool) -> Slot
+    ensures { result ≡ day_slot from_end }
+{
+    if from_end {
+        Slot::DayFromEnd
+    } else {
+        Slot::Day
     }
 }
