@@ -4,11 +4,11 @@ ghost use Rattle.std.specs.Prelude.{◌≡◌, ◌+◌, ◌≤◌, ◌++◌, ◌
 ghost use Rattle.cal_bytes.specs.Bytes.{Writes};
 ghost use Rattle.cal_bytes.specs.declared.short_text.TheConstants.{ROOM};
 ghost use Rattle.cal_span.specs.declared.span.text.TheConstants.{SPAN_ROOM};
-ghost use Rattle.cal_report.specs.headline.ReportLines.{direction_text, distance_text, micros_of, original_line, utc_line};
+ghost use Rattle.cal_report.specs.headline.ReportLines.{direction_text, distance_text, micros_of, original_line};
 
 use cal_bytes::{ShortText, Sink, WriteFault, push, put_pieces};
 use cal_span::{Span, push_span};
-use cal_zone::{Instant, Moment, Zone, push_instant};
+use cal_zone::{Instant, Moment};
 
 /// Writes the line of the text as it was handed in, and the next label.
 #[tactic(auto, unfolding(crate::specs::headline::ReportLines::original_line))]
@@ -25,20 +25,6 @@ pub fn put_original<W: Sink>(out: &mut W, text: &str) -> Result<(), WriteFault>
             b"\nNormalized form: ",
         ],
     )
-}
-
-/// Appends the line of the instant in UTC; nothing where the local zone is UTC itself. It takes at most 102 bytes.
-#[tactic(auto, unfolding(crate::specs::headline::ReportLines::utc_line))]
-pub fn push_utc_line(text: &mut ShortText, local: Zone<'_>, instant: Instant)
-    requires room { length text.old.items + 102 ≤ ROOM }
-    ensures text { text.new.items ≡ text.old.items ++ utc_line local.entry instant.secs }
-    ensures short { length text.new.items ≤ length text.old.items + 102 }
-{
-    if !local.is_utc() {
-        push(text, b"       (in UTC): ");
-        push_instant(text, Zone::utc(), instant);
-        push(text, b"\n");
-    }
 }
 
 /// Appends the span between the present and a moment, and which of the two is later. It takes at most [`cal_base::SPAN_ROOM`] and 5 bytes.

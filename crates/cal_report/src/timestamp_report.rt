@@ -8,10 +8,11 @@ ghost use Rattle.cal_span.specs.declared.span.text.TheConstants.{SPAN_ROOM};
 ghost use Rattle.cal_report.specs.Context.{asked_by};
 ghost use Rattle.cal_report.specs.TimestampReport.{moment_lines, timestamp_report, unix_text};
 
+use crate::clocks::Clocks;
 use crate::context::Context;
-use crate::report_lines::{push_distance, push_utc_line, put_original};
+use crate::report_lines::{push_distance, put_original};
 use cal_bytes::{Fill, ShortText, Sink, WriteFault, padding, push, push_all, put_all};
-use cal_zone::{Instant, Moment, Zone, push_instant};
+use cal_zone::{Instant, Moment, Zone};
 use itoa::Buffer;
 
 /// Writes the report of a moment that was read from the text.
@@ -44,19 +45,19 @@ fn put_moment<W: Sink>(
         (moment_lines local.entry now.secs moment.micros) }
 {
     let mut text = ShortText::new();
-    push_moment(&mut text, local, now, moment);
+    push_moment(&mut text, &mut Clocks::new(local), now, moment);
     put_all(out, text.as_slice())
 }
 
 /// Appends what is said of a moment.
 #[tactic(auto, unfolding(crate::specs::TimestampReport::moment_lines))]
-fn push_moment(text: &mut ShortText, local: Zone<'_>, now: Instant, moment: Moment)
+fn push_moment(text: &mut ShortText, clocks: &mut Clocks<'_>, now: Instant, moment: Moment)
     requires { length text.old.items + SPAN_ROOM + 276 ≤ ROOM }
-    ensures { text.new.items ≡ text.old.items ++ moment_lines local.entry now.secs moment.micros }
+    ensures { text.new.items ≡ text.old.items ++ moment_lines clocks.old now.secs moment.micros }
 {
-    push_instant(text, local, moment.instant());
+    clocks.push_local(text, moment.instant());
     push(text, b"\n");
-    push_utc_line(text, local, moment.instant());
+    clocks.push_utc_line(text, moment.instant());
     push(text, b"   UNIX seconds: ");
     push_unix(text, moment);
     push(text, b"\n       From now: ");

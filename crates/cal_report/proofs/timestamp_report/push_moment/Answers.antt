@@ -9,11 +9,11 @@ pub returns : goal.returns
 unfolding moment_lines
 returns c =
     let front = c.args.text.now.items in
-    let local = c.args.local in
+    let local = c.args.clocks.now in
     let micros = c.args.moment.micros in
-    let instant = pushed front _ (instant_text local (second_at micros)) (rw c.instant.ensures at c.push_instant.ensures.text) in
+    let instant = pushed front _ (instant_text local (second_at micros)) (rw c.instant.ensures at c.push_local.ensures.text) in
     let ended = pushed_more front _ _ (codes "\n") _ instant c.push.ensures in
-    let utc = pushed_more front _ _ (utc_line local (second_at micros)) _ ended (rw c.instant-2.ensures at c.push_utc_line.ensures.text) in
+    let utc = pushed_more front _ _ (utc_line local (second_at micros)) _ ended (rw (c.instant-2.ensures, c.push_local.ensures.local) at c.push_utc_line.ensures.text) in
     let labelled = pushed_more front _ _ (codes "   UNIX seconds: ") _ utc c.push-2.ensures in
     let unix = pushed_more front _ _ (unix_text (unsigned_abs micros)) _ labelled c.push_unix.ensures.text in
     let from_now = pushed_more front _ _ (codes "\n       From now: ") _ unix c.push-3.ensures in
