@@ -29,8 +29,8 @@ use Rattle.cal_report.specs.headline.CalendarReport.{heading_text}
 use Rattle.cal_report.specs.headline.ElapseLines.{elapses_text}
 use Rattle.cal_report.specs.headline.Headline.{AreAllAccepted, AreReportsOf, AreSpelled, Expression, IsAccepted, IsFileOf, IsFine, IsReportOf, IsZoneFor, Schedule, Spells, alone, assigned_in, headings, meaning}
 use Rattle.cal_report.specs.Report.{ByReading, IsReported, answer_by, answer_to, base_in, file_name, report, texts_report}
-use Rattle.cal_report.specs.TimerReport.{elapses_of_lists, exceptions_text, headings_text, lacks_zone, timed_entry, timer_answer, timer_report, unzoned}
-use Rattle.cal_report.specs.headline.TimerReport.{exception_text}
+use Rattle.cal_report.specs.TimerReport.{elapses_of_lists, headings_text, lacks_zone, timed_entry, timer_answer, timer_report, unzoned}
+use Rattle.cal_report.specs.headline.ReportLines.{except_label, original_label}
 use Rattle.cal_request.specs.Request.{is_timer}
 use Rattle.cal_request.specs.headline.Request.{Request}
 use Rattle.cal_request.specs.declared.request.Status.{Status}
@@ -78,7 +78,7 @@ unfolding calendar_report
 is_report asked base e = record {
   elapses = elapses_after (meaning e ∷ []) base;
   these = alone_elapses (meaning e) base;
-  layout = rw (append-nil (heading_text e.text e.fields), append-nil (heading_text e.text e.fields)) (ap (λ (t : List ℕ). heading_text e.text e.fields ++ t) (append-nil _));
+  layout = rw (append-nil (heading_text original_label e.text e.fields), append-nil (heading_text original_label e.text e.fields)) (ap (λ (t : List ℕ). heading_text original_label e.text e.fields ++ t) (append-nil _));
 }
 
 each_report : (asked : Request) (base : ℤ) (es : List Expression)
@@ -200,14 +200,14 @@ meanings_are asked (entry ∷ list) [] h = absurd h
 meanings_are asked (entry ∷ list) (e ∷ es) h =
     rw (h.0.expr, h.0.zone) (ap (λ (ts : List Timed). meaning e ∷ ts) (meanings_are asked list es h.1))
 
--- the texts of entries that are shown so
-shown_are : (shows : List ℕ → Fields → List ℕ) (asked : Request) (list : List (TimerLine Fields)) (es : List Expression) → AllZip (IsEntryOf asked) list es
-    → flat_map (λ (entry : TimerLine Fields). shows entry.text entry.expr) list ≡ flat_map (λ (e : Expression). shows e.text e.fields) es
-shown_are shows asked [] [] h = refl
-shown_are shows asked [] (e ∷ es) h = absurd h
-shown_are shows asked (entry ∷ list) [] h = absurd h
-shown_are shows asked (entry ∷ list) (e ∷ es) h =
-    rw (h.0.text, h.0.expr) (ap (λ (t : List ℕ). shows e.text e.fields ++ t) (shown_are shows asked list es h.1))
+-- the texts of entries after a label
+shown_are : (label : List ℕ) (asked : Request) (list : List (TimerLine Fields)) (es : List Expression) → AllZip (IsEntryOf asked) list es
+    → flat_map (λ (entry : TimerLine Fields). heading_text label entry.text entry.expr) list ≡ flat_map (λ (e : Expression). heading_text label e.text e.fields) es
+shown_are label asked [] [] h = refl
+shown_are label asked [] (e ∷ es) h = absurd h
+shown_are label asked (entry ∷ list) [] h = absurd h
+shown_are label asked (entry ∷ list) (e ∷ es) h =
+    rw (h.0.text, h.0.expr) (ap (λ (t : List ℕ). heading_text label e.text e.fields ++ t) (shown_are label asked list es h.1))
 
 as_many : (asked : Request) (list : List (TimerLine Fields)) (es : List Expression) → AllZip (IsEntryOf asked) list es → 0 < length es → 0 < length list
 as_many asked [] [] h some = some
@@ -263,19 +263,19 @@ layout_is a b c = rw (append-nil b, append-nil c) refl
 
 timer_is_report : (asked : Request) (base : ℤ) (lists : Timer Fields) (s : Schedule) → AreEntriesOf asked lists s
     → IsReportOf asked base s (timer_report asked base lists)
-unfolding timer_report headings_text exceptions_text elapses_of_lists
+unfolding timer_report headings_text elapses_of_lists
 timer_is_report asked base lists s h =
     let elapses = elapses_except (map meaning s.expressions) (map meaning s.exceptions) base in
     record {
       elapses = elapses;
       these = AreElapses-elapses_except (map meaning s.expressions) (map meaning s.exceptions) base;
       layout = rw (
-        shown_are heading_text asked lists.expressions s.expressions h.expressions,
-        shown_are exception_text asked lists.exceptions s.exceptions h.exceptions,
+        shown_are original_label asked lists.expressions s.expressions h.expressions,
+        shown_are except_label asked lists.exceptions s.exceptions h.exceptions,
         meanings_are asked lists.expressions s.expressions h.expressions,
         meanings_are asked lists.exceptions s.exceptions h.exceptions,
-      ) (layout_is (flat_map (λ (e : Expression). heading_text e.text e.fields) s.expressions)
-          (flat_map (λ (e : Expression). exception_text e.text e.fields) s.exceptions)
+      ) (layout_is (flat_map (λ (e : Expression). heading_text original_label e.text e.fields) s.expressions)
+          (flat_map (λ (e : Expression). heading_text except_label e.text e.fields) s.exceptions)
           (elapses_text asked.local asked.now (take asked.iterations elapses)));
     }
 

@@ -18,8 +18,7 @@ use Rattle.cal_spec.specs.headline.Fields.{Fields}
 use Rattle.cal_report.specs.ElapseLines.{AreInstants}
 use Rattle.cal_request.specs.headline.Request.{Request}
 use Rattle.cal_report.specs.TimerPlan.{IsMergeOf, plan_text}
-use Rattle.cal_report.specs.TimerReport.{IsHad, elapses_of_lists, exceptions_text, first_unzoned, headings_text, lacks_zone, lesser_line, timed_entry, timer_answer, timer_report, unzoned}
-use Rattle.cal_report.specs.headline.TimerReport.{exception_text}
+use Rattle.cal_report.specs.TimerReport.{IsHad, elapses_of_lists, first_unzoned, headings_text, lacks_zone, lesser_line, timed_entry, timer_answer, timer_report, unzoned}
 use Rattle.cal_report.specs.CalendarReport.{zone_for}
 use Rattle.cal_report.specs.headline.CalendarReport.{heading_text}
 use Rattle.std.specs.Io.KnownBytes.{Appends}
@@ -75,30 +74,26 @@ merge_instants asked base lists merge m low i h =
     IsInstant-elapse (λ (e : TimerLine Fields). e.expr) (λ (e : TimerLine Fields). unwrap_or (zone_for asked e.expr.zone) UTC) lists.expressions
     (map (timed_entry asked) lists.exceptions) base i low (rw (merge_whole asked base lists merge m) at h)
 
--- the text of one line of a list whose lines are shown so
-abbrev pub line_text : (List ℕ → Fields → List ℕ) → declared_line.TimerLine → List ℕ
-line_text shows line = shows (string_bytes line.text) line.expr
+-- the text of one line of a list, after that label
+abbrev pub line_text : List ℕ → declared_line.TimerLine → List ℕ
+line_text label line = heading_text label (string_bytes line.text) line.expr
 
 -- the texts of the lines from an index on begin with that of the line there
-pub headings-next : (shows : List ℕ → Fields → List ℕ) (a b c : Option (List ℕ)) (lines : List declared_line.TimerLine) (i : ℕ) (line : declared_line.TimerLine) (text whole : List ℕ) → i < length lines
-    → line ≡ get_or lines i line → text ≡ string_bytes line.text → Leaves a b (flat_map (line_text shows) (drop i lines)) whole
-    → Appends b c (shows text line.expr) → Leaves a c (flat_map (line_text shows) (drop (i + 1) lines)) whole
-headings-next shows a b c lines i line text whole h is so l w =
-    step_piece a b c (line_text shows) i lines line whole h l (subst (λ (x : declared_line.TimerLine). Appends b c (line_text shows x)) is (rw so at w))
+pub headings-next : (label : List ℕ) (a b c : Option (List ℕ)) (lines : List declared_line.TimerLine) (i : ℕ) (line : declared_line.TimerLine) (text whole : List ℕ) → i < length lines
+    → line ≡ get_or lines i line → text ≡ string_bytes line.text → Leaves a b (flat_map (line_text label) (drop i lines)) whole
+    → Appends b c (heading_text label text line.expr) → Leaves a c (flat_map (line_text label) (drop (i + 1) lines)) whole
+headings-next label a b c lines i line text whole h is so l w =
+    step_piece a b c (line_text label) i lines line whole h l (subst (λ (x : declared_line.TimerLine). Appends b c (line_text label x)) is (rw so at w))
 
-pub headings-stop : (shows : List ℕ → Fields → List ℕ) (a b c : Option (List ℕ)) (lines : List declared_line.TimerLine) (i : ℕ) (line : declared_line.TimerLine) (text whole : List ℕ) → i < length lines
-    → line ≡ get_or lines i line → text ≡ string_bytes line.text → Leaves a b (flat_map (line_text shows) (drop i lines)) whole
-    → AppendsFront b c (shows text line.expr) → AppendsFront a c whole
-headings-stop shows a b c lines i line text whole h is so l w =
-    stop_piece a b c (line_text shows) i lines line whole h l (subst (λ (x : declared_line.TimerLine). AppendsFront b c (line_text shows x)) is (rw so at w))
+pub headings-stop : (label : List ℕ) (a b c : Option (List ℕ)) (lines : List declared_line.TimerLine) (i : ℕ) (line : declared_line.TimerLine) (text whole : List ℕ) → i < length lines
+    → line ≡ get_or lines i line → text ≡ string_bytes line.text → Leaves a b (flat_map (line_text label) (drop i lines)) whole
+    → AppendsFront b c (heading_text label text line.expr) → AppendsFront a c whole
+headings-stop label a b c lines i line text whole h is so l w =
+    stop_piece a b c (line_text label) i lines line whole h l (subst (λ (x : declared_line.TimerLine). AppendsFront b c (line_text label x)) is (rw so at w))
 
-pub headings-all : (lines : List declared_line.TimerLine) → headings_text (map shown lines) ≡ flat_map (line_text heading_text) lines
+pub headings-all : (label : List ℕ) (lines : List declared_line.TimerLine) → headings_text label (map shown lines) ≡ flat_map (line_text label) lines
 unfolding headings_text
-headings-all lines = flat_map-map (λ e. heading_text e.text e.expr) shown lines
-
-pub exceptions-all : (lines : List declared_line.TimerLine) → exceptions_text (map shown lines) ≡ flat_map (line_text exception_text) lines
-unfolding exceptions_text
-exceptions-all lines = flat_map-map (λ e. exception_text e.text e.expr) shown lines
+headings-all label lines = flat_map-map (λ e. heading_text label e.text e.expr) shown lines
 
 -- what was read is what the report is of
 pub plan_answers : (asked : Request) (base : ℤ) (read : Result (List ℕ) WholeFault) (lists : Timer Fields) (merge : Merge) → timer_text expr_in read ≡ Ok lists

@@ -16,12 +16,13 @@ use Rattle.cal_report.specs.Answer.{Answer}
 use Rattle.cal_report.specs.headline.ElapseLines.{elapses_text}
 use Rattle.cal_request.specs.headline.Request.{Request}
 use Rattle.cal_report.specs.headline.CalendarReport.{heading_text}
+use Rattle.cal_report.specs.headline.ReportLines.{original_label}
 
 -- the report of an expression with these elapses: the text, its normal form, and as many of the elapses as are asked
 -- for, or all where there are fewer
 abbrev pub report_of_elapses : Request → List ℕ → Fields → List ℤ → List ℕ
 report_of_elapses asked text fields elapses =
-    joined (heading_text text fields ∷ elapses_text asked.local asked.now (take asked.iterations elapses) ∷ [])
+    joined (heading_text original_label text fields ∷ elapses_text asked.local asked.now (take asked.iterations elapses) ∷ [])
 
 -- the report of an expression in a zone, whose elapses are those after the base
 unfoldable pub calendar_report : Request → ℤ → List ℕ → Fields → TimeZone → List ℕ

@@ -19,7 +19,7 @@ use Rattle.cal_report.specs.CalendarReport.{zone_for}
 use Rattle.cal_report.specs.headline.CalendarReport.{heading_text}
 use Rattle.cal_report.specs.headline.ElapseLines.{elapses_text}
 use Rattle.cal_request.specs.headline.Request.{Request}
-use Rattle.cal_report.specs.headline.TimerReport.{exception_text}
+use Rattle.cal_report.specs.headline.ReportLines.{except_label, original_label}
 
 -- the line of a refusal: `FILE:LINE: WORDS` where the fault has a line, and else `FILE: WORDS`
 unfoldable pub refusal_at : List ℕ → Option ℕ → List ℕ → List ℕ
@@ -34,16 +34,13 @@ lacks_zone asked e = is_none (zone_for asked e.expr.zone)
 unfoldable pub timed_entry : Request → TimerLine Fields → Timed
 timed_entry asked e = timed e.expr (unwrap_or (zone_for asked e.expr.zone) UTC)
 
--- the texts and normal forms of the expressions, in the order of the file, and those of the exceptions
-unfoldable pub headings_text : List (TimerLine Fields) → List ℕ
-headings_text = flat_map (λ e. heading_text e.text e.expr)
-
-unfoldable pub exceptions_text : List (TimerLine Fields) → List ℕ
-exceptions_text = flat_map (λ e. exception_text e.text e.expr)
+-- the text of each line of a list, after that label, and its normal form
+unfoldable pub headings_text : List ℕ → List (TimerLine Fields) → List ℕ
+headings_text label = flat_map (λ e. heading_text label e.text e.expr)
 
 -- those of both lists
 abbrev pub lists_text : Timer Fields → List ℕ
-lists_text lists = joined (headings_text lists.expressions ∷ exceptions_text lists.exceptions ∷ [])
+lists_text lists = joined (headings_text original_label lists.expressions ∷ headings_text except_label lists.exceptions ∷ [])
 
 -- the elapses after a base of the expressions that are elapses of no exception
 unfoldable pub elapses_of_lists : Request → ℤ → Timer Fields → List ℤ

@@ -11,7 +11,7 @@ use Rattle.cal_read.specs.StampFault.{words_of}
 use Rattle.cal_read.specs.StampViews.{setting}
 use Rattle.cal_read.specs.declared.stamp.fault.StampFault.{StampFault}
 use Rattle.cal_report.specs.Answer.{Answer}
-use Rattle.cal_report.specs.headline.ReportLines.{distance_text, micros_of, original_line, utc_line}
+use Rattle.cal_report.specs.headline.ReportLines.{distance_text, micros_of, original_label, text_line, utc_line}
 use Rattle.cal_request.specs.headline.Request.{Request}
 
 -- the second that a moment lies in
@@ -33,7 +33,7 @@ moment_lines local now micros =
 
 -- the text as it was handed in, and its moment
 unfoldable pub timestamp_report : Request → List ℕ → ℤ → List ℕ
-timestamp_report asked text micros = joined (original_line text ∷ moment_lines asked.local asked.now micros ∷ [])
+timestamp_report asked text micros = joined (text_line original_label text ∷ moment_lines asked.local asked.now micros ∷ [])
 
 -- the microseconds of the moment that a text means, or its fault
 unfoldable pub stamp_in : Request → List ℕ → Result ℤ StampFault

@@ -4,4 +4,3 @@ pub mod ElapseLines
 pub mod Headline
 pub mod Report
 pub mod ReportLines
-pub mod TimerReport

@@ -10,7 +10,7 @@ ghost use Rattle.cal_report.specs.ElapseLines.{AreInstants};
 
 use crate::context::Context;
 use crate::elapse_lines::put_elapses;
-use crate::report_lines::put_original;
+use crate::report_lines::{ORIGINAL, put_text};
 use cal_bytes::{Sink, WriteFault, put_all};
 use cal_elapse::Rising;
 use cal_spec::{Expr, write_expr};
@@ -31,7 +31,7 @@ pub fn write_calendar<W: Sink, S: Rising>(
     ensures bytes { Writes (W.written out.old) (W.written out.new) result
         (report_of_elapses (asked_by context.entry) text.now expr.now (S.rest elapses.old)) }
 {
-    put_heading(out, text, expr)?;
+    put_heading(out, ORIGINAL, text, expr)?;
     put_elapses(
         out,
         elapses,
@@ -41,21 +41,26 @@ pub fn write_calendar<W: Sink, S: Rising>(
     )
 }
 
-/// Writes the text as it was handed in, and its normal form.
+/// Writes a text as it was handed in, after its label, and its normal form.
 #[tactic(auto, using(cal_bytes::proofs::Pieces::first_fails, cal_bytes::proofs::Pieces::second_ends), unfolding(crate::specs::headline::CalendarReport::heading_text))]
-pub fn put_heading<W: Sink>(out: &mut W, text: &str, expr: &Expr) -> Result<(), WriteFault>
+pub fn put_heading<W: Sink>(
+    out: &mut W,
+    label: &[u8],
+    text: &str,
+    expr: &Expr,
+) -> Result<(), WriteFault>
     requires { W.is_failed out.old ≡ false }
     ensures failed { W.is_failed out.new ≡ is_err result }
     ensures bytes { Writes (W.written out.old) (W.written out.new) result
-        (heading_text text.now expr.now) }
+        (heading_text label.now text.now expr.now) }
 {
-    put_original(out, text)?;
+    put_text(out, label, text)?;
     put_normal(out, expr)
 }
 
 /// Writes the rest of the line of the normal form.
 #[tactic(auto, using(cal_bytes::proofs::Pieces::first_fails, cal_bytes::proofs::Pieces::second_ends), unfolding(crate::specs::headline::CalendarReport::normal_line))]
-pub fn put_normal<W: Sink>(out: &mut W, expr: &Expr) -> Result<(), WriteFault>
+fn put_normal<W: Sink>(out: &mut W, expr: &Expr) -> Result<(), WriteFault>
     requires { W.is_failed out.old ≡ false }
     ensures failed { W.is_failed out.new ≡ is_err result }
     ensures bytes { Writes (W.written out.old) (W.written out.new) result

@@ -4,27 +4,26 @@ ghost use Rattle.std.specs.Prelude.{◌≡◌, ◌+◌, ◌≤◌, ◌++◌, ◌
 ghost use Rattle.cal_bytes.specs.Bytes.{Writes};
 ghost use Rattle.cal_bytes.specs.declared.short_text.TheConstants.{ROOM};
 ghost use Rattle.cal_span.specs.declared.span.text.TheConstants.{SPAN_ROOM};
-ghost use Rattle.cal_report.specs.headline.ReportLines.{direction_text, distance_text, micros_of, original_line};
+ghost use Rattle.cal_report.specs.headline.ReportLines.{direction_text, distance_text, micros_of, text_line};
 
 use cal_bytes::{ShortText, Sink, WriteFault, push, put_pieces};
 use cal_span::{Span, push_span};
 use cal_zone::{Instant, Moment};
 
-/// Writes the line of the text as it was handed in, and the next label.
-#[tactic(auto, unfolding(crate::specs::headline::ReportLines::original_line))]
-pub fn put_original<W: Sink>(out: &mut W, text: &str) -> Result<(), WriteFault>
+/// The label of a text as it was handed in.
+pub const ORIGINAL: &[u8] = b"  Original form: ";
+
+/// The label of an exception's text.
+pub const EXCEPT: &[u8] = b"    Except form: ";
+
+/// Writes the line of a text after its label, and the next label.
+pub fn put_text<W: Sink>(out: &mut W, label: &[u8], text: &str) -> Result<(), WriteFault>
     requires { W.is_failed out.old ≡ false }
     ensures failed { W.is_failed out.new ≡ is_err result }
-    ensures bytes { Writes (W.written out.old) (W.written out.new) result (original_line text.now) }
+    ensures bytes { Writes (W.written out.old) (W.written out.new) result
+        (text_line label.now text.now) }
 {
-    put_pieces(
-        out,
-        &[
-            b"  Original form: ",
-            text.as_bytes(),
-            b"\nNormalized form: ",
-        ],
-    )
+    put_pieces(out, &[label, text.as_bytes(), b"\nNormalized form: "])
 }
 
 /// Appends the span between the present and a moment, and which of the two is later. It takes at most [`cal_base::SPAN_ROOM`] and 5 bytes.

@@ -17,15 +17,15 @@ ghost use Rattle.cal_read.specs.TimerView.{shown};
 ghost use Rattle.cal_report.specs.Context.{asked_by};
 ghost use Rattle.cal_report.specs.ElapseLines.{AreInstants};
 ghost use Rattle.cal_report.specs.headline.ElapseLines.{elapses_text};
-ghost use Rattle.cal_report.specs.TimerReport.{IsHad, exceptions_text, first_unzoned, headings_text, lacks_zone, lists_text, refusal_at, timed_entry, timer_answer, timer_report, unzoned};
-ghost use Rattle.cal_report.specs.headline.TimerReport.{exception_line, exception_text};
+ghost use Rattle.cal_report.specs.TimerReport.{IsHad, first_unzoned, headings_text, lacks_zone, lists_text, refusal_at, timed_entry, timer_answer, timer_report, unzoned};
 ghost use Rattle.cal_report.specs.TimerPlan.{IsAdded, IsCoveredEntry, IsMergeOf, IsUnzoned, each_of, entry_sets, plan_text, refused_line, refused_words};
 ghost use Rattle.cal_report.specs.declared.timer_report.TimerRefusal.TheVariants.{NoMemory};
 
 use crate::accepted::zone_for;
-use crate::calendar_report::{put_heading, put_normal};
+use crate::calendar_report::put_heading;
 use crate::context::Context;
 use crate::elapse_lines::put_elapses;
+use crate::report_lines::{EXCEPT, ORIGINAL};
 use cal_bytes::{Sink, Source, WriteFault, put_pieces};
 use cal_elapse::{Elapses, Masks, Merge};
 use cal_read::{Timer, TimerFault, TimerLine, read_timer};
@@ -290,61 +290,19 @@ fn put_lists<W: Sink>(out: &mut W, timer: &Timer) -> Result<(), WriteFault>
     ensures failed { W.is_failed out.new ≡ is_err result }
     ensures bytes { Writes (W.written out.old) (W.written out.new) result (lists_text timer.now) }
 {
-    put_headings(out, timer.lines())?;
-    put_exceptions(out, timer.exceptions())
+    put_headings(out, ORIGINAL, timer.lines())?;
+    put_headings(out, EXCEPT, timer.exceptions())
 }
 
-/// Writes the text and the normal form of each expression.
-fn put_headings<W: Sink>(out: &mut W, lines: &[TimerLine]) -> Result<(), WriteFault>
+/// Writes the text of each line of a list, after that label, and its normal form.
+fn put_headings<W: Sink>(out: &mut W, label: &[u8], lines: &[TimerLine]) -> Result<(), WriteFault>
     requires { W.is_failed out.old ≡ false }
     ensures failed { W.is_failed out.new ≡ is_err result }
     ensures bytes { Writes (W.written out.old) (W.written out.new) result
-        (headings_text (map shown lines.now)) }
+        (headings_text label.now (map shown lines.now)) }
 {
     for line in lines {
-        put_heading(out, line.text.as_str(), &line.expr)?;
+        put_heading(out, label, line.text.as_str(), &line.expr)?;
     }
     Ok(())
-}
-
-/// Writes the text and the normal form of each exception.
-fn put_exceptions<W: Sink>(out: &mut W, lines: &[TimerLine]) -> Result<(), WriteFault>
-    requires { W.is_failed out.old ≡ false }
-    ensures failed { W.is_failed out.new ≡ is_err result }
-    ensures bytes { Writes (W.written out.old) (W.written out.new) result
-        (exceptions_text (map shown lines.now)) }
-{
-    for line in lines {
-        put_exception(out, line.text.as_str(), &line.expr)?;
-    }
-    Ok(())
-}
-
-/// Writes the text and the normal form of an exception.
-#[tactic(auto, using(cal_bytes::proofs::Pieces::first_fails, cal_bytes::proofs::Pieces::second_ends), unfolding(crate::specs::headline::TimerReport::exception_text))]
-fn put_exception<W: Sink>(out: &mut W, text: &str, expr: &Expr) -> Result<(), WriteFault>
-    requires { W.is_failed out.old ≡ false }
-    ensures failed { W.is_failed out.new ≡ is_err result }
-    ensures bytes { Writes (W.written out.old) (W.written out.new) result
-        (exception_text text.now expr.now) }
-{
-    put_exception_line(out, text)?;
-    put_normal(out, expr)
-}
-
-/// Writes the line of an exception's text, and the next label.
-#[tactic(auto, unfolding(crate::specs::headline::TimerReport::exception_line))]
-fn put_exception_line<W: Sink>(out: &mut W, text: &str) -> Result<(), WriteFault>
-    requires { W.is_failed out.old ≡ false }
-    ensures failed { W.is_failed out.new ≡ is_err result }
-    ensures bytes { Writes (W.written out.old) (W.written out.new) result (exception_line text.now) }
-{
-    put_pieces(
-        out,
-        &[
-            b"    Except form: ",
-            text.as_bytes(),
-            b"\nNormalized form: ",
-        ],
-    )
 }

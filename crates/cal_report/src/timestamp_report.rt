@@ -10,7 +10,7 @@ ghost use Rattle.cal_report.specs.TimestampReport.{moment_lines, timestamp_repor
 
 use crate::clocks::Clocks;
 use crate::context::Context;
-use crate::report_lines::{push_distance, put_original};
+use crate::report_lines::{ORIGINAL, push_distance, put_text};
 use cal_bytes::{Fill, ShortText, Sink, WriteFault, padding, push, push_all, put_all};
 use cal_zone::{Instant, Moment, Zone};
 use itoa::Buffer;
@@ -28,7 +28,7 @@ pub fn write_timestamp<W: Sink>(
     ensures bytes { Writes (W.written out.old) (W.written out.new) result
         (timestamp_report (asked_by context.entry) text.now moment.micros) }
 {
-    put_original(out, text)?;
+    put_text(out, ORIGINAL, text)?;
     put_moment(out, context.local, context.now, moment)
 }
 

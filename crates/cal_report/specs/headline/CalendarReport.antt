@@ -1,14 +1,14 @@
--- The heading of a calendar expression in its report (systemd-analyze(1), calendar).
+-- The heading of a calendar expression in a report (systemd-analyze(1), calendar).
 use Rattle.std.specs.Prelude.{ℕ, List, [], ◌∷◌, codes}
 use Rattle.cal_bytes.specs.headline.Bytes.{joined}
 use Rattle.cal_spec.specs.headline.ExprText.{expr_text}
 use Rattle.cal_spec.specs.headline.Fields.{Fields}
-use Rattle.cal_report.specs.headline.ReportLines.{original_line}
+use Rattle.cal_report.specs.headline.ReportLines.{text_line}
 
 -- the line of the normal form, after its label
 unfoldable pub normal_line : Fields → List ℕ
 normal_line fields = joined (expr_text fields ∷ codes "\n" ∷ [])
 
--- both lines
-unfoldable pub heading_text : List ℕ → Fields → List ℕ
-heading_text text fields = joined (original_line text ∷ normal_line fields ∷ [])
+-- both lines, the first after that label
+unfoldable pub heading_text : List ℕ → List ℕ → Fields → List ℕ
+heading_text label text fields = joined (text_line label text ∷ normal_line fields ∷ [])

@@ -18,9 +18,9 @@ use Rattle.cal_elapse.specs.headline.Timed.{timed}
 use Rattle.cal_read.specs.headline.Assignments.{Assignment, assignments_in}
 use Rattle.cal_read.specs.headline.TimerText.{excepted, is_exception, is_expression, listed, most_expressions, without_mark}
 use Rattle.cal_report.specs.headline.CalendarReport.{heading_text}
-use Rattle.cal_report.specs.headline.TimerReport.{exception_text}
 use Rattle.cal_report.specs.headline.ElapseLines.{elapses_text}
 use Rattle.cal_report.specs.headline.Report.{Report}
+use Rattle.cal_report.specs.headline.ReportLines.{except_label, original_label}
 use Rattle.cal_request.specs.headline.Request.{Request}
 use Rattle.cal_request.specs.declared.request.Status.TheVariants.{Fine, Refused}
 
@@ -72,7 +72,8 @@ AreElapsesOf s base xs = AreElapses (map meaning s.expressions) (map meaning s.e
 -- the text and the normal form of each, and then those of each exception
 abbrev pub headings : Schedule → List ℕ
 headings s =
-    flat_map (λ e. heading_text e.text e.fields) s.expressions ++ flat_map (λ e. exception_text e.text e.fields) s.exceptions
+    flat_map (λ e. heading_text original_label e.text e.fields) s.expressions
+    ++ flat_map (λ e. heading_text except_label e.text e.fields) s.exceptions
 
 -- The text is the report of a schedule: a heading for each, and then the first n, as many as are asked for, of the one
 -- rising list that has exactly its elapses above the base.

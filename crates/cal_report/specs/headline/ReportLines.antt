@@ -7,9 +7,16 @@ use Rattle.cal_span.specs.headline.SpanText.{span_text}
 use Rattle.cal_zone.specs.headline.Zone.{is_utc, utc}
 use Rattle.cal_zone.specs.declared.zone.Zone.{Zone}
 
--- the line of a text as it was handed in, and the label of the next
-unfoldable pub original_line : List ℕ → List ℕ
-original_line text = joined (codes "  Original form: " ∷ text ∷ codes "\nNormalized form: " ∷ [])
+-- the label of a text as it was handed in, and that of an exception's
+abbrev pub original_label : List ℕ
+original_label = codes "  Original form: "
+
+abbrev pub except_label : List ℕ
+except_label = codes "    Except form: "
+
+-- the line of a text after its label, and the label of the next
+unfoldable pub text_line : List ℕ → List ℕ → List ℕ
+text_line label text = joined (label ∷ text ∷ codes "\nNormalized form: " ∷ [])
 
 -- the microseconds of an instant
 abbrev pub micros_of : ℤ → ℤ

@@ -5,7 +5,6 @@ use Rattle.cal_bytes.specs.Bytes.{Leaves}
 use Rattle.cal_read.specs.TimerView.{shown}
 use Rattle.cal_report.specs.TimerReport.{headings_text}
 use Rattle.cal_report.proofs.TimerLemmas.{line_text}
-use Rattle.cal_report.specs.headline.CalendarReport.{heading_text}
 use Rattle.cal_report.proofs.timer_report.put_headings.Given as goal
 
 abbrev pub invariant-loop-line : goal.invariant-loop-line
@@ -13,5 +12,5 @@ invariant-loop-line g l =
     record {
       works : g.W.Sink.is_failed l.out ≡ false;
       leaves : Leaves (g.W.Sink.written l.fn.out) (g.W.Sink.written l.out)
-          (flat_map (line_text heading_text) (drop l.line-index l.lines)) (headings_text (map shown l.lines));
+          (flat_map (line_text l.label) (drop l.line-index l.lines)) (headings_text l.label (map shown l.lines));
     }
