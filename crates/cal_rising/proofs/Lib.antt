@@ -1,3 +1,4 @@
 pub mod MergeLemmas
-pub mod WithoutLemmas
+pub mod OrderLemmas
 pub mod RisingLemmas
+pub mod WithoutLemmas

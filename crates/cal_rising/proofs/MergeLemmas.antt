@@ -1,16 +1,24 @@
 -- The merge of rising lists: its first number is the least of their first ones, and once that is given what is left is
 -- the merge of what is left of each.
-use Rattle.std.proofs.Common.{◌≡◌, ◌↔◌, ◌<◌, ◌≤◌, ◌+◌, ℕ, zero, suc, List, [], ◌∷◌, ◌++◌, length, take, drop, get_or, set, inl, inr, Option, None, Some, ℤ, ◌<ℤ◌, ◌≤ℤ◌, refl, sym, ap, ◌∙◌, subst, arith, map, add-one}
+use Rattle.std.proofs.Common.{◌≡◌, ◌↔◌, ◌<◌, ◌≤◌, ◌+◌, ℕ, zero, suc, List, [], ◌∷◌, ◌++◌, length, take, drop, get_or, set, inl, inr, Option, None, Some, ℤ, ◌<ℤ◌, ◌≤ℤ◌, refl, sym, ap, ◌∙◌, subst, arith, map, add-one, slice_get}
 use Rattle.std.proofs.Math.Seq.{take-length}
 use Rattle.std.proofs.Math.ListN.{drop_of_length-le}
+use Rattle.std.proofs.lemmas.Cmp.{int_ranked}
 use Rattle.std.proofs.lemmas.Int.{by_lt_z, ints}
 use Rattle.std.proofs.lemmas.List.{append-nil}
 use Rattle.std.proofs.lemmas.List.Elements.{All-head, All-tail}
+use Rattle.std.proofs.lemmas.Map.Keys.{sorted_tail}
+use Rattle.std.specs.BTreeSet.{insert_key}
+use Rattle.std.specs.FinMap.{int_cmp-IsAntisymmetric}
 use Rattle.std.specs.List.{All}
+use Rattle.std.specs.List.Sorted.{IsStrictlySortedBy}
+use Rattle.std.specs.Ordering.{int_cmp, match_ordering}
+use Rattle.std.specs.declared.cmp.Ordering.{Ordering}
+use Rattle.std.specs.declared.cmp.Ordering.TheVariants.{Less, Equal, Greater}
 use Rattle.cal_rising.specs.Merge.{HasHead, Branch, lesser, numbers, passed}
-use Rattle.cal_rising.specs.RisingList.{HasAny, first, later, with_number, with_numbers, union}
-use Rattle.cal_rising.specs.headline.RisingList.{Has, IsRising}
-use Rattle.cal_rising.proofs.RisingLemmas.{above_has, chained, later_members, lt_test, not_lt_test, same_rising, Has-union, IsRising-union}
+use Rattle.cal_rising.specs.RisingList.{HasAny, with_numbers, union}
+use Rattle.cal_rising.specs.headline.RisingList.{Has}
+use Rattle.cal_rising.proofs.RisingLemmas.{above_first, chained, from_less, later_members, lt_test, not_lt_test, same_rising, Has-union, rises-drop, rises-union}
 
 -- the lesser of none and another is the other
 lesser-none : (a : Option ℤ) → lesser a None ≡ a
@@ -43,50 +51,52 @@ both_ways : (a b : ℤ) → a ≤ℤ b → b ≤ℤ a → a ≡ b
 both_ways a b h k = omega (arith, ints)
 
 -- the first number of a list with one more
-first-with_number : (x : ℤ) (ys : List ℤ) → first (with_number x ys) ≡ lesser (Some x) (first ys)
-first-with_number x [] = refl
-first-with_number x (y ∷ ys) =
-    by_lt_z x y
-    (λ h. rw (lt_test x y h, lesser-below x y (omega (arith, ints))))
-    (λ h. by_lt_z y x
-    (λ k. rw (not_lt_test x y h, lt_test y x k))
-    (λ k. rw (not_lt_test x y h, not_lt_test y x k) (ap Some (both_ways y x h k))))
+first_inserted : (o : Ordering) (x y : ℤ) (ys more : List ℤ) → int_cmp x y ≡ o → slice_get (match_ordering o (x ∷ y ∷ ys) (y ∷ ys) (y ∷ more)) 0 ≡ lesser (Some x) (Some y)
+first_inserted Less x y ys more e = sym (lesser-below x y (omega (arith, ints, from_less x y e)))
+first_inserted Equal x y ys more e =
+    let same = int_cmp-IsAntisymmetric x y e in
+    ap Some (sym same) ∙ sym (lesser-below x y (omega (arith, ints, same)))
+first_inserted Greater x y ys more e = sym (lesser-above x y (int_ranked x y Greater (sym e)))
+
+first-insert_key : (x : ℤ) (ys : List ℤ) → slice_get (insert_key int_cmp ys x) 0 ≡ lesser (Some x) (slice_get ys 0)
+first-insert_key x [] = refl
+first-insert_key x (y ∷ ys) = first_inserted (int_cmp x y) x y ys (insert_key int_cmp ys x) refl
 
 -- the first number of a rising list is the least
-lesser-first : (x : ℤ) (xs : List ℤ) → IsRising (x ∷ xs) → lesser (Some x) (first xs) ≡ Some x
+lesser-first : (x : ℤ) (xs : List ℤ) → IsStrictlySortedBy int_cmp (x ∷ xs) → lesser (Some x) (slice_get xs 0) ≡ Some x
 lesser-first x [] h = refl
-lesser-first x (y ∷ ys) h = lesser-below x y (omega (arith, ints, h.0.0))
+lesser-first x (y ∷ ys) h = lesser-below x y (omega (arith, ints, above_first x y (y ∷ ys) h (inl refl)))
 
-first-with_numbers : (xs ys : List ℤ) → IsRising xs → first (with_numbers xs ys) ≡ lesser (first xs) (first ys)
+first-with_numbers : (xs ys : List ℤ) → IsStrictlySortedBy int_cmp xs → slice_get (with_numbers xs ys) 0 ≡ lesser (slice_get xs 0) (slice_get ys 0)
 first-with_numbers [] ys h = refl
 first-with_numbers (x ∷ xs) ys h =
-    first-with_number x (with_numbers xs ys)
-    ∙ ap (lesser (Some x)) (first-with_numbers xs ys h.1)
-    ∙ lesser-assoc (Some x) (first xs) (first ys)
-    ∙ ap (λ a. lesser a (first ys)) (lesser-first x xs h)
+    first-insert_key x (with_numbers xs ys)
+    ∙ ap (lesser (Some x)) (first-with_numbers xs ys (sorted_tail int_cmp x xs h))
+    ∙ lesser-assoc (Some x) (slice_get xs 0) (slice_get ys 0)
+    ∙ ap (λ a. lesser a (slice_get ys 0)) (lesser-first x xs h)
 
 -- the first number of a union with one list more is the lesser of two
 first-union_more : (ss : List Branch) (i : ℕ) (d : Branch) → i < length ss → All HasHead ss
-    → first (union (map numbers (take (suc i) ss))) ≡ lesser (first (union (map numbers (take i ss)))) (get_or ss i d).head
+    → slice_get (union (map numbers (take (suc i) ss))) 0 ≡ lesser (slice_get (union (map numbers (take i ss))) 0) (get_or ss i d).head
 unfolding union
 first-union_more [] i d lt h = absurd (omega arith)
 first-union_more (s ∷ ss) zero d lt h =
     let here = All-head HasHead s ss h in
-    first-with_numbers (numbers s) [] here.1 ∙ lesser-none (first (numbers s)) ∙ sym here.0
+    first-with_numbers (numbers s) [] here.1 ∙ lesser-none (slice_get (numbers s) 0) ∙ sym here.0
 first-union_more (s ∷ ss) (suc i) d lt h =
     let here = All-head HasHead s ss h in
     first-with_numbers (numbers s) (union (map numbers (take (suc i) ss))) here.1
-    ∙ ap (lesser (first (numbers s))) (first-union_more ss i d (omega arith) (All-tail HasHead s ss h))
-    ∙ lesser-assoc (first (numbers s)) (first (union (map numbers (take i ss)))) (get_or ss i d).head
+    ∙ ap (lesser (slice_get (numbers s) 0)) (first-union_more ss i d (omega arith) (All-tail HasHead s ss h))
+    ∙ lesser-assoc (slice_get (numbers s) 0) (slice_get (union (map numbers (take i ss))) 0) (get_or ss i d).head
     ∙ ap (λ a. lesser a (get_or ss i d).head) (sym (first-with_numbers (numbers s) (union (map numbers (take i ss))) here.1))
 
 -- the least head, once one source more is looked at
 pub least_more : (ss ts : List Branch) (i : ℕ) (s : Branch) (least head next : Option ℤ) → ss ≡ ts → All HasHead ts → i < length ss
-    → least ≡ first (union (map numbers (take i ss))) → s ≡ get_or ss i s → head ≡ s.head → next ≡ lesser least head
-    → next ≡ first (union (map numbers (take (i + 1) ss)))
+    → least ≡ slice_get (union (map numbers (take i ss))) 0 → s ≡ get_or ss i s → head ≡ s.head → next ≡ lesser least head
+    → next ≡ slice_get (union (map numbers (take (i + 1) ss))) 0
 least_more ss ts i s least head next same heads lt so_far there its now =
     let all : All HasHead ss = subst (λ (l : List Branch). All HasHead l) (sym same) heads in
-    let before = first (union (map numbers (take i ss))) in
+    let before = slice_get (union (map numbers (take i ss))) 0 in
     rw (add-one i) (
     now
     ∙ ap (λ (a : Option ℤ). lesser a head) so_far
@@ -95,12 +105,12 @@ least_more ss ts i s least head next same heads lt so_far there its now =
     )
 
 -- what is left of a rising list once its least number, or a lesser one, was given
-Has-passed : (m : ℤ) (xs : List ℤ) → IsRising xs → ((i : ℤ) → Has xs i → m ≤ℤ i) → (i : ℤ) → Has (passed m xs) i ↔ ((m <ℤ i) × Has xs i)
+Has-passed : (m : ℤ) (xs : List ℤ) → IsStrictlySortedBy int_cmp xs → ((i : ℤ) → Has xs i → m ≤ℤ i) → (i : ℤ) → Has (passed m xs) i ↔ ((m <ℤ i) × Has xs i)
 Has-passed m [] h low i = (λ n. absurd n, λ p. p.1)
 Has-passed m (y ∷ ys) h low i =
     by_lt_z m y
     (λ lt. rw (lt_test m y lt) (
-      λ n. (elim n [ inl e ↦ subst (λ (j : ℤ). m <ℤ j) e lt | inr k ↦ chained m y i lt (above_has y i ys h.0 k) ], n),
+      λ n. (elim n [ inl e ↦ subst (λ (j : ℤ). m <ℤ j) e lt | inr k ↦ chained m y i lt (above_first y i ys h k) ], n),
       λ p. p.1,
     ))
     (λ ge. rw (not_lt_test m y ge) (
@@ -119,29 +129,25 @@ HasAny-passed m (s ∷ ss) h low i =
     )
 
 -- no member of a rising list is below its first
-first_is_least : (m : ℤ) (xs : List ℤ) → IsRising xs → first xs ≡ Some m → (i : ℤ) → Has xs i → m ≤ℤ i
+first_is_least : (m : ℤ) (xs : List ℤ) → IsStrictlySortedBy int_cmp xs → slice_get xs 0 ≡ Some m → (i : ℤ) → Has xs i → m ≤ℤ i
 first_is_least m [] h e i n = absurd n
 first_is_least m (x ∷ xs) h e i (inl f) = let same : x ≡ m = cc in omega (arith, ints)
-first_is_least m (x ∷ xs) h e i (inr n) = let same : x ≡ m = cc in omega (arith, ints, above_has x i xs h.0 n)
+first_is_least m (x ∷ xs) h e i (inr n) = let same : x ≡ m = cc in omega (arith, ints, above_first x i xs h n)
 
-later_by_first : (m : ℤ) (xs : List ℤ) → IsRising xs → first xs ≡ Some m → (i : ℤ) → Has (later xs) i ↔ ((m <ℤ i) × Has xs i)
+later_by_first : (m : ℤ) (xs : List ℤ) → IsStrictlySortedBy int_cmp xs → slice_get xs 0 ≡ Some m → (i : ℤ) → Has (drop 1 xs) i ↔ ((m <ℤ i) × Has xs i)
 later_by_first m [] h e i = absurd (cc)
 later_by_first m (x ∷ xs) h e i =
     let same : x ≡ m = cc in
     subst (λ (z : ℤ). Has xs i ↔ ((z <ℤ i) × Has (x ∷ xs) i)) same (later_members x xs h i)
 
-IsRising-later : (xs : List ℤ) → IsRising xs → IsRising (later xs)
-IsRising-later [] h = tt
-IsRising-later (x ∷ xs) h = h.1
-
 -- once the least number is given, what is left is the union of what is left of each
 pub union-passed : (m : ℤ) (ss : List Branch) → All HasHead ss
-    → first (union (map numbers ss)) ≡ Some m → union (map (passed m) (map numbers ss)) ≡ later (union (map numbers ss))
+    → slice_get (union (map numbers ss)) 0 ≡ Some m → union (map (passed m) (map numbers ss)) ≡ drop 1 (union (map numbers ss))
 union-passed m ss h e =
     let lists = map numbers ss in
-    let rises = IsRising-union lists in
+    let rises = rises-union lists in
     let low = λ (i : ℤ) (n : HasAny lists i). first_is_least m (union lists) rises e i ((Has-union lists i).1 n) in
-    same_rising (union (map (passed m) lists)) (later (union lists)) (IsRising-union (map (passed m) lists)) (IsRising-later (union lists) rises)
+    same_rising (union (map (passed m) lists)) (drop 1 (union lists)) (rises-union (map (passed m) lists)) (rises-drop (union lists) 1 rises)
     (λ i.
     let left = HasAny-passed m ss h low i in
     let after = later_by_first m (union lists) rises e i in (

@@ -1,7 +1,12 @@
 -- A rising list without the numbers of another: its members, and what one turn of a merge leaves of both.
-use Rattle.std.proofs.Common.{◌≡◌, ◌≢◌, ◌⊎◌, ◌↔◌, ◌||◌, ◌&&◌, ◌<◌, ◌≤◌, ◌+◌, ℕ, suc, cond, Bool, true, false, not, List, [], ◌∷◌, length, get_or, get_or-set_other, set, map, zero, inl, inr, Option, None, Some, ℤ, ◌<ℤ◌, ◌≤ℤ◌, int_eq, nat_eq, FitsSigned, of_z, to_z, refl, sym, ap, ◌∙◌, subst, arith}
+use Rattle.std.proofs.Common.{◌≡◌, ◌≢◌, ◌⊎◌, ◌↔◌, ◌||◌, ◌&&◌, ◌<◌, ◌≤◌, ◌+◌, ℕ, suc, cond, Bool, true, false, not, List, [], ◌∷◌, length, drop, slice_get, get_or, get_or-set_other, set, map, zero, inl, inr, Option, None, Some, ℤ, ◌<ℤ◌, ◌≤ℤ◌, int_eq, nat_eq, FitsSigned, of_z, to_z, refl, sym, ap, ◌∙◌, subst, arith}
 use Rattle.std.specs.Int.{Width}
-use Rattle.std.specs.List.{filter, list_any}
+use Rattle.std.specs.List.{AllByRecursion, filter, list_any}
+use Rattle.std.specs.List.Sorted.{IsStrictlySortedBy}
+use Rattle.std.specs.Ordering.{int_cmp}
+use Rattle.std.specs.Set.{is_member}
+use Rattle.std.specs.declared.cmp.Ordering.TheVariants.{Less}
+use Rattle.std.proofs.lemmas.Map.Keys.{sorted_head}
 use Rattle.std.proofs.Math.Bool.{or-false, or-true}
 use Rattle.std.proofs.lemmas.Bool.{and_from, and_parts, or_cases}
 use Rattle.std.proofs.lemmas.Bool.Decides.{Decides-int_eq}
@@ -9,27 +14,27 @@ use Rattle.std.proofs.lemmas.Int.{ints, to_z-of_z}
 use Rattle.std.proofs.lemmas.List.{get_or_default}
 use borrow.Author.Count.{below_more}
 use Rattle.cal_rising.specs.Merge.{Branch, numbers, numbers_by}
-use Rattle.cal_rising.specs.Rises.{IsRising-union, IsRising-without}
-use Rattle.cal_rising.specs.RisingList.{HasAny, IsSameFrom, IsUnionWithout, first, is_in, later, union, without}
-use Rattle.cal_rising.specs.headline.RisingList.{Has, IsAbove, IsRising}
-use Rattle.cal_rising.proofs.RisingLemmas.{Has-union, same_rising}
+use Rattle.cal_rising.specs.Rises.{rises-union, rises-without}
+use Rattle.cal_rising.specs.RisingList.{HasAny, IsSameFrom, IsUnionWithout, union, without}
+use Rattle.cal_rising.specs.headline.RisingList.{Has}
+use Rattle.cal_rising.proofs.RisingLemmas.{Has-union, from_less, same_rising}
 
-value_above : (a b : ℤ) → b <ℤ a → int_eq a b ≡ false
-value_above a b h = grind (arith, ints)
+value_below : (a b : ℤ) → a <ℤ b → int_eq a b ≡ false
+value_below a b h = grind (arith, ints)
 
 -- whether a number is in a list
-pub Has-is_in : (xs : List ℤ) (i : ℤ) → is_in xs i ≡ true → Has xs i
-Has-is_in [] i h = absurd (cc)
-Has-is_in (x ∷ xs) i h =
-    elim (or_cases (int_eq x i) (is_in xs i) h) [ inl e ↦ inl ((Decides-int_eq x i).0 e) | inr e ↦ inr (Has-is_in xs i e) ]
+pub Has-is_member : (xs : List ℤ) (i : ℤ) → is_member int_eq xs i ≡ true → Has xs i
+Has-is_member [] i h = absurd (cc)
+Has-is_member (x ∷ xs) i h =
+    elim (or_cases (int_eq i x) (is_member int_eq xs i) h) [ inl e ↦ inl (sym ((Decides-int_eq i x).0 e)) | inr e ↦ inr (Has-is_member xs i e) ]
 
-pub is_in-Has : (xs : List ℤ) (i : ℤ) → Has xs i → is_in xs i ≡ true
-is_in-Has [] i m = absurd m
-is_in-Has (x ∷ xs) i (inl e) = rw ((Decides-int_eq x i).1 e)
-is_in-Has (x ∷ xs) i (inr m) = rw (is_in-Has xs i m) (or-true (int_eq x i))
+pub is_member-Has : (xs : List ℤ) (i : ℤ) → Has xs i → is_member int_eq xs i ≡ true
+is_member-Has [] i m = absurd m
+is_member-Has (x ∷ xs) i (inl e) = rw ((Decides-int_eq i x).1 (sym e))
+is_member-Has (x ∷ xs) i (inr m) = rw (is_member-Has xs i m) (or-true (int_eq i x))
 
-not_in-Has : (xs : List ℤ) (i : ℤ) → not (is_in xs i) ≡ true → Has xs i → ⊥
-not_in-Has xs i h m = let there = is_in-Has xs i m in absurd (cc)
+not_in-Has : (xs : List ℤ) (i : ℤ) → not (is_member int_eq xs i) ≡ true → Has xs i → ⊥
+not_in-Has xs i h m = let there = is_member-Has xs i m in absurd (cc)
 
 not_in-by : (b : Bool) → (b ≡ true → ⊥) → not b ≡ true
 not_in-by true h = absurd (h refl)
@@ -63,9 +68,9 @@ Has-filter p (x ∷ xs) i =
 pub Has-without : (xs ys : List ℤ) (i : ℤ) → Has (without xs ys) i ↔ (Has xs i × (Has ys i → ⊥))
 unfolding without
 Has-without xs ys i =
-    let kept = Has-filter (λ x. not (is_in ys x)) xs i in (
+    let kept = Has-filter (λ x. not (is_member int_eq ys x)) xs i in (
       λ m. ((kept.0 m).0, not_in-Has ys i (kept.0 m).1),
-      λ h. kept.1 (h.0, not_in-by (is_in ys i) (λ e. h.1 (Has-is_in ys i e))),
+      λ h. kept.1 (h.0, not_in-by (is_member int_eq ys i) (λ e. h.1 (Has-is_member ys i e))),
     )
 
 -- without nothing, all is left
@@ -76,7 +81,7 @@ without-none (x ∷ xs) = ap (λ (l : List ℤ). x ∷ l) (without-none xs)
 
 pub IsUnionWithout-union : (xss yss : List (List ℤ)) → IsUnionWithout xss yss (without (union xss) (union yss))
 IsUnionWithout-union xss yss = record {
-  rises = IsRising-without (union xss) (union yss) (IsRising-union xss);
+  rises = rises-without (union xss) (union yss) (rises-union xss);
   members = λ i.
       let left = Has-without (union xss) (union yss) i in (
         λ m. ((Has-union xss i).0 (left.0 m).0, λ n. (left.0 m).1 ((Has-union yss i).1 n)),
@@ -90,22 +95,22 @@ IsUnionWithout-only xss yss xs h =
     same_rising xs (without (union xss) (union yss)) h.rises it.rises
     (λ i. (λ m. (it.members i).1 ((h.members i).0 m), λ m. (h.members i).1 ((it.members i).0 m)))
 
-above_not_in : (m n : ℤ) (xs : List ℤ) → n ≤ℤ m → IsAbove m xs → is_in xs n ≡ false
+above_not_in : (m n : ℤ) (xs : List ℤ) → n ≤ℤ m → AllByRecursion (λ y. int_cmp m y ≡ Less) xs → is_member int_eq xs n ≡ false
 above_not_in m n [] h k = refl
 above_not_in m n (x ∷ xs) h k =
-    let up = k.0 in
+    let up = from_less m x k.0 in
     let lt : n <ℤ x = omega (arith, ints, up) in
-    rw (value_above x n lt) (above_not_in m n xs h k.1)
+    rw (value_below n x lt) (above_not_in m n xs h k.1)
 
-pub is_in-first : (m n : ℤ) (xs : List ℤ) → IsRising xs → first xs ≡ Some m → n ≤ℤ m → is_in xs n ≡ int_eq m n
-is_in-first m n [] h at le = absurd (cc)
-is_in-first m n (x ∷ xs) h at le =
+pub is_member-first : (m n : ℤ) (xs : List ℤ) → IsStrictlySortedBy int_cmp xs → slice_get xs 0 ≡ Some m → n ≤ℤ m → is_member int_eq xs n ≡ int_eq n m
+is_member-first m n [] h at le = absurd (cc)
+is_member-first m n (x ∷ xs) h at le =
     let same : x ≡ m = cc in
-    rw (same, above_not_in m n xs le (subst (λ (z : ℤ). IsAbove z xs) same h.0)) (or-false (int_eq m n))
+    rw (same, above_not_in m n xs le (subst (λ (z : ℤ). AllByRecursion (λ y. int_cmp z y ≡ Less) xs) same (sorted_head int_cmp x xs h))) (or-false (int_eq n m))
 
-pub is_in-head : (head : Option ℤ) (xs : List ℤ) (m n : ℤ) → IsRising (numbers_by head xs) → head ≡ Some m → n ≤ℤ m
-    → is_in (numbers_by head xs) n ≡ int_eq m n
-is_in-head head xs m n h e le = is_in-first m n (numbers_by head xs) h (rw e refl) le
+pub is_member-head : (head : Option ℤ) (xs : List ℤ) (m n : ℤ) → IsStrictlySortedBy int_cmp (numbers_by head xs) → head ≡ Some m → n ≤ℤ m
+    → is_member int_eq (numbers_by head xs) n ≡ int_eq n m
+is_member-head head xs m n h e le = is_member-first m n (numbers_by head xs) h (rw e refl) le
 
 -- `==` compares the words, which are equal exactly for equal numbers
 same_test : (m n : ℕ) (a b : ℤ) → (m ≡ n → a ≡ b) → (a ≡ b → m ≡ n) → nat_eq m n ≡ int_eq a b
@@ -117,46 +122,46 @@ same_word w a b f g =
 
 -- a source that has taken its next number in the place of one below has from there on what it had
 pub followed : (m n : ℤ) (xs ys zs : List ℤ) → m <ℤ n → xs ≡ ys → IsSameFrom n zs ys → IsSameFrom n zs xs
-followed m n xs ys zs h e same i le = same i le ∙ ap (λ (l : List ℤ). is_in l i) (sym e)
+followed m n xs ys zs h e same i le = same i le ∙ ap (λ (l : List ℤ). is_member int_eq l i) (sym e)
 
 -- lists with the same numbers from one number on leave the same of a list above that number
-without-same : (n : ℤ) (xs ys zs : List ℤ) → IsAbove n xs → IsSameFrom n zs ys → without xs zs ≡ without xs ys
+without-same : (n : ℤ) (xs ys zs : List ℤ) → AllByRecursion (λ y. int_cmp n y ≡ Less) xs → IsSameFrom n zs ys → without xs zs ≡ without xs ys
 unfolding without
 without-same n [] ys zs h same = refl
 without-same n (x ∷ xs) ys zs h same =
-    let up = h.0 in
+    let up = from_less n x h.0 in
     let le : n ≤ℤ x = omega (arith, ints, up) in
     let rest = without-same n xs ys zs h.1 same in
-    rw (same x le) (ap (λ (l : List ℤ). cond (not (is_in ys x)) (x ∷ l) l) rest)
+    rw (same x le) (ap (λ (l : List ℤ). cond (not (is_member int_eq ys x)) (x ∷ l) l) rest)
 
 -- one turn: the first number of the sources is an exception and is passed over, or it is given
-without-first : (n : ℤ) (xs ys zs : List ℤ) → first xs ≡ Some n → IsRising xs → IsSameFrom n zs ys
-    → without xs ys ≡ cond (not (is_in ys n)) (n ∷ without (later xs) zs) (without (later xs) zs)
+without-first : (n : ℤ) (xs ys zs : List ℤ) → slice_get xs 0 ≡ Some n → IsStrictlySortedBy int_cmp xs → IsSameFrom n zs ys
+    → without xs ys ≡ cond (not (is_member int_eq ys n)) (n ∷ without (drop 1 xs) zs) (without (drop 1 xs) zs)
 unfolding without
 without-first n [] ys zs at h same = absurd (cc)
 without-first n (x ∷ xs) ys zs at h same =
     let here : x ≡ n = cc in
-    let rest = without-same n xs ys zs (subst (λ (z : ℤ). IsAbove z xs) here h.0) same in
-    rw (here) (ap (λ (l : List ℤ). cond (not (is_in ys n)) (n ∷ l) l) (sym rest))
+    let rest = without-same n xs ys zs (subst (λ (z : ℤ). AllByRecursion (λ y. int_cmp z y ≡ Less) xs) here (sorted_head int_cmp x xs h)) same in
+    rw (here) (ap (λ (l : List ℤ). cond (not (is_member int_eq ys n)) (n ∷ l) l) (sym rest))
 
-pub without-passed : (n : ℤ) (xs ys zs : List ℤ) → first xs ≡ Some n → IsRising xs → IsSameFrom n zs ys → is_in ys n ≡ true
-    → without (later xs) zs ≡ without xs ys
+pub without-passed : (n : ℤ) (xs ys zs : List ℤ) → slice_get xs 0 ≡ Some n → IsStrictlySortedBy int_cmp xs → IsSameFrom n zs ys → is_member int_eq ys n ≡ true
+    → without (drop 1 xs) zs ≡ without xs ys
 without-passed n xs ys zs at h same there =
     let turn = without-first n xs ys zs at h same in
-    sym (turn ∙ ap (λ (b : Bool). cond (not b) (n ∷ without (later xs) zs) (without (later xs) zs)) there)
+    sym (turn ∙ ap (λ (b : Bool). cond (not b) (n ∷ without (drop 1 xs) zs) (without (drop 1 xs) zs)) there)
 
-pub without-given : (n : ℤ) (xs ys zs : List ℤ) → first xs ≡ Some n → IsRising xs → IsSameFrom n zs ys → is_in ys n ≡ false
-    → without xs ys ≡ n ∷ without (later xs) zs
+pub without-given : (n : ℤ) (xs ys zs : List ℤ) → slice_get xs 0 ≡ Some n → IsStrictlySortedBy int_cmp xs → IsSameFrom n zs ys → is_member int_eq ys n ≡ false
+    → without xs ys ≡ n ∷ without (drop 1 xs) zs
 without-given n xs ys zs at h same lacks =
     let turn = without-first n xs ys zs at h same in
-    turn ∙ ap (λ (b : Bool). cond (not b) (n ∷ without (later xs) zs) (without (later xs) zs)) lacks
+    turn ∙ ap (λ (b : Bool). cond (not b) (n ∷ without (drop 1 xs) zs) (without (drop 1 xs) zs)) lacks
 
-pub without-nothing : (xs ys : List ℤ) → first xs ≡ None → without xs ys ≡ []
+pub without-nothing : (xs ys : List ℤ) → slice_get xs 0 ≡ None → without xs ys ≡ []
 unfolding without
 without-nothing [] ys h = refl
 without-nothing (x ∷ xs) ys h = absurd (cc)
 
-pub without-later-nothing : (xs ys : List ℤ) → first xs ≡ None → without (later xs) ys ≡ []
+pub without-later-nothing : (xs ys : List ℤ) → slice_get xs 0 ≡ None → without (drop 1 xs) ys ≡ []
 unfolding without
 without-later-nothing [] ys h = refl
 without-later-nothing (x ∷ xs) ys h = absurd (cc)
@@ -167,46 +172,46 @@ same_truth true b h k = sym (h refl)
 same_truth false true h k = k refl
 same_truth false false h k = refl
 
-any-HasAny : (n : ℤ) (xss : List (List ℤ)) → list_any (λ xs. is_in xs n) xss ≡ true → HasAny xss n
+any-HasAny : (n : ℤ) (xss : List (List ℤ)) → list_any (λ xs. is_member int_eq xs n) xss ≡ true → HasAny xss n
 any-HasAny n [] h = absurd (cc)
 any-HasAny n (xs ∷ xss) h =
-    elim (or_cases (is_in xs n) (list_any (λ xs. is_in xs n) xss) h) [ inl e ↦ inl (Has-is_in xs n e) | inr e ↦ inr (any-HasAny n xss e) ]
+    elim (or_cases (is_member int_eq xs n) (list_any (λ xs. is_member int_eq xs n) xss) h) [ inl e ↦ inl (Has-is_member xs n e) | inr e ↦ inr (any-HasAny n xss e) ]
 
-HasAny-any : (n : ℤ) (xss : List (List ℤ)) → HasAny xss n → list_any (λ xs. is_in xs n) xss ≡ true
+HasAny-any : (n : ℤ) (xss : List (List ℤ)) → HasAny xss n → list_any (λ xs. is_member int_eq xs n) xss ≡ true
 HasAny-any n [] m = absurd m
-HasAny-any n (xs ∷ xss) (inl m) = rw (is_in-Has xs n m) refl
-HasAny-any n (xs ∷ xss) (inr m) = rw (HasAny-any n xss m) (or-true (is_in xs n))
+HasAny-any n (xs ∷ xss) (inl m) = rw (is_member-Has xs n m) refl
+HasAny-any n (xs ∷ xss) (inr m) = rw (HasAny-any n xss m) (or-true (is_member int_eq xs n))
 
-pub any-union : (n : ℤ) (xss : List (List ℤ)) → list_any (λ xs. is_in xs n) xss ≡ is_in (union xss) n
+pub any-union : (n : ℤ) (xss : List (List ℤ)) → list_any (λ xs. is_member int_eq xs n) xss ≡ is_member int_eq (union xss) n
 any-union n xss =
-    same_truth (list_any (λ xs. is_in xs n) xss) (is_in (union xss) n)
-    (λ h. is_in-Has (union xss) n ((Has-union xss n).1 (any-HasAny n xss h)))
-    (λ h. HasAny-any n xss ((Has-union xss n).0 (Has-is_in (union xss) n h)))
+    same_truth (list_any (λ xs. is_member int_eq xs n) xss) (is_member int_eq (union xss) n)
+    (λ h. is_member-Has (union xss) n ((Has-union xss n).1 (any-HasAny n xss h)))
+    (λ h. HasAny-any n xss ((Has-union xss n).0 (Has-is_member (union xss) n h)))
 
 -- whether one of the sources has it: none of them has, or this one has
-any-none : (n : ℤ) (ss : List Branch) → ((k : ℕ) → k < length ss → (d : Branch) → is_in (numbers (get_or ss k d)) n ≡ false)
-    → list_any (λ xs. is_in xs n) (map numbers ss) ≡ false
+any-none : (n : ℤ) (ss : List Branch) → ((k : ℕ) → k < length ss → (d : Branch) → is_member int_eq (numbers (get_or ss k d)) n ≡ false)
+    → list_any (λ xs. is_member int_eq xs n) (map numbers ss) ≡ false
 any-none n [] h = refl
 any-none n (s ∷ ss) h =
     rw (h zero (omega arith) s) (any-none n ss (λ (k : ℕ) (lt : k < length ss) (d : Branch). h (suc k) (omega arith) d))
 
-any-here : (n : ℤ) (ss : List Branch) (i : ℕ) (d : Branch) → i < length ss → is_in (numbers (get_or ss i d)) n ≡ true
-    → list_any (λ xs. is_in xs n) (map numbers ss) ≡ true
+any-here : (n : ℤ) (ss : List Branch) (i : ℕ) (d : Branch) → i < length ss → is_member int_eq (numbers (get_or ss i d)) n ≡ true
+    → list_any (λ xs. is_member int_eq xs n) (map numbers ss) ≡ true
 any-here n [] i d lt h = absurd (omega arith)
 any-here n (s ∷ ss) zero d lt h = rw h refl
-any-here n (s ∷ ss) (suc i) d lt h = rw (any-here n ss i d (omega arith) h) (or-true (is_in (numbers s) n))
+any-here n (s ∷ ss) (suc i) d lt h = rw (any-here n ss i d (omega arith) h) (or-true (is_member int_eq (numbers s) n))
 
 -- none of the sources below a place has the number, and those from there on are as they were given
 pub record AreBehind (n : ℤ) (at : ℕ) (given now : List Branch) : Type 0 where
-  pub none : (k : ℕ) → k < at → (d : Branch) → is_in (numbers (get_or given k d)) n ≡ false
+  pub none : (k : ℕ) → k < at → (d : Branch) → is_member int_eq (numbers (get_or given k d)) n ≡ false
   pub untouched : (k : ℕ) (d : Branch) → at ≤ k → get_or now k d ≡ get_or given k d
 
 -- so it is with one more, whatever became of it
 pub behind_more : (n : ℤ) (at : ℕ) (given now : List Branch) (s t : Branch) → AreBehind n at given now → at < length given
-    → is_in (numbers (get_or now at s)) n ≡ false → AreBehind n (at + 1) given (set now at t)
+    → is_member int_eq (numbers (get_or now at s)) n ≡ false → AreBehind n (at + 1) given (set now at t)
 behind_more n at given now s t h lt lacks = record {
-  none = below_more (λ k. (d : Branch) → is_in (numbers (get_or given k d)) n ≡ false) at h.none (λ d.
-      ap (λ (s : Branch). is_in (numbers s) n) (get_or_default given at d s lt ∙ sym (h.untouched at s (omega arith))) ∙ lacks);
+  none = below_more (λ k. (d : Branch) → is_member int_eq (numbers (get_or given k d)) n ≡ false) at h.none (λ d.
+      ap (λ (s : Branch). is_member int_eq (numbers s) n) (get_or_default given at d s lt ∙ sym (h.untouched at s (omega arith))) ∙ lacks);
   untouched = λ k d above.
       let other : k ≢ at = omega arith in
       get_or-set_other now at k t d other ∙ h.untouched k d (omega arith);
@@ -214,29 +219,29 @@ behind_more n at given now s t h lt lacks = record {
 
 -- with all of them none of the sources has it
 pub behind_all : (n number : ℤ) (at : ℕ) (given now ss : List Branch) → AreBehind n at given now → n ≡ number → given ≡ ss → length given ≤ at
-    → false ≡ list_any (λ xs. is_in xs number) (map numbers ss)
+    → false ≡ list_any (λ xs. is_member int_eq xs number) (map numbers ss)
 behind_all n number at given now ss h same whole all =
     rw (← same, ← whole) (sym (any-none n given (λ k lt. h.none k (omega arith))))
 
 -- and the one at the place may have it
 pub behind_here : (n number : ℤ) (at : ℕ) (given now ss : List Branch) (s : Branch) → AreBehind n at given now → n ≡ number → given ≡ ss → at < length given
-    → is_in (numbers (get_or now at s)) n ≡ true → true ≡ list_any (λ xs. is_in xs number) (map numbers ss)
+    → is_member int_eq (numbers (get_or now at s)) n ≡ true → true ≡ list_any (λ xs. is_member int_eq xs number) (map numbers ss)
 behind_here n number at given now ss s h same whole lt has =
-    rw (← same, ← whole) (sym (any-here n given at s lt (ap (λ (s : Branch). is_in (numbers s) n) (sym (h.untouched at s (omega arith))) ∙ has)))
+    rw (← same, ← whole) (sym (any-here n given at s lt (ap (λ (s : Branch). is_member int_eq (numbers s) n) (sym (h.untouched at s (omega arith))) ∙ has)))
 
 -- one source in the place of another that has it too, or lacks it too
-pub any-set : (n : ℤ) (ss : List Branch) (i : ℕ) (s d : Branch) → i < length ss → is_in (numbers s) n ≡ is_in (numbers (get_or ss i d)) n
-    → list_any (λ xs. is_in xs n) (map numbers (set ss i s)) ≡ list_any (λ xs. is_in xs n) (map numbers ss)
+pub any-set : (n : ℤ) (ss : List Branch) (i : ℕ) (s d : Branch) → i < length ss → is_member int_eq (numbers s) n ≡ is_member int_eq (numbers (get_or ss i d)) n
+    → list_any (λ xs. is_member int_eq xs n) (map numbers (set ss i s)) ≡ list_any (λ xs. is_member int_eq xs n) (map numbers ss)
 any-set n [] i s d lt h = absurd (omega arith)
-any-set n (x ∷ ss) zero s d lt h = ap (λ (b : Bool). b || list_any (λ xs. is_in xs n) (map numbers ss)) h
-any-set n (x ∷ ss) (suc i) s d lt h = ap (λ (b : Bool). is_in (numbers x) n || b) (any-set n ss i s d (omega arith) h)
+any-set n (x ∷ ss) zero s d lt h = ap (λ (b : Bool). b || list_any (λ xs. is_member int_eq xs n) (map numbers ss)) h
+any-set n (x ∷ ss) (suc i) s d lt h = ap (λ (b : Bool). is_member int_eq (numbers x) n || b) (any-set n ss i s d (omega arith) h)
 
 -- whether a number is left without exceptions
-pub is_in-without : (xs ys : List ℤ) (n : ℤ) → is_in (without xs ys) n ≡ (is_in xs n && not (is_in ys n))
+pub is_member-without : (xs ys : List ℤ) (n : ℤ) → is_member int_eq (without xs ys) n ≡ (is_member int_eq xs n && not (is_member int_eq ys n))
 unfolding without
-is_in-without xs ys n =
-    same_truth (is_in (without xs ys) n) (is_in xs n && not (is_in ys n))
-    (λ h. let m = (Has-without xs ys n).0 (Has-is_in (without xs ys) n h) in
-    and_from (is_in xs n) (not (is_in ys n)) (is_in-Has xs n m.0) (not_in-by (is_in ys n) (λ e. m.1 (Has-is_in ys n e))))
-    (λ h. let kept = and_parts (is_in xs n) (not (is_in ys n)) h in
-    is_in-Has (without xs ys) n ((Has-without xs ys n).1 (Has-is_in xs n kept.0, not_in-Has ys n kept.1)))
+is_member-without xs ys n =
+    same_truth (is_member int_eq (without xs ys) n) (is_member int_eq xs n && not (is_member int_eq ys n))
+    (λ h. let m = (Has-without xs ys n).0 (Has-is_member (without xs ys) n h) in
+    and_from (is_member int_eq xs n) (not (is_member int_eq ys n)) (is_member-Has xs n m.0) (not_in-by (is_member int_eq ys n) (λ e. m.1 (Has-is_member ys n e))))
+    (λ h. let kept = and_parts (is_member int_eq xs n) (not (is_member int_eq ys n)) h in
+    is_member-Has (without xs ys) n ((Has-without xs ys n).1 (Has-is_member xs n kept.0, not_in-Has ys n kept.1)))

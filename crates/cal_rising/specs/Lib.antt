@@ -1,4 +1,3 @@
-pub mod Listed
 pub mod Merge
 pub mod Rises
 pub mod RisingList

@@ -1,8 +1,9 @@
 -- Several rising lists given as one, each number once, without the numbers of the lists of exceptions:
 -- systemd.timer(5), OnCalendar=, where a timer with several expressions elapses whenever one of them does.
-use Rattle.std.specs.Prelude.{◌≡◌, cond, Bool, List, [], ◌∷◌, Option, None, Some, ℤ, int_lt}
-use Rattle.cal_rising.specs.RisingList.{first, union, without}
-use Rattle.cal_rising.specs.headline.RisingList.{IsRising}
+use Rattle.std.specs.Prelude.{◌≡◌, cond, Bool, List, [], ◌∷◌, Option, None, Some, ℤ, int_lt, slice_get}
+use Rattle.std.specs.Ordering.{int_cmp}
+use Rattle.std.specs.List.Sorted.{IsStrictlySortedBy}
+use Rattle.cal_rising.specs.RisingList.{union, without}
 
 -- what is left of a merge: whether a number was asked for already, and what each source and each exception has to give
 pub record Merge : Type 0 where
@@ -29,7 +30,7 @@ numbers s = numbers_by s.head s.after
 
 -- the first number is taken, if there is one
 abbrev pub HasHead : Branch → Type 0
-HasHead s = (s.head ≡ first (numbers s)) × IsRising (numbers s)
+HasHead s = (s.head ≡ slice_get (numbers s) 0) × IsStrictlySortedBy int_cmp (numbers s)
 
 -- what a rising list has to give once a number was given that is none above its first
 abbrev pub passed : ℤ → List ℤ → List ℤ

@@ -1,64 +1,55 @@
--- A rising list with numbers more, or with numbers less, rises, and so does a union, whatever its lists are: what laws
--- of rising sources cite.
-use Rattle.std.specs.Prelude.{◌≡◌, cond, Bool, true, false, not, filter, List, [], ◌∷◌, ℤ, ◌<ℤ◌, int_lt}
-use Rattle.std.proofs.Common.{arith, refl}
-use Rattle.std.proofs.lemmas.Int.{ints}
-use Rattle.cal_rising.specs.RisingList.{is_in, with_number, with_numbers, union, without}
-use Rattle.cal_rising.specs.headline.RisingList.{IsAbove, IsRising}
+-- A list in order is in order with one element more, and a union rises, whatever its lists are: what laws of rising
+-- sources cite.
+use Rattle.std.specs.Prelude.{◌≡◌, not, List, [], ◌∷◌, ℤ}
+use Rattle.std.specs.BTreeSet.{insert_key}
+use Rattle.std.specs.Cmp.{IsTotalOrder, int_cmp_total}
+use Rattle.std.specs.List.{AllByRecursion}
+use Rattle.std.specs.List.Sorted.{IsStrictlySortedBy}
+use Rattle.std.specs.Ordering.{int_cmp, int_eq, match_ordering, ordering_reverse}
+use Rattle.std.specs.Set.{is_member}
+use Rattle.std.specs.declared.cmp.Ordering.{Ordering}
+use Rattle.std.specs.declared.cmp.Ordering.TheVariants.{Less, Equal, Greater}
+use Rattle.std.proofs.Common.{refl, ap, ◌∙◌}
+use Rattle.std.proofs.lemmas.List.Kept.{IsStrictlySortedBy-filter}
+use Rattle.cal_rising.specs.RisingList.{with_numbers, union, without}
 
--- a list above a number is above what is below that number
-pub IsAbove-lower : (a b : ℤ) (xs : List ℤ) → a <ℤ b → IsAbove b xs → IsAbove a xs
-IsAbove-lower a b [] h k = tt
-IsAbove-lower a b (x ∷ xs) h k = (omega (arith, ints, k.0), IsAbove-lower a b xs h k.1)
+module _ {A : Type 0} (cmp : A → A → Ordering) (total : IsTotalOrder cmp) where
+  -- a list above an element is above what is below that element
+  lower : (a b : A) (xs : List A) → cmp a b ≡ Less → AllByRecursion (λ y. cmp b y ≡ Less) xs → AllByRecursion (λ y. cmp a y ≡ Less) xs
+  lower a b [] h k = tt
+  lower a b (x ∷ xs) h k = (total.trans a b x h k.0, lower a b xs h k.1)
 
-below : (a b : ℤ) → int_lt a b ≡ true → a <ℤ b
-below a b h = grind (arith, ints)
+  all_inserted : (P : A → Type 0) (o : Ordering) (x y : A) (ys more : List A) → P x → AllByRecursion P (y ∷ ys) → AllByRecursion P more
+      → AllByRecursion P (match_ordering o (x ∷ y ∷ ys) (y ∷ ys) (y ∷ more))
+  all_inserted P Less x y ys more here rest after = (here, rest)
+  all_inserted P Equal x y ys more here rest after = rest
+  all_inserted P Greater x y ys more here rest after = (rest.0, after)
 
-above_by : (b x y : ℤ) (ys zs : List ℤ) (p q : Bool) → b <ℤ x → IsAbove b (y ∷ ys) → IsAbove b zs
-    → IsAbove b (cond p (x ∷ y ∷ ys) (cond q (y ∷ zs) (y ∷ ys)))
-above_by b x y ys zs true q h k m = (h, k)
-above_by b x y ys zs false true h k m = (k.0, m)
-above_by b x y ys zs false false h k m = k
+  all-insert_key : (P : A → Type 0) (x : A) (ys : List A) → P x → AllByRecursion P ys → AllByRecursion P (insert_key cmp ys x)
+  all-insert_key P x [] here rest = (here, tt)
+  all-insert_key P x (y ∷ ys) here rest = all_inserted P (cmp x y) x y ys (insert_key cmp ys x) here rest (all-insert_key P x ys here rest.1)
 
-IsAbove-with_number : (b x : ℤ) (ys : List ℤ) → b <ℤ x → IsAbove b ys → IsAbove b (with_number x ys)
-IsAbove-with_number b x [] h k = (h, tt)
-IsAbove-with_number b x (y ∷ ys) h k = above_by b x y ys (with_number x ys) (int_lt x y) (int_lt y x) h k (IsAbove-with_number b x ys h k.1)
+  sorted_inserted : (o : Ordering) (x y : A) (ys : List A) → cmp x y ≡ o → IsStrictlySortedBy cmp (y ∷ ys)
+      → IsStrictlySortedBy cmp (insert_key cmp ys x) → IsStrictlySortedBy cmp (match_ordering o (x ∷ y ∷ ys) (y ∷ ys) (y ∷ insert_key cmp ys x))
+  unfolding IsStrictlySortedBy
+  sorted_inserted Less x y ys e h more = ((e, lower x y ys e h.0), h)
+  sorted_inserted Equal x y ys e h more = h
+  sorted_inserted Greater x y ys e h more = (all-insert_key (λ z. cmp y z ≡ Less) x ys (total.antisymm y x ∙ ap ordering_reverse e) h.0, more)
 
-rising_by : (x y : ℤ) (ys : List ℤ) (p q : Bool) → int_lt x y ≡ p → int_lt y x ≡ q → IsRising (y ∷ ys) → IsRising (with_number x ys)
-    → IsRising (cond p (x ∷ y ∷ ys) (cond q (y ∷ with_number x ys) (y ∷ ys)))
-rising_by x y ys true q low high h k = ((below x y low, IsAbove-lower x y ys (below x y low) h.0), h)
-rising_by x y ys false true low high h k = (IsAbove-with_number y x ys (below y x high) h.0, k)
-rising_by x y ys false false low high h k = h
+  pub sorted-insert_key : (x : A) (ys : List A) → IsStrictlySortedBy cmp ys → IsStrictlySortedBy cmp (insert_key cmp ys x)
+  unfolding IsStrictlySortedBy
+  sorted-insert_key x [] h = (tt, tt)
+  sorted-insert_key x (y ∷ ys) h = sorted_inserted (cmp x y) x y ys refl h (sorted-insert_key x ys h.1)
 
-pub IsRising-with_number : (x : ℤ) (ys : List ℤ) → IsRising ys → IsRising (with_number x ys)
-IsRising-with_number x [] h = (tt, tt)
-IsRising-with_number x (y ∷ ys) h = rising_by x y ys (int_lt x y) (int_lt y x) refl refl h (IsRising-with_number x ys h.1)
+pub rises-with_numbers : (xs ys : List ℤ) → IsStrictlySortedBy int_cmp ys → IsStrictlySortedBy int_cmp (with_numbers xs ys)
+rises-with_numbers [] ys h = h
+rises-with_numbers (x ∷ xs) ys h = sorted-insert_key int_cmp int_cmp_total x (with_numbers xs ys) (rises-with_numbers xs ys h)
 
-pub IsRising-with_numbers : (xs ys : List ℤ) → IsRising ys → IsRising (with_numbers xs ys)
-IsRising-with_numbers [] ys h = h
-IsRising-with_numbers (x ∷ xs) ys h = IsRising-with_number x (with_numbers xs ys) (IsRising-with_numbers xs ys h)
+pub rises-union : (xss : List (List ℤ)) → IsStrictlySortedBy int_cmp (union xss)
+unfolding union IsStrictlySortedBy
+rises-union [] = tt
+rises-union (xs ∷ xss) = rises-with_numbers xs (union xss) (rises-union xss)
 
-pub IsRising-union : (xss : List (List ℤ)) → IsRising (union xss)
-unfolding union
-IsRising-union [] = tt
-IsRising-union (xs ∷ xss) = IsRising-with_numbers xs (union xss) (IsRising-union xss)
-
-IsAbove-kept : (b x : ℤ) (xs : List ℤ) (keep : Bool) → b <ℤ x → IsAbove b xs → IsAbove b (cond keep (x ∷ xs) xs)
-IsAbove-kept b x xs true h k = (h, k)
-IsAbove-kept b x xs false h k = k
-
-IsAbove-filter : (b : ℤ) (p : ℤ → Bool) (xs : List ℤ) → IsAbove b xs → IsAbove b (filter p xs)
-IsAbove-filter b p [] h = tt
-IsAbove-filter b p (x ∷ xs) h = IsAbove-kept b x (filter p xs) (p x) h.0 (IsAbove-filter b p xs h.1)
-
-IsRising-kept : (x : ℤ) (xs : List ℤ) (keep : Bool) → IsAbove x xs → IsRising xs → IsRising (cond keep (x ∷ xs) xs)
-IsRising-kept x xs true h k = (h, k)
-IsRising-kept x xs false h k = k
-
-pub IsRising-filter : (p : ℤ → Bool) (xs : List ℤ) → IsRising xs → IsRising (filter p xs)
-IsRising-filter p [] h = tt
-IsRising-filter p (x ∷ xs) h = IsRising-kept x (filter p xs) (p x) (IsAbove-filter x p xs h.0) (IsRising-filter p xs h.1)
-
-pub IsRising-without : (xs ys : List ℤ) → IsRising xs → IsRising (without xs ys)
+pub rises-without : (xs ys : List ℤ) → IsStrictlySortedBy int_cmp xs → IsStrictlySortedBy int_cmp (without xs ys)
 unfolding without
-IsRising-without xs ys h = IsRising-filter (λ x. not (is_in ys x)) xs h
+rises-without xs ys h = IsStrictlySortedBy-filter int_cmp (λ x. not (is_member int_eq ys x)) xs h

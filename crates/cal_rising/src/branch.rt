@@ -1,8 +1,10 @@
 //! One source of a merge, with the number that was taken from it and not given yet.
 
 ghost use Rattle.std.specs.Prelude.{◌≡◌, None};
+ghost use Rattle.std.specs.Set.{is_member};
+ghost use Rattle.std.specs.Ordering.{int_eq};
 ghost use Rattle.cal_rising.specs.Merge.{HasHead, numbers, passed};
-ghost use Rattle.cal_rising.specs.RisingList.{IsSameFrom, is_in};
+ghost use Rattle.cal_rising.specs.RisingList.{IsSameFrom};
 
 use crate::Rising;
 use std::marker::Model;
@@ -20,14 +22,15 @@ pub struct Branch<S: Rising> {
 }
 
 impl<S: Rising> Model for Branch<S> {
+    ghost use Rattle.std.specs.List.Sorted.{IsStrictlySortedBy};
+    ghost use Rattle.std.specs.Ordering.{int_cmp};
     ghost use Rattle.cal_rising.specs.Merge.{Branch, numbers_by};
-    ghost use Rattle.cal_rising.specs.headline.RisingList.{IsRising};
 
     ghost Value = { Branch };
 
     ghost view = { λ branch. record { head = branch.head; after = S.rest branch.source } };
 
-    ghost invariant = { λ branch. IsRising (numbers_by branch.head (S.rest branch.source)) };
+    ghost invariant = { λ branch. IsStrictlySortedBy int_cmp (numbers_by branch.head (S.rest branch.source)) };
 }
 
 impl<S: Rising> Branch<S> {
@@ -71,7 +74,7 @@ impl<S: Rising> Branch<S> {
 
     /// Whether it has still to give the number. The number that was taken is the answer, where it isn't below this one.
     pub fn has(&mut self, number: i64) -> bool
-        ensures has { result ≡ is_in (numbers self.old) number }
+        ensures has { result ≡ is_member int_eq (numbers self.old) number }
         ensures same { numbers self.new ≡ numbers self.old }
     {
         match self.head {

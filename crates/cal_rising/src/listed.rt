@@ -1,8 +1,8 @@
 //! A list of numbers that is given one after another.
 
 ghost use Rattle.std.specs.Prelude.{◌≡◌, drop};
-ghost use Rattle.cal_rising.specs.Listed.{IsRising-prop};
-ghost use Rattle.cal_rising.specs.headline.RisingList.{IsRising};
+ghost use Rattle.std.specs.List.Sorted.{IsStrictlySortedBy, IsStrictlySortedBy-prop};
+ghost use Rattle.std.specs.Ordering.{int_cmp};
 
 use crate::Rising;
 
@@ -11,13 +11,13 @@ use crate::Rising;
 pub struct Listed {
     numbers: Vec<i64>,
     given: usize,
-    ghost rising: { IsRising (drop given numbers.items) } by { IsRising-prop (drop given numbers.items) },
+    ghost rising: { IsStrictlySortedBy int_cmp (drop given numbers.items) } by { IsStrictlySortedBy-prop int_cmp (drop given numbers.items) },
 }
 
 impl Listed {
     /// The source that gives these numbers, which have to rise strictly.
     pub fn new(numbers: Vec<i64>) -> Self
-        requires { IsRising numbers.items }
+        requires { IsStrictlySortedBy int_cmp numbers.items }
         ensures { ⟦<Listed as Rising>⟧.rest result ≡ numbers.items }
     {
         Listed { numbers, given: 0 }
@@ -27,6 +27,7 @@ impl Listed {
 impl Rising for Listed {
     ghost rest = { λ listed. drop listed.given listed.numbers.items };
 
+    #[tactic(auto, using(crate::proofs::RisingLemmas::rises_after))]
     fn next(&mut self) -> Option<i64> {
         let number = self.numbers.get(self.given).copied();
         if number.is_some() {

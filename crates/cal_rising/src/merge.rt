@@ -1,8 +1,7 @@
 //! Several sources of rising numbers given as one, each number once, without the numbers of exceptions.
 
-ghost use Rattle.std.specs.Prelude.{◌≡◌, ◌++◌, ◌∷◌, [], true, false, IfErr, OnErr, OnOk};
+ghost use Rattle.std.specs.Prelude.{◌≡◌, ◌++◌, ◌∷◌, [], true, false, IfErr, OnErr, OnOk, slice_get, drop};
 ghost use Rattle.cal_rising.specs.Merge.{merged};
-ghost use Rattle.cal_rising.specs.RisingList.{first, later};
 
 use crate::Rising;
 use crate::sources::Sources;
@@ -71,8 +70,8 @@ impl<S: Rising> Rising for Merge<S> {
 
     /// Gives the first number of the sources that no exception has, however many are passed over.
     fn next(&mut self) -> Option<i64>
-        ensures given { result ≡ first (merged self.old) }
-        ensures left { merged self.new ≡ later (merged self.old) }
+        ensures given { result ≡ slice_get (merged self.old) 0 }
+        ensures left { merged self.new ≡ drop 1 (merged self.old) }
         ensures marked { self.new.started ≡ true }
     {
         self.started = true;
@@ -89,7 +88,7 @@ impl<S: Rising> Rising for Merge<S> {
     }
 
     ghost use Rattle.cal_rising.specs.RisingList.{union};
-    ghost use Rattle.cal_rising.specs.Rises.{IsRising-union, IsRising-without};
+    ghost use Rattle.cal_rising.specs.Rises.{rises-union, rises-without};
 
-    ghost rises = { λ merge. IsRising-without (union merge.lists) (union merge.exceptions) (IsRising-union merge.lists) };
+    ghost rises = { λ merge. rises-without (union merge.lists) (union merge.exceptions) (rises-union merge.lists) };
 }

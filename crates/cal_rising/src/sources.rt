@@ -1,9 +1,11 @@
 //! Several sources of rising numbers, given as one.
 
-ghost use Rattle.std.specs.Prelude.{◌≡◌, ◌++◌, ◌∷◌, [], map, true, false, ℤ, ◌≤ℤ◌, IfErr, OnErr, OnOk};
+ghost use Rattle.std.specs.Prelude.{◌≡◌, ◌++◌, ◌∷◌, [], map, true, false, ℤ, ◌≤ℤ◌, IfErr, OnErr, OnOk, slice_get, drop};
 ghost use Rattle.std.specs.List.{All, list_any};
+ghost use Rattle.std.specs.Set.{is_member};
+ghost use Rattle.std.specs.Ordering.{int_eq};
 ghost use Rattle.cal_rising.specs.Merge.{HasHead, lesser, numbers, passed};
-ghost use Rattle.cal_rising.specs.RisingList.{IsSameFrom, first, is_in, later, union};
+ghost use Rattle.cal_rising.specs.RisingList.{IsSameFrom, union};
 
 use crate::Rising;
 use crate::branch::Branch;
@@ -50,7 +52,7 @@ impl<S: Rising> Sources<S> {
 
     /// Whether one of the sources has the number, where no number below it is asked for again.
     pub fn has_onward(&mut self, number: i64) -> bool
-        ensures has { result ≡ is_in (union self.old) number }
+        ensures has { result ≡ is_member int_eq (union self.old) number }
         ensures left { IsSameFrom number (union self.new) (union self.old) }
     {
         follow_all(&mut self.branches, number)
@@ -62,8 +64,8 @@ impl<S: Rising> Rising for Sources<S> {
 
     /// Takes the first number of each source that lacks it, and gives the least of them.
     fn next(&mut self) -> Option<i64>
-        ensures given { result ≡ first (union self.old) }
-        ensures left { union self.new ≡ later (union self.old) }
+        ensures given { result ≡ slice_get (union self.old) 0 }
+        ensures left { union self.new ≡ drop 1 (union self.old) }
     {
         fetch_all(&mut self.branches);
         let least = least_head(&self.branches);
@@ -77,9 +79,9 @@ impl<S: Rising> Rising for Sources<S> {
         any_has(&mut self.branches, number)
     }
 
-    ghost use Rattle.cal_rising.specs.Rises.{IsRising-union};
+    ghost use Rattle.cal_rising.specs.Rises.{rises-union};
 
-    ghost rises = { IsRising-union };
+    ghost rises = { rises-union };
 }
 
 /// Takes the first number of each source that lacks it.
@@ -96,7 +98,7 @@ fn fetch_all<S: Rising>(branches: &mut Vec<Branch<S>>)
 #[tactic(auto, unfolding(crate::specs::RisingList::union))]
 fn least_head<S: Rising>(branches: &Vec<Branch<S>>) -> Option<i64>
     requires { All HasHead branches.now.items }
-    ensures { result ≡ first (union (map numbers branches.now.items)) }
+    ensures { result ≡ slice_get (union (map numbers branches.now.items)) 0 }
 {
     let mut least = None;
     for branch in branches {
@@ -117,7 +119,7 @@ fn pass_all<S: Rising>(branches: &mut Vec<Branch<S>>, number: i64)
 
 /// Whether one of the sources has the number.
 fn any_has<S: Rising>(branches: &mut Vec<Branch<S>>, number: i64) -> bool
-    ensures has { result ≡ list_any (λ xs. is_in xs number) (map numbers branches.old.items) }
+    ensures has { result ≡ list_any (λ xs. is_member int_eq xs number) (map numbers branches.old.items) }
     ensures same { map numbers branches.new.items ≡ map numbers branches.old.items }
 {
     for branch in branches.iter_mut() {
@@ -130,9 +132,9 @@ fn any_has<S: Rising>(branches: &mut Vec<Branch<S>>, number: i64) -> bool
 
 /// The same, where no number below this one is asked for again: a source behind it that lacks it may take a step.
 fn follow_all<S: Rising>(branches: &mut Vec<Branch<S>>, number: i64) -> bool
-    ensures has { result ≡ list_any (λ xs. is_in xs number) (map numbers branches.old.items) }
-    ensures left { (i : ℤ) → number ≤ℤ i → list_any (λ xs. is_in xs i) (map numbers branches.new.items)
-        ≡ list_any (λ xs. is_in xs i) (map numbers branches.old.items) }
+    ensures has { result ≡ list_any (λ xs. is_member int_eq xs number) (map numbers branches.old.items) }
+    ensures left { (i : ℤ) → number ≤ℤ i → list_any (λ xs. is_member int_eq xs i) (map numbers branches.new.items)
+        ≡ list_any (λ xs. is_member int_eq xs i) (map numbers branches.old.items) }
 {
     for branch in branches.iter_mut() {
         if branch.has(number) {

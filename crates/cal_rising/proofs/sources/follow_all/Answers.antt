@@ -1,8 +1,8 @@
-use Rattle.std.proofs.Common.{rules, ◌∙◌, FitsSigned, List, ap, arith, length-set, map, set, sym, w64, ℤ}
+use Rattle.std.proofs.Common.{rules, ◌∙◌, FitsSigned, List, ap, arith, length-set, map, set, sym, w64, ℤ, int_eq}
 use Rattle.std.proofs.lemmas.Int.{to_z-of_z}
 use Rattle.std.specs.List.{list_any}
+use Rattle.std.specs.Set.{is_member}
 use Rattle.cal_rising.specs.Merge.{Branch, numbers}
-use Rattle.cal_rising.specs.RisingList.{is_in}
 use Rattle.cal_rising.proofs.MergeLemmas.{whole_again}
 use Rattle.cal_rising.proofs.WithoutLemmas.{any-set, behind_all, behind_here, behind_more}
 use Rattle.cal_rising.proofs.sources.follow_all.Goals as goal
@@ -22,10 +22,10 @@ returns-then-has-clause-left g c = λ i le.
     let number = c.args.number in
     let fits : FitsSigned w64 number = search rules in
     let whole = whole_again (set c.loop-branch.branch-items c.loop-branch.branch-index c.has.new.self) c.args.branches.now.items c.args.branches.now.len (omega (arith, length-set {A = Branch})) (omega arith) in
-    let any = λ (ss : List Branch). list_any (λ xs. is_in xs i) (map numbers ss) in
+    let any = λ (ss : List Branch). list_any (λ xs. is_member int_eq xs i) (map numbers ss) in
     ap any whole
     ∙ any-set i c.loop-branch.branch-items c.loop-branch.branch-index c.has.new.self c.branch-item.result (omega arith)
-    (ap (λ (xs : List ℤ). is_in xs i) c.has.ensures.same)
+    (ap (λ (xs : List ℤ). is_member int_eq xs i) c.has.ensures.same)
     ∙ c.loop-branch.invariant.left i (rw (to_z-of_z w64 number fits) le)
     ∙ ap any c.deref_mut-branch-items.ensures.value
 
@@ -34,6 +34,6 @@ loop-branch-preserved g c = record {
   behind = behind_more _ _ _ _ _ _ c.loop-branch.invariant.behind (omega arith) (sym c.has.ensures.has ∙ c.if-has.false);
   left = λ i le.
       any-set i c.loop-branch.branch-items c.loop-branch.branch-index c.follow.new.self c.branch-item.result (omega arith)
-      (c.follow.ensures i le ∙ ap (λ (xs : List ℤ). is_in xs i) c.has.ensures.same)
+      (c.follow.ensures i le ∙ ap (λ (xs : List ℤ). is_member int_eq xs i) c.has.ensures.same)
       ∙ c.loop-branch.invariant.left i le;
 }

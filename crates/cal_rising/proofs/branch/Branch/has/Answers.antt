@@ -1,7 +1,9 @@
 use Rattle.std.proofs.Common.{rules, ◌∙◌, ◌≤ℤ◌, FitsSigned, ap, sym, w64}
+use Rattle.std.specs.Cmp.{int_eq_equiv}
 use Rattle.cal_rising.specs.Merge.{Branch, numbers}
-use Rattle.cal_rising.specs.RisingList.{is_in}
-use Rattle.cal_rising.proofs.WithoutLemmas.{is_in-head, same_word}
+use Rattle.std.specs.Ordering.{int_eq}
+use Rattle.std.specs.Set.{is_member}
+use Rattle.cal_rising.proofs.WithoutLemmas.{is_member-head, same_word}
 use Rattle.cal_rising.proofs.branch.Branch.has.Goals as goal
 
 pub returns-in-Some-clause-has : goal.returns-in-Some-clause-has
@@ -12,5 +14,6 @@ returns-in-Some-clause-has g c =
     let number_fits : FitsSigned w64 number = search rules in
     let high : number ≤ℤ head = search rules in
     same_word w64 head number fits number_fits
-    ∙ sym (is_in-head c.self.inside.head _ head number c.self.invariant c.in-Some.is high)
-    ∙ ap (λ (s : Branch). is_in (numbers s) number) c.self.view_is
+    ∙ int_eq_equiv.symm head number
+    ∙ sym (is_member-head c.self.inside.head _ head number c.self.invariant c.in-Some.is high)
+    ∙ ap (λ (s : Branch). is_member int_eq (numbers s) number) c.self.view_is

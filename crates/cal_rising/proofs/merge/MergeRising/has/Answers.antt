@@ -1,8 +1,9 @@
-use Rattle.std.proofs.Common.{rules, ◌∙◌, ◌≡◌, ◌&&◌, Bool, FitsSigned, ap, false, not, sym, true, w64}
+use Rattle.std.proofs.Common.{rules, ◌∙◌, ◌≡◌, ◌&&◌, Bool, FitsSigned, ap, false, not, sym, true, w64, int_eq}
 use Rattle.std.proofs.lemmas.Int.{to_z-of_z}
+use Rattle.std.specs.Set.{is_member}
 use Rattle.cal_rising.specs.Merge.{Merge, merged}
-use Rattle.cal_rising.specs.RisingList.{is_in, union}
-use Rattle.cal_rising.proofs.WithoutLemmas.{is_in-without}
+use Rattle.cal_rising.specs.RisingList.{union}
+use Rattle.cal_rising.proofs.WithoutLemmas.{is_member-without}
 use Rattle.cal_rising.proofs.merge.MergeRising.has.Goals as goal
 
 pub returns-then-has-clause-has : goal.returns-then-has-clause-has
@@ -11,12 +12,12 @@ returns-then-has-clause-has g c =
     let fits : FitsSigned w64 number = search rules in
     let lists = union c.self.inside.sources in
     let exceptions = union c.self.inside.exceptions in
-    let one : true ≡ is_in lists number = sym c.if-has.true ∙ (rw (to_z-of_z w64 number fits) at c.has.ensures.has) in
-    let other : c.has-then-has.result ≡ is_in exceptions number = search rules in
+    let one : true ≡ is_member int_eq lists number = sym c.if-has.true ∙ (rw (to_z-of_z w64 number fits) at c.has.ensures.has) in
+    let other : c.has-then-has.result ≡ is_member int_eq exceptions number = search rules in
     ap not other
-    ∙ ap (λ (b : Bool). b && not (is_in exceptions number)) one
-    ∙ sym (is_in-without lists exceptions number)
-    ∙ ap (λ (m : Merge). is_in (merged m) number) c.self.view_is
+    ∙ ap (λ (b : Bool). b && not (is_member int_eq exceptions number)) one
+    ∙ sym (is_member-without lists exceptions number)
+    ∙ ap (λ (m : Merge). is_member int_eq (merged m) number) c.self.view_is
 
 pub returns-else-has-clause-has : goal.returns-else-has-clause-has
 returns-else-has-clause-has g c =
@@ -24,8 +25,8 @@ returns-else-has-clause-has g c =
     let fits : FitsSigned w64 number = search rules in
     let lists = union c.self.inside.sources in
     let exceptions = union c.self.inside.exceptions in
-    let one : false ≡ is_in lists number = sym c.if-has.false ∙ (rw (to_z-of_z w64 number fits) at c.has.ensures.has) in
+    let one : false ≡ is_member int_eq lists number = sym c.if-has.false ∙ (rw (to_z-of_z w64 number fits) at c.has.ensures.has) in
     c.if-has.false
-    ∙ ap (λ (b : Bool). b && not (is_in exceptions number)) one
-    ∙ sym (is_in-without lists exceptions number)
-    ∙ ap (λ (m : Merge). is_in (merged m) number) c.self.view_is
+    ∙ ap (λ (b : Bool). b && not (is_member int_eq exceptions number)) one
+    ∙ sym (is_member-without lists exceptions number)
+    ∙ ap (λ (m : Merge). is_member int_eq (merged m) number) c.self.view_is
