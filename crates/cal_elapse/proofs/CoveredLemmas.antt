@@ -7,7 +7,7 @@ use Rattle.cal_spec.specs.headline.Fields.{Fields}
 use Rattle.cal_spec.specs.headline.Match.{Sets, date_in, matches, time_in}
 use Rattle.cal_spec.specs.headline.Members.{sets_of}
 use Rattle.cal_rising.specs.RisingList.{is_in}
-use Rattle.cal_rising.specs.headline.RisingList.{Has}
+use Rattle.cal_rising.specs.headline.Elements.{Has}
 use Rattle.cal_rising.proofs.RisingLemmas.{list-no_first}
 use Rattle.cal_rising.proofs.WithoutLemmas.{Has-is_in, is_in-Has}
 use Rattle.cal_elapse.specs.Covered.{AreAmong, AreKept, IsCovered}

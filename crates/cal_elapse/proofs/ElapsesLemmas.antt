@@ -10,7 +10,7 @@ use Rattle.cal_elapse.specs.headline.Elapses.{Timed, IsPlace, IsElapse, AreAbove
 use Rattle.cal_elapse.specs.Merged.{each_after}
 use Rattle.cal_rising.specs.Rises.{IsRising-without}
 use Rattle.cal_rising.specs.RisingList.{HasAny, first, later, union, without}
-use Rattle.cal_rising.specs.headline.RisingList.{Has, IsRising}
+use Rattle.cal_rising.specs.headline.Elements.{Has, IsRising}
 use Rattle.cal_rising.proofs.RisingLemmas.{above_has, chained, later_members, same_rising, Has-union, IsRising-union}
 use Rattle.cal_rising.proofs.WithoutLemmas.{Has-without, without-none}
 

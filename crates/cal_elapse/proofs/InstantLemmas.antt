@@ -10,7 +10,7 @@ use Rattle.cal_spec.specs.headline.Fields.{Fields}
 use Rattle.cal_elapse.specs.Elapses.{elapses_except}
 use Rattle.cal_elapse.specs.headline.Elapses.{IsElapse, IsPlace}
 use Rattle.cal_rising.specs.RisingList.{first}
-use Rattle.cal_rising.specs.headline.RisingList.{Has}
+use Rattle.cal_rising.specs.headline.Elements.{Has}
 use Rattle.cal_elapse.specs.headline.Timed.{timed}
 use Rattle.cal_elapse.specs.headline.Elapses.{Timed}
 use Rattle.cal_elapse.proofs.ElapsesLemmas.{AreElapses-elapses_except}

@@ -5,7 +5,7 @@ use Rattle.jiff.proofs.SpanFacts.{signed_arith}
 use Rattle.jiff.specs.Types.{TimeZone}
 use Rattle.cal_rising.proofs.RisingLemmas.{list-first, list-no_first}
 use Rattle.cal_rising.specs.RisingList.{first}
-use Rattle.cal_rising.specs.headline.RisingList.{Has, IsRising}
+use Rattle.cal_rising.specs.headline.Elements.{Has, IsRising}
 use Rattle.cal_spec.specs.headline.Match.{matches}
 use Rattle.cal_zone.proofs.PlaceLemmas.{within}
 use Rattle.cal_zone.specs.headline.Local.{seconds_in_all, seconds_in_all-is}

@@ -11,7 +11,7 @@ use Rattle.cal_elapse.proofs.BitLemmas.{is_bit-zero}
 use Rattle.cal_elapse.specs.Near.{IsNear}
 use Rattle.cal_elapse.specs.Ring.{cells_in_all, cells_in_all-is, instants_in, is_held, least_kept, no_second, rising_from, IsRound, IsRoundFrom}
 use Rattle.cal_rising.specs.RisingList.{first, later, with_number}
-use Rattle.cal_rising.specs.headline.RisingList.{Has, IsAbove, IsRising}
+use Rattle.cal_rising.specs.headline.Elements.{Has, IsAbove, IsRising}
 use Rattle.cal_elapse.specs.Search.{IsFirstPassing}
 use Rattle.cal_elapse.proofs.ElapsesLemmas.{first-least, first-none}
 use Rattle.cal_rising.proofs.RisingLemmas.{Has-with_number, IsRising-with_number, later_members, list-first, list-no_first, same_rising}

@@ -5,7 +5,7 @@ use Rattle.std.proofs.lemmas.Int.{ints}
 use Rattle.cal_zone.specs.headline.Local.{seconds_in_all}
 use Rattle.cal_zone.specs.declared.zone.Zone.{Zone}
 use Rattle.cal_rising.specs.RisingList.{first, later}
-use Rattle.cal_rising.specs.headline.RisingList.{Has}
+use Rattle.cal_rising.specs.headline.Elements.{Has}
 use Rattle.cal_elapse.specs.Search.{NonePasses}
 use Rattle.cal_elapse.specs.Masks.{sets_in}
 use Rattle.cal_elapse.specs.Most.{IsMost}

@@ -14,7 +14,7 @@ use Rattle.cal_elapse.specs.declared.masks.Masks.{Masks}
 use Rattle.cal_elapse.specs.Elapses.{elapses_after}
 use Rattle.cal_elapse.specs.headline.Elapses.{Timed, IsPlace}
 use Rattle.cal_rising.specs.RisingList.{first, later, with_number}
-use Rattle.cal_rising.specs.headline.RisingList.{Has, IsRising}
+use Rattle.cal_rising.specs.headline.Elements.{Has, IsRising}
 use Rattle.cal_elapse.specs.Search.{NonePasses}
 use Rattle.cal_elapse.specs.Window.{IsMatchAhead, IsPlacedBelow, IsReady, Windowed, bound_of, start_of, timed_by, timed_of, to_place, with_place}
 use Rattle.cal_elapse.specs.declared.window.Window.{Window}

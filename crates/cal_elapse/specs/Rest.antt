@@ -2,7 +2,7 @@
 use Rattle.std.specs.Prelude.{List, [], ◌∷◌, ℤ, int_lt, filter, map}
 use Rattle.cal_elapse.specs.Elapses.{elapses_after, places}
 use Rattle.cal_rising.specs.Rises.{IsRising-union}
-use Rattle.cal_rising.specs.headline.RisingList.{IsRising}
+use Rattle.cal_rising.specs.headline.Elements.{IsRising}
 use Rattle.cal_elapse.specs.Window.{timed_of}
 use Rattle.cal_elapse.specs.declared.window.Window.{Window}
 

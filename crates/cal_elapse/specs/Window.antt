@@ -9,7 +9,7 @@ use Rattle.cal_elapse.specs.headline.Elapses.{Timed}
 use Rattle.cal_elapse.specs.Masks.{sets_in}
 use Rattle.cal_elapse.specs.Most.{IsMost}
 use Rattle.cal_rising.specs.RisingList.{with_number}
-use Rattle.cal_rising.specs.headline.RisingList.{Has, IsRising}
+use Rattle.cal_rising.specs.headline.Elements.{Has, IsRising}
 use Rattle.cal_elapse.specs.declared.masks.Masks.{Masks}
 use Rattle.cal_elapse.specs.declared.window.Window.{Window}
 use Rattle.cal_spec.specs.headline.Match.{matches}

@@ -11,7 +11,7 @@ ghost use Rattle.cal_elapse.specs.headline.Elapses.{Timed, AreElapses};
 ghost use Rattle.cal_elapse.specs.Covered.{AreAmong, AreKept, IsCovered};
 ghost use Rattle.cal_elapse.specs.Merged.{each_after};
 ghost use Rattle.cal_rising.specs.RisingList.{first, union, without};
-ghost use Rattle.cal_rising.specs.headline.RisingList.{Has};
+ghost use Rattle.cal_rising.specs.headline.Elements.{Has};
 ghost use Rattle.cal_elapse.specs.headline.Timed.{timed};
 
 /// The elapses after a base without those of exceptions are one list: it rises, has exactly the places of matching local

@@ -4,7 +4,7 @@ ghost use Rattle.std.specs.Prelude.{◌≡◌, [], ℤ, IfOk};
 ghost use Rattle.cal_zone.specs.Instant.{IsInstant};
 ghost use Rattle.cal_elapse.specs.Near.{IsNear};
 ghost use Rattle.cal_rising.specs.RisingList.{first, later, with_number};
-ghost use Rattle.cal_rising.specs.headline.RisingList.{Has, IsRising};
+ghost use Rattle.cal_rising.specs.headline.Elements.{Has, IsRising};
 
 use crate::ring::{CELLS, WORDS, clear_cell, first_held, set_cell, set_cells};
 use std::alloc::{AllocError, Global};

@@ -4,7 +4,7 @@ ghost use Rattle.std.specs.Prelude.{◌≡◌, ◌<◌, ◌≤◌, ℤ, pos, ◌
 ghost use Rattle.cal_zone.specs.headline.Local.{seconds_in_all};
 ghost use Rattle.cal_zone.specs.headline.Place.{place_of};
 ghost use Rattle.cal_zone.specs.headline.Zone.{zone_of};
-ghost use Rattle.cal_rising.specs.headline.RisingList.{Has};
+ghost use Rattle.cal_rising.specs.headline.Elements.{Has};
 ghost use Rattle.cal_elapse.specs.Window.{start_of, to_place, with_place};
 
 use crate::Pending;
@@ -36,7 +36,7 @@ impl<'z> Window<'z> {
     ghost use Rattle.cal_zone.specs.headline.Zone.{zone_of};
     ghost use Rattle.cal_elapse.specs.Elapses.{elapses_after};
     ghost use Rattle.cal_rising.specs.RisingList.{first, later};
-    ghost use Rattle.cal_rising.specs.headline.RisingList.{Has};
+    ghost use Rattle.cal_rising.specs.headline.Elements.{Has};
     ghost use Rattle.cal_elapse.specs.Masks.{sets_in};
     ghost use Rattle.cal_elapse.specs.Most.{IsLooked};
     ghost use Rattle.cal_elapse.specs.Searched.{IsMostSearched, IsSearched};

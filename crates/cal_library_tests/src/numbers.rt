@@ -1,7 +1,7 @@
 //! Sources of rising numbers and merges of them, for the modules that try merges.
 
 ghost use Rattle.std.specs.Prelude.{◌≡◌, false, IfOk};
-ghost use Rattle.cal_rising.specs.headline.RisingList.{IsRising};
+ghost use Rattle.cal_rising.specs.headline.Elements.{IsRising};
 
 use cal_elapse::{Listed, Merge, Rising};
 use std::alloc::{AllocError, Global};

@@ -9,7 +9,7 @@ use Rattle.std.specs.Ordering.{match_ordering}
 use Rattle.std.proofs.lemmas.Cmp.{tied_itself}
 use Rattle.std.specs.declared.cmp.Ordering.{Ordering}
 use Rattle.std.specs.declared.cmp.Ordering.TheVariants.{Less, Equal, Greater}
-use Rattle.cal_rising.specs.headline.RisingList.{Has}
+use Rattle.cal_rising.specs.headline.Elements.{Has}
 
 -- std's word for an element
 pub contains_from_has : {A : Type 0} (xs : List A) (x : A) → Has xs x → Contains xs x
@@ -31,6 +31,10 @@ has_from_contains xs x h = has_at xs x h.0 h.1 h.2
 pub all_at : {A : Type 0} (P : A → Type 0) (xs : List A) (x : A) → AllByRecursion P xs → Has xs x → P x
 all_at P [] x all h = absurd h
 all_at P (y ∷ ys) x all h = elim h [ inl e ↦ subst P e all.0 | inr k ↦ all_at P ys x all.1 k ]
+
+pub all_from : {A : Type 0} (P : A → Type 0) (xs : List A) → ((x : A) → Has xs x → P x) → AllByRecursion P xs
+all_from P [] each = tt
+all_from P (y ∷ ys) each = (each y (inl refl), all_from P ys (λ x h. each x (inr h)))
 
 module _ {A : Type 0} (cmp : A → A → Ordering) (exact : IsAntisymmetric cmp) where
   has_inserted : (o : Ordering) (x y z : A) (ys more : List A) → cmp x y ≡ o → (Has more z ↔ ((x ≡ z) ⊎ Has ys z))

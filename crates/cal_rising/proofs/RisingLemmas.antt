@@ -11,7 +11,7 @@ use Rattle.std.specs.Ordering.{int_cmp}
 use Rattle.std.specs.declared.cmp.Ordering.TheVariants.{Less}
 pub use Rattle.cal_rising.specs.Rises.{rises-with_numbers, rises-union}
 use Rattle.cal_rising.specs.RisingList.{HasAny, IsUnion, with_numbers, union}
-use Rattle.cal_rising.specs.headline.RisingList.{Has}
+use Rattle.cal_rising.specs.headline.Elements.{Has}
 use Rattle.cal_rising.proofs.OrderLemmas.{all_at, has-insert_key, same_sorted}
 
 -- one number is below the other exactly where `cmp` answers so

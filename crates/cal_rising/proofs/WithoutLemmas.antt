@@ -16,7 +16,7 @@ use borrow.Author.Count.{below_more}
 use Rattle.cal_rising.specs.Merge.{Branch, numbers, numbers_by}
 use Rattle.cal_rising.specs.Rises.{rises-union, rises-without}
 use Rattle.cal_rising.specs.RisingList.{HasAny, IsSameFrom, IsUnionWithout, union, without}
-use Rattle.cal_rising.specs.headline.RisingList.{Has}
+use Rattle.cal_rising.specs.headline.Elements.{Has}
 use Rattle.cal_rising.proofs.RisingLemmas.{Has-union, from_less, same_rising}
 
 value_below : (a b : ℤ) → a <ℤ b → int_eq a b ≡ false

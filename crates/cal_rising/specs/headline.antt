@@ -1,2 +1,2 @@
 -- The definitions that the headline rests on.
-pub mod RisingList
+pub mod Elements

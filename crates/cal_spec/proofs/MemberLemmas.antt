@@ -13,7 +13,7 @@ use Rattle.cal_spec.specs.headline.Members.{component_has, lies, lies_by, part_h
 use Rattle.cal_spec.specs.NormalForm.{AreParts, IsPart, normal_component, normal_fields, normal_parts, normal_second, part_eq, reduced, reduced_to, starred}
 use Rattle.cal_spec.specs.headline.NormalForm.{each, normal_from_end, part_cmp, point, range_step}
 use Rattle.cal_spec.specs.Order.{in_order}
-use Rattle.cal_spec.specs.headline.Order.{Has}
+use Rattle.cal_rising.specs.headline.Elements.{Has}
 use Rattle.cal_spec.specs.headline.Slot.{day_slot}
 use Rattle.cal_spec.specs.headline.Sound.{EndsAfter, IsStep}
 use Rattle.cal_spec.specs.ValidFields.{IsValidFields}
@@ -93,7 +93,7 @@ unfolding normal_parts
 parts_have slot ps v all =
     let f = λ (p : Part). part_has slot p v in
     let xs = map reduced ps in
-    let ordered = λ (z : Part). has_in_order part_cmp part_total part_exact z xs in
+    let ordered = λ (z : Part). has_in_order part_cmp part_exact z xs in
     same_tests (list_any f (in_order part_cmp xs)) (list_any f xs)
     (λ h. let found = has_any f (in_order part_cmp xs) h in any_has f xs found.0 ((ordered found.0).0 found.1) found.2)
     (λ h. let found = has_any f xs h in any_has f (in_order part_cmp xs) found.0 ((ordered found.0).1 found.1) found.2)

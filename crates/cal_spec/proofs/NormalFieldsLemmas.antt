@@ -5,11 +5,14 @@ use Rattle.std.specs.List.Sorted.{IsStrictlySortedBy}
 use Rattle.std.proofs.lemmas.List.{length-map}
 use Rattle.std.specs.declared.cmp.Ordering.{Ordering}
 use Rattle.std.specs.declared.cmp.Ordering.TheVariants.{Less, Equal, Greater}
+use Rattle.std.specs.BTreeSet.{insert_key}
+use Rattle.std.specs.Ordering.{match_ordering}
+use Rattle.cal_rising.proofs.OrderLemmas.{all_at, all_from, same_sorted}
 use Rattle.cal_spec.specs.headline.Fields.{Fields, counted_parts, parts_in}
 use Rattle.cal_spec.specs.NormalForm.{AreNormal, AreParts, IsNormal, IsPart, normal_component, normal_fields, normal_parts, normal_second, part_eq, reduced, starred}
 use Rattle.cal_spec.specs.headline.NormalForm.{AreNormalOf, IsNormalFieldsOf, IsNormalOf, IsNormalSecondOf, IsReduced, IsStarred, each, normal_from_end, part_cmp}
-use Rattle.cal_spec.specs.Order.{in_order, inserted, inserted_by}
-use Rattle.cal_spec.specs.headline.Order.{Has}
+use Rattle.cal_spec.specs.Order.{in_order}
+use Rattle.cal_rising.specs.headline.Elements.{Has}
 use Rattle.cal_spec.specs.headline.Slot.{day_slot}
 use Rattle.cal_spec.specs.Sound.{AreSound}
 use Rattle.cal_spec.specs.headline.Sound.{IsSound}
@@ -18,7 +21,7 @@ use Rattle.cal_spec.specs.declared.part.Part.{Part}
 use Rattle.cal_spec.specs.declared.slot.Slot.{Slot}
 use Rattle.cal_spec.specs.declared.slot.Slot.TheVariants.{Year, Month, Hour, Minute, Second}
 use Rattle.cal_spec.proofs.NormalLemmas.{part_eq_exact, part_exact, part_total, parts_from_sound}
-use Rattle.cal_spec.proofs.OrderLemmas.{all_at, all_from, has_in_order, same_sorted, sorted_in_order}
+use Rattle.cal_spec.proofs.OrderLemmas.{has_in_order, sorted_in_order}
 use Rattle.cal_spec.proofs.ReducedLemmas.{normal_stays, reduced_is, reduced_normal, reduced_only, reduced_sound}
 
 -- an element that a function gives
@@ -36,11 +39,11 @@ map_has g (y ∷ ys) z h = elim h [
 -- the parts of the normal form
 pub has_normal : (ps : List Part) (z : Part) → Has (normal_parts ps) z ↔ Has (map reduced ps) z
 unfolding normal_parts
-has_normal ps z = has_in_order part_cmp part_total part_exact z (map reduced ps)
+has_normal ps z = has_in_order part_cmp part_exact z (map reduced ps)
 
 rising_normal : (ps : List Part) → IsStrictlySortedBy part_cmp (normal_parts ps)
 unfolding normal_parts
-rising_normal ps = sorted_in_order part_cmp part_total part_exact (map reduced ps)
+rising_normal ps = sorted_in_order part_cmp part_total (map reduced ps)
 
 pub normal_is_of : (raw : List Part) → AllByRecursion IsPart raw → AreNormalOf raw (normal_parts raw)
 normal_is_of raw all = record {
@@ -53,7 +56,7 @@ normal_is_of raw all = record {
 
 pub normal_only : (raw ps : List Part) → AllByRecursion IsPart raw → AreNormalOf raw ps → ps ≡ normal_parts raw
 normal_only raw ps all h =
-    same_sorted part_cmp part_total part_exact ps (normal_parts raw) h.rising (rising_normal raw)
+    same_sorted part_cmp part_total ps (normal_parts raw) h.rising (rising_normal raw)
     (λ z. (
       λ k.
           let from = h.from_part z k in
@@ -80,7 +83,7 @@ reduced_all (p ∷ ps) h = rw (normal_stays p h.0, reduced_all ps h.1) refl
 
 pub normal_fixed : (ps : List Part) → AreNormal ps → normal_parts ps ≡ ps
 normal_fixed ps h =
-    same_sorted part_cmp part_total part_exact (normal_parts ps) ps (rising_normal ps) h.rising
+    same_sorted part_cmp part_total (normal_parts ps) ps (rising_normal ps) h.rising
     (λ z. (
       λ k. subst (λ xs. Has xs z) (reduced_all ps h.each) ((has_normal ps z).0 k),
       λ k. (has_normal ps z).1 (subst (λ xs. Has xs z) (sym (reduced_all ps h.each)) k),
@@ -90,21 +93,21 @@ pub normal_twice : (raw : List Part) → AllByRecursion IsPart raw → normal_pa
 normal_twice raw all = normal_fixed (normal_parts raw) (are_normal raw all)
 
 -- no more parts than before, and some where there were some
-length_inserted_by : (o : Ordering) (x y : Part) (ys more : List Part) → 0 < length more → length more ≤ length ys + 1
-    → (0 < length (inserted_by o x y ys more)) × (length (inserted_by o x y ys more) ≤ length (y ∷ ys) + 1)
-length_inserted_by Less x y ys more some few = (omega arith, omega arith)
-length_inserted_by Equal x y ys more some few = (omega arith, omega arith)
-length_inserted_by Greater x y ys more some few = (omega arith, omega arith)
+length_inserted : (o : Ordering) (x y : Part) (ys more : List Part) → 0 < length more → length more ≤ length ys + 1
+    → (0 < length (match_ordering o (x ∷ y ∷ ys) (y ∷ ys) (y ∷ more))) × (length (match_ordering o (x ∷ y ∷ ys) (y ∷ ys) (y ∷ more)) ≤ length (y ∷ ys) + 1)
+length_inserted Less x y ys more some few = (omega arith, omega arith)
+length_inserted Equal x y ys more some few = (omega arith, omega arith)
+length_inserted Greater x y ys more some few = (omega arith, omega arith)
 
-length_inserted : (x : Part) (ys : List Part) → (0 < length (inserted part_cmp x ys)) × (length (inserted part_cmp x ys) ≤ length ys + 1)
-length_inserted x [] = (omega arith, omega arith)
-length_inserted x (y ∷ ys) =
-    let rest = length_inserted x ys in
-    length_inserted_by (part_cmp x y) x y ys (inserted part_cmp x ys) rest.0 rest.1
+length-insert_key : (x : Part) (ys : List Part) → (0 < length (insert_key part_cmp ys x)) × (length (insert_key part_cmp ys x) ≤ length ys + 1)
+length-insert_key x [] = (omega arith, omega arith)
+length-insert_key x (y ∷ ys) =
+    let rest = length-insert_key x ys in
+    length_inserted (part_cmp x y) x y ys (insert_key part_cmp ys x) rest.0 rest.1
 
 length_in_order : (xs : List Part) → length (in_order part_cmp xs) ≤ length xs
 length_in_order [] = omega arith
-length_in_order (x ∷ xs) = omega (arith, length_in_order xs, (length_inserted x (in_order part_cmp xs)).1)
+length_in_order (x ∷ xs) = omega (arith, length_in_order xs, (length-insert_key x (in_order part_cmp xs)).1)
 
 pub length_normal : (ps : List Part) → length (normal_parts ps) ≤ length ps
 unfolding normal_parts
@@ -113,7 +116,7 @@ length_normal ps = omega (arith, length_in_order (map reduced ps), length-map ps
 pub some_normal : (ps : List Part) → 0 < length ps → 0 < length (normal_parts ps)
 unfolding normal_parts
 some_normal [] h = absurd (omega arith)
-some_normal (p ∷ ps) h = (length_inserted (reduced p) (in_order part_cmp (map reduced ps))).0
+some_normal (p ∷ ps) h = (length-insert_key (reduced p) (in_order part_cmp (map reduced ps))).0
 
 -- components
 sound_parts : (slot : Slot) (ps : List Part) → AllByRecursion (IsSound slot) ps → AllByRecursion (IsSound slot) (normal_parts ps)

@@ -12,15 +12,16 @@ use Rattle.std.proofs.lemmas.Bool.Decides.{nat_tests}
 use Rattle.std.proofs.lemmas.Cmp.{eq_by_cmp_equiv}
 use Rattle.std.proofs.lemmas.List.Kept.{IsStrictlySortedBy-dedup, Contains-dedup, Contains-from_dedup}
 use Rattle.std.proofs.lemmas.List.Sorted.{Contains-permutation, IsPermutation-sym}
+use Rattle.cal_rising.proofs.OrderLemmas.{contains_from_has, has_from_contains, same_sorted}
 use Rattle.cal_spec.specs.NormalForm.{part_eq, normal_parts, reduced, IsPart, AreParts}
 use Rattle.cal_spec.specs.headline.NormalForm.{part_cmp}
 use Rattle.cal_spec.specs.Order.{in_order}
-use Rattle.cal_spec.specs.headline.Order.{Has}
+use Rattle.cal_rising.specs.headline.Elements.{Has}
 use Rattle.cal_spec.specs.Sound.{AreSound}
 use Rattle.cal_spec.specs.headline.Sound.{IsSound}
 use Rattle.cal_spec.specs.declared.part.Part.{Part}
 use Rattle.cal_spec.specs.declared.slot.Slot.{Slot}
-use Rattle.cal_spec.proofs.OrderLemmas.{contains_from_has, has_from_contains, has_in_order, sorted_in_order, same_sorted}
+use Rattle.cal_spec.proofs.OrderLemmas.{has_in_order, sorted_in_order}
 
 -- parts that have a meaning don't run backwards, and step on
 pub each_part : (slot : Slot) (ps : List Part) → AllByRecursion (IsSound slot) ps → AllByRecursion IsPart ps
@@ -103,11 +104,11 @@ pub sorted_deduped : (raw ys : List Part) → IsPermutation (map reduced raw) ys
 unfolding normal_parts
 sorted_deduped raw ys moved sorted =
     let xs = map reduced raw in
-    same_sorted part_cmp part_total part_exact (dedup part_eq ys) (in_order part_cmp xs)
+    same_sorted part_cmp part_total (dedup part_eq ys) (in_order part_cmp xs)
     (IsStrictlySortedBy-dedup part_total part_ties ys sorted)
-    (sorted_in_order part_cmp part_total part_exact xs)
+    (sorted_in_order part_cmp part_total xs)
     (λ z.
-    let ordered = has_in_order part_cmp part_total part_exact z xs in (
+    let ordered = has_in_order part_cmp part_exact z xs in (
       λ h. ordered.1 (has_from_contains xs z (Contains-permutation _ _ _ (IsPermutation-sym xs ys moved) (contains_from_has ys z ((has_dedup ys z).0 h)))),
       λ h. (has_dedup ys z).1 (has_from_contains ys z (Contains-permutation _ _ _ moved (contains_from_has xs z (ordered.0 h)))),
     ))

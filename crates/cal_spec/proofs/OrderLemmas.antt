@@ -1,137 +1,27 @@
--- Lists in order: placing keeps the order and the elements, and there is only one such list.
-use Rattle.std.proofs.Common.{◌≡◌, ◌⊎◌, ◌↔◌, ℕ, zero, suc, ◌<◌, List, [], ◌∷◌, length, get_or, refl, sym, ap, ◌∙◌, subst, inl, inr, arith}
+-- A list put in an order has the same elements, each once.
+use Rattle.std.proofs.Common.{◌↔◌, List, [], ◌∷◌, inl, inr}
 use Rattle.std.specs.Cmp.{IsTotalOrder}
-use Rattle.std.specs.List.{AllByRecursion, Contains}
+use Rattle.std.specs.FinMap.{IsAntisymmetric}
 use Rattle.std.specs.List.Sorted.{IsStrictlySortedBy}
-use Rattle.std.specs.Ordering.{ordering_reverse}
-use Rattle.std.proofs.lemmas.Cmp.{tied_itself}
 use Rattle.std.specs.declared.cmp.Ordering.{Ordering}
-use Rattle.std.specs.declared.cmp.Ordering.TheVariants.{Less, Equal, Greater}
-use Rattle.cal_spec.specs.Order.{inserted_by, inserted, in_order}
-use Rattle.cal_spec.specs.headline.Order.{Has}
+use Rattle.cal_rising.specs.Rises.{sorted-insert_key}
+use Rattle.cal_rising.specs.headline.Elements.{Has}
+use Rattle.cal_rising.proofs.OrderLemmas.{has-insert_key}
+use Rattle.cal_spec.specs.Order.{in_order}
 
--- std's word for an element
-pub contains_from_has : {A : Type 0} (xs : List A) (x : A) → Has xs x → Contains xs x
-contains_from_has [] x h = absurd h
-contains_from_has (y ∷ ys) x h = elim h [
-  | inl e ↦ (zero, omega arith, e)
-  | inr k ↦ (let rest = contains_from_has ys x k in (suc rest.0, omega (arith, rest.1), rest.2))
-]
-
-has_at : {A : Type 0} (xs : List A) (x : A) (k : ℕ) → k < length xs → get_or xs k x ≡ x → Has xs x
-has_at [] x k h e = absurd (omega arith)
-has_at (y ∷ ys) x zero h e = inl e
-has_at (y ∷ ys) x (suc k) h e = inr (has_at ys x k (omega arith) e)
-
-pub has_from_contains : {A : Type 0} (xs : List A) (x : A) → Contains xs x → Has xs x
-has_from_contains xs x h = has_at xs x h.0 h.1 h.2
-
--- what holds of all holds of each
-pub all_at : {A : Type 0} (P : A → Type 0) (xs : List A) (x : A) → AllByRecursion P xs → Has xs x → P x
-all_at P [] x all h = absurd h
-all_at P (y ∷ ys) x all h = elim h [ inl e ↦ subst P e all.0 | inr k ↦ all_at P ys x all.1 k ]
-
-pub all_from : {A : Type 0} (P : A → Type 0) (xs : List A) → ((x : A) → Has xs x → P x) → AllByRecursion P xs
-all_from P [] each = tt
-all_from P (y ∷ ys) each = (each y (inl refl), all_from P ys (λ x h. each x (inr h)))
-
-module _ {A : Type 0} (cmp : A → A → Ordering) (total : IsTotalOrder cmp) (exact : (x y : A) → cmp x y ≡ Equal → x ≡ y) where
-  -- the elements once x is inserted
-  has_inserted_by : (o : Ordering) (x y z : A) (ys more : List A) → cmp x y ≡ o → (Has more z ↔ ((x ≡ z) ⊎ Has ys z))
-      → Has (inserted_by o x y ys more) z ↔ ((x ≡ z) ⊎ Has (y ∷ ys) z)
-  has_inserted_by Less x y z ys more e rest = (λ h. h, λ h. h)
-  has_inserted_by Equal x y z ys more e rest = (
-    λ h. inr h,
-    λ h. elim h [ inl same ↦ inl (sym (exact x y e) ∙ same) | inr k ↦ k ],
-  )
-  has_inserted_by Greater x y z ys more e rest = (
-    λ h. elim h [
-      | inl same ↦ inr (inl same)
-      | inr k ↦ elim (rest.0 k) [ inl same ↦ inl same | inr m ↦ inr (inr m) ]
-    ],
-    λ h. elim h [
-      | inl same ↦ inr (rest.1 (inl same))
-      | inr k ↦ elim k [ inl same ↦ inl same | inr m ↦ inr (rest.1 (inr m)) ]
-    ],
-  )
-
-  has_inserted : (x z : A) (ys : List A) → Has (inserted cmp x ys) z ↔ ((x ≡ z) ⊎ Has ys z)
-  has_inserted x z [] = (λ h. h, λ h. h)
-  has_inserted x z (y ∷ ys) = has_inserted_by (cmp x y) x y z ys (inserted cmp x ys) refl (has_inserted x z ys)
-
+module _ {A : Type 0} (cmp : A → A → Ordering) where
   -- the same elements
-  pub has_in_order : (z : A) (xs : List A) → Has (in_order cmp xs) z ↔ Has xs z
-  has_in_order z [] = (λ h. h, λ h. h)
-  has_in_order z (x ∷ xs) =
-      let rest = has_in_order z xs in
-      let here = has_inserted x z (in_order cmp xs) in (
+  pub has_in_order : IsAntisymmetric cmp → (z : A) (xs : List A) → Has (in_order cmp xs) z ↔ Has xs z
+  has_in_order exact z [] = (λ h. h, λ h. h)
+  has_in_order exact z (x ∷ xs) =
+      let rest = has_in_order exact z xs in
+      let here = has-insert_key cmp exact x (in_order cmp xs) z in (
         λ h. elim (here.0 h) [ inl same ↦ inl same | inr k ↦ inr (rest.0 k) ],
         λ h. elim h [ inl same ↦ here.1 (inl same) | inr k ↦ here.1 (inr (rest.1 k)) ],
       )
 
-  all_inserted : (P : A → Type 0) (x : A) (ys : List A) → P x → AllByRecursion P ys → AllByRecursion P (inserted cmp x ys)
-  all_inserted P x ys here rest =
-      all_from P (inserted cmp x ys) (λ z h. elim ((has_inserted x z ys).0 h) [ inl same ↦ subst P same here | inr k ↦ all_at P ys z rest k ])
-
-  sorted_inserted_by : (o : Ordering) (x y : A) (ys : List A) → cmp x y ≡ o → IsStrictlySortedBy cmp (y ∷ ys)
-      → IsStrictlySortedBy cmp (inserted cmp x ys) → IsStrictlySortedBy cmp (inserted_by o x y ys (inserted cmp x ys))
-  unfolding IsStrictlySortedBy
-  sorted_inserted_by Less x y ys e sorted more =
-      ((e, all_from (λ z. cmp x z ≡ Less) ys (λ z h. total.trans x y z e (all_at (λ w. cmp y w ≡ Less) ys z sorted.0 h))), sorted)
-  sorted_inserted_by Equal x y ys e sorted more = sorted
-  sorted_inserted_by Greater x y ys e sorted more =
-      let below : cmp y x ≡ Less = total.antisymm y x ∙ ap ordering_reverse e in
-      (all_inserted (λ z. cmp y z ≡ Less) x ys below sorted.0, more)
-
-  tail_sorted : (y : A) (ys : List A) → IsStrictlySortedBy cmp (y ∷ ys) → IsStrictlySortedBy cmp ys
-  unfolding IsStrictlySortedBy
-  tail_sorted y ys h = h.1
-
-  sorted_inserted : (x : A) (ys : List A) → IsStrictlySortedBy cmp ys → IsStrictlySortedBy cmp (inserted cmp x ys)
-  unfolding IsStrictlySortedBy
-  sorted_inserted x [] h = (tt, tt)
-  sorted_inserted x (y ∷ ys) h = sorted_inserted_by (cmp x y) x y ys refl h (sorted_inserted x ys (tail_sorted y ys h))
-
   -- each element occurs once, in order
-  pub sorted_in_order : (xs : List A) → IsStrictlySortedBy cmp (in_order cmp xs)
+  pub sorted_in_order : IsTotalOrder cmp → (xs : List A) → IsStrictlySortedBy cmp (in_order cmp xs)
   unfolding IsStrictlySortedBy
-  sorted_in_order [] = tt
-  sorted_in_order (x ∷ xs) = sorted_inserted x (in_order cmp xs) (sorted_in_order xs)
-
-  not_below_itself : (x : A) → cmp x x ≡ Less → ⊥
-  not_below_itself x h = let tied = tied_itself total x in cc
-
-  not_both_below : (x y : A) → cmp x y ≡ Less → cmp y x ≡ Less → ⊥
-  not_both_below x y h k = not_below_itself x (total.trans x y x h k)
-
-  same_first : (x y : A) (xs ys : List A) → IsStrictlySortedBy cmp (x ∷ xs) → IsStrictlySortedBy cmp (y ∷ ys)
-      → Has (y ∷ ys) x → Has (x ∷ xs) y → x ≡ y
-  unfolding IsStrictlySortedBy
-  same_first x y xs ys sx sy hx hy = elim hx [
-    | inl same ↦ sym same
-    | inr k ↦ elim hy [
-      | inl same ↦ same
-      | inr m ↦ absurd (not_both_below x y (all_at (λ z. cmp x z ≡ Less) xs y sx.0 m) (all_at (λ z. cmp y z ≡ Less) ys x sy.0 k))
-    ]
-  ]
-
-  -- an element of the one tail is one of the other
-  has_tail : (x z : A) (xs ys : List A) → IsStrictlySortedBy cmp (x ∷ xs) → Has xs z → Has (x ∷ ys) z → Has ys z
-  unfolding IsStrictlySortedBy
-  has_tail x z xs ys sorted h k = elim k [
-    | inl same ↦ absurd (not_below_itself x (subst (λ w. cmp x w ≡ Less) (sym same) (all_at (λ w. cmp x w ≡ Less) xs z sorted.0 h)))
-    | inr m ↦ m
-  ]
-
-  -- two such lists with the same elements are equal
-  pub same_sorted : (xs ys : List A) → IsStrictlySortedBy cmp xs → IsStrictlySortedBy cmp ys → ((z : A) → Has xs z ↔ Has ys z) → xs ≡ ys
-  unfolding IsStrictlySortedBy
-  same_sorted [] [] sx sy h = refl
-  same_sorted [] (y ∷ ys) sx sy h = absurd ((h y).1 (inl refl))
-  same_sorted (x ∷ xs) [] sx sy h = absurd ((h x).0 (inl refl))
-  same_sorted (x ∷ xs) (y ∷ ys) sx sy h =
-      let first : x ≡ y = same_first x y xs ys sx sy ((h x).0 (inl refl)) ((h y).1 (inl refl)) in
-      let hx : (z : A) → Has (x ∷ xs) z → Has (x ∷ ys) z = λ z k. subst (λ w. Has (w ∷ ys) z) (sym first) ((h z).0 k) in
-      let hy : (z : A) → Has (y ∷ ys) z → Has (y ∷ xs) z = λ z k. subst (λ w. Has (w ∷ xs) z) first ((h z).1 k) in
-      let rest = same_sorted xs ys sx.1 sy.1 (λ z. (λ k. has_tail x z xs ys sx k (hx z (inr k)), λ k. has_tail y z ys xs sy k (hy z (inr k)))) in
-      cc
+  sorted_in_order total [] = tt
+  sorted_in_order total (x ∷ xs) = sorted-insert_key cmp total x (in_order cmp xs) (sorted_in_order total xs)

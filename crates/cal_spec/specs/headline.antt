@@ -6,7 +6,6 @@ pub mod GrammarRule
 pub mod Match
 pub mod Members
 pub mod NormalForm
-pub mod Order
 pub mod Parts
 pub mod Shorthand
 pub mod Slot

@@ -1,7 +1,7 @@
 -- The elapses of calendar expressions: systemd.time(7), Calendar Events.
 use Rattle.std.specs.Prelude.{◌≡◌, ◌⊎◌, ◌↔◌, ◌<◌, ℕ, Bool, true, List, [], ◌∷◌, Option, Some, ℤ, ◌<ℤ◌}
 use Rattle.cal_zone.specs.headline.Local.{seconds_in_all}
-use Rattle.cal_rising.specs.headline.RisingList.{Has, IsRising}
+use Rattle.cal_rising.specs.headline.Elements.{Has, IsRising}
 
 -- what an expression in a zone means: the local seconds that match, and the place of a local second on the
 -- clock of Unix time, which it lacks where the zone's clock skips it

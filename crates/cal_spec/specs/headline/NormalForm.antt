@@ -6,7 +6,7 @@ use Rattle.std.specs.Option.{option_cmp}
 use Rattle.std.specs.Ordering.{nat_cmp, ordering_then}
 use Rattle.std.specs.declared.cmp.Ordering.{Ordering}
 use Rattle.cal_spec.specs.headline.Fields.{Fields}
-use Rattle.cal_spec.specs.headline.Order.{Has}
+use Rattle.cal_rising.specs.headline.Elements.{Has}
 use Rattle.cal_spec.specs.declared.part.Part.{Part}
 
 -- e is the last number of a, a + r, .. that isn't above b

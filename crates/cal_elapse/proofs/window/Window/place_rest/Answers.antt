@@ -2,7 +2,7 @@ use Rattle.std.proofs.Common.{◌∙◌, ◌⊎◌, ◌↔◌, ◌+◌, ◌-◌,
 use Rattle.std.proofs.lemmas.Int.{to_z-of_z, to_z_pos}
 use Rattle.jiff.proofs.SpanFacts.{signed_arith}
 use Rattle.cal_zone.specs.headline.Local.{seconds_in_all-is}
-use Rattle.cal_rising.specs.headline.RisingList.{Has}
+use Rattle.cal_rising.specs.headline.Elements.{Has}
 use Rattle.cal_elapse.specs.Ring.{IsOneOf}
 use Rattle.cal_zone.specs.headline.Zone.{zone_of}
 use Rattle.cal_elapse.proofs.ReadyLemmas.{few_searches, placed_is_match}
