@@ -1,15 +1,15 @@
 -- An expression that elapses only where others do, and the elapses that are left without it.
-use Rattle.std.proofs.Common.{◌≡◌, ◌⊎◌, ◌↔◌, ◌++◌, ℕ, Bool, true, false, List, [], ◌∷◌, ℤ, pos, ◌-ℤ◌, ◌<ℤ◌, inl, inr, refl, sym, subst, ◌∙◌, arith}
+use Rattle.std.proofs.Common.{◌≡◌, ◌⊎◌, ◌↔◌, ◌++◌, ℕ, Bool, true, false, List, [], ◌∷◌, ℤ, pos, ◌-ℤ◌, ◌<ℤ◌, inl, inr, refl, sym, subst, ◌∙◌, arith, int_eq}
 use Rattle.std.proofs.lemmas.Bool.{false≢true}
 use Rattle.std.proofs.lemmas.Int.{ints}
 use Rattle.jiff.specs.Types.{TimeZone}
+use Rattle.std.specs.Set.{is_member}
 use Rattle.cal_spec.specs.headline.Fields.{Fields}
 use Rattle.cal_spec.specs.headline.Match.{Sets, date_in, matches, time_in}
 use Rattle.cal_spec.specs.headline.Members.{sets_of}
-use Rattle.cal_rising.specs.RisingList.{is_in}
 use Rattle.cal_rising.specs.headline.Elements.{Has}
 use Rattle.cal_rising.proofs.RisingLemmas.{list-no_first}
-use Rattle.cal_rising.proofs.WithoutLemmas.{Has-is_in, is_in-Has}
+use Rattle.cal_rising.proofs.WithoutLemmas.{Has-is_member, is_member-Has}
 use Rattle.cal_elapse.specs.Covered.{AreAmong, AreKept, IsCovered}
 use Rattle.cal_elapse.specs.Elapses.{elapses_after, elapses_except}
 use Rattle.cal_elapse.specs.headline.Elapses.{IsElapse, IsPlace, Timed}
@@ -40,12 +40,12 @@ below : (i : ℤ) → (i -ℤ pos 1) <ℤ i
 below i = omega (arith, ints)
 
 -- an elapse is above some base, and either one of the exceptions or left by them there
-not_left : (e : Timed) (exceptions : List Timed) (i : ℤ) (b : Bool) → is_in (elapses_after exceptions (i -ℤ pos 1)) i ≡ b → elapses_except (e ∷ []) exceptions (i -ℤ pos 1) ≡ []
+not_left : (e : Timed) (exceptions : List Timed) (i : ℤ) (b : Bool) → is_member int_eq (elapses_after exceptions (i -ℤ pos 1)) i ≡ b → elapses_except (e ∷ []) exceptions (i -ℤ pos 1) ≡ []
     → IsPlace e i → IsElapse exceptions i
-not_left e exceptions i true has none p = (((AreAbove-elapses_after exceptions (i -ℤ pos 1)).members i).0 (Has-is_in (elapses_after exceptions (i -ℤ pos 1)) i has)).1
+not_left e exceptions i true has none p = (((AreAbove-elapses_after exceptions (i -ℤ pos 1)).members i).0 (Has-is_member (elapses_after exceptions (i -ℤ pos 1)) i has)).1
 not_left e exceptions i false lacks none p =
     let base = i -ℤ pos 1 in
-    let excepted = λ (x : IsElapse exceptions i). let has = is_in-Has (elapses_after exceptions base) i (((AreAbove-elapses_after exceptions base).members i).1 (below i, x)) in false≢true (sym lacks ∙ has) in
+    let excepted = λ (x : IsElapse exceptions i). let has = is_member-Has (elapses_after exceptions base) i (((AreAbove-elapses_after exceptions base).members i).1 (below i, x)) in false≢true (sym lacks ∙ has) in
     absurd (subst (λ (xs : List ℤ). Has xs i) none (((AreElapses-elapses_except (e ∷ []) exceptions base).members i).1 (below i, (inl p, excepted))))
 
 -- an expression is covered exactly if none of its elapses is left
@@ -56,7 +56,7 @@ elapses_of_covered e exceptions = (
       list-no_first (elapses_except (e ∷ []) exceptions base)
       (first-none (elapses_except (e ∷ []) exceptions base)
       (λ i m. let here = ((these.members i).0 m).1 in here.1 (covered i (elim here.0 [ inl p ↦ p | inr none ↦ absurd none ])))),
-  λ none i p. not_left e exceptions i (is_in (elapses_after exceptions (i -ℤ pos 1)) i) refl (none (i -ℤ pos 1)) p,
+  λ none i p. not_left e exceptions i (is_member int_eq (elapses_after exceptions (i -ℤ pos 1)) i) refl (none (i -ℤ pos 1)) p,
 )
 
 -- an elapse of some or of others

@@ -1,7 +1,8 @@
 -- What an expression in a zone answers of an instant, and what that says of the rest of its elapses.
-use Rattle.std.proofs.Common.{◌≡◌, ◌↔◌, ◌∙◌, ℕ, Bool, true, false, [], ◌∷◌, inl, inr, None, Some, ℤ, pos, ◌<ℤ◌, ◌≤ℤ◌, ap, arith, sym}
+use Rattle.std.proofs.Common.{◌≡◌, ◌↔◌, ◌∙◌, ℕ, Bool, true, false, [], ◌∷◌, inl, inr, None, Some, ℤ, pos, ◌<ℤ◌, ◌≤ℤ◌, ap, arith, sym, int_eq}
 use Rattle.std.proofs.lemmas.Bool.{false≢true}
 use Rattle.jiff.proofs.SpanFacts.{signed_arith}
+use Rattle.std.specs.Set.{is_member}
 use Rattle.cal_zone.specs.Instant.{IsInstant}
 use Rattle.cal_zone.specs.headline.Local.{seconds_in_all-is}
 use Rattle.cal_zone.specs.LocalAt.{IsLocalAt}
@@ -9,8 +10,7 @@ use Rattle.cal_zone.specs.headline.Zone.{zone_of}
 use Rattle.cal_zone.specs.declared.zone.Zone.{Zone}
 use Rattle.cal_zone.proofs.PlaceLemmas.{one_local_second, within}
 use Rattle.cal_spec.specs.headline.Match.{matches}
-use Rattle.cal_rising.specs.RisingList.{is_in}
-use Rattle.cal_rising.proofs.WithoutLemmas.{Has-is_in, is_in-Has, same_truth}
+use Rattle.cal_rising.proofs.WithoutLemmas.{Has-is_member, is_member-Has, same_truth}
 use Rattle.cal_elapse.specs.Elapses.{elapses_after}
 use Rattle.cal_elapse.specs.headline.Elapses.{IsPlace}
 use Rattle.cal_elapse.specs.Masks.{sets_in}
@@ -40,26 +40,26 @@ has-none masks zone instant none = (
 )
 
 -- above the last instant given the answer is whether the rest has the instant
-pub in_rest : (w : Window) (i : ℤ) (b : Bool) → w.last <ℤ i → (b ≡ true) ↔ IsPlace (timed_of w) i → b ≡ is_in (rest_of w) i
+pub in_rest : (w : Window) (i : ℤ) (b : Bool) → w.last <ℤ i → (b ≡ true) ↔ IsPlace (timed_of w) i → b ≡ is_member int_eq (rest_of w) i
 unfolding rest_of
 in_rest w i b above h =
     let rest = elapses_after (timed_of w ∷ []) w.last in
     let all = (AreAbove-elapses_after (timed_of w ∷ []) w.last).members i in
-    same_truth b (is_in rest i)
-    (λ t. is_in-Has rest i (all.1 (above, inl (h.0 t))))
-    (λ t. h.1 (elim (all.0 (Has-is_in rest i t)).1 [ inl p ↦ p | inr n ↦ absurd n ]))
+    same_truth b (is_member int_eq rest i)
+    (λ t. is_member-Has rest i (all.1 (above, inl (h.0 t))))
+    (λ t. h.1 (elim (all.0 (Has-is_member rest i t)).1 [ inl p ↦ p | inr n ↦ absurd n ]))
 
 -- otherwise the rest doesn't have it
-pub not_in_rest : (w : Window) (i : ℤ) → (w.last <ℤ i → IsPlace (timed_of w) i → ⊥) → false ≡ is_in (rest_of w) i
+pub not_in_rest : (w : Window) (i : ℤ) → (w.last <ℤ i → IsPlace (timed_of w) i → ⊥) → false ≡ is_member int_eq (rest_of w) i
 unfolding rest_of
 not_in_rest w i h =
     let rest = elapses_after (timed_of w ∷ []) w.last in
     let all = (AreAbove-elapses_after (timed_of w ∷ []) w.last).members i in
-    same_truth false (is_in rest i)
+    same_truth false (is_member int_eq rest i)
     (λ t. absurd (false≢true t))
-    (λ t. absurd (let p = all.0 (Has-is_in rest i t) in h p.0 (elim p.1 [ inl q ↦ q | inr n ↦ absurd n ])))
+    (λ t. absurd (let p = all.0 (Has-is_member rest i t) in h p.0 (elim p.1 [ inl q ↦ q | inr n ↦ absurd n ])))
 
-pub not_above : (w : Window) (i : ℤ) → i ≤ℤ w.last → false ≡ is_in (rest_of w) i
+pub not_above : (w : Window) (i : ℤ) → i ≤ℤ w.last → false ≡ is_member int_eq (rest_of w) i
 not_above w i low = not_in_rest w i (λ above p. absurd (omega (arith, signed_arith)))
 
 -- each place that isn't below 0 is an instant
@@ -71,6 +71,6 @@ place-instant masks zone i low p =
     let inside = p.within in
     (omega (arith, signed_arith), omega (arith, signed_arith, near))
 
-pub not_instant : (w : Window) (i : ℤ) → pos 0 ≤ℤ w.last → (IsInstant i → ⊥) → false ≡ is_in (rest_of w) i
+pub not_instant : (w : Window) (i : ℤ) → pos 0 ≤ℤ w.last → (IsInstant i → ⊥) → false ≡ is_member int_eq (rest_of w) i
 not_instant w i low outside =
     not_in_rest w i (λ above p. outside (place-instant w.searcher.masks w.zone i (omega (arith, signed_arith)) p))

@@ -1,17 +1,20 @@
 -- The elapses are one list, and go on from any of them.
-use Rattle.std.proofs.Common.{◌≡◌, ◌⊎◌, ◌↔◌, ℕ, zero, suc, ◌+◌, ◌<◌, ◌≤◌, cond, Bool, true, false, List, [], ◌∷◌, ◌++◌, take, drop, inl, inr, Option, None, Some, ℤ, ◌<ℤ◌, ◌≤ℤ◌, int_lt, refl, sym, ap, ◌∙◌, subst, arith, map}
+use Rattle.std.proofs.Common.{◌≡◌, ◌⊎◌, ◌↔◌, ℕ, zero, suc, ◌+◌, ◌<◌, ◌≤◌, cond, Bool, true, false, List, [], ◌∷◌, ◌++◌, take, drop, inl, inr, Option, None, Some, ℤ, ◌<ℤ◌, ◌≤ℤ◌, int_lt, refl, sym, ap, subst, arith, map}
 use Rattle.std.specs.List.{filter, filter_map, cons_option, range_with_len, slice_get}
 use Rattle.std.proofs.Math.Seq.{take-add}
 use Rattle.std.proofs.lemmas.Bool.{cases_eq}
 use Rattle.std.proofs.lemmas.Int.{ints}
+use Rattle.std.proofs.lemmas.Map.Keys.{sorted_tail}
+use Rattle.std.specs.Ordering.{int_cmp}
+use Rattle.std.specs.List.Sorted.{IsStrictlySortedBy}
 use Rattle.cal_zone.specs.headline.Local.{seconds_in_all}
 use Rattle.cal_elapse.specs.Elapses.{places, elapses_after, elapses_except}
 use Rattle.cal_elapse.specs.headline.Elapses.{Timed, IsPlace, IsElapse, AreAbove, AreElapses}
 use Rattle.cal_elapse.specs.Merged.{each_after}
-use Rattle.cal_rising.specs.Rises.{IsRising-without}
-use Rattle.cal_rising.specs.RisingList.{HasAny, first, later, union, without}
-use Rattle.cal_rising.specs.headline.Elements.{Has, IsRising}
-use Rattle.cal_rising.proofs.RisingLemmas.{above_has, chained, later_members, same_rising, Has-union, IsRising-union}
+use Rattle.cal_rising.specs.Rises.{rises-without}
+use Rattle.cal_rising.specs.RisingList.{HasAny, union, without}
+use Rattle.cal_rising.specs.headline.Elements.{Has}
+use Rattle.cal_rising.proofs.RisingLemmas.{above_first, chained, later_members, same_rising, Has-union, rises-drop, rises-union}
 use Rattle.cal_rising.proofs.WithoutLemmas.{Has-without, without-none}
 
 -- a local second among n from a on that matches has its place here
@@ -113,7 +116,7 @@ unfolding elapses_after
 AreAbove-elapses_after es b =
     let lists = map (λ e. filter (int_lt b) (places e)) es in
     record {
-      rises = IsRising-union lists;
+      rises = rises-union lists;
       members = λ i. (
         λ m. (HasAny-elapses es b i).0 ((Has-union lists i).0 m),
         λ p. (Has-union lists i).1 ((HasAny-elapses es b i).1 p),
@@ -128,7 +131,7 @@ AreElapses-elapses_except es exceptions b =
     let those = AreAbove-elapses_after exceptions b in
     let left = Has-without (elapses_after es b) (elapses_after exceptions b) in
     record {
-      rises = IsRising-without (elapses_after es b) (elapses_after exceptions b) these.rises;
+      rises = rises-without (elapses_after es b) (elapses_after exceptions b) these.rises;
       members = λ i. (
         λ m.
             let here = (these.members i).0 ((left i).0 m).0 in
@@ -154,25 +157,20 @@ pub elapses_except-none : (es : List Timed) (b : ℤ) → elapses_except es [] b
 unfolding elapses_except elapses_after union
 elapses_except-none es b = without-none (elapses_after es b)
 
--- what comes after the k-th of a rising list rises, and is what is above the k-th
-pub IsRising-drop : (xs : List ℤ) (k : ℕ) → IsRising xs → IsRising (drop k xs)
-IsRising-drop xs zero h = h
-IsRising-drop [] (suc k) h = tt
-IsRising-drop (x ∷ xs) (suc k) h = IsRising-drop xs k h.1
-
 has_at : (xs : List ℤ) (k : ℕ) (e : ℤ) → slice_get xs k ≡ Some e → Has xs e
 has_at [] k e h = absurd (cc)
 has_at (x ∷ xs) zero e h = inl (cc)
 has_at (x ∷ xs) (suc k) e h = inr (has_at xs k e h)
 
-Has-drop : (xs : List ℤ) (k : ℕ) (e : ℤ) → IsRising xs → slice_get xs k ≡ Some e → (i : ℤ) → Has (drop (suc k) xs) i ↔ ((e <ℤ i) × Has xs i)
+-- what comes after the k-th of a rising list is what is above the k-th
+Has-drop : (xs : List ℤ) (k : ℕ) (e : ℤ) → IsStrictlySortedBy int_cmp xs → slice_get xs k ≡ Some e → (i : ℤ) → Has (drop (suc k) xs) i ↔ ((e <ℤ i) × Has xs i)
 Has-drop [] k e h at i = absurd (cc)
 Has-drop (x ∷ xs) zero e h at i =
     let same : x ≡ e = cc in
     subst (λ (z : ℤ). Has xs i ↔ ((z <ℤ i) × Has (x ∷ xs) i)) same (later_members x xs h i)
 Has-drop (x ∷ xs) (suc k) e h at i =
-    let rest = Has-drop xs k e h.1 at i in
-    let up = above_has x e xs h.0 (has_at xs k e at) in (
+    let rest = Has-drop xs k e (sorted_tail int_cmp x xs h) at i in
+    let up = above_first x e xs h (has_at xs k e at) in (
       λ m. ((rest.0 m).0, inr (rest.0 m).1),
       λ p. elim p.1 [ inl f ↦ absurd (not_both x e i up p.0 f) | inr n ↦ rest.1 (p.0, n) ],
     )
@@ -183,7 +181,7 @@ later_above b e xs ys k all again at =
     let up = ((all.members e).0 (has_at xs k e at)).0 in
     let after = Has-drop xs k e all.rises at in
     same_above e ys (drop (suc k) xs) again (record {
-      rises = IsRising-drop xs (suc k) all.rises;
+      rises = rises-drop xs (suc k) all.rises;
       members = λ i. (
         λ m. (((after i).0 m).0, ((all.members i).0 ((after i).0 m).1).1),
         λ p. (after i).1 (p.0, (all.members i).1 (chained b e i up p.0, p.1)),
@@ -205,40 +203,31 @@ pub elapses_except-parts : (es exceptions : List Timed) (b e : ℤ) (k m : ℕ) 
 elapses_except-parts es exceptions b e k m at =
     rw (elapses_except-later es exceptions b e k at) (sym (take-add (suc k) m (elapses_except es exceptions b)))
 
-first_at : (xs : List ℤ) (e : ℤ) → first xs ≡ Some e → slice_get xs zero ≡ Some e
-first_at [] e h = absurd (cc)
-first_at (x ∷ xs) e h = h
-
-drop_one : (xs : List ℤ) → drop 1 xs ≡ later xs
-drop_one [] = refl
-drop_one (x ∷ xs) = refl
-
 -- the list after the first elapse
-pub elapses_after-first : (es : List Timed) (b e : ℤ) → first (elapses_after es b) ≡ Some e → elapses_after es e ≡ later (elapses_after es b)
-elapses_after-first es b e h =
-    elapses_after-later es b e zero (first_at (elapses_after es b) e h) ∙ drop_one (elapses_after es b)
+pub elapses_after-first : (es : List Timed) (b e : ℤ) → slice_get (elapses_after es b) 0 ≡ Some e → elapses_after es e ≡ drop 1 (elapses_after es b)
+elapses_after-first es b e h = elapses_after-later es b e zero h
 
 below_and_above : (x i : ℤ) → x <ℤ i → i ≤ℤ x → ⊥
 below_and_above x i h k = omega (arith, ints)
 
 -- a list with no members has no first
-pub first-none : (xs : List ℤ) → ((i : ℤ) → Has xs i → ⊥) → first xs ≡ None
+pub first-none : (xs : List ℤ) → ((i : ℤ) → Has xs i → ⊥) → slice_get xs 0 ≡ None
 first-none [] h = refl
 first-none (x ∷ xs) h = absurd (h x (inl refl))
 
 -- the least member of a rising list is its first
-pub first-least : (xs : List ℤ) (i : ℤ) → IsRising xs → Has xs i → ((j : ℤ) → Has xs j → i ≤ℤ j) → first xs ≡ Some i
+pub first-least : (xs : List ℤ) (i : ℤ) → IsStrictlySortedBy int_cmp xs → Has xs i → ((j : ℤ) → Has xs j → i ≤ℤ j) → slice_get xs 0 ≡ Some i
 first-least [] i h m least = absurd m
 first-least (x ∷ xs) i h (inl e) least = ap Some e
-first-least (x ∷ xs) i h (inr n) least = absurd (below_and_above x i (above_has x i xs h.0 n) (least x (inl refl)))
+first-least (x ∷ xs) i h (inr n) least = absurd (below_and_above x i (above_first x i xs h n) (least x (inl refl)))
 
 -- what is no elapse, and what is the first elapse
-pub first_elapse-none : (es : List Timed) (b : ℤ) → ((i : ℤ) → b <ℤ i → IsElapse es i → ⊥) → first (elapses_after es b) ≡ None
+pub first_elapse-none : (es : List Timed) (b : ℤ) → ((i : ℤ) → b <ℤ i → IsElapse es i → ⊥) → slice_get (elapses_after es b) 0 ≡ None
 first_elapse-none es b h =
     let all = AreAbove-elapses_after es b in
     first-none (elapses_after es b) (λ i m. h i ((all.members i).0 m).0 ((all.members i).0 m).1)
 
-pub first_elapse-least : (es : List Timed) (b i : ℤ) → b <ℤ i → IsElapse es i → ((j : ℤ) → b <ℤ j → IsElapse es j → i ≤ℤ j) → first (elapses_after es b) ≡ Some i
+pub first_elapse-least : (es : List Timed) (b i : ℤ) → b <ℤ i → IsElapse es i → ((j : ℤ) → b <ℤ j → IsElapse es j → i ≤ℤ j) → slice_get (elapses_after es b) 0 ≡ Some i
 first_elapse-least es b i above m least =
     let all = AreAbove-elapses_after es b in
     first-least (elapses_after es b) i all.rises ((all.members i).1 (above, m))
@@ -260,7 +249,7 @@ HasAny-each (e ∷ es) b i =
 pub union-elapses_after : (es : List Timed) (b : ℤ) → union (each_after es b) ≡ elapses_after es b
 union-elapses_after es b =
     AreAbove-only es b (union (each_after es b)) (record {
-      rises = IsRising-union (each_after es b);
+      rises = rises-union (each_after es b);
       members = λ i. (
         λ m. (HasAny-each es b i).0 ((Has-union (each_after es b) i).0 m),
         λ p. (Has-union (each_after es b) i).1 ((HasAny-each es b i).1 p),

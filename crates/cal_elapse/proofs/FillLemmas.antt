@@ -1,10 +1,9 @@
 -- Cells that are filled all at once, and the instants that are seen then.
-use Rattle.std.proofs.Common.{◌≡◌, ◌≢◌, ◌⊎◌, ◌↔◌, ◌<ℤ◌, ◌+ℤ◌, ◌≤ℤ◌, ℕ, ℤ, ◌+◌, ◌-◌, ◌*◌, ◌/◌, ◌%◌, ◌^◌, ◌<◌, ◌≤◌, ◌||◌, Bool, true, false, List, Option, None, Some, bit_or, length, get_or, set, pos, negsuc, unsigned_abs, IsSomeAnd, inl, inr, refl, sym, ap, ◌∙◌, subst, arith, get_or-set_same, get_or-set_other}
+use Rattle.std.proofs.Common.{◌≡◌, ◌≢◌, ◌⊎◌, ◌↔◌, ◌<ℤ◌, ◌+ℤ◌, ◌≤ℤ◌, ℕ, ℤ, ◌+◌, ◌-◌, ◌*◌, ◌/◌, ◌%◌, ◌^◌, ◌<◌, ◌≤◌, ◌||◌, Bool, true, false, List, Option, None, Some, bit_or, length, get_or, set, pos, negsuc, unsigned_abs, IsSomeAnd, inl, inr, refl, sym, ap, ◌∙◌, subst, arith, get_or-set_same, get_or-set_other, slice_get}
 use Rattle.std.proofs.Math.ListN.{length-set}
 use Rattle.std.proofs.lemmas.Bool.{cases_eq, cases_lt, or_cases, or_left, or_right}
 use Rattle.std.proofs.lemmas.Int.{ints}
 use Rattle.cal_zone.specs.Instant.{IsInstant}
-use Rattle.cal_rising.specs.RisingList.{first}
 use Rattle.cal_rising.specs.headline.Elements.{Has}
 use Rattle.cal_elapse.specs.Bits.{is_bit, is_in_words}
 use Rattle.cal_elapse.specs.Near.{IsNear}
@@ -163,13 +162,13 @@ none_begun : (o : Option ℤ) (start : ℤ) → o ≡ None → IsSomeAnd o (λ x
 none_begun o start is begun = subst (λ (p : Option ℤ). IsSomeAnd p (λ x. x <ℤ start)) is begun
 
 pub begun_least : (words : List ℕ) (least : ℕ) (start : ℤ) (members : List ℤ) → instants_in words least ≡ members → IsRoundFrom words least
-    → IsSomeAnd (first members) (λ x. x <ℤ start) → IsBegun words least start
+    → IsSomeAnd (slice_get members 0) (λ x. x <ℤ start) → IsBegun words least start
 begun_least words least start members view was begun =
     elim (cases_eq least no_second) [
-      | inl same ↦ absurd (none_begun (first members) start (ap first (sym view) ∙ none_found words least (none_kept words least was.first same)) begun)
+      | inl same ↦ absurd (none_begun (slice_get members 0) start (ap (λ (xs : List ℤ). slice_get xs 0) (sym view) ∙ none_found words least (none_kept words least was.first same)) begun)
       | inr some ↦
           let found = found_kept words least was.first some in
-          record { some = some; found = found; below = begun_by (first members) least start (ap first (sym view) ∙ first_found words least least found) begun }
+          record { some = some; found = found; below = begun_by (slice_get members 0) least start (ap (λ (xs : List ℤ). slice_get xs 0) (sym view) ∙ first_found words least least found) begun }
     ]
 
 pub start_is : (start : ℤ) (second least : ℕ) → pos least <ℤ start → second ≡ unsigned_abs start → pos second ≡ start

@@ -1,5 +1,5 @@
 -- Each elapse after a base of 0 or more is an instant.
-use Rattle.std.proofs.Common.{◌≡◌, List, [], ◌∷◌, map, inl, inr, Some, ℤ, pos, ◌<ℤ◌, ◌≤ℤ◌, arith}
+use Rattle.std.proofs.Common.{◌≡◌, List, [], ◌∷◌, map, inl, inr, Some, ℤ, pos, ◌<ℤ◌, ◌≤ℤ◌, arith, slice_get}
 use Rattle.std.proofs.lemmas.Int.{ints}
 use Rattle.jiff.proofs.SpanFacts.{signed_arith}
 use Rattle.jiff.specs.Types.{TimeZone}
@@ -9,7 +9,6 @@ use Rattle.cal_zone.proofs.PlaceLemmas.{within}
 use Rattle.cal_spec.specs.headline.Fields.{Fields}
 use Rattle.cal_elapse.specs.Elapses.{elapses_except}
 use Rattle.cal_elapse.specs.headline.Elapses.{IsElapse, IsPlace}
-use Rattle.cal_rising.specs.RisingList.{first}
 use Rattle.cal_rising.specs.headline.Elements.{Has}
 use Rattle.cal_elapse.specs.headline.Timed.{timed}
 use Rattle.cal_elapse.specs.headline.Elapses.{Timed}
@@ -42,11 +41,11 @@ pub IsInstant-pairs : (pairs : List (Fields × TimeZone)) (exceptions : List Tim
     → Has (elapses_except (map (λ (p : Fields × TimeZone). timed p.0 p.1) pairs) exceptions base) i → IsInstant i
 IsInstant-pairs pairs exceptions base i low m = IsInstant-elapse (λ (p : Fields × TimeZone). p.0) (λ (p : Fields × TimeZone). p.1) pairs exceptions base i low m
 
-first_has : (xs : List ℤ) (i : ℤ) → first xs ≡ Some i → Has xs i
+first_has : (xs : List ℤ) (i : ℤ) → slice_get xs 0 ≡ Some i → Has xs i
 first_has [] i e = absurd (cc)
 first_has (x ∷ xs) i e = inl (cc)
 
 pub IsInstant-first : (pairs : List (Fields × TimeZone)) (exceptions : List Timed) (base i : ℤ) → pos 0 ≤ℤ base
-    → first (elapses_except (map (λ (p : Fields × TimeZone). timed p.0 p.1) pairs) exceptions base) ≡ Some i → IsInstant i
+    → slice_get (elapses_except (map (λ (p : Fields × TimeZone). timed p.0 p.1) pairs) exceptions base) 0 ≡ Some i → IsInstant i
 IsInstant-first pairs exceptions base i low e =
     IsInstant-pairs pairs exceptions base i low (first_has (elapses_except (map (λ (p : Fields × TimeZone). timed p.0 p.1) pairs) exceptions base) i e)

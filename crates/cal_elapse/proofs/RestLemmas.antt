@@ -1,11 +1,12 @@
 -- What is left of the minute of a match that is placed, once it is placed at once.
-use Rattle.std.proofs.Common.{◌≡◌, ◌⊎◌, ◌↔◌, ◌+◌, ◌-◌, ◌*◌, ◌/◌, ◌<◌, ◌≤◌, ◌∙◌, Bool, ℕ, IsSomeAnd, List, None, Option, Some, ℤ, pos, ◌+ℤ◌, ◌-ℤ◌, ◌≤ℤ◌, ◌<ℤ◌, FitsSigned, arith, ap, inl, inr, of_z, refl, subst, sym, to_z, w64}
+use Rattle.std.proofs.Common.{◌≡◌, ◌⊎◌, ◌↔◌, ◌+◌, ◌-◌, ◌*◌, ◌/◌, ◌<◌, ◌≤◌, ◌∙◌, Bool, ℕ, IsSomeAnd, List, None, Option, Some, ℤ, pos, ◌+ℤ◌, ◌-ℤ◌, ◌≤ℤ◌, ◌<ℤ◌, FitsSigned, arith, ap, inl, inr, of_z, refl, subst, sym, to_z, w64, slice_get}
 use Rattle.std.proofs.lemmas.Int.{ints, to_z-of_z, to_z_pos}
 use Rattle.jiff.proofs.SpanFacts.{signed_arith}
 use Rattle.jiff.specs.Types.{TimeZone}
+use Rattle.std.specs.Ordering.{int_cmp}
+use Rattle.std.specs.List.Sorted.{IsStrictlySortedBy}
 use Rattle.cal_rising.proofs.RisingLemmas.{list-first, list-no_first}
-use Rattle.cal_rising.specs.RisingList.{first}
-use Rattle.cal_rising.specs.headline.Elements.{Has, IsRising}
+use Rattle.cal_rising.specs.headline.Elements.{Has}
 use Rattle.cal_spec.specs.headline.Match.{matches}
 use Rattle.cal_zone.proofs.PlaceLemmas.{within}
 use Rattle.cal_zone.specs.headline.Local.{seconds_in_all, seconds_in_all-is}
@@ -105,14 +106,14 @@ rest_placed v local searcher bits last pending h masks more most rest windowed =
           (most_more (sets_in v.searcher.masks) start local last v.searcher.most_months searcher.most_months begun later h.looked most);
     }
 
-no_later : (xs : List ℤ) → None ≡ first xs → (i : ℤ) → Has xs i → ⊥
+no_later : (xs : List ℤ) → None ≡ slice_get xs 0 → (i : ℤ) → Has xs i → ⊥
 no_later xs none i m = subst (λ (ys : List ℤ). Has ys i) (list-no_first xs (sym none)) m
 
 -- where nothing is pending, and all places up to the minute's end are at the last instant given or before it
 pub rest_passed : (v : Window) (local : ℕ) (searcher : Searcher) (bits last : ℕ) (offset : ℤ) → IsPlacedTo v local → searcher.masks ≡ v.searcher.masks
     → searcher.searches ≡ v.searcher.searches + count_from (matches (sets_in v.searcher.masks)) (local + 1) (last - local)
     → IsMostAfter (sets_in v.searcher.masks) local last v.searcher.most_months searcher.most_months
-    → IsRest (matches (sets_in v.searcher.masks)) local bits last → None ≡ first v.pending
+    → IsRest (matches (sets_in v.searcher.masks)) local bits last → None ≡ slice_get v.pending 0
     → AreAhead (zone_of v.zone) (pos local) (pos (local / 60 * 60 + 59)) offset → (pos (local / 60 * 60 + 59) -ℤ offset) ≤ℤ v.last
     → IsPlacedTo (record v { searcher = searcher }) last
 rest_passed v local searcher bits last offset h masks more most rest none ahead early =
@@ -142,12 +143,12 @@ pub record IsBehind (v : Window) (local bits last : ℕ) (offset place least : �
   pub rest : IsRest (matches (sets_in v.searcher.masks)) local bits last
   pub ahead : AreAhead (zone_of v.zone) (pos local) (pos (local / 60 * 60 + 59)) offset
   pub at : place ≡ (pos local -ℤ offset)
-  pub least_is : Some least ≡ first v.pending
+  pub least_is : Some least ≡ slice_get v.pending 0
   pub behind : least ≤ℤ place
   pub near : (i : ℤ) → Has v.pending i → pos (local / 60 * 60 + 59) ≤ℤ (i +ℤ pos 93_599)
 
 pub behind_of : (v : Window) (local bits last : ℕ) (offset least place : ℤ) → IsPlacedTo v local → IsRest (matches (sets_in v.searcher.masks)) local bits last
-    → AreAhead (zone_of v.zone) (to_z w64 local) (to_z w64 (local / 60 * 60 + 59)) offset → FitsSigned w64 offset → Some least ≡ first v.pending
+    → AreAhead (zone_of v.zone) (to_z w64 local) (to_z w64 (local / 60 * 60 + 59)) offset → FitsSigned w64 offset → Some least ≡ slice_get v.pending 0
     → place ≡ to_z w64 (of_z w64 (to_z w64 local -ℤ to_z w64 (of_z w64 offset))) → least ≤ℤ place
     → ((i : ℤ) → Has v.pending i → pos (local / 60 * 60 + 59) ≤ℤ (i +ℤ pos 93_599)) → IsBehind v local bits last offset (pos local -ℤ offset) least
 behind_of v local bits last offset least place h rest ahead fits least_is at behind near =
@@ -161,7 +162,7 @@ behind_of v local bits last offset least place h rest ahead fits least_is at beh
       near = near;
     }
 
-least_has : (xs : List ℤ) (least : ℤ) → Some least ≡ first xs → Has xs least
+least_has : (xs : List ℤ) (least : ℤ) → Some least ≡ slice_get xs 0 → Has xs least
 least_has xs least is = subst (λ (ys : List ℤ). Has ys least) (sym (list-first xs least (sym is))) (inl refl)
 
 one_at : (local bit : ℕ) (place offset i : ℤ) → place ≡ (pos local -ℤ offset) → ((place +ℤ pos 1) +ℤ pos bit) ≡ i → (pos (local + 1 + bit) -ℤ offset) ≡ i
@@ -247,7 +248,7 @@ begins : (least place start : ℤ) → least ≤ℤ place → start ≡ (place +
 begins least place start le is = omega (arith, ints)
 
 pub rest_begun : (v : Window) (local bits last : ℕ) (offset place least start : ℤ) → IsBehind v local bits last offset place least → start ≡ (place +ℤ pos 1)
-    → IsSomeAnd (first v.pending) (λ i. i <ℤ start)
+    → IsSomeAnd (slice_get v.pending 0) (λ i. i <ℤ start)
 rest_begun v local bits last offset place least start behind is =
     subst (λ (o : Option ℤ). IsSomeAnd o (λ i. i <ℤ start)) behind.least_is (begins least place start behind.behind is)
 
@@ -258,7 +259,7 @@ reaches end t least i up near le = omega (arith, ints)
 pub rest_put : (v : Window) (local : ℕ) (searcher : Searcher) (bits last : ℕ) (offset place least : ℤ) (pending : List ℤ) → IsPlacedTo v local → searcher.masks ≡ v.searcher.masks
     → searcher.searches ≡ v.searcher.searches + count_from (matches (sets_in v.searcher.masks)) (local + 1) (last - local)
     → IsMostAfter (sets_in v.searcher.masks) local last v.searcher.most_months searcher.most_months
-    → IsBehind v local bits last offset place least → IsRising pending → ((i : ℤ) → Has pending i ↔ (Has v.pending i ⊎ IsOneOf (place +ℤ pos 1) bits i))
+    → IsBehind v local bits last offset place least → IsStrictlySortedBy int_cmp pending → ((i : ℤ) → Has pending i ↔ (Has v.pending i ⊎ IsOneOf (place +ℤ pos 1) bits i))
     → IsPlacedTo (record v { searcher = searcher; pending = pending }) last
 rest_put v local searcher bits last offset place least pending h masks more most behind rises members =
     let begun = behind.rest.begun in

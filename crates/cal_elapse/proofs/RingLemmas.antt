@@ -1,20 +1,24 @@
 -- A round of cells: its members, the first of them, and what is there once one is put or taken.
-use Rattle.std.proofs.Common.{◌≡◌, ◌≢◌, ◌⊎◌, ◌↔◌, ℕ, zero, suc, ◌+◌, ◌-◌, ◌%◌, ◌<◌, ◌≤◌, cond, Bool, true, false, List, [], ◌∷◌, length, min, Option, unwrap_or, ◌==◌, get_or, replicate, inl, inr, None, Some, ◌/◌, negsuc, unsigned_abs, to_z, w64, ℤ, pos, ◌<ℤ◌, ◌≤ℤ◌, refl, sym, ap, ◌∙◌, subst, arith}
+use Rattle.std.proofs.Common.{◌≡◌, ◌≢◌, ◌⊎◌, ◌↔◌, ℕ, zero, suc, ◌+◌, ◌-◌, ◌%◌, ◌<◌, ◌≤◌, cond, Bool, true, false, List, [], ◌∷◌, length, min, Option, unwrap_or, ◌==◌, get_or, replicate, inl, inr, None, Some, ◌/◌, negsuc, unsigned_abs, to_z, w64, ℤ, pos, ◌<ℤ◌, ◌≤ℤ◌, refl, sym, ap, ◌∙◌, subst, arith, slice_get, drop}
 use Rattle.std.proofs.lemmas.Bool.{cases_eq, cases_lt}
 use Rattle.std.proofs.lemmas.Bool.Decides.{nat_tests}
 use Rattle.std.proofs.lemmas.Int.{ints, to_z_pos}
 use Rattle.std.proofs.lemmas.List.{length-replicate}
 use Rattle.std.proofs.lemmas.Nat.Bits.{bit_at-zero}
+use Rattle.std.specs.Ordering.{int_cmp}
+use Rattle.std.specs.List.Sorted.{IsStrictlySortedBy}
+use Rattle.std.specs.BTreeSet.{insert_key}
+use Rattle.std.specs.List.{AllByRecursion}
+use Rattle.std.specs.declared.cmp.Ordering.TheVariants.{Less}
 use Rattle.cal_zone.specs.Instant.{IsInstant}
 use Rattle.cal_elapse.specs.Bits.{is_bit, is_in_words}
 use Rattle.cal_elapse.proofs.BitLemmas.{is_bit-zero}
 use Rattle.cal_elapse.specs.Near.{IsNear}
 use Rattle.cal_elapse.specs.Ring.{cells_in_all, cells_in_all-is, instants_in, is_held, least_kept, no_second, rising_from, IsRound, IsRoundFrom}
-use Rattle.cal_rising.specs.RisingList.{first, later, with_number}
-use Rattle.cal_rising.specs.headline.Elements.{Has, IsAbove, IsRising}
+use Rattle.cal_rising.specs.headline.Elements.{Has}
 use Rattle.cal_elapse.specs.Search.{IsFirstPassing}
 use Rattle.cal_elapse.proofs.ElapsesLemmas.{first-least, first-none}
-use Rattle.cal_rising.proofs.RisingLemmas.{Has-with_number, IsRising-with_number, later_members, list-first, list-no_first, same_rising}
+use Rattle.cal_rising.proofs.RisingLemmas.{Has-insert_key, rises-drop, rises-insert_key, later_members, less, list-first, list-no_first, same_rising}
 
 -- Numbers in a row
 
@@ -55,29 +59,31 @@ Has-rising passes from (suc n) i =
       λ a. elim (among_split passes from n i a) [ inl p ↦ one.1 (inl p) | inr k ↦ one.1 (inr (rest.1 k)) ],
     )
 
-above_if : (b : Bool) (low x : ℤ) (rest : List ℤ) → low <ℤ x → IsAbove low rest → IsAbove low (cond b (x ∷ rest) rest)
+above_if : (b : Bool) (low x : ℤ) (rest : List ℤ) → int_cmp low x ≡ Less → AllByRecursion (λ y. int_cmp low y ≡ Less) rest → AllByRecursion (λ y. int_cmp low y ≡ Less) (cond b (x ∷ rest) rest)
 above_if true low x rest h k = (h, k)
 above_if false low x rest h k = k
 
 next_above : (low : ℤ) (from : ℕ) → low <ℤ pos from → low <ℤ pos (suc from)
 next_above low from h = omega (arith, ints)
 
-IsAbove-rising : (passes : ℕ → Bool) (low : ℤ) (from n : ℕ) → low <ℤ pos from → IsAbove low (rising_from passes from n)
-IsAbove-rising passes low from zero h = tt
-IsAbove-rising passes low from (suc n) h =
-    above_if (passes from) low (pos from) (rising_from passes (suc from) n) h (IsAbove-rising passes low (suc from) n (next_above low from h))
+above-rising : (passes : ℕ → Bool) (low : ℤ) (from n : ℕ) → low <ℤ pos from → AllByRecursion (λ y. int_cmp low y ≡ Less) (rising_from passes from n)
+above-rising passes low from zero h = tt
+above-rising passes low from (suc n) h =
+    above_if (passes from) low (pos from) (rising_from passes (suc from) n) (less low (pos from) h) (above-rising passes low (suc from) n (next_above low from h))
 
-rising_if : (b : Bool) (x : ℤ) (rest : List ℤ) → IsAbove x rest → IsRising rest → IsRising (cond b (x ∷ rest) rest)
+rising_if : (b : Bool) (x : ℤ) (rest : List ℤ) → AllByRecursion (λ y. int_cmp x y ≡ Less) rest → IsStrictlySortedBy int_cmp rest → IsStrictlySortedBy int_cmp (cond b (x ∷ rest) rest)
+unfolding IsStrictlySortedBy
 rising_if true x rest h k = (h, k)
 rising_if false x rest h k = k
 
 one_above : (from : ℕ) → pos from <ℤ pos (suc from)
 one_above from = omega (arith, ints)
 
-IsRising-rising : (passes : ℕ → Bool) (from n : ℕ) → IsRising (rising_from passes from n)
-IsRising-rising passes from zero = tt
-IsRising-rising passes from (suc n) =
-    rising_if (passes from) (pos from) (rising_from passes (suc from) n) (IsAbove-rising passes (pos from) (suc from) n (one_above from)) (IsRising-rising passes (suc from) n)
+rises-rising : (passes : ℕ → Bool) (from n : ℕ) → IsStrictlySortedBy int_cmp (rising_from passes from n)
+unfolding IsStrictlySortedBy
+rises-rising passes from zero = tt
+rises-rising passes from (suc n) =
+    rising_if (passes from) (pos from) (rising_from passes (suc from) n) (above-rising passes (pos from) (suc from) n (one_above from)) (rises-rising passes (suc from) n)
 
 -- Members of a round
 
@@ -98,9 +104,9 @@ Has-instants words low i =
       λ a. all.1 (record { at = a.at; is = a.is; above = a.above; below = omega (arith, a.below); holds = a.holds }),
     )
 
-pub IsRising-instants : (words : List ℕ) (low : ℕ) → IsRising (instants_in words low)
+pub rises-instants : (words : List ℕ) (low : ℕ) → IsStrictlySortedBy int_cmp (instants_in words low)
 unfolding instants_in
-IsRising-instants words low = IsRising-rising (is_held words) low cells_in_all
+rises-instants words low = rises-rising (is_held words) low cells_in_all
 
 near_in : (low a b : ℕ) (i j : ℤ) → pos a ≡ i → pos b ≡ j → low ≤ a → a < low + 187_200 → low ≤ b → b < low + 187_200 → IsNear i j
 near_in low a b i j p q al ah bl bh = (omega (arith, ints), omega (arith, ints))
@@ -147,12 +153,12 @@ not_before : (words : List ℕ) (low at t : ℕ) → IsFirstPassing (is_held wor
 not_before words low at t found above holds =
     elim (cases_lt t at) [ inl early ↦ absurd (let none = found.3 t above early in cc) | inr late ↦ late ]
 
-pub first_found : (words : List ℕ) (low at : ℕ) → IsFirstPassing (is_held words) low (low + 187_200) (Some at) → first (instants_in words low) ≡ Some (pos at)
+pub first_found : (words : List ℕ) (low at : ℕ) → IsFirstPassing (is_held words) low (low + 187_200) (Some at) → slice_get (instants_in words low) 0 ≡ Some (pos at)
 first_found words low at found =
-    first-least (instants_in words low) (pos at) (IsRising-instants words low) (member words low at found.0 found.1 found.2)
+    first-least (instants_in words low) (pos at) (rises-instants words low) (member words low at found.0 found.1 found.2)
     (λ j m. let a = (Has-instants words low j).0 m in at_most at a.at j a.is (not_before words low at a.at found a.above a.holds))
 
-pub none_found : (words : List ℕ) (low : ℕ) → IsFirstPassing (is_held words) low (low + 187_200) None → first (instants_in words low) ≡ None
+pub none_found : (words : List ℕ) (low : ℕ) → IsFirstPassing (is_held words) low (low + 187_200) None → slice_get (instants_in words low) 0 ≡ None
 none_found words low none =
     first-none (instants_in words low) (λ i m. let a = (Has-instants words low i).0 m in let fails = none a.at a.above a.below in let holds = a.holds in cc)
 
@@ -238,12 +244,12 @@ put_back old new low at from i more round near (inr m) =
 
 -- what is seen with one more is what was seen with that placed
 put_seen : (old new : List ℕ) (low at from : ℕ) → HasMore old new at → IsRoundWith low at from → ((i : ℤ) → Has (instants_in old low) i → IsNear i (pos at))
-    → instants_in new from ≡ with_number (pos at) (instants_in old low)
+    → instants_in new from ≡ insert_key int_cmp (instants_in old low) (pos at)
 put_seen old new low at from more round near =
-    same_rising (instants_in new from) (with_number (pos at) (instants_in old low)) (IsRising-instants new from) (IsRising-with_number (pos at) (instants_in old low) (IsRising-instants old low))
+    same_rising (instants_in new from) (insert_key int_cmp (instants_in old low) (pos at)) (rises-instants new from) (rises-insert_key (pos at) (instants_in old low) (rises-instants old low))
     (λ i. (
-      λ m. (Has-with_number (pos at) (instants_in old low) i).1 (put_there old new low at from i more round near ((Has-instants new from i).0 m)),
-      λ m. put_back old new low at from i more round near ((Has-with_number (pos at) (instants_in old low) i).0 m),
+      λ m. (Has-insert_key (pos at) (instants_in old low) i).1 (put_there old new low at from i more round near ((Has-instants new from i).0 m)),
+      λ m. put_back old new low at from i more round near ((Has-insert_key (pos at) (instants_in old low) i).0 m),
     ))
 
 last_at : (at : ℕ) (i : ℤ) → pos at ≡ i → at ≤ 7_258_211_998 → i ≤ℤ pos 7_258_211_998
@@ -355,13 +361,13 @@ still_in old new low at i found less above a =
 
 -- what is seen with the first taken is what was seen after it
 taken_seen : (old new : List ℕ) (low at : ℕ) → IsFirstPassing (is_held old) low (low + 187_200) (Some at) → HasLess old new at
-    → instants_in new at ≡ later (instants_in old low)
+    → instants_in new at ≡ drop 1 (instants_in old low)
 taken_seen old new low at found less =
     let split = list-first (instants_in old low) (pos at) (first_found old low at found) in
-    let rises = subst IsRising split (IsRising-instants old low) in
-    same_rising (instants_in new at) (later (instants_in old low)) (IsRising-instants new at) rises.1
+    let rises = subst (IsStrictlySortedBy int_cmp) split (rises-instants old low) in
+    same_rising (instants_in new at) (drop 1 (instants_in old low)) (rises-instants new at) (rises-drop (instants_in old low) 1 (rises-instants old low))
     (λ i.
-    let after = later_members (pos at) (later (instants_in old low)) rises i in (
+    let after = later_members (pos at) (drop 1 (instants_in old low)) rises i in (
       λ m.
           let both = left_in old new low at i found less ((Has-instants new at i).0 m) in
           after.1 (both.0, subst (λ xs. Has xs i) split both.1),
@@ -387,7 +393,7 @@ taken_round old new low at found less whole was =
 seen_from : (words : List ℕ) (low from : ℕ) → ((t : ℕ) → low ≤ t → t < low + 187_200 → is_held words t ≡ true → (from ≤ t) × (t < from + 187_200))
     → instants_in words from ≡ instants_in words low
 seen_from words low from kept =
-    same_rising (instants_in words from) (instants_in words low) (IsRising-instants words from) (IsRising-instants words low)
+    same_rising (instants_in words from) (instants_in words low) (rises-instants words from) (rises-instants words low)
     (λ i. (
       λ m.
           let a = (Has-instants words from i).0 m in
@@ -466,31 +472,31 @@ near_there old low at instant members view is near i m =
     subst (IsNear i) (sym is) (near i (subst (λ (xs : List ℤ). Has xs i) view m))
 
 pub put_answer : (old new : List ℕ) (least at : ℕ) (instant : ℤ) (members : List ℤ) → HasMore old new at → IsRoundFrom old least → instants_in old least ≡ members → pos at ≡ instant
-    → at ≤ 7_258_211_998 → ((i : ℤ) → Has members i → IsNear i instant) → instants_in new (min least at) ≡ with_number instant members
+    → at ≤ 7_258_211_998 → ((i : ℤ) → Has members i → IsNear i instant) → instants_in new (min least at) ≡ insert_key int_cmp members instant
 put_answer old new least at instant members more was view is high near =
     let there = near_there old least at instant members view is near in
-    put_seen old new least at (min least at) more (with_least least at (put_reach old least at was there high)) there ∙ (λ k. with_number (is k) (view k))
+    put_seen old new least at (min least at) more (with_least least at (put_reach old least at was there high)) there ∙ (λ k. insert_key int_cmp (view k) (is k))
 
 pub taken_answer : (old new : List ℕ) (least : ℕ) (next : Option ℕ) (members : List ℤ) → IsFirstPassing (is_held old) least (least + 187_200) (Some least) → HasLess old new least
-    → IsFirstPassing (is_held new) least (least + 187_200) next → instants_in old least ≡ members → instants_in new (unwrap_or next no_second) ≡ later members
-taken_answer old new least next members found less first view = seen_on new least next first ∙ (taken_seen old new least least found less ∙ ap later view)
+    → IsFirstPassing (is_held new) least (least + 187_200) next → instants_in old least ≡ members → instants_in new (unwrap_or next no_second) ≡ drop 1 members
+taken_answer old new least next members found less first view = seen_on new least next first ∙ (taken_seen old new least least found less ∙ ap (drop 1) view)
 
 pub least_answer : (words : List ℕ) (low at : ℕ) (members : List ℤ) → instants_in words low ≡ members → IsRound words low
-    → IsFirstPassing (is_held words) low (low + 187_200) (Some at) → Some (to_z w64 at) ≡ first members
+    → IsFirstPassing (is_held words) low (low + 187_200) (Some at) → Some (to_z w64 at) ≡ slice_get members 0
 least_answer words low at members view was found =
     let inside = found_inside words low at was found in
     let same : to_z w64 at ≡ pos at = to_z_pos w64 at (omega arith) in
-    ap Some same ∙ (sym (first_found words low at found) ∙ ap first view)
+    ap Some same ∙ (sym (first_found words low at found) ∙ ap (λ (xs : List ℤ). slice_get xs 0) view)
 
-pub none_answer : (words : List ℕ) (low : ℕ) (members : List ℤ) → instants_in words low ≡ members → IsFirstPassing (is_held words) low (low + 187_200) None → None ≡ first members
-none_answer words low members view none = sym (none_found words low none) ∙ ap first view
+pub none_answer : (words : List ℕ) (low : ℕ) (members : List ℤ) → instants_in words low ≡ members → IsFirstPassing (is_held words) low (low + 187_200) None → None ≡ slice_get members 0
+none_answer words low members view none = sym (none_found words low none) ∙ ap (λ (xs : List ℤ). slice_get xs 0) view
 
-pub none_left : (members : List ℤ) → None ≡ first members → members ≡ later members
+pub none_left : (members : List ℤ) → None ≡ slice_get members 0 → members ≡ drop 1 members
 none_left [] h = refl
 none_left (x ∷ xs) h = absurd (cc)
 
-pub rises_answer : (words : List ℕ) (low : ℕ) (members : List ℤ) → instants_in words low ≡ members → IsRising members
-rises_answer words low members view = subst IsRising view (IsRising-instants words low)
+pub rises_answer : (words : List ℕ) (low : ℕ) (members : List ℤ) → instants_in words low ≡ members → IsStrictlySortedBy int_cmp members
+rises_answer words low members view = subst (IsStrictlySortedBy int_cmp) view (rises-instants words low)
 
 pub near_answer : (words : List ℕ) (low : ℕ) (members : List ℤ) → instants_in words low ≡ members → (one other : ℤ) → Has members one → Has members other → IsNear one other
 near_answer words low members view one other m n =

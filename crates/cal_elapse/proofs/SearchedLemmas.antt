@@ -1,10 +1,9 @@
 -- How often the matches were searched, once an elapse was given or none was left.
-use Rattle.std.proofs.Common.{◌≡◌, ◌∙◌, ℕ, ◌+◌, ◌-◌, ◌<◌, ◌≤◌, nat_lt, Bool, true, false, Option, None, Some, ℤ, pos, negsuc, ◌<ℤ◌, ◌≤ℤ◌, ◌+ℤ◌, ◌-ℤ◌, int_lt, unsigned_abs, List, sym, ap, subst, arith, inl, inr, refl}
+use Rattle.std.proofs.Common.{◌≡◌, ◌∙◌, ℕ, ◌+◌, ◌-◌, ◌<◌, ◌≤◌, nat_lt, Bool, true, false, Option, None, Some, ℤ, pos, negsuc, ◌<ℤ◌, ◌≤ℤ◌, ◌+ℤ◌, ◌-ℤ◌, int_lt, unsigned_abs, List, sym, ap, subst, arith, inl, inr, refl, slice_get}
 use Rattle.std.proofs.lemmas.Bool.{and_left, cases_lt, false_from_ne_true}
 use Rattle.std.proofs.lemmas.Int.{ints}
 use Rattle.cal_zone.specs.headline.Local.{seconds_in_all}
 use Rattle.cal_zone.specs.declared.zone.Zone.{Zone}
-use Rattle.cal_rising.specs.RisingList.{first, later}
 use Rattle.cal_rising.specs.headline.Elements.{Has}
 use Rattle.cal_elapse.specs.Search.{NonePasses}
 use Rattle.cal_elapse.specs.Masks.{sets_in}
@@ -68,10 +67,10 @@ start_below (negsuc b) last i low above later = absurd (omega (arith, ints))
 start_below (pos b) last (negsuc n) low above later = absurd (omega (arith, ints))
 start_below (pos b) last (pos n) low above later = (omega (arith, ints), omega (arith, ints))
 
-has_first : (xs : List ℤ) (i : ℤ) → first xs ≡ Some i → Has xs i
+has_first : (xs : List ℤ) (i : ℤ) → slice_get xs 0 ≡ Some i → Has xs i
 has_first xs i at = subst (λ (ys : List ℤ). Has ys i) (sym (list-first xs i at)) (inl refl)
 
-pub searched_some : (v : Window) (i : ℤ) → IsReady v → to_place v.ahead (first v.pending) ≡ None → first v.pending ≡ Some i
+pub searched_some : (v : Window) (i : ℤ) → IsReady v → to_place v.ahead (slice_get v.pending 0) ≡ None → slice_get v.pending 0 ≡ Some i
     → IsSearched (timed_of v) v.base (Some i) v.searcher.searches
 searched_some v i h full at =
     let m = has_first v.pending i at in
@@ -82,7 +81,7 @@ searched_some v i h full at =
     let counted = h.counted in
     omega arith
 
-pub searched_none : (v : Window) → IsReady v → to_place v.ahead (first v.pending) ≡ None → first v.pending ≡ None
+pub searched_none : (v : Window) → IsReady v → to_place v.ahead (slice_get v.pending 0) ≡ None → slice_get v.pending 0 ≡ None
     → IsSearched (timed_of v) v.base None v.searcher.searches
 searched_none v h full none =
     let all : bound_of v.ahead ≡ seconds_in_all = ap bound_of (all_placed v.ahead (subst (λ (o : Option ℤ). to_place v.ahead o ≡ None) none full)) in
@@ -105,7 +104,7 @@ same_below v i top h m full is begun t above holds = (
   ],
 )
 
-pub looked_some : (v : Window) (i : ℤ) → IsReady v → to_place v.ahead (first v.pending) ≡ None → first v.pending ≡ Some i
+pub looked_some : (v : Window) (i : ℤ) → IsReady v → to_place v.ahead (slice_get v.pending 0) ≡ None → slice_get v.pending 0 ≡ Some i
     → IsMostSearched (sets_in v.searcher.masks) v.base (Some i) v.searcher.most_months
 looked_some v i h full at =
     let m = has_first v.pending i at in
@@ -115,7 +114,7 @@ looked_some v i h full at =
     most_same (sets_in v.searcher.masks) (start_of v.base) (bound_of v.ahead) (unsigned_abs i + 93_600) v.searcher.most_months
     (same_below v i (unsigned_abs i + 93_600) h m there top.0 top.1) h.looked
 
-pub looked_none : (v : Window) → IsReady v → to_place v.ahead (first v.pending) ≡ None → first v.pending ≡ None
+pub looked_none : (v : Window) → IsReady v → to_place v.ahead (slice_get v.pending 0) ≡ None → slice_get v.pending 0 ≡ None
     → IsMostSearched (sets_in v.searcher.masks) v.base None v.searcher.most_months
 looked_none v h full none =
     let all : bound_of v.ahead ≡ seconds_in_all = ap bound_of (all_placed v.ahead (subst (λ (o : Option ℤ). to_place v.ahead o ≡ None) none full)) in

@@ -1,8 +1,12 @@
 -- What stays true of the pending instants as matches are placed, and what of them is the first elapse.
-use Rattle.std.proofs.Common.{◌≡◌, ◌⊎◌, ◌↔◌, ℕ, ◌+◌, ◌<◌, ◌≤◌, cond, Bool, true, false, List, [], ◌∷◌, inl, inr, Option, None, Some, ℤ, pos, negsuc, ◌+ℤ◌, ◌-ℤ◌, ◌<ℤ◌, ◌≤ℤ◌, int_lt, refl, sym, ap, ◌∙◌, subst, arith, to_z, w64}
+use Rattle.std.proofs.Common.{◌≡◌, ◌⊎◌, ◌↔◌, ℕ, ◌+◌, ◌<◌, ◌≤◌, cond, Bool, true, false, List, [], ◌∷◌, inl, inr, Option, None, Some, ℤ, pos, negsuc, ◌+ℤ◌, ◌-ℤ◌, ◌<ℤ◌, ◌≤ℤ◌, int_lt, refl, sym, ap, ◌∙◌, subst, arith, to_z, w64, slice_get, drop}
 use Rattle.std.proofs.lemmas.Bool.{cases_eq, cases_lt}
 use Rattle.std.proofs.lemmas.Int.{ints, to_z_pos}
+use Rattle.std.proofs.lemmas.Map.Keys.{sorted_tail}
 use Rattle.jiff.proofs.SpanFacts.{signed_arith}
+use Rattle.std.specs.Ordering.{int_cmp}
+use Rattle.std.specs.List.Sorted.{IsStrictlySortedBy}
+use Rattle.std.specs.BTreeSet.{insert_key}
 use Rattle.cal_zone.specs.Instant.{IsInstant}
 use Rattle.cal_zone.specs.headline.Local.{seconds_in_all, seconds_in_all-is}
 use Rattle.cal_zone.specs.declared.zone.Zone.{Zone}
@@ -13,13 +17,12 @@ use Rattle.cal_zone.proofs.PlaceLemmas.{within}
 use Rattle.cal_elapse.specs.declared.masks.Masks.{Masks}
 use Rattle.cal_elapse.specs.Elapses.{elapses_after}
 use Rattle.cal_elapse.specs.headline.Elapses.{Timed, IsPlace}
-use Rattle.cal_rising.specs.RisingList.{first, later, with_number}
-use Rattle.cal_rising.specs.headline.Elements.{Has, IsRising}
+use Rattle.cal_rising.specs.headline.Elements.{Has}
 use Rattle.cal_elapse.specs.Search.{NonePasses}
 use Rattle.cal_elapse.specs.Window.{IsMatchAhead, IsPlacedBelow, IsReady, Windowed, bound_of, start_of, timed_by, timed_of, to_place, with_place}
 use Rattle.cal_elapse.specs.declared.window.Window.{Window}
 use Rattle.cal_elapse.proofs.ElapsesLemmas.{elapses_after-first, first_elapse-least, first_elapse-none}
-use Rattle.cal_rising.proofs.RisingLemmas.{Has-with_number, IsRising-with_number, above_has, chained, later_members, list-first, lt_test, not_lt_test}
+use Rattle.cal_rising.proofs.RisingLemmas.{Has-insert_key, rises-insert_key, above_first, chained, later_members, list-first, lt_test, not_lt_test}
 
 -- a place is near its local second
 abbrev pub AreNear : Timed → Type 0
@@ -78,27 +81,27 @@ put_none e from bound last xs w nowhere near = record {
 }
 
 put_some : (e : Timed) (from bound : ℕ) (last p : ℤ) (xs : List ℤ) → Windowed e from bound last xs → e.matches bound ≡ true → e.place bound ≡ Some p
-    → last <ℤ p → pos bound ≤ℤ (p +ℤ pos 93_599) → ((i : ℤ) → Has xs i → pos bound ≤ℤ (i +ℤ pos 93_599)) → Windowed e from (bound + 1) last (with_number p xs)
+    → last <ℤ p → pos bound ≤ℤ (p +ℤ pos 93_599) → ((i : ℤ) → Has xs i → pos bound ≤ℤ (i +ℤ pos 93_599)) → Windowed e from (bound + 1) last (insert_key int_cmp xs p)
 put_some e from bound last p xs w is_match at above far near = record {
-  rises = IsRising-with_number p xs w.rises;
+  rises = rises-insert_key p xs w.rises;
   members = λ i. (
-    λ m. elim ((Has-with_number p xs i).0 m) [
+    λ m. elim ((Has-insert_key p xs i).0 m) [
       | inl same ↦ (
         subst (λ (j : ℤ). last <ℤ j) same above,
         record { local = bound; below = omega arith; is_match = is_match; placed = at ∙ ap Some same },
       )
       | inr k ↦ (((w.members i).0 k).0, placed_on e bound (bound + 1) i (omega arith) ((w.members i).0 k).1)
     ],
-    λ q. (Has-with_number p xs i).1 (elim (placed_split e bound i q.1) [ inl here ↦ inl (cc) | inr r ↦ inr ((w.members i).1 (q.0, r)) ]),
+    λ q. (Has-insert_key p xs i).1 (elim (placed_split e bound i q.1) [ inl here ↦ inl (cc) | inr r ↦ inr ((w.members i).1 (q.0, r)) ]),
   );
-  reach = λ i m. elim ((Has-with_number p xs i).0 m) [
+  reach = λ i m. elim ((Has-insert_key p xs i).0 m) [
     | inl same ↦ λ t low high k. up_to bound t i (subst (λ (j : ℤ). pos bound ≤ℤ (j +ℤ pos 93_599)) same far) high
     | inr k ↦ reach_on e from bound i (w.reach i k) (near i k)
   ];
 }
 
 put_test : (e : Timed) (from bound : ℕ) (last p : ℤ) (xs : List ℤ) (b : Bool) → int_lt last p ≡ b → AreNear e → Windowed e from bound last xs → e.matches bound ≡ true
-    → e.place bound ≡ Some p → ((i : ℤ) → Has xs i → pos bound ≤ℤ (i +ℤ pos 93_599)) → Windowed e from (bound + 1) last (cond b (with_number p xs) xs)
+    → e.place bound ≡ Some p → ((i : ℤ) → Has xs i → pos bound ≤ℤ (i +ℤ pos 93_599)) → Windowed e from (bound + 1) last (cond b (insert_key int_cmp xs p) xs)
 put_test e from bound last p xs true test near w is_match at close =
     put_some e from bound last p xs w is_match at (is_above last p test) (near bound p at).0 close
 put_test e from bound last p xs false test near w is_match at close =
@@ -147,7 +150,7 @@ pub record IsPlacedFrom (e : Timed) (a b : ℕ) (i : ℤ) : Type 0 where
   pub placed : e.place local ≡ Some i
 
 -- the matches up to a later bound are placed, where all up to it are no later than a member by more than a place can be
-pub windowed_more : (e : Timed) (from a b : ℕ) (last : ℤ) (xs ys : List ℤ) → a ≤ b → Windowed e from a last xs → IsRising ys
+pub windowed_more : (e : Timed) (from a b : ℕ) (last : ℤ) (xs ys : List ℤ) → a ≤ b → Windowed e from a last xs → IsStrictlySortedBy int_cmp ys
     → ((i : ℤ) → Has ys i ↔ (Has xs i ⊎ ((last <ℤ i) × IsPlacedFrom e a b i))) → ((i : ℤ) → Has ys i → (t : ℕ) → t < b → pos t ≤ℤ (i +ℤ pos 93_599)) → Windowed e from b last ys
 windowed_more e from a b last xs ys h w rises more near = record {
   rises = rises;
@@ -169,7 +172,7 @@ pub windowed_later : (e : Timed) (from bound : ℕ) (last x : ℤ) (xs : List �
 windowed_later e from bound last x xs w =
     let above = ((w.members x).0 (inl refl)).0 in
     record {
-      rises = w.rises.1;
+      rises = sorted_tail int_cmp x xs w.rises;
       members = λ i. (
         λ m. (((later_members x xs w.rises i).0 m).0, ((w.members i).0 (inr m)).1),
         λ p. (later_members x xs w.rises i).1 (p.0, (w.members i).1 (chained last x i above p.0, p.1)),
@@ -183,6 +186,7 @@ too_early (negsuc n) t i low early near above = omega (arith, ints)
 
 -- nothing is placed at first
 pub windowed_start : (e : Timed) (base : ℤ) → AreNear e → pos 0 ≤ℤ base → Windowed e (start_of base) (start_of base) base []
+unfolding IsStrictlySortedBy
 windowed_start e base near low = record {
   rises = tt;
   members = λ i. (
@@ -222,9 +226,9 @@ later_place (Some local) x j t full late inside near =
     let early : x <ℤ (pos local -ℤ pos 93_599) = is_above x (pos local -ℤ pos 93_599) test in
     omega (arith, ints)
 
-at_least : (x j : ℤ) (xs : List ℤ) → IsRising (x ∷ xs) → Has (x ∷ xs) j → x ≤ℤ j
+at_least : (x j : ℤ) (xs : List ℤ) → IsStrictlySortedBy int_cmp (x ∷ xs) → Has (x ∷ xs) j → x ≤ℤ j
 at_least x j xs h (inl e) = subst (λ (k : ℤ). x ≤ℤ k) e (omega (arith, ints))
-at_least x j xs h (inr m) = let up = above_has x j xs h.0 m in omega (arith, ints)
+at_least x j xs h (inr m) = let up = above_first x j xs h m in omega (arith, ints)
 
 least_place : (e : Timed) (from : ℕ) (ahead : Option ℕ) (last x j : ℤ) (xs : List ℤ) → AreNear e → Windowed e from (bound_of ahead) last (x ∷ xs)
     → to_place ahead (Some x) ≡ None → last <ℤ j → IsPlace e j → x ≤ℤ j
@@ -236,7 +240,7 @@ least_place e from ahead last x j xs near w full above p =
 
 -- the first member is the first elapse, once nothing is to be placed before it
 pub full_first : (e : Timed) (from : ℕ) (ahead : Option ℕ) (last : ℤ) (xs : List ℤ) → AreNear e → Windowed e from (bound_of ahead) last xs → IsMatchAhead e ahead
-    → to_place ahead (first xs) ≡ None → first (elapses_after (e ∷ []) last) ≡ first xs
+    → to_place ahead (slice_get xs 0) ≡ None → slice_get (elapses_after (e ∷ []) last) 0 ≡ slice_get xs 0
 full_first e from ahead last [] near w found full =
     let none = all_placed ahead full in
     first_elapse-none (e ∷ []) last (λ i above m. elim m [
@@ -250,7 +254,7 @@ full_first e from ahead last (x ∷ xs) near w found full =
     (λ j above m. elim m [ inl p ↦ least_place e from ahead last x j xs near w full above p | inr n ↦ absurd n ])
 
 -- the window after its least member is given
-pub taken_ready : (v : Window) (i last : ℤ) (xs : List ℤ) → IsReady v → first v.pending ≡ Some i → last ≡ i → xs ≡ later v.pending
+pub taken_ready : (v : Window) (i last : ℤ) (xs : List ℤ) → IsReady v → slice_get v.pending 0 ≡ Some i → last ≡ i → xs ≡ drop 1 v.pending
     → IsReady (record v { last = last; pending = xs })
 taken_ready v i last xs h at same rest =
     let all : v.pending ≡ last ∷ xs = list-first v.pending i at ∙ (λ k. sym same k ∷ sym rest k) in
@@ -267,20 +271,20 @@ taken_ready v i last xs h at same rest =
     }
 
 -- the member given is the first elapse
-pub first_given : (v : Window) → IsReady v → to_place v.ahead (first v.pending) ≡ None → first (elapses_after (timed_of v ∷ []) v.last) ≡ first v.pending
+pub first_given : (v : Window) → IsReady v → to_place v.ahead (slice_get v.pending 0) ≡ None → slice_get (elapses_after (timed_of v ∷ []) v.last) 0 ≡ slice_get v.pending 0
 first_given v h full = full_first (timed_of v) (start_of v.base) v.ahead v.last v.pending (timed_by-near v.searcher.masks v.zone) h.windowed h.found full
 
-pub later_given : (v : Window) (i last : ℤ) → IsReady v → to_place v.ahead (first v.pending) ≡ None → first v.pending ≡ Some i → last ≡ i
-    → elapses_after (timed_of v ∷ []) last ≡ later (elapses_after (timed_of v ∷ []) v.last)
+pub later_given : (v : Window) (i last : ℤ) → IsReady v → to_place v.ahead (slice_get v.pending 0) ≡ None → slice_get v.pending 0 ≡ Some i → last ≡ i
+    → elapses_after (timed_of v ∷ []) last ≡ drop 1 (elapses_after (timed_of v ∷ []) v.last)
 later_given v i last h full at same =
     elapses_after-first (timed_of v ∷ []) v.last last (first_given v h full ∙ (at ∙ ap Some (sym same)))
 
-none_later : (xs : List ℤ) → first xs ≡ None → xs ≡ later xs
+none_later : (xs : List ℤ) → slice_get xs 0 ≡ None → xs ≡ drop 1 xs
 none_later [] h = refl
 none_later (x ∷ xs) h = absurd (cc)
 
-pub none_given : (v : Window) → IsReady v → to_place v.ahead (first v.pending) ≡ None → first v.pending ≡ None
-    → elapses_after (timed_of v ∷ []) v.last ≡ later (elapses_after (timed_of v ∷ []) v.last)
+pub none_given : (v : Window) → IsReady v → to_place v.ahead (slice_get v.pending 0) ≡ None → slice_get v.pending 0 ≡ None
+    → elapses_after (timed_of v ∷ []) v.last ≡ drop 1 (elapses_after (timed_of v ∷ []) v.last)
 none_given v h full none = none_later (elapses_after (timed_of v ∷ []) v.last) (first_given v h full ∙ none)
 
 -- what is put, by the place that was found
@@ -290,7 +294,7 @@ with_place-none o last xs e = rw e refl
 pub with_place-given : (o : Option ℤ) (i last : ℤ) (xs : List ℤ) → o ≡ Some i → i ≤ℤ last → xs ≡ with_place o last xs
 with_place-given o i last xs e h = rw (e, not_lt_test last i h) refl
 
-pub with_place-above : (o : Option ℤ) (i last : ℤ) (xs : List ℤ) → o ≡ Some i → last <ℤ i → with_number i xs ≡ with_place o last xs
+pub with_place-above : (o : Option ℤ) (i last : ℤ) (xs : List ℤ) → o ≡ Some i → last <ℤ i → insert_key int_cmp xs i ≡ with_place o last xs
 with_place-above o i last xs e h = rw (e, lt_test last i h) refl
 
 -- the place of a local second that lies no farther from a member than a place can is near to the member
@@ -323,11 +327,11 @@ to_place-near x i local h le =
     let far : (pos local -ℤ pos 93_599) ≤ℤ x = grind (arith, ints) in
     omega (arith, ints)
 
-near_members : (xs : List ℤ) (local : ℕ) → IsRising xs → to_place (Some local) (first xs) ≡ Some local → (i : ℤ) → Has xs i → pos local ≤ℤ (i +ℤ pos 93_599)
+near_members : (xs : List ℤ) (local : ℕ) → IsStrictlySortedBy int_cmp xs → to_place (Some local) (slice_get xs 0) ≡ Some local → (i : ℤ) → Has xs i → pos local ≤ℤ (i +ℤ pos 93_599)
 near_members [] local rises h i m = absurd m
 near_members (x ∷ xs) local rises h i m = to_place-near x i local h (at_least x i xs rises m)
 
 -- a match that is to be placed is no later than a member by more than a place can be
-pub near_ahead : (xs : List ℤ) (local : ℕ) (least : Option ℤ) (b : Bool) → IsRising xs → least ≡ first xs → to_place (Some local) least ≡ cond b (Some local) None → b ≡ true
+pub near_ahead : (xs : List ℤ) (local : ℕ) (least : Option ℤ) (b : Bool) → IsStrictlySortedBy int_cmp xs → least ≡ slice_get xs 0 → to_place (Some local) least ≡ cond b (Some local) None → b ≡ true
     → (i : ℤ) → Has xs i → pos local ≤ℤ (i +ℤ pos 93_599)
 near_ahead xs local least b rises at test holds = near_members xs local rises (ap (to_place (Some local)) (sym at) ∙ (rw holds at test))

@@ -1,5 +1,5 @@
 -- The elapses of calendar expressions, as lists that are computed.
-use Rattle.std.specs.Prelude.{◌≡◌, List, ℤ, int_lt, map, filter}
+use Rattle.std.specs.Prelude.{List, ℤ, int_lt, map, filter}
 use Rattle.std.specs.List.{filter_map, range_with_len}
 use Rattle.cal_zone.specs.headline.Local.{seconds_in_all}
 use Rattle.cal_rising.specs.RisingList.{union, without}

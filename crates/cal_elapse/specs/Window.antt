@@ -1,5 +1,8 @@
 -- What is pending of an expression's elapses in a zone, while its matching local seconds are placed one after another.
 use Rattle.std.specs.Prelude.{◌≡◌, ◌↔◌, ◌+◌, ◌-◌, ◌<◌, ◌≤◌, cond, ℕ, true, List, Option, None, Some, ℤ, pos, negsuc, ◌+ℤ◌, ◌-ℤ◌, ◌<ℤ◌, ◌≤ℤ◌, int_lt}
+use Rattle.std.specs.Ordering.{int_cmp}
+use Rattle.std.specs.List.Sorted.{IsStrictlySortedBy}
+use Rattle.std.specs.BTreeSet.{insert_key}
 use Rattle.cal_zone.specs.headline.Local.{seconds_in_all}
 use Rattle.cal_zone.specs.headline.Place.{place_of}
 use Rattle.cal_zone.specs.headline.Zone.{zone_of}
@@ -8,8 +11,7 @@ unfoldable pub use Rattle.cal_elapse.specs.Count.{count_from}
 use Rattle.cal_elapse.specs.headline.Elapses.{Timed}
 use Rattle.cal_elapse.specs.Masks.{sets_in}
 use Rattle.cal_elapse.specs.Most.{IsMost}
-use Rattle.cal_rising.specs.RisingList.{with_number}
-use Rattle.cal_rising.specs.headline.Elements.{Has, IsRising}
+use Rattle.cal_rising.specs.headline.Elements.{Has}
 use Rattle.cal_elapse.specs.declared.masks.Masks.{Masks}
 use Rattle.cal_elapse.specs.declared.window.Window.{Window}
 use Rattle.cal_spec.specs.headline.Match.{matches}
@@ -24,7 +26,7 @@ pub record IsPlacedBelow (e : Timed) (bound : ℕ) (i : ℤ) : Type 0 where
 -- The list rises and has the places above `last` of the matching local seconds below the bound. None of those from
 -- `from` on is later than a member by more than a place can lie from its local second.
 pub record Windowed (e : Timed) (from bound : ℕ) (last : ℤ) (xs : List ℤ) : Type 0 where
-  pub rises : IsRising xs
+  pub rises : IsStrictlySortedBy int_cmp xs
   pub members : (i : ℤ) → Has xs i ↔ ((last <ℤ i) × IsPlacedBelow e bound i)
   pub reach : (i : ℤ) → Has xs i → (t : ℕ) → from ≤ t → t < bound → e.matches t ≡ true → pos t ≤ℤ (i +ℤ pos 93_599)
 
@@ -52,7 +54,7 @@ to_place (Some local) (Some least) = cond (int_lt least (pos local -ℤ pos 93_5
 -- a place is put where it is above the last instant given
 abbrev pub with_place : Option ℤ → ℤ → List ℤ → List ℤ
 with_place None last xs = xs
-with_place (Some i) last xs = cond (int_lt last i) (with_number i xs) xs
+with_place (Some i) last xs = cond (int_lt last i) (insert_key int_cmp xs i) xs
 
 -- what masks mean in a zone: the local seconds that match, and their places
 unfoldable pub timed_by : Masks → Zone → Timed

@@ -87,9 +87,10 @@ impl<'z> Elapses<'z> {
 }
 
 impl Rising for Elapses<'_> {
-    ghost use Rattle.std.specs.Prelude.{◌≡◌, ◌≤◌};
-    ghost use Rattle.cal_elapse.specs.Rest.{rest_of, IsRising-rest_of};
-    ghost use Rattle.cal_rising.specs.RisingList.{first, is_in, later};
+    ghost use Rattle.std.specs.Prelude.{◌≡◌, ◌≤◌, drop, slice_get};
+    ghost use Rattle.std.specs.Ordering.{int_eq};
+    ghost use Rattle.std.specs.Set.{is_member};
+    ghost use Rattle.cal_elapse.specs.Rest.{rest_of, rises-rest_of};
     ghost use Rattle.cal_elapse.specs.Masks.{sets_in};
     ghost use Rattle.cal_elapse.specs.Searched.{IsMostSearched, IsSearched};
     ghost use Rattle.cal_elapse.specs.Window.{timed_of};
@@ -102,8 +103,8 @@ impl Rising for Elapses<'_> {
     /// there to e plus 93,599 that matches; where it gives none, one after each from there on. `most_months` is the most
     /// months that one of these looked at, at most 2,760.
     fn next(&mut self) -> Option<i64>
-        ensures given { result ≡ first (rest_of self.old) }
-        ensures left { rest_of self.new ≡ later (rest_of self.old) }
+        ensures given { result ≡ slice_get (rest_of self.old) 0 }
+        ensures left { rest_of self.new ≡ drop 1 (rest_of self.old) }
         ensures masks { self.new.searcher.masks ≡ self.old.searcher.masks }
         ensures timed { timed_of self.new ≡ timed_of self.old }
         ensures base { self.new.base ≡ self.old.base }
@@ -117,7 +118,7 @@ impl Rising for Elapses<'_> {
 
     /// Whether the instant is an elapse that is left to give. It makes no search.
     fn has(&mut self, number: i64) -> bool
-        ensures has { result ≡ is_in (rest_of self.old) number }
+        ensures has { result ≡ is_member int_eq (rest_of self.old) number }
         ensures same { rest_of self.new ≡ rest_of self.old }
         ensures window { self.new ≡ self.old }
     {
@@ -127,5 +128,5 @@ impl Rising for Elapses<'_> {
         }
     }
 
-    ghost rises = { IsRising-rest_of };
+    ghost rises = { rises-rest_of };
 }

@@ -10,7 +10,7 @@ ghost use Rattle.cal_elapse.specs.Elapses.{elapses_after, elapses_except};
 ghost use Rattle.cal_elapse.specs.headline.Elapses.{Timed, AreElapses};
 ghost use Rattle.cal_elapse.specs.Covered.{AreAmong, AreKept, IsCovered};
 ghost use Rattle.cal_elapse.specs.Merged.{each_after};
-ghost use Rattle.cal_rising.specs.RisingList.{first, union, without};
+ghost use Rattle.cal_rising.specs.RisingList.{union, without};
 ghost use Rattle.cal_rising.specs.headline.Elements.{Has};
 ghost use Rattle.cal_elapse.specs.headline.Timed.{timed};
 
@@ -61,5 +61,5 @@ pub fn elapses_are_instants()
     ensures each { (list : List (Fields × TimeZone)) (exceptions : List Timed) (base elapse : ℤ) → pos 0 ≤ℤ base
         → Has (elapses_except (map (λ e. timed e.0 e.1) list) exceptions base) elapse → IsInstant elapse }
     ensures first { (list : List (Fields × TimeZone)) (exceptions : List Timed) (base elapse : ℤ) → pos 0 ≤ℤ base
-        → first (elapses_except (map (λ e. timed e.0 e.1) list) exceptions base) ≡ Some elapse → IsInstant elapse }
+        → slice_get (elapses_except (map (λ e. timed e.0 e.1) list) exceptions base) 0 ≡ Some elapse → IsInstant elapse }
 {}

@@ -1,10 +1,12 @@
 //! The instants that were placed and not yet given.
 
-ghost use Rattle.std.specs.Prelude.{◌≡◌, [], ℤ, IfOk};
+ghost use Rattle.std.specs.Prelude.{◌≡◌, [], ℤ, IfOk, slice_get, drop};
+ghost use Rattle.std.specs.Ordering.{int_cmp};
+ghost use Rattle.std.specs.List.Sorted.{IsStrictlySortedBy};
+ghost use Rattle.std.specs.BTreeSet.{insert_key};
 ghost use Rattle.cal_zone.specs.Instant.{IsInstant};
 ghost use Rattle.cal_elapse.specs.Near.{IsNear};
-ghost use Rattle.cal_rising.specs.RisingList.{first, later, with_number};
-ghost use Rattle.cal_rising.specs.headline.Elements.{Has, IsRising};
+ghost use Rattle.cal_rising.specs.headline.Elements.{Has};
 
 use crate::ring::{CELLS, WORDS, clear_cell, first_held, set_cell, set_cells};
 use std::alloc::{AllocError, Global};
@@ -55,7 +57,7 @@ impl Pending {
     pub fn put(&mut self, instant: i64)
         requires instant { IsInstant instant }
         requires near { (member : ℤ) → Has self.old member → IsNear member instant }
-        ensures { self.new ≡ with_number instant self.old }
+        ensures { self.new ≡ insert_key int_cmp self.old instant }
     {
         let second = instant.unsigned_abs();
         set_cell(self.cells.as_mut_slice(), second % CELLS);
@@ -65,10 +67,10 @@ impl Pending {
     /// Adds instants after the least member, each of which differs from each member by at most 187,199: those whose bits
     /// are set, bit i for i seconds after the start.
     pub fn put_all(&mut self, start: i64, bits: u64)
-        requires begun { IsSomeAnd (first self.old) (λ least. least <ℤ start) }
+        requires begun { IsSomeAnd (slice_get self.old 0) (λ least. least <ℤ start) }
         requires instants { (i : ℤ) → IsOneOf start bits i → IsInstant i }
         requires near { (member i : ℤ) → Has self.old member → IsOneOf start bits i → IsNear member i }
-        ensures rises { IsRising self.new }
+        ensures rises { IsStrictlySortedBy int_cmp self.new }
         ensures members { (i : ℤ) → Has self.new i ↔ (Has self.old i ⊎ IsOneOf start bits i) }
     {
         let second = start.unsigned_abs();
@@ -77,8 +79,8 @@ impl Pending {
 
     /// The least member; `None` where there is none.
     pub fn least(&self) -> Option<i64>
-        ensures least { result ≡ first self.now }
-        ensures rises { IsRising self.now }
+        ensures least { result ≡ slice_get self.now 0 }
+        ensures rises { IsStrictlySortedBy int_cmp self.now }
         ensures near { (one other : ℤ) → Has self.now one → Has self.now other → IsNear one other }
     {
         if self.least == NONE {
@@ -90,8 +92,8 @@ impl Pending {
 
     /// Removes the least member and gives it; `None` where there is none.
     pub fn take_least(&mut self) -> Option<i64>
-        ensures least { result ≡ first self.old }
-        ensures left { self.new ≡ later self.old }
+        ensures least { result ≡ slice_get self.old 0 }
+        ensures left { self.new ≡ drop 1 self.old }
     {
         let second = self.least;
         if second == NONE {

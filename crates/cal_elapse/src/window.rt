@@ -32,10 +32,9 @@ pub struct Window<'z> {
 }
 
 impl<'z> Window<'z> {
-    ghost use Rattle.std.specs.Prelude.{◌≡◌, ◌<◌, ◌≤◌, [], ◌∷◌, ℤ, pos, ◌+ℤ◌, ◌≤ℤ◌, None, Some, IfOk};
+    ghost use Rattle.std.specs.Prelude.{◌≡◌, ◌<◌, ◌≤◌, [], ◌∷◌, ℤ, pos, ◌+ℤ◌, ◌≤ℤ◌, None, Some, IfOk, drop, slice_get};
     ghost use Rattle.cal_zone.specs.headline.Zone.{zone_of};
     ghost use Rattle.cal_elapse.specs.Elapses.{elapses_after};
-    ghost use Rattle.cal_rising.specs.RisingList.{first, later};
     ghost use Rattle.cal_rising.specs.headline.Elements.{Has};
     ghost use Rattle.cal_elapse.specs.Masks.{sets_in};
     ghost use Rattle.cal_elapse.specs.Most.{IsLooked};
@@ -82,7 +81,7 @@ impl<'z> Window<'z> {
         ensures timed { timed_of self.new ≡ timed_of self.old }
         ensures base { self.new.base ≡ self.old.base }
         ensures last { self.new.last ≡ self.old.last }
-        ensures full { to_place self.new.ahead (first self.new.pending) ≡ None }
+        ensures full { to_place self.new.ahead (slice_get self.new.pending 0) ≡ None }
     {
         // A variable of the loop's own, so that it stays in a register from one match to the next.
         let mut ahead = self.ahead;
@@ -136,16 +135,16 @@ impl<'z> Window<'z> {
     /// Gives the least pending instant.
     pub fn take(&mut self) -> Option<i64>
         requires ready { IsReady self.old }
-        requires full { to_place self.old.ahead (first self.old.pending) ≡ None }
+        requires full { to_place self.old.ahead (slice_get self.old.pending 0) ≡ None }
         ensures ready { IsReady self.new }
         ensures masks { self.new.searcher.masks ≡ self.old.searcher.masks }
         ensures timed { timed_of self.new ≡ timed_of self.old }
         ensures base { self.new.base ≡ self.old.base }
         ensures searched { IsSearched (timed_of self.old) self.old.base result self.new.searcher.searches }
         ensures looked { IsMostSearched (sets_in self.old.searcher.masks) self.old.base result self.new.searcher.most_months }
-        ensures given { result ≡ first (elapses_after (timed_of self.old ∷ []) self.old.last) }
+        ensures given { result ≡ slice_get (elapses_after (timed_of self.old ∷ []) self.old.last) 0 }
         ensures left { elapses_after (timed_of self.new ∷ []) self.new.last
-            ≡ later (elapses_after (timed_of self.old ∷ []) self.old.last) }
+            ≡ drop 1 (elapses_after (timed_of self.old ∷ []) self.old.last) }
     {
         let instant = self.pending.take_least();
         if let Some(instant) = instant {

@@ -9,6 +9,7 @@ use Rattle.std.specs.FinMap.{int_cmp-IsAntisymmetric}
 use Rattle.std.specs.List.Sorted.{IsStrictlySortedBy}
 use Rattle.std.specs.Ordering.{int_cmp}
 use Rattle.std.specs.declared.cmp.Ordering.TheVariants.{Less}
+use Rattle.cal_rising.specs.Rises.{sorted-insert_key}
 pub use Rattle.cal_rising.specs.Rises.{rises-with_numbers, rises-union}
 use Rattle.cal_rising.specs.RisingList.{HasAny, IsUnion, with_numbers, union}
 use Rattle.cal_rising.specs.headline.Elements.{Has}
@@ -51,6 +52,9 @@ not_lt_test a b h = grind (arith, ints)
 -- placing adds the number to the members
 pub Has-insert_key : (x : ℤ) (ys : List ℤ) (i : ℤ) → Has (insert_key int_cmp ys x) i ↔ ((x ≡ i) ⊎ Has ys i)
 Has-insert_key = has-insert_key int_cmp int_cmp-IsAntisymmetric
+
+pub rises-insert_key : (x : ℤ) (ys : List ℤ) → IsStrictlySortedBy int_cmp ys → IsStrictlySortedBy int_cmp (insert_key int_cmp ys x)
+rises-insert_key = sorted-insert_key int_cmp int_cmp_total
 
 -- placing several adds them all
 pub Has-with_numbers : (xs ys : List ℤ) (i : ℤ) → Has (with_numbers xs ys) i ↔ (Has xs i ⊎ Has ys i)

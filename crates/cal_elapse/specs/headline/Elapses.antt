@@ -1,7 +1,9 @@
 -- The elapses of calendar expressions: systemd.time(7), Calendar Events.
 use Rattle.std.specs.Prelude.{◌≡◌, ◌⊎◌, ◌↔◌, ◌<◌, ℕ, Bool, true, List, [], ◌∷◌, Option, Some, ℤ, ◌<ℤ◌}
+use Rattle.std.specs.Ordering.{int_cmp}
+use Rattle.std.specs.List.Sorted.{IsStrictlySortedBy}
 use Rattle.cal_zone.specs.headline.Local.{seconds_in_all}
-use Rattle.cal_rising.specs.headline.Elements.{Has, IsRising}
+use Rattle.cal_rising.specs.headline.Elements.{Has}
 
 -- what an expression in a zone means: the local seconds that match, and the place of a local second on the
 -- clock of Unix time, which it lacks where the zone's clock skips it
@@ -27,7 +29,7 @@ IsElapseExcept es exceptions i = IsElapse es i × (IsElapse exceptions i → ⊥
 
 -- the list rises, and has exactly the numbers above b of which this holds
 pub record AreAbove (Holds : ℤ → Type 0) (b : ℤ) (xs : List ℤ) : Type 0 where
-  pub rises : IsRising xs
+  pub rises : IsStrictlySortedBy int_cmp xs
   pub members : (i : ℤ) → Has xs i ↔ ((b <ℤ i) × Holds i)
 
 -- the list is the elapses above b of these expressions, without those of their exceptions

@@ -1,11 +1,12 @@
 use Rattle.std.proofs.Common.{◌∙◌, FitsSigned, ap, arith, rules, subst, sym, w64, ℤ}
 use Rattle.std.proofs.lemmas.Int.{ints, to_z-of_z, to_z_pos}
 use Rattle.jiff.proofs.SpanFacts.{signed_arith}
+use Rattle.std.specs.Ordering.{int_cmp}
+use Rattle.std.specs.BTreeSet.{insert_key}
 use Rattle.cal_zone.specs.Instant.{IsInstant}
 use Rattle.cal_zone.specs.headline.Local.{seconds_in_all-is}
 use Rattle.cal_zone.specs.headline.Zone.{zone_of}
 use Rattle.cal_elapse.specs.Near.{IsNear}
-use Rattle.cal_rising.specs.RisingList.{with_number}
 use Rattle.cal_elapse.proofs.WindowLemmas.{place_found, put_instant, put_near, with_place-above, with_place-given, with_place-none}
 use Rattle.cal_elapse.proofs.window.put_place.Goals as goal
 
@@ -43,5 +44,5 @@ returns-clause-put c =
     let fits : FitsSigned w64 c.in-Some.instant = search rules in
     let above = c.if-instant-last.false in
     c.put.ensures
-    ∙ (ap (λ (i : ℤ). with_number i c.args.pending.now) (to_z-of_z w64 c.in-Some.instant fits)
+    ∙ (ap (λ (i : ℤ). insert_key int_cmp c.args.pending.now i) (to_z-of_z w64 c.in-Some.instant fits)
     ∙ with_place-above _ c.in-Some.instant c.args.last c.args.pending.now (place_found (zone_of c.args.placer.now) c.args.local c.place.result c.requires.local_in c.place.ensures.value ∙ c.in-Some.is) (search rules))

@@ -1,8 +1,8 @@
-use Rattle.std.proofs.Common.{◌≡◌, ◌↔◌, ◌∙◌, ◌<ℤ◌, ◌≤ℤ◌, ℤ, FitsSigned, ap, arith, pos, rules, subst, true, w64}
+use Rattle.std.proofs.Common.{◌≡◌, ◌↔◌, ◌∙◌, ◌<ℤ◌, ◌≤ℤ◌, ℤ, FitsSigned, ap, arith, pos, rules, subst, true, w64, int_eq}
 use Rattle.std.proofs.lemmas.Bool.{false≢true}
 use Rattle.std.proofs.lemmas.Int.{to_z-of_z}
 use Rattle.jiff.proofs.SpanFacts.{signed_arith}
-use Rattle.cal_rising.specs.RisingList.{is_in}
+use Rattle.std.specs.Set.{is_member}
 use Rattle.cal_elapse.specs.headline.Elapses.{IsPlace, Timed}
 use Rattle.cal_elapse.specs.Rest.{rest_of}
 use Rattle.cal_elapse.specs.Window.{timed_of}
@@ -21,7 +21,7 @@ returns-in-Some-clause-has c =
     let here : (c.has.result ≡ true) ↔ IsPlace (timed_of w) c.in-Some.instant.secs =
     subst (λ (e : Timed). (c.has.result ≡ true) ↔ IsPlace e c.in-Some.instant.secs) c.self.invariant.1 c.has.ensures.has in
     in_rest w number c.has.result above (subst (λ (i : ℤ). (c.has.result ≡ true) ↔ IsPlace (timed_of w) i) at here)
-    ∙ ap (λ (v : Window). is_in (rest_of v) number) c.self.view_is
+    ∙ ap (λ (v : Window). is_member int_eq (rest_of v) number) c.self.view_is
 
 pub returns-in_default-clause-has : goal.returns-in_default-clause-has
 returns-in_default-clause-has c =
@@ -30,7 +30,7 @@ returns-in_default-clause-has c =
     let fits : FitsSigned w64 number = search rules in
     let last_fits : FitsSigned w64 w.last = search rules in
     let low : number ≤ℤ w.last = omega (arith, signed_arith, c.last.ensures) in
-    not_above w number low ∙ ap (λ (v : Window). is_in (rest_of v) number) c.self.view_is
+    not_above w number low ∙ ap (λ (v : Window). is_member int_eq (rest_of v) number) c.self.view_is
 
 pub returns-in_default-2-clause-has : goal.returns-in_default-2-clause-has
 returns-in_default-2-clause-has c =
@@ -39,4 +39,4 @@ returns-in_default-2-clause-has c =
     let fits : FitsSigned w64 number = search rules in
     let low : pos 0 ≤ℤ w.last = omega (arith, signed_arith, c.self.invariant.0.low, c.self.invariant.0.above) in
     not_instant w number low (λ h. false≢true ((c.in_default.ensures.some).1 (rw (to_z-of_z w64 number fits) h)))
-    ∙ ap (λ (v : Window). is_in (rest_of v) number) c.self.view_is
+    ∙ ap (λ (v : Window). is_member int_eq (rest_of v) number) c.self.view_is

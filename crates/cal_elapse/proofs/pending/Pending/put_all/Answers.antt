@@ -3,7 +3,7 @@ use Rattle.std.proofs.lemmas.Int.{to_z-of_z}
 use Rattle.cal_elapse.specs.Bits.{is_bit, is_in_words}
 use Rattle.cal_elapse.specs.Ring.{cells_behind}
 use Rattle.cal_elapse.proofs.FillLemmas.{HasAll, begun_least, filled_answer, filled_from, round_of_all, start_is}
-use Rattle.cal_elapse.proofs.RingLemmas.{IsRising-instants}
+use Rattle.cal_elapse.proofs.RingLemmas.{rises-instants}
 use Rattle.cal_elapse.proofs.pending.Pending.put_all.Goals as goal
 
 pub set_cells-requires-clause-whole : goal.set_cells-requires-clause-whole
@@ -26,7 +26,7 @@ invariant_of-self c =
     (omega arith) c.set_cells.ensures.whole begun c.self.invariant
 
 pub returns-clause-rises : goal.returns-clause-rises
-returns-clause-rises c = IsRising-instants c.set_cells.new.words c.self.inside.least
+returns-clause-rises c = rises-instants c.set_cells.new.words c.self.inside.least
 
 pub returns-clause-members : goal.returns-clause-members
 returns-clause-members c = λ i.
