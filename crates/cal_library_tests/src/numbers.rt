@@ -1,7 +1,8 @@
 //! Sources of rising numbers and merges of them, for the modules that try merges.
 
 ghost use Rattle.std.specs.Prelude.{◌≡◌, false, IfOk};
-ghost use Rattle.cal_rising.specs.headline.Elements.{IsRising};
+ghost use Rattle.std.specs.List.Sorted.{IsStrictlySortedBy};
+ghost use Rattle.std.specs.Ordering.{int_cmp};
 
 use cal_elapse::{Listed, Merge, Rising};
 use std::alloc::{AllocError, Global};
@@ -9,7 +10,7 @@ use std::process::Abort;
 
 /// The source of these numbers.
 pub fn listed(alloc: Global, numbers: &[i64]) -> Result<Listed, AllocError>
-    requires { IsRising numbers.now }
+    requires { IsStrictlySortedBy int_cmp numbers.now }
 {
     Ok(Listed::new(Vec::from_slice(alloc, numbers)?))
 }
@@ -38,8 +39,8 @@ pub fn add_except<S: Rising + Drop>(merge: &mut Merge<S>, exception: S) -> Resul
 
 /// The merge of two lists.
 pub fn merge_two(alloc: Global, one: &[i64], two: &[i64]) -> Result<Merge<Listed>, AllocError>
-    requires one { IsRising one.now }
-    requires two { IsRising two.now }
+    requires one { IsStrictlySortedBy int_cmp one.now }
+    requires two { IsStrictlySortedBy int_cmp two.now }
     ensures { IfOk result (λ merge. merge.started ≡ false) }
 {
     let mut merge = Merge::new(alloc);
@@ -55,9 +56,9 @@ pub fn merge_without(
     two: &[i64],
     exception: &[i64],
 ) -> Result<Merge<Listed>, AllocError>
-    requires one { IsRising one.now }
-    requires two { IsRising two.now }
-    requires exception { IsRising exception.now }
+    requires one { IsStrictlySortedBy int_cmp one.now }
+    requires two { IsStrictlySortedBy int_cmp two.now }
+    requires exception { IsStrictlySortedBy int_cmp exception.now }
     ensures { IfOk result (λ merge. merge.started ≡ false) }
 {
     let mut merge = merge_two(alloc, one, two)?;

@@ -1,20 +1,19 @@
 -- Lemmas on the text of elapses in a row: it begins with that of the first, and goes on with the later ones.
-use Rattle.std.proofs.Common.{◌≡◌, ℕ, zero, suc, ◌+◌, List, [], ◌∷◌, ◌++◌, take, Option, None, Some, refl, codes}
+use Rattle.std.proofs.Common.{◌≡◌, ℕ, zero, suc, ◌+◌, List, [], ◌∷◌, ◌++◌, take, Option, None, Some, refl, codes, slice_get, drop}
 use Rattle.std.specs.Prelude.{ℤ}
 use Rattle.cal_zone.specs.declared.zone.Zone.{Zone}
 use Rattle.cal_report.specs.headline.ElapseLines.{elapse_text, elapse_texts, elapses_text}
-use Rattle.cal_rising.specs.RisingList.{first, later}
 
 some_is : (x e : ℤ) → ◌≡◌ {A = Option ℤ} (Some e) (Some x) → x ≡ e
 some_is x e h = cc
 
 -- the first of at least one elapse, and the later ones
-pub texts_first : (local : Zone) (now : ℤ) (number count e : ℕ) (elapse : ℤ) (xs : List ℤ) → count ≡ suc e → Some elapse ≡ first xs → elapse_texts local now number (take count xs) ≡ elapse_text local now number elapse ++ elapse_texts local now (number + 1) (take e (later xs))
+pub texts_first : (local : Zone) (now : ℤ) (number count e : ℕ) (elapse : ℤ) (xs : List ℤ) → count ≡ suc e → Some elapse ≡ slice_get xs 0 → elapse_texts local now number (take count xs) ≡ elapse_text local now number elapse ++ elapse_texts local now (number + 1) (take e (drop 1 xs))
 texts_first local now number count e elapse [] h is = absurd (cc)
 texts_first local now number count e elapse (x ∷ xs) h is = rw (h, some_is x elapse is) refl
 
 -- no elapse
-pub texts_none : (local : Zone) (now : ℤ) (number count : ℕ) (xs : List ℤ) → None ≡ first xs → elapse_texts local now number (take count xs) ≡ []
+pub texts_none : (local : Zone) (now : ℤ) (number count : ℕ) (xs : List ℤ) → None ≡ slice_get xs 0 → elapse_texts local now number (take count xs) ≡ []
 texts_none local now number zero [] is = refl
 texts_none local now number (suc count) [] is = refl
 texts_none local now number count (x ∷ xs) is = absurd (cc)
@@ -23,12 +22,12 @@ pub texts_no_more : (local : Zone) (now : ℤ) (number count : ℕ) (xs : List �
 texts_no_more local now number count xs h = rw h refl
 
 -- the elapses that are shown, where there is one
-pub shown_first : (local : Zone) (now : ℤ) (count e : ℕ) (elapse : ℤ) (xs : List ℤ) → count ≡ suc e → Some elapse ≡ first xs → elapses_text local now (take count xs) ≡ elapse_text local now 1 elapse ++ elapse_texts local now 2 (take e (later xs))
+pub shown_first : (local : Zone) (now : ℤ) (count e : ℕ) (elapse : ℤ) (xs : List ℤ) → count ≡ suc e → Some elapse ≡ slice_get xs 0 → elapses_text local now (take count xs) ≡ elapse_text local now 1 elapse ++ elapse_texts local now 2 (take e (drop 1 xs))
 shown_first local now count e elapse [] h is = absurd (cc)
 shown_first local now count e elapse (x ∷ xs) h is = rw (h, some_is x elapse is) refl
 
 -- and where there is none
-pub shown_none : (local : Zone) (now : ℤ) (count : ℕ) (xs : List ℤ) → None ≡ first xs → elapses_text local now (take count xs) ≡ codes "    Next elapse: never\n"
+pub shown_none : (local : Zone) (now : ℤ) (count : ℕ) (xs : List ℤ) → None ≡ slice_get xs 0 → elapses_text local now (take count xs) ≡ codes "    Next elapse: never\n"
 shown_none local now zero [] is = refl
 shown_none local now (suc count) [] is = refl
 shown_none local now count (x ∷ xs) is = absurd (cc)

@@ -51,7 +51,6 @@ use Rattle.cal_spec.specs.Weekdays.{day_named, days_of, listed_days, weekdays_of
 use Rattle.cal_spec.specs.Words.{roles_of}
 use Rattle.cal_spec.specs.headline.Words.{words}
 use Rattle.cal_spec.proofs.WholeRule.{valid_found}
-use Rattle.cal_rising.specs.RisingList.{first}
 use Rattle.cal_elapse.proofs.ElapsesLemmas.{AreElapses-only, elapses_except-none, first_elapse-least}
 use Rattle.cal_report.specs.headline.Headline.{AreElapsesOf, AreSpelled, Expression, IsAccepted, IsFileOf, Spells, alone, assigned_in, meaning}
 
@@ -220,7 +219,7 @@ next_is_least : (j : ℤ) → pos 1_704_112_200 <ℤ j → pos 1_704_112_201 ≤
 next_is_least j h = omega (arith, ints)
 
 -- so the first elapse is a second after the present, whatever list has them
-every-first : (xs : List ℤ) → AreElapsesOf (alone every) (pos 1_704_112_200) xs → first xs ≡ Some (pos 1_704_112_201)
+every-first : (xs : List ℤ) → AreElapsesOf (alone every) (pos 1_704_112_200) xs → slice_get xs 0 ≡ Some (pos 1_704_112_201)
 every-first xs h =
     rw (AreElapses-only (map meaning (every ∷ [])) [] (pos 1_704_112_200) xs h, elapses_except-none (map meaning (every ∷ [])) (pos 1_704_112_200))
     (first_elapse-least (map meaning (every ∷ [])) (pos 1_704_112_200) (pos 1_704_112_201) (omega (arith, ints)) every-elapses (λ j above _. next_is_least j above))
@@ -290,7 +289,7 @@ one_second-sought : base_in one_second ≡ Ok (pos 1_704_112_201)
 unfolding one_second base_in stamp_in moment_in form_of solid form_by_end day_shift words in_moments span_of pairs_in words_in worth_of is_number number_worth unit_named words_for
 one_second-sought = refl
 
-first_is : (xs : List ℤ) (x : ℤ) → first xs ≡ Some x → slice_get (take 2 xs) 0 ≡ Some x
+first_is : (xs : List ℤ) (x : ℤ) → slice_get xs 0 ≡ Some x → slice_get (take 2 xs) 0 ≡ Some x
 first_is [] x h = h
 first_is (y ∷ xs) x h = h
 

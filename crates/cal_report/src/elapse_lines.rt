@@ -1,10 +1,9 @@
 //! The lines of elapses in a report, each with the span between it and the present (systemd-analyze(1), calendar).
 
-ghost use Rattle.std.specs.Prelude.{◌≡◌, ◌+◌, ◌-◌, ◌≤◌, ◌++◌, length, false, is_err, option_map, take};
+ghost use Rattle.std.specs.Prelude.{◌≡◌, ◌+◌, ◌-◌, ◌≤◌, ◌++◌, length, false, is_err, option_map, take, slice_get, drop};
 ghost use Rattle.cal_bytes.specs.Bytes.{Writes};
 ghost use Rattle.cal_bytes.specs.declared.short_text.TheConstants.{ROOM};
 ghost use Rattle.cal_span.specs.declared.span.text.TheConstants.{SPAN_ROOM};
-ghost use Rattle.cal_rising.specs.RisingList.{first, later};
 ghost use Rattle.cal_report.specs.ElapseLines.{AreInstants};
 ghost use Rattle.cal_report.specs.headline.ElapseLines.{label_text, elapse_text, elapse_texts, elapses_text};
 ghost use Rattle.cal_request.specs.Request.{IsCount};
@@ -68,8 +67,8 @@ fn put_more<W: Sink, S: Rising>(
 /// The next elapse.
 fn next_instant<S: Rising>(elapses: &mut S) -> Option<Instant>
     requires { AreInstants (S.rest elapses.old) }
-    ensures given { option_map (λ instant. instant.secs) result ≡ first (S.rest elapses.old) }
-    ensures left { S.rest elapses.new ≡ later (S.rest elapses.old) }
+    ensures given { option_map (λ instant. instant.secs) result ≡ slice_get (S.rest elapses.old) 0 }
+    ensures left { S.rest elapses.new ≡ drop 1 (S.rest elapses.old) }
     ensures instants { AreInstants (S.rest elapses.new) }
 {
     let Some(secs) = elapses.next() else {
