@@ -11,6 +11,10 @@ pub use Rattle.cal_span.proofs.SpanRule
 pub use Rattle.cal_span.proofs.SpanRuns
 pub use Rattle.cal_span.proofs.SpanWords
 pub use Rattle.cal_span.proofs.WorkedRows
+pub use Rattle.cal_text.proofs.DigitLemmas
+pub use Rattle.cal_text.proofs.TextEnds
+pub use Rattle.cal_text.proofs.TrimLemmas
+pub use Rattle.cal_text.proofs.WordLemmas
 pub use Rattle.cal_zone.proofs.CivilLemmas
 pub use Rattle.cal_zone.proofs.DayLemmas
 pub use Rattle.cal_zone.proofs.OffsetLemmas

@@ -10,6 +10,7 @@ pub use Rattle.cal_span.specs.SpanRule
 pub use Rattle.cal_span.specs.SpanText
 pub use Rattle.cal_span.specs.SpanValue
 pub use Rattle.cal_span.specs.SpanWord
+pub use Rattle.cal_text.specs.TrimRule
 pub use Rattle.cal_zone.specs.Civil
 pub use Rattle.cal_zone.specs.Instant
 pub use Rattle.cal_zone.specs.InstantText
@@ -26,4 +27,5 @@ pub use Rattle.cal_zone.specs.ZoneMap
 pub use Rattle.cal_zone.specs.ZoneTable
 pub use Rattle.cal_bytes.specs.headline as BytesHeadline
 pub use Rattle.cal_span.specs.headline as SpanHeadline
+pub use Rattle.cal_text.specs.headline as TextHeadline
 pub use Rattle.cal_zone.specs.headline as ZoneHeadline

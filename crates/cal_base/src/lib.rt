@@ -1,4 +1,4 @@
-//! Spans, instants, zones, and bytes in and out: what every other crate of the project is built on.
+//! Texts, spans, instants, zones, and bytes in and out: what every other crate of the project is built on.
 #![tactic(auto)]
 
 pub use cal_bytes::{
@@ -6,9 +6,10 @@ pub use cal_bytes::{
     is_among, padding, push, push_all, put_all, put_pieces, read_whole,
 };
 pub use cal_span::{
-    SPAN_ROOM, Scale, Span, SpanFault, are_digits, format_span, fraction_of, one_text, one_value,
-    push_span, read_span, text_reads_back, whole_of, write_span,
+    SPAN_ROOM, Scale, Span, SpanFault, format_span, fraction_of, one_text, one_value, push_span,
+    read_span, text_reads_back, write_span,
 };
+pub use cal_text::{are_digits, first_word, last_word, trim_blanks, whole_of};
 pub use cal_zone::{
     Civil, Clock, DAY, DAYS, Instant, Moment, Placer, Rules, WEEK, Zone, ZoneFault, ZoneTable,
     begins_with_letter, begins_zone, civil, date_of_day, is_zone_name, laws, place, push_instant,

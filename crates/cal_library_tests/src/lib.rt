@@ -20,6 +20,8 @@ pub mod shared;
 #[cfg(test)]
 mod spans;
 #[cfg(test)]
+mod texts;
+#[cfg(test)]
 mod timers;
 #[cfg(test)]
 mod timestamps;

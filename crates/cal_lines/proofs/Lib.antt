@@ -1,5 +1,4 @@
 pub mod GroupLemmas
 pub mod LineLemmas
 pub mod LineRuleLemmas
-pub mod TextEnds
 pub mod LogicalRuleLemmas

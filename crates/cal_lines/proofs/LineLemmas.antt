@@ -10,10 +10,10 @@ use Rattle.std.specs.List.{after_first, before_first, position_or_len, slice_spl
 use Rattle.std.specs.Str.Lines.{lines, lines_of_parts, strip_carriage_return}
 use Rattle.std.proofs.lemmas.List.Elements.{All-from_get_or}
 use Rattle.std.proofs.lemmas.List.Splits.{length-slice_split, slice_split_first, slice_split_none}
-use Rattle.cal_lines.specs.headline.Lines.{is_blank, is_continued}
+use Rattle.cal_lines.specs.headline.Lines.{is_blank_or_return, is_continued}
 
 -- every blank is ASCII
-pub blank_is_ascii : (b : ℕ) → is_blank b ≡ true → b < 128
+pub blank_is_ascii : (b : ℕ) → is_blank_or_return b ≡ true → b < 128
 blank_is_ascii b h = grind (arith, nat_tests)
 
 -- the last byte of a line that is continued is a backslash

@@ -1,119 +1,32 @@
 -- The logical lines against the rule's own words.
-use Rattle.std.proofs.Common.{◌≡◌, ℕ, ◌+◌, ◌-◌, ◌<◌, ◌≤◌, ◌==◌, Bool, true, false, List, [], ◌∷◌, ◌++◌, length, not, filter, map, take, drop, get_or, reverse, refl, sym, subst, ap, ◌∙◌, append-nil, length-drop, inl, inr, arith}
-use Rattle.std.specs.List.{AllByRecursion, flat_map, prefix_len, suffix_len}
+use Rattle.std.proofs.Common.{◌≡◌, ℕ, ◌+◌, ◌-◌, ◌<◌, ◌==◌, Bool, true, false, List, [], ◌∷◌, ◌++◌, length, not, filter, map, take, get_or, reverse, refl, sym, ap, ◌∙◌, inl, inr, arith}
+use Rattle.std.specs.List.{suffix_len}
 use Rattle.std.specs.Str.Lines.{lines}
-use Rattle.std.proofs.Math.Numerals.{one-add}
 use Rattle.std.proofs.Math.Seq.{take-append_seam, take-length}
 use Rattle.std.proofs.lemmas.Bool.Decides.{nat_tests}
-use Rattle.std.proofs.lemmas.List.{get_or-reverse, length-append, length-reverse, reverse-append, reverse-reverse, take-append-drop, take_more}
+use Rattle.std.proofs.lemmas.List.{get_or-reverse, length-append, take_more}
 use Rattle.std.proofs.lemmas.List.Sums.{prefix_len_passes, suffix_len-le-length}
-use Rattle.cal_lines.specs.LineRule.{AreGroups, lines_of}
-use Rattle.cal_lines.specs.headline.Lines.{Group, Line, groups, is_blank, is_comment, is_continued, joined_line, logical_lines, numbered, part_of, physical_lines, plain_lines, trim, trim_end, trim_start}
-use Rattle.cal_lines.specs.LogicalRule.{AreJoined, AreLogical, ArePhysical, EachIsLogical, IsContinuedPart, IsFlush, IsLogical, IsPart, IsTrimmed, IsUnindented}
+use Rattle.cal_text.specs.headline.Trim.{trim_start}
+use Rattle.cal_text.proofs.TrimLemmas.{unindented, unindented_only}
+use Rattle.cal_lines.specs.headline.Lines.{Group, Line, groups, is_blank_or_return, is_comment, is_continued, joined_line, logical_lines, numbered, part_of, physical_lines, plain_lines}
+use Rattle.cal_lines.specs.LogicalRule.{AreJoined, AreLogical, ArePhysical, EachIsLogical, IsPart}
 use Rattle.cal_lines.proofs.GroupLemmas.{parts_of}
 use Rattle.cal_lines.proofs.LineRuleLemmas.{are_groups, groups_of_lines, lines_of_groups}
 
--- a line without the blanks at its start
-unindented_as : (blank : Bool) (b : ℕ) (bs : List ℕ) → is_blank b ≡ blank → IsUnindented bs (trim_start bs) → IsUnindented (b ∷ bs) (trim_start (b ∷ bs))
-unfolding trim_start
-unindented_as true b bs e rest = rw (e, one-add) (record { indent = b ∷ rest.indent; blanks = (e, rest.blanks); whole = ap (λ xs. b ∷ xs) rest.whole; flush = rest.flush })
-unindented_as false b bs e rest = rw e (record { indent = []; blanks = tt; whole = refl; flush = e })
-
-pub unindented : (line : List ℕ) → IsUnindented line (trim_start line)
-unfolding trim_start
-unindented [] = record { indent = []; blanks = tt; whole = refl; flush = tt }
-unindented (b ∷ bs) = unindented_as (is_blank b) b bs refl (unindented bs)
-
-trimmed : (indent text : List ℕ) → AllByRecursion (λ b. is_blank b ≡ true) indent → IsFlush text → trim_start (indent ++ text) ≡ text
-unfolding trim_start
-trimmed [] [] blanks flush = refl
-trimmed [] (b ∷ bs) blanks flush = rw flush
-trimmed (b ∷ indent) text blanks flush = rw (blanks.0, one-add) (trimmed indent text blanks.1 flush)
-
-pub unindented_only : (line text : List ℕ) → IsUnindented line text → text ≡ trim_start line
-unindented_only line text h = sym (ap trim_start h.whole ∙ trimmed h.indent text h.blanks h.flush)
-
--- blanks the other way round
-all_append : (P : ℕ → Type 0) (xs ys : List ℕ) → AllByRecursion P xs → AllByRecursion P ys → AllByRecursion P (xs ++ ys)
-all_append P [] ys h k = k
-all_append P (x ∷ xs) ys h k = (h.0, all_append P xs ys h.1 k)
-
-all_reverse : (P : ℕ → Type 0) (xs : List ℕ) → AllByRecursion P xs → AllByRecursion P (reverse xs)
-all_reverse P [] h = tt
-all_reverse P (x ∷ xs) h = subst (AllByRecursion P) (sym (reverse-append (x ∷ []) xs)) (all_append P (reverse xs) (x ∷ []) (all_reverse P xs h.1) (h.0, tt))
-
--- the end of a text is the start of it the other way round
-take_front : (text : List ℕ) (n : ℕ) → n ≤ length text → take (length text - n) text ≡ reverse (drop n (reverse text))
-take_front text n h =
-    let back = reverse text in
-    let parts : text ≡ reverse (drop n back) ++ reverse (take n back) =
-    sym (reverse-reverse text) ∙ (ap reverse (sym (take-append-drop n back)) ∙ reverse-append (take n back) (drop n back)) in
-    let long : length text - n ≡ length (reverse (drop n back)) = simp (length-reverse, length-drop) (omega arith) in
-    ap (take (length text - n)) parts ∙ (ap (λ k. take k (reverse (drop n back) ++ reverse (take n back))) long ∙ take-append_seam (reverse (drop n back)) (reverse (take n back)))
-
-end_is : (text : List ℕ) → trim_end text ≡ reverse (trim_start (reverse text))
-unfolding trim_end trim_start
-end_is text = take_front text (suffix_len is_blank text) (suffix_len-le-length is_blank text)
-
-flush_front : (xs ys : List ℕ) → IsFlush (xs ++ ys) → IsFlush xs
-flush_front [] ys h = tt
-flush_front (x ∷ xs) ys h = h
-
-flush_more : (x : ℕ) (xs ys : List ℕ) → IsFlush (x ∷ xs) → IsFlush ((x ∷ xs) ++ ys)
-flush_more x xs ys h = h
-
--- a text without the blanks at both its ends
-pub trim_is : (text : List ℕ) → IsTrimmed text (trim text)
-unfolding trim
-trim_is text =
-    let start = unindented text in
-    let turned = unindented (reverse (trim_start text)) in
-    let parts : trim_start text ≡ trim_end (trim_start text) ++ reverse turned.indent =
-    sym (reverse-reverse (trim_start text)) ∙ (ap reverse turned.whole ∙ (reverse-append turned.indent (trim_start (reverse (trim_start text)))
-    ∙ ap (λ xs. xs ++ reverse turned.indent) (sym (end_is (trim_start text))))) in
-    record {
-      front = start.indent;
-      back = reverse turned.indent;
-      blanks = start.blanks;
-      blanks_after = all_reverse (λ b. is_blank b ≡ true) turned.indent turned.blanks;
-      whole = start.whole ∙ ap (λ xs. start.indent ++ xs) parts;
-      flush = flush_front (trim_end (trim_start text)) (reverse turned.indent) (subst IsFlush parts start.flush);
-      flush_end = subst IsFlush (sym (ap reverse (end_is (trim_start text)) ∙ reverse-reverse (trim_start (reverse (trim_start text))))) turned.flush;
-    }
-
-all_blank : (blanks : List ℕ) → AllByRecursion (λ b. is_blank b ≡ true) blanks → trim_start blanks ≡ []
-all_blank blanks h = ap trim_start (sym (append-nil blanks)) ∙ trimmed blanks [] h tt
-
-end_of : (text blanks : List ℕ) → AllByRecursion (λ b. is_blank b ≡ true) blanks → IsFlush (reverse text) → trim_end (text ++ blanks) ≡ text
-end_of text blanks h flush =
-    end_is (text ++ blanks) ∙ (ap (λ xs. reverse (trim_start xs)) (reverse-append text blanks)
-    ∙ (ap reverse (trimmed (reverse blanks) (reverse text) (all_reverse (λ b. is_blank b ≡ true) blanks h) flush) ∙ reverse-reverse text))
-
-trim_of : (front text back : List ℕ) → AllByRecursion (λ b. is_blank b ≡ true) front → AllByRecursion (λ b. is_blank b ≡ true) back → IsFlush text → IsFlush (reverse text)
-    → trim (front ++ (text ++ back)) ≡ text
-unfolding trim
-trim_of front [] back before after flush flush_end =
-    ap trim_end (all_blank (front ++ back) (all_append (λ b. is_blank b ≡ true) front back before after)) ∙ end_of [] [] tt tt
-trim_of front (x ∷ xs) back before after flush flush_end =
-    ap trim_end (trimmed front ((x ∷ xs) ++ back) before (flush_more x xs back flush)) ∙ end_of (x ∷ xs) back after flush_end
-
-pub trim_only : (text trimmed : List ℕ) → IsTrimmed text trimmed → trimmed ≡ trim text
-trim_only text said h = sym (ap trim h.whole ∙ trim_of h.front said h.back h.blanks h.blanks_after h.flush h.flush_end)
-
 -- the physical lines
-pub physical : (number : ℕ) (texts : List (List ℕ)) → ArePhysical number texts (numbered number (map trim_start texts))
+pub physical : (number : ℕ) (texts : List (List ℕ)) → ArePhysical number texts (numbered number (map (trim_start is_blank_or_return) texts))
 physical number [] = tt
-physical number (text ∷ texts) = (refl, unindented text, physical (number + 1) texts)
+physical number (text ∷ texts) = (refl, unindented is_blank_or_return text, physical (number + 1) texts)
 
-pub physical_only : (number : ℕ) (texts : List (List ℕ)) (all : List Line) → ArePhysical number texts all → all ≡ numbered number (map trim_start texts)
+pub physical_only : (number : ℕ) (texts : List (List ℕ)) (all : List Line) → ArePhysical number texts all → all ≡ numbered number (map (trim_start is_blank_or_return) texts)
 physical_only number [] [] h = refl
 physical_only number [] (line ∷ all) h = absurd h
 physical_only number (text ∷ texts) [] h = absurd h
 physical_only number (text ∷ texts) (line ∷ all) h =
-    let text_is = unindented_only text line.text h.1 in
+    let text_is = unindented_only is_blank_or_return text line.text h.1 in
     let rest = physical_only (number + 1) texts all h.2 in
-    let first : line ≡ record { number = number; text = trim_start text } = λ i. record { number = h.0 i; text = text_is i } in
-    ap (λ l. l ∷ all) first ∙ ap (λ ls. record { number = number; text = trim_start text } ∷ ls) rest
+    let first : line ≡ record { number = number; text = trim_start is_blank_or_return text } = λ i. record { number = h.0 i; text = text_is i } in
+    ap (λ l. l ∷ all) first ∙ ap (λ ls. record { number = number; text = trim_start is_blank_or_return text } ∷ ls) rest
 
 -- the last byte of a continued line
 last_byte : (text : List ℕ) → is_continued text ≡ true → text ≡ take (length text - 1) text ++ 92 ∷ []

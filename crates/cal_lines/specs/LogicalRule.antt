@@ -1,37 +1,15 @@
 -- What the logical lines of a text are, in the rule's own words: systemd.syntax(7). These relations don't go by the
 -- functions of `Lines` that compute the lines; they share with them what a blank, a comment and a continued line is.
-use Rattle.std.specs.Prelude.{◌≡◌, ◌⊎◌, ◌+◌, ℕ, true, false, not, List, [], ◌∷◌, ◌++◌, filter, reverse}
-use Rattle.std.specs.List.{AllByRecursion}
+use Rattle.std.specs.Prelude.{◌≡◌, ◌⊎◌, ◌+◌, ℕ, true, false, not, List, [], ◌∷◌, ◌++◌, filter}
 use Rattle.std.specs.Str.Lines.{lines}
+use Rattle.cal_text.specs.TrimRule.{IsUnindented}
 use Rattle.cal_lines.specs.LineRule.{AreGroups, lines_of}
-use Rattle.cal_lines.specs.headline.Lines.{Group, Line, is_blank, is_comment, is_continued}
-
--- it is empty, or its first character is no blank
-abbrev pub IsFlush : List ℕ → Type 0
-IsFlush [] = Unit {0}
-IsFlush (b ∷ bs) = is_blank b ≡ false
-
--- the text of a line without the blanks at its start; those at its end stay
-pub record IsUnindented (line text : List ℕ) : Type 0 where
-  pub indent : List ℕ
-  pub blanks : AllByRecursion (λ b. is_blank b ≡ true) indent
-  pub whole : line ≡ indent ++ text
-  pub flush : IsFlush text
-
--- the text without the blanks at both its ends
-pub record IsTrimmed (text trimmed : List ℕ) : Type 0 where
-  pub front : List ℕ
-  pub back : List ℕ
-  pub blanks : AllByRecursion (λ b. is_blank b ≡ true) front
-  pub blanks_after : AllByRecursion (λ b. is_blank b ≡ true) back
-  pub whole : text ≡ front ++ (trimmed ++ back)
-  pub flush : IsFlush trimmed
-  pub flush_end : IsFlush (reverse trimmed)
+use Rattle.cal_lines.specs.headline.Lines.{Group, Line, is_blank_or_return, is_comment, is_continued}
 
 -- the physical lines, counted from this number on
 abbrev pub ArePhysical : ℕ → List (List ℕ) → List Line → Type 0
 ArePhysical number [] [] = Unit {0}
-ArePhysical number (text ∷ texts) (line ∷ lines) = (line.number ≡ number) × IsUnindented text line.text × ArePhysical (number + 1) texts lines
+ArePhysical number (text ∷ texts) (line ∷ lines) = (line.number ≡ number) × IsUnindented is_blank_or_return text line.text × ArePhysical (number + 1) texts lines
 ArePhysical number [] (line ∷ lines) = ⊥
 ArePhysical number (text ∷ texts) [] = ⊥
 

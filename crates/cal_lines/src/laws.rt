@@ -1,9 +1,11 @@
 //! Laws of the definitions that the contracts cite. Each is a function that does nothing, with the law as its contract.
 
 ghost use Rattle.std.specs.Prelude.{◌≡◌, ℕ, List};
+ghost use Rattle.cal_text.specs.TrimRule.{IsTrimmed};
+ghost use Rattle.cal_text.specs.headline.Trim.{trim};
 ghost use Rattle.cal_lines.specs.LineRule.{AreGroups, lines_of};
-ghost use Rattle.cal_lines.specs.headline.Lines.{Group, Line, groups, logical_lines, trim};
-ghost use Rattle.cal_lines.specs.LogicalRule.{AreLogical, IsTrimmed};
+ghost use Rattle.cal_lines.specs.headline.Lines.{Group, Line, groups, is_blank_or_return, logical_lines};
+ghost use Rattle.cal_lines.specs.LogicalRule.{AreLogical};
 
 /// Lines are grouped in exactly one way: each group ends at the first line that isn't continued, the last one with the
 /// file.
@@ -24,6 +26,6 @@ pub fn logical_lines_are_those_of_the_rule()
 /// What `trim` leaves of a text has only blanks before and after it, neither begins nor ends with one, and is the only
 /// such part.
 pub fn one_trimmed_text()
-    ensures this { (text : List ℕ) → IsTrimmed text (trim text) }
-    ensures only { (text trimmed : List ℕ) → IsTrimmed text trimmed → trimmed ≡ trim text }
+    ensures this { (text : List ℕ) → IsTrimmed is_blank_or_return text (trim is_blank_or_return text) }
+    ensures only { (text trimmed : List ℕ) → IsTrimmed is_blank_or_return text trimmed → trimmed ≡ trim is_blank_or_return text }
 {}

@@ -3,57 +3,58 @@
 ghost use Rattle.std.specs.Prelude.{◌≡◌, ◌==◌, ◌∷◌, [], ◌+◌, ◌++◌, ◌<◌, ◌≤◌, ◌^◌, ◌-◌, MatchOption, MatchResult, IfOk, IfSome, OnOk, length, string_bytes, take, true};
 ghost use Rattle.std.specs.List.{prefix_len, suffix_len};
 ghost use Rattle.std.specs.Str.Lines.{lines, strip_carriage_return};
+ghost use Rattle.cal_text.specs.headline.Trim.{trim, trim_end, trim_start};
 ghost use Rattle.cal_lines.specs.LineView.{logical_line, plain_line};
-ghost use Rattle.cal_lines.specs.headline.Lines.{is_blank, is_comment, is_continued, logical_lines, part_of, plain_lines, trim, trim_end, trim_start};
+ghost use Rattle.cal_lines.specs.headline.Lines.{is_blank_or_return, is_comment, is_continued, logical_lines, part_of, plain_lines};
 
 use std::alloc::{AllocError, Global};
 
-/// Whether the byte is a space, a tab or a carriage return.
-fn is_blank(byte: u8) -> bool
-    ensures { result ≡ is_blank byte }
+/// Whether the byte is a blank, which is a space or a tab, or a carriage return.
+fn is_blank_or_return(byte: u8) -> bool
+    ensures { result ≡ is_blank_or_return byte }
 {
     matches!(byte, b' ' | b'\t' | b'\r')
 }
 
 /// How many blanks are at the start.
 fn leading_blanks(text: &str) -> usize
-    ensures { result ≡ prefix_len is_blank text.now }
+    ensures { result ≡ prefix_len is_blank_or_return text.now }
 {
     text.as_bytes()
         .iter()
-        .take_while(|byte| is_blank(**byte))
+        .take_while(|byte| is_blank_or_return(**byte))
         .count()
 }
 
 /// How many blanks are at the end.
 fn trailing_blanks(text: &str) -> usize
-    ensures { result ≡ suffix_len is_blank text.now }
+    ensures { result ≡ suffix_len is_blank_or_return text.now }
 {
     text.as_bytes()
         .iter()
         .rev()
-        .take_while(|byte| is_blank(**byte))
+        .take_while(|byte| is_blank_or_return(**byte))
         .count()
 }
 
 /// The text without the blanks at its start.
 fn trim_start(text: &str) -> &str
-    ensures { result.now ≡ trim_start text.now }
+    ensures { result.now ≡ trim_start is_blank_or_return text.now }
 {
     &text[leading_blanks(text)..]
 }
 
 /// The text without the blanks at its end.
 fn trim_end(text: &str) -> &str
-    ensures { result.now ≡ trim_end text.now }
+    ensures { result.now ≡ trim_end is_blank_or_return text.now }
 {
     &text[..text.len() - trailing_blanks(text)]
 }
 
 /// The text without the blanks at its ends.
-#[tactic(auto, unfolding(crate::specs::headline::Lines::trim))]
+#[tactic(auto, unfolding(cal_text::specs::headline::Trim::trim))]
 pub fn trim(text: &str) -> &str
-    ensures { result.now ≡ trim text.now }
+    ensures { result.now ≡ trim is_blank_or_return text.now }
 {
     trim_end(trim_start(text))
 }

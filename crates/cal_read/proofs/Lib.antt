@@ -8,7 +8,6 @@ pub mod StampPrintedTexts
 pub mod StampPrintedZones
 mod StampRows
 pub mod StampRule
-pub mod StampText
 mod StampZoneRows
 pub mod TimerLemmas
 pub mod TimerRows

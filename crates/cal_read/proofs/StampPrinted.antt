@@ -1,6 +1,7 @@
 -- An instant that is printed is read as that instant, where the clock shows whole minutes and a year that a date can have.
-use Rattle.std.proofs.Common.{◌≡◌, ℕ, ◌+◌, ◌-◌, ◌*◌, ◌/◌, ◌%◌, ◌<◌, ◌≤◌, true, false, inr, List, [], ◌∷◌, ◌++◌, length, get_or, codes, ℤ, pos, neg_ℤ, ◌+ℤ◌, ◌*ℤ◌, ◌≤ℤ◌, Option, Some, Ok, Err, refl, sym, ap, ◌∙◌, arith, append_assoc, append-nil, decimal, eq-eqb, length-append, leb-true, slice_index_or, unsigned_abs}
+use Rattle.std.proofs.Common.{◌≡◌, ℕ, ◌+◌, ◌-◌, ◌*◌, ◌/◌, ◌%◌, ◌<◌, ◌≤◌, true, false, inr, List, [], ◌∷◌, ◌++◌, length, get_or, codes, ℤ, pos, neg_ℤ, ◌+ℤ◌, ◌*ℤ◌, ◌≤ℤ◌, Option, Some, Ok, Err, refl, sym, ap, ◌∙◌, arith, append_assoc, append-nil, decimal, eq-eqb, length-append, leb-true, reverse, slice_index_or, unsigned_abs}
 use Rattle.std.specs.List.{list_any}
+use Rattle.std.proofs.lemmas.List.{get_or-reverse}
 use Rattle.std.proofs.Math.ListN.{get_or-append}
 use Rattle.std.proofs.Math.Seq.{get_or-append_right}
 use Rattle.std.proofs.lemmas.Bool.Decides.{nat_tests}
@@ -30,7 +31,8 @@ use Rattle.cal_zone.specs.declared.zone.Zone.{Zone}
 use Rattle.cal_spec.proofs.WordsBetween.{words_only}
 use Rattle.cal_spec.specs.headline.DateAndTime.{is_colon}
 use Rattle.cal_spec.specs.GrammarRule.{IsWord}
-use Rattle.cal_spec.specs.headline.Words.{is_blank, words}
+use Rattle.cal_text.specs.TrimRule.{IsFlush, IsTrimmed}
+use Rattle.cal_text.specs.headline.Words.{is_blank, words}
 use Rattle.cal_read.proofs.StampPrintedTexts.{IsClock, IsDayName, date_back, date_no_colon, date_solid, date_some, date_word, in_week, other_date_back, short_names, time_back, time_digit, time_solid, time_some, time_word, year_of}
 use Rattle.cal_read.proofs.StampPrintedZones.{IsLastWord, last_byte, local_of-UTC, shown_last, shown_offset, shown_read, shown_unread, shown_word, utc_minutes}
 use Rattle.cal_read.proofs.StampRule.{only}
@@ -38,7 +40,7 @@ use Rattle.cal_read.specs.Stamp.{◌>>=◌, Setting, after_date, begins_with_dig
 use Rattle.cal_read.specs.StampDate.{day_written}
 use Rattle.cal_read.specs.StampForm.{Form, civil, counted, earlier, later}
 use Rattle.cal_read.specs.StampPrinted.{ShowsMinutes, ShowsYear}
-use Rattle.cal_read.specs.StampRule.{FitsByEnd, FitsBySign, FitsByWords, HasForm, IsBehindSign, IsBeforeWord, IsBetweenBlanks, IsNearDay}
+use Rattle.cal_read.specs.StampRule.{FitsByEnd, FitsBySign, FitsByWords, HasForm, IsBehindSign, IsBeforeWord, IsNearDay}
 use Rattle.cal_read.specs.StampTime.{time_written}
 use Rattle.cal_read.specs.StampViews.{setting}
 use Rattle.cal_read.specs.declared.stamp.fault.StampFault.TheVariants.{NoSuchDate, StrayWord}
@@ -65,6 +67,10 @@ capital_no_blank b h = grind (arith, nat_tests)
 
 last_no_blank : (b : ℕ) → 43 ≤ b → is_blank b ≡ false
 last_no_blank b h = grind (arith, nat_tests)
+
+flush_at : (text : List ℕ) → is_blank (get_or text 0 0) ≡ false → IsFlush is_blank text
+flush_at [] h = tt
+flush_at (b ∷ bs) h = h
 
 -- what a text is not: one that begins with a sign, ends in a word or begins with the word of a day
 no_sign : (core : List ℕ) (sign : ℕ) (means : List ℕ → Form) → 65 ≤ get_or core 0 0 → sign < 65 → (other : Form) → IsBehindSign (sign ∷ []) means core other → ⊥
@@ -113,17 +119,18 @@ module _ (day : Weekday) (name date time zone : List ℕ) (is : IsLine day name 
   line_end : last_byte (line name date time zone) ≤ 90
   line_end = omega (arith, line_last, is.zone_word.to)
 
-  line_between : IsBetweenBlanks (line name date time zone) (line name date time zone)
-  line_between =
-      let ends : is_blank (last_byte (line name date time zone)) ≡ false = ap is_blank line_last ∙ last_no_blank (last_byte zone) is.zone_word.from in
+  line_trimmed : IsTrimmed is_blank (line name date time zone) (line name date time zone)
+  line_trimmed =
+      let core = line name date time zone in
+      let back : get_or (reverse core) 0 0 ≡ last_byte core = get_or-reverse core 0 0 (omega (arith, line_long)) ∙ ap (λ k. get_or core k 0) (omega arith) in
       record {
         front = [];
         back = [];
-        whole = sym (append-nil (line name date time zone));
-        before = refl;
-        after = refl;
-        begins = λ some. capital_no_blank (get_or (line name date time zone) 0 0) line_capital;
-        ends = λ some. ends;
+        blanks = tt;
+        blanks_after = tt;
+        whole = sym (append-nil core);
+        flush = flush_at core (capital_no_blank (get_or core 0 0) line_capital);
+        flush_end = flush_at (reverse core) (ap is_blank (back ∙ line_last) ∙ last_no_blank (last_byte zone) is.zone_word.from);
       }
 
   fits_words : FitsByWords (line name date time zone) (civil (line_words name date time zone))
@@ -146,7 +153,7 @@ module _ (day : Weekday) (name date time zone : List ℕ) (is : IsLine day name 
   line_form : HasForm (line name date time zone) (civil (line_words name date time zone))
   line_form = record {
     core = line name date time zone;
-    between = line_between;
+    trimmed = line_trimmed;
     fits = inr (λ other p. absurd (omega (arith, line_long, ap length p.0)), inr (λ other p. absurd (omega (arith, line_long, ap length p.0)), fits_sign));
   }
 

@@ -20,7 +20,7 @@ use Rattle.cal_zone.specs.headline.ZoneName.{begins_with_letter}
 use Rattle.cal_spec.specs.headline.DateAndTime.{is_colon}
 use Rattle.cal_spec.specs.headline.Parts.{with_century}
 use Rattle.cal_spec.specs.Weekdays.{day_named}
-use Rattle.cal_spec.specs.headline.Words.{is_blank}
+use Rattle.cal_text.specs.headline.Words.{is_blank}
 use Rattle.cal_spec.proofs.CleanLemmas.{IsClear, Apart, any_clear, clear_append, clear_from, split_alone, split_at}
 use Rattle.cal_spec.proofs.ReadBackParts.{digits_all, zeros_all, zeros_value}
 use Rattle.cal_read.proofs.StampCivilRule.{digit_first, digit_no_colon}

@@ -26,7 +26,7 @@ use Rattle.cal_zone.specs.declared.zone.ZoneKind.{ZoneKind}
 use Rattle.cal_zone.specs.declared.zone.ZoneKind.TheVariants.{Utc, Offset as Fixed, Rules}
 use Rattle.cal_spec.proofs.CleanLemmas.{any_clear, clear_from}
 use Rattle.cal_spec.specs.GrammarRule.{IsWord}
-use Rattle.cal_spec.specs.headline.Words.{is_blank}
+use Rattle.cal_text.specs.headline.Words.{is_blank}
 use Rattle.cal_read.specs.Stamp.{zone_meant}
 use Rattle.cal_read.specs.declared.stamp.fault.StampFault.TheVariants.{StrayWord}
 

@@ -1,19 +1,20 @@
 -- That each text has exactly one form by the rule.
-use Rattle.std.proofs.Common.{ℕ, ◌+◌, ◌-◌, ◌<◌, ◌≤◌, ◌≡◌, Bool, true, false, cond, inl, inr, List, [], ◌∷◌, ◌++◌, suc, length, get_or, take, drop, refl, sym, ap, ◌∙◌, arith, add-zero, length-append, length-drop, drop-cons, ◌&&◌, ℤ, pos, codes, Option, Some, None, eq-eqb}
+use Rattle.std.proofs.Common.{ℕ, ◌+◌, ◌-◌, ◌<◌, ◌≤◌, ◌≡◌, Bool, true, false, inl, inr, List, [], ◌∷◌, ◌++◌, suc, length, get_or, take, drop, refl, sym, ap, ◌∙◌, arith, length-append, drop-cons, ◌&&◌, ℤ, pos, codes, Option, Some, None, eq-eqb}
 use Rattle.std.specs.Prelude.{neg_ℤ, ◌==◌, if◌then◌else◌}
-use Rattle.std.specs.List.{list_all, list_any, prefix_len, suffix_len, before_last, after_last}
+use Rattle.std.specs.List.{list_all, list_any, suffix_len, before_last, after_last}
 use Rattle.std.specs.Str.{bytes_eq}
 use Rattle.std.proofs.Math.Seq.{take-append_seam, get_or-append_right, get_or-append_seam, drop-append-add}
 use Rattle.std.proofs.lemmas.List.Folds.{list_any_at}
-use Rattle.std.proofs.Math.ListN.{get_or-append}
 use Rattle.std.proofs.lemmas.Bool.{cases_lt, and_parts, eqb-true, false≢true}
-use Rattle.std.proofs.lemmas.List.{append_cancel_left, take-append-drop, length-take, get_or-drop, get_or-take, append-nil}
-use Rattle.std.proofs.lemmas.List.Sums.{AllPass-from_list_all, list_all-from_AllPass, prefix_len_passes, prefix_len_stops, suffix_len_is, suffix_len-le-length}
+use Rattle.std.proofs.lemmas.List.{append_cancel_left, take-append-drop}
+use Rattle.std.proofs.lemmas.List.Sums.{AllPass-from_list_all, suffix_len_is, suffix_len-le-length}
 use Rattle.std.proofs.lemmas.Slice.Eq.{bytes_eq-Decides}
-use Rattle.cal_spec.specs.headline.Words.{is_blank, words}
-use Rattle.cal_read.specs.StampForm.{Form, present, later, earlier, counted, from_today, civil, from_solid, to_solid, solid, day_shift, form_of, form_by_end, form_of_solid, form_of_words, form_by_day, form_by_ago, form_by_left}
-use Rattle.cal_read.specs.StampRule.{IsBetweenBlanks, IsNothing, IsPresent, IsBehindSign, IsBeforeWord, IsNearDay, IsCivil, OrElse, FitsByWords, FitsByEnd, FitsBySign, FitsFirst, HasForm}
-use Rattle.cal_read.proofs.StampText.{before_suffix, in_suffix, is_solid, last_blank, no_blank}
+use Rattle.cal_text.proofs.TrimLemmas.{trim_is, trim_only}
+use Rattle.cal_text.proofs.WordLemmas.{is_solid, last_blank, no_blank}
+use Rattle.cal_text.specs.headline.Trim.{trim}
+use Rattle.cal_text.specs.headline.Words.{is_blank, words}
+use Rattle.cal_read.specs.StampForm.{Form, present, later, earlier, counted, from_today, civil, day_shift, form_of, form_by_end, form_of_solid, form_of_words, form_by_day, form_by_ago, form_by_left}
+use Rattle.cal_read.specs.StampRule.{IsNothing, IsPresent, IsBehindSign, IsBeforeWord, IsNearDay, IsCivil, OrElse, FitsByWords, FitsByEnd, FitsBySign, FitsFirst, HasForm}
 
 -- One form
 
@@ -73,97 +74,6 @@ one_by_sign =
 
 one_fits : IsOne FitsFirst
 one_fits = or_else IsNothing (OrElse IsPresent FitsBySign) one_nothing (or_else IsPresent FitsBySign one_present one_by_sign)
-
--- The text between blanks
-
-all_in_front : (p : ℕ → Bool) (xs : List ℕ) → list_all p (take (prefix_len p xs) xs) ≡ true
-all_in_front p xs =
-    let n = prefix_len p xs in
-    list_all-from_AllPass p (take n xs) (λ k d within.
-    let inside : k < n = omega (arith, length-take n xs) in
-    rw (get_or-take n xs k d inside) (prefix_len_passes p xs k d inside))
-
-all_at_end : (p : ℕ → Bool) (xs : List ℕ) → list_all p (drop (length xs - suffix_len p xs) xs) ≡ true
-all_at_end p xs =
-    let m = length xs - suffix_len p xs in
-    list_all-from_AllPass p (drop m xs) (λ k d within.
-    let inside : m + k < length xs = omega (arith, length-drop m xs) in
-    rw (get_or-drop m xs k d) (in_suffix p xs (m + k) d (omega arith) inside))
-
-begins_solid : (text : List ℕ) → 0 < length (solid text) → is_blank (get_or (solid text) 0 0) ≡ false
-unfolding solid
-begins_solid text some =
-    let n = prefix_len is_blank text in
-    let t = from_solid text in
-    let m = length t - suffix_len is_blank t in
-    let inside : 0 < m = omega (arith, length-take m t) in
-    let within : n < length text = omega (arith, length-take m t, length-drop n text) in
-    rw (get_or-take m t 0 0 inside, get_or-drop n text 0 0, add-zero) (prefix_len_stops is_blank text 0 within)
-
-ends_solid : (text : List ℕ) → 0 < length (solid text) → is_blank (get_or (solid text) (length (solid text) - 1) 0) ≡ false
-unfolding solid
-ends_solid text some =
-    let t = from_solid text in
-    let m = length t - suffix_len is_blank t in
-    let inside : 0 < m = omega (arith, length-take m t) in
-    let long : length (take m t) - 1 ≡ m - 1 = omega (arith, length-take m t) in
-    let before : m - 1 < m = omega arith in
-    rw (long, get_or-take m t (m - 1) 0 before) (before_suffix is_blank t (omega arith))
-
-whole_solid : (text : List ℕ) → text ≡ take (prefix_len is_blank text) text ++ (solid text ++ drop (length (from_solid text) - suffix_len is_blank (from_solid text)) (from_solid text))
-unfolding solid
-whole_solid text =
-    let n = prefix_len is_blank text in
-    let t = from_solid text in
-    let m = length t - suffix_len is_blank t in
-    sym (take-append-drop n text) ∙ ap (λ xs. take n text ++ xs) (sym (take-append-drop m t))
-
-pub between-solid : (text : List ℕ) → IsBetweenBlanks text (solid text)
-between-solid text = record {
-  front = take (prefix_len is_blank text) text;
-  back = drop (length (from_solid text) - suffix_len is_blank (from_solid text)) (from_solid text);
-  whole = whole_solid text;
-  before = all_in_front is_blank text;
-  after = all_at_end is_blank (from_solid text);
-  begins = begins_solid text;
-  ends = ends_solid text;
-}
-
-drop_blank : (b : ℕ) (text : List ℕ) (test : Bool) → test ≡ true → drop (cond test (1 + prefix_len is_blank text) 0) (b ∷ text) ≡ from_solid text
-drop_blank b text true e = let one : 1 + prefix_len is_blank text ≡ suc (prefix_len is_blank text) = omega arith in rw one refl
-drop_blank b text false e = cc
-
-from_solid-front : (front rest : List ℕ) → list_all is_blank front ≡ true → from_solid (front ++ rest) ≡ from_solid rest
-from_solid-front [] rest h = refl
-from_solid-front (b ∷ bs) rest h =
-    let parts = and_parts (is_blank b) (list_all is_blank bs) h in
-    drop_blank b (bs ++ rest) (is_blank b) parts.0 ∙ from_solid-front bs rest parts.1
-
-from_solid-core : (b : ℕ) (rest : List ℕ) → is_blank b ≡ false → from_solid (b ∷ rest) ≡ b ∷ rest
-from_solid-core b rest solid = rw solid refl
-
-to_solid-core : (core back : List ℕ) → list_all is_blank back ≡ true → (0 < length core → is_blank (get_or core (length core - 1) 0) ≡ false) → to_solid (core ++ back) ≡ core
-to_solid-core core back blanks ends =
-    let n = length core in
-    let long = length-append core back in
-    let last = suffix_len_is is_blank (core ++ back) n 0 (omega (arith, long))
-    (λ k from within. rw (get_or-append_right core back k 0 from) (AllPass-from_list_all is_blank back blanks (k - n) 0 (omega (arith, long))))
-    (λ some. let before : n - 1 < length core = omega arith in rw (get_or-append core back 0 (n - 1) before) (ends some)) in
-    let here : length (core ++ back) - suffix_len is_blank (core ++ back) ≡ n = omega (arith, long, last) in
-    ap (λ k. take k (core ++ back)) here ∙ take-append_seam core back
-
-core_between : (core back : List ℕ) → list_all is_blank back ≡ true → (0 < length core → is_blank (get_or core 0 0) ≡ false) → (0 < length core → is_blank (get_or core (length core - 1) 0) ≡ false) → core ≡ to_solid (from_solid (core ++ back))
-core_between [] back blanks begins ends =
-    let none = ap from_solid (sym (append-nil back)) ∙ from_solid-front back [] blanks in rw none refl
-core_between (b ∷ bs) back blanks begins ends =
-    let some : 0 < length (b ∷ bs) = omega arith in
-    sym (ap to_solid (from_solid-core b (bs ++ back) (begins some)) ∙ to_solid-core (b ∷ bs) back blanks ends)
-
-pub solid-between : (text core : List ℕ) → IsBetweenBlanks text core → core ≡ solid text
-unfolding solid
-solid-between text core h =
-    core_between core h.back h.after h.begins h.ends
-    ∙ sym (ap to_solid (ap from_solid h.whole ∙ from_solid-front h.front (core ++ h.back) h.before))
 
 -- The first form that fits
 
@@ -287,10 +197,10 @@ fits-form_of_solid (b ∷ bs) =
 
 pub found : (text : List ℕ) → HasForm text (form_of text)
 unfolding form_of
-found text = record { core = solid text; between = between-solid text; fits = fits-form_of_solid (solid text) }
+found text = record { core = trim is_blank text; trimmed = trim_is is_blank text; fits = fits-form_of_solid (trim is_blank text) }
 
 pub only : (text : List ℕ) (form : Form) → HasForm text form → form ≡ form_of text
 unfolding form_of
 only text form h =
-    let core = solid-between text h.core h.between in
+    let core = trim_only is_blank text h.core h.trimmed in
     one_fits h.core form (form_of_solid h.core) h.fits (fits-form_of_solid h.core) ∙ ap form_of_solid core

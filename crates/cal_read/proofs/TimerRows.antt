@@ -7,7 +7,8 @@ use lib.Utf8.{encode}
 use Rattle.cal_spec.specs.declared.spec_fault.SpecFault.{SpecFault}
 use Rattle.cal_spec.specs.declared.spec_fault.SpecFault.TheVariants.{NoRepeat}
 use Rattle.cal_read.specs.headline.Assignments.{assignment_of, assignments_in, timer_lines}
-use Rattle.cal_lines.specs.headline.Lines.{groups, is_continued, logical_lines, part_of, physical_lines, plain_lines, trim, trim_end, trim_start}
+use Rattle.cal_text.specs.headline.Trim.{trim, trim_end, trim_start}
+use Rattle.cal_lines.specs.headline.Lines.{groups, is_continued, logical_lines, part_of, physical_lines, plain_lines}
 use Rattle.cal_read.specs.TimerText.{TimerLine, broken_line, entries, fault_following, fault_joining, first_fault, lists_of, timer_in, timer_of}
 use Rattle.cal_read.specs.headline.TimerText.{excepted, is_exception, is_exception_reset, is_expression, is_reset, listed, without_mark}
 use Rattle.cal_read.specs.declared.timer.fault.TimerFault.{TimerFault}

@@ -1,20 +1,9 @@
 -- The forms of a timestamp: systemd.time(7), Parsing Timestamps.
-use Rattle.std.specs.Prelude.{ℕ, ◌-◌, ◌==◌, ◌&&◌, if◌then◌else◌, ℤ, pos, neg_ℤ, List, [], ◌∷◌, length, take, drop, codes, Option, None, Some}
-use Rattle.std.specs.List.{list_any, prefix_len, suffix_len, before_last, after_last}
+use Rattle.std.specs.Prelude.{ℕ, ◌==◌, ◌&&◌, if◌then◌else◌, ℤ, pos, neg_ℤ, List, [], ◌∷◌, codes, Option, None, Some}
+use Rattle.std.specs.List.{list_any, before_last, after_last}
 use Rattle.std.specs.Str.{bytes_eq}
-use Rattle.cal_spec.specs.headline.Words.{is_blank, words}
-
--- the text without the blanks at its start
-abbrev pub from_solid : List ℕ → List ℕ
-from_solid text = drop (prefix_len is_blank text) text
-
--- the text without the blanks at its end
-abbrev pub to_solid : List ℕ → List ℕ
-to_solid text = take (length text - suffix_len is_blank text) text
-
--- the text without the blanks at its ends
-unfoldable pub solid : List ℕ → List ℕ
-solid text = to_solid (from_solid text)
+use Rattle.cal_text.specs.headline.Trim.{trim}
+use Rattle.cal_text.specs.headline.Words.{is_blank, words}
 
 -- what a text asks for: nothing at all, the present, a span text after the present, before it or after 0, that many
 -- days from the present day with the words after, or the words of a civil time
@@ -71,4 +60,4 @@ form_of_solid (b ∷ bs) =
 
 -- what a text asks for
 unfoldable pub form_of : List ℕ → Form
-form_of text = form_of_solid (solid text)
+form_of text = form_of_solid (trim is_blank text)

@@ -1,19 +1,9 @@
 -- The rule by which a text has a form, in its own words: systemd.time(7), Parsing Timestamps. The law `one_form` ties it
 -- to what `StampForm` computes.
-use Rattle.std.specs.Prelude.{ℕ, ◌-◌, ◌<◌, ◌≡◌, ◌⊎◌, true, false, ℤ, pos, neg_ℤ, List, [], ◌∷◌, ◌++◌, length, slice_index, codes}
-use Rattle.std.specs.List.{list_all}
-use Rattle.cal_spec.specs.headline.Words.{is_blank, words}
+use Rattle.std.specs.Prelude.{ℕ, ◌≡◌, ◌⊎◌, true, ℤ, pos, neg_ℤ, List, [], ◌∷◌, ◌++◌, codes}
+use Rattle.cal_text.specs.TrimRule.{IsTrimmed}
+use Rattle.cal_text.specs.headline.Words.{is_blank, words}
 use Rattle.cal_read.specs.StampForm.{Form, nothing, present, later, earlier, counted, from_today, civil}
-
--- the text is the core with blanks round it, and no blank is at the ends of the core
-pub record IsBetweenBlanks (text core : List ℕ) : Type 0 where
-  pub front : List ℕ
-  pub back : List ℕ
-  pub whole : text ≡ front ++ (core ++ back)
-  pub before : list_all is_blank front ≡ true
-  pub after : list_all is_blank back ≡ true
-  pub begins : 0 < length core → is_blank (slice_index core 0) ≡ false
-  pub ends : 0 < length core → is_blank (slice_index core (length core - 1)) ≡ false
 
 -- 1: nothing
 abbrev pub IsNothing : List ℕ → Form → Type 0
@@ -69,5 +59,5 @@ FitsFirst = OrElse IsNothing (OrElse IsPresent FitsBySign)
 -- the form of a text
 pub record HasForm (text : List ℕ) (form : Form) : Type 0 where
   pub core : List ℕ
-  pub between : IsBetweenBlanks text core
+  pub trimmed : IsTrimmed is_blank text core
   pub fits : FitsFirst core form

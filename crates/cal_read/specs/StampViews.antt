@@ -5,7 +5,7 @@ use Rattle.jiff.specs.Types.{TimeZone}
 use Rattle.cal_zone.specs.declared.moment.Moment.{Moment}
 use Rattle.cal_zone.specs.declared.zone.Zone.{Zone}
 use Rattle.cal_zone.specs.headline.Zone.{zone_of}
-use Rattle.cal_spec.specs.headline.Words.{words}
+use Rattle.cal_text.specs.headline.Words.{words}
 use Rattle.cal_read.specs.Stamp as meaning
 use Rattle.cal_read.specs.StampForm as forms
 use Rattle.cal_read.specs.declared.stamp.fault.StampFault.{StampFault}

@@ -14,7 +14,7 @@ use Rattle.cal_zone.specs.headline.Days.{date_of}
 use Rattle.cal_zone.proofs.DayLemmas.{date_of-epoch_day}
 use Rattle.cal_zone.specs.headline.Local.{civil_date, seconds_in_all, seconds_in_all-is}
 use Rattle.cal_read.specs.Stamp.{in_moments, moment_in}
-use Rattle.cal_read.specs.StampForm.{day_shift, form_by_end, form_of, solid}
+use Rattle.cal_read.specs.StampForm.{day_shift, form_by_end, form_of}
 use Rattle.cal_report.specs.Resume.{AreShown, IsBegunAgain}
 use Rattle.cal_report.specs.TimestampReport.{stamp_in}
 use Rattle.cal_span.specs.Scale.{words_for}
@@ -36,7 +36,7 @@ use Rattle.cal_zone.proofs.PlaceLemmas.{place_of-UTC}
 use Rattle.std.proofs.lemmas.Int.{ints}
 use lib.Utf8.{encode}
 use Rattle.std.specs.Str.{chars, is_utf8}
-use Rattle.cal_lines.specs.headline.Lines.{groups, is_continued, logical_lines, part_of as part_of_line, physical_lines, plain_lines, trim, trim_end, trim_start}
+use Rattle.cal_lines.specs.headline.Lines.{groups, is_continued, logical_lines, part_of as part_of_line, physical_lines, plain_lines}
 use Rattle.cal_read.specs.headline.Assignments.{Assignment, assignment_of, assignments_in, timer_lines}
 use Rattle.cal_read.specs.headline.TimerText.{excepted, is_exception, is_exception_reset, is_expression, is_reset, listed as listed_in, most_expressions, without_mark}
 use Rattle.std.specs.Prelude.{ℤ, ◌<ℤ◌, ◌≤ℤ◌, List, length, map, slice_get, take}
@@ -49,7 +49,8 @@ use Rattle.cal_spec.specs.Parts.{with_step, after_end, after_start, part_of, fau
 use Rattle.cal_spec.specs.headline.Shorthand.{shorthand_named}
 use Rattle.cal_spec.specs.Weekdays.{day_named, days_of, listed_days, weekdays_of}
 use Rattle.cal_spec.specs.Words.{roles_of}
-use Rattle.cal_spec.specs.headline.Words.{words}
+use Rattle.cal_text.specs.headline.Trim.{trim, trim_end, trim_start}
+use Rattle.cal_text.specs.headline.Words.{words}
 use Rattle.cal_spec.proofs.WholeRule.{valid_found}
 use Rattle.cal_elapse.proofs.ElapsesLemmas.{AreElapses-only, elapses_except-none, first_elapse-least}
 use Rattle.cal_report.specs.headline.Headline.{AreElapsesOf, AreSpelled, Expression, IsAccepted, IsFileOf, Spells, alone, assigned_in, meaning}
@@ -286,7 +287,7 @@ one_second : Request
 one_second = record { verb = Calendar; texts = codes "*:*:*" ∷ []; iterations = 1; base = Some (codes "@1704112201"); now = pos 1_704_112_200; local = utc; zones = empty }
 
 one_second-sought : base_in one_second ≡ Ok (pos 1_704_112_201)
-unfolding one_second base_in stamp_in moment_in form_of solid form_by_end day_shift words in_moments span_of pairs_in words_in worth_of is_number number_worth unit_named words_for
+unfolding one_second base_in stamp_in moment_in form_of trim trim_end trim_start form_by_end day_shift words in_moments span_of pairs_in words_in worth_of is_number number_worth unit_named words_for
 one_second-sought = refl
 
 first_is : (xs : List ℤ) (x : ℤ) → slice_get xs 0 ≡ Some x → slice_get (take 2 xs) 0 ≡ Some x

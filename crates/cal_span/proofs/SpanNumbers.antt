@@ -3,15 +3,12 @@ use Rattle.std.proofs.Common.{ℕ, suc, ◌+◌, ◌-◌, ◌*◌, ◌^◌, ◌/
 use Rattle.std.specs.Prelude.{count_by, nat_le, nat_lt}
 use Rattle.std.specs.List.{list_all, list_any, position_or_len, before_first, after_first}
 use Rattle.std.specs.Char.{is_ascii_digit, digit_value}
-use Rattle.std.specs.Str.Parse.{digits_value}
 use Rattle.std.proofs.Math.Nat.{pow-suc, one-le-pow, min-eq_left, min-eq_right, div-eq_of_lt, mul-le-mul}
-use Rattle.std.proofs.lemmas.Str.{digit_value_digit}
-use Rattle.std.proofs.lemmas.Int.Digits.{digits_value_more}
-use Rattle.std.proofs.lemmas.List.Recursion.{and_at}
 use Rattle.std.proofs.lemmas.List.{nil_from_length, at_drop_more}
 use Rattle.std.proofs.lemmas.List.Sums.{sum_by-cons}
-use Rattle.std.proofs.lemmas.Bool.{false≢true, leb-true, cases_lt, lt-leb, and_parts, lt-ltb, eqb-true}
+use Rattle.std.proofs.lemmas.Bool.{false≢true, cases_lt, lt-leb, and_parts, lt-ltb, eqb-true}
 use Rattle.std.proofs.lemmas.Bool.Decides.{nat_tests}
+use Rattle.cal_text.proofs.DigitLemmas.{digit_at, top}
 use Rattle.cal_span.specs.SpanValue.{is_point, is_number, fraction_worth}
 
 abbrev is_digit_or_point : ℕ → Bool
@@ -97,25 +94,6 @@ no_number_from_empty xs before after at_before at_after none_before none_after =
 pub no_number_from_parts : (xs before after : List ℕ) → before ≡ before_first is_point xs → after ≡ after_first is_point xs → (list_all is_ascii_digit before && list_all is_ascii_digit after) ≡ false → is_number xs ≡ false
 unfolding is_number
 no_number_from_parts xs before after at_before at_after some = rw (one_point xs, ← at_before, ← at_after, some) refl
-
--- each byte of digits is a digit
-pub digit_at : (digits : List ℕ) (i : ℕ) → i < length digits → list_all is_ascii_digit digits ≡ true → (48 ≤ get_or digits i 0) × (get_or digits i 0 ≤ 57) × (digit_value (get_or digits i 0) + 48 ≡ get_or digits i 0)
-digit_at digits i within all =
-    let is = and_at (list_all is_ascii_digit) is_ascii_digit refl (λ _ _. refl) digits i 0 within all in
-    let range = and_parts (leb 48 (get_or digits i 0)) (leb (get_or digits i 0) 57) is in
-    let low = leb-true 48 (get_or digits i 0) range.0 in
-    let high = leb-true (get_or digits i 0) 57 range.1 in
-    (low, high, digit_value_digit (get_or digits i 0) (low, high))
-
--- the top of a `u64`, where sums and products stay
-abbrev pub top : ℕ
-top = 2 ^ 64 - 1
-
--- one more digit of a number that stays at the top
-pub whole_more : (digits : List ℕ) (i whole : ℕ) → i < length digits → list_all is_ascii_digit digits ≡ true → whole ≡ min (digits_value 10 (take i digits)) top → min (min (whole * 10) top + (get_or digits i 0 - 48)) top ≡ min (digits_value 10 (take (i + 1) digits)) top
-whole_more digits i whole within all so_far =
-    let digit = (digit_at digits i within all).2 in
-    rw (digits_value_more 10 digits i within) (omega arith)
 
 -- a number below the top, divided by a power that stays at the top
 quotient_at_top : (n divisor : ℕ) → n < top → 0 < divisor → n / min divisor top ≡ n / divisor

@@ -12,7 +12,7 @@ use Rattle.cal_span.specs.headline.Scale.{size_of}
 use Rattle.cal_span.specs.Span.{limit}
 use Rattle.cal_span.specs.SpanValue.{Piece, Pair, is_kind, words_in, pairs_of, pairs_in, is_number, unit_in, number_worth, worth_of, sum_with}
 use Rattle.cal_span.proofs.SpanWords.{same_from_is_kind}
-use Rattle.cal_span.proofs.SpanNumbers.{top}
+use Rattle.cal_text.proofs.DigitLemmas.{top}
 
 pub no_kind : (j k : CharKind) → (k ≡ j → ⊥) → is_kind j k ≡ false
 no_kind j k differs = false_from_ne_true (is_kind j k) (λ e. differs (sym (same_from_is_kind j k e)))

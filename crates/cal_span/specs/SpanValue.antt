@@ -5,6 +5,7 @@ use Rattle.std.specs.List.{list_any, list_all, find, before_first, after_first}
 use Rattle.std.specs.Str.{bytes_eq}
 use Rattle.std.specs.Char.{digit_value, is_ascii_digit, is_ascii_alphabetic}
 use Rattle.std.specs.Str.Parse.{digits_value}
+use Rattle.cal_text.specs.headline.Words.{is_blank}
 use Rattle.cal_span.specs.declared.scale.Scale.{Scale}
 use Rattle.cal_span.specs.declared.scale.Scale.TheVariants.{Second}
 use Rattle.cal_span.specs.declared.span.fault.SpanFault.{SpanFault}
@@ -16,10 +17,6 @@ use Rattle.cal_span.specs.headline.Scale.{size_of, scales}
 use Rattle.cal_span.specs.Span.{limit}
 
 -- Characters
-
--- a blank is a space or a tab
-abbrev pub is_blank : ℕ → Bool
-is_blank b = (b == 32) || (b == 9)
 
 -- the point of a number
 abbrev pub is_point : ℕ → Bool

@@ -4,10 +4,11 @@
 mod scale;
 mod span;
 
+pub use cal_text::{are_digits, whole_of};
 pub use scale::Scale;
 pub use span::Span;
 pub use span::fault::SpanFault;
-pub use span::number::{are_digits, fraction_of, whole_of};
+pub use span::number::fraction_of;
 pub use span::rule::one_value;
 pub use span::text::{SPAN_ROOM, format_span, one_text, push_span, text_reads_back, write_span};
 pub use span::value::read_span;

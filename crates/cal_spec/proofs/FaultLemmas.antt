@@ -15,7 +15,8 @@ use Rattle.cal_spec.specs.Reads.{◌>>=◌, unless, first_of}
 use Rattle.cal_spec.specs.headline.Slot.{day_slot}
 use Rattle.cal_spec.specs.Weekdays.{weekdays_in}
 use Rattle.cal_spec.specs.Words.{roles_of}
-use Rattle.cal_spec.specs.headline.Words.{Roles, words}
+use Rattle.cal_text.specs.headline.Words.{words}
+use Rattle.cal_spec.specs.headline.Words.{Roles}
 use Rattle.cal_spec.specs.ZoneSuffix.{suffix_in}
 use Rattle.cal_spec.specs.headline.ZoneSuffix.{ZoneSuffix}
 use Rattle.cal_spec.specs.declared.part.Part.{Part}

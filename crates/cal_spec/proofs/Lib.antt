@@ -25,7 +25,5 @@ pub mod SymbolLemmas
 pub mod WeekdayRule
 pub mod WholeRule
 pub mod SuffixLemmas
-pub mod WordLemmas
 pub mod WordRule
 pub mod WordsBetween
-pub mod ZoneLemmas

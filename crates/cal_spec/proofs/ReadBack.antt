@@ -19,7 +19,8 @@ use Rattle.cal_spec.specs.ValidFields.{IsValidFields}
 use Rattle.cal_spec.specs.headline.WeekdayRuns.{runs_from, runs_text}
 use Rattle.cal_spec.specs.Weekdays.{weekdays_in}
 use Rattle.cal_spec.specs.Words.{after_weekdays, date_or_time, roles_of}
-use Rattle.cal_spec.specs.headline.Words.{Roles, is_blank, words}
+use Rattle.cal_text.specs.headline.Words.{is_blank, words}
+use Rattle.cal_spec.specs.headline.Words.{Roles}
 use Rattle.cal_zone.specs.headline.ZoneName.{begins_with_letter, is_zone_byte}
 use Rattle.cal_zone.specs.OffsetWord.{begins_zone}
 use Rattle.cal_zone.specs.headline.OffsetWord.{begins_with_sign, is_sign}

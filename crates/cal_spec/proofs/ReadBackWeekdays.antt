@@ -6,7 +6,7 @@ use Rattle.cal_zone.specs.headline.Weekday.{name_of, week}
 use Rattle.cal_spec.specs.headline.Shorthand.{shorthand_named}
 use Rattle.cal_spec.specs.headline.WeekdayRuns.{run_text, runs_from, runs_text}
 use Rattle.cal_spec.specs.Weekdays.{day_named, days_of, listed_days, weekdays_of}
-use Rattle.cal_spec.specs.headline.Words.{is_blank}
+use Rattle.cal_text.specs.headline.Words.{is_blank}
 use Rattle.cal_zone.specs.headline.ZoneName.{begins_with_letter}
 use Rattle.cal_spec.specs.declared.shorthand.Shorthand.{Shorthand}
 use Rattle.cal_spec.specs.declared.spec_fault.SpecFault.{SpecFault}

@@ -7,7 +7,8 @@ use Rattle.cal_spec.specs.Grammar.{most_text_bytes, fields_at, fields_in}
 use Rattle.cal_spec.specs.headline.GrammarRule.{given, ArePlain, AreShort, IsExpression, IsValid}
 use Rattle.cal_spec.specs.Weekdays.{weekdays_in}
 use Rattle.cal_spec.specs.Words.{roles_of}
-use Rattle.cal_spec.specs.headline.Words.{Roles, words}
+use Rattle.cal_text.specs.headline.Words.{words}
+use Rattle.cal_spec.specs.headline.Words.{Roles}
 use Rattle.cal_spec.specs.ZoneSuffix.{suffix_in}
 use Rattle.cal_spec.specs.headline.ZoneSuffix.{ZoneSuffix}
 use Rattle.cal_spec.proofs.DateRule.{is_date, is_time, AreFew, are_few, date_only, time_only}

@@ -4,8 +4,9 @@ use Rattle.std.specs.Prelude.{filter, nat_lt}
 use Rattle.std.specs.List.{list_all, list_any, slice_split, onto_first}
 use Rattle.std.proofs.lemmas.Bool.{and_parts, and_from, or_from, lt-ltb}
 use Rattle.std.proofs.lemmas.List.{append-nil}
+use Rattle.cal_text.proofs.WordLemmas.{words-blank}
 use Rattle.cal_spec.specs.GrammarRule.{IsWord, Ends, AreWords}
-use Rattle.cal_spec.specs.headline.Words.{is_blank, words}
+use Rattle.cal_text.specs.headline.Words.{is_blank, words}
 use Rattle.cal_spec.proofs.CleanLemmas.{split_at, split_alone}
 use Rattle.cal_spec.proofs.PieceLemmas.{some_piece}
 use Rattle.cal_spec.proofs.WordRule.{clear_by}
@@ -79,29 +80,25 @@ words_found text =
 
 -- blanks are no words
 
-words_blank : (b : ℕ) (text : List ℕ) → is_blank b ≡ true → words (b ∷ text) ≡ words text
-unfolding words
-words_blank b text blank = rw blank refl
-
 words_lead : (lead text : List ℕ) → list_all is_blank lead ≡ true → words (lead ++ text) ≡ words text
 words_lead [] text blanks = refl
 words_lead (b ∷ bs) text blanks =
     let parts = and_parts (is_blank b) (list_all is_blank bs) blanks in
-    words_blank b (bs ++ text) parts.0 ∙ words_lead bs text parts.1
+    words-blank b (bs ++ text) parts.0 ∙ words_lead bs text parts.1
 
 words_none : (text : List ℕ) → list_all is_blank text ≡ true → words text ≡ []
 unfolding words
 words_none [] blanks = refl
 words_none (b ∷ bs) blanks =
     let parts = and_parts (is_blank b) (list_all is_blank bs) blanks in
-    words_blank b bs parts.0 ∙ words_none bs parts.1
+    words-blank b bs parts.0 ∙ words_none bs parts.1
 
 words_first : (w rest : List ℕ) → IsWord w → Ends rest → words (w ++ rest) ≡ w ∷ words rest
 unfolding words
 words_first w [] word ends =
     rw (append-nil w, split_alone is_blank w (clear_by is_blank w word.solid), lt-ltb 0 (length w) word.some) refl
 words_first w (b ∷ rest) word ends =
-    rw (split_at is_blank w b rest (clear_by is_blank w word.solid) ends, lt-ltb 0 (length w) word.some) (ap (λ more. w ∷ more) (sym (words_blank b rest ends)))
+    rw (split_at is_blank w b rest (clear_by is_blank w word.solid) ends, lt-ltb 0 (length w) word.some) (ap (λ more. w ∷ more) (sym (words-blank b rest ends)))
 
 -- nothing else comes between blanks
 pub words_only : (text : List ℕ) (ws : List (List ℕ)) → AreWords text ws → words text ≡ ws

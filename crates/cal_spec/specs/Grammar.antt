@@ -6,7 +6,8 @@ use Rattle.cal_spec.specs.headline.Fields.{Fields}
 use Rattle.cal_spec.specs.Reads.{◌>>=◌}
 use Rattle.cal_spec.specs.Weekdays.{weekdays_in}
 use Rattle.cal_spec.specs.Words.{roles_of}
-use Rattle.cal_spec.specs.headline.Words.{Roles, words}
+use Rattle.cal_text.specs.headline.Words.{words}
+use Rattle.cal_spec.specs.headline.Words.{Roles}
 use Rattle.cal_spec.specs.ZoneSuffix.{suffix_in}
 use Rattle.cal_spec.specs.declared.spec_fault.SpecFault.{SpecFault}
 use Rattle.cal_spec.specs.declared.spec_fault.SpecFault.TheVariants.{Empty, TextTooLong}

@@ -1,7 +1,7 @@
 -- Texts of one word, and words in a row.
 use Rattle.std.specs.Prelude.{ℕ, ◌<◌, ◌≡◌, true, false, List, [], ◌∷◌, ◌++◌, length, ⊤}
 use Rattle.std.specs.List.{list_all, list_any}
-use Rattle.cal_spec.specs.headline.Words.{is_blank}
+use Rattle.cal_text.specs.headline.Words.{is_blank}
 
 -- Parts
 

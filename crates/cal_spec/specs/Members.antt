@@ -3,7 +3,6 @@ use Rattle.std.specs.Prelude.{ℕ, Bool}
 use Rattle.cal_spec.specs.headline.Match.{Sets}
 use Rattle.cal_spec.specs.declared.field.Field.{Field}
 use Rattle.cal_spec.specs.declared.field.Field.TheVariants as field
-use Rattle.cal_spec.specs.declared.slot.Slot.TheVariants.{Year, Month, Day, Hour, Minute, Second}
 
 -- the members of a field
 abbrev pub members_of : Field → Sets → ℕ → Bool

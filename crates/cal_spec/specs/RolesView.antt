@@ -1,6 +1,7 @@
 -- What contracts see of the texts of an expression by their roles.
 use Rattle.std.specs.Option.{option_copied}
-use Rattle.cal_spec.specs.headline.Words.{Roles, words}
+use Rattle.cal_text.specs.headline.Words.{words}
+use Rattle.cal_spec.specs.headline.Words.{Roles}
 use Rattle.cal_spec.specs.declared.words.Roles as declared
 
 abbrev pub shown_roles : declared.Roles → Roles

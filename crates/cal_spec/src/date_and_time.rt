@@ -11,7 +11,7 @@ ghost use Rattle.cal_spec.specs.Reads.{GivesUnlessNoMemory};
 use crate::SpecFault;
 use crate::components::{count_parts, read_component};
 use crate::fields::{DateFields, TimeFields};
-use crate::pieces::{cut_at, first_piece};
+use crate::pieces::first_piece;
 use crate::slot::{Slot, day_slot};
 use std::alloc::Global;
 

@@ -9,7 +9,7 @@ ghost use Rattle.cal_spec.specs.Grammar.{fields_in};
 ghost use Rattle.cal_spec.specs.GrammarRule.{AreWords};
 ghost use Rattle.cal_spec.specs.headline.GrammarRule.{IsValid};
 ghost use Rattle.cal_spec.specs.Reads.{first_of};
-ghost use Rattle.cal_spec.specs.headline.Words.{words};
+ghost use Rattle.cal_text.specs.headline.Words.{words};
 
 /// A text has fields exactly where it is an expression by the productions of systemd.time(7), Calendar Events, and
 /// these are its fields. It is at most one expression. Where it is none, its fault is the first of all judgements in

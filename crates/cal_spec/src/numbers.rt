@@ -7,7 +7,7 @@ ghost use Rattle.std.specs.Str.Parse.{digits_value};
 ghost use Rattle.cal_spec.specs.Parts.{symbols};
 ghost use Rattle.cal_spec.specs.Symbol.{symbol_of};
 
-use cal_span::whole_of;
+use cal_text::whole_of;
 
 /// What is in a part of a component.
 #[derive(Clone, Copy)]

@@ -49,7 +49,7 @@ fn read_fields(alloc: Global, text: &str) -> Result<Fields, SpecFault>
     if text.len() > MOST_TEXT_BYTES {
         return Err(SpecFault::TextTooLong);
     }
-    match find_roles(text.as_bytes()) {
+    match find_roles(text) {
         Some(roles) => read_roles(alloc, roles),
         None => Err(SpecFault::Empty),
     }

@@ -1,15 +1,13 @@
 //! The words of a calendar expression, and what each stands for.
 
-ghost use Rattle.std.specs.Prelude.{◌≡◌, ◌∷◌, [], MatchOption};
-ghost use Rattle.std.specs.List.{list_any, position};
-ghost use Rattle.std.specs.Option.{option_copied, option_map, unwrap_or};
-ghost use Rattle.cal_spec.specs.headline.DateAndTime.{is_colon};
+ghost use Rattle.std.specs.Prelude.{◌≡◌};
+ghost use Rattle.std.specs.Option.{option_copied, option_map};
 ghost use Rattle.cal_spec.specs.RolesView.{shown_roles};
 ghost use Rattle.cal_spec.specs.Words.{after_date, after_weekdays, date_or_time, roles_of};
-ghost use Rattle.cal_spec.specs.headline.Words.{is_blank, words};
+ghost use Rattle.cal_text.specs.headline.Words.{words};
 
-use crate::pieces::cut_at;
 use crate::shorthand::{ANY_DATE, MIDNIGHT, find_shorthand};
+use cal_text::first_word;
 use cal_zone::{begins_with_letter, begins_zone};
 
 /// The texts of an expression by their roles, and the words after these.
@@ -22,16 +20,17 @@ pub(crate) struct Roles<'a> {
     /// The time, or `00:00:00`.
     pub(crate) time: &'a [u8],
     /// What comes after the time.
-    pub(crate) rest: &'a [u8],
+    pub(crate) rest: &'a str,
 }
 
 /// The roles of the words of a text, or `None` where it has none (systemd.time(7), Calendar Events). A shorthand
 /// stands for the texts of its meaning.
 #[tactic(auto, unfolding(crate::specs::Words::roles_of))]
-pub(crate) fn find_roles(text: &[u8]) -> Option<Roles<'_>>
+pub(crate) fn find_roles(text: &str) -> Option<Roles<'_>>
     ensures { option_map shown_roles result ≡ roles_of (words text.now) }
 {
     let (word, after) = first_word(text)?;
+    let word = word.as_bytes();
     if let Some(shorthand) = find_shorthand(word) {
         let meaning = shorthand.meaning();
         return Some(Roles {
@@ -47,45 +46,14 @@ pub(crate) fn find_roles(text: &[u8]) -> Option<Roles<'_>>
     Some(date_or_time(None, word, after))
 }
 
-/// The first word of the text and what comes after it, or `None` where there are only blanks.
-pub(crate) fn first_word(text: &[u8]) -> Option<(&[u8], &[u8])>
-    ensures { MatchOption result (words text.now ≡ [])
-        (λ found. words text.now ≡ found.0.now ∷ words found.1.now) }
-{
-    let mut rest = Some(text);
-    while let Some(texts) = rest {
-        let (piece, after) = cut_at(texts, blank_index(texts));
-        if !piece.is_empty() {
-            return Some((piece, or_empty(after)));
-        }
-        rest = after;
-    }
-    None
-}
-
-/// The index of the first blank.
-fn blank_index(text: &[u8]) -> Option<usize>
-    ensures { result ≡ position is_blank text.now }
-{
-    text.iter().position(|byte| *byte == b' ' || *byte == b'\t')
-}
-
-/// The text, or the empty one where there is none.
-fn or_empty(text: Option<&[u8]>) -> &[u8]
-    ensures { result.now ≡ unwrap_or (option_copied text.entry) [] }
-{
-    match text {
-        Some(text) => text,
-        None => &[],
-    }
-}
-
 /// The roles after the weekdays: a word that begins with a letter or a sign is a zone.
-fn after_weekdays<'a>(weekdays: Option<&'a [u8]>, text: &'a [u8]) -> Roles<'a>
+fn after_weekdays<'a>(weekdays: Option<&'a [u8]>, text: &'a str) -> Roles<'a>
     ensures { shown_roles result ≡ after_weekdays (option_copied weekdays.entry) (words text.now) }
 {
     match first_word(text) {
-        Some((word, rest)) if !begins_zone(word) => date_or_time(weekdays, word, rest),
+        Some((word, rest)) if !begins_zone(word.as_bytes()) => {
+            date_or_time(weekdays, word.as_bytes(), rest)
+        }
         _ => Roles {
             weekdays,
             date: ANY_DATE,
@@ -97,11 +65,11 @@ fn after_weekdays<'a>(weekdays: Option<&'a [u8]>, text: &'a [u8]) -> Roles<'a>
 
 /// The roles from the date on, or from the time on where there is no date: a word with a colon is the time, and any
 /// other is the date.
-fn date_or_time<'a>(weekdays: Option<&'a [u8]>, word: &'a [u8], rest: &'a [u8]) -> Roles<'a>
+fn date_or_time<'a>(weekdays: Option<&'a [u8]>, word: &'a [u8], rest: &'a str) -> Roles<'a>
     ensures { shown_roles result
         ≡ date_or_time (option_copied weekdays.entry) word.now (words rest.now) }
 {
-    if has_colon(word) {
+    if word.contains(&b':') {
         return Roles {
             weekdays,
             date: ANY_DATE,
@@ -113,15 +81,15 @@ fn date_or_time<'a>(weekdays: Option<&'a [u8]>, word: &'a [u8], rest: &'a [u8]) 
 }
 
 /// The roles after the date: a word that begins with a letter or a sign is a zone, and any other is the time.
-fn after_date<'a>(weekdays: Option<&'a [u8]>, date: &'a [u8], text: &'a [u8]) -> Roles<'a>
+fn after_date<'a>(weekdays: Option<&'a [u8]>, date: &'a [u8], text: &'a str) -> Roles<'a>
     ensures { shown_roles result
         ≡ after_date (option_copied weekdays.entry) date.now (words text.now) }
 {
     match first_word(text) {
-        Some((time, rest)) if !begins_zone(time) => Roles {
+        Some((time, rest)) if !begins_zone(time.as_bytes()) => Roles {
             weekdays,
             date,
-            time,
+            time: time.as_bytes(),
             rest,
         },
         _ => Roles {
@@ -131,11 +99,4 @@ fn after_date<'a>(weekdays: Option<&'a [u8]>, date: &'a [u8], text: &'a [u8]) ->
             rest: text,
         },
     }
-}
-
-/// Whether the word has a colon.
-fn has_colon(word: &[u8]) -> bool
-    ensures { result ≡ list_any is_colon word.now }
-{
-    word.iter().any(|byte| *byte == b':')
 }

@@ -1,17 +1,16 @@
 //! The zone at the end of a calendar expression.
 
-ghost use Rattle.std.specs.Prelude.{◌≡◌, IsTrue};
+ghost use Rattle.std.specs.Prelude.{◌≡◌};
 ghost use Rattle.std.specs.Option.{option_map};
 ghost use Rattle.cal_spec.specs.Reads.{GivesUnlessNoMemory};
 ghost use Rattle.cal_spec.specs.SuffixView.{shown_suffix};
-ghost use Rattle.cal_spec.specs.headline.Words.{words};
-ghost use Rattle.cal_zone.specs.headline.ZoneName.{is_zone_name};
+ghost use Rattle.cal_text.specs.headline.Words.{words};
 ghost use Rattle.cal_spec.specs.ZoneSuffix.{suffix_in};
 ghost use Rattle.cal_spec.specs.headline.ZoneSuffix.{kept_name};
 
 use crate::SpecFault;
 use crate::same_word::is_same_word;
-use crate::words::first_word;
+use cal_text::first_word;
 use cal_zone::{is_zone_name, read_offset};
 use std::alloc::Global;
 
@@ -27,7 +26,7 @@ pub enum ZoneSuffix {
 /// The zone, if there is one, in what comes after the time (systemd.time(7), Calendar Events): a name or an offset. Any
 /// other word there is a `StrayWord`.
 #[tactic(auto, unfolding(crate::specs::ZoneSuffix::suffix_of))]
-pub(crate) fn read_suffix(alloc: Global, text: &[u8]) -> Result<Option<ZoneSuffix>, SpecFault>
+pub(crate) fn read_suffix(alloc: Global, text: &str) -> Result<Option<ZoneSuffix>, SpecFault>
     ensures { GivesUnlessNoMemory (λ suffix. option_map shown_suffix suffix) result (suffix_in (words text.now)) }
 {
     let Some((word, after)) = first_word(text) else {
@@ -36,26 +35,23 @@ pub(crate) fn read_suffix(alloc: Global, text: &[u8]) -> Result<Option<ZoneSuffi
     if first_word(after).is_some() {
         return Err(SpecFault::StrayWord);
     }
-    if is_zone_name(word) {
+    if is_zone_name(word.as_bytes()) {
         let name = String::from_str(alloc, name_of(word))?;
         return Ok(Some(ZoneSuffix::Name(name)));
     }
-    match read_offset(word) {
+    match read_offset(word.as_bytes()) {
         Some(seconds) => Ok(Some(ZoneSuffix::Offset(seconds))),
         None => Err(SpecFault::StrayWord),
     }
 }
 
 /// The name that is kept: `UTC` in any case is `UTC`.
-fn name_of(word: &[u8]) -> &str
-    requires { IsTrue (is_zone_name word.now) }
+fn name_of(word: &str) -> &str
     ensures { result.now ≡ kept_name word.now }
 {
-    if is_same_word(word, b"UTC") {
-        return "UTC";
+    if is_same_word(word.as_bytes(), b"UTC") {
+        "UTC"
+    } else {
+        word
     }
-    let Ok(name) = str::from_utf8(word) else {
-        unreachable!()
-    };
-    name
 }

@@ -1,24 +1,14 @@
 -- The lines of a unit file: systemd.syntax(7). Each step is a function of the whole text: its physical lines, those of
 -- them that are no comments, the groups of lines that are continued, and the logical lines.
-use Rattle.std.specs.Prelude.{ℕ, ◌+◌, ◌-◌, ◌%◌, ◌==◌, Bool, not, ◌||◌, if◌then◌else◌, List, [], ◌∷◌, ◌++◌, length, map, filter, take, drop, slice_index}
-use Rattle.std.specs.List.{flat_map, prefix_len, suffix_len}
+use Rattle.std.specs.Prelude.{ℕ, ◌+◌, ◌-◌, ◌%◌, ◌==◌, Bool, not, ◌||◌, if◌then◌else◌, List, [], ◌∷◌, ◌++◌, length, map, filter, take, slice_index}
+use Rattle.std.specs.List.{flat_map, suffix_len}
 use Rattle.std.specs.Str.Lines.{lines}
+use Rattle.cal_text.specs.headline.Trim.{trim_start}
+use Rattle.cal_text.specs.headline.Words.{is_blank}
 
--- a space, a tab or a carriage return
-abbrev pub is_blank : ℕ → Bool
-is_blank b = (b == 32) || (b == 9) || (b == 13)
-
--- without the blanks at its start
-unfoldable pub trim_start : List ℕ → List ℕ
-trim_start text = drop (prefix_len is_blank text) text
-
--- without the blanks at its end
-unfoldable pub trim_end : List ℕ → List ℕ
-trim_end text = take (length text - suffix_len is_blank text) text
-
--- without the blanks at both ends
-unfoldable pub trim : List ℕ → List ℕ
-trim text = trim_end (trim_start text)
+-- a blank or a carriage return
+abbrev pub is_blank_or_return : ℕ → Bool
+is_blank_or_return b = is_blank b || (b == 13)
 
 -- what contracts see of a plain line and of a logical one: its text, and its number in the file; of a logical
 -- line that is the number of its first physical line
@@ -34,7 +24,7 @@ numbered number (text ∷ texts) = record { number = number; text = text } ∷ n
 -- The physical lines: they end at a line feed, and one carriage return before it is dropped. No rule sees the blanks
 -- at the start of a physical line, so they are dropped too.
 unfoldable pub physical_lines : ℕ → List ℕ → List Line
-physical_lines number text = numbered number (map trim_start (lines text))
+physical_lines number text = numbered number (map (trim_start is_blank_or_return) (lines text))
 
 -- a comment begins with `#` or `;`
 abbrev pub is_comment : List ℕ → Bool

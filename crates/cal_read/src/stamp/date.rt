@@ -7,8 +7,8 @@ ghost use Rattle.cal_read.specs.StampDate.{date_numbers, day_number, day_written
 ghost use Rattle.cal_read.specs.StampDateViews.{numbers_seen};
 
 use crate::StampFault;
-use cal_span::{are_digits, whole_of};
 use cal_spec::{first_piece, with_century};
+use cal_text::{are_digits, whole_of};
 use jiff_core::civil::Date;
 
 /// A year, a month and a day as they are written.

@@ -5,7 +5,8 @@ ghost use Rattle.std.specs.Option.{option_map};
 ghost use Rattle.cal_read.specs.StampForm.{day_shift, form_by_end, form_of};
 ghost use Rattle.cal_read.specs.StampViews.{form_seen, shift_of};
 
-use crate::stamp::text::{before_word, first_word, solid, text_after_first};
+use crate::stamp::text::{before_word, text_after_first};
+use cal_text::{first_word, trim_blanks};
 
 /// A day beside the present one, or that day itself.
 #[derive(Clone, Copy)]
@@ -39,7 +40,7 @@ pub(crate) enum Form<'a> {
 pub(crate) fn form_of(text: &str) -> Form<'_>
     ensures { form_seen result ≡ form_of text.now }
 {
-    let text = solid(text);
+    let text = trim_blanks(text);
     if text == "now" {
         return Form::Present;
     }

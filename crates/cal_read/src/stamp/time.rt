@@ -5,8 +5,9 @@ ghost use Rattle.cal_read.specs.StampTime.{both, clock_number, fraction_in, seco
 
 use crate::StampFault;
 use crate::stamp::date::read_number;
-use cal_span::{are_digits, fraction_of};
+use cal_span::fraction_of;
 use cal_spec::first_piece;
+use cal_text::are_digits;
 
 /// The microseconds of a second.
 pub(crate) const SECOND: u64 = 1_000_000;

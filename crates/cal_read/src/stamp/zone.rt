@@ -3,12 +3,12 @@
 ghost use Rattle.std.specs.Prelude.{◌≡◌};
 ghost use Rattle.cal_zone.specs.headline.Zone.{zone_of};
 ghost use Rattle.cal_zone.specs.headline.ZoneTable.{zone_named};
-ghost use Rattle.cal_spec.specs.headline.Words.{words};
+ghost use Rattle.cal_text.specs.headline.Words.{words};
 ghost use Rattle.cal_read.specs.Stamp.{zone_by_words, zone_meant};
 ghost use Rattle.cal_read.specs.StampViews.{setting, zone_or_fault};
 
 use crate::StampFault;
-use crate::stamp::text::first_word;
+use cal_text::first_word;
 use cal_zone::{Zone, ZoneTable, begins_with_letter, read_offset};
 
 /// The zone that the text names, or the local one where it has no word (systemd.time(7), Parsing Timestamps): a name of

@@ -1,6 +1,6 @@
 -- How a time span is printed (systemd.time(7), Parsing Time Spans): from the largest unit down, the
 -- greatest whole count that fits what is left, counts of zero left out.
-use Rattle.std.specs.Prelude.{◌≡◌, ℕ, ◌/◌, ◌%◌, List, [], ◌∷◌, codes, decimal, filter, nat_lt}
+use Rattle.std.specs.Prelude.{ℕ, ◌/◌, ◌%◌, List, [], ◌∷◌, codes, decimal, filter, nat_lt}
 use Rattle.std.specs.List.{join_by}
 use Rattle.cal_bytes.specs.headline.Bytes.{joined}
 use Rattle.cal_span.specs.headline.Scale.{size_of, scales, name_of}

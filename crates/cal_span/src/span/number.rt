@@ -4,11 +4,11 @@
 ghost use Rattle.std.specs.Prelude.{◌≡◌, ◌≤◌, IsTrue, MatchOption, min, false, true};
 ghost use Rattle.std.specs.List.{list_all, position, before_first, after_first};
 ghost use Rattle.std.specs.Char.{is_ascii_digit};
-ghost use Rattle.std.specs.Str.Parse.{digits_value};
 ghost use Rattle.cal_span.specs.headline.Scale.{size_of};
 ghost use Rattle.cal_span.specs.SpanValue.{is_point, is_number, fraction_worth, digits_worth};
 
 use crate::Scale;
+use cal_text::{are_digits, whole_of};
 
 /// A number: the digits before its point and those after it.
 #[derive(Clone, Copy)]
@@ -66,27 +66,6 @@ fn point_index(word: &[u8]) -> Option<usize>
     ensures { result ≡ position is_point word.now }
 {
     word.iter().position(|byte| *byte == b'.')
-}
-
-/// Whether each byte is a digit.
-pub fn are_digits(bytes: &[u8]) -> bool
-    ensures { result ≡ list_all is_ascii_digit bytes.now }
-{
-    bytes.iter().all(|byte| byte.is_ascii_digit())
-}
-
-/// The number that the digits write, or `u64::MAX` where that is less.
-pub fn whole_of(digits: &[u8]) -> u64
-    requires { IsTrue (list_all is_ascii_digit digits.now) }
-    ensures { result ≡ min (digits_value 10 digits.now) u64.MAX }
-{
-    let mut whole = 0_u64;
-    for digit in digits {
-        whole = whole
-            .saturating_mul(10)
-            .saturating_add(u64::from(*digit - b'0'));
-    }
-    whole
 }
 
 /// What the digits after a point add in a unit of this size: the term of each is rounded down by

@@ -13,7 +13,8 @@ use Rattle.cal_spec.specs.headline.Shorthand.{any_date, midnight, shorthand_name
 use Rattle.cal_spec.specs.headline.Slot.{day_slot}
 use Rattle.cal_spec.specs.headline.Sound.{IsSound}
 use Rattle.cal_spec.specs.headline.Weekdays.{set_of}
-use Rattle.cal_spec.specs.headline.Words.{Roles, words}
+use Rattle.cal_text.specs.headline.Words.{words}
+use Rattle.cal_spec.specs.headline.Words.{Roles}
 use Rattle.cal_zone.specs.headline.OffsetWord.{IsOffsetWord, begins_with_sign}
 use Rattle.cal_zone.specs.headline.ZoneName.{begins_with_letter, is_zone_name}
 use Rattle.cal_spec.specs.headline.ZoneSuffix.{ZoneSuffix, of_name, ahead, kept_name}

@@ -1,5 +1,5 @@
 -- How a list of weekdays is printed: systemd.time(7), Calendar Events. Days count from 0 for Monday.
-use Rattle.std.specs.Prelude.{◌≡◌, ◌==◌, ℕ, ◌+◌, Bool, if◌then◌else◌, List, [], ◌∷◌, codes, slice_index_or}
+use Rattle.std.specs.Prelude.{◌==◌, ℕ, ◌+◌, Bool, if◌then◌else◌, List, [], ◌∷◌, codes, slice_index_or}
 use Rattle.std.specs.List.{join_by, list_all}
 use Rattle.jiff_core.specs.declared.civil.weekday.Weekday.TheVariants.{Monday}
 use Rattle.cal_bytes.specs.headline.Bytes.{joined}

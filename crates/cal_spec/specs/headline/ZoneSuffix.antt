@@ -1,5 +1,5 @@
 -- The zone at the end of a calendar expression, a name or a fixed offset: systemd.time(7), Calendar Events.
-use Rattle.std.specs.Prelude.{ℕ, ℤ, ◌≡◌, if◌then◌else◌, List, codes}
+use Rattle.std.specs.Prelude.{ℕ, ℤ, if◌then◌else◌, List, codes}
 use Rattle.std.specs.Str.{str_eq_ignore_ascii_case}
 use Rattle.cal_zone.specs.headline.InstantText.{offset_text}
 

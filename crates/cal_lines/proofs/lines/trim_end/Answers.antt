@@ -1,15 +1,16 @@
 use Rattle.std.proofs.Common.{◌∙◌, arith}
 use Rattle.std.proofs.lemmas.List.Sums.{suffix_len-le-length}
-use Rattle.cal_lines.specs.headline.Lines.{is_blank, trim_end}
+use Rattle.cal_text.specs.headline.Trim.{trim_end}
+use Rattle.cal_lines.specs.headline.Lines.{is_blank_or_return}
 use Rattle.cal_lines.proofs.LineLemmas.{blank_is_ascii}
-use Rattle.cal_lines.proofs.TextEnds.{end_boundary}
+use Rattle.cal_text.proofs.TextEnds.{end_boundary}
 use Rattle.cal_lines.proofs.lines.trim_end.Goals as goal
 
 pub overflow_sub-text : goal.overflow_sub-text
-overflow_sub-text c = rw c.trailing_blanks.ensures (suffix_len-le-length is_blank c.args.text.now)
+overflow_sub-text c = rw c.trailing_blanks.ensures (suffix_len-le-length is_blank_or_return c.args.text.now)
 
 pub range-requires-clause-end_boundary : goal.range-requires-clause-end_boundary
-range-requires-clause-end_boundary c = rw c.trailing_blanks.ensures (end_boundary is_blank c.args.text.now blank_is_ascii)
+range-requires-clause-end_boundary c = rw c.trailing_blanks.ensures (end_boundary is_blank_or_return c.args.text.now blank_is_ascii)
 
 pub returns : goal.returns
 unfolding trim_end

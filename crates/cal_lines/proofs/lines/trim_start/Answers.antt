@@ -1,11 +1,12 @@
 use Rattle.std.proofs.Common.{◌∙◌, ap, drop}
-use Rattle.cal_lines.specs.headline.Lines.{is_blank, trim_start}
+use Rattle.cal_text.specs.headline.Trim.{trim_start}
+use Rattle.cal_lines.specs.headline.Lines.{is_blank_or_return}
 use Rattle.cal_lines.proofs.LineLemmas.{blank_is_ascii}
-use Rattle.cal_lines.proofs.TextEnds.{front_boundary}
+use Rattle.cal_text.proofs.TextEnds.{front_boundary}
 use Rattle.cal_lines.proofs.lines.trim_start.Goals as goal
 
 pub range_from-requires : goal.range_from-requires
-range_from-requires c = λ _. rw c.leading_blanks.ensures (front_boundary is_blank c.args.text.now blank_is_ascii c.utf8.text)
+range_from-requires c = λ _. rw c.leading_blanks.ensures (front_boundary is_blank_or_return c.args.text.now blank_is_ascii c.utf8.text)
 
 pub returns : goal.returns
 unfolding trim_start

@@ -1,6 +1,6 @@
 use Rattle.std.proofs.Common.{◌≡◌, ◌≤◌, ◌+◌, ◌^◌, min, drop}
 use Rattle.cal_span.specs.SpanValue.{fraction_worth}
-use Rattle.cal_span.proofs.SpanNumbers.{top}
+use Rattle.cal_text.proofs.DigitLemmas.{top}
 use Rattle.cal_span.proofs.span.number.fraction_of.Given as goal
 
 -- the sum so far with what the rest adds is the whole

@@ -1,4 +1,4 @@
-use Rattle.std.proofs.Common.{◌≡◌, ◌++◌, ap, arith}
+use Rattle.std.proofs.Common.{◌≡◌, arith}
 use Rattle.cal_span.proofs.SpanCounts.{span_text_zero, span_text_row}
 use Rattle.cal_span.proofs.span.text.push_span.Goals as goal
 

@@ -3,7 +3,7 @@ use Rattle.std.specs.List.{before_first}
 use Rattle.std.specs.Option.{option_copied}
 use Rattle.cal_span.specs.headline.Scale.{size_of}
 use Rattle.cal_span.specs.SpanValue.{is_point, Pair, sum_with, number_worth, digits_worth}
-use Rattle.cal_span.proofs.SpanNumbers.{top}
+use Rattle.cal_text.proofs.DigitLemmas.{top}
 use Rattle.cal_span.proofs.SpanPairs.{worth_bad_number, worth_unknown_unit, worth_good, added_is}
 use Rattle.cal_span.proofs.span.value.add_pair.Goals as goal
 

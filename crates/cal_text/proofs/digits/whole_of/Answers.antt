@@ -1,6 +1,6 @@
 use Rattle.std.proofs.Common.{arith}
-use Rattle.cal_span.proofs.SpanNumbers.{whole_more}
-use Rattle.cal_span.proofs.span.number.whole_of.Goals as goal
+use Rattle.cal_text.proofs.DigitLemmas.{whole_more}
+use Rattle.cal_text.proofs.digits.whole_of.Goals as goal
 
 pub loop-digit-preserved : goal.loop-digit-preserved
 loop-digit-preserved c =

@@ -1,7 +1,7 @@
-use Rattle.cal_spec.specs.headline.Words.{is_blank}
-use Rattle.cal_read.proofs.StampText.{blank_ascii}
-use Rattle.cal_lines.proofs.TextEnds.{front_boundary}
-use Rattle.cal_read.proofs.stamp.text.from_solid.Goals as goal
+use Rattle.cal_text.specs.headline.Words.{is_blank}
+use Rattle.cal_text.proofs.WordLemmas.{blank_ascii}
+use Rattle.cal_text.proofs.TextEnds.{front_boundary}
+use Rattle.cal_text.proofs.words.trim_blanks_start.Goals as goal
 
 pub range_from-requires : goal.range_from-requires
 range_from-requires c =

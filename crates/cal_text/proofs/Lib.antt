@@ -1,0 +1,4 @@
+pub mod DigitLemmas
+pub mod TextEnds
+pub mod TrimLemmas
+pub mod WordLemmas

@@ -1,0 +1,2 @@
+pub mod TrimRule
+pub mod headline

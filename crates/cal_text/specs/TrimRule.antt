@@ -1,0 +1,25 @@
+-- What is left of a text without the blanks at its ends, in the rule's own words, whatever a blank is.
+use Rattle.std.specs.Prelude.{◌≡◌, ℕ, Bool, true, false, List, [], ◌∷◌, ◌++◌, reverse}
+use Rattle.std.specs.List.{AllByRecursion}
+
+-- it is empty, or its first character is no blank
+abbrev pub IsFlush : (ℕ → Bool) → List ℕ → Type 0
+IsFlush is_blank [] = Unit {0}
+IsFlush is_blank (b ∷ bs) = is_blank b ≡ false
+
+-- the text of a line without the blanks at its start; those at its end stay
+pub record IsUnindented (is_blank : ℕ → Bool) (line text : List ℕ) : Type 0 where
+  pub indent : List ℕ
+  pub blanks : AllByRecursion (λ b. is_blank b ≡ true) indent
+  pub whole : line ≡ indent ++ text
+  pub flush : IsFlush is_blank text
+
+-- the text without the blanks at both its ends
+pub record IsTrimmed (is_blank : ℕ → Bool) (text trimmed : List ℕ) : Type 0 where
+  pub front : List ℕ
+  pub back : List ℕ
+  pub blanks : AllByRecursion (λ b. is_blank b ≡ true) front
+  pub blanks_after : AllByRecursion (λ b. is_blank b ≡ true) back
+  pub whole : text ≡ front ++ (trimmed ++ back)
+  pub flush : IsFlush is_blank trimmed
+  pub flush_end : IsFlush is_blank (reverse trimmed)

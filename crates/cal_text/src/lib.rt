@@ -1,0 +1,8 @@
+//! The words, the blanks and the digits of texts.
+#![tactic(auto)]
+
+mod digits;
+mod words;
+
+pub use digits::{are_digits, whole_of};
+pub use words::{first_word, last_word, trim_blanks};
