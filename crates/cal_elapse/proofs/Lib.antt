@@ -9,6 +9,7 @@ pub mod ElapseSetLemmas
 pub mod ElapsesLemmas
 pub mod FillLemmas
 pub mod InstantLemmas
+pub mod LocalLemmas
 pub mod LookLemmas
 pub mod MasksLemmas
 pub mod MinuteLemmas

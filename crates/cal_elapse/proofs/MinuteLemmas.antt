@@ -1,9 +1,7 @@
 -- What is left of the minute of a match, as a search takes bit after bit.
-use Rattle.std.proofs.Common.{IsSome, ◌≡◌, ◌≢◌, ◌∙◌, ℕ, ◌+◌, ◌-◌, ◌*◌, ◌/◌, ◌%◌, ◌^◌, ◌<◌, ◌≤◌, Bool, true, false, ◌&&◌, nat_lt, Option, None, Some, IfSome, ℤ, pos, negsuc, unsigned_abs, to_z, w64, ap, sym, subst, refl, inl, inr, rules, arith}
+use Rattle.std.proofs.Common.{IsSome, ◌≡◌, ◌≢◌, ◌∙◌, ℕ, ◌+◌, ◌-◌, ◌*◌, ◌/◌, ◌%◌, ◌^◌, ◌<◌, ◌≤◌, Bool, true, false, ◌&&◌, nat_lt, Option, None, Some, IfSome, w64, ap, sym, subst, refl, inl, inr, rules, arith}
 use Rattle.std.proofs.lemmas.Bool.{and_parts, cases_eq, cases_lt, false_from_ne_true}
-use Rattle.std.proofs.lemmas.Int.{ints, to_z_pos}
 use Rattle.std.specs.Int.{trailing_zeros}
-use Rattle.std.specs.Option.{option_map}
 use Rattle.cal_zone.specs.headline.Local.{seconds_in_all, seconds_in_all-is}
 use Rattle.cal_spec.specs.headline.Match.{Sets, matches, time_in}
 use Rattle.cal_elapse.specs.Bits.{is_bit}
@@ -11,12 +9,12 @@ use Rattle.cal_elapse.specs.Left.{IsLeft, IsMoreLeft, IsNextLeft, IsRest, NoneLe
 use Rattle.cal_elapse.specs.Looks.{IsSearch}
 use Rattle.cal_elapse.specs.Masks.{sets_in}
 use Rattle.cal_elapse.specs.Months.{day_in, minute_in}
-use Rattle.cal_elapse.specs.Search.{IsFirstLocal, IsFirstPassing}
+use Rattle.cal_elapse.specs.Search.{IsFirstPassing}
 use Rattle.cal_elapse.specs.declared.masks.Masks.{Masks}
 use Rattle.cal_elapse.proofs.BitLemmas.{first_bit, is_bit-above, is_bit-none, is_bit-shifted}
 use Rattle.cal_elapse.proofs.CarryLemmas.{below_end, split_at}
 use Rattle.cal_elapse.proofs.LookLemmas.{looks_today}
-use Rattle.cal_elapse.proofs.SearchLemmas.{IsFirstLocal-Some, locals_split, passing_of}
+use Rattle.cal_elapse.proofs.SearchLemmas.{locals_split}
 use Rattle.cal_elapse.proofs.TimeLemmas.{seconds_split}
 
 no_bit : (i : ℕ) → is_bit 0 i ≡ true → ⊥
@@ -131,7 +129,7 @@ left_on m found from left bit rest now h lowest was_fits fits cleared others is 
 
 -- a search that takes it
 pub search_left : (m : Masks) (found from left bit : ℕ) → IsLeft m found from left → IsFirstPassing (is_bit left) 0 64 (Some bit)
-    → IsSearch (sets_in m) (found + 1) (record { local = Some (to_z w64 (from + bit)); months = 1 })
+    → IsSearch (sets_in m) (found + 1) (record { local = Some (from + bit); months = 1 })
 search_left m found from left bit h lowest =
     let count = seconds_in_all-is in
     let sets = sets_in m in
@@ -142,11 +140,10 @@ search_left m found from left bit h lowest =
     let day : (from + bit) / 86_400 ≡ found / 86_400 = omega arith in
     let parts : found / 86_400 * 86_400 + (from + bit) % 86_400 ≡ from + bit = omega arith in
     let here : day_in sets (found / 86_400) ≡ true = subst (λ (d : ℕ). day_in sets d ≡ true) day (day_of_match sets (from + bit) holds).0 in
-    let word : to_z w64 (from + bit) ≡ pos (from + bit) = to_z_pos w64 (from + bit) (omega arith) in
     let looks = looks_today sets found ((from + bit) % 86_400) (omega arith) here (omega arith) (omega arith) in
     record {
-      first = IsFirstLocal-Some (matches sets) (pos (found + 1)) (found + 1) (from + bit) refl (next_left m found from left bit h lowest);
-      counted = rw word (sym (rw parts at looks));
+      first = next_left m found from left bit h lowest;
+      counted = sym (rw parts at looks);
       few = omega arith;
     }
 
@@ -186,11 +183,9 @@ next_known passes local (Some next) inside more first =
     ((omega arith, first), refl)
 
 -- so what a search after it found
-pub next_found : (m : Masks) (local : ℕ) (answer : Option ℤ) (next : Option ℕ) → IsMoreLeft (matches (sets_in m)) local → IsFirstLocal (matches (sets_in m)) (pos (local + 1)) answer
-    → next ≡ option_map unsigned_abs answer → IsNextLeft (matches (sets_in m)) local next × IsSome next
-next_found m local answer next more first whole =
-    next_known (matches (sets_in m)) local next (match_inside (sets_in m)) more
-    (subst (IsFirstPassing (matches (sets_in m)) (local + 1) seconds_in_all) (sym whole) (passing_of (matches (sets_in m)) (local + 1) answer first))
+pub next_found : (m : Masks) (local : ℕ) (next : Option ℕ) → IsMoreLeft (matches (sets_in m)) local → IsFirstPassing (matches (sets_in m)) (local + 1) seconds_in_all next
+    → IsNextLeft (matches (sets_in m)) local next × IsSome next
+next_found m local next more first = next_known (matches (sets_in m)) local next (match_inside (sets_in m)) more first
 
 -- where nothing is known to be left, the rest is empty
 pub rest_unknown : (passes : ℕ → Bool) (local : ℕ) → passes local ≡ true → IsRest passes local 0 local
@@ -230,10 +225,3 @@ rest_on passes local bits last next more place rest same first set others at =
       | inl late ↦ first.3 t (omega arith) below ∙ sym (false_from_ne_true (is_bit bits (t - (local + 1))) (λ set. let early = rest.within (t - (local + 1)) set in omega arith))
       | inr early ↦ rest.matching t above early
     ]
-
--- the match found is the one kept
-pub kept_last : (passes : ℕ → Bool) (from last : ℕ) (found : Option ℤ) (whole : Option ℕ) → IsFirstLocal passes (pos from) found → whole ≡ option_map unsigned_abs found
-    → IfSome whole (λ local. last ≡ local) → IfSome found (λ local. local ≡ pos last)
-kept_last passes from last None whole first is kept = search rules
-kept_last passes from last (Some (pos n)) whole first is kept = ap pos (sym (subst (λ (o : Option ℕ). IfSome o (λ local. last ≡ local)) is kept))
-kept_last passes from last (Some (negsuc n)) whole first is kept = absurd (let low = first.0 in omega (arith, ints))

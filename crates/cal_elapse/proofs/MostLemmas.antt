@@ -1,7 +1,6 @@
 -- The most months that one of several searches looked at.
-use Rattle.std.proofs.Common.{◌≡◌, ◌⊎◌, ◌∙◌, ℕ, ◌+◌, ◌<◌, ◌≤◌, Bool, true, Option, None, Some, max, unsigned_abs, unwrap_or, IfSome, IsSome, ◌-◌, ℤ, pos, ap, arith, inl, inr, refl, subst, sym}
+use Rattle.std.proofs.Common.{◌≡◌, ◌⊎◌, ◌∙◌, ℕ, ◌+◌, ◌<◌, ◌≤◌, Bool, true, Option, None, Some, max, unwrap_or, IfSome, IsSome, ◌-◌, ap, arith, inl, inr, refl, subst, sym}
 use Rattle.std.proofs.lemmas.Bool.{cases_lt}
-use Rattle.std.specs.Option.{option_map}
 use Rattle.cal_spec.specs.headline.Match.{Sets, matches}
 use Rattle.cal_zone.specs.headline.Local.{seconds_in_all}
 use Rattle.cal_elapse.specs.Count.{count_from}
@@ -9,9 +8,8 @@ use Rattle.cal_elapse.specs.Left.{IsNextLeft}
 use Rattle.cal_elapse.specs.Looks.{IsSearch, month_looks}
 use Rattle.cal_elapse.specs.Most.{IsLooked, IsMost, IsMostAfter}
 use Rattle.cal_elapse.specs.Search.{IsFirstPassing, NonePasses}
-use Rattle.cal_elapse.specs.declared.search.Found.{Found}
+use Rattle.cal_elapse.specs.declared.search.Next.{Next}
 use Rattle.cal_elapse.proofs.CountLemmas.{count_from-nothing, count_from-to}
-use Rattle.cal_elapse.proofs.SearchLemmas.{passing_of}
 
 -- there is one first number that passes
 first_same : (passes : ℕ → Bool) (from end : ℕ) (a b : Option ℕ) → IsFirstPassing passes from end a → IsFirstPassing passes from end b → a ≡ b
@@ -32,9 +30,9 @@ looked_same sets from a b one other =
     one.looked ∙ (ap (month_looks sets from) (first_same (matches sets) from seconds_in_all one.answer other.answer one.first other.first) ∙ sym other.looked)
 
 -- a search looked at its months
-pub search_looked : (sets : Sets) (from : ℕ) (found : Found) → IsSearch sets from found → IsLooked sets from found.months
+pub search_looked : (sets : Sets) (from : ℕ) (found : Next) → IsSearch sets from found → IsLooked sets from found.months
 search_looked sets from found search =
-    record { answer = option_map unsigned_abs found.local; first = passing_of (matches sets) from found.local search.first; looked = search.counted }
+    record { answer = found.local; first = search.first; looked = search.counted }
 
 max_is : (a b : ℕ) → ((max a b ≡ a) × (b ≤ a)) ⊎ ((max a b ≡ b) × (a ≤ b))
 max_is a b = elim (cases_lt a b) [ inl less ↦ inr (grind arith, omega arith) | inr not_less ↦ inl (grind arith, omega arith) ]
@@ -44,7 +42,7 @@ pub most_begun : (sets : Sets) (from before : ℕ) → IsMostAfter sets from fro
 most_begun sets from before = record { not_below = omega arith; all = λ months one. absurd (let low = one.low in let high = one.high in omega arith); one = inl refl }
 
 -- after one match
-pub most_next : (sets : Sets) (t next before : ℕ) (found : Found) → matches sets t ≡ true → IsSearch sets (t + 1) found → t < next → NonePasses (matches sets) (t + 1) next
+pub most_next : (sets : Sets) (t next before : ℕ) (found : Next) → matches sets t ≡ true → IsSearch sets (t + 1) found → t < next → NonePasses (matches sets) (t + 1) next
     → IsMostAfter sets t next before (max before found.months)
 most_next sets t next before found holds search later none =
     let looked = search_looked sets (t + 1) found search in
@@ -105,7 +103,7 @@ most_same sets start a b most same h = record {
 }
 
 -- after the first search
-pub most_first : (sets : Sets) (start : ℕ) (found : Found) → IsSearch sets start found → IsMost sets start start found.months
+pub most_first : (sets : Sets) (start : ℕ) (found : Next) → IsSearch sets start found → IsMost sets start start found.months
 most_first sets start found search = record { first = found.months; begun = search_looked sets start found search; later = most_begun sets start found.months }
 
 -- and after more
@@ -117,7 +115,7 @@ pub most_of_first : (old months most : ℕ) → old ≡ 0 → most ≡ max old m
 most_of_first old months most zero is = elim (max_is old months) [ inl high ↦ omega arith | inr at ↦ omega arith ]
 
 -- and up to the match that it found
-pub most_start : (sets : Sets) (start bound old most : ℕ) (found : Found) → IsSearch sets start found → start ≤ bound → NonePasses (matches sets) start bound → old ≡ 0
+pub most_start : (sets : Sets) (start bound old most : ℕ) (found : Next) → IsSearch sets start found → start ≤ bound → NonePasses (matches sets) start bound → old ≡ 0
     → most ≡ max old found.months → IsMost sets start bound most
 most_start sets start bound old most found search low none zero is =
     let same = most_of_first old found.months most zero is in
@@ -135,7 +133,7 @@ next_counted passes local (Some t) known =
     let one = count_from-to passes local local t (omega arith) first.0 first.2 first.3 in
     omega arith
 
-pub next_most : (sets : Sets) (local before : ℕ) (found : Found) (next : Option ℕ) → matches sets local ≡ true → IsSearch sets (local + 1) found
+pub next_most : (sets : Sets) (local before : ℕ) (found : Next) (next : Option ℕ) → matches sets local ≡ true → IsSearch sets (local + 1) found
     → IsNextLeft (matches sets) local next × IsSome next → IsMostAfter sets local (unwrap_or next local) before (max before found.months)
 next_most sets local before found None holds search known = absurd (let no = known.1 in cc)
 next_most sets local before found (Some t) holds search known =
@@ -143,7 +141,6 @@ next_most sets local before found (Some t) holds search known =
     let low = first.0 in
     most_next sets local t before found holds search (omega arith) first.3
 
-pub next_last : (found : Option ℤ) (next : Option ℕ) (local last : ℕ) → next ≡ option_map unsigned_abs found → IsSome next → IfSome found (λ l. l ≡ pos last)
-    → unwrap_or next local ≡ last
-next_last None next local last is some kept = absurd (let no = subst IsSome is some in cc)
-next_last (Some z) next local last is some kept = ap (λ (o : Option ℕ). unwrap_or o local) is ∙ ap unsigned_abs kept
+pub next_last : (next : Option ℕ) (local last : ℕ) → IsSome next → IfSome next (λ l. l ≡ last) → unwrap_or next local ≡ last
+next_last None local last some kept = absurd (let no = some in cc)
+next_last (Some t) local last some kept = kept

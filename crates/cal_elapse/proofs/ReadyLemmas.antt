@@ -19,7 +19,7 @@ use Rattle.cal_rising.specs.headline.Elements.{Has}
 use Rattle.cal_elapse.specs.Search.{IsFirstPassing, NonePasses}
 use Rattle.cal_elapse.specs.Window.{IsMatchAhead, IsPlacedTo, IsReady, Windowed, bound_of, count_from, start_of, timed_by, timed_of, with_place}
 use Rattle.cal_elapse.specs.declared.masks.Masks.{Masks}
-use Rattle.cal_elapse.specs.declared.search.Found.{Found}
+use Rattle.cal_elapse.specs.declared.search.Next.{Next}
 use Rattle.cal_elapse.specs.declared.searcher.Searcher.{Searcher}
 use Rattle.cal_elapse.specs.declared.window.Window.{Window}
 use Rattle.cal_elapse.proofs.CountLemmas.{count_from-begun, count_from-most, count_from-on, count_from-with}
@@ -97,7 +97,7 @@ none_before passes from None within none = (within, none)
 none_before passes from (Some local) within first = (first.0, first.3)
 
 -- and the next is found
-pub next_ready : (v : Window) (local : ℕ) (searcher : Searcher) (ahead : Option ℕ) (found : Found) → IsPlacedTo v local → searcher.masks ≡ v.searcher.masks
+pub next_ready : (v : Window) (local : ℕ) (searcher : Searcher) (ahead : Option ℕ) (found : Next) → IsPlacedTo v local → searcher.masks ≡ v.searcher.masks
     → searcher.searches ≡ v.searcher.searches + 1 → searcher.most_months ≡ max v.searcher.most_months found.months → IsSearch (sets_in v.searcher.masks) (local + 1) found
     → IsFirstPassing (matches (sets_in v.searcher.masks)) (local + 1) seconds_in_all ahead → IsReady (record v { searcher = searcher; ahead = ahead })
 next_ready v local searcher ahead found h masks more most search first =
@@ -144,7 +144,7 @@ start_inside (pos n) h = let count = seconds_in_all-is in omega (arith, signed_a
 start_inside (negsuc n) h = absurd (omega (arith, signed_arith, h.0))
 
 -- the window before anything is placed
-pub begun_ready : (searcher after : Searcher) (zone : Zone) (base : ℤ) (ahead : Option ℕ) (pending : List ℤ) (found : Found) → IsInstant base → searcher.searches ≡ 0
+pub begun_ready : (searcher after : Searcher) (zone : Zone) (base : ℤ) (ahead : Option ℕ) (pending : List ℤ) (found : Next) → IsInstant base → searcher.searches ≡ 0
     → searcher.most_months ≡ 0 → after.masks ≡ searcher.masks → after.searches ≡ searcher.searches + 1 → after.most_months ≡ max searcher.most_months found.months
     → IsSearch (sets_in searcher.masks) (start_of base) found → pending ≡ [] → IsFirstPassing (matches (sets_in searcher.masks)) (start_of base) seconds_in_all ahead
     → IsReady (record { searcher = after; zone = zone; base = base; ahead = ahead; last = base; pending = pending })

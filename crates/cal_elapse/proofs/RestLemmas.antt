@@ -1,6 +1,6 @@
 -- What is left of the minute of a match that is placed, once it is placed at once.
 use Rattle.std.proofs.Common.{◌≡◌, ◌⊎◌, ◌↔◌, ◌+◌, ◌-◌, ◌*◌, ◌/◌, ◌<◌, ◌≤◌, ◌∙◌, Bool, ℕ, IsSomeAnd, List, None, Option, Some, ℤ, pos, ◌+ℤ◌, ◌-ℤ◌, ◌≤ℤ◌, ◌<ℤ◌, FitsSigned, arith, ap, inl, inr, of_z, refl, subst, sym, to_z, w64, slice_get}
-use Rattle.std.proofs.lemmas.Int.{ints, to_z-of_z, to_z_pos}
+use Rattle.std.proofs.lemmas.Int.{ints, to_z-of_z}
 use Rattle.jiff.proofs.SpanFacts.{signed_arith}
 use Rattle.jiff.specs.Types.{TimeZone}
 use Rattle.std.specs.Ordering.{int_cmp}
@@ -26,6 +26,7 @@ use Rattle.cal_elapse.specs.Window.{IsMatchAhead, IsPlacedTo, Windowed, start_of
 use Rattle.cal_elapse.specs.declared.masks.Masks.{Masks}
 use Rattle.cal_elapse.specs.declared.searcher.Searcher.{Searcher}
 use Rattle.cal_elapse.specs.declared.window.Window.{Window}
+use Rattle.cal_elapse.proofs.LocalLemmas.{signed_word}
 use Rattle.cal_elapse.proofs.CountLemmas.{count_from-part}
 use Rattle.cal_elapse.proofs.MostLemmas.{most_more}
 use Rattle.cal_elapse.proofs.WindowLemmas.{IsPlacedFrom, timed_by-near, windowed_more}
@@ -46,30 +47,46 @@ ahead_near tz from to offset ahead order inside =
     let near = within tz (pos from) (pos from -ℤ offset) (ahead (pos from) (omega (arith, ints), omega (arith, ints)) (omega (arith, ints)) (omega (arith, ints))) in
     (omega (arith, signed_arith, near), omega (arith, signed_arith, near))
 
--- the same in the machine's numbers
-pub ahead_there : (tz : TimeZone) (local : ℕ) (offset : ℤ) → local < seconds_in_all → AreAhead tz (to_z w64 local) (to_z w64 (local / 60 * 60 + 59)) offset
-    → AreAhead tz (pos local) (pos (local / 60 * 60 + 59)) offset
-ahead_there tz local offset inside ahead =
-    let count = seconds_in_all-is in
-    let end = minute_end local inside in
-    rw (to_z_pos w64 local (omega arith), to_z_pos w64 (local / 60 * 60 + 59) (omega arith)) at ahead
+-- the signed numbers that a clock is asked by, and how far it is ahead from the one to the other
+pub record IsRun (tz : TimeZone) (local : ℕ) (from to offset : ℤ) : Type 0 where
+  pub from_is : from ≡ pos local
+  pub to_is : to ≡ pos (local / 60 * 60 + 59)
+  pub ahead : AreAhead tz (pos local) (pos (local / 60 * 60 + 59)) offset
+  pub low : offset ≤ℤ pos 93_599
+  pub high : pos 0 ≤ℤ (offset +ℤ pos 93_599)
 
-pub place_is : (tz : TimeZone) (local : ℕ) (offset : ℤ) → local < seconds_in_all → AreAhead tz (to_z w64 local) (to_z w64 (local / 60 * 60 + 59)) offset → FitsSigned w64 offset
-    → to_z w64 (of_z w64 (to_z w64 local -ℤ to_z w64 (of_z w64 offset))) ≡ (pos local -ℤ offset)
-place_is tz local offset inside ahead fits =
-    let count = seconds_in_all-is in
-    let low = to_z_pos w64 local (omega arith) in
-    let same = to_z-of_z w64 offset fits in
-    let near = ahead_near tz local (local / 60 * 60 + 59) offset (ahead_there tz local offset inside ahead) (omega arith) (minute_end local inside) in
-    let place = to_z-of_z w64 (to_z w64 local -ℤ to_z w64 (of_z w64 offset)) (omega (arith, signed_arith)) in
-    omega (arith, signed_arith)
+pub run_of : (tz : TimeZone) (local : ℕ) (from to offset : ℤ) → local < seconds_in_all → from ≡ pos local → to ≡ pos (local / 60 * 60 + 59)
+    → AreAhead tz (to_z w64 (of_z w64 from)) (to_z w64 (of_z w64 to)) offset → IsRun tz local from to offset
+run_of tz local from to offset inside from_is to_is ahead =
+    let there : AreAhead tz (pos local) (pos (local / 60 * 60 + 59)) offset
+    = rw (signed_word local from inside from_is, signed_word (local / 60 * 60 + 59) to (minute_end local inside) to_is) at ahead in
+    let near = ahead_near tz local (local / 60 * 60 + 59) offset there (omega arith) (minute_end local inside) in
+    record { from_is = from_is; to_is = to_is; ahead = there; low = near.0; high = near.1 }
 
-pub start_is : (tz : TimeZone) (local : ℕ) (offset : ℤ) → local < seconds_in_all → AreAhead tz (to_z w64 local) (to_z w64 (local / 60 * 60 + 59)) offset → FitsSigned w64 offset
-    → to_z w64 (of_z w64 (to_z w64 (of_z w64 (to_z w64 local -ℤ to_z w64 (of_z w64 offset))) +ℤ pos 1)) ≡ ((pos local -ℤ offset) +ℤ pos 1)
-start_is tz local offset inside ahead fits =
+-- in the machine's numbers: the place of the first, of the last, and the second after the first
+pub place_is : (tz : TimeZone) (local : ℕ) (from to offset : ℤ) → local < seconds_in_all → IsRun tz local from to offset → FitsSigned w64 offset
+    → to_z w64 (of_z w64 (to_z w64 (of_z w64 from) -ℤ to_z w64 (of_z w64 offset))) ≡ (pos local -ℤ offset)
+place_is tz local from to offset inside run fits =
     let count = seconds_in_all-is in
-    let near = ahead_near tz local (local / 60 * 60 + 59) offset (ahead_there tz local offset inside ahead) (omega arith) (minute_end local inside) in
-    rw (place_is tz local offset inside ahead fits) (to_z-of_z w64 ((pos local -ℤ offset) +ℤ pos 1) (omega (arith, signed_arith)))
+    let low = run.low in
+    let high = run.high in
+    rw (signed_word local from inside run.from_is, to_z-of_z w64 offset fits) (to_z-of_z w64 (pos local -ℤ offset) (omega (arith, signed_arith)))
+
+pub last_is : (tz : TimeZone) (local : ℕ) (from to offset : ℤ) → local < seconds_in_all → IsRun tz local from to offset → FitsSigned w64 offset
+    → to_z w64 (of_z w64 (to_z w64 (of_z w64 to) -ℤ to_z w64 (of_z w64 offset))) ≡ (pos (local / 60 * 60 + 59) -ℤ offset)
+last_is tz local from to offset inside run fits =
+    let count = seconds_in_all-is in
+    let low = run.low in
+    let high = run.high in
+    rw (signed_word (local / 60 * 60 + 59) to (minute_end local inside) run.to_is, to_z-of_z w64 offset fits) (to_z-of_z w64 (pos (local / 60 * 60 + 59) -ℤ offset) (omega (arith, signed_arith)))
+
+pub start_is : (tz : TimeZone) (local : ℕ) (from to offset : ℤ) → local < seconds_in_all → IsRun tz local from to offset → FitsSigned w64 offset
+    → to_z w64 (of_z w64 (to_z w64 (of_z w64 (to_z w64 (of_z w64 from) -ℤ to_z w64 (of_z w64 offset))) +ℤ pos 1)) ≡ ((pos local -ℤ offset) +ℤ pos 1)
+start_is tz local from to offset inside run fits =
+    let count = seconds_in_all-is in
+    let low = run.low in
+    let high = run.high in
+    rw (place_is tz local from to offset inside run fits) (to_z-of_z w64 ((pos local -ℤ offset) +ℤ pos 1) (omega (arith, signed_arith)))
 
 -- the place of a local second where the clock is ahead by so much
 pub place_there : (masks : Masks) (zone : Zone) (from to t : ℕ) (offset i : ℤ) → AreAhead (zone_of zone) (pos from) (pos to) offset → from ≤ t → t ≤ to → to < seconds_in_all
@@ -147,15 +164,15 @@ pub record IsBehind (v : Window) (local bits last : ℕ) (offset place least : �
   pub behind : least ≤ℤ place
   pub near : (i : ℤ) → Has v.pending i → pos (local / 60 * 60 + 59) ≤ℤ (i +ℤ pos 93_599)
 
-pub behind_of : (v : Window) (local bits last : ℕ) (offset least place : ℤ) → IsPlacedTo v local → IsRest (matches (sets_in v.searcher.masks)) local bits last
-    → AreAhead (zone_of v.zone) (to_z w64 local) (to_z w64 (local / 60 * 60 + 59)) offset → FitsSigned w64 offset → Some least ≡ slice_get v.pending 0
-    → place ≡ to_z w64 (of_z w64 (to_z w64 local -ℤ to_z w64 (of_z w64 offset))) → least ≤ℤ place
+pub behind_of : (v : Window) (local bits last : ℕ) (from to offset least place : ℤ) → IsPlacedTo v local → IsRest (matches (sets_in v.searcher.masks)) local bits last
+    → IsRun (zone_of v.zone) local from to offset → FitsSigned w64 offset → Some least ≡ slice_get v.pending 0
+    → place ≡ to_z w64 (of_z w64 (to_z w64 (of_z w64 from) -ℤ to_z w64 (of_z w64 offset))) → least ≤ℤ place
     → ((i : ℤ) → Has v.pending i → pos (local / 60 * 60 + 59) ≤ℤ (i +ℤ pos 93_599)) → IsBehind v local bits last offset (pos local -ℤ offset) least
-behind_of v local bits last offset least place h rest ahead fits least_is at behind near =
-    let same : place ≡ (pos local -ℤ offset) = at ∙ place_is (zone_of v.zone) local offset h.found.0 ahead fits in
+behind_of v local bits last from to offset least place h rest run fits least_is at behind near =
+    let same : place ≡ (pos local -ℤ offset) = at ∙ place_is (zone_of v.zone) local from to offset h.found.0 run fits in
     record {
       rest = rest;
-      ahead = ahead_there (zone_of v.zone) local offset h.found.0 ahead;
+      ahead = run.ahead;
       at = refl;
       least_is = least_is;
       behind = subst (λ (p : ℤ). least ≤ℤ p) same behind;

@@ -1,5 +1,5 @@
 -- The tests of a search, and its steps.
-use Rattle.std.proofs.Common.{◌≡◌, ℕ, ◌+◌, ◌*◌, ◌/◌, ◌%◌, ◌<◌, ◌≤◌, Bool, true, false, ◌&&◌, nat_lt, ◌==◌, Option, ap, ◌∙◌, to_z, of_z, w64, negsuc, ◌^◌, unsigned_abs, ◌≤ℤ◌, IfSome, rules, None, Some, ℤ, pos, refl, sym, subst₂, inl, inr, arith}
+use Rattle.std.proofs.Common.{◌≡◌, ℕ, ◌+◌, ◌*◌, ◌/◌, ◌%◌, ◌<◌, ◌≤◌, Bool, true, false, ◌&&◌, nat_lt, ◌==◌, Option, ap, ◌∙◌, to_z, of_z, w64, negsuc, ◌^◌, unsigned_abs, ◌≤ℤ◌, None, Some, ℤ, pos, refl, sym, subst, subst₂, inl, inr, arith}
 use Rattle.std.proofs.lemmas.Bool.{and_parts, cases_lt}
 use Rattle.std.proofs.lemmas.Bool.Decides.{nat_tests}
 use Rattle.std.proofs.lemmas.Int.{ints, to_z_pos}
@@ -12,7 +12,7 @@ use Rattle.cal_elapse.specs.Looks.{IsSearch, month_looks}
 use Rattle.cal_elapse.specs.Months.{day_in}
 use Rattle.cal_elapse.specs.Steps.{day_to_start, second_on}
 use Rattle.cal_elapse.specs.Search.{IsFirstLocal, IsFirstPassing, NonePasses}
-use Rattle.cal_elapse.specs.declared.search.Found.{Found}
+use Rattle.cal_elapse.specs.declared.search.Next.{Next}
 
 pub inside : (t : ℕ) → t < 7_258_118_400 → nat_lt t seconds_in_all ≡ true
 inside t h =
@@ -92,15 +92,33 @@ later_today sets t second below holds found =
     (first_here _ _ _ 86_400 84_006 (locals_split sets) (t / 86_400) (t % 86_400 + 1) 86_400 second day (and_parts _ _ both).0 found.1 found))
 
 -- the same in signed numbers
-pub IsFirstLocal-None : (passes : ℕ → Bool) (from : ℤ) (start : ℕ) → pos start ≡ from → IsFirstPassing passes start seconds_in_all None → IsFirstLocal passes from None
-IsFirstLocal-None passes from start same none = λ t above below. none t (omega (arith, ints)) below
+signed_first : (passes : ℕ → Bool) (start : ℕ) (found : Option ℕ) → IsFirstPassing passes start seconds_in_all found → IsFirstLocal passes (pos start) (option_map pos found)
+signed_first passes start None none = λ t above below. none t (omega (arith, ints)) below
+signed_first passes start (Some s) found =
+    (omega (arith, ints), omega (arith, ints), found.2, λ t above below. found.3 t (omega (arith, ints)) (omega (arith, ints)))
 
-pub IsFirstLocal-Some : (passes : ℕ → Bool) (from : ℤ) (start s : ℕ) → pos start ≡ from → IsFirstPassing passes start seconds_in_all (Some s)
-    → IsFirstLocal passes from (Some (to_z w64 s))
-IsFirstLocal-Some passes from start s same found =
-    let count = seconds_in_all-is in
-    let fits = to_z_pos w64 s (omega arith) in
-    rw fits (omega (arith, ints), omega (arith, ints), found.2, λ t above below. found.3 t (omega (arith, ints)) (omega (arith, ints)))
+signed_back : (found : Option ℕ) → found ≡ option_map unsigned_abs (option_map pos found)
+signed_back None = refl
+signed_back (Some s) = refl
+
+-- what a search answers
+pub record IsSignedSearch (sets : Sets) (from : ℤ) (local : Option ℤ) (months : ℕ) : Type 0 where
+  pub first : IsFirstLocal (matches sets) from local
+  pub counted : months ≡ month_looks sets (unsigned_abs from) (option_map unsigned_abs local)
+
+pub signed_search : (sets : Sets) (from : ℤ) (start : ℕ) (next : Next) (local : Option ℤ) → pos start ≡ from → IsSearch sets start next → option_map pos next.local ≡ local
+    → IsSignedSearch sets from local next.months
+signed_search sets from start next local begun search same =
+    subst (λ (z : ℤ). IsSignedSearch sets z local next.months) begun
+    (subst (λ (o : Option ℤ). IsSignedSearch sets (pos start) o next.months) same
+    (record { first = signed_first (matches sets) start next.local search.first; counted = search.counted ∙ ap (month_looks sets start) (signed_back next.local) }))
+
+pub found_inside : (passes : ℕ → Bool) (from : ℕ) (found : Option ℕ) (local : ℕ) → IsFirstPassing passes from seconds_in_all found → found ≡ Some local → local < seconds_in_all
+found_inside passes from None local none is = absurd (cc)
+found_inside passes from (Some s) local found is = subst (λ (t : ℕ). t < seconds_in_all) (some_is s local is) found.1
+  where
+    some_is : (a b : ℕ) → ◌≡◌ {A = Option ℕ} (Some a) (Some b) → a ≡ b
+    some_is a b same = cc
 
 -- a search begins at a number that isn't below 0
 pub begins : (from : ℤ) → pos 0 ≤ℤ from → from ≤ℤ pos seconds_in_all → pos (unsigned_abs (to_z w64 (of_z w64 from))) ≡ from
@@ -110,37 +128,16 @@ begins (pos n) low high =
     rw (to_z_pos w64 n small) refl
 begins (negsuc n) low high = absurd (omega (arith, ints))
 
--- and back
-pub passing_of : (passes : ℕ → Bool) (from : ℕ) (found : Option ℤ) → IsFirstLocal passes (pos from) found → IsFirstPassing passes from seconds_in_all (option_map unsigned_abs found)
-passing_of passes from None none = λ t above below. none t (omega (arith, ints)) below
-passing_of passes from (Some (pos n)) found =
-    (omega (arith, ints), omega (arith, ints), found.2, λ t above below. found.3 t (omega (arith, ints)) (omega (arith, ints)))
-passing_of passes from (Some (negsuc n)) found = absurd (omega (arith, ints))
-
-pub found_low : (passes : ℕ → Bool) (from : ℕ) (found : Option ℤ) → IsFirstLocal passes (pos from) found → IfSome found (λ local. pos 0 ≤ℤ local)
-found_low passes from None none = search rules
-found_low passes from (Some s) found = omega (arith, ints)
-
--- a search from a machine's number on
-pub search_from : (sets : Sets) (from : ℕ) (found : Found) → from ≤ seconds_in_all → IsFirstLocal (matches sets) (to_z w64 from) found.local
-    → found.months ≡ month_looks sets (unsigned_abs (to_z w64 from)) (option_map unsigned_abs found.local) → found.months ≤ 2_760 → IsSearch sets from found
-search_from sets from found within first counted few =
-    let count = seconds_in_all-is in
-    let same : to_z w64 from ≡ pos from = to_z_pos w64 from (omega arith) in
-    record { first = rw same at first; counted = rw same at counted; few = few }
-
 -- a search after a match that ends on its day
 pub search_today : (sets : Sets) (t second found : ℕ) → t < seconds_in_all → matches sets t ≡ true → IsFirstPassing (time_in sets) (t % 86_400 + 1) 86_400 (Some second)
-    → found ≡ t / 86_400 * 86_400 + second → IsSearch sets (t + 1) (record { local = Some (to_z w64 found); months = 1 })
+    → found ≡ t / 86_400 * 86_400 + second → IsSearch sets (t + 1) (record { local = Some found; months = 1 })
 search_today sets t second found below holds time same =
     let count = seconds_in_all-is in
     let day : t / 86_400 < 84_006 = omega arith in
     let both = sym (split_at _ _ _ 86_400 84_006 (locals_split sets) (t / 86_400) t day refl) ∙ holds in
     let small = time.1 in
-    let word : to_z w64 found ≡ pos found = to_z_pos w64 found (omega arith) in
-    let first : IsFirstPassing (matches sets) (t + 1) seconds_in_all (Some found) = rw same (later_today sets t second below holds time) in
     record {
-      first = IsFirstLocal-Some (matches sets) (pos (t + 1)) (t + 1) found refl first;
-      counted = rw (word, same) (sym (looks_today sets t second day (and_parts _ _ both).0 time.0 small));
+      first = rw same (later_today sets t second below holds time);
+      counted = rw same (sym (looks_today sets t second day (and_parts _ _ both).0 time.0 small));
       few = omega arith;
     }

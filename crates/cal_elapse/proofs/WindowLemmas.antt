@@ -1,7 +1,7 @@
 -- What stays true of the pending instants as matches are placed, and what of them is the first elapse.
-use Rattle.std.proofs.Common.{◌≡◌, ◌⊎◌, ◌↔◌, ℕ, ◌+◌, ◌<◌, ◌≤◌, cond, Bool, true, false, List, [], ◌∷◌, inl, inr, Option, None, Some, ℤ, pos, negsuc, ◌+ℤ◌, ◌-ℤ◌, ◌<ℤ◌, ◌≤ℤ◌, int_lt, refl, sym, ap, ◌∙◌, subst, arith, to_z, w64, slice_get, drop}
+use Rattle.std.proofs.Common.{◌≡◌, ◌⊎◌, ◌↔◌, ℕ, ◌+◌, ◌<◌, ◌≤◌, cond, Bool, true, false, List, [], ◌∷◌, inl, inr, Option, None, Some, ℤ, pos, negsuc, ◌+ℤ◌, ◌-ℤ◌, ◌<ℤ◌, ◌≤ℤ◌, int_lt, refl, sym, ap, ◌∙◌, subst, arith, of_z, to_z, w64, slice_get, drop}
 use Rattle.std.proofs.lemmas.Bool.{cases_eq, cases_lt}
-use Rattle.std.proofs.lemmas.Int.{ints, to_z_pos}
+use Rattle.std.proofs.lemmas.Int.{ints}
 use Rattle.std.proofs.lemmas.Map.Keys.{sorted_tail}
 use Rattle.jiff.proofs.SpanFacts.{signed_arith}
 use Rattle.std.specs.Ordering.{int_cmp}
@@ -12,6 +12,7 @@ use Rattle.cal_zone.specs.headline.Local.{seconds_in_all, seconds_in_all-is}
 use Rattle.cal_zone.specs.declared.zone.Zone.{Zone}
 use Rattle.cal_zone.specs.headline.Place.{place_of}
 use Rattle.jiff.specs.Types.{TimeZone}
+use Rattle.cal_elapse.proofs.LocalLemmas.{signed_word}
 use Rattle.cal_elapse.specs.Near.{IsNear}
 use Rattle.cal_zone.proofs.PlaceLemmas.{within}
 use Rattle.cal_elapse.specs.declared.masks.Masks.{Masks}
@@ -311,11 +312,10 @@ put_instant tz local place last at inside low above =
     let count = seconds_in_all-is in
     (omega (arith, ints), omega (arith, signed_arith, near))
 
--- what is found at a local second is its place
-pub place_found : (tz : TimeZone) (local : ℕ) (found : Option ℤ) → local < seconds_in_all → found ≡ place_of tz (to_z w64 local) → place_of tz (pos local) ≡ found
-place_found tz local found inside e =
-    let count = seconds_in_all-is in
-    sym (e ∙ ap (place_of tz) (to_z_pos w64 local (omega arith)))
+-- what is found there is its place
+pub place_found : (tz : TimeZone) (local : ℕ) (signed : ℤ) (found : Option ℤ) → local < seconds_in_all → signed ≡ pos local → found ≡ place_of tz (to_z w64 (of_z w64 signed))
+    → place_of tz (pos local) ≡ found
+place_found tz local signed found inside is at = sym (at ∙ ap (place_of tz) (signed_word local signed inside is))
 
 by_match : (b : Bool) (local : ℕ) → ◌≡◌ {A = Option ℕ} (cond b None (Some local)) (Some local) → b ≡ false
 by_match true local h = absurd (cc)

@@ -8,18 +8,18 @@ ghost use Rattle.cal_spec.specs.headline.Match.{matches, time_in};
 
 use crate::Masks;
 use crate::bits::has_bit;
+use crate::local::{day_of, second_of_day};
 use crate::month::month_of_day;
 use crate::month_days::MonthDays;
 use crate::month_search::has_month;
 use crate::time_search::has_minute;
-use cal_zone::DAY;
 
 /// Whether a local second matches. Its time of day is looked at first, as that costs the least.
 pub(crate) fn is_match(masks: &Masks, local: u64) -> bool
     requires { local < seconds_in_all }
     ensures { result ≡ matches (sets_in masks.now) local }
 {
-    has_time(masks, (local % DAY) as u32) && has_day(masks, (local / DAY) as u32)
+    has_time(masks, second_of_day(local)) && has_day(masks, day_of(local))
 }
 
 /// Whether the hour, the minute and the second are members.

@@ -10,6 +10,7 @@ ghost use Rattle.cal_spec.specs.headline.Match.{matches, time_in};
 
 use crate::Masks;
 use crate::day_search::next_day;
+use crate::local::{day_of, second_of_day, signed};
 use crate::month::month_of_day;
 use crate::time_search::{first_second, next_second};
 use cal_zone::{DAY, DAYS};
@@ -24,17 +25,11 @@ pub struct Found {
     pub months: u32,
 }
 
-impl Found {
-    /// The local second as a whole number.
-    pub(crate) fn whole(self) -> Option<u64>
-        requires { IfSome self.local (λ local. pos 0 ≤ℤ local) }
-        ensures { result ≡ option_map unsigned_abs self.local }
-    {
-        match self.local {
-            Some(local) => Some(local as u64),
-            None => None,
-        }
-    }
+/// The same, with the local second as a whole number, as the search itself has it.
+#[derive(Clone, Copy)]
+pub struct Next {
+    pub local: Option<u64>,
+    pub months: u32,
 }
 
 /// The least local second of the years 1970 to 2199 that matches and isn't below `from`, which is from 0 to
@@ -47,10 +42,11 @@ pub fn next_local(masks: &Masks, from: i64) -> Found
         ≡ month_looks (sets_in masks.now) (unsigned_abs from) (option_map unsigned_abs result.local) }
     ensures few { result.months ≤ 2_760 }
 {
-    let mut months = 0;
-    match next_from(masks, from.unsigned_abs(), &mut months) {
+    let next = next_at(masks, from.unsigned_abs());
+    let months = next.months;
+    match next.local {
         Some(local) => Found {
-            local: Some(local as i64),
+            local: Some(signed(local)),
             months,
         },
         None => Found {
@@ -60,46 +56,50 @@ pub fn next_local(masks: &Masks, from: i64) -> Found
     }
 }
 
-/// What it finds, in whole numbers.
-fn next_from(masks: &Masks, from: u64, months: &mut u32) -> Option<u64>
-    requires from_in { from ≤ seconds_in_all }
-    requires none { months.old ≡ 0 }
-    ensures first { IsFirstPassing (matches (sets_in masks.now)) from seconds_in_all result }
-    ensures counted { months.new ≡ month_looks (sets_in masks.now) from result }
-    ensures few { months.new ≤ 2_760 }
-{
-    if from / DAY == DAYS {
-        return None;
-    }
-    let day = (from / DAY) as u32;
-    let today = next_second(masks, (from % DAY) as u32);
-    match next_day(masks, month_of_day(day), day_to_start(day, today), months) {
-        Some(found) => {
-            let second = second_on(found, day, today, first_second(masks));
-            Some(u64::from(found) * DAY + u64::from(second))
-        }
-        None => None,
-    }
-}
-
-/// The same, from a whole number on.
-pub(crate) fn next_at(masks: &Masks, from: u64) -> Found
+/// What it finds from a local second on.
+pub(crate) fn next_at(masks: &Masks, from: u64) -> Next
     requires { from ≤ seconds_in_all }
     ensures { IsSearch (sets_in masks.now) from result }
 {
-    next_local(masks, from as i64)
+    let mut months = 0;
+    if from / DAY == DAYS {
+        return Next {
+            local: None,
+            months,
+        };
+    }
+    let day = day_of(from);
+    let today = next_second(masks, second_of_day(from));
+    match next_day(
+        masks,
+        month_of_day(day),
+        day_to_start(day, today),
+        &mut months,
+    ) {
+        Some(found) => {
+            let second = second_on(found, day, today, first_second(masks));
+            Next {
+                local: Some(u64::from(found) * DAY + u64::from(second)),
+                months,
+            }
+        }
+        None => Next {
+            local: None,
+            months,
+        },
+    }
 }
 
 /// The next match after a match. Where it lies on the same day, the one month looked at is that of the match, whose
 /// year and number are members.
-pub(crate) fn next_after(masks: &Masks, local: u64) -> Found
+pub(crate) fn next_after(masks: &Masks, local: u64) -> Next
     requires inside { local < seconds_in_all }
     requires is_match { matches (sets_in masks.now) local ≡ true }
     ensures { IsSearch (sets_in masks.now) (local + 1) result }
 {
-    match second_after(masks, (local % DAY) as u32) {
-        Some(second) => Found {
-            local: Some((local / DAY * DAY + u64::from(second)) as i64),
+    match second_after(masks, second_of_day(local)) {
+        Some(second) => Next {
+            local: Some(local / DAY * DAY + u64::from(second)),
             months: 1,
         },
         None => next_at(masks, local + 1),

@@ -1,6 +1,6 @@
 //! The search of an expression's matches, whose calls are counted.
 
-ghost use Rattle.std.specs.Prelude.{◌≡◌, ◌+◌, ◌-◌, ◌<◌, ◌≤◌, true, false, max, None, IfSome, pos, unwrap_or};
+ghost use Rattle.std.specs.Prelude.{◌≡◌, ◌+◌, ◌-◌, ◌<◌, ◌≤◌, true, false, max, None, IfSome, unwrap_or};
 ghost use Rattle.cal_zone.specs.headline.Local.{seconds_in_all};
 ghost use Rattle.cal_elapse.specs.Count.{count_from};
 ghost use Rattle.cal_elapse.specs.Left.{IsLeft, IsMoreLeft, IsNextLeft, IsRest, NoneLeft};
@@ -13,7 +13,7 @@ ghost use Rattle.cal_spec.specs.headline.Members.{sets_of};
 
 use crate::Masks;
 use crate::bits::{lowest_bit, with_bit, without_lowest};
-use crate::search::{Found, next_after, next_at};
+use crate::search::{Next, next_after, next_at};
 use cal_spec::Expr;
 use cal_zone::{DAY, DAYS};
 
@@ -89,14 +89,14 @@ impl Searcher {
     /// The least matching local second from the start on, with the months looked at. Each call is one search, and it
     /// answers what `next_local` does from there on.
     #[inline(always)]
-    pub fn search(&mut self, start: Start) -> Found
+    pub fn search(&mut self, start: Start) -> Next
         requires start { CanStart (matches (sets_in self.old.masks)) start }
         requires few { self.old.searches ≤ seconds_in_all }
         ensures found { IsSearch (sets_in self.old.masks) (begin_of start) result }
         ensures masks { self.new.masks ≡ self.old.masks }
         ensures counted { self.new.searches ≡ self.old.searches + 1 }
         ensures most { self.new.most_months ≡ max self.old.most_months result.months }
-        ensures last { IfSome result.local (λ local. local ≡ pos self.new.found) }
+        ensures last { IfSome result.local (λ local. local ≡ self.new.found) }
     {
         self.searches += 1;
         let found = match start {
@@ -152,58 +152,58 @@ impl Searcher {
         if !self.has_left(local) {
             return None;
         }
-        self.search(Start::After(local)).whole()
+        self.search(Start::After(local)).local
     }
 
     /// The least match from a local second on.
-    fn find_at(&mut self, local: u64) -> Found
+    fn find_at(&mut self, local: u64) -> Next
         requires { local ≤ seconds_in_all }
         ensures found { IsSearch (sets_in self.old.masks) local result }
         ensures masks { self.new.masks ≡ self.old.masks }
         ensures searches { self.new.searches ≡ self.old.searches }
         ensures most { self.new.most_months ≡ self.old.most_months }
-        ensures last { IfSome result.local (λ local. local ≡ pos self.new.found) }
+        ensures last { IfSome result.local (λ local. local ≡ self.new.found) }
     {
         let found = next_at(&self.masks, local);
-        self.keep(found.whole());
+        self.keep(found.local);
         found
     }
 
     /// The next match after a match: the next one in its minute, if that is the match that was found last.
     #[inline(always)]
-    fn find_after(&mut self, local: u64) -> Found
+    fn find_after(&mut self, local: u64) -> Next
         requires inside { local < seconds_in_all }
         requires is_match { matches (sets_in self.old.masks) local ≡ true }
         ensures found { IsSearch (sets_in self.old.masks) (local + 1) result }
         ensures masks { self.new.masks ≡ self.old.masks }
         ensures searches { self.new.searches ≡ self.old.searches }
         ensures most { self.new.most_months ≡ self.old.most_months }
-        ensures last { IfSome result.local (λ local. local ≡ pos self.new.found) }
+        ensures last { IfSome result.local (λ local. local ≡ self.new.found) }
     {
         if local == self.found && self.left != 0 {
             return self.find_left();
         }
         let found = next_after(&self.masks, local);
-        self.keep(found.whole());
+        self.keep(found.local);
         found
     }
 
     /// The next match in the minute of the match that was found last. The one month looked at is that of both.
     #[inline(always)]
-    fn find_left(&mut self) -> Found
+    fn find_left(&mut self) -> Next
         requires { 0 < self.old.left }
         ensures found { IsSearch (sets_in self.old.masks) (self.old.found + 1) result }
         ensures masks { self.new.masks ≡ self.old.masks }
         ensures searches { self.new.searches ≡ self.old.searches }
         ensures most { self.new.most_months ≡ self.old.most_months }
-        ensures last { IfSome result.local (λ local. local ≡ pos self.new.found) }
+        ensures last { IfSome result.local (λ local. local ≡ self.new.found) }
     {
         let bit = lowest_bit(self.left);
         let local = self.from + u64::from(bit);
         self.left = without_lowest(self.left);
         self.found = local;
-        Found {
-            local: Some(local as i64),
+        Next {
+            local: Some(local),
             months: 1,
         }
     }
@@ -215,7 +215,7 @@ impl Searcher {
         ensures masks { self.new.masks ≡ self.old.masks }
         ensures searches { self.new.searches ≡ self.old.searches }
         ensures most { self.new.most_months ≡ self.old.most_months }
-        ensures last { IfSome found (λ local. self.new.found ≡ local) }
+        ensures last { IfSome found (λ local. local ≡ self.new.found) }
     {
         let Some(local) = found else {
             return;

@@ -8,6 +8,7 @@ ghost use Rattle.cal_rising.specs.headline.Elements.{Has};
 ghost use Rattle.cal_elapse.specs.Window.{start_of, to_place, with_place};
 
 use crate::Pending;
+use crate::local::signed;
 use crate::searcher::{Searcher, Start};
 use cal_spec::Expr;
 use cal_zone::{Instant, Placer, Zone};
@@ -61,7 +62,7 @@ impl<'z> Window<'z> {
     {
         let pending = Pending::new(alloc)?;
         let mut searcher = Searcher::of(expr);
-        let ahead = searcher.search(Start::At(first_local(base))).whole();
+        let ahead = searcher.search(Start::At(first_local(base))).local;
         let base = base.secs();
         Ok(Window {
             searcher,
@@ -91,7 +92,7 @@ impl<'z> Window<'z> {
             }
             put_place(&mut self.pending, &mut self.zone, local, self.last);
             let placed = self.place_rest(local);
-            ahead = self.searcher.search(Start::After(placed)).whole();
+            ahead = self.searcher.search(Start::After(placed)).local;
         }
         self.ahead = ahead;
     }
@@ -112,16 +113,14 @@ impl<'z> Window<'z> {
         if !self.searcher.has_left(local) || !is_to_place(end, least) {
             return local;
         }
-        let Some(offset) = self.zone.offset_over(local as i64, end as i64) else {
+        let (from, to) = (signed(local), signed(end));
+        let Some(offset) = self.zone.offset_over(from, to) else {
             return local;
         };
-        let place = local as i64 - offset;
+        let place = from - offset;
         match least {
             // No place of what is left is above the last instant given.
-            None if place + (end - local) as i64 <= self.last => self
-                .searcher
-                .search_left(local)
-                .last,
+            None if to - offset <= self.last => self.searcher.search_left(local).last,
             // All that is left lies after the least pending instant, as the match lies at it or after it.
             Some(least) if least <= place => {
                 let rest = self.searcher.search_left(local);
@@ -201,7 +200,7 @@ fn earliest_place(local: u64) -> i64
     requires { local < seconds_in_all }
     ensures { result ≡ pos local -ℤ pos 93_599 }
 {
-    local as i64 - FARTHEST as i64
+    signed(local) - signed(FARTHEST)
 }
 
 /// Puts the place of a local second where it is above the last instant given.
@@ -213,7 +212,7 @@ fn put_place(pending: &mut Pending, placer: &mut Placer<'_>, local: u64, last: i
     ensures put { pending.new ≡ with_place (place_of (zone_of placer.old) (pos local)) last pending.old }
     ensures zone { placer.new ≡ placer.old }
 {
-    let Some(instant) = placer.place(local as i64) else {
+    let Some(instant) = placer.place(signed(local)) else {
         return;
     };
     if instant <= last {

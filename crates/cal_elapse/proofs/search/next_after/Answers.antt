@@ -1,19 +1,13 @@
-use Rattle.std.proofs.Common.{◌≡◌, ◌+◌, ◌*◌, ◌/◌, ap, arith}
+use Rattle.std.proofs.Common.{◌≡◌, ◌+◌, ◌*◌, ◌/◌, ap, arith, subst, Some, ℕ}
 use Rattle.cal_zone.specs.headline.Local.{seconds_in_all-is}
 use Rattle.cal_elapse.specs.Masks.{sets_in}
+use Rattle.cal_elapse.specs.Search.{IsFirstPassing}
+use Rattle.cal_spec.specs.headline.Match.{time_in}
 use Rattle.cal_elapse.proofs.SearchLemmas.{search_today}
 use Rattle.cal_elapse.proofs.search.next_after.Goals as goal
 
 pub overflow_add-result : goal.overflow_add-result
 overflow_add-result c =
-    let count = seconds_in_all-is in
-    let inside = c.requires.inside in
-    let small = c.in-Some.ensures.1 in
-    let second = c.from.ensures in
-    omega arith
-
-pub overflow_cast-result : goal.overflow_cast-result
-overflow_cast-result c =
     let count = seconds_in_all-is in
     let inside = c.requires.inside in
     let small = c.in-Some.ensures.1 in
@@ -30,4 +24,6 @@ pub returns-in-Some : goal.returns-in-Some
 returns-in-Some c =
     let found : c.args.local / 86_400 * 86_400 + c.from.result ≡ c.args.local / 86_400 * 86_400 + c.in-Some.second =
     ap (λ second. c.args.local / 86_400 * 86_400 + second) c.from.ensures in
-    search (search_today (sets_in c.args.masks.now) c.args.local c.in-Some.second _ c.requires.inside c.requires.is_match c.in-Some.ensures found)
+    let s = sets_in c.args.masks.now in
+    let second = subst (λ (r : ℕ). IsFirstPassing (time_in s) (r + 1) 86_400 (Some c.in-Some.second)) c.second_of_day.ensures c.in-Some.ensures in
+    search (search_today s c.args.local c.in-Some.second _ c.requires.inside c.requires.is_match second found)

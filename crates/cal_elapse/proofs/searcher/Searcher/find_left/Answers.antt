@@ -1,18 +1,10 @@
-use Rattle.std.proofs.Common.{arith, w64}
-use Rattle.std.proofs.lemmas.Int.{to_z_pos}
+use Rattle.std.proofs.Common.{arith}
 use Rattle.cal_zone.specs.headline.Local.{seconds_in_all-is}
 use Rattle.cal_elapse.proofs.MinuteLemmas.{left_inside, left_on, search_left}
 use Rattle.cal_elapse.proofs.searcher.Searcher.find_left.Goals as goal
 
 pub overflow_add-local : goal.overflow_add-local
 overflow_add-local c =
-    let count = seconds_in_all-is in
-    let inside = left_inside _ _ _ _ _ c.args.self.now.is_left c.lowest_bit-bit.ensures in
-    let same = c.from.ensures in
-    omega arith
-
-pub overflow_cast-result : goal.overflow_cast-result
-overflow_cast-result c =
     let count = seconds_in_all-is in
     let inside = left_inside _ _ _ _ _ c.args.self.now.is_left c.lowest_bit-bit.ensures in
     let same = c.from.ensures in
@@ -29,10 +21,3 @@ invariant_of-self c =
 
 pub returns-clause-found : goal.returns-clause-found
 returns-clause-found c = rw c.from.ensures (search (search_left c.args.self.now.masks c.args.self.now.found c.args.self.now.from c.args.self.now.left c.lowest_bit-bit.result c.args.self.now.is_left c.lowest_bit-bit.ensures))
-
-pub returns-clause-last : goal.returns-clause-last
-returns-clause-last c =
-    let count = seconds_in_all-is in
-    let inside = left_inside _ _ _ _ _ c.args.self.now.is_left c.lowest_bit-bit.ensures in
-    let same = c.from.ensures in
-    to_z_pos w64 _ (omega arith)

@@ -5,7 +5,6 @@ use Rattle.cal_elapse.specs.Most.{IsMostAfter}
 use Rattle.cal_elapse.proofs.CountLemmas.{count_from-nothing}
 use Rattle.cal_elapse.proofs.MinuteLemmas.{next_found}
 use Rattle.cal_elapse.proofs.MostLemmas.{most_begun, next_counted, next_last, next_most}
-use Rattle.cal_elapse.proofs.SearchLemmas.{found_low}
 use Rattle.cal_elapse.proofs.searcher.Searcher.next_left.Goals as goal
 
 pub returns-then-not-has_left-clause-none : goal.returns-then-not-has_left-clause-none
@@ -17,37 +16,34 @@ returns-then-not-has_left-clause-counted c = let nothing = count_from-nothing (m
 pub returns-then-not-has_left-clause-most : goal.returns-then-not-has_left-clause-most
 returns-then-not-has_left-clause-most c = most_begun (sets_in c.args.self.now.masks) c.args.local c.args.self.now.most_months
 
-pub whole-requires : goal.whole-requires
-whole-requires c = found_low _ _ _ c.search.ensures.found.first
-
 pub returns-clause-next : goal.returns-clause-next
 returns-clause-next c =
     let now = c.args.self.now in
-    (next_found now.masks c.args.local _ c.whole.result (c.has_left.ensures.more c.if-not-has_left.false) c.search.ensures.found.first c.whole.ensures).0
+    (next_found now.masks c.args.local c.search.result.local (c.has_left.ensures.more c.if-not-has_left.false) c.search.ensures.found.first).0
 
 pub returns-clause-none : goal.returns-clause-none
 returns-clause-none c = λ none same.
     let now = c.args.self.now in
-    let known = next_found now.masks c.args.local _ c.whole.result (c.has_left.ensures.more c.if-not-has_left.false) c.search.ensures.found.first c.whole.ensures in
+    let known = next_found now.masks c.args.local c.search.result.local (c.has_left.ensures.more c.if-not-has_left.false) c.search.ensures.found.first in
     absurd (let no = subst IsSome none known.1 in cc)
 
 pub returns-clause-last : goal.returns-clause-last
 returns-clause-last c = λ same.
     let now = c.args.self.now in
-    let known = next_found now.masks c.args.local _ c.whole.result (c.has_left.ensures.more c.if-not-has_left.false) c.search.ensures.found.first c.whole.ensures in
-    next_last _ c.whole.result c.args.local _ c.whole.ensures known.1 c.search.ensures.last
+    let known = next_found now.masks c.args.local c.search.result.local (c.has_left.ensures.more c.if-not-has_left.false) c.search.ensures.found.first in
+    next_last c.search.result.local c.args.local _ known.1 c.search.ensures.last
 
 pub returns-clause-counted : goal.returns-clause-counted
 returns-clause-counted c =
     let now = c.args.self.now in
-    let known = next_found now.masks c.args.local _ c.whole.result (c.has_left.ensures.more c.if-not-has_left.false) c.search.ensures.found.first c.whole.ensures in
-    let one = next_counted (matches (sets_in now.masks)) c.args.local c.whole.result known in
+    let known = next_found now.masks c.args.local c.search.result.local (c.has_left.ensures.more c.if-not-has_left.false) c.search.ensures.found.first in
+    let one = next_counted (matches (sets_in now.masks)) c.args.local c.search.result.local known in
     let more = c.search.ensures.counted in
     omega arith
 
 pub returns-clause-most : goal.returns-clause-most
 returns-clause-most c =
     let now = c.args.self.now in
-    let known = next_found now.masks c.args.local _ c.whole.result (c.has_left.ensures.more c.if-not-has_left.false) c.search.ensures.found.first c.whole.ensures in
-    subst (IsMostAfter (sets_in now.masks) c.args.local (unwrap_or c.whole.result c.args.local) now.most_months) (sym c.search.ensures.most)
-    (next_most (sets_in now.masks) c.args.local now.most_months c.search.result c.whole.result c.requires.start.1 c.search.ensures.found known)
+    let known = next_found now.masks c.args.local c.search.result.local (c.has_left.ensures.more c.if-not-has_left.false) c.search.ensures.found.first in
+    subst (IsMostAfter (sets_in now.masks) c.args.local (unwrap_or c.search.result.local c.args.local) now.most_months) (sym c.search.ensures.most)
+    (next_most (sets_in now.masks) c.args.local now.most_months c.search.result c.search.result.local c.requires.start.1 c.search.ensures.found known)

@@ -2,7 +2,6 @@ use Rattle.std.proofs.Common.{◌∙◌, FitsSigned, arith, ap, rules, w64}
 use Rattle.std.proofs.lemmas.Int.{to_z-of_z}
 use Rattle.cal_elapse.specs.Window.{timed_by}
 use Rattle.cal_elapse.proofs.ReadyLemmas.{few_searches, next_ready, placed_before, placed_is_match, placed_to}
-use Rattle.cal_elapse.proofs.SearchLemmas.{passing_of}
 use Rattle.cal_elapse.proofs.WindowLemmas.{near_ahead}
 use Rattle.cal_elapse.proofs.window.Window.fill.Goals as goal
 
@@ -20,11 +19,11 @@ place_rest-placed-requires c =
     rw c.put_place.ensures.zone (placed_to _ c.in-Some.local c.loop-ahead.self.ahead c.put_place.new.pending c.loop-ahead.invariant.ready c.in-Some.is near
     (rw (to_z-of_z w64 c.loop-ahead.self.last fits) at c.put_place.ensures.put))
 
-pub search-requires-clause-start : goal.search-requires-clause-start
-search-requires-clause-start c = search (placed_is_match _ c.place_rest-placed.result c.place_rest-placed.ensures.placed)
+pub search-ahead-requires-clause-start : goal.search-ahead-requires-clause-start
+search-ahead-requires-clause-start c = search (placed_is_match _ c.place_rest-placed.result c.place_rest-placed.ensures.placed)
 
-pub search-requires-clause-few : goal.search-requires-clause-few
-search-requires-clause-few c =
+pub search-ahead-requires-clause-few : goal.search-ahead-requires-clause-few
+search-ahead-requires-clause-few c =
     let few = few_searches _ c.place_rest-placed.result c.place_rest-placed.ensures.placed in
     let inside = (placed_is_match _ c.place_rest-placed.result c.place_rest-placed.ensures.placed).0 in
     omega arith
@@ -34,11 +33,10 @@ loop-ahead-preserved c =
     let kept = c.loop-ahead.invariant in
     let rest = c.place_rest-placed.ensures in
     record {
-      ready = next_ready _ c.place_rest-placed.result c.search.new.self c.whole-ahead.result c.search.result rest.placed c.search.ensures.masks c.search.ensures.counted
-          c.search.ensures.most c.search.ensures.found
-          (rw (c.whole-ahead.ensures) (passing_of _ _ _ c.search.ensures.found.first));
-      masks = c.search.ensures.masks ∙ (rest.masks ∙ kept.masks);
+      ready = next_ready _ c.place_rest-placed.result c.search-ahead.new.self c.search-ahead.result.local c.search-ahead.result rest.placed c.search-ahead.ensures.masks c.search-ahead.ensures.counted
+          c.search-ahead.ensures.most c.search-ahead.ensures.found c.search-ahead.ensures.found.first;
+      masks = c.search-ahead.ensures.masks ∙ (rest.masks ∙ kept.masks);
       base = rest.base ∙ kept.base;
-      timed = ap (λ masks. timed_by masks c.place_rest-placed.new.self.zone) c.search.ensures.masks ∙ (rest.timed ∙ (ap (timed_by c.loop-ahead.self.searcher.masks) c.put_place.ensures.zone ∙ kept.timed));
+      timed = ap (λ masks. timed_by masks c.place_rest-placed.new.self.zone) c.search-ahead.ensures.masks ∙ (rest.timed ∙ (ap (timed_by c.loop-ahead.self.searcher.masks) c.put_place.ensures.zone ∙ kept.timed));
       last = rest.last ∙ kept.last;
     }

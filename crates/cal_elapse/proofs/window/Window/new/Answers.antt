@@ -10,7 +10,6 @@ use Rattle.cal_elapse.specs.Window.{start_of, timed_by}
 use Rattle.cal_spec.specs.headline.Match.{Sets, matches}
 use Rattle.cal_elapse.proofs.MostLemmas.{most_of_first, search_looked}
 use Rattle.cal_elapse.proofs.ReadyLemmas.{begun_ready, timed_by-timed}
-use Rattle.cal_elapse.proofs.SearchLemmas.{found_low, passing_of}
 use Rattle.cal_elapse.proofs.window.Window.new.Goals as goal
 
 pub returns-clause-ready : goal.returns-clause-ready
@@ -18,24 +17,21 @@ returns-clause-ready c =
     let fits : FitsSigned w64 c.secs-base.result = search rules in
     let base : c.args.base.secs ≡ to_z w64 (of_z w64 c.secs-base.result) = sym (to_z-of_z w64 c.secs-base.result fits ∙ c.secs-base.ensures.value) in
     let begin = c.first_local.ensures.start ∙ ap start_of base in
-    begun_ready c.of-searcher.result c.search.new.self c.new-2.result _ c.whole-ahead.result c.in_ok-pending.pending c.search.result (subst IsInstant base c.args.base.in_range) c.of-searcher.ensures.none
-    c.of-searcher.ensures.looked c.search.ensures.masks c.search.ensures.counted c.search.ensures.most
-    (subst (λ (from : ℕ). IsSearch (sets_in c.of-searcher.result.masks) from c.search.result) begin c.search.ensures.found) c.in_ok-pending.ensures
-    (subst (λ (from : ℕ). IsFirstPassing (matches (sets_in c.of-searcher.result.masks)) from seconds_in_all c.whole-ahead.result) begin (rw (c.whole-ahead.ensures) (passing_of _ _ _ c.search.ensures.found.first)))
+    begun_ready c.of-searcher.result c.search-ahead.new.self c.new-2.result _ c.search-ahead.result.local c.in_ok-pending.pending c.search-ahead.result (subst IsInstant base c.args.base.in_range) c.of-searcher.ensures.none
+    c.of-searcher.ensures.looked c.search-ahead.ensures.masks c.search-ahead.ensures.counted c.search-ahead.ensures.most
+    (subst (λ (from : ℕ). IsSearch (sets_in c.of-searcher.result.masks) from c.search-ahead.result) begin c.search-ahead.ensures.found) c.in_ok-pending.ensures
+    (subst (λ (from : ℕ). IsFirstPassing (matches (sets_in c.of-searcher.result.masks)) from seconds_in_all c.search-ahead.result.local) begin c.search-ahead.ensures.found.first)
 
 pub returns-clause-timed : goal.returns-clause-timed
 returns-clause-timed c =
-    ap (timed_by c.search.new.self.masks) c.new-2.ensures
-    ∙ timed_by-timed c.search.new.self.masks c.args.zone c.args.expr.now (ap sets_in c.search.ensures.masks ∙ c.of-searcher.ensures.masks)
-
-pub whole-ahead-requires : goal.whole-ahead-requires
-whole-ahead-requires c = found_low _ _ _ c.search.ensures.found.first
+    ap (timed_by c.search-ahead.new.self.masks) c.new-2.ensures
+    ∙ timed_by-timed c.search-ahead.new.self.masks c.args.zone c.args.expr.now (ap sets_in c.search-ahead.ensures.masks ∙ c.of-searcher.ensures.masks)
 
 pub returns-clause-masks : goal.returns-clause-masks
-returns-clause-masks c = ap sets_in c.search.ensures.masks ∙ c.of-searcher.ensures.masks
+returns-clause-masks c = ap sets_in c.search-ahead.ensures.masks ∙ c.of-searcher.ensures.masks
 
 pub returns-clause-looked : goal.returns-clause-looked
 returns-clause-looked c =
-    let looked = search_looked _ _ c.search.result c.search.ensures.found in
-    subst₂ (λ (sets : Sets) (from : ℕ). IsLooked sets from c.search.new.self.most_months) c.of-searcher.ensures.masks c.first_local.ensures.start
-    (subst (IsLooked (sets_in c.of-searcher.result.masks) c.first_local.result) (sym (most_of_first _ _ _ c.of-searcher.ensures.looked c.search.ensures.most)) looked)
+    let looked = search_looked _ _ c.search-ahead.result c.search-ahead.ensures.found in
+    subst₂ (λ (sets : Sets) (from : ℕ). IsLooked sets from c.search-ahead.new.self.most_months) c.of-searcher.ensures.masks c.first_local.ensures.start
+    (subst (IsLooked (sets_in c.of-searcher.result.masks) c.first_local.result) (sym (most_of_first _ _ _ c.of-searcher.ensures.looked c.search-ahead.ensures.most)) looked)
