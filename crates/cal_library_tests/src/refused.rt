@@ -126,7 +126,6 @@ fn is_added(rt: &impl Abort, merge: &mut Merge<Listed>, source: Listed, numbers:
 
 /// The merge has the lists that were added, and once it has them, nothing takes memory.
 #[test]
-#[tactic(auto, unfolding(std::specs::List::Sorted::IsStrictlySortedBy))]
 fn merged_lists(rt: HostRuntime) {
     let mut merge = Merge::new(rt.alloc());
     let (Ok(one), Ok(two)) = (listed(rt.alloc(), &[1, 5, 9]), listed(rt.alloc(), &[5, 7])) else {
@@ -145,7 +144,6 @@ fn merged_lists(rt: HostRuntime) {
 
 /// So it is for an exception.
 #[test]
-#[tactic(auto, unfolding(std::specs::List::Sorted::IsStrictlySortedBy))]
 fn an_exception(rt: HostRuntime) {
     let (Ok(mut merge), Ok(exception)) = (
         merge_two(rt.alloc(), &[1, 5, 9], &[5, 7]),

@@ -17,7 +17,6 @@ fn no_source(rt: HostRuntime) {
 
 /// The greatest number is one like the others, and a number that two lists share is given once.
 #[test]
-#[tactic(auto, unfolding(std::specs::List::Sorted::IsStrictlySortedBy))]
 fn two_lists(rt: HostRuntime) -> Result<(), AllocError> {
     let alloc = rt.alloc();
     let mut greatest = merge_two(alloc, &[i64::MAX], &[1])?;
@@ -29,7 +28,6 @@ fn two_lists(rt: HostRuntime) -> Result<(), AllocError> {
 
 /// An exception takes a number out of each list that has it, and one that no list has takes out nothing.
 #[test]
-#[tactic(auto, unfolding(std::specs::List::Sorted::IsStrictlySortedBy))]
 fn exceptions(rt: HostRuntime) -> Result<(), AllocError> {
     let alloc = rt.alloc();
     let mut merge = merge_without(alloc, &[1, 5, 9], &[5, 7], &[5, 8])?;
