@@ -112,18 +112,18 @@ unfoldable pub parsed_in : List Text → Option Given
 parsed_in words = given_in (subcommand_of command_app words)
 
 -- a bad value is this fault
-abbrev pub judged : {A : Type 0} → CommandFault → Option A → (A → Result Ask CommandFault) → Result Ask CommandFault
-judged fault None next = Err fault
-judged fault (Some value) next = next value
+abbrev pub unless_bad : {A : Type 0} → CommandFault → Option A → (A → Result Ask CommandFault) → Result Ask CommandFault
+unless_bad fault None next = Err fault
+unless_bad fault (Some value) next = next value
 
 -- what the values ask for, or the first of them that is bad: one iteration, the clock's present, UTC and no zone file
 -- where nothing is given
 unfoldable pub read_options : Given → Result Ask CommandFault
 read_options given =
-    judged bad_iterations (option_map_or count_in given.iterations (Some 1)) (λ iterations.
-    judged bad_now (option_map_or (λ text. option_map Some (present_in text)) given.now (Some None)) (λ now.
-    judged bad_zones (option_map_or zones_in given.zones (Some [])) (λ zones.
-    judged bad_local (option_map_or local_in given.local (Some in_utc)) (λ local. Ok (record {
+    unless_bad bad_iterations (option_map_or count_in given.iterations (Some 1)) (λ iterations.
+    unless_bad bad_now (option_map_or (λ text. option_map Some (present_in text)) given.now (Some None)) (λ now.
+    unless_bad bad_zones (option_map_or zones_in given.zones (Some [])) (λ zones.
+    unless_bad bad_local (option_map_or local_in given.local (Some in_utc)) (λ local. Ok (record {
       verb = given.verb;
       texts = given.texts;
       iterations = iterations;

@@ -3,7 +3,7 @@ use Rattle.std.proofs.Common.{◌≡◌, ℕ, ◌+◌, Bool, true, false, List, 
 use Rattle.std.specs.List.{flat_map}
 use Rattle.std.specs.Str.Lines.{lines}
 use Rattle.cal_text.specs.headline.Trim.{trim_start}
-use Rattle.cal_lines.specs.headline.Lines.{Group, Line, continued_by, groups, is_blank_or_return, is_comment, is_continued, joined_line, logical_lines, part_of, physical_lines, plain_lines}
+use Rattle.cal_lines.specs.headline.Lines.{Group, Line, continued_by, groups, is_blank_or_return, is_comment, is_continued, joined_line, logical_lines, part_of_line, physical_lines, plain_lines}
 
 -- the lines of a text after its first
 pub plain_here : (n : ℕ) (text line rest : List ℕ) → lines text ≡ line ∷ lines rest → is_comment (trim_start is_blank_or_return line) ≡ false → plain_lines n text ≡ record { number = n; text = trim_start is_blank_or_return line } ∷ plain_lines (n + 1) rest
@@ -20,7 +20,7 @@ plain_none n text e = rw e refl
 
 -- what a list of lines adds to a logical line
 abbrev pub parts_of : List Line → List ℕ
-parts_of = flat_map (λ line. part_of line.text)
+parts_of = flat_map (λ line. part_of_line line.text)
 
 -- the logical lines where the first of them begins with this text
 abbrev pub after : ℕ → List ℕ → List Group → List Line
@@ -33,29 +33,29 @@ goes_on_in n front true ls = after n front (groups ls)
 goes_on_in n front false ls = record { number = n; text = front } ∷ map joined_line (groups ls)
 
 -- the first line of a group
-pub joined_continued : (n : ℕ) (front : List ℕ) (line : Line) (gs : List Group) → after n front (continued_by line gs) ≡ after n (front ++ part_of line.text) gs
-joined_continued n front line [] = ap (λ text. record { number = n; text = text } ∷ []) (ap (λ xs. front ++ xs) (append-nil (part_of line.text)))
-joined_continued n front line (g ∷ gs) = ap (λ text. record { number = n; text = text } ∷ map joined_line gs) (sym (append_assoc front (part_of line.text) (parts_of (g.first ∷ g.more))))
+pub joined_continued : (n : ℕ) (front : List ℕ) (line : Line) (gs : List Group) → after n front (continued_by line gs) ≡ after n (front ++ part_of_line line.text) gs
+joined_continued n front line [] = ap (λ text. record { number = n; text = text } ∷ []) (ap (λ xs. front ++ xs) (append-nil (part_of_line line.text)))
+joined_continued n front line (g ∷ gs) = ap (λ text. record { number = n; text = text } ∷ map joined_line gs) (sym (append_assoc front (part_of_line line.text) (parts_of (g.first ∷ g.more))))
 
-line_joined_as : (b : Bool) (n : ℕ) (front : List ℕ) (line : Line) (ls : List Line) → is_continued line.text ≡ b → goes_on_in n front true (line ∷ ls) ≡ goes_on_in n (front ++ part_of line.text) b ls
+line_joined_as : (b : Bool) (n : ℕ) (front : List ℕ) (line : Line) (ls : List Line) → is_continued line.text ≡ b → goes_on_in n front true (line ∷ ls) ≡ goes_on_in n (front ++ part_of_line line.text) b ls
 unfolding groups
 line_joined_as true n front line ls e = rw e (joined_continued n front line (groups ls))
-line_joined_as false n front line ls e = rw e (ap (λ text. record { number = n; text = text } ∷ map joined_line (groups ls)) (ap (λ xs. front ++ xs) (append-nil (part_of line.text))))
+line_joined_as false n front line ls e = rw e (ap (λ text. record { number = n; text = text } ∷ map joined_line (groups ls)) (ap (λ xs. front ++ xs) (append-nil (part_of_line line.text))))
 
-pub line_joined : (n : ℕ) (front : List ℕ) (line : Line) (ls : List Line) → goes_on_in n front true (line ∷ ls) ≡ goes_on_in n (front ++ part_of line.text) (is_continued line.text) ls
+pub line_joined : (n : ℕ) (front : List ℕ) (line : Line) (ls : List Line) → goes_on_in n front true (line ∷ ls) ≡ goes_on_in n (front ++ part_of_line line.text) (is_continued line.text) ls
 line_joined n front line ls = line_joined_as (is_continued line.text) n front line ls refl
 
-continued_alone : (line : Line) (gs : List Group) → map joined_line (continued_by line gs) ≡ after line.number (part_of line.text) gs
-continued_alone line [] = ap (λ text. record { number = line.number; text = text } ∷ []) (append-nil (part_of line.text))
+continued_alone : (line : Line) (gs : List Group) → map joined_line (continued_by line gs) ≡ after line.number (part_of_line line.text) gs
+continued_alone line [] = ap (λ text. record { number = line.number; text = text } ∷ []) (append-nil (part_of_line line.text))
 continued_alone line (g ∷ gs) = refl
 
-line_begins_as : (b : Bool) (line : Line) (ls : List Line) → is_continued line.text ≡ b → map joined_line (groups (line ∷ ls)) ≡ goes_on_in line.number (part_of line.text) b ls
+line_begins_as : (b : Bool) (line : Line) (ls : List Line) → is_continued line.text ≡ b → map joined_line (groups (line ∷ ls)) ≡ goes_on_in line.number (part_of_line line.text) b ls
 unfolding groups
 line_begins_as true line ls e = rw e (continued_alone line (groups ls))
-line_begins_as false line ls e = rw e (ap (λ text. record { number = line.number; text = text } ∷ map joined_line (groups ls)) (append-nil (part_of line.text)))
+line_begins_as false line ls e = rw e (ap (λ text. record { number = line.number; text = text } ∷ map joined_line (groups ls)) (append-nil (part_of_line line.text)))
 
 -- a logical line begins with its first line
-pub line_begins : (line : Line) (ls : List Line) → map joined_line (groups (line ∷ ls)) ≡ goes_on_in line.number (part_of line.text) (is_continued line.text) ls
+pub line_begins : (line : Line) (ls : List Line) → map joined_line (groups (line ∷ ls)) ≡ goes_on_in line.number (part_of_line line.text) (is_continued line.text) ls
 line_begins line ls = line_begins_as (is_continued line.text) line ls refl
 
 -- and ends with the file
@@ -69,11 +69,11 @@ pub logical_none : (n : ℕ) (text : List ℕ) → plain_lines n text ≡ [] →
 unfolding logical_lines groups
 logical_none n text e = rw e refl
 
-pub logical_begins : (n : ℕ) (text : List ℕ) (line : Line) (rest : List Line) (joined : List ℕ) (goes_on : Bool) → plain_lines n text ≡ line ∷ rest → joined ≡ [] ++ part_of line.text → goes_on ≡ is_continued line.text → logical_lines n text ≡ goes_on_in line.number joined goes_on rest
+pub logical_begins : (n : ℕ) (text : List ℕ) (line : Line) (rest : List Line) (joined : List ℕ) (goes_on : Bool) → plain_lines n text ≡ line ∷ rest → joined ≡ [] ++ part_of_line line.text → goes_on ≡ is_continued line.text → logical_lines n text ≡ goes_on_in line.number joined goes_on rest
 unfolding logical_lines
 logical_begins n text line rest joined goes_on e f h = rw (e, f, h) (line_begins line rest)
 
-pub logical_goes_on : (n : ℕ) (front : List ℕ) (goes_on : Bool) (all lines : List Line) (line : Line) (rest : List Line) (joined : List ℕ) (more : Bool) → all ≡ goes_on_in n front goes_on lines → goes_on ≡ true → lines ≡ line ∷ rest → joined ≡ front ++ part_of line.text → more ≡ is_continued line.text → all ≡ goes_on_in n joined more rest
+pub logical_goes_on : (n : ℕ) (front : List ℕ) (goes_on : Bool) (all lines : List Line) (line : Line) (rest : List Line) (joined : List ℕ) (more : Bool) → all ≡ goes_on_in n front goes_on lines → goes_on ≡ true → lines ≡ line ∷ rest → joined ≡ front ++ part_of_line line.text → more ≡ is_continued line.text → all ≡ goes_on_in n joined more rest
 logical_goes_on n front goes_on all lines line rest joined more so_far e f g h = so_far ∙ rw (e, f, g, h) (line_joined n front line rest)
 
 pub logical_ends : (n : ℕ) (front : List ℕ) (goes_on : Bool) (all : List Line) (next : ℕ) (rest : List ℕ) → all ≡ goes_on_in n front goes_on (plain_lines next rest) → goes_on ≡ false → all ≡ record { number = n; text = front } ∷ logical_lines next rest

@@ -8,17 +8,17 @@ use Rattle.std.proofs.lemmas.List.{get_or-reverse, length-append, take_more}
 use Rattle.std.proofs.lemmas.List.Sums.{prefix_len_passes, suffix_len-le-length}
 use Rattle.cal_text.specs.headline.Trim.{trim_start}
 use Rattle.cal_text.proofs.TrimLemmas.{unindented, unindented_only}
-use Rattle.cal_lines.specs.headline.Lines.{Group, Line, groups, is_blank_or_return, is_comment, is_continued, joined_line, logical_lines, numbered, part_of, physical_lines, plain_lines}
-use Rattle.cal_lines.specs.LogicalRule.{AreJoined, AreLogical, ArePhysical, EachIsLogical, IsPart}
+use Rattle.cal_lines.specs.headline.Lines.{Group, Line, groups, is_blank_or_return, is_comment, is_continued, joined_line, logical_lines, numbered_lines, part_of_line, physical_lines, plain_lines}
+use Rattle.cal_lines.specs.LogicalRule.{AreJoined, AreLogical, ArePhysical, EachIsLogical, IsLinePart}
 use Rattle.cal_lines.proofs.GroupLemmas.{parts_of}
 use Rattle.cal_lines.proofs.LineRuleLemmas.{are_groups, groups_of_lines, lines_of_groups}
 
 -- the physical lines
-pub physical : (number : ℕ) (texts : List (List ℕ)) → ArePhysical number texts (numbered number (map (trim_start is_blank_or_return) texts))
+pub physical : (number : ℕ) (texts : List (List ℕ)) → ArePhysical number texts (numbered_lines number (map (trim_start is_blank_or_return) texts))
 physical number [] = tt
 physical number (text ∷ texts) = (refl, unindented is_blank_or_return text, physical (number + 1) texts)
 
-pub physical_only : (number : ℕ) (texts : List (List ℕ)) (all : List Line) → ArePhysical number texts all → all ≡ numbered number (map (trim_start is_blank_or_return) texts)
+pub physical_only : (number : ℕ) (texts : List (List ℕ)) (all : List Line) → ArePhysical number texts all → all ≡ numbered_lines number (map (trim_start is_blank_or_return) texts)
 physical_only number [] [] h = refl
 physical_only number [] (line ∷ all) h = absurd h
 physical_only number (text ∷ texts) [] h = absurd h
@@ -43,12 +43,12 @@ last_byte text h =
     ∙ ap (λ b. take (length text - 1) text ++ b ∷ []) byte))
 
 -- what a line adds
-part_as : (continued : Bool) (text : List ℕ) → is_continued text ≡ continued → IsPart text (part_of text)
-unfolding part_of
+part_as : (continued : Bool) (text : List ℕ) → is_continued text ≡ continued → IsLinePart text (part_of_line text)
+unfolding part_of_line
 part_as true text e = rw e (inr (record { continued = e; front = take (length text - 1) text; line = last_byte text e; said = refl }))
 part_as false text e = rw e (inl (refl, refl))
 
-pub part : (text : List ℕ) → IsPart text (part_of text)
+pub part : (text : List ℕ) → IsLinePart text (part_of_line text)
 part text = part_as (is_continued text) text refl
 
 front_of : (front : List ℕ) → take (length (front ++ 92 ∷ []) - 1) (front ++ 92 ∷ []) ≡ front
@@ -56,20 +56,20 @@ front_of front =
     let n : length (front ++ 92 ∷ []) - 1 ≡ length front = omega (arith, length-append front (92 ∷ [])) in
     rw n (take-append_seam front (92 ∷ []))
 
-pub part_only : (text said : List ℕ) → IsPart text said → said ≡ part_of text
-unfolding part_of
+pub part_only : (text said : List ℕ) → IsLinePart text said → said ≡ part_of_line text
+unfolding part_of_line
 part_only text said (inl h) = rw h.0 h.1
 part_only text said (inr h) = rw h.continued (h.said ∙ ap (λ front. front ++ 32 ∷ []) (sym (ap (λ t. take (length t - 1) t) h.line ∙ front_of h.front)))
 
 -- the parts of lines
 pub joined : (all : List Line) → AreJoined all (parts_of all)
 joined [] = refl
-joined (line ∷ all) = (part_of line.text, parts_of all, part line.text, joined all, refl)
+joined (line ∷ all) = (part_of_line line.text, parts_of all, part line.text, joined all, refl)
 
 pub joined_only : (all : List Line) (text : List ℕ) → AreJoined all text → text ≡ parts_of all
 joined_only [] text h = h
 joined_only (line ∷ all) text h =
-    h.4 ∙ (ap (λ p. p ++ h.1) (part_only line.text h.0 h.2) ∙ ap (λ rest. part_of line.text ++ rest) (joined_only all h.1 h.3))
+    h.4 ∙ (ap (λ p. p ++ h.1) (part_only line.text h.0 h.2) ∙ ap (λ rest. part_of_line line.text ++ rest) (joined_only all h.1 h.3))
 
 -- the logical line of each group
 pub each_logical : (all : List Group) → EachIsLogical all (map joined_line all)

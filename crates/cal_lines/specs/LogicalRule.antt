@@ -21,13 +21,13 @@ pub record IsContinuedPart (text part : List ℕ) : Type 0 where
   pub said : part ≡ front ++ 32 ∷ []
 
 -- what a line adds to its logical line; one that isn't continued adds itself
-abbrev pub IsPart : List ℕ → List ℕ → Type 0
-IsPart text part = ((is_continued text ≡ false) × (part ≡ text)) ⊎ IsContinuedPart text part
+abbrev pub IsLinePart : List ℕ → List ℕ → Type 0
+IsLinePart text part = ((is_continued text ≡ false) × (part ≡ text)) ⊎ IsContinuedPart text part
 
 -- the parts of these lines, one right after the other
 abbrev pub AreJoined : List Line → List ℕ → Type 0
 AreJoined [] text = text ≡ []
-AreJoined (line ∷ lines) text = (part : List ℕ) × (rest : List ℕ) × IsPart line.text part × AreJoined lines rest × (text ≡ part ++ rest)
+AreJoined (line ∷ lines) text = (part : List ℕ) × (rest : List ℕ) × IsLinePart line.text part × AreJoined lines rest × (text ≡ part ++ rest)
 
 -- the logical line of a group: its number is that of the first line
 pub record IsLogical (group : Group) (line : Line) : Type 0 where

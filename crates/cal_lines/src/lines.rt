@@ -5,7 +5,7 @@ ghost use Rattle.std.specs.List.{prefix_len, suffix_len};
 ghost use Rattle.std.specs.Str.Lines.{lines, strip_carriage_return};
 ghost use Rattle.cal_text.specs.headline.Trim.{trim, trim_end, trim_start};
 ghost use Rattle.cal_lines.specs.LineView.{logical_line, plain_line};
-ghost use Rattle.cal_lines.specs.headline.Lines.{is_blank_or_return, is_comment, is_continued, logical_lines, part_of, plain_lines};
+ghost use Rattle.cal_lines.specs.headline.Lines.{is_blank_or_return, is_comment, is_continued, logical_lines, part_of_line, plain_lines};
 
 use std::alloc::{AllocError, Global};
 
@@ -158,9 +158,9 @@ fn without_backslash(line: &str) -> &str
 }
 
 /// Adds to a logical line what a line of it says, and answers whether it is continued.
-#[tactic(auto, unfolding(crate::specs::headline::Lines::part_of))]
+#[tactic(auto, unfolding(crate::specs::headline::Lines::part_of_line))]
 fn push_part(joined: &mut String, line: &str) -> Result<bool, AllocError>
-    ensures text { OnOk result (string_bytes joined.new ≡ string_bytes joined.old ++ part_of line.now) }
+    ensures text { OnOk result (string_bytes joined.new ≡ string_bytes joined.old ++ part_of_line line.now) }
     ensures goes_on { IfOk result (λ goes_on. goes_on ≡ is_continued line.now) }
 {
     let goes_on = is_continued(line);

@@ -14,7 +14,7 @@ use Rattle.std.specs.Option.{option_or}
 use Rattle.std.proofs.lemmas.Bool.{and_right, and_parts, false_from_ne_true}
 use Rattle.cal_read.specs.TimerText.{TimerLine, Timer, bad_line, entries, entries_of, entry_of, fault_following, fault_joining, first_fault, lists_of, some_entries, unless_fault}
 use Rattle.cal_read.specs.headline.TimerText.{excepted, exception_key, has_no_value, is_exception, is_exception_reset, is_expression, is_reset, listed, most_expressions, timer_keys}
-use Rattle.cal_read.specs.TimerView.{joined, resumed, with_list}
+use Rattle.cal_read.specs.TimerView.{with_assignment, resumed, with_list}
 use Rattle.cal_read.specs.declared.timer.fault.TimerFault.{TimerFault}
 use Rattle.cal_read.specs.declared.timer.fault.TimerFault.TheVariants.{BadLine}
 use Rattle.cal_read.proofs.ResumedLemmas.{joined_bad, joined_many, joined_read, resumed_exception, resumed_exception_reset, resumed_expression, resumed_other, resumed_reset}
@@ -153,7 +153,7 @@ entries_more read list a entry good =
 -- An assignment that comes to a list whose entries are all there has its fault, or its entry comes to the entries.
 joins_by : {E : Type 0} (read : List ℕ → Result E SpecFault) (list : List Assignment) (a : Assignment) (many : Bool) (r : Result E SpecFault)
     → nat_le most_expressions (length list) ≡ many → read a.value ≡ r → AreAll read list
-    → (joined read (entries_of read list) a ≡ unless_fault (fault_joining read list a) (Ok (entries_of read (list ++ a ∷ []))))
+    → (with_assignment read (entries_of read list) a ≡ unless_fault (fault_joining read list a) (Ok (entries_of read (list ++ a ∷ []))))
     × (fault_joining read list a ≡ None → AreAll read (list ++ a ∷ []))
 unfolding fault_joining
 joins_by read list a true r m v all =
@@ -217,7 +217,7 @@ all_with read list now e all = subst (λ (l : List Assignment). AreAll read l) (
 
 -- an expression, or an exception, that comes to its list
 joins : {E : Type 0} (read : List ℕ → Result E SpecFault) (list : List Assignment) (a : Assignment) → AreAll read list
-    → (joined read (entries_of read list) a ≡ unless_fault (fault_joining read list a) (Ok (entries_of read (list ++ a ∷ []))))
+    → (with_assignment read (entries_of read list) a ≡ unless_fault (fault_joining read list a) (Ok (entries_of read (list ++ a ∷ []))))
     × (fault_joining read list a ≡ None → AreAll read (list ++ a ∷ []))
 joins read list a all = joins_by read list a (nat_le most_expressions (length list)) (read a.value) refl refl all
 

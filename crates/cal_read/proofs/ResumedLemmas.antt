@@ -9,7 +9,7 @@ use Rattle.cal_text.specs.headline.Trim.{trim}
 use Rattle.cal_lines.specs.headline.Lines.{Line, is_blank_or_return}
 use Rattle.cal_read.specs.TimerText.{TimerLine, Timer, bad_line, entry_of, some_entries}
 use Rattle.cal_read.specs.headline.TimerText.{is_exception, is_exception_reset, is_expression, is_reset, most_expressions}
-use Rattle.cal_read.specs.TimerView.{joined, resumed, with_list, with_read}
+use Rattle.cal_read.specs.TimerView.{with_assignment, resumed, with_list, with_read}
 use Rattle.cal_read.specs.declared.timer.fault.TimerFault.{TimerFault}
 use Rattle.cal_read.specs.declared.timer.fault.TimerFault.TheVariants.{TooMany}
 
@@ -26,14 +26,14 @@ resumed_exception_reset read lists a after e f = rw (e, f) refl
 
 -- an expression comes to its list, or its fault is the fault
 pub resumed_expression : {E : Type 0} (read : List ℕ → Result E SpecFault) (lists : Timer E) (a : Assignment) (after : List Assignment) (r : Result (List (TimerLine E)) TimerFault)
-    → is_reset a ≡ false → is_exception_reset a ≡ false → is_expression a ≡ true → joined read lists.expressions a ≡ r
+    → is_reset a ≡ false → is_exception_reset a ≡ false → is_expression a ≡ true → with_assignment read lists.expressions a ≡ r
     → resumed read lists (a ∷ after) ≡ with_list r (λ es. resumed read (record { expressions = es; exceptions = lists.exceptions }) after)
 unfolding resumed
 resumed_expression read lists a after r e f g h = rw (e, f, g, h) refl
 
 -- and so does an exception
 pub resumed_exception : {E : Type 0} (read : List ℕ → Result E SpecFault) (lists : Timer E) (a : Assignment) (after : List Assignment) (r : Result (List (TimerLine E)) TimerFault)
-    → is_reset a ≡ false → is_exception_reset a ≡ false → is_expression a ≡ false → is_exception a ≡ true → joined read lists.exceptions a ≡ r
+    → is_reset a ≡ false → is_exception_reset a ≡ false → is_expression a ≡ false → is_exception a ≡ true → with_assignment read lists.exceptions a ≡ r
     → resumed read lists (a ∷ after) ≡ with_list r (λ es. resumed read (record { expressions = lists.expressions; exceptions = es }) after)
 unfolding resumed
 resumed_exception read lists a after r e f g h i = rw (e, f, g, h, i) refl
@@ -45,8 +45,8 @@ unfolding resumed
 resumed_other read lists a after e f g h = rw (e, f, g, h) refl
 
 -- an expression too many
-pub joined_many : {E : Type 0} (read : List ℕ → Result E SpecFault) (es : List (TimerLine E)) (a : Assignment) → most_expressions ≤ length es → joined read es a ≡ Err (TooMany a.number)
-unfolding joined
+pub joined_many : {E : Type 0} (read : List ℕ → Result E SpecFault) (es : List (TimerLine E)) (a : Assignment) → most_expressions ≤ length es → with_assignment read es a ≡ Err (TooMany a.number)
+unfolding with_assignment
 joined_many read es a many = let is_many : nat_le most_expressions (length es) ≡ true = grind (arith, nat_tests) in rw is_many refl
 
 -- an expression's text
@@ -58,12 +58,12 @@ read_good : {E : Type 0} (es : List (TimerLine E)) (a : Assignment) (r : Result 
 read_good es a (Ok expr) entry e = cc
 read_good es a (Err f) entry e = cc
 
-pub joined_bad : {E : Type 0} (read : List ℕ → Result E SpecFault) (es : List (TimerLine E)) (a : Assignment) (fault : TimerFault) → length es < most_expressions → bad_line a.number (read a.value) ≡ Some fault → joined read es a ≡ Err fault
-unfolding joined
+pub joined_bad : {E : Type 0} (read : List ℕ → Result E SpecFault) (es : List (TimerLine E)) (a : Assignment) (fault : TimerFault) → length es < most_expressions → bad_line a.number (read a.value) ≡ Some fault → with_assignment read es a ≡ Err fault
+unfolding with_assignment
 joined_bad read es a fault few bad = let is_few : nat_le most_expressions (length es) ≡ false = grind (arith, nat_tests) in rw is_few (read_bad es a (read a.value) fault bad)
 
-pub joined_read : {E : Type 0} (read : List ℕ → Result E SpecFault) (es : List (TimerLine E)) (a : Assignment) (entry : TimerLine E) → length es < most_expressions → entry_of a (read a.value) ≡ Some entry → joined read es a ≡ Ok (es ++ entry ∷ [])
-unfolding joined
+pub joined_read : {E : Type 0} (read : List ℕ → Result E SpecFault) (es : List (TimerLine E)) (a : Assignment) (entry : TimerLine E) → length es < most_expressions → entry_of a (read a.value) ≡ Some entry → with_assignment read es a ≡ Ok (es ++ entry ∷ [])
+unfolding with_assignment
 joined_read read es a entry few good = let is_few : nat_le most_expressions (length es) ≡ false = grind (arith, nat_tests) in rw is_few (read_good es a (read a.value) entry good)
 
 -- a header opens a section

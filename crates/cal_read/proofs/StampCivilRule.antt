@@ -19,7 +19,7 @@ use Rattle.cal_spec.specs.Weekdays.{day_named}
 use Rattle.cal_read.specs.Stamp.{◌>>=◌, Setting, Written, begins_with_digit, name_found, offset_found, zone_meant, zone_alone, zone_by_words, written_in, after_date, after_weekday, weekday_found, civil_time}
 use Rattle.cal_read.specs.StampCivilRule.{IsCivilTime, MeansZone, NamesWeekday, WritesDate, WritesTime, NamesZone}
 use Rattle.cal_read.specs.StampDate.{DateNumbers, is_hyphen, digits_number, date_by, date_of_pieces, date_numbers, day_due, day_written}
-use Rattle.cal_read.specs.StampTime.{up_to, clock_number, time_by, time_of_pieces, time_numbers, time_due, time_written}
+use Rattle.cal_read.specs.StampTime.{up_to, clock_number, time_by, time_of_pieces, time_numbers, micros_due, time_written}
 use Rattle.cal_read.specs.declared.stamp.fault.StampFault.{StampFault}
 
 -- What words look like
@@ -146,7 +146,7 @@ time_pieces word (hour ∷ minute ∷ second ∷ []) micros whole h =
     record { hour = hour; after = minute ++ (58 ∷ second); whole = whole; is_hour = hour_by hour _ _ _ micros refl h }
 time_pieces word (hour ∷ minute ∷ second ∷ more ∷ pieces) micros whole h = cc
 
-time_word : (word : List ℕ) (numbers : Option ℕ) (micros : ℕ) → time_numbers word ≡ numbers → time_due numbers ≡ Ok micros → AreTimePieces word
+time_word : (word : List ℕ) (numbers : Option ℕ) (micros : ℕ) → time_numbers word ≡ numbers → micros_due numbers ≡ Ok micros → AreTimePieces word
 unfolding time_numbers
 time_word word None micros e h = cc
 time_word word (Some n) micros e h =

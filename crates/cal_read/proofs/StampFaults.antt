@@ -13,7 +13,7 @@ use Rattle.cal_read.specs.Stamp.{◌>>=◌, Setting, Written, in_moments, after_
 use Rattle.cal_read.specs.StampCivilRule.{HasNoSuchDate}
 use Rattle.cal_read.specs.StampDate.{day_written}
 use Rattle.cal_read.specs.StampForm.{Form, nothing, present, later, earlier, counted, from_today, civil, form_of}
-use Rattle.cal_read.specs.StampTime.{time_numbers, time_due, time_written}
+use Rattle.cal_read.specs.StampTime.{time_numbers, micros_due, time_written}
 use Rattle.cal_read.specs.declared.stamp.fault.StampFault.{StampFault}
 use Rattle.cal_read.specs.declared.stamp.fault.StampFault.TheVariants.{NoSuchDate, OutOfRange, WrongWeekday}
 
@@ -39,7 +39,7 @@ no_before : (second : ℤ) (span : Result ℕ SpanFault) → before_second secon
 no_before second (Ok n) h = no_moment _ h
 no_before second (Err fault) h = cc
 
-no_time : (numbers : Option ℕ) → time_due numbers ≡ Err NoSuchDate → ⊥
+no_time : (numbers : Option ℕ) → micros_due numbers ≡ Err NoSuchDate → ⊥
 no_time None h = cc
 no_time (Some n) h = cc
 

@@ -15,7 +15,7 @@ use Rattle.jiff_core.specs.declared.civil.weekday.Weekday.TheVariants.{Sunday}
 use Rattle.cal_zone.proofs.DayLemmas.{epoch_day-date_of}
 use Rattle.cal_zone.proofs.YearLemmas.{year-from_1969, year-from_1970, year-to_2199}
 use Rattle.cal_zone.proofs.ZoneLemmas.{offset_at-in_range}
-use Rattle.cal_zone.specs.headline.Civil.{civil_of, fields_of}
+use Rattle.cal_zone.specs.headline.Civil.{civil_of, shown_fields}
 use Rattle.cal_zone.specs.headline.Days.{date_of}
 use Rattle.cal_zone.specs.Instant.{IsInstant}
 use Rattle.cal_zone.specs.headline.InstantText.{date_text, instant_text, shown_text, time_text, weekday_name, zeros}
@@ -220,11 +220,11 @@ time_printed hour minute second =
 pieces_line : (name date time zone : List ℕ) → (name ++ (32 ∷ (date ++ (32 ∷ (time ++ (32 ∷ [])))))) ++ zone ≡ line name date time zone
 pieces_line name date time zone = simp append_assoc
 
-fields_printed : (date : Date) (second : ℕ) (offset : ℤ) (zone : List ℕ) → shown_text (fields_of date second offset) ++ zone ≡ line_of date second zone
+fields_printed : (date : Date) (second : ℕ) (offset : ℤ) (zone : List ℕ) → shown_text (shown_fields date second offset) ++ zone ≡ line_of date second zone
 unfolding shown_text weekday_name
 fields_printed date second offset zone =
     let number : weekday_of date + 1 - 1 ≡ weekday_of date = omega arith in
-    rw (number, date_printed (fields_of date second offset), time_printed (hour_of second) (minute_of second) (second_of second))
+    rw (number, date_printed (shown_fields date second offset), time_printed (hour_of second) (minute_of second) (second_of second))
     (pieces_line (short_name_of (day_in date)) (date_in date) (time_in second) zone)
 
 -- what the clock of a zone shows

@@ -25,8 +25,8 @@ use Rattle.cal_spec.proofs.CleanLemmas.{IsClear, Apart, any_clear, clear_append,
 use Rattle.cal_spec.proofs.ReadBackParts.{digits_all, zeros_all, zeros_value}
 use Rattle.cal_read.proofs.StampCivilRule.{digit_first, digit_no_colon}
 use Rattle.cal_read.specs.Stamp.{begins_with_digit}
-use Rattle.cal_read.specs.StampDate.{date_numbers, date_of_pieces, day_due, day_number, day_written, digits_number, is_hyphen}
-use Rattle.cal_read.specs.StampTime.{clock_number, second_of_pieces, second_written, time_due, time_numbers, time_of_pieces, time_written}
+use Rattle.cal_read.specs.StampDate.{date_numbers, date_of_pieces, day_due, day_of_date, day_written, digits_number, is_hyphen}
+use Rattle.cal_read.specs.StampTime.{clock_number, second_of_pieces, second_written, micros_due, time_numbers, time_of_pieces, time_written}
 use Rattle.cal_read.specs.declared.stamp.fault.StampFault.TheVariants.{NoSuchDate}
 
 -- Numbers
@@ -163,15 +163,15 @@ writable date =
       day_in = omega (arith, date.day_in.1, bounds);
     }
 
-due : (date : Date) → pos 1_969 ≤ℤ date.year → day_written (date_word (year_of date) date.month date.day) ≡ day_number (year_of date) date.month date.day
+due : (date : Date) → pos 1_969 ≤ℤ date.year → day_written (date_word (year_of date) date.month date.day) ≡ day_of_date (year_of date) date.month date.day
 unfolding day_written
 due date from =
     ap day_due (date_numbers_back (year_of date) date.month date.day (writable date))
-    ∙ ap (λ y. day_number y date.month date.day) (century_stays (year_of date) (omega (arith, signed_arith, year_is date.year from)))
+    ∙ ap (λ y. day_of_date y date.month date.day) (century_stays (year_of date) (omega (arith, signed_arith, year_is date.year from)))
 
 -- from 1970 to 2199 the date is read as its day, and one of 1969 or of a later year is none
 pub date_back : (date : Date) → IsBetween (pos 1_970) (pos 2_199) date.year → day_written (date_word (year_of date) date.month date.day) ≡ Ok (epoch_day date)
-unfolding day_number
+unfolding day_of_date
 date_back date h =
     let from : pos 1_969 ≤ℤ date.year = omega (arith, signed_arith, h.0) in
     let same = year_is date.year from in
@@ -179,7 +179,7 @@ date_back date h =
     ∙ rw (same, day_tests (year_of date) date.month date.day (month_length date) (omega (arith, signed_arith, same, h.0)) (omega (arith, signed_arith, same, h.1)) date.month_in.0 date.month_in.1 date.day_in.0 date.day_in.1) refl
 
 late_date_back : (date : Date) → pos 2_200 ≤ℤ date.year → day_written (date_word (year_of date) date.month date.day) ≡ Err NoSuchDate
-unfolding day_number
+unfolding day_of_date
 late_date_back date h =
     let from : pos 1_969 ≤ℤ date.year = omega (arith, signed_arith, h) in
     let same = year_is date.year from in
@@ -187,7 +187,7 @@ late_date_back date h =
     ∙ rw (same, late_tests (year_of date) date.month date.day (month_length date) (omega (arith, signed_arith, same, h))) refl
 
 early_date_back : (date : Date) → pos 1_969 ≤ℤ date.year → date.year <ℤ pos 1_970 → day_written (date_word (year_of date) date.month date.day) ≡ Err NoSuchDate
-unfolding day_number
+unfolding day_of_date
 early_date_back date from h =
     let same = year_is date.year from in
     due date from
@@ -235,7 +235,7 @@ time_back hour minute second h =
     let a = in_two hour (omega (arith, h.hour_in)) in
     let b = in_two minute (omega (arith, h.minute_in)) in
     let c = in_two second (omega (arith, h.second_in)) in
-    ap (λ ts. time_due (time_of_pieces ts)) (row_split is_colon 58 (padded 2 hour) (padded 2 minute) (padded 2 second) refl
+    ap (λ ts. micros_due (time_of_pieces ts)) (row_split is_colon 58 (padded 2 hour) (padded 2 minute) (padded 2 second) refl
     (clear_from is_ascii_digit is_colon (padded 2 hour) digit_no_colon a.all)
     (clear_from is_ascii_digit is_colon (padded 2 minute) digit_no_colon b.all)
     (clear_from is_ascii_digit is_colon (padded 2 second) digit_no_colon c.all))

@@ -14,7 +14,7 @@ use Rattle.cal_text.proofs.WordLemmas.{is_solid, last_blank, no_blank}
 use Rattle.cal_text.specs.headline.Trim.{trim}
 use Rattle.cal_text.specs.headline.Words.{is_blank, words}
 use Rattle.cal_read.specs.StampForm.{Form, present, later, earlier, counted, from_today, civil, day_shift, form_of, form_by_end, form_of_solid, form_of_words, form_by_day, form_by_ago, form_by_left}
-use Rattle.cal_read.specs.StampRule.{IsNothing, IsPresent, IsBehindSign, IsBeforeWord, IsNearDay, IsCivil, OrElse, FitsByWords, FitsByEnd, FitsBySign, FitsFirst, HasForm}
+use Rattle.cal_read.specs.StampRule.{IsNothing, IsPresent, IsBehindSign, IsBeforeWord, IsNearDay, IsCivilForm, OrElse, FitsByWords, FitsByEnd, FitsBySign, FitsFirst, HasForm}
 
 -- One form
 
@@ -52,14 +52,14 @@ one_near_day word shift core f g p q =
     let rest : p.0 ≡ q.0 = cc in
     p.2 ∙ ap (from_today shift) rest ∙ sym q.2
 
-one_civil : IsOne IsCivil
+one_civil : IsOne IsCivilForm
 one_civil core f g p q = p ∙ sym q
 
 one_by_words : IsOne FitsByWords
 one_by_words =
-    or_else _ (OrElse (IsNearDay (codes "yesterday") (neg_ℤ (pos 1))) (OrElse (IsNearDay (codes "tomorrow") (pos 1)) IsCivil)) (one_near_day (codes "today") (pos 0))
-    (or_else _ (OrElse (IsNearDay (codes "tomorrow") (pos 1)) IsCivil) (one_near_day (codes "yesterday") (neg_ℤ (pos 1)))
-    (or_else _ IsCivil (one_near_day (codes "tomorrow") (pos 1)) one_civil))
+    or_else _ (OrElse (IsNearDay (codes "yesterday") (neg_ℤ (pos 1))) (OrElse (IsNearDay (codes "tomorrow") (pos 1)) IsCivilForm)) (one_near_day (codes "today") (pos 0))
+    (or_else _ (OrElse (IsNearDay (codes "tomorrow") (pos 1)) IsCivilForm) (one_near_day (codes "yesterday") (neg_ℤ (pos 1)))
+    (or_else _ IsCivilForm (one_near_day (codes "tomorrow") (pos 1)) one_civil))
 
 one_by_end : IsOne FitsByEnd
 one_by_end =
@@ -111,9 +111,9 @@ unfolding day_shift
 by_words core [] are =
     inr (λ o p. no_day (codes "today") (pos 0) core o are p, inr (λ o p. no_day (codes "yesterday") (neg_ℤ (pos 1)) core o are p, inr (λ o p. no_day (codes "tomorrow") (pos 1) core o are p, ap civil (sym are))))
 by_words core (w ∷ ws) are =
-    by_day (OrElse (IsNearDay (codes "yesterday") (neg_ℤ (pos 1))) (OrElse (IsNearDay (codes "tomorrow") (pos 1)) IsCivil)) (codes "today") (pos 0) core w ws _ _ refl are
-    (by_day (OrElse (IsNearDay (codes "tomorrow") (pos 1)) IsCivil) (codes "yesterday") (neg_ℤ (pos 1)) core w ws _ _ refl are
-    (by_day IsCivil (codes "tomorrow") (pos 1) core w ws None _ refl are (ap civil (sym are))))
+    by_day (OrElse (IsNearDay (codes "yesterday") (neg_ℤ (pos 1))) (OrElse (IsNearDay (codes "tomorrow") (pos 1)) IsCivilForm)) (codes "today") (pos 0) core w ws _ _ refl are
+    (by_day (OrElse (IsNearDay (codes "tomorrow") (pos 1)) IsCivilForm) (codes "yesterday") (neg_ℤ (pos 1)) core w ws _ _ refl are
+    (by_day IsCivilForm (codes "tomorrow") (pos 1) core w ws None _ refl are (ap civil (sym are))))
 
 -- what a text that ends in a blank and a word is
 some_blank_within : (text : List ℕ) → list_any is_blank text ≡ true → suffix_len is_solid text < length text

@@ -8,7 +8,7 @@ use Rattle.std.proofs.lemmas.Bool.{or_parts}
 use Rattle.cal_spec.specs.declared.spec_fault.SpecFault.{SpecFault}
 use Rattle.cal_read.specs.headline.Assignments.{Assignment, is_header, section_of, timer_lines}
 use Rattle.cal_lines.specs.headline.Lines.{Line}
-use Rattle.cal_read.specs.TimerRule.{AreFine, IsFirstFault, Judges}
+use Rattle.cal_read.specs.TimerRule.{AreFine, IsFirstTimerFault, JudgesTimer}
 use Rattle.cal_read.specs.TimerText.{TimerLine, Timer, entries, fault_following, first_fault, lists_of, some_entries, some_expressions, unless_fault}
 use Rattle.cal_read.specs.headline.TimerText.{excepted, is_exception, is_exception_reset, is_expression, is_reset, listed}
 use Rattle.cal_read.specs.declared.timer.fault.TimerFault.{TimerFault}
@@ -161,7 +161,7 @@ some_from_fault read first (x ∷ before) a after fault fine e =
     rw here (some_from_fault read (first ++ x ∷ []) before a after fault fine_after there)
 
 -- The one result
-judged_fault : {E : Type 0} (read : List ℕ → Result E SpecFault) (all : List Assignment) (fault : TimerFault) → is_of_line fault ≡ true → IsFirstFault read all fault → Judges read all (Err fault)
+judged_fault : {E : Type 0} (read : List ℕ → Result E SpecFault) (all : List Assignment) (fault : TimerFault) → is_of_line fault ≡ true → IsFirstTimerFault read all fault → JudgesTimer read all (Err fault)
 judged_fault read all ReadFailed e h = h
 judged_fault read all TooLarge e h = h
 judged_fault read all (NotUtf8 n) e h = h
@@ -170,11 +170,11 @@ judged_fault read all (TooMany n) e h = h
 judged_fault read all NothingToDo e h = cc
 judged_fault read all NoMemory e h = h
 
-judged_lists : {E : Type 0} (read : List ℕ → Result E SpecFault) (all : List Assignment) (es xs : List (TimerLine E)) → AreFine read all → entries read all ≡ record { expressions = es; exceptions = xs } → Judges read all (some_expressions es xs)
+judged_lists : {E : Type 0} (read : List ℕ → Result E SpecFault) (all : List Assignment) (es xs : List (TimerLine E)) → AreFine read all → entries read all ≡ record { expressions = es; exceptions = xs } → JudgesTimer read all (some_expressions es xs)
 judged_lists {E} read all [] xs fine e = (fine, ap (λ (lists : Timer E). lists.expressions) e)
 judged_lists read all (entry ∷ es) xs fine e = (fine, e, omega arith)
 
-judged_as : {E : Type 0} (read : List ℕ → Result E SpecFault) (all : List Assignment) (o : Option TimerFault) → first_fault read [] all ≡ o → Judges read all (unless_fault o (some_entries (entries read all)))
+judged_as : {E : Type 0} (read : List ℕ → Result E SpecFault) (all : List Assignment) (o : Option TimerFault) → first_fault read [] all ≡ o → JudgesTimer read all (unless_fault o (some_entries (entries read all)))
 judged_as read all None e = judged_lists read all (entries read all).expressions (entries read all).exceptions (fine_from_none read [] all e) refl
 judged_as read all (Some fault) e =
     let found = fault_from_some read [] all fault e in
@@ -187,11 +187,11 @@ judged_as read all (Some fault) e =
       fine = found.fine;
     })
 
-pub judged : {E : Type 0} (read : List ℕ → Result E SpecFault) (all : List Assignment) → Judges read all (lists_of read all)
+pub judged : {E : Type 0} (read : List ℕ → Result E SpecFault) (all : List Assignment) → JudgesTimer read all (lists_of read all)
 unfolding lists_of
 judged read all = judged_as read all (first_fault read [] all) refl
 
-faulted : {E : Type 0} (read : List ℕ → Result E SpecFault) (all : List Assignment) (fault : TimerFault) → IsFirstFault read all fault → Err fault ≡ lists_of read all
+faulted : {E : Type 0} (read : List ℕ → Result E SpecFault) (all : List Assignment) (fault : TimerFault) → IsFirstTimerFault read all fault → Err fault ≡ lists_of read all
 unfolding lists_of
 faulted read all fault h =
     let first : first_fault read [] all ≡ Some fault = rw h.whole (some_from_fault read [] h.before h.at h.after fault h.fine h.is_fault) in
@@ -201,7 +201,7 @@ some_if_any : {E : Type 0} (es xs : List (TimerLine E)) → 0 < length es → so
 some_if_any [] xs h = absurd (omega arith)
 some_if_any (e ∷ es) xs h = refl
 
-pub only_judged : {E : Type 0} (read : List ℕ → Result E SpecFault) (all : List Assignment) (result : Result (Timer E) TimerFault) → Judges read all result → result ≡ lists_of read all
+pub only_judged : {E : Type 0} (read : List ℕ → Result E SpecFault) (all : List Assignment) (result : Result (Timer E) TimerFault) → JudgesTimer read all result → result ≡ lists_of read all
 unfolding lists_of
 only_judged read all (Ok lists) h = rw (none_from_fine read [] all h.0, h.1) (sym (some_if_any lists.expressions lists.exceptions h.2))
 only_judged read all (Err NothingToDo) h = rw (none_from_fine read [] all h.0, h.1) refl

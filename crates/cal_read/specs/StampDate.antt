@@ -43,13 +43,13 @@ is_day year month day =
     && nat_le day (days_in_month (pos year) month)
 
 -- its day number from 1970-01-01 on
-unfoldable pub day_number : ℕ → ℕ → ℕ → Result ℤ StampFault
-day_number year month day =
+unfoldable pub day_of_date : ℕ → ℕ → ℕ → Result ℤ StampFault
+day_of_date year month day =
     if is_day year month day then Ok (days_from_civil (pos year) month day) else Err NoSuchDate
 
 abbrev pub day_due : Option DateNumbers → Result ℤ StampFault
 day_due None = Err BadDate
-day_due (Some date) = day_number (with_century date.year) date.month date.day
+day_due (Some date) = day_of_date (with_century date.year) date.month date.day
 
 -- the day number of the date that the word writes, or its fault
 unfoldable pub day_written : List ℕ → Result ℤ StampFault

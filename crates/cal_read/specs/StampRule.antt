@@ -28,8 +28,8 @@ IsNearDay word shift core form =
     (after : List (List ℕ)) × (words core ≡ word ∷ after) × (form ≡ from_today shift after)
 
 -- 7: any words
-abbrev pub IsCivil : List ℕ → Form → Type 0
-IsCivil core form = form ≡ civil (words core)
+abbrev pub IsCivilForm : List ℕ → Form → Type 0
+IsCivilForm core form = form ≡ civil (words core)
 
 -- the first, or the second where the first fits with no form
 abbrev pub OrElse : (List ℕ → Form → Type 0) → (List ℕ → Form → Type 0) → List ℕ → Form → Type 0
@@ -40,7 +40,7 @@ abbrev pub FitsByWords : List ℕ → Form → Type 0
 FitsByWords =
     OrElse (IsNearDay (codes "today") (pos 0))
     (OrElse (IsNearDay (codes "yesterday") (neg_ℤ (pos 1)))
-    (OrElse (IsNearDay (codes "tomorrow") (pos 1)) IsCivil))
+    (OrElse (IsNearDay (codes "tomorrow") (pos 1)) IsCivilForm))
 
 -- 5 to 7
 abbrev pub FitsByEnd : List ℕ → Form → Type 0

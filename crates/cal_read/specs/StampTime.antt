@@ -54,9 +54,9 @@ unfoldable pub time_numbers : List ℕ → Option ℕ
 time_numbers word = time_of_pieces (slice_split is_colon word)
 
 -- the microseconds after midnight of the time that the word writes, or its fault
-abbrev pub time_due : Option ℕ → Result ℕ StampFault
-time_due None = Err BadTime
-time_due (Some micros) = Ok micros
+abbrev pub micros_due : Option ℕ → Result ℕ StampFault
+micros_due None = Err BadTime
+micros_due (Some micros) = Ok micros
 
 unfoldable pub time_written : List ℕ → Result ℕ StampFault
-time_written word = time_due (time_numbers word)
+time_written word = micros_due (time_numbers word)

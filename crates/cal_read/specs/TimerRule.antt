@@ -11,7 +11,7 @@ abbrev pub AreFine : {E : Type 0} → (List ℕ → Result E SpecFault) → List
 AreFine read all = (before : List Assignment) (a : Assignment) (after : List Assignment) → all ≡ before ++ (a ∷ after) → fault_following read before a ≡ None
 
 -- it is the fault of an assignment before which none has one
-pub record IsFirstFault {E : Type 0} (read : List ℕ → Result E SpecFault) (all : List Assignment) (fault : TimerFault) : Type 0 where
+pub record IsFirstTimerFault {E : Type 0} (read : List ℕ → Result E SpecFault) (all : List Assignment) (fault : TimerFault) : Type 0 where
   pub before : List Assignment
   pub at : Assignment
   pub after : List Assignment
@@ -21,7 +21,7 @@ pub record IsFirstFault {E : Type 0} (read : List ℕ → Result E SpecFault) (a
 
 -- the result is the lists of assignments without a fault, of which one at least is an expression; or the first fault; or
 -- that the list of expressions is empty
-abbrev pub Judges : {E : Type 0} → (List ℕ → Result E SpecFault) → List Assignment → Result (Timer E) TimerFault → Type 0
-Judges read all (Ok lists) = AreFine read all × (entries read all ≡ lists) × (0 < length lists.expressions)
-Judges read all (Err NothingToDo) = AreFine read all × ((entries read all).expressions ≡ [])
-Judges read all (Err fault) = IsFirstFault read all fault
+abbrev pub JudgesTimer : {E : Type 0} → (List ℕ → Result E SpecFault) → List Assignment → Result (Timer E) TimerFault → Type 0
+JudgesTimer read all (Ok lists) = AreFine read all × (entries read all ≡ lists) × (0 < length lists.expressions)
+JudgesTimer read all (Err NothingToDo) = AreFine read all × ((entries read all).expressions ≡ [])
+JudgesTimer read all (Err fault) = IsFirstTimerFault read all fault

@@ -25,8 +25,8 @@ with_read es a (Ok expr) = Ok (es ++ record { number = a.number; text = a.value;
 with_read es a (Err fault) = Err (BadLine a.number fault)
 
 -- a list with the entry of an assignment, or its fault
-unfoldable pub joined : {E : Type 0} → (List ℕ → Result E SpecFault) → List (TimerLine E) → Assignment → Result (List (TimerLine E)) TimerFault
-joined read es a = if nat_le most_expressions (length es) then Err (TooMany a.number) else with_read es a (read a.value)
+unfoldable pub with_assignment : {E : Type 0} → (List ℕ → Result E SpecFault) → List (TimerLine E) → Assignment → Result (List (TimerLine E)) TimerFault
+with_assignment read es a = if nat_le most_expressions (length es) then Err (TooMany a.number) else with_read es a (read a.value)
 
 -- what follows a list, unless it has a fault
 abbrev pub with_list : {E A : Type 0} → Result (List (TimerLine E)) TimerFault → (List (TimerLine E) → Result A TimerFault) → Result A TimerFault
@@ -41,7 +41,7 @@ resumed read lists (a ∷ after) =
     if is_reset a then resumed read (record { expressions = []; exceptions = lists.exceptions }) after
     else (if is_exception_reset a then resumed read (record { expressions = lists.expressions; exceptions = [] }) after
     else (if is_expression a
-    then with_list (joined read lists.expressions a) (λ es. resumed read (record { expressions = es; exceptions = lists.exceptions }) after)
+    then with_list (with_assignment read lists.expressions a) (λ es. resumed read (record { expressions = es; exceptions = lists.exceptions }) after)
     else (if is_exception a
-    then with_list (joined read lists.exceptions a) (λ es. resumed read (record { expressions = lists.expressions; exceptions = es }) after)
+    then with_list (with_assignment read lists.exceptions a) (λ es. resumed read (record { expressions = lists.expressions; exceptions = es }) after)
     else resumed read lists after)))

@@ -21,7 +21,7 @@ use Rattle.cal_spec.specs.declared.spec_fault.SpecFault.{SpecFault}
 use Rattle.cal_spec.proofs.FieldLemmas.{valid_fields}
 use Rattle.cal_spec.proofs.WholeRule.{valid_found}
 use Rattle.cal_read.specs.headline.Assignments.{Assignment}
-use Rattle.cal_read.specs.TimerRule.{AreFine, Judges}
+use Rattle.cal_read.specs.TimerRule.{AreFine, JudgesTimer}
 use Rattle.cal_read.specs.TimerText.{TimerLine, Timer, bad_line, entries, entry_of, fault_joining, timer_in, timer_of}
 use Rattle.cal_read.specs.headline.TimerText.{excepted, is_exception, is_exception_reset, is_expression, is_reset, listed, most_expressions}
 use Rattle.cal_read.specs.declared.timer.fault.TimerFault.{TimerFault}
@@ -213,7 +213,7 @@ unfolding timer_in timer_of entries
 lists_accepted one some asked bytes lists read there =
     let parts = read_parts (is_utf8 bytes) _ _ lists _ refl read in
     let all = assigned_in bytes in
-    let judges : Judges expr_in all (Ok lists) = subst (Judges expr_in all) parts.1 (judged expr_in all) in
+    let judges : JudgesTimer expr_in all (Ok lists) = subst (JudgesTimer expr_in all) parts.1 (judged expr_in all) in
     let spelled = fine_spelled some all judges.0 in
     let zoned = all_zoned asked lists there in
     let none : find (lacks_zone asked) (entries expr_in all).expressions ≡ None

@@ -18,8 +18,8 @@ use Rattle.cal_read.specs.StampForm.{day_shift, form_by_end, form_of}
 use Rattle.cal_report.specs.Resume.{AreShown, IsBegunAgain}
 use Rattle.cal_report.specs.TimestampReport.{stamp_in}
 use Rattle.cal_span.specs.Scale.{words_for}
-use Rattle.cal_span.specs.headline.Scale.{name_of}
-use Rattle.cal_span.specs.headline.SpanText.{units_text, row_text}
+use Rattle.cal_span.specs.headline.Scale.{unit_name}
+use Rattle.cal_span.specs.headline.SpanText.{units_text, counts_in_row}
 use Rattle.cal_span.specs.SpanValue.{words_in, pairs_in, is_number, unit_named, number_worth, worth_of, span_of}
 use Rattle.cal_spec.specs.headline.Fields.{Fields}
 use Rattle.cal_spec.specs.headline.Match.{matches, date_in, time_in}
@@ -36,14 +36,14 @@ use Rattle.cal_zone.proofs.PlaceLemmas.{place_of-UTC}
 use Rattle.std.proofs.lemmas.Int.{ints}
 use lib.Utf8.{encode}
 use Rattle.std.specs.Str.{chars, is_utf8}
-use Rattle.cal_lines.specs.headline.Lines.{groups, is_continued, logical_lines, part_of as part_of_line, physical_lines, plain_lines}
+use Rattle.cal_lines.specs.headline.Lines.{groups, is_continued, logical_lines, part_of_line, physical_lines, plain_lines}
 use Rattle.cal_read.specs.headline.Assignments.{Assignment, assignment_of, assignments_in, timer_lines}
 use Rattle.cal_read.specs.headline.TimerText.{excepted, is_exception, is_exception_reset, is_expression, is_reset, listed as listed_in, most_expressions, without_mark}
 use Rattle.std.specs.Prelude.{ℤ, ◌<ℤ◌, ◌≤ℤ◌, List, length, map, slice_get, take}
 use Rattle.cal_zone.specs.headline.Weekday as weekday
 use Rattle.cal_zone.specs.headline.ZoneName.{is_zone_name}
-use Rattle.cal_spec.specs.Components.{part_due, listed, component_of}
-use Rattle.cal_spec.specs.DateAndTime.{date_texts, time_texts, date_fields, time_fields, date_of as date_in_word, time_of}
+use Rattle.cal_spec.specs.Components.{part_due, parts_listed, component_of}
+use Rattle.cal_spec.specs.DateAndTime.{date_texts, time_texts, date_fields, time_fields, date_in_word, time_in_word}
 use Rattle.cal_spec.specs.Grammar.{fields_in, fields_at}
 use Rattle.cal_spec.specs.Parts.{with_step, after_end, after_start, part_of, fault_of}
 use Rattle.cal_spec.specs.headline.Shorthand.{shorthand_named}
@@ -149,15 +149,15 @@ two_spans : Request
 two_spans = record { verb = Timespan; texts = codes "1h" ∷ codes "5x" ∷ []; iterations = 1; base = None; now = pos 0; local = utc; zones = empty }
 
 two_spans-out : (report two_spans (Ok [])).out ≡ codes "Original: 1h\n" ++ (codes "      " ++ (206 ∷ 188 ∷ codes "s: 3600000000\n   Human: 1h\n"))
-unfolding two_spans report texts_report base_in reports_text timespan_answer timespan_report units_text row_text span_of pairs_in words_in worth_of is_number unit_named number_worth words_for name_of digits
+unfolding two_spans report texts_report base_in reports_text timespan_answer timespan_report units_text counts_in_row span_of pairs_in words_in worth_of is_number unit_named number_worth words_for unit_name digits
 two_spans-out = refl
 
 two_spans-err : (report two_spans (Ok [])).err ≡ codes "5x: unknown unit\n"
-unfolding two_spans report texts_report base_in refusals_text timespan_answer timespan_report units_text row_text span_of pairs_in words_in worth_of is_number unit_named number_worth words_for name_of digits
+unfolding two_spans report texts_report base_in refusals_text timespan_answer timespan_report units_text counts_in_row span_of pairs_in words_in worth_of is_number unit_named number_worth words_for unit_name digits
 two_spans-err = refl
 
 two_spans-status : (report two_spans (Ok [])).status ≡ Refused
-unfolding two_spans report texts_report base_in texts_status timespan_answer timespan_report units_text row_text span_of pairs_in words_in worth_of is_number unit_named number_worth words_for name_of digits
+unfolding two_spans report texts_report base_in texts_status timespan_answer timespan_report units_text counts_in_row span_of pairs_in words_in worth_of is_number unit_named number_worth words_for unit_name digits
 two_spans-status = refl
 
 -- A request that is accepted, so that the headline speaks of it
@@ -177,7 +177,7 @@ every_second = record {
 }
 
 every_second-read : fields_in (codes "*:*:*") ≡ Ok every_second
-unfolding every_second fields_in fields_at words roles_of shorthand_named day_named days_of listed_days weekdays_of date_texts time_texts date_fields time_fields date_in_word time_of part_due listed component_of with_step after_end after_start part_of fault_of is_zone_name weekday.name_of
+unfolding every_second fields_in fields_at words roles_of shorthand_named day_named days_of listed_days weekdays_of date_texts time_texts date_fields time_fields date_in_word time_in_word part_due parts_listed component_of with_step after_end after_start part_of fault_of is_zone_name weekday.name_of
 every_second-read = refl
 
 every_second-spelled : Spells (codes "*:*:*") every_second

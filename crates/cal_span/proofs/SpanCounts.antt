@@ -9,9 +9,9 @@ use Rattle.std.specs.List.{flat_map}
 use Rattle.cal_span.specs.declared.scale.Scale.{Scale}
 use Rattle.cal_span.specs.declared.scale.Scale.TheVariants.{Year, Month, Week, Day, Hour, Minute, Second, Millisecond, Microsecond}
 use Rattle.cal_bytes.specs.headline.Bytes.{joined}
-use Rattle.cal_span.specs.headline.Scale.{size_of, scales, name_of}
+use Rattle.cal_span.specs.headline.Scale.{size_of, scales, unit_name}
 use Rattle.cal_span.specs.SpanText.{weight, AreReduced, AreCounts, IsSpanText}
-use Rattle.cal_span.specs.headline.SpanText.{Count, count_text, row_text, counts_text, positive, counts_of, units_text, span_text}
+use Rattle.cal_span.specs.headline.SpanText.{Count, count_text, counts_in_row, counts_text, positive, counts_of, units_text, span_text}
 
 -- no unit is empty
 pub size_of_positive : (unit : Scale) → 0 < size_of unit
@@ -94,18 +94,18 @@ led_space : (cs : List Count) → flat_map (λ d. codes " " ++ count_text d) cs 
 led_space [] = refl
 led_space (c ∷ cs) = refl
 
-led_first : (lead : List ℕ) (c : Count) (cs : List Count) → led lead (c ∷ cs) ≡ joined (lead ∷ decimal c.number ∷ name_of c.unit ∷ []) ++ led (codes " ") cs
+led_first : (lead : List ℕ) (c : Count) (cs : List Count) → led lead (c ∷ cs) ≡ joined (lead ∷ decimal c.number ∷ unit_name c.unit ∷ []) ++ led (codes " ") cs
 led_first lead c cs =
     ap (λ (text : List ℕ). lead ++ (count_text c ++ text)) (led_space cs) ∙ sym (append_assoc lead (count_text c) (led (codes " ") cs))
 
 -- at first all counts are left, with nothing in front
-pub row_text-led : (cs : List Count) → row_text cs ≡ led [] cs
-unfolding row_text
-row_text-led [] = refl
-row_text-led (c ∷ cs) = refl
+pub counts_in_row-led : (cs : List Count) → counts_in_row cs ≡ led [] cs
+unfolding counts_in_row
+counts_in_row-led [] = refl
+counts_in_row-led (c ∷ cs) = refl
 
 -- what is left at the i-th unit is its count, where it fits, and what is left after it
-pub led_taken : (lead : List ℕ) (units : List Scale) (i : ℕ) (d : Scale) (size n : ℕ) → i < length units → size ≡ size_of (get_or units i d) → size ≤ n → led lead (positive (counts_of (drop i units) n)) ≡ joined (lead ∷ decimal (n / size) ∷ name_of (get_or units i d) ∷ []) ++ led (codes " ") (positive (counts_of (drop (i + 1) units) (n % size)))
+pub led_taken : (lead : List ℕ) (units : List Scale) (i : ℕ) (d : Scale) (size n : ℕ) → i < length units → size ≡ size_of (get_or units i d) → size ≤ n → led lead (positive (counts_of (drop i units) n)) ≡ joined (lead ∷ decimal (n / size) ∷ unit_name (get_or units i d) ∷ []) ++ led (codes " ") (positive (counts_of (drop (i + 1) units) (n % size)))
 led_taken lead units i d size n within e fits =
     rw e
     (at_drop_more (λ (us : List Scale). led lead (positive (counts_of us n))) units i d within
@@ -143,11 +143,11 @@ pub span_text_zero : span_text 0 ≡ codes "0"
 unfolding units_text
 span_text_zero = ap counts_text (positive-counts_of_zero scales)
 
-counts_text-row : (cs : List Count) → 0 < weight cs → counts_text cs ≡ row_text cs
+counts_text-row : (cs : List Count) → 0 < weight cs → counts_text cs ≡ counts_in_row cs
 counts_text-row [] some = absurd (omega arith)
 counts_text-row (c ∷ cs) some = refl
 
-pub span_text_row : (n : ℕ) → 0 < n → row_text (positive (counts_of scales n)) ≡ span_text n
+pub span_text_row : (n : ℕ) → 0 < n → counts_in_row (positive (counts_of scales n)) ≡ span_text n
 unfolding units_text
 span_text_row n some =
     sym (counts_text-row (positive (counts_of scales n)) (omega (arith, weight-positive (counts_of scales n), (are_counts_of n).sum)))

@@ -13,10 +13,10 @@ use Rattle.cal_span.specs.declared.scale.Scale.TheVariants.{Year, Month, Week, D
 use Rattle.cal_span.specs.declared.span.word.CharKind.{CharKind}
 use Rattle.cal_span.specs.declared.span.word.CharKind.TheVariants.{Blank, Numeric, Letter, Other}
 use Rattle.cal_span.specs.Scale.{words_for}
-use Rattle.cal_span.specs.headline.Scale.{size_of, scales, name_of}
+use Rattle.cal_span.specs.headline.Scale.{size_of, scales, unit_name}
 use Rattle.cal_span.specs.Span.{limit}
 use Rattle.cal_span.specs.SpanText.{weight}
-use Rattle.cal_span.specs.headline.SpanText.{Count, count_text, row_text, positive, counts_of, span_text}
+use Rattle.cal_span.specs.headline.SpanText.{Count, count_text, counts_in_row, positive, counts_of, span_text}
 use Rattle.cal_span.specs.SpanValue.{is_micro, kind_of, is_kind, Piece, characters, with_front, runs, words_in, Pair, pairs_of, pairs_in, is_number, unit_named, number_worth, worth_of, judged, value_of_pairs, span_of}
 use Rattle.cal_span.proofs.SpanCounts.{size_of_positive, are_counts_of, weight-positive, span_text_zero, span_text_row}
 use Rattle.cal_span.proofs.SpanDigits.{AreDigits, are_digits-decimal, kind_of_digit, is_number-decimal, number_worth-decimal}
@@ -72,20 +72,20 @@ numeric_digits : (ds : List ℕ) → AreDigits ds → AllOfKind Numeric ds
 numeric_digits [] h = tt
 numeric_digits (c ∷ cs) h = (h.0.ascii, kind_of_digit c h.0, numeric_digits cs h.1)
 
-letters-name_of : (unit : Scale) → AllOfKind Letter (name_of unit)
-unfolding name_of
-letters-name_of Year = (lit< tt, refl, tt)
-letters-name_of Month = (lit< tt, refl, (lit< tt, refl, (lit< tt, refl, (lit< tt, refl, (lit< tt, refl, tt)))))
-letters-name_of Week = (lit< tt, refl, tt)
-letters-name_of Day = (lit< tt, refl, tt)
-letters-name_of Hour = (lit< tt, refl, tt)
-letters-name_of Minute = (lit< tt, refl, (lit< tt, refl, (lit< tt, refl, tt)))
-letters-name_of Second = (lit< tt, refl, tt)
-letters-name_of Millisecond = (lit< tt, refl, (lit< tt, refl, tt))
-letters-name_of Microsecond = (lit< tt, refl, (lit< tt, refl, tt))
+letters-unit_name : (unit : Scale) → AllOfKind Letter (unit_name unit)
+unfolding unit_name
+letters-unit_name Year = (lit< tt, refl, tt)
+letters-unit_name Month = (lit< tt, refl, (lit< tt, refl, (lit< tt, refl, (lit< tt, refl, (lit< tt, refl, tt)))))
+letters-unit_name Week = (lit< tt, refl, tt)
+letters-unit_name Day = (lit< tt, refl, tt)
+letters-unit_name Hour = (lit< tt, refl, tt)
+letters-unit_name Minute = (lit< tt, refl, (lit< tt, refl, (lit< tt, refl, tt)))
+letters-unit_name Second = (lit< tt, refl, tt)
+letters-unit_name Millisecond = (lit< tt, refl, (lit< tt, refl, tt))
+letters-unit_name Microsecond = (lit< tt, refl, (lit< tt, refl, tt))
 
-name_of_nonempty : (unit : Scale) → 0 < length (name_of unit)
-unfolding name_of
+name_of_nonempty : (unit : Scale) → 0 < length (unit_name unit)
+unfolding unit_name
 name_of_nonempty Year = lit< tt
 name_of_nonempty Month = lit< tt
 name_of_nonempty Week = lit< tt
@@ -100,15 +100,15 @@ name_of_nonempty Microsecond = lit< tt
 abbrev pub count_words : List Count → List Piece
 count_words [] = []
 count_words (c ∷ cs) =
-    record { kind = Numeric; text = decimal c.number } ∷ record { kind = Letter; text = name_of c.unit } ∷ count_words cs
+    record { kind = Numeric; text = decimal c.number } ∷ record { kind = Letter; text = unit_name c.unit } ∷ count_words cs
 
 -- a count is two runs, where no letter follows
-runs-count : (c : Count) (rest : List ℕ) → c.number < 2 ^ 64 → IsApart Letter (runs (characters rest)) → runs (characters (count_text c ++ rest)) ≡ record { kind = Numeric; text = decimal c.number } ∷ record { kind = Letter; text = name_of c.unit } ∷ runs (characters rest)
+runs-count : (c : Count) (rest : List ℕ) → c.number < 2 ^ 64 → IsApart Letter (runs (characters rest)) → runs (characters (count_text c ++ rest)) ≡ record { kind = Numeric; text = decimal c.number } ∷ record { kind = Letter; text = unit_name c.unit } ∷ runs (characters rest)
 runs-count c rest small apart =
-    let unit = runs-of_kind_front Letter (name_of c.unit) rest (name_of_nonempty c.unit) (letters-name_of c.unit) apart in
-    let grouped : count_text c ++ rest ≡ decimal c.number ++ (name_of c.unit ++ rest) = append_assoc (decimal c.number) (name_of c.unit ++ []) rest ∙ ap (λ (name : List ℕ). decimal c.number ++ (name ++ rest)) (append-nil (name_of c.unit)) in
+    let unit = runs-of_kind_front Letter (unit_name c.unit) rest (name_of_nonempty c.unit) (letters-unit_name c.unit) apart in
+    let grouped : count_text c ++ rest ≡ decimal c.number ++ (unit_name c.unit ++ rest) = append_assoc (decimal c.number) (unit_name c.unit ++ []) rest ∙ ap (λ (name : List ℕ). decimal c.number ++ (name ++ rest)) (append-nil (unit_name c.unit)) in
     ap (λ (bytes : List ℕ). runs (characters bytes)) grouped
-    ∙ runs-of_kind_front Numeric (decimal c.number) (name_of c.unit ++ rest) (decimal_nonempty c.number small) (numeric_digits (decimal c.number) (are_digits-decimal c.number small)) (subst (IsApart Numeric) (sym unit) refl)
+    ∙ runs-of_kind_front Numeric (decimal c.number) (unit_name c.unit ++ rest) (decimal_nonempty c.number small) (numeric_digits (decimal c.number) (are_digits-decimal c.number small)) (subst (IsApart Numeric) (sym unit) refl)
     ∙ ap (λ (ps : List Piece). record { kind = Numeric; text = decimal c.number } ∷ ps) unit
 
 small_number : (c : Count) (cs : List Count) → weight (c ∷ cs) ≤ limit → c.number < 2 ^ 64
@@ -121,7 +121,7 @@ spaced = flat_map (λ c. codes " " ++ count_text c)
 abbrev spaced_runs : List Count → List Piece
 spaced_runs [] = []
 spaced_runs (c ∷ cs) =
-    record { kind = Blank; text = codes " " } ∷ record { kind = Numeric; text = decimal c.number } ∷ record { kind = Letter; text = name_of c.unit } ∷ spaced_runs cs
+    record { kind = Blank; text = codes " " } ∷ record { kind = Numeric; text = decimal c.number } ∷ record { kind = Letter; text = unit_name c.unit } ∷ spaced_runs cs
 
 spaced_runs-apart : (cs : List Count) → IsApart Letter (spaced_runs cs)
 spaced_runs-apart [] = tt
@@ -134,47 +134,47 @@ runs-spaced (c ∷ cs) within =
     let first = runs-count c (spaced cs) (small_number c cs within) (subst (IsApart Letter) (sym others) (spaced_runs-apart cs)) in
     runs-of_kind Blank 32 [] (count_text c ++ spaced cs) (lit< tt, refl, tt) (subst (IsApart Blank) (sym first) refl)
     ∙ ap (λ (ps : List Piece). record { kind = Blank; text = codes " " } ∷ ps) first
-    ∙ ap (λ (ps : List Piece). record { kind = Blank; text = codes " " } ∷ record { kind = Numeric; text = decimal c.number } ∷ record { kind = Letter; text = name_of c.unit } ∷ ps) others
+    ∙ ap (λ (ps : List Piece). record { kind = Blank; text = codes " " } ∷ record { kind = Numeric; text = decimal c.number } ∷ record { kind = Letter; text = unit_name c.unit } ∷ ps) others
 
 words-spaced : (cs : List Count) → filter (λ w. not (is_kind Blank w.kind)) (spaced_runs cs) ≡ count_words cs
 words-spaced [] = refl
 words-spaced (c ∷ cs) =
-    ap (λ (ps : List Piece). record { kind = Numeric; text = decimal c.number } ∷ record { kind = Letter; text = name_of c.unit } ∷ ps) (words-spaced cs)
+    ap (λ (ps : List Piece). record { kind = Numeric; text = decimal c.number } ∷ record { kind = Letter; text = unit_name c.unit } ∷ ps) (words-spaced cs)
 
-words-row : (c : Count) (cs : List Count) → weight (c ∷ cs) ≤ limit → words_in (row_text (c ∷ cs)) ≡ count_words (c ∷ cs)
-unfolding words_in row_text
+words-row : (c : Count) (cs : List Count) → weight (c ∷ cs) ≤ limit → words_in (counts_in_row (c ∷ cs)) ≡ count_words (c ∷ cs)
+unfolding words_in counts_in_row
 words-row c cs within =
     let others = runs-spaced cs (omega arith) in
     let first = runs-count c (spaced cs) (small_number c cs within) (subst (IsApart Letter) (sym others) (spaced_runs-apart cs)) in
     ap (filter (λ w. not (is_kind Blank w.kind))) first
-    ∙ ap (λ (ps : List Piece). record { kind = Numeric; text = decimal c.number } ∷ record { kind = Letter; text = name_of c.unit } ∷ filter (λ w. not (is_kind Blank w.kind)) ps) others
-    ∙ ap (λ (ps : List Piece). record { kind = Numeric; text = decimal c.number } ∷ record { kind = Letter; text = name_of c.unit } ∷ ps) (words-spaced cs)
+    ∙ ap (λ (ps : List Piece). record { kind = Numeric; text = decimal c.number } ∷ record { kind = Letter; text = unit_name c.unit } ∷ filter (λ w. not (is_kind Blank w.kind)) ps) others
+    ∙ ap (λ (ps : List Piece). record { kind = Numeric; text = decimal c.number } ∷ record { kind = Letter; text = unit_name c.unit } ∷ ps) (words-spaced cs)
 
 -- Pairs and their worth
 
 abbrev pub pair_of : Count → Pair
-pair_of c = record { number = decimal c.number; unit = Some (name_of c.unit) }
+pair_of c = record { number = decimal c.number; unit = Some (unit_name c.unit) }
 
 pairs-count_words : (cs : List Count) → pairs_of (count_words cs) ≡ map pair_of cs
 pairs-count_words [] = refl
 pairs-count_words (c ∷ cs) = ap (λ (ps : List Pair). pair_of c ∷ ps) (pairs-count_words cs)
 
-unit_named-name_of : (unit : Scale) → unit_named (name_of unit) ≡ Some unit
-unfolding unit_named words_for name_of
-unit_named-name_of Year = refl
-unit_named-name_of Month = refl
-unit_named-name_of Week = refl
-unit_named-name_of Day = refl
-unit_named-name_of Hour = refl
-unit_named-name_of Minute = refl
-unit_named-name_of Second = refl
-unit_named-name_of Millisecond = refl
-unit_named-name_of Microsecond = refl
+unit_named-unit_name : (unit : Scale) → unit_named (unit_name unit) ≡ Some unit
+unfolding unit_named words_for unit_name
+unit_named-unit_name Year = refl
+unit_named-unit_name Month = refl
+unit_named-unit_name Week = refl
+unit_named-unit_name Day = refl
+unit_named-unit_name Hour = refl
+unit_named-unit_name Minute = refl
+unit_named-unit_name Second = refl
+unit_named-unit_name Millisecond = refl
+unit_named-unit_name Microsecond = refl
 
 worth-pair_of : (c : Count) → c.number < 2 ^ 64 → worth_of (pair_of c) ≡ Ok (c.number * size_of c.unit)
 unfolding worth_of
 worth-pair_of c small =
-    rw (is_number-decimal c.number small, unit_named-name_of c.unit, number_worth-decimal c.number (size_of c.unit) small) refl
+    rw (is_number-decimal c.number small, unit_named-unit_name c.unit, number_worth-decimal c.number (size_of c.unit) small) refl
 
 judged-counts : (sum : ℕ) (cs : List Count) → sum + weight cs ≤ limit → judged sum (map pair_of cs) ≡ Ok (sum + weight cs)
 judged-counts sum [] within = ap Ok (omega arith)
@@ -185,7 +185,7 @@ judged-counts sum (c ∷ cs) within =
 
 -- The value of a span text
 
-span_of-row : (cs : List Count) → 0 < weight cs → weight cs ≤ limit → span_of (row_text cs) ≡ Ok (weight cs)
+span_of-row : (cs : List Count) → 0 < weight cs → weight cs ≤ limit → span_of (counts_in_row cs) ≡ Ok (weight cs)
 unfolding span_of pairs_in
 span_of-row [] some within = absurd (omega arith)
 span_of-row (c ∷ cs) some within =

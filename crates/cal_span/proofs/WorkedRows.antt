@@ -2,8 +2,8 @@
 use Rattle.std.proofs.Common.{◌≡◌, [], Ok, Err, codes, refl}
 use Rattle.std.specs.Fmt.{digits}
 use Rattle.cal_span.specs.Scale.{words_for}
-use Rattle.cal_span.specs.headline.Scale.{name_of}
-use Rattle.cal_span.specs.headline.SpanText.{units_text, row_text, span_text}
+use Rattle.cal_span.specs.headline.Scale.{unit_name}
+use Rattle.cal_span.specs.headline.SpanText.{units_text, counts_in_row, span_text}
 use Rattle.cal_span.specs.SpanValue.{words_in, pairs_in, is_number, unit_named, number_worth, worth_of, span_of}
 use Rattle.cal_span.specs.declared.span.fault.SpanFault.TheVariants.{Empty, BadNumber, UnknownUnit, TooLarge}
 
@@ -36,13 +36,13 @@ unfolding span_of pairs_in words_in worth_of is_number unit_named number_worth w
 above_the_limit = refl
 
 printed : span_text 5_400_000_000 ≡ codes "1h 30min"
-unfolding units_text row_text name_of digits
+unfolding units_text counts_in_row unit_name digits
 printed = refl
 
 printed_month : span_text 2_592_000_000_000 ≡ codes "4w 2d"
-unfolding units_text row_text name_of digits
+unfolding units_text counts_in_row unit_name digits
 printed_month = refl
 
 printed_nothing : span_text 0 ≡ codes "0"
-unfolding units_text row_text name_of digits
+unfolding units_text counts_in_row unit_name digits
 printed_nothing = refl

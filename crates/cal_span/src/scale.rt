@@ -2,7 +2,7 @@
 
 ghost use Rattle.std.specs.Prelude.{◌≡◌, ◌≤◌, ◌<◌, length, map};
 ghost use Rattle.cal_span.specs.Scale.{words_for};
-ghost use Rattle.cal_span.specs.headline.Scale.{size_of, name_of};
+ghost use Rattle.cal_span.specs.headline.Scale.{size_of, unit_name};
 
 /// A unit of time, as in systemd.time(7), Parsing Time Spans.
 #[derive(Clone, Copy, PartialEq, Eq, Debug)]
@@ -82,9 +82,9 @@ impl Scale {
     }
 
     /// The spelling in which the unit is printed.
-    #[tactic(auto, unfolding(crate::specs::headline::Scale::name_of))]
+    #[tactic(auto, unfolding(crate::specs::headline::Scale::unit_name))]
     pub fn name(self) -> &'static str
-        ensures name { result.now ≡ name_of self }
+        ensures name { result.now ≡ unit_name self }
         ensures short { length result.now ≤ 5 }
     {
         match self {

@@ -3,7 +3,7 @@ use Rattle.std.proofs.Common.{ℕ, suc, ◌+◌, ◌-◌, ◌<◌, ◌≤◌, �
 use Rattle.std.specs.List.{AllByRecursion, slice_split}
 use Rattle.std.specs.Option.{option_or}
 use Rattle.std.proofs.lemmas.Bool.{and_parts, leb-true, ltb-false, leb-false, eqb-false, not-false}
-use Rattle.cal_spec.specs.Components.{is_comma, is_star, counted, room_in, part_due, parts_of, first_fault, listed, component_of}
+use Rattle.cal_spec.specs.Components.{is_comma, is_star, counted, room_in, part_due, parts_of, first_value_fault, parts_listed, component_of}
 use Rattle.cal_spec.specs.Parts.{is_time, is_within, is_outside, is_backward, is_zero, is_idle, fault_of}
 use Rattle.cal_spec.specs.Reads.{◌>>=◌, unless}
 use Rattle.cal_spec.specs.headline.Slot.{least, greatest}
@@ -76,10 +76,10 @@ or_none : (o p : Option SpecFault) → option_or o p ≡ None → (o ≡ None) �
 or_none None p at = (refl, at)
 or_none (Some e) p at = cc
 
-pub sound_parts : (slot : Slot) (ps : List Part) → first_fault slot ps ≡ None → AllByRecursion (IsSound slot) ps
+pub sound_parts : (slot : Slot) (ps : List Part) → first_value_fault slot ps ≡ None → AllByRecursion (IsSound slot) ps
 sound_parts slot [] at = tt
 sound_parts slot (p ∷ ps) at =
-    let none = or_none (fault_of slot p) (first_fault slot ps) at in
+    let none = or_none (fault_of slot p) (first_value_fault slot ps) at in
     (sound_part slot p none.0, sound_parts slot ps none.1)
 
 -- as many parts as texts, and no more than are allowed
@@ -112,13 +112,13 @@ parts_counted slot room (t ∷ ts) ps at =
 
 pub record ListedRead (slot : Slot) (room : ℕ) (text : List ℕ) (ps : List Part) : Type 0 where
   pub shapes : parts_of slot (room_in slot room) (slice_split is_comma text) ≡ Ok ps
-  pub values : first_fault slot ps ≡ None
+  pub values : first_value_fault slot ps ≡ None
 
-pub listed_ok : (slot : Slot) (room : ℕ) (text : List ℕ) (ps : List Part) → listed slot room text ≡ Ok ps → ListedRead slot room text ps
-unfolding listed
+pub listed_ok : (slot : Slot) (room : ℕ) (text : List ℕ) (ps : List Part) → parts_listed slot room text ≡ Ok ps → ListedRead slot room text ps
+unfolding parts_listed
 listed_ok slot room text ps at =
-    let one = bind_ok (parts_of slot (room_in slot room) (slice_split is_comma text)) (λ ps. unless (first_fault slot ps) ps) ps at in
-    let two = unless_ok (first_fault slot one.value) one.value ps one.next in
+    let one = bind_ok (parts_of slot (room_in slot room) (slice_split is_comma text)) (λ ps. unless (first_value_fault slot ps) ps) ps at in
+    let two = unless_ok (first_value_fault slot one.value) one.value ps one.next in
     record { shapes = rw two.1 at one.first; values = rw two.1 at two.0 }
 
 -- some part
@@ -140,7 +140,7 @@ star_read : (slot : Slot) (room : ℕ) (c : Option (List Part)) → None ≡ c �
 star_read slot room None at = record { sound = tt; few = omega arith }
 star_read slot room (Some ps) at = cc
 
-listed_read : (slot : Slot) (room : ℕ) (text : List ℕ) (ps : List Part) (c : Option (List Part)) → listed slot room text ≡ Ok ps → Some ps ≡ c → IsRead slot room c
+listed_read : (slot : Slot) (room : ℕ) (text : List ℕ) (ps : List Part) (c : Option (List Part)) → parts_listed slot room text ≡ Ok ps → Some ps ≡ c → IsRead slot room c
 listed_read slot room text ps None at is = cc
 listed_read slot room text ps (Some qs) at is =
     let same : ps ≡ qs = cc in
@@ -150,10 +150,10 @@ listed_read slot room text ps (Some qs) at is =
       few = counted_in (is_time slot) (length qs) room (parts_counted slot (room_in slot room) (slice_split is_comma text) qs read.shapes).1;
     }
 
-component_by : (slot : Slot) (room : ℕ) (text : List ℕ) (star : Bool) (c : Option (List Part)) → cond star (Ok None) (listed slot room text >>= λ ps. Ok (Some ps)) ≡ Ok c → IsRead slot room c
+component_by : (slot : Slot) (room : ℕ) (text : List ℕ) (star : Bool) (c : Option (List Part)) → cond star (Ok None) (parts_listed slot room text >>= λ ps. Ok (Some ps)) ≡ Ok c → IsRead slot room c
 component_by slot room text true c at = star_read slot room c cc
 component_by slot room text false c at =
-    let one = bind_ok (listed slot room text) (λ ps. Ok (Some ps)) c at in
+    let one = bind_ok (parts_listed slot room text) (λ ps. Ok (Some ps)) c at in
     listed_read slot room text one.value c one.first cc
 
 pub component_read : (slot : Slot) (room : ℕ) (text : List ℕ) (c : Option (List Part)) → component_of slot room text ≡ Ok c → IsRead slot room c

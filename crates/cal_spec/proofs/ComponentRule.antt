@@ -7,7 +7,7 @@ use Rattle.std.proofs.lemmas.Bool.{and_parts, and_from, or_right, le-leb, le-ltb
 use Rattle.std.proofs.lemmas.List.{append-nil, append_assoc}
 use Rattle.std.proofs.lemmas.List.Splits.{join_with_byte-slice_split}
 use Rattle.std.proofs.lemmas.Slice.Eq.{bytes_eq-Decides}
-use Rattle.cal_spec.specs.Components.{is_comma, is_star, counted, room_in, part_due, parts_of, first_fault, listed, component_of}
+use Rattle.cal_spec.specs.Components.{is_comma, is_star, counted, room_in, part_due, parts_of, first_value_fault, parts_listed, component_of}
 use Rattle.cal_spec.specs.headline.GrammarRule.{IsNumber, IsNext, IsPartText, IsPartOf, AreListed, IsComponent}
 use Rattle.cal_spec.specs.Parts.{is_time, is_within, is_outside, is_backward, is_zero, is_idle, fault_of}
 use Rattle.cal_spec.specs.headline.Parts.{with_values}
@@ -59,7 +59,7 @@ unfolding fault_of
 no_fault_of slot p sound =
     rw (not_outside slot p.start p.end sound.start_in sound.end_in, not_backward p.start p.end sound.forward, not_zero p.step sound.some_step, not_idle slot p.start p.end p.step sound.goes_on) refl
 
-pub no_first_fault : (slot : Slot) (ps : List Part) → AllByRecursion (IsSound slot) ps → first_fault slot ps ≡ None
+pub no_first_fault : (slot : Slot) (ps : List Part) → AllByRecursion (IsSound slot) ps → first_value_fault slot ps ≡ None
 no_first_fault slot [] sound = refl
 no_first_fault slot (p ∷ ps) sound = rw (no_fault_of slot p sound.0) (no_first_fault slot ps sound.1)
 
@@ -73,7 +73,7 @@ parts_found slot room (t ∷ ts) ps at =
     let is : with_values slot due.value ≡ read.first = let e = due.next in cc in
     rw read.is ((due.value, part_found slot t due.value due.first, sym is), parts_found slot (room - 1) ts read.rest read.rest_is)
 
-listed_found : (slot : Slot) (room : ℕ) (text : List ℕ) (ps : List Part) → listed slot room text ≡ Ok ps → AreListed slot text ps
+listed_found : (slot : Slot) (room : ℕ) (text : List ℕ) (ps : List Part) → parts_listed slot room text ≡ Ok ps → AreListed slot text ps
 listed_found slot room text ps at =
     let read = listed_ok slot room text ps at in
     let some = some_piece is_comma text in
@@ -89,15 +89,15 @@ star_text : (text : List ℕ) (c : Option (List Part)) (slot : Slot) → is_star
 star_text text None slot star is = (bytes_eq-Decides text (codes "*")).0 star
 star_text text (Some ps) slot star is = cc
 
-listed_text : (slot : Slot) (room : ℕ) (text : List ℕ) (ps : List Part) (c : Option (List Part)) → listed slot room text ≡ Ok ps → Some ps ≡ c → IsComponent slot text c
+listed_text : (slot : Slot) (room : ℕ) (text : List ℕ) (ps : List Part) (c : Option (List Part)) → parts_listed slot room text ≡ Ok ps → Some ps ≡ c → IsComponent slot text c
 listed_text slot room text ps None at is = cc
 listed_text slot room text ps (Some qs) at is =
     let same : ps ≡ qs = cc in listed_found slot room text qs (rw same at at)
 
-component_by : (slot : Slot) (room : ℕ) (text : List ℕ) (star : Bool) (c : Option (List Part)) → is_star text ≡ star → cond star (Ok None) (listed slot room text >>= λ ps. Ok (Some ps)) ≡ Ok c → IsComponent slot text c
+component_by : (slot : Slot) (room : ℕ) (text : List ℕ) (star : Bool) (c : Option (List Part)) → is_star text ≡ star → cond star (Ok None) (parts_listed slot room text >>= λ ps. Ok (Some ps)) ≡ Ok c → IsComponent slot text c
 component_by slot room text true c star at = star_text text c slot star cc
 component_by slot room text false c star at =
-    let one = bind_ok (listed slot room text) (λ ps. Ok (Some ps)) c at in
+    let one = bind_ok (parts_listed slot room text) (λ ps. Ok (Some ps)) c at in
     listed_text slot room text one.value c one.first cc
 
 pub component_found : (slot : Slot) (room : ℕ) (text : List ℕ) (c : Option (List Part)) → component_of slot room text ≡ Ok c → IsComponent slot text c
@@ -210,7 +210,7 @@ fits_in true n room h = omega arith
 fits_in false n room h = h
 
 pub component_only : (slot : Slot) (room : ℕ) (text : List ℕ) (c : Option (List Part)) → IsComponent slot text c → counted slot c ≤ room → component_of slot room text ≡ Ok c
-unfolding component_of listed
+unfolding component_of parts_listed
 component_only slot room text None is few = rw is refl
 component_only slot room text (Some ps) is few =
     let star : is_star text ≡ false = false_from_ne_true (is_star text) (λ h. joined_no_star slot is.texts ps is.parts (sym is.whole ∙ (bytes_eq-Decides text (codes "*")).0 h)) in

@@ -6,7 +6,7 @@ use Rattle.std.proofs.lemmas.Bool.{or_cases, eqb-true, false≢true}
 use Rattle.std.proofs.lemmas.Bool.Decides.{nat_tests}
 use Rattle.std.proofs.lemmas.List.Splits.{join_with_byte-slice_split}
 use Rattle.cal_spec.specs.Components.{most_counted, counted}
-use Rattle.cal_spec.specs.DateAndTime.{DateFields, TimeFields, is_tilde, is_date_sign, date_by, time_by, date_texts, time_texts, date_fields, time_fields, room_after, date_of, time_of}
+use Rattle.cal_spec.specs.DateAndTime.{DateFields, TimeFields, is_tilde, is_date_sign, date_texts_by, time_texts_by, date_texts, time_texts, date_fields, time_fields, room_after, date_in_word, time_in_word}
 use Rattle.cal_spec.specs.headline.DateAndTime.{DateTexts, TimeTexts, is_colon}
 use Rattle.cal_spec.specs.headline.Fields.{Fields, counted_parts}
 use Rattle.cal_spec.specs.headline.GrammarRule.{last_sign, IsDateShape, IsTimeShape, IsDate, IsTime, IsComponent}
@@ -45,7 +45,7 @@ three_by s u year month day t false is first second at =
     let made : record { year = year; month = month; day = day; from_end = is_tilde u } ≡ t = cc in
     rw (← made) (inl (ap (λ front. year ++ (front ++ (month ++ (u ∷ day)))) (sym (dash_is s is first)) ∙ ap (λ front. year ++ (codes "-" ++ (month ++ (front ++ day)))) (sym (sign_is u second))))
 
-date_by_found : (ss : List ℕ) (ts : List (List ℕ)) (t : DateTexts) → AllByRecursion (λ b. is_date_sign b ≡ true) ss → date_by ss ts ≡ Some t → IsDateShape (woven ss ts) t
+date_by_found : (ss : List ℕ) (ts : List (List ℕ)) (t : DateTexts) → AllByRecursion (λ b. is_date_sign b ≡ true) ss → date_texts_by ss ts ≡ Some t → IsDateShape (woven ss ts) t
 date_by_found [] ts t signs at = cc
 date_by_found (s ∷ []) [] t signs at = cc
 date_by_found (s ∷ []) (a ∷ []) t signs at = cc
@@ -88,7 +88,7 @@ date_shape_only word t y m d (inr shape) = ap date_texts shape.1 ∙ two_only t.
 
 -- The shape of a time
 
-time_by_found : (ts : List (List ℕ)) (t : TimeTexts) → time_by ts ≡ Some t → IsTimeShape (join_with_byte 58 ts) t
+time_by_found : (ts : List (List ℕ)) (t : TimeTexts) → time_texts_by ts ≡ Some t → IsTimeShape (join_with_byte 58 ts) t
 time_by_found [] t at = cc
 time_by_found (a ∷ []) t at = cc
 time_by_found (a ∷ b ∷ []) t at =
@@ -130,7 +130,7 @@ clear_of p slot text c apart is = clear_from is_component_byte p text apart (com
 
 -- What was read is a date or a time by the rule
 
-pub is_date : (word : List ℕ) (weekdays : List Bool) (d : DateFields) (h : TimeFields) (name : Option ZoneSuffix) → date_of word ≡ Ok d → IsDate word (fields_with weekdays d h name)
+pub is_date : (word : List ℕ) (weekdays : List Bool) (d : DateFields) (h : TimeFields) (name : Option ZoneSuffix) → date_in_word word ≡ Ok d → IsDate word (fields_with weekdays d h name)
 is_date word weekdays d h name at =
     let found = date_found word d at in
     let read = found.read in
@@ -144,7 +144,7 @@ is_date word weekdays d h name at =
       day = component_found (day_slot d.from_end) (most_counted - counted Year d.year - counted Month d.month) t.day d.day (rw read.from_end at read.day);
     }
 
-pub is_time : (room : ℕ) (word : List ℕ) (weekdays : List Bool) (d : DateFields) (h : TimeFields) (name : Option ZoneSuffix) → time_of room word ≡ Ok h → IsTime word (fields_with weekdays d h name)
+pub is_time : (room : ℕ) (word : List ℕ) (weekdays : List Bool) (d : DateFields) (h : TimeFields) (name : Option ZoneSuffix) → time_in_word room word ≡ Ok h → IsTime word (fields_with weekdays d h name)
 is_time room word weekdays d h name at =
     let found = time_found room word h at in
     let read = found.read in
@@ -192,8 +192,8 @@ date_with f = record { year = f.year; month = f.month; day = f.day; from_end = f
 abbrev pub time_with : Fields → TimeFields
 time_with f = record { hour = f.hour; minute = f.minute; second = f.second }
 
-pub date_only : (word : List ℕ) (f : Fields) → AreFew f → IsDate word f → date_of word ≡ Ok (date_with f)
-unfolding date_of date_fields
+pub date_only : (word : List ℕ) (f : Fields) → AreFew f → IsDate word f → date_in_word word ≡ Ok (date_with f)
+unfolding date_in_word date_fields
 date_only word f few is =
     let t = is.texts in
     let day_is : IsComponent (day_slot t.from_end) t.day f.day = rw is.from_end is.day in
@@ -203,8 +203,8 @@ date_only word f few is =
     let day = component_only (day_slot f.from_end) (240 - counted Year f.year - counted Month f.month) t.day f.day is.day few.day in
     rw (shape, is.from_end, year, month, day) refl
 
-pub time_only : (word : List ℕ) (f : Fields) → AreFew f → IsTime word f → time_of (room_after (date_with f)) word ≡ Ok (time_with f)
-unfolding time_of time_fields
+pub time_only : (word : List ℕ) (f : Fields) → AreFew f → IsTime word f → time_in_word (room_after (date_with f)) word ≡ Ok (time_with f)
+unfolding time_in_word time_fields
 time_only word f few is =
     let t = is.texts in
     let room = room_after (date_with f) in

@@ -4,10 +4,10 @@ use Rattle.std.specs.Option.{option_or}
 use Rattle.std.specs.Result.{result_err}
 use Rattle.std.proofs.lemmas.Bool.{eqb-false}
 use Rattle.std.proofs.lemmas.Bool.Decides.{nat_tests}
-use Rattle.cal_spec.specs.Components.{most_counted, is_star, counted, room_in, part_due, parts_of, first_fault, listed, component_of}
-use Rattle.cal_spec.specs.DateAndTime.{DateFields, date_texts, time_texts, date_fields, time_fields, date_due, time_due, room_after, date_of, time_of}
+use Rattle.cal_spec.specs.Components.{most_counted, is_star, counted, room_in, part_due, parts_of, first_value_fault, parts_listed, component_of}
+use Rattle.cal_spec.specs.DateAndTime.{DateFields, date_texts, time_texts, date_fields, time_fields, date_due, time_due, room_after, date_in_word, time_in_word}
 use Rattle.cal_spec.specs.headline.DateAndTime.{DateTexts, TimeTexts}
-use Rattle.cal_spec.specs.Faults.{pieces_of, numbered, first_number, shape_fault, shape_faults, value_fault, component_faults, numbered_in, date_faults, time_faults, faults_at, faults_in}
+use Rattle.cal_spec.specs.Faults.{pieces_of, numbered, first_number, shape_fault, shape_faults, value_fault, component_faults, numbered_in, date_faults, time_faults, faults_at, judgements_of}
 use Rattle.cal_spec.specs.Grammar.{most_text_bytes, fields_at, fields_due, fields_in}
 use Rattle.cal_spec.specs.Parts.{is_time, part_of}
 use Rattle.cal_spec.specs.headline.Parts.{with_values}
@@ -72,7 +72,7 @@ shapes_fault slot room number (t ∷ ts) sum =
     let some = (part_due_is slot room t p at).0 in
     err_of_map (parts_of slot (room - 1) ts) (λ ps. p ∷ ps) ∙ shapes_fault slot (room - 1) (number + 1) ts (omega (arith, some)))
 
-values_fault : (slot : Slot) (room : ℕ) (ts : List (List ℕ)) (ps : List Part) → parts_of slot room ts ≡ Ok ps → first_fault slot ps ≡ first_of (map (λ t. value_fault slot (part_of slot t)) ts)
+values_fault : (slot : Slot) (room : ℕ) (ts : List (List ℕ)) (ps : List Part) → parts_of slot room ts ≡ Ok ps → first_value_fault slot ps ≡ first_of (map (λ t. value_fault slot (part_of slot t)) ts)
 values_fault slot room [] ps at = let none : [] ≡ ps = cc in rw (← none) refl
 values_fault slot room (t ∷ ts) ps at =
     let read = parts_of-cons slot room t ts ps at in
@@ -89,16 +89,16 @@ room_sum : (time : Bool) (before room : ℕ) → before + room ≡ 240 → cond 
 room_sum true before room sum = omega arith
 room_sum false before room sum = omega arith
 
-listed_fault : (slot : Slot) (before room : ℕ) (text : List ℕ) → before + room ≡ 240 → result_err (listed slot room text) ≡ first_of (shape_faults slot (first_number slot before) (pieces_of text) ++ map (λ t. value_fault slot (part_of slot t)) (pieces_of text))
-unfolding listed
+listed_fault : (slot : Slot) (before room : ℕ) (text : List ℕ) → before + room ≡ 240 → result_err (parts_listed slot room text) ≡ first_of (shape_faults slot (first_number slot before) (pieces_of text) ++ map (λ t. value_fault slot (part_of slot t)) (pieces_of text))
+unfolding parts_listed
 listed_fault slot before room text sum =
     let shapes = shape_faults slot (first_number slot before) (pieces_of text) in
     let values = map (λ t. value_fault slot (part_of slot t)) (pieces_of text) in
-    err_of_bind (parts_of slot (room_in slot room) (pieces_of text)) (λ ps. unless (first_fault slot ps) ps) (first_of shapes) (first_of values) (shapes_fault slot (room_in slot room) (first_number slot before) (pieces_of text) (room_sum (is_time slot) before room sum)) (λ ps at. unless_fault (first_fault slot ps) ps ∙ values_fault slot (room_in slot room) (pieces_of text) ps at) ∙ sym (first_of-append shapes values)
+    err_of_bind (parts_of slot (room_in slot room) (pieces_of text)) (λ ps. unless (first_value_fault slot ps) ps) (first_of shapes) (first_of values) (shapes_fault slot (room_in slot room) (first_number slot before) (pieces_of text) (room_sum (is_time slot) before room sum)) (λ ps at. unless_fault (first_value_fault slot ps) ps ∙ values_fault slot (room_in slot room) (pieces_of text) ps at) ∙ sym (first_of-append shapes values)
 
-star_fault : (slot : Slot) (before room : ℕ) (text : List ℕ) (star : Bool) → before + room ≡ 240 → result_err (cond star (Ok None) (listed slot room text >>= λ ps. Ok (Some ps))) ≡ first_of (cond star [] (shape_faults slot (first_number slot before) (pieces_of text) ++ map (λ t. value_fault slot (part_of slot t)) (pieces_of text)))
+star_fault : (slot : Slot) (before room : ℕ) (text : List ℕ) (star : Bool) → before + room ≡ 240 → result_err (cond star (Ok None) (parts_listed slot room text >>= λ ps. Ok (Some ps))) ≡ first_of (cond star [] (shape_faults slot (first_number slot before) (pieces_of text) ++ map (λ t. value_fault slot (part_of slot t)) (pieces_of text)))
 star_fault slot before room text true sum = refl
-star_fault slot before room text false sum = err_of_map (listed slot room text) Some ∙ listed_fault slot before room text sum
+star_fault slot before room text false sum = err_of_map (parts_listed slot room text) Some ∙ listed_fault slot before room text sum
 
 component_fault : (slot : Slot) (before room : ℕ) (text : List ℕ) → before + room ≡ 240 → result_err (component_of slot room text) ≡ first_of (component_faults slot before text)
 unfolding component_of component_faults
@@ -109,17 +109,17 @@ none_counted : (slot : Slot) (c : Option (List Part)) → None ≡ c → counted
 none_counted slot None is = refl
 none_counted slot (Some ps) is = cc
 
-some_counted : (slot : Slot) (room : ℕ) (text : List ℕ) (ps : List Part) (c : Option (List Part)) → listed slot room text ≡ Ok ps → Some ps ≡ c → counted slot c ≡ cond (is_time slot) (length (pieces_of text) - 1) (length (pieces_of text))
+some_counted : (slot : Slot) (room : ℕ) (text : List ℕ) (ps : List Part) (c : Option (List Part)) → parts_listed slot room text ≡ Ok ps → Some ps ≡ c → counted slot c ≡ cond (is_time slot) (length (pieces_of text) - 1) (length (pieces_of text))
 some_counted slot room text ps None at is = cc
 some_counted slot room text ps (Some qs) at is =
     let same : ps ≡ qs = cc in
     let read = listed_ok slot room text qs (rw same at at) in
     ap (λ n. cond (is_time slot) (n - 1) n) (parts_counted slot (room_in slot room) (pieces_of text) qs read.shapes).0
 
-counted_by : (slot : Slot) (room : ℕ) (text : List ℕ) (star : Bool) (c : Option (List Part)) → cond star (Ok None) (listed slot room text >>= λ ps. Ok (Some ps)) ≡ Ok c → counted slot c ≡ cond star 0 (cond (is_time slot) (length (pieces_of text) - 1) (length (pieces_of text)))
+counted_by : (slot : Slot) (room : ℕ) (text : List ℕ) (star : Bool) (c : Option (List Part)) → cond star (Ok None) (parts_listed slot room text >>= λ ps. Ok (Some ps)) ≡ Ok c → counted slot c ≡ cond star 0 (cond (is_time slot) (length (pieces_of text) - 1) (length (pieces_of text)))
 counted_by slot room text true c at = none_counted slot c cc
 counted_by slot room text false c at =
-    let one = bind_ok (listed slot room text) (λ ps. Ok (Some ps)) c at in
+    let one = bind_ok (parts_listed slot room text) (λ ps. Ok (Some ps)) c at in
     some_counted slot room text one.value c one.first cc
 
 pub component_counted : (slot : Slot) (room : ℕ) (text : List ℕ) (c : Option (List Part)) → component_of slot room text ≡ Ok c → counted slot c ≡ numbered slot text
@@ -167,15 +167,15 @@ date_left t d read =
     let three = left_after (day_slot t.from_end) (0 + numbered Year t.year + numbered Month t.month) (240 - counted Year d.year - counted Month d.month) t.day d.day two read.day in
     rw (← read.from_end) (omega (arith, three))
 
-date_room : (word : List ℕ) (d : DateFields) → date_of word ≡ Ok d → numbered_in (date_texts word) + room_after d ≡ 240
+date_room : (word : List ℕ) (d : DateFields) → date_in_word word ≡ Ok d → numbered_in (date_texts word) + room_after d ≡ 240
 date_room word d at = let found = date_found word d at in rw found.shape (date_left found.texts d found.read)
 
-date_of_fault : (word : List ℕ) → result_err (date_of word) ≡ first_of (date_faults (date_texts word))
-unfolding date_of
+date_of_fault : (word : List ℕ) → result_err (date_in_word word) ≡ first_of (date_faults (date_texts word))
+unfolding date_in_word
 date_of_fault word = date_fault (date_texts word)
 
-time_of_fault : (before room : ℕ) (word : List ℕ) → before + room ≡ 240 → result_err (time_of room word) ≡ first_of (time_faults before (time_texts word))
-unfolding time_of
+time_of_fault : (before room : ℕ) (word : List ℕ) → before + room ≡ 240 → result_err (time_in_word room word) ≡ first_of (time_faults before (time_texts word))
+unfolding time_in_word
 time_of_fault before room word sum = time_fault before room (time_texts word) sum
 
 -- The whole text
@@ -190,9 +190,9 @@ fields_fault p =
     let dates = date_faults (date_texts p.date) in
     let times = time_faults (numbered_in (date_texts p.date)) (time_texts p.time) in
     let zones = result_err (suffix_in p.rest) ∷ [] in
-    err_of_bind (weekdays_in p.weekdays) (λ weekdays. date_of p.date >>= λ date. time_of (room_after date) p.time >>= λ time. suffix_in p.rest >>= λ name. Ok (fields_with weekdays date time name)) (result_err (weekdays_in p.weekdays)) (option_or (first_of dates) (option_or (first_of times) (first_of zones))) refl (λ weekdays _.
-    err_of_bind (date_of p.date) (λ date. time_of (room_after date) p.time >>= λ time. suffix_in p.rest >>= λ name. Ok (fields_with weekdays date time name)) (first_of dates) (option_or (first_of times) (first_of zones)) (date_of_fault p.date) (λ date at.
-    err_of_bind (time_of (room_after date) p.time) (λ time. suffix_in p.rest >>= λ name. Ok (fields_with weekdays date time name)) (first_of times) (first_of zones) (time_of_fault (numbered_in (date_texts p.date)) (room_after date) p.time (date_room p.date date at)) (λ time _.
+    err_of_bind (weekdays_in p.weekdays) (λ weekdays. date_in_word p.date >>= λ date. time_in_word (room_after date) p.time >>= λ time. suffix_in p.rest >>= λ name. Ok (fields_with weekdays date time name)) (result_err (weekdays_in p.weekdays)) (option_or (first_of dates) (option_or (first_of times) (first_of zones))) refl (λ weekdays _.
+    err_of_bind (date_in_word p.date) (λ date. time_in_word (room_after date) p.time >>= λ time. suffix_in p.rest >>= λ name. Ok (fields_with weekdays date time name)) (first_of dates) (option_or (first_of times) (first_of zones)) (date_of_fault p.date) (λ date at.
+    err_of_bind (time_in_word (room_after date) p.time) (λ time. suffix_in p.rest >>= λ name. Ok (fields_with weekdays date time name)) (first_of times) (first_of zones) (time_of_fault (numbered_in (date_texts p.date)) (room_after date) p.time (date_room p.date date at)) (λ time _.
     zone_fault (suffix_in p.rest) (λ name. fields_with weekdays date time name)))) ∙ ap (option_or (result_err (weekdays_in p.weekdays))) (first_of_three dates times zones)
 
 due_faults : (o : Option Roles) → result_err (fields_due o) ≡ first_of (faults_at o)
@@ -203,6 +203,6 @@ long_fault : (long : Bool) (o : Option Roles) → result_err (cond long (Err Tex
 long_fault true o = refl
 long_fault false o = due_faults o
 
-pub first_fault_of_text : (text : List ℕ) → result_err (fields_in text) ≡ first_of (faults_in text)
-unfolding fields_in faults_in
+pub first_fault_of_text : (text : List ℕ) → result_err (fields_in text) ≡ first_of (judgements_of text)
+unfolding fields_in judgements_of
 first_fault_of_text text = long_fault (ltb most_text_bytes (length text)) (roles_of (words text))

@@ -9,7 +9,7 @@ use Rattle.jiff_core.specs.declared.civil.weekday.Weekday.{Weekday}
 use Rattle.jiff_core.specs.declared.civil.weekday.Weekday.TheVariants.{Monday, Tuesday, Wednesday, Thursday, Friday, Saturday, Sunday}
 use Rattle.cal_zone.specs.headline.Weekday.{week}
 use Rattle.cal_spec.specs.Components.{most_counted, is_comma, counted, component_of}
-use Rattle.cal_spec.specs.DateAndTime.{DateFields, TimeFields, date_texts, time_texts, date_fields, time_fields, date_due, time_due, room_after, date_of, time_of}
+use Rattle.cal_spec.specs.DateAndTime.{DateFields, TimeFields, date_texts, time_texts, date_fields, time_fields, date_due, time_due, room_after, date_in_word, time_in_word}
 use Rattle.cal_spec.specs.headline.DateAndTime.{DateTexts, TimeTexts}
 use Rattle.cal_spec.specs.Fields.{fields_of}
 use Rattle.cal_spec.specs.headline.Fields.{Fields, parts_in, counted_parts}
@@ -81,8 +81,8 @@ date_found_by : (word : List ℕ) (o : Option DateTexts) (d : DateFields) → da
 date_found_by word None d is at = cc
 date_found_by word (Some t) d is at = record { texts = t; shape = is; read = date_fields_ok t d at }
 
-pub date_found : (word : List ℕ) (d : DateFields) → date_of word ≡ Ok d → DateFound word d
-unfolding date_of
+pub date_found : (word : List ℕ) (d : DateFields) → date_in_word word ≡ Ok d → DateFound word d
+unfolding date_in_word
 date_found word d at = date_found_by word (date_texts word) d refl at
 
 pub record TimeFound (room : ℕ) (word : List ℕ) (h : TimeFields) : Type 0 where
@@ -94,8 +94,8 @@ time_found_by : (room : ℕ) (word : List ℕ) (o : Option TimeTexts) (h : TimeF
 time_found_by room word None h is at = cc
 time_found_by room word (Some t) h is at = record { texts = t; shape = is; read = time_fields_ok room t h at }
 
-pub time_found : (room : ℕ) (word : List ℕ) (h : TimeFields) → time_of room word ≡ Ok h → TimeFound room word h
-unfolding time_of
+pub time_found : (room : ℕ) (word : List ℕ) (h : TimeFields) → time_in_word room word ≡ Ok h → TimeFound room word h
+unfolding time_in_word
 time_found room word h at = time_found_by room word (time_texts word) h refl at
 
 -- Weekdays
@@ -232,15 +232,15 @@ pub record FieldsFound (p : Roles) (f : Fields) : Type 0 where
   pub time : TimeFields
   pub name : Option ZoneSuffix
   pub weekdays_is : weekdays_in p.weekdays ≡ Ok weekdays
-  pub date_is : date_of p.date ≡ Ok date
-  pub time_is : time_of (room_after date) p.time ≡ Ok time
+  pub date_is : date_in_word p.date ≡ Ok date
+  pub time_is : time_in_word (room_after date) p.time ≡ Ok time
   pub name_is : suffix_in p.rest ≡ Ok name
   pub is : fields_with weekdays date time name ≡ f
 
 pub fields_found : (p : Roles) (f : Fields) → fields_at p ≡ Ok f → FieldsFound p f
 unfolding fields_at
 fields_found p f at =
-    let read = four_ok (weekdays_in p.weekdays) (date_of p.date) (λ date. time_of (room_after date) p.time) (suffix_in p.rest) fields_with f at in
+    let read = four_ok (weekdays_in p.weekdays) (date_in_word p.date) (λ date. time_in_word (room_after date) p.time) (suffix_in p.rest) fields_with f at in
     record {
       weekdays = read.a;
       date = read.b;
@@ -298,7 +298,7 @@ date_read t d read = record {
   day = component_read (day_slot d.from_end) (most_counted - counted Year d.year - counted Month d.month) t.day d.day (rw read.from_end at read.day);
 }
 
-pub is_date_read : (word : List ℕ) (d : DateFields) → date_of word ≡ Ok d → IsDateRead d
+pub is_date_read : (word : List ℕ) (d : DateFields) → date_in_word word ≡ Ok d → IsDateRead d
 is_date_read word d at = let found = date_found word d at in date_read found.texts d found.read
 
 pub record IsTimeRead (room : ℕ) (h : TimeFields) : Type 0 where
@@ -313,7 +313,7 @@ time_read room t h read = record {
   second = component_read Second (room - counted Hour h.hour - counted Minute h.minute) t.second h.second read.second;
 }
 
-pub is_time_read : (room : ℕ) (word : List ℕ) (h : TimeFields) → time_of room word ≡ Ok h → IsTimeRead room h
+pub is_time_read : (room : ℕ) (word : List ℕ) (h : TimeFields) → time_in_word room word ≡ Ok h → IsTimeRead room h
 is_time_read room word h at = let found = time_found room word h at in time_read room found.texts h found.read
 
 few_parts : (weekdays : List Bool) (d : DateFields) (h : TimeFields) (name : Option ZoneSuffix) → IsDateRead d → IsTimeRead (room_after d) h → counted_parts (fields_with weekdays d h name) ≤ 240

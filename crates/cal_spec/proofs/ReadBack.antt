@@ -8,7 +8,7 @@ use Rattle.std.proofs.lemmas.Bool.Decides.{nat_tests}
 use Rattle.std.proofs.lemmas.List.{append-nil, length-append}
 use Rattle.cal_bytes.specs.headline.Bytes.{joined}
 use Rattle.cal_spec.specs.Components.{counted}
-use Rattle.cal_spec.specs.DateAndTime.{DateFields, TimeFields, date_due, date_fields, date_of, date_texts, is_date_sign, is_tilde, room_after, time_due, time_fields, time_of, time_texts}
+use Rattle.cal_spec.specs.DateAndTime.{DateFields, TimeFields, date_due, date_fields, date_in_word, date_texts, is_date_sign, is_tilde, room_after, time_due, time_fields, time_in_word, time_texts}
 use Rattle.cal_spec.specs.headline.DateAndTime.{is_colon}
 use Rattle.cal_spec.specs.headline.ExprText.{component_text, day_lead, expr_text, fields_text, row_text, zone_text}
 use Rattle.cal_spec.specs.headline.Fields.{Fields, counted_parts, parts_in}
@@ -269,8 +269,8 @@ date_in f = record { year = f.year; month = f.month; day = f.day; from_end = f.f
 abbrev time_in : Fields → TimeFields
 time_in f = record { hour = f.hour; minute = f.minute; second = f.second }
 
-date_back : (f : Fields) → IsReadable f → date_of (date_word f) ≡ Ok (date_in f)
-unfolding date_of date_fields
+date_back : (f : Fields) → IsReadable f → date_in_word (date_word f) ≡ Ok (date_in f)
+unfolding date_in_word date_fields
 date_back f h =
     let few = few_counted f h in
     let year = component_back Year 240 4 f.year (omega arith) h.valid.year h.year in
@@ -278,8 +278,8 @@ date_back f h =
     let day = component_back (day_slot f.from_end) (240 - counted Year f.year - counted Month f.month) 2 f.day (omega arith) h.valid.day h.day in
     ap date_due (date_texts_back f h) ∙ rw (year, month, day) refl
 
-time_back : (f : Fields) → IsReadable f → time_of (room_after (date_in f)) (time_word f) ≡ Ok (time_in f)
-unfolding time_of time_fields
+time_back : (f : Fields) → IsReadable f → time_in_word (room_after (date_in f)) (time_word f) ≡ Ok (time_in f)
+unfolding time_in_word time_fields
 time_back f h =
     let few = few_counted f h in
     let room = room_after (date_in f) in

@@ -10,7 +10,7 @@ use Rattle.std.proofs.lemmas.Fmt.{decimal_is_IsNumeral}
 use Rattle.std.proofs.lemmas.List.{append-nil}
 use Rattle.std.proofs.lemmas.Str.Parse.{digit_from_value}
 use Rattle.cal_zone.specs.headline.InstantText.{zeros}
-use Rattle.cal_spec.specs.Components.{component_of, counted, is_comma, is_star, listed, part_due, parts_of, room_in}
+use Rattle.cal_spec.specs.Components.{component_of, counted, is_comma, is_star, parts_listed, part_due, parts_of, room_in}
 use Rattle.cal_spec.specs.headline.ExprText.{component_text, number_text, optional_text, part_text, parts_text}
 use Rattle.cal_spec.specs.Parts.{Symbol, digits, slash, after_end, after_number, after_start, is_second, is_time, number_due, part_at_end, part_of, symbols, starts_with_point, with_step}
 use Rattle.cal_spec.specs.headline.Parts.{with_century, with_values}
@@ -275,8 +275,8 @@ room_enough true n room h = omega arith
 room_enough false n room h = h
 
 listed_back : (slot : Slot) (room width : ℕ) (p : Part) (ps : List Part) → counted slot (Some (p ∷ ps)) ≤ room → AllByRecursion (IsSound slot) (p ∷ ps) → AllByRecursion IsSmall (p ∷ ps)
-    → listed slot room (parts_text width (p ∷ ps)) ≡ Ok (p ∷ ps)
-unfolding listed
+    → parts_listed slot room (parts_text width (p ∷ ps)) ≡ Ok (p ∷ ps)
+unfolding parts_listed
 listed_back slot room width p ps few sound small =
     rw (parts_split width p ps small, parts_back slot (room_in slot room) width (p ∷ ps) (room_enough (is_time slot) (length (p ∷ ps)) room few) sound small, no_first_fault slot (p ∷ ps) sound) refl
 

@@ -7,7 +7,7 @@ use Rattle.std.proofs.lemmas.Bool.Decides.{nat_tests}
 use Rattle.cal_spec.specs.headline.Members.{lies}
 use Rattle.std.proofs.lemmas.List.Sums.{prefix_len-le-length}
 use Rattle.cal_bytes.specs.headline.Bytes.{joined}
-use Rattle.cal_spec.specs.WeekdayRuns.{AreApartFrom, AreRuns, is_in}
+use Rattle.cal_spec.specs.WeekdayRuns.{AreApartFrom, AreWeekdayRuns, is_in}
 use Rattle.cal_spec.specs.headline.WeekdayRuns.{Run, with_day, runs_from, run_text, runs_text, weekdays_text, text_after_first, day_name}
 
 run : ℕ → ℕ → Run
@@ -177,7 +177,7 @@ runs_chosen low (suc k) (false ∷ bs) =
     let next : low + suc k ≡ low + 1 + k = omega arith in
     rw next (runs_chosen (low + 1) k bs)
 
-pub are_runs : (days : List Bool) → AreRuns days (runs_from 0 days)
+pub are_runs : (days : List Bool) → AreWeekdayRuns days (runs_from 0 days)
 are_runs days = record {
   chosen = λ day. let start : 0 + day ≡ day = omega arith in (rw start at (runs_chosen 0 day days));
   apart = runs_apart 0 days;
@@ -239,6 +239,6 @@ same_runs low other (r ∷ rs) (q ∷ qs) a b same =
     let whole : ◌≡◌ {A = List Run} (record { first = r.first; last = r.last } ∷ rs) (record { first = q.first; last = q.last } ∷ qs) = cc in
     whole
 
-pub runs_only : (days : List Bool) (rs : List Run) → AreRuns days rs → rs ≡ runs_from 0 days
+pub runs_only : (days : List Bool) (rs : List Run) → AreWeekdayRuns days rs → rs ≡ runs_from 0 days
 runs_only days rs h =
     same_runs 0 0 rs (runs_from 0 days) h.apart (runs_apart 0 days) (λ day. h.chosen day ∙ sym ((are_runs days).chosen day))

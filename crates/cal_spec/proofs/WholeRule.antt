@@ -1,7 +1,7 @@
 -- The fields of a text are those of the rule.
 use Rattle.std.proofs.Common.{ℕ, ◌≡◌, ◌⊎◌, inl, inr, List, Bool, length, Option, Some, Ok, refl, sym, ap, ◌∙◌}
 use Rattle.std.proofs.lemmas.Bool.{le-ltb}
-use Rattle.cal_spec.specs.DateAndTime.{DateFields, TimeFields, room_after, date_of, time_of}
+use Rattle.cal_spec.specs.DateAndTime.{DateFields, TimeFields, room_after, date_in_word, time_in_word}
 use Rattle.cal_spec.specs.headline.Fields.{Fields}
 use Rattle.cal_spec.specs.Grammar.{most_text_bytes, fields_at, fields_in}
 use Rattle.cal_spec.specs.headline.GrammarRule.{given, ArePlain, AreShort, IsExpression, IsValid}
@@ -16,7 +16,7 @@ use Rattle.cal_spec.proofs.FieldLemmas.{fields_with, text_found, valid_fields}
 use Rattle.cal_spec.proofs.WeekdayRule.{weekdays_by_rule, weekdays_only}
 use Rattle.cal_spec.proofs.WordRule.{zone_read, zone_only, zone_begins, time_colon, roles_found, roles_only}
 
-expression_with : (text : List ℕ) (p : Roles) (weekdays : List Bool) (d : DateFields) (h : TimeFields) (kept : Option ZoneSuffix) → roles_of (words text) ≡ Some p → weekdays_in p.weekdays ≡ Ok weekdays → date_of p.date ≡ Ok d → time_of (room_after d) p.time ≡ Ok h → suffix_in p.rest ≡ Ok kept → IsExpression text (fields_with weekdays d h kept)
+expression_with : (text : List ℕ) (p : Roles) (weekdays : List Bool) (d : DateFields) (h : TimeFields) (kept : Option ZoneSuffix) → roles_of (words text) ≡ Some p → weekdays_in p.weekdays ≡ Ok weekdays → date_in_word p.date ≡ Ok d → time_in_word (room_after d) p.time ≡ Ok h → suffix_in p.rest ≡ Ok kept → IsExpression text (fields_with weekdays d h kept)
 expression_with text p weekdays d h kept roles_are week date time last =
     let read = zone_read p.rest kept last in
     record {

@@ -6,11 +6,11 @@ use Rattle.std.specs.Option.{option_map, unwrap_or}
 use Rattle.std.specs.Char.{is_ascii_alphabetic, to_ascii_lowercase}
 use Rattle.std.proofs.lemmas.Bool.{and_parts, or_parts, cond-false, true_from_ne_false}
 use Rattle.std.proofs.lemmas.Bool.Decides.{nat_tests}
-use Rattle.cal_spec.specs.DateAndTime.{TimeFields, time_texts, time_of}
+use Rattle.cal_spec.specs.DateAndTime.{TimeFields, time_texts, time_in_word}
 use Rattle.cal_spec.specs.headline.DateAndTime.{TimeTexts, is_colon}
 use Rattle.cal_spec.specs.headline.GrammarRule.{given, ArePlain, AreShort, IsSignless, IsZoneWord}
 use Rattle.cal_spec.specs.headline.Shorthand.{any_date, midnight, meaning_of, shorthand_named}
-use Rattle.cal_spec.specs.Words.{after_date, after_weekdays, date_or_time, roles_by, roles_of}
+use Rattle.cal_spec.specs.Words.{roles_after_date, after_weekdays, date_or_time, roles_by, roles_of}
 use Rattle.cal_spec.specs.headline.Words.{Roles}
 use Rattle.cal_zone.specs.headline.ZoneName.{begins_with_letter, is_zone_byte, is_zone_name}
 use Rattle.cal_zone.specs.OffsetWord.{begins_zone, offset_in}
@@ -80,7 +80,7 @@ time_needs : (word : List ℕ) (t : TimeTexts) → time_texts word ≡ Some t �
 unfolding time_texts
 time_needs word t at none = let alone = split_alone is_colon word (clear_by is_colon word none) in let h = rw alone at at in cc
 
-pub time_colon : (room : ℕ) (word : List ℕ) (h : TimeFields) → time_of room word ≡ Ok h → list_any is_colon word ≡ true
+pub time_colon : (room : ℕ) (word : List ℕ) (h : TimeFields) → time_in_word room word ≡ Ok h → list_any is_colon word ≡ true
 time_colon room word h at =
     let found = time_found room word h at in
     true_from_ne_false (list_any is_colon word) (time_needs word found.texts found.shape)
@@ -118,7 +118,7 @@ date_by weekdays date w ws last false p is at rest colon =
       time_is = ap (λ (q : Roles). q.time) (sym at);
     }
 
-after_date_found : (weekdays : Option (List ℕ)) (date : List ℕ) (ws : List (List ℕ)) (p : Roles) (last : Option (List ℕ)) → after_date weekdays date ws ≡ p → p.rest ≡ given last → list_any is_colon p.time ≡ true → AfterDate weekdays date ws p last
+after_date_found : (weekdays : Option (List ℕ)) (date : List ℕ) (ws : List (List ℕ)) (p : Roles) (last : Option (List ℕ)) → roles_after_date weekdays date ws ≡ p → p.rest ≡ given last → list_any is_colon p.time ≡ true → AfterDate weekdays date ws p last
 after_date_found weekdays date [] p last at rest colon = record {
   time = None;
   whole = ap (λ (q : Roles). q.rest) at ∙ rest;
@@ -147,7 +147,7 @@ record FromDate (weekdays : Option (List ℕ)) (w : List ℕ) (ws : List (List �
   signless : AllByRecursion IsSignless (drop 1 (given after.date ++ given after.time))
   all_signless : begins_with_sign w ≡ false → AllByRecursion IsSignless (given after.date ++ given after.time)
 
-date_or_time_by : (weekdays : Option (List ℕ)) (w : List ℕ) (ws : List (List ℕ)) (last : Option (List ℕ)) (has : Bool) (p : Roles) → begins_with_letter w ≡ false → list_any is_colon w ≡ has → cond has (record { weekdays = weekdays; date = any_date; time = w; rest = ws }) (after_date weekdays w ws) ≡ p → p.rest ≡ given last → list_any is_colon p.time ≡ true → FromDate weekdays w ws p last
+date_or_time_by : (weekdays : Option (List ℕ)) (w : List ℕ) (ws : List (List ℕ)) (last : Option (List ℕ)) (has : Bool) (p : Roles) → begins_with_letter w ≡ false → list_any is_colon w ≡ has → cond has (record { weekdays = weekdays; date = any_date; time = w; rest = ws }) (roles_after_date weekdays w ws) ≡ p → p.rest ≡ given last → list_any is_colon p.time ≡ true → FromDate weekdays w ws p last
 date_or_time_by weekdays w ws last true p letter is at rest colon = record {
   after = record {
     date = None;
@@ -264,7 +264,7 @@ roles_found (w ∷ ws) p last at rest colon =
 
 -- The roles of the rule are found
 
-after_date_is : (weekdays : Option (List ℕ)) (date : List ℕ) (time last : Option (List ℕ)) → IfSome time (λ w. (begins_with_letter w ≡ false) × (list_any is_colon w ≡ true)) → AllByRecursion IsSignless (given time) → IfSome last (λ w. begins_zone w ≡ true) → after_date weekdays date (given time ++ given last) ≡ record { weekdays = weekdays; date = date; time = unwrap_or time midnight; rest = given last }
+after_date_is : (weekdays : Option (List ℕ)) (date : List ℕ) (time last : Option (List ℕ)) → IfSome time (λ w. (begins_with_letter w ≡ false) × (list_any is_colon w ≡ true)) → AllByRecursion IsSignless (given time) → IfSome last (λ w. begins_zone w ≡ true) → roles_after_date weekdays date (given time ++ given last) ≡ record { weekdays = weekdays; date = date; time = unwrap_or time midnight; rest = given last }
 after_date_is weekdays date None None kind signless begins = refl
 after_date_is weekdays date None (Some word) kind signless begins = rw begins refl
 after_date_is weekdays date (Some time) last kind signless begins = rw (kind.0, signless.0) refl

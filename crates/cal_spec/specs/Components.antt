@@ -42,14 +42,14 @@ parts_of slot room (t ∷ ts) =
     part_due slot room t >>= λ p. parts_of slot (room - 1) ts >>= λ ps. Ok (p ∷ ps)
 
 -- the first fault of a value
-abbrev pub first_fault : Slot → List Part → Option SpecFault
-first_fault slot ps = first_of (map (fault_of slot) ps)
+abbrev pub first_value_fault : Slot → List Part → Option SpecFault
+first_value_fault slot ps = first_of (map (fault_of slot) ps)
 
 -- parts joined by commas: first their shapes are judged, then their values
-unfoldable pub listed : Slot → ℕ → List ℕ → Result (List Part) SpecFault
-listed slot room text =
-    parts_of slot (room_in slot room) (slice_split is_comma text) >>= λ ps. unless (first_fault slot ps) ps
+unfoldable pub parts_listed : Slot → ℕ → List ℕ → Result (List Part) SpecFault
+parts_listed slot room text =
+    parts_of slot (room_in slot room) (slice_split is_comma text) >>= λ ps. unless (first_value_fault slot ps) ps
 
 -- a component, where that many counted parts are allowed
 unfoldable pub component_of : Slot → ℕ → List ℕ → Result (Option (List Part)) SpecFault
-component_of slot room text = if is_star text then Ok None else (listed slot room text >>= λ ps. Ok (Some ps))
+component_of slot room text = if is_star text then Ok None else (parts_listed slot room text >>= λ ps. Ok (Some ps))

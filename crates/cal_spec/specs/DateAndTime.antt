@@ -31,24 +31,24 @@ abbrev pub is_date_sign : ℕ → Bool
 is_date_sign b = (b == 45) || is_tilde b
 
 -- two or three components; only the last sign may be `~`
-abbrev pub date_by : List ℕ → List (List ℕ) → Option DateTexts
-date_by (s ∷ []) (month ∷ day ∷ []) =
+abbrev pub date_texts_by : List ℕ → List (List ℕ) → Option DateTexts
+date_texts_by (s ∷ []) (month ∷ day ∷ []) =
     Some (record { year = codes "*"; month = month; day = day; from_end = is_tilde s })
-date_by (s ∷ t ∷ []) (year ∷ month ∷ day ∷ []) =
+date_texts_by (s ∷ t ∷ []) (year ∷ month ∷ day ∷ []) =
     if is_tilde s then None else Some (record { year = year; month = month; day = day; from_end = is_tilde t })
-date_by ss texts = None
+date_texts_by ss texts = None
 
 -- two or three components; missing seconds are `00`
-abbrev pub time_by : List (List ℕ) → Option TimeTexts
-time_by (hour ∷ minute ∷ []) = Some (record { hour = hour; minute = minute; second = codes "00" })
-time_by (hour ∷ minute ∷ second ∷ []) = Some (record { hour = hour; minute = minute; second = second })
-time_by texts = None
+abbrev pub time_texts_by : List (List ℕ) → Option TimeTexts
+time_texts_by (hour ∷ minute ∷ []) = Some (record { hour = hour; minute = minute; second = codes "00" })
+time_texts_by (hour ∷ minute ∷ second ∷ []) = Some (record { hour = hour; minute = minute; second = second })
+time_texts_by texts = None
 
 unfoldable pub date_texts : List ℕ → Option DateTexts
-date_texts word = date_by (filter is_date_sign word) (slice_split is_date_sign word)
+date_texts word = date_texts_by (filter is_date_sign word) (slice_split is_date_sign word)
 
 unfoldable pub time_texts : List ℕ → Option TimeTexts
-time_texts word = time_by (slice_split is_colon word)
+time_texts word = time_texts_by (slice_split is_colon word)
 
 -- the components of a date from the left
 unfoldable pub date_fields : DateTexts → Result DateFields SpecFault
@@ -80,9 +80,9 @@ time_due room None = Err BadTime
 time_due room (Some t) = time_fields room t
 
 -- the date that the word writes, or its fault
-unfoldable pub date_of : List ℕ → Result DateFields SpecFault
-date_of word = date_due (date_texts word)
+unfoldable pub date_in_word : List ℕ → Result DateFields SpecFault
+date_in_word word = date_due (date_texts word)
 
 -- the time that the word writes, or its fault
-unfoldable pub time_of : ℕ → List ℕ → Result TimeFields SpecFault
-time_of room word = time_due room (time_texts word)
+unfoldable pub time_in_word : ℕ → List ℕ → Result TimeFields SpecFault
+time_in_word room word = time_due room (time_texts word)

@@ -7,16 +7,16 @@ use Rattle.cal_spec.specs.declared.date_and_time.TimeTexts as declared_time_text
 use Rattle.cal_spec.specs.declared.fields.DateFields as declared_date
 use Rattle.cal_spec.specs.declared.fields.TimeFields as declared_time
 
-abbrev pub date_in : declared_date.DateFields → DateFields
-date_in date = record {
+abbrev pub date_fields_in : declared_date.DateFields → DateFields
+date_fields_in date = record {
   year = option_map (λ parts. parts.items) date.year;
   month = option_map (λ parts. parts.items) date.month;
   day = option_map (λ parts. parts.items) date.day;
   from_end = date.from_end;
 }
 
-abbrev pub time_in : declared_time.TimeFields → TimeFields
-time_in time = record {
+abbrev pub time_fields_in : declared_time.TimeFields → TimeFields
+time_fields_in time = record {
   hour = option_map (λ parts. parts.items) time.hour;
   minute = option_map (λ parts. parts.items) time.minute;
   second = option_map (λ parts. parts.items) time.second;

@@ -83,5 +83,5 @@ faults_at (Some p) =
     ++ (result_err (suffix_in p.rest) ∷ [])))
 
 -- all judgements of a text
-unfoldable pub faults_in : List ℕ → List (Option SpecFault)
-faults_in text = (if nat_lt most_text_bytes (length text) then Some TextTooLong else None) ∷ faults_at (roles_of (words text))
+unfoldable pub judgements_of : List ℕ → List (Option SpecFault)
+judgements_of text = (if nat_lt most_text_bytes (length text) then Some TextTooLong else None) ∷ faults_at (roles_of (words text))

@@ -1,7 +1,7 @@
 -- The fields of a calendar expression, or the fault of a text that is none: systemd.time(7), Calendar Events. The words
 -- are judged from the left.
 use Rattle.std.specs.Prelude.{ℕ, nat_lt, if◌then◌else◌, List, length, Option, None, Some, Result, Ok, Err}
-use Rattle.cal_spec.specs.DateAndTime.{date_of, time_of, room_after}
+use Rattle.cal_spec.specs.DateAndTime.{date_in_word, time_in_word, room_after}
 use Rattle.cal_spec.specs.headline.Fields.{Fields}
 use Rattle.cal_spec.specs.Reads.{◌>>=◌}
 use Rattle.cal_spec.specs.Weekdays.{weekdays_in}
@@ -20,8 +20,8 @@ most_text_bytes = 4096
 unfoldable pub fields_at : Roles → Result Fields SpecFault
 fields_at p =
     weekdays_in p.weekdays
-    >>= λ weekdays. date_of p.date
-    >>= λ date. time_of (room_after date) p.time
+    >>= λ weekdays. date_in_word p.date
+    >>= λ date. time_in_word (room_after date) p.time
     >>= λ time. suffix_in p.rest
     >>= λ suffix. Ok (record {
       weekdays = weekdays;

@@ -14,6 +14,6 @@ AreApartFrom low [] = Unit {0}
 AreApartFrom low (r ∷ rs) = (low ≤ r.first) × (r.first ≤ r.last) × AreApartFrom (r.last + 2) rs
 
 -- the runs of the chosen days
-pub record AreRuns (days : List Bool) (rs : List Run) : Type 0 where
+pub record AreWeekdayRuns (days : List Bool) (rs : List Run) : Type 0 where
   pub chosen : (day : ℕ) → is_in day rs ≡ slice_index_or days day false
   pub apart : AreApartFrom 0 rs

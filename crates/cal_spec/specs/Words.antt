@@ -9,9 +9,9 @@ use Rattle.cal_spec.specs.declared.shorthand.Shorthand.{Shorthand}
 use Rattle.cal_spec.specs.headline.Words.{Roles}
 
 -- after a date, a word that begins with a letter or a sign is a zone; any other is the time
-abbrev pub after_date : Option (List ℕ) → List ℕ → List (List ℕ) → Roles
-after_date weekdays date [] = record { weekdays = weekdays; date = date; time = midnight; rest = [] }
-after_date weekdays date (w ∷ ws) =
+abbrev pub roles_after_date : Option (List ℕ) → List ℕ → List (List ℕ) → Roles
+roles_after_date weekdays date [] = record { weekdays = weekdays; date = date; time = midnight; rest = [] }
+roles_after_date weekdays date (w ∷ ws) =
     if begins_zone w then record { weekdays = weekdays; date = date; time = midnight; rest = w ∷ ws }
     else record { weekdays = weekdays; date = date; time = w; rest = ws }
 
@@ -19,7 +19,7 @@ after_date weekdays date (w ∷ ws) =
 abbrev pub date_or_time : Option (List ℕ) → List ℕ → List (List ℕ) → Roles
 date_or_time weekdays w ws =
     if list_any is_colon w then record { weekdays = weekdays; date = any_date; time = w; rest = ws }
-    else after_date weekdays w ws
+    else roles_after_date weekdays w ws
 
 -- after the weekdays, a word that begins with a letter or a sign is a zone
 abbrev pub after_weekdays : Option (List ℕ) → List (List ℕ) → Roles

@@ -3,7 +3,7 @@
 ghost use Rattle.std.specs.Prelude.{◌≡◌, ◌≤◌};
 ghost use Rattle.std.specs.List.{slice_split};
 ghost use Rattle.std.specs.Option.{option_copied, option_map};
-ghost use Rattle.cal_spec.specs.Components.{most_counted, is_comma, room_in, counted, part_due, parts_of, first_fault, listed, component_of};
+ghost use Rattle.cal_spec.specs.Components.{most_counted, is_comma, room_in, counted, part_due, parts_of, first_value_fault, parts_listed, component_of};
 ghost use Rattle.cal_spec.specs.Reads.{Gives, GivesUnlessNoMemory};
 
 use crate::parts::{fault_of, is_time, read_part, with_values};
@@ -44,10 +44,10 @@ pub(crate) fn count_parts(slot: Slot, component: &Option<Vec<Part>>) -> usize
 }
 
 /// Parts between commas.
-#[tactic(auto, unfolding(crate::specs::Components::listed))]
+#[tactic(auto, unfolding(crate::specs::Components::parts_listed))]
 fn read_listed(alloc: Global, slot: Slot, room: usize, text: &[u8]) -> Result<Vec<Part>, SpecFault>
     requires { room ≤ most_counted }
-    ensures { GivesUnlessNoMemory (λ parts. parts.items) result (listed slot room text.now) }
+    ensures { GivesUnlessNoMemory (λ parts. parts.items) result (parts_listed slot room text.now) }
 {
     // The first part of a time's component isn't counted.
     let room = if is_time(slot) { room + 1 } else { room };
@@ -90,7 +90,7 @@ fn part_due(slot: Slot, room: usize, text: &[u8]) -> Result<Part, SpecFault>
 
 /// The first fault of a value.
 fn first_fault(slot: Slot, parts: &[Part]) -> Option<SpecFault>
-    ensures { result ≡ first_fault slot parts.now }
+    ensures { result ≡ first_value_fault slot parts.now }
 {
     for part in parts {
         let fault = fault_of(slot, *part);

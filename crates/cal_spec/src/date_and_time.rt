@@ -4,8 +4,8 @@ ghost use Rattle.std.specs.Prelude.{◌≡◌, ◌≤◌, ◌∷◌, [], MatchOp
 ghost use Rattle.std.specs.List.{position, slice_split};
 ghost use Rattle.std.specs.Option.{option_map};
 ghost use Rattle.cal_spec.specs.Components.{most_counted};
-ghost use Rattle.cal_spec.specs.DateAndTime.{is_date_sign, date_texts, time_texts, date_of, time_of, date_fields, time_fields, room_after};
-ghost use Rattle.cal_spec.specs.DateAndTimeViews.{date_in, time_in, date_texts_in, time_texts_in};
+ghost use Rattle.cal_spec.specs.DateAndTime.{is_date_sign, date_texts, time_texts, date_in_word, time_in_word, date_fields, time_fields, room_after};
+ghost use Rattle.cal_spec.specs.DateAndTimeViews.{date_fields_in, time_fields_in, date_texts_in, time_texts_in};
 ghost use Rattle.cal_spec.specs.Reads.{GivesUnlessNoMemory};
 
 use crate::SpecFault;
@@ -21,9 +21,9 @@ const MOST_COUNTED: usize = 240;
 /// The date that the word writes, `year-month-day` or `month-day`, with `~` in place of the last `-` where the day is
 /// counted from the month's end (systemd.time(7), Calendar Events). First the number of components is judged, and
 /// with it the place of `~`, then the components from the left.
-#[tactic(auto, unfolding(crate::specs::DateAndTime::date_of))]
+#[tactic(auto, unfolding(crate::specs::DateAndTime::date_in_word))]
 pub(crate) fn read_date(alloc: Global, word: &[u8]) -> Result<DateFields, SpecFault>
-    ensures { GivesUnlessNoMemory date_in result (date_of word.now) }
+    ensures { GivesUnlessNoMemory date_fields_in result (date_in_word word.now) }
 {
     match date_texts(word) {
         Some(texts) => date_fields(alloc, texts),
@@ -33,10 +33,10 @@ pub(crate) fn read_date(alloc: Global, word: &[u8]) -> Result<DateFields, SpecFa
 
 /// The time that the word writes, `hour:minute` or `hour:minute:second`, where that many counted parts are allowed
 /// (systemd.time(7), Calendar Events). First the number of components is judged, then these from the left.
-#[tactic(auto, unfolding(crate::specs::DateAndTime::time_of))]
+#[tactic(auto, unfolding(crate::specs::DateAndTime::time_in_word))]
 pub(crate) fn read_time(alloc: Global, room: usize, word: &[u8]) -> Result<TimeFields, SpecFault>
     requires { room ≤ most_counted }
-    ensures { GivesUnlessNoMemory time_in result (time_of room word.now) }
+    ensures { GivesUnlessNoMemory time_fields_in result (time_in_word room word.now) }
 {
     match time_texts(word) {
         Some(texts) => time_fields(alloc, room, texts),
@@ -46,7 +46,7 @@ pub(crate) fn read_time(alloc: Global, room: usize, word: &[u8]) -> Result<TimeF
 
 /// How many counted parts are allowed after the date.
 pub(crate) fn room_after(date: &DateFields) -> usize
-    ensures value { result ≡ room_after (date_in date.now) }
+    ensures value { result ≡ room_after (date_fields_in date.now) }
     ensures bound { result ≤ most_counted }
 {
     MOST_COUNTED
@@ -143,7 +143,7 @@ fn time_texts(word: &[u8]) -> Option<TimeTexts<'_>>
 /// The components of a date from the left.
 #[tactic(auto, unfolding(crate::specs::DateAndTime::date_fields))]
 fn date_fields(alloc: Global, texts: DateTexts<'_>) -> Result<DateFields, SpecFault>
-    ensures { GivesUnlessNoMemory date_in result (date_fields (date_texts_in texts.entry)) }
+    ensures { GivesUnlessNoMemory date_fields_in result (date_fields (date_texts_in texts.entry)) }
 {
     let year = read_component(alloc, Slot::Year, MOST_COUNTED, texts.year)?;
     let room = MOST_COUNTED.saturating_sub(count_parts(Slot::Year, &year));
@@ -162,7 +162,7 @@ fn date_fields(alloc: Global, texts: DateTexts<'_>) -> Result<DateFields, SpecFa
 #[tactic(auto, unfolding(crate::specs::DateAndTime::time_fields))]
 fn time_fields(alloc: Global, room: usize, texts: TimeTexts<'_>) -> Result<TimeFields, SpecFault>
     requires { room ≤ most_counted }
-    ensures { GivesUnlessNoMemory time_in result (time_fields room (time_texts_in texts.entry)) }
+    ensures { GivesUnlessNoMemory time_fields_in result (time_fields room (time_texts_in texts.entry)) }
 {
     let hour = read_component(alloc, Slot::Hour, room, texts.hour)?;
     let room = room.saturating_sub(count_parts(Slot::Hour, &hour));

@@ -3,7 +3,7 @@
 
 ghost use Rattle.std.specs.Prelude.{◌≡◌, ℕ, List, Ok};
 ghost use Rattle.std.specs.Result.{result_err};
-ghost use Rattle.cal_spec.specs.Faults.{faults_in};
+ghost use Rattle.cal_spec.specs.Faults.{judgements_of};
 ghost use Rattle.cal_spec.specs.headline.Fields.{Fields};
 ghost use Rattle.cal_spec.specs.Grammar.{fields_in};
 ghost use Rattle.cal_spec.specs.GrammarRule.{AreWords};
@@ -18,7 +18,7 @@ pub fn expressions_are_those_of_the_rule()
     ensures found { (text : List ℕ) (f : Fields) → fields_in text ≡ Ok f → IsValid text f }
     ensures only { (text : List ℕ) (f : Fields) → IsValid text f → fields_in text ≡ Ok f }
     ensures one { (text : List ℕ) (f g : Fields) → IsValid text f → IsValid text g → f ≡ g }
-    ensures fault { (text : List ℕ) → result_err (fields_in text) ≡ first_of (faults_in text) }
+    ensures fault { (text : List ℕ) → result_err (fields_in text) ≡ first_of (judgements_of text) }
 {}
 
 /// The words of a text are the longest runs without a blank: no word has one, and the text is the words with blanks

@@ -12,7 +12,7 @@ ghost use Rattle.cal_spec.specs.headline.Members.{component_has, sets_of};
 ghost use Rattle.cal_spec.specs.NormalForm.{AreNormal, AreParts, IsPart, normal_component, normal_fields, normal_parts, normal_second};
 ghost use Rattle.cal_spec.specs.headline.NormalForm.{AreNormalOf, IsNormalFieldsOf, IsNormalOf, IsNormalSecondOf};
 ghost use Rattle.cal_spec.specs.ValidFields.{IsValidFields};
-ghost use Rattle.cal_spec.specs.WeekdayRuns.{AreRuns};
+ghost use Rattle.cal_spec.specs.WeekdayRuns.{AreWeekdayRuns};
 ghost use Rattle.cal_spec.specs.headline.WeekdayRuns.{Run, runs_from};
 ghost use Rattle.cal_spec.specs.ZoneSuffix.{name_in, offset_said};
 ghost use Rattle.cal_spec.specs.headline.ZoneSuffix.{ZoneSuffix};
@@ -67,8 +67,8 @@ pub fn normal_texts_are_short()
 
 /// Weekdays have exactly one list of runs.
 pub fn one_list_of_runs()
-    ensures some { (days : List Bool) → AreRuns days (runs_from 0 days) }
-    ensures only { (days : List Bool) (rs : List Run) → AreRuns days rs → rs ≡ runs_from 0 days }
+    ensures some { (days : List Bool) → AreWeekdayRuns days (runs_from 0 days) }
+    ensures only { (days : List Bool) (rs : List Run) → AreWeekdayRuns days rs → rs ≡ runs_from 0 days }
 {}
 
 /// The normal text of valid fields is read as their normal form.

@@ -3,7 +3,7 @@
 ghost use Rattle.std.specs.Prelude.{◌≡◌};
 ghost use Rattle.std.specs.Option.{option_copied, option_map};
 ghost use Rattle.cal_spec.specs.RolesView.{shown_roles};
-ghost use Rattle.cal_spec.specs.Words.{after_date, after_weekdays, date_or_time, roles_of};
+ghost use Rattle.cal_spec.specs.Words.{roles_after_date, after_weekdays, date_or_time, roles_of};
 ghost use Rattle.cal_text.specs.headline.Words.{words};
 
 use crate::shorthand::{ANY_DATE, MIDNIGHT, find_shorthand};
@@ -83,7 +83,7 @@ fn date_or_time<'a>(weekdays: Option<&'a [u8]>, word: &'a [u8], rest: &'a str) -
 /// The roles after the date: a word that begins with a letter or a sign is a zone, and any other is the time.
 fn after_date<'a>(weekdays: Option<&'a [u8]>, date: &'a [u8], text: &'a str) -> Roles<'a>
     ensures { shown_roles result
-        ≡ after_date (option_copied weekdays.entry) date.now (words text.now) }
+        ≡ roles_after_date (option_copied weekdays.entry) date.now (words text.now) }
 {
     match first_word(text) {
         Some((time, rest)) if !begins_zone(time.as_bytes()) => Roles {

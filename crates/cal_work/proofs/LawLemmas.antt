@@ -17,7 +17,7 @@ use Rattle.cal_report.specs.Report.{file_name}
 use Rattle.cal_request.specs.Request.{is_timer}
 use Rattle.cal_request.specs.headline.Request.{Request}
 use Rattle.cal_work.specs.Stop.{Stop}
-use Rattle.cal_work.specs.System.{Known, Seen, IsTime, SeesBytes, is_cut}
+use Rattle.cal_work.specs.System.{Known, Seen, GivesTime, SeesBytes, is_cut}
 use Rattle.cal_work.specs.WorkLaw.{TellsAll, taken_of, known_seen, known_time, known_zones, known_world, known_outcome, IsOr}
 use Rattle.cal_work.specs.Works.{SeesZones, SeesIf, Fits, FitsWords}
 use Rattle.cal_work.specs.declared.zone_files.LoadFault.{LoadFault}
@@ -92,7 +92,7 @@ zones_known known table (item ∷ items) (f ∷ found) all h =
 
 -- The clock and the file of a timer
 
-present_known : (given clock : Option ℤ) (time : Option (Option ℤ)) → IsSome time → IfNone given (IsTime time clock) → present_by given clock ≡ present_by given (known_time time)
+present_known : (given clock : Option ℤ) (time : Option (Option ℤ)) → IsSome time → IfNone given (GivesTime time clock) → present_by given clock ≡ present_by given (known_time time)
 unfolding present_by
 present_known (Some now) clock time some h = refl
 present_known None clock None some h = absurd (false≢true some)

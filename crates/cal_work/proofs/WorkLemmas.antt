@@ -31,7 +31,7 @@ use Rattle.cal_report.specs.headline.Report.{Report}
 use Rattle.cal_request.specs.Request.{is_timer}
 use Rattle.cal_request.specs.headline.Request.{Request}
 use Rattle.cal_work.specs.Stop.{Stop, command_stop, exit_status, load_stop, name_stop, rule_stop, shown_stop, unread_stop, memory_stop, is_out_stop, is_err_stop}
-use Rattle.cal_work.specs.System.{Known, Opens, IsTime, Comes, SeesBytes}
+use Rattle.cal_work.specs.System.{Known, Opens, GivesTime, Comes, SeesBytes}
 use Rattle.cal_work.specs.WorkSteps.{StopsAs, Loads, ReadsZones, FindsLocal, IsUnread, EndsAs, Runs, Answered, AnsweredWords, ran}
 use Rattle.cal_work.specs.Works.{SeesZones, ReadsZone}
 use Rattle.cal_command.specs.declared.command_fault.CommandFault as declared_fault
@@ -420,7 +420,7 @@ module _ (known : Known) (ask : Ask) (stop : declared_stop.Stop) (out err : Opti
   }
 
   pub clock_stops : (table : ZoneMap) (local : ClockZone) → ReadsZones (λ table. table) known ask.zones (Ok table) → FindsLocal (λ zone. zone) ask.local table (Ok local)
-      → (clock : Option ℤ) → IfNone ask.now (IsTime known.time clock) → StopsAs stop (present_by ask.now clock) → Answered known ask (Err stop) out out err err
+      → (clock : Option ℤ) → IfNone ask.now (GivesTime known.time clock) → StopsAs stop (present_by ask.now clock) → Answered known ask (Err stop) out out err err
   unfolding outcome_of
   clock_stops table local z l clock is_time s =
       let found = rw l.answers at l.is_local in
@@ -432,7 +432,7 @@ module _ (known : Known) (ask : Ask) (stop : declared_stop.Stop) (out err : Opti
 
 pub ran_whole : (known : Known) (ask : Ask) (result : Result Status declared_stop.Stop) (out out' err err' : Option (List ℕ)) (table : ZoneMap) (local : ClockZone) (now : ℤ)
     → ReadsZones (λ table. table) known ask.zones (Ok table) → FindsLocal (λ zone. zone) ask.local table (Ok local)
-    → (clock : Option ℤ) → IfNone ask.now (IsTime known.time clock) → present_by ask.now clock ≡ Ok now
+    → (clock : Option ℤ) → IfNone ask.now (GivesTime known.time clock) → present_by ask.now clock ≡ Ok now
     → Runs known (asked_at ask table local now) result out out' err err' → Answered known ask result out out' err err'
 unfolding outcome_of
 ran_whole known ask result out out' err err' table local now z l clock is_time is_now r =

@@ -15,9 +15,9 @@ abbrev pub nothing_known : Known
 nothing_known = record { file = λ path. None; may_fail = λ path. true; time = None }
 
 -- the clock gave what is known of it
-abbrev pub IsTime : Option (Option ℤ) → Option ℤ → Type 0
-IsTime None came = Unit {0}
-IsTime (Some time) came = came ≡ time
+abbrev pub GivesTime : Option (Option ℤ) → Option ℤ → Type 0
+GivesTime None came = Unit {0}
+GivesTime (Some time) came = came ≡ time
 
 -- a file was opened, with these bytes to come where they are known, or couldn't be, as is known of it
 abbrev pub Opens : Option (Option (List ℕ)) → Option (Option (List ℕ)) → Type 0

@@ -13,7 +13,7 @@ use Rattle.cal_work.specs.Outcome.{World, ZoneFound, loaded, table_by, local_by,
 use Rattle.cal_report.specs.headline.Report.{Report}
 use Rattle.cal_request.specs.headline.Request.{Request}
 use Rattle.cal_work.specs.Stop.{Stop, exit_status, is_for_memory, is_out_stop, is_err_stop, outlet_of, shown_stop, text_of}
-use Rattle.cal_work.specs.System.{Known, Seen, IsTime}
+use Rattle.cal_work.specs.System.{Known, Seen, GivesTime}
 use Rattle.cal_work.specs.Works.{Fits, FitsWords, IsLocal, SeesFile, SeesZone, SeesZones}
 use Rattle.cal_work.specs.declared.zone_files.LoadFault.{LoadFault}
 use Rattle.cal_request.specs.declared.request.RunFault.{RunFault}
@@ -87,13 +87,13 @@ pub record FindsLocal {T : Type 0} (view : T → ClockZone) (said : LocalZone) (
 -- the clock
 pub record Reads {T : Type 0} (view : T → ℤ) (known : Known) (result : Result T declared_stop.Stop) : Type 0 where
   pub clock : Option ℤ
-  pub is_time : IsTime known.time clock
+  pub is_time : GivesTime known.time clock
   pub answers : Answers view result (clock_by clock)
 
 -- the present instant
 pub record Presents {T : Type 0} (view : T → ℤ) (known : Known) (given : Option ℤ) (result : Result T declared_stop.Stop) : Type 0 where
   pub clock : Option ℤ
-  pub asked : IfNone given (IsTime known.time clock)
+  pub asked : IfNone given (GivesTime known.time clock)
   pub answers : Answers view result (present_by given clock)
 
 -- How the work for what is ask ended

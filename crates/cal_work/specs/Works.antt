@@ -22,7 +22,7 @@ use Rattle.cal_report.specs.Report.{file_name}
 use Rattle.cal_request.specs.Request.{is_timer}
 use Rattle.cal_request.specs.headline.Request.{Request}
 use Rattle.cal_work.specs.Stop.{fault_stop}
-use Rattle.cal_work.specs.System.{Known, Seen, Sees, IsTime}
+use Rattle.cal_work.specs.System.{Known, Seen, Sees, GivesTime}
 use Rattle.cal_request.specs.declared.request.RunFault.{RunFault}
 use Rattle.cal_work.specs.declared.words_to_bytes.Ended.{Ended}
 
@@ -68,7 +68,7 @@ SeesFile known asked seen = SeesIf (is_timer asked.verb) known (file_name asked)
 abbrev pub FitsAt : Known → Ask → World → ZoneMap → Type 0
 FitsAt known ask world table =
     IfOk (local_by ask.local table world.local) (λ local. IsLocal ask.local table local
-    × IfNone ask.now (IsTime known.time world.clock)
+    × IfNone ask.now (GivesTime known.time world.clock)
     × IfOk (present_by ask.now world.clock) (λ now. SeesFile known (asked_at ask table local now) world.file))
 
 pub record Fits (known : Known) (ask : Ask) (world : World) : Type 0 where

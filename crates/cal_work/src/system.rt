@@ -1,7 +1,7 @@
 //! What the program takes from outside beside its words: files and the clock.
 
 ghost use Rattle.std.specs.Prelude.{◌≡◌, false, option_map, IfSome};
-ghost use Rattle.cal_work.specs.System.{nothing_known, IsTime, Opens, Known};
+ghost use Rattle.cal_work.specs.System.{nothing_known, GivesTime, Opens, Known};
 
 use cal_bytes::Source;
 
@@ -23,5 +23,5 @@ pub trait System {
 
     /// The clock's whole seconds since 1970-01-01 00:00:00 UTC, or `None` where it gives none.
     fn clock(&self) -> Option<i64>
-        ensures { IsTime (tells self.now).time result };
+        ensures { GivesTime (tells self.now).time result };
 }

@@ -13,7 +13,7 @@ use Rattle.jiff.specs.Types.{Offset}
 use Rattle.jiff.specs.Words.{fixed_zone, IsOffsetSeconds}
 use Rattle.cal_bytes.specs.headline.Bytes.{joined}
 use Rattle.cal_zone.specs.headline.InstantText.{offset_text, zeros}
-use Rattle.cal_zone.specs.OffsetWord.{AreWholeMinutes, clock_by, clock_in, offset_in, two_digits}
+use Rattle.cal_zone.specs.OffsetWord.{AreWholeMinutes, clock_seconds, clock_in, offset_in, two_digits}
 use Rattle.cal_zone.specs.headline.OffsetWord.{AreTwoDigits, IsClock, IsOffsetWord, begins_with_sign, is_sign}
 use Rattle.cal_zone.specs.headline.ZoneAhead.{offset_of_seconds, zone_ahead}
 use Rattle.cal_zone.proofs.OffsetLemmas.{same_offset}
@@ -46,7 +46,7 @@ two-only greatest n (a ∷ b ∷ c ∷ text) h most = absurd (omega (arith, h.tw
 
 -- Hours and minutes
 
-clock-parts : (hours minutes : Option ℕ) (n : ℕ) → clock_by hours minutes ≡ Some n
+clock-parts : (hours minutes : Option ℕ) (n : ℕ) → clock_seconds hours minutes ≡ Some n
     → (h : ℕ) × (m : ℕ) × (hours ≡ Some h) × (minutes ≡ Some m) × (n ≡ h * 3_600 + m * 60)
 clock-parts None minutes n is = absurd (cc)
 clock-parts (Some h) None n is = absurd (cc)

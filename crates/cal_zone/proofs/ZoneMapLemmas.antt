@@ -14,7 +14,7 @@ use Rattle.std.proofs.lemmas.Bool.{false_from_ne_true}
 use Rattle.std.proofs.lemmas.Slice.Eq.{bytes_eq-Decides}
 use Rattle.std.proofs.lemmas.Map.Text.{btree_map_updates_text, is_eq-slice_cmp}
 use Rattle.jiff.specs.Types.{TimeZone, UTC}
-use Rattle.cal_zone.specs.ZoneMap.{zones_in}
+use Rattle.cal_zone.specs.ZoneMap.{zone_map_in}
 use Rattle.cal_zone.specs.headline.ZoneMap.{ZoneMap}
 use Rattle.cal_zone.specs.headline.ZoneName.{is_utc_name}
 use Rattle.cal_zone.specs.headline.ZoneTable.{zone_named}
@@ -25,15 +25,15 @@ find-lookup q [] = refl
 find-lookup q (e ∷ es) = ap (cond (is_eq (slice_cmp nat_cmp q (string_bytes e.0))) (Some e.1)) (find-lookup q es)
 
 -- the map has at a name what the tree has at a text of these bytes
-pub get-zones_in : (zones : BTreeMap (String Global) TimeZone) (q : List ℕ) → get (zones_in zones) q ≡ get_by_text zones q
-get-zones_in zones q = get-from_entries nat_list_cmp_total _ q ∙ find-lookup q zones.entries
+pub get-zone_map_in : (zones : BTreeMap (String Global) TimeZone) (q : List ℕ) → get (zone_map_in zones) q ≡ get_by_text zones q
+get-zone_map_in zones q = get-from_entries nat_list_cmp_total _ q ∙ find-lookup q zones.entries
 
 -- what a name other than that of UTC gives
-pub zone_named-zones_in : (zones : BTreeMap (String Global) TimeZone) (table : ZoneMap) (name : List ℕ) → zones_in zones ≡ table → is_utc_name name ≡ false
+pub zone_named-zone_map_in : (zones : BTreeMap (String Global) TimeZone) (table : ZoneMap) (name : List ℕ) → zone_map_in zones ≡ table → is_utc_name name ≡ false
     → zone_named table name ≡ get_by_text zones name
 unfolding zone_named
-zone_named-zones_in zones table name view other =
-    ap (λ b. cond b (Some UTC) (get table name)) other ∙ ap (λ t. get t name) (sym view) ∙ get-zones_in zones name
+zone_named-zone_map_in zones table name view other =
+    ap (λ b. cond b (Some UTC) (get table name)) other ∙ ap (λ t. get t name) (sym view) ∙ get-zone_map_in zones name
 
 pub is_some-option_map : {A B : Type 0} (f : A → B) (o : Option A) → is_some (option_map f o) ≡ is_some o
 is_some-option_map f None = refl
@@ -44,15 +44,15 @@ same_test : (name q : List ℕ) → bytes_eq name q ≡ eq_by_cmp (slice_cmp nat
 same_test name q = sym (is_eq-slice_cmp name q) ∙ (eq_by_cmp_equiv nat_list_cmp_total).symm name q
 
 -- where the tree changes at one text, the map changes at that name
-pub zones_in-insert : (old new : BTreeMap (String Global) TimeZone) (name : List ℕ) (zone : TimeZone)
+pub zone_map_in-insert : (old new : BTreeMap (String Global) TimeZone) (name : List ℕ) (zone : TimeZone)
     → UpdatesBy string_cmp (λ key. slice_cmp nat_cmp name (string_bytes key)) old new (Some zone)
-    → zones_in new ≡ insert (zones_in old) name zone
-zones_in-insert old new name zone updates =
+    → zone_map_in new ≡ insert (zone_map_in old) name zone
+zone_map_in-insert old new name zone updates =
     same_map nat_list_cmp_total (slice_cmp-IsAntisymmetric nat_cmp-IsAntisymmetric) _ _
-    (λ q. get-zones_in new q ∙ btree_map_updates_text name old new (Some zone) updates q
+    (λ q. get-zone_map_in new q ∙ btree_map_updates_text name old new (Some zone) updates q
     ∙ ap (λ b. cond b (Some zone) (get_by_text old q)) (same_test name q)
-    ∙ ap (λ o. cond (eq_by_cmp (slice_cmp nat_cmp) q name) (Some zone) o) (sym (get-zones_in old q))
-    ∙ sym (get-insert nat_list_cmp_total (zones_in old) name zone q))
+    ∙ ap (λ o. cond (eq_by_cmp (slice_cmp nat_cmp) q name) (Some zone) o) (sym (get-zone_map_in old q))
+    ∙ sym (get-insert nat_list_cmp_total (zone_map_in old) name zone q))
 
 differ : (xs ys : List ℕ) → (xs ≡ ys → ⊥) → eq_by_cmp (slice_cmp nat_cmp) xs ys ≡ false
 differ xs ys h = is_eq-slice_cmp xs ys ∙ false_from_ne_true _ (λ e. h ((bytes_eq-Decides xs ys).0 e))

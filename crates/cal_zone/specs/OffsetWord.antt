@@ -16,13 +16,13 @@ two_digits greatest tens ones =
     if is_ascii_digit tens && is_ascii_digit ones && nat_le number greatest then Some number else None
 
 -- the seconds of that many hours and minutes
-abbrev pub clock_by : Option ℕ → Option ℕ → Option ℕ
-clock_by (Some hours) (Some minutes) = Some (hours * 3_600 + minutes * 60)
-clock_by hours minutes = None
+abbrev pub clock_seconds : Option ℕ → Option ℕ → Option ℕ
+clock_seconds (Some hours) (Some minutes) = Some (hours * 3_600 + minutes * 60)
+clock_seconds hours minutes = None
 
 -- the seconds of `hh:mm`
 unfoldable pub clock_in : List ℕ → Option ℕ
-clock_in (a ∷ b ∷ c ∷ d ∷ e ∷ []) = if c == 58 then clock_by (two_digits 25 a b) (two_digits 59 d e) else None
+clock_in (a ∷ b ∷ c ∷ d ∷ e ∷ []) = if c == 58 then clock_seconds (two_digits 25 a b) (two_digits 59 d e) else None
 clock_in text = None
 
 -- how many seconds the word says that a clock is ahead of UTC

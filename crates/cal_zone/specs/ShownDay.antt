@@ -16,7 +16,7 @@ abbrev pub text_on : ShownDay → ℤ → List ℕ
 text_on day second = text_after day (unsigned_abs (second -ℤ day.midnight))
 
 -- the texts have a length that leaves room for them
-pub record AreShort (day : ShownDay) : Type 0 where
+pub record HasShortTexts (day : ShownDay) : Type 0 where
   pub date : length day.day.items ≤ 26
   pub word : length day.word.items ≤ 41
 
@@ -28,4 +28,4 @@ pub record IsOnDay (zone : Zone) (day : ShownDay) (second : ℤ) : Type 0 where
 -- each instant from its begin to its end is on the day
 pub record IsDay (zone : Zone) (day : ShownDay) : Type 0 where
   pub each : (second : ℤ) → day.from ≤ℤ second → second <ℤ day.to → IsOnDay zone day second
-  pub short : AreShort day
+  pub short : HasShortTexts day

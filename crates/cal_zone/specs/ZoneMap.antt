@@ -8,5 +8,5 @@ use Rattle.jiff.specs.Types.{TimeZone}
 use Rattle.cal_zone.specs.headline.ZoneMap.{ZoneMap}
 
 -- the map that the entries are
-abbrev pub zones_in : BTreeMap (String Global) TimeZone → ZoneMap
-zones_in zones = from_entries (map (λ entry. (string_bytes entry.0, entry.1)) zones.entries)
+abbrev pub zone_map_in : BTreeMap (String Global) TimeZone → ZoneMap
+zone_map_in zones = from_entries (map (λ entry. (string_bytes entry.0, entry.1)) zones.entries)

@@ -4,7 +4,7 @@ ghost use Rattle.std.specs.Prelude.{◌≡◌, ◌+◌, ◌*◌, ◌≤◌, ◌+
 ghost use Rattle.jiff.specs.Words.{IsBetween};
 ghost use Rattle.cal_bytes.specs.declared.short_text.TheConstants.{ROOM};
 ghost use Rattle.cal_zone.specs.Period.{IsPeriodAt};
-ghost use Rattle.cal_zone.specs.ShownDay.{AreShort, IsDay, text_on};
+ghost use Rattle.cal_zone.specs.ShownDay.{HasShortTexts, IsDay, text_on};
 ghost use Rattle.cal_zone.specs.headline.Zone.{zone_of};
 
 use crate::civil_time::civil_at;
@@ -29,7 +29,7 @@ impl ShownDay {
     pub(crate) fn empty() -> ShownDay
         ensures from { result.from ≡ pos 0 }
         ensures to { result.to ≡ pos 0 }
-        ensures short { AreShort result }
+        ensures short { HasShortTexts result }
     {
         ShownDay {
             from: 0,
@@ -64,7 +64,7 @@ impl ShownDay {
 
     /// Appends the text of one of its instants.
     pub(crate) fn push(&self, text: &mut ShortText, second: i64)
-        requires short { AreShort self.now }
+        requires short { HasShortTexts self.now }
         requires day { IsBetween (pos 0) (pos 86_399) (second -ℤ self.now.midnight) }
         requires room { length text.old.items + 84 ≤ ROOM }
         ensures text { text.new.items ≡ text.old.items ++ text_on self.now second }

@@ -26,9 +26,9 @@ impl Model for ZoneTable {
 
     ghost coded = { map.code (coded_list coded_ℕ) the_row.coded };
 
-    ghost use Rattle.cal_zone.specs.ZoneMap.{zones_in};
+    ghost use Rattle.cal_zone.specs.ZoneMap.{zone_map_in};
 
-    ghost view = { λ table. zones_in table.zones };
+    ghost view = { λ table. zone_map_in table.zones };
 }
 
 impl ZoneTable {

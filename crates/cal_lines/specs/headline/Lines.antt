@@ -17,14 +17,14 @@ pub record Line : Type 0 where
   pub text : List ℕ
 
 -- the lines, numbered from this number on
-abbrev pub numbered : ℕ → List (List ℕ) → List Line
-numbered number [] = []
-numbered number (text ∷ texts) = record { number = number; text = text } ∷ numbered (number + 1) texts
+abbrev pub numbered_lines : ℕ → List (List ℕ) → List Line
+numbered_lines number [] = []
+numbered_lines number (text ∷ texts) = record { number = number; text = text } ∷ numbered_lines (number + 1) texts
 
 -- The physical lines: they end at a line feed, and one carriage return before it is dropped. No rule sees the blanks
 -- at the start of a physical line, so they are dropped too.
 unfoldable pub physical_lines : ℕ → List ℕ → List Line
-physical_lines number text = numbered number (map (trim_start is_blank_or_return) (lines text))
+physical_lines number text = numbered_lines number (map (trim_start is_blank_or_return) (lines text))
 
 -- a comment begins with `#` or `;`
 abbrev pub is_comment : List ℕ → Bool
@@ -39,8 +39,8 @@ unfoldable pub is_continued : List ℕ → Bool
 is_continued text = suffix_len (λ b. b == 92) text % 2 == 1
 
 -- what a line adds to its logical line: a last backslash that continues it becomes a space
-unfoldable pub part_of : List ℕ → List ℕ
-part_of text = if is_continued text then take (length text - 1) text ++ (32 ∷ []) else text
+unfoldable pub part_of_line : List ℕ → List ℕ
+part_of_line text = if is_continued text then take (length text - 1) text ++ (32 ∷ []) else text
 
 -- the lines that make a logical line together
 pub record Group : Type 0 where
@@ -63,7 +63,7 @@ groups (line ∷ lines) =
 abbrev pub joined_line : Group → Line
 joined_line group = record {
   number = group.first.number;
-  text = part_of group.first.text ++ flat_map (λ line. part_of line.text) group.more;
+  text = part_of_line group.first.text ++ flat_map (λ line. part_of_line line.text) group.more;
 }
 
 -- the logical lines

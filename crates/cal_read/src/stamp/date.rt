@@ -3,7 +3,7 @@
 ghost use Rattle.std.specs.Prelude.{◌≡◌, ◌≤◌, pos, IfOk};
 ghost use Rattle.std.specs.Option.{option_map};
 ghost use Rattle.jiff.specs.Words.{IsBetween};
-ghost use Rattle.cal_read.specs.StampDate.{date_numbers, day_number, day_written, digits_number};
+ghost use Rattle.cal_read.specs.StampDate.{date_numbers, day_of_date, day_written, digits_number};
 ghost use Rattle.cal_read.specs.StampDateViews.{numbers_seen};
 
 use crate::StampFault;
@@ -64,9 +64,9 @@ pub(crate) fn read_number(word: &[u8], most: usize) -> Option<u16>
 }
 
 /// The day number of a day from 1970-01-01 to 2199-12-31.
-#[tactic(auto, unfolding(crate::specs::StampDate::day_number))]
+#[tactic(auto, unfolding(crate::specs::StampDate::day_of_date))]
 fn day_number(year: u16, month: u16, day: u16) -> Result<i64, StampFault>
-    ensures value { result ≡ day_number year month day }
+    ensures value { result ≡ day_of_date year month day }
     ensures range { IfOk result (IsBetween (pos 0) (pos 84_005)) }
 {
     if year < 1970 || year > 2199 || month > 12 || day > 31 {

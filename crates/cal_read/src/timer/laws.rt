@@ -8,7 +8,7 @@ ghost use Rattle.cal_spec.specs.headline.Fields.{Fields};
 ghost use Rattle.cal_spec.specs.declared.spec_fault.SpecFault.{SpecFault};
 ghost use Rattle.cal_read.specs.headline.Assignments.{Assignment, is_header, section_of, timer_lines};
 ghost use Rattle.cal_lines.specs.headline.Lines.{Line};
-ghost use Rattle.cal_read.specs.TimerRule.{Judges};
+ghost use Rattle.cal_read.specs.TimerRule.{JudgesTimer};
 ghost use Rattle.cal_read.specs.declared.timer.fault.TimerFault.{TimerFault};
 ghost use Rattle.cal_read.specs.TimerText.{Timer, lists_of};
 ghost use Rattle.cal_read.specs.headline.TimerText.{excepted, is_exception, is_exception_reset, is_expression, is_reset, listed};
@@ -49,7 +49,7 @@ pub fn one_list_of_exceptions()
 /// fault; or that there is nothing to do.
 pub fn one_judgement()
     ensures some { (read : List ℕ → Result Fields SpecFault) (all : List Assignment)
-        → Judges read all (lists_of read all) }
+        → JudgesTimer read all (lists_of read all) }
     ensures only { (read : List ℕ → Result Fields SpecFault) (all : List Assignment)
-        (result : Result (Timer Fields) TimerFault) → Judges read all result → result ≡ lists_of read all }
+        (result : Result (Timer Fields) TimerFault) → JudgesTimer read all result → result ≡ lists_of read all }
 {}

@@ -9,7 +9,7 @@ ghost use Rattle.cal_lines.specs.LineView.{line_at};
 ghost use Rattle.cal_read.specs.AssignmentView.{shown_assignment};
 ghost use Rattle.cal_lines.specs.headline.Lines.{Line};
 ghost use Rattle.cal_read.specs.TimerText.{bad_line, entry_of};
-ghost use Rattle.cal_read.specs.TimerView.{joined, resumed, shown, shown_lists};
+ghost use Rattle.cal_read.specs.TimerView.{with_assignment, resumed, shown, shown_lists};
 
 use crate::assignments::{Assignment, read_assignment, section};
 use crate::{TimerFault, TimerLine};
@@ -94,16 +94,16 @@ fn assign(
 }
 
 /// Adds the expression of an assignment to a list.
-#[tactic(auto, unfolding(crate::specs::TimerView::joined))]
+#[tactic(auto, unfolding(crate::specs::TimerView::with_assignment))]
 fn add_line(
     alloc: Global,
     list: &mut Vec<TimerLine>,
     assignment: Assignment<'_>,
 ) -> Result<(), TimerFault>
     ensures { MatchResult result
-        (λ _. joined expr_in (map shown list.old.items) (shown_assignment assignment.entry) ≡ Ok (map shown list.new.items))
+        (λ _. with_assignment expr_in (map shown list.old.items) (shown_assignment assignment.entry) ≡ Ok (map shown list.new.items))
         (λ fault. fault ≢ TimerFault.NoMemory
-        → joined expr_in (map shown list.old.items) (shown_assignment assignment.entry) ≡ Err fault) }
+        → with_assignment expr_in (map shown list.old.items) (shown_assignment assignment.entry) ≡ Err fault) }
 {
     if list.len() >= MOST_EXPRESSIONS {
         return Err(TimerFault::TooMany(assignment.number));

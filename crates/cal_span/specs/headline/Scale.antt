@@ -22,13 +22,13 @@ scales =
     Year ∷ Month ∷ Week ∷ Day ∷ Hour ∷ Minute ∷ Second ∷ Millisecond ∷ Microsecond ∷ []
 
 -- the spelling in which a unit is printed (systemd.time(7), Parsing Time Spans)
-unfoldable pub name_of : Scale → List ℕ
-name_of Year = codes "y"
-name_of Month = codes "month"
-name_of Week = codes "w"
-name_of Day = codes "d"
-name_of Hour = codes "h"
-name_of Minute = codes "min"
-name_of Second = codes "s"
-name_of Millisecond = codes "ms"
-name_of Microsecond = codes "us"
+unfoldable pub unit_name : Scale → List ℕ
+unit_name Year = codes "y"
+unit_name Month = codes "month"
+unit_name Week = codes "w"
+unit_name Day = codes "d"
+unit_name Hour = codes "h"
+unit_name Minute = codes "min"
+unit_name Second = codes "s"
+unit_name Millisecond = codes "ms"
+unit_name Microsecond = codes "us"

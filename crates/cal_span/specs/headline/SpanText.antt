@@ -3,7 +3,7 @@
 use Rattle.std.specs.Prelude.{ℕ, ◌/◌, ◌%◌, List, [], ◌∷◌, codes, decimal, filter, nat_lt}
 use Rattle.std.specs.List.{join_by}
 use Rattle.cal_bytes.specs.headline.Bytes.{joined}
-use Rattle.cal_span.specs.headline.Scale.{size_of, scales, name_of}
+use Rattle.cal_span.specs.headline.Scale.{size_of, scales, unit_name}
 use Rattle.cal_span.specs.declared.scale.Scale.{Scale}
 
 -- that many of one unit
@@ -17,16 +17,16 @@ positive = filter (λ c. nat_lt 0 c.number)
 
 -- a count as it is printed: its digits, and with no blank between them its unit
 abbrev pub count_text : Count → List ℕ
-count_text c = joined (decimal c.number ∷ name_of c.unit ∷ [])
+count_text c = joined (decimal c.number ∷ unit_name c.unit ∷ [])
 
 -- counts in a row, one space between them
-unfoldable pub row_text : List Count → List ℕ
-row_text = join_by count_text (codes " ")
+unfoldable pub counts_in_row : List Count → List ℕ
+counts_in_row = join_by count_text (codes " ")
 
 -- counts as they are printed: `0` where there is none
 abbrev pub counts_text : List Count → List ℕ
 counts_text [] = codes "0"
-counts_text (c ∷ cs) = row_text (c ∷ cs)
+counts_text (c ∷ cs) = counts_in_row (c ∷ cs)
 
 -- the counts by division, unit by unit
 abbrev pub counts_of : List Scale → ℕ → List Count

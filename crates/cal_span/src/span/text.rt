@@ -6,11 +6,11 @@ ghost use Rattle.cal_span.specs.Span.{limit};
 ghost use Rattle.cal_span.specs.SpanValue.{span_of};
 ghost use Rattle.cal_bytes.specs.Bytes.{Writes};
 ghost use Rattle.cal_bytes.specs.headline.Bytes.{joined};
-ghost use Rattle.cal_span.specs.headline.Scale.{name_of};
+ghost use Rattle.cal_span.specs.headline.Scale.{unit_name};
 ghost use Rattle.cal_bytes.specs.declared.short_text.TheConstants.{ROOM};
 ghost use Rattle.cal_span.specs.declared.span.text.TheConstants.{SPAN_ROOM};
 ghost use Rattle.cal_span.specs.SpanText.{IsSpanText};
-ghost use Rattle.cal_span.specs.headline.SpanText.{span_text, row_text, positive, counts_of};
+ghost use Rattle.cal_span.specs.headline.SpanText.{span_text, counts_in_row, positive, counts_of};
 
 use crate::scale::Scale;
 use crate::span::Span;
@@ -69,7 +69,7 @@ pub fn text_reads_back()
 fn push_counts(text: &mut ShortText, scales: &[Scale], micros: u64)
     requires few { length scales.now ≤ 9 }
     requires room { length text.old.items + SPAN_ROOM ≤ ROOM }
-    ensures text { text.new.items ≡ text.old.items ++ row_text (positive (counts_of scales.now micros)) }
+    ensures text { text.new.items ≡ text.old.items ++ counts_in_row (positive (counts_of scales.now micros)) }
     ensures short { length text.new.items ≤ length text.old.items + SPAN_ROOM }
 {
     let mut lead: &[u8] = b"";
@@ -88,7 +88,7 @@ fn push_counts(text: &mut ShortText, scales: &[Scale], micros: u64)
 fn push_count(text: &mut ShortText, lead: &[u8], count: u64, unit: Scale)
     requires lead { length lead.now ≤ 1 }
     requires room { length text.old.items + 26 ≤ ROOM }
-    ensures text { text.new.items ≡ text.old.items ++ joined (lead.now ∷ decimal count ∷ name_of unit ∷ []) }
+    ensures text { text.new.items ≡ text.old.items ++ joined (lead.now ∷ decimal count ∷ unit_name unit ∷ []) }
     ensures short { length text.new.items ≤ length text.old.items + 26 }
 {
     let mut digits = Buffer::new();

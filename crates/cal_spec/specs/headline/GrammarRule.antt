@@ -99,7 +99,7 @@ IsName text day =
     (map to_ascii_lowercase text ≡ map to_ascii_lowercase (name_of day)) ⊎ (map to_ascii_lowercase text ≡ map to_ascii_lowercase (short_name_of day))
 
 -- two names joined by `..` or `-`
-pub record AreJoined (text : List ℕ) (days : Days) : Type 0 where
+pub record IsNameRange (text : List ℕ) (days : Days) : Type 0 where
   pub first : List ℕ
   pub joint : List ℕ
   pub last : List ℕ
@@ -110,7 +110,7 @@ pub record AreJoined (text : List ℕ) (days : Days) : Type 0 where
 
 -- a name, or two
 abbrev pub IsItem : List ℕ → Days → Type 0
-IsItem text days = (IsName text days.first × (days.last ≡ days.first)) ⊎ AreJoined text days
+IsItem text days = (IsName text days.first × (days.last ≡ days.first)) ⊎ IsNameRange text days
 
 -- items joined by commas, with one trailing comma allowed
 pub record AreWeekdays (word : List ℕ) (days : List Bool) : Type 0 where

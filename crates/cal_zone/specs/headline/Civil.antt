@@ -8,8 +8,8 @@ use Rattle.cal_zone.specs.headline.Local.{day_of, second_of_day, hour_of, minute
 use Rattle.cal_zone.specs.headline.Zone.{local_of}
 
 -- the fields of a date, a second after its midnight and an offset; Monday is weekday 1
-abbrev pub fields_of : Date → ℕ → ℤ → Civil
-fields_of date second offset = record {
+abbrev pub shown_fields : Date → ℕ → ℤ → Civil
+shown_fields date second offset = record {
   year = date.year;
   month = date.month;
   day = date.day;
@@ -24,4 +24,4 @@ fields_of date second offset = record {
 unfoldable pub civil_of : TimeZone → ℤ → Civil
 civil_of tz second =
     let local = local_of tz second in
-    fields_of (date_of (day_of local)) (second_of_day local) (offset_at tz (nanos_of_seconds second))
+    shown_fields (date_of (day_of local)) (second_of_day local) (offset_at tz (nanos_of_seconds second))

@@ -21,8 +21,8 @@ pub record DateOn (day : ℤ) : Type 0 where
 first_in : (year : ℤ) (month : ℕ) → IsInRange 1 (days_in_month year month) 1
 first_in year month = let long = days_in_month_bounds year month in (omega arith, omega arith)
 
-first_of : (year : ℤ) (month : ℕ) → IsYear year → IsInRange 1 12 month → Date
-first_of year month y m = record { year = year; month = month; day = 1; year_in = y; month_in = m; day_in = first_in year month }
+first_of_month : (year : ℤ) (month : ℕ) → IsYear year → IsInRange 1 12 month → Date
+first_of_month year month y m = record { year = year; month = month; day = 1; year_in = y; month_in = m; day_in = first_in year month }
 
 -- the day after, within the month
 next_in : (d : Date) → d.day < month_length d → IsInRange 1 (month_length d) (d.day + 1)
@@ -40,8 +40,8 @@ next_month_in : (d : Date) → d.month < 12 → IsInRange 1 12 (d.month + 1)
 next_month_in d before = (omega arith, omega arith)
 
 epoch_day-next_month : (d : Date) (before : d.month < 12) → month_length d ≤ d.day
-    → epoch_day (first_of d.year (d.month + 1) d.year_in (next_month_in d before)) ≡ epoch_day d +ℤ pos 1
-unfolding first_of
+    → epoch_day (first_of_month d.year (d.month + 1) d.year_in (next_month_in d before)) ≡ epoch_day d +ℤ pos 1
+unfolding first_of_month
 epoch_day-next_month d before last = days_from_civil-next_month d.year d.month d.day d.month_in.0 (omega (arith, d.day_in.1))
 
 -- the day after the last of a year
@@ -52,8 +52,8 @@ january_in : IsInRange 1 12 1
 january_in = (omega arith, omega arith)
 
 epoch_day-next_year : (d : Date) (before : d.year <ℤ pos 9999) → d.month ≡ 12 → d.day ≡ 31
-    → epoch_day (first_of (d.year +ℤ pos 1) 1 (next_year_in d before) january_in) ≡ epoch_day d +ℤ pos 1
-unfolding first_of
+    → epoch_day (first_of_month (d.year +ℤ pos 1) 1 (next_year_in d before) january_in) ≡ epoch_day d +ℤ pos 1
+unfolding first_of_month
 epoch_day-next_year d before month day =
     rw (month, day) (days_from_civil-next_year d.year (d.year +ℤ pos 1) (omega (arith, signed_arith)) refl)
 
@@ -74,7 +74,7 @@ next_of_december d before last late =
     let december : d.month ≡ 12 = omega (arith, d.month_in.1) in
     let day = last_of_december d last december in
     by_lt_z d.year (pos 9999)
-    (λ y. record { date = first_of (d.year +ℤ pos 1) 1 (next_year_in d y) january_in; is = epoch_day-next_year d y december day })
+    (λ y. record { date = first_of_month (d.year +ℤ pos 1) 1 (next_year_in d y) january_in; is = epoch_day-next_year d y december day })
     (λ y. let year : d.year ≡ pos 9999 = omega (arith, signed_arith, d.year_in.1) in
     absurd (omega (arith, signed_arith, days_from_civil-max, epoch_day_is d year december day)))
 
@@ -84,7 +84,7 @@ next d before =
     elim (cases_lt d.day (month_length d)) [
       | inl within ↦ record { date = next_of d within; is = epoch_day-next_of d within }
       | inr last ↦ elim (cases_lt d.month 12) [
-        | inl early ↦ record { date = first_of d.year (d.month + 1) d.year_in (next_month_in d early); is = epoch_day-next_month d early last }
+        | inl early ↦ record { date = first_of_month d.year (d.month + 1) d.year_in (next_month_in d early); is = epoch_day-next_month d early last }
         | inr late ↦ next_of_december d before last late
       ]
     ]
@@ -94,8 +94,8 @@ first_year_in = search rules
 
 -- -9999-01-01, the first day
 first_date : DateOn (pos 0 -ℤ pos 4_371_587)
-unfolding first_of
-first_date = record { date = first_of (neg_ℤ (pos 9999)) 1 first_year_in january_in; is = days_from_civil-min }
+unfolding first_of_month
+first_date = record { date = first_of_month (neg_ℤ (pos 9999)) 1 first_year_in january_in; is = days_from_civil-min }
 
 not_last : (n : ℕ) (day : ℤ) → suc n ≤ 7_304_483 → day ≡ pos n -ℤ pos 4_371_587 → day <ℤ pos 2_932_896
 not_last n day h e = omega (arith, signed_arith)
@@ -107,10 +107,10 @@ fewer : (n : ℕ) → suc n ≤ 7_304_483 → n ≤ 7_304_483
 fewer n h = omega arith
 
 -- the date that many days after -9999-01-01
-counted : (n : ℕ) → n ≤ 7_304_483 → DateOn (pos n -ℤ pos 4_371_587)
-counted zero h = first_date
-counted (suc n) h =
-    let before = counted n (fewer n h) in
+date_counted : (n : ℕ) → n ≤ 7_304_483 → DateOn (pos n -ℤ pos 4_371_587)
+date_counted zero h = first_date
+date_counted (suc n) h =
+    let before = date_counted n (fewer n h) in
     let after = next before.date (not_last n (epoch_day before.date) h before.is) in
     record { date = after.date; is = one_more n (epoch_day before.date) (epoch_day after.date) before.is after.is }
 
@@ -127,4 +127,4 @@ place_among_bound (negsuc n) = omega arith
 
 -- a date for each day
 pub dated : (day : ℤ) → DateOn (pos (place_among (day +ℤ pos 4_371_587)) -ℤ pos 4_371_587)
-dated day = counted (place_among (day +ℤ pos 4_371_587)) (place_among_bound (day +ℤ pos 4_371_587))
+dated day = date_counted (place_among (day +ℤ pos 4_371_587)) (place_among_bound (day +ℤ pos 4_371_587))

@@ -1,7 +1,7 @@
 use Rattle.std.proofs.Common.{◌≡◌, drop}
-use Rattle.cal_spec.specs.Components.{first_fault}
+use Rattle.cal_spec.specs.Components.{first_value_fault}
 use Rattle.cal_spec.proofs.components.first_fault.Given as goal
 
 -- the first fault is among the parts that are left
 abbrev pub invariant-loop-part : goal.invariant-loop-part
-invariant-loop-part l = first_fault l.slot (drop l.part-index l.parts) ≡ first_fault l.slot l.parts
+invariant-loop-part l = first_value_fault l.slot (drop l.part-index l.parts) ≡ first_value_fault l.slot l.parts

@@ -1,6 +1,6 @@
 use Rattle.std.proofs.Common.{◌∙◌, ◌++◌, ap, sym, arith}
 use Rattle.std.proofs.lemmas.List.{append-nil, drop_all}
-use Rattle.cal_span.proofs.SpanCounts.{led, led_taken, led_skipped, row_text-led, appended}
+use Rattle.cal_span.proofs.SpanCounts.{led, led_taken, led_skipped, counts_in_row-led, appended}
 use Rattle.cal_span.specs.headline.SpanText.{positive, counts_of}
 use Rattle.cal_span.proofs.span.text.push_counts.Goals as goal
 use Rattle.cal_span.proofs.span.text.push_counts.Goals.{then-rest-size, else-rest-size}
@@ -9,7 +9,7 @@ pub loop-scale-init : goal.loop-scale-init
 loop-scale-init c = record {
   lead = omega arith;
   short = omega arith;
-  whole = ap (λ row. c.args.text.now.items ++ row) (sym (row_text-led _));
+  whole = ap (λ row. c.args.text.now.items ++ row) (sym (counts_in_row-led _));
 }
 
 pub loop-scale-preserved : goal.loop-scale-preserved

@@ -1,6 +1,6 @@
 -- The text and the counts of the units from the index on are the whole.
 use Rattle.std.proofs.Common.{◌≡◌, ◌+◌, ◌*◌, ◌≤◌, ◌++◌, length, drop}
-use Rattle.cal_span.specs.headline.SpanText.{row_text, positive, counts_of}
+use Rattle.cal_span.specs.headline.SpanText.{counts_in_row, positive, counts_of}
 use Rattle.cal_span.proofs.SpanCounts.{led}
 use Rattle.cal_span.proofs.span.text.push_counts.Given as goal
 
@@ -9,5 +9,5 @@ invariant-loop-scale l =
     record {
       lead : length l.lead ≤ 1;
       short : length l.text.items ≤ length l.fn.text.items + 26 * l.scale-index;
-      whole : l.text.items ++ led l.lead (positive (counts_of (drop l.scale-index l.scales) l.rest)) ≡ l.fn.text.items ++ row_text (positive (counts_of l.fn.scales l.fn.micros));
+      whole : l.text.items ++ led l.lead (positive (counts_of (drop l.scale-index l.scales) l.rest)) ≡ l.fn.text.items ++ counts_in_row (positive (counts_of l.fn.scales l.fn.micros));
     }
