@@ -1,3 +1,4 @@
 pub mod Pieces
+pub mod PutLemmas
 pub mod ShortText
 pub mod WholeLemmas

@@ -1,9 +1,7 @@
-//! Bytes out and in: the writers and readers that all of the project's calls take, and the two calls
-//! that write whole texts.
+//! Bytes out and in: the writers and readers that all of the project's calls take.
 
-ghost use Rattle.cal_bytes.specs.Bytes.{Offered, Fetched, Writes};
-ghost use Rattle.std.specs.List.{flat_map};
-ghost use Rattle.std.specs.Prelude.{◌≡◌, ℕ, List, Option, None, Bool, true, false, is_none, is_err};
+ghost use Rattle.cal_bytes.specs.Bytes.{Offered, Fetched};
+ghost use Rattle.std.specs.Prelude.{◌≡◌, ℕ, List, Option, None, Bool, true, false, is_none};
 
 /// What takes bytes.
 ///
@@ -44,43 +42,4 @@ pub trait Source {
         ensures bytes { Fetched (remaining self.old) (remaining self.new) into.new result }
         ensures sure { may_fail self.old ≡ false → is_none result ≡ false }
         ensures stays { may_fail self.new ≡ may_fail self.old };
-}
-
-/// Why a text was not written whole.
-#[derive(Clone, Copy, PartialEq, Eq, Debug)]
-pub enum WriteFault {
-    /// The writer failed; it has a prefix of the text.
-    Failed = 1,
-}
-
-/// Writes all of a piece, by as many offers as it takes.
-///
-/// [`WriteFault::Failed`] comes exactly where an offer answered `None`; the writer has a prefix of the
-/// piece then.
-pub fn put_all<W: Sink>(out: &mut W, piece: &[u8]) -> Result<(), WriteFault>
-    requires { W.is_failed out.old ≡ false }
-    ensures failed { W.is_failed out.new ≡ is_err result }
-    ensures bytes { Writes (W.written out.old) (W.written out.new) result piece.now }
-{
-    let mut rest = piece;
-    while !rest.is_empty() {
-        match out.offer(rest) {
-            Some(count) => rest = rest.split_at(count).1,
-            None => return Err(WriteFault::Failed),
-        }
-    }
-    Ok(())
-}
-
-/// Writes pieces in a row, with the answers of [`put_all`].
-pub fn put_pieces<W: Sink>(out: &mut W, pieces: &[&[u8]]) -> Result<(), WriteFault>
-    requires { W.is_failed out.old ≡ false }
-    ensures failed { W.is_failed out.new ≡ is_err result }
-    ensures bytes { Writes (W.written out.old) (W.written out.new) result
-        (flat_map (λ piece. piece.now) pieces.now) }
-{
-    for piece in pieces {
-        put_all(out, piece)?;
-    }
-    Ok(())
 }

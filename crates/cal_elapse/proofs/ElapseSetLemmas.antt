@@ -1,11 +1,12 @@
 -- What an expression in a zone answers of an instant, and what that says of the rest of its elapses.
-use Rattle.std.proofs.Common.{◌≡◌, ◌↔◌, ◌∙◌, ℕ, Bool, true, false, [], ◌∷◌, inl, inr, None, Some, ℤ, pos, ◌<ℤ◌, ◌≤ℤ◌, ap, arith, sym, int_eq}
+use Rattle.std.proofs.Common.{◌<◌, ◌≡◌, ◌↔◌, ◌∙◌, ℕ, Bool, true, false, [], ◌∷◌, inl, inr, None, Some, ℤ, pos, ◌<ℤ◌, ◌≤ℤ◌, ap, arith, sym, int_eq}
 use Rattle.std.proofs.lemmas.Bool.{false≢true}
 use Rattle.jiff.proofs.SpanFacts.{signed_arith}
 use Rattle.std.specs.Set.{is_member}
 use Rattle.cal_zone.specs.Instant.{IsInstant}
-use Rattle.cal_zone.specs.headline.Local.{seconds_in_all-is}
+use Rattle.cal_zone.specs.headline.Local.{seconds_in_all, seconds_in_all-is}
 use Rattle.cal_zone.specs.LocalAt.{IsLocalAt}
+use Rattle.cal_zone.specs.headline.Place.{place_of}
 use Rattle.cal_zone.specs.headline.Zone.{zone_of}
 use Rattle.cal_zone.specs.declared.zone.Zone.{Zone}
 use Rattle.cal_zone.proofs.PlaceLemmas.{one_local_second, within}
@@ -21,13 +22,13 @@ use Rattle.cal_elapse.specs.declared.window.Window.{Window}
 use Rattle.cal_elapse.proofs.ElapsesLemmas.{AreAbove-elapses_after}
 
 -- the one local second that can have its place there is tested
-pub has-local : (masks : Masks) (zone : Zone) (instant : ℤ) (local : ℕ) (b : Bool) → IsLocalAt (zone_of zone) instant (Some local) → b ≡ matches (sets_in masks) local
-    → (b ≡ true) ↔ IsPlace (timed_by masks zone) instant
+pub has-local : (masks : Masks) (zone : Zone) (instant : ℤ) (local : ℕ) (b : Bool) → local < seconds_in_all → place_of (zone_of zone) (pos local) ≡ Some instant
+    → b ≡ matches (sets_in masks) local → (b ≡ true) ↔ IsPlace (timed_by masks zone) instant
 unfolding timed_by
-has-local masks zone instant local b at is = (
-  λ h. record { local = local; within = at.0; is_match = sym is ∙ h; placed = at.1 },
+has-local masks zone instant local b within placed is = (
+  λ h. record { local = local; within = within; is_match = sym is ∙ h; placed = placed },
   λ p.
-      let same : pos local ≡ pos p.local = one_local_second (zone_of zone) (pos local) (pos p.local) instant at.1 p.placed in
+      let same : pos local ≡ pos p.local = one_local_second (zone_of zone) (pos local) (pos p.local) instant placed p.placed in
       let one : local ≡ p.local = cc in
       is ∙ ap (matches (sets_in masks)) one ∙ p.is_match,
 )
@@ -36,7 +37,7 @@ pub has-none : (masks : Masks) (zone : Zone) (instant : ℤ) → IsLocalAt (zone
 unfolding timed_by
 has-none masks zone instant none = (
   λ h. absurd (false≢true h),
-  λ p. absurd (none p.local p.within p.placed),
+  λ p. absurd (let count = seconds_in_all-is in let inside = p.within in none (pos p.local) (omega (arith, signed_arith), omega (arith, signed_arith)) p.placed),
 )
 
 -- above the last instant given the answer is whether the rest has the instant

@@ -65,7 +65,7 @@ fn years_since(year: i16) -> u32
     requires { IsBetween (pos 1_970) (pos 2_199) year }
     ensures { result ≡ unsigned_abs year - 1_970 }
 {
-    (year - 1_970) as u32
+    u32::from(year.unsigned_abs()) - 1_970
 }
 
 /// The day number of a month's first day.
@@ -83,7 +83,7 @@ fn day_number(date: Date) -> u32
     requires { pos 0 ≤ℤ epoch_day date }
     ensures { pos result ≡ epoch_day date }
 {
-    date.to_unix_epoch_day() as u32
+    date.to_unix_epoch_day().unsigned_abs()
 }
 
 /// The date of a day of the years 1970 to 2199.

@@ -6,6 +6,7 @@ use Rattle.cal_zone.specs.declared.moment.Moment.{Moment}
 use Rattle.cal_zone.specs.declared.zone.Zone.{Zone}
 use Rattle.cal_zone.specs.headline.Zone.{zone_of}
 use Rattle.cal_text.specs.headline.Words.{words}
+use Rattle.cal_zone.specs.headline.ZoneTable.{zone_named}
 use Rattle.cal_read.specs.Stamp as meaning
 use Rattle.cal_read.specs.StampForm as forms
 use Rattle.cal_read.specs.declared.stamp.fault.StampFault.{StampFault}
@@ -13,6 +14,7 @@ use Rattle.cal_read.specs.declared.stamp.form.Form as declared
 use Rattle.cal_read.specs.declared.stamp.form.Form.TheVariants.{Nothing, Present, Later, Earlier, Counted, Midnight, Civil}
 use Rattle.cal_read.specs.declared.stamp.form.NearDay.{NearDay}
 use Rattle.cal_read.specs.declared.stamp.form.NearDay.TheVariants.{Yesterday, Today, Tomorrow}
+use Rattle.cal_read.specs.declared.stamp.setting.Setting as zones
 use Rattle.cal_read.specs.declared.stamp.written.Written as written
 
 -- an answer, by the microseconds of its moment
@@ -46,3 +48,6 @@ form_seen (Civil text) = forms.civil (words text.now)
 -- the zones by which a text is read
 abbrev pub setting : TimeZone → (List ℕ → Option TimeZone) → meaning.Setting
 setting local find = record { local = local; find = find }
+
+abbrev pub setting_seen : zones.Setting → meaning.Setting
+setting_seen at = setting (zone_of at.local) (zone_named at.table.now)

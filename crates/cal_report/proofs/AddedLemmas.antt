@@ -65,21 +65,25 @@ added_none asked base exceptions merge h = record {
   is = λ i. record { started = h i; lists = sym (append-nil merge.lists) i; exceptions = merge.exceptions };
 }
 
+timed_more : (asked : Request) (lines : List declared_line.TimerLine) (i : ℕ) (line : declared_line.TimerLine) → i < length lines → line ≡ get_or lines i line
+    → map (timed_entry asked) (map shown (take (i + 1) lines)) ≡ map (timed_entry asked) (map shown (take i lines)) ++ timed_entry asked (shown line) ∷ []
+timed_more asked lines i line h is =
+    ap (map (timed_entry asked)) (shown_more lines i line h ∙ ap (λ x. map shown (take i lines) ++ shown x ∷ []) (sym is))
+    ∙ map-append (timed_entry asked) (map shown (take i lines)) (shown line ∷ [])
+
 pub added_one : (asked : Request) (base : ℤ) (lines : List declared_line.TimerLine) (exceptions : List (TimerLine Fields)) (i : ℕ) (line : declared_line.TimerLine) (old mid new : Merge) (elapses : List ℤ)
     → i < length lines → line ≡ get_or lines i line → IsAdded asked base (map shown (take i lines)) exceptions old mid
     → elapses ≡ elapses_after (timed_entry asked (shown line) ∷ []) base → new ≡ record { started = false; lists = mid.lists ++ elapses ∷ []; exceptions = mid.exceptions }
     → IsAdded asked base (map shown (take (i + 1) lines)) exceptions old new
 added_one asked base lines exceptions i line old mid new elapses h is a so with_it =
     let e = timed_entry asked (shown line) in
-    let more : map (timed_entry asked) (map shown (take (i + 1) lines)) ≡ map (timed_entry asked) (map shown (take i lines)) ++ e ∷ []
-    = ap (map (timed_entry asked)) (shown_more lines i line h ∙ ap (λ x. map shown (take i lines) ++ shown x ∷ []) (sym is)) ∙ map-append (timed_entry asked) (map shown (take i lines)) (shown line ∷ []) in
     let each = λ (t : Timed). elapses_after (t ∷ []) base in
     let lists : mid.lists ++ elapses ∷ [] ≡ old.lists ++ each_after (a.kept ++ e ∷ []) base
     = ap (λ (m : Merge). m.lists ++ elapses ∷ []) a.is ∙ append_assoc old.lists (each_after a.kept base) (elapses ∷ [])
     ∙ ap (λ (l : List (List ℤ)). old.lists ++ l) (ap (λ (l : List ℤ). each_after a.kept base ++ l ∷ []) so ∙ sym (map-append each a.kept (e ∷ []))) in
     record {
       kept = a.kept ++ e ∷ [];
-      are_kept = rw more (kept_one (map (timed_entry asked) (map shown (take i lines))) (map (timed_entry asked) exceptions) a.kept e a.are_kept);
+      are_kept = rw (timed_more asked lines i line h is) (kept_one (map (timed_entry asked) (map shown (take i lines))) (map (timed_entry asked) exceptions) a.kept e a.are_kept);
       is = with_it ∙ (λ j. record { started = false; lists = lists j; exceptions = ap (λ (m : Merge). m.exceptions) a.is j });
     }
 
@@ -88,11 +92,9 @@ pub added_without : (asked : Request) (base : ℤ) (lines : List declared_line.T
     → IsAdded asked base (map shown (take (i + 1) lines)) exceptions old new
 added_without asked base lines exceptions i line old new h is a covered =
     let e = timed_entry asked (shown line) in
-    let more : map (timed_entry asked) (map shown (take (i + 1) lines)) ≡ map (timed_entry asked) (map shown (take i lines)) ++ e ∷ []
-    = ap (map (timed_entry asked)) (shown_more lines i line h ∙ ap (λ x. map shown (take i lines) ++ shown x ∷ []) (sym is)) ∙ map-append (timed_entry asked) (map shown (take i lines)) (shown line ∷ []) in
     record {
       kept = a.kept;
-      are_kept = rw more (kept_without (map (timed_entry asked) (map shown (take i lines))) (map (timed_entry asked) exceptions) a.kept e (covered asked) a.are_kept);
+      are_kept = rw (timed_more asked lines i line h is) (kept_without (map (timed_entry asked) (map shown (take i lines))) (map (timed_entry asked) exceptions) a.kept e (covered asked) a.are_kept);
       is = a.is;
     }
 

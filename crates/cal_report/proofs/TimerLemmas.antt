@@ -1,7 +1,8 @@
 -- Lemmas on the report of a timer file: the merge of its elapses, line by line, and the texts of its lines.
-use Rattle.std.proofs.Common.{◌≢◌, Result, Ok, Err, ◌≡◌, ℕ, zero, suc, ◌+◌, ◌<◌, ◌++◌, Bool, true, false, List, [], ◌∷◌, length, map, take, drop, get_or, Option, None, Some, ℤ, pos, ◌≤ℤ◌, refl, subst, string_bytes, arith}
+use Rattle.std.proofs.Common.{◌≢◌, Result, Ok, Err, ◌≡◌, ℕ, zero, suc, ◌+◌, ◌<◌, ◌++◌, Bool, true, false, List, [], ◌∷◌, length, map, take, drop, get_or, Option, None, Some, ℤ, pos, ◌≤ℤ◌, refl, ap, ◌∙◌, subst, string_bytes, arith}
 use Rattle.std.specs.List.{find, flat_map}
 use Rattle.std.specs.Option.{option_map, unwrap_or}
+use Rattle.std.proofs.lemmas.Bool.{false_from_ne_true}
 use Rattle.std.proofs.lemmas.List.{take_more, map-append}
 use Rattle.std.proofs.lemmas.List.Folds.{flat_map-map}
 use Rattle.jiff.specs.Types.{UTC}
@@ -21,9 +22,7 @@ use Rattle.cal_report.specs.TimerPlan.{IsMergeOf, plan_text}
 use Rattle.cal_report.specs.TimerReport.{IsHad, elapses_of_lists, first_unzoned, headings_text, lacks_zone, lesser_line, timed_entry, timer_answer, timer_report, unzoned}
 use Rattle.cal_report.specs.CalendarReport.{zone_for}
 use Rattle.cal_report.specs.headline.CalendarReport.{heading_text}
-use Rattle.std.specs.Io.KnownBytes.{Appends}
-use Rattle.cal_bytes.specs.Bytes.{AppendsFront, Leaves}
-use Rattle.cal_bytes.proofs.Pieces.{step_piece, stop_piece}
+use Rattle.cal_bytes.proofs.PutLemmas.{item_first}
 
 pub none_mapped : (o : Option (TimerLine Fields)) → option_map (λ (e : TimerLine Fields). e.number) o ≡ None → o ≡ None
 none_mapped None h = refl
@@ -46,10 +45,10 @@ found_at p (x ∷ lines) zero line h is lacks =
 found_at p (x ∷ lines) (suc i) line h is lacks =
     found_there p (shown x) (map shown lines) (p (shown x)) refl (found_at p lines i line (omega arith) is lacks)
 
-pub unzoned_at : (asked : Request) (lines : List declared_line.TimerLine) (i : ℕ) (line : declared_line.TimerLine) → i < length lines → line ≡ get_or lines i line
-    → lacks_zone asked (shown line) ≡ true → first_unzoned asked (map shown lines) ≢ None
-unzoned_at asked lines i line h is lacks never =
-    found_at (lacks_zone asked) lines i line h is lacks (none_mapped (find (lacks_zone asked) (map shown lines)) never)
+pub zoned_at : (asked : Request) (lines : List declared_line.TimerLine) (i : ℕ) (line : declared_line.TimerLine) → i < length lines → line ≡ get_or lines i line
+    → first_unzoned asked (map shown lines) ≡ None → lacks_zone asked (shown line) ≡ false
+zoned_at asked lines i line h is none =
+    false_from_ne_true (lacks_zone asked (shown line)) (λ lacks. found_at (lacks_zone asked) lines i line h is lacks (none_mapped (find (lacks_zone asked) (map shown lines)) none))
 
 -- both lists have all their zones
 lesser_none : (a b : Option ℕ) → lesser_line a b ≡ None → (a ≡ None) × (b ≡ None)
@@ -79,17 +78,9 @@ abbrev pub line_text : List ℕ → declared_line.TimerLine → List ℕ
 line_text label line = heading_text label (string_bytes line.text) line.expr
 
 -- the texts of the lines from an index on begin with that of the line there
-pub headings-next : (label : List ℕ) (a b c : Option (List ℕ)) (lines : List declared_line.TimerLine) (i : ℕ) (line : declared_line.TimerLine) (text whole : List ℕ) → i < length lines
-    → line ≡ get_or lines i line → text ≡ string_bytes line.text → Leaves a b (flat_map (line_text label) (drop i lines)) whole
-    → Appends b c (heading_text label text line.expr) → Leaves a c (flat_map (line_text label) (drop (i + 1) lines)) whole
-headings-next label a b c lines i line text whole h is so l w =
-    step_piece a b c (line_text label) i lines line whole h l (subst (λ (x : declared_line.TimerLine). Appends b c (line_text label x)) is (rw so at w))
-
-pub headings-stop : (label : List ℕ) (a b c : Option (List ℕ)) (lines : List declared_line.TimerLine) (i : ℕ) (line : declared_line.TimerLine) (text whole : List ℕ) → i < length lines
-    → line ≡ get_or lines i line → text ≡ string_bytes line.text → Leaves a b (flat_map (line_text label) (drop i lines)) whole
-    → AppendsFront b c (heading_text label text line.expr) → AppendsFront a c whole
-headings-stop label a b c lines i line text whole h is so l w =
-    stop_piece a b c (line_text label) i lines line whole h l (subst (λ (x : declared_line.TimerLine). AppendsFront b c (line_text label x)) is (rw so at w))
+pub lines-first : (label : List ℕ) (lines : List declared_line.TimerLine) (i : ℕ) (line : declared_line.TimerLine) (text : List ℕ) → i < length lines
+    → line ≡ get_or lines i line → text ≡ string_bytes line.text → flat_map (line_text label) (drop i lines) ≡ heading_text label text line.expr ++ flat_map (line_text label) (drop (i + 1) lines)
+lines-first label lines i line text h is so = item_first (line_text label) i lines line h (ap (λ bytes. heading_text label bytes line.expr) so ∙ ap (line_text label) is)
 
 pub headings-all : (label : List ℕ) (lines : List declared_line.TimerLine) → headings_text label (map shown lines) ≡ flat_map (line_text label) lines
 unfolding headings_text

@@ -1,7 +1,7 @@
 //! What each verb reads from a text, and why it rejects one.
 
-ghost use Rattle.std.specs.Prelude.{◌≡◌, [], ◌∷◌, ℤ, Ok, Err, IfOk, IfErr, IsErrOf, false, is_err, option_map};
-ghost use Rattle.cal_bytes.specs.Bytes.{Writes};
+ghost use Rattle.std.specs.Prelude.{◌≡◌, [], ◌∷◌, ℤ, Ok, Err, IfOk, IfErr, IsErrOf, false, option_map};
+ghost use Rattle.cal_bytes.specs.Puts.{Puts};
 ghost use Rattle.cal_bytes.specs.headline.Bytes.{joined};
 ghost use Rattle.cal_zone.specs.headline.Zone.{zone_of};
 ghost use Rattle.cal_read.specs.StampViews.{micros_or_fault};
@@ -151,7 +151,7 @@ pub fn zone_for<'a>(context: Context<'a>, expr: &Expr) -> Option<Zone<'a>>
 }
 
 /// Writes the report of what was read from the text, in its place among the others.
-#[tactic(auto, using(cal_bytes::proofs::Pieces::first_fails, cal_bytes::proofs::Pieces::second_ends))]
+#[tactic(auto, using(cal_bytes::proofs::PutLemmas::puts))]
 pub fn put_report<W: Sink>(
     out: &mut W,
     is_later: bool,
@@ -161,8 +161,7 @@ pub fn put_report<W: Sink>(
 ) -> Result<(), WriteFault>
     requires timely { IsTimely accepted }
     requires out { W.is_failed out.old ≡ false }
-    ensures failed { W.is_failed out.new ≡ is_err result }
-    ensures bytes { Writes (W.written out.old) (W.written out.new) result
+    ensures { Puts W.Sink out.old out.new result
         (joined (lead_text is_later ∷ report_text (asked_by context.entry) text.now accepted.entry ∷ [])) }
 {
     put_lead(out, is_later)?;
@@ -178,8 +177,7 @@ pub fn write_report<W: Sink>(
 ) -> Result<(), WriteFault>
     requires timely { IsTimely accepted }
     requires out { W.is_failed out.old ≡ false }
-    ensures failed { W.is_failed out.new ≡ is_err result }
-    ensures bytes { Writes (W.written out.old) (W.written out.new) result
+    ensures { Puts W.Sink out.old out.new result
         (report_text (asked_by context.entry) text.now accepted.entry) }
 {
     match accepted {
@@ -194,8 +192,7 @@ pub fn write_report<W: Sink>(
 /// Writes the empty line that parts a report from the one before it.
 fn put_lead<W: Sink>(out: &mut W, is_later: bool) -> Result<(), WriteFault>
     requires { W.is_failed out.old ≡ false }
-    ensures failed { W.is_failed out.new ≡ is_err result }
-    ensures bytes { Writes (W.written out.old) (W.written out.new) result (lead_text is_later) }
+    ensures { Puts W.Sink out.old out.new result (lead_text is_later) }
 {
     if is_later {
         put_all(out, b"\n")

@@ -1,8 +1,8 @@
 //! The report of one calendar expression (systemd-analyze(1), calendar): its text, its normal form, and
 //! its next elapses with the span until each.
 
-ghost use Rattle.std.specs.Prelude.{◌≡◌, [], ◌∷◌, false, is_err};
-ghost use Rattle.cal_bytes.specs.Bytes.{Writes};
+ghost use Rattle.std.specs.Prelude.{◌≡◌, [], ◌∷◌, false};
+ghost use Rattle.cal_bytes.specs.Puts.{Puts};
 ghost use Rattle.cal_report.specs.CalendarReport.{report_of_elapses};
 ghost use Rattle.cal_report.specs.headline.CalendarReport.{heading_text, normal_line};
 ghost use Rattle.cal_report.specs.Context.{asked_by};
@@ -17,7 +17,7 @@ use cal_spec::{Expr, write_expr};
 
 /// Writes the report of an expression: its text, its normal form, and as many of its elapses as are asked for, each
 /// with the span between it and the present.
-#[tactic(auto, using(cal_bytes::proofs::Pieces::first_fails, cal_bytes::proofs::Pieces::second_ends))]
+#[tactic(auto, using(cal_bytes::proofs::PutLemmas::puts))]
 pub fn write_calendar<W: Sink, S: Rising>(
     out: &mut W,
     context: Context<'_>,
@@ -27,8 +27,7 @@ pub fn write_calendar<W: Sink, S: Rising>(
 ) -> Result<(), WriteFault>
     requires instants { AreInstants (S.rest elapses.old) }
     requires out { W.is_failed out.old ≡ false }
-    ensures failed { W.is_failed out.new ≡ is_err result }
-    ensures bytes { Writes (W.written out.old) (W.written out.new) result
+    ensures { Puts W.Sink out.old out.new result
         (report_of_elapses (asked_by context.entry) text.now expr.now (S.rest elapses.old)) }
 {
     put_heading(out, ORIGINAL, text, expr)?;
@@ -42,7 +41,7 @@ pub fn write_calendar<W: Sink, S: Rising>(
 }
 
 /// Writes a text as it was handed in, after its label, and its normal form.
-#[tactic(auto, using(cal_bytes::proofs::Pieces::first_fails, cal_bytes::proofs::Pieces::second_ends), unfolding(crate::specs::headline::CalendarReport::heading_text))]
+#[tactic(auto, using(cal_bytes::proofs::PutLemmas::puts), unfolding(crate::specs::headline::CalendarReport::heading_text))]
 pub fn put_heading<W: Sink>(
     out: &mut W,
     label: &[u8],
@@ -50,21 +49,17 @@ pub fn put_heading<W: Sink>(
     expr: &Expr,
 ) -> Result<(), WriteFault>
     requires { W.is_failed out.old ≡ false }
-    ensures failed { W.is_failed out.new ≡ is_err result }
-    ensures bytes { Writes (W.written out.old) (W.written out.new) result
-        (heading_text label.now text.now expr.now) }
+    ensures { Puts W.Sink out.old out.new result (heading_text label.now text.now expr.now) }
 {
     put_text(out, label, text)?;
     put_normal(out, expr)
 }
 
 /// Writes the rest of the line of the normal form.
-#[tactic(auto, using(cal_bytes::proofs::Pieces::first_fails, cal_bytes::proofs::Pieces::second_ends), unfolding(crate::specs::headline::CalendarReport::normal_line))]
+#[tactic(auto, using(cal_bytes::proofs::PutLemmas::puts), unfolding(crate::specs::headline::CalendarReport::normal_line))]
 fn put_normal<W: Sink>(out: &mut W, expr: &Expr) -> Result<(), WriteFault>
     requires { W.is_failed out.old ≡ false }
-    ensures failed { W.is_failed out.new ≡ is_err result }
-    ensures bytes { Writes (W.written out.old) (W.written out.new) result
-        (normal_line expr.now) }
+    ensures { Puts W.Sink out.old out.new result (normal_line expr.now) }
 {
     write_expr(out, expr)?;
     put_all(out, b"\n")

@@ -1,7 +1,7 @@
 //! The lines of elapses in a report, each with the span between it and the present (systemd-analyze(1), calendar).
 
-ghost use Rattle.std.specs.Prelude.{◌≡◌, ◌+◌, ◌-◌, ◌≤◌, ◌++◌, length, false, is_err, option_map, take, slice_get, drop};
-ghost use Rattle.cal_bytes.specs.Bytes.{Writes};
+ghost use Rattle.std.specs.Prelude.{◌≡◌, ◌+◌, ◌-◌, ◌≤◌, ◌++◌, length, false, option_map, take, slice_get, drop};
+ghost use Rattle.cal_bytes.specs.Puts.{Puts};
 ghost use Rattle.cal_bytes.specs.declared.short_text.TheConstants.{ROOM};
 ghost use Rattle.cal_span.specs.declared.span.text.TheConstants.{SPAN_ROOM};
 ghost use Rattle.cal_report.specs.ElapseLines.{AreInstants};
@@ -26,8 +26,7 @@ pub fn put_elapses<W: Sink, S: Rising>(
     requires iterations { IsCount iterations }
     requires instants { AreInstants (S.rest elapses.old) }
     requires out { W.is_failed out.old ≡ false }
-    ensures failed { W.is_failed out.new ≡ is_err result }
-    ensures bytes { Writes (W.written out.old) (W.written out.new) result
+    ensures { Puts W.Sink out.old out.new result
         (elapses_text local.entry now.secs (take iterations (S.rest elapses.old))) }
 {
     match next_instant(elapses) {
@@ -51,8 +50,7 @@ fn put_more<W: Sink, S: Rising>(
     requires iterations { IsCount iterations }
     requires instants { AreInstants (S.rest elapses.old) }
     requires out { W.is_failed out.old ≡ false }
-    ensures failed { W.is_failed out.new ≡ is_err result }
-    ensures bytes { Writes (W.written out.old) (W.written out.new) result
+    ensures { Puts W.Sink out.old out.new result
         (elapse_texts clocks.old now.secs 2 (take (iterations - 1) (S.rest elapses.old))) }
 {
     for number in 2..iterations + 1 {
@@ -89,9 +87,7 @@ fn put_elapse<W: Sink>(
     now: Instant,
 ) -> Result<(), WriteFault>
     requires { W.is_failed out.old ≡ false }
-    ensures failed { W.is_failed out.new ≡ is_err result }
-    ensures bytes { Writes (W.written out.old) (W.written out.new) result
-        (elapse_text clocks.old now.secs number elapse.secs) }
+    ensures text { Puts W.Sink out.old out.new result (elapse_text clocks.old now.secs number elapse.secs) }
     ensures local { clocks.new ≡ clocks.old }
 {
     let mut text = ShortText::new();

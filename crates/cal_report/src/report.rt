@@ -1,12 +1,13 @@
 //! The report of a whole request: the reports of its texts or of its timer file on standard output, the refusals on
 //! standard error, and the status (systemd-analyze(1)).
 
-ghost use Rattle.std.specs.Prelude.{ℕ, List, Result, slice_index_or, map, ◌≡◌, [], ◌∷◌, false, is_err, codes, IfOk, IsErrOf};
+ghost use Rattle.std.specs.Prelude.{ℕ, List, Result, slice_index_or, map, ◌≡◌, [], ◌∷◌, false, codes, IfOk, IsErrOf};
 ghost use Rattle.std.specs.String.{string_bytes};
 ghost use Rattle.cal_bytes.specs.Whole.{is_read_failed};
 ghost use Rattle.cal_bytes.specs.declared.whole.WholeFault.{WholeFault};
 ghost use Rattle.cal_read.specs.TimerText.{ReadsWhole, most_file_bytes};
 ghost use Rattle.cal_bytes.specs.Bytes.{Writes};
+ghost use Rattle.cal_bytes.specs.Puts.{Puts};
 ghost use Rattle.cal_bytes.specs.headline.Bytes.{joined};
 ghost use Rattle.cal_report.specs.Answer.{IsAnsweredBefore, refusal_in, refusal_line, later_text, status_in, reports_text, refusals_text, texts_status};
 ghost use Rattle.cal_report.specs.Context.{asked_by};
@@ -245,9 +246,7 @@ fn put_refusal<W: Sink>(
     words: &str,
 ) -> Result<(), WriteFault>
     requires { W.is_failed err.old ≡ false }
-    ensures failed { W.is_failed err.new ≡ is_err result }
-    ensures bytes { Writes (W.written err.old) (W.written err.new) result
-        (refusal_at text.now line words.now) }
+    ensures { Puts W.Sink err.old err.new result (refusal_at text.now line words.now) }
 {
     let Some(line) = line else {
         return put_pieces(err, &[text.as_bytes(), b": ", words.as_bytes(), b"\n"]);

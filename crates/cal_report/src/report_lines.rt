@@ -1,7 +1,7 @@
 //! Lines of the reports (systemd-analyze(1), calendar and timestamp).
 
-ghost use Rattle.std.specs.Prelude.{◌≡◌, ◌+◌, ◌≤◌, ◌++◌, ◌-ℤ◌, false, is_err, length, unsigned_abs};
-ghost use Rattle.cal_bytes.specs.Bytes.{Writes};
+ghost use Rattle.std.specs.Prelude.{◌≡◌, ◌+◌, ◌≤◌, ◌++◌, ◌-ℤ◌, false, length, unsigned_abs};
+ghost use Rattle.cal_bytes.specs.Puts.{Puts};
 ghost use Rattle.cal_bytes.specs.declared.short_text.TheConstants.{ROOM};
 ghost use Rattle.cal_span.specs.declared.span.text.TheConstants.{SPAN_ROOM};
 ghost use Rattle.cal_report.specs.headline.ReportLines.{direction_text, distance_text, micros_of, text_line};
@@ -19,9 +19,7 @@ pub const EXCEPT: &[u8] = b"    Except form: ";
 /// Writes the line of a text after its label, and the next label.
 pub fn put_text<W: Sink>(out: &mut W, label: &[u8], text: &str) -> Result<(), WriteFault>
     requires { W.is_failed out.old ≡ false }
-    ensures failed { W.is_failed out.new ≡ is_err result }
-    ensures bytes { Writes (W.written out.old) (W.written out.new) result
-        (text_line label.now text.now) }
+    ensures { Puts W.Sink out.old out.new result (text_line label.now text.now) }
 {
     put_pieces(out, &[label, text.as_bytes(), b"\nNormalized form: "])
 }

@@ -1,9 +1,9 @@
 //! The report of a timer file: its expressions and exceptions, and the next elapses of all of them with the span until
 //! each (systemd.timer(5), OnCalendar=).
 
-ghost use Rattle.std.specs.Prelude.{◌≡◌, ◌≢◌, ◌++◌, ℕ, List, Result, [], ◌∷◌, Ok, Err, None, Some, MatchResult, false, true, is_err, map, take, is_none, codes, length};
+ghost use Rattle.std.specs.Prelude.{◌≡◌, ◌≢◌, ◌++◌, ℕ, List, Result, [], ◌∷◌, Ok, Err, None, Some, MatchResult, false, true, map, IfOk, OnOk, take, is_none, codes, length};
 ghost use Rattle.std.specs.List.{find, list_any};
-ghost use Rattle.cal_bytes.specs.Bytes.{Writes};
+ghost use Rattle.cal_bytes.specs.Puts.{Puts};
 ghost use Rattle.cal_bytes.specs.headline.Bytes.{joined};
 ghost use Rattle.cal_bytes.specs.Whole.{is_read_failed};
 ghost use Rattle.cal_zone.specs.headline.Zone.{zone_of};
@@ -71,6 +71,14 @@ impl TimerRefusal {
             TimerRefusal::NoSuchZone(line) => Some(*line),
             TimerRefusal::NoMemory => None,
         }
+    }
+}
+
+impl From<AllocError> for TimerRefusal {
+    ghost from_gives = { λ _ refusal. refusal ≡ NoMemory };
+
+    fn from(_refused: AllocError) -> TimerRefusal {
+        TimerRefusal::NoMemory
     }
 }
 
@@ -153,18 +161,19 @@ fn first_unzoned(context: Context<'_>, lines: &[TimerLine]) -> Option<u32>
     None
 }
 
-/// Adds the elapses of expressions to a merge from which nothing was taken, but for those that an exception covers.
+/// Adds the elapses of expressions, whose zones are there, to a merge from which nothing was taken, but for those that an
+/// exception covers.
 fn add_expressions<'a>(
     alloc: Global,
     context: Context<'a>,
     merge: &mut Merge<Elapses<'a>>,
     lines: &[TimerLine],
     exceptions: &[TimerLine],
-) -> Result<(), TimerRefusal>
-    requires { merge.old.started ≡ false }
-    ensures { let list = map shown lines.now in MatchResult result
-        (λ _. IsAdded (asked_by context.entry) context.entry.base.secs list (map shown exceptions.now) merge.old merge.new)
-        (λ refusal. refusal ≢ NoMemory → first_unzoned (asked_by context.entry) list ≢ None) }
+) -> Result<(), AllocError>
+    requires zones { first_unzoned (asked_by context) (map shown lines.now) ≡ None }
+    requires merge { merge.old.started ≡ false }
+    ensures { OnOk result
+        (IsAdded (asked_by context.entry) context.entry.base.secs (map shown lines.now) (map shown exceptions.now) merge.old merge.new) }
 {
     let masks = masks_of(alloc, exceptions)?;
     for line in lines {
@@ -172,24 +181,20 @@ fn add_expressions<'a>(
             continue;
         }
         let elapses = elapses_of(alloc, context, line)?;
-        if let Err(_refused) = merge.add(elapses) {
-            return Err(TimerRefusal::NoMemory);
+        if let Err((_, refused)) = merge.add(elapses) {
+            return Err(refused);
         }
     }
     Ok(())
 }
 
 /// The masks of each line's expression.
-fn masks_of(alloc: Global, lines: &[TimerLine]) -> Result<Vec<Masks>, TimerRefusal>
-    ensures { MatchResult result
-        (λ masks. map sets_in masks.items ≡ map entry_sets (map shown lines.now))
-        (λ refusal. refusal ≡ NoMemory) }
+fn masks_of(alloc: Global, lines: &[TimerLine]) -> Result<Vec<Masks>, AllocError>
+    ensures { IfOk result (λ masks. map sets_in masks.items ≡ map entry_sets (map shown lines.now)) }
 {
     let mut masks = Vec::new(alloc);
     for line in lines {
-        if let Err(_refused) = masks.push(Masks::of(&line.expr)) {
-            return Err(TimerRefusal::NoMemory);
-        }
+        masks.push(Masks::of(&line.expr))?;
     }
     Ok(masks)
 }
@@ -216,51 +221,46 @@ fn is_same_zone(one: &Expr, other: &Expr) -> bool
     one.zone_offset() == other.zone_offset() && one.zone_name() == other.zone_name()
 }
 
-/// Adds the elapses of exceptions to a merge from which nothing was taken.
+/// Adds the elapses of exceptions, whose zones are there, to a merge from which nothing was taken.
 fn add_exceptions<'a>(
     alloc: Global,
     context: Context<'a>,
     merge: &mut Merge<Elapses<'a>>,
     lines: &[TimerLine],
-) -> Result<(), TimerRefusal>
-    requires { merge.old.started ≡ false }
-    ensures { let list = map shown lines.now in MatchResult result
-        (λ _. merge.new ≡ record { started = false; lists = merge.old.lists; exceptions = merge.old.exceptions ++ each_of (asked_by context.entry) context.entry.base.secs list })
-        (λ refusal. refusal ≢ NoMemory → first_unzoned (asked_by context.entry) list ≢ None) }
+) -> Result<(), AllocError>
+    requires zones { first_unzoned (asked_by context) (map shown lines.now) ≡ None }
+    requires merge { merge.old.started ≡ false }
+    ensures { OnOk result
+        (merge.new ≡ record { started = false; lists = merge.old.lists; exceptions = merge.old.exceptions ++ each_of (asked_by context.entry) context.entry.base.secs (map shown lines.now) }) }
 {
     for line in lines {
         let elapses = elapses_of(alloc, context, line)?;
-        if let Err(_refused) = merge.add_except(elapses) {
-            return Err(TimerRefusal::NoMemory);
+        if let Err((_, refused)) = merge.add_except(elapses) {
+            return Err(refused);
         }
     }
     Ok(())
 }
 
-/// The elapses of an expression in its zone.
+/// The elapses of an expression in its zone, which is there.
 #[tactic(auto, unfolding(crate::specs::TimerReport::timed_entry))]
 fn elapses_of<'a>(
     alloc: Global,
     context: Context<'a>,
     line: &TimerLine,
-) -> Result<Elapses<'a>, TimerRefusal>
-    ensures { MatchResult result
-        (λ elapses. (lacks_zone (asked_by context.entry) (shown line.now) ≡ false)
-        × (rest_of elapses ≡ elapses_after (timed_entry (asked_by context.entry) (shown line.now) ∷ []) context.entry.base.secs))
-        (λ refusal. refusal ≢ NoMemory → (lacks_zone (asked_by context.entry) (shown line.now) ≡ true)
-        × (refusal ≡ TimerRefusal.NoSuchZone line.now.number)) }
+) -> Result<Elapses<'a>, AllocError>
+    requires { lacks_zone (asked_by context) (shown line.now) ≡ false }
+    ensures { IfOk result (λ elapses. rest_of elapses
+        ≡ elapses_after (timed_entry (asked_by context.entry) (shown line.now) ∷ []) context.entry.base.secs) }
 {
     let Some(zone) = zone_for(context, &line.expr) else {
-        return Err(TimerRefusal::NoSuchZone(line.number));
+        unreachable!()
     };
-    match Elapses::new(alloc, &line.expr, zone, context.base) {
-        Ok(elapses) => Ok(elapses),
-        Err(AllocError) => Err(TimerRefusal::NoMemory),
-    }
+    Elapses::new(alloc, &line.expr, zone, context.base)
 }
 
 /// Writes the report of a timer file.
-#[tactic(auto, using(cal_bytes::proofs::Pieces::first_fails, cal_bytes::proofs::Pieces::second_ends))]
+#[tactic(auto, using(cal_bytes::proofs::PutLemmas::puts))]
 pub fn write_timer<W: Sink>(
     out: &mut W,
     context: Context<'_>,
@@ -268,9 +268,7 @@ pub fn write_timer<W: Sink>(
 ) -> Result<(), WriteFault>
     requires instants { AreInstants (merged plan.merge) }
     requires out { W.is_failed out.old ≡ false }
-    ensures failed { W.is_failed out.new ≡ is_err result }
-    ensures bytes { Writes (W.written out.old) (W.written out.new) result
-        (plan_text (asked_by context.entry) plan.entry) }
+    ensures { Puts W.Sink out.old out.new result (plan_text (asked_by context.entry) plan.entry) }
 {
     let TimerPlan { timer, mut merge } = plan;
     put_lists(out, &timer)?;
@@ -284,11 +282,10 @@ pub fn write_timer<W: Sink>(
 }
 
 /// Writes the text and the normal form of each expression, and then those of each exception.
-#[tactic(auto, using(cal_bytes::proofs::Pieces::first_fails, cal_bytes::proofs::Pieces::second_ends))]
+#[tactic(auto, using(cal_bytes::proofs::PutLemmas::puts))]
 fn put_lists<W: Sink>(out: &mut W, timer: &Timer) -> Result<(), WriteFault>
     requires { W.is_failed out.old ≡ false }
-    ensures failed { W.is_failed out.new ≡ is_err result }
-    ensures bytes { Writes (W.written out.old) (W.written out.new) result (lists_text timer.now) }
+    ensures { Puts W.Sink out.old out.new result (lists_text timer.now) }
 {
     put_headings(out, ORIGINAL, timer.lines())?;
     put_headings(out, EXCEPT, timer.exceptions())
@@ -297,9 +294,7 @@ fn put_lists<W: Sink>(out: &mut W, timer: &Timer) -> Result<(), WriteFault>
 /// Writes the text of each line of a list, after that label, and its normal form.
 fn put_headings<W: Sink>(out: &mut W, label: &[u8], lines: &[TimerLine]) -> Result<(), WriteFault>
     requires { W.is_failed out.old ≡ false }
-    ensures failed { W.is_failed out.new ≡ is_err result }
-    ensures bytes { Writes (W.written out.old) (W.written out.new) result
-        (headings_text label.now (map shown lines.now)) }
+    ensures { Puts W.Sink out.old out.new result (headings_text label.now (map shown lines.now)) }
 {
     for line in lines {
         put_heading(out, label, line.text.as_str(), &line.expr)?;

@@ -1,8 +1,8 @@
 //! The report of one time span (systemd-analyze(1), timespan): its text, its microseconds, and the span
 //! as it is printed.
 
-ghost use Rattle.std.specs.Prelude.{◌≡◌, false, is_err};
-ghost use Rattle.cal_bytes.specs.Bytes.{Writes};
+ghost use Rattle.std.specs.Prelude.{◌≡◌, false};
+ghost use Rattle.cal_bytes.specs.Puts.{Puts};
 ghost use Rattle.cal_report.specs.TimespanReport.{timespan_report};
 
 use cal_bytes::{Sink, WriteFault, put_pieces};
@@ -13,9 +13,7 @@ use itoa::Buffer;
 #[tactic(auto, unfolding(crate::specs::TimespanReport::timespan_report))]
 pub fn write_timespan<W: Sink>(out: &mut W, text: &str, span: Span) -> Result<(), WriteFault>
     requires { W.is_failed out.old ≡ false }
-    ensures failed { W.is_failed out.new ≡ is_err result }
-    ensures bytes { Writes (W.written out.old) (W.written out.new) result
-        (timespan_report text.now span.micros) }
+    ensures { Puts W.Sink out.old out.new result (timespan_report text.now span.micros) }
 {
     let mut buffer = Buffer::new();
     let micros = buffer.format(span.micros());

@@ -1,8 +1,8 @@
 //! The report of one timestamp (systemd-analyze(1), timestamp): its text, its instant in the local zone and in UTC,
 //! its Unix time, and the span between it and the present.
 
-ghost use Rattle.std.specs.Prelude.{◌≡◌, ◌+◌, ◌≤◌, ◌++◌, false, is_err, length, unsigned_abs};
-ghost use Rattle.cal_bytes.specs.Bytes.{Writes};
+ghost use Rattle.std.specs.Prelude.{◌≡◌, ◌+◌, ◌≤◌, ◌++◌, false, length, unsigned_abs};
+ghost use Rattle.cal_bytes.specs.Puts.{Puts};
 ghost use Rattle.cal_bytes.specs.declared.short_text.TheConstants.{ROOM};
 ghost use Rattle.cal_span.specs.declared.span.text.TheConstants.{SPAN_ROOM};
 ghost use Rattle.cal_report.specs.Context.{asked_by};
@@ -16,7 +16,7 @@ use cal_zone::{Instant, Moment, Zone};
 use itoa::Buffer;
 
 /// Writes the report of a moment that was read from the text.
-#[tactic(auto, using(cal_bytes::proofs::Pieces::first_fails, cal_bytes::proofs::Pieces::second_ends), unfolding(crate::specs::TimestampReport::timestamp_report))]
+#[tactic(auto, using(cal_bytes::proofs::PutLemmas::puts), unfolding(crate::specs::TimestampReport::timestamp_report))]
 pub fn write_timestamp<W: Sink>(
     out: &mut W,
     context: Context<'_>,
@@ -24,8 +24,7 @@ pub fn write_timestamp<W: Sink>(
     moment: Moment,
 ) -> Result<(), WriteFault>
     requires { W.is_failed out.old ≡ false }
-    ensures failed { W.is_failed out.new ≡ is_err result }
-    ensures bytes { Writes (W.written out.old) (W.written out.new) result
+    ensures { Puts W.Sink out.old out.new result
         (timestamp_report (asked_by context.entry) text.now moment.micros) }
 {
     put_text(out, ORIGINAL, text)?;
@@ -40,9 +39,7 @@ fn put_moment<W: Sink>(
     moment: Moment,
 ) -> Result<(), WriteFault>
     requires { W.is_failed out.old ≡ false }
-    ensures failed { W.is_failed out.new ≡ is_err result }
-    ensures bytes { Writes (W.written out.old) (W.written out.new) result
-        (moment_lines local.entry now.secs moment.micros) }
+    ensures { Puts W.Sink out.old out.new result (moment_lines local.entry now.secs moment.micros) }
 {
     let mut text = ShortText::new();
     push_moment(&mut text, &mut Clocks::new(local), now, moment);

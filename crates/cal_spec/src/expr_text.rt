@@ -1,8 +1,8 @@
 //! Calendar expressions as text, in their normal form (systemd.time(7), Calendar Events).
 
-ghost use Rattle.std.specs.Prelude.{◌≡◌, ◌≤◌, [], ◌∷◌, codes, drop, false, is_err, option_copied, option_map};
+ghost use Rattle.std.specs.Prelude.{◌≡◌, ◌≤◌, [], ◌∷◌, codes, drop, false, option_copied, option_map};
 ghost use Rattle.std.specs.List.{flat_map};
-ghost use Rattle.cal_bytes.specs.Bytes.{Writes};
+ghost use Rattle.cal_bytes.specs.Puts.{Puts};
 ghost use Rattle.cal_bytes.specs.headline.Bytes.{joined};
 ghost use Rattle.cal_zone.specs.headline.InstantText.{offset_text};
 ghost use Rattle.cal_spec.specs.Expr.{component};
@@ -29,10 +29,10 @@ struct Row<'a> {
 /// `Mon,Fri 2012-01/2-01,03 *:30:45`. Takes no memory.
 ///
 /// [`WriteFault::Failed`] comes exactly where the writer failed; it has a prefix of the text then.
+#[tactic(auto, using(cal_bytes::proofs::PutLemmas::puts), unfolding(crate::specs::headline::ExprText::expr_text))]
 pub fn write_expr<W: Sink>(out: &mut W, expr: &Expr) -> Result<(), WriteFault>
     requires { W.is_failed out.old ≡ false }
-    ensures failed { W.is_failed out.new ≡ is_err result }
-    ensures bytes { Writes (W.written out.old) (W.written out.new) result (expr_text expr.now) }
+    ensures { Puts W.Sink out.old out.new result (expr_text expr.now) }
 {
     put_weekdays(out, &expr.weekdays())?;
     put_rows(out, &rows(expr))?;
@@ -71,8 +71,7 @@ fn row_of<'a>(expr: &'a Expr, lead: &'a [u8], width: usize, field: Field) -> Row
 
 fn put_rows<W: Sink>(out: &mut W, rows: &[Row]) -> Result<(), WriteFault>
     requires { W.is_failed out.old ≡ false }
-    ensures failed { W.is_failed out.new ≡ is_err result }
-    ensures bytes { Writes (W.written out.old) (W.written out.new) result
+    ensures { Puts W.Sink out.old out.new result
         (flat_map (λ row. row_text row.lead.now row.width (option_copied row.parts)) rows.now) }
 {
     for row in rows {
@@ -81,10 +80,10 @@ fn put_rows<W: Sink>(out: &mut W, rows: &[Row]) -> Result<(), WriteFault>
     Ok(())
 }
 
+#[tactic(auto, using(cal_bytes::proofs::PutLemmas::puts), unfolding(crate::specs::headline::ExprText::row_text))]
 fn put_row<W: Sink>(out: &mut W, row: Row) -> Result<(), WriteFault>
     requires { W.is_failed out.old ≡ false }
-    ensures failed { W.is_failed out.new ≡ is_err result }
-    ensures bytes { Writes (W.written out.old) (W.written out.new) result
+    ensures { Puts W.Sink out.old out.new result
         (row_text row.entry.lead.now row.entry.width (option_copied row.entry.parts)) }
 {
     put_all(out, row.lead)?;
@@ -98,9 +97,7 @@ fn put_component<W: Sink>(
 ) -> Result<(), WriteFault>
     requires works { W.is_failed out.old ≡ false }
     requires narrow { width ≤ 4 }
-    ensures failed { W.is_failed out.new ≡ is_err result }
-    ensures bytes { Writes (W.written out.old) (W.written out.new) result
-        (component_text width (option_copied parts.entry)) }
+    ensures { Puts W.Sink out.old out.new result (component_text width (option_copied parts.entry)) }
 {
     match parts {
         Some(parts) => put_parts(out, width, parts),
@@ -111,8 +108,7 @@ fn put_component<W: Sink>(
 fn put_parts<W: Sink>(out: &mut W, width: usize, parts: &[Part]) -> Result<(), WriteFault>
     requires works { W.is_failed out.old ≡ false }
     requires narrow { width ≤ 4 }
-    ensures failed { W.is_failed out.new ≡ is_err result }
-    ensures bytes { Writes (W.written out.old) (W.written out.new) result (parts_text width parts.now) }
+    ensures { Puts W.Sink out.old out.new result (parts_text width parts.now) }
 {
     let Some((first, rest)) = parts.split_first() else {
         return Ok(());
@@ -125,11 +121,11 @@ fn put_parts<W: Sink>(out: &mut W, width: usize, parts: &[Part]) -> Result<(), W
 }
 
 /// Writes a part, with what leads up to it in front.
+#[tactic(auto, using(cal_bytes::proofs::PutLemmas::puts), unfolding(crate::specs::headline::ExprText::part_text))]
 fn put_part<W: Sink>(out: &mut W, lead: &[u8], width: usize, part: Part) -> Result<(), WriteFault>
     requires works { W.is_failed out.old ≡ false }
     requires narrow { width ≤ 4 }
-    ensures failed { W.is_failed out.new ≡ is_err result }
-    ensures bytes { Writes (W.written out.old) (W.written out.new) result (part_text lead.now width part) }
+    ensures { Puts W.Sink out.old out.new result (part_text lead.now width part) }
 {
     put_number(out, lead, width, part.start)?;
     put_optional(out, b"..", width, part.end)?;
@@ -144,8 +140,7 @@ fn put_optional<W: Sink>(
 ) -> Result<(), WriteFault>
     requires works { W.is_failed out.old ≡ false }
     requires narrow { width ≤ 4 }
-    ensures failed { W.is_failed out.new ≡ is_err result }
-    ensures bytes { Writes (W.written out.old) (W.written out.new) result (optional_text lead.now width number) }
+    ensures { Puts W.Sink out.old out.new result (optional_text lead.now width number) }
 {
     match number {
         Some(number) => put_number(out, lead, width, number),
@@ -163,8 +158,7 @@ fn put_number<W: Sink>(
 ) -> Result<(), WriteFault>
     requires works { W.is_failed out.old ≡ false }
     requires narrow { width ≤ 4 }
-    ensures failed { W.is_failed out.new ≡ is_err result }
-    ensures bytes { Writes (W.written out.old) (W.written out.new) result (number_text lead.now width number) }
+    ensures { Puts W.Sink out.old out.new result (number_text lead.now width number) }
 {
     let mut digits = Buffer::new();
     let number = digits.format(number);
@@ -176,8 +170,7 @@ fn put_number<W: Sink>(
 
 fn put_zone<W: Sink>(out: &mut W, zone: Option<&ZoneSuffix>) -> Result<(), WriteFault>
     requires { W.is_failed out.old ≡ false }
-    ensures failed { W.is_failed out.new ≡ is_err result }
-    ensures bytes { Writes (W.written out.old) (W.written out.new) result
+    ensures { Puts W.Sink out.old out.new result
         (zone_text (option_map shown_suffix (option_copied zone.entry))) }
 {
     match zone {
@@ -190,9 +183,7 @@ fn put_zone<W: Sink>(out: &mut W, zone: Option<&ZoneSuffix>) -> Result<(), Write
 /// Writes an offset after a space, as `+02:00`.
 fn put_offset<W: Sink>(out: &mut W, seconds: i32) -> Result<(), WriteFault>
     requires { W.is_failed out.old ≡ false }
-    ensures failed { W.is_failed out.new ≡ is_err result }
-    ensures bytes { Writes (W.written out.old) (W.written out.new) result
-        (joined (codes " " ∷ offset_text seconds ∷ [])) }
+    ensures { Puts W.Sink out.old out.new result (joined (codes " " ∷ offset_text seconds ∷ [])) }
 {
     let mut text = ShortText::new();
     push_offset(&mut text, seconds);

@@ -1,8 +1,8 @@
 //! The weekdays of an expression as text: `Mon..Thu,Sat,Sun`.
 
-ghost use Rattle.std.specs.Prelude.{◌≡◌, ◌+◌, ◌<◌, ◌≤◌, [], ◌∷◌, codes, drop, false, is_err, length};
+ghost use Rattle.std.specs.Prelude.{◌≡◌, ◌+◌, ◌<◌, ◌≤◌, [], ◌∷◌, codes, drop, false, length};
 ghost use Rattle.std.specs.List.{list_all, prefix_len};
-ghost use Rattle.cal_bytes.specs.Bytes.{Writes};
+ghost use Rattle.cal_bytes.specs.Puts.{Puts};
 ghost use Rattle.cal_bytes.specs.headline.Bytes.{joined};
 ghost use Rattle.cal_spec.specs.headline.WeekdayRuns.{day_name, run_text, runs_from, runs_text, weekdays_text};
 
@@ -10,10 +10,10 @@ use cal_bytes::{Sink, WriteFault, put_all, put_pieces};
 use cal_zone::{WEEK, short_weekday_name};
 
 /// Writes the chosen weekdays with a space after them, or nothing where all seven are chosen.
+#[tactic(auto, using(cal_bytes::proofs::PutLemmas::puts), unfolding(crate::specs::headline::WeekdayRuns::weekdays_text))]
 pub fn put_weekdays<W: Sink>(out: &mut W, days: &[bool; 7]) -> Result<(), WriteFault>
     requires { W.is_failed out.old ≡ false }
-    ensures failed { W.is_failed out.new ≡ is_err result }
-    ensures bytes { Writes (W.written out.old) (W.written out.new) result (weekdays_text days.now) }
+    ensures { Puts W.Sink out.old out.new result (weekdays_text days.now) }
 {
     if are_all(days) {
         return Ok(());
@@ -31,8 +31,7 @@ fn are_all(days: &[bool]) -> bool
 fn put_runs<W: Sink>(out: &mut W, days: &[bool]) -> Result<(), WriteFault>
     requires works { W.is_failed out.old ≡ false }
     requires short { length days.now ≤ 7 }
-    ensures failed { W.is_failed out.new ≡ is_err result }
-    ensures bytes { Writes (W.written out.old) (W.written out.new) result (runs_text (runs_from 0 days.now)) }
+    ensures { Puts W.Sink out.old out.new result (runs_text (runs_from 0 days.now)) }
 {
     let mut lead: &[u8] = b"";
     let mut first = 0;
@@ -57,12 +56,12 @@ fn front_len(days: &[bool]) -> usize
 }
 
 /// Writes a day alone, two as `first,second`, and more as `first..last`, with what leads up to them in front.
+#[tactic(auto, using(cal_bytes::proofs::PutLemmas::puts), unfolding(crate::specs::headline::WeekdayRuns::run_text))]
 fn put_run<W: Sink>(out: &mut W, lead: &[u8], first: usize, last: usize) -> Result<(), WriteFault>
     requires works { W.is_failed out.old ≡ false }
     requires forward { first ≤ last }
     requires in_week { last < 7 }
-    ensures failed { W.is_failed out.new ≡ is_err result }
-    ensures bytes { Writes (W.written out.old) (W.written out.new) result
+    ensures { Puts W.Sink out.old out.new result
         (run_text lead.now (record { first = first; last = last })) }
 {
     put_day(out, lead, first)?;
@@ -76,8 +75,7 @@ fn put_run<W: Sink>(out: &mut W, lead: &[u8], first: usize, last: usize) -> Resu
 fn put_day<W: Sink>(out: &mut W, lead: &[u8], day: usize) -> Result<(), WriteFault>
     requires works { W.is_failed out.old ≡ false }
     requires in_week { day < 7 }
-    ensures failed { W.is_failed out.new ≡ is_err result }
-    ensures bytes { Writes (W.written out.old) (W.written out.new) result (joined (lead.now ∷ day_name day ∷ [])) }
+    ensures { Puts W.Sink out.old out.new result (joined (lead.now ∷ day_name day ∷ [])) }
 {
     put_pieces(out, &[lead, day_name(day)])
 }

@@ -1,7 +1,7 @@
 //! Why the program stops before all is done, what it says then, and its status.
 
-ghost use Rattle.std.specs.Prelude.{◌≡◌, [], false, is_err};
-ghost use Rattle.cal_bytes.specs.Bytes.{Writes};
+ghost use Rattle.std.specs.Prelude.{◌≡◌, [], false};
+ghost use Rattle.cal_bytes.specs.Puts.{Puts};
 ghost use Rattle.cal_command.specs.Ask.{shown_fault};
 ghost use Rattle.cal_work.specs.Stop.{command_outlet, command_stop, command_text, exit_status, fault_stop, load_outlet, load_stop, outlet_of, own_line, shown_stop, text_of, unread_line, zones_line};
 
@@ -131,8 +131,7 @@ fn fault_status(fault: RunFault) -> u8
 /// Writes what is said of a stop: its line, the text of help, or nothing where standard error is what failed.
 pub fn write_stop<W: Sink>(out: &mut W, stop: &Stop) -> Result<(), WriteFault>
     requires { W.is_failed out.old ≡ false }
-    ensures failed { W.is_failed out.new ≡ is_err result }
-    ensures bytes { Writes (W.written out.old) (W.written out.new) result (text_of stop.now) }
+    ensures { Puts W.Sink out.old out.new result (text_of stop.now) }
 {
     match stop {
         Stop::Command(fault) => write_command(out, fault),
@@ -150,8 +149,7 @@ pub fn write_stop<W: Sink>(out: &mut W, stop: &Stop) -> Result<(), WriteFault>
 /// Writes what is said where the words ask for nothing that can be done.
 fn write_command<W: Sink>(out: &mut W, fault: &CommandFault) -> Result<(), WriteFault>
     requires { W.is_failed out.old ≡ false }
-    ensures failed { W.is_failed out.new ≡ is_err result }
-    ensures bytes { Writes (W.written out.old) (W.written out.new) result (command_text fault.now) }
+    ensures { Puts W.Sink out.old out.new result (command_text fault.now) }
 {
     match fault {
         CommandFault::Usage(text) | CommandFault::Help(text) => put_all(out, text.as_bytes()),
@@ -166,8 +164,7 @@ fn write_command<W: Sink>(out: &mut W, fault: &CommandFault) -> Result<(), Write
 /// Writes what is said of the zone file of that name.
 fn write_load<W: Sink>(out: &mut W, name: &str, fault: LoadFault) -> Result<(), WriteFault>
     requires { W.is_failed out.old ≡ false }
-    ensures failed { W.is_failed out.new ≡ is_err result }
-    ensures bytes { Writes (W.written out.old) (W.written out.new) result (load_stop name.now fault).err }
+    ensures { Puts W.Sink out.old out.new result (load_stop name.now fault).err }
 {
     match fault {
         LoadFault::Zone(ZoneFault::NoMemory) => write_own(out, "out of memory"),
@@ -178,8 +175,7 @@ fn write_load<W: Sink>(out: &mut W, name: &str, fault: LoadFault) -> Result<(), 
 /// Writes the line of a zone file.
 fn write_zones<W: Sink>(out: &mut W, name: &str, words: &str) -> Result<(), WriteFault>
     requires { W.is_failed out.old ≡ false }
-    ensures failed { W.is_failed out.new ≡ is_err result }
-    ensures bytes { Writes (W.written out.old) (W.written out.new) result (zones_line name.now words.now) }
+    ensures { Puts W.Sink out.old out.new result (zones_line name.now words.now) }
 {
     put_pieces(
         out,
@@ -196,8 +192,7 @@ fn write_zones<W: Sink>(out: &mut W, name: &str, words: &str) -> Result<(), Writ
 /// Writes the line of a file that can't be opened.
 fn write_unread<W: Sink>(out: &mut W, path: &str) -> Result<(), WriteFault>
     requires { W.is_failed out.old ≡ false }
-    ensures failed { W.is_failed out.new ≡ is_err result }
-    ensures bytes { Writes (W.written out.old) (W.written out.new) result (unread_line path.now) }
+    ensures { Puts W.Sink out.old out.new result (unread_line path.now) }
 {
     put_pieces(out, &[path.as_bytes(), b": cannot be read\n"])
 }
@@ -206,8 +201,7 @@ fn write_unread<W: Sink>(out: &mut W, path: &str) -> Result<(), WriteFault>
 #[tactic(auto, unfolding(crate::specs::Stop::own_line))]
 fn write_own<W: Sink>(out: &mut W, words: &str) -> Result<(), WriteFault>
     requires { W.is_failed out.old ≡ false }
-    ensures failed { W.is_failed out.new ≡ is_err result }
-    ensures bytes { Writes (W.written out.old) (W.written out.new) result (own_line words.now) }
+    ensures { Puts W.Sink out.old out.new result (own_line words.now) }
 {
     put_pieces(out, &[b"calendar-analyze: ", words.as_bytes(), b"\n"])
 }

@@ -1,11 +1,7 @@
 -- The local second that has its place at an instant is the one that the clock shows then.
-use Rattle.std.proofs.Common.{◌≡◌, ◌∙◌, None, Some, ℤ, pos, ◌≤ℤ◌, ◌<ℤ◌, arith, ap, negsuc, refl, subst, sym}
-use Rattle.std.proofs.lemmas.Int.{ints}
-use Rattle.std.specs.Int.Signed.{pos-nat_abs, yes_non_neg}
-use Rattle.std.specs.Prelude.{unsigned_abs}
+use Rattle.std.proofs.Common.{◌≡◌, ◌∙◌, None, Some, ℤ, pos, ◌≤ℤ◌, ◌<ℤ◌, arith, subst, sym}
 use Rattle.jiff.proofs.SpanFacts.{signed_arith}
 use Rattle.jiff.specs.Types.{TimeZone}
-use Rattle.cal_zone.specs.headline.Local.{seconds_in_all-is}
 use Rattle.cal_zone.specs.LocalAt.{IsLocalAt}
 use Rattle.cal_zone.specs.headline.Place.{place_of}
 use Rattle.cal_zone.specs.headline.Zone.{local_of}
@@ -14,8 +10,7 @@ use Rattle.cal_zone.proofs.PlaceLemmas.{place_of-Some}
 -- where that is none of 1970 to 2199
 pub local_at-outside : (tz : TimeZone) (instant shown : ℤ) → shown ≡ local_of tz instant → (pos 0 ≤ℤ shown → pos 7_258_118_400 ≤ℤ shown) → IsLocalAt tz instant None
 local_at-outside tz instant shown at outside = λ local inside placed.
-    let count = seconds_in_all-is in
-    let same : shown ≡ pos local = at ∙ (place_of-Some tz (pos local) instant placed).1 in
+    let same : shown ≡ local = at ∙ (place_of-Some tz local instant placed).1 in
     let low : pos 0 ≤ℤ shown = omega (arith, signed_arith) in
     let high = outside low in
     absurd (omega (arith, signed_arith))
@@ -23,11 +18,8 @@ local_at-outside tz instant shown at outside = λ local inside placed.
 -- where that has its place elsewhere, or none
 pub local_at-elsewhere : (tz : TimeZone) (instant shown : ℤ) → shown ≡ local_of tz instant → (place_of tz shown ≡ Some instant → ⊥) → IsLocalAt tz instant None
 local_at-elsewhere tz instant shown at elsewhere = λ local inside placed.
-    elsewhere (subst (λ (z : ℤ). place_of tz z ≡ Some instant) (sym (place_of-Some tz (pos local) instant placed).1 ∙ sym at) placed)
+    elsewhere (subst (λ (z : ℤ). place_of tz z ≡ Some instant) (sym (place_of-Some tz local instant placed).1 ∙ sym at) placed)
 
 -- and where it has its place there
-pub local_at-here : (tz : TimeZone) (instant shown : ℤ) → pos 0 ≤ℤ shown → shown <ℤ pos 7_258_118_400 → place_of tz shown ≡ Some instant → IsLocalAt tz instant (Some (unsigned_abs shown))
-local_at-here tz instant shown low high placed =
-    let count = seconds_in_all-is in
-    let same : pos (unsigned_abs shown) ≡ shown = pos-nat_abs shown (yes_non_neg low) in
-    (omega (arith, signed_arith), ap (place_of tz) same ∙ placed)
+pub local_at-here : (tz : TimeZone) (instant shown : ℤ) → pos 0 ≤ℤ shown → shown <ℤ pos 7_258_118_400 → place_of tz shown ≡ Some instant → IsLocalAt tz instant (Some shown)
+local_at-here tz instant shown low high placed = ((low, omega (arith, signed_arith)), placed)

@@ -9,14 +9,12 @@ use Rattle.std.proofs.lemmas.Bool.Decides.{nat_tests}
 use Rattle.std.proofs.lemmas.List.Folds.{list_all-append}
 use Rattle.std.proofs.lemmas.Option.{cond_some}
 use Rattle.jiff.proofs.SpanFacts.{signed_arith}
-use Rattle.jiff.specs.Types.{Offset}
-use Rattle.jiff.specs.Words.{fixed_zone, IsOffsetSeconds}
+use Rattle.jiff.specs.Words.{IsOffsetSeconds}
 use Rattle.cal_bytes.specs.headline.Bytes.{joined}
 use Rattle.cal_zone.specs.headline.InstantText.{offset_text, zeros}
 use Rattle.cal_zone.specs.OffsetWord.{AreWholeMinutes, clock_seconds, clock_in, offset_in, two_digits}
 use Rattle.cal_zone.specs.headline.OffsetWord.{AreTwoDigits, IsClock, IsOffsetWord, begins_with_sign, is_sign}
-use Rattle.cal_zone.specs.headline.ZoneAhead.{offset_of_seconds, zone_ahead}
-use Rattle.cal_zone.proofs.OffsetLemmas.{same_offset}
+use Rattle.cal_zone.specs.headline.ZoneAhead.{offset_of_seconds}
 
 -- Two digits
 

@@ -1,5 +1,5 @@
 -- The ranges of local seconds.
-use Rattle.std.specs.Prelude.{◌≡◌, ℤ, pos, neg_ℤ}
+use Rattle.std.specs.Prelude.{ℤ, pos, neg_ℤ}
 use Rattle.jiff.specs.Words.{IsBetween}
 
 -- a local second of the years 1970 to 2199

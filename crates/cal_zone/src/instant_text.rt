@@ -1,8 +1,8 @@
 //! Instants as text.
 
-ghost use Rattle.std.specs.Prelude.{◌≡◌, ◌+◌, ◌<◌, ◌≤◌, decimal, ◌++◌, false, is_err, length};
+ghost use Rattle.std.specs.Prelude.{◌≡◌, ◌+◌, ◌<◌, ◌≤◌, decimal, ◌++◌, false, length};
 ghost use Rattle.std.specs.Int.{IsInRange};
-ghost use Rattle.cal_bytes.specs.Bytes.{Writes};
+ghost use Rattle.cal_bytes.specs.Puts.{Puts};
 ghost use Rattle.cal_zone.specs.Civil.{IsCivil};
 ghost use Rattle.cal_zone.specs.InstantText.{day_text};
 ghost use Rattle.cal_zone.specs.headline.InstantText.{weekday_name, instant_text, offset_text, shown_text, sign_text, time_text, zeros, zone_word};
@@ -31,9 +31,7 @@ pub fn push_instant(text: &mut ShortText, zone: Zone, instant: Instant)
 /// Writes the text of the instant, as [`push_instant`] forms it.
 pub fn write_instant<W: Sink>(out: &mut W, zone: Zone, instant: Instant) -> Result<(), WriteFault>
     requires { W.is_failed out.old ≡ false }
-    ensures failed { W.is_failed out.new ≡ is_err result }
-    ensures bytes { Writes (W.written out.old) (W.written out.new) result
-        (instant_text zone.entry instant.secs) }
+    ensures { Puts W.Sink out.old out.new result (instant_text zone.entry instant.secs) }
 {
     let mut text = ShortText::new();
     push_instant(&mut text, zone, instant);

@@ -90,13 +90,13 @@ impl<'z> Placer<'z> {
     }
 
     /// The local second whose place is the instant, as [`local_at`] has it.
-    pub fn local_at(&mut self, instant: Instant) -> Option<u64>
+    pub fn local_at(&mut self, instant: Instant) -> Option<i64>
         ensures value { IsLocalAt (zone_of self.old) instant.secs result }
         ensures zone { self.new ≡ self.old }
     {
         if let Some(local) = instant.secs().checked_add(self.stretch.offset) {
             if 0 <= local && self.stretch.from <= local && local < self.stretch.to && local < END {
-                return Some(local as u64);
+                return Some(local);
             }
         }
         self.local_outside(instant)
@@ -106,13 +106,13 @@ impl<'z> Placer<'z> {
     /// for those that come next.
     #[cold]
     #[inline(never)]
-    fn local_outside(&mut self, instant: Instant) -> Option<u64>
+    fn local_outside(&mut self, instant: Instant) -> Option<i64>
         ensures value { IsLocalAt (zone_of self.old) instant.secs result }
         ensures zone { self.new ≡ self.old }
     {
         let local = local_at(self.zone, instant)?;
-        if local as i64 >= self.seek_from {
-            self.seek(local as i64);
+        if local >= self.seek_from {
+            self.seek(local);
         }
         Some(local)
     }

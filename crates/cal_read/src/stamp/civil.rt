@@ -3,41 +3,35 @@
 ghost use Rattle.std.specs.Prelude.{◌≡◌, ◌≤◌, pos, neg_ℤ, IfOk, IfSome};
 ghost use Rattle.std.specs.List.{list_any};
 ghost use Rattle.jiff.specs.Words.{IsBetween};
-ghost use Rattle.cal_zone.specs.headline.Zone.{zone_of};
-ghost use Rattle.cal_zone.specs.headline.ZoneTable.{zone_named};
 ghost use Rattle.cal_spec.specs.headline.DateAndTime.{is_colon};
 ghost use Rattle.cal_text.specs.headline.Words.{words};
 ghost use Rattle.cal_read.specs.Stamp.{begins_with_digit, after_date, after_weekday, civil_time, fits_weekday, moment_of_written, written_in};
-ghost use Rattle.cal_read.specs.StampViews.{setting, micros_or_fault, written_seen, written_or_fault};
+ghost use Rattle.cal_read.specs.StampViews.{micros_or_fault, setting_seen, written_seen, written_or_fault};
 
 use crate::StampFault;
 use crate::stamp::date::read_date;
 use crate::stamp::moment::{settled, today};
+use crate::stamp::setting::Setting;
 use crate::stamp::time::read_time;
 use crate::stamp::written::Written;
 use crate::stamp::zone::read_zone;
 use cal_spec::find_day;
 use cal_text::first_word;
-use cal_zone::{Instant, Moment, Zone, ZoneTable, begins_with_letter};
+use cal_zone::{Instant, Moment, begins_with_letter};
 use jiff::civil::Weekday;
 use jiff_core::civil::Date;
 
 /// The civil time that the text writes: `[weekday] [date] [time] [zone]`, of which date or time must be there
 /// (systemd.time(7), Parsing Timestamps). The words are judged from the left.
-pub(crate) fn read_civil<'t>(
-    text: &str,
-    local: Zone<'t>,
-    table: &'t ZoneTable,
-) -> Result<Written<'t>, StampFault>
-    ensures { written_or_fault result
-        ≡ civil_time (setting (zone_of local.entry) (zone_named table.now)) (words text.now) }
+pub(crate) fn read_civil<'t>(text: &str, at: &Setting<'t>) -> Result<Written<'t>, StampFault>
+    ensures { written_or_fault result ≡ civil_time (setting_seen at.now) (words text.now) }
 {
     match first_word(text) {
         Some((word, after)) if begins_with_letter(word.as_bytes()) => {
             let weekday = find_day(word.as_bytes()).ok_or(StampFault::BadWeekday)?;
-            after_weekday(Some(weekday), after, local, table)
+            after_weekday(Some(weekday), after, at)
         }
-        _ => after_weekday(None, text, local, table),
+        _ => after_weekday(None, text, at),
     }
 }
 
@@ -45,16 +39,14 @@ pub(crate) fn read_civil<'t>(
 fn after_weekday<'t>(
     weekday: Option<Weekday>,
     text: &str,
-    local: Zone<'t>,
-    table: &'t ZoneTable,
+    at: &Setting<'t>,
 ) -> Result<Written<'t>, StampFault>
-    ensures { written_or_fault result
-        ≡ after_weekday (setting (zone_of local.entry) (zone_named table.now)) weekday (words text.now) }
+    ensures { written_or_fault result ≡ after_weekday (setting_seen at.now) weekday (words text.now) }
 {
     let (word, after) = first_word(text).ok_or(StampFault::BadDate)?;
     if has_colon(word.as_bytes()) {
         let micros = read_time(word.as_bytes())?;
-        let zone = read_zone(after, local, table)?;
+        let zone = read_zone(after, at)?;
         return Ok(Written {
             weekday,
             day: None,
@@ -63,7 +55,7 @@ fn after_weekday<'t>(
         });
     }
     let day = read_date(word.as_bytes())?;
-    after_date(weekday, day, after, local, table)
+    after_date(weekday, day, after, at)
 }
 
 /// What comes after the date: a word that begins with a digit is the time.
@@ -71,17 +63,15 @@ fn after_date<'t>(
     weekday: Option<Weekday>,
     day: i64,
     text: &str,
-    local: Zone<'t>,
-    table: &'t ZoneTable,
+    at: &Setting<'t>,
 ) -> Result<Written<'t>, StampFault>
     requires { IsBetween (pos 0) (pos 84_005) day }
-    ensures { written_or_fault result
-        ≡ after_date (setting (zone_of local.entry) (zone_named table.now)) weekday day (words text.now) }
+    ensures { written_or_fault result ≡ after_date (setting_seen at.now) weekday day (words text.now) }
 {
     match first_word(text) {
         Some((word, after)) if begins_with_digit(word.as_bytes()) => {
             let micros = read_time(word.as_bytes())?;
-            let zone = read_zone(after, local, table)?;
+            let zone = read_zone(after, at)?;
             Ok(Written {
                 weekday,
                 day: Some(day),
@@ -90,7 +80,7 @@ fn after_date<'t>(
             })
         }
         _ => {
-            let zone = read_zone(text, local, table)?;
+            let zone = read_zone(text, at)?;
             Ok(Written {
                 weekday,
                 day: Some(day),

@@ -12,6 +12,7 @@ pub(crate) mod fault;
 pub(crate) mod form;
 pub mod laws;
 pub(crate) mod moment;
+pub(crate) mod setting;
 pub(crate) mod text;
 pub(crate) mod time;
 pub(crate) mod written;
@@ -20,8 +21,10 @@ pub(crate) mod zone;
 use crate::StampFault;
 use crate::stamp::civil::{moment_of_written, read_civil};
 use crate::stamp::form::{Form, form_of};
-use crate::stamp::moment::{after_second, before_second, day_number, moment_of, settled};
-use crate::stamp::time::SECOND;
+use crate::stamp::moment::{
+    after_second, before_second, day_number, micros_of, moment_of, settled,
+};
+use crate::stamp::setting::Setting;
 use crate::stamp::zone::read_zone;
 use cal_span::read_span;
 use cal_zone::{Instant, Moment, Zone, ZoneTable};
@@ -42,18 +45,19 @@ pub fn read_stamp(
     ensures { micros_or_fault result
         ≡ moment_in now.secs (setting (zone_of local.entry) (zone_named table.now)) text.now }
 {
+    let at = Setting { local, table };
     match form_of(text) {
         Form::Nothing => Err(StampFault::Empty),
-        Form::Present => moment_of(now.secs() * SECOND as i64),
+        Form::Present => moment_of(micros_of(now.secs())),
         Form::Later(span) => after_second(now.secs(), read_span(span)?),
         Form::Earlier(span) => before_second(now.secs(), read_span(span)?),
         Form::Counted(span) => after_second(0, read_span(span)?),
         Form::Midnight(day, after) => {
-            let zone = read_zone(after, local, table)?;
+            let zone = read_zone(after, &at)?;
             settled(zone, day_number(now, zone, day), 0)
         }
         Form::Civil(text) => {
-            let written = read_civil(text, local, table)?;
+            let written = read_civil(text, &at)?;
             moment_of_written(now, written)
         }
     }

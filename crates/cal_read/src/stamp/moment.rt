@@ -21,6 +21,14 @@ pub(crate) fn moment_of(micros: i64) -> Result<Moment, StampFault>
     Moment::new(micros).ok_or(StampFault::OutOfRange)
 }
 
+/// The microseconds of a second of Unix time that lies near the instants.
+pub(crate) fn micros_of(second: i64) -> i64
+    requires { IsBetween (neg_ℤ (pos 400_000)) (pos 7_259_000_000) second }
+    ensures { result ≡ micros_of second }
+{
+    second * SECOND as i64
+}
+
 /// The moment a span after the second of Unix time.
 pub(crate) fn after_second(second: i64, span: Span) -> Result<Moment, StampFault>
     requires { IsInstant second }
@@ -29,7 +37,7 @@ pub(crate) fn after_second(second: i64, span: Span) -> Result<Moment, StampFault
     if span.micros() > Moment::LAST as u64 {
         return Err(StampFault::OutOfRange);
     }
-    moment_of(second * SECOND as i64 + span.micros() as i64)
+    moment_of(micros_of(second) + span.micros() as i64)
 }
 
 /// The moment a span before the second of Unix time.
@@ -37,7 +45,7 @@ pub(crate) fn before_second(second: i64, span: Span) -> Result<Moment, StampFaul
     requires { IsInstant second }
     ensures { micros_or_fault result ≡ before_second second (Ok span.micros) }
 {
-    moment_of(second * SECOND as i64 - span.micros() as i64)
+    moment_of(micros_of(second) - span.micros() as i64)
 }
 
 /// The number, from 1970-01-01 on, of the present day in the zone.
@@ -84,7 +92,7 @@ fn with_micros(second: i64, micros: u64) -> i64
     requires micros { micros < 1_000_000 }
     ensures { result ≡ micros_of second +ℤ pos micros }
 {
-    second * SECOND as i64 + micros as i64
+    micros_of(second) + micros as i64
 }
 
 /// The number of the day beside the present one, or of that day itself, in the zone.

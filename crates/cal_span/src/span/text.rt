@@ -1,10 +1,10 @@
 //! How a time span is written: from the largest unit down, the greatest whole count that fits what is
 //! left, as in `1h 30min`.
 
-ghost use Rattle.std.specs.Prelude.{◌≡◌, ◌+◌, ◌≤◌, ℕ, List, [], ◌∷◌, ◌++◌, length, false, is_err, decimal};
+ghost use Rattle.std.specs.Prelude.{◌≡◌, ◌+◌, ◌≤◌, ℕ, List, [], ◌∷◌, ◌++◌, length, false, decimal};
 ghost use Rattle.cal_span.specs.Span.{limit};
 ghost use Rattle.cal_span.specs.SpanValue.{span_of};
-ghost use Rattle.cal_bytes.specs.Bytes.{Writes};
+ghost use Rattle.cal_bytes.specs.Puts.{Puts};
 ghost use Rattle.cal_bytes.specs.headline.Bytes.{joined};
 ghost use Rattle.cal_span.specs.headline.Scale.{unit_name};
 ghost use Rattle.cal_bytes.specs.declared.short_text.TheConstants.{ROOM};
@@ -47,8 +47,7 @@ pub fn format_span(span: Span) -> ShortText
 /// [`WriteFault::Failed`] comes exactly where the writer failed; it has a prefix of the text then.
 pub fn write_span<W: Sink>(out: &mut W, span: Span) -> Result<(), WriteFault>
     requires { W.is_failed out.old ≡ false }
-    ensures failed { W.is_failed out.new ≡ is_err result }
-    ensures bytes { Writes (W.written out.old) (W.written out.new) result (span_text span.micros) }
+    ensures { Puts W.Sink out.old out.new result (span_text span.micros) }
 {
     let text = format_span(span);
     put_all(out, text.as_slice())

@@ -1,5 +1,5 @@
 -- Which zone a name means: this project's own rule, where systemd.time(7) has the zones of the machine.
-use Rattle.std.specs.Prelude.{◌≡◌, ℕ, List, Option, Some, if◌then◌else◌}
+use Rattle.std.specs.Prelude.{ℕ, List, Option, Some, if◌then◌else◌}
 use Rattle.std.specs.FinMap.{get}
 use Rattle.jiff.specs.Types.{TimeZone, UTC}
 use Rattle.cal_zone.specs.headline.ZoneMap.{ZoneMap}

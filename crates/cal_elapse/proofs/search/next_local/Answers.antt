@@ -18,7 +18,7 @@ pub returns-in-Some-clause-counted : goal.returns-in-Some-clause-counted
 returns-in-Some-clause-counted c =
     let start : pos c.unsigned_abs.result ≡ c.args.from = ap pos c.unsigned_abs.ensures.value ∙ begins c.args.from c.requires.low c.requires.high in
     let word = signed_word c.in-Some.local c.signed.result (found_inside _ _ _ _ c.next_at-next.ensures.first c.in-Some.is) c.signed.ensures in
-    (signed_search (sets_in c.args.masks.now) c.args.from _ c.next_at-next.result _ start c.next_at-next.ensures (ap (option_map pos) c.in-Some.is ∙ ap Some (sym word))).counted
+    search ((signed_search (sets_in c.args.masks.now) c.args.from _ c.next_at-next.result _ start c.next_at-next.ensures (ap (option_map pos) c.in-Some.is ∙ ap Some (sym word))).counted)
 
 pub returns-in-None-clause-first : goal.returns-in-None-clause-first
 returns-in-None-clause-first c =
@@ -28,4 +28,4 @@ returns-in-None-clause-first c =
 pub returns-in-None-clause-counted : goal.returns-in-None-clause-counted
 returns-in-None-clause-counted c =
     let start : pos c.unsigned_abs.result ≡ c.args.from = ap pos c.unsigned_abs.ensures.value ∙ begins c.args.from c.requires.low c.requires.high in
-    (signed_search (sets_in c.args.masks.now) c.args.from _ c.next_at-next.result None start c.next_at-next.ensures (ap (option_map pos) c.in-None.is)).counted
+    search ((signed_search (sets_in c.args.masks.now) c.args.from _ c.next_at-next.result None start c.next_at-next.ensures (ap (option_map pos) c.in-None.is)).counted)

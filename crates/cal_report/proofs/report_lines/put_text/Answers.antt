@@ -1,6 +1,9 @@
+use Rattle.std.proofs.Common.{◌≡◌}
 use Rattle.cal_report.specs.headline.ReportLines.{text_line}
 use Rattle.cal_report.proofs.report_lines.put_text.Goals as goal
 
-pub returns-clause-bytes : goal.returns-clause-bytes
+pub returns : goal.returns
 unfolding text_line
-returns-clause-bytes g c = rw c.as_bytes.ensures.value at c.put_pieces.ensures.bytes
+returns g c =
+    let same : c.as_bytes.result.now ≡ c.args.text.now = search c.as_bytes.ensures.value in
+    rw same at c.put_pieces.ensures

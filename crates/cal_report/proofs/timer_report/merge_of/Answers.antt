@@ -1,20 +1,13 @@
 use Rattle.std.proofs.Common.{sym, ◌∙◌}
-use Rattle.std.proofs.lemmas.Result.{err_from_is_err_and}
 use Rattle.cal_report.proofs.AddedLemmas.{merge_added}
 use Rattle.cal_report.proofs.TimerLemmas.{all_zoned}
 use Rattle.cal_report.proofs.timer_report.merge_of.Goals as goal
 
-pub returns-in_err-add_expressions : goal.returns-in_err-add_expressions
-returns-in_err-add_expressions c =
-    let p = err_from_is_err_and c.from_residual.result c.from_residual.ensures.1 in
-    let zoned = all_zoned _ c.args.timer.now (sym c.find_unzoned.ensures ∙ c.in_default.is) in
-    rw (p.1, p.2) (λ other. absurd ((rw c.lines.ensures at c.in_err-add_expressions.ensures) other zoned.0))
+pub add_expressions-requires-clause-zones : goal.add_expressions-requires-clause-zones
+add_expressions-requires-clause-zones c = rw c.lines.ensures (all_zoned _ c.args.timer.now (sym c.find_unzoned.ensures ∙ c.in_default.is)).0
 
-pub returns-in_err-add_exceptions : goal.returns-in_err-add_exceptions
-returns-in_err-add_exceptions c =
-    let p = err_from_is_err_and c.from_residual-in_err-add_exceptions.result c.from_residual-in_err-add_exceptions.ensures.1 in
-    let zoned = all_zoned _ c.args.timer.now (sym c.find_unzoned.ensures ∙ c.in_default.is) in
-    rw (p.1, p.2) (λ other. absurd ((rw c.exceptions-2.ensures at c.in_err-add_exceptions.ensures) other zoned.1))
+pub add_exceptions-requires-clause-zones : goal.add_exceptions-requires-clause-zones
+add_exceptions-requires-clause-zones c = rw c.exceptions-2.ensures (all_zoned _ c.args.timer.now (sym c.find_unzoned.ensures ∙ c.in_default.is)).1
 
 pub returns : goal.returns
 returns c = record {

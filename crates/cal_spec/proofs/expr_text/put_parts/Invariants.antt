@@ -1,13 +1,10 @@
 -- The writer works, and what is left to write is the parts from the index on, each after a comma.
-use Rattle.std.proofs.Common.{◌≡◌, [], ◌++◌, false, drop, codes}
+use Rattle.std.proofs.Common.{[], ◌++◌, drop, codes}
 use Rattle.std.specs.List.{flat_map}
-use Rattle.cal_bytes.specs.Bytes.{Leaves}
+use Rattle.cal_bytes.proofs.PutLemmas.{PutsUpTo}
 use Rattle.cal_spec.specs.headline.ExprText.{part_text, parts_text}
 use Rattle.cal_spec.proofs.expr_text.put_parts.Given as goal
 
 abbrev pub invariant-loop-part : goal.invariant-loop-part
 invariant-loop-part g l =
-    record {
-      works : g.W.Sink.is_failed l.out ≡ false;
-      leaves : Leaves (g.W.Sink.written l.fn.out) (g.W.Sink.written l.out) (flat_map (λ p. codes "," ++ part_text [] l.width p) (drop l.part-index l.rest)) (parts_text l.width l.fn.parts);
-    }
+    PutsUpTo g.W.Sink l.fn.out l.out (flat_map (λ p. codes "," ++ part_text [] l.width p) (drop l.part-index l.rest)) (parts_text l.width l.fn.parts)

@@ -1,14 +1,12 @@
 -- The writer works, and what is left to write is the rows from the index on.
-use Rattle.std.proofs.Common.{◌≡◌, false, drop}
+use Rattle.std.proofs.Common.{drop}
 use Rattle.std.specs.List.{flat_map}
 use Rattle.std.specs.Option.{option_copied}
-use Rattle.cal_bytes.specs.Bytes.{Leaves}
+use Rattle.cal_bytes.proofs.PutLemmas.{PutsUpTo}
 use Rattle.cal_spec.specs.headline.ExprText.{row_text}
 use Rattle.cal_spec.proofs.expr_text.put_rows.Given as goal
 
 abbrev pub invariant-loop-row : goal.invariant-loop-row
 invariant-loop-row g l =
-    record {
-      works : g.W.Sink.is_failed l.out ≡ false;
-      leaves : Leaves (g.W.Sink.written l.fn.out) (g.W.Sink.written l.out) (flat_map (λ row. row_text row.lead.now row.width (option_copied row.parts)) (drop l.row-index l.rows)) (flat_map (λ row. row_text row.lead.now row.width (option_copied row.parts)) l.fn.rows);
-    }
+    PutsUpTo g.W.Sink l.fn.out l.out (flat_map (λ row. row_text row.lead.now row.width (option_copied row.parts)) (drop l.row-index l.rows))
+    (flat_map (λ row. row_text row.lead.now row.width (option_copied row.parts)) l.fn.rows)

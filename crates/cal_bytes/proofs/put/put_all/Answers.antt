@@ -1,6 +1,6 @@
 use Rattle.std.proofs.Common.{sym}
 use Rattle.cal_bytes.proofs.Pieces.{step_taken, respell}
-use Rattle.cal_bytes.proofs.bytes.put_all.Goals as goal
+use Rattle.cal_bytes.proofs.put.put_all.Goals as goal
 
 pub loop-rest-preserved : goal.loop-rest-preserved
 loop-rest-preserved g c =

@@ -1,0 +1,86 @@
+-- Lemmas on texts that are written by calls in a row.
+use Rattle.std.proofs.Common.{◌≡◌, ℕ, ◌+◌, ◌<◌, List, [], ◌++◌, length, drop, get_or, Result, Ok, Err, false, refl, sym, ap, ◌∙◌, subst, add-one, drop-cons}
+use Rattle.std.proofs.KnownBytes.{Appends-nil}
+use Rattle.std.proofs.lemmas.Bool.{false≢true}
+use Rattle.std.proofs.lemmas.List.{append-nil}
+use Rattle.std.specs.List.{flat_map}
+use Rattle.std.specs.Prelude.{IsErr, IsOk}
+use Rattle.cal_bytes.specs.Bytes.{Leaves}
+use Rattle.cal_bytes.specs.Puts.{Puts}
+use Rattle.cal_bytes.specs.declared.bytes.Sink.{Ghosts}
+use Rattle.cal_bytes.proofs.Pieces.{start, step, stop, finish, writes_err, respell}
+
+-- The writer works, and of the text this rest is left to write.
+pub record PutsUpTo {W : Type 0} (sink : Ghosts W) (old new : W) (rest text : List ℕ) : Type 0 where
+  pub works : sink.is_failed new ≡ false
+  pub leaves : Leaves (sink.written old) (sink.written new) rest text
+
+module _ {W : Type 0} {sink : Ghosts W} where
+  -- Calls in a row
+
+  -- the first failed
+  pub first_fails : {T E T' E' : Type 0} (a b : W) (first : Result T' E') (r : Result T E) (x y : List ℕ) → Puts sink a b first x → IsErr first → IsErr r → Puts sink a b r (x ++ y)
+  first_fails a b (Ok u) r x y p failed is_err = absurd (false≢true failed)
+  first_fails a b (Err e) r x y p failed is_err = record {
+    failed = p.failed ∙ sym is_err;
+    bytes = writes_err _ _ r (x ++ y) is_err (stop _ _ _ x y (x ++ y) (start _ (x ++ y)) p.bytes);
+  }
+
+  -- or it succeeded, and the second call's answer is the answer of both
+  pub second_ends : {T E T' E' : Type 0} (a b c : W) (first : Result T' E') (r : Result T E) (x y : List ℕ) → Puts sink a b first x → IsOk first → Puts sink b c r y → Puts sink a c r (x ++ y)
+  second_ends a b c (Err e) r x y p worked q = absurd (false≢true worked)
+  second_ends a b c (Ok u) r x y p worked q = record {
+    failed = q.failed;
+    bytes = finish _ _ _ y (x ++ y) r (step _ _ _ x y (x ++ y) (start _ (x ++ y)) p.bytes) q.bytes;
+  }
+
+  -- a text that is written under another spelling
+  pub text_respelled : {T E : Type 0} {a b : W} {r : Result T E} {x y : List ℕ} → Puts sink a b r x → x ≡ y → Puts sink a b r y
+  text_respelled {a = a} {b = b} {r = r} p e = subst (λ (text : List ℕ). Puts sink a b r text) e p
+
+  -- nothing comes after the last
+  pub last_ends : {T E : Type 0} (a b : W) (r : Result T E) (x : List ℕ) → Puts sink a b r x → Puts sink a b r (x ++ [])
+  last_ends a b r x p = text_respelled p (sym (append-nil x))
+
+  -- nothing was written
+  pub puts_nothing : {T E : Type 0} {x : T} {a : W} → sink.is_failed a ≡ false → Puts {E = E} sink a a (Ok x) []
+  puts_nothing {a = a} works = record { failed = works; bytes = Appends-nil (sink.written a) }
+
+  -- Calls in a loop
+
+  -- all is left at first
+  pub put_none : {a : W} {text : List ℕ} → sink.is_failed a ≡ false → PutsUpTo sink a a text text
+  put_none {a = a} {text = text} works = record { works = works; leaves = start (sink.written a) text }
+
+  -- what is left is the same text in other words
+  pub left_respelled : {a b : W} {x y text : List ℕ} → PutsUpTo sink a b x text → x ≡ y → PutsUpTo sink a b y text
+  left_respelled {a = a} {b = b} {text = text} before e = subst (λ (left : List ℕ). PutsUpTo sink a b left text) e before
+
+  -- one more piece was written
+  pub put_next : {T E : Type 0} {u : T} {a b c : W} {left piece rest text : List ℕ} → left ≡ piece ++ rest → PutsUpTo sink a b left text → Puts {E = E} sink b c (Ok u) piece → PutsUpTo sink a c rest text
+  put_next {piece = piece} {rest = rest} {text = text} split before p = record {
+    works = p.failed;
+    leaves = step _ _ _ piece rest text (respell _ _ _ _ text before.leaves split) p.bytes;
+  }
+
+  -- or it was not written whole
+  pub put_cut : {T E T' E' : Type 0} {e : E'} {a b c : W} {left piece text : List ℕ} {r : Result T E} (rest : List ℕ) → left ≡ piece ++ rest → IsErr r → PutsUpTo sink a b left text → Puts {T = T'} sink b c (Err e) piece → Puts sink a c r text
+  put_cut {piece = piece} {text = text} {r = r} rest split is_err before p = record {
+    failed = p.failed ∙ sym is_err;
+    bytes = writes_err _ _ r text is_err (stop _ _ _ piece rest text (respell _ _ _ _ text before.leaves split) p.bytes);
+  }
+
+  -- the last call's answer is the answer of the whole
+  pub put_last : {T E : Type 0} {a b c : W} {piece text : List ℕ} {r : Result T E} → PutsUpTo sink a b piece text → Puts sink b c r piece → Puts sink a c r text
+  put_last {piece = piece} {text = text} {r = r} before p = record { failed = p.failed; bytes = finish _ _ _ piece text r before.leaves p.bytes }
+
+-- the items from an index on begin with the item there
+flat_map-drop : {A : Type 0} (f : A → List ℕ) (i : ℕ) (xs : List A) (d : A) → i < length xs → flat_map f (drop i xs) ≡ f (get_or xs i d) ++ flat_map f (drop (i + 1) xs)
+flat_map-drop f i xs d h = rw (add-one, drop-cons xs i d h) refl
+
+-- or with another spelling of its text
+pub item_first : {A : Type 0} (f : A → List ℕ) (i : ℕ) (xs : List A) (d : A) {piece : List ℕ} → i < length xs → piece ≡ f (get_or xs i d) → flat_map f (drop i xs) ≡ piece ++ flat_map f (drop (i + 1) xs)
+item_first f i xs d h is = flat_map-drop f i xs d h ∙ ap (λ first. first ++ flat_map f (drop (i + 1) xs)) (sym is)
+
+-- for calls in a row
+pub ruleset puts = (first_fails, second_ends, last_ends)

@@ -1,0 +1,10 @@
+-- The writer works, and what is left to write is the rest.
+use Rattle.std.proofs.Common.{length}
+use Rattle.cal_bytes.proofs.PutLemmas.{PutsUpTo}
+use Rattle.cal_bytes.proofs.put.put_all.Given as goal
+
+abbrev pub invariant-loop-rest : goal.invariant-loop-rest
+invariant-loop-rest g l = PutsUpTo g.W.Sink l.fn.out l.out l.rest l.fn.piece
+
+abbrev pub decreases-loop-rest : goal.decreases-loop-rest
+decreases-loop-rest g l = length l.rest

@@ -1,0 +1,10 @@
+-- What a call that writes a text does to its writer.
+use Rattle.std.specs.Prelude.{◌≡◌, ℕ, List, Result, is_err}
+use Rattle.cal_bytes.specs.Bytes.{Writes}
+use Rattle.cal_bytes.specs.declared.bytes.Sink.{Ghosts}
+
+-- It answers a fault exactly where the writer has failed, and what it has written is all of the text, or a prefix of it
+-- where it failed.
+pub record Puts {W T E : Type 0} (sink : Ghosts W) (old new : W) (result : Result T E) (text : List ℕ) : Type 0 where
+  pub failed : sink.is_failed new ≡ is_err result
+  pub bytes : Writes (sink.written old) (sink.written new) result text
