@@ -9,6 +9,7 @@ use Rattle.cal_zone.specs.OffsetWord.{offset_in}
 use Rattle.cal_zone.specs.headline.ZoneName.{is_zone_name}
 use Rattle.cal_command.specs.Ask.{LocalZone, in_utc, ahead, by_rule, of_name, ZoneItem}
 use Rattle.cal_request.specs.Request.{most_iterations}
+use Rattle.cal_text.specs.headline.Separators.{is_equals, is_comma}
 
 -- the number that a text of only digits writes, where it is from least to most
 unfoldable pub number_between : ℕ → ℕ → List ℕ → Option ℕ
@@ -25,12 +26,6 @@ count_in = number_between 1 most_iterations
 unfoldable pub present_in : List ℕ → Option ℤ
 present_in [] = None
 present_in (byte ∷ bytes) = if byte == 64 then option_map pos (number_between 0 (unsigned_abs last_instant) bytes) else None
-
-abbrev pub is_equals : ℕ → Bool
-is_equals byte = byte == 61
-
-abbrev pub is_comma : ℕ → Bool
-is_comma byte = byte == 44
 
 -- what comes before and after the first separator, where there is one
 abbrev pub parts_at : (ℕ → Bool) → List ℕ → Option (List ℕ × List ℕ)

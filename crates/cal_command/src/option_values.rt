@@ -6,7 +6,8 @@ ghost use Rattle.std.specs.Option.{option_copied, option_map_or};
 ghost use Rattle.cal_bytes.specs.SplitPieces.{left, pieces_after};
 ghost use Rattle.cal_command.specs.Ask.{in_utc, shown_local, texts_of, shown_item};
 ghost use Rattle.cal_command.specs.LocalZone.{IsLocalOffset};
-ghost use Rattle.cal_command.specs.OptionValues.{count_in, is_comma, local_in, number_between, parts_at, present_in, zone_item_in, zones_in};
+ghost use Rattle.cal_text.specs.headline.Separators.{is_comma};
+ghost use Rattle.cal_command.specs.OptionValues.{count_in, local_in, number_between, parts_at, present_in, zone_item_in, zones_in};
 ghost use Rattle.cal_request.specs.Request.{IsCount};
 
 use crate::ask::{LocalZone, ZoneItem};

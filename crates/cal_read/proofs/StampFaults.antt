@@ -7,9 +7,10 @@ use Rattle.cal_span.specs.declared.span.fault.SpanFault.{SpanFault}
 use Rattle.cal_span.specs.SpanValue.{span_of}
 use Rattle.cal_zone.specs.OffsetWord.{offset_in}
 use Rattle.cal_zone.specs.headline.ZoneName.{begins_with_letter}
-use Rattle.cal_spec.specs.headline.DateAndTime.{is_colon}
+use Rattle.cal_text.specs.headline.Separators.{is_colon}
 use Rattle.cal_spec.specs.Weekdays.{day_named}
-use Rattle.cal_read.specs.Stamp.{◌>>=◌, Setting, Written, in_moments, after_second, before_second, settled, today, name_found, offset_found, zone_meant, zone_alone, zone_by_words, written_in, begins_with_digit, after_date, after_weekday, weekday_found, civil_time, moment_of_written, moment_of_form, moment_in}
+use Rattle.cal_text.specs.AndThen.{◌>>=◌}
+use Rattle.cal_read.specs.Stamp.{Setting, Written, in_moments, after_second, before_second, settled, today, name_found, offset_found, zone_meant, zone_alone, zone_by_words, written_in, begins_with_digit, after_date, after_weekday, weekday_found, civil_time, moment_of_written, moment_of_form, moment_in}
 use Rattle.cal_read.specs.StampCivilRule.{HasNoSuchDate}
 use Rattle.cal_read.specs.StampDate.{day_written}
 use Rattle.cal_read.specs.StampForm.{Form, nothing, present, later, earlier, counted, from_today, civil, form_of}

@@ -12,8 +12,8 @@ use Rattle.jiff.specs.Types.{TimeZone}
 use Rattle.cal_zone.specs.declared.civil_fields.Civil.{Civil}
 use Rattle.cal_zone.specs.Instant.{last_moment}
 use Rattle.cal_zone.specs.headline.Civil.{civil_of}
-use Rattle.cal_span.specs.SpanValue.{fraction_worth, is_point}
-use Rattle.cal_spec.specs.headline.DateAndTime.{is_colon}
+use Rattle.cal_text.specs.headline.Separators.{is_point, is_colon}
+use Rattle.cal_span.specs.SpanValue.{fraction_worth}
 use Rattle.cal_zone.specs.headline.Zone.{local_of}
 use Rattle.cal_spec.proofs.PieceLemmas.{some_piece}
 use Rattle.cal_read.specs.Stamp.{in_moments}

@@ -29,14 +29,16 @@ use Rattle.cal_zone.specs.headline.ZoneTable.{zone_named}
 use Rattle.cal_zone.specs.declared.civil_fields.Civil.{Civil}
 use Rattle.cal_zone.specs.declared.zone.Zone.{Zone}
 use Rattle.cal_spec.proofs.WordsBetween.{words_only}
-use Rattle.cal_spec.specs.headline.DateAndTime.{is_colon}
+use Rattle.cal_text.specs.headline.Separators.{is_colon}
 use Rattle.cal_spec.specs.GrammarRule.{IsWord}
 use Rattle.cal_text.specs.TrimRule.{IsFlush, IsTrimmed}
 use Rattle.cal_text.specs.headline.Words.{is_blank, words}
 use Rattle.cal_read.proofs.StampPrintedTexts.{IsClock, IsDayName, date_back, date_no_colon, date_solid, date_some, date_word, in_week, other_date_back, short_names, time_back, time_digit, time_solid, time_some, time_word, year_of}
 use Rattle.cal_read.proofs.StampPrintedZones.{IsLastWord, last_byte, local_of-UTC, shown_last, shown_offset, shown_read, shown_unread, shown_word, utc_minutes}
 use Rattle.cal_read.proofs.StampRule.{only}
-use Rattle.cal_read.specs.Stamp.{◌>>=◌, Setting, after_date, begins_with_digit, civil_time, fits_weekday, in_moments, micros_of, moment_in, moment_of_form, moment_of_written, settled, written_in, zone_meant}
+use Rattle.cal_text.specs.AndThen.{◌>>=◌}
+use Rattle.cal_zone.specs.headline.Moment.{micros_of}
+use Rattle.cal_read.specs.Stamp.{Setting, after_date, begins_with_digit, civil_time, fits_weekday, in_moments, moment_in, moment_of_form, moment_of_written, settled, written_in, zone_meant}
 use Rattle.cal_read.specs.StampDate.{day_written}
 use Rattle.cal_read.specs.StampForm.{Form, civil, counted, earlier, later}
 use Rattle.cal_read.specs.StampPrinted.{ShowsMinutes, ShowsYear}

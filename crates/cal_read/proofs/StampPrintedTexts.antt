@@ -13,11 +13,10 @@ use Rattle.jiff.specs.Types.{Date, Weekday}
 use Rattle.jiff.specs.Words.{epoch_day, monday_zero, month_length, IsBetween, IsYear}
 use Rattle.jiff_core.proofs.CalendarLemmas.{days_in_month_bounds}
 use Rattle.jiff_core.specs.declared.civil.weekday.Weekday.TheVariants.{Monday, Tuesday, Wednesday, Thursday, Friday, Saturday, Sunday}
-use Rattle.cal_span.specs.SpanValue.{is_point}
+use Rattle.cal_text.specs.headline.Separators.{is_point, is_colon}
 use Rattle.cal_zone.specs.headline.InstantText.{zeros}
 use Rattle.cal_zone.specs.headline.Weekday.{name_of, short_name_of, week}
 use Rattle.cal_zone.specs.headline.ZoneName.{begins_with_letter}
-use Rattle.cal_spec.specs.headline.DateAndTime.{is_colon}
 use Rattle.cal_spec.specs.headline.Parts.{with_century}
 use Rattle.cal_spec.specs.Weekdays.{day_named}
 use Rattle.cal_text.specs.headline.Words.{is_blank}

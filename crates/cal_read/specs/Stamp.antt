@@ -15,24 +15,20 @@ use Rattle.cal_span.specs.SpanValue.{span_of}
 use Rattle.cal_zone.specs.headline.Zone.{local_of}
 use Rattle.cal_zone.specs.headline.ZoneAhead.{zone_ahead}
 use Rattle.cal_zone.specs.headline.ZoneName.{begins_with_letter}
-use Rattle.cal_spec.specs.headline.DateAndTime.{is_colon}
+use Rattle.cal_text.specs.headline.Separators.{is_colon}
 use Rattle.cal_spec.specs.Weekdays.{day_named}
 use Rattle.cal_read.specs.StampForm.{Form, nothing, present, later, earlier, counted, from_today, civil, form_of}
 use Rattle.cal_read.specs.StampDate.{day_written}
 use Rattle.cal_read.specs.StampTime.{time_written}
 use Rattle.cal_read.specs.declared.stamp.fault.StampFault.{StampFault}
 use Rattle.cal_read.specs.declared.stamp.fault.StampFault.TheVariants.{Empty, BadWeekday, BadDate, WrongWeekday, BadSpan, NoSuchZone, StrayWord, OutOfRange}
+use Rattle.cal_text.specs.AndThen.{◌>>=◌}
+use Rattle.cal_zone.specs.headline.Moment.{micros_of}
 
 -- what a text is read by, aside from the present: the local zone, and the zone that a name has
 pub record Setting : Type 0 where
   pub local : TimeZone
   pub find : List ℕ → Option TimeZone
-
--- what follows where there was no fault
-infixl 10 ◌>>=◌
-abbrev pub ◌>>=◌ : {A B : Type 0} → Result A StampFault → (A → Result B StampFault) → Result B StampFault
-(Ok x) >>= f = f x
-(Err e) >>= f = Err e
 
 -- Spans
 
@@ -40,10 +36,6 @@ abbrev pub ◌>>=◌ : {A B : Type 0} → Result A StampFault → (A → Result 
 unfoldable pub in_moments : ℤ → Result ℤ StampFault
 in_moments micros =
     if not (int_lt micros (pos 0)) && not (int_lt last_moment micros) then Ok micros else Err OutOfRange
-
--- the microseconds of a second of Unix time
-abbrev pub micros_of : ℤ → ℤ
-micros_of second = second *ℤ pos 1_000_000
 
 -- the moment a span after the second, or before it
 abbrev pub after_second : ℤ → Result ℕ SpanFault → Result ℤ StampFault

@@ -2,8 +2,8 @@
 use Rattle.std.specs.Prelude.{ℕ, ◌+◌, ◌*◌, nat_le, ◌&&◌, if◌then◌else◌, List, [], ◌∷◌, length, take, Option, None, Some, Result, Ok, Err}
 use Rattle.std.specs.Char.{is_ascii_digit}
 use Rattle.std.specs.List.{list_all, slice_split}
-use Rattle.cal_span.specs.SpanValue.{is_point, fraction_worth}
-use Rattle.cal_spec.specs.headline.DateAndTime.{is_colon}
+use Rattle.cal_text.specs.headline.Separators.{is_point, is_colon}
+use Rattle.cal_span.specs.SpanValue.{fraction_worth}
 use Rattle.cal_read.specs.StampDate.{digits_number}
 use Rattle.cal_read.specs.declared.stamp.fault.StampFault.{StampFault}
 use Rattle.cal_read.specs.declared.stamp.fault.StampFault.TheVariants.{BadTime}

@@ -13,7 +13,7 @@ use Rattle.cal_spec.specs.headline.Fields.{Fields}
 use Rattle.cal_spec.specs.Grammar.{fields_in}
 use Rattle.cal_spec.specs.NormalForm.{normal_fields}
 use Rattle.cal_spec.specs.headline.NormalForm.{IsNormalFieldsOf}
-use Rattle.cal_spec.specs.Reads.{◌>>=◌}
+use Rattle.cal_text.specs.AndThen.{◌>>=◌}
 use Rattle.cal_spec.specs.ValidFields.{IsValidFields}
 use Rattle.cal_spec.specs.headline.ZoneSuffix.{ZoneSuffix, of_name, ahead}
 use Rattle.cal_zone.specs.headline.ZoneAhead.{zone_ahead}

@@ -16,7 +16,8 @@ use Rattle.cal_report.specs.headline.ElapseLines.{elapse_text, elapse_texts, ela
 use Rattle.cal_spec.specs.headline.ZoneSuffix.{ZoneSuffix, of_name, ahead}
 use Rattle.cal_report.specs.headline.Headline.{AreAllAccepted, AreReportsOf, Expression, IsAccepted, IsFileOf, IsReportOf, IsZoneFor, Schedule, alone, headings, meaning}
 use Rattle.cal_report.specs.Report.{ByReading, IsReported, base_in, report}
-use Rattle.cal_report.specs.headline.ReportLines.{distance_text, micros_of, utc_line}
+use Rattle.cal_zone.specs.headline.Moment.{micros_of}
+use Rattle.cal_report.specs.headline.ReportLines.{distance_text, utc_line}
 use Rattle.cal_report.specs.Resume.{AreShown, Begins, IsBaseAfter, IsBegunAgain, Resumes, Stand, showing, up_to_line}
 use Rattle.cal_request.specs.headline.Request.{Request}
 use Rattle.cal_request.specs.declared.request.RunFault.{RunFault}

@@ -11,7 +11,8 @@ use Rattle.cal_read.specs.StampFault.{words_of}
 use Rattle.cal_read.specs.StampViews.{setting}
 use Rattle.cal_read.specs.declared.stamp.fault.StampFault.{StampFault}
 use Rattle.cal_report.specs.Answer.{Answer}
-use Rattle.cal_report.specs.headline.ReportLines.{distance_text, micros_of, original_label, text_line, utc_line}
+use Rattle.cal_zone.specs.headline.Moment.{micros_of}
+use Rattle.cal_report.specs.headline.ReportLines.{distance_text, original_label, text_line, utc_line}
 use Rattle.cal_request.specs.headline.Request.{Request}
 
 -- the second that a moment lies in

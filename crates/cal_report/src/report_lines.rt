@@ -4,7 +4,8 @@ ghost use Rattle.std.specs.Prelude.{◌≡◌, ◌+◌, ◌≤◌, ◌++◌, ◌
 ghost use Rattle.cal_bytes.specs.Puts.{Puts};
 ghost use Rattle.cal_bytes.specs.declared.short_text.TheConstants.{ROOM};
 ghost use Rattle.cal_span.specs.declared.span.text.TheConstants.{SPAN_ROOM};
-ghost use Rattle.cal_report.specs.headline.ReportLines.{direction_text, distance_text, micros_of, text_line};
+ghost use Rattle.cal_zone.specs.headline.Moment.{micros_of};
+ghost use Rattle.cal_report.specs.headline.ReportLines.{direction_text, distance_text, text_line};
 
 use cal_bytes::{ShortText, Sink, WriteFault, push, put_pieces};
 use cal_span::{Span, push_span};

@@ -11,7 +11,8 @@ use Rattle.std.specs.Prelude.{decimal}
 use Rattle.std.specs.Str.Parse.{AllDigits}
 use Rattle.cal_text.specs.headline.Words.{is_blank}
 use Rattle.cal_span.specs.declared.span.word.CharKind.TheVariants.{Numeric}
-use Rattle.cal_span.specs.SpanValue.{is_point, kind_of, is_number, number_worth}
+use Rattle.cal_text.specs.headline.Separators.{is_point}
+use Rattle.cal_span.specs.SpanValue.{kind_of, is_number, number_worth}
 
 -- what a digit is and is not
 pub record IsDigit (c : ℕ) : Type 0 where

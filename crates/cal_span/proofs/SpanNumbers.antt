@@ -9,7 +9,8 @@ use Rattle.std.proofs.lemmas.List.Sums.{sum_by-cons}
 use Rattle.std.proofs.lemmas.Bool.{false≢true, cases_lt, lt-leb, and_parts, lt-ltb, eqb-true}
 use Rattle.std.proofs.lemmas.Bool.Decides.{nat_tests}
 use Rattle.cal_text.proofs.DigitLemmas.{digit_at, top}
-use Rattle.cal_span.specs.SpanValue.{is_point, is_number, fraction_worth}
+use Rattle.cal_text.specs.headline.Separators.{is_point}
+use Rattle.cal_span.specs.SpanValue.{is_number, fraction_worth}
 
 abbrev is_digit_or_point : ℕ → Bool
 is_digit_or_point b = is_ascii_digit b || is_point b

@@ -9,7 +9,8 @@ use Rattle.cal_span.specs.declared.scale.Scale.TheVariants.{Year, Month, Week, D
 use Rattle.cal_span.specs.Scale.{words_for}
 use Rattle.cal_span.specs.Span.{limit}
 use Rattle.std.specs.List.{AllByRecursion}
-use Rattle.cal_span.specs.SpanValue.{unit_named, Pair, pairs_in, is_number, unit_in, worth_in, worth_of, ◌>>=◌, sum_with, judged, value_of_pairs, span_of}
+use Rattle.cal_text.specs.AndThen.{◌>>=◌}
+use Rattle.cal_span.specs.SpanValue.{unit_named, Pair, pairs_in, is_number, unit_in, worth_in, worth_of, sum_with, judged, value_of_pairs, span_of}
 use Rattle.cal_span.specs.SpanRule.{AreWorth, IsFaultAfter, IsFirstFault, Judges}
 
 -- a pair alone is at fault in its number or in its unit

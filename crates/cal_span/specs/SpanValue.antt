@@ -15,12 +15,10 @@ use Rattle.cal_span.specs.declared.span.word.CharKind.TheVariants.{Blank, Numeri
 use Rattle.cal_span.specs.Scale.{words_for}
 use Rattle.cal_span.specs.headline.Scale.{size_of, scales}
 use Rattle.cal_span.specs.Span.{limit}
+use Rattle.cal_text.specs.headline.Separators.{is_point}
+use Rattle.cal_text.specs.AndThen.{◌>>=◌}
 
 -- Characters
-
--- the point of a number
-abbrev pub is_point : ℕ → Bool
-is_point b = b == 46
 
 -- the UTF-8 of the micro sign, U+00B5, or of the Greek letter mu, U+03BC
 abbrev pub is_micro : ℕ → ℕ → Bool
@@ -142,12 +140,6 @@ unfoldable pub worth_of : Pair → Result ℕ SpanFault
 worth_of p = if is_number p.number then worth_in p.number (unit_in p.unit) else Err BadNumber
 
 -- The value of a text (systemd.time(7), Parsing Time Spans)
-
--- what follows where there was no fault
-infixl 10 ◌>>=◌
-abbrev pub ◌>>=◌ : {A B : Type 0} → Result A SpanFault → (A → Result B SpanFault) → Result B SpanFault
-(Ok x) >>= f = f x
-(Err e) >>= f = Err e
 
 -- the sum with one more pair
 abbrev pub sum_with : ℕ → Result ℕ SpanFault → Result ℕ SpanFault

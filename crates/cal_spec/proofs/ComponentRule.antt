@@ -7,11 +7,12 @@ use Rattle.std.proofs.lemmas.Bool.{and_parts, and_from, or_right, le-leb, le-ltb
 use Rattle.std.proofs.lemmas.List.{append-nil, append_assoc}
 use Rattle.std.proofs.lemmas.List.Splits.{join_with_byte-slice_split}
 use Rattle.std.proofs.lemmas.Slice.Eq.{bytes_eq-Decides}
-use Rattle.cal_spec.specs.Components.{is_comma, is_star, counted, room_in, part_due, parts_of, first_value_fault, parts_listed, component_of}
+use Rattle.cal_text.specs.headline.Separators.{is_comma}
+use Rattle.cal_spec.specs.Components.{is_star, counted, room_in, part_due, parts_of, first_value_fault, parts_listed, component_of}
 use Rattle.cal_spec.specs.headline.GrammarRule.{IsNumber, IsNext, IsPartText, IsPartOf, AreListed, IsComponent}
 use Rattle.cal_spec.specs.Parts.{is_time, is_within, is_outside, is_backward, is_zero, is_idle, fault_of}
 use Rattle.cal_spec.specs.headline.Parts.{with_values}
-use Rattle.cal_spec.specs.Reads.{◌>>=◌}
+use Rattle.cal_text.specs.AndThen.{◌>>=◌}
 use Rattle.cal_spec.specs.headline.Slot.{least, greatest}
 use Rattle.cal_spec.specs.headline.Sound.{IsWithin, IsEndWithin, EndsAfter, IsStep, GoesOn, IsSound}
 use Rattle.cal_spec.specs.declared.part.Part.{Part}

@@ -7,7 +7,8 @@ use Rattle.std.proofs.lemmas.Bool.Decides.{nat_tests}
 use Rattle.std.proofs.lemmas.List.Splits.{join_with_byte-slice_split}
 use Rattle.cal_spec.specs.Components.{most_counted, counted}
 use Rattle.cal_spec.specs.DateAndTime.{DateFields, TimeFields, is_tilde, is_date_sign, date_texts_by, time_texts_by, date_texts, time_texts, date_fields, time_fields, room_after, date_in_word, time_in_word}
-use Rattle.cal_spec.specs.headline.DateAndTime.{DateTexts, TimeTexts, is_colon}
+use Rattle.cal_text.specs.headline.Separators.{is_colon}
+use Rattle.cal_spec.specs.headline.DateAndTime.{DateTexts, TimeTexts}
 use Rattle.cal_spec.specs.headline.Fields.{Fields, counted_parts}
 use Rattle.cal_spec.specs.headline.GrammarRule.{last_sign, IsDateShape, IsTimeShape, IsDate, IsTime, IsComponent}
 use Rattle.cal_spec.specs.headline.Slot.{day_slot}

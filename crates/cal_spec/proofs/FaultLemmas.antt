@@ -11,7 +11,8 @@ use Rattle.cal_spec.specs.Faults.{pieces_of, numbered, first_number, shape_fault
 use Rattle.cal_spec.specs.Grammar.{most_text_bytes, fields_at, fields_due, fields_in}
 use Rattle.cal_spec.specs.Parts.{is_time, part_of}
 use Rattle.cal_spec.specs.headline.Parts.{with_values}
-use Rattle.cal_spec.specs.Reads.{◌>>=◌, unless, first_of}
+use Rattle.cal_text.specs.AndThen.{◌>>=◌}
+use Rattle.cal_spec.specs.Reads.{unless, first_of}
 use Rattle.cal_spec.specs.headline.Slot.{day_slot}
 use Rattle.cal_spec.specs.Weekdays.{weekdays_in}
 use Rattle.cal_spec.specs.Words.{roles_of}

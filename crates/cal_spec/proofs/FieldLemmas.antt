@@ -8,14 +8,16 @@ use Rattle.std.proofs.lemmas.Bool.{or_left, or_right, le-leb, ltb-false}
 use Rattle.jiff_core.specs.declared.civil.weekday.Weekday.{Weekday}
 use Rattle.jiff_core.specs.declared.civil.weekday.Weekday.TheVariants.{Monday, Tuesday, Wednesday, Thursday, Friday, Saturday, Sunday}
 use Rattle.cal_zone.specs.headline.Weekday.{week}
-use Rattle.cal_spec.specs.Components.{most_counted, is_comma, counted, component_of}
+use Rattle.cal_text.specs.headline.Separators.{is_comma}
+use Rattle.cal_spec.specs.Components.{most_counted, counted, component_of}
 use Rattle.cal_spec.specs.DateAndTime.{DateFields, TimeFields, date_texts, time_texts, date_fields, time_fields, date_due, time_due, room_after, date_in_word, time_in_word}
 use Rattle.cal_spec.specs.headline.DateAndTime.{DateTexts, TimeTexts}
 use Rattle.cal_spec.specs.Fields.{fields_of}
 use Rattle.cal_spec.specs.headline.Fields.{Fields, parts_in, counted_parts}
 use Rattle.cal_spec.specs.Parts.{is_time}
 use Rattle.cal_spec.specs.Grammar.{most_text_bytes, fields_at, fields_due, fields_in}
-use Rattle.cal_spec.specs.Reads.{◌>>=◌, GivesUnlessNoMemory}
+use Rattle.cal_text.specs.AndThen.{◌>>=◌}
+use Rattle.cal_spec.specs.Reads.{GivesUnlessNoMemory}
 use Rattle.cal_spec.specs.declared.fields.Fields as declared_fields
 use Rattle.cal_spec.specs.headline.Slot.{day_slot}
 use Rattle.cal_spec.specs.ValidFields.{IsValidFields}

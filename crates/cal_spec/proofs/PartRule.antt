@@ -6,9 +6,10 @@ use Rattle.std.specs.Str.Parse.{digits_value}
 use Rattle.std.proofs.lemmas.Bool.{ltb-false, le-ltb, and_parts, and_right, eqb-true}
 use Rattle.std.proofs.lemmas.List.{append-nil}
 use Rattle.cal_spec.specs.headline.GrammarRule.{IsNumber, IsNext, IsPartText}
-use Rattle.cal_spec.specs.Parts.{Symbol, digits, dots, slash, point, other, is_point, is_slash, with_digit, with_byte, lone, symbols, starts_with_point, is_second, Counted, after_number, number_due, part_at_end, with_step, after_end, after_start, part_of}
+use Rattle.cal_text.specs.headline.Separators.{is_point}
+use Rattle.cal_spec.specs.Parts.{Symbol, digits, dots, slash, point, other, is_slash, with_digit, with_byte, lone, symbols, starts_with_point, is_second, Counted, after_number, number_due, part_at_end, with_step, after_end, after_start, part_of}
 use Rattle.cal_spec.specs.headline.Parts.{most}
-use Rattle.cal_spec.specs.Reads.{◌>>=◌}
+use Rattle.cal_text.specs.AndThen.{◌>>=◌}
 use Rattle.cal_spec.specs.declared.part.Part.{Part}
 use Rattle.cal_spec.specs.declared.slot.Slot.{Slot}
 use Rattle.cal_spec.specs.declared.spec_fault.SpecFault.TheVariants.{NumberTooLarge, FractionalSecond}

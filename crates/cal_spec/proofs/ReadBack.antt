@@ -9,7 +9,7 @@ use Rattle.std.proofs.lemmas.List.{append-nil, length-append}
 use Rattle.cal_bytes.specs.headline.Bytes.{joined}
 use Rattle.cal_spec.specs.Components.{counted}
 use Rattle.cal_spec.specs.DateAndTime.{DateFields, TimeFields, date_due, date_fields, date_in_word, date_texts, is_date_sign, is_tilde, room_after, time_due, time_fields, time_in_word, time_texts}
-use Rattle.cal_spec.specs.headline.DateAndTime.{is_colon}
+use Rattle.cal_text.specs.headline.Separators.{is_colon}
 use Rattle.cal_spec.specs.headline.ExprText.{component_text, day_lead, expr_text, fields_text, row_text, zone_text}
 use Rattle.cal_spec.specs.headline.Fields.{Fields, counted_parts, parts_in}
 use Rattle.cal_spec.specs.Grammar.{fields_at, fields_in}

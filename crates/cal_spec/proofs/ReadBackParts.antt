@@ -10,11 +10,12 @@ use Rattle.std.proofs.lemmas.Fmt.{decimal_is_IsNumeral}
 use Rattle.std.proofs.lemmas.List.{append-nil}
 use Rattle.std.proofs.lemmas.Str.Parse.{digit_from_value}
 use Rattle.cal_zone.specs.headline.InstantText.{zeros}
-use Rattle.cal_spec.specs.Components.{component_of, counted, is_comma, is_star, parts_listed, part_due, parts_of, room_in}
+use Rattle.cal_text.specs.headline.Separators.{is_comma}
+use Rattle.cal_spec.specs.Components.{component_of, counted, is_star, parts_listed, part_due, parts_of, room_in}
 use Rattle.cal_spec.specs.headline.ExprText.{component_text, number_text, optional_text, part_text, parts_text}
 use Rattle.cal_spec.specs.Parts.{Symbol, digits, slash, after_end, after_number, after_start, is_second, is_time, number_due, part_at_end, part_of, symbols, starts_with_point, with_step}
 use Rattle.cal_spec.specs.headline.Parts.{with_century, with_values}
-use Rattle.cal_spec.specs.Reads.{◌>>=◌}
+use Rattle.cal_text.specs.AndThen.{◌>>=◌}
 use Rattle.cal_spec.specs.Sound.{AreSound}
 use Rattle.cal_spec.specs.headline.Sound.{IsEndWithin, IsSound}
 use Rattle.cal_spec.specs.declared.part.Part.{Part}

@@ -1,7 +1,8 @@
 -- Reads in a row.
 use Rattle.std.proofs.Common.{◌≡◌, Bool, true, false, cond, Option, Some, None, Ok, Err, refl}
 use Rattle.std.specs.Prelude.{Result}
-use Rattle.cal_spec.specs.Reads.{◌>>=◌, unless}
+use Rattle.cal_text.specs.AndThen.{◌>>=◌}
+use Rattle.cal_spec.specs.Reads.{unless}
 use Rattle.cal_spec.specs.declared.spec_fault.SpecFault.{SpecFault}
 
 -- what a read with a value is made of

@@ -13,7 +13,7 @@ use Rattle.std.proofs.lemmas.Slice.Eq.{bytes_eq-Decides}
 use Rattle.jiff_core.specs.declared.civil.weekday.Weekday.{Weekday}
 use Rattle.jiff_core.specs.declared.civil.weekday.Weekday.TheVariants.{Monday, Tuesday, Wednesday, Thursday, Friday, Saturday, Sunday}
 use Rattle.cal_zone.specs.headline.Weekday.{week, name_of, short_name_of}
-use Rattle.cal_spec.specs.Components.{is_comma}
+use Rattle.cal_text.specs.headline.Separators.{is_comma}
 use Rattle.cal_spec.specs.headline.GrammarRule.{IsName, IsItem, AreWeekdays, HasWeekdays}
 use Rattle.cal_spec.specs.Weekdays.{day_named, is_no_letter, leading_letters, after_letters, after_joint, days_to, days_by, days_of, items_of, without_comma, listed_days, weekdays_of, weekdays_in}
 use Rattle.cal_spec.specs.headline.Weekdays.{set_of}

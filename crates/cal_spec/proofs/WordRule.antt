@@ -7,7 +7,8 @@ use Rattle.std.specs.Char.{is_ascii_alphabetic, to_ascii_lowercase}
 use Rattle.std.proofs.lemmas.Bool.{and_parts, or_parts, cond-false, true_from_ne_false}
 use Rattle.std.proofs.lemmas.Bool.Decides.{nat_tests}
 use Rattle.cal_spec.specs.DateAndTime.{TimeFields, time_texts, time_in_word}
-use Rattle.cal_spec.specs.headline.DateAndTime.{TimeTexts, is_colon}
+use Rattle.cal_text.specs.headline.Separators.{is_colon}
+use Rattle.cal_spec.specs.headline.DateAndTime.{TimeTexts}
 use Rattle.cal_spec.specs.headline.GrammarRule.{given, ArePlain, AreShort, IsSignless, IsZoneWord}
 use Rattle.cal_spec.specs.headline.Shorthand.{any_date, midnight, meaning_of, shorthand_named}
 use Rattle.cal_spec.specs.Words.{roles_after_date, after_weekdays, date_or_time, roles_by, roles_of}

@@ -2,16 +2,15 @@
 use Rattle.std.specs.Prelude.{ℕ, ◌+◌, ◌-◌, ◌==◌, Bool, if◌then◌else◌, List, [], ◌∷◌, length, map, codes, Option, None, Some, Result, Ok, Err}
 use Rattle.std.specs.List.{slice_split}
 use Rattle.std.specs.Str.{bytes_eq}
-use Rattle.cal_spec.specs.Reads.{◌>>=◌, unless, first_of}
+use Rattle.cal_text.specs.AndThen.{◌>>=◌}
+use Rattle.cal_spec.specs.Reads.{unless, first_of}
 use Rattle.cal_spec.specs.Parts.{is_time, part_of, fault_of}
 use Rattle.cal_spec.specs.headline.Parts.{with_values}
 use Rattle.cal_spec.specs.declared.part.Part.{Part}
 use Rattle.cal_spec.specs.declared.slot.Slot.{Slot}
 use Rattle.cal_spec.specs.declared.spec_fault.SpecFault.{SpecFault}
 use Rattle.cal_spec.specs.declared.spec_fault.SpecFault.TheVariants.{TooManyParts}
-
-abbrev pub is_comma : ℕ → Bool
-is_comma b = b == 44
+use Rattle.cal_text.specs.headline.Separators.{is_comma}
 
 -- `*`, for all values
 abbrev pub is_star : List ℕ → Bool

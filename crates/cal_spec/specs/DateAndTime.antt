@@ -2,13 +2,14 @@
 use Rattle.std.specs.Prelude.{ℕ, ◌-◌, ◌==◌, Bool, ◌||◌, if◌then◌else◌, List, [], ◌∷◌, filter, codes, Option, None, Some, Result, Ok, Err}
 use Rattle.std.specs.List.{slice_split}
 use Rattle.cal_spec.specs.Components.{most_counted, counted, component_of}
-use Rattle.cal_spec.specs.Reads.{◌>>=◌}
+use Rattle.cal_text.specs.AndThen.{◌>>=◌}
 use Rattle.cal_spec.specs.headline.Slot.{day_slot}
 use Rattle.cal_spec.specs.declared.part.Part.{Part}
 use Rattle.cal_spec.specs.declared.slot.Slot.TheVariants.{Year, Month, Hour, Minute, Second}
 use Rattle.cal_spec.specs.declared.spec_fault.SpecFault.{SpecFault}
 use Rattle.cal_spec.specs.declared.spec_fault.SpecFault.TheVariants.{BadDate, BadTime}
-use Rattle.cal_spec.specs.headline.DateAndTime.{DateTexts, TimeTexts, is_colon}
+use Rattle.cal_text.specs.headline.Separators.{is_colon}
+use Rattle.cal_spec.specs.headline.DateAndTime.{DateTexts, TimeTexts}
 
 -- the components of a date
 pub record DateFields : Type 0 where

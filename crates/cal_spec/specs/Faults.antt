@@ -3,7 +3,8 @@
 use Rattle.std.specs.Prelude.{ℕ, ◌+◌, ◌-◌, nat_lt, if◌then◌else◌, List, [], ◌∷◌, ◌++◌, length, map, Option, None, Some, Result, Ok, Err}
 use Rattle.std.specs.List.{slice_split}
 use Rattle.std.specs.Result.{result_err}
-use Rattle.cal_spec.specs.Components.{most_counted, is_comma, is_star}
+use Rattle.cal_text.specs.headline.Separators.{is_comma}
+use Rattle.cal_spec.specs.Components.{most_counted, is_star}
 use Rattle.cal_spec.specs.DateAndTime.{date_texts, time_texts}
 use Rattle.cal_spec.specs.headline.DateAndTime.{DateTexts, TimeTexts}
 use Rattle.cal_spec.specs.Grammar.{most_text_bytes}

@@ -4,12 +4,6 @@ use Rattle.std.specs.Option.{option_or}
 use Rattle.cal_spec.specs.declared.spec_fault.SpecFault.{SpecFault}
 use Rattle.cal_spec.specs.declared.spec_fault.SpecFault.TheVariants.{NoMemory}
 
--- what follows where there was no fault
-infixl 10 ◌>>=◌
-abbrev pub ◌>>=◌ : {A B : Type 0} → Result A SpecFault → (A → Result B SpecFault) → Result B SpecFault
-(Ok x) >>= f = f x
-(Err e) >>= f = Err e
-
 -- the value, unless there is a fault
 abbrev pub unless : {A : Type 0} → Option SpecFault → A → Result A SpecFault
 unless None x = Ok x

@@ -1,7 +1,7 @@
 -- What each word of a calendar expression stands for, computed: systemd.time(7), Calendar Events.
 use Rattle.std.specs.Prelude.{ℕ, if◌then◌else◌, List, [], ◌∷◌, Option, None, Some}
 use Rattle.std.specs.List.{list_any}
-use Rattle.cal_spec.specs.headline.DateAndTime.{is_colon}
+use Rattle.cal_text.specs.headline.Separators.{is_colon}
 use Rattle.cal_spec.specs.headline.Shorthand.{any_date, midnight, shorthand_named, meaning_of}
 use Rattle.cal_zone.specs.OffsetWord.{begins_zone}
 use Rattle.cal_zone.specs.headline.ZoneName.{begins_with_letter}

@@ -3,7 +3,8 @@
 ghost use Rattle.std.specs.Prelude.{◌≡◌, ◌≤◌};
 ghost use Rattle.std.specs.List.{slice_split};
 ghost use Rattle.std.specs.Option.{option_copied, option_map};
-ghost use Rattle.cal_spec.specs.Components.{most_counted, is_comma, room_in, counted, part_due, parts_of, first_value_fault, parts_listed, component_of};
+ghost use Rattle.cal_text.specs.headline.Separators.{is_comma};
+ghost use Rattle.cal_spec.specs.Components.{most_counted, room_in, counted, part_due, parts_of, first_value_fault, parts_listed, component_of};
 ghost use Rattle.cal_spec.specs.Reads.{Gives, GivesUnlessNoMemory};
 
 use crate::parts::{fault_of, is_time, read_part, with_values};

@@ -5,7 +5,7 @@ ghost use Rattle.std.specs.List.{find, list_any, list_all, position, position_or
 ghost use Rattle.std.specs.Option.{option_copied};
 ghost use Rattle.std.specs.Str.{str_eq_ignore_ascii_case};
 ghost use Rattle.cal_zone.specs.headline.Weekday.{name_of, short_name_of};
-ghost use Rattle.cal_spec.specs.Components.{is_comma};
+ghost use Rattle.cal_text.specs.headline.Separators.{is_comma};
 ghost use Rattle.cal_spec.specs.Reads.{Gives, GivesUnlessNoMemory};
 ghost use Rattle.cal_spec.specs.Weekdays.{after_joint, day_named, days_of, is_like_shorthand, is_no_letter, items_of, weekdays_of, without_comma};
 ghost use Rattle.cal_spec.specs.headline.Weekdays.{is_covered, set_of};

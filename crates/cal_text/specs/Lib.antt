@@ -1,2 +1,3 @@
+pub mod AndThen
 pub mod TrimRule
 pub mod headline

@@ -4,6 +4,7 @@ pub mod DayAfter
 pub mod Days
 pub mod InstantText
 pub mod Local
+pub mod Moment
 pub mod OffsetWord
 pub mod Place
 pub mod Weekday

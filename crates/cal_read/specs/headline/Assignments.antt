@@ -4,6 +4,7 @@ use Rattle.std.specs.List.{after_first, before_first, filter_map, list_any}
 use Rattle.std.specs.Str.{bytes_eq}
 use Rattle.cal_text.specs.headline.Trim.{trim}
 use Rattle.cal_lines.specs.headline.Lines.{Line, is_blank_or_return}
+use Rattle.cal_text.specs.headline.Separators.{is_equals}
 
 -- a logical line that begins with `[` and ends with `]` opens the section named between them
 abbrev pub is_header : List ℕ → Bool
@@ -29,9 +30,6 @@ pub record Assignment : Type 0 where
   pub number : ℕ
   pub key : List ℕ
   pub value : List ℕ
-
-abbrev pub is_equals : ℕ → Bool
-is_equals b = b == 61
 
 -- the key comes before the first `=`, and the value after it; a line without one assigns nothing
 unfoldable pub assignment_of : Line → Option Assignment

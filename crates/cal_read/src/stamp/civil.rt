@@ -3,7 +3,7 @@
 ghost use Rattle.std.specs.Prelude.{◌≡◌, ◌≤◌, pos, neg_ℤ, IfOk, IfSome};
 ghost use Rattle.std.specs.List.{list_any};
 ghost use Rattle.jiff.specs.Words.{IsBetween};
-ghost use Rattle.cal_spec.specs.headline.DateAndTime.{is_colon};
+ghost use Rattle.cal_text.specs.headline.Separators.{is_colon};
 ghost use Rattle.cal_text.specs.headline.Words.{words};
 ghost use Rattle.cal_read.specs.Stamp.{begins_with_digit, after_date, after_weekday, civil_time, fits_weekday, moment_of_written, written_in};
 ghost use Rattle.cal_read.specs.StampViews.{micros_or_fault, setting_seen, written_seen, written_or_fault};

@@ -4,7 +4,8 @@ ghost use Rattle.std.specs.Prelude.{◌≡◌, ◌≤◌, ◌<◌, ◌+ℤ◌, �
 ghost use Rattle.jiff.specs.Words.{IsBetween};
 ghost use Rattle.cal_zone.specs.Instant.{IsInstant};
 ghost use Rattle.cal_zone.specs.headline.Zone.{local_of, zone_of};
-ghost use Rattle.cal_read.specs.Stamp.{before_second, after_second, in_moments, micros_of, settled, today};
+ghost use Rattle.cal_zone.specs.headline.Moment.{micros_of};
+ghost use Rattle.cal_read.specs.Stamp.{before_second, after_second, in_moments, settled, today};
 ghost use Rattle.cal_read.specs.StampViews.{shift_of, micros_or_fault};
 
 use crate::StampFault;

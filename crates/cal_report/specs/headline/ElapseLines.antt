@@ -3,7 +3,8 @@ use Rattle.std.specs.Prelude.{ℕ, ◌+◌, ◌-◌, ◌==◌, ℤ, List, [], �
 use Rattle.cal_bytes.specs.headline.Bytes.{joined}
 use Rattle.cal_zone.specs.headline.InstantText.{instant_text}
 use Rattle.cal_zone.specs.declared.zone.Zone.{Zone}
-use Rattle.cal_report.specs.headline.ReportLines.{distance_text, micros_of, utc_line}
+use Rattle.cal_zone.specs.headline.Moment.{micros_of}
+use Rattle.cal_report.specs.headline.ReportLines.{distance_text, utc_line}
 
 -- the label of the elapse with that number, from 1 on, right-aligned in 15 columns
 unfoldable pub label_text : ℕ → List ℕ

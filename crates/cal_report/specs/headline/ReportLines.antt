@@ -18,10 +18,6 @@ except_label = codes "    Except form: "
 unfoldable pub text_line : List ℕ → List ℕ → List ℕ
 text_line label text = joined (label ∷ text ∷ codes "\nNormalized form: " ∷ [])
 
--- the microseconds of an instant
-abbrev pub micros_of : ℤ → ℤ
-micros_of secs = secs *ℤ pos 1_000_000
-
 -- the line of the instant in UTC, which is there unless the local zone is UTC itself
 unfoldable pub utc_line : Zone → ℤ → List ℕ
 utc_line local secs =

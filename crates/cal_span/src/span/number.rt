@@ -5,7 +5,8 @@ ghost use Rattle.std.specs.Prelude.{◌≡◌, ◌≤◌, IsTrue, MatchOption, m
 ghost use Rattle.std.specs.List.{list_all, position, before_first, after_first};
 ghost use Rattle.std.specs.Char.{is_ascii_digit};
 ghost use Rattle.cal_span.specs.headline.Scale.{size_of};
-ghost use Rattle.cal_span.specs.SpanValue.{is_point, is_number, fraction_worth, digits_worth};
+ghost use Rattle.cal_text.specs.headline.Separators.{is_point};
+ghost use Rattle.cal_span.specs.SpanValue.{is_number, fraction_worth, digits_worth};
 
 use crate::Scale;
 use cal_text::{are_digits, whole_of};

@@ -13,6 +13,3 @@ pub record TimeTexts : Type 0 where
   pub hour : List ℕ
   pub minute : List ℕ
   pub second : List ℕ
-
-abbrev pub is_colon : ℕ → Bool
-is_colon b = b == 58

@@ -6,7 +6,8 @@ use Rattle.std.specs.Char.{is_ascii_digit, to_ascii_lowercase}
 use Rattle.std.specs.Str.Parse.{digits_value}
 use Rattle.jiff_core.specs.declared.civil.weekday.Weekday.{Weekday}
 use Rattle.cal_zone.specs.headline.Weekday.{week, name_of, short_name_of}
-use Rattle.cal_spec.specs.headline.DateAndTime.{DateTexts, TimeTexts, is_colon}
+use Rattle.cal_text.specs.headline.Separators.{is_colon}
+use Rattle.cal_spec.specs.headline.DateAndTime.{DateTexts, TimeTexts}
 use Rattle.cal_spec.specs.headline.Fields.{Fields, counted_parts}
 use Rattle.cal_spec.specs.headline.Parts.{most, with_values}
 use Rattle.cal_spec.specs.headline.Shorthand.{any_date, midnight, shorthand_named, meaning_of}

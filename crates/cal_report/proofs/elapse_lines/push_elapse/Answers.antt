@@ -2,7 +2,8 @@ use Rattle.std.proofs.Common.{codes}
 use Rattle.cal_bytes.proofs.ShortText.{pushed, pushed_more}
 use Rattle.cal_zone.specs.headline.InstantText.{instant_text}
 use Rattle.cal_report.specs.headline.ElapseLines.{elapse_text, label_text}
-use Rattle.cal_report.specs.headline.ReportLines.{distance_text, micros_of, utc_line}
+use Rattle.cal_zone.specs.headline.Moment.{micros_of}
+use Rattle.cal_report.specs.headline.ReportLines.{distance_text, utc_line}
 use Rattle.cal_report.proofs.elapse_lines.push_elapse.Goals as goal
 
 pub returns-clause-text : goal.returns-clause-text

@@ -1,7 +1,8 @@
 use Rattle.std.proofs.Common.{codes, unsigned_abs}
 use Rattle.cal_bytes.proofs.ShortText.{pushed, pushed_more}
 use Rattle.cal_zone.specs.headline.InstantText.{instant_text}
-use Rattle.cal_report.specs.headline.ReportLines.{distance_text, micros_of, utc_line}
+use Rattle.cal_zone.specs.headline.Moment.{micros_of}
+use Rattle.cal_report.specs.headline.ReportLines.{distance_text, utc_line}
 use Rattle.cal_report.specs.TimestampReport.{moment_lines, second_at, unix_text}
 use Rattle.cal_report.proofs.timestamp_report.push_moment.Goals as goal
 

@@ -1,9 +1,9 @@
 use Rattle.std.proofs.Common.{◌≡◌, ◌++◌, Ok}
 use Rattle.std.specs.List.{slice_split}
 use Rattle.std.specs.Option.{option_copied}
-use Rattle.cal_spec.specs.Components.{is_comma}
+use Rattle.cal_text.specs.headline.Separators.{is_comma}
 use Rattle.cal_bytes.specs.SplitPieces.{left, pieces_after}
-use Rattle.cal_spec.specs.Reads.{◌>>=◌}
+use Rattle.cal_text.specs.AndThen.{◌>>=◌}
 use Rattle.cal_spec.specs.Weekdays.{items_of}
 use Rattle.cal_spec.proofs.weekdays.read_items.Given as goal
 
