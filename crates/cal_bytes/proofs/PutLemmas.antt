@@ -70,10 +70,6 @@ module _ {W : Type 0} {sink : Ghosts W} where
     bytes = writes_err _ _ r text is_err (stop _ _ _ piece rest text (respell _ _ _ _ text before.leaves split) p.bytes);
   }
 
-  -- the last call's answer is the answer of the whole
-  pub put_last : {T E : Type 0} {a b c : W} {piece text : List ℕ} {r : Result T E} → PutsUpTo sink a b piece text → Puts sink b c r piece → Puts sink a c r text
-  put_last {piece = piece} {text = text} {r = r} before p = record { failed = p.failed; bytes = finish _ _ _ piece text r before.leaves p.bytes }
-
 -- the items from an index on begin with the item there
 flat_map-drop : {A : Type 0} (f : A → List ℕ) (i : ℕ) (xs : List A) (d : A) → i < length xs → flat_map f (drop i xs) ≡ f (get_or xs i d) ++ flat_map f (drop (i + 1) xs)
 flat_map-drop f i xs d h = rw (add-one, drop-cons xs i d h) refl

@@ -68,15 +68,6 @@ pub found_some : {X Y : Type 0} (o : Option (X × Y)) (x : X) (y : Y) → Some x
 found_some None x y h k = absurd (cc)
 found_some (Some p) x y h k = ap₂ (λ a b. Some (a, b)) (sym (ap (λ o. unwrap_or o x) h)) (sym (ap (λ o. unwrap_or o y) k))
 
-pub one_kept : (texts : List (Bor Text)) → map (λ text. text.now) (take 1 texts) ≡ take 1 (map (λ text. text.now) texts)
-one_kept [] = refl
-one_kept (t ∷ ts) = refl
-
-pub few_kept : (texts : List (Bor Text)) → length texts ≤ 1 → map (λ text. text.now) texts ≡ take 1 (map (λ text. text.now) texts)
-few_kept [] few = refl
-few_kept (t ∷ []) few = refl
-few_kept (t ∷ u ∷ ts) few = absurd (omega (arith, few))
-
 -- what is read of the values that were parsed is what the words ask for
 pub read_said : (words : List Text) (given : Given) (said : Result Ask CommandFault) → faults_in words ≡ [] → Some given ≡ parsed_in words
     → IsReadAs said (read_options given) → IsAskOf words said

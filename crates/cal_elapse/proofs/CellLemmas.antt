@@ -31,8 +31,8 @@ word_before xs j h = zero_of (get_or xs j 0) (not-true _ (prefix_len_passes (λ 
 word_there : (xs : List ℕ) → position_or_len is_set xs < length xs → 0 < get_or xs (position_or_len is_set xs) 0
 word_there xs h = set_of (get_or xs (position_or_len is_set xs) 0) (not-false _ (prefix_len_stops (λ x. not (is_set x)) xs 0 h))
 
-by_place : (n k len : ℕ) → ◌≡◌ {A = Option ℕ} (cond (ltb n len) (Some n) None) (Some k) → (n ≡ k) × (n < len)
-by_place n k len h =
+by_index : (n k len : ℕ) → ◌≡◌ {A = Option ℕ} (cond (ltb n len) (Some n) None) (Some k) → (n ≡ k) × (n < len)
+by_index n k len h =
     elim (cases_lt n len) [
       | inl inside ↦ (let e : ltb n len ≡ true = grind (arith) in let same = rw e at h in cc, inside)
       | inr outside ↦ absurd (let e : ltb n len ≡ false = grind (arith) in let same = rw e at h in cc)
@@ -47,7 +47,7 @@ by_none n len h =
 
 pub position-first : (xs : List ℕ) (k : ℕ) → position is_set xs ≡ Some k → IsFirstSet xs k
 position-first xs k h =
-    let at = by_place (position_or_len is_set xs) k (length xs) h in
+    let at = by_index (position_or_len is_set xs) k (length xs) h in
     record {
       inside = subst (λ (n : ℕ). n < length xs) at.0 at.1;
       some = subst (λ (n : ℕ). 0 < get_or xs n 0) at.0 (word_there xs at.1);
@@ -116,10 +116,10 @@ found_later words from later bit cell long inside none first there found is =
     )
 
 -- in no word at all
-pub found_nowhere : (words : List ℕ) (from : ℕ) → length words ≡ 2_925 → from < 187_200 → length (drop (from / 64 + 1) words) ≡ 2_925 - (from / 64 + 1)
+pub no_word_set : (words : List ℕ) (from : ℕ) → length words ≡ 2_925 → from < 187_200 → length (drop (from / 64 + 1) words) ≡ 2_925 - (from / 64 + 1)
     → IsFirstPassing (is_bit (get_or words (from / 64) 0)) (from % 64) 64 None → position is_set (drop (from / 64 + 1) words) ≡ None
     → IsFirstPassing (is_in_words words) from 187_200 None
-found_nowhere words from long inside after none all = λ t above below.
+no_word_set words from long inside after none all = λ t above below.
     none_before words from (2_925 - (from / 64 + 1)) t none (λ j lt. position-all (drop (from / 64 + 1) words) all j (omega arith)) above (omega arith)
 
 -- From cells to the seconds of a round

@@ -11,7 +11,8 @@ use Rattle.cal_zone.specs.headline.Zone.{zone_of}
 use Rattle.cal_zone.specs.declared.zone.Zone.{Zone}
 use Rattle.cal_zone.proofs.PlaceLemmas.{one_local_second, within}
 use Rattle.cal_spec.specs.headline.Match.{matches}
-use Rattle.cal_rising.proofs.WithoutLemmas.{Has-is_member, is_member-Has, same_truth}
+use Rattle.std.specs.Cmp.{both_ways}
+use Rattle.cal_rising.proofs.WithoutLemmas.{Has-is_member, is_member-Has}
 use Rattle.cal_elapse.specs.Elapses.{elapses_after}
 use Rattle.cal_elapse.specs.headline.Elapses.{IsPlace}
 use Rattle.cal_elapse.specs.Masks.{sets_in}
@@ -46,7 +47,7 @@ unfolding rest_of
 in_rest w i b above h =
     let rest = elapses_after (timed_of w ∷ []) w.last in
     let all = (AreAbove-elapses_after (timed_of w ∷ []) w.last).members i in
-    same_truth b (is_member int_eq rest i)
+    both_ways b (is_member int_eq rest i)
     (λ t. is_member-Has rest i (all.1 (above, inl (h.0 t))))
     (λ t. h.1 (elim (all.0 (Has-is_member rest i t)).1 [ inl p ↦ p | inr n ↦ absurd n ]))
 
@@ -56,7 +57,7 @@ unfolding rest_of
 not_in_rest w i h =
     let rest = elapses_after (timed_of w ∷ []) w.last in
     let all = (AreAbove-elapses_after (timed_of w ∷ []) w.last).members i in
-    same_truth false (is_member int_eq rest i)
+    both_ways false (is_member int_eq rest i)
     (λ t. absurd (false≢true t))
     (λ t. absurd (let p = all.0 (Has-is_member rest i t) in h p.0 (elim p.1 [ inl q ↦ q | inr n ↦ absurd n ])))
 

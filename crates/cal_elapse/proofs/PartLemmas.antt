@@ -81,9 +81,9 @@ values_up slot a None (Some r) v up small = repeats_up slot a r v up small
 values_up slot a (Some b) None v up small = sym (and_true (lies a b v))
 values_up slot a (Some b) (Some r) v up small = refl
 
-and_assoc : (x y z : Bool) → ((x && y) && z) ≡ (x && (y && z))
-and_assoc true y z = refl
-and_assoc false y z = refl
+pub and_regrouped : (x y z : Bool) → ((x && y) && z) ≡ (x && (y && z))
+and_regrouped true y z = refl
+and_regrouped false y z = refl
 
 -- where they are in a window
 pub part_in_window : (slot : Slot) (p : Part) (step : Option ℕ) (first count low high i : ℕ) → IsWindow slot first count → p.step ≡ step
@@ -101,7 +101,7 @@ part_in_window slot p step first count low high i w same_step same_low same_high
           (let upto = w.upto in
           let numbers = values_up slot p.start p.end p.step (first + i) w.upwards (omega arith) in
           ap (λ (b : Bool). b && moved) (lies_in_window p.start last first count i)
-          ∙ (and_assoc (nat_lt i count) (lies p.start last (first + i)) moved ∙ ap (λ (b : Bool). nat_lt i count && b) (sym numbers)))
+          ∙ (and_regrouped (nat_lt i count) (lies p.start last (first + i)) moved ∙ ap (λ (b : Bool). nat_lt i count && b) (sym numbers)))
       | inr past ↦
           (let out : nat_lt i count ≡ false = grind (arith, nat_tests) in
           let none : (nat_le (p.start - first) i && nat_lt i (min (last + 1 - first) count)) ≡ false = grind (arith, nat_tests) in

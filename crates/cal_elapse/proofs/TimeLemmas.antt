@@ -1,15 +1,12 @@
 -- The hour, minute and second of a time of day, as a search goes from one to the next.
-use Rattle.std.proofs.Common.{◌≡◌, ◌+◌, ◌*◌, ◌/◌, ◌%◌, Bool, true, false, ◌&&◌, refl, arith}
+use Rattle.std.proofs.Common.{◌≡◌, ◌+◌, ◌*◌, ◌/◌, ◌%◌, Bool, true, false, ◌&&◌, refl, sym, arith}
 use Rattle.cal_elapse.specs.Bits.{is_bit}
 use Rattle.cal_elapse.specs.Masks.{sets_in}
 use Rattle.cal_elapse.specs.Months.{minute_in}
 use Rattle.cal_elapse.specs.declared.masks.Masks.{Masks}
 use Rattle.cal_elapse.proofs.CarryLemmas.{Splits}
+use Rattle.cal_elapse.proofs.PartLemmas.{and_regrouped}
 use Rattle.cal_spec.specs.headline.Match.{time_in}
-
-and_assoc : (a b c : Bool) → (a && (b && c)) ≡ ((a && b) && c)
-and_assoc true b c = refl
-and_assoc false b c = refl
 
 -- a minute of the day is an hour and a minute
 pub minutes_split : (m : Masks) → Splits (minute_in (sets_in m)) (is_bit m.hours) (is_bit m.minutes) 60 24
@@ -31,5 +28,5 @@ seconds_split m = record {
       let hour : (a * 60 + b) / 3_600 ≡ a / 60 = omega arith in
       let minute : (a * 60 + b) / 60 % 60 ≡ a % 60 = omega arith in
       let second : (a * 60 + b) % 60 ≡ b = omega arith in
-      rw (hour, minute, second) (and_assoc (is_bit m.hours (a / 60)) (is_bit m.minutes (a % 60)) (is_bit m.seconds b));
+      rw (hour, minute, second) (sym (and_regrouped (is_bit m.hours (a / 60)) (is_bit m.minutes (a % 60)) (is_bit m.seconds b)));
 }

@@ -87,10 +87,6 @@ no_value : (b x y : Bool) → (b && x) ≡ true → (not b && y) ≡ false
 no_value true x y e = refl
 no_value false x y e = cc
 
-with_value : (b x y : Bool) → (not b && x) ≡ true → (b && y) ≡ false
-with_value true x y e = cc
-with_value false x y e = refl
-
 -- the key of exceptions is no key of a timer's
 other_key : (key : List ℕ) → bytes_eq key exception_key ≡ true → (list_any (bytes_eq key) timer_keys ≡ false) × (bytes_eq key (codes "OnCalendar") ≡ false)
 other_key key e =

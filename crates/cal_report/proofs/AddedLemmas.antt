@@ -23,18 +23,6 @@ use Rattle.cal_report.specs.TimerPlan.{IsAdded, IsCoveredEntry, each_of, entry_s
 use Rattle.cal_report.specs.TimerReport.{elapses_of_lists, timed_entry}
 use Rattle.cal_request.specs.headline.Request.{Request}
 
--- a zone is known by its name and its offset
-pub same_suffix : (a b : Option ZoneSuffix) → offset_said a ≡ offset_said b → name_in a ≡ name_in b → a ≡ b
-same_suffix None None h k = refl
-same_suffix None (Some (of_name name)) h k = absurd (cc)
-same_suffix None (Some (ahead seconds)) h k = absurd (cc)
-same_suffix (Some (of_name name)) None h k = absurd (cc)
-same_suffix (Some (of_name name)) (Some (of_name other)) h k = cc
-same_suffix (Some (of_name name)) (Some (ahead seconds)) h k = absurd (cc)
-same_suffix (Some (ahead seconds)) None h k = absurd (cc)
-same_suffix (Some (ahead seconds)) (Some (of_name name)) h k = absurd (cc)
-same_suffix (Some (ahead seconds)) (Some (ahead others)) h k = cc
-
 -- in the same zone, an expression whose members are among those of another elapses only where the other does
 place_among : (e f : TimerLine Fields) → e.expr.zone ≡ f.expr.zone → AreAmong (entry_sets e) (entry_sets f) → (asked : Request) (i : ℤ)
     → IsPlace (timed_entry asked e) i → IsPlace (timed_entry asked f) i
@@ -56,14 +44,6 @@ covered_at e (x ∷ lines) (m ∷ masks) own zero line theirs all h k is so same
     inl (subst (λ (l : declared_line.TimerLine). IsPlace (timed_entry asked (shown l)) j) is (place_among e (shown line) zone (rw (same, sets) at among) asked j p))
 covered_at e (x ∷ lines) (m ∷ masks) own (suc i) line theirs all h k is so same zone among asked j p =
     inr (covered_at e lines masks own i line theirs (cc) (omega arith) (omega arith) is so same zone among asked j p)
-
--- nothing is added, one expression more, or one that is covered
-pub added_none : (asked : Request) (base : ℤ) (exceptions : List (TimerLine Fields)) (merge : Merge) → merge.started ≡ false → IsAdded asked base [] exceptions merge merge
-added_none asked base exceptions merge h = record {
-  kept = [];
-  are_kept = kept_none (map (timed_entry asked) exceptions);
-  is = λ i. record { started = h i; lists = sym (append-nil merge.lists) i; exceptions = merge.exceptions };
-}
 
 timed_more : (asked : Request) (lines : List declared_line.TimerLine) (i : ℕ) (line : declared_line.TimerLine) → i < length lines → line ≡ get_or lines i line
     → map (timed_entry asked) (map shown (take (i + 1) lines)) ≡ map (timed_entry asked) (map shown (take i lines)) ++ timed_entry asked (shown line) ∷ []

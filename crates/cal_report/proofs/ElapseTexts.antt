@@ -12,15 +12,6 @@ pub texts_first : (local : Zone) (now : ℤ) (number count e : ℕ) (elapse : �
 texts_first local now number count e elapse [] h is = absurd (cc)
 texts_first local now number count e elapse (x ∷ xs) h is = rw (h, some_is x elapse is) refl
 
--- no elapse
-pub texts_none : (local : Zone) (now : ℤ) (number count : ℕ) (xs : List ℤ) → None ≡ slice_get xs 0 → elapse_texts local now number (take count xs) ≡ []
-texts_none local now number zero [] is = refl
-texts_none local now number (suc count) [] is = refl
-texts_none local now number count (x ∷ xs) is = absurd (cc)
-
-pub texts_no_more : (local : Zone) (now : ℤ) (number count : ℕ) (xs : List ℤ) → count ≡ 0 → elapse_texts local now number (take count xs) ≡ []
-texts_no_more local now number count xs h = rw h refl
-
 -- the elapses that are shown, where there is one
 pub shown_first : (local : Zone) (now : ℤ) (count e : ℕ) (elapse : ℤ) (xs : List ℤ) → count ≡ suc e → Some elapse ≡ slice_get xs 0 → elapses_text local now (take count xs) ≡ elapse_text local now 1 elapse ++ elapse_texts local now 2 (take e (drop 1 xs))
 shown_first local now count e elapse [] h is = absurd (cc)

@@ -37,18 +37,18 @@ found_there : (p : TimerLine Fields → Bool) (e : TimerLine Fields) (es : List 
 found_there p e es true is h = rw is (λ never. cc)
 found_there p e es false is h = rw is h
 
-pub found_at : (p : TimerLine Fields → Bool) (lines : List declared_line.TimerLine) (i : ℕ) (line : declared_line.TimerLine) → i < length lines → line ≡ get_or lines i line → p (shown line) ≡ true → find p (map shown lines) ≢ None
-found_at p [] i line h is lacks = absurd (omega arith)
-found_at p (x ∷ lines) zero line h is lacks =
+pub line_found : (p : TimerLine Fields → Bool) (lines : List declared_line.TimerLine) (i : ℕ) (line : declared_line.TimerLine) → i < length lines → line ≡ get_or lines i line → p (shown line) ≡ true → find p (map shown lines) ≢ None
+line_found p [] i line h is lacks = absurd (omega arith)
+line_found p (x ∷ lines) zero line h is lacks =
     let here : p (shown x) ≡ true = subst (λ (l : declared_line.TimerLine). p (shown l) ≡ true) is lacks in
     rw here (λ never. cc)
-found_at p (x ∷ lines) (suc i) line h is lacks =
-    found_there p (shown x) (map shown lines) (p (shown x)) refl (found_at p lines i line (omega arith) is lacks)
+line_found p (x ∷ lines) (suc i) line h is lacks =
+    found_there p (shown x) (map shown lines) (p (shown x)) refl (line_found p lines i line (omega arith) is lacks)
 
 pub zoned_at : (asked : Request) (lines : List declared_line.TimerLine) (i : ℕ) (line : declared_line.TimerLine) → i < length lines → line ≡ get_or lines i line
     → first_unzoned asked (map shown lines) ≡ None → lacks_zone asked (shown line) ≡ false
 zoned_at asked lines i line h is none =
-    false_from_ne_true (lacks_zone asked (shown line)) (λ lacks. found_at (lacks_zone asked) lines i line h is lacks (none_mapped (find (lacks_zone asked) (map shown lines)) none))
+    false_from_ne_true (lacks_zone asked (shown line)) (λ lacks. line_found (lacks_zone asked) lines i line h is lacks (none_mapped (find (lacks_zone asked) (map shown lines)) none))
 
 -- both lists have all their zones
 lesser_none : (a b : Option ℕ) → lesser_line a b ≡ None → (a ≡ None) × (b ≡ None)
@@ -95,6 +95,3 @@ plan_answers asked base read lists merge is m name = rw (is, m.found, merge_whol
 -- what was read where a list, or a fault other than out of memory, came of it
 pub had_lists : (read : Result (List ℕ) WholeFault) (lists : Timer Fields) → timer_text expr_in read ≡ Ok lists → IsHad read
 had_lists read lists is none = let never = rw none at is in cc
-
-pub had_fault : (read : Result (List ℕ) WholeFault) (fault : TimerFault) → timer_text expr_in read ≡ Err fault → fault ≢ timer.NoMemory → IsHad read
-had_fault read fault is other none = let same = rw none at is in other (cc)

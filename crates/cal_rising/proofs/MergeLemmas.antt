@@ -47,8 +47,8 @@ lesser-assoc (Some x) None c = refl
 lesser-assoc (Some x) (Some y) None = sym (lesser-none (lesser (Some x) (Some y)))
 lesser-assoc (Some x) (Some y) (Some z) = lesser-three x y z
 
-both_ways : (a b : ℤ) → a ≤ℤ b → b ≤ℤ a → a ≡ b
-both_ways a b h k = omega (arith, ints)
+squeezed : (a b : ℤ) → a ≤ℤ b → b ≤ℤ a → a ≡ b
+squeezed a b h k = omega (arith, ints)
 
 -- the first number of a list with one more
 first_inserted : (o : Ordering) (x y : ℤ) (ys more : List ℤ) → int_cmp x y ≡ o → slice_get (match_ordering o (x ∷ y ∷ ys) (y ∷ ys) (y ∷ more)) 0 ≡ lesser (Some x) (Some y)
@@ -114,7 +114,7 @@ Has-passed m (y ∷ ys) h low i =
       λ p. p.1,
     ))
     (λ ge. rw (not_lt_test m y ge) (
-    let same = both_ways y m ge (low y (inl refl)) in
+    let same = squeezed y m ge (low y (inl refl)) in
     subst (λ (z : ℤ). Has ys i ↔ ((z <ℤ i) × Has (y ∷ ys) i)) same (later_members y ys h i)
     ))
 

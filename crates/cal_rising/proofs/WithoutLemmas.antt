@@ -18,6 +18,7 @@ use Rattle.cal_rising.specs.Rises.{rises-union, rises-without}
 use Rattle.cal_rising.specs.RisingList.{HasAny, IsSameFrom, IsUnionWithout, union, without}
 use Rattle.cal_rising.specs.headline.Elements.{Has}
 use Rattle.cal_rising.proofs.RisingLemmas.{Has-union, from_less, same_rising}
+use Rattle.std.specs.Cmp.{both_ways}
 
 value_below : (a b : ℤ) → a <ℤ b → int_eq a b ≡ false
 value_below a b h = grind (arith, ints)
@@ -120,10 +121,6 @@ pub same_word : (w : Width) (a b : ℤ) → FitsSigned w a → FitsSigned w b �
 same_word w a b f g =
     same_test (of_z w a) (of_z w b) a b (λ e. sym (to_z-of_z w a f) ∙ ap (to_z w) e ∙ to_z-of_z w b g) (ap (of_z w))
 
--- a source that has taken its next number in the place of one below has from there on what it had
-pub followed : (m n : ℤ) (xs ys zs : List ℤ) → m <ℤ n → xs ≡ ys → IsSameFrom n zs ys → IsSameFrom n zs xs
-followed m n xs ys zs h e same i le = same i le ∙ ap (λ (l : List ℤ). is_member int_eq l i) (sym e)
-
 -- lists with the same numbers from one number on leave the same of a list above that number
 without-same : (n : ℤ) (xs ys zs : List ℤ) → AllByRecursion (λ y. int_cmp n y ≡ Less) xs → IsSameFrom n zs ys → without xs zs ≡ without xs ys
 unfolding without
@@ -166,12 +163,6 @@ unfolding without
 without-later-nothing [] ys h = refl
 without-later-nothing (x ∷ xs) ys h = absurd (cc)
 
--- a union has a number where one of the lists has it
-pub same_truth : (a b : Bool) → (a ≡ true → b ≡ true) → (b ≡ true → a ≡ true) → a ≡ b
-same_truth true b h k = sym (h refl)
-same_truth false true h k = k refl
-same_truth false false h k = refl
-
 any-HasAny : (n : ℤ) (xss : List (List ℤ)) → list_any (λ xs. is_member int_eq xs n) xss ≡ true → HasAny xss n
 any-HasAny n [] h = absurd (cc)
 any-HasAny n (xs ∷ xss) h =
@@ -182,9 +173,10 @@ HasAny-any n [] m = absurd m
 HasAny-any n (xs ∷ xss) (inl m) = rw (is_member-Has xs n m) refl
 HasAny-any n (xs ∷ xss) (inr m) = rw (HasAny-any n xss m) (or-true (is_member int_eq xs n))
 
+-- a union has a number where one of the lists has it
 pub any-union : (n : ℤ) (xss : List (List ℤ)) → list_any (λ xs. is_member int_eq xs n) xss ≡ is_member int_eq (union xss) n
 any-union n xss =
-    same_truth (list_any (λ xs. is_member int_eq xs n) xss) (is_member int_eq (union xss) n)
+    both_ways (list_any (λ xs. is_member int_eq xs n) xss) (is_member int_eq (union xss) n)
     (λ h. is_member-Has (union xss) n ((Has-union xss n).1 (any-HasAny n xss h)))
     (λ h. HasAny-any n xss ((Has-union xss n).0 (Has-is_member (union xss) n h)))
 
@@ -230,17 +222,17 @@ behind_here n number at given now ss s h same whole lt has =
     rw (← same, ← whole) (sym (any-here n given at s lt (ap (λ (s : Branch). is_member int_eq (numbers s) n) (sym (h.untouched at s (omega arith))) ∙ has)))
 
 -- one source in the place of another that has it too, or lacks it too
-pub any-set : (n : ℤ) (ss : List Branch) (i : ℕ) (s d : Branch) → i < length ss → is_member int_eq (numbers s) n ≡ is_member int_eq (numbers (get_or ss i d)) n
+pub any_replaced : (n : ℤ) (ss : List Branch) (i : ℕ) (s d : Branch) → i < length ss → is_member int_eq (numbers s) n ≡ is_member int_eq (numbers (get_or ss i d)) n
     → list_any (λ xs. is_member int_eq xs n) (map numbers (set ss i s)) ≡ list_any (λ xs. is_member int_eq xs n) (map numbers ss)
-any-set n [] i s d lt h = absurd (omega arith)
-any-set n (x ∷ ss) zero s d lt h = ap (λ (b : Bool). b || list_any (λ xs. is_member int_eq xs n) (map numbers ss)) h
-any-set n (x ∷ ss) (suc i) s d lt h = ap (λ (b : Bool). is_member int_eq (numbers x) n || b) (any-set n ss i s d (omega arith) h)
+any_replaced n [] i s d lt h = absurd (omega arith)
+any_replaced n (x ∷ ss) zero s d lt h = ap (λ (b : Bool). b || list_any (λ xs. is_member int_eq xs n) (map numbers ss)) h
+any_replaced n (x ∷ ss) (suc i) s d lt h = ap (λ (b : Bool). is_member int_eq (numbers x) n || b) (any_replaced n ss i s d (omega arith) h)
 
 -- whether a number is left without exceptions
 pub is_member-without : (xs ys : List ℤ) (n : ℤ) → is_member int_eq (without xs ys) n ≡ (is_member int_eq xs n && not (is_member int_eq ys n))
 unfolding without
 is_member-without xs ys n =
-    same_truth (is_member int_eq (without xs ys) n) (is_member int_eq xs n && not (is_member int_eq ys n))
+    both_ways (is_member int_eq (without xs ys) n) (is_member int_eq xs n && not (is_member int_eq ys n))
     (λ h. let m = (Has-without xs ys n).0 (Has-is_member (without xs ys) n h) in
     and_from (is_member int_eq xs n) (not (is_member int_eq ys n)) (is_member-Has xs n m.0) (not_in-by (is_member int_eq ys n) (λ e. m.1 (Has-is_member ys n e))))
     (λ h. let kept = and_parts (is_member int_eq xs n) (not (is_member int_eq ys n)) h in

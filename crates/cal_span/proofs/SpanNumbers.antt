@@ -8,7 +8,7 @@ use Rattle.std.proofs.lemmas.List.{nil_from_length, at_drop_more}
 use Rattle.std.proofs.lemmas.List.Sums.{sum_by-cons}
 use Rattle.std.proofs.lemmas.Bool.{false≢true, cases_lt, lt-leb, and_parts, lt-ltb, eqb-true}
 use Rattle.std.proofs.lemmas.Bool.Decides.{nat_tests}
-use Rattle.cal_text.proofs.DigitLemmas.{digit_at, top}
+use Rattle.cal_text.proofs.DigitLemmas.{digit_value_at, top}
 use Rattle.cal_text.specs.headline.Separators.{is_point}
 use Rattle.cal_span.specs.SpanValue.{is_number, fraction_worth}
 
@@ -106,7 +106,7 @@ divisor_more i divisor so_far = rw (add-one, pow-suc) (omega arith)
 -- the term of a digit in a unit of at most a year
 pub term_is : (digits : List ℕ) (i divisor size : ℕ) → i < length digits → list_all is_ascii_digit digits ≡ true → size ≤ 31557600000000 → divisor ≡ min (10 ^ (i + 1)) top → (get_or digits i 0 - 48) * size / divisor ≡ digit_value (get_or digits i 0) * size / 10 ^ (i + 1)
 term_is digits i divisor size within all small at_power =
-    let digit = digit_at digits i within all in
+    let digit = digit_value_at digits i within all in
     let value : get_or digits i 0 - 48 ≡ digit_value (get_or digits i 0) = omega (arith, digit.2) in
     let nine : get_or digits i 0 - 48 ≤ 9 = omega (arith, digit.1) in
     let bound : (get_or digits i 0 - 48) * size ≤ 9 * 31557600000000 = mul-le-mul nine small in

@@ -87,6 +87,6 @@ filter_step : (p : ℕ → Bool) (x : ℕ) (xs : List ℕ) (test : Bool) → p x
 filter_step p x xs true is rest = (is, rest)
 filter_step p x xs false is rest = rest
 
-pub filter_passes : (p : ℕ → Bool) (xs : List ℕ) → AllByRecursion (λ b. p b ≡ true) (filter p xs)
-filter_passes p [] = tt
-filter_passes p (x ∷ xs) = filter_step p x xs (p x) refl (filter_passes p xs)
+pub filter_kept : (p : ℕ → Bool) (xs : List ℕ) → AllByRecursion (λ b. p b ≡ true) (filter p xs)
+filter_kept p [] = tt
+filter_kept p (x ∷ xs) = filter_step p x xs (p x) refl (filter_kept p xs)

@@ -15,7 +15,7 @@ use Rattle.cal_spec.specs.headline.Slot.{day_slot}
 use Rattle.cal_spec.specs.declared.part.Part.{Part}
 use Rattle.cal_spec.specs.declared.slot.Slot.{Slot}
 use Rattle.cal_spec.specs.declared.slot.Slot.TheVariants.{Year, Month, Hour, Minute, Second}
-use Rattle.cal_spec.proofs.CleanLemmas.{IsClear, Apart, clear_from, split_at, split_alone, filter_at, filter_alone, woven, woven_whole, filter_passes}
+use Rattle.cal_spec.proofs.CleanLemmas.{IsClear, Apart, clear_from, split_at, split_alone, filter_at, filter_alone, woven, woven_whole, filter_kept}
 use Rattle.cal_spec.specs.headline.ZoneSuffix.{ZoneSuffix}
 use Rattle.cal_spec.proofs.ComponentRule.{is_component_byte, component_found, component_only, component_bytes}
 use Rattle.cal_spec.proofs.FieldLemmas.{fields_with, date_found, time_found, counted_date, counted_time, day_no_time}
@@ -64,7 +64,7 @@ date_by_found (s ∷ u ∷ v ∷ ss) ts t signs at = cc
 date_shape_found : (word : List ℕ) (t : DateTexts) → date_texts word ≡ Some t → IsDateShape word t
 unfolding date_texts
 date_shape_found word t at =
-    rw woven_whole at (date_by_found (filter is_date_sign word) (slice_split is_date_sign word) t (filter_passes is_date_sign word) at)
+    rw woven_whole at (date_by_found (filter is_date_sign word) (slice_split is_date_sign word) t (filter_kept is_date_sign word) at)
 
 two_only : (month day : List ℕ) (from_end : Bool) → IsClear is_date_sign month → IsClear is_date_sign day → date_texts (month ++ (last_sign from_end ++ day)) ≡ Some (record { year = codes "*"; month = month; day = day; from_end = from_end })
 unfolding date_texts

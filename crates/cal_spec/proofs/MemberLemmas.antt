@@ -22,7 +22,8 @@ use Rattle.cal_spec.specs.declared.slot.Slot.{Slot}
 use Rattle.cal_spec.specs.declared.slot.Slot.TheVariants.{Year, Month, Hour, Minute, Second}
 use Rattle.cal_spec.proofs.NormalLemmas.{part_eq_exact, part_exact, part_total, parts_from_sound}
 use Rattle.cal_spec.proofs.OrderLemmas.{has_in_order}
-use Rattle.cal_spec.proofs.ReducedLemmas.{last_lies, last_of, last_reached, same_tests}
+use Rattle.std.specs.Cmp.{both_ways}
+use Rattle.cal_spec.proofs.ReducedLemmas.{last_lies, last_of, last_reached}
 
 -- a range of one number
 one_number : (a v : ℕ) → nat_eq v a ≡ lies a a v
@@ -94,7 +95,7 @@ parts_have slot ps v all =
     let f = λ (p : Part). part_has slot p v in
     let xs = map reduced ps in
     let ordered = λ (z : Part). has_in_order part_cmp part_exact z xs in
-    same_tests (list_any f (in_order part_cmp xs)) (list_any f xs)
+    both_ways (list_any f (in_order part_cmp xs)) (list_any f xs)
     (λ h. let found = has_any f (in_order part_cmp xs) h in any_has f xs found.0 ((ordered found.0).0 found.1) found.2)
     (λ h. let found = has_any f xs h in any_has f (in_order part_cmp xs) found.0 ((ordered found.0).1 found.1) found.2)
     ∙ any_map f reduced ps

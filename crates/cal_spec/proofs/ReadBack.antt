@@ -110,9 +110,6 @@ time_no_blank b h = grind (arith, nat_tests)
 time_no_letter : (b : ℕ) → is_time_byte b ≡ true → is_ascii_alphabetic b ≡ false
 time_no_letter b h = grind (arith, nat_tests)
 
-zone_no_blank : (b : ℕ) → is_zone_byte b ≡ true → is_blank b ≡ false
-zone_no_blank b h = grind (arith, nat_tests)
-
 component_clear : (p : ℕ → Bool) (width : ℕ) (c : Option (List Part)) → ((b : ℕ) → is_component_byte b ≡ true → p b ≡ false) → AreSmall c → list_any p (component_text width c) ≡ false
 component_clear p width c apart small = clear_of is_component_byte p (component_text width c) apart (component_bytes width c small)
 

@@ -10,6 +10,7 @@ use Rattle.cal_spec.specs.headline.Sound.{EndsAfter, GoesOn, IsEndWithin, IsSoun
 use Rattle.cal_spec.specs.declared.part.Part.{Part}
 use Rattle.cal_spec.specs.declared.slot.Slot.{Slot}
 use Rattle.cal_spec.proofs.NormalLemmas.{same_part}
+use Rattle.std.specs.Cmp.{both_ways}
 
 -- the last number of a, a + r, .. that isn't above b
 abbrev pub last_of : ℕ → ℕ → ℕ → ℕ
@@ -141,16 +142,9 @@ pub reduced_sound : (slot : Slot) (p : Part) → IsSound slot p → IsSound slot
 unfolding reduced
 reduced_sound slot p h = sound_to slot p.start p.end p.step h.start_in h.end_in h.forward h.some_step h.goes_on
 
--- two tests that imply each other
-pub same_tests : (x y : Bool) → (x ≡ true → y ≡ true) → (y ≡ true → x ≡ true) → x ≡ y
-same_tests true true f g = refl
-same_tests true false f g = sym (f refl)
-same_tests false true f g = g refl
-same_tests false false f g = refl
-
 -- a range up to the last number that is reached has the range's members
 pub last_lies : (a b r e v : ℕ) → 0 < r → IsLastReached a b r e → lies_by a e r (v - a) v ≡ lies_by a b r (v - a) v
-last_lies a b r e v positive last = same_tests (lies_by a e r (v - a) v) (lies_by a b r (v - a) v)
+last_lies a b r e v positive last = both_ways (lies_by a e r (v - a) v) (lies_by a b r (v - a) v)
     (λ h.
     let both = and_parts (lies a e v) (nat_eq ((v - a) % r) 0) h in
     let ends = and_parts (nat_le a v) (nat_le v e) both.0 in

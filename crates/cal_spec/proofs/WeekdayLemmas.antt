@@ -120,10 +120,6 @@ pub weekdays_text-some : (days : List Bool) → list_all (λ day. day) days ≡ 
 unfolding weekdays_text
 weekdays_text-some days h = rw h
 
--- what follows the first day of a run
-pub text_after_first-none : (first last : ℕ) → first ≡ last → text_after_first first last ≡ []
-text_after_first-none first last h = rw (eq-eqb first last h)
-
 pub text_after_first-second : (first last : ℕ) → first + 1 ≡ last → text_after_first first last ≡ joined (codes "," ∷ day_name last ∷ [])
 text_after_first-second first last h =
     let other : nat_eq first last ≡ false = ne_eqb first last (λ e. absurd (omega arith)) in

@@ -100,9 +100,6 @@ name_letters text day (inr is) = letters_by text (ap (list_all is_ascii_lowercas
 
 -- the letters at the start
 
-no_letter : (b : ℕ) → is_ascii_alphabetic b ≡ true → not (is_no_letter b) ≡ true
-no_letter b letter = rw letter refl
-
 front_len : (xs : List ℕ) (c : ℕ) (ys : List ℕ) → list_all is_ascii_alphabetic xs ≡ true → is_ascii_alphabetic c ≡ false → position_or_len is_no_letter (xs ++ (c ∷ ys)) ≡ length xs
 front_len [] c ys all stop = rw stop refl
 front_len (x ∷ xs) c ys all stop =

@@ -9,8 +9,8 @@ use Rattle.std.proofs.lemmas.List.Recursion.{and_at}
 use Rattle.std.proofs.lemmas.Bool.{leb-true, and_parts}
 
 -- each byte of digits is a digit
-pub digit_at : (digits : List ℕ) (i : ℕ) → i < length digits → list_all is_ascii_digit digits ≡ true → (48 ≤ get_or digits i 0) × (get_or digits i 0 ≤ 57) × (digit_value (get_or digits i 0) + 48 ≡ get_or digits i 0)
-digit_at digits i within all =
+pub digit_value_at : (digits : List ℕ) (i : ℕ) → i < length digits → list_all is_ascii_digit digits ≡ true → (48 ≤ get_or digits i 0) × (get_or digits i 0 ≤ 57) × (digit_value (get_or digits i 0) + 48 ≡ get_or digits i 0)
+digit_value_at digits i within all =
     let is = and_at (list_all is_ascii_digit) is_ascii_digit refl (λ _ _. refl) digits i 0 within all in
     let range = and_parts (leb 48 (get_or digits i 0)) (leb (get_or digits i 0) 57) is in
     let low = leb-true 48 (get_or digits i 0) range.0 in
@@ -24,5 +24,5 @@ top = 2 ^ 64 - 1
 -- one more digit of a number that stays at the top
 pub whole_more : (digits : List ℕ) (i whole : ℕ) → i < length digits → list_all is_ascii_digit digits ≡ true → whole ≡ min (digits_value 10 (take i digits)) top → min (min (whole * 10) top + (get_or digits i 0 - 48)) top ≡ min (digits_value 10 (take (i + 1) digits)) top
 whole_more digits i whole within all so_far =
-    let digit = (digit_at digits i within all).2 in
+    let digit = (digit_value_at digits i within all).2 in
     rw (digits_value_more 10 digits i within) (omega arith)

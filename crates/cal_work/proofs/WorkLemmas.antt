@@ -51,10 +51,6 @@ use Rattle.cal_report.proofs.ReportLemmas.{no_ok, nothing_front}
 pub is_stop : {X : Type 0} (stop : declared_stop.Stop) (said : Stop) → is_out_stop stop ≡ false → is_err_stop stop ≡ false → shown_stop stop ≡ said → StopsAs {X = X} stop (Err said)
 is_stop stop said out err is = record { before_out = out; before_err = err; stopped = refl; said = λ h. ap (λ s. Err s) (sym is) }
 
--- running out of memory, whatever is come to
-pub memory_stops : {X : Type 0} (said : Stop) → StopsAs {X = X} (Run NoMemory) (Err said)
-memory_stops said = record { before_out = refl; before_err = refl; stopped = refl; said = λ h. absurd (false≢true (sym h)) }
-
 -- a step that stopped is the stop of all that would come after it
 pub stops : {A B : Type 0} (stop : declared_stop.Stop) (next : A → Result B Stop) (come : Result A Stop) → StopsAs stop come → StopsAs stop (and_then next come)
 stops stop next (Ok value) s = absurd (false≢true s.stopped)
@@ -227,9 +223,6 @@ pub record Continues (known : Known) (items : List ZoneItem) (table : ZoneMap) (
 
 abbrev pub GoesOn : Known → List ZoneItem → ZoneMap → List ZoneItem → Type 0
 GoesOn known items table left = (rest : List ZoneFound) → SeesZones known table left rest → Continues known items table left rest
-
-pub begin : (known : Known) (items : List ZoneItem) → GoesOn known items empty items
-begin known items rest h = record { found = rest; sees = h; same = refl }
 
 -- the next of those that are left is loaded
 pub next_loaded : (known : Known) (items left more : List ZoneItem) (item : ZoneItem) (table after : ZoneMap) → left ≡ item ∷ more → GoesOn known items table left → Loads known table after item (Ok tt) → GoesOn known items after more

@@ -109,8 +109,8 @@ within tz local place e = rw (by_the_offset tz local place e) (offset_at-in_rang
 pub one_local_second : (tz : TimeZone) (a b place : ℤ) → place_of tz a ≡ Some place → place_of tz b ≡ Some place → a ≡ b
 one_local_second tz a b place e f = sym (place_of-Some tz a place e).1 ∙ (place_of-Some tz b place f).1
 
-same_tests : (a b c d : ℤ) → (a ≡ b → c ≡ d) → (c ≡ d → a ≡ b) → int_eq a b ≡ int_eq c d
-same_tests a b c d to from = grind (arith, ints)
+same_where : (a b c d : ℤ) → (a ≡ b → c ≡ d) → (c ≡ d → a ≡ b) → int_eq a b ≡ int_eq c d
+same_where a b c d to from = grind (arith, ints)
 
 -- where one offset is tried, the place is what is found at it
 pub place_of-tried : (tz : TimeZone) (local : ℤ) (offsets : AmbiguousOffset) → ambiguous_at tz (datetime_of local) ≡ offsets
@@ -120,7 +120,7 @@ place_of-tried tz local offsets e =
     let second = local -ℤ (compatible_offset offsets).seconds in
     rw e
     (ap (λ b. if b then Some second else None)
-    (same_tests (second +ℤ offset_at tz (nanos_of_seconds second)) local (offset_at tz (nanos_of_seconds second)) (compatible_offset offsets).seconds
+    (same_where (second +ℤ offset_at tz (nanos_of_seconds second)) local (offset_at tz (nanos_of_seconds second)) (compatible_offset offsets).seconds
     (λ f. omega (arith, signed_arith)) (λ f. omega (arith, signed_arith))))
 
 pub place_at-there : (tz : TimeZone) (local : ℤ) (offset : Offset) → offset_at tz (nanos_of_seconds (local -ℤ offset.seconds)) ≡ offset.seconds

@@ -2,7 +2,7 @@ use Rattle.std.proofs.Common.{◌≡◌, ◌∙◌, ◌+◌, ◌/◌, ◌<◌, a
 use Rattle.std.specs.List.{position}
 use Rattle.std.proofs.lemmas.List.{get_or-drop, length-drop}
 use Rattle.cal_elapse.specs.Scan.{is_set}
-use Rattle.cal_elapse.proofs.CellLemmas.{found_here, found_later, found_nowhere, position-first}
+use Rattle.cal_elapse.proofs.CellLemmas.{found_here, found_later, no_word_set, position-first}
 use Rattle.cal_elapse.proofs.ring.next_cell.Goals as goal
 
 pub returns-in-Some : goal.returns-in-Some
@@ -14,7 +14,7 @@ returns-in_default-first_set c =
     let none : position is_set (drop n c.args.words.now) ≡ None = ap (position is_set) (sym c.split_at.ensures.back) ∙ (sym c.first_set.ensures ∙ c.in_default-first_set.is) in
     let long = c.requires.whole in
     let after = length-drop n c.args.words.now in
-    found_nowhere c.args.words.now c.args.from c.requires.whole c.requires.inside (omega (arith, after, long)) c.in_default.ensures none
+    no_word_set c.args.words.now c.args.from c.requires.whole c.requires.inside (omega (arith, after, long)) c.in_default.ensures none
 
 pub lowest_bit-requires : goal.lowest_bit-requires
 lowest_bit-requires c =

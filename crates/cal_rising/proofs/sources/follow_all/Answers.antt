@@ -4,7 +4,7 @@ use Rattle.std.specs.List.{list_any}
 use Rattle.std.specs.Set.{is_member}
 use Rattle.cal_rising.specs.Merge.{Branch, numbers}
 use Rattle.cal_rising.proofs.MergeLemmas.{whole_again}
-use Rattle.cal_rising.proofs.WithoutLemmas.{any-set, behind_all, behind_here, behind_more}
+use Rattle.cal_rising.proofs.WithoutLemmas.{any_replaced, behind_all, behind_here, behind_more}
 use Rattle.cal_rising.proofs.sources.follow_all.Goals as goal
 
 pub returns-then-has-clause-has : goal.returns-then-has-clause-has
@@ -24,7 +24,7 @@ returns-then-has-clause-left g c = λ i le.
     let whole = whole_again (set c.loop-branch.branch-items c.loop-branch.branch-index c.has.new.self) c.args.branches.now.items c.args.branches.now.len (omega (arith, length-set {A = Branch})) (omega arith) in
     let any = λ (ss : List Branch). list_any (λ xs. is_member int_eq xs i) (map numbers ss) in
     ap any whole
-    ∙ any-set i c.loop-branch.branch-items c.loop-branch.branch-index c.has.new.self c.branch-item.result (omega arith)
+    ∙ any_replaced i c.loop-branch.branch-items c.loop-branch.branch-index c.has.new.self c.branch-item.result (omega arith)
     (ap (λ (xs : List ℤ). is_member int_eq xs i) c.has.ensures.same)
     ∙ c.loop-branch.invariant.left i (rw (to_z-of_z w64 number fits) le)
     ∙ ap any c.deref_mut-branch-items.ensures.value
@@ -33,7 +33,7 @@ pub loop-branch-preserved : goal.loop-branch-preserved
 loop-branch-preserved g c = record {
   behind = behind_more _ _ _ _ _ _ c.loop-branch.invariant.behind (omega arith) (sym c.has.ensures.has ∙ c.if-has.false);
   left = λ i le.
-      any-set i c.loop-branch.branch-items c.loop-branch.branch-index c.follow.new.self c.branch-item.result (omega arith)
+      any_replaced i c.loop-branch.branch-items c.loop-branch.branch-index c.follow.new.self c.branch-item.result (omega arith)
       (c.follow.ensures i le ∙ ap (λ (xs : List ℤ). is_member int_eq xs i) c.has.ensures.same)
       ∙ c.loop-branch.invariant.left i le;
 }
