@@ -1,6 +1,7 @@
 //! What the words of the command line ask for (systemd-analyze(1)).
 
-ghost use Rattle.std.specs.Prelude.{◌<◌, vec_len};
+ghost use Rattle.std.specs.Prelude.{◌≡◌, ◌<◌, true, string_bytes, vec_len};
+ghost use Rattle.cal_zone.specs.headline.ZoneName.{is_zone_name};
 ghost use Rattle.cal_command.specs.LocalZone.{IsLocalOffset};
 
 use cal_request::Request;
@@ -43,4 +44,5 @@ pub struct ZoneItem {
     pub name: String,
     /// Where the file lies; not empty.
     pub path: String,
+    ghost named: { is_zone_name (string_bytes name) ≡ true },
 }

@@ -1,6 +1,6 @@
 //! The command line: a subcommand of `clap` for each verb, and what the words ask for by the values that it finds.
 
-ghost use Rattle.std.specs.Prelude.{◌≡◌, ◌<◌, ◌≤◌, [], IfSome, false, true, codes, length, IfOk, IfErr, option_map};
+ghost use Rattle.std.specs.Prelude.{◌≡◌, ◌<◌, ◌≤◌, [], IfSome, false, true, codes, length, map, IfOk, IfErr, option_map};
 ghost use Rattle.std.specs.Option.{option_copied};
 ghost use Rattle.clap.specs.Words.{app_of, found_of, kind_of, rows_of, rule_of, shape_of, subcommand_rows_of};
 ghost use Rattle.clap.specs.declared.builder.command.Command.TheViews.{out-Command as fields_of};
@@ -17,6 +17,7 @@ use cal_request::{Request, Verb};
 use clap::error::ErrorKind;
 use clap::{Arg, ArgAction, ArgMatches, Command, Error};
 use std::alloc::{AllocError, Global};
+use std::convert::AsStr;
 
 impl Ask {
     /// What the words after the program's name ask for (systemd-analyze(1)): a verb, its options and its texts in any
@@ -36,6 +37,13 @@ impl Ask {
     /// [`CommandFault::NoMemory`] comes where memory is refused.
     pub fn of<'a>(alloc: Global, words: &'a [&'a str]) -> Result<Ask, CommandFault>
         ensures exact { IsAskOf (texts_of words.now) (shown_answer result) }
+    {
+        Self::of_arguments(alloc, words)
+    }
+
+    /// The same for arguments of any type that lends its text.
+    pub fn of_arguments<'a, S: AsStr>(alloc: Global, words: &'a [S]) -> Result<Ask, CommandFault>
+        ensures exact { IsAskOf (map S.text words.now) (shown_answer result) }
     {
         let matches = parse(alloc, words)?;
         let Some(given) = find_values(&matches) else {
@@ -146,10 +154,10 @@ fn verb_named(name: &str) -> Option<Verb>
 }
 
 /// What `clap` parses of the words.
-fn parse<'a>(alloc: Global, words: &'a [&'a str]) -> Result<ArgMatches<'a>, CommandFault>
-    ensures faults { IfOk result (λ _. faults_in (texts_of words.now) ≡ []) }
-    ensures found { IfOk result (λ matches. given_in (subcommand_rows_of matches) ≡ parsed_in (texts_of words.now)) }
-    ensures fault { IfErr result (λ fault. IsFaultOf (texts_of words.now) (shown_fault fault)) }
+fn parse<'a, S: AsStr>(alloc: Global, words: &'a [S]) -> Result<ArgMatches<'a>, CommandFault>
+    ensures faults { IfOk result (λ _. faults_in (map S.text words.now) ≡ []) }
+    ensures found { IfOk result (λ matches. given_in (subcommand_rows_of matches) ≡ parsed_in (map S.text words.now)) }
+    ensures fault { IfErr result (λ fault. IsFaultOf (map S.text words.now) (shown_fault fault)) }
 {
     match build_command(alloc)?.try_get_matches_from(words) {
         Ok(matches) => Ok(matches),

@@ -1,6 +1,6 @@
 //! The values of options: what the text of each says, or that it says nothing (systemd-analyze(1)).
 
-ghost use Rattle.std.specs.Prelude.{◌≡◌, ◌≤◌, ◌<◌, ◌==◌, ◌∷◌, [], None, Some, length, map, option_map, IfSome, IfOk, string_bytes, vec_len};
+ghost use Rattle.std.specs.Prelude.{◌≡◌, ◌≤◌, ◌<◌, ◌==◌, ◌∷◌, [], true, None, Some, length, map, option_map, IfSome, IfOk, string_bytes, vec_len};
 ghost use Rattle.std.specs.List.{slice_split};
 ghost use Rattle.std.specs.Option.{option_copied, option_map_or};
 ghost use Rattle.cal_bytes.specs.SplitPieces.{left, pieces_after};
@@ -9,6 +9,7 @@ ghost use Rattle.cal_command.specs.LocalZone.{IsLocalOffset};
 ghost use Rattle.cal_text.specs.headline.Separators.{is_comma};
 ghost use Rattle.cal_command.specs.OptionValues.{count_in, local_in, number_between, parts_at, present_in, zone_item_in, zones_in};
 ghost use Rattle.cal_request.specs.Request.{IsCount};
+ghost use Rattle.cal_zone.specs.headline.ZoneName.{is_zone_name};
 
 use crate::ask::{LocalZone, ZoneItem};
 use cal_zone::{Instant, is_zone_name, read_offset};
@@ -143,7 +144,8 @@ fn first_item(text: &str) -> (&str, Option<&str>)
 /// The name and the file of an item, where both have their form.
 #[tactic(auto, unfolding(crate::specs::OptionValues::zone_item_in))]
 fn zone_item_in(item: &str) -> Option<(&str, &str)>
-    ensures { option_map (λ parts. record { name = parts.0.now; path = parts.1.now }) result ≡ zone_item_in item.now }
+    ensures value { option_map (λ parts. record { name = parts.0.now; path = parts.1.now }) result ≡ zone_item_in item.now }
+    ensures named { IfSome result (λ parts. is_zone_name parts.0.now ≡ true) }
 {
     let (name, path) = parts_at(item, '=')?;
     if is_zone_name(name.as_bytes()) && !path.is_empty() {
@@ -155,6 +157,7 @@ fn zone_item_in(item: &str) -> Option<(&str, &str)>
 
 /// The item on the heap.
 fn zone_item(alloc: Global, name: &str, path: &str) -> Result<ZoneItem, AllocError>
+    requires { is_zone_name name.now ≡ true }
     ensures { IfOk result (λ item. shown_item item ≡ record { name = name.now; path = path.now }) }
 {
     Ok(ZoneItem {

@@ -12,7 +12,7 @@ pub use cal_command::{Ask, CommandFault, LocalZone, ZoneItem};
 pub use cal_report::{laws, run};
 pub use cal_request::{Request, RunFault, Status, Verb};
 pub use cal_work::{Ended, LoadFault, Stop, System, load_zone, work, write_stop};
-use std::alloc::{AllocError, Global};
+use std::alloc::Global;
 use std::io::{BufWriter, ErrorKind, IsTerminal};
 use std::process::ExitCode;
 use std::rt::Env;
@@ -36,10 +36,7 @@ fn main(rt: HostRuntime) -> ExitCode {
         Ok(words) => words,
         Err(error) => return refuse(&mut err, &stop_of(rt.alloc(), &error)),
     };
-    let (Ok(words), Ok(buffer)) = (
-        borrow_words(rt.alloc(), words.as_slice()),
-        BufWriter::with_capacity(rt.alloc(), capacity, out),
-    ) else {
+    let Ok(buffer) = BufWriter::with_capacity(rt.alloc(), capacity, out) else {
         return refuse(&mut err, &Stop::Run(RunFault::NoMemory));
     };
     let mut out = Port::new(buffer);
@@ -51,11 +48,6 @@ fn main(rt: HostRuntime) -> ExitCode {
 /// The words after the program's name.
 fn given_words<R: Env + AllocGlobal>(rt: &R) -> io::Result<Vec<String>> {
     Ok(env::args(rt)?.skip(1).collect(rt.alloc())?)
-}
-
-/// The words as they are read.
-fn borrow_words<'a>(alloc: Global, words: &'a [String]) -> Result<Vec<&'a str>, AllocError> {
-    words.iter().map(|word| word.as_str()).collect(alloc)
 }
 
 /// Why the program stops where its words can't be had: they aren't UTF-8, or memory is refused.

@@ -6,7 +6,7 @@
 
 ghost use Rattle.std.specs.Prelude.{◌≡◌, ℕ, List, Option, Result, Ok, Err, Some, None, true, false, is_err, map, option_map, IfOk, IfErr};
 ghost use Rattle.cal_bytes.specs.Bytes.{Writes};
-ghost use Rattle.cal_command.specs.Ask.{shown_local, texts_of, shown_ask, shown_item};
+ghost use Rattle.cal_command.specs.Ask.{shown_local, shown_ask, shown_item};
 ghost use Rattle.cal_command.specs.LocalZone.{IsLocalOffset};
 ghost use Rattle.cal_work.specs.Outcome.{instant_in};
 ghost use Rattle.cal_report.specs.headline.Report.{Report};
@@ -20,13 +20,14 @@ ghost use Rattle.cal_work.specs.Works.{Reaches, TellsFault, Works};
 
 use crate::stop::{Outlet, Stop, exit_status, write_stop};
 use crate::system::System;
-use crate::zone_files::{LoadFault, load_zone};
+use crate::zone_files::{LoadFault, load_named};
 use cal_bytes::{Output, Port, Sink};
 use cal_command::{Ask, CommandFault, LocalZone, ZoneItem};
 use cal_report::{file_name, run};
 use cal_request::{Request, RunFault, Status, Verb};
 use cal_zone::{Instant, Rules, Zone, ZoneTable};
 use std::alloc::Global;
+use std::convert::AsStr;
 
 /// How the work ended.
 #[derive(Clone, Copy, PartialEq, Eq, Debug)]
@@ -43,16 +44,16 @@ pub struct Ended {
 /// The status is that of the report or of the stop; it is 1 where `out` fails or memory is refused, and where `err`
 /// fails in a report. Where it failed, each output has a prefix of its whole text, and `err` the line of the fault
 /// after it.
-pub fn work<S: System, O: Output, E: Sink>(
+pub fn work<S: System, T: AsStr, O: Output, E: Sink>(
     alloc: Global,
     system: &S,
-    words: &[&str],
+    words: &[T],
     out: &mut O,
     err: &mut E,
 ) -> Ended
     requires out { O.is_failed out.old ≡ false }
     requires err { E.is_failed err.old ≡ false }
-    ensures works { Works (S.tells system.now) (texts_of words.now) (O.written out.old) (O.reached out.new)
+    ensures works { Works (S.tells system.now) (map T.text words.now) (O.written out.old) (O.reached out.new)
         (E.written err.old) (E.written err.new) (E.is_failed err.new) result }
     ensures out_fault { is_out_failed result.written ≡ true → O.is_failed out.new ≡ true }
     ensures out_failed { O.is_failed out.new ≡ true → is_err result.written ≡ true }
@@ -81,21 +82,21 @@ fn status_by(written: Result<(), RunFault>, status: u8) -> u8
 // The work, up to the first stop
 
 /// Answers what the words ask for.
-fn answer_words<S: System, O: Sink, E: Sink>(
+fn answer_words<S: System, T: AsStr, O: Sink, E: Sink>(
     alloc: Global,
     system: &S,
-    words: &[&str],
+    words: &[T],
     out: &mut O,
     err: &mut E,
 ) -> Result<Status, Stop>
     requires out { O.is_failed out.old ≡ false }
     requires err { E.is_failed err.old ≡ false }
-    ensures answered { AnsweredWords (S.tells system.now) (texts_of words.now) result
+    ensures answered { AnsweredWords (S.tells system.now) (map T.text words.now) result
         (O.written out.old) (O.written out.new) (E.written err.old) (E.written err.new) }
     ensures out_failed { O.is_failed out.new ≡ is_out_cut result }
     ensures err_failed { E.is_failed err.new ≡ is_err_cut result }
 {
-    match Ask::of(alloc, words) {
+    match Ask::of_arguments(alloc, words) {
         Ok(ask) => answer(alloc, system, &ask, out, err),
         Err(fault) => Err(Stop::Command(fault)),
     }
@@ -164,7 +165,7 @@ fn load_item<S: System>(
     ensures { Loads (S.tells system.now) table.old table.new (shown_item item.now) result }
 {
     match system.open(item.path.as_str()) {
-        Some(mut file) => load_zone(alloc, table, item.name.as_str(), &mut file),
+        Some(mut file) => load_named(alloc, table, item.name.as_str(), &mut file),
         None => Err(LoadFault::ReadFailed),
     }
 }

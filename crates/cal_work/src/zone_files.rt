@@ -1,6 +1,7 @@
 //! Zone files that are read into the table of zones.
 
-ghost use Rattle.std.specs.Prelude.{◌≡◌, false, MatchResult, OnErr};
+ghost use Rattle.std.specs.Prelude.{◌≡◌, true, false, MatchResult, OnErr};
+ghost use Rattle.cal_zone.specs.headline.ZoneName.{is_zone_name};
 ghost use Rattle.cal_work.specs.LoadZone.{is_load_unread, IsLoaded, IsLoadFault};
 
 use cal_bytes::{Source, WholeFault, read_whole};
@@ -50,20 +51,40 @@ pub fn load_zone<R: Source>(
     ensures unchanged { OnErr result (table.new ≡ table.old) }
     ensures sure { R.may_fail from.old ≡ false → R.is_failed from.new ≡ false }
 {
-    if !is_zone_name(name.as_bytes()) {
-        return Err(LoadFault::Zone(ZoneFault::BadName));
+    if is_zone_name(name.as_bytes()) {
+        load_named(alloc, table, name, from)
+    } else {
+        Err(LoadFault::Zone(ZoneFault::BadName))
     }
+}
+
+/// The same where the name is known to be of the form of a zone's name.
+pub(crate) fn load_named<R: Source>(
+    alloc: Global,
+    table: &mut ZoneTable,
+    name: &str,
+    from: &mut R,
+) -> Result<(), LoadFault>
+    requires named { is_zone_name name.now ≡ true }
+    requires works { R.is_failed from.old ≡ false }
+    ensures failed { R.is_failed from.new ≡ is_load_unread result }
+    ensures loaded { MatchResult result
+        (λ _. IsLoaded (R.remaining from.old) (R.remaining from.new) table.old table.new name.now)
+        (IsLoadFault (R.remaining from.old) (R.remaining from.new) table.old name.now) }
+    ensures unchanged { OnErr result (table.new ≡ table.old) }
+    ensures sure { R.may_fail from.old ≡ false → R.is_failed from.new ≡ false }
+{
     let bytes = match read_whole(alloc, from, Rules::FILE_LIMIT) {
         Ok(bytes) => bytes,
         Err(WholeFault::ReadFailed) => return Err(LoadFault::ReadFailed),
         Err(WholeFault::TooLarge) => return Err(LoadFault::Zone(ZoneFault::TooLarge)),
         Err(WholeFault::NoMemory) => return Err(LoadFault::Zone(ZoneFault::NoMemory)),
     };
-    let rules = match Rules::file(alloc, name, bytes.as_slice()) {
+    let rules = match Rules::named_file(alloc, name, bytes.as_slice()) {
         Ok(rules) => rules,
         Err(fault) => return Err(LoadFault::Zone(fault)),
     };
-    match table.add(name, rules) {
+    match table.add_named(name, rules) {
         Ok(()) => Ok(()),
         Err((_, fault)) => Err(LoadFault::Zone(fault)),
     }

@@ -1,12 +1,13 @@
 //! Rules of zones that go forward and back: a POSIX rule, or the table of a zone file.
 
-ghost use Rattle.std.specs.Prelude.{◌≡◌, ◌↔◌, ℤ, IsOk, IsSome, IfOk, IfErr, IfSome, MatchResult};
+ghost use Rattle.std.specs.Prelude.{◌≡◌, ◌↔◌, true, ℤ, IsOk, IsSome, IfOk, IfErr, IfSome, MatchResult};
 ghost use Rattle.jiff.specs.Placed.{IsPosixZone};
 ghost use Rattle.jiff.specs.Types.{DateTime};
 ghost use Rattle.jiff.specs.Words.{ambiguous_at, next_at, offset_at, plain_zone, read_whole};
 ghost use Rattle.cal_zone.specs.Local.{IsLocalSecond};
 ghost use Rattle.cal_zone.specs.Steady.{IsAlikeUntil, IsSteadyAt};
 ghost use Rattle.cal_zone.specs.ZoneFile.{IsFileFault, IsFileZone};
+ghost use Rattle.cal_zone.specs.headline.ZoneName.{is_zone_name};
 ghost use Rattle.cal_zone.specs.declared.zone_fault.ZoneFault.TheVariants.{BadRule};
 
 use crate::period::even_until;
@@ -71,9 +72,20 @@ impl Rules {
             (IsFileZone name.now bytes.now)
             (IsFileFault name.now bytes.now) }
     {
-        if !is_zone_name(name.as_bytes()) {
-            return Err(ZoneFault::BadName);
+        if is_zone_name(name.as_bytes()) {
+            Self::named_file(alloc, name, bytes)
+        } else {
+            Err(ZoneFault::BadName)
         }
+    }
+
+    /// The same where the name is known to be of that form.
+    pub fn named_file(alloc: Global, name: &str, bytes: &[u8]) -> Result<Rules, ZoneFault>
+        requires { is_zone_name name.now ≡ true }
+        ensures { MatchResult result
+            (IsFileZone name.now bytes.now)
+            (IsFileFault name.now bytes.now) }
+    {
         if bytes.len() > Self::FILE_LIMIT {
             return Err(ZoneFault::TooLarge);
         }

@@ -1,6 +1,6 @@
 //! The table of the zones that have a name.
 
-ghost use Rattle.std.specs.Prelude.{◌≡◌, option_map, IfSome, IfErr, OnErr, MatchResult};
+ghost use Rattle.std.specs.Prelude.{◌≡◌, true, option_map, IfSome, IfErr, OnErr, MatchResult};
 ghost use Rattle.std.specs.FinMap as map;
 
 use crate::zone_name::is_utc_name;
@@ -33,7 +33,7 @@ impl Model for ZoneTable {
 
 impl ZoneTable {
     ghost use Rattle.cal_zone.specs.headline.Zone.{is_utc, zone_of};
-    ghost use Rattle.cal_zone.specs.headline.ZoneName.{is_utc_name};
+    ghost use Rattle.cal_zone.specs.headline.ZoneName.{is_utc_name, is_zone_name};
     ghost use Rattle.cal_zone.specs.ZoneTable.{IsAddable, IsAddFault};
     ghost use Rattle.cal_zone.specs.headline.ZoneTable.{zone_named};
 
@@ -59,9 +59,22 @@ impl ZoneTable {
         ensures unchanged { OnErr result (self.new ≡ self.old) }
         ensures handed_back { IfErr result (λ refused. refused.0 ≡ rules) }
     {
-        if !is_zone_name(name.as_bytes()) {
-            return Err((rules, ZoneFault::BadName));
+        if is_zone_name(name.as_bytes()) {
+            self.add_named(name, rules)
+        } else {
+            Err((rules, ZoneFault::BadName))
         }
+    }
+
+    /// The same where the name is known to be of that form.
+    pub fn add_named(&mut self, name: &str, rules: Rules) -> Result<(), (Rules, ZoneFault)>
+        requires { is_zone_name name.now ≡ true }
+        ensures added { MatchResult result
+            (λ _. IsAddable self.old name.now × (self.new ≡ map.insert self.old name.now rules))
+            (λ refused. IsAddFault self.old name.now refused.1) }
+        ensures unchanged { OnErr result (self.new ≡ self.old) }
+        ensures handed_back { IfErr result (λ refused. refused.0 ≡ rules) }
+    {
         if self.find(name).is_some() {
             return Err((rules, ZoneFault::NameTaken));
         }

@@ -2,15 +2,14 @@ use Rattle.std.proofs.Common.{◌∙◌, sym, ap, is_some}
 use Rattle.std.specs.FinMap.{insert}
 use Rattle.cal_zone.specs.headline.Zone.{zone_of}
 use Rattle.cal_zone.specs.ZoneMap.{zone_map_in}
-use Rattle.cal_zone.specs.headline.ZoneName.{is_zone_name}
 use Rattle.cal_zone.proofs.ZoneMapLemmas.{is_some-option_map, zone_map_in-insert}
-use Rattle.cal_zone.proofs.zone_table.ZoneTable.add.Goals as goal
+use Rattle.cal_zone.proofs.zone_table.ZoneTable.add_named.Goals as goal
 
 pub returns-in-Ok-insert-clause-added : goal.returns-in-Ok-insert-clause-added
 returns-in-Ok-insert-clause-added c =
     let added = zone_map_in-insert c.self.inside.zones c.insert.new.self _ c.args.rules c.in-Ok-insert.ensures.updates in (
       record {
-        named = ap is_zone_name (sym c.as_bytes.ensures.value) ∙ sym c.if-not-is_zone_name.ensures;
+        named = c.requires;
         free = ap is_some (sym c.find.ensures.zone) ∙ is_some-option_map zone_of c.find.result ∙ sym c.is_some.ensures ∙ c.if-is_some.false;
       },
       added ∙ ap (λ name. insert (zone_map_in c.self.inside.zones) name c.args.rules) c.in-Ok.ensures.ok
