@@ -9,7 +9,7 @@ use Rattle.clap.specs.declared.error.kind.ErrorKind.TheVariants.{OutOfMemory}
 use Rattle.clap.proofs.OnLiterals.{clap_on_literals}
 use Rattle.cal_command.specs.Ask.{CommandFault, usage, help, bad_iterations, bad_now, bad_zones, bad_local, no_memory, Ask}
 use Rattle.cal_command.specs.GivenView.{IsReadAs}
-use Rattle.cal_command.specs.CommandLine.{Given, parsed_in, read_options, IsAskOf, IsFaultOf, IsReportedOf, asked_in, command_app, faults_in, is_of_help, takes_words, with_rules}
+use Rattle.cal_command.specs.CommandLine.{Given, parsed_in, read_options, IsAskOf, IsFaultOf, IsReportedOf, asked_in, command_app, faults_in, is_of_help, takes_arguments, with_rules}
 
 pub with_three : (app : App) (a b d : Rule) → with_rule (with_rule (with_rule app a) b) d ≡ with_rules app (a ∷ b ∷ d ∷ [])
 with_three app a b d = ap (λ rules. record app { top = record app.top { rules = rules } })
@@ -42,17 +42,17 @@ refused_by p kind kinds (inl memory) other holds = absurd (other memory)
 refused_by p kind kinds (inr at) other holds = among p kind kinds at holds
 
 -- what is reported of a fault of `clap` is its fault
-pub reported_fault : (words : List Text) (kind : ErrorKind) (said : CommandFault) → (takes_words words ≡ true → kind ≡ OutOfMemory)
-    → (kind ≡ OutOfMemory) ⊎ IsAmong kind (faults_in words) → IsReportedOf kind said → IsFaultOf words said
-reported_fault words kind (usage text) passes kinds reported =
-    (not_taken (takes_words words) kind passes reported.1, refused_by (λ k. not (is_of_help k)) kind (faults_in words) kinds reported.1 (ap not reported.0))
-reported_fault words kind (help text) passes kinds reported =
-    (not_taken (takes_words words) kind passes reported.1, refused_by is_of_help kind (faults_in words) kinds reported.1 reported.0)
-reported_fault words kind no_memory passes kinds reported = tt
-reported_fault words kind bad_iterations passes kinds reported = absurd reported
-reported_fault words kind bad_now passes kinds reported = absurd reported
-reported_fault words kind bad_zones passes kinds reported = absurd reported
-reported_fault words kind bad_local passes kinds reported = absurd reported
+pub reported_fault : (arguments : List Text) (kind : ErrorKind) (said : CommandFault) → (takes_arguments arguments ≡ true → kind ≡ OutOfMemory)
+    → (kind ≡ OutOfMemory) ⊎ IsAmong kind (faults_in arguments) → IsReportedOf kind said → IsFaultOf arguments said
+reported_fault arguments kind (usage text) passes kinds reported =
+    (not_taken (takes_arguments arguments) kind passes reported.1, refused_by (λ k. not (is_of_help k)) kind (faults_in arguments) kinds reported.1 (ap not reported.0))
+reported_fault arguments kind (help text) passes kinds reported =
+    (not_taken (takes_arguments arguments) kind passes reported.1, refused_by is_of_help kind (faults_in arguments) kinds reported.1 reported.0)
+reported_fault arguments kind no_memory passes kinds reported = tt
+reported_fault arguments kind bad_iterations passes kinds reported = absurd reported
+reported_fault arguments kind bad_now passes kinds reported = absurd reported
+reported_fault arguments kind bad_zones passes kinds reported = absurd reported
+reported_fault arguments kind bad_local passes kinds reported = absurd reported
 
 pub map-first : {B X Y : Type 0} (f : B → X) (g : B → Y) (o : Option B)
     → option_map f o ≡ option_map (λ (p : X × Y). p.0) (option_map (λ b. (f b, g b)) o)
@@ -68,27 +68,27 @@ pub found_some : {X Y : Type 0} (o : Option (X × Y)) (x : X) (y : Y) → Some x
 found_some None x y h k = absurd (cc)
 found_some (Some p) x y h k = ap₂ (λ a b. Some (a, b)) (sym (ap (λ o. unwrap_or o x) h)) (sym (ap (λ o. unwrap_or o y) k))
 
--- what is read of the values that were parsed is what the words ask for
-pub read_said : (words : List Text) (given : Given) (said : Result Ask CommandFault) → faults_in words ≡ [] → Some given ≡ parsed_in words
-    → IsReadAs said (read_options given) → IsAskOf words said
+-- what is read of the values that were parsed is what the arguments ask for
+pub read_said : (arguments : List Text) (given : Given) (said : Result Ask CommandFault) → faults_in arguments ≡ [] → Some given ≡ parsed_in arguments
+    → IsReadAs said (read_options given) → IsAskOf arguments said
 unfolding asked_in
-read_said words given (Ok ask) none parsed is = (none, rw (← parsed) (sym is))
-read_said words given (Err (usage text)) none parsed is = absurd is
-read_said words given (Err (help text)) none parsed is = absurd is
-read_said words given (Err bad_iterations) none parsed is = (none, rw (← parsed) (sym is))
-read_said words given (Err bad_now) none parsed is = (none, rw (← parsed) (sym is))
-read_said words given (Err bad_zones) none parsed is = (none, rw (← parsed) (sym is))
-read_said words given (Err bad_local) none parsed is = (none, rw (← parsed) (sym is))
-read_said words given (Err no_memory) none parsed is = tt
+read_said arguments given (Ok ask) none parsed is = (none, rw (← parsed) (sym is))
+read_said arguments given (Err (usage text)) none parsed is = absurd is
+read_said arguments given (Err (help text)) none parsed is = absurd is
+read_said arguments given (Err bad_iterations) none parsed is = (none, rw (← parsed) (sym is))
+read_said arguments given (Err bad_now) none parsed is = (none, rw (← parsed) (sym is))
+read_said arguments given (Err bad_zones) none parsed is = (none, rw (← parsed) (sym is))
+read_said arguments given (Err bad_local) none parsed is = (none, rw (← parsed) (sym is))
+read_said arguments given (Err no_memory) none parsed is = tt
 
--- where `clap` takes the words, they are answered, or memory is refused
-pub taken_words : (words : List Text) (said : Result Ask CommandFault) → IsAskOf words said → takes_words words ≡ true
-    → (said ≡ Err no_memory) ⊎ (said ≡ asked_in words)
-taken_words words (Ok ask) is takes = inr (sym is.1)
-taken_words words (Err (usage text)) is takes = let bad : true ≡ false = sym takes ∙ is.0 in absurd (cc)
-taken_words words (Err (help text)) is takes = let bad : true ≡ false = sym takes ∙ is.0 in absurd (cc)
-taken_words words (Err bad_iterations) is takes = inr (sym is.1)
-taken_words words (Err bad_now) is takes = inr (sym is.1)
-taken_words words (Err bad_zones) is takes = inr (sym is.1)
-taken_words words (Err bad_local) is takes = inr (sym is.1)
-taken_words words (Err no_memory) is takes = inl refl
+-- where `clap` takes the arguments, they are answered, or memory is refused
+pub taken_arguments : (arguments : List Text) (said : Result Ask CommandFault) → IsAskOf arguments said → takes_arguments arguments ≡ true
+    → (said ≡ Err no_memory) ⊎ (said ≡ asked_in arguments)
+taken_arguments arguments (Ok ask) is takes = inr (sym is.1)
+taken_arguments arguments (Err (usage text)) is takes = let bad : true ≡ false = sym takes ∙ is.0 in absurd (cc)
+taken_arguments arguments (Err (help text)) is takes = let bad : true ≡ false = sym takes ∙ is.0 in absurd (cc)
+taken_arguments arguments (Err bad_iterations) is takes = inr (sym is.1)
+taken_arguments arguments (Err bad_now) is takes = inr (sym is.1)
+taken_arguments arguments (Err bad_zones) is takes = inr (sym is.1)
+taken_arguments arguments (Err bad_local) is takes = inr (sym is.1)
+taken_arguments arguments (Err no_memory) is takes = inl refl

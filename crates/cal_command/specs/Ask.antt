@@ -1,4 +1,4 @@
--- What the words of the command line ask for, without where it lies in memory: systemd-analyze(1), and this project's own
+-- What the arguments ask for, without where it lies in memory: systemd-analyze(1), and this project's own
 -- options for the present and for zones.
 use Rattle.std.specs.Prelude.{ℕ, ℤ, List, Option, Result, Ok, Err, map}
 use Rattle.std.specs.Borrow.{Bor}
@@ -28,7 +28,7 @@ pub record ZoneItem : Type 0 where
   pub name : List ℕ
   pub path : List ℕ
 
--- what the words ask for; where no present instant is given it is the clock's
+-- what the arguments ask for; where no present instant is given it is the clock's
 pub record Ask : Type 0 where
   pub verb : Verb
   pub texts : List (List ℕ)
@@ -58,7 +58,7 @@ shown_ask ask = record {
   zones = map shown_item ask.zones.items;
 }
 
--- why the words ask for nothing, by what is reported: the text of `clap`, or which value is bad
+-- why the arguments ask for nothing, by what is reported: the text of `clap`, or which value is bad
 pub data CommandFault : Type 0 where
   usage : List ℕ → CommandFault
   help : List ℕ → CommandFault
@@ -77,7 +77,7 @@ shown_fault BadZones = bad_zones
 shown_fault BadLocal = bad_local
 shown_fault NoMemory = no_memory
 
--- what the words came to
+-- what the arguments came to
 abbrev pub shown_answer : Result declared_ask.Ask declared_fault.CommandFault → Result Ask CommandFault
 shown_answer (Ok ask) = Ok (shown_ask ask)
 shown_answer (Err fault) = Err (shown_fault fault)

@@ -1,4 +1,4 @@
--- The command line, and what its words ask for by what `clap` parses of them: systemd-analyze(1).
+-- The command line, and what its arguments ask for by what `clap` parses of them: systemd-analyze(1).
 use Rattle.std.specs.Prelude.{◌≡◌, ◌≢◌, ⊤, Bool, true, false, not, List, [], ◌∷◌, ◌++◌, take, Option, None, Some, Result, Ok, Err, codes, if◌then◌else◌, option_and_then, option_map}
 use Rattle.std.specs.List.{list_any}
 use Rattle.std.specs.Option.{option_map_or}
@@ -51,15 +51,15 @@ command_app = record {
       ∷ verb_shape (codes "timespan") [] texts_rule ∷ verb_shape (codes "timer") elapse_rules file_rule ∷ [];
 }
 
--- `clap` states that it takes the words
-unfoldable pub takes_words : List Text → Bool
-takes_words words = takes command_app words
+-- `clap` states that it takes the arguments
+unfoldable pub takes_arguments : List Text → Bool
+takes_arguments arguments = takes command_app arguments
 
--- the kinds of fault that `clap` may find in the words: none where it parses them
+-- the kinds of fault that `clap` may find in the arguments: none where it parses them
 unfoldable pub faults_in : List Text → Kinds
-faults_in words = fault_of command_app words
+faults_in arguments = fault_of command_app arguments
 
--- ---- what the words that it parses ask for
+-- ---- what the arguments that it parses ask for
 
 abbrev pub verb_named : Text → Option Verb
 verb_named name =
@@ -107,9 +107,9 @@ given_by verb rows = option_map (given_with verb rows) (texts_given verb rows)
 unfoldable pub given_in : Option (Text × List Row) → Option Given
 given_in = option_and_then (λ found. option_and_then (λ verb. given_by verb found.1) (verb_named found.0))
 
--- what `clap` finds in the words
+-- what `clap` finds in the arguments
 unfoldable pub parsed_in : List Text → Option Given
-parsed_in words = given_in (subcommand_of command_app words)
+parsed_in arguments = given_in (subcommand_of command_app arguments)
 
 -- a bad value is this fault
 abbrev pub unless_bad : {A : Type 0} → CommandFault → Option A → (A → Result Ask CommandFault) → Result Ask CommandFault
@@ -133,9 +133,9 @@ read_options given =
       zones = zones;
     })))))
 
--- what the words ask for, where `clap` parses them: then there is a verb with its texts
+-- what the arguments ask for, where `clap` parses them: then there is a verb with its texts
 unfoldable pub asked_in : List Text → Result Ask CommandFault
-asked_in words = option_map_or read_options (parsed_in words) (Err (usage []))
+asked_in arguments = option_map_or read_options (parsed_in arguments) (Err (usage []))
 
 -- ---- command line is exact
 
@@ -144,27 +144,27 @@ is_of_help DisplayHelp = true
 is_of_help DisplayVersion = true
 is_of_help _ = false
 
--- `clap` parses the words, and this is what they ask for
+-- `clap` parses the arguments, and this is what they ask for
 abbrev pub HasRead : List Text → Result Ask CommandFault → Type 0
-HasRead words said = (faults_in words ≡ []) × (asked_in words ≡ said)
+HasRead arguments said = (faults_in arguments ≡ []) × (asked_in arguments ≡ said)
 
 -- `clap` gives no matches, by a fault of this kind
 abbrev pub HasRefused : List Text → (ErrorKind → Bool) → Type 0
-HasRefused words is_kind = (takes_words words ≡ false) × (list_any is_kind (faults_in words) ≡ true)
+HasRefused arguments is_kind = (takes_arguments arguments ≡ false) × (list_any is_kind (faults_in arguments) ≡ true)
 
 abbrev pub IsFaultOf : List Text → CommandFault → Type 0
-IsFaultOf words (usage text) = HasRefused words (λ kind. not (is_of_help kind))
-IsFaultOf words (help text) = HasRefused words is_of_help
-IsFaultOf words bad_iterations = HasRead words (Err bad_iterations)
-IsFaultOf words bad_now = HasRead words (Err bad_now)
-IsFaultOf words bad_zones = HasRead words (Err bad_zones)
-IsFaultOf words bad_local = HasRead words (Err bad_local)
-IsFaultOf words no_memory = ⊤
+IsFaultOf arguments (usage text) = HasRefused arguments (λ kind. not (is_of_help kind))
+IsFaultOf arguments (help text) = HasRefused arguments is_of_help
+IsFaultOf arguments bad_iterations = HasRead arguments (Err bad_iterations)
+IsFaultOf arguments bad_now = HasRead arguments (Err bad_now)
+IsFaultOf arguments bad_zones = HasRead arguments (Err bad_zones)
+IsFaultOf arguments bad_local = HasRead arguments (Err bad_local)
+IsFaultOf arguments no_memory = ⊤
 
--- what the words ask for by what `clap` parses of them, or its text where it gives no matches; or memory was refused
+-- what the arguments ask for by what `clap` parses of them, or its text where it gives no matches; or memory was refused
 abbrev pub IsAskOf : List Text → Result Ask CommandFault → Type 0
-IsAskOf words (Ok ask) = HasRead words (Ok ask)
-IsAskOf words (Err fault) = IsFaultOf words fault
+IsAskOf arguments (Ok ask) = HasRead arguments (Ok ask)
+IsAskOf arguments (Err fault) = IsFaultOf arguments fault
 
 -- the fault that is reported of what `clap` answers in place of matches, by the kind of its answer
 abbrev pub IsReportedOf : ErrorKind → CommandFault → Type 0

@@ -4,4 +4,4 @@ pub mod CommandLine
 pub mod GivenView
 pub mod LocalZone
 pub mod OptionValues
-pub mod WorkedWords
+pub mod WorkedArguments

@@ -1,4 +1,4 @@
-//! What the words of the command line ask for (systemd-analyze(1)).
+//! What the arguments ask for (systemd-analyze(1)).
 
 ghost use Rattle.std.specs.Prelude.{◌≡◌, ◌<◌, true, string_bytes, vec_len};
 ghost use Rattle.cal_zone.specs.headline.ZoneName.{is_zone_name};
@@ -7,7 +7,7 @@ ghost use Rattle.cal_command.specs.LocalZone.{IsLocalOffset};
 use cal_request::Request;
 use cal_zone::Instant;
 
-/// What the words of the command line ask for.
+/// What the arguments ask for.
 ///
 /// The field of an option that the verb lacks holds what it holds where the option isn't given.
 #[derive(Debug, Drop)]

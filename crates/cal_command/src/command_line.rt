@@ -1,4 +1,4 @@
-//! The command line: a subcommand of `clap` for each verb, and what the words ask for by the values that it finds.
+//! The command line: a subcommand of `clap` for each verb, and what the arguments ask for by the values that it finds.
 
 ghost use Rattle.std.specs.Prelude.{◌≡◌, ◌<◌, ◌≤◌, [], IfSome, false, true, codes, length, map, IfOk, IfErr, option_map};
 ghost use Rattle.std.specs.Option.{option_copied};
@@ -20,8 +20,8 @@ use std::alloc::{AllocError, Global};
 use std::convert::AsStr;
 
 impl Ask {
-    /// What the words after the program's name ask for (systemd-analyze(1)): a verb, its options and its texts in any
-    /// order, where words after a `--` are texts.
+    /// What the arguments after the program's name ask for (systemd-analyze(1)): a verb, its options and its texts in any
+    /// order, where arguments after a `--` are texts.
     ///
     /// - `calendar TEXT..` and `timer FILE` have `--iterations`, `--base-time`, `--now`, `--zones` and `--local`,
     ///   `timestamp TEXT..` has the last three, and `timespan TEXT..` none.
@@ -35,17 +35,20 @@ impl Ask {
     /// Words that `clap` doesn't parse, an option that is given twice among them, are [`CommandFault::Usage`], and a
     /// call for help or the version is [`CommandFault::Help`]. Of several bad values the first in this order is reported.
     /// [`CommandFault::NoMemory`] comes where memory is refused.
-    pub fn of<'a>(alloc: Global, words: &'a [&'a str]) -> Result<Ask, CommandFault>
-        ensures exact { IsAskOf (texts_of words.now) (shown_answer result) }
+    pub fn of<'a>(alloc: Global, arguments: &'a [&'a str]) -> Result<Ask, CommandFault>
+        ensures exact { IsAskOf (texts_of arguments.now) (shown_answer result) }
     {
-        Self::of_arguments(alloc, words)
+        Self::of_arguments(alloc, arguments)
     }
 
     /// The same for arguments of any type that lends its text.
-    pub fn of_arguments<'a, S: AsStr>(alloc: Global, words: &'a [S]) -> Result<Ask, CommandFault>
-        ensures exact { IsAskOf (map S.text words.now) (shown_answer result) }
+    pub fn of_arguments<'a, S: AsStr>(
+        alloc: Global,
+        arguments: &'a [S],
+    ) -> Result<Ask, CommandFault>
+        ensures exact { IsAskOf (map S.text arguments.now) (shown_answer result) }
     {
-        let matches = parse(alloc, words)?;
+        let matches = parse(alloc, arguments)?;
         let Some(given) = find_values(&matches) else {
             return Err(CommandFault::NoMemory);
         };
@@ -153,13 +156,13 @@ fn verb_named(name: &str) -> Option<Verb>
     }
 }
 
-/// What `clap` parses of the words.
-fn parse<'a, S: AsStr>(alloc: Global, words: &'a [S]) -> Result<ArgMatches<'a>, CommandFault>
-    ensures faults { IfOk result (λ _. faults_in (map S.text words.now) ≡ []) }
-    ensures found { IfOk result (λ matches. given_in (subcommand_rows_of matches) ≡ parsed_in (map S.text words.now)) }
-    ensures fault { IfErr result (λ fault. IsFaultOf (map S.text words.now) (shown_fault fault)) }
+/// What `clap` parses of the arguments.
+fn parse<'a, S: AsStr>(alloc: Global, arguments: &'a [S]) -> Result<ArgMatches<'a>, CommandFault>
+    ensures faults { IfOk result (λ _. faults_in (map S.text arguments.now) ≡ []) }
+    ensures found { IfOk result (λ matches. given_in (subcommand_rows_of matches) ≡ parsed_in (map S.text arguments.now)) }
+    ensures fault { IfErr result (λ fault. IsFaultOf (map S.text arguments.now) (shown_fault fault)) }
 {
-    match build_command(alloc)?.try_get_matches_from(words) {
+    match build_command(alloc)?.try_get_matches_from(arguments) {
         Ok(matches) => Ok(matches),
         Err(error) => Err(convert_error(alloc, &error)),
     }

@@ -1,4 +1,4 @@
-//! The command line: what the words ask for.
+//! The command line: what the arguments ask for.
 #![tactic(auto)]
 
 mod ask;

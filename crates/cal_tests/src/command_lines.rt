@@ -1,4 +1,4 @@
-//! Command lines: which words ask for what, and what is reported of the others.
+//! Command lines: which arguments ask for what, and what is reported of the others.
 
 use cal_command::{Ask, CommandFault, LocalZone, ZoneItem};
 use cal_request::Verb;
@@ -6,13 +6,13 @@ use std::alloc::Global;
 use std::process::Abort;
 use std::test::Fail;
 
-/// What the words of a line, which are joined by `|`, come to.
+/// What the arguments of a line, which are joined by `|`, come to.
 fn read(alloc: Global, line: &str) -> Result<Result<Ask, CommandFault>, Fail> {
-    let words: Vec<&str> = line.split('|').collect(alloc)?;
-    Ok(Ask::of(alloc, words.as_slice()))
+    let arguments: Vec<&str> = line.split('|').collect(alloc)?;
+    Ok(Ask::of(alloc, arguments.as_slice()))
 }
 
-/// One line for what the words come to.
+/// One line for what the arguments come to.
 fn shown(alloc: Global, line: &str) -> Result<String, Fail> {
     match read(alloc, line)? {
         Ok(ask) => asked(alloc, &ask),
@@ -79,23 +79,23 @@ fn push_zones(line: &mut String, zones: &[ZoneItem]) -> Result<(), Fail> {
     Ok(())
 }
 
-/// The line of words comes to this.
+/// The line of arguments comes to this.
 fn expect_shown(rt: &(impl Abort + AllocGlobal), line: &str, want: &str) -> Result<(), Fail> {
     let found = shown(rt.alloc(), line)?;
     assert!(rt; found.as_str() == want, "{found} at {line}");
     Ok(())
 }
 
-/// On each line are words, an arrow, and what they come to.
+/// On each line are arguments, an arrow, and what they come to.
 fn check(rt: &(impl Abort + AllocGlobal), lines: &str) -> Result<(), Fail> {
     for line in lines.lines() {
-        let (words, want) = line.split_once(" -> ").ok_or("no arrow")?;
-        expect_shown(rt, words, want)?;
+        let (arguments, want) = line.split_once(" -> ").ok_or("no arrow")?;
+        expect_shown(rt, arguments, want)?;
     }
     Ok(())
 }
 
-/// The words of each verb, options between texts, and counts, presents and zones up to their bounds.
+/// The arguments of each verb, options between texts, and counts, presents and zones up to their bounds.
 const COMMANDS: &str = "\
 calendar|--iterations=2|--now=@1704067200|*-*-* 12:30:00 -> calendar 2 now 1704067200|*-*-* 12:30:00
 calendar|a -> calendar 1|a
@@ -167,7 +167,7 @@ fn other_lines(rt: HostRuntime) -> Result<(), Fail> {
     check(&rt, OTHERS)
 }
 
-/// Lines whose words aren't those of a command.
+/// Lines whose arguments aren't those of a command.
 const NO_COMMANDS: &str = "\
 frobnicate|a
 
@@ -188,7 +188,7 @@ Calendar|a
 ";
 
 #[test]
-fn words_that_are_no_command(rt: HostRuntime) -> Result<(), Fail> {
+fn arguments_that_are_no_command(rt: HostRuntime) -> Result<(), Fail> {
     for line in NO_COMMANDS.lines() {
         expect_shown(&rt, line, "usage")?;
     }
@@ -215,7 +215,7 @@ fn check_values(
     Ok(())
 }
 
-/// Options with bad values of theirs, which are joined by `|`, and the words that reject them.
+/// Options with bad values of theirs, which are joined by `|`, and the arguments that reject them.
 static BAD_VALUES: [(&str, &str, &str); 4] = [
     (
         "iterations",

@@ -27,31 +27,35 @@ impl Done {
     }
 }
 
-/// Does what the words of a line ask for, which are joined by `|`.
+/// Does what the arguments of a line ask for, which are joined by `|`.
 fn perform<S: System>(alloc: Global, system: &S, line: &str) -> Result<Done, Fail> {
-    let words: Vec<&str> = line.split('|').collect(alloc)?;
-    perform_words(alloc, system, words.as_slice())
+    let arguments: Vec<&str> = line.split('|').collect(alloc)?;
+    perform_arguments(alloc, system, arguments.as_slice())
 }
 
-/// Does what the words ask for.
-fn perform_words<S: System>(alloc: Global, system: &S, words: &[&str]) -> Result<Done, Fail> {
+/// Does what the arguments ask for.
+fn perform_arguments<S: System>(
+    alloc: Global,
+    system: &S,
+    arguments: &[&str],
+) -> Result<Done, Fail> {
     let mut out = Port::new(BufWriter::new(alloc, Vec::new(alloc))?);
     let mut err = Port::new(Vec::new(alloc));
-    let ended = work(alloc, system, words, &mut out, &mut err);
+    let ended = work(alloc, system, arguments, &mut out, &mut err);
     Ok(Done::of(out, err, ended.status))
 }
 
-/// A line of words, the texts on standard output and on standard error, and the status.
+/// A line of arguments, the texts on standard output and on standard error, and the status.
 type Row<'a> = (&'a str, &'a str, &'a str, u8);
 
-/// The line of words does what is beside it.
+/// The line of arguments does what is beside it.
 fn check<S: System>(rt: &(impl Abort + AllocGlobal), system: &S, row: Row<'_>) -> Result<(), Fail> {
     let done = perform(rt.alloc(), system, row.0)?;
     expect_done(rt, &done, row);
     Ok(())
 }
 
-/// On each line are words, an arrow, and the line that is reported of them on standard error. All end with this status.
+/// On each line are arguments, an arrow, and the line that is reported of them on standard error. All end with this status.
 fn check_refused<S: System>(
     rt: &(impl Abort + AllocGlobal),
     system: &S,
@@ -59,9 +63,9 @@ fn check_refused<S: System>(
     status: u8,
 ) -> Result<(), Fail> {
     for line in lines.lines() {
-        let (words, told) = line.split_once(" -> ").ok_or("no arrow")?;
+        let (arguments, told) = line.split_once(" -> ").ok_or("no arrow")?;
         let err = format!(in rt.alloc(); "{told}\n")?;
-        check(rt, system, (words, "", &err, status))?;
+        check(rt, system, (arguments, "", &err, status))?;
     }
     Ok(())
 }

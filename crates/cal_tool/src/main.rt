@@ -18,7 +18,7 @@ use std::process::ExitCode;
 use std::rt::Env;
 use std::{env, io};
 
-/// What is said of words that aren't UTF-8, as `clap` says it.
+/// What is said of arguments that aren't UTF-8, as `clap` says it.
 const NOT_UTF_8: &str = "error: invalid UTF-8 was detected in one or more arguments
 
 For more information, try '--help'.
@@ -32,8 +32,8 @@ fn main(rt: HostRuntime) -> ExitCode {
     let out = rt.stdout();
     // On a terminal nothing is held back, so that the line of a fault appears between the reports, where its text was.
     let capacity = if out.is_terminal() { 0 } else { BUFFER };
-    let words = match given_words(&rt) {
-        Ok(words) => words,
+    let arguments = match given_arguments(&rt) {
+        Ok(arguments) => arguments,
         Err(error) => return refuse(&mut err, &stop_of(rt.alloc(), &error)),
     };
     let Ok(buffer) = BufWriter::with_capacity(rt.alloc(), capacity, out) else {
@@ -41,16 +41,22 @@ fn main(rt: HostRuntime) -> ExitCode {
     };
     let mut out = Port::new(buffer);
     let machine = Machine { rt: &rt };
-    let ended = work(rt.alloc(), &machine, words.as_slice(), &mut out, &mut err);
+    let ended = work(
+        rt.alloc(),
+        &machine,
+        arguments.as_slice(),
+        &mut out,
+        &mut err,
+    );
     ExitCode::from(ended.status)
 }
 
-/// The words after the program's name.
-fn given_words<R: Env + AllocGlobal>(rt: &R) -> io::Result<Vec<String>> {
+/// The arguments after the program's name.
+fn given_arguments<R: Env + AllocGlobal>(rt: &R) -> io::Result<Vec<String>> {
     Ok(env::args(rt)?.skip(1).collect(rt.alloc())?)
 }
 
-/// Why the program stops where its words can't be had: they aren't UTF-8, or memory is refused.
+/// Why the program stops where its arguments can't be had: they aren't UTF-8, or memory is refused.
 fn stop_of(alloc: Global, error: &io::Error) -> Stop {
     if error.kind() == ErrorKind::OutOfMemory {
         return Stop::Run(RunFault::NoMemory);

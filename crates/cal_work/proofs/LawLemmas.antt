@@ -11,7 +11,7 @@ use Rattle.cal_bytes.specs.declared.whole.WholeFault.{WholeFault}
 use Rattle.cal_bytes.specs.declared.whole.WholeFault.TheVariants as whole
 use Rattle.cal_read.specs.TimerText.{most_file_bytes}
 use Rattle.cal_command.specs.Ask.{Ask, CommandFault, ZoneItem}
-use Rattle.cal_command.specs.CommandLine.{asked_in, takes_words}
+use Rattle.cal_command.specs.CommandLine.{asked_in, takes_arguments}
 use Rattle.cal_work.specs.Outcome.{World, ZoneFound, and_then, loaded, or_load_stop, table_by, local_by, present_by, run_by, asked_at, outcome, outcome_of}
 use Rattle.cal_report.specs.Report.{file_name}
 use Rattle.cal_request.specs.Request.{is_timer}
@@ -19,9 +19,9 @@ use Rattle.cal_request.specs.headline.Request.{Request}
 use Rattle.cal_work.specs.Stop.{Stop}
 use Rattle.cal_work.specs.System.{Known, Seen, GivesTime, SeesBytes, is_cut}
 use Rattle.cal_work.specs.WorkLaw.{TellsAll, taken_of, known_seen, known_time, known_zones, known_world, known_outcome, IsOr}
-use Rattle.cal_work.specs.Works.{SeesZones, SeesIf, Fits, FitsWords}
+use Rattle.cal_work.specs.Works.{SeesZones, SeesIf, Fits, FitsArguments}
 use Rattle.cal_work.specs.declared.zone_files.LoadFault.{LoadFault}
-use Rattle.cal_command.proofs.CommandLineLemmas.{taken_words}
+use Rattle.cal_command.proofs.CommandLineLemmas.{taken_arguments}
 
 -- What is seen of one file
 
@@ -125,10 +125,10 @@ unfolding outcome outcome_of known_world
 said_known known world (Ok ask) all is fits = rw is (ask_known known ask world all fits)
 said_known known world (Err said) all is fits = rw is (inl refl)
 
-pub known_decides : (known : Known) (words : List (List ℕ)) (world : World) → TellsAll known → takes_words words ≡ true → FitsWords known words world → IsOr (outcome world) (known_outcome known (asked_in words) world)
+pub known_decides : (known : Known) (arguments : List (List ℕ)) (world : World) → TellsAll known → takes_arguments arguments ≡ true → FitsArguments known arguments world → IsOr (outcome world) (known_outcome known (asked_in arguments) world)
 unfolding outcome
-known_decides known words world all takes fits =
-    elim (taken_words words world.said fits.said takes) [
+known_decides known arguments world all takes fits =
+    elim (taken_arguments arguments world.said fits.said takes) [
       | inl e ↦ rw e (inr refl)
       | inr e ↦ rw (sym e) (said_known known world world.said all refl fits.fits)
     ]

@@ -9,7 +9,7 @@ use Rattle.cal_work.specs.Outcome.{outcome, out_text, err_text, ended_status}
 use Rattle.cal_report.specs.headline.Report.{Report}
 use Rattle.cal_work.specs.Stop.{Stop, fault_stop, outlet_of, shown_stop, text_of}
 use Rattle.cal_work.specs.System.{Known}
-use Rattle.cal_work.specs.WorkSteps.{StopsAs, StopEnds, EndsAs, AnsweredWords, IsSettled, TellsOn, TellsStop, status_by, WritesOf}
+use Rattle.cal_work.specs.WorkSteps.{StopsAs, StopEnds, EndsAs, AnsweredArguments, IsSettled, TellsOn, TellsStop, status_by, WritesOf}
 use Rattle.cal_work.specs.Works.{Reaches, TellsFault, Works}
 use Rattle.cal_request.specs.declared.request.RunFault.{RunFault}
 use Rattle.cal_request.specs.declared.request.RunFault.TheVariants.{OutFailed, ErrFailed, NoMemory}
@@ -146,13 +146,13 @@ settled_status (Ok done) (Ok settled) status come is same = sym same
 settled_status (Ok done) (Err fault) status come is same = rw is refl
 settled_status (Err fault) settled status come is same = rw is (sym same)
 
-pub works : (known : Known) (words : List (List ℕ)) (answered : Result Status declared_stop.Stop) (out out1 out2 reached err err1 err2 err3 : Option (List ℕ)) (failed : Bool) (written settled : Result Unit RunFault) (status last : ℕ)
-    → AnsweredWords known words answered out out1 err err1
+pub works : (known : Known) (arguments : List (List ℕ)) (answered : Result Status declared_stop.Stop) (out out1 out2 reached err err1 err2 err3 : Option (List ℕ)) (failed : Bool) (written settled : Result Unit RunFault) (status last : ℕ)
+    → AnsweredArguments known arguments answered out out1 err err1
     → ((come : Result Report Stop) (a b : Option (List ℕ)) → EndsAs answered come a out1 b err1 → WritesOf written status come a out2 b err2)
     → ((before : Option (List ℕ)) (text : List ℕ) → Writes before out2 written text → Reaches before reached settled text)
     → IsSettled written settled → TellsFault err2 err3 failed settled → last ≡ status_by settled status
-    → Works known words out reached err err3 failed (record { status = last; written = settled })
-works known words answered out out1 out2 reached err err1 err2 err3 failed written settled status last a tells reaches is line same =
+    → Works known arguments out reached err err3 failed (record { status = last; written = settled })
+works known arguments answered out out1 out2 reached err err1 err2 err3 failed written settled status last a tells reaches is line same =
     let w = tells (outcome a.world) out err a.ends in
     record {
       world = a.world;

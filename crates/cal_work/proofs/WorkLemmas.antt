@@ -32,7 +32,7 @@ use Rattle.cal_request.specs.Request.{is_timer}
 use Rattle.cal_request.specs.headline.Request.{Request}
 use Rattle.cal_work.specs.Stop.{Stop, command_stop, exit_status, load_stop, name_stop, rule_stop, shown_stop, unread_stop, memory_stop, is_out_stop, is_err_stop}
 use Rattle.cal_work.specs.System.{Known, Opens, GivesTime, Comes, SeesBytes}
-use Rattle.cal_work.specs.WorkSteps.{StopsAs, Loads, ReadsZones, FindsLocal, IsUnread, EndsAs, Runs, Answered, AnsweredWords, ran}
+use Rattle.cal_work.specs.WorkSteps.{StopsAs, Loads, ReadsZones, FindsLocal, IsUnread, EndsAs, Runs, Answered, AnsweredArguments, ran}
 use Rattle.cal_work.specs.Works.{SeesZones, ReadsZone}
 use Rattle.cal_command.specs.declared.command_fault.CommandFault as declared_fault
 use Rattle.cal_command.specs.declared.command_fault.CommandFault.TheVariants as command
@@ -436,10 +436,10 @@ ran_whole known ask result out out' err err' table local now z l clock is_time i
       ends = rw (z.answers, l.answers, is_now) r.ends;
     }
 
--- the words came to what is ask
-pub words_answered : (known : Known) (words : List (List ℕ)) (ask : Ask) (result : Result Status declared_stop.Stop) (out out' err err' : Option (List ℕ)) → IsAskOf words (Ok ask) → Answered known ask result out out' err err' → AnsweredWords known words result out out' err err'
+-- the arguments came to what is ask
+pub arguments_answered : (known : Known) (arguments : List (List ℕ)) (ask : Ask) (result : Result Status declared_stop.Stop) (out out' err err' : Option (List ℕ)) → IsAskOf arguments (Ok ask) → Answered known ask result out out' err err' → AnsweredArguments known arguments result out out' err err'
 unfolding outcome outcome_of
-words_answered known words ask result out out' err err' asks a = record {
+arguments_answered known arguments ask result out out' err err' asks a = record {
   world = record { said = Ok ask; zones = a.world.zones; local = a.world.local; clock = a.world.clock; file = a.world.file };
   fits = record { said = asks; fits = record { zones = a.fits.zones; after = a.fits.after } };
   ends = a.ends;
@@ -455,9 +455,9 @@ command_stops command.BadLocal = is_stop (Command command.BadLocal) (command_sto
 command_stops command.NoMemory = is_stop (Command command.NoMemory) (command_stop no_memory) refl refl refl
 
 -- or to nothing that can be done
-pub words_refused : (known : Known) (words : List (List ℕ)) (fault : declared_fault.CommandFault) (out err : Option (List ℕ)) → IsAskOf words (Err (shown_fault fault)) → AnsweredWords known words (Err (Command fault)) out out err err
+pub arguments_refused : (known : Known) (arguments : List (List ℕ)) (fault : declared_fault.CommandFault) (out err : Option (List ℕ)) → IsAskOf arguments (Err (shown_fault fault)) → AnsweredArguments known arguments (Err (Command fault)) out out err err
 unfolding outcome
-words_refused known words fault out err asks = record {
+arguments_refused known arguments fault out err asks = record {
   world = record { said = Err (shown_fault fault); zones = []; local = utc; clock = None; file = None };
   fits = record { said = asks; fits = tt };
   ends = (command_stops fault, refl, refl);

@@ -1,15 +1,15 @@
 -- The definitions, tried on a worked system.
 use Rattle.std.proofs.Common.{refl}
 use Rattle.cal_command.proofs.WorkedRows.{daily_asked}
-use Rattle.cal_command.specs.WorkedWords.{daily_words}
+use Rattle.cal_command.specs.WorkedArguments.{daily_arguments}
 use Rattle.cal_work.specs.Outcome.{instant_in, local_by, present_by, table_by}
 use Rattle.cal_work.specs.WorkLaw.{TellsAll}
 use Rattle.cal_work.specs.WorkedSystem.{bare_system, daily_world}
-use Rattle.cal_work.specs.Works.{FitsWords}
+use Rattle.cal_work.specs.Works.{FitsArguments}
 
 pub bare_tells : TellsAll bare_system
 bare_tells = record { files = λ path. refl; sure = λ path. refl; time = refl }
 
-pub bare_fits : FitsWords bare_system daily_words daily_world
+pub bare_fits : FitsArguments bare_system daily_arguments daily_world
 unfolding instant_in local_by present_by table_by
 bare_fits = record { said = daily_asked; fits = record { zones = tt; after = (refl, refl, tt) } }

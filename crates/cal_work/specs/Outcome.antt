@@ -1,4 +1,4 @@
--- What the program's words come to in a world: the report, or the one stop that comes first.
+-- What the program's arguments come to in a world: the report, or the one stop that comes first.
 use Rattle.std.specs.Prelude.{ℕ, ℤ, pos, Bool, true, false, not, ◌&&◌, int_lt, List, [], ◌∷◌, Option, None, Some, is_some, Result, Ok, Err, if◌then◌else◌}
 use Rattle.std.specs.FinMap.{insert, empty}
 use Rattle.jiff.specs.Types.{TimeZone}
@@ -30,7 +30,7 @@ pub record ZoneFound : Type 0 where
   pub seen : Seen
   pub zone : Option TimeZone
 
--- What the outcome takes from outside: what the words came to, what is found of each zone file in order, the local
+-- What the outcome takes from outside: what the arguments came to, what is found of each zone file in order, the local
 -- zone, the seconds of the clock, and what is seen of the file of a timer.
 pub record World : Type 0 where
   pub said : Result Ask CommandFault
@@ -98,7 +98,7 @@ abbrev pub clock_by : Option ℤ → Result ℤ Stop
 clock_by None = Err clock_stop
 clock_by (Some secs) = or_clock_stop (instant_in secs)
 
--- that of the words, or else the clock's
+-- that of the arguments, or else the clock's
 unfoldable pub present_by : Option ℤ → Option ℤ → Result ℤ Stop
 present_by (Some now) clock = Ok now
 present_by None clock = clock_by clock

@@ -1,5 +1,5 @@
 -- Where the system tells all of its files and its clock, there is one outcome: unless memory runs out it goes by what
--- is known, by what `clap` makes of the words, and by the zones that `jiff` reads.
+-- is known, by what `clap` makes of the arguments, and by the zones that `jiff` reads.
 use Rattle.std.specs.Prelude.{◌≡◌, ◌⊎◌, ℕ, ℤ, Bool, true, false, List, [], ◌∷◌, length, nat_le, Option, None, Some, IsSome, Result, Ok, Err, slice_index_or}
 use Rattle.cal_zone.specs.ZoneFile.{file_limit}
 use Rattle.cal_bytes.specs.declared.whole.WholeFault.{WholeFault}
@@ -38,7 +38,7 @@ known_zones known (item ∷ items) [] = []
 known_zones known (item ∷ items) (f ∷ found) =
     record { seen = known_seen file_limit (known.file item.path); zone = f.zone } ∷ known_zones known items found
 
--- the world that is known, where `clap` takes the words as this and `jiff` reads the zones of a world
+-- the world that is known, where `clap` takes the arguments as this and `jiff` reads the zones of a world
 unfoldable pub known_world : Known → Ask → World → World
 known_world known ask world = record {
   said = Ok ask;

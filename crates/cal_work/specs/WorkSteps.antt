@@ -14,7 +14,7 @@ use Rattle.cal_report.specs.headline.Report.{Report}
 use Rattle.cal_request.specs.headline.Request.{Request}
 use Rattle.cal_work.specs.Stop.{Stop, exit_status, is_for_memory, is_out_stop, is_err_stop, outlet_of, shown_stop, text_of}
 use Rattle.cal_work.specs.System.{Known, Seen, GivesTime}
-use Rattle.cal_work.specs.Works.{Fits, FitsWords, IsLocal, SeesFile, SeesZone, SeesZones}
+use Rattle.cal_work.specs.Works.{Fits, FitsArguments, IsLocal, SeesFile, SeesZone, SeesZones}
 use Rattle.cal_work.specs.declared.zone_files.LoadFault.{LoadFault}
 use Rattle.cal_request.specs.declared.request.RunFault.{RunFault}
 use Rattle.cal_request.specs.declared.request.RunFault.TheVariants.{OutFailed, ErrFailed, NoMemory}
@@ -125,9 +125,9 @@ pub record Answered (known : Known) (ask : Ask) (result : Result Status declared
   pub fits : Fits known ask world
   pub ends : EndsAs result (outcome_of ask world) out out' err err'
 
-pub record AnsweredWords (known : Known) (words : List (List ℕ)) (result : Result Status declared_stop.Stop) (out out' err err' : Option (List ℕ)) : Type 0 where
+pub record AnsweredArguments (known : Known) (arguments : List (List ℕ)) (result : Result Status declared_stop.Stop) (out out' err err' : Option (List ℕ)) : Type 0 where
   pub world : World
-  pub fits : FitsWords known words world
+  pub fits : FitsArguments known arguments world
   pub ends : EndsAs result (outcome world) out out' err err'
 
 -- What is written of it

@@ -1,6 +1,6 @@
 -- A system that tells all, tried on `calendar daily`: one without files, whose clock gives 0.
 use Rattle.std.specs.Prelude.{false, [], None, Some, Ok, pos}
-use Rattle.cal_command.specs.WorkedWords.{daily_ask}
+use Rattle.cal_command.specs.WorkedArguments.{daily_ask}
 use Rattle.cal_work.specs.Outcome.{World}
 use Rattle.cal_work.specs.System.{Known}
 use Rattle.cal_zone.specs.headline.Zone.{utc}

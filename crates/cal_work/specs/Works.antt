@@ -1,4 +1,4 @@
--- From the words to the bytes: there is a world that fits all that the system tells, and what is written and the
+-- From the arguments to the bytes: there is a world that fits all that the system tells, and what is written and the
 -- status are those of the outcome in that world.
 use Rattle.std.specs.Prelude.{◌≡◌, ℕ, Bool, true, false, List, [], ◌∷◌, Option, None, Some, Result, Ok, Err, IfOk, IfNone}
 use Rattle.std.specs.FinMap.{empty}
@@ -24,7 +24,7 @@ use Rattle.cal_request.specs.headline.Request.{Request}
 use Rattle.cal_work.specs.Stop.{fault_stop}
 use Rattle.cal_work.specs.System.{Known, Seen, Sees, GivesTime}
 use Rattle.cal_request.specs.declared.request.RunFault.{RunFault}
-use Rattle.cal_work.specs.declared.words_to_bytes.Ended.{Ended}
+use Rattle.cal_work.specs.declared.arguments_to_bytes.Ended.{Ended}
 
 -- The world fits what is known, as far as it was asked
 
@@ -75,9 +75,9 @@ pub record Fits (known : Known) (ask : Ask) (world : World) : Type 0 where
   pub zones : SeesZones known empty ask.zones world.zones
   pub after : IfOk (table_by empty ask.zones world.zones) (FitsAt known ask world)
 
--- and so do the words
-pub record FitsWords (known : Known) (words : List (List ℕ)) (world : World) : Type 0 where
-  pub said : IsAskOf words world.said
+-- and so do the arguments
+pub record FitsArguments (known : Known) (arguments : List (List ℕ)) (world : World) : Type 0 where
+  pub said : IsAskOf arguments world.said
   pub fits : IfOk world.said (λ ask. Fits known ask world)
 
 -- What is written
@@ -100,9 +100,9 @@ pub record Tells {T : Type 0} (old new : Option (List ℕ)) (failed : Bool) (wri
   pub line : TellsFault before new failed written
 
 -- the whole of the program's work
-pub record Works (known : Known) (words : List (List ℕ)) (out reached err err' : Option (List ℕ)) (err_failed : Bool) (ended : Ended) : Type 0 where
+pub record Works (known : Known) (arguments : List (List ℕ)) (out reached err err' : Option (List ℕ)) (err_failed : Bool) (ended : Ended) : Type 0 where
   pub world : World
-  pub fits : FitsWords known words world
+  pub fits : FitsArguments known arguments world
   pub status : ended.status ≡ ended_status ended.written (outcome world)
   pub out_bytes : Reaches out reached ended.written (out_text (outcome world))
   pub err_bytes : Tells err err' err_failed ended.written (err_text (outcome world))

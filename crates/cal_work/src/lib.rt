@@ -1,13 +1,13 @@
-//! All that the program does between its words and its status.
+//! All that the program does between its arguments and its status.
 #![tactic(auto)]
 
+mod arguments_to_bytes;
 mod stop;
 mod system;
-mod words_to_bytes;
 pub mod work_laws;
 mod zone_files;
 
+pub use arguments_to_bytes::{Ended, work};
 pub use stop::{Stop, write_stop};
 pub use system::System;
-pub use words_to_bytes::{Ended, work};
 pub use zone_files::{LoadFault, load_zone};

@@ -1,4 +1,4 @@
-//! What the program takes from outside beside its words: files and the clock.
+//! What the program takes from outside beside its arguments: files and the clock.
 
 ghost use Rattle.std.specs.Prelude.{◌≡◌, false, option_map, IfSome};
 ghost use Rattle.cal_work.specs.System.{nothing_known, GivesTime, Opens, Known};

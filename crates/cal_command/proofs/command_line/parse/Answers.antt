@@ -1,7 +1,7 @@
 use Rattle.std.proofs.Common.{◌∙◌, ap, map, sym}
 use Rattle.clap.specs.Words.{fault_of, is_simple, is_simple_and_free, kind_of, subcommand_of, takes}
 use Rattle.cal_command.specs.Ask.{shown_fault}
-use Rattle.cal_command.specs.CommandLine.{faults_in, given_in, parsed_in, takes_words}
+use Rattle.cal_command.specs.CommandLine.{faults_in, given_in, parsed_in, takes_arguments}
 use Rattle.cal_command.proofs.CommandLineLemmas.{is_free_command, is_simple_command, reported_fault}
 use Rattle.cal_command.proofs.command_line.parse.Goals as goal
 
@@ -9,18 +9,18 @@ pub returns-in-Ok-clause-faults : goal.returns-in-Ok-clause-faults
 unfolding faults_in
 returns-in-Ok-clause-faults g c =
     let app = c.in_ok-build_command.ensures in
-    sym (ap (λ a. fault_of a (map g.S.AsStr.text c.args.words.now)) app) ∙ c.in-Ok.ensures.kinds (ap is_simple_and_free app ∙ is_free_command)
+    sym (ap (λ a. fault_of a (map g.S.AsStr.text c.args.arguments.now)) app) ∙ c.in-Ok.ensures.kinds (ap is_simple_and_free app ∙ is_free_command)
 
 pub returns-in-Ok-clause-found : goal.returns-in-Ok-clause-found
 unfolding parsed_in
 returns-in-Ok-clause-found g c =
     let app = c.in_ok-build_command.ensures in
-    ap given_in ((c.in-Ok.ensures.matches (ap is_simple app ∙ is_simple_command)).1 ∙ ap (λ a. subcommand_of a (map g.S.AsStr.text c.args.words.now)) app)
+    ap given_in ((c.in-Ok.ensures.matches (ap is_simple app ∙ is_simple_command)).1 ∙ ap (λ a. subcommand_of a (map g.S.AsStr.text c.args.arguments.now)) app)
 
 pub returns-in-Err-clause-fault : goal.returns-in-Err-clause-fault
-unfolding faults_in takes_words
+unfolding faults_in takes_arguments
 returns-in-Err-clause-fault g c =
     let app = c.in_ok-build_command.ensures in
-    let words = map g.S.AsStr.text c.args.words.now in
-    reported_fault words (kind_of c.in-Err.error) (shown_fault c.convert_error.result) (λ taken. c.in-Err.ensures.passes (ap (λ a. takes a words) app ∙ taken))
-    (rw (ap (λ a. fault_of a words) app) at (c.in-Err.ensures.kinds (ap is_simple_and_free app ∙ is_free_command))) c.convert_error.ensures
+    let arguments = map g.S.AsStr.text c.args.arguments.now in
+    reported_fault arguments (kind_of c.in-Err.error) (shown_fault c.convert_error.result) (λ taken. c.in-Err.ensures.passes (ap (λ a. takes a arguments) app ∙ taken))
+    (rw (ap (λ a. fault_of a arguments) app) at (c.in-Err.ensures.kinds (ap is_simple_and_free app ∙ is_free_command))) c.convert_error.ensures

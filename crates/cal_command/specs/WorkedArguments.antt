@@ -1,0 +1,45 @@
+-- Words of the command line, with what is found in them and what they ask for: systemd-analyze(1).
+use Rattle.std.specs.Prelude.{ℕ, List, [], ◌∷◌, None, Some, codes, pos}
+use Rattle.cal_command.specs.Ask.{Ask, in_utc, of_name}
+use Rattle.cal_command.specs.CommandLine.{Given}
+use Rattle.cal_request.specs.declared.request.Verb.TheVariants.{Calendar}
+
+-- `calendar daily`
+abbrev pub daily_arguments : List (List ℕ)
+daily_arguments = codes "calendar" ∷ codes "daily" ∷ []
+
+-- the verb and the text, and no option
+abbrev pub daily_given : Given
+daily_given = record { verb = Calendar; texts = codes "daily" ∷ []; iterations = None; base = None; now = None; local = None; zones = None }
+
+-- one elapse after the clock's present, in UTC and with no zone file
+abbrev pub daily_ask : Ask
+daily_ask = record { verb = Calendar; texts = codes "daily" ∷ []; iterations = 1; base = None; now = None; local = in_utc; zones = [] }
+
+-- each option of `calendar`, `daily` among them and `weekly` after them
+abbrev pub options_arguments : List (List ℕ)
+options_arguments =
+    codes "calendar" ∷ codes "--iterations=3" ∷ codes "--base-time" ∷ codes "now" ∷ codes "daily" ∷ codes "--now" ∷ codes "@5"
+    ∷ codes "--zones" ∷ codes "Here=here.tz" ∷ codes "--local" ∷ codes "Here" ∷ codes "weekly" ∷ []
+
+abbrev pub options_ask : Ask
+options_ask = record {
+  verb = Calendar;
+  texts = codes "daily" ∷ codes "weekly" ∷ [];
+  iterations = 3;
+  base = Some (codes "now");
+  now = Some (pos 5);
+  local = of_name (codes "Here");
+  zones = record { name = codes "Here"; path = codes "here.tz" } ∷ [];
+}
+
+-- 0 elapses
+abbrev pub none_arguments : List (List ℕ)
+none_arguments = codes "calendar" ∷ codes "--iterations=0" ∷ codes "daily" ∷ []
+
+-- a call for help, and a verb that there isn't
+abbrev pub help_arguments : List (List ℕ)
+help_arguments = codes "--help" ∷ []
+
+abbrev pub stray_arguments : List (List ℕ)
+stray_arguments = codes "daily" ∷ []

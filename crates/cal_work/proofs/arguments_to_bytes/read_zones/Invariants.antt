@@ -1,0 +1,8 @@
+-- What was found of the files so far goes on with whatever is found of those that are left.
+use Rattle.std.proofs.Common.{drop, map}
+use Rattle.cal_command.specs.Ask.{shown_item}
+use Rattle.cal_work.proofs.WorkLemmas.{GoesOn}
+use Rattle.cal_work.proofs.arguments_to_bytes.read_zones.Given as goal
+
+abbrev pub invariant-loop-item : goal.invariant-loop-item
+invariant-loop-item g l = GoesOn (g.S.System.tells l.system) (map shown_item l.items) l.table (map shown_item (drop l.item-index l.items))

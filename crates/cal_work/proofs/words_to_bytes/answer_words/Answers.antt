@@ -1,8 +1,0 @@
-use Rattle.cal_work.proofs.WorkLemmas.{words_answered, words_refused}
-use Rattle.cal_work.proofs.words_to_bytes.answer_words.Goals as goal
-
-pub returns-in-Ok-clause-answered : goal.returns-in-Ok-clause-answered
-returns-in-Ok-clause-answered g c = words_answered _ _ _ _ _ _ _ _ c.in-Ok.ensures.exact c.answer.ensures.answered
-
-pub returns-in-Err-clause-answered : goal.returns-in-Err-clause-answered
-returns-in-Err-clause-answered g c = words_refused _ _ c.in-Err.fault _ _ c.in-Err.ensures.exact

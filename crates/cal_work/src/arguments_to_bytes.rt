@@ -1,0 +1,386 @@
+//! All of the program's work: from the arguments to the bytes on both outputs and the status
+//! (systemd-analyze(1)).
+//!
+//! The order is the command line, the zone files in order, the local zone, the clock, opening the file of a timer, the
+//! run. The first that stops is the only one that is reported.
+
+ghost use Rattle.std.specs.Prelude.{◌≡◌, ℕ, List, Option, Result, Ok, Err, Some, None, true, false, is_err, map, option_map, IfOk, IfErr};
+ghost use Rattle.cal_bytes.specs.Bytes.{Writes};
+ghost use Rattle.cal_command.specs.Ask.{shown_local, shown_ask, shown_item};
+ghost use Rattle.cal_command.specs.LocalZone.{IsLocalOffset};
+ghost use Rattle.cal_work.specs.Outcome.{instant_in};
+ghost use Rattle.cal_report.specs.headline.Report.{Report};
+ghost use Rattle.cal_request.specs.RequestView.{asked};
+ghost use Rattle.cal_request.specs.RunFault.{is_out_failed, is_err_failed};
+ghost use Rattle.cal_work.specs.Stop as stops;
+ghost use Rattle.cal_work.specs.Stop.{is_out_stop, is_err_stop, load_stop, rule_stop, unread_stop};
+ghost use Rattle.cal_work.specs.System.{Opens};
+ghost use Rattle.cal_work.specs.WorkSteps.{is_out_cut, is_err_cut, ran, status_by, Answered, AnsweredArguments, EndsAs, FindsLocal, HasRules, IsSettled, IsUnread, Loads, Presents, Reads, ReadsZones, Runs, StopsAs, TellsStop, WritesOf};
+ghost use Rattle.cal_work.specs.Works.{Reaches, TellsFault, Works};
+
+use crate::stop::{Outlet, Stop, exit_status, write_stop};
+use crate::system::System;
+use crate::zone_files::{LoadFault, load_named};
+use cal_bytes::{Output, Port, Sink};
+use cal_command::{Ask, CommandFault, LocalZone, ZoneItem};
+use cal_report::{file_name, run};
+use cal_request::{Request, RunFault, Status, Verb};
+use cal_zone::{Instant, Rules, Zone, ZoneTable};
+use std::alloc::Global;
+use std::convert::AsStr;
+
+/// How the work ended.
+#[derive(Clone, Copy, PartialEq, Eq, Debug)]
+pub struct Ended {
+    /// The exit status.
+    pub status: u8,
+    /// Whether all of the text was written; else the cause is reported on standard error, where that works.
+    pub written: Result<(), RunFault>,
+}
+
+/// Does what the arguments ask for. Reports and the text of help go to `out`, which is settled at the
+/// end; refusals and the line of a stop go to `err`.
+///
+/// The status is that of the report or of the stop; it is 1 where `out` fails or memory is refused, and where `err`
+/// fails in a report. Where it failed, each output has a prefix of its whole text, and `err` the line of the fault
+/// after it.
+pub fn work<S: System, T: AsStr, O: Output, E: Sink>(
+    alloc: Global,
+    system: &S,
+    arguments: &[T],
+    out: &mut O,
+    err: &mut E,
+) -> Ended
+    requires out { O.is_failed out.old ≡ false }
+    requires err { E.is_failed err.old ≡ false }
+    ensures works { Works (S.tells system.now) (map T.text arguments.now) (O.written out.old) (O.reached out.new)
+        (E.written err.old) (E.written err.new) (E.is_failed err.new) result }
+    ensures out_fault { is_out_failed result.written ≡ true → O.is_failed out.new ≡ true }
+    ensures out_failed { O.is_failed out.new ≡ true → is_err result.written ≡ true }
+    ensures err_fault { is_err_failed result.written ≡ true → E.is_failed err.new ≡ true }
+{
+    let answered = answer_arguments(alloc, system, arguments, out, err);
+    let reported = tell(&answered, out, err);
+    let written = settle_output(reported.written, out);
+    tell_fault(written, err);
+    Ended {
+        status: status_by(written, reported.status),
+        written,
+    }
+}
+
+/// The status that goes with what was written: its own where all of it or all but standard error was written.
+fn status_by(written: Result<(), RunFault>, status: u8) -> u8
+    ensures { result ≡ status_by written status }
+{
+    match written {
+        Ok(()) | Err(RunFault::ErrFailed) => status,
+        Err(RunFault::OutFailed) | Err(RunFault::NoMemory) => 1,
+    }
+}
+
+// The work, up to the first stop
+
+/// Answers what the arguments ask for.
+fn answer_arguments<S: System, T: AsStr, O: Sink, E: Sink>(
+    alloc: Global,
+    system: &S,
+    arguments: &[T],
+    out: &mut O,
+    err: &mut E,
+) -> Result<Status, Stop>
+    requires out { O.is_failed out.old ≡ false }
+    requires err { E.is_failed err.old ≡ false }
+    ensures answered { AnsweredArguments (S.tells system.now) (map T.text arguments.now) result
+        (O.written out.old) (O.written out.new) (E.written err.old) (E.written err.new) }
+    ensures out_failed { O.is_failed out.new ≡ is_out_cut result }
+    ensures err_failed { E.is_failed err.new ≡ is_err_cut result }
+{
+    match Ask::of_arguments(alloc, arguments) {
+        Ok(ask) => answer(alloc, system, &ask, out, err),
+        Err(fault) => Err(Stop::Command(fault)),
+    }
+}
+
+/// Answers what is asked.
+fn answer<S: System, O: Sink, E: Sink>(
+    alloc: Global,
+    system: &S,
+    ask: &Ask,
+    out: &mut O,
+    err: &mut E,
+) -> Result<Status, Stop>
+    requires out { O.is_failed out.old ≡ false }
+    requires err { E.is_failed err.old ≡ false }
+    ensures answered { Answered (S.tells system.now) (shown_ask ask.entry.now) result
+        (O.written out.old) (O.written out.new) (E.written err.old) (E.written err.new) }
+    ensures out_failed { O.is_failed out.new ≡ is_out_cut result }
+    ensures err_failed { E.is_failed err.new ≡ is_err_cut result }
+{
+    let table = match read_zones(alloc, system, ask.zones.as_slice()) {
+        Ok(table) => table,
+        Err(stop) => return Err(stop),
+    };
+    let rules = match read_rules(alloc, &ask.local) {
+        Ok(rules) => rules,
+        Err(stop) => return Err(stop),
+    };
+    let local = match local_zone(&ask.local, &rules, &table) {
+        Ok(local) => local,
+        Err(stop) => return Err(stop),
+    };
+    let now = match find_present(system, ask.now) {
+        Ok(now) => now,
+        Err(stop) => return Err(stop),
+    };
+    run_request(alloc, system, &ask.request, now, local, &table, out, err)
+}
+
+// The steps
+
+/// The table of the zone files, which are read in order.
+fn read_zones<S: System>(alloc: Global, system: &S, items: &[ZoneItem]) -> Result<ZoneTable, Stop>
+    ensures { ReadsZones (λ table. table) (S.tells system.now) (map shown_item items.now) result }
+{
+    let mut table = ZoneTable::new(alloc);
+    for item in items {
+        match load_item(alloc, system, &mut table, item) {
+            Ok(()) => {}
+            Err(fault) => {
+                let refused = zone_stop(alloc, item.name.as_str(), fault);
+                return Err(refused);
+            }
+        }
+    }
+    Ok(table)
+}
+
+/// Reads a zone file into the table. One that can't be opened is one that can't be read.
+fn load_item<S: System>(
+    alloc: Global,
+    system: &S,
+    table: &mut ZoneTable,
+    item: &ZoneItem,
+) -> Result<(), LoadFault>
+    ensures { Loads (S.tells system.now) table.old table.new (shown_item item.now) result }
+{
+    match system.open(item.path.as_str()) {
+        Some(mut file) => load_named(alloc, table, item.name.as_str(), &mut file),
+        None => Err(LoadFault::ReadFailed),
+    }
+}
+
+/// The stop of a zone file that can't be loaded.
+fn zone_stop(alloc: Global, name: &str, fault: LoadFault) -> Stop
+    ensures { StopsAs {X = Unit} result (Err (load_stop name.now fault)) }
+{
+    match String::from_str(alloc, name) {
+        Ok(name) => Stop::Zones(name, fault),
+        Err(_) => Stop::Run(RunFault::NoMemory),
+    }
+}
+
+/// The rules of the local zone, where it is said by a rule.
+fn read_rules(alloc: Global, local: &LocalZone) -> Result<Option<Rules>, Stop>
+    ensures rules { IfOk result (HasRules (shown_local local.now)) }
+    ensures refused { IfErr result (λ stop. StopsAs {X = Unit} stop (Err rule_stop) × IsUnread (shown_local local.now)) }
+{
+    let LocalZone::Posix(rule) = local else {
+        return Ok(None);
+    };
+    match Rules::posix(alloc, rule.as_str()) {
+        Ok(rules) => Ok(Some(rules)),
+        Err(_) => Err(Stop::LocalRule),
+    }
+}
+
+/// The local zone: the one that is said, by its rules where it has any.
+fn local_zone<'t>(
+    local: &LocalZone,
+    rules: &'t Option<Rules>,
+    table: &'t ZoneTable,
+) -> Result<Zone<'t>, Stop>
+    requires rules { HasRules (shown_local local.now) rules.now }
+    requires offset { IsLocalOffset local.now }
+    ensures { FindsLocal (λ zone. zone) (shown_local local.now) table.now result }
+{
+    match local {
+        LocalZone::Utc => Ok(Zone::utc()),
+        LocalZone::Offset(seconds) => Ok(Zone::offset(*seconds)),
+        LocalZone::Posix(_) => match rules {
+            Some(rules) => Ok(Zone::rules(rules)),
+            None => unreachable!(),
+        },
+        LocalZone::Name(name) => match table.find(name.as_str()) {
+            Some(zone) => Ok(zone),
+            None => Err(Stop::LocalName),
+        },
+    }
+}
+
+/// The present instant: the one that is given, or the clock's.
+fn find_present<S: System>(system: &S, given: Option<Instant>) -> Result<Instant, Stop>
+    ensures { Presents (λ now. now.secs) (S.tells system.now) (option_map (λ now. now.secs) given) result }
+{
+    match given {
+        Some(now) => Ok(now),
+        None => read_clock(system),
+    }
+}
+
+/// The instant of the clock.
+fn read_clock<S: System>(system: &S) -> Result<Instant, Stop>
+    ensures { Reads (λ now. now.secs) (S.tells system.now) result }
+{
+    let Some(secs) = system.clock() else {
+        return Err(Stop::Clock);
+    };
+    match instant_in(secs) {
+        Some(instant) => Ok(instant),
+        None => Err(Stop::Clock),
+    }
+}
+
+/// The instant of that many seconds, where there is one.
+#[tactic(auto, unfolding(crate::specs::Outcome::instant_in))]
+fn instant_in(secs: i64) -> Option<Instant>
+    ensures { option_map (λ now. now.secs) result ≡ instant_in secs }
+{
+    Instant::new(secs)
+}
+
+/// Runs a request; the file of a timer is opened before.
+fn run_request<S: System, O: Sink, E: Sink>(
+    alloc: Global,
+    system: &S,
+    request: &Request,
+    now: Instant,
+    local: Zone<'_>,
+    table: &ZoneTable,
+    out: &mut O,
+    err: &mut E,
+) -> Result<Status, Stop>
+    requires out { O.is_failed out.old ≡ false }
+    requires err { E.is_failed err.old ≡ false }
+    ensures runs { Runs (S.tells system.now) (asked request.now now.secs local.entry table.now) result
+        (O.written out.old) (O.written out.new) (E.written err.old) (E.written err.new) }
+    ensures out_failed { O.is_failed out.new ≡ is_out_cut result }
+    ensures err_failed { E.is_failed err.new ≡ is_err_cut result }
+{
+    match request.verb {
+        Verb::Timer => match open_file(alloc, system, file_name(request)) {
+            Ok(mut file) => after_run(run(alloc, request, &mut file, now, local, table, out, err)),
+            Err(stop) => Err(stop),
+        },
+        _ => {
+            let mut none = Port::new(b"".as_slice());
+            after_run(run(alloc, request, &mut none, now, local, table, out, err))
+        }
+    }
+}
+
+/// The end of a run as the end of the work.
+fn after_run(run: Result<Status, RunFault>) -> Result<Status, Stop>
+    ensures { result ≡ ran run }
+{
+    match run {
+        Ok(status) => Ok(status),
+        Err(fault) => Err(Stop::Run(fault)),
+    }
+}
+
+/// Opens the file of a timer.
+fn open_file<S: System>(alloc: Global, system: &S, path: &str) -> Result<S::File, Stop>
+    ensures opened { IfOk result (λ file. Opens ((S.tells system.now).file path.now) (Some (S.File.remaining file))) }
+    ensures sure { IfOk result (λ file. S.File.may_fail file ≡ (S.tells system.now).may_fail path.now) }
+    ensures works { IfOk result (λ file. S.File.is_failed file ≡ false) }
+    ensures refused { IfErr result (λ stop. StopsAs {X = Unit} stop (Err (unread_stop path.now))
+        × Opens ((S.tells system.now).file path.now) None) }
+{
+    match system.open(path) {
+        Some(file) => Ok(file),
+        None => match String::from_str(alloc, path) {
+            Ok(path) => Err(Stop::Open(path)),
+            Err(_) => Err(Stop::Run(RunFault::NoMemory)),
+        },
+    }
+}
+
+// What is reported of a stop
+
+/// Writes what is said of a stop, and answers the status beside whether it could be written. Lack of memory and what
+/// couldn't be written are reported at the end.
+fn tell<O: Sink, E: Sink>(answered: &Result<Status, Stop>, out: &mut O, err: &mut E) -> Ended
+    requires out { O.is_failed out.old ≡ is_out_cut answered.now }
+    requires err { E.is_failed err.old ≡ is_err_cut answered.now }
+    ensures reported { (come : Result Report stops.Stop) (before_out before_err : Option (List ℕ))
+        → EndsAs answered.now come before_out (O.written out.old) before_err (E.written err.old)
+        → WritesOf result.written result.status come before_out (O.written out.new) before_err (E.written err.new) }
+    ensures out_failed { O.is_failed out.new ≡ is_out_failed result.written }
+    ensures err_failed { E.is_failed err.new ≡ is_err_failed result.written }
+{
+    match answered {
+        Ok(status) => Ended {
+            status: exit_status(*status),
+            written: Ok(()),
+        },
+        Err(stop) => Ended {
+            status: stop.status(),
+            written: tell_stop(stop, out, err),
+        },
+    }
+}
+
+/// Writes what is said of a stop that is neither a run's nor for running out of memory: help on `out`, and else on `err`.
+fn tell_stop<O: Sink, E: Sink>(stop: &Stop, out: &mut O, err: &mut E) -> Result<(), RunFault>
+    requires out { O.is_failed out.old ≡ is_out_stop stop.now }
+    requires err { E.is_failed err.old ≡ is_err_stop stop.now }
+    ensures reported { TellsStop stop.now result (O.written out.old) (O.written out.new) (E.written err.old) (E.written err.new) }
+    ensures out_failed { O.is_failed out.new ≡ is_out_failed result }
+    ensures err_failed { E.is_failed err.new ≡ is_err_failed result }
+{
+    match stop.outlet() {
+        Outlet::Later(fault) => Err(fault),
+        Outlet::OnOut => match write_stop(out, stop) {
+            Ok(()) => Ok(()),
+            Err(_) => Err(RunFault::OutFailed),
+        },
+        Outlet::OnErr => match write_stop(err, stop) {
+            Ok(()) => Ok(()),
+            Err(_) => Err(RunFault::ErrFailed),
+        },
+    }
+}
+
+/// Settles the output, also where something failed, so that what comes before the fault goes out.
+fn settle_output<O: Output>(written: Result<(), RunFault>, out: &mut O) -> Result<(), RunFault>
+    requires { O.is_failed out.old ≡ is_out_failed written }
+    ensures bytes { (before : Option (List ℕ)) (text : List ℕ) → Writes before (O.written out.old) written text
+        → Reaches before (O.reached out.new) result text }
+    ensures same { IsSettled written result }
+    ensures out_fault { is_out_failed result ≡ true → O.is_failed out.new ≡ true }
+    ensures out_failed { O.is_failed out.new ≡ true → is_err result ≡ true }
+{
+    if out.settle() {
+        return written;
+    }
+    match written {
+        Ok(()) => Err(RunFault::OutFailed),
+        Err(fault) => Err(fault),
+    }
+}
+
+/// Tells why not all could be written, unless standard error is what failed.
+fn tell_fault<E: Sink>(written: Result<(), RunFault>, err: &mut E)
+    requires { E.is_failed err.old ≡ is_err_failed written }
+    ensures line { TellsFault (E.written err.old) (E.written err.new) (E.is_failed err.new) written }
+    ensures fault { is_err_failed written ≡ true → E.is_failed err.new ≡ true }
+{
+    match written {
+        Ok(()) | Err(RunFault::ErrFailed) => {}
+        Err(fault) => {
+            // Where this line can't be written, only the status tells.
+            let _ = write_stop(err, &Stop::Run(fault));
+        }
+    }
+}
