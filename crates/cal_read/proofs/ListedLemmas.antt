@@ -1,5 +1,5 @@
 -- The lists of all assignments are what comes from one assignment to the next.
-use Rattle.std.proofs.Common.{◌≡◌, ◌≤◌, ◌<◌, ◌+◌, ◌-◌, ◌&&◌, ℕ, Bool, true, false, not, List, [], ◌∷◌, ◌++◌, codes, drop, filter, length, refl, sym, subst, ap, ◌∙◌, arith, append_assoc, append-nil, length-append, Option, Some, None, Result, Ok, Err}
+use Rattle.std.proofs.Common.{◌≡◌, ◌≤◌, ◌<◌, ◌+◌, ◌-◌, ◌&&◌, cond, ℕ, Bool, true, false, not, List, [], ◌∷◌, ◌++◌, codes, drop, filter, length, refl, sym, subst, ap, ◌∙◌, arith, append_assoc, append-nil, length-append, Option, Some, None, Result, Ok, Err}
 use Rattle.std.specs.List.{after_last, prefix_len, suffix_len}
 use Rattle.std.specs.Prelude.{nat_le}
 use Rattle.std.proofs.lemmas.Bool.Decides.{nat_tests}
@@ -14,10 +14,10 @@ use Rattle.std.specs.Option.{option_or}
 use Rattle.std.proofs.lemmas.Bool.{and_right, and_parts, false_from_ne_true}
 use Rattle.cal_read.specs.TimerText.{TimerLine, Timer, bad_line, entries, entries_of, entry_of, fault_following, fault_joining, first_fault, lists_of, some_entries, unless_fault}
 use Rattle.cal_read.specs.headline.TimerText.{excepted, exception_key, has_no_value, is_exception, is_exception_reset, is_expression, is_reset, listed, most_expressions, timer_keys}
-use Rattle.cal_read.specs.TimerView.{with_assignment, resumed, with_list}
+use Rattle.cal_read.specs.TimerView.{changed, with_assignment, resumed, with_list}
 use Rattle.cal_read.specs.declared.timer.fault.TimerFault.{TimerFault}
 use Rattle.cal_read.specs.declared.timer.fault.TimerFault.TheVariants.{BadLine}
-use Rattle.cal_read.proofs.ResumedLemmas.{joined_bad, joined_many, joined_read, resumed_exception, resumed_exception_reset, resumed_expression, resumed_other, resumed_reset}
+use Rattle.cal_read.proofs.ResumedLemmas.{joined_bad, joined_many, joined_read, resumed_changed, resumed_fault}
 
 -- what comes after the last that passes, where one more comes
 suffix_more : {X : Type 0} (p : X → Bool) (xs : List X) (x : X) → p x ≡ true → suffix_len p (xs ++ x ∷ []) ≡ 1 + suffix_len p xs
@@ -56,31 +56,14 @@ kept_more adds resets before a e f =
     ∙ filter-append adds (after_last resets before) (a ∷ [])
     ∙ rw f refl
 
--- the list of expressions
-listed_reset : (before : List Assignment) (a : Assignment) → is_reset a ≡ true → listed (before ++ a ∷ []) ≡ []
-unfolding listed
-listed_reset before a e = kept_reset is_expression is_reset before a e
-
+-- the list of expressions, and that of exceptions
 listed_other : (before : List Assignment) (a : Assignment) → is_reset a ≡ false → is_expression a ≡ false → listed (before ++ a ∷ []) ≡ listed before
 unfolding listed
 listed_other before a e f = kept_other is_expression is_reset before a e f
 
-listed_more : (before : List Assignment) (a : Assignment) → is_reset a ≡ false → is_expression a ≡ true → listed (before ++ a ∷ []) ≡ listed before ++ a ∷ []
-unfolding listed
-listed_more before a e f = kept_more is_expression is_reset before a e f
-
--- and that of exceptions
-excepted_reset : (before : List Assignment) (a : Assignment) → is_exception_reset a ≡ true → excepted (before ++ a ∷ []) ≡ []
-unfolding excepted
-excepted_reset before a e = kept_reset is_exception is_exception_reset before a e
-
 excepted_other : (before : List Assignment) (a : Assignment) → is_exception_reset a ≡ false → is_exception a ≡ false → excepted (before ++ a ∷ []) ≡ excepted before
 unfolding excepted
 excepted_other before a e f = kept_other is_exception is_exception_reset before a e f
-
-excepted_more : (before : List Assignment) (a : Assignment) → is_exception_reset a ≡ false → is_exception a ≡ true → excepted (before ++ a ∷ []) ≡ excepted before ++ a ∷ []
-unfolding excepted
-excepted_more before a e f = kept_more is_exception is_exception_reset before a e f
 
 -- An assignment is at most one of the four: it has a value or none, and its key is that of exceptions or one of a timer's.
 no_value : (b x y : Bool) → (b && x) ≡ true → (not b && y) ≡ false
@@ -116,10 +99,6 @@ exception_reset_is_no_expression : (a : Assignment) → is_exception_reset a ≡
 unfolding is_exception_reset is_expression
 exception_reset_is_no_expression a e = no_value (has_no_value a) _ _ e
 
-exception_reset_is_no_exception : (a : Assignment) → is_exception_reset a ≡ true → is_exception a ≡ false
-unfolding is_exception_reset is_exception
-exception_reset_is_no_exception a e = no_value (has_no_value a) _ _ e
-
 expression_is_no_exception : (a : Assignment) → is_expression a ≡ true → is_exception a ≡ false
 unfolding is_expression is_exception
 expression_is_no_exception a e =
@@ -128,6 +107,13 @@ expression_is_no_exception a e =
 
 exception_is_no_expression : (a : Assignment) → is_exception a ≡ true → is_expression a ≡ false
 exception_is_no_expression a e = false_from_ne_true (is_expression a) (λ h. let other = expression_is_no_exception a h in absurd (cc))
+
+expression_is_no_reset : (a : Assignment) → is_expression a ≡ true → is_reset a ≡ false
+expression_is_no_reset a e = false_from_ne_true (is_reset a) (λ h. let other = reset_is_no_expression a h in absurd (cc))
+
+exception_is_no_exception_reset : (a : Assignment) → is_exception a ≡ true → is_exception_reset a ≡ false
+unfolding is_exception is_exception_reset
+exception_is_no_exception_reset a e = false_from_ne_true (is_exception_reset a) (λ h. let other = no_value (has_no_value a) _ (bytes_eq a.key exception_key) h in absurd (cc))
 
 -- what empties one list leaves the other
 pub excepted_kept : (before : List Assignment) (a : Assignment) → is_reset a ≡ true → excepted (before ++ a ∷ []) ≡ excepted before
@@ -184,16 +170,6 @@ Resumes read before after = resumed read (entries read before) after ≡ unless_
 abbrev AreAllRead : {E : Type 0} → (List ℕ → Result E SpecFault) → List Assignment → Type 0
 AreAllRead read before = AreAll read (listed before) × AreAll read (excepted before)
 
-fault_of_other : {E : Type 0} (read : List ℕ → Result E SpecFault) (before : List Assignment) (a : Assignment) → is_expression a ≡ false → is_exception a ≡ false → fault_following read before a ≡ None
-unfolding fault_following
-fault_of_other read before a e f = rw (e, f) refl
-
--- the lists, where an assignment changes them
-lists_are : {E : Type 0} (read : List ℕ → Result E SpecFault) (before : List Assignment) (list others : List Assignment) → listed before ≡ list → excepted before ≡ others
-    → entries read before ≡ record { expressions = entries_of read list; exceptions = entries_of read others }
-unfolding entries
-lists_are read before list others e f = rw (e, f) refl
-
 -- the first fault after others is that of the assignment or one after it
 ends : {E : Type 0} (read : List ℕ → Result E SpecFault) (before : List Assignment) (a : Assignment) (after : List Assignment) (o : Option TimerFault) → fault_following read before a ≡ o
     → unless_fault (option_or o (first_fault read (before ++ a ∷ []) after)) (some_entries (entries read ((before ++ a ∷ []) ++ after)))
@@ -201,12 +177,6 @@ ends : {E : Type 0} (read : List ℕ → Result E SpecFault) (before : List Assi
 unfolding first_fault
 ends read before a after o same =
     rw same (ap (λ all. unless_fault (option_or o (first_fault read (before ++ a ∷ []) after)) (some_entries (entries read all))) (append_assoc before (a ∷ []) after))
-
--- an assignment that isn't an expression's or an exception's has none
-passes : {E : Type 0} (read : List ℕ → Result E SpecFault) (before : List Assignment) (a : Assignment) (after : List Assignment)
-    → is_expression a ≡ false → is_exception a ≡ false → Resumes read (before ++ a ∷ []) after
-    → resumed read (entries read (before ++ a ∷ [])) after ≡ unless_fault (first_fault read before (a ∷ after)) (some_entries (entries read (before ++ (a ∷ after))))
-passes read before a after e f next = next ∙ ends read before a after None (fault_of_other read before a e f)
 
 all_with : {E : Type 0} (read : List ℕ → Result E SpecFault) (list now : List Assignment) → now ≡ list → AreAll read list → AreAll read now
 all_with read list now e all = subst (λ (l : List Assignment). AreAll read l) (sym e) all
@@ -225,61 +195,68 @@ pub fault_of_exception : {E : Type 0} (read : List ℕ → Result E SpecFault) (
 unfolding fault_following
 fault_of_exception read before a f = rw (exception_is_no_expression a f, f) refl
 
-resumes_here : {E : Type 0} (read : List ℕ → Result E SpecFault) (before : List Assignment) (a : Assignment) (after : List Assignment) (resets excludes expresses excepts : Bool)
-    → is_reset a ≡ resets → is_exception_reset a ≡ excludes → is_expression a ≡ expresses → is_exception a ≡ excepts
-    → AreAllRead read before → (AreAllRead read (before ++ a ∷ []) → Resumes read (before ++ a ∷ []) after) → Resumes read before (a ∷ after)
-unfolding entries
-resumes_here read before a after true excludes expresses excepts e f g h all next =
-    let none = listed_reset before a e in
-    let others = excepted_kept before a e in
-    resumed_reset read (entries read before) a after e
-    ∙ ap (λ lists. resumed read lists after) (sym (lists_are read (before ++ a ∷ []) [] (excepted before) none others))
-    ∙ passes read before a after (reset_is_no_expression a e) (reset_is_no_exception a e)
-    (next (all_with read [] (listed (before ++ a ∷ [])) none refl, all_with read (excepted before) (excepted (before ++ a ∷ [])) others all.1))
-resumes_here read before a after false true expresses excepts e f g h all next =
-    let others = listed_kept before a f in
-    let none = excepted_reset before a f in
-    resumed_exception_reset read (entries read before) a after e f
-    ∙ ap (λ lists. resumed read lists after) (sym (lists_are read (before ++ a ∷ []) (listed before) [] others none))
-    ∙ passes read before a after (exception_reset_is_no_expression a f) (exception_reset_is_no_exception a f)
-    (next (all_with read (listed before) (listed (before ++ a ∷ [])) others all.0, all_with read [] (excepted (before ++ a ∷ [])) none refl))
-resumes_here read before a after false false true excepts e f g h all next =
-    let here = joins read (listed before) a all.0 in
-    let fault = fault_joining read (listed before) a in
-    let more = listed_more before a e g in
-    let others = excepted_other before a f (expression_is_no_exception a g) in
-    resumed_expression read (entries read before) a after (unless_fault fault (Ok (entries_of read (listed before ++ a ∷ [])))) e f g here.0
-    ∙ decides fault (first_fault read (before ++ a ∷ []) after) (entries_of read (listed before ++ a ∷ []))
-    (λ es. resumed read (record { expressions = es; exceptions = entries_of read (excepted before) }) after)
-    (some_entries (entries read ((before ++ a ∷ []) ++ after)))
-    (λ none. ap (λ lists. resumed read lists after) (sym (lists_are read (before ++ a ∷ []) (listed before ++ a ∷ []) (excepted before) more others))
-    ∙ next (all_with read (listed before ++ a ∷ []) (listed (before ++ a ∷ [])) more (here.1 none), all_with read (excepted before) (excepted (before ++ a ∷ [])) others all.1))
-    ∙ ends read before a after fault (fault_of_expression read before a g)
-resumes_here read before a after false false false true e f g h all next =
-    let here = joins read (excepted before) a all.1 in
-    let fault = fault_joining read (excepted before) a in
-    let more = excepted_more before a f h in
-    let others = listed_other before a e g in
-    resumed_exception read (entries read before) a after (unless_fault fault (Ok (entries_of read (excepted before ++ a ∷ [])))) e f g h here.0
-    ∙ decides fault (first_fault read (before ++ a ∷ []) after) (entries_of read (excepted before ++ a ∷ []))
-    (λ es. resumed read (record { expressions = entries_of read (listed before); exceptions = es }) after)
-    (some_entries (entries read ((before ++ a ∷ []) ++ after)))
-    (λ none. ap (λ lists. resumed read lists after) (sym (lists_are read (before ++ a ∷ []) (listed before) (excepted before ++ a ∷ []) others more))
-    ∙ next (all_with read (listed before) (listed (before ++ a ∷ [])) others all.0, all_with read (excepted before ++ a ∷ []) (excepted (before ++ a ∷ [])) more (here.1 none)))
-    ∙ ends read before a after fault (fault_of_exception read before a h)
-resumes_here read before a after false false false false e f g h all next =
-    let these = listed_other before a e g in
-    let those = excepted_other before a f h in
-    resumed_other read (entries read before) a after e f g h
-    ∙ ap (λ lists. resumed read lists after) (sym (lists_are read (before ++ a ∷ []) (listed before) (excepted before) these those))
-    ∙ passes read before a after g h
-    (next (all_with read (listed before) (listed (before ++ a ∷ [])) these all.0, all_with read (excepted before) (excepted (before ++ a ∷ [])) those all.1))
+-- what an assignment does to one of the lists: it has this fault, or the list is as if it had been there from the start
+record Changes {E : Type 0} (read : List ℕ → Result E SpecFault) (adds resets : Assignment → Bool) (before : List Assignment) (a : Assignment) (fault : Option TimerFault) : Type 0 where
+  pub is : changed read (adds a) (resets a) (entries_of read (Kept adds resets before)) a ≡ unless_fault fault (Ok (entries_of read (Kept adds resets (before ++ a ∷ []))))
+  pub all : fault ≡ None → AreAll read (Kept adds resets (before ++ a ∷ []))
+
+changes : {E : Type 0} (read : List ℕ → Result E SpecFault) (adds resets : Assignment → Bool) (before : List Assignment) (a : Assignment) (joined empties : Bool)
+    → adds a ≡ joined → resets a ≡ empties → (adds a ≡ true → resets a ≡ false) → AreAll read (Kept adds resets before)
+    → Changes read adds resets before a (cond joined (fault_joining read (Kept adds resets before) a) None)
+changes read adds resets before a true empties e f apart all =
+    let list = Kept adds resets before in
+    let here = joins read list a all in
+    let more = kept_more adds resets before a (apart e) e in record {
+      is = rw e (here.0 ∙ ap (λ now. unless_fault (fault_joining read list a) (Ok (entries_of read now))) (sym more));
+      all = λ none. all_with read (list ++ a ∷ []) (Kept adds resets (before ++ a ∷ [])) more (here.1 none);
+    }
+changes read adds resets before a false true e f apart all =
+    let none = kept_reset adds resets before a f in record {
+      is = rw (e, f) (ap (λ now. Ok (entries_of read now)) (sym none));
+      all = λ _. all_with read [] (Kept adds resets (before ++ a ∷ [])) none refl;
+    }
+changes read adds resets before a false false e f apart all =
+    let same = kept_other adds resets before a f e in record {
+      is = rw (e, f) (ap (λ now. Ok (entries_of read now)) (sym same));
+      all = λ _. all_with read (Kept adds resets before) (Kept adds resets (before ++ a ∷ [])) same all;
+    }
+
+fault_by_exception : {E : Type 0} (read : List ℕ → Result E SpecFault) (before : List Assignment) (a : Assignment) (joined : Bool) → is_expression a ≡ false → is_exception a ≡ joined
+    → fault_following read before a ≡ cond joined (fault_joining read (excepted before) a) None
+unfolding fault_following
+fault_by_exception read before a true e f = rw (e, f) refl
+fault_by_exception read before a false e f = rw (e, f) refl
+
+-- the assignment has at most one of the two faults
+option_or-none : {A : Type 0} (o : Option A) → option_or o None ≡ o
+option_or-none None = refl
+option_or-none (Some x) = refl
+
+either_fault : {E : Type 0} (read : List ℕ → Result E SpecFault) (before : List Assignment) (a : Assignment) (joined : Bool) → is_expression a ≡ joined
+    → fault_following read before a ≡ option_or (cond joined (fault_joining read (listed before) a) None) (cond (is_exception a) (fault_joining read (excepted before) a) None)
+either_fault read before a true e = fault_of_expression read before a e ∙ rw (expression_is_no_exception a e) (sym (option_or-none (fault_joining read (listed before) a)))
+either_fault read before a false e = fault_by_exception read before a (is_exception a) e refl
+
+resumes_by : {E : Type 0} (read : List ℕ → Result E SpecFault) (before : List Assignment) (a : Assignment) (after : List Assignment) (o p : Option TimerFault)
+    → Changes read is_expression is_reset before a o → Changes read is_exception is_exception_reset before a p → fault_following read before a ≡ option_or o p
+    → (AreAllRead read (before ++ a ∷ []) → Resumes read (before ++ a ∷ []) after) → Resumes read before (a ∷ after)
+unfolding entries listed excepted
+resumes_by read before a after (Some fault) p c d same next = resumed_fault read (entries read before) a after fault c.is ∙ ends read before a after (Some fault) same
+resumes_by read before a after None p c d same next =
+    resumed_changed read (entries read before) a after (entries_of read (listed (before ++ a ∷ []))) (unless_fault p (Ok (entries_of read (excepted (before ++ a ∷ []))))) c.is d.is
+    ∙ decides p (first_fault read (before ++ a ∷ []) after) (entries_of read (excepted (before ++ a ∷ [])))
+    (λ es. resumed read (record { expressions = entries_of read (listed (before ++ a ∷ [])); exceptions = es }) after)
+    (some_entries (entries read ((before ++ a ∷ []) ++ after))) (λ none. next (c.all refl, d.all none))
+    ∙ ends read before a after p same
 
 resumes_from : {E : Type 0} (read : List ℕ → Result E SpecFault) (before after : List Assignment) → AreAllRead read before → Resumes read before after
-unfolding resumed first_fault
+unfolding resumed first_fault listed excepted
 resumes_from read before [] all = ap (λ all. some_entries (entries read all)) (sym (append-nil before))
 resumes_from read before (a ∷ after) all =
-    resumes_here read before a after (is_reset a) (is_exception_reset a) (is_expression a) (is_exception a) refl refl refl refl all (resumes_from read (before ++ a ∷ []) after)
+    resumes_by read before a after _ _
+    (changes read is_expression is_reset before a (is_expression a) (is_reset a) refl refl (expression_is_no_reset a) all.0)
+    (changes read is_exception is_exception_reset before a (is_exception a) (is_exception_reset a) refl refl (exception_is_no_exception_reset a) all.1)
+    (either_fault read before a (is_expression a) refl) (resumes_from read (before ++ a ∷ []) after)
 
 -- one assignment after the other gives the lists of all
 pub resumed_is_list : {E : Type 0} (read : List ℕ → Result E SpecFault) (assignments : List Assignment) → resumed read (record { expressions = []; exceptions = [] }) assignments ≡ lists_of read assignments

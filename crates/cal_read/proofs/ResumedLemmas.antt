@@ -9,40 +9,21 @@ use Rattle.cal_text.specs.headline.Trim.{trim}
 use Rattle.cal_lines.specs.headline.Lines.{Line, is_blank_or_return}
 use Rattle.cal_read.specs.TimerText.{TimerLine, Timer, bad_line, entry_of, some_entries}
 use Rattle.cal_read.specs.headline.TimerText.{is_exception, is_exception_reset, is_expression, is_reset, most_expressions}
-use Rattle.cal_read.specs.TimerView.{with_assignment, resumed, with_list, with_read}
+use Rattle.cal_read.specs.TimerView.{changed, with_assignment, resumed, with_list, with_read}
 use Rattle.cal_read.specs.declared.timer.fault.TimerFault.{TimerFault}
 use Rattle.cal_read.specs.declared.timer.fault.TimerFault.TheVariants.{TooMany}
 
--- an empty value empties a list
-pub resumed_reset : {E : Type 0} (read : List ℕ → Result E SpecFault) (lists : Timer E) (a : Assignment) (after : List Assignment) → is_reset a ≡ true
-    → resumed read lists (a ∷ after) ≡ resumed read (record { expressions = []; exceptions = lists.exceptions }) after
+-- an assignment changes one list and then the other, or its fault is the fault
+pub resumed_changed : {E : Type 0} (read : List ℕ → Result E SpecFault) (lists : Timer E) (a : Assignment) (after : List Assignment) (es : List (TimerLine E)) (r : Result (List (TimerLine E)) TimerFault)
+    → changed read (is_expression a) (is_reset a) lists.expressions a ≡ Ok es → changed read (is_exception a) (is_exception_reset a) lists.exceptions a ≡ r
+    → resumed read lists (a ∷ after) ≡ with_list r (λ xs. resumed read (record { expressions = es; exceptions = xs }) after)
 unfolding resumed
-resumed_reset read lists a after e = rw e refl
+resumed_changed read lists a after es r e f = rw (e, f) refl
 
-pub resumed_exception_reset : {E : Type 0} (read : List ℕ → Result E SpecFault) (lists : Timer E) (a : Assignment) (after : List Assignment) → is_reset a ≡ false
-    → is_exception_reset a ≡ true → resumed read lists (a ∷ after) ≡ resumed read (record { expressions = lists.expressions; exceptions = [] }) after
+pub resumed_fault : {E : Type 0} (read : List ℕ → Result E SpecFault) (lists : Timer E) (a : Assignment) (after : List Assignment) (fault : TimerFault)
+    → changed read (is_expression a) (is_reset a) lists.expressions a ≡ Err fault → resumed read lists (a ∷ after) ≡ Err fault
 unfolding resumed
-resumed_exception_reset read lists a after e f = rw (e, f) refl
-
--- an expression comes to its list, or its fault is the fault
-pub resumed_expression : {E : Type 0} (read : List ℕ → Result E SpecFault) (lists : Timer E) (a : Assignment) (after : List Assignment) (r : Result (List (TimerLine E)) TimerFault)
-    → is_reset a ≡ false → is_exception_reset a ≡ false → is_expression a ≡ true → with_assignment read lists.expressions a ≡ r
-    → resumed read lists (a ∷ after) ≡ with_list r (λ es. resumed read (record { expressions = es; exceptions = lists.exceptions }) after)
-unfolding resumed
-resumed_expression read lists a after r e f g h = rw (e, f, g, h) refl
-
--- and so does an exception
-pub resumed_exception : {E : Type 0} (read : List ℕ → Result E SpecFault) (lists : Timer E) (a : Assignment) (after : List Assignment) (r : Result (List (TimerLine E)) TimerFault)
-    → is_reset a ≡ false → is_exception_reset a ≡ false → is_expression a ≡ false → is_exception a ≡ true → with_assignment read lists.exceptions a ≡ r
-    → resumed read lists (a ∷ after) ≡ with_list r (λ es. resumed read (record { expressions = lists.expressions; exceptions = es }) after)
-unfolding resumed
-resumed_exception read lists a after r e f g h i = rw (e, f, g, h, i) refl
-
--- other assignments leave both
-pub resumed_other : {E : Type 0} (read : List ℕ → Result E SpecFault) (lists : Timer E) (a : Assignment) (after : List Assignment)
-    → is_reset a ≡ false → is_exception_reset a ≡ false → is_expression a ≡ false → is_exception a ≡ false → resumed read lists (a ∷ after) ≡ resumed read lists after
-unfolding resumed
-resumed_other read lists a after e f g h = rw (e, f, g, h) refl
+resumed_fault read lists a after fault e = rw e refl
 
 -- an expression too many
 pub joined_many : {E : Type 0} (read : List ℕ → Result E SpecFault) (es : List (TimerLine E)) (a : Assignment) → most_expressions ≤ length es → with_assignment read es a ≡ Err (TooMany a.number)

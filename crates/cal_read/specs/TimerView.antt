@@ -1,6 +1,6 @@
 -- What contracts see of a timer: its expressions and exceptions without where they lie in memory, and what a step of
 -- reading does to their lists.
-use Rattle.std.specs.Prelude.{ℕ, nat_le, if◌then◌else◌, List, [], ◌∷◌, ◌++◌, length, map, Result, Ok, Err, string_bytes}
+use Rattle.std.specs.Prelude.{ℕ, nat_le, Bool, true, false, if◌then◌else◌, List, [], ◌∷◌, ◌++◌, length, map, Result, Ok, Err, string_bytes}
 use Rattle.cal_spec.specs.headline.Fields.{Fields}
 use Rattle.cal_spec.specs.declared.spec_fault.SpecFault.{SpecFault}
 use Rattle.cal_read.specs.headline.Assignments.{Assignment}
@@ -28,6 +28,12 @@ with_read es a (Err fault) = Err (BadLine a.number fault)
 unfoldable pub with_assignment : {E : Type 0} → (List ℕ → Result E SpecFault) → List (TimerLine E) → Assignment → Result (List (TimerLine E)) TimerFault
 with_assignment read es a = if nat_le most_expressions (length es) then Err (TooMany a.number) else with_read es a (read a.value)
 
+-- what an assignment does to a list that it adds to, or else empties
+abbrev pub changed : {E : Type 0} → (List ℕ → Result E SpecFault) → (adds empties : Bool) → List (TimerLine E) → Assignment → Result (List (TimerLine E)) TimerFault
+changed read true empties es a = with_assignment read es a
+changed read false true es a = Ok []
+changed read false false es a = Ok es
+
 -- what follows a list, unless it has a fault
 abbrev pub with_list : {E A : Type 0} → Result (List (TimerLine E)) TimerFault → (List (TimerLine E) → Result A TimerFault) → Result A TimerFault
 with_list (Ok es) next = next es
@@ -38,10 +44,6 @@ with_list (Err fault) next = Err fault
 unfoldable pub resumed : {E : Type 0} → (List ℕ → Result E SpecFault) → Timer E → List Assignment → Result (Timer E) TimerFault
 resumed read lists [] = some_entries lists
 resumed read lists (a ∷ after) =
-    if is_reset a then resumed read (record { expressions = []; exceptions = lists.exceptions }) after
-    else (if is_exception_reset a then resumed read (record { expressions = lists.expressions; exceptions = [] }) after
-    else (if is_expression a
-    then with_list (with_assignment read lists.expressions a) (λ es. resumed read (record { expressions = es; exceptions = lists.exceptions }) after)
-    else (if is_exception a
-    then with_list (with_assignment read lists.exceptions a) (λ es. resumed read (record { expressions = lists.expressions; exceptions = es }) after)
-    else resumed read lists after)))
+    with_list (changed read (is_expression a) (is_reset a) lists.expressions a)
+    (λ es. with_list (changed read (is_exception a) (is_exception_reset a) lists.exceptions a)
+    (λ xs. resumed read (record { expressions = es; exceptions = xs }) after))

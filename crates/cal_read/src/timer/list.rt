@@ -9,7 +9,7 @@ ghost use Rattle.cal_lines.specs.LineView.{line_at};
 ghost use Rattle.cal_read.specs.AssignmentView.{shown_assignment};
 ghost use Rattle.cal_lines.specs.headline.Lines.{Line};
 ghost use Rattle.cal_read.specs.TimerText.{bad_line, entry_of};
-ghost use Rattle.cal_read.specs.TimerView.{with_assignment, resumed, shown, shown_lists};
+ghost use Rattle.cal_read.specs.TimerView.{changed, with_assignment, resumed, shown, shown_lists};
 
 use crate::assignments::{Assignment, read_assignment, section};
 use crate::{TimerFault, TimerLine};
@@ -61,7 +61,7 @@ pub(crate) fn take_line(
     Ok(true)
 }
 
-/// Does to the lists what an assignment says: empties one, adds to one, or leaves both.
+/// Does to the lists what an assignment says: adds to one, empties one, or leaves both.
 fn assign(
     alloc: Global,
     lists: &mut ReadLists,
@@ -75,20 +75,40 @@ fn assign(
         → resumed expr_in (shown_lists lists.old) (shown_assignment assignment.entry ∷ after)
         ≡ Err fault) }
 {
-    if assignment.is_reset() {
-        lists.expressions.clear();
-        return Ok(());
+    change(
+        alloc,
+        &mut lists.expressions,
+        assignment,
+        assignment.is_expression(),
+        assignment.is_reset(),
+    )?;
+    change(
+        alloc,
+        &mut lists.exceptions,
+        assignment,
+        assignment.is_exception(),
+        assignment.is_exception_reset(),
+    )
+}
+
+/// Does to a list what an assignment says that adds to it, or else empties it.
+fn change(
+    alloc: Global,
+    list: &mut Vec<TimerLine>,
+    assignment: Assignment<'_>,
+    adds: bool,
+    empties: bool,
+) -> Result<(), TimerFault>
+    ensures { MatchResult result
+        (λ _. changed expr_in adds empties (map shown list.old.items) (shown_assignment assignment.entry) ≡ Ok (map shown list.new.items))
+        (λ fault. fault ≢ TimerFault.NoMemory
+        → changed expr_in adds empties (map shown list.old.items) (shown_assignment assignment.entry) ≡ Err fault) }
+{
+    if adds {
+        return add_line(alloc, list, assignment);
     }
-    if assignment.is_exception_reset() {
-        lists.exceptions.clear();
-        return Ok(());
-    }
-    if assignment.is_expression() {
-        add_line(alloc, &mut lists.expressions, assignment)?;
-        return Ok(());
-    }
-    if assignment.is_exception() {
-        add_line(alloc, &mut lists.exceptions, assignment)?;
+    if empties {
+        list.clear();
     }
     Ok(())
 }
