@@ -19,7 +19,8 @@ use Rattle.cal_spec.specs.Weekdays.{day_named}
 use Rattle.cal_text.specs.AndThen.{◌>>=◌}
 use Rattle.cal_read.specs.Stamp.{Setting, Written, begins_with_digit, name_found, offset_found, zone_meant, zone_alone, zone_by_words, written_in, after_date, after_weekday, weekday_found, civil_time}
 use Rattle.cal_read.specs.StampCivilRule.{IsCivilTime, MeansZone, NamesWeekday, WritesDate, WritesTime, NamesZone}
-use Rattle.cal_read.specs.StampDate.{DateNumbers, is_hyphen, digits_number, date_by, date_of_pieces, date_numbers, day_due, day_written}
+use Rattle.cal_read.specs.declared.stamp.date.DateNumbers.{DateNumbers}
+use Rattle.cal_read.specs.StampDate.{is_hyphen, digits_number, date_by, date_of_pieces, date_numbers, day_due, day_written}
 use Rattle.cal_read.specs.StampTime.{up_to, clock_number, time_by, time_of_pieces, time_numbers, micros_due, time_written}
 use Rattle.cal_read.specs.declared.stamp.fault.StampFault.{StampFault}
 

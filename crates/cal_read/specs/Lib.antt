@@ -2,7 +2,6 @@ pub mod AssignmentView
 pub mod Stamp
 pub mod StampCivilRule
 pub mod StampDate
-pub mod StampDateViews
 pub mod StampFault
 pub mod StampForm
 pub mod StampPrinted

@@ -6,6 +6,7 @@ use Rattle.std.specs.Str.Parse.{digits_value}
 use Rattle.jiff.specs.Words.{days_in_month}
 use Rattle.jiff_core.specs.Calendar.{days_from_civil}
 use Rattle.cal_spec.specs.headline.Parts.{with_century}
+use Rattle.cal_read.specs.declared.stamp.date.DateNumbers.{DateNumbers}
 use Rattle.cal_read.specs.declared.stamp.fault.StampFault.{StampFault}
 use Rattle.cal_read.specs.declared.stamp.fault.StampFault.TheVariants.{BadDate, NoSuchDate}
 
@@ -19,11 +20,6 @@ abbrev pub is_hyphen : ℕ → Bool
 is_hyphen b = b == 45
 
 -- a year, a month and a day as they are written
-pub record DateNumbers : Type 0 where
-  pub year : ℕ
-  pub month : ℕ
-  pub day : ℕ
-
 abbrev pub date_by : Option ℕ → Option ℕ → Option ℕ → Option DateNumbers
 date_by (Some year) (Some month) (Some day) = Some (record { year = year; month = month; day = day })
 date_by year month day = None

@@ -1,10 +1,8 @@
 //! The date of a timestamp.
 
 ghost use Rattle.std.specs.Prelude.{◌≡◌, ◌≤◌, pos, IfOk};
-ghost use Rattle.std.specs.Option.{option_map};
 ghost use Rattle.jiff.specs.Words.{IsBetween};
 ghost use Rattle.cal_read.specs.StampDate.{date_numbers, day_of_date, day_written, digits_number};
-ghost use Rattle.cal_read.specs.StampDateViews.{numbers_seen};
 
 use crate::StampFault;
 use cal_spec::{first_piece, with_century};
@@ -36,7 +34,7 @@ pub(crate) fn read_date(word: &[u8]) -> Result<i64, StampFault>
 /// The numbers of the date, or `None` where the word is of another shape.
 #[tactic(auto, unfolding(crate::specs::StampDate::date_numbers))]
 fn date_numbers(word: &[u8]) -> Option<DateNumbers>
-    ensures { option_map numbers_seen result ≡ date_numbers word.now }
+    ensures { result ≡ date_numbers word.now }
 {
     let (year, after) = first_piece(word, b'-');
     let (month, after) = first_piece(after?, b'-');
