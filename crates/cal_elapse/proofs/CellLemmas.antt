@@ -9,7 +9,7 @@ use Rattle.cal_elapse.specs.Bits.{is_bit, is_in_words}
 use Rattle.cal_elapse.specs.Ring.{is_held}
 use Rattle.cal_elapse.specs.Scan.{is_set}
 use Rattle.cal_elapse.specs.Search.{IsFirstPassing}
-use Rattle.cal_elapse.proofs.BitLemmas.{is_bit-zero}
+use Rattle.cal_elapse.proofs.BitLemmas.{is_bit-zero, is_bit-none}
 
 -- The first word that has a bit
 
@@ -63,11 +63,8 @@ pub in_word : (words : List ℕ) (t word : ℕ) → t / 64 ≡ word → is_in_wo
 unfolding is_in_words
 in_word words t word same = ap (λ (w : ℕ). is_bit (get_or words w 0) (t % 64)) same
 
-no_bit : (i : ℕ) → is_bit 0 i ≡ false
-no_bit i = is_bit-zero 0 i (bit_at-zero i)
-
 in_zero : (words : List ℕ) (t word : ℕ) → t / 64 ≡ word → get_or words word 0 ≡ 0 → is_in_words words t ≡ false
-in_zero words t word same zero = in_word words t word same ∙ (ap (λ (w : ℕ). is_bit w (t % 64)) zero ∙ no_bit (t % 64))
+in_zero words t word same zero = in_word words t word same ∙ (ap (λ (w : ℕ). is_bit w (t % 64)) zero ∙ is_bit-none (t % 64))
 
 -- in the word of the cell that was begun with
 pub found_here : (words : List ℕ) (from bit cell : ℕ) → from < 187_200 → IsFirstPassing (is_bit (get_or words (from / 64) 0)) (from % 64) 64 (Some bit)

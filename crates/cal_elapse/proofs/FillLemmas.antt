@@ -12,7 +12,7 @@ use Rattle.cal_elapse.specs.Search.{IsFirstPassing}
 use Rattle.cal_elapse.proofs.BitLemmas.{is_bit-above, is_bit-or, is_bit-shifted, is_bit-up, is_bit-up_none}
 use Rattle.cal_elapse.proofs.CarryLemmas.{below_end}
 use Rattle.cal_elapse.proofs.CellLemmas.{in_word}
-use Rattle.cal_elapse.proofs.RingLemmas.{Has-instants, IsIn, first_found, found_kept, kept_some, member, none_found, none_kept, same_second}
+use Rattle.cal_elapse.proofs.RingLemmas.{Has-instants, IsIn, first_found, found_kept, kept_some, member, none_found, none_kept, same_second, by_lt}
 
 -- The cells
 
@@ -181,9 +181,6 @@ within_round least second bit i near is = let high = near.1 in omega (arith, int
 early_enough : (second bit : ℕ) (i : ℤ) → IsInstant i → (pos second +ℤ pos bit) ≡ i → second + bit ≤ 7_258_211_998
 early_enough second bit i instant is = let high = instant.1 in omega (arith, ints)
 
-behind_by : (least second : ℕ) (start : ℤ) → pos second ≡ start → pos least <ℤ start → least < second
-behind_by least second start is below = omega (arith, ints)
-
 one_of : (start : ℤ) (second bits bit : ℕ) → pos second ≡ start → is_bit bits bit ≡ true → IsOneOf start bits (start +ℤ pos bit)
 one_of start second bits bit is set = record { bit = bit; set = set; is = refl }
 
@@ -193,7 +190,7 @@ round_of_all words least second bits start members view begun is instants near =
     let found = begun.found in
     let there : Has members (pos least) = subst (λ (xs : List ℤ). Has xs (pos least)) view (member words least least found.0 found.1 found.2) in
     record {
-      behind = behind_by least second start is begun.below;
+      behind = by_lt least second start is begun.below;
       inside = λ bit set. within_round least second bit (start +ℤ pos bit) (near (pos least) (start +ℤ pos bit) there (one_of start second bits bit is set)) (ap (λ (z : ℤ). z +ℤ pos bit) is);
       early = λ bit set. early_enough second bit (start +ℤ pos bit) (instants (start +ℤ pos bit) (one_of start second bits bit is set)) (ap (λ (z : ℤ). z +ℤ pos bit) is);
     }

@@ -41,7 +41,7 @@ pub IsInstant-pairs : (pairs : List (Fields × TimeZone)) (exceptions : List Tim
     → Has (elapses_except (map (λ (p : Fields × TimeZone). timed p.0 p.1) pairs) exceptions base) i → IsInstant i
 IsInstant-pairs pairs exceptions base i low m = IsInstant-elapse (λ (p : Fields × TimeZone). p.0) (λ (p : Fields × TimeZone). p.1) pairs exceptions base i low m
 
-first_has : (xs : List ℤ) (i : ℤ) → slice_get xs 0 ≡ Some i → Has xs i
+pub first_has : (xs : List ℤ) (i : ℤ) → slice_get xs 0 ≡ Some i → Has xs i
 first_has [] i e = absurd (cc)
 first_has (x ∷ xs) i e = inl (cc)
 

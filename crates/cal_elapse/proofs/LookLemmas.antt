@@ -56,15 +56,6 @@ count_step passes from index next low high none holds =
     ∙ (count_from-one passes from (k + n) (subst (λ (t : ℕ). passes t ≡ true) at holds)
     ∙ ap (λ (c : ℕ). c + 1) (count_from-none passes from k n (λ t above below. none t (omega arith) (omega arith))))
 
--- and no more of them
-pub count_rest : (passes : ℕ → Bool) (from index end : ℕ) → from ≤ index → index ≤ end → NonePasses passes index end
-    → count_from passes from (end - from) ≡ count_from passes from (index - from)
-count_rest passes from index end low high none =
-    let k = index - from in
-    let n = end - index in
-    let last : end - from ≡ k + n = omega arith in
-    ap (count_from passes from) last ∙ count_from-none passes from k n (λ t above below. none t (omega arith) (omega arith))
-
 count_front : (passes : ℕ → Bool) (a k : ℕ) → count_from passes a (suc k) ≡ cond (passes a) 1 0 + count_from passes (suc a) k
 unfolding count_from
 count_front passes a zero = let here : a + 0 ≡ a = omega arith in rw here (omega arith)

@@ -338,7 +338,7 @@ left_second old new low at t found less above below holds =
 lt_by : (at t : ℕ) (i : ℤ) → pos t ≡ i → at < t → pos at <ℤ i
 lt_by at t i is h = omega (arith, ints)
 
-by_lt : (at t : ℕ) (i : ℤ) → pos t ≡ i → pos at <ℤ i → at < t
+pub by_lt : (at t : ℕ) (i : ℤ) → pos t ≡ i → pos at <ℤ i → at < t
 by_lt at t i is h = omega (arith, ints)
 
 left_in : (old new : List ℕ) (low at : ℕ) (i : ℤ) → IsFirstPassing (is_held old) low (low + 187_200) (Some at) → HasLess old new at

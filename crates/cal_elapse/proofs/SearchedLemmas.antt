@@ -12,20 +12,13 @@ use Rattle.cal_elapse.specs.Searched.{IsMostSearched, IsSearched}
 use Rattle.cal_elapse.specs.Window.{IsReady, bound_of, count_from, start_of, timed_by, timed_of, to_place}
 use Rattle.cal_elapse.specs.declared.masks.Masks.{Masks}
 use Rattle.cal_elapse.specs.declared.window.Window.{Window}
-use Rattle.cal_elapse.proofs.CountLemmas.{count_from-none}
+use Rattle.cal_elapse.proofs.CountLemmas.{count_from-none, count_from-on}
 use Rattle.cal_elapse.proofs.MinuteLemmas.{match_inside}
 use Rattle.cal_elapse.proofs.MostLemmas.{most_same}
 use Rattle.cal_rising.proofs.RisingLemmas.{list-first}
 use Rattle.cal_elapse.proofs.WindowLemmas.{all_placed, by_test, is_above}
 use Rattle.cal_spec.specs.headline.Match.{matches}
-
--- as many pass below one bound as below a later one, where none passes between
-count_on : (passes : ℕ → Bool) (start a b : ℕ) → start ≤ a → a ≤ b → NonePasses passes a b → count_from passes start (b - start) ≡ count_from passes start (a - start)
-count_on passes start a b low high none =
-    let k = a - start in
-    let n = b - a in
-    let nothing = λ (t : ℕ) (above : start + k ≤ t) (below : t < start + k + n). none t (omega arith) (omega arith) in
-    ap (count_from passes start) (omega arith) ∙ count_from-none passes start k n nothing
+use Rattle.cal_elapse.proofs.InstantLemmas.{first_has}
 
 -- nothing matches past the last local second
 none_past : (masks : Masks) (zone : Zone) (t : ℕ) → seconds_in_all ≤ t → (timed_by masks zone).matches t ≡ false
@@ -42,7 +35,7 @@ matches_below v i top h m is begun t late inside holds =
 count_down : (v : Window) (i : ℤ) (top : ℕ) → IsReady v → Has v.pending i → (pos top) ≡ (i +ℤ pos 93_600) → start_of v.base ≤ top → top ≤ bound_of v.ahead
     → count_from (timed_of v).matches (start_of v.base) (bound_of v.ahead - start_of v.base) ≡ count_from (timed_of v).matches (start_of v.base) (top - start_of v.base)
 count_down v i top h m is begun inside =
-    count_on (timed_of v).matches (start_of v.base) top (bound_of v.ahead) begun inside
+    count_from-on (timed_of v).matches (start_of v.base) top (bound_of v.ahead) begun inside
     (λ t late below. false_from_ne_true ((timed_of v).matches t) (matches_below v i top h m is begun t late below))
 
 late_bound : (ahead : Option ℕ) (i : ℤ) (top : ℕ) → to_place ahead (Some i) ≡ None → (pos top) ≡ (i +ℤ pos 93_600) → bound_of ahead < top → bound_of ahead ≡ seconds_in_all
@@ -57,7 +50,7 @@ count_top v i top h m full is begun =
     elim (cases_lt (bound_of v.ahead) top) [
       | inl late ↦
           let all = late_bound v.ahead i top full is late in
-          sym (count_on (timed_of v).matches (start_of v.base) (bound_of v.ahead) top h.begun (omega arith)
+          sym (count_from-on (timed_of v).matches (start_of v.base) (bound_of v.ahead) top h.begun (omega arith)
           (λ t above below. none_past v.searcher.masks v.zone t (omega arith)))
       | inr inside ↦ count_down v i top h m is begun inside
     ]
@@ -67,13 +60,10 @@ start_below (negsuc b) last i low above later = absurd (omega (arith, ints))
 start_below (pos b) last (negsuc n) low above later = absurd (omega (arith, ints))
 start_below (pos b) last (pos n) low above later = (omega (arith, ints), omega (arith, ints))
 
-has_first : (xs : List ℤ) (i : ℤ) → slice_get xs 0 ≡ Some i → Has xs i
-has_first xs i at = subst (λ (ys : List ℤ). Has ys i) (sym (list-first xs i at)) (inl refl)
-
 pub searched_some : (v : Window) (i : ℤ) → IsReady v → to_place v.ahead (slice_get v.pending 0) ≡ None → slice_get v.pending 0 ≡ Some i
     → IsSearched (timed_of v) v.base (Some i) v.searcher.searches
 searched_some v i h full at =
-    let m = has_first v.pending i at in
+    let m = first_has v.pending i at in
     let above = ((h.windowed.members i).0 m).0 in
     let top = start_below v.base v.last i h.low h.above above in
     let there = subst (λ (o : Option ℤ). to_place v.ahead o ≡ None) at full in
@@ -107,7 +97,7 @@ same_below v i top h m full is begun t above holds = (
 pub looked_some : (v : Window) (i : ℤ) → IsReady v → to_place v.ahead (slice_get v.pending 0) ≡ None → slice_get v.pending 0 ≡ Some i
     → IsMostSearched (sets_in v.searcher.masks) v.base (Some i) v.searcher.most_months
 looked_some v i h full at =
-    let m = has_first v.pending i at in
+    let m = first_has v.pending i at in
     let above = ((h.windowed.members i).0 m).0 in
     let top = start_below v.base v.last i h.low h.above above in
     let there = subst (λ (o : Option ℤ). to_place v.ahead o ≡ None) at full in

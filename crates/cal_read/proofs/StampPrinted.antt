@@ -34,7 +34,8 @@ use Rattle.cal_spec.specs.GrammarRule.{IsWord}
 use Rattle.cal_text.specs.TrimRule.{IsFlush, IsTrimmed}
 use Rattle.cal_text.specs.headline.Words.{is_blank, words}
 use Rattle.cal_read.proofs.StampPrintedTexts.{IsClock, IsDayName, date_back, date_no_colon, date_solid, date_some, date_word, in_week, other_date_back, short_names, time_back, time_digit, time_solid, time_some, time_word, year_of}
-use Rattle.cal_read.proofs.StampPrintedZones.{IsLastWord, last_byte, local_of-UTC, shown_last, shown_offset, shown_read, shown_unread, shown_word, utc_minutes}
+use Rattle.cal_zone.proofs.PlaceLemmas.{local_of-UTC}
+use Rattle.cal_read.proofs.StampPrintedZones.{IsLastWord, last_byte, shown_last, shown_offset, shown_read, shown_unread, shown_word, utc_minutes}
 use Rattle.cal_read.proofs.StampRule.{only}
 use Rattle.cal_text.specs.AndThen.{◌>>=◌}
 use Rattle.cal_zone.specs.headline.Moment.{micros_of}

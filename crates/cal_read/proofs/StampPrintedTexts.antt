@@ -21,18 +21,16 @@ use Rattle.cal_spec.specs.headline.Parts.{with_century}
 use Rattle.cal_spec.specs.Weekdays.{day_named}
 use Rattle.cal_text.specs.headline.Words.{is_blank}
 use Rattle.cal_spec.proofs.CleanLemmas.{IsClear, Apart, any_clear, clear_append, clear_from, split_alone, split_at}
-use Rattle.cal_spec.proofs.ReadBackParts.{digits_all, zeros_all, zeros_value}
+use Rattle.cal_spec.proofs.ReadBackParts.{digits_all, zeros_all, zeros_value, padded}
 use Rattle.cal_read.proofs.StampCivilRule.{digit_first, digit_no_colon}
 use Rattle.cal_read.specs.Stamp.{begins_with_digit}
 use Rattle.cal_read.specs.StampDate.{date_numbers, date_of_pieces, day_due, day_of_date, day_written, digits_number, is_hyphen}
 use Rattle.cal_read.specs.StampTime.{clock_number, second_of_pieces, second_written, micros_due, time_numbers, time_of_pieces, time_written}
 use Rattle.cal_read.specs.declared.stamp.fault.StampFault.TheVariants.{NoSuchDate}
+use Rattle.cal_spec.proofs.SymbolLemmas.{digit_no_point}
+use Rattle.cal_spec.proofs.ReadBack.{some_front}
 
 -- Numbers
-
--- the digits of a number in at least that many digits
-abbrev padded : ℕ → ℕ → List ℕ
-padded width n = zeros width n ++ decimal n
 
 -- digits that are a number in that many digits
 record IsPrinted (width n : ℕ) (ds : List ℕ) : Type 0 where
@@ -74,9 +72,6 @@ clock_read greatest n ds h most = rw (digits_read 2 n ds h, le-leb n greatest mo
 -- what no digit is
 digit_no_hyphen : (b : ℕ) → is_ascii_digit b ≡ true → is_hyphen b ≡ false
 digit_no_hyphen b h = grind (arith, nat_tests)
-
-digit_no_point : (b : ℕ) → is_ascii_digit b ≡ true → is_point b ≡ false
-digit_no_point b h = grind (arith, nat_tests)
 
 digit_no_blank : (b : ℕ) → is_ascii_digit b ≡ true → is_blank b ≡ false
 digit_no_blank b h = grind (arith, nat_tests)
@@ -252,9 +247,6 @@ date_no_colon date =
 pub time_solid : (hour minute second : ℕ) → IsClock hour minute second → list_any is_blank (time_word hour minute second) ≡ false
 time_solid hour minute second h =
     any_clear is_blank (time_word hour minute second) (time_clear is_blank hour minute second h digit_no_blank refl)
-
-some_front : (xs ys : List ℕ) → 0 < length xs → 0 < length (xs ++ ys)
-some_front xs ys h = omega (arith, length-append xs ys, h)
 
 pub date_some : (date : Date) → 0 < length (date_word (year_of date) date.month date.day)
 date_some date =

@@ -10,7 +10,7 @@ use Rattle.jiff.specs.Types.{TimeZone, UTC}
 use Rattle.jiff.specs.Words.{nanos_of_seconds, offset_at, IsOffsetSeconds}
 use Rattle.cal_bytes.specs.headline.Bytes.{joined}
 use Rattle.cal_zone.proofs.OffsetWordLemmas.{both_all, nearest, offset-back, offset-found, two_printed}
-use Rattle.cal_zone.proofs.PlaceLemmas.{place_of-Some, place_of-UTC, settle_of-UTC, settle_of-fixed_zone}
+use Rattle.cal_zone.proofs.PlaceLemmas.{place_of-Some, place_of-UTC, settle_of-UTC, settle_of-fixed_zone, local_of-UTC}
 use Rattle.cal_zone.proofs.ZoneLemmas.{offset_at-in_range}
 use Rattle.cal_zone.specs.headline.InstantText.{offset_text, sign_text, zeros, zone_word}
 use Rattle.cal_zone.specs.OffsetWord.{AreWholeMinutes, offset_in}
@@ -204,9 +204,6 @@ seconds_unread find offset h e =
     rw (signed_no_letter (offset_text offset) (offset_signed offset h), long_none (offset_text offset) _ (seconds_long offset h e) refl) refl
 
 -- The word of a zone
-
-pub local_of-UTC : (secs : ℤ) → local_of UTC secs ≡ secs
-local_of-UTC secs = (place_of-Some UTC secs secs (place_of-UTC secs)).1
 
 settle_of-ahead : (offset local : ℤ) → IsOffsetSeconds offset → settle_of (zone_ahead offset) local ≡ local -ℤ offset
 unfolding zone_ahead

@@ -86,7 +86,7 @@ option_parts : (o p : Option TimerFault) → option_or o p ≡ None → (o ≡ N
 option_parts None p h = (refl, h)
 option_parts (Some fault) p h = cc
 
-no_split : (before : List Assignment) (a : Assignment) (after : List Assignment) → [] ≡ before ++ (a ∷ after) → ⊥
+pub no_split : (before : List Assignment) (a : Assignment) (after : List Assignment) → [] ≡ before ++ (a ∷ after) → ⊥
 no_split [] a after e = cc
 no_split (b ∷ before) a after e = cc
 

@@ -1,10 +1,9 @@
 -- The definitions, tried on worked local seconds and on a whole request.
-use Rattle.jiff.specs.Types.{UTC}
+use Rattle.jiff.specs.Types.{UTC, Date}
 use Rattle.std.specs.FinMap.{empty}
 use Rattle.cal_zone.specs.headline.Zone.{utc, zone_of}
 use Rattle.std.proofs.Common.{nat_lt, ◌≡◌, ℕ, ◌<◌, [], ◌∷◌, ◌++◌, None, Some, Ok, codes, pos, ◌∙◌, ap, sym, inl, true, false, refl, rules, arith}
 use Rattle.std.specs.Fmt.{digits}
-use Rattle.jiff.specs.Types.{Date}
 use Rattle.jiff.specs.Words.{epoch_day, weekday_of}
 use Rattle.jiff_core.proofs.CalendarLemmas.{days_from_civil-day_count}
 use Rattle.jiff_core.proofs.MarchLemmas.{day_count-early}
@@ -54,12 +53,8 @@ use Rattle.cal_text.specs.headline.Words.{words}
 use Rattle.cal_spec.proofs.WholeRule.{valid_found}
 use Rattle.cal_elapse.proofs.ElapsesLemmas.{AreElapses-only, elapses_except-none, first_elapse-least}
 use Rattle.cal_report.specs.headline.Headline.{AreElapsesOf, AreSpelled, Expression, IsAccepted, IsFileOf, Spells, alone, assigned_in, meaning}
-
-inside : (t : ℕ) → t < 7_258_118_400 → nat_lt t seconds_in_all ≡ true
-inside t h =
-    let count = seconds_in_all-is in
-    let below : t < seconds_in_all = omega arith in
-    grind arith
+use Rattle.cal_elapse.proofs.SearchLemmas.{inside}
+use Rattle.cal_read.proofs.TimerRuleLemmas.{no_split}
 
 -- `*-*-* 12:30:00`
 noon_thirty : Fields
@@ -240,15 +235,11 @@ every_file-utf8 : is_utf8 every_file ≡ true
 unfolding every_file is_utf8 chars encode
 every_file-utf8 = refl
 
-nothing_there : (before : List Assignment) (a : Assignment) (after : List Assignment) → [] ≡ before ++ (a ∷ after) → ⊥
-nothing_there [] a after split = cc
-nothing_there (b ∷ before) a after split = cc
-
 only_split : (x : Assignment) (before : List Assignment) (a : Assignment) (after : List Assignment) → x ∷ [] ≡ before ++ (a ∷ after) → (before ≡ []) × (a ≡ x)
 only_split x [] a after split = (refl, cc)
 only_split x (b ∷ before) a after split =
     let rest : [] ≡ before ++ (a ∷ after) = cc in
-    absurd (nothing_there before a after rest)
+    absurd (no_split before a after rest)
 
 none_listed : length (listed_in []) < most_expressions
 unfolding listed_in

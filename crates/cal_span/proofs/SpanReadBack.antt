@@ -20,6 +20,7 @@ use Rattle.cal_span.specs.headline.SpanText.{Count, count_text, counts_in_row, p
 use Rattle.cal_span.specs.SpanValue.{is_micro, kind_of, is_kind, Piece, characters, with_front, runs, words_in, Pair, pairs_of, pairs_in, is_number, unit_named, number_worth, worth_of, judged, value_of_pairs, span_of}
 use Rattle.cal_span.proofs.SpanCounts.{size_of_positive, are_counts_of, weight-positive, span_text_zero, span_text_row}
 use Rattle.cal_span.proofs.SpanDigits.{AreDigits, are_digits-decimal, kind_of_digit, is_number-decimal, number_worth-decimal}
+use Rattle.cal_span.proofs.SpanWords.{is_kind-same}
 
 -- Words
 
@@ -39,18 +40,12 @@ abbrev pub IsApart : CharKind → List Piece → Type 0
 IsApart kind [] = Unit {0}
 IsApart kind (p ∷ ps) = is_kind kind p.kind ≡ false
 
-is_kind_self : (kind : CharKind) → is_kind kind kind ≡ true
-is_kind_self Blank = refl
-is_kind_self Numeric = refl
-is_kind_self Letter = refl
-is_kind_self Other = refl
-
 with_front-apart : (kind : CharKind) (text : List ℕ) (ps : List Piece) → IsApart kind ps → with_front (record { kind = kind; text = text }) ps ≡ record { kind = kind; text = text } ∷ ps
 with_front-apart kind text [] apart = refl
 with_front-apart kind text (p ∷ ps) apart = rw apart refl
 
 with_front-same : (kind : CharKind) (b : ℕ) (text : List ℕ) (ps : List Piece) → with_front (record { kind = kind; text = b ∷ [] }) (record { kind = kind; text = text } ∷ ps) ≡ record { kind = kind; text = b ∷ text } ∷ ps
-with_front-same kind b text ps = rw (is_kind_self kind) refl
+with_front-same kind b text ps = rw (is_kind-same kind) refl
 
 -- bytes of one kind are one run, where another kind or nothing follows
 pub runs-of_kind : (kind : CharKind) (b : ℕ) (front rest : List ℕ) → AllOfKind kind (b ∷ front) → IsApart kind (runs (characters rest)) → runs (characters ((b ∷ front) ++ rest)) ≡ record { kind = kind; text = b ∷ front } ∷ runs (characters rest)

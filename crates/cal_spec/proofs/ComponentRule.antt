@@ -115,7 +115,7 @@ is_part_byte b = leb 46 b && leb b 57
 abbrev pub is_component_byte : ℕ → Bool
 is_component_byte b = (b == 42) || ((b == 44) || is_part_byte b)
 
-digit_is_part_byte : (b : ℕ) → is_ascii_digit b ≡ true → is_part_byte b ≡ true
+pub digit_is_part_byte : (b : ℕ) → is_ascii_digit b ≡ true → is_part_byte b ≡ true
 digit_is_part_byte b digit =
     let range = and_parts (leb 48 b) (leb b 57) digit in
     let low = leb-true 48 b range.0 in
@@ -206,7 +206,7 @@ texts_split : (slot : Slot) (ts : List (List ℕ)) (ps : List Part) → 0 < leng
 texts_split slot [] ps some zip = absurd (omega arith)
 texts_split slot (t ∷ ts) ps some zip = split_joined 44 t ts refl (texts_clear slot (t ∷ ts) ps zip)
 
-fits_in : (time : Bool) (n room : ℕ) → cond time (n - 1) n ≤ room → n ≤ cond time (room + 1) room
+pub fits_in : (time : Bool) (n room : ℕ) → cond time (n - 1) n ≤ room → n ≤ cond time (room + 1) room
 fits_in true n room h = omega arith
 fits_in false n room h = h
 

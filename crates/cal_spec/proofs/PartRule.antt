@@ -203,7 +203,7 @@ number_symbols (d ∷ ds) n rest number apart =
     symbols_number d ds rest parts.0 parts.1 apart
 
 -- a slash is by itself
-slash_symbols : (bs : List ℕ) → symbols (47 ∷ bs) ≡ slash ∷ symbols bs
+pub slash_symbols : (bs : List ℕ) → symbols (47 ∷ bs) ≡ slash ∷ symbols bs
 slash_symbols bs = symbols_lone 47 bs refl refl
 
 -- after the end of a range, or after the first number

@@ -26,7 +26,7 @@ use Rattle.cal_zone.specs.OffsetWord.{begins_zone}
 use Rattle.cal_zone.specs.headline.OffsetWord.{begins_with_sign, is_sign}
 use Rattle.cal_spec.specs.ZoneSuffix.{IsSuffixOption, suffix_due, suffix_in}
 use Rattle.cal_spec.specs.headline.ZoneSuffix.{ZoneSuffix, suffix_text}
-use Rattle.cal_spec.proofs.SuffixLemmas.{suffix_word}
+use Rattle.cal_spec.proofs.SuffixLemmas.{suffix_word, letter_some}
 use Rattle.cal_spec.specs.declared.part.Part.{Part}
 use Rattle.cal_spec.specs.declared.slot.Slot.TheVariants.{Year, Month, Hour, Minute, Second}
 use Rattle.cal_spec.proofs.LengthLemmas.{AreSmall, expr_length, small_component, small_second}
@@ -36,6 +36,7 @@ use Rattle.cal_spec.proofs.ReadBackWeekdays.{ReadsDays, weekdays_all, weekdays_s
 use Rattle.cal_spec.proofs.WordRule.{no_shorthand}
 use Rattle.cal_spec.proofs.WeekdayLemmas.{weekdays_text-all, weekdays_text-some}
 use Rattle.cal_zone.proofs.OffsetWordLemmas.{both_all}
+use Rattle.cal_spec.proofs.DateRule.{date_with, time_with}
 
 -- fields that are read back: valid, with small numbers
 pub record IsReadable (f : Fields) : Type 0 where
@@ -135,7 +136,7 @@ time_bytes f h =
     (wider is_component_byte is_time_byte (component_text 2 f.minute) in_time (component_bytes 2 f.minute h.minute))
     (wider is_component_byte is_time_byte (component_text 2 f.second) in_time (component_bytes 2 f.second h.second)))
 
-some_front : (xs ys : List ℕ) → 0 < length xs → 0 < length (xs ++ ys)
+pub some_front : (xs ys : List ℕ) → 0 < length xs → 0 < length (xs ++ ys)
 some_front xs ys h = omega (arith, length-append xs ys)
 
 date_some : (f : Fields) → IsReadable f → 0 < length (date_word f)
@@ -260,13 +261,7 @@ few_counted f h =
     let few = h.valid.few in
     omega (arith, counted_year f.year, counted_month f.month, counted_day f.from_end f.day, counted_hour f.hour, counted_minute f.minute, counted_second f.second)
 
-abbrev date_in : Fields → DateFields
-date_in f = record { year = f.year; month = f.month; day = f.day; from_end = f.from_end }
-
-abbrev time_in : Fields → TimeFields
-time_in f = record { hour = f.hour; minute = f.minute; second = f.second }
-
-date_back : (f : Fields) → IsReadable f → date_in_word (date_word f) ≡ Ok (date_in f)
+date_back : (f : Fields) → IsReadable f → date_in_word (date_word f) ≡ Ok (date_with f)
 unfolding date_in_word date_fields
 date_back f h =
     let few = few_counted f h in
@@ -275,11 +270,11 @@ date_back f h =
     let day = component_back (day_slot f.from_end) (240 - counted Year f.year - counted Month f.month) 2 f.day (omega arith) h.valid.day h.day in
     ap date_due (date_texts_back f h) ∙ rw (year, month, day) refl
 
-time_back : (f : Fields) → IsReadable f → time_in_word (room_after (date_in f)) (time_word f) ≡ Ok (time_in f)
+time_back : (f : Fields) → IsReadable f → time_in_word (room_after (date_with f)) (time_word f) ≡ Ok (time_with f)
 unfolding time_in_word time_fields
 time_back f h =
     let few = few_counted f h in
-    let room = room_after (date_in f) in
+    let room = room_after (date_with f) in
     let hour = component_back Hour room 2 f.hour (omega arith) h.valid.hour h.hour in
     let minute = component_back Minute (room - counted Hour f.hour) 2 f.minute (omega arith) h.valid.minute h.minute in
     let second = component_back Second (room - counted Hour f.hour - counted Minute f.minute) 2 f.second (omega arith) h.valid.second h.second in
@@ -302,10 +297,6 @@ word_last w clear some =
 abbrev zone_words : Option ZoneSuffix → List (List ℕ)
 zone_words None = []
 zone_words (Some suffix) = suffix_text suffix ∷ []
-
-name_letter : (name : List ℕ) → begins_with_letter name ≡ true → 0 < length name
-name_letter [] h = cc
-name_letter (b ∷ bs) h = omega arith
 
 words_to_zone : (w : List ℕ) (suffix : Option ZoneSuffix) → list_any is_blank w ≡ false → 0 < length w → IsSuffixOption suffix → words (w ++ (zone_text suffix ++ [])) ≡ w ∷ zone_words suffix
 words_to_zone w None clear some h = ap words (append-nil w) ∙ word_last w clear some
@@ -389,7 +380,7 @@ back_some f h short some =
     let text : expr_text f ≡ word ++ (32 ∷ rest) =
     ap (λ t. t ++ rest) (weekdays_text-some f.weekdays some) ∙ append_assoc word (32 ∷ []) rest in
     back_by f (word ∷ date_word f ∷ time_word f ∷ zone_words f.zone) (roles (Some word) f) short
-    (ap words text ∙ word_first word rest days.clear (name_letter word days.letter) ∙ ap (λ ws. word ∷ ws) (words_of_fields f h))
+    (ap words text ∙ word_first word rest days.clear (letter_some word days.letter) ∙ ap (λ ws. word ∷ ws) (words_of_fields f h))
     (roles_some f word h days)
     (roles_back f (Some word) h days.read)
 

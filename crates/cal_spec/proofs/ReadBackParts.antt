@@ -21,11 +21,12 @@ use Rattle.cal_spec.specs.headline.Sound.{IsEndWithin, IsSound}
 use Rattle.cal_spec.specs.declared.part.Part.{Part}
 use Rattle.cal_spec.specs.declared.slot.Slot.{Slot}
 use Rattle.cal_spec.specs.declared.slot.Slot.TheVariants.{Year, Month, Day, DayFromEnd, Hour, Minute, Second}
-use Rattle.cal_spec.proofs.ComponentRule.{no_first_fault}
+use Rattle.cal_spec.proofs.ComponentRule.{no_first_fault, fits_in, digit_is_part_byte, is_part_byte}
 use Rattle.cal_spec.proofs.LengthLemmas.{AreSmall, IsBelow, IsSmall, step_small}
 use Rattle.cal_spec.proofs.NormalLemmas.{same_part}
 use Rattle.cal_spec.proofs.SymbolLemmas.{begins_with, symbols_lone, symbols_number}
 use Rattle.cal_zone.proofs.OffsetWordLemmas.{both_all}
+use Rattle.cal_spec.proofs.PartRule.{slash_symbols}
 
 -- Numbers
 
@@ -87,9 +88,6 @@ due slot n ds rest printed small apart whole =
     ∙ due_by slot n (symbols rest) small whole
 
 -- Parts
-
-slash_symbols : (rest : List ℕ) → symbols (47 ∷ rest) ≡ slash ∷ symbols rest
-slash_symbols rest = symbols_lone 47 rest refl refl
 
 -- the text after a number
 step_text : Option ℕ → List ℕ
@@ -218,18 +216,8 @@ wider q p (b ∷ bs) holds all =
     let parts = and_parts (q b) (list_all q bs) all in
     and_from (p b) (list_all p bs) (holds b parts.0) (wider q p bs holds parts.1)
 
--- the bytes of a part: digits, `.` and `/`
-abbrev pub is_part_byte : ℕ → Bool
-is_part_byte b = nat_le 46 b && nat_le b 57
-
-digit_in_part : (b : ℕ) → is_ascii_digit b ≡ true → is_part_byte b ≡ true
-digit_in_part b h =
-    let parts = and_parts (nat_le 48 b) (nat_le b 57) h in
-    let low = leb-true 48 b parts.0 in
-    and_from (nat_le 46 b) (nat_le b 57) (le-leb 46 b (omega arith)) parts.1
-
 padded_bytes : (width n : ℕ) → n < 10_000 → list_all is_part_byte (padded width n) ≡ true
-padded_bytes width n small = wider is_ascii_digit is_part_byte (padded width n) digit_in_part (number_printed width n small).all
+padded_bytes width n small = wider is_ascii_digit is_part_byte (padded width n) digit_is_part_byte (number_printed width n small).all
 
 step_bytes : (step : Option ℕ) → IsBelow 10_000 step → list_all is_part_byte (step_text step) ≡ true
 unfolding step_text
@@ -271,15 +259,11 @@ parts_back slot room width [] few sound small = refl
 parts_back slot room width (p ∷ ps) few sound small =
     rw (due_back slot room width p (omega arith) sound.0 small.0, parts_back slot (room - 1) width ps (omega arith) sound.1 small.1) refl
 
-room_enough : (time : Bool) (n room : ℕ) → cond time (n - 1) n ≤ room → n ≤ cond time (room + 1) room
-room_enough true n room h = omega arith
-room_enough false n room h = h
-
 listed_back : (slot : Slot) (room width : ℕ) (p : Part) (ps : List Part) → counted slot (Some (p ∷ ps)) ≤ room → AllByRecursion (IsSound slot) (p ∷ ps) → AllByRecursion IsSmall (p ∷ ps)
     → parts_listed slot room (parts_text width (p ∷ ps)) ≡ Ok (p ∷ ps)
 unfolding parts_listed
 listed_back slot room width p ps few sound small =
-    rw (parts_split width p ps small, parts_back slot (room_in slot room) width (p ∷ ps) (room_enough (is_time slot) (length (p ∷ ps)) room few) sound small, no_first_fault slot (p ∷ ps) sound) refl
+    rw (parts_split width p ps small, parts_back slot (room_in slot room) width (p ∷ ps) (fits_in (is_time slot) (length (p ∷ ps)) room few) sound small, no_first_fault slot (p ∷ ps) sound) refl
 
 -- the bytes of a component: those of its parts, `,` and `*`
 abbrev pub is_component_byte : ℕ → Bool

@@ -37,7 +37,7 @@ zone_no_blank b h = grind (arith, nat_tests)
 offset_no_blank : (b : ℕ) → is_offset_byte b ≡ true → is_blank b ≡ false
 offset_no_blank b h = grind (arith, nat_tests)
 
-letter_some : (name : List ℕ) → begins_with_letter name ≡ true → 0 < length name
+pub letter_some : (name : List ℕ) → begins_with_letter name ≡ true → 0 < length name
 letter_some [] h = absurd (cc)
 letter_some (b ∷ bs) h = omega arith
 

@@ -22,6 +22,7 @@ use Rattle.cal_work.specs.WorkLaw.{TellsAll, taken_of, known_seen, known_time, k
 use Rattle.cal_work.specs.Works.{SeesZones, SeesIf, Fits, FitsArguments}
 use Rattle.cal_work.specs.declared.zone_files.LoadFault.{LoadFault}
 use Rattle.cal_command.proofs.CommandLineLemmas.{taken_arguments}
+use Rattle.cal_work.proofs.WorkLemmas.{some_none}
 
 -- What is seen of one file
 
@@ -44,9 +45,6 @@ seen_known limit (Some (Some all)) (Some (Ok bytes)) some h sure =
 seen_known limit (Some (Some all)) (Some (Err whole.ReadFailed)) some h sure = absurd (false≢true (sym sure))
 seen_known limit (Some (Some all)) (Some (Err whole.TooLarge)) some h sure = inl (rw (past_limit (nat_le (length all) limit) all limit refl h) refl)
 seen_known limit (Some (Some all)) (Some (Err whole.NoMemory)) some h sure = inr refl
-
-some_none : {A : Type 0} (x : A) → Some x ≡ None → ⊥
-some_none x h = cc
 
 -- a file that is open is reported as one
 known_open : (limit : ℕ) (known : Option (Option (List ℕ))) (came : Result (List ℕ) WholeFault) → IsSome known → SeesBytes known limit (Some came) → (c : Result (List ℕ) WholeFault) × (known_seen limit known ≡ Some c)

@@ -44,6 +44,7 @@ use Rattle.cal_request.specs.declared.request.Status.{Status}
 use Rattle.cal_work.specs.declared.stop.Stop as declared_stop
 use Rattle.cal_work.specs.declared.stop.Stop.TheVariants.{Command, Zones, LocalRule, LocalName, Clock, Open, Run}
 use Rattle.cal_report.proofs.ReportLemmas.{no_ok, nothing_front}
+use Rattle.std.proofs.lemmas.Option.{none-some, same_Some}
 
 -- Stops
 
@@ -65,14 +66,8 @@ stops_other {A = A} stop said s = record { before_out = s.before_out; before_err
 
 -- What is seen
 
-some_none : {A : Type 0} (x : A) → Some x ≡ None → ⊥
+pub some_none : {A : Type 0} (x : A) → Some x ≡ None → ⊥
 some_none x h = cc
-
-none_some : {A : Type 0} (x : A) → None ≡ Some x → ⊥
-none_some x h = cc
-
-some_inside : {A : Type 0} (x y : A) → Some x ≡ Some y → x ≡ y
-some_inside x y h = cc
 
 -- what comes of a file fits where nothing is reported of it
 unknown_comes : (old : Option (List ℕ)) (limit : ℕ) (came : Result (List ℕ) WholeFault) → Comes old limit came → Comes None limit came
@@ -84,12 +79,12 @@ unknown_comes old limit (Err whole.NoMemory) c = tt
 pub sees_opened : (known : Option (Option (List ℕ))) (limit : ℕ) (old : Option (List ℕ)) (came : Result (List ℕ) WholeFault) → Opens known (Some old) → Comes old limit came → SeesBytes known limit (Some came)
 sees_opened None limit old came h c = unknown_comes old limit came c
 sees_opened (Some None) limit old came h c = absurd (some_none old h)
-sees_opened (Some (Some bytes)) limit old came h c = subst (λ o. Comes o limit came) (some_inside old (Some bytes) h) c
+sees_opened (Some (Some bytes)) limit old came h c = subst (λ o. Comes o limit came) (same_Some old (Some bytes) h) c
 
 pub sees_none : (known : Option (Option (List ℕ))) (limit : ℕ) → Opens known None → SeesBytes known limit None
 sees_none None limit h = tt
 sees_none (Some None) limit h = refl
-sees_none (Some (Some bytes)) limit h = absurd (none_some (Some bytes) h)
+sees_none (Some (Some bytes)) limit h = absurd (none-some (Some bytes) h)
 
 comes_all : (old new : Option (List ℕ)) (limit : ℕ) (bytes : List ℕ) → GivesAll old new limit bytes → Comes old limit (Ok bytes)
 comes_all old new limit bytes h = (h.fits, Consumes-whole old new bytes (λ all. bytes ≡ all) h.taken h.at_end refl)

@@ -22,7 +22,7 @@ pub settle_of-UTC : (local : ℤ) → settle_of UTC local ≡ local
 unfolding settle_of ambiguous_at
 settle_of-UTC local = omega (arith, ints)
 
-local_of-UTC : (second : ℤ) → local_of UTC second ≡ second
+pub local_of-UTC : (second : ℤ) → local_of UTC second ≡ second
 unfolding local_of offset_at
 local_of-UTC second = omega (arith, ints)
 

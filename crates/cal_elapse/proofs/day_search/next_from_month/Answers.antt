@@ -6,8 +6,8 @@ use Rattle.cal_elapse.specs.Months.{day_in, first_day, first_day-suc, length_of,
 use Rattle.cal_elapse.specs.Search.{IsFirstPassing, NonePasses}
 use Rattle.cal_elapse.specs.Bits.{is_bit}
 use Rattle.cal_elapse.proofs.CarryLemmas.{first_then, first_within}
-use Rattle.cal_elapse.proofs.CountLemmas.{count_from-begun, count_from-most}
-use Rattle.cal_elapse.proofs.LookLemmas.{count_rest, count_step, first_in_month, looks_some, none_in_month}
+use Rattle.cal_elapse.proofs.CountLemmas.{count_from-begun, count_from-most, count_from-on}
+use Rattle.cal_elapse.proofs.LookLemmas.{count_step, first_in_month, looks_some, none_in_month}
 use Rattle.cal_elapse.proofs.MonthLemmas.{first_day-end, first_day-rises, length_bounds, months_none}
 use Rattle.cal_elapse.proofs.day_search.next_from_month.Goals as goal
 
@@ -130,5 +130,5 @@ pub returns-clause-counted : goal.returns-clause-counted
 returns-clause-counted c =
     let inv = c.loop-next.invariant in
     let s = sets_in c.args.masks.now in
-    let rest = count_rest (month_in s) c.args.from c.loop-next.index 2_760 inv.from_in inv.index_in c.in_default.ensures in
+    let rest = count_from-on (month_in s) c.args.from c.loop-next.index 2_760 inv.from_in inv.index_in c.in_default.ensures in
     rw rest inv.counted
