@@ -19,8 +19,8 @@ pub record Pushed (front text : List ℕ) (pieces : List (List ℕ)) : Type 0 wh
   pub is : text ≡ front ++ joined pieces
 
 -- the first piece was appended
-pub pushed : (front text piece : List ℕ) → text ≡ front ++ piece → Pushed front text (piece ∷ [])
-pushed front text piece is = record { is = is ∙ ap (λ rest. front ++ rest) (sym (append-nil piece)) }
+pub pushed_first : (front text piece : List ℕ) → text ≡ front ++ piece → Pushed front text (piece ∷ [])
+pushed_first front text piece is = record { is = is ∙ ap (λ rest. front ++ rest) (sym (append-nil piece)) }
 
 -- one piece more was appended
 pub pushed_more : (front text next piece : List ℕ) (pieces : List (List ℕ)) → Pushed front text pieces → next ≡ text ++ piece → Pushed front next (pieces ++ piece ∷ [])

@@ -2,15 +2,15 @@
 use Rattle.std.proofs.Common.{◌≡◌, ℕ, ◌+◌, Bool, true, false, List, [], ◌∷◌, ◌++◌, map, refl, sym, ap, ◌∙◌, append_assoc, append-nil}
 use Rattle.std.specs.List.{flat_map}
 use Rattle.std.specs.Str.Lines.{lines}
-use Rattle.cal_text.specs.headline.Trim.{trim_start}
+use Rattle.cal_text.specs.headline.Trim.{trim_start_matches}
 use Rattle.cal_lines.specs.headline.Lines.{Group, Line, continued_by, groups, is_blank_or_return, is_comment, is_continued, joined_line, logical_lines, part_of_line, physical_lines, plain_lines}
 
 -- the lines of a text after its first
-pub plain_here : (n : ℕ) (text line rest : List ℕ) → lines text ≡ line ∷ lines rest → is_comment (trim_start is_blank_or_return line) ≡ false → plain_lines n text ≡ record { number = n; text = trim_start is_blank_or_return line } ∷ plain_lines (n + 1) rest
+pub plain_here : (n : ℕ) (text line rest : List ℕ) → lines text ≡ line ∷ lines rest → is_comment (trim_start_matches is_blank_or_return line) ≡ false → plain_lines n text ≡ record { number = n; text = trim_start_matches is_blank_or_return line } ∷ plain_lines (n + 1) rest
 unfolding physical_lines plain_lines
 plain_here n text line rest e f = rw (e, f) refl
 
-pub plain_skipped : (n : ℕ) (text line rest : List ℕ) → lines text ≡ line ∷ lines rest → is_comment (trim_start is_blank_or_return line) ≡ true → plain_lines n text ≡ plain_lines (n + 1) rest
+pub plain_skipped : (n : ℕ) (text line rest : List ℕ) → lines text ≡ line ∷ lines rest → is_comment (trim_start_matches is_blank_or_return line) ≡ true → plain_lines n text ≡ plain_lines (n + 1) rest
 unfolding physical_lines plain_lines
 plain_skipped n text line rest e f = rw (e, f) refl
 

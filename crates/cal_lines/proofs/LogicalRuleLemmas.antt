@@ -6,7 +6,7 @@ use Rattle.std.proofs.Math.Seq.{take-append_seam, take-length}
 use Rattle.std.proofs.lemmas.Bool.Decides.{nat_tests}
 use Rattle.std.proofs.lemmas.List.{get_or-reverse, length-append, take_more}
 use Rattle.std.proofs.lemmas.List.Sums.{prefix_len_passes, suffix_len-le-length}
-use Rattle.cal_text.specs.headline.Trim.{trim_start}
+use Rattle.cal_text.specs.headline.Trim.{trim_start_matches}
 use Rattle.cal_text.proofs.TrimLemmas.{unindented, unindented_only}
 use Rattle.cal_lines.specs.headline.Lines.{Group, Line, groups, is_blank_or_return, is_comment, is_continued, joined_line, logical_lines, numbered_lines, part_of_line, physical_lines, plain_lines}
 use Rattle.cal_lines.specs.LogicalRule.{AreJoined, AreLogical, ArePhysical, EachIsLogical, IsLinePart}
@@ -14,19 +14,19 @@ use Rattle.cal_lines.proofs.GroupLemmas.{parts_of}
 use Rattle.cal_lines.proofs.LineRuleLemmas.{are_groups, groups_of_lines, lines_of_groups}
 
 -- the physical lines
-pub physical : (number : ℕ) (texts : List (List ℕ)) → ArePhysical number texts (numbered_lines number (map (trim_start is_blank_or_return) texts))
+pub physical : (number : ℕ) (texts : List (List ℕ)) → ArePhysical number texts (numbered_lines number (map (trim_start_matches is_blank_or_return) texts))
 physical number [] = tt
 physical number (text ∷ texts) = (refl, unindented is_blank_or_return text, physical (number + 1) texts)
 
-pub physical_only : (number : ℕ) (texts : List (List ℕ)) (all : List Line) → ArePhysical number texts all → all ≡ numbered_lines number (map (trim_start is_blank_or_return) texts)
+pub physical_only : (number : ℕ) (texts : List (List ℕ)) (all : List Line) → ArePhysical number texts all → all ≡ numbered_lines number (map (trim_start_matches is_blank_or_return) texts)
 physical_only number [] [] h = refl
 physical_only number [] (line ∷ all) h = absurd h
 physical_only number (text ∷ texts) [] h = absurd h
 physical_only number (text ∷ texts) (line ∷ all) h =
     let text_is = unindented_only is_blank_or_return text line.text h.1 in
     let rest = physical_only (number + 1) texts all h.2 in
-    let first : line ≡ record { number = number; text = trim_start is_blank_or_return text } = λ i. record { number = h.0 i; text = text_is i } in
-    ap (λ l. l ∷ all) first ∙ ap (λ ls. record { number = number; text = trim_start is_blank_or_return text } ∷ ls) rest
+    let first : line ≡ record { number = number; text = trim_start_matches is_blank_or_return text } = λ i. record { number = h.0 i; text = text_is i } in
+    ap (λ l. l ∷ all) first ∙ ap (λ ls. record { number = number; text = trim_start_matches is_blank_or_return text } ∷ ls) rest
 
 -- the last byte of a continued line
 last_byte : (text : List ℕ) → is_continued text ≡ true → text ≡ take (length text - 1) text ++ 92 ∷ []

@@ -2,7 +2,7 @@
 
 ghost use Rattle.std.specs.Prelude.{◌≡◌, ℕ, List};
 ghost use Rattle.cal_text.specs.TrimRule.{IsTrimmed};
-ghost use Rattle.cal_text.specs.headline.Trim.{trim};
+ghost use Rattle.cal_text.specs.headline.Trim.{trim_matches};
 ghost use Rattle.cal_lines.specs.LineRule.{AreGroups, lines_of};
 ghost use Rattle.cal_lines.specs.headline.Lines.{Group, Line, groups, is_blank_or_return, logical_lines};
 ghost use Rattle.cal_lines.specs.LogicalRule.{AreLogical};
@@ -26,6 +26,6 @@ pub fn logical_lines_are_those_of_the_rule()
 /// What `trim` leaves of a text has only blanks before and after it, neither begins nor ends with one, and is the only
 /// such part.
 pub fn one_trimmed_text()
-    ensures this { (text : List ℕ) → IsTrimmed is_blank_or_return text (trim is_blank_or_return text) }
-    ensures only { (text trimmed : List ℕ) → IsTrimmed is_blank_or_return text trimmed → trimmed ≡ trim is_blank_or_return text }
+    ensures this { (text : List ℕ) → IsTrimmed is_blank_or_return text (trim_matches is_blank_or_return text) }
+    ensures only { (text trimmed : List ℕ) → IsTrimmed is_blank_or_return text trimmed → trimmed ≡ trim_matches is_blank_or_return text }
 {}

@@ -3,7 +3,7 @@
 ghost use Rattle.std.specs.Prelude.{◌≡◌, ◌==◌, ◌∷◌, [], ◌+◌, ◌++◌, ◌<◌, ◌≤◌, ◌^◌, ◌-◌, MatchOption, MatchResult, IfOk, IfSome, OnOk, length, string_bytes, take, true};
 ghost use Rattle.std.specs.List.{prefix_len, suffix_len};
 ghost use Rattle.std.specs.Str.Lines.{lines, strip_carriage_return};
-ghost use Rattle.cal_text.specs.headline.Trim.{trim, trim_end, trim_start};
+ghost use Rattle.cal_text.specs.headline.Trim.{trim_matches, trim_end_matches, trim_start_matches};
 ghost use Rattle.cal_lines.specs.LineView.{logical_line, plain_line};
 ghost use Rattle.cal_lines.specs.headline.Lines.{is_blank_or_return, is_comment, is_continued, logical_lines, part_of_line, plain_lines};
 
@@ -39,22 +39,22 @@ fn trailing_blanks(text: &str) -> usize
 
 /// The text without the blanks at its start.
 fn trim_start(text: &str) -> &str
-    ensures { result.now ≡ trim_start is_blank_or_return text.now }
+    ensures { result.now ≡ trim_start_matches is_blank_or_return text.now }
 {
     &text[leading_blanks(text)..]
 }
 
 /// The text without the blanks at its end.
 fn trim_end(text: &str) -> &str
-    ensures { result.now ≡ trim_end is_blank_or_return text.now }
+    ensures { result.now ≡ trim_end_matches is_blank_or_return text.now }
 {
     &text[..text.len() - trailing_blanks(text)]
 }
 
 /// The text without the blanks at its ends.
-#[tactic(auto, unfolding(cal_text::specs::headline::Trim::trim))]
+#[tactic(auto, unfolding(cal_text::specs::headline::Trim::trim_matches))]
 pub fn trim(text: &str) -> &str
-    ensures { result.now ≡ trim is_blank_or_return text.now }
+    ensures { result.now ≡ trim_matches is_blank_or_return text.now }
 {
     trim_end(trim_start(text))
 }

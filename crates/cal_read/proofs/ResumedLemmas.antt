@@ -5,7 +5,7 @@ use Rattle.std.specs.Prelude.{nat_le}
 use Rattle.std.proofs.lemmas.Bool.Decides.{nat_tests}
 use Rattle.cal_spec.specs.declared.spec_fault.SpecFault.{SpecFault}
 use Rattle.cal_read.specs.headline.Assignments.{Assignment, assignment_of, assignments_in, is_header, section_of, timer_lines, trimmed}
-use Rattle.cal_text.specs.headline.Trim.{trim}
+use Rattle.cal_text.specs.headline.Trim.{trim_matches}
 use Rattle.cal_lines.specs.headline.Lines.{Line, is_blank_or_return}
 use Rattle.cal_read.specs.TimerText.{TimerLine, Timer, bad_line, entry_of, some_entries}
 use Rattle.cal_read.specs.headline.TimerText.{is_exception, is_exception_reset, is_expression, is_reset, most_expressions}
@@ -48,21 +48,21 @@ unfolding with_assignment
 joined_read read es a entry few good = let is_few : nat_le most_expressions (length es) ≡ false = grind (arith, nat_tests) in rw is_few (read_good es a (read a.value) entry good)
 
 -- a header opens a section
-pub header_here : (inside : Bool) (line : Line) (after : List Line) → is_header (trim is_blank_or_return line.text) ≡ true → assignments_in inside (line ∷ after) ≡ assignments_in (bytes_eq (section_of (trim is_blank_or_return line.text)) (codes "Timer")) after
+pub header_here : (inside : Bool) (line : Line) (after : List Line) → is_header (trim_matches is_blank_or_return line.text) ≡ true → assignments_in inside (line ∷ after) ≡ assignments_in (bytes_eq (section_of (trim_matches is_blank_or_return line.text)) (codes "Timer")) after
 unfolding assignments_in timer_lines
 header_here inside line after e = rw e refl
 
 -- a line outside of the section `Timer` assigns nothing
-pub outside_here : (line : Line) (after : List Line) → is_header (trim is_blank_or_return line.text) ≡ false → assignments_in false (line ∷ after) ≡ assignments_in false after
+pub outside_here : (line : Line) (after : List Line) → is_header (trim_matches is_blank_or_return line.text) ≡ false → assignments_in false (line ∷ after) ≡ assignments_in false after
 unfolding assignments_in timer_lines
 outside_here line after e = rw e refl
 
 -- nor does a line without `=`
-pub nothing_here : (line : Line) (after : List Line) → is_header (trim is_blank_or_return line.text) ≡ false → assignment_of (trimmed line) ≡ None → assignments_in true (line ∷ after) ≡ assignments_in true after
+pub nothing_here : (line : Line) (after : List Line) → is_header (trim_matches is_blank_or_return line.text) ≡ false → assignment_of (trimmed line) ≡ None → assignments_in true (line ∷ after) ≡ assignments_in true after
 unfolding assignments_in timer_lines
 nothing_here line after e f = rw (e, f) refl
 
-pub assigned_here : (line : Line) (after : List Line) (a : Assignment) → is_header (trim is_blank_or_return line.text) ≡ false → assignment_of (trimmed line) ≡ Some a → assignments_in true (line ∷ after) ≡ a ∷ assignments_in true after
+pub assigned_here : (line : Line) (after : List Line) (a : Assignment) → is_header (trim_matches is_blank_or_return line.text) ≡ false → assignment_of (trimmed line) ≡ Some a → assignments_in true (line ∷ after) ≡ a ∷ assignments_in true after
 unfolding assignments_in timer_lines
 assigned_here line after a e f = rw (e, f) refl
 

@@ -11,7 +11,7 @@ use Rattle.std.proofs.lemmas.List.Sums.{AllPass-from_list_all, suffix_len_is, su
 use Rattle.std.proofs.lemmas.Slice.Eq.{bytes_eq-Decides}
 use Rattle.cal_text.proofs.TrimLemmas.{trim_is, trim_only}
 use Rattle.cal_text.proofs.WordLemmas.{is_solid, last_blank, no_blank}
-use Rattle.cal_text.specs.headline.Trim.{trim}
+use Rattle.cal_text.specs.headline.Trim.{trim_matches}
 use Rattle.cal_text.specs.headline.Words.{is_blank, words}
 use Rattle.cal_read.specs.StampForm.{Form, present, later, earlier, counted, from_today, civil, day_shift, form_of, form_by_end, form_of_solid, form_of_words, form_by_day, form_by_ago, form_by_left}
 use Rattle.cal_read.specs.StampRule.{IsNothing, IsPresent, IsBehindSign, IsBeforeWord, IsNearDay, IsCivilForm, OrElse, FitsByWords, FitsByEnd, FitsBySign, FitsFirst, HasForm}
@@ -197,7 +197,7 @@ fits-form_of_solid (b ∷ bs) =
 
 pub found : (text : List ℕ) → HasForm text (form_of text)
 unfolding form_of
-found text = record { core = trim is_blank text; trimmed = trim_is is_blank text; fits = fits-form_of_solid (trim is_blank text) }
+found text = record { core = trim_matches is_blank text; trimmed = trim_is is_blank text; fits = fits-form_of_solid (trim_matches is_blank text) }
 
 pub only : (text : List ℕ) (form : Form) → HasForm text form → form ≡ form_of text
 unfolding form_of

@@ -2,7 +2,7 @@
 use Rattle.std.specs.Prelude.{ℕ, ◌==◌, ◌&&◌, if◌then◌else◌, ℤ, pos, neg_ℤ, List, [], ◌∷◌, codes, Option, None, Some}
 use Rattle.std.specs.List.{list_any, before_last, after_last}
 use Rattle.std.specs.Str.{bytes_eq}
-use Rattle.cal_text.specs.headline.Trim.{trim}
+use Rattle.cal_text.specs.headline.Trim.{trim_matches}
 use Rattle.cal_text.specs.headline.Words.{is_blank, words}
 
 -- what a text asks for: nothing at all, the present, a span text after the present, before it or after 0, that many
@@ -60,4 +60,4 @@ form_of_solid (b ∷ bs) =
 
 -- what a text asks for
 unfoldable pub form_of : List ℕ → Form
-form_of text = form_of_solid (trim is_blank text)
+form_of text = form_of_solid (trim_matches is_blank text)

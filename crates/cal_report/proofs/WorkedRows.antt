@@ -48,7 +48,7 @@ use Rattle.cal_spec.specs.Parts.{with_step, after_end, after_start, part_of, fau
 use Rattle.cal_spec.specs.headline.Shorthand.{shorthand_named}
 use Rattle.cal_spec.specs.Weekdays.{day_named, days_of, listed_days, weekdays_of}
 use Rattle.cal_spec.specs.Words.{roles_of}
-use Rattle.cal_text.specs.headline.Trim.{trim, trim_end, trim_start}
+use Rattle.cal_text.specs.headline.Trim.{trim_matches, trim_end_matches, trim_start_matches}
 use Rattle.cal_text.specs.headline.Words.{words}
 use Rattle.cal_spec.proofs.WholeRule.{valid_found}
 use Rattle.cal_elapse.proofs.ElapsesLemmas.{AreElapses-only, elapses_except-none, first_elapse-least}
@@ -228,7 +228,7 @@ one_line : Assignment
 one_line = record { number = 2; key = codes "OnCalendar"; value = codes "*:*:*" }
 
 every_file-assigned : assigned_in every_file ≡ one_line ∷ []
-unfolding every_file one_line assignments_in timer_lines assignment_of logical_lines groups plain_lines physical_lines part_of_line is_continued trim trim_end trim_start without_mark is_utf8 chars encode
+unfolding every_file one_line assignments_in timer_lines assignment_of logical_lines groups plain_lines physical_lines part_of_line is_continued trim_matches trim_end_matches trim_start_matches without_mark is_utf8 chars encode
 every_file-assigned = refl
 
 every_file-utf8 : is_utf8 every_file ≡ true
@@ -278,7 +278,7 @@ one_second : Request
 one_second = record { verb = Calendar; texts = codes "*:*:*" ∷ []; iterations = 1; base = Some (codes "@1704112201"); now = pos 1_704_112_200; local = utc; zones = empty }
 
 one_second-sought : base_in one_second ≡ Ok (pos 1_704_112_201)
-unfolding one_second base_in stamp_in moment_in form_of trim trim_end trim_start form_by_end day_shift words in_moments span_of pairs_in words_in worth_of is_number number_worth unit_named words_for
+unfolding one_second base_in stamp_in moment_in form_of trim_matches trim_end_matches trim_start_matches form_by_end day_shift words in_moments span_of pairs_in words_in worth_of is_number number_worth unit_named words_for
 one_second-sought = refl
 
 first_is : (xs : List ℤ) (x : ℤ) → slice_get xs 0 ≡ Some x → slice_get (take 2 xs) 0 ≡ Some x

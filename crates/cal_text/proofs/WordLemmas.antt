@@ -11,7 +11,7 @@ use Rattle.std.proofs.lemmas.List.Sums.{prefix_len_passes, prefix_len_stops, pre
 use Rattle.std.proofs.lemmas.List.Splits.{slice_split_first, slice_split_none}
 use Rattle.std.proofs.lemmas.Str.{IsCharBoundary-end, IsCharBoundary-before_ascii, IsCharBoundary-after_ascii}
 use Rattle.cal_text.specs.headline.Words.{is_blank, words}
-use Rattle.cal_text.specs.headline.Trim.{trim_start}
+use Rattle.cal_text.specs.headline.Trim.{trim_start_matches}
 
 -- a blank is one byte
 pub blank_ascii : (b : ℕ) → is_blank b ≡ true → b < 128
@@ -80,17 +80,17 @@ pub words-blank : (b : ℕ) (text : List ℕ) → is_blank b ≡ true → words 
 unfolding words
 words-blank b text blank = rw blank refl
 
-drop_step : (b : ℕ) (text : List ℕ) (test : Bool) → is_blank b ≡ test → words (trim_start is_blank text) ≡ words text → words (drop (cond test (1 + prefix_len is_blank text) 0) (b ∷ text)) ≡ words (b ∷ text)
-unfolding trim_start
+drop_step : (b : ℕ) (text : List ℕ) (test : Bool) → is_blank b ≡ test → words (trim_start_matches is_blank text) ≡ words text → words (drop (cond test (1 + prefix_len is_blank text) 0) (b ∷ text)) ≡ words (b ∷ text)
+unfolding trim_start_matches
 drop_step b text true blank rest =
     let one : 1 + prefix_len is_blank text ≡ suc (prefix_len is_blank text) = omega arith in
     rw (one, words-blank b text blank) rest
 drop_step b text false blank rest = refl
 
-pub words-trim_start : (text : List ℕ) → words (trim_start is_blank text) ≡ words text
-unfolding trim_start
-words-trim_start [] = refl
-words-trim_start (b ∷ bs) = drop_step b bs (is_blank b) refl (words-trim_start bs)
+pub words-trim_start_matches : (text : List ℕ) → words (trim_start_matches is_blank text) ≡ words text
+unfolding trim_start_matches
+words-trim_start_matches [] = refl
+words-trim_start_matches (b ∷ bs) = drop_step b bs (is_blank b) refl (words-trim_start_matches bs)
 
 pub words-nil : words [] ≡ []
 unfolding words
@@ -132,9 +132,9 @@ begins_solid : (text : List ℕ) → 0 < length text → is_blank (get_or text 0
 begins_solid [] some solid = absurd (omega arith)
 begins_solid (b ∷ bs) some solid = rw solid (omega arith)
 
-pub begins_with_word : (text : List ℕ) → 0 < length (trim_start is_blank text) → 0 < position_or_len is_blank (trim_start is_blank text)
-unfolding trim_start
+pub begins_with_word : (text : List ℕ) → 0 < length (trim_start_matches is_blank text) → 0 < position_or_len is_blank (trim_start_matches is_blank text)
+unfolding trim_start_matches
 begins_with_word text some =
     let n = prefix_len is_blank text in
     let within : n < length text = omega (arith, length-drop n text) in
-    begins_solid (trim_start is_blank text) some (rw (get_or-drop n text 0 0, add-zero) (prefix_len_stops is_blank text 0 within))
+    begins_solid (trim_start_matches is_blank text) some (rw (get_or-drop n text 0 0, add-zero) (prefix_len_stops is_blank text 0 within))

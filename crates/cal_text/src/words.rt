@@ -2,7 +2,7 @@
 
 ghost use Rattle.std.specs.Prelude.{◌≡◌, ◌≤◌, ◌∷◌, [], MatchOption, false, length, not, true};
 ghost use Rattle.std.specs.List.{after_last, before_last, list_any, prefix_len, suffix_len, position_or_len};
-ghost use Rattle.cal_text.specs.headline.Trim.{trim, trim_end, trim_start};
+ghost use Rattle.cal_text.specs.headline.Trim.{trim_matches, trim_end_matches, trim_start_matches};
 ghost use Rattle.cal_text.specs.headline.Words.{is_blank, words};
 
 /// The first word of the text and what comes after it, or `None` where there are only blanks.
@@ -18,25 +18,25 @@ pub fn first_word(text: &str) -> Option<(&str, &str)>
 }
 
 /// The text without the blanks at its ends.
-#[tactic(auto, unfolding(crate::specs::headline::Trim::trim))]
+#[tactic(auto, unfolding(crate::specs::headline::Trim::trim_matches))]
 pub fn trim_blanks(text: &str) -> &str
-    ensures { result.now ≡ trim is_blank text.now }
+    ensures { result.now ≡ trim_matches is_blank text.now }
 {
     trim_blanks_end(trim_blanks_start(text))
 }
 
 /// The text without the blanks at its start.
-#[tactic(auto, unfolding(crate::specs::headline::Trim::trim_start))]
+#[tactic(auto, unfolding(crate::specs::headline::Trim::trim_start_matches))]
 fn trim_blanks_start(text: &str) -> &str
-    ensures { result.now ≡ trim_start is_blank text.now }
+    ensures { result.now ≡ trim_start_matches is_blank text.now }
 {
     &text[blanks_in_front(text.as_bytes())..]
 }
 
 /// The text without the blanks at its end.
-#[tactic(auto, unfolding(crate::specs::headline::Trim::trim_end))]
+#[tactic(auto, unfolding(crate::specs::headline::Trim::trim_end_matches))]
 fn trim_blanks_end(text: &str) -> &str
-    ensures { result.now ≡ trim_end is_blank text.now }
+    ensures { result.now ≡ trim_end_matches is_blank text.now }
 {
     &text[..text.len() - blanks_at_end(text.as_bytes())]
 }

@@ -3,7 +3,7 @@
 use Rattle.std.specs.Prelude.{ℕ, ◌+◌, ◌-◌, ◌%◌, ◌==◌, Bool, not, ◌||◌, if◌then◌else◌, List, [], ◌∷◌, ◌++◌, length, map, filter, take, slice_index}
 use Rattle.std.specs.List.{flat_map, suffix_len}
 use Rattle.std.specs.Str.Lines.{lines}
-use Rattle.cal_text.specs.headline.Trim.{trim_start}
+use Rattle.cal_text.specs.headline.Trim.{trim_start_matches}
 use Rattle.cal_text.specs.headline.Words.{is_blank}
 
 -- a blank or a carriage return
@@ -24,7 +24,7 @@ numbered_lines number (text ∷ texts) = record { number = number; text = text }
 -- The physical lines: they end at a line feed, and one carriage return before it is dropped. No rule sees the blanks
 -- at the start of a physical line, so they are dropped too.
 unfoldable pub physical_lines : ℕ → List ℕ → List Line
-physical_lines number text = numbered_lines number (map (trim_start is_blank_or_return) (lines text))
+physical_lines number text = numbered_lines number (map (trim_start_matches is_blank_or_return) (lines text))
 
 -- a comment begins with `#` or `;`
 abbrev pub is_comment : List ℕ → Bool

@@ -2,7 +2,7 @@
 use Rattle.std.specs.Prelude.{ℕ, ◌-◌, ◌==◌, Bool, ◌&&◌, if◌then◌else◌, List, [], ◌∷◌, length, map, take, drop, slice_index, codes, Option, None, Some}
 use Rattle.std.specs.List.{after_first, before_first, filter_map, list_any}
 use Rattle.std.specs.Str.{bytes_eq}
-use Rattle.cal_text.specs.headline.Trim.{trim}
+use Rattle.cal_text.specs.headline.Trim.{trim_matches}
 use Rattle.cal_lines.specs.headline.Lines.{Line, is_blank_or_return}
 use Rattle.cal_text.specs.headline.Separators.{is_equals}
 
@@ -15,7 +15,7 @@ section_of text = take (length text - 2) (drop 1 text)
 
 -- a line without the blanks at its ends
 abbrev pub trimmed : Line → Line
-trimmed line = record { number = line.number; text = trim is_blank_or_return line.text }
+trimmed line = record { number = line.number; text = trim_matches is_blank_or_return line.text }
 
 -- The lines of the section `Timer`, headers apart, where the first of them are in it or not. Names of sections are
 -- exact.
@@ -37,8 +37,8 @@ assignment_of line =
     if list_any is_equals line.text
     then Some (record {
       number = line.number;
-      key = trim is_blank_or_return (before_first is_equals line.text);
-      value = trim is_blank_or_return (after_first is_equals line.text);
+      key = trim_matches is_blank_or_return (before_first is_equals line.text);
+      value = trim_matches is_blank_or_return (after_first is_equals line.text);
     })
     else None
 

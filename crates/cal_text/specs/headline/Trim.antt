@@ -3,13 +3,13 @@ use Rattle.std.specs.Prelude.{ℕ, ◌-◌, Bool, List, length, take, drop}
 use Rattle.std.specs.List.{prefix_len, suffix_len}
 
 -- without the blanks at its start
-unfoldable pub trim_start : (ℕ → Bool) → List ℕ → List ℕ
-trim_start is_blank text = drop (prefix_len is_blank text) text
+unfoldable pub trim_start_matches : (ℕ → Bool) → List ℕ → List ℕ
+trim_start_matches is_blank text = drop (prefix_len is_blank text) text
 
 -- without the blanks at its end
-unfoldable pub trim_end : (ℕ → Bool) → List ℕ → List ℕ
-trim_end is_blank text = take (length text - suffix_len is_blank text) text
+unfoldable pub trim_end_matches : (ℕ → Bool) → List ℕ → List ℕ
+trim_end_matches is_blank text = take (length text - suffix_len is_blank text) text
 
 -- without the blanks at both ends
-unfoldable pub trim : (ℕ → Bool) → List ℕ → List ℕ
-trim is_blank text = trim_end is_blank (trim_start is_blank text)
+unfoldable pub trim_matches : (ℕ → Bool) → List ℕ → List ℕ
+trim_matches is_blank text = trim_end_matches is_blank (trim_start_matches is_blank text)

@@ -1,6 +1,6 @@
 use Rattle.std.proofs.Common.{◌∙◌, arith}
 use Rattle.std.proofs.lemmas.List.Sums.{suffix_len-le-length}
-use Rattle.cal_text.specs.headline.Trim.{trim_end}
+use Rattle.cal_text.specs.headline.Trim.{trim_end_matches}
 use Rattle.cal_lines.specs.headline.Lines.{is_blank_or_return}
 use Rattle.cal_lines.proofs.LineLemmas.{blank_is_ascii}
 use Rattle.cal_text.proofs.TextEnds.{end_boundary}
@@ -13,5 +13,5 @@ pub range-requires-clause-end_boundary : goal.range-requires-clause-end_boundary
 range-requires-clause-end_boundary c = rw c.trailing_blanks.ensures (end_boundary is_blank_or_return c.args.text.now blank_is_ascii)
 
 pub returns : goal.returns
-unfolding trim_end
+unfolding trim_end_matches
 returns c = c.range.ensures.value ∙ rw c.trailing_blanks.ensures (grind arith)

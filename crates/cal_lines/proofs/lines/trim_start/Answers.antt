@@ -1,5 +1,5 @@
 use Rattle.std.proofs.Common.{◌∙◌, ap, drop}
-use Rattle.cal_text.specs.headline.Trim.{trim_start}
+use Rattle.cal_text.specs.headline.Trim.{trim_start_matches}
 use Rattle.cal_lines.specs.headline.Lines.{is_blank_or_return}
 use Rattle.cal_lines.proofs.LineLemmas.{blank_is_ascii}
 use Rattle.cal_text.proofs.TextEnds.{front_boundary}
@@ -9,5 +9,5 @@ pub range_from-requires : goal.range_from-requires
 range_from-requires c = λ _. rw c.leading_blanks.ensures (front_boundary is_blank_or_return c.args.text.now blank_is_ascii c.utf8.text)
 
 pub returns : goal.returns
-unfolding trim_start
+unfolding trim_start_matches
 returns c = c.range_from.ensures.value ∙ ap (λ n. drop n c.args.text.now) c.leading_blanks.ensures

@@ -1,5 +1,5 @@
 use Rattle.std.proofs.Common.{codes}
-use Rattle.cal_bytes.proofs.ShortText.{pushed, pushed_more}
+use Rattle.cal_bytes.proofs.ShortText.{pushed_first, pushed_more}
 use Rattle.cal_zone.specs.headline.InstantText.{instant_text}
 use Rattle.cal_report.specs.headline.ElapseLines.{elapse_text, label_text}
 use Rattle.cal_zone.specs.headline.Moment.{micros_of}
@@ -10,7 +10,7 @@ pub returns-clause-text : goal.returns-clause-text
 unfolding elapse_text
 returns-clause-text c =
     let front = c.args.text.now.items in
-    let label = pushed front _ (label_text c.args.number) c.push_label.ensures.text in
+    let label = pushed_first front _ (label_text c.args.number) c.push_label.ensures.text in
     let instant = pushed_more front _ _ (instant_text c.args.clocks.now c.args.elapse.secs) _ label c.push_local.ensures.text in
     let ended = pushed_more front _ _ (codes "\n") _ instant c.push.ensures in
     let utc = pushed_more front _ _ (utc_line c.args.clocks.now c.args.elapse.secs) _ ended (rw c.push_local.ensures.local at c.push_utc_line.ensures.text) in

@@ -1,5 +1,5 @@
 use Rattle.std.proofs.Common.{codes, unsigned_abs}
-use Rattle.cal_bytes.proofs.ShortText.{pushed, pushed_more}
+use Rattle.cal_bytes.proofs.ShortText.{pushed_first, pushed_more}
 use Rattle.cal_zone.specs.headline.InstantText.{instant_text}
 use Rattle.cal_zone.specs.headline.Moment.{micros_of}
 use Rattle.cal_report.specs.headline.ReportLines.{distance_text, utc_line}
@@ -12,7 +12,7 @@ returns c =
     let front = c.args.text.now.items in
     let local = c.args.clocks.now in
     let micros = c.args.moment.micros in
-    let instant = pushed front _ (instant_text local (second_at micros)) (rw c.instant.ensures at c.push_local.ensures.text) in
+    let instant = pushed_first front _ (instant_text local (second_at micros)) (rw c.instant.ensures at c.push_local.ensures.text) in
     let ended = pushed_more front _ _ (codes "\n") _ instant c.push.ensures in
     let utc = pushed_more front _ _ (utc_line local (second_at micros)) _ ended (rw (c.instant-2.ensures, c.push_local.ensures.local) at c.push_utc_line.ensures.text) in
     let labelled = pushed_more front _ _ (codes "   UNIX seconds: ") _ utc c.push-2.ensures in
