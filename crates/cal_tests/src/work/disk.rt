@@ -92,32 +92,28 @@ fn empty_disk(alloc: Global) -> Disk<'static> {
 }
 
 /// The arguments ended so, and what the output has that fails.
-fn expect_cut(rt: &impl Abort, arguments: &[&str], cut: (Ended, &[u8]), wanted: (Ended, &[u8])) {
-    assert_eq!(rt; cut, wanted, "at {arguments:?}");
+fn expect_cut(rt: &impl Abort, args: &[&str], cut: (Ended, &[u8]), wanted: (Ended, &[u8])) {
+    assert_eq!(rt; cut, wanted, "at {args:?}");
 }
 
 /// Standard output that fails after 3 bytes has these of the whole text, and the fault is reported on standard error.
-fn check_cut_out(
-    rt: &(impl Abort + AllocGlobal),
-    arguments: &[&str],
-    whole: &[u8],
-) -> Result<(), Fail> {
+fn check_cut_out(rt: &(impl Abort + AllocGlobal), args: &[&str], whole: &[u8]) -> Result<(), Fail> {
     let disk = empty_disk(rt.alloc());
     let writer = Faulty::new(Vec::new(rt.alloc()), 7, 3, Then::Error);
     let mut out = Port::new(BufWriter::new(rt.alloc(), writer)?);
     let mut err = Port::new(Vec::new(rt.alloc()));
-    let ended = work(rt.alloc(), &disk, arguments, &mut out, &mut err);
+    let ended = work(rt.alloc(), &disk, args, &mut out, &mut err);
     let want = Ended {
         status: 1,
         written: Err(RunFault::OutFailed),
     };
     let front = whole.get(..3).ok_or("no three bytes")?;
     let (writer, _left) = out.into_inner().into_parts();
-    expect_cut(rt, arguments, (ended, writer.bytes()), (want, front));
+    expect_cut(rt, args, (ended, writer.bytes()), (want, front));
     let line = "calendar-analyze: output failed\n";
     assert!(rt;
         err.into_inner().as_slice() == line.as_bytes(),
-        "at {arguments:?}"
+        "at {args:?}"
     );
     Ok(())
 }
@@ -138,25 +134,20 @@ fn outputs_that_fail(rt: HostRuntime) -> Result<(), Fail> {
 /// Standard error that fails after 3 bytes has exactly these, and the status stays what it is.
 fn check_cut_err(
     rt: &(impl Abort + AllocGlobal),
-    arguments: &[&str],
+    args: &[&str],
     front: &str,
     status: u8,
 ) -> Result<(), Fail> {
     let disk = empty_disk(rt.alloc());
     let mut out = Port::new(BufWriter::new(rt.alloc(), Vec::new(rt.alloc()))?);
     let mut err = Port::new(Faulty::new(Vec::new(rt.alloc()), 7, 3, Then::Zero));
-    let ended = work(rt.alloc(), &disk, arguments, &mut out, &mut err);
+    let ended = work(rt.alloc(), &disk, args, &mut out, &mut err);
     let want = Ended {
         status,
         written: Err(RunFault::ErrFailed),
     };
     let err = err.into_inner();
-    expect_cut(
-        rt,
-        arguments,
-        (ended, err.bytes()),
-        (want, front.as_bytes()),
-    );
+    expect_cut(rt, args, (ended, err.bytes()), (want, front.as_bytes()));
     Ok(())
 }
 
