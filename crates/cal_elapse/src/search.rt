@@ -28,7 +28,9 @@ pub struct Found {
 /// The same, with the local second as a whole number, as the search itself has it.
 #[derive(Clone, Copy)]
 pub struct Next {
+    /// The least matching local second; `None` where there is none.
     pub local: Option<u64>,
+    /// How many months the search looked at.
     pub months: u32,
 }
 

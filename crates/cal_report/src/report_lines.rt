@@ -25,7 +25,8 @@ pub fn put_text<W: Sink>(out: &mut W, label: &[u8], text: &str) -> Result<(), Wr
     put_pieces(out, &[label, text.as_bytes(), b"\nNormalized form: "])
 }
 
-/// Appends the span between the present and a moment, and which of the two is later. It takes at most [`cal_base::SPAN_ROOM`] and 5 bytes.
+/// Appends the span between the present and a moment, and which of the two is later. It takes at most [`SPAN_ROOM`] and
+/// 5 bytes.
 #[tactic(auto, unfolding(crate::specs::headline::ReportLines::distance_text))]
 pub fn push_distance(text: &mut ShortText, now: Instant, moment: Moment)
     requires room { length text.old.items + SPAN_ROOM + 5 ≤ ROOM }
