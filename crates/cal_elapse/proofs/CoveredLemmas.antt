@@ -8,7 +8,7 @@ use Rattle.cal_spec.specs.headline.Fields.{Fields}
 use Rattle.cal_spec.specs.headline.Match.{Sets, date_in, matches, time_in}
 use Rattle.cal_spec.specs.headline.Members.{sets_of}
 use Rattle.cal_rising.specs.headline.Elements.{Has}
-use Rattle.cal_rising.proofs.RisingLemmas.{list-no_first}
+use Rattle.cal_text.proofs.General.{list-no_first}
 use Rattle.cal_rising.proofs.WithoutLemmas.{Has-is_member, is_member-Has}
 use Rattle.cal_elapse.specs.Covered.{AreAmong, AreKept, IsCovered}
 use Rattle.cal_elapse.specs.Elapses.{elapses_after, elapses_except}

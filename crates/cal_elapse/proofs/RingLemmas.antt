@@ -18,7 +18,8 @@ use Rattle.cal_elapse.specs.Ring.{cells_in_all, cells_in_all-is, instants_in, is
 use Rattle.cal_rising.specs.headline.Elements.{Has}
 use Rattle.cal_elapse.specs.Search.{IsFirstPassing}
 use Rattle.cal_elapse.proofs.ElapsesLemmas.{first-least, first-none}
-use Rattle.cal_rising.proofs.RisingLemmas.{Has-insert_key, rises-drop, rises-insert_key, later_members, less, list-first, list-no_first, same_rising}
+use Rattle.cal_text.proofs.General.{less, list-first, list-no_first}
+use Rattle.cal_rising.proofs.RisingLemmas.{Has-insert_key, rises-drop, rises-insert_key, later_members, same_rising}
 
 -- Numbers in a row
 

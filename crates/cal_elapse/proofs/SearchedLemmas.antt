@@ -15,7 +15,7 @@ use Rattle.cal_elapse.specs.declared.window.Window.{Window}
 use Rattle.cal_elapse.proofs.CountLemmas.{count_from-none, count_from-on}
 use Rattle.cal_elapse.proofs.MinuteLemmas.{match_inside}
 use Rattle.cal_elapse.proofs.MostLemmas.{most_same}
-use Rattle.cal_rising.proofs.RisingLemmas.{list-first}
+use Rattle.cal_text.proofs.General.{list-first}
 use Rattle.cal_elapse.proofs.WindowLemmas.{all_placed, by_test, is_above}
 use Rattle.cal_spec.specs.headline.Match.{matches}
 use Rattle.cal_elapse.proofs.InstantLemmas.{first_has}

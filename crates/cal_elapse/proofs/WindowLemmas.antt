@@ -23,7 +23,8 @@ use Rattle.cal_elapse.specs.Search.{NonePasses}
 use Rattle.cal_elapse.specs.Window.{IsMatchAhead, IsPlacedBelow, IsReady, Windowed, bound_of, start_of, timed_by, timed_of, to_place, with_place}
 use Rattle.cal_elapse.specs.declared.window.Window.{Window}
 use Rattle.cal_elapse.proofs.ElapsesLemmas.{elapses_after-first, first_elapse-least, first_elapse-none}
-use Rattle.cal_rising.proofs.RisingLemmas.{Has-insert_key, rises-insert_key, above_first, chained, later_members, list-first, lt_test, not_lt_test}
+use Rattle.cal_text.proofs.General.{chained, list-first, lt_test, not_lt_test}
+use Rattle.cal_rising.proofs.RisingLemmas.{Has-insert_key, rises-insert_key, above_first, later_members}
 
 -- a place is near its local second
 abbrev pub AreNear : Timed → Type 0

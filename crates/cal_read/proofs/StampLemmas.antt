@@ -15,7 +15,7 @@ use Rattle.cal_zone.specs.headline.Civil.{civil_of}
 use Rattle.cal_text.specs.headline.Separators.{is_point, is_colon}
 use Rattle.cal_span.specs.SpanValue.{fraction_worth}
 use Rattle.cal_zone.specs.headline.Zone.{local_of}
-use Rattle.cal_spec.proofs.PieceLemmas.{some_piece}
+use Rattle.cal_text.proofs.General.{some_piece}
 use Rattle.cal_read.specs.Stamp.{in_moments}
 use Rattle.cal_read.specs.StampDate.{is_hyphen, date_numbers}
 use Rattle.cal_read.specs.StampTime.{second_written, time_numbers}

@@ -21,14 +21,14 @@ use Rattle.cal_spec.specs.headline.Parts.{with_century}
 use Rattle.cal_spec.specs.Weekdays.{day_named}
 use Rattle.cal_text.specs.headline.Words.{is_blank}
 use Rattle.cal_spec.proofs.CleanLemmas.{IsClear, Apart, any_clear, clear_append, clear_from, split_alone, split_at}
-use Rattle.cal_spec.proofs.ReadBackParts.{digits_all, zeros_all, zeros_value, padded}
+use Rattle.cal_text.proofs.General.{digits_all, zeros_all, zeros_value, some_front}
+use Rattle.cal_spec.proofs.ReadBackParts.{padded}
 use Rattle.cal_read.proofs.StampCivilRule.{digit_first, digit_no_colon}
 use Rattle.cal_read.specs.Stamp.{begins_with_digit}
 use Rattle.cal_read.specs.StampDate.{date_numbers, date_of_pieces, day_due, day_of_date, day_written, digits_number, is_hyphen}
 use Rattle.cal_read.specs.StampTime.{clock_number, second_of_pieces, second_written, micros_due, time_numbers, time_of_pieces, time_written}
 use Rattle.cal_read.specs.declared.stamp.fault.StampFault.TheVariants.{NoSuchDate}
 use Rattle.cal_spec.proofs.SymbolLemmas.{digit_no_point}
-use Rattle.cal_spec.proofs.ReadBack.{some_front}
 
 -- Numbers
 

@@ -9,7 +9,8 @@ use Rattle.jiff.proofs.SpanFacts.{signed_arith}
 use Rattle.jiff.specs.Types.{TimeZone, UTC}
 use Rattle.jiff.specs.Words.{nanos_of_seconds, offset_at, IsOffsetSeconds}
 use Rattle.cal_bytes.specs.headline.Bytes.{joined}
-use Rattle.cal_zone.proofs.OffsetWordLemmas.{both_all, nearest, offset-back, offset-found, two_printed}
+use Rattle.cal_text.proofs.General.{both_all}
+use Rattle.cal_zone.proofs.OffsetWordLemmas.{nearest, offset-back, offset-found, two_printed}
 use Rattle.cal_zone.proofs.PlaceLemmas.{place_of-Some, place_of-UTC, settle_of-UTC, settle_of-fixed_zone, local_of-UTC}
 use Rattle.cal_zone.proofs.ZoneLemmas.{offset_at-in_range}
 use Rattle.cal_zone.specs.headline.InstantText.{offset_text, sign_text, zeros, zone_word}

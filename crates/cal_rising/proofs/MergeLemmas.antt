@@ -18,7 +18,8 @@ use Rattle.std.specs.declared.cmp.Ordering.TheVariants.{Less, Equal, Greater}
 use Rattle.cal_rising.specs.Merge.{HasHead, Branch, lesser, numbers, passed}
 use Rattle.cal_rising.specs.RisingList.{HasAny, with_numbers, union}
 use Rattle.cal_rising.specs.headline.Elements.{Has}
-use Rattle.cal_rising.proofs.RisingLemmas.{above_first, chained, from_less, later_members, lt_test, not_lt_test, same_rising, Has-union, rises-drop, rises-union}
+use Rattle.cal_text.proofs.General.{chained, lt_test, not_lt_test}
+use Rattle.cal_rising.proofs.RisingLemmas.{above_first, from_less, later_members, same_rising, Has-union, rises-drop, rises-union}
 
 -- the lesser of none and another is the other
 lesser-none : (a : Option ℤ) → lesser a None ≡ a

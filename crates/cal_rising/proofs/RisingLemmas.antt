@@ -15,19 +15,12 @@ use Rattle.cal_rising.specs.RisingList.{HasAny, IsUnion, with_numbers, union}
 use Rattle.cal_rising.specs.headline.Elements.{Has}
 use Rattle.cal_rising.proofs.OrderLemmas.{all_at, has-insert_key, same_sorted}
 
--- one number is below the other exactly where `cmp` answers so
-pub less : (a b : ℤ) → a <ℤ b → int_cmp a b ≡ Less
-less a b h = sym (int_cmp_is a b Less h)
-
 pub from_less : (a b : ℤ) → int_cmp a b ≡ Less → a <ℤ b
 from_less a b e = int_ranked a b Less (sym e)
 
 -- what is in a rising list after its first is above that
 pub above_first : (x i : ℤ) (xs : List ℤ) → IsStrictlySortedBy int_cmp (x ∷ xs) → Has xs i → x <ℤ i
 above_first x i xs h m = from_less x i (all_at (λ y. int_cmp x y ≡ Less) xs i (sorted_head int_cmp x xs h) m)
-
-pub chained : (a b c : ℤ) → a <ℤ b → b <ℤ c → a <ℤ c
-chained a b c h k = omega (arith, ints)
 
 not_below_itself : (x : ℤ) → x <ℤ x → ⊥
 not_below_itself x h = omega (arith, ints)
@@ -42,12 +35,6 @@ later_members x xs h i = (
 -- two rising lists with the same members are equal
 pub same_rising : (xs ys : List ℤ) → IsStrictlySortedBy int_cmp xs → IsStrictlySortedBy int_cmp ys → ((i : ℤ) → Has xs i ↔ Has ys i) → xs ≡ ys
 same_rising = same_sorted int_cmp int_cmp_total
-
-pub lt_test : (a b : ℤ) → a <ℤ b → int_lt a b ≡ true
-lt_test a b h = grind (arith, ints)
-
-pub not_lt_test : (a b : ℤ) → b ≤ℤ a → int_lt a b ≡ false
-not_lt_test a b h = grind (arith, ints)
 
 -- placing adds the number to the members
 pub Has-insert_key : (x : ℤ) (ys : List ℤ) (i : ℤ) → Has (insert_key int_cmp ys x) i ↔ ((x ≡ i) ⊎ Has ys i)
@@ -84,15 +71,6 @@ pub IsUnion-only : (xss : List (List ℤ)) (xs : List ℤ) → IsUnion xss xs �
 IsUnion-only xss xs h =
     same_rising xs (union xss) h.rises (rises-union xss)
     (λ i. (λ m. (Has-union xss i).1 ((h.members i).0 m), λ m. (h.members i).1 ((Has-union xss i).0 m)))
-
--- a list by its first and what is later, for a caller that takes one after another
-pub list-first : (xs : List ℤ) (x : ℤ) → slice_get xs 0 ≡ Some x → xs ≡ x ∷ drop 1 xs
-list-first [] x h = absurd (cc)
-list-first (y ∷ ys) x h = let same : y ≡ x = cc in ap (λ (z : ℤ). z ∷ ys) same
-
-pub list-no_first : (xs : List ℤ) → slice_get xs 0 ≡ None → xs ≡ []
-list-no_first [] h = refl
-list-no_first (y ∷ ys) h = absurd (cc)
 
 -- what comes after some of a rising list rises
 pub rises-drop : (xs : List ℤ) (k : ℕ) → IsStrictlySortedBy int_cmp xs → IsStrictlySortedBy int_cmp (drop k xs)

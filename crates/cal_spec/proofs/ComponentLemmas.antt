@@ -16,7 +16,7 @@ use Rattle.cal_spec.specs.declared.slot.Slot.{Slot}
 use Rattle.cal_spec.specs.declared.slot.Slot.TheVariants.{Year, Month, Day, DayFromEnd, Hour, Minute, Second}
 use Rattle.cal_spec.specs.declared.spec_fault.SpecFault.{SpecFault}
 use Rattle.cal_spec.specs.declared.spec_fault.SpecFault.TheVariants.{OutOfField, BackwardRange, ZeroRepeat, NoRepeat, TooManyParts}
-use Rattle.cal_spec.proofs.PieceLemmas.{some_piece}
+use Rattle.cal_text.proofs.General.{some_piece}
 use Rattle.cal_spec.proofs.ReadLemmas.{bind_ok, unless_ok, cond_ok}
 
 -- a part without a fault

@@ -22,9 +22,8 @@ use Rattle.cal_spec.proofs.CleanLemmas.{IsClear, Apart, clear_from, split_joined
 use Rattle.cal_spec.proofs.ComponentLemmas.{parts_of-cons, sound_parts, listed_ok}
 use Rattle.cal_spec.proofs.FaultLemmas.{part_due_is}
 use Rattle.cal_spec.proofs.PartRule.{part_found, part_only}
-use Rattle.cal_spec.proofs.PieceLemmas.{some_piece}
+use Rattle.cal_text.proofs.General.{some_piece, both_all}
 use Rattle.cal_spec.proofs.ReadLemmas.{bind_ok}
-use Rattle.cal_zone.proofs.OffsetWordLemmas.{both_all}
 
 -- A part with a meaning has no fault
 

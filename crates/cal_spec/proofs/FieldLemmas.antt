@@ -38,7 +38,7 @@ use Rattle.cal_spec.specs.declared.spec_fault.SpecFault.{SpecFault}
 use Rattle.cal_spec.specs.declared.spec_fault.SpecFault.TheVariants.{TextTooLong, BadWeekday, UnknownShorthand}
 use Rattle.cal_spec.specs.declared.weekdays.Days.{Days}
 use Rattle.cal_spec.proofs.ComponentLemmas.{IsRead, component_read}
-use Rattle.cal_spec.proofs.PieceLemmas.{some_piece}
+use Rattle.cal_text.proofs.General.{some_piece}
 use Rattle.cal_spec.proofs.ReadLemmas.{bind_ok, cond_ok, three_ok, four_ok}
 
 -- Dates and times

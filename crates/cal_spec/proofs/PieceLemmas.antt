@@ -8,6 +8,7 @@ use Rattle.std.proofs.lemmas.Bool.{not-true, ltb-true, ltb-false}
 use Rattle.std.proofs.lemmas.List.Sums.{prefix_len_passes, prefix_len-le-length}
 use Rattle.std.proofs.lemmas.List.Splits.{slice_split_first, slice_split_none}
 use Rattle.std.proofs.lemmas.Option.{cond_some}
+use Rattle.cal_text.proofs.General.{some_piece}
 
 not_found : (test : Bool) (m : ℕ) → cond test (Some m) None ≡ None → test ≡ false
 not_found true m at = cc
@@ -57,19 +58,6 @@ cut_some p xs n at =
 pub cut_none : (p : ℕ → Bool) (xs : List ℕ) → position p xs ≡ None → (slice_split p xs ≡ xs ∷ []) × (filter p xs ≡ [])
 cut_none p xs at =
     (split_none p xs at, filter_none p xs (ltb-false _ _ (not_found (nat_lt (position_or_len p xs) (length xs)) (position_or_len p xs) at)))
-
--- there is always a piece
-some_onto : (x : ℕ) (pieces : List (List ℕ)) → (first : List ℕ) × (more : List (List ℕ)) × (onto_first x pieces ≡ first ∷ more)
-some_onto x [] = (x ∷ [], [], refl)
-some_onto x (t ∷ ts) = (x ∷ t, ts, refl)
-
-pub some_piece : (p : ℕ → Bool) (xs : List ℕ) → (first : List ℕ) × (more : List (List ℕ)) × (slice_split p xs ≡ first ∷ more)
-some_piece p [] = ([], [], refl)
-some_piece p (x ∷ xs) =
-    elim (p x) as (λ test. (first : List ℕ) × (more : List (List ℕ)) × (cond test ([] ∷ slice_split p xs) (onto_first x (slice_split p xs)) ≡ first ∷ more)) [
-      | true ↦ ([], slice_split p xs, refl)
-      | false ↦ some_onto x (slice_split p xs)
-    ]
 
 -- four pieces are no time
 pub no_time : (word hour minute second b1 b2 b3 : List ℕ) → slice_split is_colon word ≡ hour ∷ slice_split is_colon b1 → slice_split is_colon b1 ≡ minute ∷ slice_split is_colon b2 → slice_split is_colon b2 ≡ second ∷ slice_split is_colon b3 → None ≡ time_texts word

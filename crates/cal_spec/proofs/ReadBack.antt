@@ -31,11 +31,11 @@ use Rattle.cal_spec.specs.declared.part.Part.{Part}
 use Rattle.cal_spec.specs.declared.slot.Slot.TheVariants.{Year, Month, Hour, Minute, Second}
 use Rattle.cal_spec.proofs.LengthLemmas.{AreSmall, expr_length, small_component, small_second}
 use Rattle.cal_spec.proofs.NormalFieldsLemmas.{fields_valid}
-use Rattle.cal_spec.proofs.ReadBackParts.{clear_of, component_back, component_bytes, component_some, is_component_byte, split_alone, split_at, wider}
+use Rattle.cal_text.proofs.General.{split_alone, split_at, some_front, both_all}
+use Rattle.cal_spec.proofs.ReadBackParts.{clear_of, component_back, component_bytes, component_some, is_component_byte, wider}
 use Rattle.cal_spec.proofs.ReadBackWeekdays.{ReadsDays, weekdays_all, weekdays_some}
 use Rattle.cal_spec.proofs.WordRule.{no_shorthand}
 use Rattle.cal_spec.proofs.WeekdayLemmas.{weekdays_text-all, weekdays_text-some}
-use Rattle.cal_zone.proofs.OffsetWordLemmas.{both_all}
 use Rattle.cal_spec.proofs.DateRule.{date_with, time_with}
 
 -- fields that are read back: valid, with small numbers
@@ -135,9 +135,6 @@ time_bytes f h =
     (both_all is_time_byte (component_text 2 f.minute) (58 ∷ component_text 2 f.second)
     (wider is_component_byte is_time_byte (component_text 2 f.minute) in_time (component_bytes 2 f.minute h.minute))
     (wider is_component_byte is_time_byte (component_text 2 f.second) in_time (component_bytes 2 f.second h.second)))
-
-pub some_front : (xs ys : List ℕ) → 0 < length xs → 0 < length (xs ++ ys)
-some_front xs ys h = omega (arith, length-append xs ys)
 
 date_some : (f : Fields) → IsReadable f → 0 < length (date_word f)
 unfolding date_word

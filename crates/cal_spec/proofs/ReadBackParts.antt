@@ -25,7 +25,7 @@ use Rattle.cal_spec.proofs.ComponentRule.{no_first_fault, fits_in, digit_is_part
 use Rattle.cal_spec.proofs.LengthLemmas.{AreSmall, IsBelow, IsSmall, step_small}
 use Rattle.cal_spec.proofs.NormalLemmas.{same_part}
 use Rattle.cal_spec.proofs.SymbolLemmas.{begins_with, symbols_lone, symbols_number}
-use Rattle.cal_zone.proofs.OffsetWordLemmas.{both_all}
+use Rattle.cal_text.proofs.General.{both_all, digits_all, zeros_all, zeros_value, split_alone, split_at}
 use Rattle.cal_spec.proofs.PartRule.{slash_symbols}
 
 -- Numbers
@@ -33,20 +33,6 @@ use Rattle.cal_spec.proofs.PartRule.{slash_symbols}
 -- the digits of a number in at least that many digits
 abbrev pub padded : ℕ → ℕ → List ℕ
 padded width n = zeros width n ++ decimal n
-
-pub digits_all : (ds : List ℕ) → AllDigits 10 ds → list_all is_ascii_digit ds ≡ true
-digits_all [] h = refl
-digits_all (c ∷ cs) h =
-    let range = digit_from_value c h.0 in
-    and_from (is_ascii_digit c) (list_all is_ascii_digit cs) (and_from (nat_le 48 c) (nat_le c 57) (le-leb 48 c range.0) (le-leb c 57 range.1)) (digits_all cs h.1)
-
-pub zeros_all : (k : ℕ) (ds : List ℕ) → list_all is_ascii_digit (replicate k 48 ++ ds) ≡ list_all is_ascii_digit ds
-zeros_all zero ds = refl
-zeros_all (suc k) ds = zeros_all k ds
-
-pub zeros_value : (k : ℕ) (ds : List ℕ) → digits_value 10 (replicate k 48 ++ ds) ≡ digits_value 10 ds
-zeros_value zero ds = refl
-zeros_value (suc k) ds = zeros_value k ds
 
 zeros_some : (k : ℕ) (ds : List ℕ) → 0 < length ds → 0 < length (replicate k 48 ++ ds)
 zeros_some zero ds h = h
@@ -182,19 +168,6 @@ values_stay Minute p h = refl
 values_stay Second p h = refl
 
 -- Splitting
-
--- a text without a separator in front of one
-pub split_at : (p : ℕ → Bool) (front : List ℕ) (c : ℕ) (rest : List ℕ) → list_any p front ≡ false → p c ≡ true → slice_split p (front ++ (c ∷ rest)) ≡ front ∷ slice_split p rest
-split_at p [] c rest clear sign = rw sign refl
-split_at p (x ∷ xs) c rest clear sign =
-    let parts = or_parts (p x) (list_any p xs) clear in
-    rw (parts.0, split_at p xs c rest parts.1 sign) refl
-
-pub split_alone : (p : ℕ → Bool) (xs : List ℕ) → list_any p xs ≡ false → slice_split p xs ≡ xs ∷ []
-split_alone p [] clear = refl
-split_alone p (x ∷ xs) clear =
-    let parts = or_parts (p x) (list_any p xs) clear in
-    rw (parts.0, split_alone p xs parts.1) refl
 
 -- texts joined by a separator
 pub split_joined : {A : Type 0} (p : ℕ → Bool) (c : ℕ) (f : A → List ℕ) (x : A) (xs : List A) → p c ≡ true → AllByRecursion (λ y. list_any p (f y) ≡ false) (x ∷ xs)

@@ -21,7 +21,7 @@ use Rattle.cal_zone.specs.headline.ZoneName.{begins_with_letter}
 use Rattle.cal_spec.specs.declared.weekdays.Days.{Days}
 use Rattle.cal_spec.proofs.CleanLemmas.{IsClear, Apart, clear_from, split_joined, some_pieces}
 use Rattle.cal_spec.proofs.FieldLemmas.{items_of-cons, weekdays_found}
-use Rattle.cal_zone.proofs.OffsetWordLemmas.{both_all}
+use Rattle.cal_text.proofs.General.{both_all}
 
 -- Names
 

@@ -8,7 +8,7 @@ use Rattle.cal_text.proofs.WordLemmas.{words-blank}
 use Rattle.cal_spec.specs.GrammarRule.{IsWord, Ends, AreWords}
 use Rattle.cal_text.specs.headline.Words.{is_blank, words}
 use Rattle.cal_spec.proofs.CleanLemmas.{split_at, split_alone}
-use Rattle.cal_spec.proofs.PieceLemmas.{some_piece}
+use Rattle.cal_text.proofs.General.{some_piece}
 use Rattle.cal_spec.proofs.WordRule.{clear_by}
 
 abbrev solid : List (List ℕ) → List (List ℕ)

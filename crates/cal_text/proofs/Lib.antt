@@ -1,4 +1,5 @@
 pub mod DigitLemmas
+pub mod General
 pub mod TextEnds
 pub mod TrimLemmas
 pub mod WordLemmas

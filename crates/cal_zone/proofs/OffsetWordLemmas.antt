@@ -15,6 +15,7 @@ use Rattle.cal_zone.specs.headline.InstantText.{offset_text, zeros}
 use Rattle.cal_zone.specs.OffsetWord.{AreWholeMinutes, clock_seconds, clock_in, offset_in, two_digits}
 use Rattle.cal_zone.specs.headline.OffsetWord.{AreTwoDigits, IsClock, IsOffsetWord, begins_with_sign, is_sign}
 use Rattle.cal_zone.specs.headline.ZoneAhead.{offset_of_seconds}
+use Rattle.cal_text.proofs.General.{both_all}
 
 -- Two digits
 
@@ -130,9 +131,6 @@ is_offset_byte b = is_ascii_digit b || (is_sign b || (b == 58))
 digit_bytes : (bs : List ℕ) → list_all is_ascii_digit bs ≡ true → list_all is_offset_byte bs ≡ true
 digit_bytes [] h = refl
 digit_bytes (b ∷ bs) h = let parts = and_parts (is_ascii_digit b) (list_all is_ascii_digit bs) h in rw (parts.0, digit_bytes bs parts.1) refl
-
-pub both_all : (q : ℕ → Bool) (xs ys : List ℕ) → list_all q xs ≡ true → list_all q ys ≡ true → list_all q (xs ++ ys) ≡ true
-both_all q xs ys h k = list_all-append q xs ys ∙ and_from (list_all q xs) (list_all q ys) h k
 
 clock-bytes : (text : List ℕ) (n : ℕ) → IsClock text n → (list_all is_offset_byte text ≡ true) × (length text ≡ 5)
 clock-bytes text n h =

@@ -28,17 +28,18 @@ use Rattle.cal_zone.specs.Steady.{IsEvenUntil, year_end}
 use Rattle.cal_zone.specs.declared.period.Period.{Period}
 use Rattle.cal_zone.proofs.DayLemmas.{epoch_day-date_of}
 use Rattle.cal_zone.proofs.PlacerLemmas.{floor_second-whole, offset_between, offset_behind, offset_standard, rule_behind}
-use Rattle.cal_zone.proofs.RuleLemmas.{IsApart, IsBeside, clamped, in_its_year, lt_no, lt_yes, moment_on, next_behind, offset_in, ordered_apart, ordered_rises, utc_year, window_apart, window_beside, window_of}
+use Rattle.cal_text.proofs.General.{lt_test, not_lt_test}
+use Rattle.cal_zone.proofs.RuleLemmas.{IsApart, IsBeside, clamped, in_its_year, moment_on, next_behind, offset_in, ordered_apart, ordered_rises, utc_year, window_apart, window_beside, window_of}
 
 -- what lies within the ends is on one side of a moment that doesn't
 beside_within : (low high moment at other : ℤ) → IsApart low high (pos 0) moment → low ≤ℤ at → at <ℤ high → low ≤ℤ other → other <ℤ high → IsBeside moment at other
 beside_within low high moment at other (inl h) a b c d = record {
   le = le_yes moment at (omega (arith, signed_arith)) ∙ sym (le_yes moment other (omega (arith, signed_arith)));
-  lt = lt_no at moment (omega (arith, signed_arith)) ∙ sym (lt_no other moment (omega (arith, signed_arith)));
+  lt = not_lt_test at moment (omega (arith, signed_arith)) ∙ sym (not_lt_test other moment (omega (arith, signed_arith)));
 }
 beside_within low high moment at other (inr h) a b c d = record {
   le = le_no moment at (omega (arith, signed_arith)) ∙ sym (le_no moment other (omega (arith, signed_arith)));
-  lt = lt_yes at moment (omega (arith, signed_arith)) ∙ sym (lt_yes other moment (omega (arith, signed_arith)));
+  lt = lt_test at moment (omega (arith, signed_arith)) ∙ sym (lt_test other moment (omega (arith, signed_arith)));
 }
 
 -- a rule's moments lie in their year

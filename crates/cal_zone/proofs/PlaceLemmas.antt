@@ -12,6 +12,7 @@ use Rattle.cal_zone.specs.headline.Place.{datetime_of, place_of, settle_of, time
 use Rattle.cal_zone.specs.headline.Zone.{local_of}
 use Rattle.cal_zone.proofs.DayLemmas.{epoch_day-date_of}
 use Rattle.cal_zone.proofs.ZoneLemmas.{offset_at-in_range}
+use Rattle.cal_text.proofs.General.{by_test, other_test}
 
 -- the civil time of a local second stands for that second
 pub civil_nanos-datetime_of : (local : ℤ) → IsEpochDay (day_of local) → civil_nanos (datetime_of local) ≡ nanos_of_seconds local
@@ -78,17 +79,10 @@ unfolding place_of
 place_of-shown tz local second settled shown =
     rw (← settled, (Decides-int_eq (local_of tz second) local).1 shown)
 
-other_test : (a b : ℤ) → (a ≡ b → ⊥) → int_eq a b ≡ false
-other_test a b e = grind (arith, ints)
-
 pub place_of-skipped : (tz : TimeZone) (local second : ℤ) → second ≡ settle_of tz local → (local_of tz second ≡ local → ⊥) → place_of tz local ≡ None
 unfolding place_of
 place_of-skipped tz local second settled skipped =
     rw (← settled, other_test (local_of tz second) local skipped)
-
-by_test : (b : Bool) (s place : ℤ) → ◌≡◌ {A = Option ℤ} (if b then Some s else None) (Some place) → (b ≡ true) × (s ≡ place)
-by_test true s place e = (refl, cc)
-by_test false s place e = cc
 
 -- a place is where its local second settles, and the clock shows the local second there
 pub place_of-Some : (tz : TimeZone) (local place : ℤ) → place_of tz local ≡ Some place → (settle_of tz local ≡ place) × (local_of tz place ≡ local)

@@ -30,12 +30,7 @@ use Rattle.jiff_tz.specs.declared.posix.TimeZone.{TimeZone as Posix}
 use Rattle.jiff_tz.specs.PosixRule.{ambiguous_at_by, ambiguous_by, civil_max, civil_min, clamp_to, first_day, first_nanosecond, in_window, int_same, last_nanosecond, match_some, nanos_per_day, next_by, next_year, ordered, rule_day, rule_nanos, saturating_add, saturating_sub, shift_between, transition_of, utc_window}
 use Rattle.jiff_tz.specs.PosixRule as ByPosix
 use Rattle.jiff_tz.proofs.TzifLemmas.{le_no, le_yes}
-
-pub lt_yes : (a b : ℤ) → a <ℤ b → int_lt a b ≡ true
-lt_yes a b h = grind (arith, ints)
-
-pub lt_no : (a b : ℤ) → b ≤ℤ a → int_lt a b ≡ false
-lt_no a b h = grind (arith, ints)
+use Rattle.cal_text.proofs.General.{lt_test, not_lt_test}
 
 -- two moments are on one side of a third
 pub record IsBeside (moment at other : ℤ) : Type 0 where
@@ -51,11 +46,11 @@ beside : (low high by far moment at other : ℤ) → IsApart low high by moment 
     → IsBeside moment at other
 beside low high by far moment at other (inl h) more a b c d = record {
   le = le_yes moment at (omega (arith, signed_arith)) ∙ sym (le_yes moment other (omega (arith, signed_arith)));
-  lt = lt_no at moment (omega (arith, signed_arith)) ∙ sym (lt_no other moment (omega (arith, signed_arith)));
+  lt = not_lt_test at moment (omega (arith, signed_arith)) ∙ sym (not_lt_test other moment (omega (arith, signed_arith)));
 }
 beside low high by far moment at other (inr h) more a b c d = record {
   le = le_no moment at (omega (arith, signed_arith)) ∙ sym (le_no moment other (omega (arith, signed_arith)));
-  lt = lt_yes at moment (omega (arith, signed_arith)) ∙ sym (lt_yes other moment (omega (arith, signed_arith)));
+  lt = lt_test at moment (omega (arith, signed_arith)) ∙ sym (lt_test other moment (omega (arith, signed_arith)));
 }
 
 -- a moment near another
