@@ -43,26 +43,26 @@ pub record IsLastWord (word : List ℕ) : Type 0 where
 -- The bytes of an offset
 
 -- signs, digits and colons
-abbrev is_offset_byte : ℕ → Bool
-is_offset_byte b = nat_le 43 b && nat_le b 58
+abbrev is_signed_byte : ℕ → Bool
+is_signed_byte b = nat_le 43 b && nat_le b 58
 
-digit_fits : (b : ℕ) → is_ascii_digit b ≡ true → is_offset_byte b ≡ true
+digit_fits : (b : ℕ) → is_ascii_digit b ≡ true → is_signed_byte b ≡ true
 digit_fits b h = grind (arith, nat_tests)
 
-sign_fits : (b : ℕ) → 43 ≤ b → b ≤ 45 → is_offset_byte b ≡ true
+sign_fits : (b : ℕ) → 43 ≤ b → b ≤ 45 → is_signed_byte b ≡ true
 sign_fits b from to = grind (arith, nat_tests)
 
-byte_within : (b : ℕ) → is_offset_byte b ≡ true → (43 ≤ b) × (b ≤ 58)
+byte_within : (b : ℕ) → is_signed_byte b ≡ true → (43 ≤ b) × (b ≤ 58)
 byte_within b h =
     let from : 43 ≤ b = grind (arith, nat_tests) in let to : b ≤ 58 = grind (arith, nat_tests) in (from, to)
 
-no_blank : (b : ℕ) → is_offset_byte b ≡ true → is_blank b ≡ false
+no_blank : (b : ℕ) → is_signed_byte b ≡ true → is_blank b ≡ false
 no_blank b h = grind (arith, nat_tests)
 
 no_letter : (b : ℕ) → b ≤ 45 → is_ascii_alphabetic b ≡ false
 no_letter b to = grind (arith, nat_tests)
 
-digits_fit : (ds : List ℕ) → list_all is_ascii_digit ds ≡ true → list_all is_offset_byte ds ≡ true
+digits_fit : (ds : List ℕ) → list_all is_ascii_digit ds ≡ true → list_all is_signed_byte ds ≡ true
 digits_fit [] h = refl
 digits_fit (d ∷ ds) h =
     let parts = and_parts (is_ascii_digit d) (list_all is_ascii_digit ds) h in
@@ -75,9 +75,9 @@ record IsSigned (text : List ℕ) : Type 0 where
   whole : text ≡ sign ∷ body
   from : 43 ≤ sign
   to : sign ≤ 45
-  low : list_all is_offset_byte body ≡ true
+  low : list_all is_signed_byte body ≡ true
 
-signed_all : (text : List ℕ) (h : IsSigned text) → list_all is_offset_byte text ≡ true
+signed_all : (text : List ℕ) (h : IsSigned text) → list_all is_signed_byte text ≡ true
 signed_all text h = rw (h.whole, sign_fits h.sign h.from h.to) h.low
 
 signed_some : (text : List ℕ) → IsSigned text → 0 < length text
@@ -87,9 +87,9 @@ signed_last : (text : List ℕ) → IsSigned text → IsLastWord text
 signed_last text h =
     let all = signed_all text h in
     let some = signed_some text h in
-    let within = byte_within (last_byte text) (AllPass-from_list_all is_offset_byte text all (length text - 1) 0 (omega arith)) in
+    let within = byte_within (last_byte text) (AllPass-from_list_all is_signed_byte text all (length text - 1) 0 (omega arith)) in
     record {
-      is_word = record { some = some; solid = any_clear is_blank text (clear_from is_offset_byte is_blank text no_blank all) };
+      is_word = record { some = some; solid = any_clear is_blank text (clear_from is_signed_byte is_blank text no_blank all) };
       from = within.0;
       to = omega (arith, within.1);
     }
@@ -134,25 +134,25 @@ abs_within : (offset : ℤ) → IsOffsetSeconds offset → unsigned_abs offset �
 abs_within (pos n) h = omega (arith, signed_arith, h.1)
 abs_within (negsuc n) h = omega (arith, signed_arith, h.0)
 
-signed_by : (offset : ℤ) (body : List ℕ) (west : Bool) → int_lt offset (pos 0) ≡ west → list_all is_offset_byte body ≡ true → IsSigned (sign_text offset ++ body)
+signed_by : (offset : ℤ) (body : List ℕ) (west : Bool) → int_lt offset (pos 0) ≡ west → list_all is_signed_byte body ≡ true → IsSigned (sign_text offset ++ body)
 signed_by offset body true e low = record { sign = 45; body = body; whole = rw e refl; from = omega arith; to = omega arith; low = low }
 signed_by offset body false e low = record { sign = 43; body = body; whole = rw e refl; from = omega arith; to = omega arith; low = low }
 
-minutes_fit : (offset : ℤ) → IsOffsetSeconds offset → list_all is_offset_byte (hour_in offset ++ (58 ∷ minute_in offset)) ≡ true
+minutes_fit : (offset : ℤ) → IsOffsetSeconds offset → list_all is_signed_byte (hour_in offset ++ (58 ∷ minute_in offset)) ≡ true
 minutes_fit offset h =
     let most = abs_within offset h in
     let hour = digits_fit (hour_in offset) (two_printed (unsigned_abs offset / 3_600) (omega arith)).digits in
     let minute = digits_fit (minute_in offset) (two_printed (unsigned_abs offset / 60 % 60) (omega arith)).digits in
-    both_all is_offset_byte (hour_in offset) (58 ∷ minute_in offset) hour minute
+    both_all is_signed_byte (hour_in offset) (58 ∷ minute_in offset) hour minute
 
-seconds_fit : (offset : ℤ) → IsOffsetSeconds offset → list_all is_offset_byte (hour_in offset ++ (58 ∷ (minute_in offset ++ (58 ∷ second_in offset)))) ≡ true
+seconds_fit : (offset : ℤ) → IsOffsetSeconds offset → list_all is_signed_byte (hour_in offset ++ (58 ∷ (minute_in offset ++ (58 ∷ second_in offset)))) ≡ true
 seconds_fit offset h =
     let most = abs_within offset h in
     let hour = digits_fit (hour_in offset) (two_printed (unsigned_abs offset / 3_600) (omega arith)).digits in
     let minute = digits_fit (minute_in offset) (two_printed (unsigned_abs offset / 60 % 60) (omega arith)).digits in
     let second = digits_fit (second_in offset) (two_printed (unsigned_abs offset % 60) (omega arith)).digits in
-    both_all is_offset_byte (hour_in offset) (58 ∷ (minute_in offset ++ (58 ∷ second_in offset))) hour
-    (both_all is_offset_byte (minute_in offset) (58 ∷ second_in offset) minute second)
+    both_all is_signed_byte (hour_in offset) (58 ∷ (minute_in offset ++ (58 ∷ second_in offset))) hour
+    (both_all is_signed_byte (minute_in offset) (58 ∷ second_in offset) minute second)
 
 offset_signed_by : (offset : ℤ) (whole : Bool) → IsOffsetSeconds offset → (unsigned_abs offset % 60 == 0) ≡ whole → IsSigned (offset_text offset)
 offset_signed_by offset true h e = rw (in_minutes offset e) (signed_by offset _ _ refl (minutes_fit offset h))
