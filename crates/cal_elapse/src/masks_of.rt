@@ -56,7 +56,7 @@ fn members(expr: &Expr, field: Field, first: u16, count: u32) -> u64
 {
     match expr.field(field) {
         Some(parts) => in_parts(parts, first, count),
-        None => run(0, count),
+        None => bits_between(0, count),
     }
 }
 
@@ -87,7 +87,7 @@ fn in_part(part: Part, first: u16, count: u32) -> u64
         .min(count);
     match part.step {
         Some(step) => steps(low, high, first, part.start, step),
-        None => run(low, high),
+        None => bits_between(low, high),
     }
 }
 
@@ -102,8 +102,8 @@ fn last_of(part: Part) -> u16
     }
 }
 
-/// The indices from one on, and below another.
-fn run(low: u32, high: u32) -> u64
+/// The bits from one on and below another.
+fn bits_between(low: u32, high: u32) -> u64
     requires { high ≤ 64 }
     ensures { (i : ℕ) → is_bit result i ≡ (nat_le low i && nat_lt i high) }
 {

@@ -29,7 +29,7 @@ impl MonthDays {
         ensures within { (k : ℕ) → is_bit result.bits k ≡ true → k < month.length }
     {
         *looks += 1;
-        let days = masks.days >> lowest_bit(masks.from_end, month.length);
+        let days = masks.days >> first_day_bit(masks.from_end, month.length);
         let weekdays = masks.weekdays >> ((month.first + 3) % 7);
         MonthDays {
             bits: days & weekdays & all_days(month.length),
@@ -54,7 +54,7 @@ impl MonthDays {
 }
 
 /// Where a month's first day is in the mask of days.
-fn lowest_bit(from_end: bool, length: u32) -> u32
+fn first_day_bit(from_end: bool, length: u32) -> u32
     requires { length ≤ 31 }
     ensures { result ≡ (if from_end then 31 - length else 0) }
 {

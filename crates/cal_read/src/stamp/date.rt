@@ -26,7 +26,7 @@ pub(crate) fn read_date(word: &[u8]) -> Result<i64, StampFault>
     ensures range { IfOk result (IsBetween (pos 0) (pos 84_005)) }
 {
     match date_numbers(word) {
-        Some(date) => day_number(with_century(date.year), date.month, date.day),
+        Some(date) => day_of_date(with_century(date.year), date.month, date.day),
         None => Err(StampFault::BadDate),
     }
 }
@@ -63,7 +63,7 @@ pub(crate) fn read_number(word: &[u8], most: usize) -> Option<u16>
 
 /// The day number of a day from 1970-01-01 to 2199-12-31.
 #[tactic(auto, unfolding(crate::specs::StampDate::day_of_date))]
-fn day_number(year: u16, month: u16, day: u16) -> Result<i64, StampFault>
+fn day_of_date(year: u16, month: u16, day: u16) -> Result<i64, StampFault>
     ensures value { result ≡ day_of_date year month day }
     ensures range { IfOk result (IsBetween (pos 0) (pos 84_005)) }
 {

@@ -98,7 +98,7 @@ fn with_micros(second: i64, micros: u64) -> i64
 
 /// The number of the day beside the present one, or of that day itself, in the zone.
 #[tactic(auto, unfolding(crate::specs::Stamp::today))]
-pub(crate) fn day_number(now: Instant, zone: Zone, day: NearDay) -> i64
+pub(crate) fn near_day(now: Instant, zone: Zone, day: NearDay) -> i64
     ensures value { result ≡ today now.secs (zone_of zone.entry) +ℤ shift_of day }
     ensures range { IsBetween (neg_ℤ (pos 3)) (pos 84_009) result }
 {

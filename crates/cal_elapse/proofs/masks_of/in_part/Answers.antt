@@ -14,6 +14,6 @@ pub returns-in-None : goal.returns-in-None
 returns-in-None c = λ slot w i.
     let low : c.from-low.result ≡ c.args.part.start - c.args.first = cc in
     let high : c.min-high.result ≡ min (last_number c.args.part.start c.args.part.end c.args.part.step + 1 - c.args.first) c.args.count = cc in
-    c.run.ensures i
+    c.bits_between.ensures i
     ∙ (sym (and_true (nat_le c.from-low.result i && nat_lt i c.min-high.result))
     ∙ part_in_window slot c.args.part None c.args.first c.args.count c.from-low.result c.min-high.result i w c.in-None.is low high)

@@ -19,4 +19,4 @@ returns-in-Some c = λ i.
 
 pub returns-in-None : goal.returns-in-None
 returns-in-None c = λ i.
-    c.run.ensures i ∙ whole_window c.args.field c.args.expr.now c.args.first c.args.count i c.requires.window c.in-None.ensures.parts
+    c.bits_between.ensures i ∙ whole_window c.args.field c.args.expr.now c.args.first c.args.count i c.requires.window c.in-None.ensures.parts

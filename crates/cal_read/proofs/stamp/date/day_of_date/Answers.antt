@@ -3,7 +3,7 @@ use Rattle.std.proofs.lemmas.Int.{ints}
 use Rattle.jiff.specs.Words.{IsBetween}
 use Rattle.jiff.proofs.SpanFacts.{signed_arith}
 use Rattle.cal_zone.proofs.YearLemmas.{day_of_year}
-use Rattle.cal_read.proofs.stamp.date.day_number.Goals as goal
+use Rattle.cal_read.proofs.stamp.date.day_of_date.Goals as goal
 
 pub returns-in-Ok-clause-range : goal.returns-in-Ok-clause-range
 returns-in-Ok-clause-range c =
