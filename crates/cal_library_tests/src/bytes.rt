@@ -143,22 +143,22 @@ fn writes_until_it_fails(rt: HostRuntime) {
     expect_written(&rt, &WRITERS);
 }
 
-/// What a buffer answers to `abc` and to being settled over a writer that takes that many bytes, whether it has failed, and
+/// What a buffer answers to `abc` and to being flushed over a writer that takes that many bytes, whether it has failed, and
 /// the writer.
 fn hold_back(alloc: Global, limit: usize) -> Result<((Option<usize>, bool, bool), Faulty), Fail> {
     let writer = Faulty::new(Vec::new(alloc), 2, limit, Then::Error);
     let mut port = Port::new(BufWriter::new(alloc, writer)?);
-    let answers = (port.offer(b"abc"), port.settle(), port.failed());
+    let answers = (port.offer(b"abc"), port.flush(), port.failed());
     let (writer, _) = port.into_inner().into_parts();
     Ok((answers, writer))
 }
 
-/// What a buffer holds back goes out when it is settled, as far as the writer takes it.
+/// What a buffer holds back goes out when it is flushed, as far as the writer takes it.
 #[test]
-fn held_back_until_settled(rt: HostRuntime) -> Result<(), Fail> {
-    for (limit, is_settled, written) in [(3, true, "abc"), (2, false, "ab")] {
+fn held_back_until_flushed(rt: HostRuntime) -> Result<(), Fail> {
+    for (limit, is_flushed, written) in [(3, true, "abc"), (2, false, "ab")] {
         let (answers, writer) = hold_back(rt.alloc(), limit)?;
-        let holds = answers == (Some(3), is_settled, !is_settled);
+        let holds = answers == (Some(3), is_flushed, !is_flushed);
         assert!(rt; holds && writer.bytes() == written.as_bytes(), "at {limit}");
     }
     Ok(())

@@ -31,7 +31,7 @@ use Rattle.cal_zone.specs.declared.zone.Zone.{Zone}
 use Rattle.cal_spec.proofs.WordsBetween.{words_only}
 use Rattle.cal_text.specs.headline.Separators.{is_colon}
 use Rattle.cal_spec.specs.GrammarRule.{IsWord}
-use Rattle.cal_text.specs.TrimRule.{IsFlush, IsTrimmed}
+use Rattle.cal_text.specs.TrimRule.{StartsSolid, IsTrimmed}
 use Rattle.cal_text.specs.headline.Words.{is_blank, words}
 use Rattle.cal_read.proofs.StampPrintedTexts.{IsClock, IsDayName, date_back, date_no_colon, date_solid, date_some, date_word, in_week, other_date_back, short_names, time_back, time_digit, time_solid, time_some, time_word, year_of}
 use Rattle.cal_zone.proofs.PlaceLemmas.{local_of-UTC}
@@ -71,9 +71,9 @@ capital_no_blank b h = grind (arith, nat_tests)
 last_no_blank : (b : ℕ) → 43 ≤ b → is_blank b ≡ false
 last_no_blank b h = grind (arith, nat_tests)
 
-flush_at : (text : List ℕ) → is_blank (get_or text 0 0) ≡ false → IsFlush is_blank text
-flush_at [] h = tt
-flush_at (b ∷ bs) h = h
+solid_at : (text : List ℕ) → is_blank (get_or text 0 0) ≡ false → StartsSolid is_blank text
+solid_at [] h = tt
+solid_at (b ∷ bs) h = h
 
 -- what a text is not: one that begins with a sign, ends in a word or begins with the word of a day
 no_sign : (core : List ℕ) (sign : ℕ) (means : List ℕ → Form) → 65 ≤ get_or core 0 0 → sign < 65 → (other : Form) → IsBehindSign (sign ∷ []) means core other → ⊥
@@ -132,8 +132,8 @@ module _ (day : Weekday) (name date time zone : List ℕ) (is : IsLine day name 
         blanks = tt;
         blanks_after = tt;
         whole = sym (append-nil core);
-        flush = flush_at core (capital_no_blank (get_or core 0 0) line_capital);
-        flush_end = flush_at (reverse core) (ap is_blank (back ∙ line_last) ∙ last_no_blank (last_byte zone) is.zone_word.from);
+        solid_start = solid_at core (capital_no_blank (get_or core 0 0) line_capital);
+        solid_end = solid_at (reverse core) (ap is_blank (back ∙ line_last) ∙ last_no_blank (last_byte zone) is.zone_word.from);
       }
 
   fits_words : FitsByWords (line name date time zone) (civil (line_words name date time zone))

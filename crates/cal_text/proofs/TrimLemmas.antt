@@ -5,28 +5,28 @@ use Rattle.std.proofs.Math.Numerals.{one-add}
 use Rattle.std.proofs.Math.Seq.{take-append_seam}
 use Rattle.std.proofs.lemmas.List.{length-reverse, reverse-append, reverse-reverse, take-append-drop}
 use Rattle.std.proofs.lemmas.List.Sums.{suffix_len-le-length}
-use Rattle.cal_text.specs.TrimRule.{IsFlush, IsTrimmed, IsUnindented}
+use Rattle.cal_text.specs.TrimRule.{StartsSolid, IsTrimmed, IsUnindented}
 use Rattle.cal_text.specs.headline.Trim.{trim_matches, trim_end_matches, trim_start_matches}
 
 -- a line without the blanks at its start
 unindented_as : (p : ℕ → Bool) (blank : Bool) (b : ℕ) (bs : List ℕ) → p b ≡ blank → IsUnindented p bs (trim_start_matches p bs) → IsUnindented p (b ∷ bs) (trim_start_matches p (b ∷ bs))
 unfolding trim_start_matches
-unindented_as p true b bs e rest = rw (e, one-add) (record { indent = b ∷ rest.indent; blanks = (e, rest.blanks); whole = ap (λ xs. b ∷ xs) rest.whole; flush = rest.flush })
-unindented_as p false b bs e rest = rw e (record { indent = []; blanks = tt; whole = refl; flush = e })
+unindented_as p true b bs e rest = rw (e, one-add) (record { indent = b ∷ rest.indent; blanks = (e, rest.blanks); whole = ap (λ xs. b ∷ xs) rest.whole; solid_start = rest.solid_start })
+unindented_as p false b bs e rest = rw e (record { indent = []; blanks = tt; whole = refl; solid_start = e })
 
 pub unindented : (p : ℕ → Bool) (line : List ℕ) → IsUnindented p line (trim_start_matches p line)
 unfolding trim_start_matches
-unindented p [] = record { indent = []; blanks = tt; whole = refl; flush = tt }
+unindented p [] = record { indent = []; blanks = tt; whole = refl; solid_start = tt }
 unindented p (b ∷ bs) = unindented_as p (p b) b bs refl (unindented p bs)
 
-trimmed : (p : ℕ → Bool) (indent text : List ℕ) → AllByRecursion (λ b. p b ≡ true) indent → IsFlush p text → trim_start_matches p (indent ++ text) ≡ text
+trimmed : (p : ℕ → Bool) (indent text : List ℕ) → AllByRecursion (λ b. p b ≡ true) indent → StartsSolid p text → trim_start_matches p (indent ++ text) ≡ text
 unfolding trim_start_matches
-trimmed p [] [] blanks flush = refl
-trimmed p [] (b ∷ bs) blanks flush = rw flush
-trimmed p (b ∷ indent) text blanks flush = rw (blanks.0, one-add) (trimmed p indent text blanks.1 flush)
+trimmed p [] [] blanks solid_start = refl
+trimmed p [] (b ∷ bs) blanks solid_start = rw solid_start
+trimmed p (b ∷ indent) text blanks solid_start = rw (blanks.0, one-add) (trimmed p indent text blanks.1 solid_start)
 
 pub unindented_only : (p : ℕ → Bool) (line text : List ℕ) → IsUnindented p line text → text ≡ trim_start_matches p line
-unindented_only p line text h = sym (ap (trim_start_matches p) h.whole ∙ trimmed p h.indent text h.blanks h.flush)
+unindented_only p line text h = sym (ap (trim_start_matches p) h.whole ∙ trimmed p h.indent text h.blanks h.solid_start)
 
 -- blanks the other way round
 all_append : (P : ℕ → Type 0) (xs ys : List ℕ) → AllByRecursion P xs → AllByRecursion P ys → AllByRecursion P (xs ++ ys)
@@ -50,9 +50,9 @@ end_is : (p : ℕ → Bool) (text : List ℕ) → trim_end_matches p text ≡ re
 unfolding trim_end_matches trim_start_matches
 end_is p text = take_front text (suffix_len p text) (suffix_len-le-length p text)
 
-flush_front : (p : ℕ → Bool) (xs ys : List ℕ) → IsFlush p (xs ++ ys) → IsFlush p xs
-flush_front p [] ys h = tt
-flush_front p (x ∷ xs) ys h = h
+solid_front : (p : ℕ → Bool) (xs ys : List ℕ) → StartsSolid p (xs ++ ys) → StartsSolid p xs
+solid_front p [] ys h = tt
+solid_front p (x ∷ xs) ys h = h
 
 -- a text without the blanks at both its ends
 pub trim_is : (p : ℕ → Bool) (text : List ℕ) → IsTrimmed p text (trim_matches p text)
@@ -69,25 +69,25 @@ trim_is p text =
       blanks = start.blanks;
       blanks_after = all_reverse (λ b. p b ≡ true) turned.indent turned.blanks;
       whole = start.whole ∙ ap (λ xs. start.indent ++ xs) parts;
-      flush = flush_front p (trim_end_matches p (trim_start_matches p text)) (reverse turned.indent) (subst (IsFlush p) parts start.flush);
-      flush_end = subst (IsFlush p) (sym (ap reverse (end_is p (trim_start_matches p text)) ∙ reverse-reverse (trim_start_matches p (reverse (trim_start_matches p text))))) turned.flush;
+      solid_start = solid_front p (trim_end_matches p (trim_start_matches p text)) (reverse turned.indent) (subst (StartsSolid p) parts start.solid_start);
+      solid_end = subst (StartsSolid p) (sym (ap reverse (end_is p (trim_start_matches p text)) ∙ reverse-reverse (trim_start_matches p (reverse (trim_start_matches p text))))) turned.solid_start;
     }
 
 all_blank : (p : ℕ → Bool) (blanks : List ℕ) → AllByRecursion (λ b. p b ≡ true) blanks → trim_start_matches p blanks ≡ []
 all_blank p blanks h = ap (trim_start_matches p) (sym (append-nil blanks)) ∙ trimmed p blanks [] h tt
 
-end_of : (p : ℕ → Bool) (text blanks : List ℕ) → AllByRecursion (λ b. p b ≡ true) blanks → IsFlush p (reverse text) → trim_end_matches p (text ++ blanks) ≡ text
-end_of p text blanks h flush =
+end_of : (p : ℕ → Bool) (text blanks : List ℕ) → AllByRecursion (λ b. p b ≡ true) blanks → StartsSolid p (reverse text) → trim_end_matches p (text ++ blanks) ≡ text
+end_of p text blanks h solid_start =
     end_is p (text ++ blanks) ∙ (ap (λ xs. reverse (trim_start_matches p xs)) (reverse-append text blanks)
-    ∙ (ap reverse (trimmed p (reverse blanks) (reverse text) (all_reverse (λ b. p b ≡ true) blanks h) flush) ∙ reverse-reverse text))
+    ∙ (ap reverse (trimmed p (reverse blanks) (reverse text) (all_reverse (λ b. p b ≡ true) blanks h) solid_start) ∙ reverse-reverse text))
 
-trim_of : (p : ℕ → Bool) (front text back : List ℕ) → AllByRecursion (λ b. p b ≡ true) front → AllByRecursion (λ b. p b ≡ true) back → IsFlush p text → IsFlush p (reverse text)
+trim_of : (p : ℕ → Bool) (front text back : List ℕ) → AllByRecursion (λ b. p b ≡ true) front → AllByRecursion (λ b. p b ≡ true) back → StartsSolid p text → StartsSolid p (reverse text)
     → trim_matches p (front ++ (text ++ back)) ≡ text
 unfolding trim_matches
-trim_of p front [] back before after flush flush_end =
+trim_of p front [] back before after solid_start solid_end =
     ap (trim_end_matches p) (all_blank p (front ++ back) (all_append (λ b. p b ≡ true) front back before after)) ∙ end_of p [] [] tt tt
-trim_of p front (x ∷ xs) back before after flush flush_end =
-    ap (trim_end_matches p) (trimmed p front ((x ∷ xs) ++ back) before flush) ∙ end_of p (x ∷ xs) back after flush_end
+trim_of p front (x ∷ xs) back before after solid_start solid_end =
+    ap (trim_end_matches p) (trimmed p front ((x ∷ xs) ++ back) before solid_start) ∙ end_of p (x ∷ xs) back after solid_end
 
 pub trim_only : (p : ℕ → Bool) (text trimmed : List ℕ) → IsTrimmed p text trimmed → trimmed ≡ trim_matches p text
-trim_only p text said h = sym (ap (trim_matches p) h.whole ∙ trim_of p h.front said h.back h.blanks h.blanks_after h.flush h.flush_end)
+trim_only p text said h = sym (ap (trim_matches p) h.whole ∙ trim_of p h.front said h.back h.blanks h.blanks_after h.solid_start h.solid_end)

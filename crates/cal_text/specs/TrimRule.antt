@@ -3,16 +3,16 @@ use Rattle.std.specs.Prelude.{◌≡◌, ℕ, Bool, true, false, List, [], ◌�
 use Rattle.std.specs.List.{AllByRecursion}
 
 -- it is empty, or its first character is no blank
-abbrev pub IsFlush : (ℕ → Bool) → List ℕ → Type 0
-IsFlush is_blank [] = Unit {0}
-IsFlush is_blank (b ∷ bs) = is_blank b ≡ false
+abbrev pub StartsSolid : (ℕ → Bool) → List ℕ → Type 0
+StartsSolid is_blank [] = Unit {0}
+StartsSolid is_blank (b ∷ bs) = is_blank b ≡ false
 
 -- the text of a line without the blanks at its start; those at its end stay
 pub record IsUnindented (is_blank : ℕ → Bool) (line text : List ℕ) : Type 0 where
   pub indent : List ℕ
   pub blanks : AllByRecursion (λ b. is_blank b ≡ true) indent
   pub whole : line ≡ indent ++ text
-  pub flush : IsFlush is_blank text
+  pub solid_start : StartsSolid is_blank text
 
 -- the text without the blanks at both its ends
 pub record IsTrimmed (is_blank : ℕ → Bool) (text trimmed : List ℕ) : Type 0 where
@@ -21,5 +21,5 @@ pub record IsTrimmed (is_blank : ℕ → Bool) (text trimmed : List ℕ) : Type 
   pub blanks : AllByRecursion (λ b. is_blank b ≡ true) front
   pub blanks_after : AllByRecursion (λ b. is_blank b ≡ true) back
   pub whole : text ≡ front ++ (trimmed ++ back)
-  pub flush : IsFlush is_blank trimmed
-  pub flush_end : IsFlush is_blank (reverse trimmed)
+  pub solid_start : StartsSolid is_blank trimmed
+  pub solid_end : StartsSolid is_blank (reverse trimmed)

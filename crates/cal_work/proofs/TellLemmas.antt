@@ -4,12 +4,12 @@ use Rattle.std.specs.Io.KnownBytes.{append_known}
 use Rattle.std.proofs.KnownBytes.{Appends-kept}
 use Rattle.std.proofs.lemmas.Bool.{false≢true}
 use Rattle.cal_bytes.specs.Bytes.{AppendsFront, Writes}
-use Rattle.cal_bytes.specs.Output.{Settles}
+use Rattle.cal_bytes.specs.Output.{Flushes}
 use Rattle.cal_work.specs.Outcome.{outcome, out_text, err_text, ended_status}
 use Rattle.cal_report.specs.headline.Report.{Report}
 use Rattle.cal_work.specs.Stop.{Stop, fault_stop, outlet_of, shown_stop, text_of}
 use Rattle.cal_work.specs.System.{Known}
-use Rattle.cal_work.specs.WorkSteps.{StopsAs, StopEnds, EndsAs, AnsweredArguments, IsSettled, TellsOn, TellsStop, status_by, WritesOf}
+use Rattle.cal_work.specs.WorkSteps.{StopsAs, StopEnds, EndsAs, AnsweredArguments, IsFlushed, TellsOn, TellsStop, status_by, WritesOf}
 use Rattle.cal_work.specs.Works.{Reaches, TellsFault, Works}
 use Rattle.cal_request.specs.declared.request.RunFault.{RunFault}
 use Rattle.cal_request.specs.declared.request.RunFault.TheVariants.{OutFailed, ErrFailed, NoMemory}
@@ -117,47 +117,47 @@ append_nothing None = refl
 append_nothing (Some xs) = ap (λ l. Some l) (append-nil xs)
 
 -- where a call failed, a prefix of the text has gone through the buffer, and what it still holds
-reaches_front : (before written reached : Option (List ℕ)) (text : List ℕ) (b : Bool) → AppendsFront before written text → Settles written reached b → (held : List ℕ) × AppendsFront before (append_known reached held) text
+reaches_front : (before written reached : Option (List ℕ)) (text : List ℕ) (b : Bool) → AppendsFront before written text → Flushes written reached b → (held : List ℕ) × AppendsFront before (append_known reached held) text
 reaches_front before written reached text true w s =
     ([], record { front = w.front; rest = w.rest; whole = w.whole; written = rw (append_nothing reached) (Appends-kept before written reached w.front w.written s) })
 reaches_front before written reached text false w s =
     (s.0, record { front = w.front; rest = w.rest; whole = w.whole; written = Appends-kept before written (append_known reached s.0) w.front w.written s.1 })
 
-pub reaches_fault : (fault : RunFault) (before written reached : Option (List ℕ)) (text : List ℕ) (b : Bool) → Writes {T = Unit} before written (Err fault) text → Settles written reached b → Reaches {T = Unit} before reached (Err fault) text
+pub reaches_fault : (fault : RunFault) (before written reached : Option (List ℕ)) (text : List ℕ) (b : Bool) → Writes {T = Unit} before written (Err fault) text → Flushes written reached b → Reaches {T = Unit} before reached (Err fault) text
 reaches_fault fault before written reached text b w s = reaches_front before written reached text b w s
 
-pub reaches_settled : (r : Result Unit RunFault) (before written reached : Option (List ℕ)) (text : List ℕ) → Writes before written r text → Settles written reached true → Reaches before reached r text
-reaches_settled (Ok done) before written reached text w s = Appends-kept before written reached text w s
-reaches_settled (Err fault) before written reached text w s = reaches_front before written reached text true w s
+pub reaches_flushed : (r : Result Unit RunFault) (before written reached : Option (List ℕ)) (text : List ℕ) → Writes before written r text → Flushes written reached true → Reaches before reached r text
+reaches_flushed (Ok done) before written reached text w s = Appends-kept before written reached text w s
+reaches_flushed (Err fault) before written reached text w s = reaches_front before written reached text true w s
 
-pub reaches_unsettled : (before written reached : Option (List ℕ)) (text : List ℕ) → Writes {T = Unit} {E = RunFault} before written (Ok tt) text → Settles written reached false → Reaches {T = Unit} before reached (Err OutFailed) text
-reaches_unsettled before written reached text w s = reaches_front before written reached text false (whole_front before written text w) s
+pub reaches_unflushed : (before written reached : Option (List ℕ)) (text : List ℕ) → Writes {T = Unit} {E = RunFault} before written (Ok tt) text → Flushes written reached false → Reaches {T = Unit} before reached (Err OutFailed) text
+reaches_unflushed before written reached text w s = reaches_front before written reached text false (whole_front before written text w) s
 
 -- The whole
 
 -- what was written before the line of the fault, also where the buffer couldn't be written out
-err_before : (r settled : Result Unit RunFault) (a b : Option (List ℕ)) (text : List ℕ) → IsSettled r settled → Writes a b r text → Writes a b settled text
-err_before (Ok done) (Ok settled) a b text is w = w
+err_before : (r flushed : Result Unit RunFault) (a b : Option (List ℕ)) (text : List ℕ) → IsFlushed r flushed → Writes a b r text → Writes a b flushed text
+err_before (Ok done) (Ok flushed) a b text is w = w
 err_before (Ok done) (Err fault) a b text is w = whole_front a b text w
-err_before (Err fault) settled a b text is w = rw is w
+err_before (Err fault) flushed a b text is w = rw is w
 
-settled_status : (r settled : Result Unit RunFault) (status : ℕ) (come : Result Report Stop) → IsSettled r settled → ended_status r come ≡ status_by r status → status_by settled status ≡ ended_status settled come
-settled_status (Ok done) (Ok settled) status come is same = sym same
-settled_status (Ok done) (Err fault) status come is same = rw is refl
-settled_status (Err fault) settled status come is same = rw is (sym same)
+flushed_status : (r flushed : Result Unit RunFault) (status : ℕ) (come : Result Report Stop) → IsFlushed r flushed → ended_status r come ≡ status_by r status → status_by flushed status ≡ ended_status flushed come
+flushed_status (Ok done) (Ok flushed) status come is same = sym same
+flushed_status (Ok done) (Err fault) status come is same = rw is refl
+flushed_status (Err fault) flushed status come is same = rw is (sym same)
 
-pub works : (known : Known) (arguments : List (List ℕ)) (answered : Result Status declared_stop.Stop) (out out1 out2 reached err err1 err2 err3 : Option (List ℕ)) (failed : Bool) (written settled : Result Unit RunFault) (status last : ℕ)
+pub works : (known : Known) (arguments : List (List ℕ)) (answered : Result Status declared_stop.Stop) (out out1 out2 reached err err1 err2 err3 : Option (List ℕ)) (failed : Bool) (written flushed : Result Unit RunFault) (status last : ℕ)
     → AnsweredArguments known arguments answered out out1 err err1
     → ((come : Result Report Stop) (a b : Option (List ℕ)) → EndsAs answered come a out1 b err1 → WritesOf written status come a out2 b err2)
-    → ((before : Option (List ℕ)) (text : List ℕ) → Writes before out2 written text → Reaches before reached settled text)
-    → IsSettled written settled → TellsFault err2 err3 failed settled → last ≡ status_by settled status
-    → Works known arguments out reached err err3 failed (record { status = last; written = settled })
-works known arguments answered out out1 out2 reached err err1 err2 err3 failed written settled status last a tells reaches is line same =
+    → ((before : Option (List ℕ)) (text : List ℕ) → Writes before out2 written text → Reaches before reached flushed text)
+    → IsFlushed written flushed → TellsFault err2 err3 failed flushed → last ≡ status_by flushed status
+    → Works known arguments out reached err err3 failed (record { status = last; written = flushed })
+works known arguments answered out out1 out2 reached err err1 err2 err3 failed written flushed status last a tells reaches is line same =
     let w = tells (outcome a.world) out err a.ends in
     record {
       world = a.world;
       fits = a.fits;
-      status = same ∙ settled_status written settled status (outcome a.world) is w.by_status;
+      status = same ∙ flushed_status written flushed status (outcome a.world) is w.by_status;
       out_bytes = reaches out (out_text (outcome a.world)) w.out_bytes;
-      err_bytes = record { before = err2; text_bytes = err_before written settled err err2 (err_text (outcome a.world)) is w.err_bytes; line = line };
+      err_bytes = record { before = err2; text_bytes = err_before written flushed err err2 (err_text (outcome a.world)) is w.err_bytes; line = line };
     }

@@ -103,7 +103,7 @@ text_of (Command fault) = command_text fault
 text_of stop = (shown_stop stop).err
 
 -- where each stop is reported: help on standard output, others on standard error; what couldn't be written, and running out of
--- memory, is reported once the output is settled
+-- memory, is reported once the output is flushed
 abbrev pub zone_outlet : ZoneFault → Outlet
 zone_outlet zone.NoMemory = Later run.NoMemory
 zone_outlet fault = OnErr

@@ -145,10 +145,10 @@ pub record WritesOf {T : Type 0} (written : Result T RunFault) (status : ℕ) (c
   pub err_bytes : Writes err err' written (err_text come)
 
 -- settling can fail
-abbrev pub IsSettled : {T : Type 0} → Result T RunFault → Result T RunFault → Type 0
-IsSettled (Ok all) (Ok settled) = Unit {0}
-IsSettled (Ok all) (Err fault) = fault ≡ OutFailed
-IsSettled (Err fault) settled = settled ≡ Err fault
+abbrev pub IsFlushed : {T : Type 0} → Result T RunFault → Result T RunFault → Type 0
+IsFlushed (Ok all) (Ok flushed) = Unit {0}
+IsFlushed (Ok all) (Err fault) = fault ≡ OutFailed
+IsFlushed (Err fault) flushed = flushed ≡ Err fault
 
 -- a stop is reported on its output, or later
 abbrev pub TellsOn : Outlet → List ℕ → Result Unit RunFault → Option (List ℕ) → Option (List ℕ) → Option (List ℕ) → Option (List ℕ) → Type 0

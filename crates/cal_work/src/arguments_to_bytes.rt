@@ -15,7 +15,7 @@ ghost use Rattle.cal_request.specs.RunFault.{is_out_failed, is_err_failed};
 ghost use Rattle.cal_work.specs.Stop as stops;
 ghost use Rattle.cal_work.specs.Stop.{is_out_stop, is_err_stop, load_stop, rule_stop, unread_stop};
 ghost use Rattle.cal_work.specs.System.{Opens};
-ghost use Rattle.cal_work.specs.WorkSteps.{is_out_cut, is_err_cut, ran, status_by, Answered, AnsweredArguments, EndsAs, FindsLocal, HasRules, IsSettled, IsUnread, Loads, Presents, Reads, ReadsZones, Runs, StopsAs, TellsStop, WritesOf};
+ghost use Rattle.cal_work.specs.WorkSteps.{is_out_cut, is_err_cut, ran, status_by, Answered, AnsweredArguments, EndsAs, FindsLocal, HasRules, IsFlushed, IsUnread, Loads, Presents, Reads, ReadsZones, Runs, StopsAs, TellsStop, WritesOf};
 ghost use Rattle.cal_work.specs.Works.{Reaches, TellsFault, Works};
 
 use crate::stop::{Outlet, Stop, exit_status, write_stop};
@@ -38,7 +38,7 @@ pub struct Ended {
     pub written: Result<(), RunFault>,
 }
 
-/// Does what the arguments ask for. Reports and the text of help go to `out`, which is settled at the
+/// Does what the arguments ask for. Reports and the text of help go to `out`, which is flushed at the
 /// end; refusals and the line of a stop go to `err`.
 ///
 /// The status is that of the report or of the stop; it is 1 where `out` fails or memory is refused, and where `err`
@@ -61,7 +61,7 @@ pub fn work<S: System, T: AsStr, O: Output, E: Sink>(
 {
     let answered = answer_arguments(alloc, system, arguments, out, err);
     let reported = tell(&answered, out, err);
-    let written = settle_output(reported.written, out);
+    let written = flush_output(reported.written, out);
     tell_fault(written, err);
     Ended {
         status: status_by(written, reported.status),
@@ -352,16 +352,16 @@ fn tell_stop<O: Sink, E: Sink>(stop: &Stop, out: &mut O, err: &mut E) -> Result<
     }
 }
 
-/// Settles the output, also where something failed, so that what comes before the fault goes out.
-fn settle_output<O: Output>(written: Result<(), RunFault>, out: &mut O) -> Result<(), RunFault>
+/// Flushes the output, also where something failed, so that what comes before the fault goes out.
+fn flush_output<O: Output>(written: Result<(), RunFault>, out: &mut O) -> Result<(), RunFault>
     requires { O.is_failed out.old ≡ is_out_failed written }
     ensures bytes { (before : Option (List ℕ)) (text : List ℕ) → Writes before (O.written out.old) written text
         → Reaches before (O.reached out.new) result text }
-    ensures same { IsSettled written result }
+    ensures same { IsFlushed written result }
     ensures out_fault { is_out_failed result ≡ true → O.is_failed out.new ≡ true }
     ensures out_failed { O.is_failed out.new ≡ true → is_err result ≡ true }
 {
-    if out.settle() {
+    if out.flush() {
         return written;
     }
     match written {

@@ -64,7 +64,7 @@ pub(crate) enum Outlet {
     OnOut,
     /// On standard error.
     OnErr,
-    /// On standard error, but only once the output is settled: what couldn't be written, and running out of memory.
+    /// On standard error, but only once the output is flushed: what couldn't be written, and running out of memory.
     Later(RunFault),
 }
 
