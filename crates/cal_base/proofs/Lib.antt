@@ -1,6 +1,5 @@
 pub use Rattle.cal_bytes.proofs.Pieces
 pub use Rattle.cal_bytes.proofs.ShortText
-pub use Rattle.cal_bytes.proofs.WholeLemmas
 pub use Rattle.cal_span.proofs.SpanCounts
 pub use Rattle.cal_span.proofs.SpanDigits
 pub use Rattle.cal_span.proofs.SpanNumbers
@@ -12,7 +11,6 @@ pub use Rattle.cal_span.proofs.SpanRuns
 pub use Rattle.cal_span.proofs.SpanWords
 pub use Rattle.cal_span.proofs.WorkedRows
 pub use Rattle.cal_text.proofs.DigitLemmas
-pub use Rattle.cal_text.proofs.TextEnds
 pub use Rattle.cal_text.proofs.TrimLemmas
 pub use Rattle.cal_text.proofs.WordLemmas
 pub use Rattle.cal_zone.proofs.CivilLemmas

@@ -1,4 +1,3 @@
 pub mod Pieces
 pub mod PutLemmas
 pub mod ShortText
-pub mod WholeLemmas

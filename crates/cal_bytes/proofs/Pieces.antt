@@ -6,10 +6,7 @@ use Rattle.std.specs.Prelude.{IsErr}
 use Rattle.std.proofs.lemmas.Bool.{false≢true}
 use Rattle.std.specs.Io.KnownBytes.{Appends}
 use Rattle.cal_bytes.specs.Bytes.{AppendsFront, Writes, Leaves}
-
--- a text that is written under another spelling
-appends_respelled : (a b : Option (List ℕ)) (xs ys : List ℕ) → xs ≡ ys → Appends a b xs → Appends a b ys
-appends_respelled a b xs ys e h = subst (Appends a b) e h
+use Rattle.cal_text.proofs.General.{appends_respelled}
 
 -- all is left at first
 pub start : (a : Option (List ℕ)) (text : List ℕ) → Leaves a a text text

@@ -1,9 +1,8 @@
 -- Lemmas on texts that are written by calls in a row.
-use Rattle.std.proofs.Common.{◌≡◌, ℕ, ◌+◌, ◌<◌, List, [], ◌++◌, length, drop, get_or, Result, Ok, Err, false, refl, sym, ap, ◌∙◌, subst, add-one, drop-cons}
+use Rattle.std.proofs.Common.{◌≡◌, ℕ, List, [], ◌++◌, Result, Ok, Err, false, sym, ◌∙◌, subst}
 use Rattle.std.proofs.KnownBytes.{Appends-nil}
 use Rattle.std.proofs.lemmas.Bool.{false≢true}
 use Rattle.std.proofs.lemmas.List.{append-nil}
-use Rattle.std.specs.List.{flat_map}
 use Rattle.std.specs.Prelude.{IsErr, IsOk}
 use Rattle.cal_bytes.specs.Bytes.{Leaves}
 use Rattle.cal_bytes.specs.Puts.{Puts}
@@ -69,14 +68,6 @@ module _ {W : Type 0} {sink : Ghosts W} where
     failed = p.failed ∙ sym is_err;
     bytes = writes_err _ _ r text is_err (stop _ _ _ piece rest text (respell _ _ _ _ text before.leaves split) p.bytes);
   }
-
--- the items from an index on begin with the item there
-flat_map-drop : {A : Type 0} (f : A → List ℕ) (i : ℕ) (xs : List A) (d : A) → i < length xs → flat_map f (drop i xs) ≡ f (get_or xs i d) ++ flat_map f (drop (i + 1) xs)
-flat_map-drop f i xs d h = rw (add-one, drop-cons xs i d h) refl
-
--- or with another spelling of its text
-pub item_first : {A : Type 0} (f : A → List ℕ) (i : ℕ) (xs : List A) (d : A) {piece : List ℕ} → i < length xs → piece ≡ f (get_or xs i d) → flat_map f (drop i xs) ≡ piece ++ flat_map f (drop (i + 1) xs)
-item_first f i xs d h is = flat_map-drop f i xs d h ∙ ap (λ first. first ++ flat_map f (drop (i + 1) xs)) (sym is)
 
 -- for calls in a row
 pub ruleset puts = (first_fails, second_ends, last_ends)

@@ -1,5 +1,5 @@
 -- The command of `clap`, and what it found.
-use Rattle.std.proofs.Common.{◌≡◌, ◌≢◌, List, [], ◌∷◌, ◌++◌, append_assoc, Option, None, Some, unwrap_or, ap₂, Bool, true, false, refl, sym, ap, ◌∙◌, inl, inr, ◌⊎◌, option_map, length, take, map, Bor, ◌≤◌, arith, Result, Ok, Err}
+use Rattle.std.proofs.Common.{◌≡◌, ◌≢◌, List, [], ◌∷◌, ◌++◌, append_assoc, Some, Bool, true, false, refl, sym, ap, ◌∙◌, inl, inr, ◌⊎◌, Result, Ok, Err}
 use Rattle.std.specs.Prelude.{not}
 use Rattle.std.specs.List.{list_any}
 use Rattle.std.proofs.lemmas.Bool.{or_left, or_right}
@@ -53,20 +53,6 @@ reported_fault arguments kind bad_iterations passes kinds reported = absurd repo
 reported_fault arguments kind bad_now passes kinds reported = absurd reported
 reported_fault arguments kind bad_zones passes kinds reported = absurd reported
 reported_fault arguments kind bad_local passes kinds reported = absurd reported
-
-pub map-first : {B X Y : Type 0} (f : B → X) (g : B → Y) (o : Option B)
-    → option_map f o ≡ option_map (λ (p : X × Y). p.0) (option_map (λ b. (f b, g b)) o)
-map-first f g None = refl
-map-first f g (Some b) = refl
-
-pub found_none : {X Y : Type 0} (o : Option (X × Y)) → None ≡ option_map (λ (p : X × Y). p.0) o → o ≡ None
-found_none None h = refl
-found_none (Some p) h = absurd (cc)
-
-pub found_some : {X Y : Type 0} (o : Option (X × Y)) (x : X) (y : Y) → Some x ≡ option_map (λ (p : X × Y). p.0) o
-    → Some y ≡ option_map (λ (p : X × Y). p.1) o → o ≡ Some (x, y)
-found_some None x y h k = absurd (cc)
-found_some (Some p) x y h k = ap₂ (λ a b. Some (a, b)) (sym (ap (λ o. unwrap_or o x) h)) (sym (ap (λ o. unwrap_or o y) k))
 
 -- what is read of the values that were parsed is what the arguments ask for
 pub read_said : (arguments : List Text) (given : Given) (said : Result Ask CommandFault) → faults_in arguments ≡ [] → Some given ≡ parsed_in arguments

@@ -1,7 +1,7 @@
 -- The values of options.
-use Rattle.std.proofs.Common.{◌≡◌, ◌≢◌, ℕ, ◌<◌, ◌≤◌, ◌^◌, List, [], ◌∷◌, length, Option, None, Some, Result, Ok, Err, Bool, true, false, cond, nat_le, ◌==◌, ◌&&◌, get_or, refl, ap, ap₂, sym, ◌∙◌, ◌+◌, ◌||◌, suc, lit<, Bor, ◌++◌, map, append-nil, append_assoc, arith, option_map, pos, ℤ, IsSome, IfSome, ◌↔◌}
+use Rattle.std.proofs.Common.{◌≡◌, ◌≢◌, ℕ, ◌<◌, ◌≤◌, ◌^◌, List, [], ◌∷◌, length, Option, None, Some, Result, Ok, Err, Bool, true, false, cond, nat_le, ◌==◌, ◌&&◌, get_or, refl, ap, ap₂, sym, ◌∙◌, ◌+◌, lit<, Bor, ◌++◌, map, append-nil, append_assoc, arith, option_map, pos, ℤ, IsSome, IfSome, ◌↔◌}
 use Rattle.std.specs.Prelude.{not}
-use Rattle.std.specs.List.{list_any, position_or_len, slice_split}
+use Rattle.std.specs.List.{slice_split}
 use Rattle.std.specs.Str.{all_ascii_digits}
 use Rattle.std.proofs.lemmas.List.Splits.{slice_split_first, slice_split_none}
 use Rattle.std.proofs.lemmas.List.Sums.{prefix_len_passes}
@@ -17,6 +17,7 @@ use Rattle.cal_command.specs.OptionValues.{number_between, present_in, parts_at,
 use Rattle.cal_command.specs.Ask.{ZoneItem, shown_item}
 use Rattle.cal_command.specs.declared.ask.ZoneItem as declared_item
 use Rattle.std.proofs.lemmas.List.{map-append}
+use Rattle.cal_text.proofs.General.{any_below, none_above}
 
 own : IsNumeralModel (λ ds. all_ascii_digits ds ≡ true) (digits_value 10)
 own = numerals_by_value _ tells_all_ascii_digits
@@ -89,24 +90,6 @@ pub instant_some : (made : Option Instant) (secs : ℤ) → IsSome made ↔ IsIn
     → option_map (λ instant. instant.secs) made ≡ Some secs
 instant_some None secs variant value inside = absurd (cc (variant.1 inside))
 instant_some (Some instant) secs variant value inside = ap Some value
-
-below_step : (p : ℕ → Bool) (x : ℕ) (xs : List ℕ) (test : Bool) → (position_or_len p xs < length xs → list_any p xs ≡ true)
-    → cond (not test) (1 + position_or_len p xs) 0 < suc (length xs) → (test || list_any p xs) ≡ true
-below_step p x xs true rest within = refl
-below_step p x xs false rest within = rest (omega arith)
-
-any_below : (p : ℕ → Bool) (xs : List ℕ) → position_or_len p xs < length xs → list_any p xs ≡ true
-any_below p [] within = absurd (omega arith)
-any_below p (x ∷ xs) within = below_step p x xs (p x) (any_below p xs) within
-
-above_step : (p : ℕ → Bool) (x : ℕ) (xs : List ℕ) (test : Bool) → (length xs ≤ position_or_len p xs → list_any p xs ≡ false)
-    → suc (length xs) ≤ cond (not test) (1 + position_or_len p xs) 0 → (test || list_any p xs) ≡ false
-above_step p x xs true rest past = absurd (omega arith)
-above_step p x xs false rest past = rest (omega arith)
-
-none_above : (p : ℕ → Bool) (xs : List ℕ) → length xs ≤ position_or_len p xs → list_any p xs ≡ false
-none_above p [] past = refl
-none_above p (x ∷ xs) past = above_step p x xs (p x) (none_above p xs) past
 
 -- what `split_once` gives at a byte of ASCII
 pub parts_at-split : (c : ℕ) (text : List ℕ) (r : Option (Bor (List ℕ) × Bor (List ℕ))) → IsSplitOnceResult c text r → c < 128

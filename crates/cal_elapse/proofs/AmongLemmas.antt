@@ -8,17 +8,12 @@ use Rattle.cal_elapse.specs.Covered.{AreAmong, HasAll}
 use Rattle.cal_elapse.specs.Masks.{day_place, sets_in}
 use Rattle.cal_elapse.specs.declared.masks.Masks.{Masks}
 use Rattle.cal_elapse.proofs.BitLemmas.{is_bit-none, is_bit-or}
+use Rattle.cal_text.proofs.General.{both_follow}
 
 -- a word that another adds nothing to has all of the other's numbers
 pub has_all : (mask others : ℕ) → bit_or mask others ≡ mask → HasAll (is_bit mask) (is_bit others)
 has_all mask others same i other =
     ap (λ (m : ℕ). is_bit m i) (sym same) ∙ is_bit-or mask others i ∙ or_right (is_bit mask i) (is_bit others i) other
-
-pub same_test : (a b : Bool) → beq a b ≡ true → a ≡ b
-same_test true true h = refl
-same_test true false h = absurd (cc)
-same_test false true h = absurd (cc)
-same_test false false h = refl
 
 -- four words, of which each has all numbers of the other's
 pub have_all : (words others : List ℕ) → length others ≡ 4 → HasAll (is_bit (get_or words 0 0)) (is_bit (get_or others 0 0))
@@ -38,11 +33,6 @@ have_all words others four first second third fourth i = in_word (i / 64)
         let never : true ≡ false = sym there ∙ ap (λ (m : ℕ). is_bit m (i % 64)) nothing ∙ is_bit-none (i % 64) in
         absurd (cc)
 
-pub both : (a b c d : Bool) → (a ≡ true → c ≡ true) → (b ≡ true → d ≡ true) → (a && b) ≡ true → (c && d) ≡ true
-both true true c d p q h = rw (p refl, q refl) refl
-both true false c d p q h = absurd (cc)
-both false b c d p q h = absurd (cc)
-
 -- so the sets of the one masks are among those of the other
 pub among : (masks others : Masks) → HasAll (is_bit masks.weekdays) (is_bit others.weekdays) → HasAll (is_in_words masks.years) (is_in_words others.years)
     → HasAll (is_bit masks.months) (is_bit others.months) → HasAll (is_bit masks.days) (is_bit others.days) → HasAll (is_bit masks.hours) (is_bit others.hours)
@@ -50,10 +40,10 @@ pub among : (masks others : Masks) → HasAll (is_bit masks.weekdays) (is_bit ot
     → AreAmong (sets_in others) (sets_in masks)
 unfolding sets_in
 among masks others weekdays years months days hours minutes seconds turned = record {
-  weekday = λ v. both _ _ _ _ (λ h. h) (weekdays v);
-  year = λ v. both _ _ _ _ (λ h. h) (years (v - 1_970));
-  month = λ v. both _ _ _ _ (λ h. h) (months (v - 1));
-  day = λ v. rw turned (both _ _ _ _ (λ h. h) (days (day_place others.from_end v)));
+  weekday = λ v. both_follow _ _ _ _ (λ h. h) (weekdays v);
+  year = λ v. both_follow _ _ _ _ (λ h. h) (years (v - 1_970));
+  month = λ v. both_follow _ _ _ _ (λ h. h) (months (v - 1));
+  day = λ v. rw turned (both_follow _ _ _ _ (λ h. h) (days (day_place others.from_end v)));
   hour = λ v h. search (rules, hours);
   minute = λ v h. search (rules, minutes);
   second = λ v h. search (rules, seconds);

@@ -8,6 +8,7 @@ use Rattle.std.proofs.lemmas.Nat.Bits.{bit_at-lt, bit_at-trailing_zeros, bit_at-
 use Rattle.std.proofs.Math.Nat.{div-add-mod', mod-lt, pow-suc}
 use Rattle.cal_elapse.specs.Bits.{is_bit}
 use Rattle.cal_elapse.specs.Search.{IsFirstPassing, NonePasses}
+use Rattle.cal_text.proofs.General.{IsLowestBit, bit_at-mod, bit_at-shift, bit_at-small, high_bits_same, less_split, max_of_bits, min_none, min_none_right, min_of_bits, min_same}
 
 pub is_bit-same : (m n i j : ℕ) → bit_at m i ≡ bit_at n j → is_bit m i ≡ is_bit n j
 unfolding is_bit
@@ -21,12 +22,8 @@ pub is_bit-zero : (m i : ℕ) → bit_at m i ≡ 0 → is_bit m i ≡ false
 unfolding is_bit
 is_bit-zero m i h = ap (λ (b : ℕ). b == 1) h
 
--- a word without its low bits has the others further down
-shifted : (m j k : ℕ) → bit_at (m / 2 ^ j) k ≡ bit_at m (j + k)
-shifted m j k = ap (λ (x : ℕ). x % 2) (shr-shr m j k)
-
 pub is_bit-shifted : (m j k : ℕ) → is_bit (m / 2 ^ j) k ≡ is_bit m (j + k)
-is_bit-shifted m j k = is_bit-same (m / 2 ^ j) m k (j + k) (shifted m j k)
+is_bit-shifted m j k = is_bit-same (m / 2 ^ j) m k (j + k) (bit_at-shift m j k)
 
 -- a word below 2 ^ k has no number from k on
 pub is_bit-above : (m k i : ℕ) → m < 2 ^ k → k ≤ i → is_bit m i ≡ false
@@ -43,11 +40,7 @@ pub next_none : (m from : ℕ) → m / 2 ^ from ≡ 0 → NonePasses (is_bit m) 
 next_none m from none = λ t low below.
     let place : from + (t - from) ≡ t = omega arith in
     is_bit-zero m t
-    (subst (λ (i : ℕ). bit_at m i ≡ 0) place (sym (shifted m from (t - from)) ∙ (ap (λ (n : ℕ). bit_at n (t - from)) none ∙ bit_at-zero (t - from))))
-
-inside : (m i : ℕ) → m < 2 ^ 64 → bit_at m i ≡ 1 → i < 64
-inside m i fits one =
-    elim (cases_lt i 64) [ inl low ↦ low | inr high ↦ (let zero : bit_at m i ≡ 0 = bit_at_above m 64 i fits high in absurd (omega (arith, zero, one))) ]
+    (subst (λ (i : ℕ). bit_at m i ≡ 0) place (sym (bit_at-shift m from (t - from)) ∙ (ap (λ (n : ℕ). bit_at n (t - from)) none ∙ bit_at-zero (t - from))))
 
 pub next_some : (m from : ℕ) → m < 2 ^ 64 → 0 < m / 2 ^ from
     → IsFirstPassing (is_bit m) from 64 (Some (from + trailing_zeros w64 (m / 2 ^ from)))
@@ -55,57 +48,37 @@ next_some m from fits some =
     let rest = m / 2 ^ from in
     let less : m / 2 ^ from < 2 ^ 64 = omega (arith, shr_le m from) in
     let h = bit_at-trailing_zeros w64 rest some less in
-    let one = sym (shifted m from (trailing_zeros w64 rest)) ∙ h.1 in (
+    let one = sym (bit_at-shift m from (trailing_zeros w64 rest)) ∙ h.1 in (
       omega arith,
-      inside m (from + trailing_zeros w64 rest) fits one,
+      bit_at-small m (from + trailing_zeros w64 rest) fits one,
       is_bit-one m (from + trailing_zeros w64 rest) one,
       λ t low below.
           let place : from + (t - from) ≡ t = omega arith in
-          is_bit-zero m t (subst (λ (i : ℕ). bit_at m i ≡ 0) place (sym (shifted m from (t - from)) ∙ h.2 (t - from) (omega arith))),
+          is_bit-zero m t (subst (λ (i : ℕ). bit_at m i ≡ 0) place (sym (bit_at-shift m from (t - from)) ∙ h.2 (t - from) (omega arith))),
     )
-
-min_one : (x y : ℕ) → x < 2 → y < 2 → (min x y == 1) ≡ ((x == 1) && (y == 1))
-min_one x y p q =
-    elim (cases_lt x 1) [
-      | inl low ↦ (let none : x ≡ 0 = omega arith in let least : min x y ≡ 0 = omega arith in rw (least, none))
-      | inr high ↦ (let one : x ≡ 1 = omega arith in let same : min x y ≡ y = omega arith in rw (same, one))
-    ]
 
 -- what both words have
 pub is_bit-and : (m n i : ℕ) → is_bit (bit_and m n) i ≡ (is_bit m i && is_bit n i)
 unfolding is_bit
-is_bit-and m n i = ap (λ (b : ℕ). b == 1) (bit_at_and m n i) ∙ min_one (bit_at m i) (bit_at n i) (bit_at-lt m i) (bit_at-lt n i)
-
-max_one : (x y : ℕ) → x < 2 → y < 2 → (max x y == 1) ≡ ((x == 1) || (y == 1))
-max_one x y p q =
-    elim (cases_lt x 1) [
-      | inl low ↦ (let none : x ≡ 0 = omega arith in let most : max x y ≡ y = omega arith in rw (most, none))
-      | inr high ↦ (let one : x ≡ 1 = omega arith in let most : max x y ≡ 1 = omega arith in rw (most, one))
-    ]
+is_bit-and m n i = ap (λ (b : ℕ). b == 1) (bit_at_and m n i) ∙ min_of_bits (bit_at m i) (bit_at n i) (bit_at-lt m i) (bit_at-lt n i)
 
 -- what either word has
 pub is_bit-or : (m n i : ℕ) → is_bit (bit_or m n) i ≡ (is_bit m i || is_bit n i)
 unfolding is_bit
-is_bit-or m n i = ap (λ (b : ℕ). b == 1) (bit_at_or m n i) ∙ max_one (bit_at m i) (bit_at n i) (bit_at-lt m i) (bit_at-lt n i)
+is_bit-or m n i = ap (λ (b : ℕ). b == 1) (bit_at_or m n i) ∙ max_of_bits (bit_at m i) (bit_at n i) (bit_at-lt m i) (bit_at-lt n i)
 
 pub is_bit-none : (i : ℕ) → is_bit 0 i ≡ false
 is_bit-none i = is_bit-zero 0 i (bit_at-zero i)
 
--- a word that is moved up has its numbers so much further up, as far as they are below 64
-cut_off : (m i : ℕ) → i < 64 → bit_at (m % 2 ^ 64) i ≡ bit_at m i
-cut_off m i low =
-    let whole : m / 2 ^ 64 * 2 ^ 64 + m % 2 ^ 64 ≡ m = omega arith in
-    sym (bit_at_cat_low (m / 2 ^ 64) 64 (m % 2 ^ 64) i low) ∙ ap (λ (x : ℕ). bit_at x i) whole
-
 pub is_bit-up : (m k i : ℕ) → i < 64 → k ≤ i → is_bit (m * 2 ^ k % 2 ^ 64) i ≡ is_bit m (i - k)
 is_bit-up m k i low high =
     let whole : m * 2 ^ k + 0 ≡ m * 2 ^ k = omega arith in
-    is_bit-same (m * 2 ^ k % 2 ^ 64) m i (i - k) (cut_off (m * 2 ^ k) i low ∙ (ap (λ (x : ℕ). bit_at x i) (sym whole) ∙ bit_at_cat_high m k 0 i (pow_pos k) high))
+    is_bit-same (m * 2 ^ k % 2 ^ 64) m i (i - k) (bit_at-mod (m * 2 ^ k) i low ∙ (ap (λ (x : ℕ). bit_at x i) (sym whole) ∙ bit_at_cat_high m k 0 i (pow_pos k) high))
 
 pub is_bit-up_none : (m k i : ℕ) → i < 64 → i < k → is_bit (m * 2 ^ k % 2 ^ 64) i ≡ false
 is_bit-up_none m k i low high =
     let whole : m * 2 ^ k + 0 ≡ m * 2 ^ k = omega arith in
-    is_bit-zero (m * 2 ^ k % 2 ^ 64) i (cut_off (m * 2 ^ k) i low ∙ (ap (λ (x : ℕ). bit_at x i) (sym whole) ∙ (bit_at_cat_low m k 0 i high ∙ bit_at-zero i)))
+    is_bit-zero (m * 2 ^ k % 2 ^ 64) i (bit_at-mod (m * 2 ^ k) i low ∙ (ap (λ (x : ℕ). bit_at x i) (sym whole) ∙ (bit_at_cat_low m k 0 i high ∙ bit_at-zero i)))
 
 -- the ones below a place, those from a place on, and those between two places
 ones_below : (high i : ℕ) → high ≤ 64 → is_bit ((2 ^ 64 - 1) / 2 ^ (64 - high)) i ≡ nat_lt i high
@@ -127,9 +100,9 @@ ones_from low i within =
           is_bit-zero (2 ^ 64 - 2 ^ low) i (bit_at_mask_below low 64 i under) ∙ sym out)
       | inr above ↦
           elim (cases_lt i 64) [
-            | inl inside ↦
+            | inl bit_at-small ↦
                 (let here : (nat_le low i && nat_lt i 64) ≡ true = grind (arith, nat_tests) in
-                is_bit-one (2 ^ 64 - 2 ^ low) i (bit_at_mask_inside low 64 i above inside) ∙ sym here)
+                is_bit-one (2 ^ 64 - 2 ^ low) i (bit_at_mask_inside low 64 i above bit_at-small) ∙ sym here)
             | inr past ↦
                 (let out : (nat_le low i && nat_lt i 64) ≡ false = grind (arith, nat_tests) in
                 is_bit-zero (2 ^ 64 - 2 ^ low) i (bit_at_mask_above low 64 i past) ∙ sym out)
@@ -146,56 +119,7 @@ is_bit-run low high i some within =
 
 -- A word without its lowest number
 
-pow_next : (k : ℕ) → 2 ^ (k + 1) ≡ 2 ^ k + 2 ^ k
-pow_next k = let next : k + 1 ≡ suc k = omega arith in rw (next, pow-suc 2 k) (omega arith)
-
-one_less : (x y m : ℕ) → m ≡ x + y → 0 < y → m - 1 ≡ x + (y - 1)
-one_less x y m whole some = omega arith
-
--- the number k is the lowest of the word
-record IsLowest (m k : ℕ) : Type 0 where
-  one : bit_at m k ≡ 1
-  none : (i : ℕ) → i < k → bit_at m i ≡ 0
-
--- what is below the number k + 1 is the number k alone
-low_part : (m k : ℕ) → IsLowest m k → m % 2 ^ (k + 1) ≡ 2 ^ k
-low_part m k h =
-    let next = pow_next k in
-    let some = pow_pos k in
-    let part : (i : ℕ) → i < k + 1 → bit_at (m % 2 ^ (k + 1)) i ≡ bit_at m i
-    = λ i low. sym (bit_at_cat_low (m / 2 ^ (k + 1)) (k + 1) (m % 2 ^ (k + 1)) i low) ∙ ap (λ (x : ℕ). bit_at x i) (div-add-mod' m (2 ^ (k + 1))) in
-    same_from_bits_below (k + 1) (m % 2 ^ (k + 1)) (2 ^ k) (mod-lt m (omega arith)) (omega arith)
-    (λ i low.
-    elim (cases_lt i k) [
-      | inl early ↦ part i low ∙ (h.none i early ∙ sym (bit_at-pow_other k i (λ e. omega arith)))
-      | inr late ↦ (let same : i ≡ k = omega arith in part i low ∙ (ap (bit_at m) same ∙ (h.one ∙ (sym (bit_at-pow_same k) ∙ ap (bit_at (2 ^ k)) (sym same)))))
-    ])
-
-lowest_split : (m k : ℕ) → IsLowest m k → m ≡ m / 2 ^ (k + 1) * 2 ^ (k + 1) + 2 ^ k
-lowest_split m k h = sym (div-add-mod' m (2 ^ (k + 1))) ∙ ap (λ (r : ℕ). m / 2 ^ (k + 1) * 2 ^ (k + 1) + r) (low_part m k h)
-
-less_split : (m k : ℕ) → IsLowest m k → m - 1 ≡ m / 2 ^ (k + 1) * 2 ^ (k + 1) + (2 ^ k - 1)
-less_split m k h = one_less (m / 2 ^ (k + 1) * 2 ^ (k + 1)) (2 ^ k) m (lowest_split m k h) (pow_pos k)
-
-min_same : (x y : ℕ) → x ≡ y → min x y ≡ x
-min_same x y e = omega arith
-
-min_none : (x y : ℕ) → x ≡ 0 → min x y ≡ 0
-min_none x y e = omega arith
-
-min_none' : (x y : ℕ) → y ≡ 0 → min x y ≡ 0
-min_none' x y e = omega arith
-
-high_same : (m k i : ℕ) → IsLowest m k → k < i → bit_at m i ≡ bit_at (m - 1) i
-high_same m k i h high =
-    let next = pow_next k in
-    let some = pow_pos k in
-    let a : ℕ = m / 2 ^ (k + 1) in
-    ap (λ (x : ℕ). bit_at x i) (lowest_split m k h)
-    ∙ (bit_at_cat_high a (k + 1) (2 ^ k) i (omega arith) (omega arith)
-    ∙ (sym (bit_at_cat_high a (k + 1) (2 ^ k - 1) i (omega arith) (omega arith)) ∙ ap (λ (x : ℕ). bit_at x i) (sym (less_split m k h))))
-
-lowest_of : (m k : ℕ) → m < 2 ^ 64 → IsFirstPassing (is_bit m) 0 64 (Some k) → IsLowest m k
+lowest_of : (m k : ℕ) → m < 2 ^ 64 → IsFirstPassing (is_bit m) 0 64 (Some k) → IsLowestBit m k
 unfolding is_bit
 lowest_of m k fits first = record {
   one = bit_one m k first.2;
@@ -213,7 +137,7 @@ without_lowest-cleared m k fits first =
     let h = lowest_of m k fits first in
     let off : bit_at (m - 1) k ≡ 0
     = ap (λ (x : ℕ). bit_at x k) (less_split m k h) ∙ (bit_at_cat_low (m / 2 ^ (k + 1)) (k + 1) (2 ^ k - 1) k (omega arith) ∙ bit_at_ones_above k k (omega arith)) in
-    is_bit-zero (bit_and m (m - 1)) k (bit_at_and m (m - 1) k ∙ min_none' (bit_at m k) (bit_at (m - 1) k) off)
+    is_bit-zero (bit_and m (m - 1)) k (bit_at_and m (m - 1) k ∙ min_none_right (bit_at m k) (bit_at (m - 1) k) off)
 
 pub without_lowest-others : (m k i : ℕ) → m < 2 ^ 64 → IsFirstPassing (is_bit m) 0 64 (Some k) → i ≢ k → is_bit (bit_and m (m - 1)) i ≡ is_bit m i
 without_lowest-others m k i fits first other =
@@ -222,5 +146,5 @@ without_lowest-others m k i fits first other =
     (bit_at_and m (m - 1) i
     ∙ elim (cases_lt i k) [
       | inl early ↦ min_none (bit_at m i) (bit_at (m - 1) i) (h.none i early) ∙ sym (h.none i early)
-      | inr late ↦ min_same (bit_at m i) (bit_at (m - 1) i) (high_same m k i h (omega arith))
+      | inr late ↦ min_same (bit_at m i) (bit_at (m - 1) i) (high_bits_same m k i h (omega arith))
     ])

@@ -4,6 +4,7 @@ use Rattle.std.proofs.Common.{◌≡◌, ℕ, ◌+◌, ◌*◌, ◌/◌, ◌%◌
 use Rattle.std.proofs.lemmas.Bool.{cases_lt, and_from, and_left, and_right}
 use Rattle.std.proofs.lemmas.Nat.{div-add-mod', div_below, le-div, mod_below}
 use Rattle.cal_elapse.specs.Search.{IsFirstPassing, NonePasses}
+use Rattle.cal_text.proofs.General.{quotient_part, remainder_part}
 
 -- a search in two parts
 pub first_then : (passes : ℕ → Bool) (from mid end : ℕ) (r : Option ℕ) → NonePasses passes from mid → from ≤ mid → IsFirstPassing passes mid end r → IsFirstPassing passes from end r
@@ -20,30 +21,10 @@ first_then passes from mid end (Some s) none low rest = (
 pub first_within : (passes : ℕ → Bool) (from mid end s : ℕ) → mid ≤ end → IsFirstPassing passes from mid (Some s) → IsFirstPassing passes from end (Some s)
 first_within passes from mid end s low found = (found.0, omega (arith, found.1), found.2, found.3)
 
--- what passes lies below a number from which on none does
-pub below_end : (passes : ℕ → Bool) (n s : ℕ) → ((i : ℕ) → n ≤ i → passes i ≡ false) → passes s ≡ true → s < n
-below_end passes n s none holds =
-    elim (cases_lt s n) [
-      | inl low ↦ low
-      | inr high ↦ (let no : passes s ≡ false = none s high in let clash : true ≡ false = sym holds ∙ no in absurd (cc))
-    ]
-
 -- a test of numbers a * size + b, for a below the limit and b below the size
 pub record Splits (passes high low : ℕ → Bool) (size limit : ℕ) : Type 0 where
   pub positive : 0 < size
   pub split : (a b : ℕ) → a < limit → b < size → passes (a * size + b) ≡ (high a && low b)
-
--- the parts of a number between two multiples of the size
-high_part : (size a t : ℕ) → 0 < size → a * size ≤ t → t < (a + 1) * size → t / size ≡ a
-high_part size a t positive low high =
-    let least = le-div a t size positive low in
-    let most = div_below t size (a + 1) positive high in
-    omega (arith, least, most)
-
-low_part : (size a l t : ℕ) → t / size ≡ a → a * size + l ≤ t → l ≤ t % size
-low_part size a l t same low =
-    let parts : a * size + t % size ≡ t = (rw same at (div-add-mod' t size)) in
-    omega (arith, parts)
 
 low_end : (size a l t : ℕ) → t / size ≡ a → t < a * size + l → t % size < l
 low_end size a l t same low =
@@ -62,14 +43,14 @@ module _ (passes high low : ℕ → Bool) (size limit : ℕ) (s : Splits passes 
   -- none with this high part
   pub none_by_high : (a l : ℕ) → a < limit → high a ≡ false → NonePasses passes (a * size + l) ((a + 1) * size)
   none_by_high a l inside fails = λ t above below.
-      let same = high_part size a t s.positive (omega (arith, above)) below in
+      let same = quotient_part size a t s.positive (omega (arith, above)) below in
       split_at a t inside same ∙ and_left (high a) (low (t % size)) fails
 
   pub none_by_low : (a l end : ℕ) → a < limit → size ≤ end → NonePasses low l end → NonePasses passes (a * size + l) ((a + 1) * size)
   none_by_low a l end inside far none = λ t above below.
-      let same = high_part size a t s.positive (omega (arith, above)) below in
+      let same = quotient_part size a t s.positive (omega (arith, above)) below in
       let small = mod_below t size s.positive in
-      split_at a t inside same ∙ and_right (high a) (low (t % size)) (none (t % size) (low_part size a l t same above) (omega (arith, small)))
+      split_at a t inside same ∙ and_right (high a) (low (t % size)) (none (t % size) (remainder_part size a l t same above) (omega (arith, small)))
 
   -- the first with this high part
   pub first_here : (a l end b : ℕ) → a < limit → high a ≡ true → b < size → IsFirstPassing low l end (Some b)
@@ -80,8 +61,8 @@ module _ (passes high low : ℕ → Bool) (size limit : ℕ) (s : Splits passes 
         omega (arith, next),
         s.split a b inside small ∙ and_from (high a) (low b) holds found.2,
         λ t above below.
-            let same = high_part size a t s.positive (omega (arith, above)) (omega (arith, below, next)) in
-            split_at a t inside same ∙ and_right (high a) (low (t % size)) (found.3 (t % size) (low_part size a l t same above) (low_end size a b t same below)),
+            let same = quotient_part size a t s.positive (omega (arith, above)) (omega (arith, below, next)) in
+            split_at a t inside same ∙ and_right (high a) (low (t % size)) (found.3 (t % size) (remainder_part size a l t same above) (low_end size a b t same below)),
       )
 
   -- none with a later high part
@@ -108,7 +89,7 @@ module _ (passes high low : ℕ → Bool) (size limit : ℕ) (s : Splits passes 
                   let most = div_below t size h s.positive early in
                   split_at (t / size) t (omega (arith, most, inside)) refl ∙ and_left (high (t / size)) (low (t % size)) (found.3 (t / size) least most))
               | inr late ↦
-                  (let same = high_part size h t s.positive late (omega (arith, next, below)) in
+                  (let same = quotient_part size h t s.positive late (omega (arith, next, below)) in
                   split_at h t inside same ∙ and_right (high h) (low (t % size)) (first.3 (t % size) (omega arith) (low_end size h b t same below)))
             ],
       )

@@ -8,23 +8,22 @@ use Rattle.cal_spec.specs.headline.Fields.{Fields}
 use Rattle.cal_spec.specs.headline.Match.{Sets, date_in, matches, time_in}
 use Rattle.cal_spec.specs.headline.Members.{sets_of}
 use Rattle.cal_rising.specs.headline.Elements.{Has}
-use Rattle.cal_text.proofs.General.{list-no_first}
+use Rattle.cal_text.proofs.General.{list-no_first, both_follow}
 use Rattle.cal_rising.proofs.WithoutLemmas.{Has-is_member, is_member-Has}
 use Rattle.cal_elapse.specs.Covered.{AreAmong, AreKept, IsCovered}
 use Rattle.cal_elapse.specs.Elapses.{elapses_after, elapses_except}
 use Rattle.cal_elapse.specs.headline.Elapses.{IsElapse, IsPlace, Timed}
 use Rattle.cal_elapse.specs.headline.Timed.{timed}
-use Rattle.cal_elapse.proofs.AmongLemmas.{both}
 use Rattle.cal_elapse.proofs.ElapsesLemmas.{AreAbove-elapses_after, AreElapses-elapses_except, AreElapses-only, first-none}
 
 -- what matches sets matches those that they are among
 pub matches_among : (sets others : Sets) → AreAmong sets others → (local : ℕ) → matches sets local ≡ true → matches others local ≡ true
 unfolding matches date_in time_in
 matches_among sets others h local =
-    both _ _ _ _ (λ same. same)
-    (both _ _ _ _
-    (both _ _ _ _ (h.weekday _) (both _ _ _ _ (h.year _) (both _ _ _ _ (h.month _) (rw h.from_end (h.day _)))))
-    (both _ _ _ _ (h.hour _) (both _ _ _ _ (h.minute _) (h.second _))))
+    both_follow _ _ _ _ (λ same. same)
+    (both_follow _ _ _ _
+    (both_follow _ _ _ _ (h.weekday _) (both_follow _ _ _ _ (h.year _) (both_follow _ _ _ _ (h.month _) (rw h.from_end (h.day _)))))
+    (both_follow _ _ _ _ (h.hour _) (both_follow _ _ _ _ (h.minute _) (h.second _))))
 
 -- so in one zone it elapses only where they do
 pub place_among : (fields others : Fields) (zone : TimeZone) → AreAmong (sets_of fields) (sets_of others) → IsCovered (timed fields zone) (timed others zone ∷ [])

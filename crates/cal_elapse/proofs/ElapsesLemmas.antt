@@ -14,8 +14,8 @@ use Rattle.cal_elapse.specs.Merged.{each_after}
 use Rattle.cal_rising.specs.Rises.{rises-without}
 use Rattle.cal_rising.specs.RisingList.{HasAny, union, without}
 use Rattle.cal_rising.specs.headline.Elements.{Has}
-use Rattle.cal_text.proofs.General.{chained}
-use Rattle.cal_rising.proofs.RisingLemmas.{above_first, later_members, same_rising, Has-union, rises-drop, rises-union}
+use Rattle.cal_text.proofs.General.{chained, rises-drop}
+use Rattle.cal_rising.proofs.RisingLemmas.{above_first, later_members, same_rising, Has-union, rises-union}
 use Rattle.cal_rising.proofs.WithoutLemmas.{Has-without, without-none}
 
 -- a local second among n from a on that matches has its place here

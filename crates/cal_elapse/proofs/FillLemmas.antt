@@ -10,9 +10,9 @@ use Rattle.cal_elapse.specs.Near.{IsNear}
 use Rattle.cal_elapse.specs.Ring.{IsOneOf, IsRoundFrom, cells_behind, instants_in, is_held, no_second}
 use Rattle.cal_elapse.specs.Search.{IsFirstPassing}
 use Rattle.cal_elapse.proofs.BitLemmas.{is_bit-above, is_bit-or, is_bit-shifted, is_bit-up, is_bit-up_none}
-use Rattle.cal_elapse.proofs.CarryLemmas.{below_end}
 use Rattle.cal_elapse.proofs.CellLemmas.{in_word}
-use Rattle.cal_elapse.proofs.RingLemmas.{Has-instants, IsIn, first_found, found_kept, kept_some, member, none_found, none_kept, same_second, by_lt}
+use Rattle.cal_elapse.proofs.RingLemmas.{Has-instants, IsIn, first_found, found_kept, kept_some, member, none_found, none_kept, same_second}
+use Rattle.cal_text.proofs.General.{below_end, lt_from_pos, or_false}
 
 -- The cells
 
@@ -28,10 +28,6 @@ filled_else : (words : List ℕ) (word value i : ℕ) → i / 64 ≢ word → is
 filled_else words word value i other =
     in_word (set words word value) i (i / 64) refl
     ∙ (ap (λ (w : ℕ). is_bit w (i % 64)) (get_or-set_other words word (i / 64) value 0 other) ∙ sym (in_word words i (i / 64) refl))
-
-or_false : (a b : Bool) → b ≡ false → a ≡ (a || b)
-or_false true b h = refl
-or_false false b h = sym h
 
 -- the bits that stay in the word of the first cell, and those that go on to the next
 up_is : (bits cell i : ℕ) → bits < 2 ^ 64 → cell < 187_200 → i < 187_200 → i / 64 ≡ cell / 64
@@ -171,10 +167,6 @@ begun_least words least start members view was begun =
           record { some = some; found = found; below = begun_by (slice_get members 0) least start (ap (λ (xs : List ℤ). slice_get xs 0) (sym view) ∙ first_found words least least found) begun }
     ]
 
-pub start_is : (start : ℤ) (second least : ℕ) → pos least <ℤ start → second ≡ unsigned_abs start → pos second ≡ start
-start_is (pos n) second least below e = ap pos e
-start_is (negsuc n) second least below e = absurd (omega (arith, ints))
-
 within_round : (least second bit : ℕ) (i : ℤ) → IsNear (pos least) i → (pos second +ℤ pos bit) ≡ i → second + bit < least + 187_200
 within_round least second bit i near is = let high = near.1 in omega (arith, ints)
 
@@ -190,7 +182,7 @@ round_of_all words least second bits start members view begun is instants near =
     let found = begun.found in
     let there : Has members (pos least) = subst (λ (xs : List ℤ). Has xs (pos least)) view (member words least least found.0 found.1 found.2) in
     record {
-      behind = by_lt least second start is begun.below;
+      behind = lt_from_pos least second start is begun.below;
       inside = λ bit set. within_round least second bit (start +ℤ pos bit) (near (pos least) (start +ℤ pos bit) there (one_of start second bits bit is set)) (ap (λ (z : ℤ). z +ℤ pos bit) is);
       early = λ bit set. early_enough second bit (start +ℤ pos bit) (instants (start +ℤ pos bit) (one_of start second bits bit is set)) (ap (λ (z : ℤ). z +ℤ pos bit) is);
     }

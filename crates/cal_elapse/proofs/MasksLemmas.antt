@@ -1,5 +1,5 @@
 -- The members of a valid component lie in its field, so that the bits of the field have them all, and each has one.
-use Rattle.std.proofs.Common.{◌≡◌, ◌≢◌, ◌&&◌, ◌||◌, ◌/◌, ◌%◌, nat_lt, if◌then◌else◌, mod-eq_of_lt, sym, ℕ, ◌+◌, ◌-◌, ◌<◌, ◌≤◌, Bool, true, false, nat_le, get_or, length, List, [], ◌∷◌, Option, None, Some, refl, ap, ◌∙◌, inl, inr, arith}
+use Rattle.std.proofs.Common.{◌≡◌, ◌≢◌, ◌&&◌, ◌||◌, ◌/◌, ◌%◌, nat_lt, if◌then◌else◌, mod-eq_of_lt, sym, ℕ, ◌+◌, ◌-◌, ◌<◌, ◌≤◌, Bool, true, false, nat_le, get_or, length, List, [], ◌∷◌, Option, None, Some, refl, ap, ◌∙◌, inl, inr, arith, le-ltb, lt-ltb}
 use Rattle.std.specs.List.{AllByRecursion, list_any}
 use Rattle.std.proofs.Math.ListN.{get_or-eq_default}
 use Rattle.std.proofs.lemmas.Bool.{cases_lt, eqb-true, or_cases, false_from_ne_true}
@@ -14,6 +14,7 @@ use Rattle.cal_spec.specs.headline.Sound.{EndsAfter, IsSound, IsEndWithin, IsSte
 use Rattle.cal_spec.specs.declared.part.Part.{Part}
 use Rattle.cal_spec.specs.declared.slot.Slot.{Slot}
 use Rattle.cal_spec.specs.declared.slot.Slot.TheVariants.{Year, Month, Day, DayFromEnd, Hour, Minute, Second}
+use Rattle.cal_text.proofs.General.{or_false}
 
 lies_both : (a b v : ℕ) → lies a b v ≡ true → (a ≤ v) × (v ≤ b)
 lies_both a b v h = (grind (arith, nat_tests), grind (arith, nat_tests))
@@ -82,16 +83,6 @@ component_both slot (Some ps) v sound h =
     let last = greatest_last slot in
     (both.0, omega arith)
 
-less : (i n : ℕ) → i < n → nat_lt i n ≡ true
-less i n h = grind (arith, nat_tests)
-
-not_less : (i n : ℕ) → n ≤ i → nat_lt i n ≡ false
-not_less i n h = grind (arith, nat_tests)
-
-or_no : (b : Bool) → (b || false) ≡ b
-or_no true = refl
-or_no false = refl
-
 pub day_both : (from_end : Bool) (c : Option (List Part)) (v : ℕ) → AreSound (day_slot from_end) c → component_has (day_slot from_end) c v ≡ true
     → (1 ≤ v) × (v < 1 + 31)
 day_both true c v sound h = let both = component_both DayFromEnd c v sound h in (both.0, omega (arith, both.1))
@@ -99,7 +90,7 @@ day_both false c v sound h = let both = component_both Day c v sound h in (both.
 
 -- a word that is filled from its lowest bit on
 pub filled_none : (has : ℕ → Bool) (i : ℕ) → is_bit 0 i ≡ (nat_lt i 0 && has i)
-filled_none has i = let out = not_less i 0 (omega arith) in rw out (is_bit-none i)
+filled_none has i = let out = le-ltb i 0 (omega arith) in rw out (is_bit-none i)
 
 pub filled_more : (old new place : ℕ) (has : ℕ → Bool) → ((i : ℕ) → is_bit old i ≡ (nat_lt i place && has i))
     → is_bit new place ≡ (has place || is_bit old place) → ((i : ℕ) → i ≢ place → is_bit new i ≡ is_bit old i)
@@ -107,27 +98,27 @@ pub filled_more : (old new place : ℕ) (has : ℕ → Bool) → ((i : ℕ) → 
 filled_more old new place has before here others i =
     elim (cases_lt i place) [
       | inl early ↦
-          (let was = less i place early in
-          let now = less i (place + 1) (omega arith) in
+          (let was = lt-ltb i place early in
+          let now = lt-ltb i (place + 1) (omega arith) in
           rw now (others i (λ same. omega (arith, same)) ∙ (before i ∙ rw was)))
       | inr late ↦
           elim (cases_lt i (place + 1)) [
             | inl at ↦
                 (let same : i ≡ place = omega arith in
-                let was = not_less place place (omega arith) in
-                let now = less place (place + 1) (omega arith) in
+                let was = le-ltb place place (omega arith) in
+                let now = lt-ltb place (place + 1) (omega arith) in
                 let empty : is_bit old place ≡ false = before place ∙ rw was in
-                rw (same, now) (here ∙ (rw empty (or_no (has place)))))
+                rw (same, now) (here ∙ (rw empty (sym (or_false (has place) false refl)))))
             | inr above ↦
-                (let was = not_less i place late in
-                let now = not_less i (place + 1) above in
+                (let was = le-ltb i place late in
+                let now = le-ltb i (place + 1) above in
                 rw now (others i (λ same. omega (arith, same)) ∙ (before i ∙ rw was)))
           ]
     ]
 
 -- above what was filled there is nothing
 pub filled_end : (mask n : ℕ) (has : ℕ → Bool) → ((i : ℕ) → is_bit mask i ≡ (nat_lt i n && has i)) → (i : ℕ) → n ≤ i → is_bit mask i ≡ false
-filled_end mask n has filled i high = let out = not_less i n high in filled i ∙ rw out
+filled_end mask n has filled i high = let out = le-ltb i n high in filled i ∙ rw out
 
 -- a word that has a number isn't 0
 pub filled_some : (mask v : ℕ) → is_bit mask v ≡ true → 0 < mask
@@ -143,8 +134,8 @@ filled_some mask v holds =
 cut_off : (n i : ℕ) (x y : Bool) → (i < n → x ≡ y) → (n ≤ i → false ≡ y) → (nat_lt i n && x) ≡ y
 cut_off n i x y inside outside =
     elim (cases_lt i n) [
-      | inl low ↦ (let yes = less i n low in rw yes (inside low))
-      | inr high ↦ (let out = not_less i n high in rw out (outside high))
+      | inl low ↦ (let yes = lt-ltb i n low in rw yes (inside low))
+      | inr high ↦ (let out = le-ltb i n high in rw out (outside high))
     ]
 
 -- what was filled with all numbers at which something holds tells just that
@@ -193,10 +184,10 @@ days_are mask from_end holds filled within v =
     at_place : (turned : Bool) → 1 ≤ v → v ≤ 31 → ((i : ℕ) → is_bit mask i ≡ (nat_lt i 31 && holds (if turned then 31 - i else i + 1)))
         → is_bit mask (day_place turned v) ≡ holds v
     at_place true low high known =
-        let below = less (31 - v) 31 (omega arith) in
+        let below = lt-ltb (31 - v) 31 (omega arith) in
         known (31 - v) ∙ rw below (ap holds (omega arith))
     at_place false low high known =
-        let below = less (v - 1) 31 (omega arith) in
+        let below = lt-ltb (v - 1) 31 (omega arith) in
         known (v - 1) ∙ rw below (ap holds (omega arith))
 
 -- the first week of six
@@ -204,14 +195,14 @@ pub weekdays_are : (mask : ℕ) (days : List Bool) → length days ≡ 7 → ((i
     → (v : ℕ) → (nat_lt v 7 && is_bit mask v) ≡ get_or days v false
 weekdays_are mask days seven filled v =
     cut_off 7 v (is_bit mask v) (get_or days v false)
-    (λ low. let inside = less v 42 (omega arith) in let same : v % 7 ≡ v = omega arith in filled v ∙ rw (inside, same))
+    (λ low. let inside = lt-ltb v 42 (omega arith) in let same : v % 7 ≡ v = omega arith in filled v ∙ rw (inside, same))
     (λ high. let past : length days ≤ v = omega arith in sym (get_or-eq_default days false past))
 
 pub weeks_repeat : (mask : ℕ) (days : List Bool) → ((i : ℕ) → is_bit mask i ≡ (nat_lt i 42 && get_or days (i % 7) false))
     → (i : ℕ) → i < 42 → is_bit mask i ≡ is_bit mask (i % 7)
 weeks_repeat mask days filled i low =
-    let inside = less i 42 low in
-    let first = less (i % 7) 42 (omega arith) in
+    let inside = lt-ltb i 42 low in
+    let first = lt-ltb (i % 7) 42 (omega arith) in
     let same : i % 7 % 7 ≡ i % 7 = omega arith in
     filled i ∙ (rw inside (sym (filled (i % 7) ∙ rw (first, same))))
 
@@ -219,15 +210,15 @@ weeks_repeat mask days filled i low =
 year_word : (word first n i j : ℕ) (holds : ℕ → Bool) → ((p : ℕ) → is_bit word p ≡ (nat_lt p n && holds (first + p)))
     → first + j ≡ 1_970 + i → j < n → i < 230 → is_bit word j ≡ (nat_lt i 230 && holds (1_970 + i))
 year_word word first n i j holds filled same low inside =
-    let here = less j n low in
-    let all = less i 230 inside in
+    let here = lt-ltb j n low in
+    let all = lt-ltb i 230 inside in
     filled j ∙ (rw (here, all) (ap holds same))
 
 year_past : (word first n i j : ℕ) (holds : ℕ → Bool) → ((p : ℕ) → is_bit word p ≡ (nat_lt p n && holds (first + p)))
     → n ≤ j → 230 ≤ i → is_bit word j ≡ (nat_lt i 230 && holds (1_970 + i))
 year_past word first n i j holds filled past beyond =
-    let out = not_less j n past in
-    let all = not_less i 230 beyond in
+    let out = le-ltb j n past in
+    let all = le-ltb i 230 beyond in
     filled j ∙ (rw (out, all))
 
 pub years_filled : (a b c d : ℕ) (holds : ℕ → Bool) → ((p : ℕ) → is_bit a p ≡ (nat_lt p 64 && holds (1_970 + p)))
@@ -262,7 +253,7 @@ years_filled a b c d holds first second third fourth i =
                         | inr high ↦
                             (let past : 4 ≤ i / 64 = omega arith in
                             let nothing : get_or (a ∷ b ∷ c ∷ d ∷ []) (i / 64) 0 ≡ 0 = get_or-eq_default (a ∷ b ∷ c ∷ d ∷ []) 0 past in
-                            let all = not_less i 230 (omega arith) in
+                            let all = le-ltb i 230 (omega arith) in
                             rw (nothing, all) (is_bit-none (i % 64)))
                       ]
                 ]
@@ -271,7 +262,7 @@ years_filled a b c d holds first second third fourth i =
 
 pub years_end : (words : List ℕ) (holds : ℕ → Bool) → ((i : ℕ) → is_in_words words i ≡ (nat_lt i 230 && holds (1_970 + i)))
     → (i : ℕ) → 230 ≤ i → is_in_words words i ≡ false
-years_end words holds filled i high = let out = not_less i 230 high in filled i ∙ rw out
+years_end words holds filled i high = let out = le-ltb i 230 high in filled i ∙ rw out
 
 -- each part has the number that it begins with
 by_at : (low high r d v : ℕ) → d ≡ 0 → 0 < r → low ≤ v → v ≤ high → lies_by low high r d v ≡ true

@@ -1,5 +1,5 @@
 -- What is left of the minute of a match, as a search takes bit after bit.
-use Rattle.std.proofs.Common.{IsSome, ◌≡◌, ◌≢◌, ◌∙◌, ℕ, ◌+◌, ◌-◌, ◌*◌, ◌/◌, ◌%◌, ◌^◌, ◌<◌, ◌≤◌, Bool, true, false, ◌&&◌, nat_lt, Option, None, Some, IfSome, w64, ap, sym, subst, refl, inl, inr, rules, arith}
+use Rattle.std.proofs.Common.{IsSome, ◌≡◌, ◌≢◌, ◌∙◌, ℕ, ◌+◌, ◌-◌, ◌*◌, ◌/◌, ◌%◌, ◌^◌, ◌<◌, ◌≤◌, Bool, true, false, ◌&&◌, nat_lt, Option, None, Some, IfSome, w64, ap, sym, subst, refl, inl, inr, rules, arith, ltb-true}
 use Rattle.std.proofs.lemmas.Bool.{and_parts, cases_eq, cases_lt, false_from_ne_true}
 use Rattle.std.specs.Int.{trailing_zeros}
 use Rattle.cal_zone.specs.headline.Local.{seconds_in_all, seconds_in_all-is}
@@ -12,21 +12,19 @@ use Rattle.cal_elapse.specs.Months.{day_in, minute_in}
 use Rattle.cal_elapse.specs.Search.{IsFirstPassing}
 use Rattle.cal_elapse.specs.declared.masks.Masks.{Masks}
 use Rattle.cal_elapse.proofs.BitLemmas.{first_bit, is_bit-above, is_bit-none, is_bit-shifted}
-use Rattle.cal_elapse.proofs.CarryLemmas.{below_end, split_at}
+use Rattle.cal_elapse.proofs.CarryLemmas.{split_at}
 use Rattle.cal_elapse.proofs.LookLemmas.{looks_today}
 use Rattle.cal_elapse.proofs.SearchLemmas.{locals_split}
 use Rattle.cal_elapse.proofs.TimeLemmas.{seconds_split}
+use Rattle.cal_text.proofs.General.{below_end}
 
 no_bit : (i : ℕ) → is_bit 0 i ≡ true → ⊥
 no_bit i bit = let none = is_bit-none i in cc
 
-less_by : (a b : ℕ) → nat_lt a b ≡ true → a < b
-less_by a b h = grind arith
-
 -- what matches is a local second
 pub match_inside : (sets : Sets) (t : ℕ) → matches sets t ≡ true → t < seconds_in_all
 unfolding matches
-match_inside sets t holds = less_by t seconds_in_all (and_parts _ _ holds).0
+match_inside sets t holds = ltb-true t seconds_in_all (and_parts _ _ holds).0
 
 day_of_match : (sets : Sets) (t : ℕ) → matches sets t ≡ true → (day_in sets (t / 86_400) ≡ true) × (time_in sets (t % 86_400) ≡ true)
 day_of_match sets t holds =

@@ -10,6 +10,7 @@ use Rattle.cal_elapse.specs.Most.{IsLooked, IsMost, IsMostAfter}
 use Rattle.cal_elapse.specs.Search.{IsFirstPassing, NonePasses}
 use Rattle.cal_elapse.specs.declared.search.Next.{Next}
 use Rattle.cal_elapse.proofs.CountLemmas.{count_from-nothing, count_from-to}
+use Rattle.cal_text.proofs.General.{max_from_zero, max_is}
 
 -- there is one first number that passes
 first_same : (passes : ℕ → Bool) (from end : ℕ) (a b : Option ℕ) → IsFirstPassing passes from end a → IsFirstPassing passes from end b → a ≡ b
@@ -33,9 +34,6 @@ looked_same sets from a b one other =
 pub search_looked : (sets : Sets) (from : ℕ) (found : Next) → IsSearch sets from found → IsLooked sets from found.months
 search_looked sets from found search =
     record { answer = found.local; first = search.first; looked = search.counted }
-
-max_is : (a b : ℕ) → ((max a b ≡ a) × (b ≤ a)) ⊎ ((max a b ≡ b) × (a ≤ b))
-max_is a b = elim (cases_lt a b) [ inl less ↦ inr (grind arith, omega arith) | inr not_less ↦ inl (grind arith, omega arith) ]
 
 -- after no match
 pub most_begun : (sets : Sets) (from before : ℕ) → IsMostAfter sets from from before before
@@ -110,15 +108,11 @@ most_first sets start found search = record { first = found.months; begun = sear
 pub most_more : (sets : Sets) (start a b most more : ℕ) → start ≤ a → a ≤ b → IsMost sets start a most → IsMostAfter sets a b most more → IsMost sets start b more
 most_more sets start a b most more low high h later = record { first = h.first; begun = h.begun; later = most_on sets start a b h.first most more low high h.later later }
 
--- of the first search alone
-pub most_of_first : (old months most : ℕ) → old ≡ 0 → most ≡ max old months → most ≡ months
-most_of_first old months most zero is = elim (max_is old months) [ inl high ↦ omega arith | inr at ↦ omega arith ]
-
 -- and up to the match that it found
 pub most_start : (sets : Sets) (start bound old most : ℕ) (found : Next) → IsSearch sets start found → start ≤ bound → NonePasses (matches sets) start bound → old ≡ 0
     → most ≡ max old found.months → IsMost sets start bound most
 most_start sets start bound old most found search low none zero is =
-    let same = most_of_first old found.months most zero is in
+    let same = max_from_zero old found.months most zero is in
     subst (IsMost sets start bound) (sym same)
     (most_same sets start start bound found.months (λ t above holds. (λ below. absurd (omega arith), λ below. absurd (let fails = none t above below in cc)))
     (most_first sets start found search))
@@ -140,7 +134,3 @@ next_most sets local before found (Some t) holds search known =
     let first = known.0.1 in
     let low = first.0 in
     most_next sets local t before found holds search (omega arith) first.3
-
-pub next_last : (next : Option ℕ) (local last : ℕ) → IsSome next → IfSome next (λ l. l ≡ last) → unwrap_or next local ≡ last
-next_last None local last some kept = absurd (let no = some in cc)
-next_last (Some t) local last some kept = kept

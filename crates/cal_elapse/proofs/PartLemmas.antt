@@ -16,10 +16,7 @@ use Rattle.cal_spec.specs.declared.field.Field.TheVariants as field
 use Rattle.cal_spec.specs.declared.part.Part.{Part}
 use Rattle.cal_spec.specs.declared.slot.Slot.{Slot}
 use Rattle.cal_spec.specs.declared.slot.Slot.TheVariants.{Year, Month, Day, DayFromEnd, Hour, Minute, Second}
-
--- no place
-pub nowhere : (low high i : ℕ) → high ≤ low → (nat_le low i && nat_lt i high) ≡ false
-nowhere low high i none = grind (arith, nat_tests)
+use Rattle.cal_text.proofs.General.{and_regrouped, and_shared, and_true}
 
 -- the members of a field are those of its component
 pub members_by : (f : Field) (e : Fields) (v : ℕ) → members_of f (sets_of e) v ≡ component_has (slot_of f e.from_end) (component f e) v
@@ -50,10 +47,6 @@ abbrev pub is_stepped : Option ℕ → ℕ → Bool
 is_stepped None distance = true
 is_stepped (Some r) distance = distance % r == 0
 
-pub and_true : (x : Bool) → (x && true) ≡ x
-and_true true = refl
-and_true false = refl
-
 -- a number that is no count from the month's end
 number_alone : (a v : ℕ) → (v == a) ≡ (lies a a v && true)
 number_alone a v = grind (arith, nat_tests)
@@ -81,10 +74,6 @@ values_up slot a None (Some r) v up small = repeats_up slot a r v up small
 values_up slot a (Some b) None v up small = sym (and_true (lies a b v))
 values_up slot a (Some b) (Some r) v up small = refl
 
-pub and_regrouped : (x y z : Bool) → ((x && y) && z) ≡ (x && (y && z))
-and_regrouped true y z = refl
-and_regrouped false y z = refl
-
 -- where they are in a window
 pub part_in_window : (slot : Slot) (p : Part) (step : Option ℕ) (first count low high i : ℕ) → IsWindow slot first count → p.step ≡ step
     → low ≡ p.start - first → high ≡ min (last_number p.start p.end p.step + 1 - first) count
@@ -108,21 +97,12 @@ part_in_window slot p step first count low high i w same_step same_low same_high
           rw (none, out))
     ]
 
--- one part more
-pub and_none : (x : Bool) → (x && false) ≡ false
-and_none true = refl
-and_none false = refl
-
-and_or : (x y z : Bool) → ((x && y) || (x && z)) ≡ (x && (y || z))
-and_or true y z = refl
-and_or false y z = refl
-
 pub parts_more : (has : Part → Bool) (ps : List Part) (k : ℕ) (inside before here : Bool) → k < length ps
     → before ≡ (inside && list_any has (take k ps)) → here ≡ (inside && has (get_or ps k (record { start = 0; end = None; step = None })))
     → (before || here) ≡ (inside && list_any has (take (k + 1) ps))
 parts_more has ps k inside before here more was now =
     let d : Part = record { start = 0; end = None; step = None } in
-    rw (was, now, list_any_more has ps k d more) (and_or inside (list_any has (take k ps)) (has (get_or ps k d)))
+    rw (was, now, list_any_more has ps k d more) (and_shared inside (list_any has (take k ps)) (has (get_or ps k d)))
 
 -- `*` has the whole window
 pub whole_window : (f : Field) (e : Fields) (first count i : ℕ) → IsWindow (slot_of f e.from_end) first count → None ≡ component f e

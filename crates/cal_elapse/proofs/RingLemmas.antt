@@ -18,8 +18,8 @@ use Rattle.cal_elapse.specs.Ring.{cells_in_all, cells_in_all-is, instants_in, is
 use Rattle.cal_rising.specs.headline.Elements.{Has}
 use Rattle.cal_elapse.specs.Search.{IsFirstPassing}
 use Rattle.cal_elapse.proofs.ElapsesLemmas.{first-least, first-none}
-use Rattle.cal_text.proofs.General.{less, list-first, list-no_first}
-use Rattle.cal_rising.proofs.RisingLemmas.{Has-insert_key, rises-drop, rises-insert_key, later_members, same_rising}
+use Rattle.cal_text.proofs.General.{less, list-first, list-no_first, get_or-zeros, lt_from_pos, lt_of_pos, rises-drop}
+use Rattle.cal_rising.proofs.RisingLemmas.{Has-insert_key, rises-insert_key, later_members, same_rising}
 
 -- Numbers in a row
 
@@ -336,22 +336,16 @@ left_second old new low at t found less above below holds =
     later_one : (at t : ℕ) → at ≤ t → t % 187_200 ≢ at % 187_200 → at < t
     later_one at t above other = elim (cases_lt at t) [ inl h ↦ h | inr h ↦ absurd (other (let same : t ≡ at = omega arith in ap (λ (s : ℕ). s % 187_200) same)) ]
 
-lt_by : (at t : ℕ) (i : ℤ) → pos t ≡ i → at < t → pos at <ℤ i
-lt_by at t i is h = omega (arith, ints)
-
-pub by_lt : (at t : ℕ) (i : ℤ) → pos t ≡ i → pos at <ℤ i → at < t
-by_lt at t i is h = omega (arith, ints)
-
 left_in : (old new : List ℕ) (low at : ℕ) (i : ℤ) → IsFirstPassing (is_held old) low (low + 187_200) (Some at) → HasLess old new at
     → IsIn new at i → (pos at <ℤ i) × Has (instants_in old low) i
 left_in old new low at i found less a =
     let both = left_second old new low at a.at found less a.above a.below a.holds in
-    (lt_by at a.at i a.is both.0, subst (Has (instants_in old low)) a.is both.1)
+    (lt_of_pos at a.at i a.is both.0, subst (Has (instants_in old low)) a.is both.1)
 
 still_in : (old new : List ℕ) (low at : ℕ) (i : ℤ) → IsFirstPassing (is_held old) low (low + 187_200) (Some at) → HasLess old new at
     → pos at <ℤ i → IsIn old low i → Has (instants_in new at) i
 still_in old new low at i found less above a =
-    let late = by_lt at a.at i a.is above in
+    let late = lt_from_pos at a.at i a.is above in
     let begins = found.0 in
     let ends = a.below in
     let start = a.above in
@@ -437,15 +431,9 @@ taken_from old new least next found less whole was first =
 
 -- What a set of instants answers
 
--- nothing is in empty cells
-no_word : (n i : ℕ) → get_or {A = ℕ} (replicate n 0) i 0 ≡ 0
-no_word zero i = refl
-no_word (suc n) zero = refl
-no_word (suc n) (suc i) = no_word n i
-
 nothing_held : (words : List ℕ) (n t : ℕ) → words ≡ replicate n 0 → is_held words t ≡ false
 unfolding is_held is_in_words
-nothing_held words n t empty = ap (λ (w : ℕ). is_bit w (t % 187_200 % 64)) (ap (λ (ws : List ℕ). get_or ws (t % 187_200 / 64) 0) empty ∙ no_word n (t % 187_200 / 64)) ∙ is_bit-zero 0 (t % 187_200 % 64) (bit_at-zero (t % 187_200 % 64))
+nothing_held words n t empty = ap (λ (w : ℕ). is_bit w (t % 187_200 % 64)) (ap (λ (ws : List ℕ). get_or ws (t % 187_200 / 64) 0) empty ∙ get_or-zeros n (t % 187_200 / 64)) ∙ is_bit-zero 0 (t % 187_200 % 64) (bit_at-zero (t % 187_200 % 64))
 
 pub nothing_seen : (words : List ℕ) (n low : ℕ) → words ≡ replicate n 0 → instants_in words low ≡ []
 nothing_seen words n low empty = list-no_first (instants_in words low) (none_found words low (λ t above below. nothing_held words n t empty))
@@ -491,10 +479,6 @@ least_answer words low at members view was found =
 
 pub none_answer : (words : List ℕ) (low : ℕ) (members : List ℤ) → instants_in words low ≡ members → IsFirstPassing (is_held words) low (low + 187_200) None → None ≡ slice_get members 0
 none_answer words low members view none = sym (none_found words low none) ∙ ap (λ (xs : List ℤ). slice_get xs 0) view
-
-pub none_left : (members : List ℤ) → None ≡ slice_get members 0 → members ≡ drop 1 members
-none_left [] h = refl
-none_left (x ∷ xs) h = absurd (cc)
 
 pub rises_answer : (words : List ℕ) (low : ℕ) (members : List ℤ) → instants_in words low ≡ members → IsStrictlySortedBy int_cmp members
 rises_answer words low members view = subst (IsStrictlySortedBy int_cmp) view (rises-instants words low)

@@ -7,6 +7,7 @@ use Rattle.std.proofs.lemmas.Bool.{cases_lt, cond-true, eq-eqb, lt-ltb, ne_eqb}
 use Rattle.std.proofs.lemmas.Nat.{le_or_l, le_or_r}
 use Rattle.std.proofs.lemmas.Simd.{get_or-chunk, length-chunk}
 use Rattle.cal_elapse.specs.Scan.{is_set}
+use Rattle.cal_text.proofs.General.{fold_each}
 
 pub set_word : (x : ℕ) → x ≢ 0 → is_set x ≡ true
 set_word x h = ap not (ne_eqb x 0 h)
@@ -49,22 +50,6 @@ position-none xs zeros =
 
     not_less : (n : ℕ) → ltb n n ≡ false
     not_less n = grind (arith)
-
--- an or of numbers is no less than each of them
-fold_least : (a : ℕ) (xs : List ℕ) → a ≤ fold_l bit_or a xs
-fold_least a [] = omega arith
-fold_least a (x ∷ xs) =
-    let both = le_or_l a x in
-    let rest = fold_least (bit_or a x) xs in
-    omega (arith, both, rest)
-
-fold_each : (a : ℕ) (xs : List ℕ) (k : ℕ) → k < length xs → get_or xs k 0 ≤ fold_l bit_or a xs
-fold_each a [] k h = absurd (omega arith)
-fold_each a (x ∷ xs) zero h =
-    let both = le_or_r a x in
-    let rest = fold_least (bit_or a x) xs in
-    omega (arith, both, rest)
-fold_each a (x ∷ xs) (suc k) h = fold_each (bit_or a x) xs k (omega arith)
 
 -- no word of a load is set
 load_zero : (xs : List ℕ) (at n : ℕ) → at + n ≤ length xs → fold_l bit_or 0 (chunk at n xs) ≡ 0 → (k : ℕ) → at ≤ k → k < at + n → is_set (get_or xs k 0) ≡ false

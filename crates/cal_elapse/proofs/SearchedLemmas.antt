@@ -15,8 +15,8 @@ use Rattle.cal_elapse.specs.declared.window.Window.{Window}
 use Rattle.cal_elapse.proofs.CountLemmas.{count_from-none, count_from-on}
 use Rattle.cal_elapse.proofs.MinuteLemmas.{match_inside}
 use Rattle.cal_elapse.proofs.MostLemmas.{most_same}
-use Rattle.cal_text.proofs.General.{list-first}
-use Rattle.cal_elapse.proofs.WindowLemmas.{all_placed, by_test, is_above}
+use Rattle.cal_text.proofs.General.{list-first, lt_from_test, none_chosen}
+use Rattle.cal_elapse.proofs.WindowLemmas.{all_placed}
 use Rattle.cal_spec.specs.headline.Match.{matches}
 use Rattle.cal_elapse.proofs.InstantLemmas.{first_has}
 
@@ -41,7 +41,7 @@ count_down v i top h m is begun inside =
 late_bound : (ahead : Option ℕ) (i : ℤ) (top : ℕ) → to_place ahead (Some i) ≡ None → (pos top) ≡ (i +ℤ pos 93_600) → bound_of ahead < top → bound_of ahead ≡ seconds_in_all
 late_bound None i top full is late = refl
 late_bound (Some local) i top full is late =
-    let early : i <ℤ (pos local -ℤ pos 93_599) = is_above i (pos local -ℤ pos 93_599) (by_test (int_lt i (pos local -ℤ pos 93_599)) local full) in
+    let early : i <ℤ (pos local -ℤ pos 93_599) = lt_from_test i (pos local -ℤ pos 93_599) (none_chosen (int_lt i (pos local -ℤ pos 93_599)) local full) in
     absurd (omega (arith, ints))
 
 count_top : (v : Window) (i : ℤ) (top : ℕ) → IsReady v → Has v.pending i → to_place v.ahead (Some i) ≡ None → (pos top) ≡ (i +ℤ pos 93_600) → start_of v.base ≤ top

@@ -5,8 +5,8 @@ use Rattle.cal_elapse.specs.Masks.{sets_in}
 use Rattle.cal_elapse.specs.Months.{minute_in}
 use Rattle.cal_elapse.specs.declared.masks.Masks.{Masks}
 use Rattle.cal_elapse.proofs.CarryLemmas.{Splits}
-use Rattle.cal_elapse.proofs.PartLemmas.{and_regrouped}
 use Rattle.cal_spec.specs.headline.Match.{time_in}
+use Rattle.cal_text.proofs.General.{and_regrouped}
 
 -- a minute of the day is an hour and a minute
 pub minutes_split : (m : Masks) → Splits (minute_in (sets_in m)) (is_bit m.hours) (is_bit m.minutes) 60 24

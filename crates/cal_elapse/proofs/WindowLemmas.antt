@@ -23,7 +23,7 @@ use Rattle.cal_elapse.specs.Search.{NonePasses}
 use Rattle.cal_elapse.specs.Window.{IsMatchAhead, IsPlacedBelow, IsReady, Windowed, bound_of, start_of, timed_by, timed_of, to_place, with_place}
 use Rattle.cal_elapse.specs.declared.window.Window.{Window}
 use Rattle.cal_elapse.proofs.ElapsesLemmas.{elapses_after-first, first_elapse-least, first_elapse-none}
-use Rattle.cal_text.proofs.General.{chained, list-first, lt_test, not_lt_test}
+use Rattle.cal_text.proofs.General.{chained, list-first, lt_test, not_lt_test, lt_from_test, none_chosen, some_chosen, drop_none}
 use Rattle.cal_rising.proofs.RisingLemmas.{Has-insert_key, rises-insert_key, above_first, later_members}
 
 -- a place is near its local second
@@ -68,9 +68,6 @@ not_above last p i h e k =
     let le : p ≤ℤ last = grind (arith, ints) in
     absurd (omega (arith, ints))
 
-pub is_above : (last p : ℤ) → int_lt last p ≡ true → last <ℤ p
-is_above last p h = grind (arith, ints)
-
 put_none : (e : Timed) (from bound : ℕ) (last : ℤ) (xs : List ℤ) → Windowed e from bound last xs
     → ((i : ℤ) → last <ℤ i → e.place bound ≡ Some i → ⊥) → ((i : ℤ) → Has xs i → pos bound ≤ℤ (i +ℤ pos 93_599)) → Windowed e from (bound + 1) last xs
 put_none e from bound last xs w nowhere near = record {
@@ -105,7 +102,7 @@ put_some e from bound last p xs w is_match at above far near = record {
 put_test : (e : Timed) (from bound : ℕ) (last p : ℤ) (xs : List ℤ) (b : Bool) → int_lt last p ≡ b → AreNear e → Windowed e from bound last xs → e.matches bound ≡ true
     → e.place bound ≡ Some p → ((i : ℤ) → Has xs i → pos bound ≤ℤ (i +ℤ pos 93_599)) → Windowed e from (bound + 1) last (cond b (insert_key int_cmp xs p) xs)
 put_test e from bound last p xs true test near w is_match at close =
-    put_some e from bound last p xs w is_match at (is_above last p test) (near bound p at).0 close
+    put_some e from bound last p xs w is_match at (lt_from_test last p test) (near bound p at).0 close
 put_test e from bound last p xs false test near w is_match at close =
     put_none e from bound last xs w (λ i above here. let same : p ≡ i = cc in not_above last p i test same above) close
 
@@ -216,16 +213,12 @@ bound_in : (e : Timed) (ahead : Option ℕ) → IsMatchAhead e ahead → bound_o
 bound_in e None h = omega arith
 bound_in e (Some local) h = omega arith
 
-pub by_test : (b : Bool) (local : ℕ) → ◌≡◌ {A = Option ℕ} (cond b None (Some local)) None → b ≡ true
-by_test true local h = refl
-by_test false local h = no_more local h
-
 -- a match that isn't placed has its place above the least member that can be given
 later_place : (ahead : Option ℕ) (x j : ℤ) (t : ℕ) → to_place ahead (Some x) ≡ None → bound_of ahead ≤ t → t < seconds_in_all → pos t ≤ℤ (j +ℤ pos 93_599) → x ≤ℤ j
 later_place None x j t full late inside near = absurd (omega arith)
 later_place (Some local) x j t full late inside near =
-    let test = by_test (int_lt x (pos local -ℤ pos 93_599)) local full in
-    let early : x <ℤ (pos local -ℤ pos 93_599) = is_above x (pos local -ℤ pos 93_599) test in
+    let test = none_chosen (int_lt x (pos local -ℤ pos 93_599)) local full in
+    let early : x <ℤ (pos local -ℤ pos 93_599) = lt_from_test x (pos local -ℤ pos 93_599) test in
     omega (arith, ints)
 
 at_least : (x j : ℤ) (xs : List ℤ) → IsStrictlySortedBy int_cmp (x ∷ xs) → Has (x ∷ xs) j → x ≤ℤ j
@@ -281,13 +274,9 @@ pub later_given : (v : Window) (i last : ℤ) → IsReady v → to_place v.ahead
 later_given v i last h full at same =
     elapses_after-first (timed_of v ∷ []) v.last last (first_given v h full ∙ (at ∙ ap Some (sym same)))
 
-none_later : (xs : List ℤ) → slice_get xs 0 ≡ None → xs ≡ drop 1 xs
-none_later [] h = refl
-none_later (x ∷ xs) h = absurd (cc)
-
 pub none_given : (v : Window) → IsReady v → to_place v.ahead (slice_get v.pending 0) ≡ None → slice_get v.pending 0 ≡ None
     → elapses_after (timed_of v ∷ []) v.last ≡ drop 1 (elapses_after (timed_of v ∷ []) v.last)
-none_given v h full none = none_later (elapses_after (timed_of v ∷ []) v.last) (first_given v h full ∙ none)
+none_given v h full none = drop_none (elapses_after (timed_of v ∷ []) v.last) (sym (first_given v h full ∙ none))
 
 -- what is put, by the place that was found
 pub with_place-none : (o : Option ℤ) (last : ℤ) (xs : List ℤ) → o ≡ None → xs ≡ with_place o last xs
@@ -318,13 +307,9 @@ pub place_found : (tz : TimeZone) (local : ℕ) (signed : ℤ) (found : Option �
     → place_of tz (pos local) ≡ found
 place_found tz local signed found inside is at = sym (at ∙ ap (place_of tz) (signed_word local signed inside is))
 
-by_match : (b : Bool) (local : ℕ) → ◌≡◌ {A = Option ℕ} (cond b None (Some local)) (Some local) → b ≡ false
-by_match true local h = absurd (cc)
-by_match false local h = refl
-
 to_place-near : (x i : ℤ) (local : ℕ) → to_place (Some local) (Some x) ≡ Some local → x ≤ℤ i → pos local ≤ℤ (i +ℤ pos 93_599)
 to_place-near x i local h le =
-    let test = by_match (int_lt x (pos local -ℤ pos 93_599)) local h in
+    let test = some_chosen (int_lt x (pos local -ℤ pos 93_599)) local h in
     let far : (pos local -ℤ pos 93_599) ≤ℤ x = grind (arith, ints) in
     omega (arith, ints)
 

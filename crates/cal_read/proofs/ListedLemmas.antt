@@ -18,24 +18,7 @@ use Rattle.cal_read.specs.TimerView.{changed, with_assignment, resumed, with_lis
 use Rattle.cal_read.specs.declared.timer.fault.TimerFault.{TimerFault}
 use Rattle.cal_read.specs.declared.timer.fault.TimerFault.TheVariants.{BadLine}
 use Rattle.cal_read.proofs.ResumedLemmas.{joined_bad, joined_many, joined_read, resumed_changed, resumed_fault}
-
--- what comes after the last that passes, where one more comes
-suffix_more : {X : Type 0} (p : X → Bool) (xs : List X) (x : X) → p x ≡ true → suffix_len p (xs ++ x ∷ []) ≡ 1 + suffix_len p xs
-suffix_more p xs x e = ap (prefix_len p) (reverse-append xs (x ∷ [])) ∙ rw e refl
-
-suffix_none : {X : Type 0} (p : X → Bool) (xs : List X) (x : X) → p x ≡ false → suffix_len p (xs ++ x ∷ []) ≡ 0
-suffix_none p xs x e = ap (prefix_len p) (reverse-append xs (x ∷ [])) ∙ rw e refl
-
-pub after_last_here : {X : Type 0} (p : X → Bool) (xs : List X) (x : X) → p x ≡ true → after_last p (xs ++ x ∷ []) ≡ []
-after_last_here p xs x e =
-    let none : suffix_len (λ y. not (p y)) (xs ++ x ∷ []) ≡ 0 = suffix_none (λ y. not (p y)) xs x (ap not e) in
-    drop_all _ (xs ++ x ∷ []) (omega (arith, none))
-
-pub after_last_more : {X : Type 0} (p : X → Bool) (xs : List X) (x : X) → p x ≡ false → after_last p (xs ++ x ∷ []) ≡ after_last p xs ++ x ∷ []
-after_last_more p xs x e =
-    let more : suffix_len (λ y. not (p y)) (xs ++ x ∷ []) ≡ 1 + suffix_len (λ y. not (p y)) xs = suffix_more (λ y. not (p y)) xs x (ap not e) in
-    let same : length (xs ++ x ∷ []) - suffix_len (λ y. not (p y)) (xs ++ x ∷ []) ≡ length xs - suffix_len (λ y. not (p y)) xs = omega (arith, more, length-append xs (x ∷ [])) in
-    ap (λ n. drop n (xs ++ x ∷ [])) same ∙ drop-append-le (length xs - suffix_len (λ y. not (p y)) xs) xs (x ∷ []) (omega arith)
+use Rattle.cal_text.proofs.General.{after_last_here, after_last_more, option_or-none}
 
 -- of a list that one test adds to and another empties, where one more assignment comes
 abbrev Kept : (adds resets : Assignment → Bool) → List Assignment → List Assignment
@@ -226,11 +209,6 @@ fault_by_exception : {E : Type 0} (read : List ℕ → Result E SpecFault) (befo
 unfolding fault_following
 fault_by_exception read before a true e f = rw (e, f) refl
 fault_by_exception read before a false e f = rw (e, f) refl
-
--- the assignment has at most one of the two faults
-option_or-none : {A : Type 0} (o : Option A) → option_or o None ≡ o
-option_or-none None = refl
-option_or-none (Some x) = refl
 
 either_fault : {E : Type 0} (read : List ℕ → Result E SpecFault) (before : List Assignment) (a : Assignment) (joined : Bool) → is_expression a ≡ joined
     → fault_following read before a ≡ option_or (cond joined (fault_joining read (listed before) a) None) (cond (is_exception a) (fault_joining read (excepted before) a) None)

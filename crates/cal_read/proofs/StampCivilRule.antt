@@ -23,6 +23,7 @@ use Rattle.cal_read.specs.declared.stamp.date.DateNumbers.{DateNumbers}
 use Rattle.cal_read.specs.StampDate.{is_hyphen, digits_number, date_by, date_of_pieces, date_numbers, day_due, day_written}
 use Rattle.cal_read.specs.StampTime.{up_to, clock_number, time_by, time_of_pieces, time_numbers, micros_due, time_written}
 use Rattle.cal_read.specs.declared.stamp.fault.StampFault.{StampFault}
+use Rattle.cal_text.proofs.General.{digit_no_letter, letter_no_digit}
 
 -- What words look like
 
@@ -41,12 +42,6 @@ number_by most word n false e h = let none = rw e at h in cc
 -- digits hold no colon, and begin with a digit
 pub digit_no_colon : (b : ℕ) → is_ascii_digit b ≡ true → is_colon b ≡ false
 digit_no_colon b h = grind (arith, nat_tests)
-
-digit_no_letter : (b : ℕ) → is_ascii_digit b ≡ true → is_ascii_alphabetic b ≡ false
-digit_no_letter b h = grind (arith, nat_tests)
-
-letter_no_digit : (b : ℕ) → is_ascii_alphabetic b ≡ true → is_ascii_digit b ≡ false
-letter_no_digit b h = grind (arith, nat_tests)
 
 no_colon : (ds : List ℕ) → list_all is_ascii_digit ds ≡ true → list_any is_colon ds ≡ false
 no_colon [] h = refl

@@ -15,29 +15,13 @@ use Rattle.cal_zone.specs.headline.Civil.{civil_of}
 use Rattle.cal_text.specs.headline.Separators.{is_point, is_colon}
 use Rattle.cal_span.specs.SpanValue.{fraction_worth}
 use Rattle.cal_zone.specs.headline.Zone.{local_of}
-use Rattle.cal_text.proofs.General.{some_piece}
+use Rattle.cal_text.proofs.General.{some_piece, digit_below}
 use Rattle.cal_read.specs.Stamp.{in_moments}
 use Rattle.cal_read.specs.StampDate.{is_hyphen, date_numbers}
 use Rattle.cal_read.specs.StampTime.{second_written, time_numbers}
 use Rattle.cal_read.specs.declared.stamp.fault.StampFault.TheVariants.{OutOfRange}
 
 -- Numbers
-
-digit_below : (b : ℕ) → is_ascii_digit b ≡ true → digit_value b < 10
-digit_below b h = grind (arith, nat_tests)
-
-all_digits : (ds : List ℕ) → list_all is_ascii_digit ds ≡ true → AllDigits 10 ds
-all_digits [] h = tt
-all_digits (d ∷ ds) h =
-    let parts = and_parts (is_ascii_digit d) (list_all is_ascii_digit ds) h in
-    (digit_below d parts.0, all_digits ds parts.1)
-
--- four digits write less than 10,000
-pub short_number : (ds : List ℕ) → list_all is_ascii_digit ds ≡ true → length ds ≤ 4 → digits_value 10 ds < 10_000
-short_number ds all short =
-    let fits = digits_value-lt 10 ds (all_digits ds all) in
-    let most : 10 ^ length ds ≤ 10 ^ 4 = pow-le-pow_right (omega arith) short in
-    omega (arith, fits, most)
 
 -- what digits after a point add is at most nine times the unit for each
 pub fraction_bound : (size place : ℕ) (ds : List ℕ) → list_all is_ascii_digit ds ≡ true → fraction_worth size place ds ≤ length ds * (9 * size)
@@ -49,13 +33,6 @@ fraction_bound size place (d ∷ ds) h =
     let part = div-le_self (digit_value d * size) (10 ^ place) in
     let whole : digit_value d * size ≤ 9 * size = mul-le-mul_right size (omega arith) in
     omega (arith, rest, part, whole)
-
-pub list_all-take : (p : ℕ → Bool) (xs : List ℕ) (n : ℕ) → list_all p xs ≡ true → list_all p (take n xs) ≡ true
-list_all-take p xs zero h = refl
-list_all-take p [] (suc n) h = refl
-list_all-take p (x ∷ xs) (suc n) h =
-    let parts = and_parts (p x) (list_all p xs) h in
-    rw (parts.0, list_all-take p xs n parts.1) refl
 
 -- Pieces
 

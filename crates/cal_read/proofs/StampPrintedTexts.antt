@@ -3,7 +3,7 @@ use Rattle.std.proofs.Common.{◌≡◌, ℕ, zero, suc, ◌+◌, ◌-◌, ◌*�
 use Rattle.std.specs.Char.{is_ascii_digit}
 use Rattle.std.specs.List.{list_all, list_any, slice_split}
 use Rattle.std.specs.Str.Parse.{digits_value}
-use Rattle.std.proofs.lemmas.Bool.{lt-leb, le-ltb}
+use Rattle.std.proofs.lemmas.Bool.{or_from, lt-leb, le-ltb}
 use Rattle.std.proofs.lemmas.Bool.Decides.{nat_tests}
 use Rattle.std.proofs.lemmas.Fmt.{decimal_is_IsNumeral, length-decimal-le}
 use Rattle.std.proofs.lemmas.Int.{by_lt_z}
@@ -20,8 +20,7 @@ use Rattle.cal_zone.specs.headline.ZoneName.{begins_with_letter}
 use Rattle.cal_spec.specs.headline.Parts.{with_century}
 use Rattle.cal_spec.specs.Weekdays.{day_named}
 use Rattle.cal_text.specs.headline.Words.{is_blank}
-use Rattle.cal_spec.proofs.CleanLemmas.{IsClear, Apart, any_clear, clear_append, clear_from, split_alone, split_at}
-use Rattle.cal_text.proofs.General.{digits_all, zeros_all, zeros_value, some_front}
+use Rattle.cal_text.proofs.General.{digits_all, zeros_all, zeros_value, some_front, IsClear, Apart, clear_append, clear_of, split_alone, split_at}
 use Rattle.cal_spec.proofs.ReadBackParts.{padded}
 use Rattle.cal_read.proofs.StampCivilRule.{digit_first, digit_no_colon}
 use Rattle.cal_read.specs.Stamp.{begins_with_digit}
@@ -83,7 +82,7 @@ row sign a b c = a ++ (sign ∷ (b ++ (sign ∷ c)))
 
 row_clear : (p : ℕ → Bool) (sign : ℕ) (a b c : List ℕ) → p sign ≡ false → IsClear p a → IsClear p b → IsClear p c → IsClear p (row sign a b c)
 row_clear p sign a b c apart first second third =
-    clear_append p a (sign ∷ (b ++ (sign ∷ c))) first (apart, clear_append p b (sign ∷ c) second (apart, third))
+    clear_append p a (sign ∷ (b ++ (sign ∷ c))) first (or_from _ _ apart (clear_append p b (sign ∷ c) second (or_from _ _ apart third)))
 
 row_split : (p : ℕ → Bool) (sign : ℕ) (a b c : List ℕ) → p sign ≡ true → IsClear p a → IsClear p b → IsClear p c → slice_split p (row sign a b c) ≡ a ∷ b ∷ c ∷ []
 row_split p sign a b c is first second third =
@@ -104,9 +103,9 @@ record IsWritable (year month day : ℕ) : Type 0 where
 date_clear : (p : ℕ → Bool) (year month day : ℕ) → IsWritable year month day → Apart is_ascii_digit p → p 45 ≡ false → IsClear p (date_word year month day)
 date_clear p year month day h apart sign =
     row_clear p 45 (padded 4 year) (padded 2 month) (padded 2 day) sign
-    (clear_from is_ascii_digit p (padded 4 year) apart (in_four year h.year_in).all)
-    (clear_from is_ascii_digit p (padded 2 month) apart (in_two month h.month_in).all)
-    (clear_from is_ascii_digit p (padded 2 day) apart (in_two day h.day_in).all)
+    (clear_of is_ascii_digit p (padded 4 year) apart (in_four year h.year_in).all)
+    (clear_of is_ascii_digit p (padded 2 month) apart (in_two month h.month_in).all)
+    (clear_of is_ascii_digit p (padded 2 day) apart (in_two day h.day_in).all)
 
 date_numbers_back : (year month day : ℕ) → IsWritable year month day → date_numbers (date_word year month day) ≡ Some (record { year = year; month = month; day = day })
 unfolding date_numbers
@@ -115,9 +114,9 @@ date_numbers_back year month day h =
     let m = in_two month h.month_in in
     let d = in_two day h.day_in in
     ap date_of_pieces (row_split is_hyphen 45 (padded 4 year) (padded 2 month) (padded 2 day) refl
-    (clear_from is_ascii_digit is_hyphen (padded 4 year) digit_no_hyphen y.all)
-    (clear_from is_ascii_digit is_hyphen (padded 2 month) digit_no_hyphen m.all)
-    (clear_from is_ascii_digit is_hyphen (padded 2 day) digit_no_hyphen d.all))
+    (clear_of is_ascii_digit is_hyphen (padded 4 year) digit_no_hyphen y.all)
+    (clear_of is_ascii_digit is_hyphen (padded 2 month) digit_no_hyphen m.all)
+    (clear_of is_ascii_digit is_hyphen (padded 2 day) digit_no_hyphen d.all))
     ∙ rw (digits_read 4 year (padded 4 year) y, digits_read 2 month (padded 2 month) m, digits_read 2 day (padded 2 day) d) refl
 
 century_stays : (n : ℕ) → 100 ≤ n → with_century n ≡ n
@@ -205,9 +204,9 @@ pub record IsClock (hour minute second : ℕ) : Type 0 where
 time_clear : (p : ℕ → Bool) (hour minute second : ℕ) → IsClock hour minute second → Apart is_ascii_digit p → p 58 ≡ false → IsClear p (time_word hour minute second)
 time_clear p hour minute second h apart sign =
     row_clear p 58 (padded 2 hour) (padded 2 minute) (padded 2 second) sign
-    (clear_from is_ascii_digit p (padded 2 hour) apart (in_two hour (omega (arith, h.hour_in))).all)
-    (clear_from is_ascii_digit p (padded 2 minute) apart (in_two minute (omega (arith, h.minute_in))).all)
-    (clear_from is_ascii_digit p (padded 2 second) apart (in_two second (omega (arith, h.second_in))).all)
+    (clear_of is_ascii_digit p (padded 2 hour) apart (in_two hour (omega (arith, h.hour_in))).all)
+    (clear_of is_ascii_digit p (padded 2 minute) apart (in_two minute (omega (arith, h.minute_in))).all)
+    (clear_of is_ascii_digit p (padded 2 second) apart (in_two second (omega (arith, h.second_in))).all)
 
 pub time_digit : (hour minute second : ℕ) → IsClock hour minute second → begins_with_digit (time_word hour minute second) ≡ true
 time_digit hour minute second h =
@@ -218,7 +217,7 @@ second_back : (second : ℕ) → second ≤ 59 → second_written (padded 2 seco
 unfolding second_written
 second_back second h =
     let digits = in_two second (omega (arith, h)) in
-    ap second_of_pieces (split_alone is_point (padded 2 second) (clear_from is_ascii_digit is_point (padded 2 second) digit_no_point digits.all))
+    ap second_of_pieces (split_alone is_point (padded 2 second) (clear_of is_ascii_digit is_point (padded 2 second) digit_no_point digits.all))
     ∙ rw (clock_read 59 second (padded 2 second) digits h) refl
 
 -- the time is read as its microseconds after midnight
@@ -230,23 +229,23 @@ time_back hour minute second h =
     let b = in_two minute (omega (arith, h.minute_in)) in
     let c = in_two second (omega (arith, h.second_in)) in
     ap (λ ts. micros_due (time_of_pieces ts)) (row_split is_colon 58 (padded 2 hour) (padded 2 minute) (padded 2 second) refl
-    (clear_from is_ascii_digit is_colon (padded 2 hour) digit_no_colon a.all)
-    (clear_from is_ascii_digit is_colon (padded 2 minute) digit_no_colon b.all)
-    (clear_from is_ascii_digit is_colon (padded 2 second) digit_no_colon c.all))
+    (clear_of is_ascii_digit is_colon (padded 2 hour) digit_no_colon a.all)
+    (clear_of is_ascii_digit is_colon (padded 2 minute) digit_no_colon b.all)
+    (clear_of is_ascii_digit is_colon (padded 2 second) digit_no_colon c.all))
     ∙ rw (clock_read 23 hour (padded 2 hour) a h.hour_in, clock_read 59 minute (padded 2 minute) b h.minute_in, second_back second h.second_in) refl
 
 -- neither has a blank, and the date no colon
 pub date_solid : (date : Date) → list_any is_blank (date_word (year_of date) date.month date.day) ≡ false
 date_solid date =
-    any_clear is_blank (date_word (year_of date) date.month date.day) (date_clear is_blank (year_of date) date.month date.day (writable date) digit_no_blank refl)
+    date_clear is_blank (year_of date) date.month date.day (writable date) digit_no_blank refl
 
 pub date_no_colon : (date : Date) → list_any is_colon (date_word (year_of date) date.month date.day) ≡ false
 date_no_colon date =
-    any_clear is_colon (date_word (year_of date) date.month date.day) (date_clear is_colon (year_of date) date.month date.day (writable date) digit_no_colon refl)
+    date_clear is_colon (year_of date) date.month date.day (writable date) digit_no_colon refl
 
 pub time_solid : (hour minute second : ℕ) → IsClock hour minute second → list_any is_blank (time_word hour minute second) ≡ false
 time_solid hour minute second h =
-    any_clear is_blank (time_word hour minute second) (time_clear is_blank hour minute second h digit_no_blank refl)
+    time_clear is_blank hour minute second h digit_no_blank refl
 
 pub date_some : (date : Date) → 0 < length (date_word (year_of date) date.month date.day)
 date_some date =

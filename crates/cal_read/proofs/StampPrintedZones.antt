@@ -9,7 +9,7 @@ use Rattle.jiff.proofs.SpanFacts.{signed_arith}
 use Rattle.jiff.specs.Types.{TimeZone, UTC}
 use Rattle.jiff.specs.Words.{nanos_of_seconds, offset_at, IsOffsetSeconds}
 use Rattle.cal_bytes.specs.headline.Bytes.{joined}
-use Rattle.cal_text.proofs.General.{both_all}
+use Rattle.cal_text.proofs.General.{both_all, clear_of}
 use Rattle.cal_zone.proofs.OffsetWordLemmas.{nearest, offset-back, offset-found, two_printed}
 use Rattle.cal_zone.proofs.PlaceLemmas.{place_of-Some, place_of-UTC, settle_of-UTC, settle_of-fixed_zone, local_of-UTC}
 use Rattle.cal_zone.proofs.ZoneLemmas.{offset_at-in_range}
@@ -25,7 +25,6 @@ use Rattle.cal_zone.specs.headline.ZoneTable.{zone_named}
 use Rattle.cal_zone.specs.declared.zone.Zone.{Zone}
 use Rattle.cal_zone.specs.declared.zone.ZoneKind.{ZoneKind}
 use Rattle.cal_zone.specs.declared.zone.ZoneKind.TheVariants.{Utc, Offset as Fixed, Rules}
-use Rattle.cal_spec.proofs.CleanLemmas.{any_clear, clear_from}
 use Rattle.cal_spec.specs.GrammarRule.{IsWord}
 use Rattle.cal_text.specs.headline.Words.{is_blank}
 use Rattle.cal_read.specs.Stamp.{zone_meant}
@@ -89,7 +88,7 @@ signed_last text h =
     let some = signed_some text h in
     let within = byte_within (last_byte text) (AllPass-from_list_all is_signed_byte text all (length text - 1) 0 (omega arith)) in
     record {
-      is_word = record { some = some; solid = any_clear is_blank text (clear_from is_signed_byte is_blank text no_blank all) };
+      is_word = record { some = some; solid = clear_of is_signed_byte is_blank text no_blank all };
       from = within.0;
       to = omega (arith, within.1);
     }

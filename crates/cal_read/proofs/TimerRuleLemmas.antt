@@ -13,8 +13,8 @@ use Rattle.cal_read.specs.TimerText.{TimerLine, Timer, entries, fault_following,
 use Rattle.cal_read.specs.headline.TimerText.{excepted, is_exception, is_exception_reset, is_expression, is_reset, listed}
 use Rattle.cal_read.specs.declared.timer.fault.TimerFault.{TimerFault}
 use Rattle.cal_read.specs.declared.timer.fault.TimerFault.TheVariants.{ReadFailed, TooLarge, NotUtf8, BadLine, TooMany, NothingToDo, NoMemory}
-use Rattle.cal_read.proofs.ListedLemmas.{after_last_here, after_last_more}
 use Rattle.cal_read.proofs.TimerLemmas.{first_is_of_line, is_of_line}
+use Rattle.cal_text.proofs.General.{after_last_here, after_last_more}
 
 -- The lines of a section
 pub no_header : (inside : Bool) (lines : List Line) → list_any (λ line. is_header line.text) lines ≡ false → timer_lines inside lines ≡ (if inside then lines else [])

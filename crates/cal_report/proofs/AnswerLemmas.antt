@@ -82,11 +82,6 @@ status_left-none Fine answer = refl
 
 -- One turn of answering texts in a row
 
--- the texts from an index on begin with the text there
-pub texts-drop : {A : Type 0} (bytes_of : A → List ℕ) (xs : List A) (i : ℕ) (x : A) (text : List ℕ) → i < length xs → x ≡ get_or xs i x → text ≡ bytes_of x → map bytes_of (drop i xs) ≡ text ∷ map bytes_of (drop (i + 1) xs)
-texts-drop bytes_of xs i x text h is e =
-    rw (add-one, drop-cons xs i x h) (ap (λ y. bytes_of y ∷ map bytes_of (drop (suc i) xs)) (sym is) ∙ ap (λ t. t ∷ map bytes_of (drop (suc i) xs)) (sym e))
-
 pub out_next : (a b c : Option (List ℕ)) (answer : List ℕ → Answer) (is_later fine : Bool) (answered : Status) (text : List ℕ) (texts rest : List (List ℕ)) (all : List ℕ) → texts ≡ text ∷ rest → answered ≡ status_in (answer text) → fine ≡ is_fine answered → Leaves a b (reports_left is_later answer texts) all → Appends b c (later_text is_later (answer text)) → Leaves a c (reports_left (is_later || fine) answer rest) all
 out_next a b c answer is_later fine answered text texts rest all e s f l w =
     rw (f, s) (step a b c (later_text is_later (answer text)) _ all (respell a b _ _ all l (ap (reports_left is_later answer) e ∙ reports_left-next is_later answer text rest)) w)
@@ -106,10 +101,6 @@ err_stops a b c answer text texts rest all e l w =
 pub status_next : (answer : List ℕ → Answer) (s answered whole : Status) (text : List ℕ) (texts rest : List (List ℕ)) → texts ≡ text ∷ rest → answered ≡ status_in (answer text) → status_left s answer texts ≡ whole → status_left (status_and s answered) answer rest ≡ whole
 status_next answer s answered whole text texts rest e i h =
     rw i (sym (status_left-next s answer text rest) ∙ ap (status_left s answer) (sym e) ∙ h)
-
--- no text is left
-pub texts-end : {A : Type 0} (bytes_of : A → List ℕ) (xs : List A) (i : ℕ) → length xs ≤ i → map bytes_of (drop i xs) ≡ []
-texts-end bytes_of xs i h = ap (map bytes_of) (drop_all i xs h)
 
 -- a call that wrote nothing
 pub writes_nothing : {T E : Type 0} (a : Option (List ℕ)) (r : Result T E) → Writes a a r []
@@ -166,12 +157,6 @@ out_none a answer = Appends-nil a
 pub err_none : (a : Option (List ℕ)) (answer : List ℕ → Answer) → Appends a a (refusals_text answer [])
 unfolding refusals_text
 err_none a answer = Appends-nil a
-
--- the texts up to an index, and the one there
-pub texts-take : {A : Type 0} (bytes_of : A → List ℕ) (xs : List A) (i : ℕ) (x : A) (text : List ℕ) → i < length xs → x ≡ get_or xs i x → text ≡ bytes_of x
-    → map bytes_of (take (i + 1) xs) ≡ map bytes_of (take i xs) ++ text ∷ []
-texts-take bytes_of xs i x text h is e =
-    rw (take_more xs i x h) (map-append bytes_of (take i xs) (get_or xs i x ∷ []) ∙ ap (λ y. map bytes_of (take i xs) ++ bytes_of y ∷ []) (sym is) ∙ ap (λ t. map bytes_of (take i xs) ++ t ∷ []) (sym e))
 
 -- the answers end before the text at an index
 pub answered_before : {A : Type 0} (bytes_of : A → List ℕ) (xs : List A) (i : ℕ) (answer : List ℕ → Answer) (a b c d e f : Option (List ℕ)) → i < length xs

@@ -39,6 +39,7 @@ use Rattle.cal_request.specs.declared.request.Status.TheVariants.{Fine, Refused}
 use Rattle.cal_request.specs.declared.request.Verb.TheVariants as verb
 use Rattle.cal_report.proofs.HeadlineLemmas.{HaveOneNormalForm, report_of_texts, spelled_is_read, text_of}
 use Rattle.cal_report.proofs.TimerLemmas.{all_zoned, none_mapped}
+use Rattle.cal_text.proofs.General.{some_found}
 
 -- What ends well was accepted
 
@@ -173,10 +174,6 @@ record AreExpressionsOf (asked : Request) (list : List Assignment) : Type 0 wher
 no_expressions : (asked : Request) → AreExpressionsOf asked []
 no_expressions asked = record { expressions = []; same = refl; each = tt; many = refl }
 
-found_by : {A : Type 0} (o : Option A) → is_none o ≡ false → (x : A) × (o ≡ Some x)
-found_by None h = cc
-found_by (Some x) h = (x, refl)
-
 found_none : (p : TimerLine Fields → Bool) (x : TimerLine Fields) (xs : List (TimerLine Fields)) (here : Bool) → p x ≡ here → find p (x ∷ xs) ≡ None → (p x ≡ false) × (find p xs ≡ None)
 found_none p x xs true is h = absurd (let never : ◌≡◌ {A = Option (TimerLine Fields)} (Some x) None = rw is at h in cc)
 found_none p x xs false is h = (is, rw is at h)
@@ -184,7 +181,7 @@ found_none p x xs false is h = (is, rw is at h)
 one_more : (asked : Request) (a : Assignment) (list : List Assignment) (spelled : IsSpelled a) → expr_in a.value ≡ Ok spelled.0 → lacks_zone asked (record { number = a.number; text = a.value; expr = spelled.0 }) ≡ false
     → AreExpressionsOf asked list → AreExpressionsOf asked (a ∷ list)
 one_more asked a list spelled read there rest =
-    let zone = found_by (zone_for asked (spelled.0).zone) there in
+    let zone = some_found (zone_for asked (spelled.0).zone) there in
     record {
       expressions = record { text = a.value; fields = spelled.0; tz = zone.0 } ∷ rest.expressions;
       same = ap (λ (ts : List (List ℕ)). a.value ∷ ts) rest.same;

@@ -18,10 +18,7 @@ use Rattle.cal_request.specs.declared.request.RunFault.{RunFault}
 use Rattle.cal_request.specs.declared.request.Status.{Status}
 use Rattle.cal_request.specs.declared.request.Status.TheVariants.{Fine, Refused}
 use Rattle.cal_report.proofs.AnswerLemmas.{writes_nothing}
-
-if_ok : {T E : Type 0} (r : Result T E) (P : Type 0) → P → IfOk r (λ x. P)
-if_ok (Ok x) P h = h
-if_ok (Err e) P h = tt
+use Rattle.cal_text.proofs.General.{if_ok}
 
 -- one report
 pub report_reported : (r : Result Status RunFault) (a b e : Option (List ℕ)) (read : Result (List ℕ) WholeFault) (text : List ℕ) (answer : Result (List ℕ) (List ℕ))
@@ -68,8 +65,3 @@ nothing_front a text = record { front = []; rest = text; whole = refl; written =
 
 pub whole_front : (a b : Option (List ℕ)) (text : List ℕ) → Appends a b text → AppendsFront a b text
 whole_front a b text h = record { front = text; rest = []; whole = sym (append-nil text); written = h }
-
--- nothing is asked of a value that isn't there
-pub no_ok : {T E : Type 0} (r : Result T E) (P : T → Type 0) → IsErr r → IfOk r P
-no_ok (Ok x) P h = absurd (false≢true h)
-no_ok (Err e) P h = tt

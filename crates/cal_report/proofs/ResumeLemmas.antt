@@ -25,6 +25,7 @@ use Rattle.cal_request.specs.declared.request.Status.{Status}
 use Rattle.cal_request.specs.declared.request.Verb.TheVariants.{Calendar, Timer}
 use Rattle.cal_report.proofs.HeadlineElapses.{goes_on}
 use Rattle.cal_report.proofs.HeadlineLemmas.{HaveOneNormalForm, calendar_report_is, one_elapses, timer_report_is}
+use Rattle.cal_text.proofs.General.{slice_get-taken}
 
 -- The first line of an elapse
 
@@ -270,19 +271,11 @@ one_stands asked s shown front k m h g =
 
 -- The same begun again
 
-get_of_taken : (n : ℕ) (xs : List ℤ) (k : ℕ) (e : ℤ) → slice_get (take n xs) k ≡ Some e → slice_get xs k ≡ Some e
-get_of_taken n xs k e at =
-    let within : k < length (take n xs) = slice_get_within (take n xs) k e at in
-    let size : length (take n xs) ≤ length xs = simp length-take (omega arith) in
-    let most : length (take n xs) ≤ n = simp length-take (omega arith) in
-    slice_get_read xs (length xs) k e refl (omega arith)
-    (sym (get_or_from_slice_get (take n xs) k e e at) ∙ get_or-take n xs k e (omega arith))
-
 -- the elapses after the base to go on from are those after the first k
 elapses_from : (ts exceptions : List Timed) (base from : ℤ) (n : ℕ) (xs : List ℤ) (k : ℕ) → AreElapses ts exceptions base xs → IsBaseAfter base (take n xs) k from
     → AreElapses ts exceptions from (drop k xs)
 elapses_from ts exceptions base from n xs zero h after = subst (λ (b : ℤ). AreElapses ts exceptions b xs) (sym after) h
-elapses_from ts exceptions base from n xs (suc k) h after = goes_on ts exceptions base from xs k h (get_of_taken n xs k from after)
+elapses_from ts exceptions base from n xs (suc k) h after = goes_on ts exceptions base from xs k h (slice_get-taken n xs k from after)
 
 zone_again : (asked again : Request) (suffix : Option ZoneSuffix) (tz : TimeZone) → again.local ≡ asked.local → again.zones ≡ asked.zones
     → IsZoneFor asked suffix tz → IsZoneFor again suffix tz

@@ -22,7 +22,7 @@ use Rattle.cal_report.specs.TimerPlan.{IsMergeOf, plan_text}
 use Rattle.cal_report.specs.TimerReport.{IsHad, elapses_of_lists, first_unzoned, headings_text, lacks_zone, lesser_line, timed_entry, timer_answer, timer_report, unzoned}
 use Rattle.cal_report.specs.CalendarReport.{zone_for}
 use Rattle.cal_report.specs.headline.CalendarReport.{heading_text}
-use Rattle.cal_bytes.proofs.PutLemmas.{item_first}
+use Rattle.cal_text.proofs.General.{item_first}
 
 pub none_mapped : (o : Option (TimerLine Fields)) → option_map (λ (e : TimerLine Fields). e.number) o ≡ None → o ≡ None
 none_mapped None h = refl

@@ -18,8 +18,8 @@ use Rattle.std.specs.declared.cmp.Ordering.TheVariants.{Less, Equal, Greater}
 use Rattle.cal_rising.specs.Merge.{HasHead, Branch, lesser, numbers, passed}
 use Rattle.cal_rising.specs.RisingList.{HasAny, with_numbers, union}
 use Rattle.cal_rising.specs.headline.Elements.{Has}
-use Rattle.cal_text.proofs.General.{chained, lt_test, not_lt_test}
-use Rattle.cal_rising.proofs.RisingLemmas.{above_first, from_less, later_members, same_rising, Has-union, rises-drop, rises-union}
+use Rattle.cal_text.proofs.General.{chained, lt_test, not_lt_test, lt_from_less, rises-drop, squeezed}
+use Rattle.cal_rising.proofs.RisingLemmas.{above_first, later_members, same_rising, Has-union, rises-union}
 
 -- the lesser of none and another is the other
 lesser-none : (a : Option ℤ) → lesser a None ≡ a
@@ -48,12 +48,9 @@ lesser-assoc (Some x) None c = refl
 lesser-assoc (Some x) (Some y) None = sym (lesser-none (lesser (Some x) (Some y)))
 lesser-assoc (Some x) (Some y) (Some z) = lesser-three x y z
 
-squeezed : (a b : ℤ) → a ≤ℤ b → b ≤ℤ a → a ≡ b
-squeezed a b h k = omega (arith, ints)
-
 -- the first number of a list with one more
 first_inserted : (o : Ordering) (x y : ℤ) (ys more : List ℤ) → int_cmp x y ≡ o → slice_get (match_ordering o (x ∷ y ∷ ys) (y ∷ ys) (y ∷ more)) 0 ≡ lesser (Some x) (Some y)
-first_inserted Less x y ys more e = sym (lesser-below x y (omega (arith, ints, from_less x y e)))
+first_inserted Less x y ys more e = sym (lesser-below x y (omega (arith, ints, lt_from_less x y e)))
 first_inserted Equal x y ys more e =
     let same = int_cmp-IsAntisymmetric x y e in
     ap Some (sym same) ∙ sym (lesser-below x y (omega (arith, ints, same)))
@@ -185,9 +182,3 @@ has_head_more (x ∷ ss) zero s lt h below (suc k) d le = absurd (omega arith)
 has_head_more (x ∷ ss) (suc i) s lt h below zero d le = below zero d (omega arith)
 has_head_more (x ∷ ss) (suc i) s lt h below (suc k) d le =
     has_head_more ss i s (omega arith) h (λ (j : ℕ) (e : Branch) (l : j < i). below (suc j) e (omega arith)) k d (omega arith)
-
--- a list that takes the place of another as long
-pub whole_again : {X : Type 0} (xs ys : List X) (n : ℕ) → length xs ≡ length ys → n ≡ length ys → take n (xs ++ drop (length xs) ys) ≡ xs
-whole_again xs ys n long e =
-    let past : length ys ≤ length xs = omega arith in
-    rw (drop_of_length-le ys past, append-nil xs, e, sym long) (take-length xs)

@@ -14,13 +14,11 @@ pub use Rattle.cal_rising.specs.Rises.{rises-with_numbers, rises-union}
 use Rattle.cal_rising.specs.RisingList.{HasAny, IsUnion, with_numbers, union}
 use Rattle.cal_rising.specs.headline.Elements.{Has}
 use Rattle.cal_rising.proofs.OrderLemmas.{all_at, has-insert_key, same_sorted}
-
-pub from_less : (a b : ℤ) → int_cmp a b ≡ Less → a <ℤ b
-from_less a b e = int_ranked a b Less (sym e)
+use Rattle.cal_text.proofs.General.{lt_from_less}
 
 -- what is in a rising list after its first is above that
 pub above_first : (x i : ℤ) (xs : List ℤ) → IsStrictlySortedBy int_cmp (x ∷ xs) → Has xs i → x <ℤ i
-above_first x i xs h m = from_less x i (all_at (λ y. int_cmp x y ≡ Less) xs i (sorted_head int_cmp x xs h) m)
+above_first x i xs h m = lt_from_less x i (all_at (λ y. int_cmp x y ≡ Less) xs i (sorted_head int_cmp x xs h) m)
 
 not_below_itself : (x : ℤ) → x <ℤ x → ⊥
 not_below_itself x h = omega (arith, ints)
@@ -71,17 +69,3 @@ pub IsUnion-only : (xss : List (List ℤ)) (xs : List ℤ) → IsUnion xss xs �
 IsUnion-only xss xs h =
     same_rising xs (union xss) h.rises (rises-union xss)
     (λ i. (λ m. (Has-union xss i).1 ((h.members i).0 m), λ m. (h.members i).1 ((Has-union xss i).0 m)))
-
--- what comes after some of a rising list rises
-pub rises-drop : (xs : List ℤ) (k : ℕ) → IsStrictlySortedBy int_cmp xs → IsStrictlySortedBy int_cmp (drop k xs)
-rises-drop xs zero h = h
-rises-drop [] (suc k) h = h
-rises-drop (x ∷ xs) (suc k) h = rises-drop xs k (sorted_tail int_cmp x xs h)
-
-one_more : (xs : List ℤ) (k : ℕ) → IsStrictlySortedBy int_cmp (drop k xs) → IsStrictlySortedBy int_cmp (drop (suc k) xs)
-one_more xs zero h = rises-drop xs 1 h
-one_more [] (suc k) h = h
-one_more (x ∷ xs) (suc k) h = one_more xs k h
-
-pub rises_after : (xs : List ℤ) (k : ℕ) → IsStrictlySortedBy int_cmp (drop k xs) → IsStrictlySortedBy int_cmp (drop (k + 1) xs)
-rises_after xs k h = rw (add-one k) (one_more xs k h)

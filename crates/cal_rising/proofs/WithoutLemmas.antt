@@ -17,8 +17,9 @@ use Rattle.cal_rising.specs.Merge.{Branch, numbers, numbers_by}
 use Rattle.cal_rising.specs.Rises.{rises-union, rises-without}
 use Rattle.cal_rising.specs.RisingList.{HasAny, IsSameFrom, IsUnionWithout, union, without}
 use Rattle.cal_rising.specs.headline.Elements.{Has}
-use Rattle.cal_rising.proofs.RisingLemmas.{Has-union, from_less, same_rising}
+use Rattle.cal_rising.proofs.RisingLemmas.{Has-union, same_rising}
 use Rattle.std.specs.Cmp.{both_ways}
+use Rattle.cal_text.proofs.General.{lt_from_less}
 
 value_below : (a b : ℤ) → a <ℤ b → int_eq a b ≡ false
 value_below a b h = grind (arith, ints)
@@ -99,7 +100,7 @@ IsUnionWithout-only xss yss xs h =
 above_not_in : (m n : ℤ) (xs : List ℤ) → n ≤ℤ m → AllByRecursion (λ y. int_cmp m y ≡ Less) xs → is_member int_eq xs n ≡ false
 above_not_in m n [] h k = refl
 above_not_in m n (x ∷ xs) h k =
-    let up = from_less m x k.0 in
+    let up = lt_from_less m x k.0 in
     let lt : n <ℤ x = omega (arith, ints, up) in
     rw (value_below n x lt) (above_not_in m n xs h k.1)
 
@@ -113,20 +114,12 @@ pub is_member-head : (head : Option ℤ) (xs : List ℤ) (m n : ℤ) → IsStric
     → is_member int_eq (numbers_by head xs) n ≡ int_eq n m
 is_member-head head xs m n h e le = is_member-first m n (numbers_by head xs) h (rw e refl) le
 
--- `==` compares the words, which are equal exactly for equal numbers
-same_test : (m n : ℕ) (a b : ℤ) → (m ≡ n → a ≡ b) → (a ≡ b → m ≡ n) → nat_eq m n ≡ int_eq a b
-same_test m n a b back forth = grind (arith, ints)
-
-pub same_word : (w : Width) (a b : ℤ) → FitsSigned w a → FitsSigned w b → nat_eq (of_z w a) (of_z w b) ≡ int_eq a b
-same_word w a b f g =
-    same_test (of_z w a) (of_z w b) a b (λ e. sym (to_z-of_z w a f) ∙ ap (to_z w) e ∙ to_z-of_z w b g) (ap (of_z w))
-
 -- lists with the same numbers from one number on leave the same of a list above that number
 without-same : (n : ℤ) (xs ys zs : List ℤ) → AllByRecursion (λ y. int_cmp n y ≡ Less) xs → IsSameFrom n zs ys → without xs zs ≡ without xs ys
 unfolding without
 without-same n [] ys zs h same = refl
 without-same n (x ∷ xs) ys zs h same =
-    let up = from_less n x h.0 in
+    let up = lt_from_less n x h.0 in
     let le : n ≤ℤ x = omega (arith, ints, up) in
     let rest = without-same n xs ys zs h.1 same in
     rw (same x le) (ap (λ (l : List ℤ). cond (not (is_member int_eq ys x)) (x ∷ l) l) rest)

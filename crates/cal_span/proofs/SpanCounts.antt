@@ -151,7 +151,3 @@ pub span_text_row : (n : ℕ) → 0 < n → counts_in_row (positive (counts_of s
 unfolding units_text
 span_text_row n some =
     sym (counts_text-row (positive (counts_of scales n)) (omega (arith, weight-positive (counts_of scales n), (are_counts_of n).sum)))
-
--- a text so far with what is left after it, once more of it has been appended
-pub appended : (text piece left later whole : List ℕ) → left ≡ piece ++ later → text ++ left ≡ whole → (text ++ piece) ++ later ≡ whole
-appended text piece left later whole e h = append_assoc text piece later ∙ ap (λ rest. text ++ rest) (sym e) ∙ h

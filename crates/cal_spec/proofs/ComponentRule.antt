@@ -18,11 +18,10 @@ use Rattle.cal_spec.specs.headline.Sound.{IsWithin, IsEndWithin, EndsAfter, IsSt
 use Rattle.cal_spec.specs.declared.part.Part.{Part}
 use Rattle.cal_spec.specs.declared.slot.Slot.{Slot}
 use Rattle.cal_spec.specs.declared.slot.Slot.TheVariants.{Year, Month, Day, DayFromEnd, Hour, Minute, Second}
-use Rattle.cal_spec.proofs.CleanLemmas.{IsClear, Apart, clear_from, split_joined}
 use Rattle.cal_spec.proofs.ComponentLemmas.{parts_of-cons, sound_parts, listed_ok}
 use Rattle.cal_spec.proofs.FaultLemmas.{part_due_is}
 use Rattle.cal_spec.proofs.PartRule.{part_found, part_only}
-use Rattle.cal_text.proofs.General.{some_piece, both_all}
+use Rattle.cal_text.proofs.General.{some_piece, both_all, IsClear, Apart, clear_of, split_join_with_byte}
 use Rattle.cal_spec.proofs.ReadLemmas.{bind_ok}
 
 -- A part with a meaning has no fault
@@ -149,7 +148,7 @@ texts_clear slot [] [] zip = tt
 texts_clear slot [] (p ∷ ps) zip = tt
 texts_clear slot (t ∷ ts) [] zip = absurd zip
 texts_clear slot (t ∷ ts) (p ∷ ps) zip =
-    (clear_from is_part_byte is_comma t part_no_comma (part_bytes t zip.0.0 zip.0.1), texts_clear slot ts ps zip.1)
+    (clear_of is_part_byte is_comma t part_no_comma (part_bytes t zip.0.0 zip.0.1), texts_clear slot ts ps zip.1)
 
 part_byte_in : (bs : List ℕ) → list_all is_part_byte bs ≡ true → list_all is_component_byte bs ≡ true
 part_byte_in [] all = refl
@@ -203,7 +202,7 @@ joined_no_star slot (t ∷ u ∷ ts) (p ∷ ps) zip at = part_no_star t zip.0.0 
 
 texts_split : (slot : Slot) (ts : List (List ℕ)) (ps : List Part) → 0 < length ts → AllZip (IsPartOf slot) ts ps → slice_split is_comma (join_with_byte 44 ts) ≡ ts
 texts_split slot [] ps some zip = absurd (omega arith)
-texts_split slot (t ∷ ts) ps some zip = split_joined 44 t ts refl (texts_clear slot (t ∷ ts) ps zip)
+texts_split slot (t ∷ ts) ps some zip = split_join_with_byte 44 t ts refl (texts_clear slot (t ∷ ts) ps zip)
 
 pub fits_in : (time : Bool) (n room : ℕ) → cond time (n - 1) n ≤ room → n ≤ cond time (room + 1) room
 fits_in true n room h = omega arith

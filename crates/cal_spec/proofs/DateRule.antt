@@ -15,10 +15,10 @@ use Rattle.cal_spec.specs.headline.Slot.{day_slot}
 use Rattle.cal_spec.specs.declared.part.Part.{Part}
 use Rattle.cal_spec.specs.declared.slot.Slot.{Slot}
 use Rattle.cal_spec.specs.declared.slot.Slot.TheVariants.{Year, Month, Hour, Minute, Second}
-use Rattle.cal_spec.proofs.CleanLemmas.{IsClear, Apart, clear_from, split_at, split_alone, filter_at, filter_alone, woven, woven_whole, filter_kept}
 use Rattle.cal_spec.specs.headline.ZoneSuffix.{ZoneSuffix}
 use Rattle.cal_spec.proofs.ComponentRule.{is_component_byte, component_found, component_only, component_bytes}
 use Rattle.cal_spec.proofs.FieldLemmas.{fields_with, date_found, time_found, counted_date, counted_time, day_no_time}
+use Rattle.cal_text.proofs.General.{filter_kept, woven, woven_whole, IsClear, Apart, clear_of, split_at, split_alone, filter_at, filter_alone}
 
 -- The shape of a date
 
@@ -126,8 +126,8 @@ component_no_sign b h = grind (arith, nat_tests)
 pub component_no_colon : Apart is_component_byte is_colon
 component_no_colon b h = grind (arith, nat_tests)
 
-clear_of : (p : ℕ → Bool) (slot : Slot) (text : List ℕ) (c : Option (List Part)) → Apart is_component_byte p → IsComponent slot text c → IsClear p text
-clear_of p slot text c apart is = clear_from is_component_byte p text apart (component_bytes slot text c is)
+component_clear : (p : ℕ → Bool) (slot : Slot) (text : List ℕ) (c : Option (List Part)) → Apart is_component_byte p → IsComponent slot text c → IsClear p text
+component_clear p slot text c apart is = clear_of is_component_byte p text apart (component_bytes slot text c is)
 
 -- What was read is a date or a time by the rule
 
@@ -198,7 +198,7 @@ unfolding date_in_word date_fields
 date_only word f few is =
     let t = is.texts in
     let day_is : IsComponent (day_slot t.from_end) t.day f.day = rw is.from_end is.day in
-    let shape = date_shape_only word t (clear_of is_date_sign Year t.year f.year component_no_sign is.year) (clear_of is_date_sign Month t.month f.month component_no_sign is.month) (clear_of is_date_sign (day_slot t.from_end) t.day f.day component_no_sign day_is) is.shape in
+    let shape = date_shape_only word t (component_clear is_date_sign Year t.year f.year component_no_sign is.year) (component_clear is_date_sign Month t.month f.month component_no_sign is.month) (component_clear is_date_sign (day_slot t.from_end) t.day f.day component_no_sign day_is) is.shape in
     let year = component_only Year 240 t.year f.year is.year few.year in
     let month = component_only Month (240 - counted Year f.year) t.month f.month is.month few.month in
     let day = component_only (day_slot f.from_end) (240 - counted Year f.year - counted Month f.month) t.day f.day is.day few.day in
@@ -209,7 +209,7 @@ unfolding time_in_word time_fields
 time_only word f few is =
     let t = is.texts in
     let room = room_after (date_with f) in
-    let shape = time_shape_only word t (clear_of is_colon Hour t.hour f.hour component_no_colon is.hour) (clear_of is_colon Minute t.minute f.minute component_no_colon is.minute) (clear_of is_colon Second t.second f.second component_no_colon is.second) is.shape in
+    let shape = time_shape_only word t (component_clear is_colon Hour t.hour f.hour component_no_colon is.hour) (component_clear is_colon Minute t.minute f.minute component_no_colon is.minute) (component_clear is_colon Second t.second f.second component_no_colon is.second) is.shape in
     let hour = component_only Hour room t.hour f.hour is.hour few.hour in
     let minute = component_only Minute (room - counted Hour f.hour) t.minute f.minute is.minute few.minute in
     let second = component_only Second (room - counted Hour f.hour - counted Minute f.minute) t.second f.second is.second few.second in

@@ -25,6 +25,7 @@ use Rattle.cal_spec.specs.declared.slot.Slot.{Slot}
 use Rattle.cal_spec.specs.declared.slot.Slot.TheVariants.{Year, Month, Day, DayFromEnd, Hour, Minute, Second}
 use Rattle.cal_spec.proofs.NormalFieldsLemmas.{are_normal, component_sound, fields_valid, starred_is}
 use Rattle.cal_spec.proofs.NormalLemmas.{each_part}
+use Rattle.cal_text.proofs.General.{check_all, each_checked}
 
 -- Numbers
 
@@ -177,19 +178,6 @@ fields_length f year month day hour minute second few =
     omega (arith, lead_length f.from_end, length-append a (b ++ (c ++ (d ++ (e ++ (g ++ []))))), length-append b (c ++ (d ++ (e ++ (g ++ [])))), length-append c (d ++ (e ++ (g ++ []))), length-append d (e ++ (g ++ [])), length-append e (g ++ []), length-append g [])
 
 -- Weekdays, by computing all sets
-
-abbrev pub check_all : ℕ → (List Bool → Bool) → Bool
-check_all zero f = f []
-check_all (suc n) f = check_all n (λ bs. f (true ∷ bs)) && check_all n (λ bs. f (false ∷ bs))
-
-pub each_checked : (n : ℕ) (f : List Bool → Bool) (bs : List Bool) → check_all n f ≡ true → length bs ≡ n → f bs ≡ true
-each_checked zero f [] all long = all
-each_checked zero f (b ∷ bs) all long = absurd (omega arith)
-each_checked (suc n) f [] all long = absurd (omega arith)
-each_checked (suc n) f (true ∷ bs) all long =
-    each_checked n (λ cs. f (true ∷ cs)) bs (and_parts (check_all n (λ cs. f (true ∷ cs))) (check_all n (λ cs. f (false ∷ cs))) all).0 (omega arith)
-each_checked (suc n) f (false ∷ bs) all long =
-    each_checked n (λ cs. f (false ∷ cs)) bs (and_parts (check_all n (λ cs. f (true ∷ cs))) (check_all n (λ cs. f (false ∷ cs))) all).1 (omega arith)
 
 short_weekdays : check_all 7 (λ days. nat_le (length (weekdays_text days)) 20) ≡ true
 unfolding weekdays_text runs_text run_text name_of

@@ -11,14 +11,12 @@ mod SuffixRows
 mod ReducedLemmas
 mod TextLemmas
 mod WeekdayLemmas
-pub mod CleanLemmas
 pub mod ComponentLemmas
 pub mod ComponentRule
 pub mod DateRule
 pub mod FaultLemmas
 pub mod FieldLemmas
 pub mod PartRule
-pub mod PieceLemmas
 pub mod ReadBackParts
 pub mod ReadLemmas
 pub mod SymbolLemmas

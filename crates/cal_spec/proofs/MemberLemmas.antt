@@ -24,6 +24,7 @@ use Rattle.cal_spec.proofs.NormalLemmas.{part_eq_exact, part_exact, part_total, 
 use Rattle.cal_spec.proofs.OrderLemmas.{has_in_order}
 use Rattle.std.specs.Cmp.{both_ways}
 use Rattle.cal_spec.proofs.ReducedLemmas.{last_lies, last_of, last_reached}
+use Rattle.cal_text.proofs.General.{list_any-map, list_any-same}
 
 -- a range of one number
 one_number : (a v : ℕ) → nat_eq v a ≡ lies a a v
@@ -80,14 +81,6 @@ has_any f (y ∷ ys) h = elim (or_cases (f y) (list_any f ys) h) [
   | inr rest ↦ (let found = has_any f ys rest in (found.0, inr found.1, found.2))
 ]
 
-any_map : {A B : Type 0} (f : B → Bool) (g : A → B) (xs : List A) → list_any f (map g xs) ≡ list_any (λ x. f (g x)) xs
-any_map f g [] = refl
-any_map f g (x ∷ xs) = ap (λ b. f (g x) || b) (any_map f g xs)
-
-any_same : {A : Type 0} (f g : A → Bool) (P : A → Type 0) (xs : List A) → AllByRecursion P xs → ((x : A) → P x → f x ≡ g x) → list_any f xs ≡ list_any g xs
-any_same f g P [] all same = refl
-any_same f g P (x ∷ xs) all same = rw (same x all.0, any_same f g P xs all.1 same) refl
-
 parts_have : (slot : Slot) (ps : List Part) (v : ℕ) → AllByRecursion IsPart ps
     → list_any (λ p. part_has slot p v) (normal_parts ps) ≡ list_any (λ p. part_has slot p v) ps
 unfolding normal_parts
@@ -98,8 +91,8 @@ parts_have slot ps v all =
     both_ways (list_any f (in_order part_cmp xs)) (list_any f xs)
     (λ h. let found = has_any f (in_order part_cmp xs) h in any_has f xs found.0 ((ordered found.0).0 found.1) found.2)
     (λ h. let found = has_any f xs h in any_has f (in_order part_cmp xs) found.0 ((ordered found.0).1 found.1) found.2)
-    ∙ any_map f reduced ps
-    ∙ any_same (λ p. f (reduced p)) f IsPart ps all (λ p h. reduced_has slot p v h)
+    ∙ list_any-map f reduced ps
+    ∙ list_any-same (λ p. f (reduced p)) f IsPart ps all (λ p h. reduced_has slot p v h)
 
 -- the members stay
 pub component_stays : (slot : Slot) (c : Option (List Part)) (v : ℕ) → AreParts c → component_has slot (normal_component c) v ≡ component_has slot c v

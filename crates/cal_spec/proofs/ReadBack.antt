@@ -31,8 +31,8 @@ use Rattle.cal_spec.specs.declared.part.Part.{Part}
 use Rattle.cal_spec.specs.declared.slot.Slot.TheVariants.{Year, Month, Hour, Minute, Second}
 use Rattle.cal_spec.proofs.LengthLemmas.{AreSmall, expr_length, small_component, small_second}
 use Rattle.cal_spec.proofs.NormalFieldsLemmas.{fields_valid}
-use Rattle.cal_text.proofs.General.{split_alone, split_at, some_front, both_all}
-use Rattle.cal_spec.proofs.ReadBackParts.{clear_of, component_back, component_bytes, component_some, is_component_byte, wider}
+use Rattle.cal_text.proofs.General.{split_alone, split_at, some_front, both_all, clear_of, filter_alone, filter_at, wider}
+use Rattle.cal_spec.proofs.ReadBackParts.{component_back, component_bytes, component_some, is_component_byte}
 use Rattle.cal_spec.proofs.ReadBackWeekdays.{ReadsDays, weekdays_all, weekdays_some}
 use Rattle.cal_spec.proofs.WordRule.{no_shorthand}
 use Rattle.cal_spec.proofs.WeekdayLemmas.{weekdays_text-all, weekdays_text-some}
@@ -171,18 +171,6 @@ time_zone f h =
     rw (letter, sign) refl
 
 -- Date and time
-
-filter_at : (p : ℕ → Bool) (front : List ℕ) (c : ℕ) (rest : List ℕ) → list_any p front ≡ false → p c ≡ true → filter p (front ++ (c ∷ rest)) ≡ c ∷ filter p rest
-filter_at p [] c rest clear is = rw is refl
-filter_at p (x ∷ xs) c rest clear is =
-    let parts = or_parts (p x) (list_any p xs) clear in
-    rw (parts.0) (filter_at p xs c rest parts.1 is)
-
-filter_alone : (p : ℕ → Bool) (xs : List ℕ) → list_any p xs ≡ false → filter p xs ≡ []
-filter_alone p [] clear = refl
-filter_alone p (x ∷ xs) clear =
-    let parts = or_parts (p x) (list_any p xs) clear in
-    rw (parts.0) (filter_alone p xs parts.1)
 
 sign_is : (t : Bool) → is_date_sign (sign t) ≡ true
 sign_is true = refl

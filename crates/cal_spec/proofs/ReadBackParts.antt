@@ -25,7 +25,7 @@ use Rattle.cal_spec.proofs.ComponentRule.{no_first_fault, fits_in, digit_is_part
 use Rattle.cal_spec.proofs.LengthLemmas.{AreSmall, IsBelow, IsSmall, step_small}
 use Rattle.cal_spec.proofs.NormalLemmas.{same_part}
 use Rattle.cal_spec.proofs.SymbolLemmas.{begins_with, symbols_lone, symbols_number}
-use Rattle.cal_text.proofs.General.{both_all, digits_all, zeros_all, zeros_value, split_alone, split_at}
+use Rattle.cal_text.proofs.General.{both_all, digits_all, zeros_all, zeros_value, split_alone, split_at, clear_of, wider}
 use Rattle.cal_spec.proofs.PartRule.{slash_symbols}
 
 -- Numbers
@@ -175,19 +175,6 @@ pub split_joined : {A : Type 0} (p : ℕ → Bool) (c : ℕ) (f : A → List ℕ
 split_joined p c f x [] sign clear = ap (slice_split p) (append-nil (f x)) ∙ split_alone p (f x) clear.0
 split_joined p c f x (y ∷ ys) sign clear =
     split_at p (f x) c (f y ++ flat_map (λ z. c ∷ f z) ys) clear.0 sign ∙ ap (λ ts. f x ∷ ts) (split_joined p c f y ys sign clear.1)
-
--- a class of bytes without the separator
-pub clear_of : (q p : ℕ → Bool) (text : List ℕ) → ((b : ℕ) → q b ≡ true → p b ≡ false) → list_all q text ≡ true → list_any p text ≡ false
-clear_of q p [] apart all = refl
-clear_of q p (b ∷ bs) apart all =
-    let parts = and_parts (q b) (list_all q bs) all in
-    rw (apart b parts.0) (clear_of q p bs apart parts.1)
-
-pub wider : (q p : ℕ → Bool) (text : List ℕ) → ((b : ℕ) → q b ≡ true → p b ≡ true) → list_all q text ≡ true → list_all p text ≡ true
-wider q p [] holds all = refl
-wider q p (b ∷ bs) holds all =
-    let parts = and_parts (q b) (list_all q bs) all in
-    and_from (p b) (list_all p bs) (holds b parts.0) (wider q p bs holds parts.1)
 
 padded_bytes : (width n : ℕ) → n < 10_000 → list_all is_part_byte (padded width n) ≡ true
 padded_bytes width n small = wider is_ascii_digit is_part_byte (padded width n) digit_is_part_byte (number_printed width n small).all

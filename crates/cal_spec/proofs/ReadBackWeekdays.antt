@@ -10,17 +10,7 @@ use Rattle.cal_text.specs.headline.Words.{is_blank}
 use Rattle.cal_zone.specs.headline.ZoneName.{begins_with_letter}
 use Rattle.cal_spec.specs.declared.shorthand.Shorthand.{Shorthand}
 use Rattle.cal_spec.specs.declared.spec_fault.SpecFault.{SpecFault}
-use Rattle.cal_spec.proofs.LengthLemmas.{check_all, each_checked}
-
-same_bool : Bool → Bool → Bool
-same_bool true b = b
-same_bool false b = not b
-
-same_bools : List Bool → List Bool → Bool
-same_bools [] [] = true
-same_bools [] (c ∷ cs) = false
-same_bools (b ∷ bs) [] = false
-same_bools (b ∷ bs) (c ∷ cs) = same_bool b c && same_bools bs cs
+use Rattle.cal_text.proofs.General.{check_all, each_checked, same_bool, same_bools, same_bools_is}
 
 gives_days : Result (List Bool) SpecFault → List Bool → Bool
 gives_days (Ok ds) days = same_bools ds days
@@ -40,24 +30,6 @@ good_days days =
 all_good : check_all 7 good_days ≡ true
 unfolding good_days is_read_back gives_days same_bools same_bool shorthand_named weekdays_of listed_days days_of day_named runs_text run_text name_of
 all_good = refl
-
-same_bool_is : (b c : Bool) → same_bool b c ≡ true → b ≡ c
-unfolding same_bool
-same_bool_is true true h = refl
-same_bool_is true false h = absurd (false≢true h)
-same_bool_is false true h = absurd (false≢true h)
-same_bool_is false false h = refl
-
-same_bools_is : (bs cs : List Bool) → same_bools bs cs ≡ true → bs ≡ cs
-unfolding same_bools
-same_bools_is [] [] h = refl
-same_bools_is [] (c ∷ cs) h = absurd (false≢true h)
-same_bools_is (b ∷ bs) [] h = absurd (false≢true h)
-same_bools_is (b ∷ bs) (c ∷ cs) h =
-    let parts = and_parts (same_bool b c) (same_bools bs cs) h in
-    let first = same_bool_is b c parts.0 in
-    let rest = same_bools_is bs cs parts.1 in
-    cc
 
 gives_days_is : (r : Result (List Bool) SpecFault) (days : List Bool) → gives_days r days ≡ true → r ≡ Ok days
 unfolding gives_days

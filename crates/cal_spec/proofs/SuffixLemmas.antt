@@ -12,7 +12,7 @@ use Rattle.cal_zone.proofs.OffsetWordLemmas.{is_offset_byte, offset-bytes, offse
 use Rattle.cal_text.specs.headline.Words.{is_blank}
 use Rattle.cal_spec.specs.ZoneSuffix.{IsSuffix, suffix_of}
 use Rattle.cal_spec.specs.headline.ZoneSuffix.{ZoneSuffix, ahead, of_name, suffix_text}
-use Rattle.cal_spec.proofs.CleanLemmas.{any_clear, clear_from}
+use Rattle.cal_text.proofs.General.{clear_of}
 
 -- what begins with a sign begins with no letter, so it is no name
 sign_letter : (b : ℕ) → is_sign b ≡ true → is_ascii_alphabetic b ≡ false
@@ -53,7 +53,7 @@ suffix_word (of_name name) h =
     let long = and_parts (begins_with_letter name && list_all is_zone_byte name) (nat_le (length name) 255) h.0 in
     let parts = and_parts (begins_with_letter name) (list_all is_zone_byte name) long.0 in
     record {
-      clear = any_clear is_blank name (clear_from is_zone_byte is_blank name zone_no_blank parts.1);
+      clear = clear_of is_zone_byte is_blank name zone_no_blank parts.1;
       some = letter_some name parts.0;
       short = leb-true (length name) 255 long.1;
       back = rw h.0 (ap (λ n. Some (of_name n)) h.1);
@@ -62,7 +62,7 @@ suffix_word (ahead seconds) h =
     let word = printed-word seconds h in
     let bytes = offset-bytes (offset_text seconds) seconds word in
     record {
-      clear = any_clear is_blank (offset_text seconds) (clear_from is_offset_byte is_blank (offset_text seconds) offset_no_blank bytes.0);
+      clear = clear_of is_offset_byte is_blank (offset_text seconds) offset_no_blank bytes.0;
       some = omega (arith, bytes.1);
       short = omega (arith, bytes.1);
       back = offset_suffix (offset_text seconds) seconds word;

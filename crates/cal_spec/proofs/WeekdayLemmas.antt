@@ -9,6 +9,7 @@ use Rattle.std.proofs.lemmas.List.Sums.{prefix_len-le-length}
 use Rattle.cal_bytes.specs.headline.Bytes.{joined}
 use Rattle.cal_spec.specs.WeekdayRuns.{AreApartFrom, AreWeekdayRuns, is_in}
 use Rattle.cal_spec.specs.headline.WeekdayRuns.{Run, with_day, runs_from, run_text, runs_text, weekdays_text, text_after_first, day_name}
+use Rattle.cal_text.proofs.General.{or_assoc}
 
 run : ℕ → ℕ → Run
 run first last = record { first = first; last = last }
@@ -130,10 +131,6 @@ text_after_first-more first last h =
     let other : nat_eq first last ≡ false = ne_eqb first last (λ e. absurd (omega arith)) in
     let no_second : nat_eq (first + 1) last ≡ false = ne_eqb (first + 1) last (λ e. absurd (omega arith)) in
     rw (other, no_second)
-
-or_assoc : (x y z : Bool) → ((x || y) || z) ≡ (x || (y || z))
-or_assoc true y z = refl
-or_assoc false y z = refl
 
 -- a day is in the runs exactly where it is chosen
 is_in-later : (low day : ℕ) (rs : List Run) → AreApartFrom low rs → day < low → is_in day rs ≡ false

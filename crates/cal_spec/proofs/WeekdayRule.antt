@@ -19,9 +19,8 @@ use Rattle.cal_spec.specs.Weekdays.{day_named, is_no_letter, leading_letters, af
 use Rattle.cal_spec.specs.headline.Weekdays.{set_of}
 use Rattle.cal_zone.specs.headline.ZoneName.{begins_with_letter}
 use Rattle.cal_spec.specs.declared.weekdays.Days.{Days}
-use Rattle.cal_spec.proofs.CleanLemmas.{IsClear, Apart, clear_from, split_joined, some_pieces}
 use Rattle.cal_spec.proofs.FieldLemmas.{items_of-cons, weekdays_found}
-use Rattle.cal_text.proofs.General.{both_all}
+use Rattle.cal_text.proofs.General.{both_all, some_pieces, IsClear, Apart, clear_of, split_join_with_byte}
 
 -- Names
 
@@ -314,7 +313,7 @@ items_clear : (ts : List (List ℕ)) (items : List Days) → AllZip IsItem ts it
 items_clear [] [] zip = tt
 items_clear [] (d ∷ items) zip = tt
 items_clear (t ∷ ts) [] zip = absurd zip
-items_clear (t ∷ ts) (d ∷ items) zip = (clear_from is_item_byte is_comma t item_no_comma (item_bytes t d zip.0), items_clear ts items zip.1)
+items_clear (t ∷ ts) (d ∷ items) zip = (clear_of is_item_byte is_comma t item_no_comma (item_bytes t d zip.0), items_clear ts items zip.1)
 
 items_only : (ts : List (List ℕ)) (items : List Days) → AllZip IsItem ts items → items_of ts ≡ Ok items
 items_only [] [] zip = refl
@@ -443,7 +442,7 @@ listed_only : (word t : List ℕ) (ts : List (List ℕ)) (items : List Days) →
 unfolding listed_days
 listed_only word t ts items zip whole =
     let list = trimmed_is word (join_with_byte 44 (t ∷ ts)) (joined_ends t ts items zip) whole in
-    let pieces = split_joined 44 t ts refl (items_clear (t ∷ ts) items zip) in
+    let pieces = split_join_with_byte 44 t ts refl (items_clear (t ∷ ts) items zip) in
     rw (list, pieces, items_only (t ∷ ts) items zip) refl
 
 list_by : (word : List ℕ) (ts : List (List ℕ)) (items : List Days) → 0 < length ts → AllZip IsItem ts items → (word ≡ join_with_byte 44 ts) ⊎ (word ≡ join_with_byte 44 ts ++ codes ",") → weekdays_of word ≡ Ok (set_of items)

@@ -21,8 +21,8 @@ use Rattle.cal_spec.specs.ZoneSuffix.{suffix_due, suffix_in, suffix_of}
 use Rattle.cal_spec.specs.headline.ZoneSuffix.{ZoneSuffix, ahead, kept_name, of_name}
 use Rattle.cal_spec.proofs.SuffixLemmas.{no_letter, offset_suffix}
 use Rattle.cal_spec.specs.declared.shorthand.Shorthand.{Shorthand}
-use Rattle.cal_spec.proofs.CleanLemmas.{IsClear, split_alone}
 use Rattle.cal_spec.proofs.FieldLemmas.{time_found}
+use Rattle.cal_text.proofs.General.{split_alone}
 
 -- The zone
 
@@ -73,13 +73,9 @@ zone_begins (Some word) suffix is = word_begins word suffix is
 
 -- A time has a colon
 
-pub clear_by : (p : ℕ → Bool) (xs : List ℕ) → list_any p xs ≡ false → IsClear p xs
-clear_by p [] none = tt
-clear_by p (x ∷ xs) none = let parts = or_parts (p x) (list_any p xs) none in (parts.0, clear_by p xs parts.1)
-
 time_needs : (word : List ℕ) (t : TimeTexts) → time_texts word ≡ Some t → list_any is_colon word ≡ false → ⊥
 unfolding time_texts
-time_needs word t at none = let alone = split_alone is_colon word (clear_by is_colon word none) in let h = rw alone at at in cc
+time_needs word t at none = let alone = split_alone is_colon word none in let h = rw alone at at in cc
 
 pub time_colon : (room : ℕ) (word : List ℕ) (h : TimeFields) → time_in_word room word ≡ Ok h → list_any is_colon word ≡ true
 time_colon room word h at =

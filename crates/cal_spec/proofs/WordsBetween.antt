@@ -7,9 +7,7 @@ use Rattle.std.proofs.lemmas.List.{append-nil}
 use Rattle.cal_text.proofs.WordLemmas.{words-blank}
 use Rattle.cal_spec.specs.GrammarRule.{IsWord, Ends, AreWords}
 use Rattle.cal_text.specs.headline.Words.{is_blank, words}
-use Rattle.cal_spec.proofs.CleanLemmas.{split_at, split_alone}
-use Rattle.cal_text.proofs.General.{some_piece}
-use Rattle.cal_spec.proofs.WordRule.{clear_by}
+use Rattle.cal_text.proofs.General.{some_piece, split_at, split_alone}
 
 abbrev solid : List (List ℕ) → List (List ℕ)
 solid pieces = filter (λ (t : List ℕ). nat_lt 0 (length t)) pieces
@@ -96,9 +94,9 @@ words_none (b ∷ bs) blanks =
 words_first : (w rest : List ℕ) → IsWord w → Ends rest → words (w ++ rest) ≡ w ∷ words rest
 unfolding words
 words_first w [] word ends =
-    rw (append-nil w, split_alone is_blank w (clear_by is_blank w word.solid), lt-ltb 0 (length w) word.some) refl
+    rw (append-nil w, split_alone is_blank w word.solid, lt-ltb 0 (length w) word.some) refl
 words_first w (b ∷ rest) word ends =
-    rw (split_at is_blank w b rest (clear_by is_blank w word.solid) ends, lt-ltb 0 (length w) word.some) (ap (λ more. w ∷ more) (sym (words-blank b rest ends)))
+    rw (split_at is_blank w b rest word.solid ends, lt-ltb 0 (length w) word.some) (ap (λ more. w ∷ more) (sym (words-blank b rest ends)))
 
 -- nothing else comes between blanks
 pub words_only : (text : List ℕ) (ws : List (List ℕ)) → AreWords text ws → words text ≡ ws

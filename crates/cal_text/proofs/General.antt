@@ -1,18 +1,543 @@
--- Lemmas that name nothing of this project and that more than one crate uses.
-use Rattle.std.proofs.Common.{Bool, List, None, Option, Some, [], ap, arith, cond, drop, false, if◌then◌else◌, int_eq, int_lt, length, nat_le, refl, replicate, slice_get, suc, sym, true, zero, ℕ, ℤ, ◌++◌, ◌<ℤ◌, ◌<◌, ◌∙◌, ◌∷◌, ◌≡◌, ◌≤ℤ◌}
-use Rattle.std.proofs.lemmas.Bool.{and_from, le-leb, or_parts}
-use Rattle.std.proofs.lemmas.Int.{ints}
-use Rattle.std.proofs.lemmas.List.{length-append}
-use Rattle.std.proofs.lemmas.List.Folds.{list_all-append}
+-- Lemmas that name nothing of this project, for all crates. A step of a single proof stays beside it.
+use Rattle.std.proofs.Common.{Bool, List, None, Option, Some, [], ap, arith, cond, drop, false, if◌then◌else◌, int_eq, int_lt, length, nat_le, refl, replicate, slice_get, suc, sym, true, zero, ℕ, ℤ, ◌++◌, ◌<ℤ◌, ◌<◌, ◌∙◌, ◌∷◌, ◌≡◌, ◌≤ℤ◌, Err, FitsSigned, IfOk, IfSome, IsSome, Ok, Result, add-one, append-nil, append_assoc, ap₂, decimal, drop-cons, get_or, inl, inr, leb, length-drop, length-take, map, max, min, nat_eq, nat_lt, negsuc, not, of_z, option_map, pos, pow_pos, reverse, subst, take, to_z, unsigned_abs, unwrap_or, ◌%◌, ◌&&◌, ◌*◌, ◌+◌, ◌-◌, ◌/◌, ◌==◌, ◌^◌, ◌||◌, ◌≢◌, ◌≤◌, ◌⊎◌}
+use lib.Bits.{bit_or}
+use lib.Lanes.{fold_l}
+use Rattle.std.proofs.lemmas.Bool.{or_from, and_from, le-leb, or_parts, and_parts, cases_lt, false≢true, leb-true, ltb-false, ltb-true, not-true}
+use Rattle.std.proofs.lemmas.Int.{ints, to_z-of_z}
+use Rattle.std.proofs.lemmas.List.{length-append, append-nil, append_assoc, drop-append-le, drop_all, get_or-reverse, get_or-take, length-reverse, length-take-le, map-append, reverse-append, reverse-reverse, take-append-drop, take_more}
+use Rattle.std.proofs.lemmas.List.Folds.{list_all-append, length-flat_map-take}
 use Rattle.std.proofs.lemmas.Str.Parse.{digit_from_value}
-use Rattle.std.specs.Char.{is_ascii_digit}
+use Rattle.std.specs.Char.{is_ascii_digit, digit_value, is_ascii_alphabetic}
 use Rattle.std.specs.Cmp.{int_cmp_is}
-use Rattle.std.specs.List.{list_all, list_any, onto_first, slice_split}
+use Rattle.std.specs.List.{join_with_byte, list_all, list_any, onto_first, slice_split, AllByRecursion, after_first, after_last, before_first, flat_map, position, position_or_len, prefix_len, suffix_len}
 use Rattle.std.specs.Ordering.{int_cmp}
 use Rattle.std.specs.Str.Parse.{AllDigits, digits_value}
 use Rattle.std.specs.declared.cmp.Ordering.TheVariants.{Less}
+use Rattle.std.proofs.Math.Bool.{beq}
+use Rattle.std.proofs.lemmas.Bool.Decides.{nat_tests}
+use Rattle.std.proofs.lemmas.Nat.{div-add-mod', div_below, le-div, le_or_l, le_or_r, shr-shr}
+use Rattle.std.specs.Int.{Width, bit_at, int_max, int_min}
+use Rattle.std.proofs.lemmas.Cmp.{int_ranked}
+use Rattle.std.proofs.lemmas.Nat.Bits.{bit_at-pow_other, bit_at-pow_same, bit_at_above, bit_at_cat_high, bit_at_cat_low, same_from_bits_below}
+use Rattle.std.proofs.Math.Nat.{div-add-mod', mod-lt, pow-le-pow_right, pow-suc}
+use Rattle.std.specs.Option.{is_some, option_map, option_or}
+use Rattle.std.specs.Prelude.{IsErr, filter, is_none, is_some, nat_lt, not, option_map, reverse}
+use Rattle.std.proofs.lemmas.Map.Keys.{sorted_tail}
+use Rattle.std.specs.List.Sorted.{IsStrictlySortedBy}
+use Rattle.std.proofs.Math.Seq.{take-append_seam, take-length}
+use Rattle.std.proofs.Math.ListN.{drop_of_length-le}
+use Rattle.std.proofs.lemmas.Option.{cond_some, get_or_from_slice_get, slice_get_read, slice_get_within}
+use Rattle.std.proofs.lemmas.List.Splits.{length-slice_split, slice_split_first, slice_split_none}
+use Rattle.std.proofs.lemmas.List.Sums.{prefix_len-le-length, prefix_len_passes, prefix_len_stops, suffix_len-le-length}
+use Rattle.std.specs.Str.Lines.{lines, lines_of_parts, strip_carriage_return}
+use Rattle.std.proofs.lemmas.List.Elements.{All-from_get_or}
+use Rattle.std.proofs.lemmas.Int.Digits.{digits_value-lt}
+use Rattle.std.proofs.lemmas.Str.{IsCharBoundary-after_ascii, IsCharBoundary-before_ascii, IsCharBoundary-end, IsCharBoundary-start, digit_value_digit}
+use Rattle.std.proofs.lemmas.List.Recursion.{and_at}
+use Rattle.std.proofs.lemmas.Fmt.{decimal_digit, decimal_step}
+use Rattle.std.specs.Str.{IsCharBoundary, IsUtf8}
+use Rattle.std.specs.Io.KnownBytes.{Appends, Consumes, append_known}
 
--- there is always a piece
+-- Truth values
+
+pub and_true : (x : Bool) → (x && true) ≡ x
+and_true true = refl
+and_true false = refl
+
+pub and_none : (x : Bool) → (x && false) ≡ false
+and_none true = refl
+and_none false = refl
+
+pub and_regrouped : (x y z : Bool) → ((x && y) && z) ≡ (x && (y && z))
+and_regrouped true y z = refl
+and_regrouped false y z = refl
+
+pub and_shared : (x y z : Bool) → ((x && y) || (x && z)) ≡ (x && (y || z))
+and_shared true y z = refl
+and_shared false y z = refl
+
+pub beq_same : (a b : Bool) → beq a b ≡ true → a ≡ b
+beq_same true true h = refl
+beq_same true false h = absurd (cc)
+beq_same false true h = absurd (cc)
+beq_same false false h = refl
+
+pub both_follow : (a b c d : Bool) → (a ≡ true → c ≡ true) → (b ≡ true → d ≡ true) → (a && b) ≡ true → (c && d) ≡ true
+both_follow true true c d p q h = rw (p refl, q refl) refl
+both_follow true false c d p q h = absurd (cc)
+both_follow false b c d p q h = absurd (cc)
+
+pub or_false : (a b : Bool) → b ≡ false → a ≡ (a || b)
+or_false true b h = refl
+or_false false b h = sym h
+
+pub or_assoc : (x y z : Bool) → ((x || y) || z) ≡ (x || (y || z))
+or_assoc true y z = refl
+or_assoc false y z = refl
+
+-- lists of truth values, compared by computing
+unfoldable pub same_bool : Bool → Bool → Bool
+same_bool true b = b
+same_bool false b = not b
+
+unfoldable pub same_bools : List Bool → List Bool → Bool
+same_bools [] [] = true
+same_bools [] (c ∷ cs) = false
+same_bools (b ∷ bs) [] = false
+same_bools (b ∷ bs) (c ∷ cs) = same_bool b c && same_bools bs cs
+
+same_bool_is : (b c : Bool) → same_bool b c ≡ true → b ≡ c
+unfolding same_bool
+same_bool_is true true h = refl
+same_bool_is true false h = absurd (false≢true h)
+same_bool_is false true h = absurd (false≢true h)
+same_bool_is false false h = refl
+
+pub same_bools_is : (bs cs : List Bool) → same_bools bs cs ≡ true → bs ≡ cs
+unfolding same_bools
+same_bools_is [] [] h = refl
+same_bools_is [] (c ∷ cs) h = absurd (false≢true h)
+same_bools_is (b ∷ bs) [] h = absurd (false≢true h)
+same_bools_is (b ∷ bs) (c ∷ cs) h =
+    let parts = and_parts (same_bool b c) (same_bools bs cs) h in
+    let first = same_bool_is b c parts.0 in
+    let rest = same_bools_is bs cs parts.1 in
+    cc
+
+-- a test of all lists of n truth values
+abbrev pub check_all : ℕ → (List Bool → Bool) → Bool
+check_all zero f = f []
+check_all (suc n) f = check_all n (λ bs. f (true ∷ bs)) && check_all n (λ bs. f (false ∷ bs))
+
+pub each_checked : (n : ℕ) (f : List Bool → Bool) (bs : List Bool) → check_all n f ≡ true → length bs ≡ n → f bs ≡ true
+each_checked zero f [] all long = all
+each_checked zero f (b ∷ bs) all long = absurd (omega arith)
+each_checked (suc n) f [] all long = absurd (omega arith)
+each_checked (suc n) f (true ∷ bs) all long =
+    each_checked n (λ cs. f (true ∷ cs)) bs (and_parts (check_all n (λ cs. f (true ∷ cs))) (check_all n (λ cs. f (false ∷ cs))) all).0 (omega arith)
+each_checked (suc n) f (false ∷ bs) all long =
+    each_checked n (λ cs. f (false ∷ cs)) bs (and_parts (check_all n (λ cs. f (true ∷ cs))) (check_all n (λ cs. f (false ∷ cs))) all).1 (omega arith)
+
+-- a test of all numbers below one
+abbrev pub all_below : ℕ → (ℕ → Bool) → Bool
+all_below zero f = true
+all_below (suc n) f = f n && all_below n f
+
+at_last : (f : ℕ → Bool) (n k : ℕ) → n ≡ k → f k ≡ true → f n ≡ true
+at_last f n k same h = rw same h
+
+pub below_all : (k : ℕ) (f : ℕ → Bool) (n : ℕ) → all_below k f ≡ true → n < k → f n ≡ true
+below_all zero f n all small = absurd (omega arith)
+below_all (suc k) f n all small =
+    let parts = and_parts _ _ all in
+    elim (cases_lt n k) [
+      | inl below ↦ below_all k f n parts.1 below
+      | inr above ↦ at_last f n k (omega (arith, small, above)) parts.0
+    ]
+
+-- Numbers
+
+pub other_test : (a b : ℤ) → (a ≡ b → ⊥) → int_eq a b ≡ false
+other_test a b e = grind (arith, ints)
+
+pub chained : (a b c : ℤ) → a <ℤ b → b <ℤ c → a <ℤ c
+chained a b c h k = omega (arith, ints)
+
+-- order by `cmp`
+pub less : (a b : ℤ) → a <ℤ b → int_cmp a b ≡ Less
+less a b h = sym (int_cmp_is a b Less h)
+
+pub lt_test : (a b : ℤ) → a <ℤ b → int_lt a b ≡ true
+lt_test a b h = grind (arith, ints)
+
+pub not_lt_test : (a b : ℤ) → b ≤ℤ a → int_lt a b ≡ false
+not_lt_test a b h = grind (arith, ints)
+
+pub none_between : (low high i : ℕ) → high ≤ low → (nat_le low i && nat_lt i high) ≡ false
+none_between low high i none = grind (arith, nat_tests)
+
+-- what passes lies below a number from which on nothing does
+pub below_end : (passes : ℕ → Bool) (n s : ℕ) → ((i : ℕ) → n ≤ i → passes i ≡ false) → passes s ≡ true → s < n
+below_end passes n s none holds =
+    elim (cases_lt s n) [
+      | inl low ↦ low
+      | inr high ↦ (let no : passes s ≡ false = none s high in let clash : true ≡ false = sym holds ∙ no in absurd (cc))
+    ]
+
+-- a number between two multiples of the size
+pub quotient_part : (size a t : ℕ) → 0 < size → a * size ≤ t → t < (a + 1) * size → t / size ≡ a
+quotient_part size a t positive low high =
+    let least = le-div a t size positive low in
+    let most = div_below t size (a + 1) positive high in
+    omega (arith, least, most)
+
+pub remainder_part : (size a l t : ℕ) → t / size ≡ a → a * size + l ≤ t → l ≤ t % size
+remainder_part size a l t same low =
+    let parts : a * size + t % size ≡ t = (rw same at (div-add-mod' t size)) in
+    omega (arith, parts)
+
+pub max_is : (a b : ℕ) → ((max a b ≡ a) × (b ≤ a)) ⊎ ((max a b ≡ b) × (a ≤ b))
+max_is a b = elim (cases_lt a b) [ inl less ↦ inr (grind arith, omega arith) | inr not_less ↦ inl (grind arith, omega arith) ]
+
+pub max_from_zero : (old months most : ℕ) → old ≡ 0 → most ≡ max old months → most ≡ months
+max_from_zero old months most none is = elim (max_is old months) [ inl high ↦ omega arith | inr at ↦ omega arith ]
+
+-- the lesser of two is no less than what neither is
+pub min_from : (a b low : ℤ) → low ≤ℤ a → low ≤ℤ b → low ≤ℤ int_min a b
+min_from a b low p q = elim (int_lt b a) as (λ c. low ≤ℤ (if c then b else a)) [ true ↦ q | false ↦ p ]
+
+-- the greater of two is no more than what neither is
+pub max_to : (a b high : ℤ) → a ≤ℤ high → b ≤ℤ high → int_max a b ≤ℤ high
+max_to a b high p q = elim (int_lt b a) as (λ c. cond c a b ≤ℤ high) [ true ↦ p | false ↦ q ]
+
+pub lt_from_test : (last p : ℤ) → int_lt last p ≡ true → last <ℤ p
+lt_from_test last p h = grind (arith, ints)
+
+pub lt_of_pos : (at t : ℕ) (i : ℤ) → pos t ≡ i → at < t → pos at <ℤ i
+lt_of_pos at t i is h = omega (arith, ints)
+
+pub lt_from_pos : (at t : ℕ) (i : ℤ) → pos t ≡ i → pos at <ℤ i → at < t
+lt_from_pos at t i is h = omega (arith, ints)
+
+-- a number above one that is not negative is its own size
+pub pos_unsigned_abs : (start : ℤ) (second least : ℕ) → pos least <ℤ start → second ≡ unsigned_abs start → pos second ≡ start
+pos_unsigned_abs (pos n) second least below e = ap pos e
+pos_unsigned_abs (negsuc n) second least below e = absurd (omega (arith, ints))
+
+pub lt_from_less : (a b : ℤ) → int_cmp a b ≡ Less → a <ℤ b
+lt_from_less a b e = int_ranked a b Less (sym e)
+
+pub squeezed : (a b : ℤ) → a ≤ℤ b → b ≤ℤ a → a ≡ b
+squeezed a b h k = omega (arith, ints)
+
+-- machine words are alike exactly where their numbers are
+alike_tests : (m n : ℕ) (a b : ℤ) → (m ≡ n → a ≡ b) → (a ≡ b → m ≡ n) → nat_eq m n ≡ int_eq a b
+alike_tests m n a b back forth = grind (arith, ints)
+
+pub same_word : (w : Width) (a b : ℤ) → FitsSigned w a → FitsSigned w b → nat_eq (of_z w a) (of_z w b) ≡ int_eq a b
+same_word w a b f g =
+    alike_tests (of_z w a) (of_z w b) a b (λ e. sym (to_z-of_z w a f) ∙ ap (to_z w) e ∙ to_z-of_z w b g) (ap (of_z w))
+
+-- Bits
+
+-- a word that is moved down, and one that is cut to 64 bits
+pub bit_at-shift : (m j k : ℕ) → bit_at (m / 2 ^ j) k ≡ bit_at m (j + k)
+bit_at-shift m j k = ap (λ (x : ℕ). x % 2) (shr-shr m j k)
+
+pub bit_at-small : (m i : ℕ) → m < 2 ^ 64 → bit_at m i ≡ 1 → i < 64
+bit_at-small m i fits one =
+    elim (cases_lt i 64) [ inl low ↦ low | inr high ↦ (let zero : bit_at m i ≡ 0 = bit_at_above m 64 i fits high in absurd (omega (arith, zero, one))) ]
+
+pub min_of_bits : (x y : ℕ) → x < 2 → y < 2 → (min x y == 1) ≡ ((x == 1) && (y == 1))
+min_of_bits x y p q =
+    elim (cases_lt x 1) [
+      | inl low ↦ (let none : x ≡ 0 = omega arith in let least : min x y ≡ 0 = omega arith in rw (least, none))
+      | inr high ↦ (let one : x ≡ 1 = omega arith in let same : min x y ≡ y = omega arith in rw (same, one))
+    ]
+
+pub max_of_bits : (x y : ℕ) → x < 2 → y < 2 → (max x y == 1) ≡ ((x == 1) || (y == 1))
+max_of_bits x y p q =
+    elim (cases_lt x 1) [
+      | inl low ↦ (let none : x ≡ 0 = omega arith in let most : max x y ≡ y = omega arith in rw (most, none))
+      | inr high ↦ (let one : x ≡ 1 = omega arith in let most : max x y ≡ 1 = omega arith in rw (most, one))
+    ]
+
+pub bit_at-mod : (m i : ℕ) → i < 64 → bit_at (m % 2 ^ 64) i ≡ bit_at m i
+bit_at-mod m i low =
+    let whole : m / 2 ^ 64 * 2 ^ 64 + m % 2 ^ 64 ≡ m = omega arith in
+    sym (bit_at_cat_low (m / 2 ^ 64) 64 (m % 2 ^ 64) i low) ∙ ap (λ (x : ℕ). bit_at x i) whole
+
+pow_next : (k : ℕ) → 2 ^ (k + 1) ≡ 2 ^ k + 2 ^ k
+pow_next k = let next : k + 1 ≡ suc k = omega arith in rw (next, pow-suc 2 k) (omega arith)
+
+less_one : (x y m : ℕ) → m ≡ x + y → 0 < y → m - 1 ≡ x + (y - 1)
+less_one x y m whole some = omega arith
+
+-- bit k is the lowest that is set
+pub record IsLowestBit (m k : ℕ) : Type 0 where
+  pub one : bit_at m k ≡ 1
+  pub none : (i : ℕ) → i < k → bit_at m i ≡ 0
+
+-- the bits up to it are it alone
+lowest_mod : (m k : ℕ) → IsLowestBit m k → m % 2 ^ (k + 1) ≡ 2 ^ k
+lowest_mod m k h =
+    let next = pow_next k in
+    let some = pow_pos k in
+    let part : (i : ℕ) → i < k + 1 → bit_at (m % 2 ^ (k + 1)) i ≡ bit_at m i
+    = λ i low. sym (bit_at_cat_low (m / 2 ^ (k + 1)) (k + 1) (m % 2 ^ (k + 1)) i low) ∙ ap (λ (x : ℕ). bit_at x i) (div-add-mod' m (2 ^ (k + 1))) in
+    same_from_bits_below (k + 1) (m % 2 ^ (k + 1)) (2 ^ k) (mod-lt m (omega arith)) (omega arith)
+    (λ i low.
+    elim (cases_lt i k) [
+      | inl early ↦ part i low ∙ (h.none i early ∙ sym (bit_at-pow_other k i (λ e. omega arith)))
+      | inr late ↦ (let same : i ≡ k = omega arith in part i low ∙ (ap (bit_at m) same ∙ (h.one ∙ (sym (bit_at-pow_same k) ∙ ap (bit_at (2 ^ k)) (sym same)))))
+    ])
+
+lowest_split : (m k : ℕ) → IsLowestBit m k → m ≡ m / 2 ^ (k + 1) * 2 ^ (k + 1) + 2 ^ k
+lowest_split m k h = sym (div-add-mod' m (2 ^ (k + 1))) ∙ ap (λ (r : ℕ). m / 2 ^ (k + 1) * 2 ^ (k + 1) + r) (lowest_mod m k h)
+
+pub less_split : (m k : ℕ) → IsLowestBit m k → m - 1 ≡ m / 2 ^ (k + 1) * 2 ^ (k + 1) + (2 ^ k - 1)
+less_split m k h = less_one (m / 2 ^ (k + 1) * 2 ^ (k + 1)) (2 ^ k) m (lowest_split m k h) (pow_pos k)
+
+pub min_same : (x y : ℕ) → x ≡ y → min x y ≡ x
+min_same x y e = omega arith
+
+pub min_none : (x y : ℕ) → x ≡ 0 → min x y ≡ 0
+min_none x y e = omega arith
+
+pub min_none_right : (x y : ℕ) → y ≡ 0 → min x y ≡ 0
+min_none_right x y e = omega arith
+
+-- taking one away changes no bit above it
+pub high_bits_same : (m k i : ℕ) → IsLowestBit m k → k < i → bit_at m i ≡ bit_at (m - 1) i
+high_bits_same m k i h high =
+    let next = pow_next k in
+    let some = pow_pos k in
+    let a : ℕ = m / 2 ^ (k + 1) in
+    ap (λ (x : ℕ). bit_at x i) (lowest_split m k h)
+    ∙ (bit_at_cat_high a (k + 1) (2 ^ k) i (omega arith) (omega arith)
+    ∙ (sym (bit_at_cat_high a (k + 1) (2 ^ k - 1) i (omega arith) (omega arith)) ∙ ap (λ (x : ℕ). bit_at x i) (sym (less_split m k h))))
+
+-- the or of several words is no less than each of them
+fold_least : (a : ℕ) (xs : List ℕ) → a ≤ fold_l bit_or a xs
+fold_least a [] = omega arith
+fold_least a (x ∷ xs) =
+    let both = le_or_l a x in
+    let rest = fold_least (bit_or a x) xs in
+    omega (arith, both, rest)
+
+pub fold_each : (a : ℕ) (xs : List ℕ) (k : ℕ) → k < length xs → get_or xs k 0 ≤ fold_l bit_or a xs
+fold_each a [] k h = absurd (omega arith)
+fold_each a (x ∷ xs) zero h =
+    let both = le_or_r a x in
+    let rest = fold_least (bit_or a x) xs in
+    omega (arith, both, rest)
+fold_each a (x ∷ xs) (suc k) h = fold_each (bit_or a x) xs k (omega arith)
+
+-- Options and results
+
+pub by_test : (b : Bool) (s place : ℤ) → ◌≡◌ {A = Option ℤ} (if b then Some s else None) (Some place) → (b ≡ true) × (s ≡ place)
+by_test true s place e = (refl, cc)
+by_test false s place e = cc
+
+pub some_none : {A : Type 0} (x : A) → Some x ≡ None → ⊥
+some_none x h = cc
+
+-- an option that is seen as nothing is nothing
+pub none_by_view : {A B : Type 0} (view : A → B) (o : Option A) → None ≡ option_map view o → o ≡ None
+none_by_view view None e = refl
+none_by_view view (Some x) e = absurd (cc)
+
+pub not_some : {A : Type 0} (o : Option A) → is_some o ≡ false → o ≡ None
+not_some None e = refl
+not_some (Some x) e = absurd (cc)
+
+pub is_some-option_map : {A B : Type 0} (f : A → B) (o : Option A) → is_some (option_map f o) ≡ is_some o
+is_some-option_map f None = refl
+is_some-option_map f (Some x) = refl
+
+-- pairs that are seen by their first or by both
+pub map-first : {B X Y : Type 0} (f : B → X) (g : B → Y) (o : Option B)
+    → option_map f o ≡ option_map (λ (p : X × Y). p.0) (option_map (λ b. (f b, g b)) o)
+map-first f g None = refl
+map-first f g (Some b) = refl
+
+pub pair_none : {X Y : Type 0} (o : Option (X × Y)) → None ≡ option_map (λ (p : X × Y). p.0) o → o ≡ None
+pair_none None h = refl
+pair_none (Some p) h = absurd (cc)
+
+pub pair_some : {X Y : Type 0} (o : Option (X × Y)) (x : X) (y : Y) → Some x ≡ option_map (λ (p : X × Y). p.0) o
+    → Some y ≡ option_map (λ (p : X × Y). p.1) o → o ≡ Some (x, y)
+pair_some None x y h k = absurd (cc)
+pair_some (Some p) x y h k = ap₂ (λ a b. Some (a, b)) (sym (ap (λ o. unwrap_or o x) h)) (sym (ap (λ o. unwrap_or o y) k))
+
+pub unwrap_or_kept : (next : Option ℕ) (local last : ℕ) → IsSome next → IfSome next (λ l. l ≡ last) → unwrap_or next local ≡ last
+unwrap_or_kept None local last some kept = absurd (let no = some in cc)
+unwrap_or_kept (Some t) local last some kept = kept
+
+-- which of two answers a test gave
+pub none_chosen : (b : Bool) (local : ℕ) → ◌≡◌ {A = Option ℕ} (cond b None (Some local)) None → b ≡ true
+none_chosen true local h = refl
+none_chosen false local h = absurd (cc)
+
+-- which of two answers a test gave
+pub some_chosen : (b : Bool) (local : ℕ) → ◌≡◌ {A = Option ℕ} (cond b None (Some local)) (Some local) → b ≡ false
+some_chosen true local h = absurd (cc)
+some_chosen false local h = refl
+
+pub option_or-none : {A : Type 0} (o : Option A) → option_or o None ≡ o
+option_or-none None = refl
+option_or-none (Some x) = refl
+
+pub some_found : {A : Type 0} (o : Option A) → is_none o ≡ false → (x : A) × (o ≡ Some x)
+some_found None h = cc
+some_found (Some x) h = (x, refl)
+
+pub if_ok : {T E : Type 0} (r : Result T E) (P : Type 0) → P → IfOk r (λ x. P)
+if_ok (Ok x) P h = h
+if_ok (Err e) P h = tt
+
+-- nothing is asked of a value that isn't there
+pub no_ok : {T E : Type 0} (r : Result T E) (P : T → Type 0) → IsErr r → IfOk r P
+no_ok (Ok x) P h = absurd (false≢true h)
+no_ok (Err e) P h = tt
+
+-- Lists
+
+pub some_front : (xs ys : List ℕ) → 0 < length xs → 0 < length (xs ++ ys)
+some_front xs ys h = omega (arith, length-append xs ys)
+
+pub both_all : (q : ℕ → Bool) (xs ys : List ℕ) → list_all q xs ≡ true → list_all q ys ≡ true → list_all q (xs ++ ys) ≡ true
+both_all q xs ys h k = list_all-append q xs ys ∙ and_from (list_all q xs) (list_all q ys) h k
+
+-- a list by its first item and the rest
+pub list-first : (xs : List ℤ) (x : ℤ) → slice_get xs 0 ≡ Some x → xs ≡ x ∷ drop 1 xs
+list-first [] x h = absurd (cc)
+list-first (y ∷ ys) x h = let same : y ≡ x = cc in ap (λ (z : ℤ). z ∷ ys) same
+
+pub list-no_first : (xs : List ℤ) → slice_get xs 0 ≡ None → xs ≡ []
+list-no_first [] h = refl
+list-no_first (y ∷ ys) h = absurd (cc)
+
+-- what is left of a list begins with the item at its index
+pub items_next : {A B : Type 0} (f : A → B) (xs : List A) (i : ℕ) (x : A) (y : B) → i < length xs → x ≡ get_or xs i x → y ≡ f x → map f (drop i xs) ≡ y ∷ map f (drop (i + 1) xs)
+items_next f xs i x y h is e =
+    rw (add-one, drop-cons xs i x h) (ap (λ z. f z ∷ map f (drop (suc i) xs)) (sym is) ∙ ap (λ t. t ∷ map f (drop (suc i) xs)) (sym e))
+
+-- nothing is left at its end
+pub items_end : {A B : Type 0} (f : A → B) (xs : List A) (i : ℕ) → length xs ≤ i → map f (drop i xs) ≡ []
+items_end f xs i h = ap (map f) (drop_all i xs h)
+
+-- what was taken so far, with one item more
+pub items_taken : {A B : Type 0} (f : A → B) (xs : List A) (i : ℕ) (x : A) (y : B) → i < length xs → x ≡ get_or xs i x → y ≡ f x
+    → map f (take (i + 1) xs) ≡ map f (take i xs) ++ y ∷ []
+items_taken f xs i x y h is e =
+    rw (take_more xs i x h) (map-append f (take i xs) (get_or xs i x ∷ []) ∙ ap (λ y. map f (take i xs) ++ f y ∷ []) (sym is) ∙ ap (λ t. map f (take i xs) ++ t ∷ []) (sym e))
+
+-- the same where each item gives a text
+flat_map-drop : {A : Type 0} (f : A → List ℕ) (i : ℕ) (xs : List A) (d : A) → i < length xs → flat_map f (drop i xs) ≡ f (get_or xs i d) ++ flat_map f (drop (i + 1) xs)
+flat_map-drop f i xs d h = rw (add-one, drop-cons xs i d h) refl
+
+-- or with another spelling of that text
+pub item_first : {A : Type 0} (f : A → List ℕ) (i : ℕ) (xs : List A) (d : A) {piece : List ℕ} → i < length xs → piece ≡ f (get_or xs i d) → flat_map f (drop i xs) ≡ piece ++ flat_map f (drop (i + 1) xs)
+item_first f i xs d h is = flat_map-drop f i xs d h ∙ ap (λ first. first ++ flat_map f (drop (i + 1) xs)) (sym is)
+
+pub drop_none : (members : List ℤ) → None ≡ slice_get members 0 → members ≡ drop 1 members
+drop_none [] h = refl
+drop_none (x ∷ xs) h = absurd (cc)
+
+pub get_or-zeros : (n i : ℕ) → get_or {A = ℕ} (replicate n 0) i 0 ≡ 0
+get_or-zeros zero i = refl
+get_or-zeros (suc n) zero = refl
+get_or-zeros (suc n) (suc i) = get_or-zeros n i
+
+-- what is left of a rising list rises
+pub rises-drop : (xs : List ℤ) (k : ℕ) → IsStrictlySortedBy int_cmp xs → IsStrictlySortedBy int_cmp (drop k xs)
+rises-drop xs zero h = h
+rises-drop [] (suc k) h = h
+rises-drop (x ∷ xs) (suc k) h = rises-drop xs k (sorted_tail int_cmp x xs h)
+
+rises-next : (xs : List ℤ) (k : ℕ) → IsStrictlySortedBy int_cmp (drop k xs) → IsStrictlySortedBy int_cmp (drop (suc k) xs)
+rises-next xs zero h = rises-drop xs 1 h
+rises-next [] (suc k) h = h
+rises-next (x ∷ xs) (suc k) h = rises-next xs k h
+
+pub rises_after : (xs : List ℤ) (k : ℕ) → IsStrictlySortedBy int_cmp (drop k xs) → IsStrictlySortedBy int_cmp (drop (k + 1) xs)
+rises_after xs k h = rw (add-one k) (rises-next xs k h)
+
+-- a list in the place of another as long
+pub taken_whole : {X : Type 0} (xs ys : List X) (n : ℕ) → length xs ≡ length ys → n ≡ length ys → take n (xs ++ drop (length xs) ys) ≡ xs
+taken_whole xs ys n long e =
+    let past : length ys ≤ length xs = omega arith in
+    rw (drop_of_length-le ys past, append-nil xs, e, sym long) (take-length xs)
+
+pub slice_get-taken : (n : ℕ) (xs : List ℤ) (k : ℕ) (e : ℤ) → slice_get (take n xs) k ≡ Some e → slice_get xs k ≡ Some e
+slice_get-taken n xs k e at =
+    let within : k < length (take n xs) = slice_get_within (take n xs) k e at in
+    let size : length (take n xs) ≤ length xs = simp length-take (omega arith) in
+    let most : length (take n xs) ≤ n = simp length-take (omega arith) in
+    slice_get_read xs (length xs) k e refl (omega arith)
+    (sym (get_or_from_slice_get (take n xs) k e e at) ∙ get_or-take n xs k e (omega arith))
+
+-- the end of a list that passes, and what follows the last that does, once one more comes
+suffix_more : {X : Type 0} (p : X → Bool) (xs : List X) (x : X) → p x ≡ true → suffix_len p (xs ++ x ∷ []) ≡ 1 + suffix_len p xs
+suffix_more p xs x e = ap (prefix_len p) (reverse-append xs (x ∷ [])) ∙ rw e refl
+
+suffix_none : {X : Type 0} (p : X → Bool) (xs : List X) (x : X) → p x ≡ false → suffix_len p (xs ++ x ∷ []) ≡ 0
+suffix_none p xs x e = ap (prefix_len p) (reverse-append xs (x ∷ [])) ∙ rw e refl
+
+pub after_last_here : {X : Type 0} (p : X → Bool) (xs : List X) (x : X) → p x ≡ true → after_last p (xs ++ x ∷ []) ≡ []
+after_last_here p xs x e =
+    let none : suffix_len (λ y. not (p y)) (xs ++ x ∷ []) ≡ 0 = suffix_none (λ y. not (p y)) xs x (ap not e) in
+    drop_all _ (xs ++ x ∷ []) (omega (arith, none))
+
+pub after_last_more : {X : Type 0} (p : X → Bool) (xs : List X) (x : X) → p x ≡ false → after_last p (xs ++ x ∷ []) ≡ after_last p xs ++ x ∷ []
+after_last_more p xs x e =
+    let more : suffix_len (λ y. not (p y)) (xs ++ x ∷ []) ≡ 1 + suffix_len (λ y. not (p y)) xs = suffix_more (λ y. not (p y)) xs x (ap not e) in
+    let same : length (xs ++ x ∷ []) - suffix_len (λ y. not (p y)) (xs ++ x ∷ []) ≡ length xs - suffix_len (λ y. not (p y)) xs = omega (arith, more, length-append xs (x ∷ [])) in
+    ap (λ n. drop n (xs ++ x ∷ [])) same ∙ drop-append-le (length xs - suffix_len (λ y. not (p y)) xs) xs (x ∷ []) (omega arith)
+
+pub list_any-map : {A B : Type 0} (f : B → Bool) (g : A → B) (xs : List A) → list_any f (map g xs) ≡ list_any (λ x. f (g x)) xs
+list_any-map f g [] = refl
+list_any-map f g (x ∷ xs) = ap (λ b. f (g x) || b) (list_any-map f g xs)
+
+pub list_any-same : {A : Type 0} (f g : A → Bool) (P : A → Type 0) (xs : List A) → AllByRecursion P xs → ((x : A) → P x → f x ≡ g x) → list_any f xs ≡ list_any g xs
+list_any-same f g P [] all same = refl
+list_any-same f g P (x ∷ xs) all same = rw (same x all.0, list_any-same f g P xs all.1 same) refl
+
+-- no byte of the text passes p
+abbrev pub IsClear : (ℕ → Bool) → List ℕ → Type 0
+IsClear p text = list_any p text ≡ false
+
+-- no byte passes both
+abbrev pub Apart : (ℕ → Bool) → (ℕ → Bool) → Type 0
+Apart q p = (b : ℕ) → q b ≡ true → p b ≡ false
+
+-- bytes of a class that has no separator
+pub clear_of : (q p : ℕ → Bool) (text : List ℕ) → Apart q p → list_all q text ≡ true → IsClear p text
+clear_of q p [] apart all = refl
+clear_of q p (b ∷ bs) apart all =
+    let parts = and_parts (q b) (list_all q bs) all in
+    rw (apart b parts.0) (clear_of q p bs apart parts.1)
+
+pub clear_append : (p : ℕ → Bool) (xs ys : List ℕ) → IsClear p xs → IsClear p ys → IsClear p (xs ++ ys)
+clear_append p [] ys first second = second
+clear_append p (x ∷ xs) ys first second =
+    let parts = or_parts (p x) (list_any p xs) first in or_from (p x) (list_any p (xs ++ ys)) parts.0 (clear_append p xs ys parts.1 second)
+
+pub wider : (q p : ℕ → Bool) (text : List ℕ) → ((b : ℕ) → q b ≡ true → p b ≡ true) → list_all q text ≡ true → list_all p text ≡ true
+wider q p [] holds all = refl
+wider q p (b ∷ bs) holds all =
+    let parts = and_parts (q b) (list_all q bs) all in
+    and_from (p b) (list_all p bs) (holds b parts.0) (wider q p bs holds parts.1)
+
+pub list_all-take : (p : ℕ → Bool) (xs : List ℕ) (n : ℕ) → list_all p xs ≡ true → list_all p (take n xs) ≡ true
+list_all-take p xs zero h = refl
+list_all-take p [] (suc n) h = refl
+list_all-take p (x ∷ xs) (suc n) h =
+    let parts = and_parts (p x) (list_all p xs) h in
+    rw (parts.0, list_all-take p xs n parts.1) refl
+
+-- what holds of each of some holds of them together, and the other way round
+pub all_append : (P : ℕ → Type 0) (xs ys : List ℕ) → AllByRecursion P xs → AllByRecursion P ys → AllByRecursion P (xs ++ ys)
+all_append P [] ys h k = k
+all_append P (x ∷ xs) ys h k = (h.0, all_append P xs ys h.1 k)
+
+pub all_reverse : (P : ℕ → Type 0) (xs : List ℕ) → AllByRecursion P xs → AllByRecursion P (reverse xs)
+all_reverse P [] h = tt
+all_reverse P (x ∷ xs) h = subst (AllByRecursion P) (sym (reverse-append (x ∷ []) xs)) (all_append P (reverse xs) (x ∷ []) (all_reverse P xs h.1) (h.0, tt))
+
+-- the front of a list by its reverse
+pub take_front : (text : List ℕ) (n : ℕ) → n ≤ length text → take (length text - n) text ≡ reverse (drop n (reverse text))
+take_front text n h =
+    let back = reverse text in
+    let parts : text ≡ reverse (drop n back) ++ reverse (take n back) =
+    sym (reverse-reverse text) ∙ (ap reverse (sym (take-append-drop n back)) ∙ reverse-append (take n back) (drop n back)) in
+    let long : length text - n ≡ length (reverse (drop n back)) = simp (length-reverse, length-drop) (omega arith) in
+    ap (take (length text - n)) parts ∙ (ap (λ k. take k (reverse (drop n back) ++ reverse (take n back))) long ∙ take-append_seam (reverse (drop n back)) (reverse (take n back)))
+
+-- Pieces of a text, and the bytes between them
+
+-- there is always a first piece
 some_onto : (x : ℕ) (pieces : List (List ℕ)) → (first : List ℕ) × (more : List (List ℕ)) × (onto_first x pieces ≡ first ∷ more)
 some_onto x [] = (x ∷ [], [], refl)
 some_onto x (t ∷ ts) = (x ∷ t, ts, refl)
@@ -25,15 +550,183 @@ some_piece p (x ∷ xs) =
       | false ↦ some_onto x (slice_split p xs)
     ]
 
-pub some_front : (xs ys : List ℕ) → 0 < length xs → 0 < length (xs ++ ys)
-some_front xs ys h = omega (arith, length-append xs ys)
+-- a text without separators is one piece
+pub split_alone : (p : ℕ → Bool) (xs : List ℕ) → IsClear p xs → slice_split p xs ≡ xs ∷ []
+split_alone p [] clear = refl
+split_alone p (x ∷ xs) clear =
+    let parts = or_parts (p x) (list_any p xs) clear in
+    rw (parts.0, split_alone p xs parts.1) refl
 
+-- a text without separators in front of one
+pub split_at : (p : ℕ → Bool) (front : List ℕ) (c : ℕ) (rest : List ℕ) → IsClear p front → p c ≡ true → slice_split p (front ++ (c ∷ rest)) ≡ front ∷ slice_split p rest
+split_at p [] c rest clear sign = rw sign refl
+split_at p (x ∷ xs) c rest clear sign =
+    let parts = or_parts (p x) (list_any p xs) clear in
+    rw (parts.0, split_at p xs c rest parts.1 sign) refl
+
+-- the separators themselves
+pub filter_at : (p : ℕ → Bool) (front : List ℕ) (c : ℕ) (rest : List ℕ) → IsClear p front → p c ≡ true → filter p (front ++ (c ∷ rest)) ≡ c ∷ filter p rest
+filter_at p [] c rest clear is = rw is refl
+filter_at p (x ∷ xs) c rest clear is =
+    let parts = or_parts (p x) (list_any p xs) clear in
+    rw (parts.0) (filter_at p xs c rest parts.1 is)
+
+pub filter_alone : (p : ℕ → Bool) (xs : List ℕ) → IsClear p xs → filter p xs ≡ []
+filter_alone p [] clear = refl
+filter_alone p (x ∷ xs) clear =
+    let parts = or_parts (p x) (list_any p xs) clear in
+    rw (parts.0) (filter_alone p xs parts.1)
+
+-- texts joined by a separator are its pieces
+pub split_join_with_byte : (c : ℕ) (t : List ℕ) (ts : List (List ℕ)) → nat_eq c c ≡ true → AllByRecursion (IsClear (λ b. b == c)) (t ∷ ts) → slice_split (λ b. b == c) (join_with_byte c (t ∷ ts)) ≡ t ∷ ts
+split_join_with_byte c t [] same clear = split_alone (λ b. b == c) t clear.0
+split_join_with_byte c t (u ∷ ts) same clear =
+    split_at (λ b. b == c) t c (join_with_byte c (u ∷ ts)) clear.0 same ∙ ap (λ more. t ∷ more) (split_join_with_byte c u ts same clear.1)
+
+-- pieces with the separators between them
+abbrev pub woven : List ℕ → List (List ℕ) → List ℕ
+woven cs [] = []
+woven [] (t ∷ ts) = t
+woven (c ∷ cs) (t ∷ ts) = t ++ (c ∷ woven cs ts)
+
+woven_onto : (x : ℕ) (cs : List ℕ) (t : List ℕ) (ts : List (List ℕ)) → woven cs ((x ∷ t) ∷ ts) ≡ x ∷ woven cs (t ∷ ts)
+woven_onto x [] t ts = refl
+woven_onto x (c ∷ cs) t ts = refl
+
+woven_first : (x : ℕ) (cs : List ℕ) (ts : List (List ℕ)) → 0 < length ts → woven cs (onto_first x ts) ≡ x ∷ woven cs ts
+woven_first x cs [] some = absurd (omega arith)
+woven_first x cs (t ∷ ts) some = woven_onto x cs t ts
+
+pub some_pieces : (p : ℕ → Bool) (xs : List ℕ) → 0 < length (slice_split p xs)
+some_pieces p xs = omega (arith, length-slice_split p xs)
+
+woven_step : (p : ℕ → Bool) (x : ℕ) (xs : List ℕ) (test : Bool) → woven (filter p xs) (slice_split p xs) ≡ xs → woven (cond test (x ∷ filter p xs) (filter p xs)) (cond test ([] ∷ slice_split p xs) (onto_first x (slice_split p xs))) ≡ x ∷ xs
+woven_step p x xs true rest = ap (λ more. x ∷ more) rest
+woven_step p x xs false rest = woven_first x (filter p xs) (slice_split p xs) (some_pieces p xs) ∙ ap (λ more. x ∷ more) rest
+
+-- a text is its pieces with its separators between them
+pub woven_whole : (p : ℕ → Bool) (xs : List ℕ) → woven (filter p xs) (slice_split p xs) ≡ xs
+woven_whole p [] = refl
+woven_whole p (x ∷ xs) = woven_step p x xs (p x) (woven_whole p xs)
+
+-- each separator passes
+filter_step : (p : ℕ → Bool) (x : ℕ) (xs : List ℕ) (test : Bool) → p x ≡ test → AllByRecursion (λ b. p b ≡ true) (filter p xs) → AllByRecursion (λ b. p b ≡ true) (cond test (x ∷ filter p xs) (filter p xs))
+filter_step p x xs true is rest = (is, rest)
+filter_step p x xs false is rest = rest
+
+pub filter_kept : (p : ℕ → Bool) (xs : List ℕ) → AllByRecursion (λ b. p b ≡ true) (filter p xs)
+filter_kept p [] = tt
+filter_kept p (x ∷ xs) = filter_step p x xs (p x) refl (filter_kept p xs)
+
+not_found : (test : Bool) (m : ℕ) → cond test (Some m) None ≡ None → test ≡ false
+not_found true m at = cc
+not_found false m at = refl
+
+-- cut at the first separator
+pub split_some : (p : ℕ → Bool) (xs : List ℕ) (n : ℕ) → position p xs ≡ Some n → slice_split p xs ≡ take n xs ∷ slice_split p (drop (n + 1) xs)
+split_some p xs n at =
+    let found = cond_some (nat_lt (position_or_len p xs) (length xs)) (position_or_len p xs) n at in
+    slice_split_first p xs 0 (ltb-true _ _ found.0) ∙ ap (λ k. take k xs ∷ slice_split p (drop (k + 1) xs)) found.1
+
+pub split_none : (p : ℕ → Bool) (xs : List ℕ) → position p xs ≡ None → slice_split p xs ≡ xs ∷ []
+split_none p xs at =
+    let none = ltb-false _ _ (not_found (nat_lt (position_or_len p xs) (length xs)) (position_or_len p xs) at) in
+    slice_split_none p xs (λ k d within. not-true _ (prefix_len_passes (λ x. not (p x)) xs k d (omega (arith, none))))
+
+-- the separators, by the first of them
+filter_some_step : (p : ℕ → Bool) (x : ℕ) (xs : List ℕ) (test : Bool) → (position_or_len p xs < length xs → filter p xs ≡ get_or xs (position_or_len p xs) 0 ∷ filter p (drop (position_or_len p xs + 1) xs)) → cond (not test) (1 + position_or_len p xs) 0 < suc (length xs) → cond test (x ∷ filter p xs) (filter p xs) ≡ get_or (x ∷ xs) (cond (not test) (1 + position_or_len p xs) 0) 0 ∷ filter p (drop (cond (not test) (1 + position_or_len p xs) 0 + 1) (x ∷ xs))
+filter_some_step p x xs true rest within = refl
+filter_some_step p x xs false rest within =
+    let n = position_or_len p xs in
+    let one : 1 + n ≡ suc n = omega arith in
+    let two : suc n + 1 ≡ suc (n + 1) = omega arith in
+    rw (one, two) (rest (omega arith))
+
+filter_some : (p : ℕ → Bool) (xs : List ℕ) → position_or_len p xs < length xs → filter p xs ≡ get_or xs (position_or_len p xs) 0 ∷ filter p (drop (position_or_len p xs + 1) xs)
+filter_some p [] within = absurd (omega arith)
+filter_some p (x ∷ xs) within = filter_some_step p x xs (p x) (filter_some p xs) within
+
+filter_none_step : (p : ℕ → Bool) (x : ℕ) (xs : List ℕ) (test : Bool) → (length xs ≤ position_or_len p xs → filter p xs ≡ []) → suc (length xs) ≤ cond (not test) (1 + position_or_len p xs) 0 → cond test (x ∷ filter p xs) (filter p xs) ≡ []
+filter_none_step p x xs true rest past = absurd (omega arith)
+filter_none_step p x xs false rest past = rest (omega arith)
+
+filter_none : (p : ℕ → Bool) (xs : List ℕ) → length xs ≤ position_or_len p xs → filter p xs ≡ []
+filter_none p [] past = refl
+filter_none p (x ∷ xs) past = filter_none_step p x xs (p x) (filter_none p xs) past
+
+-- cut at the first separator, with the separator itself
+pub cut_some : (p : ℕ → Bool) (xs : List ℕ) (n : ℕ) → position p xs ≡ Some n → (slice_split p xs ≡ take n xs ∷ slice_split p (drop (n + 1) xs)) × (filter p xs ≡ get_or xs n 0 ∷ filter p (drop (n + 1) xs))
+cut_some p xs n at =
+    let found = cond_some (nat_lt (position_or_len p xs) (length xs)) (position_or_len p xs) n at in (
+      split_some p xs n at,
+      filter_some p xs (ltb-true _ _ found.0) ∙ ap (λ k. get_or xs k 0 ∷ filter p (drop (k + 1) xs)) found.1,
+    )
+
+pub cut_none : (p : ℕ → Bool) (xs : List ℕ) → position p xs ≡ None → (slice_split p xs ≡ xs ∷ []) × (filter p xs ≡ [])
+cut_none p xs at =
+    (split_none p xs at, filter_none p xs (ltb-false _ _ (not_found (nat_lt (position_or_len p xs) (length xs)) (position_or_len p xs) at)))
+
+-- the first index that passes, and the length where there is none
+pub index_some : (p : ℕ → Bool) (xs : List ℕ) (n : ℕ) → position p xs ≡ Some n → (n ≡ position_or_len p xs) × (n ≤ length xs)
+index_some p xs n at =
+    let found = cond_some (nat_lt (position_or_len p xs) (length xs)) (position_or_len p xs) n at in
+    let within = ltb-true _ _ found.0 in (sym found.1, omega (arith, found.1, within))
+
+pub index_none : (p : ℕ → Bool) (xs : List ℕ) → position p xs ≡ None → length xs ≡ position_or_len p xs
+index_none p xs at =
+    let none = ltb-false _ _ (not_found (nat_lt (position_or_len p xs) (length xs)) (position_or_len p xs) at) in
+    omega (arith, none, prefix_len-le-length (λ x. not (p x)) xs)
+
+-- one passes exactly where the index of the first lies in the list
+below_step : (p : ℕ → Bool) (x : ℕ) (xs : List ℕ) (test : Bool) → (position_or_len p xs < length xs → list_any p xs ≡ true)
+    → cond (not test) (1 + position_or_len p xs) 0 < suc (length xs) → (test || list_any p xs) ≡ true
+below_step p x xs true rest within = refl
+below_step p x xs false rest within = rest (omega arith)
+
+pub any_below : (p : ℕ → Bool) (xs : List ℕ) → position_or_len p xs < length xs → list_any p xs ≡ true
+any_below p [] within = absurd (omega arith)
+any_below p (x ∷ xs) within = below_step p x xs (p x) (any_below p xs) within
+
+above_step : (p : ℕ → Bool) (x : ℕ) (xs : List ℕ) (test : Bool) → (length xs ≤ position_or_len p xs → list_any p xs ≡ false)
+    → suc (length xs) ≤ cond (not test) (1 + position_or_len p xs) 0 → (test || list_any p xs) ≡ false
+above_step p x xs true rest past = absurd (omega arith)
+above_step p x xs false rest past = rest (omega arith)
+
+pub none_above : (p : ℕ → Bool) (xs : List ℕ) → length xs ≤ position_or_len p xs → list_any p xs ≡ false
+none_above p [] past = refl
+none_above p (x ∷ xs) past = above_step p x xs (p x) (none_above p xs) past
+
+-- the lines of a text, by its first line feed
+lines_of_more : (part : List ℕ) (parts : List (List ℕ)) → 0 < length parts → lines_of_parts (part ∷ parts) ≡ strip_carriage_return part ∷ lines_of_parts parts
+lines_of_more part [] h = absurd (omega arith)
+lines_of_more part (next ∷ parts) h = refl
+
+pub lines_first : (text line rest : List ℕ) → position_or_len (λ b. b == 10) text < length text → line ≡ before_first (λ b. b == 10) text → rest ≡ after_first (λ b. b == 10) text → lines text ≡ strip_carriage_return line ∷ lines rest
+lines_first text line rest h e f =
+    ap lines_of_parts (slice_split_first (λ b. b == 10) text 0 h)
+    ∙ lines_of_more _ (slice_split (λ b. b == 10) (after_first (λ b. b == 10) text)) (omega (arith, length-slice_split (λ b. b == 10) (after_first (λ b. b == 10) text)))
+    ∙ rw (e, f) refl
+
+some_line : (part : List ℕ) → 0 < length part → lines_of_parts (part ∷ []) ≡ part ∷ []
+some_line [] h = absurd (omega arith)
+some_line (b ∷ part) h = grind (arith, nat_tests)
+
+-- a text without a line feed is one line
+pub lines_last : (text : List ℕ) → 0 < length text → ((i : ℕ) → i < length text → get_or text i 0 ≢ 10) → lines text ≡ text ∷ []
+lines_last text some none =
+    let parts = slice_split_none (λ b. b == 10) text (All-from_get_or (λ b. (b == 10) ≡ false) text 0 (λ i h. let other : get_or text i 0 ≢ 10 = none i h in grind (arith, nat_tests))) in
+    ap lines_of_parts parts ∙ some_line text some
+
+-- Digits and letters
+
+-- digits pass the test of each digit, and the other way round
 pub digits_all : (ds : List ℕ) → AllDigits 10 ds → list_all is_ascii_digit ds ≡ true
 digits_all [] h = refl
 digits_all (c ∷ cs) h =
     let range = digit_from_value c h.0 in
     and_from (is_ascii_digit c) (list_all is_ascii_digit cs) (and_from (nat_le 48 c) (nat_le c 57) (le-leb 48 c range.0) (le-leb c 57 range.1)) (digits_all cs h.1)
 
+-- zeros in front change nothing
 pub zeros_all : (k : ℕ) (ds : List ℕ) → list_all is_ascii_digit (replicate k 48 ++ ds) ≡ list_all is_ascii_digit ds
 zeros_all zero ds = refl
 zeros_all (suc k) ds = zeros_all k ds
@@ -42,47 +735,112 @@ pub zeros_value : (k : ℕ) (ds : List ℕ) → digits_value 10 (replicate k 48 
 zeros_value zero ds = refl
 zeros_value (suc k) ds = zeros_value k ds
 
-pub split_alone : (p : ℕ → Bool) (xs : List ℕ) → list_any p xs ≡ false → slice_split p xs ≡ xs ∷ []
-split_alone p [] clear = refl
-split_alone p (x ∷ xs) clear =
-    let parts = or_parts (p x) (list_any p xs) clear in
-    rw (parts.0, split_alone p xs parts.1) refl
+pub digit_below : (b : ℕ) → is_ascii_digit b ≡ true → digit_value b < 10
+digit_below b h = grind (arith, nat_tests)
 
--- a text without a separator in front of one
-pub split_at : (p : ℕ → Bool) (front : List ℕ) (c : ℕ) (rest : List ℕ) → list_any p front ≡ false → p c ≡ true → slice_split p (front ++ (c ∷ rest)) ≡ front ∷ slice_split p rest
-split_at p [] c rest clear sign = rw sign refl
-split_at p (x ∷ xs) c rest clear sign =
-    let parts = or_parts (p x) (list_any p xs) clear in
-    rw (parts.0, split_at p xs c rest parts.1 sign) refl
+all_digits : (ds : List ℕ) → list_all is_ascii_digit ds ≡ true → AllDigits 10 ds
+all_digits [] h = tt
+all_digits (d ∷ ds) h =
+    let parts = and_parts (is_ascii_digit d) (list_all is_ascii_digit ds) h in
+    (digit_below d parts.0, all_digits ds parts.1)
 
-pub both_all : (q : ℕ → Bool) (xs ys : List ℕ) → list_all q xs ≡ true → list_all q ys ≡ true → list_all q (xs ++ ys) ≡ true
-both_all q xs ys h k = list_all-append q xs ys ∙ and_from (list_all q xs) (list_all q ys) h k
+-- four digits write less than 10,000
+pub short_number : (ds : List ℕ) → list_all is_ascii_digit ds ≡ true → length ds ≤ 4 → digits_value 10 ds < 10_000
+short_number ds all short =
+    let fits = digits_value-lt 10 ds (all_digits ds all) in
+    let most : 10 ^ length ds ≤ 10 ^ 4 = pow-le-pow_right (omega arith) short in
+    omega (arith, fits, most)
 
-pub by_test : (b : Bool) (s place : ℤ) → ◌≡◌ {A = Option ℤ} (if b then Some s else None) (Some place) → (b ≡ true) × (s ≡ place)
-by_test true s place e = (refl, cc)
-by_test false s place e = cc
+-- each byte of digits is a digit
+pub digit_value_at : (digits : List ℕ) (i : ℕ) → i < length digits → list_all is_ascii_digit digits ≡ true → (48 ≤ get_or digits i 0) × (get_or digits i 0 ≤ 57) × (digit_value (get_or digits i 0) + 48 ≡ get_or digits i 0)
+digit_value_at digits i within all =
+    let is = and_at (list_all is_ascii_digit) is_ascii_digit refl (λ _ _. refl) digits i 0 within all in
+    let range = and_parts (leb 48 (get_or digits i 0)) (leb (get_or digits i 0) 57) is in
+    let low = leb-true 48 (get_or digits i 0) range.0 in
+    let high = leb-true (get_or digits i 0) 57 range.1 in
+    (low, high, digit_value_digit (get_or digits i 0) (low, high))
 
-pub other_test : (a b : ℤ) → (a ≡ b → ⊥) → int_eq a b ≡ false
-other_test a b e = grind (arith, ints)
+-- two digits, as they follow the 1 of a hundred more
+pub hundred_more : (n : ℕ) → n < 100 → decimal (100 + n) ≡ 49 ∷ (48 + n / 10) ∷ (48 + n % 10) ∷ []
+hundred_more n h =
+    let front : (100 + n) / 10 / 10 ≡ 1 = omega arith in
+    let tens : (100 + n) / 10 % 10 ≡ n / 10 = omega arith in
+    let ones : (100 + n) % 10 ≡ n % 10 = omega arith in
+    rw (decimal_step (100 + n) (omega arith) (omega arith), decimal_step ((100 + n) / 10) (omega arith) (omega arith), front, tens, ones, decimal_digit 1 (omega arith)) refl
 
-pub chained : (a b c : ℤ) → a <ℤ b → b <ℤ c → a <ℤ c
-chained a b c h k = omega (arith, ints)
+pub digit_no_letter : (b : ℕ) → is_ascii_digit b ≡ true → is_ascii_alphabetic b ≡ false
+digit_no_letter b h = grind (arith, nat_tests)
 
--- one number is below the other exactly where `cmp` answers so
-pub less : (a b : ℤ) → a <ℤ b → int_cmp a b ≡ Less
-less a b h = sym (int_cmp_is a b Less h)
+pub letter_no_digit : (b : ℕ) → is_ascii_alphabetic b ≡ true → is_ascii_digit b ≡ false
+letter_no_digit b h = grind (arith, nat_tests)
 
-pub lt_test : (a b : ℤ) → a <ℤ b → int_lt a b ≡ true
-lt_test a b h = grind (arith, ints)
+-- Where a text may be cut
 
-pub not_lt_test : (a b : ℤ) → b ≤ℤ a → int_lt a b ≡ false
-not_lt_test a b h = grind (arith, ints)
+pub boundary_at : (text : List ℕ) (m n : ℕ) → m ≡ n → IsCharBoundary text m → IsCharBoundary text n
+boundary_at text m n e h = let P : ℕ → Type 0 = λ k. IsCharBoundary text k in subst P e h
 
--- a list by its first and what is later, for a caller that takes one after another
-pub list-first : (xs : List ℤ) (x : ℤ) → slice_get xs 0 ≡ Some x → xs ≡ x ∷ drop 1 xs
-list-first [] x h = absurd (cc)
-list-first (y ∷ ys) x h = let same : y ≡ x = cc in ap (λ (z : ℤ). z ∷ ys) same
+-- the byte before the end that passes, and the bytes of that end
+pub before_suffix : (p : ℕ → Bool) (text : List ℕ) → suffix_len p text < length text → p (get_or text (length text - suffix_len p text - 1) 0) ≡ false
+before_suffix p text within =
+    let n = suffix_len p text in
+    let there : n < length (reverse text) = omega (arith, length-reverse text) in
+    let here : length text - 1 - n ≡ length text - n - 1 = omega arith in
+    rw (← here, ← get_or-reverse text n 0 within) (prefix_len_stops p (reverse text) 0 there)
 
-pub list-no_first : (xs : List ℤ) → slice_get xs 0 ≡ None → xs ≡ []
-list-no_first [] h = refl
-list-no_first (y ∷ ys) h = absurd (cc)
+pub in_suffix : (p : ℕ → Bool) (text : List ℕ) (k d : ℕ) → length text - suffix_len p text ≤ k → k < length text → p (get_or text k d) ≡ true
+in_suffix p text k d from within =
+    let back = length text - 1 - k in
+    let there : back < suffix_len p text = omega arith in
+    let here : length text - 1 - back ≡ k = omega arith in
+    let seen = prefix_len_passes p (reverse text) back d there in
+    let reversed = get_or-reverse text back d (omega arith) in
+    rw (reversed, here) at seen
+
+-- a text may be cut after ASCII at its start
+front_boundary_at : (p : ℕ → Bool) (bs : List ℕ) (n : ℕ) → ((b : ℕ) → p b ≡ true → b < 128) → IsUtf8 bs → prefix_len p bs ≡ n → IsCharBoundary bs n
+front_boundary_at p bs zero ascii utf8 e = IsCharBoundary-start bs utf8
+front_boundary_at p bs (suc n) ascii utf8 e =
+    let passes = prefix_len_passes p bs n 0 (omega (arith, e)) in
+    subst (IsCharBoundary bs) (omega arith) (IsCharBoundary-after_ascii bs n utf8 (omega (arith, e, prefix_len-le-length p bs)) (ascii (get_or bs n 0) passes))
+
+pub front_boundary : (p : ℕ → Bool) (bs : List ℕ) → ((b : ℕ) → p b ≡ true → b < 128) → IsUtf8 bs → IsCharBoundary bs (prefix_len p bs)
+front_boundary p bs ascii utf8 = front_boundary_at p bs (prefix_len p bs) ascii utf8 refl
+
+-- and before ASCII at its end
+end_boundary_at : (p : ℕ → Bool) (bs : List ℕ) (n : ℕ) → ((b : ℕ) → p b ≡ true → b < 128) → suffix_len p bs ≡ n → IsCharBoundary bs (length bs - n)
+end_boundary_at p bs zero ascii e = subst (IsCharBoundary bs) (omega arith) (IsCharBoundary-end bs)
+end_boundary_at p bs (suc n) ascii e =
+    let fits : suc n ≤ length bs = omega (arith, e, suffix_len-le-length p bs) in
+    let passes = prefix_len_passes p (reverse bs) n 0 (omega (arith, e)) in
+    let there : get_or (reverse bs) n 0 ≡ get_or bs (length bs - suc n) 0 = get_or-reverse bs n 0 (omega arith) ∙ ap (λ k. get_or bs k 0) (omega arith) in
+    IsCharBoundary-before_ascii bs (length bs - suc n) (omega arith) (ascii (get_or bs (length bs - suc n) 0) (rw there at passes))
+
+pub end_boundary : (p : ℕ → Bool) (bs : List ℕ) → ((b : ℕ) → p b ≡ true → b < 128) → IsCharBoundary bs (length bs - suffix_len p bs)
+end_boundary p bs ascii = end_boundary_at p bs (suffix_len p bs) ascii refl
+
+-- Texts that are read and written in parts
+
+-- another spelling of what was written
+pub appends_respelled : (a b : Option (List ℕ)) (xs ys : List ℕ) → xs ≡ ys → Appends a b xs → Appends a b ys
+appends_respelled a b xs ys e h = subst (Appends a b) e h
+
+-- two reads take both prefixes
+pub consumes-append : (a b c : Option (List ℕ)) (xs ys : List ℕ) → Consumes a b xs → Consumes b c ys → Consumes a c (xs ++ ys)
+consumes-append None b c xs ys h k = tt
+consumes-append (Some held) None c xs ys h k = absurd h
+consumes-append (Some held) (Some bs) None xs ys h k = absurd k
+consumes-append (Some held) (Some bs) (Some cs) xs ys h k = h ∙ ap (λ rest. xs ++ rest) k ∙ sym (append_assoc xs ys cs)
+
+pub length-taken : (xs ys : List ℕ) (n : ℕ) → n ≤ length ys → length (xs ++ take n ys) ≡ length xs + n
+length-taken xs ys n h = simp length-append (ap (λ m. length xs + m) (length-take-le n ys h))
+
+-- a piece fits after a text and the pieces before it, where all do
+pub next_fits : {A : Type 0} (f : A → List ℕ) (xs : List A) (i cap : ℕ) (d : A) (front text : List ℕ) → text ≡ front ++ flat_map f (take i xs) → i < length xs → length front + length (flat_map f xs) ≤ cap → length text + length (f (get_or xs i d)) ≤ cap
+next_fits f xs i cap d front text is h fits = omega (arith, length-flat_map-take f xs i d h, ap length is, length-append front (flat_map f (take i xs)))
+
+pub appended : (text piece left later whole : List ℕ) → left ≡ piece ++ later → text ++ left ≡ whole → (text ++ piece) ++ later ≡ whole
+appended text piece left later whole e h = append_assoc text piece later ∙ ap (λ rest. text ++ rest) (sym e) ∙ h
+
+pub append_known-nil : (b : Option (List ℕ)) → append_known b [] ≡ b
+append_known-nil None = refl
+append_known-nil (Some xs) = ap (λ l. Some l) (append-nil xs)

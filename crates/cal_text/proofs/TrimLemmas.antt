@@ -1,12 +1,12 @@
 -- What is left of a trimmed text against the rule's own words.
-use Rattle.std.proofs.Common.{◌≡◌, ℕ, ◌-◌, ◌≤◌, Bool, true, false, List, [], ◌∷◌, ◌++◌, length, take, drop, reverse, refl, sym, subst, ap, ◌∙◌, append-nil, length-drop, arith}
+use Rattle.std.proofs.Common.{◌≡◌, ℕ, Bool, true, false, List, [], ◌∷◌, ◌++◌, reverse, refl, sym, subst, ap, ◌∙◌, append-nil}
 use Rattle.std.specs.List.{AllByRecursion, suffix_len}
 use Rattle.std.proofs.Math.Numerals.{one-add}
-use Rattle.std.proofs.Math.Seq.{take-append_seam}
-use Rattle.std.proofs.lemmas.List.{length-reverse, reverse-append, reverse-reverse, take-append-drop}
+use Rattle.std.proofs.lemmas.List.{reverse-append, reverse-reverse}
 use Rattle.std.proofs.lemmas.List.Sums.{suffix_len-le-length}
 use Rattle.cal_text.specs.TrimRule.{StartsSolid, IsTrimmed, IsUnindented}
 use Rattle.cal_text.specs.headline.Trim.{trim_matches, trim_end_matches, trim_start_matches}
+use Rattle.cal_text.proofs.General.{all_append, all_reverse, take_front}
 
 -- a line without the blanks at its start
 unindented_as : (p : ℕ → Bool) (blank : Bool) (b : ℕ) (bs : List ℕ) → p b ≡ blank → IsUnindented p bs (trim_start_matches p bs) → IsUnindented p (b ∷ bs) (trim_start_matches p (b ∷ bs))
@@ -27,24 +27,6 @@ trimmed p (b ∷ indent) text blanks solid_start = rw (blanks.0, one-add) (trimm
 
 pub unindented_only : (p : ℕ → Bool) (line text : List ℕ) → IsUnindented p line text → text ≡ trim_start_matches p line
 unindented_only p line text h = sym (ap (trim_start_matches p) h.whole ∙ trimmed p h.indent text h.blanks h.solid_start)
-
--- blanks the other way round
-all_append : (P : ℕ → Type 0) (xs ys : List ℕ) → AllByRecursion P xs → AllByRecursion P ys → AllByRecursion P (xs ++ ys)
-all_append P [] ys h k = k
-all_append P (x ∷ xs) ys h k = (h.0, all_append P xs ys h.1 k)
-
-all_reverse : (P : ℕ → Type 0) (xs : List ℕ) → AllByRecursion P xs → AllByRecursion P (reverse xs)
-all_reverse P [] h = tt
-all_reverse P (x ∷ xs) h = subst (AllByRecursion P) (sym (reverse-append (x ∷ []) xs)) (all_append P (reverse xs) (x ∷ []) (all_reverse P xs h.1) (h.0, tt))
-
--- the end of a text is the start of it the other way round
-take_front : (text : List ℕ) (n : ℕ) → n ≤ length text → take (length text - n) text ≡ reverse (drop n (reverse text))
-take_front text n h =
-    let back = reverse text in
-    let parts : text ≡ reverse (drop n back) ++ reverse (take n back) =
-    sym (reverse-reverse text) ∙ (ap reverse (sym (take-append-drop n back)) ∙ reverse-append (take n back) (drop n back)) in
-    let long : length text - n ≡ length (reverse (drop n back)) = simp (length-reverse, length-drop) (omega arith) in
-    ap (take (length text - n)) parts ∙ (ap (λ k. take k (reverse (drop n back) ++ reverse (take n back))) long ∙ take-append_seam (reverse (drop n back)) (reverse (take n back)))
 
 end_is : (p : ℕ → Bool) (text : List ℕ) → trim_end_matches p text ≡ reverse (trim_start_matches p (reverse text))
 unfolding trim_end_matches trim_start_matches

@@ -1,24 +1,21 @@
 -- The blanks and the words of a text, and where it may be cut.
-use Rattle.std.proofs.Common.{ℕ, ◌+◌, ◌-◌, ◌<◌, ◌≤◌, ◌≡◌, Bool, true, false, cond, not, List, [], ◌∷◌, suc, length, get_or, take, drop, refl, ◌∙◌, subst, arith, inl, inr, add-one, add-zero, drop-cons, length-drop}
-use Rattle.std.specs.Prelude.{reverse}
+use Rattle.std.proofs.Common.{ℕ, ◌+◌, ◌-◌, ◌<◌, ◌≤◌, ◌≡◌, Bool, true, false, cond, not, List, [], ◌∷◌, suc, length, get_or, take, drop, refl, ◌∙◌, arith, inl, inr, add-one, add-zero, drop-cons, length-drop}
 use Rattle.std.specs.Str.{IsUtf8, IsCharBoundary}
 use Rattle.std.specs.List.{list_any, prefix_len, suffix_len, position_or_len}
 use Rattle.std.proofs.lemmas.Bool.{cases_lt, lt-ltb, not-true, not-false}
 use Rattle.std.proofs.lemmas.Bool.Decides.{nat_tests}
-use Rattle.std.proofs.lemmas.List.{get_or-reverse, length-reverse, get_or-drop, length-take, take_all, drop_all}
+use Rattle.std.proofs.lemmas.List.{get_or-drop, length-take, take_all, drop_all}
 use Rattle.std.proofs.lemmas.List.Folds.{list_any_at, list_any_none}
 use Rattle.std.proofs.lemmas.List.Sums.{prefix_len_passes, prefix_len_stops, prefix_len-le-length}
 use Rattle.std.proofs.lemmas.List.Splits.{slice_split_first, slice_split_none}
 use Rattle.std.proofs.lemmas.Str.{IsCharBoundary-end, IsCharBoundary-before_ascii, IsCharBoundary-after_ascii}
 use Rattle.cal_text.specs.headline.Words.{is_blank, words}
 use Rattle.cal_text.specs.headline.Trim.{trim_start_matches}
+use Rattle.cal_text.proofs.General.{before_suffix, boundary_at, in_suffix}
 
 -- a blank is one byte
 pub blank_ascii : (b : ℕ) → is_blank b ≡ true → b < 128
 blank_ascii b h = grind (arith, nat_tests)
-
-pub boundary_at : (text : List ℕ) (m n : ℕ) → m ≡ n → IsCharBoundary text m → IsCharBoundary text n
-boundary_at text m n e h = let P : ℕ → Type 0 = λ k. IsCharBoundary text k in subst P e h
 
 pub word_boundary : (text : List ℕ) → IsUtf8 text → IsCharBoundary text (position_or_len is_blank text)
 word_boundary text u =
@@ -29,23 +26,6 @@ word_boundary text u =
       | inr past ↦
           boundary_at text (length text) n (omega (arith, prefix_len-le-length (λ b. not (is_blank b)) text)) (IsCharBoundary-end text)
     ]
-
--- the byte before the last that pass
-pub before_suffix : (p : ℕ → Bool) (text : List ℕ) → suffix_len p text < length text → p (get_or text (length text - suffix_len p text - 1) 0) ≡ false
-before_suffix p text within =
-    let n = suffix_len p text in
-    let there : n < length (reverse text) = omega (arith, length-reverse text) in
-    let here : length text - 1 - n ≡ length text - n - 1 = omega arith in
-    rw (← here, ← get_or-reverse text n 0 within) (prefix_len_stops p (reverse text) 0 there)
-
-pub in_suffix : (p : ℕ → Bool) (text : List ℕ) (k d : ℕ) → length text - suffix_len p text ≤ k → k < length text → p (get_or text k d) ≡ true
-in_suffix p text k d from within =
-    let back = length text - 1 - k in
-    let there : back < suffix_len p text = omega arith in
-    let here : length text - 1 - back ≡ k = omega arith in
-    let seen = prefix_len_passes p (reverse text) back d there in
-    let reversed = get_or-reverse text back d (omega arith) in
-    rw (reversed, here) at seen
 
 -- no blank
 abbrev pub is_solid : ℕ → Bool

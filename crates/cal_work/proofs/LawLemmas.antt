@@ -22,7 +22,7 @@ use Rattle.cal_work.specs.WorkLaw.{TellsAll, taken_of, known_seen, known_time, k
 use Rattle.cal_work.specs.Works.{SeesZones, SeesIf, Fits, FitsArguments}
 use Rattle.cal_work.specs.declared.zone_files.LoadFault.{LoadFault}
 use Rattle.cal_command.proofs.CommandLineLemmas.{taken_arguments}
-use Rattle.cal_work.proofs.WorkLemmas.{some_none}
+use Rattle.cal_text.proofs.General.{some_none}
 
 -- What is seen of one file
 

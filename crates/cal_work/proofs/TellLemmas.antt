@@ -1,5 +1,5 @@
 -- Lemmas on what is reported of an end: the texts and lines on both outputs, the buffer, and the status.
-use Rattle.std.proofs.Common.{◌≡◌, ℕ, Bool, true, false, List, [], Option, None, Some, Result, Ok, Err, refl, sym, ap, ◌∙◌, append-nil}
+use Rattle.std.proofs.Common.{◌≡◌, ℕ, Bool, true, false, List, [], Option, Result, Ok, Err, refl, sym, ◌∙◌}
 use Rattle.std.specs.Io.KnownBytes.{append_known}
 use Rattle.std.proofs.KnownBytes.{Appends-kept}
 use Rattle.std.proofs.lemmas.Bool.{false≢true}
@@ -24,6 +24,7 @@ use Rattle.cal_work.specs.declared.stop.Stop as declared_stop
 use Rattle.cal_work.specs.declared.stop.Stop.TheVariants.{Command, Zones, LocalRule, LocalName, Clock, Open, Run}
 use Rattle.cal_report.proofs.AnswerLemmas.{writes_nothing}
 use Rattle.cal_report.proofs.ReportLemmas.{nothing_front, whole_front}
+use Rattle.cal_text.proofs.General.{append_known-nil}
 
 -- What was written of a stop
 
@@ -112,14 +113,10 @@ tells_stop (Open path) r out1 out' err1 err' t come out err s = early_written (O
 
 -- The buffer
 
-append_nothing : (b : Option (List ℕ)) → append_known b [] ≡ b
-append_nothing None = refl
-append_nothing (Some xs) = ap (λ l. Some l) (append-nil xs)
-
 -- where a call failed, a prefix of the text has gone through the buffer, and what it still holds
 reaches_front : (before written reached : Option (List ℕ)) (text : List ℕ) (b : Bool) → AppendsFront before written text → Flushes written reached b → (held : List ℕ) × AppendsFront before (append_known reached held) text
 reaches_front before written reached text true w s =
-    ([], record { front = w.front; rest = w.rest; whole = w.whole; written = rw (append_nothing reached) (Appends-kept before written reached w.front w.written s) })
+    ([], record { front = w.front; rest = w.rest; whole = w.whole; written = rw (append_known-nil reached) (Appends-kept before written reached w.front w.written s) })
 reaches_front before written reached text false w s =
     (s.0, record { front = w.front; rest = w.rest; whole = w.whole; written = Appends-kept before written (append_known reached s.0) w.front w.written s.1 })
 

@@ -1,6 +1,5 @@
 -- Lemmas on the program's work: what each step found makes a world, and what was written is that of the outcome in it.
-use Rattle.std.proofs.Common.{◌≡◌, ℕ, ℤ, ◌+◌, ◌<◌, ◌≤◌, Bool, true, false, ◌&&◌, List, [], ◌∷◌, length, Option, None, Some, Result, Ok, Err, IfNone, refl, sym, ap, subst, ◌∙◌, arith, length-append, nat_le, map, drop, drop-cons, add-one, suc, get_or}
-use Rattle.std.proofs.lemmas.List.{drop_all}
+use Rattle.std.proofs.Common.{◌≡◌, ℕ, ℤ, ◌+◌, ◌<◌, ◌≤◌, Bool, true, false, ◌&&◌, List, [], ◌∷◌, length, Option, None, Some, Result, Ok, Err, IfNone, refl, sym, ap, subst, ◌∙◌, arith, length-append, nat_le}
 use Rattle.std.specs.Prelude.{IsSome, is_some, is_ok, MatchResult}
 use Rattle.std.specs.FinMap.{empty}
 use Rattle.std.proofs.KnownBytes.{Consumes-whole}
@@ -43,8 +42,9 @@ use Rattle.cal_request.specs.declared.request.RunFault.TheVariants.{OutFailed, E
 use Rattle.cal_request.specs.declared.request.Status.{Status}
 use Rattle.cal_work.specs.declared.stop.Stop as declared_stop
 use Rattle.cal_work.specs.declared.stop.Stop.TheVariants.{Command, Zones, LocalRule, LocalName, Clock, Open, Run}
-use Rattle.cal_report.proofs.ReportLemmas.{no_ok, nothing_front}
+use Rattle.cal_report.proofs.ReportLemmas.{nothing_front}
 use Rattle.std.proofs.lemmas.Option.{none-some, same_Some}
+use Rattle.cal_text.proofs.General.{no_ok, some_none}
 
 -- Stops
 
@@ -65,9 +65,6 @@ pub stops_other : {A B : Type 0} (stop : declared_stop.Stop) (said : Stop) → S
 stops_other {A = A} stop said s = record { before_out = s.before_out; before_err = s.before_err; stopped = refl; said = λ h. ap (λ x. Err x) (said_inside {A = A} (Err said) (Err (shown_stop stop)) said (shown_stop stop) refl refl (s.said h)) }
 
 -- What is seen
-
-pub some_none : {A : Type 0} (x : A) → Some x ≡ None → ⊥
-some_none x h = cc
 
 -- what comes of a file fits where nothing is reported of it
 unknown_comes : (old : Option (List ℕ)) (limit : ℕ) (came : Result (List ℕ) WholeFault) → Comes old limit came → Comes None limit came
@@ -127,13 +124,6 @@ came_uncut None limit = refl
 came_uncut (Some all) limit = within_uncut (nat_le (length all) limit) all
 
 -- Zone files
-
--- what is left from an index on begins with the item there
-pub items_next : {A B : Type 0} (f : A → B) (xs : List A) (i : ℕ) (x : A) → i < length xs → x ≡ get_or xs i x → map f (drop i xs) ≡ f x ∷ map f (drop (i + 1) xs)
-items_next f xs i x h is = rw (add-one, drop-cons xs i x h) (ap (λ y. f y ∷ map f (drop (suc i) xs)) (sym is))
-
-pub items_end : {A B : Type 0} (f : A → B) (xs : List A) (i : ℕ) → length xs ≤ i → map f (drop i xs) ≡ []
-items_end f xs i h = ap (map f) (drop_all i xs h)
 
 reads_unnamed : (name : List ℕ) (came : Result (List ℕ) WholeFault) → is_zone_name name ≡ false → ReadsZone name (Some came) None
 reads_unnamed name (Ok bytes) h = λ named. absurd (false≢true (sym h ∙ named))

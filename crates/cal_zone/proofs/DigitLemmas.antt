@@ -19,11 +19,3 @@ two_digits_are n h = elim (cases_lt n 10) [
   | inl few ↦ below_ten n few
   | inr more ↦ from_ten n more h
 ]
-
--- behind the 1 of a hundred more they are alike
-pub hundred_more : (n : ℕ) → n < 100 → decimal (100 + n) ≡ 49 ∷ (48 + n / 10) ∷ (48 + n % 10) ∷ []
-hundred_more n h =
-    let front : (100 + n) / 10 / 10 ≡ 1 = omega arith in
-    let tens : (100 + n) / 10 % 10 ≡ n / 10 = omega arith in
-    let ones : (100 + n) % 10 ≡ n % 10 = omega arith in
-    rw (decimal_step (100 + n) (omega arith) (omega arith), decimal_step ((100 + n) / 10) (omega arith) (omega arith), front, tens, ones, decimal_digit 1 (omega arith)) refl

@@ -15,7 +15,7 @@ use Rattle.cal_zone.specs.headline.InstantText.{offset_text, zeros}
 use Rattle.cal_zone.specs.OffsetWord.{AreWholeMinutes, clock_seconds, clock_in, offset_in, two_digits}
 use Rattle.cal_zone.specs.headline.OffsetWord.{AreTwoDigits, IsClock, IsOffsetWord, begins_with_sign, is_sign}
 use Rattle.cal_zone.specs.headline.ZoneAhead.{offset_of_seconds}
-use Rattle.cal_text.proofs.General.{both_all}
+use Rattle.cal_text.proofs.General.{both_all, all_below, below_all}
 
 -- Two digits
 
@@ -175,22 +175,6 @@ two n = zeros 2 n ++ decimal n
 
 abbrev is_two : ℕ → Bool
 is_two n = (length (two n) == 2) && (list_all is_ascii_digit (two n) && (digits_value 10 (two n) == n))
-
-abbrev all_below : ℕ → (ℕ → Bool) → Bool
-all_below zero f = true
-all_below (suc n) f = f n && all_below n f
-
-at_last : (f : ℕ → Bool) (n k : ℕ) → n ≡ k → f k ≡ true → f n ≡ true
-at_last f n k same h = rw same h
-
-below_all : (k : ℕ) (f : ℕ → Bool) (n : ℕ) → all_below k f ≡ true → n < k → f n ≡ true
-below_all zero f n all small = absurd (omega arith)
-below_all (suc k) f n all small =
-    let parts = and_parts _ _ all in
-    elim (cases_lt n k) [
-      | inl below ↦ below_all k f n parts.1 below
-      | inr above ↦ at_last f n k (omega (arith, small, above)) parts.0
-    ]
 
 sixty : all_below 60 is_two ≡ true
 unfolding digits

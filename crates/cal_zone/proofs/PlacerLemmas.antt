@@ -28,6 +28,7 @@ use Rattle.cal_zone.specs.headline.Place.{datetime_of, place_of, settle_of, time
 use Rattle.cal_zone.specs.Rules.{zone_of_table}
 use Rattle.cal_zone.proofs.DayLemmas.{epoch_day-date_of}
 use Rattle.cal_zone.proofs.PlaceLemmas.{by_the_offset, place_at-there, place_of-Some, place_of-tried}
+use Rattle.cal_text.proofs.General.{none_by_view}
 
 -- the lesser and the greater of two offsets are offsets
 min_in_range : (x y : ℤ) → IsOffsetSeconds x → IsOffsetSeconds y → IsOffsetSeconds (int_min x y)
@@ -262,11 +263,6 @@ alike_behind_rows z local other local_in other_in all begun alike =
           ∙ sym (ap (λ o. o.seconds) (offset_behind z from (other -ℤ offset.seconds) all (omega (arith, signed_arith))));
     }
 
--- the rule that a caller is given of a table says what the table's does
-none_by_view : {A B : Type 0} (view : A → B) (o : Option A) → None ≡ option_map view o → o ≡ None
-none_by_view view None e = refl
-none_by_view view (Some x) e = absurd (cc)
-
 pub alike_without_rule : (rule : Option Posix) (local other : ℤ) → None ≡ option_map tz_view rule → AreAlikeBy rule local other
 alike_without_rule rule local other e = rw (none_by_view tz_view rule e) tt
 
@@ -275,10 +271,6 @@ alike_without_dst None given local other e none = absurd (cc)
 alike_without_dst (Some rule) given local other e none =
     let same : tz_view given ≡ tz_view rule = cc in
     alike_standard rule local other (none_by_view dst_view rule.dst (ap (option_map dst_view) (sym none) ∙ ap (λ text. text.dst) same))
-
-pub not_some : {A : Type 0} (o : Option A) → is_some o ≡ false → o ≡ None
-not_some None e = refl
-not_some (Some x) e = absurd (cc)
 
 -- where all rows are passed so early, they still are
 pub all_later : (z : Table) (local : ℤ) → vec_len z.transitions ≤ count_at z (local -ℤ pos 374_397) → vec_len z.transitions ≤ count_at z (local -ℤ pos 93_599)

@@ -355,7 +355,3 @@ pub year_end-december : (d : Date) (y : ℤ) → d.year ≡ y → pos d.month �
 year_end-december d y year month day =
     let last = december d y year month day in
     omega (arith, signed_arith, days_from_civil-day_count y 12 31, days_from_civil-day_count y 1 1, day_count-last_of_year y)
-
--- the lesser of two numbers is no less than what neither is
-pub min_from : (a b low : ℤ) → low ≤ℤ a → low ≤ℤ b → low ≤ℤ int_min a b
-min_from a b low p q = elim (int_lt b a) as (λ c. low ≤ℤ (if c then b else a)) [ true ↦ q | false ↦ p ]

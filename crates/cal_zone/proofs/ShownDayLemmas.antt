@@ -71,7 +71,3 @@ unfolding instant_text
 text_on_day zone second shown since e =
     ap (λ c. shown_text c ++ zone_word (is_utc zone) c.offset) e
     ∙ shown_on_day shown since (zone_word (is_utc zone) shown.offset)
-
--- the greater of two numbers is no more than what neither is
-pub max_to : (a b high : ℤ) → a ≤ℤ high → b ≤ℤ high → int_max a b ≤ℤ high
-max_to a b high p q = elim (int_lt b a) as (λ c. cond c a b ≤ℤ high) [ true ↦ p | false ↦ q ]

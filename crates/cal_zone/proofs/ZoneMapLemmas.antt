@@ -35,10 +35,6 @@ unfolding zone_named
 zone_named-zone_map_in zones table name view other =
     ap (λ b. cond b (Some UTC) (get table name)) other ∙ ap (λ t. get t name) (sym view) ∙ get-zone_map_in zones name
 
-pub is_some-option_map : {A B : Type 0} (f : A → B) (o : Option A) → is_some (option_map f o) ≡ is_some o
-is_some-option_map f None = refl
-is_some-option_map f (Some x) = refl
-
 -- the two ways to ask whether a name is that one
 same_test : (name q : List ℕ) → bytes_eq name q ≡ eq_by_cmp (slice_cmp nat_cmp) q name
 same_test name q = sym (is_eq-slice_cmp name q) ∙ (eq_by_cmp_equiv nat_list_cmp_total).symm name q

@@ -1,6 +1,6 @@
 use Rattle.std.proofs.Common.{◌++◌, take, arith}
-use Rattle.cal_bytes.proofs.WholeLemmas.{consumes-append, length-taken}
 use Rattle.cal_bytes.proofs.whole.read_whole.Goals as goal
+use Rattle.cal_text.proofs.General.{consumes-append, length-taken}
 
 pub returns-then-count-limit-clause-bytes : goal.returns-then-count-limit-clause-bytes
 returns-then-count-limit-clause-bytes g c =

@@ -1,20 +1,20 @@
 use Rattle.std.proofs.Common.{◌∙◌, rules}
 use Rattle.clap.specs.Words.{subcommand_rows_of}
 use Rattle.cal_command.specs.CommandLine.{given_in}
-use Rattle.cal_command.proofs.CommandLineLemmas.{found_none, found_some, map-first}
 use Rattle.cal_command.proofs.command_line.find_values.Goals as goal
+use Rattle.cal_text.proofs.General.{map-first, pair_none, pair_some}
 
 pub returns-in_err-name : goal.returns-in_err-name
 unfolding given_in
 returns-in_err-name c =
-    rw (found_none (subcommand_rows_of c.args.matches.now) (c.in_err-name.ensures.name ∙ map-first _ _ _)) (search rules)
+    rw (pair_none (subcommand_rows_of c.args.matches.now) (c.in_err-name.ensures.name ∙ map-first _ _ _)) (search rules)
 
 pub returns-in_err-verb_named : goal.returns-in_err-verb_named
 unfolding given_in
 returns-in_err-verb_named c =
-    rw (found_some _ _ _ (c.in_ok-name.ensures.name ∙ map-first _ _ _) c.in_ok-name.ensures.rows, ← c.in_err-verb_named.ensures) (search rules)
+    rw (pair_some _ _ _ (c.in_ok-name.ensures.name ∙ map-first _ _ _) c.in_ok-name.ensures.rows, ← c.in_err-verb_named.ensures) (search rules)
 
 pub returns : goal.returns
 unfolding given_in
 returns c =
-    rw (found_some _ _ _ (c.in_ok-name.ensures.name ∙ map-first _ _ _) c.in_ok-name.ensures.rows, ← c.in_ok-verb_named.ensures) c.values_for.ensures
+    rw (pair_some _ _ _ (c.in_ok-name.ensures.name ∙ map-first _ _ _) c.in_ok-name.ensures.rows, ← c.in_ok-verb_named.ensures) c.values_for.ensures

@@ -1,7 +1,8 @@
 use Rattle.std.proofs.Common.{◌≡◌, ◌&&◌, ◌+◌, ◌-◌, min, Some, None, nat_le, nat_lt, sym, ◌∙◌}
 use Rattle.cal_elapse.specs.Masks.{last_number}
-use Rattle.cal_elapse.proofs.PartLemmas.{and_true, part_in_window}
+use Rattle.cal_elapse.proofs.PartLemmas.{part_in_window}
 use Rattle.cal_elapse.proofs.masks_of.in_part.Goals as goal
+use Rattle.cal_text.proofs.General.{and_true}
 
 pub returns-in-Some : goal.returns-in-Some
 returns-in-Some c = λ slot w i.

@@ -3,10 +3,11 @@ use Rattle.std.specs.List.{list_any}
 use Rattle.std.proofs.lemmas.List.{take_all}
 use Rattle.cal_elapse.specs.Bits.{is_bit}
 use Rattle.cal_elapse.proofs.BitLemmas.{is_bit-none, is_bit-or}
-use Rattle.cal_elapse.proofs.PartLemmas.{and_none, parts_more}
+use Rattle.cal_elapse.proofs.PartLemmas.{parts_more}
 use Rattle.cal_spec.specs.headline.Members.{part_has}
 use Rattle.cal_spec.specs.declared.part.Part.{Part}
 use Rattle.cal_elapse.proofs.masks_of.in_parts.Goals as goal
+use Rattle.cal_text.proofs.General.{and_none}
 
 pub loop-part-init : goal.loop-part-init
 loop-part-init c = λ slot w i. is_bit-none i ∙ sym (and_none (nat_lt i c.args.count))

@@ -7,10 +7,7 @@ use Rattle.cal_spec.specs.headline.Match.{matches, time_in}
 use Rattle.cal_elapse.proofs.CarryLemmas.{split_at}
 use Rattle.cal_elapse.proofs.SearchLemmas.{locals_split}
 use Rattle.cal_elapse.proofs.matched.is_match.Goals as goal
-
-and_true : (b : Bool) → (b && true) ≡ b
-and_true true = refl
-and_true false = refl
+use Rattle.cal_text.proofs.General.{and_true}
 
 pub day_of-requires : goal.day_of-requires
 day_of-requires c = omega arith

@@ -3,9 +3,10 @@ use Rattle.cal_elapse.specs.Bits.{is_bit, is_in_words}
 use Rattle.cal_elapse.specs.Masks.{sets_in}
 use Rattle.cal_elapse.specs.Months.{month_in}
 use Rattle.cal_elapse.specs.Search.{IsFirstPassing, NonePasses}
-use Rattle.cal_elapse.proofs.CarryLemmas.{below_end, first_here, none_by_high, none_by_low}
+use Rattle.cal_elapse.proofs.CarryLemmas.{first_here, none_by_high, none_by_low}
 use Rattle.cal_elapse.proofs.YearWordLemmas.{months_split}
 use Rattle.cal_elapse.proofs.month_search.month_here.Goals as goal
+use Rattle.cal_text.proofs.General.{below_end}
 
 pub returns-then-not-has_year : goal.returns-then-not-has_year
 returns-then-not-has_year c =

@@ -1,8 +1,9 @@
 use Rattle.std.proofs.Common.{◌*◌, arith}
 use Rattle.cal_elapse.specs.Bits.{is_bit, is_in_words}
-use Rattle.cal_elapse.proofs.CarryLemmas.{below_end, first_later, none_later}
+use Rattle.cal_elapse.proofs.CarryLemmas.{first_later, none_later}
 use Rattle.cal_elapse.proofs.YearWordLemmas.{months_split, no_months}
 use Rattle.cal_elapse.proofs.month_search.month_later.Goals as goal
+use Rattle.cal_text.proofs.General.{below_end}
 
 pub returns-then-masks-eq0 : goal.returns-then-masks-eq0
 returns-then-masks-eq0 c = no_months c.args.masks.now (c.args.year * 12) c.if-masks-eq0.true

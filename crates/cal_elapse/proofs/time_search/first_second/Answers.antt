@@ -1,8 +1,9 @@
 use Rattle.std.proofs.Common.{◌+◌, ◌*◌}
 use Rattle.cal_elapse.specs.Bits.{is_bit}
-use Rattle.cal_elapse.proofs.CarryLemmas.{below_end, first_later}
+use Rattle.cal_elapse.proofs.CarryLemmas.{first_later}
 use Rattle.cal_elapse.proofs.TimeLemmas.{minutes_split, seconds_split}
 use Rattle.cal_elapse.proofs.time_search.first_second.Goals as goal
+use Rattle.cal_text.proofs.General.{below_end}
 
 pub returns : goal.returns
 returns c =

@@ -3,9 +3,10 @@ use Rattle.cal_elapse.specs.Bits.{is_bit}
 use Rattle.cal_elapse.specs.Masks.{sets_in}
 use Rattle.cal_elapse.specs.Months.{minute_in}
 use Rattle.cal_elapse.specs.Search.{IsFirstPassing, NonePasses}
-use Rattle.cal_elapse.proofs.CarryLemmas.{below_end, first_here, none_by_high, none_by_low}
+use Rattle.cal_elapse.proofs.CarryLemmas.{first_here, none_by_high, none_by_low}
 use Rattle.cal_elapse.proofs.TimeLemmas.{minutes_split}
 use Rattle.cal_elapse.proofs.time_search.minute_here.Goals as goal
+use Rattle.cal_text.proofs.General.{below_end}
 
 pub returns-then-not-has_bit : goal.returns-then-not-has_bit
 returns-then-not-has_bit c =

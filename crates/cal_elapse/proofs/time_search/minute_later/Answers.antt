@@ -1,8 +1,9 @@
 use Rattle.std.proofs.Common.{arith}
 use Rattle.cal_elapse.specs.Bits.{is_bit}
-use Rattle.cal_elapse.proofs.CarryLemmas.{below_end, first_later, none_later}
+use Rattle.cal_elapse.proofs.CarryLemmas.{first_later, none_later}
 use Rattle.cal_elapse.proofs.TimeLemmas.{minutes_split}
 use Rattle.cal_elapse.proofs.time_search.minute_later.Goals as goal
+use Rattle.cal_text.proofs.General.{below_end}
 
 pub lowest_bit-requires : goal.lowest_bit-requires
 lowest_bit-requires c = c.args.masks.now.some_minute

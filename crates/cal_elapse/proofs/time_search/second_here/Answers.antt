@@ -4,9 +4,10 @@ use Rattle.cal_elapse.specs.Masks.{sets_in}
 use Rattle.cal_elapse.specs.Months.{minute_in}
 use Rattle.cal_spec.specs.headline.Match.{time_in}
 use Rattle.cal_elapse.specs.Search.{IsFirstPassing, NonePasses}
-use Rattle.cal_elapse.proofs.CarryLemmas.{below_end, first_here, none_by_high, none_by_low}
+use Rattle.cal_elapse.proofs.CarryLemmas.{first_here, none_by_high, none_by_low}
 use Rattle.cal_elapse.proofs.TimeLemmas.{seconds_split}
 use Rattle.cal_elapse.proofs.time_search.second_here.Goals as goal
+use Rattle.cal_text.proofs.General.{below_end}
 
 pub returns-then-not-has_minute : goal.returns-then-not-has_minute
 returns-then-not-has_minute c =

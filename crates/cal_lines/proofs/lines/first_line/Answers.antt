@@ -2,8 +2,8 @@ use Rattle.std.proofs.Common.{arith, sym, ap, ◌∷◌, ◌∙◌}
 use Rattle.std.specs.Str.Lines.{lines}
 use Rattle.std.proofs.lemmas.Bool.Decides.{nat_tests}
 use Rattle.std.proofs.lemmas.Str.Pattern.{NoCharPasses-char, split_once_first}
-use Rattle.cal_lines.proofs.LineLemmas.{lines_first, lines_last}
 use Rattle.cal_lines.proofs.lines.first_line.Goals as goal
+use Rattle.cal_text.proofs.General.{lines_first, lines_last}
 
 pub returns-in-Some-clause-lines : goal.returns-in-Some-clause-lines
 returns-in-Some-clause-lines c =

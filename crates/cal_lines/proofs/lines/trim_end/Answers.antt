@@ -3,8 +3,8 @@ use Rattle.std.proofs.lemmas.List.Sums.{suffix_len-le-length}
 use Rattle.cal_text.specs.headline.Trim.{trim_end_matches}
 use Rattle.cal_lines.specs.headline.Lines.{is_blank_or_return}
 use Rattle.cal_lines.proofs.LineLemmas.{blank_is_ascii}
-use Rattle.cal_text.proofs.TextEnds.{end_boundary}
 use Rattle.cal_lines.proofs.lines.trim_end.Goals as goal
+use Rattle.cal_text.proofs.General.{end_boundary}
 
 pub overflow_sub-text : goal.overflow_sub-text
 overflow_sub-text c = rw c.trailing_blanks.ensures (suffix_len-le-length is_blank_or_return c.args.text.now)

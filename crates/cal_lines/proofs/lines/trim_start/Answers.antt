@@ -2,8 +2,8 @@ use Rattle.std.proofs.Common.{◌∙◌, ap, drop}
 use Rattle.cal_text.specs.headline.Trim.{trim_start_matches}
 use Rattle.cal_lines.specs.headline.Lines.{is_blank_or_return}
 use Rattle.cal_lines.proofs.LineLemmas.{blank_is_ascii}
-use Rattle.cal_text.proofs.TextEnds.{front_boundary}
 use Rattle.cal_lines.proofs.lines.trim_start.Goals as goal
+use Rattle.cal_text.proofs.General.{front_boundary}
 
 pub range_from-requires : goal.range_from-requires
 range_from-requires c = λ _. rw c.leading_blanks.ensures (front_boundary is_blank_or_return c.args.text.now blank_is_ascii c.utf8.text)

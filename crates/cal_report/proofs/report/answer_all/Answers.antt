@@ -1,9 +1,10 @@
 use Rattle.std.proofs.Common.{sym, ◌∙◌, ap, arith}
 use Rattle.std.specs.String.{string_bytes}
 use Rattle.cal_bytes.proofs.Pieces.{start, done, respell}
-use Rattle.cal_report.proofs.AnswerLemmas.{answered_before, err_more, err_none, goes_on-more, goes_on-none, out_more, out_none, reports_left, reports_left-all, reports_left-none, refusals-none, status_left, status_left-all, status_left-none, texts-drop, texts-end, texts-take, out_next, out_stops, err_next, err_stops, status_next}
+use Rattle.cal_report.proofs.AnswerLemmas.{answered_before, err_more, err_none, goes_on-more, goes_on-none, out_more, out_none, reports_left, reports_left-all, reports_left-none, refusals-none, status_left, status_left-all, status_left-none, out_next, out_stops, err_next, err_stops, status_next}
 use Rattle.cal_report.specs.Answer.{refusals_text}
 use Rattle.cal_report.proofs.report.answer_all.Goals as goal
+use Rattle.cal_text.proofs.General.{items_end, items_next, items_taken}
 
 pub loop-text-init : goal.loop-text-init
 loop-text-init g c =
@@ -20,8 +21,8 @@ loop-text-init g c =
 
 pub loop-text-preserved : goal.loop-text-preserved
 loop-text-preserved g c =
-    let done = texts-take string_bytes c.args.context.request.now.texts.items c.loop-text.text-index c.text-item.result c.as_str.result.now (omega arith) (rw c.deref-text-items.ensures.value at c.text-item.is) c.as_str.ensures.value in
-    let next = texts-drop string_bytes c.args.context.request.now.texts.items c.loop-text.text-index c.text-item.result c.as_str.result.now (omega arith) (rw c.deref-text-items.ensures.value at c.text-item.is) c.as_str.ensures.value in
+    let done = items_taken string_bytes c.args.context.request.now.texts.items c.loop-text.text-index c.text-item.result c.as_str.result.now (omega arith) (rw c.deref-text-items.ensures.value at c.text-item.is) c.as_str.ensures.value in
+    let next = items_next string_bytes c.args.context.request.now.texts.items c.loop-text.text-index c.text-item.result c.as_str.result.now (omega arith) (rw c.deref-text-items.ensures.value at c.text-item.is) c.as_str.ensures.value in
     record {
       out_works = c.in-Ok.ensures.out_failed;
       err_works = c.in-Ok.ensures.err_failed;
@@ -35,12 +36,12 @@ loop-text-preserved g c =
 
 pub returns-in-Err-clause-out : goal.returns-in-Err-clause-out
 returns-in-Err-clause-out g c =
-    let next = texts-drop string_bytes c.args.context.request.now.texts.items c.loop-text.text-index c.text-item.result c.as_str.result.now (omega arith) (rw c.deref-text-items.ensures.value at c.text-item.is) c.as_str.ensures.value in
+    let next = items_next string_bytes c.args.context.request.now.texts.items c.loop-text.text-index c.text-item.result c.as_str.result.now (omega arith) (rw c.deref-text-items.ensures.value at c.text-item.is) c.as_str.ensures.value in
     out_stops _ _ _ _ _ _ _ _ _ next c.loop-text.invariant.out c.in-Err.ensures.out
 
 pub returns-in-Err-clause-err : goal.returns-in-Err-clause-err
 returns-in-Err-clause-err g c =
-    let next = texts-drop string_bytes c.args.context.request.now.texts.items c.loop-text.text-index c.text-item.result c.as_str.result.now (omega arith) (rw c.deref-text-items.ensures.value at c.text-item.is) c.as_str.ensures.value in
+    let next = items_next string_bytes c.args.context.request.now.texts.items c.loop-text.text-index c.text-item.result c.as_str.result.now (omega arith) (rw c.deref-text-items.ensures.value at c.text-item.is) c.as_str.ensures.value in
     err_stops _ _ _ _ _ _ _ _ next c.loop-text.invariant.err c.in-Err.ensures.err
 
 pub returns-in-Err-clause-cut : goal.returns-in-Err-clause-cut
@@ -51,15 +52,15 @@ returns-in-Err-clause-cut g c = λ refused.
 
 pub returns-clause-status : goal.returns-clause-status
 returns-clause-status g c =
-    let end = texts-end string_bytes c.args.context.request.now.texts.items c.loop-text.text-index (omega arith) in
+    let end = items_end string_bytes c.args.context.request.now.texts.items c.loop-text.text-index (omega arith) in
     sym (status_left-none _ _) ∙ ap (status_left _ _) (sym end) ∙ c.loop-text.invariant.status
 
 pub returns-clause-out : goal.returns-clause-out
 returns-clause-out g c =
-    let end = texts-end string_bytes c.args.context.request.now.texts.items c.loop-text.text-index (omega arith) in
+    let end = items_end string_bytes c.args.context.request.now.texts.items c.loop-text.text-index (omega arith) in
     done _ _ _ (respell _ _ _ _ _ c.loop-text.invariant.out (ap (reports_left _ _) end ∙ reports_left-none _ _))
 
 pub returns-clause-err : goal.returns-clause-err
 returns-clause-err g c =
-    let end = texts-end string_bytes c.args.context.request.now.texts.items c.loop-text.text-index (omega arith) in
+    let end = items_end string_bytes c.args.context.request.now.texts.items c.loop-text.text-index (omega arith) in
     done _ _ _ (respell _ _ _ _ _ c.loop-text.invariant.err (ap (refusals_text _) end ∙ refusals-none _))

@@ -2,9 +2,9 @@ use Rattle.std.proofs.Common.{rules, ◌∙◌, FitsSigned, ap, arith, length-se
 use Rattle.std.proofs.Math.Seq.{map-set_same}
 use Rattle.std.proofs.lemmas.Int.{to_z-of_z}
 use Rattle.cal_rising.specs.Merge.{Branch, numbers}
-use Rattle.cal_rising.proofs.MergeLemmas.{whole_again}
 use Rattle.cal_rising.proofs.WithoutLemmas.{behind_all, behind_here, behind_more}
 use Rattle.cal_rising.proofs.sources.any_has.Goals as goal
+use Rattle.cal_text.proofs.General.{taken_whole}
 
 pub returns-then-has-clause-has : goal.returns-then-has-clause-has
 returns-then-has-clause-has g c =
@@ -18,7 +18,7 @@ returns-clause-has g c =
 
 pub returns-then-has-clause-same : goal.returns-then-has-clause-same
 returns-then-has-clause-same g c =
-    let whole = whole_again (set c.loop-branch.branch-items c.loop-branch.branch-index c.has.new.self) c.args.branches.now.items c.args.branches.now.len (omega (arith, length-set {A = Branch})) (omega arith) in
+    let whole = taken_whole (set c.loop-branch.branch-items c.loop-branch.branch-index c.has.new.self) c.args.branches.now.items c.args.branches.now.len (omega (arith, length-set {A = Branch})) (omega arith) in
     ap (map numbers) whole
     ∙ map-set_same numbers c.loop-branch.branch-items _ _ _ c.has.ensures.same
     ∙ c.loop-branch.invariant.same

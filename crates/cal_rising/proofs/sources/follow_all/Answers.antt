@@ -3,9 +3,9 @@ use Rattle.std.proofs.lemmas.Int.{to_z-of_z}
 use Rattle.std.specs.List.{list_any}
 use Rattle.std.specs.Set.{is_member}
 use Rattle.cal_rising.specs.Merge.{Branch, numbers}
-use Rattle.cal_rising.proofs.MergeLemmas.{whole_again}
 use Rattle.cal_rising.proofs.WithoutLemmas.{any_replaced, behind_all, behind_here, behind_more}
 use Rattle.cal_rising.proofs.sources.follow_all.Goals as goal
+use Rattle.cal_text.proofs.General.{taken_whole}
 
 pub returns-then-has-clause-has : goal.returns-then-has-clause-has
 returns-then-has-clause-has g c =
@@ -21,7 +21,7 @@ pub returns-then-has-clause-left : goal.returns-then-has-clause-left
 returns-then-has-clause-left g c = λ i le.
     let number = c.args.number in
     let fits : FitsSigned w64 number = search rules in
-    let whole = whole_again (set c.loop-branch.branch-items c.loop-branch.branch-index c.has.new.self) c.args.branches.now.items c.args.branches.now.len (omega (arith, length-set {A = Branch})) (omega arith) in
+    let whole = taken_whole (set c.loop-branch.branch-items c.loop-branch.branch-index c.has.new.self) c.args.branches.now.items c.args.branches.now.len (omega (arith, length-set {A = Branch})) (omega arith) in
     let any = λ (ss : List Branch). list_any (λ xs. is_member int_eq xs i) (map numbers ss) in
     ap any whole
     ∙ any_replaced i c.loop-branch.branch-items c.loop-branch.branch-index c.has.new.self c.branch-item.result (omega arith)

@@ -1,8 +1,8 @@
 use Rattle.std.proofs.Common.{◌∙◌, sym, ◌+◌}
 use Rattle.std.proofs.lemmas.List.{take_rest}
 use Rattle.cal_spec.specs.DateAndTime.{is_date_sign}
-use Rattle.cal_spec.proofs.PieceLemmas.{cut_some, cut_none}
 use Rattle.cal_spec.proofs.date_and_time.cut_at_sign.Goals as goal
+use Rattle.cal_text.proofs.General.{cut_none, cut_some}
 
 pub returns-in_err-index : goal.returns-in_err-index
 returns-in_err-index c =

@@ -1,5 +1,15 @@
-use Rattle.cal_spec.proofs.PieceLemmas.{no_time}
+use Rattle.std.proofs.Common.{ℕ, ◌≡◌, List, ◌∷◌, None, refl}
+use Rattle.std.specs.List.{slice_split}
+use Rattle.cal_spec.specs.DateAndTime.{time_texts}
+use Rattle.cal_text.proofs.General.{some_piece}
+use Rattle.cal_text.specs.headline.Separators.{is_colon}
 use Rattle.cal_spec.proofs.date_and_time.time_texts.Goals as goal
+
+-- four pieces are no time
+no_time : (word hour minute second b1 b2 b3 : List ℕ) → slice_split is_colon word ≡ hour ∷ slice_split is_colon b1 → slice_split is_colon b1 ≡ minute ∷ slice_split is_colon b2 → slice_split is_colon b2 ≡ second ∷ slice_split is_colon b3 → None ≡ time_texts word
+unfolding time_texts
+no_time word hour minute second b1 b2 b3 first next last =
+    let more = some_piece is_colon b3 in rw (first, next, last, more.2) refl
 
 pub returns-in-Some-after : goal.returns-in-Some-after
 returns-in-Some-after c =

@@ -1,7 +1,7 @@
 use Rattle.std.proofs.Common.{◌∙◌, sym}
 use Rattle.cal_spec.specs.Weekdays.{is_no_letter}
-use Rattle.cal_spec.proofs.PieceLemmas.{index_some, index_none}
 use Rattle.cal_spec.proofs.weekdays.letters_len.Goals as goal
+use Rattle.cal_text.proofs.General.{index_none, index_some}
 
 pub returns-in-Some : goal.returns-in-Some
 returns-in-Some c =

@@ -1,7 +1,8 @@
 use Rattle.std.proofs.Common.{◌-◌, ap, sym, ◌∙◌, arith, length, take, drop}
 use Rattle.std.specs.List.{suffix_len}
-use Rattle.cal_text.proofs.WordLemmas.{boundary_at, is_solid, last_word_boundary, last_blank_boundary, some_blank, no_blank}
+use Rattle.cal_text.proofs.WordLemmas.{is_solid, last_word_boundary, last_blank_boundary, some_blank, no_blank}
 use Rattle.cal_text.proofs.words.last_word.Goals as goal
+use Rattle.cal_text.proofs.General.{boundary_at}
 
 pub returns-then-len-text : goal.returns-then-len-text
 returns-then-len-text c =

@@ -1,7 +1,7 @@
 use Rattle.cal_text.specs.headline.Words.{is_blank}
 use Rattle.cal_text.proofs.WordLemmas.{blank_ascii}
-use Rattle.cal_text.proofs.TextEnds.{front_boundary}
 use Rattle.cal_text.proofs.words.trim_blanks_start.Goals as goal
+use Rattle.cal_text.proofs.General.{front_boundary}
 
 pub range_from-requires : goal.range_from-requires
 range_from-requires c =

@@ -1,17 +1,18 @@
 use Rattle.std.proofs.Common.{arith, refl}
 use Rattle.cal_command.specs.Ask.{shown_item}
-use Rattle.cal_work.proofs.WorkLemmas.{items_end, items_next, next_loaded, next_stops, none_left}
+use Rattle.cal_work.proofs.WorkLemmas.{next_loaded, next_stops, none_left}
 use Rattle.cal_work.proofs.arguments_to_bytes.read_zones.Goals as goal
+use Rattle.cal_text.proofs.General.{items_end, items_next}
 
 pub returns-in-Err : goal.returns-in-Err
 returns-in-Err g c =
-    let next = items_next shown_item c.args.items.now c.loop-item.item-index c.item-item.result (omega arith) c.item-item.is in
+    let next = items_next shown_item c.args.items.now c.loop-item.item-index c.item-item.result _ (omega arith) c.item-item.is refl in
     let stop = rw c.as_str.ensures.value at c.zone_stop-refused.ensures in
     next_stops (λ table. table) _ _ _ _ (shown_item c.item-item.result) _ _ c.in-Err.fault _ next c.loop-item.invariant c.in-Err.ensures stop
 
 pub loop-item-preserved : goal.loop-item-preserved
 loop-item-preserved g c =
-    let next = items_next shown_item c.args.items.now c.loop-item.item-index c.item-item.result (omega arith) c.item-item.is in
+    let next = items_next shown_item c.args.items.now c.loop-item.item-index c.item-item.result _ (omega arith) c.item-item.is refl in
     next_loaded _ _ _ _ (shown_item c.item-item.result) _ _ next c.loop-item.invariant c.in-Ok.ensures
 
 pub returns : goal.returns

@@ -1,6 +1,7 @@
 use Rattle.std.proofs.Common.{◌∙◌, List, ℕ, [], ◌∷◌, slice_index_or, length, sym, ap, arith}
-use Rattle.cal_zone.proofs.DigitLemmas.{hundred_more, two_digits_are}
+use Rattle.cal_zone.proofs.DigitLemmas.{two_digits_are}
 use Rattle.cal_zone.proofs.instant_text.two_digits.Goals as goal
+use Rattle.cal_text.proofs.General.{hundred_more}
 
 pub bounds-digits-1 : goal.bounds-digits-1
 bounds-digits-1 c =

@@ -3,8 +3,8 @@ use Rattle.std.proofs.lemmas.Int.{to_z-of_z}
 use Rattle.jiff.proofs.SpanFacts.{signed_arith}
 use Rattle.cal_zone.specs.headline.Place.{datetime_of}
 use Rattle.cal_zone.specs.Steady.{year_end}
-use Rattle.cal_zone.proofs.RuleLemmas.{min_from}
 use Rattle.cal_zone.proofs.period.unchanged_until.Goals as goal
+use Rattle.cal_text.proofs.General.{min_from}
 
 pub returns-in-Some : goal.returns-in-Some
 returns-in-Some c = λ second from before.

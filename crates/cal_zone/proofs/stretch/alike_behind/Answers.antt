@@ -8,8 +8,9 @@ use Rattle.jiff_tz.specs.PosixRule.{transition_view}
 use Rattle.jiff_tz.specs.declared.info.OffsetInfo.{OffsetInfo}
 use Rattle.cal_zone.specs.Steady.{IsQuiet}
 use Rattle.cal_zone.proofs.AlikeLemmas.{alike_by_next_behind}
-use Rattle.cal_zone.proofs.PlacerLemmas.{all_later, alike_behind_rows, alike_without_dst, alike_without_rule, length_of_copy, not_some}
+use Rattle.cal_zone.proofs.PlacerLemmas.{all_later, alike_behind_rows, alike_without_dst, alike_without_rule, length_of_copy}
 use Rattle.cal_zone.proofs.stretch.alike_behind.Goals as goal
+use Rattle.cal_text.proofs.General.{not_some}
 
 pub returns-in_default : goal.returns-in_default
 returns-in_default c = λ local years begun within.

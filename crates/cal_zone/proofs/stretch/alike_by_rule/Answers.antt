@@ -5,9 +5,10 @@ use Rattle.jiff.specs.Words.{nanos_of_seconds}
 use Rattle.jiff_tz.specs.PosixRule.{next_at, transition_view}
 use Rattle.jiff_tz.specs.declared.info.OffsetInfo.{OffsetInfo}
 use Rattle.cal_zone.specs.Steady.{IsQuiet}
-use Rattle.cal_zone.proofs.PlacerLemmas.{alike_standard, not_some}
+use Rattle.cal_zone.proofs.PlacerLemmas.{alike_standard}
 use Rattle.cal_zone.proofs.AlikeLemmas.{alike_by_next}
 use Rattle.cal_zone.proofs.stretch.alike_by_rule.Goals as goal
+use Rattle.cal_text.proofs.General.{not_some}
 
 pub quiet_until-requires : goal.quiet_until-requires
 quiet_until-requires c = omega (arith, signed_arith)

@@ -1,6 +1,7 @@
 use Rattle.std.proofs.lemmas.Bool.{and_parts}
-use Rattle.cal_elapse.proofs.AmongLemmas.{among, same_test}
+use Rattle.cal_elapse.proofs.AmongLemmas.{among}
 use Rattle.cal_elapse.proofs.masks.Masks.covers.Goals as goal
+use Rattle.cal_text.proofs.General.{beq_same}
 
 pub returns : goal.returns
 returns c = λ all.
@@ -13,4 +14,4 @@ returns c = λ all.
     let years = and_parts _ _ months.0 in
     among c.args.self.now c.args.others.now (search (c.has_all.ensures years.0)) (search (c.have_all.ensures years.1)) (search (c.has_all-2.ensures months.1))
     (search (c.has_all-3.ensures days.1)) (search (c.has_all-4.ensures hours.1)) (search (c.has_all-5.ensures minutes.1)) (search (c.has_all-6.ensures seconds.1))
-    (same_test _ _ turned.1)
+    (beq_same _ _ turned.1)

@@ -2,9 +2,10 @@ use Rattle.std.proofs.Common.{◌∙◌, ◌||◌, ◌%◌, List, ap, arith, len
 use Rattle.std.proofs.lemmas.Int.{to_z-of_z}
 use Rattle.cal_elapse.specs.Bits.{is_bit, is_in_words}
 use Rattle.cal_elapse.specs.Ring.{cells_behind}
-use Rattle.cal_elapse.proofs.FillLemmas.{HasAll, begun_least, filled_answer, filled_from, round_of_all, start_is}
+use Rattle.cal_elapse.proofs.FillLemmas.{HasAll, begun_least, filled_answer, filled_from, round_of_all}
 use Rattle.cal_elapse.proofs.RingLemmas.{rises-instants}
 use Rattle.cal_elapse.proofs.pending.Pending.put_all.Goals as goal
+use Rattle.cal_text.proofs.General.{pos_unsigned_abs}
 
 pub set_cells-requires-clause-whole : goal.set_cells-requires-clause-whole
 set_cells-requires-clause-whole c = ap length (c.as_mut_slice.ensures.value ∙ c.deref_mut.ensures.value) ∙ c.self.invariant.round.whole
@@ -15,7 +16,7 @@ invariant_of-self c =
     let bits = c.args.bits in
     let same = c.as_mut_slice.ensures.value ∙ c.deref_mut.ensures.value in
     let begun = begun_least old c.self.inside.least c.args.start c.args.self.now c.self.view_is c.self.invariant c.requires.begun in
-    let second = start_is c.args.start c.unsigned_abs-second.result c.self.inside.least begun.below (rw (to_z-of_z w64 c.args.start c.ranges.start) at c.unsigned_abs-second.ensures.value) in
+    let second = pos_unsigned_abs c.args.start c.unsigned_abs-second.result c.self.inside.least begun.below (rw (to_z-of_z w64 c.args.start c.ranges.start) at c.unsigned_abs-second.ensures.value) in
     let all : HasAll old c.set_cells.new.words c.unsigned_abs-second.result bits
     = record {
       held = λ i there. search (c.set_cells.ensures.set i there)
@@ -34,7 +35,7 @@ returns-clause-members c = λ i.
     let bits = c.args.bits in
     let same = c.as_mut_slice.ensures.value ∙ c.deref_mut.ensures.value in
     let begun = begun_least old c.self.inside.least c.args.start c.args.self.now c.self.view_is c.self.invariant c.requires.begun in
-    let second = start_is c.args.start c.unsigned_abs-second.result c.self.inside.least begun.below (rw (to_z-of_z w64 c.args.start c.ranges.start) at c.unsigned_abs-second.ensures.value) in
+    let second = pos_unsigned_abs c.args.start c.unsigned_abs-second.result c.self.inside.least begun.below (rw (to_z-of_z w64 c.args.start c.ranges.start) at c.unsigned_abs-second.ensures.value) in
     let all : HasAll old c.set_cells.new.words c.unsigned_abs-second.result bits
     = record {
       held = λ j there. c.set_cells.ensures.set j there

@@ -3,15 +3,16 @@ use Rattle.std.proofs.lemmas.Int.{ints}
 use Rattle.cal_elapse.specs.Bits.{is_in_words}
 use Rattle.cal_elapse.specs.Ring.{is_held}
 use Rattle.cal_elapse.specs.Search.{IsFirstPassing}
-use Rattle.cal_elapse.proofs.RingLemmas.{found_inside, found_kept, least_answer, none_answer, none_kept, none_left, taken_answer, taken_from}
+use Rattle.cal_elapse.proofs.RingLemmas.{found_inside, found_kept, least_answer, none_answer, none_kept, taken_answer, taken_from}
 use Rattle.cal_elapse.proofs.pending.Pending.take_least.Goals as goal
+use Rattle.cal_text.proofs.General.{drop_none}
 
 pub returns-then-second-clause-least : goal.returns-then-second-clause-least
 returns-then-second-clause-least c =
     none_answer _ c.self.inside.least c.args.self.now c.self.view_is (none_kept _ c.self.inside.least c.self.invariant.first c.if-second.true)
 
 pub returns-then-second-clause-left : goal.returns-then-second-clause-left
-returns-then-second-clause-left c = none_left c.args.self.now (returns-then-second-clause-least c)
+returns-then-second-clause-left c = drop_none c.args.self.now (returns-then-second-clause-least c)
 
 pub clear_cell-requires-clause-whole : goal.clear_cell-requires-clause-whole
 clear_cell-requires-clause-whole c = ap length (c.as_mut_slice.ensures.value ∙ c.deref_mut.ensures.value) ∙ c.self.invariant.round.whole

@@ -4,8 +4,9 @@ use Rattle.cal_elapse.specs.Masks.{sets_in}
 use Rattle.cal_elapse.specs.Most.{IsMostAfter}
 use Rattle.cal_elapse.proofs.CountLemmas.{count_from-nothing}
 use Rattle.cal_elapse.proofs.MinuteLemmas.{next_found}
-use Rattle.cal_elapse.proofs.MostLemmas.{most_begun, next_counted, next_last, next_most}
+use Rattle.cal_elapse.proofs.MostLemmas.{most_begun, next_counted, next_most}
 use Rattle.cal_elapse.proofs.searcher.Searcher.next_left.Goals as goal
+use Rattle.cal_text.proofs.General.{unwrap_or_kept}
 
 pub returns-then-not-has_left-clause-none : goal.returns-then-not-has_left-clause-none
 returns-then-not-has_left-clause-none c = λ is same. c.has_left.ensures.none c.if-not-has_left.true same
@@ -31,7 +32,7 @@ pub returns-clause-last : goal.returns-clause-last
 returns-clause-last c = λ same.
     let now = c.args.self.now in
     let known = next_found now.masks c.args.local c.search.result.local (c.has_left.ensures.more c.if-not-has_left.false) c.search.ensures.found.first in
-    next_last c.search.result.local c.args.local _ known.1 c.search.ensures.last
+    unwrap_or_kept c.search.result.local c.args.local _ known.1 c.search.ensures.last
 
 pub returns-clause-counted : goal.returns-clause-counted
 returns-clause-counted c =

@@ -8,9 +8,10 @@ use Rattle.cal_elapse.specs.Most.{IsLooked}
 use Rattle.cal_elapse.specs.Search.{IsFirstPassing}
 use Rattle.cal_elapse.specs.Window.{start_of, timed_by}
 use Rattle.cal_spec.specs.headline.Match.{Sets, matches}
-use Rattle.cal_elapse.proofs.MostLemmas.{most_of_first, search_looked}
+use Rattle.cal_elapse.proofs.MostLemmas.{search_looked}
 use Rattle.cal_elapse.proofs.ReadyLemmas.{begun_ready, timed_by-timed}
 use Rattle.cal_elapse.proofs.window.Window.new.Goals as goal
+use Rattle.cal_text.proofs.General.{max_from_zero}
 
 pub returns-clause-ready : goal.returns-clause-ready
 returns-clause-ready c =
@@ -34,4 +35,4 @@ pub returns-clause-looked : goal.returns-clause-looked
 returns-clause-looked c =
     let looked = search_looked _ _ c.search-ahead.result c.search-ahead.ensures.found in
     subst₂ (λ (sets : Sets) (from : ℕ). IsLooked sets from c.search-ahead.new.self.most_months) c.of-searcher.ensures.masks c.first_local.ensures.start
-    (subst (IsLooked (sets_in c.of-searcher.result.masks) c.first_local.result) (sym (most_of_first _ _ _ c.of-searcher.ensures.looked c.search-ahead.ensures.most)) looked)
+    (subst (IsLooked (sets_in c.of-searcher.result.masks) c.first_local.result) (sym (max_from_zero _ _ _ c.of-searcher.ensures.looked c.search-ahead.ensures.most)) looked)

@@ -4,8 +4,8 @@ use Rattle.std.specs.List.{list_all}
 use Rattle.std.specs.Str.Parse.{digits_value}
 use Rattle.std.proofs.lemmas.Bool.Decides.{nat_tests}
 use Rattle.cal_read.specs.StampDate.{digits_number}
-use Rattle.cal_read.proofs.StampLemmas.{short_number}
 use Rattle.cal_read.proofs.stamp.date.read_number.Goals as goal
+use Rattle.cal_text.proofs.General.{short_number}
 
 pub overflow_cast-result : goal.overflow_cast-result
 overflow_cast-result c =

@@ -2,8 +2,9 @@ use Rattle.std.proofs.Common.{◌≡◌, true, take, arith, sym, ◌∙◌}
 use Rattle.std.specs.Char.{is_ascii_digit}
 use Rattle.std.specs.List.{list_all}
 use Rattle.std.proofs.lemmas.List.{length-take}
-use Rattle.cal_read.proofs.StampLemmas.{fraction_bound, list_all-take}
+use Rattle.cal_read.proofs.StampLemmas.{fraction_bound}
 use Rattle.cal_read.proofs.stamp.time.read_fraction.Goals as goal
+use Rattle.cal_text.proofs.General.{list_all-take}
 
 pub returns-clause-bound : goal.returns-clause-bound
 returns-clause-bound c =

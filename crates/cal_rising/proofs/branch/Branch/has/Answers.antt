@@ -3,8 +3,9 @@ use Rattle.std.specs.Cmp.{int_eq_equiv}
 use Rattle.cal_rising.specs.Merge.{Branch, numbers}
 use Rattle.std.specs.Ordering.{int_eq}
 use Rattle.std.specs.Set.{is_member}
-use Rattle.cal_rising.proofs.WithoutLemmas.{is_member-head, same_word}
+use Rattle.cal_rising.proofs.WithoutLemmas.{is_member-head}
 use Rattle.cal_rising.proofs.branch.Branch.has.Goals as goal
+use Rattle.cal_text.proofs.General.{same_word}
 
 pub returns-in-Some-clause-has : goal.returns-in-Some-clause-has
 returns-in-Some-clause-has g c =

@@ -1,9 +1,10 @@
 use Rattle.std.proofs.Common.{◌∙◌, ◌++◌, ap, sym, arith}
 use Rattle.std.proofs.lemmas.List.{append-nil, drop_all}
-use Rattle.cal_span.proofs.SpanCounts.{led, led_taken, led_skipped, counts_in_row-led, appended}
+use Rattle.cal_span.proofs.SpanCounts.{led, led_taken, led_skipped, counts_in_row-led}
 use Rattle.cal_span.specs.headline.SpanText.{positive, counts_of}
 use Rattle.cal_span.proofs.span.text.push_counts.Goals as goal
 use Rattle.cal_span.proofs.span.text.push_counts.Goals.{then-rest-size, else-rest-size}
+use Rattle.cal_text.proofs.General.{appended}
 
 pub loop-scale-init : goal.loop-scale-init
 loop-scale-init c = record {

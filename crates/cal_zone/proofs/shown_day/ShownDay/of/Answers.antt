@@ -6,9 +6,9 @@ use Rattle.cal_zone.specs.Civil.{at_second}
 use Rattle.cal_zone.specs.InstantText.{day_text}
 use Rattle.cal_zone.specs.headline.InstantText.{zone_word}
 use Rattle.cal_zone.specs.headline.Zone.{is_utc, zone_of}
-use Rattle.cal_zone.proofs.RuleLemmas.{min_from}
-use Rattle.cal_zone.proofs.ShownDayLemmas.{day_goes_on, max_to, seconds_shown, text_on_day}
+use Rattle.cal_zone.proofs.ShownDayLemmas.{day_goes_on, seconds_shown, text_on_day}
 use Rattle.cal_zone.proofs.shown_day.ShownDay.of.Goals as goal
+use Rattle.cal_text.proofs.General.{max_to, min_from}
 
 pub overflow_sub-midnight : goal.overflow_sub-midnight
 overflow_sub-midnight c =

@@ -2,8 +2,9 @@ use Rattle.std.proofs.Common.{◌∙◌, sym, ap, is_some}
 use Rattle.std.specs.FinMap.{insert}
 use Rattle.cal_zone.specs.headline.Zone.{zone_of}
 use Rattle.cal_zone.specs.ZoneMap.{zone_map_in}
-use Rattle.cal_zone.proofs.ZoneMapLemmas.{is_some-option_map, zone_map_in-insert}
+use Rattle.cal_zone.proofs.ZoneMapLemmas.{zone_map_in-insert}
 use Rattle.cal_zone.proofs.zone_table.ZoneTable.add_named.Goals as goal
+use Rattle.cal_text.proofs.General.{is_some-option_map}
 
 pub returns-in-Ok-insert-clause-added : goal.returns-in-Ok-insert-clause-added
 returns-in-Ok-insert-clause-added c =
