@@ -74,7 +74,7 @@ impl<'z> Elapses<'z> {
     pub fn searches(&self) -> u64
         ensures { result ≡ self.now.searcher.searches }
     {
-        self.window.searches()
+        self.window.searcher.searches()
     }
 
     /// The most months that one of the searches made so far looked at.
@@ -82,7 +82,7 @@ impl<'z> Elapses<'z> {
         ensures kept { result ≡ self.now.searcher.most_months }
         ensures few { result ≤ 2_760 }
     {
-        self.window.most_months()
+        self.window.searcher.most_months()
     }
 }
 
@@ -123,7 +123,7 @@ impl Rising for Elapses<'_> {
         ensures window { self.new ≡ self.old }
     {
         match Instant::new(number) {
-            Some(instant) if self.window.last() < number => self.all.has(instant),
+            Some(instant) if self.window.last < number => self.all.has(instant),
             _ => false,
         }
     }

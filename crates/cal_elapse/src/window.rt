@@ -20,14 +20,14 @@ const FARTHEST: u64 = 93_599;
 /// What is pending of the elapses of an expression in a zone. Every public call leaves it ready, as `IsReady` says.
 #[derive(Drop)]
 pub struct Window<'z> {
-    searcher: Searcher,
+    pub searcher: Searcher,
     zone: Placer<'z>,
     /// What all elapses are later than.
     base: i64,
     /// The match that was found and isn't placed yet.
     ahead: Option<u64>,
     /// The instant that was given last, or the base.
-    last: i64,
+    pub last: i64,
     /// The places above `last` of the matches before the one ahead.
     pending: Pending,
 }
@@ -150,28 +150,6 @@ impl<'z> Window<'z> {
             self.last = instant;
         }
         instant
-    }
-
-    /// The instant that was given last, or the base.
-    pub fn last(&self) -> i64
-        ensures { result ≡ self.now.last }
-    {
-        self.last
-    }
-
-    /// How often a match was searched so far.
-    pub fn searches(&self) -> u64
-        ensures { result ≡ self.now.searcher.searches }
-    {
-        self.searcher.searches()
-    }
-
-    /// The most months that one of the searches made so far looked at.
-    pub fn most_months(&self) -> u32
-        ensures kept { result ≡ self.now.searcher.most_months }
-        ensures few { result ≤ 2_760 }
-    {
-        self.searcher.most_months()
     }
 }
 

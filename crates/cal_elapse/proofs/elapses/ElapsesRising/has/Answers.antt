@@ -16,7 +16,7 @@ returns-in-Some-clause-has c =
     let number = c.args.number in
     let fits : FitsSigned w64 number = search rules in
     let last_fits : FitsSigned w64 w.last = search rules in
-    let above : w.last <ℤ number = omega (arith, signed_arith, c.last.ensures) in
+    let above : w.last <ℤ number = omega (arith, signed_arith) in
     let at : c.in-Some.instant.secs ≡ number = c.in-Some.ensures.value ∙ to_z-of_z w64 number fits in
     let here : (c.has.result ≡ true) ↔ IsPlace (timed_of w) c.in-Some.instant.secs =
     subst (λ (e : Timed). (c.has.result ≡ true) ↔ IsPlace e c.in-Some.instant.secs) c.self.invariant.1 c.has.ensures.has in
@@ -29,7 +29,7 @@ returns-in_default-clause-has c =
     let number = c.args.number in
     let fits : FitsSigned w64 number = search rules in
     let last_fits : FitsSigned w64 w.last = search rules in
-    let low : number ≤ℤ w.last = omega (arith, signed_arith, c.last.ensures) in
+    let low : number ≤ℤ w.last = omega (arith, signed_arith) in
     not_above w number low ∙ ap (λ (v : Window). is_member int_eq (rest_of v) number) c.self.view_is
 
 pub returns-in_default-2-clause-has : goal.returns-in_default-2-clause-has
