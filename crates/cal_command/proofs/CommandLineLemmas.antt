@@ -1,5 +1,5 @@
 -- The command of `clap`, and what it found.
-use Rattle.std.proofs.Common.{◌≡◌, ◌≢◌, List, [], ◌∷◌, ◌++◌, append_assoc, Some, Bool, true, false, refl, sym, ap, ◌∙◌, inl, inr, ◌⊎◌, Result, Ok, Err}
+use Rattle.std.proofs.Common.{arith, ◌≡◌, ◌≢◌, List, [], ◌∷◌, ◌++◌, append_assoc, Some, Bool, true, false, refl, sym, ap, ◌∙◌, inl, inr, ◌⊎◌, Result, Ok, Err}
 use Rattle.std.specs.Prelude.{not}
 use Rattle.std.specs.List.{list_any}
 use Rattle.std.proofs.lemmas.Bool.{or_left, or_right}
@@ -29,25 +29,15 @@ is_simple_command = refl
 
 among : (p : ErrorKind → Bool) (kind : ErrorKind) (kinds : Kinds) → IsAmong kind kinds → p kind ≡ true → list_any p kinds ≡ true
 among p kind [] at holds = absurd at
-among p kind (k ∷ ks) (inl same) holds = or_left (p k) (list_any p ks) (ap p (sym same) ∙ holds)
-among p kind (k ∷ ks) (inr later) holds = or_right (p k) (list_any p ks) (among p kind ks later holds)
-
-not_taken : (b : Bool) (kind : ErrorKind) → (b ≡ true → kind ≡ OutOfMemory) → kind ≢ OutOfMemory → b ≡ false
-not_taken true kind h other = absurd (other (h refl))
-not_taken false kind h other = refl
-
-refused_by : (p : ErrorKind → Bool) (kind : ErrorKind) (kinds : Kinds) → (kind ≡ OutOfMemory) ⊎ IsAmong kind kinds → kind ≢ OutOfMemory → p kind ≡ true
-    → list_any p kinds ≡ true
-refused_by p kind kinds (inl memory) other holds = absurd (other memory)
-refused_by p kind kinds (inr at) other holds = among p kind kinds at holds
+among p kind (k ∷ ks) (inl same) holds = grind (arith, ap p same)
+among p kind (k ∷ ks) (inr later) holds = grind (arith, among p kind ks later holds)
 
 -- what is reported of a fault of `clap` is its fault
 pub reported_fault : (arguments : List Text) (kind : ErrorKind) (said : CommandFault) → (takes_arguments arguments ≡ true → kind ≡ OutOfMemory)
     → (kind ≡ OutOfMemory) ⊎ IsAmong kind (faults_in arguments) → IsReportedOf kind said → IsFaultOf arguments said
 reported_fault arguments kind (usage text) passes kinds reported =
-    (not_taken (takes_arguments arguments) kind passes reported.1, refused_by (λ k. not (is_of_help k)) kind (faults_in arguments) kinds reported.1 (ap not reported.0))
-reported_fault arguments kind (help text) passes kinds reported =
-    (not_taken (takes_arguments arguments) kind passes reported.1, refused_by is_of_help kind (faults_in arguments) kinds reported.1 reported.0)
+    grind (arith, among (λ k. not (is_of_help k)) kind (faults_in arguments))
+reported_fault arguments kind (help text) passes kinds reported = grind (arith, among is_of_help kind (faults_in arguments))
 reported_fault arguments kind no_memory passes kinds reported = tt
 reported_fault arguments kind bad_iterations passes kinds reported = absurd reported
 reported_fault arguments kind bad_now passes kinds reported = absurd reported

@@ -22,18 +22,6 @@ use Rattle.cal_text.proofs.General.{any_below, none_above}
 own : IsNumeralModel (λ ds. all_ascii_digits ds ≡ true) (digits_value 10)
 own = numerals_by_value _ tells_all_ascii_digits
 
-guard-second : (a b c d : Bool) (n : ℕ) → b ≡ false → cond (a && b && c && d) (Some n) None ≡ None
-guard-second true b c d n h = rw h refl
-guard-second false b c d n h = refl
-
-guard-none : (b : Bool) (n : ℕ) → (b ≡ true → ⊥) → cond b (Some n) None ≡ None
-guard-none true n h = absurd (h refl)
-guard-none false n h = refl
-
-guard-some : (b : Bool) (n m : ℕ) → Some m ≡ cond b (Some n) None → (b ≡ true) × (m ≡ n)
-guard-some true n m h = (refl, cc)
-guard-some false n m h = absurd (cc)
-
 no_plus : (text : List ℕ) → get_or text 0 0 ≡ 43 → all_ascii_digits text ≡ false
 no_plus [] at = absurd (omega arith)
 no_plus (c ∷ cs) at = rw at refl
@@ -41,7 +29,7 @@ no_plus (c ∷ cs) at = rw at refl
 -- a sign is no digit
 pub number_between-plus : (least most : ℕ) (text : List ℕ) → get_or text 0 0 ≡ 43 → number_between least most text ≡ None
 unfolding number_between
-number_between-plus least most text at = guard-second _ _ _ _ _ (no_plus text at)
+number_between-plus least most text at = grind (arith, no_plus text at)
 
 -- a number that was read, if it is in range
 abbrev pub within : {E : Type 0} → ℕ → ℕ → Result ℕ E → Option ℕ
@@ -53,34 +41,19 @@ pub number_between-parsed : (E : Type 0) (least most : ℕ) (text : List ℕ) (r
     → most < 2 ^ 64 → number_between least most text ≡ within least most r
 unfolding number_between
 number_between-parsed E least most text (Ok n) read unsigned small =
-    let h = parse_plain own {E = E} 64 text (Ok n) read unsigned in
-    rw (lt-ltb 0 (length text) h.0.1, h.0.0, ← h.1) refl
+    grind (arith, nat_tests, parse_plain own {E = E} 64 text (Ok n) read unsigned)
 number_between-parsed E least most text (Err e) refused unsigned small =
-    let h = parse_plain own {E = E} 64 text (Err e) refused unsigned in
-    guard-none _ _ (λ holds.
-    let upper = and_parts _ _ holds in
-    let lower = and_parts _ _ upper.0 in
-    let digits = and_parts _ _ lower.0 in
-    let most_is : digits_value 10 text ≤ most = leb-true _ _ upper.1 in
-    h (digits.1, ltb-true _ _ digits.0, omega arith))
+    grind (arith, nat_tests, parse_plain own {E = E} 64 text (Err e) refused unsigned)
 
 -- a number in range is in range
 pub number_between-range : (least most n : ℕ) (text : List ℕ) → Some n ≡ number_between least most text → (least ≤ n) × (n ≤ most)
 unfolding number_between
-number_between-range least most n text is =
-    let h = guard-some _ _ _ is in
-    let upper = and_parts _ _ h.0 in
-    let lower = and_parts _ _ upper.0 in
-    rw h.1 (leb-true _ _ lower.1, leb-true _ _ upper.1)
-
-present_at : (b : ℕ) (bs : List ℕ) (t : Bool) → t ≡ (b == 64) → ((rest : List ℕ) → b ∷ bs ≢ 64 ∷ rest) → cond t (option_map pos (number_between 0 7_258_211_998 bs)) None ≡ None
-present_at b bs true is h = absurd (grind (arith, nat_tests, h bs))
-present_at b bs false is h = refl
+number_between-range least most n text is = grind (arith, nat_tests)
 
 pub present_in-none : (text : List ℕ) → ((rest : List ℕ) → text ≢ 64 ∷ rest) → present_in text ≡ None
 unfolding present_in
 present_in-none [] h = refl
-present_in-none (b ∷ bs) h = present_at b bs _ refl h
+present_in-none (b ∷ bs) h = grind (arith, nat_tests, h bs)
 
 pub present_in-some : (text rest : List ℕ) → text ≡ 64 ∷ rest → present_in text ≡ option_map pos (number_between 0 7_258_211_998 rest)
 unfolding present_in
@@ -88,8 +61,7 @@ present_in-some text rest at = rw at refl
 
 pub instant_some : (made : Option Instant) (secs : ℤ) → IsSome made ↔ IsInstant secs → IfSome made (λ instant. instant.secs ≡ secs) → IsInstant secs
     → option_map (λ instant. instant.secs) made ≡ Some secs
-instant_some None secs variant value inside = absurd (cc (variant.1 inside))
-instant_some (Some instant) secs variant value inside = ap Some value
+instant_some made secs variant value inside = grind (arith, variant)
 
 -- what `split_once` gives at a byte of ASCII
 pub parts_at-split : (c : ℕ) (text : List ℕ) (r : Option (Bor (List ℕ) × Bor (List ℕ))) → IsSplitOnceResult c text r → c < 128
@@ -119,10 +91,6 @@ ZonesRead done n left text =
     (option_map (λ later. done ++ later) (zone_items_in left) ≡ zone_items_in (slice_split is_comma text))
     × (n + length left ≡ length (slice_split is_comma text)) × (n ≤ 64)
 
-guard-zones : (b : Bool) (found : Option (List ZoneItem)) → found ≡ None → cond b found None ≡ None
-guard-zones true found none = none
-guard-zones false found none = refl
-
 items-bad : (item : List ℕ) (items : List (List ℕ)) → None ≡ zone_item_in item → zone_items_in (item ∷ items) ≡ None
 unfolding zone_items_in
 items-bad item items bad = rw (← bad) refl
@@ -135,18 +103,12 @@ items-good item items zone good = rw (← good) refl
 pub zones-bad : (text item : List ℕ) (left items : List (List ℕ)) (done : List ZoneItem) (n : ℕ) → ZonesRead done n left text → left ≡ item ∷ items
     → None ≡ zone_item_in item → None ≡ zones_in text
 unfolding zones_in
-zones-bad text item left items done n read is bad =
-    sym (guard-zones _ _ (sym read.0 ∙ ap (option_map (λ later. done ++ later)) (ap zone_items_in is ∙ items-bad item items bad)))
-
-above_most : (n : ℕ) → 64 < n → nat_le n 64 ≡ false
-above_most n more = grind (arith, nat_tests, more)
+zones-bad text item left items done n read is bad = grind (arith, read.0, ap zone_items_in is, items-bad item items bad)
 
 pub zones-full : (text item : List ℕ) (left items : List (List ℕ)) (done : List ZoneItem) (n : ℕ) → ZonesRead done n left text → left ≡ item ∷ items
     → n ≡ 64 → None ≡ zones_in text
 unfolding zones_in
-zones-full text item left items done n read is full =
-    let more = ap length is in
-    rw (above_most (length (slice_split is_comma text)) (omega (arith, more, read.1))) refl
+zones-full text item left items done n read is full = grind (arith, nat_tests, ap length is, read.1)
 
 pub zones-end : (text : List ℕ) (left : List (List ℕ)) (done : List ZoneItem) (n : ℕ) → ZonesRead done n left text → left ≡ [] → Some done ≡ zones_in text
 unfolding zones_in zone_items_in

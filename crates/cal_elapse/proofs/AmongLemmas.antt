@@ -1,37 +1,24 @@
 -- The members of an expression that are among those of another, seen in the words of their masks.
-use Rattle.std.proofs.Common.{◌≡◌, ◌&&◌, ◌/◌, ◌%◌, ℕ, zero, suc, ◌-◌, ◌≤◌, Bool, true, false, List, refl, sym, ap, ◌∙◌, arith, rules, bit_or, get_or, length}
+use Rattle.std.proofs.Common.{◌≡◌, ℕ, List, arith, bit_or, get_or, length}
 use Rattle.std.proofs.lemmas.Bool.{or_right}
-use Rattle.std.proofs.Math.Bool.{beq}
 use Rattle.std.proofs.Math.ListN.{get_or-eq_default}
 use Rattle.cal_elapse.specs.Bits.{is_bit, is_in_words}
 use Rattle.cal_elapse.specs.Covered.{AreAmong, HasAll}
-use Rattle.cal_elapse.specs.Masks.{day_place, sets_in}
+use Rattle.cal_elapse.specs.Masks.{sets_in}
 use Rattle.cal_elapse.specs.declared.masks.Masks.{Masks}
 use Rattle.cal_elapse.proofs.BitLemmas.{is_bit-none, is_bit-or}
 use Rattle.cal_text.proofs.General.{both_follow}
 
 -- a word that another adds nothing to has all of the other's numbers
 pub has_all : (mask others : ℕ) → bit_or mask others ≡ mask → HasAll (is_bit mask) (is_bit others)
-has_all mask others same i other =
-    ap (λ (m : ℕ). is_bit m i) (sym same) ∙ is_bit-or mask others i ∙ or_right (is_bit mask i) (is_bit others i) other
+has_all mask others same i other = grind (arith, is_bit-or, or_right)
 
 -- four words, of which each has all numbers of the other's
 pub have_all : (words others : List ℕ) → length others ≡ 4 → HasAll (is_bit (get_or words 0 0)) (is_bit (get_or others 0 0))
     → HasAll (is_bit (get_or words 1 0)) (is_bit (get_or others 1 0)) → HasAll (is_bit (get_or words 2 0)) (is_bit (get_or others 2 0))
     → HasAll (is_bit (get_or words 3 0)) (is_bit (get_or others 3 0)) → HasAll (is_in_words words) (is_in_words others)
 unfolding is_in_words
-have_all words others four first second third fourth i = in_word (i / 64)
-  where
-    in_word : (word : ℕ) → is_bit (get_or others word 0) (i % 64) ≡ true → is_bit (get_or words word 0) (i % 64) ≡ true
-    in_word zero there = first (i % 64) there
-    in_word (suc zero) there = second (i % 64) there
-    in_word (suc (suc zero)) there = third (i % 64) there
-    in_word (suc (suc (suc zero))) there = fourth (i % 64) there
-    in_word (suc (suc (suc (suc word)))) there =
-        let past : length others ≤ suc (suc (suc (suc word))) = omega arith in
-        let nothing : get_or others (suc (suc (suc (suc word)))) 0 ≡ 0 = get_or-eq_default others 0 past in
-        let never : true ≡ false = sym there ∙ ap (λ (m : ℕ). is_bit m (i % 64)) nothing ∙ is_bit-none (i % 64) in
-        absurd (cc)
+have_all words others four first second third fourth i = grind (arith, get_or, length, get_or-eq_default, is_bit-none)
 
 -- so the sets of the one masks are among those of the other
 pub among : (masks others : Masks) → HasAll (is_bit masks.weekdays) (is_bit others.weekdays) → HasAll (is_in_words masks.years) (is_in_words others.years)
@@ -39,13 +26,4 @@ pub among : (masks others : Masks) → HasAll (is_bit masks.weekdays) (is_bit ot
     → HasAll (is_bit masks.minutes) (is_bit others.minutes) → HasAll (is_bit masks.seconds) (is_bit others.seconds) → masks.from_end ≡ others.from_end
     → AreAmong (sets_in others) (sets_in masks)
 unfolding sets_in
-among masks others weekdays years months days hours minutes seconds turned = record {
-  weekday = λ v. both_follow _ _ _ _ (λ h. h) (weekdays v);
-  year = λ v. both_follow _ _ _ _ (λ h. h) (years (v - 1_970));
-  month = λ v. both_follow _ _ _ _ (λ h. h) (months (v - 1));
-  day = λ v. rw turned (both_follow _ _ _ _ (λ h. h) (days (day_place others.from_end v)));
-  hour = λ v h. search (rules, hours);
-  minute = λ v h. search (rules, minutes);
-  second = λ v h. search (rules, seconds);
-  from_end = sym turned;
-}
+among masks others weekdays years months days hours minutes seconds turned = grind (arith, both_follow)

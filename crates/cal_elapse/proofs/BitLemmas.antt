@@ -1,11 +1,10 @@
 -- The bits of a word.
-use Rattle.std.proofs.Common.{◌≡◌, ◌==◌, ℕ, ◌+◌, ◌&&◌, ◌||◌, bit_and, bit_or, min, max, ◌*◌, ◌-◌, ◌/◌, ◌%◌, ◌^◌, ◌<◌, ◌≤◌, true, false, Some, w64, ap, pow_pos, subst, inl, inr, sym, ◌∙◌, arith, nat_le, nat_lt, ◌≢◌, suc}
+use Rattle.std.proofs.Common.{◌≡◌, ◌==◌, ℕ, ◌+◌, ◌&&◌, ◌||◌, bit_and, bit_or, ◌*◌, ◌-◌, ◌/◌, ◌%◌, ◌^◌, ◌<◌, ◌≤◌, true, false, Some, w64, ap, pow_pos, subst, inl, inr, sym, ◌∙◌, arith, nat_le, nat_lt, ◌≢◌}
 use Rattle.std.specs.Int.{bit_at, trailing_zeros}
 use Rattle.std.proofs.lemmas.Bool.{cases_lt, le-ltb, lt-ltb}
 use Rattle.std.proofs.lemmas.Bool.Decides.{nat_tests}
-use Rattle.std.proofs.lemmas.Nat.{shr-shr, shr_le}
-use Rattle.std.proofs.lemmas.Nat.Bits.{bit_at-lt, bit_at-trailing_zeros, bit_at-zero, bit_at_above, bit_at_and, bit_at_cat_high, bit_at_cat_low, bit_at_or, bit_at_mask_above, bit_at_mask_below, bit_at_mask_inside, bit_at_ones, bit_at_ones_above, ones_shl, ones_shr, bit_at-pow_other, bit_at-pow_same, same_from_bits_below}
-use Rattle.std.proofs.Math.Nat.{div-add-mod', mod-lt, pow-suc}
+use Rattle.std.proofs.lemmas.Nat.{shr_le}
+use Rattle.std.proofs.lemmas.Nat.Bits.{bit_at-lt, bit_at-trailing_zeros, bit_at-zero, bit_at_above, bit_at_and, bit_at_cat_high, bit_at_cat_low, bit_at_or, bit_at_mask_above, bit_at_mask_below, bit_at_mask_inside, bit_at_ones, bit_at_ones_above, ones_shl, ones_shr}
 use Rattle.cal_elapse.specs.Bits.{is_bit}
 use Rattle.cal_elapse.specs.Search.{IsFirstPassing, NonePasses}
 use Rattle.cal_text.proofs.General.{IsLowestBit, bit_at-mod, bit_at-shift, bit_at-small, high_bits_same, less_split, max_of_bits, min_none, min_none_right, min_of_bits, min_same}
@@ -111,26 +110,13 @@ ones_from low i within =
 
 pub is_bit-run : (low high i : ℕ) → low < high → high ≤ 64
     → is_bit (bit_and ((2 ^ 64 - 1) * 2 ^ low % 2 ^ 64) ((2 ^ 64 - 1) / 2 ^ (64 - high))) i ≡ (nat_le low i && nat_lt i high)
-is_bit-run low high i some within =
-    let from = ones_from low i (omega arith) in
-    let below = ones_below high i within in
-    let both : ((nat_le low i && nat_lt i 64) && nat_lt i high) ≡ (nat_le low i && nat_lt i high) = grind (arith, nat_tests) in
-    is_bit-and ((2 ^ 64 - 1) * 2 ^ low % 2 ^ 64) ((2 ^ 64 - 1) / 2 ^ (64 - high)) i ∙ (rw (from, below) both)
+is_bit-run low high i some within = grind (arith, ones_from, ones_below, nat_le, nat_lt, nat_tests, is_bit-and)
 
 -- A word without its lowest number
 
 lowest_of : (m k : ℕ) → m < 2 ^ 64 → IsFirstPassing (is_bit m) 0 64 (Some k) → IsLowestBit m k
 unfolding is_bit
-lowest_of m k fits first = record {
-  one = bit_one m k first.2;
-  none = λ i low. bit_none m i (first.3 i (omega arith) low);
-}
-  where
-    bit_one : (m i : ℕ) → (bit_at m i == 1) ≡ true → bit_at m i ≡ 1
-    bit_one m i h = grind (arith, nat_tests)
-
-    bit_none : (m i : ℕ) → (bit_at m i == 1) ≡ false → bit_at m i ≡ 0
-    bit_none m i h = let small = bit_at-lt m i in let other : bit_at m i ≢ 1 = grind (arith, nat_tests) in omega arith
+lowest_of m k fits first = grind (arith, nat_tests, bit_at-lt)
 
 pub without_lowest-cleared : (m k : ℕ) → m < 2 ^ 64 → IsFirstPassing (is_bit m) 0 64 (Some k) → is_bit (bit_and m (m - 1)) k ≡ false
 without_lowest-cleared m k fits first =

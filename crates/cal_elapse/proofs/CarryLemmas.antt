@@ -1,6 +1,6 @@
 -- The first number that passes, where a number is a high part and a low one, each with a test of its own: a search goes
 -- on with the low part, and then with the next high one and its first low one.
-use Rattle.std.proofs.Common.{◌≡◌, ℕ, ◌+◌, ◌*◌, ◌/◌, ◌%◌, ◌<◌, ◌≤◌, Bool, true, false, ◌&&◌, Option, None, Some, ap, sym, subst, inl, inr, ◌∙◌, refl, arith, add-mul, one-mul, mul-le-mul_right}
+use Rattle.std.proofs.Common.{◌≡◌, ℕ, ◌+◌, ◌*◌, ◌/◌, ◌%◌, ◌<◌, ◌≤◌, Bool, true, false, ◌&&◌, Option, Some, ap, subst, inl, inr, ◌∙◌, refl, arith, add-mul, one-mul, mul-le-mul_right}
 use Rattle.std.proofs.lemmas.Bool.{cases_lt, and_from, and_left, and_right}
 use Rattle.std.proofs.lemmas.Nat.{div-add-mod', div_below, le-div, mod_below}
 use Rattle.cal_elapse.specs.Search.{IsFirstPassing, NonePasses}
@@ -8,14 +8,7 @@ use Rattle.cal_text.proofs.General.{quotient_part, remainder_part}
 
 -- a search in two parts
 pub first_then : (passes : ℕ → Bool) (from mid end : ℕ) (r : Option ℕ) → NonePasses passes from mid → from ≤ mid → IsFirstPassing passes mid end r → IsFirstPassing passes from end r
-first_then passes from mid end None none low rest = λ t above below.
-    elim (cases_lt t mid) [ inl early ↦ none t above early | inr late ↦ rest t late below ]
-first_then passes from mid end (Some s) none low rest = (
-  omega (arith, rest.0),
-  rest.1,
-  rest.2,
-  λ t above below. elim (cases_lt t mid) [ inl early ↦ none t above early | inr late ↦ rest.3 t late below ],
-)
+first_then passes from mid end r none low rest = grind arith
 
 -- the first up to some end is the first up to a later one
 pub first_within : (passes : ℕ → Bool) (from mid end s : ℕ) → mid ≤ end → IsFirstPassing passes from mid (Some s) → IsFirstPassing passes from end (Some s)
@@ -27,11 +20,9 @@ pub record Splits (passes high low : ℕ → Bool) (size limit : ℕ) : Type 0 w
   pub split : (a b : ℕ) → a < limit → b < size → passes (a * size + b) ≡ (high a && low b)
 
 low_end : (size a l t : ℕ) → t / size ≡ a → t < a * size + l → t % size < l
-low_end size a l t same low =
-    let parts : a * size + t % size ≡ t = (rw same at (div-add-mod' t size)) in
-    omega (arith, parts)
+low_end size a l t same low = grind (arith, div-add-mod')
 
-module _ (passes high low : ℕ → Bool) (size limit : ℕ) (s : Splits passes high low size limit) where
+module _ {passes high low : ℕ → Bool} {size limit : ℕ} (s : Splits passes high low size limit) where
   pub split_at : (a t : ℕ) → a < limit → t / size ≡ a → passes t ≡ (high a && low (t % size))
   split_at a t inside same =
       let parts : a * size + t % size ≡ t = (rw same at (div-add-mod' t size)) in
@@ -41,28 +32,28 @@ module _ (passes high low : ℕ → Bool) (size limit : ℕ) (s : Splits passes 
   next_high a = add-mul a 1 size ∙ ap (λ (n : ℕ). a * size + n) (one-mul size)
 
   -- none with this high part
-  pub none_by_high : (a l : ℕ) → a < limit → high a ≡ false → NonePasses passes (a * size + l) ((a + 1) * size)
-  none_by_high a l inside fails = λ t above below.
-      let same = quotient_part size a t s.positive (omega (arith, above)) below in
+  pub none_by_high : (a l from : ℕ) → a * size + l ≡ from → a < limit → high a ≡ false → NonePasses passes from ((a + 1) * size)
+  none_by_high a l from parts inside fails = λ t above below.
+      let same = quotient_part size a t s.positive (omega arith) below in
       split_at a t inside same ∙ and_left (high a) (low (t % size)) fails
 
-  pub none_by_low : (a l end : ℕ) → a < limit → size ≤ end → NonePasses low l end → NonePasses passes (a * size + l) ((a + 1) * size)
-  none_by_low a l end inside far none = λ t above below.
-      let same = quotient_part size a t s.positive (omega (arith, above)) below in
+  pub none_by_low : (a l from end : ℕ) → a * size + l ≡ from → a < limit → size ≤ end → NonePasses low l end → NonePasses passes from ((a + 1) * size)
+  none_by_low a l from end parts inside far none = λ t above below.
+      let same = quotient_part size a t s.positive (omega arith) below in
       let small = mod_below t size s.positive in
-      split_at a t inside same ∙ and_right (high a) (low (t % size)) (none (t % size) (remainder_part size a l t same above) (omega (arith, small)))
+      split_at a t inside same ∙ and_right (high a) (low (t % size)) (none (t % size) (remainder_part size a l t same (omega arith)) (omega (arith, small)))
 
   -- the first with this high part
-  pub first_here : (a l end b : ℕ) → a < limit → high a ≡ true → b < size → IsFirstPassing low l end (Some b)
-      → IsFirstPassing passes (a * size + l) ((a + 1) * size) (Some (a * size + b))
-  first_here a l end b inside holds small found =
+  pub first_here : (a l from end b : ℕ) → a * size + l ≡ from → a < limit → high a ≡ true → b < size → IsFirstPassing low l end (Some b)
+      → IsFirstPassing passes from ((a + 1) * size) (Some (a * size + b))
+  first_here a l from end b parts inside holds small found =
       let next = next_high a in (
         omega (arith, found.0),
         omega (arith, next),
         s.split a b inside small ∙ and_from (high a) (low b) holds found.2,
         λ t above below.
-            let same = quotient_part size a t s.positive (omega (arith, above)) (omega (arith, below, next)) in
-            split_at a t inside same ∙ and_right (high a) (low (t % size)) (found.3 (t % size) (remainder_part size a l t same above) (low_end size a b t same below)),
+            let same = quotient_part size a t s.positive (omega arith) (omega (arith, below, next)) in
+            split_at a t inside same ∙ and_right (high a) (low (t % size)) (found.3 (t % size) (remainder_part size a l t same (omega arith)) (low_end size a b t same below)),
       )
 
   -- none with a later high part

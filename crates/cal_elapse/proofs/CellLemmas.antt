@@ -4,12 +4,11 @@ use Rattle.std.specs.List.{position, position_or_len}
 use Rattle.std.proofs.lemmas.Bool.{cases_eq, cases_lt, eq-eqb, ne_eqb, not-true, not-false}
 use Rattle.std.proofs.lemmas.List.{get_or-drop}
 use Rattle.std.proofs.lemmas.List.Sums.{prefix_len_passes, prefix_len_stops}
-use Rattle.std.proofs.lemmas.Nat.Bits.{bit_at-zero}
 use Rattle.cal_elapse.specs.Bits.{is_bit, is_in_words}
 use Rattle.cal_elapse.specs.Ring.{is_held}
 use Rattle.cal_elapse.specs.Scan.{is_set}
 use Rattle.cal_elapse.specs.Search.{IsFirstPassing}
-use Rattle.cal_elapse.proofs.BitLemmas.{is_bit-zero, is_bit-none}
+use Rattle.cal_elapse.proofs.BitLemmas.{is_bit-none}
 
 -- The first word that has a bit
 
@@ -32,27 +31,13 @@ word_there : (xs : List ℕ) → position_or_len is_set xs < length xs → 0 < g
 word_there xs h = set_of (get_or xs (position_or_len is_set xs) 0) (not-false _ (prefix_len_stops (λ x. not (is_set x)) xs 0 h))
 
 by_index : (n k len : ℕ) → ◌≡◌ {A = Option ℕ} (cond (ltb n len) (Some n) None) (Some k) → (n ≡ k) × (n < len)
-by_index n k len h =
-    elim (cases_lt n len) [
-      | inl inside ↦ (let e : ltb n len ≡ true = grind (arith) in let same = rw e at h in cc, inside)
-      | inr outside ↦ absurd (let e : ltb n len ≡ false = grind (arith) in let same = rw e at h in cc)
-    ]
+by_index n k len h = grind (arith, ltb)
 
 by_none : (n len : ℕ) → ◌≡◌ {A = Option ℕ} (cond (ltb n len) (Some n) None) None → len ≤ n
-by_none n len h =
-    elim (cases_lt n len) [
-      | inl inside ↦ absurd (let e : ltb n len ≡ true = grind (arith) in let same = rw e at h in cc)
-      | inr outside ↦ outside
-    ]
+by_none n len h = grind (arith, ltb)
 
 pub position-first : (xs : List ℕ) (k : ℕ) → position is_set xs ≡ Some k → IsFirstSet xs k
-position-first xs k h =
-    let at = by_index (position_or_len is_set xs) k (length xs) h in
-    record {
-      inside = subst (λ (n : ℕ). n < length xs) at.0 at.1;
-      some = subst (λ (n : ℕ). 0 < get_or xs n 0) at.0 (word_there xs at.1);
-      zeros = λ j lt. word_before xs j (omega (arith, at.0));
-    }
+position-first xs k h = grind (arith, by_index, length, get_or, word_there, word_before)
 
 pub position-all : (xs : List ℕ) → position is_set xs ≡ None → (k : ℕ) → k < length xs → get_or xs k 0 ≡ 0
 position-all xs h k lt = let long = by_none (position_or_len is_set xs) (length xs) h in word_before xs k (omega arith)
@@ -70,8 +55,6 @@ in_zero words t word same zero = in_word words t word same ∙ (ap (λ (w : ℕ)
 pub found_here : (words : List ℕ) (from bit cell : ℕ) → from < 187_200 → IsFirstPassing (is_bit (get_or words (from / 64) 0)) (from % 64) 64 (Some bit)
     → cell ≡ from / 64 * 64 + bit → IsFirstPassing (is_in_words words) from 187_200 (Some cell)
 found_here words from bit cell inside found is =
-    let low = found.0 in
-    let high = found.1 in
     let place : cell % 64 ≡ bit = omega arith in (
       omega arith,
       omega arith,
@@ -99,7 +82,6 @@ pub found_later : (words : List ℕ) (from later bit cell : ℕ) → length word
     → IsFirstPassing (is_bit (get_or words (from / 64) 0)) (from % 64) 64 None → IsFirstSet (drop (from / 64 + 1) words) later → from / 64 + 1 + later < 2_925
     → IsFirstPassing (is_bit (get_or words (from / 64 + 1 + later) 0)) 0 64 (Some bit) → cell ≡ (from / 64 + 1 + later) * 64 + bit → IsFirstPassing (is_in_words words) from 187_200 (Some cell)
 found_later words from later bit cell long inside none first there found is =
-    let high = found.1 in
     let place : cell % 64 ≡ bit = omega arith in
     let word : cell / 64 ≡ from / 64 + 1 + later = omega arith in (
       omega arith,
@@ -127,35 +109,12 @@ held_at words t cell same = ap (is_in_words words) same
 
 pub held_first : (words : List ℕ) (low found : ℕ) → IsFirstPassing (is_in_words words) (low % 187_200) 187_200 (Some found)
     → IsFirstPassing (is_held words) low (low + 187_200) (Some (low - low % 187_200 + found))
-held_first words low found first =
-    let above = first.0 in
-    let below = first.1 in (
-      omega arith,
-      omega arith,
-      held_at words (low - low % 187_200 + found) found (omega arith) ∙ first.2,
-      λ t late early. held_at words t (t % 187_200) refl ∙ first.3 (t % 187_200) (omega arith) (omega arith),
-    )
+held_first words low found first = grind (arith, held_at)
 
 -- round the end of the cells
 pub held_turned : (words : List ℕ) (low found : ℕ) → IsFirstPassing (is_in_words words) (low % 187_200) 187_200 None → IsFirstPassing (is_in_words words) 0 187_200 (Some found)
     → IsFirstPassing (is_held words) low (low + 187_200) (Some (low - low % 187_200 + 187_200 + found))
-held_turned words low found none first =
-    let below = first.1 in
-    let early = before_low words low found none first in (
-      omega arith,
-      omega arith,
-      held_at words (low - low % 187_200 + 187_200 + found) found (omega arith) ∙ first.2,
-      λ t late sooner. held_at words t (t % 187_200) refl ∙ empty_cell words low found (t % 187_200) none first (omega arith) (omega arith),
-    )
-  where
-    before_low : (words : List ℕ) (low found : ℕ) → IsFirstPassing (is_in_words words) (low % 187_200) 187_200 None → IsFirstPassing (is_in_words words) 0 187_200 (Some found) → found < low % 187_200
-    before_low words low found none first =
-        elim (cases_lt found (low % 187_200)) [ inl h ↦ h | inr h ↦ absurd (let empty = none found h first.1 in let full = first.2 in cc) ]
-
-    empty_cell : (words : List ℕ) (low found cell : ℕ) → IsFirstPassing (is_in_words words) (low % 187_200) 187_200 None → IsFirstPassing (is_in_words words) 0 187_200 (Some found)
-        → cell < 187_200 → (cell < low % 187_200 → cell < found) → is_in_words words cell ≡ false
-    empty_cell words low found cell none first inside before =
-        elim (cases_lt cell (low % 187_200)) [ inl h ↦ first.3 cell (omega arith) (before h) | inr h ↦ none cell h inside ]
+held_turned words low found none first = grind (arith, held_at)
 
 pub held_never : (words : List ℕ) (low : ℕ) → IsFirstPassing (is_in_words words) 0 187_200 None → IsFirstPassing (is_held words) low (low + 187_200) None
 held_never words low none = λ t above below. held_at words t (t % 187_200) refl ∙ none (t % 187_200) (omega arith) (omega arith)

@@ -1,27 +1,21 @@
 -- How many numbers in a row pass a test.
-use Rattle.std.proofs.Common.{◌≡◌, ℕ, zero, suc, ◌+◌, ◌-◌, subst, ◌<◌, ◌≤◌, cond, Bool, true, false, refl, ap, ◌∙◌, arith}
+use Rattle.std.proofs.Common.{◌≡◌, ℕ, zero, suc, ◌+◌, ◌-◌, subst, ◌<◌, ◌≤◌, cond, Bool, true, refl, ap, ◌∙◌, arith}
 use Rattle.cal_elapse.specs.Search.{NonePasses}
 use Rattle.cal_elapse.specs.Window.{count_from}
 
 one_at_most : (b : Bool) → cond b 1 0 ≤ 1
-one_at_most true = omega arith
-one_at_most false = omega arith
+one_at_most b = grind arith
 
 -- no more than there are
 pub count_from-most : (passes : ℕ → Bool) (a k : ℕ) → count_from passes a k ≤ k
 unfolding count_from
 count_from-most passes a zero = omega arith
-count_from-most passes a (suc k) =
-    let before = count_from-most passes a k in
-    let here = one_at_most (passes (a + k)) in
-    omega arith
+count_from-most passes a (suc k) = omega (arith, count_from-most passes a k, one_at_most (passes (a + k)))
 
 -- one more that passes
 pub count_from-one : (passes : ℕ → Bool) (a k : ℕ) → passes (a + k) ≡ true → count_from passes a (k + 1) ≡ count_from passes a k + 1
 unfolding count_from
-count_from-one passes a k holds =
-    let next : k + 1 ≡ suc k = omega arith in
-    rw (next, holds)
+count_from-one passes a k holds = grind arith
 
 -- and some more that don't
 pub count_from-none : (passes : ℕ → Bool) (a k n : ℕ) → NonePasses passes (a + k) (a + k + n) → count_from passes a (k + n) ≡ count_from passes a k
@@ -75,8 +69,7 @@ count_from-both passes a k zero = let same : k + zero ≡ k = omega arith in rw 
 count_from-both passes a k (suc n) =
     let next : k + suc n ≡ suc (k + n) = omega arith in
     let place : a + (k + n) ≡ a + k + n = omega arith in
-    let before = count_from-both passes a k n in
-    rw (next, place) (omega arith)
+    rw (next, place) (omega (arith, count_from-both passes a k n))
 
 -- and those from a number on to a later one
 pub count_from-part : (passes : ℕ → Bool) (start local last : ℕ) → start ≤ local → local ≤ last

@@ -28,12 +28,7 @@ matches_among sets others h local =
 -- so in one zone it elapses only where they do
 pub place_among : (fields others : Fields) (zone : TimeZone) → AreAmong (sets_of fields) (sets_of others) → IsCovered (timed fields zone) (timed others zone ∷ [])
 unfolding timed
-place_among fields others zone among i p = inl (record {
-  local = p.local;
-  within = p.within;
-  is_match = matches_among (sets_of fields) (sets_of others) among p.local p.is_match;
-  placed = p.placed;
-})
+place_among fields others zone among i p = grind (arith, matches_among)
 
 below : (i : ℤ) → (i -ℤ pos 1) <ℤ i
 below i = omega (arith, ints)
@@ -73,10 +68,7 @@ IsElapse-either [] fs i h = inr h
 IsElapse-either (e ∷ es) fs i (inl here) = inl (inl here)
 IsElapse-either (e ∷ es) fs i (inr rest) = elim (IsElapse-either es fs i rest) [ inl h ↦ inl (inr h) | inr h ↦ inr h ]
 
--- none are kept of none; one more is kept, or left out where it is covered
-pub kept_none : (exceptions : List Timed) → AreKept [] exceptions []
-kept_none exceptions = record { within = λ i h. h; rest = λ i h. inl h }
-
+-- one more is kept, or left out where it is covered
 pub kept_one : (all exceptions kept : List Timed) (e : Timed) → AreKept all exceptions kept → AreKept (all ++ e ∷ []) exceptions (kept ++ e ∷ [])
 kept_one all exceptions kept e h = record {
   within = λ i m.

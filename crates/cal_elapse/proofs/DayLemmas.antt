@@ -1,5 +1,5 @@
 -- The days of a month that match, as a word.
-use Rattle.std.proofs.Common.{◌≡◌, ℕ, ◌+◌, ◌-◌, ◌*◌, ◌/◌, ◌%◌, ◌^◌, ◌<◌, ◌≤◌, Bool, true, false, ◌&&◌, nat_le, nat_lt, bit_and, if◌then◌else◌, ap, refl, sym, inl, inr, ◌∙◌, arith}
+use Rattle.std.proofs.Common.{◌≡◌, ℕ, ◌+◌, ◌-◌, ◌*◌, ◌/◌, ◌%◌, ◌^◌, ◌<◌, ◌≤◌, Bool, true, false, ◌&&◌, nat_le, nat_lt, bit_and, if◌then◌else◌, sym, inl, inr, ◌∙◌, arith}
 use Rattle.std.proofs.lemmas.Bool.{cases_lt, and_right}
 use Rattle.std.proofs.lemmas.Bool.Decides.{nat_tests}
 use Rattle.std.proofs.lemmas.Nat.{one_shl}
@@ -26,30 +26,13 @@ day_at : (days : ℕ) (from_end : Bool) (length k : ℕ) → length ≤ 31 → k
     → ((nat_le 1 (if from_end then length - k else k + 1) && nat_le (if from_end then length - k else k + 1) 31)
     && is_bit days (day_place from_end (if from_end then length - k else k + 1)))
     ≡ is_bit days ((if from_end then 31 - length else 0) + k)
-day_at days true length k short small =
-    let least : nat_le 1 (length - k) ≡ true = grind (arith, nat_tests) in
-    let most : nat_le (length - k) 31 ≡ true = grind (arith, nat_tests) in
-    let place : 31 - (length - k) ≡ 31 - length + k = omega arith in
-    rw (least, most, place)
-day_at days false length k short small =
-    let least : nat_le 1 (k + 1) ≡ true = grind (arith, nat_tests) in
-    let most : nat_le (k + 1) 31 ≡ true = grind (arith, nat_tests) in
-    let place : k + 1 - 1 ≡ 0 + k = omega arith in
-    rw (least, most, place)
+day_at days from_end length k short small = grind (arith, nat_le, nat_tests)
 
 in_order : (d w y m : Bool) → (y && m) ≡ true → ((d && w) && true) ≡ (w && (y && (m && d)))
-in_order true true true true h = refl
-in_order true false true true h = refl
-in_order false true true true h = refl
-in_order false false true true h = refl
-in_order d w true false h = absurd (cc)
-in_order d w false m h = absurd (cc)
+in_order d w y m h = grind arith
 
 weekday_at : (m : Masks) (first k : ℕ) → k < 31 → is_bit m.weekdays ((first + 3) % 7 + k) ≡ (nat_lt ((first + k + 3) % 7) 7 && is_bit m.weekdays ((first + k + 3) % 7))
-weekday_at m first k small =
-    let same : ((first + 3) % 7 + k) % 7 ≡ (first + k + 3) % 7 = omega arith in
-    let week : nat_lt ((first + k + 3) % 7) 7 ≡ true = (let below : (first + k + 3) % 7 < 7 = omega arith in grind (arith, nat_tests)) in
-    rw week (m.weeks ((first + 3) % 7 + k) (omega arith) ∙ ap (is_bit m.weekdays) same)
+weekday_at m first k small = grind (arith, nat_lt, nat_tests)
 
 -- the day mask and the weekday mask, turned to the month's first day, have its days that match
 pub days_are : (m : Masks) (n first length lowest ones k : ℕ) → n < 2_760 → first ≡ first_day n → length ≡ length_of n
@@ -71,11 +54,4 @@ days_are m n first length lowest ones k within begins long place member small al
 
 -- and none after its last day
 pub days_end : (bits ones length k : ℕ) → ((i : ℕ) → is_bit ones i ≡ nat_lt i length) → is_bit (bit_and bits ones) k ≡ true → k < length
-days_end bits ones length k all holds =
-    elim (cases_lt k length) [
-      | inl low ↦ low
-      | inr high ↦
-          (let out : nat_lt k length ≡ false = grind (arith, nat_tests) in
-          let none : is_bit (bit_and bits ones) k ≡ false = is_bit-and bits ones k ∙ and_right (is_bit bits k) (is_bit ones k) (all k ∙ out) in
-          let clash : true ≡ false = sym holds ∙ none in absurd (cc))
-    ]
+days_end bits ones length k all holds = grind (arith, nat_lt, nat_tests, bit_and, is_bit-and, and_right)

@@ -1,5 +1,5 @@
 -- What an expression in a zone answers of an instant, and what that says of the rest of its elapses.
-use Rattle.std.proofs.Common.{◌<◌, ◌≡◌, ◌↔◌, ◌∙◌, ℕ, Bool, true, false, [], ◌∷◌, inl, inr, None, Some, ℤ, pos, ◌<ℤ◌, ◌≤ℤ◌, ap, arith, sym, int_eq}
+use Rattle.std.proofs.Common.{◌<◌, ◌≡◌, ◌↔◌, ℕ, Bool, true, false, [], ◌∷◌, inl, inr, None, Some, ℤ, pos, ◌<ℤ◌, ◌≤ℤ◌, arith, int_eq}
 use Rattle.std.proofs.lemmas.Bool.{false≢true}
 use Rattle.jiff.proofs.SpanFacts.{signed_arith}
 use Rattle.std.specs.Set.{is_member}
@@ -26,13 +26,7 @@ use Rattle.cal_elapse.proofs.ElapsesLemmas.{AreAbove-elapses_after}
 pub has-local : (masks : Masks) (zone : Zone) (instant : ℤ) (local : ℕ) (b : Bool) → local < seconds_in_all → place_of (zone_of zone) (pos local) ≡ Some instant
     → b ≡ matches (sets_in masks) local → (b ≡ true) ↔ IsPlace (timed_by masks zone) instant
 unfolding timed_by
-has-local masks zone instant local b within placed is = (
-  λ h. record { local = local; within = within; is_match = sym is ∙ h; placed = placed },
-  λ p.
-      let same : pos local ≡ pos p.local = one_local_second (zone_of zone) (pos local) (pos p.local) instant placed p.placed in
-      let one : local ≡ p.local = cc in
-      is ∙ ap (matches (sets_in masks)) one ∙ p.is_match,
-)
+has-local masks zone instant local b within placed is = grind (arith, one_local_second)
 
 pub has-none : (masks : Masks) (zone : Zone) (instant : ℤ) → IsLocalAt (zone_of zone) instant None → (false ≡ true) ↔ IsPlace (timed_by masks zone) instant
 unfolding timed_by
@@ -70,9 +64,7 @@ unfolding timed_by
 place-instant masks zone i low p =
     let count = seconds_in_all-is in
     let near = within (zone_of zone) (pos p.local) i p.placed in
-    let inside = p.within in
     (omega (arith, signed_arith), omega (arith, signed_arith, near))
 
 pub not_instant : (w : Window) (i : ℤ) → pos 0 ≤ℤ w.last → (IsInstant i → ⊥) → false ≡ is_member int_eq (rest_of w) i
-not_instant w i low outside =
-    not_in_rest w i (λ above p. outside (place-instant w.searcher.masks w.zone i (omega (arith, signed_arith)) p))
+not_instant w i low outside = grind (arith, not_in_rest, place-instant, signed_arith)

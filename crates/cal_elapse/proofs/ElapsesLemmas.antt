@@ -1,8 +1,7 @@
 -- The elapses are one list, and go on from any of them.
-use Rattle.std.proofs.Common.{◌≡◌, ◌⊎◌, ◌↔◌, ℕ, zero, suc, ◌+◌, ◌<◌, ◌≤◌, cond, Bool, true, false, List, [], ◌∷◌, ◌++◌, take, drop, inl, inr, Option, None, Some, ℤ, ◌<ℤ◌, ◌≤ℤ◌, int_lt, refl, sym, ap, subst, arith, map}
+use Rattle.std.proofs.Common.{◌≡◌, ◌⊎◌, ◌↔◌, ℕ, zero, suc, ◌+◌, ◌<◌, ◌≤◌, cond, Bool, true, List, [], ◌∷◌, ◌++◌, take, drop, inl, inr, Option, None, Some, ℤ, ◌<ℤ◌, ◌≤ℤ◌, int_lt, refl, ap, subst, arith, map}
 use Rattle.std.specs.List.{filter, filter_map, cons_option, range_with_len, slice_get}
 use Rattle.std.proofs.Math.Seq.{take-add}
-use Rattle.std.proofs.lemmas.Bool.{cases_eq}
 use Rattle.std.proofs.lemmas.Int.{ints}
 use Rattle.std.proofs.lemmas.Map.Keys.{sorted_tail}
 use Rattle.std.specs.Ordering.{int_cmp}
@@ -28,16 +27,10 @@ record IsPlaceFrom (e : Timed) (a n : ℕ) (i : ℤ) : Type 0 where
 
 -- one local second more
 Has-one : (b : Bool) (o : Option ℤ) (rest : List ℤ) (i : ℤ) → Has (cond b (cons_option o rest) rest) i ↔ (((b ≡ true) × (o ≡ Some i)) ⊎ Has rest i)
-Has-one true (Some x) rest i = (
-  λ m. elim m [ inl e ↦ inl (refl, ap Some e) | inr n ↦ inr n ],
-  λ m. elim m [ inl p ↦ inl (let e = p.1 in cc) | inr n ↦ inr n ],
-)
-Has-one true None rest i = (λ m. inr m, λ m. elim m [ inl p ↦ absurd (let e = p.1 in cc) | inr n ↦ n ])
-Has-one false o rest i = (λ m. inr m, λ m. elim m [ inl p ↦ absurd (let e = p.0 in cc) | inr n ↦ n ])
+Has-one b o rest i = grind arith
 
 kept-one : (h : ℕ → Option ℤ) (b : Bool) (x : ℕ) (ys : List ℕ) → filter_map h (cond b (x ∷ ys) ys) ≡ cond b (cons_option (h x) (filter_map h ys)) (filter_map h ys)
-kept-one h true x ys = refl
-kept-one h false x ys = refl
+kept-one h b x ys = grind arith
 
 from_here : (e : Timed) (a n : ℕ) (i : ℤ) → e.matches a ≡ true → e.place a ≡ Some i → IsPlaceFrom e a (suc n) i
 from_here e a n i m p = record { local = a; low = omega arith; high = omega arith; is_match = m; placed = p }
@@ -46,11 +39,7 @@ from_later : (e : Timed) (a n : ℕ) (i : ℤ) → IsPlaceFrom e (a + 1) n i →
 from_later e a n i p = record { local = p.local; low = omega arith; high = omega arith; is_match = p.is_match; placed = p.placed }
 
 from_split : (e : Timed) (a n : ℕ) (i : ℤ) → IsPlaceFrom e a (suc n) i → ((e.matches a ≡ true) × (e.place a ≡ Some i)) ⊎ IsPlaceFrom e (a + 1) n i
-from_split e a n i p =
-    elim (cases_eq p.local a) [
-      | inl same ↦ inl (subst (λ (t : ℕ). e.matches t ≡ true) same p.is_match, subst (λ (t : ℕ). e.place t ≡ Some i) same p.placed)
-      | inr other ↦ inr (record { local = p.local; low = omega arith; high = omega arith; is_match = p.is_match; placed = p.placed })
-    ]
+from_split e a n i p = grind arith
 
 -- the places of n local seconds from a on
 Has-from : (e : Timed) (a n : ℕ) (i : ℤ) → Has (filter_map e.place (filter e.matches (range_with_len a n))) i ↔ IsPlaceFrom e a n i
@@ -80,16 +69,7 @@ not_both x e i h k f = omega (arith, ints)
 
 -- a filter keeps the members above b
 above-one : (b x : ℤ) (keep : Bool) (rest : List ℤ) (i : ℤ) → int_lt b x ≡ keep → Has (cond keep (x ∷ rest) rest) i ↔ (((b <ℤ i) × (x ≡ i)) ⊎ Has rest i)
-above-one b x true rest i h =
-    let lt : b <ℤ x = grind (arith, ints) in (
-      λ m. elim m [ inl e ↦ inl (subst (λ (j : ℤ). b <ℤ j) e lt, e) | inr n ↦ inr n ],
-      λ m. elim m [ inl p ↦ inl p.1 | inr n ↦ inr n ],
-    )
-above-one b x false rest i h =
-    let ge : x ≤ℤ b = grind (arith, ints) in (
-      λ m. inr m,
-      λ m. elim m [ inl p ↦ absurd (not_above b x i ge p.0 p.1) | inr n ↦ n ],
-    )
+above-one b x keep rest i h = grind (arith, ints, not_above)
 
 Has-above : (b : ℤ) (xs : List ℤ) (i : ℤ) → Has (filter (int_lt b) xs) i ↔ ((b <ℤ i) × Has xs i)
 Has-above b [] i = (λ m. absurd m, λ p. p.1)
@@ -143,9 +123,7 @@ AreElapses-elapses_except es exceptions b =
 
 -- two lists with the numbers above b of which something holds are the same
 pub same_above : {Holds : ℤ → Type 0} (b : ℤ) (xs ys : List ℤ) → AreAbove Holds b xs → AreAbove Holds b ys → xs ≡ ys
-same_above b xs ys h k =
-    same_rising xs ys h.rises k.rises
-    (λ i. (λ m. (k.members i).1 ((h.members i).0 m), λ m. (h.members i).1 ((k.members i).0 m)))
+same_above b xs ys h k = grind (arith, same_rising)
 
 pub AreAbove-only : (es : List Timed) (b : ℤ) (xs : List ℤ) → AreAbove (IsElapse es) b xs → xs ≡ elapses_after es b
 AreAbove-only es b xs h = same_above b xs (elapses_after es b) h (AreAbove-elapses_after es b)
@@ -201,8 +179,7 @@ elapses_except-later es exceptions b e k at =
 -- so the first k + 1 and then the first m after the last of these are the first k + 1 + m
 pub elapses_except-parts : (es exceptions : List Timed) (b e : ℤ) (k m : ℕ) → slice_get (elapses_except es exceptions b) k ≡ Some e
     → take (suc k) (elapses_except es exceptions b) ++ take m (elapses_except es exceptions e) ≡ take (suc k + m) (elapses_except es exceptions b)
-elapses_except-parts es exceptions b e k m at =
-    rw (elapses_except-later es exceptions b e k at) (sym (take-add (suc k) m (elapses_except es exceptions b)))
+elapses_except-parts es exceptions b e k m at = grind (arith, elapses_except-later, take-add)
 
 -- the list after the first elapse
 pub elapses_after-first : (es : List Timed) (b e : ℤ) → slice_get (elapses_after es b) 0 ≡ Some e → elapses_after es e ≡ drop 1 (elapses_after es b)

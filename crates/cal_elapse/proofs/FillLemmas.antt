@@ -1,5 +1,5 @@
 -- Cells that are filled all at once, and the instants that are seen then.
-use Rattle.std.proofs.Common.{◌≡◌, ◌≢◌, ◌⊎◌, ◌↔◌, ◌<ℤ◌, ◌+ℤ◌, ◌≤ℤ◌, ℕ, ℤ, ◌+◌, ◌-◌, ◌*◌, ◌/◌, ◌%◌, ◌^◌, ◌<◌, ◌≤◌, ◌||◌, Bool, true, false, List, Option, None, Some, bit_or, length, get_or, set, pos, negsuc, unsigned_abs, IsSomeAnd, inl, inr, refl, sym, ap, ◌∙◌, subst, arith, get_or-set_same, get_or-set_other, slice_get}
+use Rattle.std.proofs.Common.{◌≡◌, ◌≢◌, ◌⊎◌, ◌↔◌, ◌<ℤ◌, ◌+ℤ◌, ◌≤ℤ◌, ℕ, ℤ, ◌+◌, ◌-◌, ◌*◌, ◌/◌, ◌%◌, ◌^◌, ◌<◌, ◌≤◌, ◌||◌, Bool, true, List, Option, None, Some, bit_or, length, get_or, set, pos, IsSomeAnd, inl, inr, refl, sym, ap, ◌∙◌, subst, arith, get_or-set_same, get_or-set_other, slice_get}
 use Rattle.std.proofs.Math.ListN.{length-set}
 use Rattle.std.proofs.lemmas.Bool.{cases_eq, cases_lt, or_cases, or_left, or_right}
 use Rattle.std.proofs.lemmas.Int.{ints}
@@ -114,7 +114,6 @@ filled_there : (old new : List ℕ) (least start bits : ℕ) (i : ℤ) → HasAl
 filled_there old new least start bits i all round fits a =
     let above = a.above in
     let below = a.below in
-    let behind = round.behind in
     elim (or_cases _ _ (sym (held_all old new start bits a.at all) ∙ a.holds)) [
       | inl was ↦ inl (subst (Has (instants_in old least)) a.is (member old least a.at above below was))
       | inr set ↦
@@ -130,7 +129,6 @@ filled_back old new least start bits i all round fits (inl m) =
     let a = (Has-instants old least i).0 m in
     subst (Has (instants_in new least)) a.is (member new least a.at a.above a.below (still_held old new start bits a.at all a.holds))
 filled_back old new least start bits i all round fits (inr one) =
-    let behind = round.behind in
     let held = new_held old new start bits one.bit all one.set (small_bit bits one.bit fits one.set) in
     subst (Has (instants_in new least)) (one_at start one.bit i one.is) (member new least (start + one.bit) (omega arith) (round.inside one.bit one.set) held)
 

@@ -19,7 +19,6 @@ unfolding timed
 place_in fields tz i low p =
     let count = seconds_in_all-is in
     let near = within tz (pos p.local) i p.placed in
-    let inside = p.within in
     (omega (arith, signed_arith), omega (arith, signed_arith, near))
 
 above_zero : (base i : ℤ) → pos 0 ≤ℤ base → base <ℤ i → pos 0 ≤ℤ i

@@ -6,5 +6,4 @@ use Rattle.cal_zone.specs.headline.Local.{seconds_in_all, seconds_in_all-is}
 -- as it is passed
 pub signed_word : (local : ℕ) (signed : ℤ) → local < seconds_in_all → signed ≡ pos local → to_z w64 (of_z w64 signed) ≡ pos local
 signed_word local signed inside is =
-    let count = seconds_in_all-is in
-    ap (λ z. to_z w64 (of_z w64 z)) is ∙ to_z_pos w64 local (omega arith)
+    ap (λ z. to_z w64 (of_z w64 z)) is ∙ to_z_pos w64 local (omega (arith, seconds_in_all-is))

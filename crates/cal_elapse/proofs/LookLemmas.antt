@@ -24,25 +24,15 @@ pub record HasDays (sets : Sets) (first length bits : ℕ) : Type 0 where
   pub within : (k : ℕ) → is_bit bits k ≡ true → k < length
 
 day_is : (sets : Sets) (first length bits t : ℕ) → HasDays sets first length bits → first ≤ t → t < first + length → day_in sets t ≡ is_bit bits (t - first)
-day_is sets first length bits t has low high =
-    let place : first + (t - first) ≡ t = omega arith in
-    subst (λ (n : ℕ). day_in sets n ≡ is_bit bits (t - first)) place (sym (has.days (t - first) (omega arith)))
+day_is sets first length bits t has low high = grind arith
 
 pub first_in_month : (sets : Sets) (first length bits from place : ℕ) → HasDays sets first length bits → first ≤ from
     → IsFirstPassing (is_bit bits) (from - first) 64 (Some place) → IsFirstPassing (day_in sets) from (first + length) (Some (first + place))
-first_in_month sets first length bits from place has low found =
-    let inside = has.within place found.2 in
-    let above = found.0 in (
-      omega arith,
-      omega arith,
-      sym (has.days place inside) ∙ found.2,
-      λ t above below. day_is sets first length bits t has (omega arith) (omega arith) ∙ found.3 (t - first) (omega arith) (omega arith),
-    )
+first_in_month sets first length bits from place has low found = grind (arith, day_is)
 
 pub none_in_month : (sets : Sets) (first length bits from : ℕ) → HasDays sets first length bits → first ≤ from → length ≤ 31
     → NonePasses (is_bit bits) (from - first) 64 → NonePasses (day_in sets) from (first + length)
-none_in_month sets first length bits from has low short none = λ t above below.
-    day_is sets first length bits t has (omega arith) below ∙ none (t - first) (omega arith) (omega arith)
+none_in_month sets first length bits from has low short none = grind (arith, day_is)
 
 -- one more month that is looked at
 pub count_step : (passes : ℕ → Bool) (from index next : ℕ) → from ≤ index → index ≤ next → NonePasses passes index next → passes next ≡ true
@@ -94,18 +84,11 @@ looks_here sets n first length day within begins long low high =
 pub looks_some : (sets : Sets) (from index next place old new : ℕ) → from ≤ index → index ≤ next → next < 2_760 → place < length_of next
     → NonePasses (month_in sets) index next → month_in sets next ≡ true → old ≡ count_from (month_in sets) from (index - from)
     → looks_from sets from (Some (first_day next + place)) ≡ old + 1
-looks_some sets from index next place old new low high within small none holds counted =
-    let month = month_of-is next place (omega arith) small in
-    rw (month, counted) (count_step (month_in sets) from index next low high none holds)
+looks_some sets from index next place old new low high within small none holds counted = grind (arith, month_of-is, count_step)
 
 -- never more months than there are
 pub looks_most : (sets : Sets) (n from : ℕ) (r : Option ℕ) → IsFirstPassing (day_in sets) from 84_006 r → looks_from sets n r ≤ 2_760
-looks_most sets n from None none = let most = count_from-most (month_in sets) n (2_760 - n) in omega arith
-looks_most sets n from (Some day) found =
-    let m = month_of (civil_date day) in
-    let within = (located day found.1).within in
-    let most = count_from-most (month_in sets) n (suc m - n) in
-    omega arith
+looks_most sets n from r none = grind (arith, count_from-most, located)
 
 -- after the last month there is none
 pub looks_end : (sets : Sets) → looks_from sets (month_of (civil_date 84_006)) None ≡ 0
@@ -132,14 +115,9 @@ one_look sets day within holds =
 
 pub looks_today : (sets : Sets) (t second : ℕ) → t / 86_400 < 84_006 → day_in sets (t / 86_400) ≡ true → t % 86_400 + 1 ≤ second → second < 86_400
     → month_looks sets (t + 1) (Some (t / 86_400 * 86_400 + second)) ≡ 1
-looks_today sets t second within holds later small =
-    let start : (t + 1) / 86_400 ≡ t / 86_400 = omega arith in
-    let end : (t / 86_400 * 86_400 + second) / 86_400 ≡ t / 86_400 = omega arith in
-    rw (start, end) (one_look sets (t / 86_400) within holds)
+looks_today sets t second within holds later small = grind (arith, one_look)
 
 -- the months of a search in local seconds are those of its days
 pub looks_of_days : (sets : Sets) (n from found second : ℕ) → n ≡ month_of (civil_date (from / 86_400)) → second < 86_400
     → looks_from sets n (Some found) ≡ month_looks sets from (Some (found * 86_400 + second))
-looks_of_days sets n from found second start small =
-    let day : (found * 86_400 + second) / 86_400 ≡ found = omega arith in
-    rw (start, day)
+looks_of_days sets n from found second start small = grind arith

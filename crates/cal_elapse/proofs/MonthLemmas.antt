@@ -1,5 +1,5 @@
 -- The months of the years 1970 to 2199, against the calendar's dates.
-use Rattle.std.proofs.Common.{◌≡◌, ℕ, zero, suc, ◌+◌, ◌-◌, ◌*◌, ◌/◌, ◌%◌, ◌<◌, ◌≤◌, ◌≤ℤ◌, ◌+ℤ◌, ℤ, pos, negsuc, unsigned_abs, if◌then◌else◌, Bool, true, false, ◌&&◌, to_z, of_z, w16, ap, sym, ◌∙◌, refl, inl, inr, arith}
+use Rattle.std.proofs.Common.{◌≡◌, ℕ, zero, suc, ◌+◌, ◌-◌, ◌*◌, ◌/◌, ◌%◌, ◌<◌, ◌≤◌, ◌≤ℤ◌, ◌+ℤ◌, ℤ, pos, unsigned_abs, if◌then◌else◌, Bool, false, ◌&&◌, to_z, of_z, w16, ap, sym, ◌∙◌, refl, inl, inr, arith}
 use Rattle.std.proofs.lemmas.Int.{to_z_pos}
 use Rattle.std.proofs.lemmas.Bool.{cases_lt}
 use Rattle.std.specs.Int.{IsInRange}
@@ -13,14 +13,10 @@ use Rattle.jiff_core.proofs.MarchLemmas.{day_count-early}
 use Rattle.cal_zone.specs.headline.Days.{date_of}
 use Rattle.cal_zone.proofs.DayLemmas.{date_of-epoch_day, epoch_day-date_of}
 use Rattle.cal_zone.specs.headline.Local.{civil_date}
-use Rattle.cal_zone.proofs.YearLemmas.{year-from_1970, year-to_2199}
+use Rattle.cal_zone.proofs.YearLemmas.{year-from_1970, year-to_2199, days_from_civil-1970}
 use Rattle.cal_spec.specs.headline.Match.{Sets, date_in}
 use Rattle.cal_elapse.specs.Months.{day_in, first_day, first_day-suc, first_day-zero, length_of, month_in, month_of, number_of, year_of}
 use Rattle.cal_elapse.specs.Search.{NonePasses}
-
-first_of_1970 : days_from_civil (pos 1_970) 1 1 ≡ pos 0
-first_of_1970 =
-    omega (arith, signed_arith, days_from_civil-day_count (pos 1970) 1 1, day_count-early (pos 1970) 11969 1 1 refl (omega arith) (omega arith) (omega arith))
 
 first_of_2200 : days_from_civil (pos 2_200) 1 1 ≡ pos 84_006
 first_of_2200 =
@@ -49,7 +45,7 @@ length_is n = refl
 
 -- the days before a month are counted by the calendar
 pub first_is : (n : ℕ) → days_from_civil (pos (year_of n)) (number_of n) 1 ≡ pos (first_day n)
-first_is zero = first_of_1970 ∙ ap pos (sym first_day-zero)
+first_is zero = days_from_civil-1970 ∙ ap pos (sym first_day-zero)
 first_is (suc n) =
     elim (cases_lt (n % 12) 11) [
       | inl early ↦
@@ -119,12 +115,10 @@ pub record Located (day n : ℕ) : Type 0 where
 
 -- a year as a machine's number
 pub year_word : (y : ℤ) → pos 1_970 ≤ℤ y → y ≤ℤ pos 2_199 → to_z w16 (of_z w16 y) ≡ y
-year_word (pos n) low high = to_z_pos w16 n (omega (arith, signed_arith))
-year_word (negsuc n) low high = absurd (omega (arith, signed_arith))
+year_word y low high = grind (arith, to_z_pos, w16, signed_arith)
 
 pub abs_year : (y : ℤ) → pos 1_970 ≤ℤ y → pos (unsigned_abs y) ≡ y
-abs_year (pos n) h = refl
-abs_year (negsuc n) h = absurd (omega (arith, signed_arith))
+abs_year y h = grind (arith, signed_arith)
 
 located_by : (d : Date) (day : ℕ) → epoch_day d ≡ pos day → pos 1_970 ≤ℤ d.year → d.year ≤ℤ pos 2_199
     → (month_of d < 2_760) × (first_day (month_of d) + d.day ≡ day + 1) × (length_of (month_of d) ≡ month_length d)
@@ -134,8 +128,6 @@ located_by d day number from to =
     let n = (unsigned_abs d.year - 1_970) * 12 + (d.month - 1) in
     let year_low : 1_970 ≤ unsigned_abs d.year = omega (arith, signed_arith) in
     let year_high : unsigned_abs d.year ≤ 2_199 = omega (arith, signed_arith) in
-    let month_low = d.month_in.0 in
-    let month_high = d.month_in.1 in
     let year : pos (year_of n) ≡ d.year = ap pos (omega arith) ∙ abs in
     let month : number_of n ≡ d.month = omega arith in
     let first : days_from_civil d.year d.month 1 ≡ pos (first_day n) = (rw (year, month) at (first_is n)) in (
@@ -152,8 +144,6 @@ located day h =
     let from = year-from_1970 d (omega (arith, signed_arith)) in
     let to = year-to_2199 d (omega (arith, signed_arith)) in
     let by = located_by d day number from to in
-    let day_low = d.day_in.0 in
-    let day_high = d.day_in.1 in
     record {
       within = by.0;
       first = by.1;
@@ -185,12 +175,7 @@ month_low day a h low =
     ]
 
 pub month_high : (day b : ℕ) → day < 84_006 → day < first_day b → month_of (civil_date day) < b
-month_high day b h high =
-    let at = located day h in
-    elim (cases_lt (month_of (civil_date day)) b) [
-      | inl below ↦ below
-      | inr above ↦ (let rises = first_day-rises b (month_of (civil_date day)) above in absurd (omega (arith, at.low, rises)))
-    ]
+month_high day b h high = grind (arith, located, first_day-rises)
 
 -- the weekday of a day
 weekday_of-pos : (day : ℕ) → weekday_number (pos day) ≡ (day + 3) % 7
@@ -200,11 +185,7 @@ date_in-month : (sets : Sets) (n k : ℕ) (low : n ≤ 2_760) (small : k < lengt
     ≡ (sets.weekday ((first_day n + k + 3) % 7)
     && (sets.year (year_of n) && (sets.month (number_of n) && sets.day (if sets.from_end then length_of n - k else k + 1))))
 unfolding date_in month_date length_of
-date_in-month sets n k low small =
-    let weekday : weekday_number (days_from_civil (pos (year_of n)) (number_of n) (k + 1)) ≡ (first_day n + k + 3) % 7 =
-    ap weekday_number (epoch_day-month_date n k low small) ∙ weekday_of-pos (first_day n + k) in
-    let count : days_in_month (pos (year_of n)) (number_of n) - (k + 1) + 1 ≡ days_in_month (pos (year_of n)) (number_of n) - k = omega arith in
-    rw (weekday, count)
+date_in-month sets n k low small = grind (arith, epoch_day-month_date, weekday_of-pos)
 
 pub day_in-month : (sets : Sets) (n k : ℕ) → n ≤ 2_760 → k < length_of n → day_in sets (first_day n + k)
     ≡ (sets.weekday ((first_day n + k + 3) % 7)
@@ -213,10 +194,7 @@ unfolding day_in
 day_in-month sets n k low small = ap (date_in sets) (date_is n k low small) ∙ date_in-month sets n k low small
 
 no_month : (w y m d : Bool) → (y && m) ≡ false → (w && (y && (m && d))) ≡ false
-no_month true true true d h = absurd (cc)
-no_month true true false d h = refl
-no_month true false m d h = refl
-no_month false y m d h = refl
+no_month w y m d h = grind arith
 
 -- none of a month's days matches unless its year and number are members
 pub no_day : (sets : Sets) (day : ℕ) → day < 84_006 → month_in sets (month_of (civil_date day)) ≡ false → day_in sets day ≡ false
@@ -225,29 +203,18 @@ no_day sets day h fails =
     let at = located day h in
     let n = month_of (civil_date day) in
     let k = day - first_day n in
-    let low = at.low in
     let place : first_day n + k ≡ day = omega arith in
-    let within = at.within in
     let all = day_in-month sets n k (omega arith) (omega (arith, at.high)) in
     rw (← place) (all ∙ no_month _ (sets.year (year_of n)) (sets.month (number_of n)) _ fails)
 
 pub months_none : (sets : Sets) (a b : ℕ) → b ≤ 2_760 → NonePasses (month_in sets) a b → NonePasses (day_in sets) (first_day a) (first_day b)
-months_none sets a b within none = λ t above below.
-    let end = first_day-end in
-    let rises = first_day-rises b 2_760 within in
-    let inside : t < 84_006 = omega arith in
-    no_day sets t inside (none (month_of (civil_date t)) (month_low t a inside above) (month_high t b inside below))
+months_none sets a b within none = grind (arith, first_day-end, first_day-rises, no_day, month_low, month_high)
 
 -- a date's month, as it is reckoned
 pub index_by : (d e : Date) (years months : ℕ) → d ≡ e → years ≡ unsigned_abs (to_z w16 (of_z w16 d.year)) - 1_970 → months ≡ d.month - 1
     → pos 1_970 ≤ℤ e.year → e.year ≤ℤ pos 2_199 → years * 12 + months ≡ month_of e
 unfolding month_of
-index_by d e years months same y m low high =
-    let years_are : years ≡ unsigned_abs e.year - 1_970 =
-    y ∙ (ap (λ (x : Date). unsigned_abs (to_z w16 (of_z w16 x.year)) - 1_970) same ∙ ap (λ (z : ℤ). unsigned_abs z - 1_970) (year_word e.year low high)) in
-    let months_are : months ≡ e.month - 1 = m ∙ ap (λ (x : Date). x.month - 1) same in
-    rw (years_are, months_are)
+index_by d e years months same y m low high = grind (arith, unsigned_abs, to_z, w16, of_z, year_word)
 
 pub length_by : (d e : Date) (l : ℕ) → d ≡ e → l ≡ days_in_month (to_z w16 (of_z w16 d.year)) d.month → pos 1_970 ≤ℤ e.year → e.year ≤ℤ pos 2_199 → l ≡ month_length e
-length_by d e l same is low high =
-    is ∙ (ap (λ (x : Date). days_in_month (to_z w16 (of_z w16 x.year)) x.month) same ∙ ap (λ (z : ℤ). days_in_month z e.month) (year_word e.year low high))
+length_by d e l same is low high = grind (arith, to_z, w16, of_z, year_word)

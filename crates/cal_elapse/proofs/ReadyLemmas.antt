@@ -1,6 +1,6 @@
 -- The window is ready at first, and after each match that is placed.
-use Rattle.std.proofs.Common.{◌≡◌, ℕ, ◌+◌, ◌-◌, ◌<◌, ◌≤◌, Bool, List, Option, None, Some, ℤ, pos, ◌+ℤ◌, ◌≤ℤ◌, sym, ap, subst, arith, true, [], ◌^◌, unsigned_abs, to_z, of_z, w64, negsuc, refl, max}
-use Rattle.std.proofs.lemmas.Int.{ints, to_z_pos}
+use Rattle.std.proofs.Common.{◌≡◌, ℕ, ◌+◌, ◌-◌, ◌<◌, ◌≤◌, Bool, List, Option, Some, ℤ, pos, ◌+ℤ◌, ◌≤ℤ◌, sym, ap, subst, arith, true, [], negsuc, max}
+use Rattle.std.proofs.lemmas.Int.{ints}
 use Rattle.jiff.proofs.SpanFacts.{signed_arith}
 use Rattle.cal_zone.specs.Instant.{IsInstant}
 use Rattle.cal_spec.specs.headline.Fields.{Fields}
@@ -34,8 +34,7 @@ pub record IsNext (e : Timed) (from : ℕ) (answer : Option ℕ) : Type 0 where
   pub found : IsMatchAhead e answer
 
 next_by : (e : Timed) (from : ℕ) (found : Option ℕ) → from ≤ seconds_in_all → IsFirstPassing e.matches from seconds_in_all found → IsNext e from found
-next_by e from None h none = record { low = h; none = none; found = tt }
-next_by e from (Some local) h first = record { low = first.0; none = first.3; found = (first.1, first.2) }
+next_by e from found h none = grind arith
 
 pub is_next : (masks : Masks) (zone : Zone) (from : ℕ) (found : Option ℕ) → from ≤ seconds_in_all → IsFirstPassing (matches (sets_in masks)) from seconds_in_all found
     → IsNext (timed_by masks zone) from found
@@ -48,17 +47,7 @@ pub ready_after : (v : Window) (searcher : Searcher) (ahead : Option ℕ) (pendi
     → searcher.searches ≡ count_from (timed_of v).matches (start_of v.base) (bound_of ahead - start_of v.base) + 1
     → IsMost (sets_in v.searcher.masks) (start_of v.base) (bound_of ahead) searcher.most_months
     → IsReady (record v { searcher = searcher; ahead = ahead; pending = pending })
-ready_after v searcher ahead pending masks low above windowed found begun counted looked =
-    let same : timed_of v ≡ timed_by searcher.masks v.zone = ap (λ m. timed_by m v.zone) (sym masks) in
-    record {
-      windowed = subst (λ (e : Timed). Windowed e (start_of v.base) (bound_of ahead) v.last pending) same windowed;
-      found = subst (λ (e : Timed). IsMatchAhead e ahead) same found;
-      low = low;
-      above = above;
-      begun = begun;
-      counted = subst (λ (e : Timed). searcher.searches ≡ count_from e.matches (start_of v.base) (bound_of ahead - start_of v.base) + 1) same counted;
-      looked = subst (λ (m : Masks). IsMost (sets_in m) (start_of v.base) (bound_of ahead) searcher.most_months) (sym masks) looked;
-    }
+ready_after v searcher ahead pending masks low above windowed found begun counted looked = grind arith
 
 put_at : (masks : Masks) (zone : Zone) (from bound : ℕ) (last : ℤ) (xs : List ℤ) → Windowed (timed_by masks zone) from bound last xs → (timed_by masks zone).matches bound ≡ true
     → ((i : ℤ) → Has xs i → pos bound ≤ℤ (i +ℤ pos 93_599)) → Windowed (timed_by masks zone) from (bound + 1) last (with_place (place_of (zone_of zone) (pos bound)) last xs)
@@ -75,14 +64,13 @@ placed_to v local ahead pending h at near put =
     let match_here = subst (IsMatchAhead e) at h.found in
     let begun = subst (λ (o : Option ℕ). start ≤ bound_of o) at h.begun in
     let counted = subst (λ (o : Option ℕ). v.searcher.searches ≡ count_from e.matches start (bound_of o - start) + 1) at h.counted in
-    let count = count_from-with e.matches start local begun match_here.1 in
     record {
       windowed = subst (Windowed e start (local + 1) v.last) (sym put) (put_at v.searcher.masks v.zone start local v.last v.pending here match_here.1 near);
       found = match_here;
       low = h.low;
       above = h.above;
       begun = begun;
-      counted = omega arith;
+      counted = omega (arith, count_from-with e.matches start local begun match_here.1);
       looked = subst (λ (o : Option ℕ). IsMost (sets_in v.searcher.masks) start (bound_of o) v.searcher.most_months) at h.looked;
     }
 
@@ -93,8 +81,7 @@ placed_is_match v local h = h.found
 
 -- none lies before the one found
 none_before : (passes : ℕ → Bool) (from : ℕ) (ahead : Option ℕ) → from ≤ seconds_in_all → IsFirstPassing passes from seconds_in_all ahead → (from ≤ bound_of ahead) × NonePasses passes from (bound_of ahead)
-none_before passes from None within none = (within, none)
-none_before passes from (Some local) within first = (first.0, first.3)
+none_before passes from ahead within none = grind arith
 
 -- and the next is found
 pub next_ready : (v : Window) (local : ℕ) (searcher : Searcher) (ahead : Option ℕ) (found : Next) → IsPlacedTo v local → searcher.masks ≡ v.searcher.masks
@@ -105,7 +92,6 @@ next_ready v local searcher ahead found h masks more most search first =
     let start = start_of v.base in
     let begun = h.begun in
     let counted = h.counted in
-    let inside = h.found.0 in
     let next = is_next v.searcher.masks v.zone (local + 1) ahead (omega arith) first in
     let low = next.low in
     let on = windowed_on e start (local + 1) (bound_of ahead) v.last v.pending next.low next.none h.windowed in
@@ -118,10 +104,7 @@ next_ready v local searcher ahead found h masks more most search first =
 
 -- so few searches were made
 pub few_searches : (v : Window) (local : ℕ) → IsPlacedTo v local → v.searcher.searches ≤ local + 1
-few_searches v local h =
-    let most = count_from-most (timed_of v).matches (start_of v.base) (local + 1 - start_of v.base) in
-    let counted = h.counted in
-    omega arith
+few_searches v local h = grind (arith, count_from-most)
 
 -- the members are the places of earlier local seconds
 pub placed_before : (v : Window) (local : ℕ) → IsReady v → v.ahead ≡ Some local → (i : ℤ) → Has v.pending i → i ≤ℤ (pos local +ℤ pos 93_599)
@@ -129,15 +112,7 @@ placed_before v local h at i m =
     let bound : bound_of v.ahead ≡ local = ap bound_of at in
     let place = ((h.windowed.members i).0 m).1 in
     let near = (timed_by-near v.searcher.masks v.zone place.local i place.placed).1 in
-    let early = place.below in
     omega (arith, ints)
-
--- where the first search begins
-pub start_is : (secs : ℤ) → IsInstant secs → unsigned_abs (to_z w64 (of_z w64 secs)) - 93_599 ≡ start_of secs
-start_is (pos n) h =
-    let small : n < 2 ^ 63 = omega (arith, signed_arith, h.1) in
-    rw (to_z_pos w64 n small) refl
-start_is (negsuc n) h = absurd (omega (arith, signed_arith, h.0))
 
 pub start_inside : (secs : ℤ) → IsInstant secs → start_of secs ≤ seconds_in_all
 start_inside (pos n) h = let count = seconds_in_all-is in omega (arith, signed_arith, h.1)

@@ -12,7 +12,6 @@ use Rattle.cal_zone.proofs.PlaceLemmas.{within}
 use Rattle.cal_zone.specs.headline.Local.{seconds_in_all, seconds_in_all-is}
 use Rattle.cal_zone.specs.Steady.{AreAhead}
 use Rattle.cal_zone.specs.headline.Zone.{zone_of}
-use Rattle.cal_zone.specs.declared.zone.Zone.{Zone}
 use Rattle.cal_zone.specs.Instant.{IsInstant}
 use Rattle.cal_elapse.specs.Bits.{is_bit}
 use Rattle.cal_elapse.specs.Near.{IsNear}
@@ -47,252 +46,206 @@ ahead_near tz from to offset ahead order inside =
     let near = within tz (pos from) (pos from -ℤ offset) (ahead (pos from) (omega (arith, ints), omega (arith, ints)) (omega (arith, ints)) (omega (arith, ints))) in
     (omega (arith, signed_arith, near), omega (arith, signed_arith, near))
 
--- the signed numbers that a clock is asked by, and how far it is ahead from the one to the other
+-- how far a clock is ahead from a local second to its minute's end, and in the machine's numbers both of them, that, the
+-- places of both and the second after the first place
 pub record IsRun (tz : TimeZone) (local : ℕ) (from to offset : ℤ) : Type 0 where
-  pub from_is : from ≡ pos local
-  pub to_is : to ≡ pos (local / 60 * 60 + 59)
   pub ahead : AreAhead tz (pos local) (pos (local / 60 * 60 + 59)) offset
   pub low : offset ≤ℤ pos 93_599
   pub high : pos 0 ≤ℤ (offset +ℤ pos 93_599)
+  pub from_is : to_z w64 (of_z w64 from) ≡ pos local
+  pub to_is : to_z w64 (of_z w64 to) ≡ pos (local / 60 * 60 + 59)
+  pub offset_is : to_z w64 (of_z w64 offset) ≡ offset
+  pub place : to_z w64 (of_z w64 (to_z w64 (of_z w64 from) -ℤ to_z w64 (of_z w64 offset))) ≡ (pos local -ℤ offset)
+  pub last : to_z w64 (of_z w64 (to_z w64 (of_z w64 to) -ℤ to_z w64 (of_z w64 offset))) ≡ (pos (local / 60 * 60 + 59) -ℤ offset)
+  pub start : to_z w64 (of_z w64 (to_z w64 (of_z w64 (to_z w64 (of_z w64 from) -ℤ to_z w64 (of_z w64 offset))) +ℤ pos 1)) ≡ ((pos local -ℤ offset) +ℤ pos 1)
 
-pub run_of : (tz : TimeZone) (local : ℕ) (from to offset : ℤ) → local < seconds_in_all → from ≡ pos local → to ≡ pos (local / 60 * 60 + 59)
+pub run_of : (tz : TimeZone) (local : ℕ) (from to offset : ℤ) → local < seconds_in_all → FitsSigned w64 offset → from ≡ pos local → to ≡ pos (local / 60 * 60 + 59)
     → AreAhead tz (to_z w64 (of_z w64 from)) (to_z w64 (of_z w64 to)) offset → IsRun tz local from to offset
-run_of tz local from to offset inside from_is to_is ahead =
-    let there : AreAhead tz (pos local) (pos (local / 60 * 60 + 59)) offset
-    = rw (signed_word local from inside from_is, signed_word (local / 60 * 60 + 59) to (minute_end local inside) to_is) at ahead in
-    let near = ahead_near tz local (local / 60 * 60 + 59) offset there (omega arith) (minute_end local inside) in
-    record { from_is = from_is; to_is = to_is; ahead = there; low = near.0; high = near.1 }
-
--- in the machine's numbers: the place of the first, of the last, and the second after the first
-pub place_is : (tz : TimeZone) (local : ℕ) (from to offset : ℤ) → local < seconds_in_all → IsRun tz local from to offset → FitsSigned w64 offset
-    → to_z w64 (of_z w64 (to_z w64 (of_z w64 from) -ℤ to_z w64 (of_z w64 offset))) ≡ (pos local -ℤ offset)
-place_is tz local from to offset inside run fits =
+run_of tz local from to offset inside fits from_is to_is ahead =
     let count = seconds_in_all-is in
-    let low = run.low in
-    let high = run.high in
-    rw (signed_word local from inside run.from_is, to_z-of_z w64 offset fits) (to_z-of_z w64 (pos local -ℤ offset) (omega (arith, signed_arith)))
+    let end = minute_end local inside in
+    let first = signed_word local from inside from_is in
+    let last = signed_word (local / 60 * 60 + 59) to end to_is in
+    let there : AreAhead tz (pos local) (pos (local / 60 * 60 + 59)) offset = rw (first, last) at ahead in
+    let near = ahead_near tz local (local / 60 * 60 + 59) offset there (omega arith) end in
+    let shift = to_z-of_z w64 offset fits in
+    let low = near.0 in
+    let high = near.1 in
+    let place : to_z w64 (of_z w64 (to_z w64 (of_z w64 from) -ℤ to_z w64 (of_z w64 offset))) ≡ (pos local -ℤ offset)
+    = rw (first, shift) (to_z-of_z w64 (pos local -ℤ offset) (omega (arith, signed_arith))) in
+    record {
+      ahead = there;
+      low = low;
+      high = high;
+      from_is = first;
+      to_is = last;
+      offset_is = shift;
+      place = place;
+      last = rw (last, shift) (to_z-of_z w64 (pos (local / 60 * 60 + 59) -ℤ offset) (omega (arith, signed_arith)));
+      start = rw place (to_z-of_z w64 ((pos local -ℤ offset) +ℤ pos 1) (omega (arith, signed_arith)));
+    }
 
-pub last_is : (tz : TimeZone) (local : ℕ) (from to offset : ℤ) → local < seconds_in_all → IsRun tz local from to offset → FitsSigned w64 offset
-    → to_z w64 (of_z w64 (to_z w64 (of_z w64 to) -ℤ to_z w64 (of_z w64 offset))) ≡ (pos (local / 60 * 60 + 59) -ℤ offset)
-last_is tz local from to offset inside run fits =
-    let count = seconds_in_all-is in
-    let low = run.low in
-    let high = run.high in
-    rw (signed_word (local / 60 * 60 + 59) to (minute_end local inside) run.to_is, to_z-of_z w64 offset fits) (to_z-of_z w64 (pos (local / 60 * 60 + 59) -ℤ offset) (omega (arith, signed_arith)))
-
-pub start_is : (tz : TimeZone) (local : ℕ) (from to offset : ℤ) → local < seconds_in_all → IsRun tz local from to offset → FitsSigned w64 offset
-    → to_z w64 (of_z w64 (to_z w64 (of_z w64 (to_z w64 (of_z w64 from) -ℤ to_z w64 (of_z w64 offset))) +ℤ pos 1)) ≡ ((pos local -ℤ offset) +ℤ pos 1)
-start_is tz local from to offset inside run fits =
-    let count = seconds_in_all-is in
-    let low = run.low in
-    let high = run.high in
-    rw (place_is tz local from to offset inside run fits) (to_z-of_z w64 ((pos local -ℤ offset) +ℤ pos 1) (omega (arith, signed_arith)))
-
--- the place of a local second where the clock is ahead by so much
-pub place_there : (masks : Masks) (zone : Zone) (from to t : ℕ) (offset i : ℤ) → AreAhead (zone_of zone) (pos from) (pos to) offset → from ≤ t → t ≤ to → to < seconds_in_all
-    → (timed_by masks zone).place t ≡ Some (pos t -ℤ offset)
+-- the place of a local second of the minute
+place_there : (v : Window) (local t : ℕ) (offset : ℤ) → IsPlacedTo v local → AreAhead (zone_of v.zone) (pos local) (pos (local / 60 * 60 + 59)) offset
+    → local ≤ t → t ≤ local / 60 * 60 + 59 → (timed_of v).place t ≡ Some (pos t -ℤ offset)
 unfolding timed_by
-place_there masks zone from to t offset i ahead low high inside =
+place_there v local t offset h ahead low high =
     let count = seconds_in_all-is in
     ahead (pos t) (omega (arith, ints), omega (arith, ints)) (omega (arith, ints)) (omega (arith, ints))
 
--- the window once the rest is placed, with what is pending then
-pub rest_placed : (v : Window) (local : ℕ) (searcher : Searcher) (bits last : ℕ) (pending : List ℤ) → IsPlacedTo v local → searcher.masks ≡ v.searcher.masks
-    → searcher.searches ≡ v.searcher.searches + count_from (matches (sets_in v.searcher.masks)) (local + 1) (last - local)
-    → IsMostAfter (sets_in v.searcher.masks) local last v.searcher.most_months searcher.most_months
-    → IsRest (matches (sets_in v.searcher.masks)) local bits last → Windowed (timed_of v) (start_of v.base) (last + 1) v.last pending
-    → IsPlacedTo (record v { searcher = searcher; pending = pending }) last
-unfolding timed_by
-rest_placed v local searcher bits last pending h masks more most rest windowed =
-    let same : timed_of v ≡ timed_by searcher.masks v.zone = ap (λ m. timed_by m v.zone) (sym masks) in
-    let start = start_of v.base in
-    let count = seconds_in_all-is in
-    let inside : last < seconds_in_all = omega (arith, rest_inside _ local bits last rest, minute_end local h.found.0) in
-    let part = count_from-part (matches (sets_in v.searcher.masks)) start local last h.begun rest.begun in
-    let counted : searcher.searches ≡ count_from (timed_of v).matches start (last + 1 - start) = omega (arith, h.counted) in
-    let begun = h.begun in
-    let later = rest.begun in
-    record {
-      windowed = subst (λ (e : Timed). Windowed e start (last + 1) v.last pending) same windowed;
-      found = subst (λ (e : Timed). IsMatchAhead e (Some last)) same (inside, rest.is_match);
-      low = h.low;
-      above = h.above;
-      begun = omega arith;
-      counted = subst (λ (e : Timed). searcher.searches ≡ count_from e.matches start (last + 1 - start)) same counted;
-      looked = subst (λ (m : Masks). IsMost (sets_in m) start last searcher.most_months) (sym masks)
-          (most_more (sets_in v.searcher.masks) start local last v.searcher.most_months searcher.most_months begun later h.looked most);
-    }
-
-no_later : (xs : List ℤ) → None ≡ slice_get xs 0 → (i : ℤ) → Has xs i → ⊥
-no_later xs none i m = subst (λ (ys : List ℤ). Has ys i) (list-no_first xs (sym none)) m
-
--- where nothing is pending, and all places up to the minute's end are at the last instant given or before it
-pub rest_passed : (v : Window) (local : ℕ) (searcher : Searcher) (bits last : ℕ) (offset : ℤ) → IsPlacedTo v local → searcher.masks ≡ v.searcher.masks
-    → searcher.searches ≡ v.searcher.searches + count_from (matches (sets_in v.searcher.masks)) (local + 1) (last - local)
-    → IsMostAfter (sets_in v.searcher.masks) local last v.searcher.most_months searcher.most_months
-    → IsRest (matches (sets_in v.searcher.masks)) local bits last → None ≡ slice_get v.pending 0
-    → AreAhead (zone_of v.zone) (pos local) (pos (local / 60 * 60 + 59)) offset → (pos (local / 60 * 60 + 59) -ℤ offset) ≤ℤ v.last
-    → IsPlacedTo (record v { searcher = searcher }) last
-rest_passed v local searcher bits last offset h masks more most rest none ahead early =
-    let e = timed_of v in
-    let end = local / 60 * 60 + 59 in
-    let later = rest.begun in
-    let not_above = λ (i : ℤ) (above : v.last <ℤ i) (p : IsPlacedFrom e (local + 1) (last + 1) i).
-    let from = p.from in
-    let below = p.below in
-    let up = rest_inside _ local bits last rest in
-    let at = sym (place_there v.searcher.masks v.zone local end p.local offset i ahead (omega arith) (omega arith) (minute_end local h.found.0)) ∙ p.placed in
-    passed_by p.local end v.last offset i at (omega arith) early above in
-    rest_placed v local searcher bits last v.pending h masks more most rest
-    (windowed_more e (start_of v.base) (local + 1) (last + 1) v.last v.pending v.pending (omega arith) h.windowed h.windowed.rises
-    (λ i. (λ m. inl m, λ o. elim o [ inl m ↦ m | inr p ↦ absurd (not_above i p.0 p.1) ]))
-    (λ i m. absurd (no_later v.pending none i m)))
-  where
-    passed_by : (t end : ℕ) (last offset i : ℤ) → Some (pos t -ℤ offset) ≡ Some i → t ≤ end → (pos end -ℤ offset) ≤ℤ last → last <ℤ i → ⊥
-    passed_by t end last offset i at up early above =
-        let same : (pos t -ℤ offset) ≡ i = cc in
-        omega (arith, signed_arith)
-
--- The rest that is put
-
--- what is left behind a match whose place is the least pending instant or behind it, while all of its minute is to be placed
-pub record IsBehind (v : Window) (local bits last : ℕ) (offset place least : ℤ) : Type 0 where
+-- What is left behind a match whose place is the least pending instant or behind it, while all of its minute is to be
+-- placed.
+pub record IsBehind (v : Window) (local bits last : ℕ) (offset least : ℤ) : Type 0 where
   pub rest : IsRest (matches (sets_in v.searcher.masks)) local bits last
   pub ahead : AreAhead (zone_of v.zone) (pos local) (pos (local / 60 * 60 + 59)) offset
-  pub at : place ≡ (pos local -ℤ offset)
   pub least_is : Some least ≡ slice_get v.pending 0
-  pub behind : least ≤ℤ place
+  pub behind : least ≤ℤ (pos local -ℤ offset)
   pub near : (i : ℤ) → Has v.pending i → pos (local / 60 * 60 + 59) ≤ℤ (i +ℤ pos 93_599)
 
-pub behind_of : (v : Window) (local bits last : ℕ) (from to offset least place : ℤ) → IsPlacedTo v local → IsRest (matches (sets_in v.searcher.masks)) local bits last
-    → IsRun (zone_of v.zone) local from to offset → FitsSigned w64 offset → Some least ≡ slice_get v.pending 0
-    → place ≡ to_z w64 (of_z w64 (to_z w64 (of_z w64 from) -ℤ to_z w64 (of_z w64 offset))) → least ≤ℤ place
-    → ((i : ℤ) → Has v.pending i → pos (local / 60 * 60 + 59) ≤ℤ (i +ℤ pos 93_599)) → IsBehind v local bits last offset (pos local -ℤ offset) least
-behind_of v local bits last from to offset least place h rest run fits least_is at behind near =
-    let same : place ≡ (pos local -ℤ offset) = at ∙ place_is (zone_of v.zone) local from to offset h.found.0 run fits in
-    record {
-      rest = rest;
-      ahead = run.ahead;
-      at = refl;
-      least_is = least_is;
-      behind = subst (λ (p : ℤ). least ≤ℤ p) same behind;
-      near = near;
-    }
+one_at : (local bit : ℕ) (offset i : ℤ) → (((pos local -ℤ offset) +ℤ pos 1) +ℤ pos bit) ≡ i → (pos (local + 1 + bit) -ℤ offset) ≡ i
+one_at local bit offset i is = omega (arith, signed_arith)
 
-least_has : (xs : List ℤ) (least : ℤ) → Some least ≡ slice_get xs 0 → Has xs least
-least_has xs least is = subst (λ (ys : List ℤ). Has ys least) (sym (list-first xs least (sym is))) (inl refl)
-
-one_at : (local bit : ℕ) (place offset i : ℤ) → place ≡ (pos local -ℤ offset) → ((place +ℤ pos 1) +ℤ pos bit) ≡ i → (pos (local + 1 + bit) -ℤ offset) ≡ i
-one_at local bit place offset i at is = omega (arith, signed_arith)
-
-at_one : (local bit t : ℕ) (place offset i : ℤ) → place ≡ (pos local -ℤ offset) → t ≡ local + 1 + bit → (pos t -ℤ offset) ≡ i → ((place +ℤ pos 1) +ℤ pos bit) ≡ i
-at_one local bit t place offset i at there is = omega (arith, signed_arith)
-
--- each instant of the rest is the place of one of its matches, and the other way round
-one_placed : (v : Window) (local bits last : ℕ) (offset place least i : ℤ) → IsPlacedTo v local → IsBehind v local bits last offset place least
-    → IsOneOf (place +ℤ pos 1) bits i → IsPlacedFrom (timed_of v) (local + 1) (last + 1) i
-unfolding timed_by
-one_placed v local bits last offset place least i h behind one =
-    let t : ℕ = local + 1 + one.bit in
-    let high : t ≤ last = behind.rest.within one.bit one.set in
-    let up = rest_inside _ local bits last behind.rest in
-    let same : t - (local + 1) ≡ one.bit = omega arith in
-    record {
-      local = t;
-      from = omega arith;
-      below = omega arith;
-      is_match = behind.rest.matching t (omega arith) high ∙ (ap (is_bit bits) same ∙ one.set);
-      placed = place_there v.searcher.masks v.zone local (local / 60 * 60 + 59) t offset i behind.ahead (omega arith) (omega arith) (minute_end local h.found.0)
-          ∙ ap Some (one_at local one.bit place offset i behind.at one.is);
-    }
-
-placed_one : (v : Window) (local bits last : ℕ) (offset place least i : ℤ) → IsPlacedTo v local → IsBehind v local bits last offset place least
-    → IsPlacedFrom (timed_of v) (local + 1) (last + 1) i → IsOneOf (place +ℤ pos 1) bits i
-unfolding timed_by
-placed_one v local bits last offset place least i h behind p =
-    let low = p.from in
-    let high = p.below in
-    let up = rest_inside _ local bits last behind.rest in
-    let there : Some (pos p.local -ℤ offset) ≡ Some i
-    = sym (place_there v.searcher.masks v.zone local (local / 60 * 60 + 59) p.local offset i behind.ahead (omega arith) (omega arith) (minute_end local h.found.0)) ∙ p.placed in
-    let same : (pos p.local -ℤ offset) ≡ i = cc in
-    record {
-      bit = p.local - (local + 1);
-      set = sym (behind.rest.matching p.local (omega arith) (omega arith)) ∙ p.is_match;
-      is = at_one local (p.local - (local + 1)) p.local place offset i behind.at (omega arith) same;
-    }
+at_one : (local bit t : ℕ) (offset i : ℤ) → t ≡ local + 1 + bit → (pos t -ℤ offset) ≡ i → (((pos local -ℤ offset) +ℤ pos 1) +ℤ pos bit) ≡ i
+at_one local bit t offset i there is = omega (arith, signed_arith)
 
 above_least : (place least i : ℤ) (bit : ℕ) → least ≤ℤ place → ((place +ℤ pos 1) +ℤ pos bit) ≡ i → least <ℤ i
 above_least place least i bit le is = omega (arith, ints)
 
-one_above : (v : Window) (local bits last : ℕ) (offset place least i : ℤ) → IsPlacedTo v local → IsBehind v local bits last offset place least
-    → IsOneOf (place +ℤ pos 1) bits i → (least <ℤ i) × (v.last <ℤ i)
-one_above v local bits last offset place least i h behind one =
-    let above = above_least place least i one.bit behind.behind one.is in
-    let later = ((h.windowed.members least).0 (least_has v.pending least behind.least_is)).0 in
-    (above, omega (arith, ints))
+near_both : (local end t s : ℕ) (member i : ℤ) → s < local + 1 → local + 1 ≤ t → t ≤ end → pos end ≤ℤ (member +ℤ pos 93_599) → member ≤ℤ (pos s +ℤ pos 93_599)
+    → (pos t ≤ℤ (i +ℤ pos 93_599)) × (i ≤ℤ (pos t +ℤ pos 93_599)) → IsNear member i
+near_both local end t s member i early late up far old near = (omega (arith, ints, near), omega (arith, ints, near))
 
-pub rest_instants : (v : Window) (local bits last : ℕ) (offset place least i : ℤ) → IsPlacedTo v local → IsBehind v local bits last offset place least
-    → IsOneOf (place +ℤ pos 1) bits i → IsInstant i
-rest_instants v local bits last offset place least i h behind one =
-    let above = (one_above v local bits last offset place least i h behind one).1 in
-    let low = h.low in
-    let begun = h.above in
-    let p = one_placed v local bits last offset place least i h behind one in
-    let near = (timed_by-near v.searcher.masks v.zone p.local i p.placed).1 in
-    let below = p.below in
-    let count = seconds_in_all-is in
-    let up = rest_inside _ local bits last behind.rest in
-    let end = minute_end local h.found.0 in
-    (omega (arith, ints), omega (arith, ints))
-
-pub rest_near : (v : Window) (local bits last : ℕ) (offset place least member i : ℤ) → IsPlacedTo v local → IsBehind v local bits last offset place least
-    → Has v.pending member → IsOneOf (place +ℤ pos 1) bits i → IsNear member i
-rest_near v local bits last offset place least member i h behind m one =
-    let p = one_placed v local bits last offset place least i h behind one in
-    let near = timed_by-near v.searcher.masks v.zone p.local i p.placed in
-    let q = ((h.windowed.members member).0 m).1 in
-    let old = timed_by-near v.searcher.masks v.zone q.local member q.placed in
-    let up = rest_inside _ local bits last behind.rest in
-    let end = behind.near member m in
-    near_both local (local / 60 * 60 + 59) p.local q.local member i q.below p.from (omega (arith, p.below)) end old.1 near
-  where
-    near_both : (local end t s : ℕ) (member i : ℤ) → s < local + 1 → local + 1 ≤ t → t ≤ end → pos end ≤ℤ (member +ℤ pos 93_599) → member ≤ℤ (pos s +ℤ pos 93_599)
-        → (pos t ≤ℤ (i +ℤ pos 93_599)) × (i ≤ℤ (pos t +ℤ pos 93_599)) → IsNear member i
-    near_both local end t s member i early late up far old near = (omega (arith, ints, near), omega (arith, ints, near))
-
-begins : (least place start : ℤ) → least ≤ℤ place → start ≡ (place +ℤ pos 1) → least <ℤ start
-begins least place start le is = omega (arith, ints)
-
-pub rest_begun : (v : Window) (local bits last : ℕ) (offset place least start : ℤ) → IsBehind v local bits last offset place least → start ≡ (place +ℤ pos 1)
-    → IsSomeAnd (slice_get v.pending 0) (λ i. i <ℤ start)
-rest_begun v local bits last offset place least start behind is =
-    subst (λ (o : Option ℤ). IsSomeAnd o (λ i. i <ℤ start)) behind.least_is (begins least place start behind.behind is)
+begins : (least place : ℤ) → least ≤ℤ place → least <ℤ (place +ℤ pos 1)
+begins least place le = omega (arith, ints)
 
 reaches : (end t : ℕ) (least i : ℤ) → t ≤ end → pos end ≤ℤ (least +ℤ pos 93_599) → least ≤ℤ i → pos t ≤ℤ (i +ℤ pos 93_599)
 reaches end t least i up near le = omega (arith, ints)
 
--- the window once the rest is put
-pub rest_put : (v : Window) (local : ℕ) (searcher : Searcher) (bits last : ℕ) (offset place least : ℤ) (pending : List ℤ) → IsPlacedTo v local → searcher.masks ≡ v.searcher.masks
-    → searcher.searches ≡ v.searcher.searches + count_from (matches (sets_in v.searcher.masks)) (local + 1) (last - local)
-    → IsMostAfter (sets_in v.searcher.masks) local last v.searcher.most_months searcher.most_months
-    → IsBehind v local bits last offset place least → IsStrictlySortedBy int_cmp pending → ((i : ℤ) → Has pending i ↔ (Has v.pending i ⊎ IsOneOf (place +ℤ pos 1) bits i))
-    → IsPlacedTo (record v { searcher = searcher; pending = pending }) last
-rest_put v local searcher bits last offset place least pending h masks more most behind rises members =
-    let begun = behind.rest.begun in
-    let up = rest_inside _ local bits last behind.rest in
-    rest_placed v local searcher bits last pending h masks more most behind.rest
-    (windowed_more (timed_of v) (start_of v.base) (local + 1) (last + 1) v.last v.pending pending (omega arith) h.windowed rises
-    (λ i. (
-      λ m. elim ((members i).0 m) [
-        | inl old ↦ inl old
-        | inr one ↦ inr ((one_above v local bits last offset place least i h behind one).1, one_placed v local bits last offset place least i h behind one)
-      ],
-      λ o. (members i).1 (elim o [ inl old ↦ inl old | inr p ↦ inr (placed_one v local bits last offset place least i h behind p.1) ]),
-    ))
-    (λ i m t below. elim ((members i).0 m) [
-      | inl old ↦ reaches (local / 60 * 60 + 59) t i i (omega arith) (behind.near i old) (omega (arith, ints))
-      | inr one ↦
-          let above = (one_above v local bits last offset place least i h behind one).0 in
-          reaches (local / 60 * 60 + 59) t least i (omega arith) (behind.near least (least_has v.pending least behind.least_is)) (omega (arith, ints))
-    ]))
+module _ (v : Window) (local bits last : ℕ) (offset least : ℤ) (h : IsPlacedTo v local) (b : IsBehind v local bits last offset least) where
+  up : last ≤ local / 60 * 60 + 59
+  up = rest_inside _ local bits last b.rest
+
+  least_has : Has v.pending least
+  least_has = subst (λ (ys : List ℤ). Has ys least) (sym (list-first v.pending least (sym b.least_is))) (inl refl)
+
+  -- each instant of the rest is the place of one of its matches, and the other way round
+  one_placed : (i : ℤ) → IsOneOf ((pos local -ℤ offset) +ℤ pos 1) bits i → IsPlacedFrom (timed_of v) (local + 1) (last + 1) i
+  unfolding timed_by
+  one_placed i one =
+      let t : ℕ = local + 1 + one.bit in
+      let high : t ≤ last = b.rest.within one.bit one.set in
+      let same : t - (local + 1) ≡ one.bit = omega arith in
+      record {
+        local = t;
+        from = omega arith;
+        below = omega arith;
+        is_match = b.rest.matching t (omega arith) high ∙ (ap (is_bit bits) same ∙ one.set);
+        placed = place_there v local t offset h b.ahead (omega arith) (omega arith) ∙ ap Some (one_at local one.bit offset i one.is);
+      }
+
+  placed_one : (i : ℤ) → IsPlacedFrom (timed_of v) (local + 1) (last + 1) i → IsOneOf ((pos local -ℤ offset) +ℤ pos 1) bits i
+  unfolding timed_by
+  placed_one i p =
+      let end = up in
+      let there : Some (pos p.local -ℤ offset) ≡ Some i = sym (place_there v local p.local offset h b.ahead (omega arith) (omega arith)) ∙ p.placed in
+      let same : (pos p.local -ℤ offset) ≡ i = cc in
+      record {
+        bit = p.local - (local + 1);
+        set = sym (b.rest.matching p.local (omega arith) (omega arith)) ∙ p.is_match;
+        is = at_one local (p.local - (local + 1)) p.local offset i (omega arith) same;
+      }
+
+  one_above : (i : ℤ) → IsOneOf ((pos local -ℤ offset) +ℤ pos 1) bits i → (least <ℤ i) × (v.last <ℤ i)
+  one_above i one = grind (arith, ints, above_least, least_has)
+
+  pub rest_instants : (i : ℤ) → IsOneOf ((pos local -ℤ offset) +ℤ pos 1) bits i → IsInstant i
+  rest_instants i one =
+      let above = (one_above i one).1 in
+      let p = one_placed i one in
+      let near = (timed_by-near v.searcher.masks v.zone p.local i p.placed).1 in
+      let below = p.below in
+      let count = seconds_in_all-is in
+      let inside = up in
+      let end = minute_end local h.found.0 in
+      (omega (arith, ints), omega (arith, ints))
+
+  pub rest_near : (member i : ℤ) → Has v.pending member → IsOneOf ((pos local -ℤ offset) +ℤ pos 1) bits i → IsNear member i
+  rest_near member i m one =
+      let p = one_placed i one in
+      let near = timed_by-near v.searcher.masks v.zone p.local i p.placed in
+      let q = ((h.windowed.members member).0 m).1 in
+      let old = timed_by-near v.searcher.masks v.zone q.local member q.placed in
+      near_both local (local / 60 * 60 + 59) p.local q.local member i q.below p.from (omega (arith, p.below)) (b.near member m) old.1 near
+
+  pub rest_begun : IsSomeAnd (slice_get v.pending 0) (λ i. i <ℤ ((pos local -ℤ offset) +ℤ pos 1))
+  rest_begun = subst (λ (o : Option ℤ). IsSomeAnd o (λ i. i <ℤ ((pos local -ℤ offset) +ℤ pos 1))) b.least_is (begins least (pos local -ℤ offset) b.behind)
+
+no_later : (xs : List ℤ) → None ≡ slice_get xs 0 → (i : ℤ) → Has xs i → ⊥
+no_later xs none i m = subst (λ (ys : List ℤ). Has ys i) (list-no_first xs (sym none)) m
+
+passed_by : (t end : ℕ) (last offset i : ℤ) → Some (pos t -ℤ offset) ≡ Some i → t ≤ end → (pos end -ℤ offset) ≤ℤ last → last <ℤ i → ⊥
+passed_by t end last offset i at up early above = grind (arith, signed_arith)
+
+-- the window once the rest is placed
+module _ (v : Window) (local : ℕ) (searcher : Searcher) (bits last : ℕ) (h : IsPlacedTo v local) (masks : searcher.masks ≡ v.searcher.masks)
+    (more : searcher.searches ≡ v.searcher.searches + count_from (matches (sets_in v.searcher.masks)) (local + 1) (last - local))
+    (most : IsMostAfter (sets_in v.searcher.masks) local last v.searcher.most_months searcher.most_months)
+    (rest : IsRest (matches (sets_in v.searcher.masks)) local bits last)
+  where
+    -- with what is pending then
+    rest_placed : (pending : List ℤ) → Windowed (timed_of v) (start_of v.base) (last + 1) v.last pending
+        → IsPlacedTo (record v { searcher = searcher; pending = pending }) last
+    unfolding timed_by
+    rest_placed pending windowed =
+        let same : timed_of v ≡ timed_by searcher.masks v.zone = ap (λ m. timed_by m v.zone) (sym masks) in
+        let start = start_of v.base in
+        let count = seconds_in_all-is in
+        let inside : last < seconds_in_all = omega (arith, rest_inside _ local bits last rest, minute_end local h.found.0) in
+        let part = count_from-part (matches (sets_in v.searcher.masks)) start local last h.begun rest.begun in
+        let counted : searcher.searches ≡ count_from (timed_of v).matches start (last + 1 - start) = omega (arith, h.counted) in
+        let begun = h.begun in
+        let later = rest.begun in
+        record {
+          windowed = subst (λ (e : Timed). Windowed e start (last + 1) v.last pending) same windowed;
+          found = subst (λ (e : Timed). IsMatchAhead e (Some last)) same (inside, rest.is_match);
+          low = h.low;
+          above = h.above;
+          begun = omega arith;
+          counted = subst (λ (e : Timed). searcher.searches ≡ count_from e.matches start (last + 1 - start)) same counted;
+          looked = subst (λ (m : Masks). IsMost (sets_in m) start last searcher.most_months) (sym masks)
+              (most_more (sets_in v.searcher.masks) start local last v.searcher.most_months searcher.most_months begun later h.looked most);
+        }
+
+    -- where nothing is pending, and all places up to the minute's end are at the last instant given or before it
+    pub rest_passed : (offset : ℤ) → None ≡ slice_get v.pending 0 → AreAhead (zone_of v.zone) (pos local) (pos (local / 60 * 60 + 59)) offset
+        → (pos (local / 60 * 60 + 59) -ℤ offset) ≤ℤ v.last → IsPlacedTo (record v { searcher = searcher }) last
+    rest_passed offset none ahead early =
+        let later = rest.begun in
+        let not_above = λ (i : ℤ) (above : v.last <ℤ i) (p : IsPlacedFrom (timed_of v) (local + 1) (last + 1) i).
+        let below = p.below in
+        let up = rest_inside _ local bits last rest in
+        let at = sym (place_there v local p.local offset h ahead (omega arith) (omega arith)) ∙ p.placed in
+        passed_by p.local (local / 60 * 60 + 59) v.last offset i at (omega arith) early above in
+        rest_placed v.pending
+        (windowed_more (timed_of v) (start_of v.base) (local + 1) (last + 1) v.last v.pending v.pending (omega arith) h.windowed h.windowed.rises
+        (λ i. (λ m. inl m, λ o. elim o [ inl m ↦ m | inr p ↦ absurd (not_above i p.0 p.1) ]))
+        (λ i m. absurd (no_later v.pending none i m)))
+
+    -- where it is put
+    pub rest_put : (offset least : ℤ) (pending : List ℤ) → IsBehind v local bits last offset least → IsStrictlySortedBy int_cmp pending
+        → ((i : ℤ) → Has pending i ↔ (Has v.pending i ⊎ IsOneOf ((pos local -ℤ offset) +ℤ pos 1) bits i)) → IsPlacedTo (record v { searcher = searcher; pending = pending }) last
+    rest_put offset least pending b rises members =
+        let inside = rest_inside _ local bits last rest in
+        let above = one_above v local bits last offset least h b in
+        rest_placed pending
+        (windowed_more (timed_of v) (start_of v.base) (local + 1) (last + 1) v.last v.pending pending (omega arith) h.windowed rises
+        (λ i. (
+          λ m. elim ((members i).0 m) [ inl old ↦ inl old | inr one ↦ inr ((above i one).1, one_placed v local bits last offset least h b i one) ],
+          λ o. (members i).1 (elim o [ inl old ↦ inl old | inr p ↦ inr (placed_one v local bits last offset least h b i p.1) ]),
+        ))
+        (λ i m t below. elim ((members i).0 m) [
+          | inl old ↦ reaches (local / 60 * 60 + 59) t i i (omega arith) (b.near i old) (omega (arith, ints))
+          | inr one ↦
+              (let later = (above i one).0 in
+              reaches (local / 60 * 60 + 59) t least i (omega arith) (b.near least (least_has v local bits last offset least h b)) (omega (arith, ints)))
+        ]))

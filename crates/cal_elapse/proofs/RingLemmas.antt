@@ -1,5 +1,5 @@
 -- A round of cells: its members, the first of them, and what is there once one is put or taken.
-use Rattle.std.proofs.Common.{◌≡◌, ◌≢◌, ◌⊎◌, ◌↔◌, ℕ, zero, suc, ◌+◌, ◌-◌, ◌%◌, ◌<◌, ◌≤◌, cond, Bool, true, false, List, [], ◌∷◌, length, min, Option, unwrap_or, ◌==◌, get_or, replicate, inl, inr, None, Some, ◌/◌, negsuc, unsigned_abs, to_z, w64, ℤ, pos, ◌<ℤ◌, ◌≤ℤ◌, refl, sym, ap, ◌∙◌, subst, arith, slice_get, drop}
+use Rattle.std.proofs.Common.{◌≡◌, ◌≢◌, ◌⊎◌, ◌↔◌, ℕ, zero, suc, ◌+◌, ◌-◌, ◌%◌, ◌<◌, ◌≤◌, cond, Bool, true, false, List, [], ◌∷◌, length, min, Option, unwrap_or, ◌==◌, get_or, replicate, inl, inr, None, Some, ◌/◌, unsigned_abs, to_z, w64, ℤ, pos, ◌<ℤ◌, ◌≤ℤ◌, refl, sym, ap, ◌∙◌, subst, arith, slice_get, drop}
 use Rattle.std.proofs.lemmas.Bool.{cases_eq, cases_lt}
 use Rattle.std.proofs.lemmas.Bool.Decides.{nat_tests}
 use Rattle.std.proofs.lemmas.Int.{ints, to_z_pos}
@@ -32,8 +32,7 @@ record IsAmong (passes : ℕ → Bool) (from n : ℕ) (i : ℤ) : Type 0 where
   holds : passes at ≡ true
 
 Has-one : (b : Bool) (x i : ℤ) (rest : List ℤ) → Has (cond b (x ∷ rest) rest) i ↔ (((b ≡ true) × (x ≡ i)) ⊎ Has rest i)
-Has-one true x i rest = (λ m. elim m [ inl e ↦ inl (refl, e) | inr n ↦ inr n ], λ m. elim m [ inl p ↦ inl p.1 | inr n ↦ inr n ])
-Has-one false x i rest = (λ m. inr m, λ m. elim m [ inl p ↦ absurd (let e = p.0 in cc) | inr n ↦ n ])
+Has-one b x i rest = grind arith
 
 among_here : (passes : ℕ → Bool) (from n : ℕ) (i : ℤ) → passes from ≡ true → pos from ≡ i → IsAmong passes from (suc n) i
 among_here passes from n i holds is = record { at = from; is = is; above = omega arith; below = omega arith; holds = holds }
@@ -42,11 +41,7 @@ among_later : (passes : ℕ → Bool) (from n : ℕ) (i : ℤ) → IsAmong passe
 among_later passes from n i a = record { at = a.at; is = a.is; above = omega (arith, a.above); below = omega (arith, a.below); holds = a.holds }
 
 among_split : (passes : ℕ → Bool) (from n : ℕ) (i : ℤ) → IsAmong passes from (suc n) i → ((passes from ≡ true) × (pos from ≡ i)) ⊎ IsAmong passes (suc from) n i
-among_split passes from n i a =
-    elim (cases_eq a.at from) [
-      | inl same ↦ inl (subst (λ (t : ℕ). passes t ≡ true) same a.holds, subst (λ (t : ℕ). pos t ≡ i) same a.is)
-      | inr other ↦ inr (record { at = a.at; is = a.is; above = omega (arith, a.above); below = omega (arith, a.below); holds = a.holds })
-    ]
+among_split passes from n i a = grind arith
 
 no_number : (passes : ℕ → Bool) (from : ℕ) (i : ℤ) → IsAmong passes from zero i → ⊥
 no_number passes from i a = let above = a.above in let below = a.below in omega arith
@@ -61,8 +56,7 @@ Has-rising passes from (suc n) i =
     )
 
 above_if : (b : Bool) (low x : ℤ) (rest : List ℤ) → int_cmp low x ≡ Less → AllByRecursion (λ y. int_cmp low y ≡ Less) rest → AllByRecursion (λ y. int_cmp low y ≡ Less) (cond b (x ∷ rest) rest)
-above_if true low x rest h k = (h, k)
-above_if false low x rest h k = k
+above_if b low x rest h k = grind arith
 
 next_above : (low : ℤ) (from : ℕ) → low <ℤ pos from → low <ℤ pos (suc from)
 next_above low from h = omega (arith, ints)
@@ -74,8 +68,7 @@ above-rising passes low from (suc n) h =
 
 rising_if : (b : Bool) (x : ℤ) (rest : List ℤ) → AllByRecursion (λ y. int_cmp x y ≡ Less) rest → IsStrictlySortedBy int_cmp rest → IsStrictlySortedBy int_cmp (cond b (x ∷ rest) rest)
 unfolding IsStrictlySortedBy
-rising_if true x rest h k = (h, k)
-rising_if false x rest h k = k
+rising_if b x rest h k = grind arith
 
 one_above : (from : ℕ) → pos from <ℤ pos (suc from)
 one_above from = omega (arith, ints)
@@ -151,8 +144,7 @@ at_most : (at t : ℕ) (j : ℤ) → pos t ≡ j → at ≤ t → pos at ≤ℤ 
 at_most at t j is h = omega (arith, ints)
 
 not_before : (words : List ℕ) (low at t : ℕ) → IsFirstPassing (is_held words) low (low + 187_200) (Some at) → low ≤ t → is_held words t ≡ true → at ≤ t
-not_before words low at t found above holds =
-    elim (cases_lt t at) [ inl early ↦ absurd (let none = found.3 t above early in cc) | inr late ↦ late ]
+not_before words low at t found above holds = grind arith
 
 pub first_found : (words : List ℕ) (low at : ℕ) → IsFirstPassing (is_held words) low (low + 187_200) (Some at) → slice_get (instants_in words low) 0 ≡ Some (pos at)
 first_found words low at found =
@@ -197,11 +189,7 @@ near_high i t at is near = let high = near.1 in omega (arith, ints)
 
 still_held : (old new : List ℕ) (at t : ℕ) → HasMore old new at → is_held old t ≡ true → is_held new t ≡ true
 unfolding is_held
-still_held old new at t more holds =
-    elim (cases_eq (t % 187_200) (at % 187_200)) [
-      | inl same ↦ ap (is_in_words new) same ∙ more.here
-      | inr other ↦ more.others (t % 187_200) other ∙ holds
-    ]
+still_held old new at t more holds = grind arith
 
 here_held : (old new : List ℕ) (at : ℕ) → HasMore old new at → is_held new at ≡ true
 unfolding is_held
@@ -266,14 +254,7 @@ put_round old new low at from more round near high whole was =
 
 -- a round that begins with its least second goes on to begin with the least, once an instant is put that is near to it
 with_least : (least at : ℕ) → (least ≤ at → at ≤ least + 187_199) → IsRoundWith least at (min least at)
-with_least least at near =
-    elim (cases_lt at least) [
-      | inl early ↦ (let is : min least at ≡ at = omega arith in rw is (record { above = omega arith; below = omega arith; near = λ t low high after before. (omega arith, omega arith) }))
-      | inr late ↦
-          (let is : min least at ≡ least = omega arith in
-          let close = near late in
-          rw is (record { above = late; below = omega arith; near = λ t low high after before. (low, high) }))
-    ]
+with_least least at near = grind (arith, min)
 
 put_reach : (old : List ℕ) (least at : ℕ) → IsRoundFrom old least → ((i : ℤ) → Has (instants_in old least) i → IsNear i (pos at)) → at ≤ 7_258_211_998
     → least ≤ at → at ≤ least + 187_199
@@ -282,14 +263,7 @@ put_reach old least at was near high early =
     near_high (pos least) least at refl (near (pos least) (member old least least found.0 found.1 found.2))
 
 put_held : (old new : List ℕ) (least at : ℕ) → HasMore old new at → IsRoundFrom old least → at ≤ 7_258_211_998 → is_held new (min least at) ≡ true
-put_held old new least at more was high =
-    elim (cases_lt at least) [
-      | inl early ↦ (let is : min least at ≡ at = omega arith in rw is (here_held old new at more))
-      | inr late ↦
-          (let is : min least at ≡ least = omega arith in
-          let found = found_kept old least was.first (omega arith) in
-          rw is (still_held old new at least more found.2))
-    ]
+put_held old new least at more was high = grind (arith, min, here_held, found_kept, still_held)
 
 pub put_from : (old new : List ℕ) (least at : ℕ) → HasMore old new at → IsRoundFrom old least → ((i : ℤ) → Has (instants_in old least) i → IsNear i (pos at))
     → at ≤ 7_258_211_998 → length new ≡ 2_925 → IsRoundFrom new (min least at)
@@ -327,8 +301,6 @@ left_second old new low at t found less above below holds =
           let j = turned low t in
           let held = held_by old j.at t j.same ∙ was in
           let late = not_before old low at j.at found j.above held in
-          let inside = found.0 in
-          let ends = j.below in
           let same = same_second at j.at t late (omega arith) above below j.same in
           (later_one at t above other, subst (λ (s : ℕ). Has (instants_in old low) (pos s)) same (member old low j.at j.above j.below held))
     ]
@@ -344,15 +316,7 @@ left_in old new low at i found less a =
 
 still_in : (old new : List ℕ) (low at : ℕ) (i : ℤ) → IsFirstPassing (is_held old) low (low + 187_200) (Some at) → HasLess old new at
     → pos at <ℤ i → IsIn old low i → Has (instants_in new at) i
-still_in old new low at i found less above a =
-    let late = lt_from_pos at a.at i a.is above in
-    let begins = found.0 in
-    let ends = a.below in
-    let start = a.above in
-    let first_below = found.1 in
-    let inside : a.at < at + 187_200 = omega arith in
-    let other : a.at % 187_200 ≢ at % 187_200 = λ same. let e = same_second low a.at at start ends begins first_below same in omega arith in
-    subst (Has (instants_in new at)) a.is (member new at a.at (omega arith) inside (others_held old new at a.at less other ∙ a.holds))
+still_in old new low at i found less above a = grind (arith, lt_from_pos, same_second, member, others_held)
 
 -- what is seen with the first taken is what was seen after it
 taken_seen : (old new : List ℕ) (low at : ℕ) → IsFirstPassing (is_held old) low (low + 187_200) (Some at) → HasLess old new at
@@ -405,9 +369,7 @@ seen_from words low from kept =
 
 seen_on : (words : List ℕ) (low : ℕ) (next : Option ℕ) → IsFirstPassing (is_held words) low (low + 187_200) next
     → instants_in words (unwrap_or next no_second) ≡ instants_in words low
-seen_on words low None none = seen_from words low no_second (λ t above below holds. absurd (let fails = none t above below in cc))
-seen_on words low (Some at) found =
-    seen_from words low at (λ t above below holds. let late = not_before words low at t found above holds in let inside = found.0 in (late, omega arith))
+seen_on words low next none = grind (arith, seen_from, not_before)
 
 none_anywhere : (words : List ℕ) (low t : ℕ) → IsFirstPassing (is_held words) low (low + 187_200) None → is_held words t ≡ false
 none_anywhere words low t none = let j = turned low t in sym (held_by words j.at t j.same) ∙ none j.at j.above j.below
@@ -439,26 +401,17 @@ pub nothing_seen : (words : List ℕ) (n low : ℕ) → words ≡ replicate n 0 
 nothing_seen words n low empty = list-no_first (instants_in words low) (none_found words low (λ t above below. nothing_held words n t empty))
 
 pub empty_from : (words : List ℕ) (n : ℕ) → n ≡ 2_925 → words ≡ replicate n 0 → IsRoundFrom words no_second
-empty_from words n count empty =
-    record {
-      round = record {
-        whole = ap length empty ∙ (length-replicate n 0 ∙ count);
-        members = λ i m. absurd (subst (λ (xs : List ℤ). Has xs i) (nothing_seen words n no_second empty) m);
-      };
-      first = λ t above below. nothing_held words n t empty;
-    }
+empty_from words n count empty = grind (arith, length, length-replicate, nothing_seen, nothing_held)
 
 pub second_is : (instant : ℤ) (second : ℕ) → IsInstant instant → second ≡ unsigned_abs instant → pos second ≡ instant
-second_is (pos n) second h e = ap pos e
-second_is (negsuc n) second h e = absurd (omega (arith, ints, h.0))
+second_is instant second h e = grind (arith, ints)
 
 pub second_inside : (instant : ℤ) (second : ℕ) → IsInstant instant → pos second ≡ instant → second ≤ 7_258_211_998
 second_inside instant second h e = let high = h.1 in omega (arith, ints)
 
 pub near_there : (old : List ℕ) (low at : ℕ) (instant : ℤ) (members : List ℤ) → instants_in old low ≡ members → pos at ≡ instant → ((i : ℤ) → Has members i → IsNear i instant)
     → (i : ℤ) → Has (instants_in old low) i → IsNear i (pos at)
-near_there old low at instant members view is near i m =
-    subst (IsNear i) (sym is) (near i (subst (λ (xs : List ℤ). Has xs i) view m))
+near_there old low at instant members view is near i m = grind arith
 
 pub put_answer : (old new : List ℕ) (least at : ℕ) (instant : ℤ) (members : List ℤ) → HasMore old new at → IsRoundFrom old least → instants_in old least ≡ members → pos at ≡ instant
     → at ≤ 7_258_211_998 → ((i : ℤ) → Has members i → IsNear i instant) → instants_in new (min least at) ≡ insert_key int_cmp members instant
@@ -473,8 +426,7 @@ taken_answer old new least next members found less first view = seen_on new leas
 pub least_answer : (words : List ℕ) (low at : ℕ) (members : List ℤ) → instants_in words low ≡ members → IsRound words low
     → IsFirstPassing (is_held words) low (low + 187_200) (Some at) → Some (to_z w64 at) ≡ slice_get members 0
 least_answer words low at members view was found =
-    let inside = found_inside words low at was found in
-    let same : to_z w64 at ≡ pos at = to_z_pos w64 at (omega arith) in
+    let same : to_z w64 at ≡ pos at = to_z_pos w64 at (omega (arith, found_inside words low at was found)) in
     ap Some same ∙ (sym (first_found words low at found) ∙ ap (λ (xs : List ℤ). slice_get xs 0) view)
 
 pub none_answer : (words : List ℕ) (low : ℕ) (members : List ℤ) → instants_in words low ≡ members → IsFirstPassing (is_held words) low (low + 187_200) None → None ≡ slice_get members 0
@@ -484,5 +436,4 @@ pub rises_answer : (words : List ℕ) (low : ℕ) (members : List ℤ) → insta
 rises_answer words low members view = subst (IsStrictlySortedBy int_cmp) view (rises-instants words low)
 
 pub near_answer : (words : List ℕ) (low : ℕ) (members : List ℤ) → instants_in words low ≡ members → (one other : ℤ) → Has members one → Has members other → IsNear one other
-near_answer words low members view one other m n =
-    members_near words low one other (subst (λ (xs : List ℤ). Has xs one) (sym view) m) (subst (λ (xs : List ℤ). Has xs other) (sym view) n)
+near_answer words low members view one other m n = grind (arith, members_near)

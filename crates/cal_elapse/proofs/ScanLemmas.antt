@@ -1,10 +1,9 @@
 -- The first word that has a bit.
-use Rattle.std.proofs.Common.{◌≡◌, ◌≢◌, inl, inr, ℕ, zero, suc, ◌+◌, ◌-◌, ◌<◌, ◌≤◌, not, cond, Bool, true, false, List, [], ◌∷◌, None, Some, length, get_or, ltb, sym, ap, arith, refl}
+use Rattle.std.proofs.Common.{◌≡◌, ◌≢◌, ℕ, zero, suc, ◌+◌, ◌-◌, ◌<◌, ◌≤◌, not, cond, Bool, true, false, List, [], ◌∷◌, None, Some, length, get_or, ltb, ap, arith, refl}
 use Rattle.std.specs.List.{position, position_or_len}
 use lib.Bits.{bit_or}
 use lib.Lanes.{chunk, fold_l}
-use Rattle.std.proofs.lemmas.Bool.{cases_lt, cond-true, eq-eqb, lt-ltb, ne_eqb}
-use Rattle.std.proofs.lemmas.Nat.{le_or_l, le_or_r}
+use Rattle.std.proofs.lemmas.Bool.{cond-true, eq-eqb, lt-ltb, ne_eqb}
 use Rattle.std.proofs.lemmas.Simd.{get_or-chunk, length-chunk}
 use Rattle.cal_elapse.specs.Scan.{is_set}
 use Rattle.cal_text.proofs.General.{fold_each}
@@ -16,12 +15,10 @@ pub zero_word : (x : ℕ) → x ≡ 0 → is_set x ≡ false
 zero_word x h = ap not (eq-eqb x 0 h)
 
 head_set : (b : Bool) (n : ℕ) → b ≡ true → cond (not b) (1 + n) 0 ≡ 0
-head_set true n e = refl
-head_set false n e = absurd (cc)
+head_set b n e = grind arith
 
 head_zero : (b : Bool) (n k : ℕ) → b ≡ false → n ≡ k → cond (not b) (1 + n) 0 ≡ suc k
-head_zero true n k e f = absurd (cc)
-head_zero false n k e f = omega arith
+head_zero b n k e f = grind arith
 
 -- that many words are 0, and the next isn't
 at_first : (xs : List ℕ) (k : ℕ) → k < length xs → ((j : ℕ) → j < k → is_set (get_or xs j 0) ≡ false) → is_set (get_or xs k 0) ≡ true → position_or_len is_set xs ≡ k
@@ -35,21 +32,10 @@ all_zero [] zeros = refl
 all_zero (x ∷ xs) zeros = head_zero (is_set x) (position_or_len is_set xs) (length xs) (zeros 0 (omega arith)) (all_zero xs (λ j lt. zeros (suc j) (omega arith)))
 
 pub position-found : (xs : List ℕ) (k : ℕ) → k < length xs → ((j : ℕ) → j < k → is_set (get_or xs j 0) ≡ false) → is_set (get_or xs k 0) ≡ true → Some k ≡ position is_set xs
-position-found xs k h zeros here =
-    let first = at_first xs k h zeros here in
-    rw first (sym (cond-true (ltb k (length xs)) (Some k) None (lt-ltb k (length xs) h)))
+position-found xs k h zeros here = grind (arith, at_first, cond-true, ltb, length, lt-ltb)
 
 pub position-none : (xs : List ℕ) → ((j : ℕ) → j < length xs → is_set (get_or xs j 0) ≡ false) → None ≡ position is_set xs
-position-none xs zeros =
-    let first = all_zero xs zeros in
-    rw first (sym (none_by (ltb (length xs) (length xs)) (length xs) (not_less (length xs))))
-  where
-    none_by : (b : Bool) (n : ℕ) → b ≡ false → cond b (Some n) None ≡ None
-    none_by true n e = absurd (cc)
-    none_by false n e = refl
-
-    not_less : (n : ℕ) → ltb n n ≡ false
-    not_less n = grind (arith)
+position-none xs zeros = grind (arith, all_zero, ltb, length)
 
 -- no word of a load is set
 load_zero : (xs : List ℕ) (at n : ℕ) → at + n ≤ length xs → fold_l bit_or 0 (chunk at n xs) ≡ 0 → (k : ℕ) → at ≤ k → k < at + n → is_set (get_or xs k 0) ≡ false
@@ -63,5 +49,4 @@ load_zero xs at n room empty k low high =
 -- the words of one load more
 pub zeros_more : (xs : List ℕ) (at n : ℕ) → at + n ≤ length xs → fold_l bit_or 0 (chunk at n xs) ≡ 0 → ((k : ℕ) → k < at → is_set (get_or xs k 0) ≡ false)
     → (k : ℕ) → k < at + n → is_set (get_or xs k 0) ≡ false
-zeros_more xs at n room empty before k below =
-    elim (cases_lt k at) [ inl early ↦ before k early | inr late ↦ load_zero xs at n room empty k late below ]
+zeros_more xs at n room empty before k below = grind (arith, load_zero)

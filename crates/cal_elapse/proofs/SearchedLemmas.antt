@@ -1,22 +1,19 @@
 -- How often the matches were searched, once an elapse was given or none was left.
-use Rattle.std.proofs.Common.{◌≡◌, ◌∙◌, ℕ, ◌+◌, ◌-◌, ◌<◌, ◌≤◌, nat_lt, Bool, true, false, Option, None, Some, ℤ, pos, negsuc, ◌<ℤ◌, ◌≤ℤ◌, ◌+ℤ◌, ◌-ℤ◌, int_lt, unsigned_abs, List, sym, ap, subst, arith, inl, inr, refl, slice_get}
+use Rattle.std.proofs.Common.{◌≡◌, ℕ, ◌+◌, ◌-◌, ◌<◌, ◌≤◌, nat_lt, true, false, Option, None, Some, ℤ, pos, ◌<ℤ◌, ◌≤ℤ◌, ◌+ℤ◌, int_lt, unsigned_abs, sym, subst, arith, inl, inr, slice_get}
 use Rattle.std.proofs.lemmas.Bool.{and_left, cases_lt, false_from_ne_true}
 use Rattle.std.proofs.lemmas.Int.{ints}
 use Rattle.cal_zone.specs.headline.Local.{seconds_in_all}
 use Rattle.cal_zone.specs.declared.zone.Zone.{Zone}
 use Rattle.cal_rising.specs.headline.Elements.{Has}
-use Rattle.cal_elapse.specs.Search.{NonePasses}
 use Rattle.cal_elapse.specs.Masks.{sets_in}
-use Rattle.cal_elapse.specs.Most.{IsMost}
 use Rattle.cal_elapse.specs.Searched.{IsMostSearched, IsSearched}
 use Rattle.cal_elapse.specs.Window.{IsReady, bound_of, count_from, start_of, timed_by, timed_of, to_place}
 use Rattle.cal_elapse.specs.declared.masks.Masks.{Masks}
 use Rattle.cal_elapse.specs.declared.window.Window.{Window}
-use Rattle.cal_elapse.proofs.CountLemmas.{count_from-none, count_from-on}
+use Rattle.cal_elapse.proofs.CountLemmas.{count_from-on}
 use Rattle.cal_elapse.proofs.MinuteLemmas.{match_inside}
 use Rattle.cal_elapse.proofs.MostLemmas.{most_same}
-use Rattle.cal_text.proofs.General.{list-first, lt_from_test, none_chosen}
-use Rattle.cal_elapse.proofs.WindowLemmas.{all_placed}
+use Rattle.cal_text.proofs.General.{lt_from_test, none_chosen}
 use Rattle.cal_spec.specs.headline.Match.{matches}
 use Rattle.cal_elapse.proofs.InstantLemmas.{first_has}
 
@@ -29,20 +26,14 @@ none_past masks zone t late = and_left (nat_lt t seconds_in_all) _ (grind (arith
 matches_below : (v : Window) (i : ℤ) (top : ℕ) → IsReady v → Has v.pending i → (pos top) ≡ (i +ℤ pos 93_600) → start_of v.base ≤ top → (t : ℕ) → top ≤ t → t < bound_of v.ahead
     → (timed_of v).matches t ≡ true → ⊥
 matches_below v i top h m is begun t late inside holds =
-    let near = h.windowed.reach i m t (omega arith) inside holds in
-    omega (arith, ints)
+    omega (arith, h.windowed.reach i m t (omega arith) inside holds, ints)
 
 count_down : (v : Window) (i : ℤ) (top : ℕ) → IsReady v → Has v.pending i → (pos top) ≡ (i +ℤ pos 93_600) → start_of v.base ≤ top → top ≤ bound_of v.ahead
     → count_from (timed_of v).matches (start_of v.base) (bound_of v.ahead - start_of v.base) ≡ count_from (timed_of v).matches (start_of v.base) (top - start_of v.base)
-count_down v i top h m is begun inside =
-    count_from-on (timed_of v).matches (start_of v.base) top (bound_of v.ahead) begun inside
-    (λ t late below. false_from_ne_true ((timed_of v).matches t) (matches_below v i top h m is begun t late below))
+count_down v i top h m is begun inside = grind (arith, count_from-on, false_from_ne_true, matches_below)
 
 late_bound : (ahead : Option ℕ) (i : ℤ) (top : ℕ) → to_place ahead (Some i) ≡ None → (pos top) ≡ (i +ℤ pos 93_600) → bound_of ahead < top → bound_of ahead ≡ seconds_in_all
-late_bound None i top full is late = refl
-late_bound (Some local) i top full is late =
-    let early : i <ℤ (pos local -ℤ pos 93_599) = lt_from_test i (pos local -ℤ pos 93_599) (none_chosen (int_lt i (pos local -ℤ pos 93_599)) local full) in
-    absurd (omega (arith, ints))
+late_bound ahead i top full is late = grind (arith, lt_from_test, none_chosen, int_lt, ints)
 
 count_top : (v : Window) (i : ℤ) (top : ℕ) → IsReady v → Has v.pending i → to_place v.ahead (Some i) ≡ None → (pos top) ≡ (i +ℤ pos 93_600) → start_of v.base ≤ top
     → count_from (timed_of v).matches (start_of v.base) (bound_of v.ahead - start_of v.base) ≡ count_from (timed_of v).matches (start_of v.base) (top - start_of v.base)
@@ -56,9 +47,7 @@ count_top v i top h m full is begun =
     ]
 
 start_below : (base last i : ℤ) → pos 0 ≤ℤ base → base ≤ℤ last → last <ℤ i → ((pos (unsigned_abs i + 93_600)) ≡ (i +ℤ pos 93_600)) × (start_of base ≤ unsigned_abs i + 93_600)
-start_below (negsuc b) last i low above later = absurd (omega (arith, ints))
-start_below (pos b) last (negsuc n) low above later = absurd (omega (arith, ints))
-start_below (pos b) last (pos n) low above later = (omega (arith, ints), omega (arith, ints))
+start_below base last i low above later = grind (arith, ints)
 
 pub searched_some : (v : Window) (i : ℤ) → IsReady v → to_place v.ahead (slice_get v.pending 0) ≡ None → slice_get v.pending 0 ≡ Some i
     → IsSearched (timed_of v) v.base (Some i) v.searcher.searches
@@ -68,14 +57,7 @@ searched_some v i h full at =
     let top = start_below v.base v.last i h.low h.above above in
     let there = subst (λ (o : Option ℤ). to_place v.ahead o ≡ None) at full in
     let same = count_top v i (unsigned_abs i + 93_600) h m there top.0 top.1 in
-    let counted = h.counted in
     omega arith
-
-pub searched_none : (v : Window) → IsReady v → to_place v.ahead (slice_get v.pending 0) ≡ None → slice_get v.pending 0 ≡ None
-    → IsSearched (timed_of v) v.base None v.searcher.searches
-searched_none v h full none =
-    let all : bound_of v.ahead ≡ seconds_in_all = ap bound_of (all_placed v.ahead (subst (λ (o : Option ℤ). to_place v.ahead o ≡ None) none full)) in
-    subst (λ (b : ℕ). v.searcher.searches ≡ count_from (timed_of v).matches (start_of v.base) (b - start_of v.base) + 1) all h.counted
 
 -- The most months that one of these searches looked at
 
@@ -83,16 +65,7 @@ searched_none v h full none =
 same_below : (v : Window) (i : ℤ) (top : ℕ) → IsReady v → Has v.pending i → to_place v.ahead (Some i) ≡ None → (pos top) ≡ (i +ℤ pos 93_600) → start_of v.base ≤ top
     → (t : ℕ) → start_of v.base ≤ t → matches (sets_in v.searcher.masks) t ≡ true → (t < bound_of v.ahead → t < top) × (t < top → t < bound_of v.ahead)
 unfolding timed_by
-same_below v i top h m full is begun t above holds = (
-  λ below. elim (cases_lt t top) [ inl early ↦ early | inr late ↦ absurd (matches_below v i top h m is begun t late below holds) ],
-  λ early. elim (cases_lt t (bound_of v.ahead)) [
-    | inl below ↦ below
-    | inr past ↦ absurd (
-        let all = late_bound v.ahead i top full is (omega arith) in
-        let inside = match_inside (sets_in v.searcher.masks) t holds in
-        omega arith)
-  ],
-)
+same_below v i top h m full is begun t above holds = grind (arith, matches_below, late_bound, match_inside)
 
 pub looked_some : (v : Window) (i : ℤ) → IsReady v → to_place v.ahead (slice_get v.pending 0) ≡ None → slice_get v.pending 0 ≡ Some i
     → IsMostSearched (sets_in v.searcher.masks) v.base (Some i) v.searcher.most_months
@@ -103,9 +76,3 @@ looked_some v i h full at =
     let there = subst (λ (o : Option ℤ). to_place v.ahead o ≡ None) at full in
     most_same (sets_in v.searcher.masks) (start_of v.base) (bound_of v.ahead) (unsigned_abs i + 93_600) v.searcher.most_months
     (same_below v i (unsigned_abs i + 93_600) h m there top.0 top.1) h.looked
-
-pub looked_none : (v : Window) → IsReady v → to_place v.ahead (slice_get v.pending 0) ≡ None → slice_get v.pending 0 ≡ None
-    → IsMostSearched (sets_in v.searcher.masks) v.base None v.searcher.most_months
-looked_none v h full none =
-    let all : bound_of v.ahead ≡ seconds_in_all = ap bound_of (all_placed v.ahead (subst (λ (o : Option ℤ). to_place v.ahead o ≡ None) none full)) in
-    subst (λ (b : ℕ). IsMost (sets_in v.searcher.masks) (start_of v.base) b v.searcher.most_months) all h.looked

@@ -1,5 +1,5 @@
 -- The hour, minute and second of a time of day, as a search goes from one to the next.
-use Rattle.std.proofs.Common.{◌≡◌, ◌+◌, ◌*◌, ◌/◌, ◌%◌, Bool, true, false, ◌&&◌, refl, sym, arith}
+use Rattle.std.proofs.Common.{arith}
 use Rattle.cal_elapse.specs.Bits.{is_bit}
 use Rattle.cal_elapse.specs.Masks.{sets_in}
 use Rattle.cal_elapse.specs.Months.{minute_in}
@@ -11,22 +11,9 @@ use Rattle.cal_text.proofs.General.{and_regrouped}
 -- a minute of the day is an hour and a minute
 pub minutes_split : (m : Masks) → Splits (minute_in (sets_in m)) (is_bit m.hours) (is_bit m.minutes) 60 24
 unfolding sets_in minute_in
-minutes_split m = record {
-  positive = omega arith;
-  split = λ a b inside small.
-      let hour : (a * 60 + b) / 60 ≡ a = omega arith in
-      let minute : (a * 60 + b) % 60 ≡ b = omega arith in
-      rw (hour, minute);
-}
+minutes_split m = grind arith
 
 -- a time of day is a minute of the day and a second
 pub seconds_split : (m : Masks) → Splits (time_in (sets_in m)) (minute_in (sets_in m)) (is_bit m.seconds) 60 1_440
 unfolding sets_in minute_in time_in
-seconds_split m = record {
-  positive = omega arith;
-  split = λ a b inside small.
-      let hour : (a * 60 + b) / 3_600 ≡ a / 60 = omega arith in
-      let minute : (a * 60 + b) / 60 % 60 ≡ a % 60 = omega arith in
-      let second : (a * 60 + b) % 60 ≡ b = omega arith in
-      rw (hour, minute, second) (sym (and_regrouped (is_bit m.hours (a / 60)) (is_bit m.minutes (a % 60)) (is_bit m.seconds b)));
-}
+seconds_split m = grind (arith, and_regrouped)

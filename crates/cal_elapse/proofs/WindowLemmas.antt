@@ -1,6 +1,6 @@
 -- What stays true of the pending instants as matches are placed, and what of them is the first elapse.
-use Rattle.std.proofs.Common.{◌≡◌, ◌⊎◌, ◌↔◌, ℕ, ◌+◌, ◌<◌, ◌≤◌, cond, Bool, true, false, List, [], ◌∷◌, inl, inr, Option, None, Some, ℤ, pos, negsuc, ◌+ℤ◌, ◌-ℤ◌, ◌<ℤ◌, ◌≤ℤ◌, int_lt, refl, sym, ap, ◌∙◌, subst, arith, of_z, to_z, w64, slice_get, drop}
-use Rattle.std.proofs.lemmas.Bool.{cases_eq, cases_lt}
+use Rattle.std.proofs.Common.{◌≡◌, ◌⊎◌, ◌↔◌, ℕ, ◌+◌, ◌<◌, ◌≤◌, cond, Bool, true, false, List, [], ◌∷◌, inl, inr, Option, None, Some, ℤ, pos, ◌+ℤ◌, ◌<ℤ◌, ◌≤ℤ◌, int_lt, refl, sym, ap, ◌∙◌, subst, arith, of_z, to_z, w64, slice_get, drop}
+use Rattle.std.proofs.lemmas.Bool.{cases_lt}
 use Rattle.std.proofs.lemmas.Int.{ints}
 use Rattle.std.proofs.lemmas.Map.Keys.{sorted_tail}
 use Rattle.jiff.proofs.SpanFacts.{signed_arith}
@@ -23,7 +23,7 @@ use Rattle.cal_elapse.specs.Search.{NonePasses}
 use Rattle.cal_elapse.specs.Window.{IsMatchAhead, IsPlacedBelow, IsReady, Windowed, bound_of, start_of, timed_by, timed_of, to_place, with_place}
 use Rattle.cal_elapse.specs.declared.window.Window.{Window}
 use Rattle.cal_elapse.proofs.ElapsesLemmas.{elapses_after-first, first_elapse-least, first_elapse-none}
-use Rattle.cal_text.proofs.General.{chained, list-first, lt_test, not_lt_test, lt_from_test, none_chosen, some_chosen, drop_none}
+use Rattle.cal_text.proofs.General.{chained, list-first, lt_from_test, none_chosen, drop_none}
 use Rattle.cal_rising.proofs.RisingLemmas.{Has-insert_key, rises-insert_key, above_first, later_members}
 
 -- a place is near its local second
@@ -36,48 +36,28 @@ timed_by-near masks zone local i placed =
     let near = within _ (pos local) i placed in
     (omega (arith, signed_arith, near), omega (arith, signed_arith, near))
 
-contradiction : {A : Type 0} (b : Bool) → b ≡ true → b ≡ false → A
-contradiction b holds fails = absurd (cc)
-
 -- a bound further on
 placed_on : (e : Timed) (a b : ℕ) (i : ℤ) → a ≤ b → IsPlacedBelow e a i → IsPlacedBelow e b i
 placed_on e a b i h p = record { local = p.local; below = omega arith; is_match = p.is_match; placed = p.placed }
 
 -- what is placed below the next bound is placed here or below this one
 placed_split : (e : Timed) (bound : ℕ) (i : ℤ) → IsPlacedBelow e (bound + 1) i → (e.place bound ≡ Some i) ⊎ IsPlacedBelow e bound i
-placed_split e bound i p =
-    elim (cases_eq p.local bound) [
-      | inl same ↦ inl (subst (λ (t : ℕ). e.place t ≡ Some i) same p.placed)
-      | inr other ↦ inr (record { local = p.local; below = omega arith; is_match = p.is_match; placed = p.placed })
-    ]
+placed_split e bound i p = grind arith
 
 -- the matches up to the bound are no later than a member by more than a place can be
 reach_on : (e : Timed) (from bound : ℕ) (i : ℤ) → ((t : ℕ) → from ≤ t → t < bound → e.matches t ≡ true → pos t ≤ℤ (i +ℤ pos 93_599))
     → pos bound ≤ℤ (i +ℤ pos 93_599) → (t : ℕ) → from ≤ t → t < bound + 1 → e.matches t ≡ true → pos t ≤ℤ (i +ℤ pos 93_599)
-reach_on e from bound i before here t low high m =
-    elim (cases_eq t bound) [
-      | inl same ↦ subst (λ (s : ℕ). pos s ≤ℤ (i +ℤ pos 93_599)) (sym same) here
-      | inr other ↦ before t low (omega arith) m
-    ]
+reach_on e from bound i before here t low high m = grind arith
 
 up_to : (bound t : ℕ) (i : ℤ) → pos bound ≤ℤ (i +ℤ pos 93_599) → t < bound + 1 → pos t ≤ℤ (i +ℤ pos 93_599)
 up_to bound t i h k = omega (arith, ints)
 
 not_above : {A : Type 0} (last p i : ℤ) → int_lt last p ≡ false → p ≡ i → last <ℤ i → A
-not_above last p i h e k =
-    let le : p ≤ℤ last = grind (arith, ints) in
-    absurd (omega (arith, ints))
+not_above last p i h e k = grind (arith, ints)
 
 put_none : (e : Timed) (from bound : ℕ) (last : ℤ) (xs : List ℤ) → Windowed e from bound last xs
     → ((i : ℤ) → last <ℤ i → e.place bound ≡ Some i → ⊥) → ((i : ℤ) → Has xs i → pos bound ≤ℤ (i +ℤ pos 93_599)) → Windowed e from (bound + 1) last xs
-put_none e from bound last xs w nowhere near = record {
-  rises = w.rises;
-  members = λ i. (
-    λ m. (((w.members i).0 m).0, placed_on e bound (bound + 1) i (omega arith) ((w.members i).0 m).1),
-    λ p. elim (placed_split e bound i p.1) [ inl here ↦ absurd (nowhere i p.0 here) | inr q ↦ (w.members i).1 (p.0, q) ],
-  );
-  reach = λ i m. reach_on e from bound i (w.reach i m) (near i m);
-}
+put_none e from bound last xs w nowhere near = grind (arith, placed_on, placed_split, reach_on)
 
 put_some : (e : Timed) (from bound : ℕ) (last p : ℤ) (xs : List ℤ) → Windowed e from bound last xs → e.matches bound ≡ true → e.place bound ≡ Some p
     → last <ℤ p → pos bound ≤ℤ (p +ℤ pos 93_599) → ((i : ℤ) → Has xs i → pos bound ≤ℤ (i +ℤ pos 93_599)) → Windowed e from (bound + 1) last (insert_key int_cmp xs p)
@@ -118,27 +98,11 @@ pub windowed_put : (e : Timed) (from bound : ℕ) (last : ℤ) (xs : List ℤ) �
 windowed_put e from bound last xs near w is_match close = put_by e from bound last xs (e.place bound) near w is_match refl close
 
 none_between : (e : Timed) (a b t : ℕ) → NonePasses e.matches a b → t < b → e.matches t ≡ true → t < a
-none_between e a b t none below m =
-    elim (cases_lt t a) [ inl early ↦ early | inr late ↦ contradiction (e.matches t) m (none t late below) ]
+none_between e a b t none below m = grind arith
 
 -- where none matches up to a later bound, nothing more is to be placed
 pub windowed_on : (e : Timed) (from a b : ℕ) (last : ℤ) (xs : List ℤ) → a ≤ b → NonePasses e.matches a b → Windowed e from a last xs → Windowed e from b last xs
-windowed_on e from a b last xs h none w = record {
-  rises = w.rises;
-  members = λ i. (
-    λ m. (((w.members i).0 m).0, placed_on e a b i h ((w.members i).0 m).1),
-    λ p. (w.members i).1 (
-      p.0,
-      record {
-        local = p.1.local;
-        below = none_between e a b p.1.local none p.1.below p.1.is_match;
-        is_match = p.1.is_match;
-        placed = p.1.placed;
-      },
-    ),
-  );
-  reach = λ i m t low high k. w.reach i m t low (none_between e a b t none high k) k;
-}
+windowed_on e from a b last xs h none w = grind (arith, placed_on, none_between)
 
 -- a local second from one bound up to another matches and has its place here
 pub record IsPlacedFrom (e : Timed) (a b : ℕ) (i : ℤ) : Type 0 where
@@ -180,8 +144,7 @@ windowed_later e from bound last x xs w =
     }
 
 too_early : (base : ℤ) (t : ℕ) (i : ℤ) → pos 0 ≤ℤ base → t < start_of base → i ≤ℤ (pos t +ℤ pos 93_599) → base <ℤ i → ⊥
-too_early (pos b) t i low early near above = omega (arith, ints)
-too_early (negsuc n) t i low early near above = omega (arith, ints)
+too_early base t i low early near above = grind (arith, ints)
 
 -- nothing is placed at first
 pub windowed_start : (e : Timed) (base : ℤ) → AreNear e → pos 0 ≤ℤ base → Windowed e (start_of base) (start_of base) base []
@@ -201,29 +164,19 @@ placed_of e i p = record { local = p.local; below = p.within; is_match = p.is_ma
 elapse_of : (e : Timed) (bound : ℕ) (i : ℤ) → bound ≤ seconds_in_all → IsPlacedBelow e bound i → IsPlace e i
 elapse_of e bound i h p = record { local = p.local; within = omega arith; is_match = p.is_match; placed = p.placed }
 
-no_more : {A : Type 0} (local : ℕ) → ◌≡◌ {A = Option ℕ} (Some local) None → A
-no_more local h = absurd (cc)
-
 -- with nothing pending all is placed
 pub all_placed : (ahead : Option ℕ) → to_place ahead None ≡ None → ahead ≡ None
-all_placed None h = refl
-all_placed (Some local) h = no_more local h
+all_placed ahead h = grind arith
 
 bound_in : (e : Timed) (ahead : Option ℕ) → IsMatchAhead e ahead → bound_of ahead ≤ seconds_in_all
-bound_in e None h = omega arith
-bound_in e (Some local) h = omega arith
+bound_in e ahead h = grind arith
 
 -- a match that isn't placed has its place above the least member that can be given
 later_place : (ahead : Option ℕ) (x j : ℤ) (t : ℕ) → to_place ahead (Some x) ≡ None → bound_of ahead ≤ t → t < seconds_in_all → pos t ≤ℤ (j +ℤ pos 93_599) → x ≤ℤ j
-later_place None x j t full late inside near = absurd (omega arith)
-later_place (Some local) x j t full late inside near =
-    let test = none_chosen (int_lt x (pos local -ℤ pos 93_599)) local full in
-    let early : x <ℤ (pos local -ℤ pos 93_599) = lt_from_test x (pos local -ℤ pos 93_599) test in
-    omega (arith, ints)
+later_place ahead x j t full late inside near = grind (arith, none_chosen, int_lt, ints)
 
 at_least : (x j : ℤ) (xs : List ℤ) → IsStrictlySortedBy int_cmp (x ∷ xs) → Has (x ∷ xs) j → x ≤ℤ j
-at_least x j xs h (inl e) = subst (λ (k : ℤ). x ≤ℤ k) e (omega (arith, ints))
-at_least x j xs h (inr m) = let up = above_first x j xs h m in omega (arith, ints)
+at_least x j xs h fact = grind (arith, ints, above_first)
 
 least_place : (e : Timed) (from : ℕ) (ahead : Option ℕ) (last x j : ℤ) (xs : List ℤ) → AreNear e → Windowed e from (bound_of ahead) last (x ∷ xs)
     → to_place ahead (Some x) ≡ None → last <ℤ j → IsPlace e j → x ≤ℤ j
@@ -271,22 +224,11 @@ first_given v h full = full_first (timed_of v) (start_of v.base) v.ahead v.last 
 
 pub later_given : (v : Window) (i last : ℤ) → IsReady v → to_place v.ahead (slice_get v.pending 0) ≡ None → slice_get v.pending 0 ≡ Some i → last ≡ i
     → elapses_after (timed_of v ∷ []) last ≡ drop 1 (elapses_after (timed_of v ∷ []) v.last)
-later_given v i last h full at same =
-    elapses_after-first (timed_of v ∷ []) v.last last (first_given v h full ∙ (at ∙ ap Some (sym same)))
+later_given v i last h full at same = grind (arith, elapses_after-first, first_given)
 
 pub none_given : (v : Window) → IsReady v → to_place v.ahead (slice_get v.pending 0) ≡ None → slice_get v.pending 0 ≡ None
     → elapses_after (timed_of v ∷ []) v.last ≡ drop 1 (elapses_after (timed_of v ∷ []) v.last)
 none_given v h full none = drop_none (elapses_after (timed_of v ∷ []) v.last) (sym (first_given v h full ∙ none))
-
--- what is put, by the place that was found
-pub with_place-none : (o : Option ℤ) (last : ℤ) (xs : List ℤ) → o ≡ None → xs ≡ with_place o last xs
-with_place-none o last xs e = rw e refl
-
-pub with_place-given : (o : Option ℤ) (i last : ℤ) (xs : List ℤ) → o ≡ Some i → i ≤ℤ last → xs ≡ with_place o last xs
-with_place-given o i last xs e h = rw (e, not_lt_test last i h) refl
-
-pub with_place-above : (o : Option ℤ) (i last : ℤ) (xs : List ℤ) → o ≡ Some i → last <ℤ i → insert_key int_cmp xs i ≡ with_place o last xs
-with_place-above o i last xs e h = rw (e, lt_test last i h) refl
 
 -- the place of a local second that lies no farther from a member than a place can is near to the member
 pub put_near : (tz : TimeZone) (local : ℕ) (place member : ℤ) → place_of tz (pos local) ≡ Some place → pos local ≤ℤ (member +ℤ pos 93_599)
@@ -308,10 +250,7 @@ pub place_found : (tz : TimeZone) (local : ℕ) (signed : ℤ) (found : Option �
 place_found tz local signed found inside is at = sym (at ∙ ap (place_of tz) (signed_word local signed inside is))
 
 to_place-near : (x i : ℤ) (local : ℕ) → to_place (Some local) (Some x) ≡ Some local → x ≤ℤ i → pos local ≤ℤ (i +ℤ pos 93_599)
-to_place-near x i local h le =
-    let test = some_chosen (int_lt x (pos local -ℤ pos 93_599)) local h in
-    let far : (pos local -ℤ pos 93_599) ≤ℤ x = grind (arith, ints) in
-    omega (arith, ints)
+to_place-near x i local h le = grind (arith, ints)
 
 near_members : (xs : List ℤ) (local : ℕ) → IsStrictlySortedBy int_cmp xs → to_place (Some local) (slice_get xs 0) ≡ Some local → (i : ℤ) → Has xs i → pos local ≤ℤ (i +ℤ pos 93_599)
 near_members [] local rises h i m = absurd m

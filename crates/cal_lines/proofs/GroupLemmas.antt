@@ -1,5 +1,5 @@
 -- The logical lines of a file one after the other.
-use Rattle.std.proofs.Common.{◌≡◌, ℕ, ◌+◌, Bool, true, false, List, [], ◌∷◌, ◌++◌, map, refl, sym, ap, ◌∙◌, append_assoc, append-nil}
+use Rattle.std.proofs.Common.{arith, ◌≡◌, ℕ, ◌+◌, Bool, true, false, List, [], ◌∷◌, ◌++◌, map, refl, sym, ap, ◌∙◌, append_assoc, append-nil}
 use Rattle.std.specs.List.{flat_map}
 use Rattle.std.specs.Str.Lines.{lines}
 use Rattle.cal_text.specs.headline.Trim.{trim_start_matches}
@@ -37,26 +37,18 @@ pub joined_continued : (n : ℕ) (front : List ℕ) (line : Line) (gs : List Gro
 joined_continued n front line [] = ap (λ text. record { number = n; text = text } ∷ []) (ap (λ xs. front ++ xs) (append-nil (part_of_line line.text)))
 joined_continued n front line (g ∷ gs) = ap (λ text. record { number = n; text = text } ∷ map joined_line gs) (sym (append_assoc front (part_of_line line.text) (parts_of (g.first ∷ g.more))))
 
-line_joined_as : (b : Bool) (n : ℕ) (front : List ℕ) (line : Line) (ls : List Line) → is_continued line.text ≡ b → goes_on_in n front true (line ∷ ls) ≡ goes_on_in n (front ++ part_of_line line.text) b ls
-unfolding groups
-line_joined_as true n front line ls e = rw e (joined_continued n front line (groups ls))
-line_joined_as false n front line ls e = rw e (ap (λ text. record { number = n; text = text } ∷ map joined_line (groups ls)) (ap (λ xs. front ++ xs) (append-nil (part_of_line line.text))))
-
 pub line_joined : (n : ℕ) (front : List ℕ) (line : Line) (ls : List Line) → goes_on_in n front true (line ∷ ls) ≡ goes_on_in n (front ++ part_of_line line.text) (is_continued line.text) ls
-line_joined n front line ls = line_joined_as (is_continued line.text) n front line ls refl
+unfolding groups
+line_joined n front line ls = grind (arith, append-nil (part_of_line line.text), joined_continued n front line (groups ls))
 
 continued_alone : (line : Line) (gs : List Group) → map joined_line (continued_by line gs) ≡ after line.number (part_of_line line.text) gs
 continued_alone line [] = ap (λ text. record { number = line.number; text = text } ∷ []) (append-nil (part_of_line line.text))
 continued_alone line (g ∷ gs) = refl
 
-line_begins_as : (b : Bool) (line : Line) (ls : List Line) → is_continued line.text ≡ b → map joined_line (groups (line ∷ ls)) ≡ goes_on_in line.number (part_of_line line.text) b ls
-unfolding groups
-line_begins_as true line ls e = rw e (continued_alone line (groups ls))
-line_begins_as false line ls e = rw e (ap (λ text. record { number = line.number; text = text } ∷ map joined_line (groups ls)) (append-nil (part_of_line line.text)))
-
 -- a logical line begins with its first line
 pub line_begins : (line : Line) (ls : List Line) → map joined_line (groups (line ∷ ls)) ≡ goes_on_in line.number (part_of_line line.text) (is_continued line.text) ls
-line_begins line ls = line_begins_as (is_continued line.text) line ls refl
+unfolding groups
+line_begins line ls = grind (arith, append-nil (part_of_line line.text), continued_alone line (groups ls))
 
 -- and ends with the file
 pub line_ends : (n : ℕ) (front : List ℕ) (goes_on : Bool) → goes_on_in n front goes_on [] ≡ record { number = n; text = front } ∷ []

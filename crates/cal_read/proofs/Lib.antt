@@ -8,7 +8,6 @@ pub mod StampPrintedTexts
 pub mod StampPrintedZones
 mod StampRows
 pub mod StampRule
-mod StampZoneRows
 pub mod TimerLemmas
-pub mod TimerRows
+mod TimerRows
 pub mod TimerRuleLemmas

@@ -1,10 +1,9 @@
 -- The lists of all assignments are what comes from one assignment to the next.
-use Rattle.std.proofs.Common.{◌≡◌, ◌≤◌, ◌<◌, ◌+◌, ◌-◌, ◌&&◌, cond, ℕ, Bool, true, false, not, List, [], ◌∷◌, ◌++◌, codes, drop, filter, length, refl, sym, subst, ap, ◌∙◌, arith, append_assoc, append-nil, length-append, Option, Some, None, Result, Ok, Err}
-use Rattle.std.specs.List.{after_last, prefix_len, suffix_len}
+use Rattle.std.proofs.Common.{◌≡◌, ◌≤◌, ◌<◌, ◌+◌, ◌&&◌, cond, ℕ, Bool, true, false, not, List, [], ◌∷◌, ◌++◌, codes, filter, length, refl, sym, subst, ap, ◌∙◌, arith, append_assoc, append-nil, length-append, Option, Some, None, Result, Ok, Err}
+use Rattle.std.specs.List.{after_last}
 use Rattle.std.specs.Prelude.{nat_le}
 use Rattle.std.proofs.lemmas.Bool.Decides.{nat_tests}
 use Rattle.std.proofs.lemmas.Slice.Eq.{bytes_eq-Decides}
-use Rattle.std.proofs.lemmas.List.{drop-append-le, drop_all, reverse-append}
 use Rattle.std.proofs.lemmas.List.Elements.{filter-append, filter_map-append}
 use Rattle.cal_spec.specs.declared.spec_fault.SpecFault.{SpecFault}
 use Rattle.cal_read.specs.headline.Assignments.{Assignment}
@@ -204,16 +203,11 @@ changes read adds resets before a false false e f apart all =
       all = λ _. all_with read (Kept adds resets before) (Kept adds resets (before ++ a ∷ [])) same all;
     }
 
-fault_by_exception : {E : Type 0} (read : List ℕ → Result E SpecFault) (before : List Assignment) (a : Assignment) (joined : Bool) → is_expression a ≡ false → is_exception a ≡ joined
-    → fault_following read before a ≡ cond joined (fault_joining read (excepted before) a) None
-unfolding fault_following
-fault_by_exception read before a true e f = rw (e, f) refl
-fault_by_exception read before a false e f = rw (e, f) refl
-
 either_fault : {E : Type 0} (read : List ℕ → Result E SpecFault) (before : List Assignment) (a : Assignment) (joined : Bool) → is_expression a ≡ joined
     → fault_following read before a ≡ option_or (cond joined (fault_joining read (listed before) a) None) (cond (is_exception a) (fault_joining read (excepted before) a) None)
+unfolding fault_following
 either_fault read before a true e = fault_of_expression read before a e ∙ rw (expression_is_no_exception a e) (sym (option_or-none (fault_joining read (listed before) a)))
-either_fault read before a false e = fault_by_exception read before a (is_exception a) e refl
+either_fault read before a false e = rw e refl
 
 resumes_by : {E : Type 0} (read : List ℕ → Result E SpecFault) (before : List Assignment) (a : Assignment) (after : List Assignment) (o p : Option TimerFault)
     → Changes read is_expression is_reset before a o → Changes read is_exception is_exception_reset before a p → fault_following read before a ≡ option_or o p

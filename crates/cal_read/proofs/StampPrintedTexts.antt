@@ -1,27 +1,25 @@
 -- The words of a printed instant, the weekday's name, the date and the time in padded numbers, as timestamps read them.
-use Rattle.std.proofs.Common.{◌≡◌, ℕ, zero, suc, ◌+◌, ◌-◌, ◌*◌, ◌^◌, ◌<◌, ◌≤◌, Bool, true, false, ◌&&◌, List, [], ◌∷◌, ◌++◌, length, get_or, replicate, decimal, nat_le, Some, Ok, Err, refl, ap, ◌∙◌, arith, length-append, le-leb, slice_index_or, unsigned_abs, ℤ, pos, negsuc, ◌≤ℤ◌, ◌<ℤ◌}
+use Rattle.std.proofs.Common.{◌≡◌, ℕ, ◌+◌, ◌-◌, ◌*◌, ◌^◌, ◌<◌, ◌≤◌, Bool, true, false, ◌&&◌, List, [], ◌∷◌, ◌++◌, length, get_or, decimal, nat_eq, nat_le, Some, Ok, Err, refl, ap, ◌∙◌, arith, inl, inr, length-append, le-leb, slice_index_or, unsigned_abs, ℤ, pos, negsuc, ◌≤ℤ◌}
 use Rattle.std.specs.Char.{is_ascii_digit}
-use Rattle.std.specs.List.{list_all, list_any, slice_split}
-use Rattle.std.specs.Str.Parse.{digits_value}
-use Rattle.std.proofs.lemmas.Bool.{or_from, lt-leb, le-ltb}
+use Rattle.std.specs.List.{list_any, slice_split}
+use Rattle.std.proofs.lemmas.Bool.{cases_lt, eqb-true, or_from, lt-leb}
 use Rattle.std.proofs.lemmas.Bool.Decides.{nat_tests}
-use Rattle.std.proofs.lemmas.Fmt.{decimal_is_IsNumeral, length-decimal-le}
-use Rattle.std.proofs.lemmas.Int.{by_lt_z}
+use Rattle.std.proofs.lemmas.Fmt.{length-decimal-le}
 use Rattle.std.proofs.lemmas.List.{length-replicate}
 use Rattle.jiff.proofs.SpanFacts.{signed_arith}
 use Rattle.jiff.specs.Types.{Date, Weekday}
 use Rattle.jiff.specs.Words.{epoch_day, monday_zero, month_length, IsBetween, IsYear}
 use Rattle.jiff_core.proofs.CalendarLemmas.{days_in_month_bounds}
-use Rattle.jiff_core.specs.declared.civil.weekday.Weekday.TheVariants.{Monday, Tuesday, Wednesday, Thursday, Friday, Saturday, Sunday}
+use Rattle.jiff_core.specs.declared.civil.weekday.Weekday.TheVariants.{Monday, Sunday}
 use Rattle.cal_text.specs.headline.Separators.{is_point, is_colon}
 use Rattle.cal_zone.specs.headline.InstantText.{zeros}
 use Rattle.cal_zone.specs.headline.Weekday.{name_of, short_name_of, week}
 use Rattle.cal_zone.specs.headline.ZoneName.{begins_with_letter}
-use Rattle.cal_spec.specs.headline.Parts.{with_century}
 use Rattle.cal_spec.specs.Weekdays.{day_named}
 use Rattle.cal_text.specs.headline.Words.{is_blank}
-use Rattle.cal_text.proofs.General.{digits_all, zeros_all, zeros_value, some_front, IsClear, Apart, clear_append, clear_of, split_alone, split_at}
-use Rattle.cal_spec.proofs.ReadBackParts.{padded}
+use Rattle.cal_text.proofs.General.{below_all, some_front, IsClear, Apart, clear_append, clear_of, split_alone, split_at}
+use Rattle.cal_spec.proofs.ReadBackParts.{century_stays, number_printed, padded}
+use Rattle.cal_spec.specs.headline.GrammarRule.{IsNumber}
 use Rattle.cal_read.proofs.StampCivilRule.{digit_first, digit_no_colon}
 use Rattle.cal_read.specs.Stamp.{begins_with_digit}
 use Rattle.cal_read.specs.StampDate.{date_numbers, date_of_pieces, day_due, day_of_date, day_written, digits_number, is_hyphen}
@@ -33,23 +31,14 @@ use Rattle.cal_spec.proofs.SymbolLemmas.{digit_no_point}
 
 -- digits that are a number in that many digits
 record IsPrinted (width n : ℕ) (ds : List ℕ) : Type 0 where
-  all : list_all is_ascii_digit ds ≡ true
-  some : 0 < length ds
+  number : IsNumber ds n
   short : length ds ≤ width
-  value : digits_value 10 ds ≡ n
 
 printed : (width n : ℕ) → 0 < width → width ≤ 4 → n < 10 ^ width → n < 10_000 → IsPrinted width n (padded width n)
 printed width n some narrow few small =
-    let numeral = decimal_is_IsNumeral n (omega arith) in
-    let k = width - length (decimal n) in
     let most = length-decimal-le width n some few (omega arith) in
-    let long : length (padded width n) ≡ k + length (decimal n) = length-append (replicate k 48) (decimal n) ∙ ap (λ m. m + length (decimal n)) (length-replicate k 48) in
-    record {
-      all = zeros_all k (decimal n) ∙ digits_all (decimal n) numeral.0.1;
-      some = omega (arith, numeral.0.0);
-      short = omega arith;
-      value = zeros_value k (decimal n) ∙ numeral.1;
-    }
+    let long : length (padded width n) ≡ width - length (decimal n) + length (decimal n) = length-append (zeros width n) (decimal n) ∙ ap (λ m. m + length (decimal n)) (length-replicate (width - length (decimal n)) 48) in
+    record { number = number_printed width n small; short = omega arith }
 
 -- a year, and a number of two digits
 in_four : (n : ℕ) → n < 10_000 → IsPrinted 4 n (padded 4 n)
@@ -62,7 +51,7 @@ in_two n small = printed 2 n (omega arith) (omega arith) (omega arith) (omega ar
 digits_read : (width n : ℕ) (ds : List ℕ) → IsPrinted width n ds → digits_number width ds ≡ Some n
 unfolding digits_number
 digits_read width n ds h =
-    rw (le-leb 1 (length ds) h.some, le-leb (length ds) width h.short, h.all) (ap Some h.value)
+    rw (le-leb 1 (length ds) h.number.some, le-leb (length ds) width h.short, h.number.digits) (ap Some h.number.value)
 
 clock_read : (greatest n : ℕ) (ds : List ℕ) → IsPrinted 2 n ds → n ≤ greatest → clock_number greatest ds ≡ Some n
 unfolding clock_number
@@ -103,9 +92,9 @@ record IsWritable (year month day : ℕ) : Type 0 where
 date_clear : (p : ℕ → Bool) (year month day : ℕ) → IsWritable year month day → Apart is_ascii_digit p → p 45 ≡ false → IsClear p (date_word year month day)
 date_clear p year month day h apart sign =
     row_clear p 45 (padded 4 year) (padded 2 month) (padded 2 day) sign
-    (clear_of is_ascii_digit p (padded 4 year) apart (in_four year h.year_in).all)
-    (clear_of is_ascii_digit p (padded 2 month) apart (in_two month h.month_in).all)
-    (clear_of is_ascii_digit p (padded 2 day) apart (in_two day h.day_in).all)
+    (clear_of is_ascii_digit p (padded 4 year) apart (in_four year h.year_in).number.digits)
+    (clear_of is_ascii_digit p (padded 2 month) apart (in_two month h.month_in).number.digits)
+    (clear_of is_ascii_digit p (padded 2 day) apart (in_two day h.day_in).number.digits)
 
 date_numbers_back : (year month day : ℕ) → IsWritable year month day → date_numbers (date_word year month day) ≡ Some (record { year = year; month = month; day = day })
 unfolding date_numbers
@@ -114,13 +103,10 @@ date_numbers_back year month day h =
     let m = in_two month h.month_in in
     let d = in_two day h.day_in in
     ap date_of_pieces (row_split is_hyphen 45 (padded 4 year) (padded 2 month) (padded 2 day) refl
-    (clear_of is_ascii_digit is_hyphen (padded 4 year) digit_no_hyphen y.all)
-    (clear_of is_ascii_digit is_hyphen (padded 2 month) digit_no_hyphen m.all)
-    (clear_of is_ascii_digit is_hyphen (padded 2 day) digit_no_hyphen d.all))
+    (clear_of is_ascii_digit is_hyphen (padded 4 year) digit_no_hyphen y.number.digits)
+    (clear_of is_ascii_digit is_hyphen (padded 2 month) digit_no_hyphen m.number.digits)
+    (clear_of is_ascii_digit is_hyphen (padded 2 day) digit_no_hyphen d.number.digits))
     ∙ rw (digits_read 4 year (padded 4 year) y, digits_read 2 month (padded 2 month) m, digits_read 2 day (padded 2 day) d) refl
-
-century_stays : (n : ℕ) → 100 ≤ n → with_century n ≡ n
-century_stays n h = rw (le-ltb n 70 (omega arith), le-ltb n 100 (omega arith)) refl
 
 -- what is asked of a day, by tests of numbers
 day_tests : (year month day most : ℕ) → 1_970 ≤ year → year ≤ 2_199 → 1 ≤ month → month ≤ 12 → 1 ≤ day → day ≤ most
@@ -128,13 +114,13 @@ day_tests : (year month day most : ℕ) → 1_970 ≤ year → year ≤ 2_199 �
 day_tests year month day most from to first last one within =
     rw (le-leb 1_970 year from, le-leb year 2_199 to, le-leb 1 month first, le-leb month 12 last, le-leb 1 day one, le-leb day most within) refl
 
-late_tests : (year month day most : ℕ) → 2_199 < year
+other_tests : (year month day most : ℕ) → (1_970 ≤ year → year ≤ 2_199 → ⊥)
     → (nat_le 1_970 year && nat_le year 2_199 && nat_le 1 month && nat_le month 12 && nat_le 1 day && nat_le day most) ≡ false
-late_tests year month day most late = rw (le-leb 1_970 year (omega arith), lt-leb year 2_199 late) refl
-
-early_tests : (year month day most : ℕ) → year < 1_970
-    → (nat_le 1_970 year && nat_le year 2_199 && nat_le 1 month && nat_le month 12 && nat_le 1 day && nat_le day most) ≡ false
-early_tests year month day most early = rw (lt-leb 1_970 year early) refl
+other_tests year month day most none =
+    elim (cases_lt year 1_970) [
+      | inl early ↦ rw (lt-leb 1_970 year early) refl
+      | inr from ↦ elim (cases_lt 2_199 year) [ inl late ↦ rw (le-leb 1_970 year from, lt-leb year 2_199 late) refl | inr to ↦ absurd (none from to) ]
+    ]
 
 abbrev pub year_of : Date → ℕ
 year_of date = unsigned_abs date.year
@@ -171,25 +157,12 @@ date_back date h =
     due date from
     ∙ rw (same, day_tests (year_of date) date.month date.day (month_length date) (omega (arith, signed_arith, same, h.0)) (omega (arith, signed_arith, same, h.1)) date.month_in.0 date.month_in.1 date.day_in.0 date.day_in.1) refl
 
-late_date_back : (date : Date) → pos 2_200 ≤ℤ date.year → day_written (date_word (year_of date) date.month date.day) ≡ Err NoSuchDate
-unfolding day_of_date
-late_date_back date h =
-    let from : pos 1_969 ≤ℤ date.year = omega (arith, signed_arith, h) in
-    let same = year_is date.year from in
-    due date from
-    ∙ rw (same, late_tests (year_of date) date.month date.day (month_length date) (omega (arith, signed_arith, same, h))) refl
-
-early_date_back : (date : Date) → pos 1_969 ≤ℤ date.year → date.year <ℤ pos 1_970 → day_written (date_word (year_of date) date.month date.day) ≡ Err NoSuchDate
-unfolding day_of_date
-early_date_back date from h =
-    let same = year_is date.year from in
-    due date from
-    ∙ rw (same, early_tests (year_of date) date.month date.day (month_length date) (omega (arith, signed_arith, same, h))) refl
-
 pub other_date_back : (date : Date) → pos 1_969 ≤ℤ date.year → (IsBetween (pos 1_970) (pos 2_199) date.year → ⊥) → day_written (date_word (year_of date) date.month date.day) ≡ Err NoSuchDate
+unfolding day_of_date
 other_date_back date from none =
-    by_lt_z date.year (pos 1_970) (λ early. early_date_back date from early)
-    (λ since. late_date_back date (by_lt_z (pos 2_199) date.year (λ late. omega (arith, signed_arith, late)) (λ within. absurd (none (since, within)))))
+    let same = year_is date.year from in
+    due date from
+    ∙ rw (same, other_tests (year_of date) date.month date.day (month_length date) (λ low high. none (omega (arith, signed_arith, same, low), omega (arith, signed_arith, same, high)))) refl
 
 -- The time
 
@@ -204,20 +177,20 @@ pub record IsClock (hour minute second : ℕ) : Type 0 where
 time_clear : (p : ℕ → Bool) (hour minute second : ℕ) → IsClock hour minute second → Apart is_ascii_digit p → p 58 ≡ false → IsClear p (time_word hour minute second)
 time_clear p hour minute second h apart sign =
     row_clear p 58 (padded 2 hour) (padded 2 minute) (padded 2 second) sign
-    (clear_of is_ascii_digit p (padded 2 hour) apart (in_two hour (omega (arith, h.hour_in))).all)
-    (clear_of is_ascii_digit p (padded 2 minute) apart (in_two minute (omega (arith, h.minute_in))).all)
-    (clear_of is_ascii_digit p (padded 2 second) apart (in_two second (omega (arith, h.second_in))).all)
+    (clear_of is_ascii_digit p (padded 2 hour) apart (in_two hour (omega (arith, h.hour_in))).number.digits)
+    (clear_of is_ascii_digit p (padded 2 minute) apart (in_two minute (omega (arith, h.minute_in))).number.digits)
+    (clear_of is_ascii_digit p (padded 2 second) apart (in_two second (omega (arith, h.second_in))).number.digits)
 
 pub time_digit : (hour minute second : ℕ) → IsClock hour minute second → begins_with_digit (time_word hour minute second) ≡ true
 time_digit hour minute second h =
     let digits = in_two hour (omega (arith, h.hour_in)) in
-    digit_first (padded 2 hour) (58 ∷ (padded 2 minute ++ (58 ∷ padded 2 second))) (record { some = digits.some; digits = digits.all })
+    digit_first (padded 2 hour) (58 ∷ (padded 2 minute ++ (58 ∷ padded 2 second))) (record { some = digits.number.some; digits = digits.number.digits })
 
 second_back : (second : ℕ) → second ≤ 59 → second_written (padded 2 second) ≡ Some (second * 1_000_000 + 0)
 unfolding second_written
 second_back second h =
     let digits = in_two second (omega (arith, h)) in
-    ap second_of_pieces (split_alone is_point (padded 2 second) (clear_of is_ascii_digit is_point (padded 2 second) digit_no_point digits.all))
+    ap second_of_pieces (split_alone is_point (padded 2 second) (clear_of is_ascii_digit is_point (padded 2 second) digit_no_point digits.number.digits))
     ∙ rw (clock_read 59 second (padded 2 second) digits h) refl
 
 -- the time is read as its microseconds after midnight
@@ -229,9 +202,9 @@ time_back hour minute second h =
     let b = in_two minute (omega (arith, h.minute_in)) in
     let c = in_two second (omega (arith, h.second_in)) in
     ap (λ ts. micros_due (time_of_pieces ts)) (row_split is_colon 58 (padded 2 hour) (padded 2 minute) (padded 2 second) refl
-    (clear_of is_ascii_digit is_colon (padded 2 hour) digit_no_colon a.all)
-    (clear_of is_ascii_digit is_colon (padded 2 minute) digit_no_colon b.all)
-    (clear_of is_ascii_digit is_colon (padded 2 second) digit_no_colon c.all))
+    (clear_of is_ascii_digit is_colon (padded 2 hour) digit_no_colon a.number.digits)
+    (clear_of is_ascii_digit is_colon (padded 2 minute) digit_no_colon b.number.digits)
+    (clear_of is_ascii_digit is_colon (padded 2 second) digit_no_colon c.number.digits))
     ∙ rw (clock_read 23 hour (padded 2 hour) a h.hour_in, clock_read 59 minute (padded 2 minute) b h.minute_in, second_back second h.second_in) refl
 
 -- neither has a blank, and the date no colon
@@ -249,11 +222,11 @@ time_solid hour minute second h =
 
 pub date_some : (date : Date) → 0 < length (date_word (year_of date) date.month date.day)
 date_some date =
-    some_front (padded 4 (year_of date)) (45 ∷ (padded 2 date.month ++ (45 ∷ padded 2 date.day))) (in_four (year_of date) (writable date).year_in).some
+    some_front (padded 4 (year_of date)) (45 ∷ (padded 2 date.month ++ (45 ∷ padded 2 date.day))) (in_four (year_of date) (writable date).year_in).number.some
 
 pub time_some : (hour minute second : ℕ) → IsClock hour minute second → 0 < length (time_word hour minute second)
 time_some hour minute second h =
-    some_front (padded 2 hour) (58 ∷ (padded 2 minute ++ (58 ∷ padded 2 second))) (in_two hour (omega (arith, h.hour_in))).some
+    some_front (padded 2 hour) (58 ∷ (padded 2 minute ++ (58 ∷ padded 2 second))) (in_two hour (omega (arith, h.hour_in))).number.some
 
 -- The weekday
 
@@ -268,20 +241,8 @@ pub record IsDayName (day : Weekday) (name : List ℕ) : Type 0 where
 pub short_names : (day : Weekday) → IsDayName day (short_name_of day)
 unfolding name_of day_named
 short_names Monday = record { long = refl; capital = refl; letter = refl; solid = refl; named = refl }
-short_names Tuesday = record { long = refl; capital = refl; letter = refl; solid = refl; named = refl }
-short_names Wednesday = record { long = refl; capital = refl; letter = refl; solid = refl; named = refl }
-short_names Thursday = record { long = refl; capital = refl; letter = refl; solid = refl; named = refl }
-short_names Friday = record { long = refl; capital = refl; letter = refl; solid = refl; named = refl }
-short_names Saturday = record { long = refl; capital = refl; letter = refl; solid = refl; named = refl }
-short_names Sunday = record { long = refl; capital = refl; letter = refl; solid = refl; named = refl }
+short_names day = record { long = refl; capital = refl; letter = refl; solid = refl; named = refl }
 
 -- the weekday that has a number
 pub in_week : (n : ℕ) → n < 7 → monday_zero (slice_index_or week n Sunday) ≡ n
-in_week zero h = refl
-in_week (suc zero) h = refl
-in_week (suc (suc zero)) h = refl
-in_week (suc (suc (suc zero))) h = refl
-in_week (suc (suc (suc (suc zero)))) h = refl
-in_week (suc (suc (suc (suc (suc zero))))) h = refl
-in_week (suc (suc (suc (suc (suc (suc zero)))))) h = refl
-in_week (suc (suc (suc (suc (suc (suc (suc n))))))) h = absurd (omega arith)
+in_week n h = eqb-true _ n (below_all 7 (λ day. nat_eq (monday_zero (slice_index_or week day Sunday)) day) n refl h)

@@ -2,16 +2,16 @@
 use Rattle.std.proofs.Common.{◌≡◌, ℕ, ◌-◌, ◌/◌, ◌%◌, ◌<◌, ◌≤◌, ◌==◌, inl, inr, Bool, true, false, ◌&&◌, List, [], ◌∷◌, ◌++◌, length, get_or, codes, decimal, nat_le, ℤ, pos, negsuc, int_lt, ◌-ℤ◌, unsigned_abs, Option, None, Some, Ok, Err, refl, ap, ◌∙◌, arith, append_assoc, append-nil, length-append}
 use Rattle.std.specs.Char.{is_ascii_alphabetic, is_ascii_digit}
 use Rattle.std.specs.List.{list_all}
-use Rattle.std.proofs.lemmas.Bool.{and_parts, eqb-true}
+use Rattle.std.proofs.lemmas.Bool.{ne_eqb}
 use Rattle.std.proofs.lemmas.Bool.Decides.{nat_tests}
 use Rattle.std.proofs.lemmas.List.Sums.{AllPass-from_list_all}
 use Rattle.jiff.proofs.SpanFacts.{signed_arith}
 use Rattle.jiff.specs.Types.{TimeZone, UTC}
 use Rattle.jiff.specs.Words.{nanos_of_seconds, offset_at, IsOffsetSeconds}
 use Rattle.cal_bytes.specs.headline.Bytes.{joined}
-use Rattle.cal_text.proofs.General.{both_all, clear_of}
-use Rattle.cal_zone.proofs.OffsetWordLemmas.{nearest, offset-back, offset-found, two_printed}
-use Rattle.cal_zone.proofs.PlaceLemmas.{place_of-Some, place_of-UTC, settle_of-UTC, settle_of-fixed_zone, local_of-UTC}
+use Rattle.cal_text.proofs.General.{both_all, clear_of, wider}
+use Rattle.cal_zone.proofs.OffsetWordLemmas.{nearest, offset-back, offset-found, two_printed, two}
+use Rattle.cal_zone.proofs.PlaceLemmas.{settle_of-UTC, settle_of-fixed_zone, local_of-UTC}
 use Rattle.cal_zone.proofs.ZoneLemmas.{offset_at-in_range}
 use Rattle.cal_zone.specs.headline.InstantText.{offset_text, sign_text, zeros, zone_word}
 use Rattle.cal_zone.specs.OffsetWord.{AreWholeMinutes, offset_in}
@@ -24,7 +24,7 @@ use Rattle.cal_zone.specs.headline.ZoneName.{begins_with_letter, is_utc_name}
 use Rattle.cal_zone.specs.headline.ZoneTable.{zone_named}
 use Rattle.cal_zone.specs.declared.zone.Zone.{Zone}
 use Rattle.cal_zone.specs.declared.zone.ZoneKind.{ZoneKind}
-use Rattle.cal_zone.specs.declared.zone.ZoneKind.TheVariants.{Utc, Offset as Fixed, Rules}
+use Rattle.cal_zone.specs.declared.zone.ZoneKind.TheVariants.{Utc}
 use Rattle.cal_spec.specs.GrammarRule.{IsWord}
 use Rattle.cal_text.specs.headline.Words.{is_blank}
 use Rattle.cal_read.specs.Stamp.{zone_meant}
@@ -62,10 +62,7 @@ no_letter : (b : ℕ) → b ≤ 45 → is_ascii_alphabetic b ≡ false
 no_letter b to = grind (arith, nat_tests)
 
 digits_fit : (ds : List ℕ) → list_all is_ascii_digit ds ≡ true → list_all is_signed_byte ds ≡ true
-digits_fit [] h = refl
-digits_fit (d ∷ ds) h =
-    let parts = and_parts (is_ascii_digit d) (list_all is_ascii_digit ds) h in
-    rw (digit_fits d parts.0, digits_fit ds parts.1) refl
+digits_fit ds = wider is_ascii_digit is_signed_byte ds digit_fits
 
 -- a sign and such bytes
 record IsSigned (text : List ℕ) : Type 0 where
@@ -97,9 +94,6 @@ signed_no_letter : (text : List ℕ) → IsSigned text → begins_with_letter te
 signed_no_letter text h = rw h.whole (no_letter h.sign h.to)
 
 -- The text of an offset
-
-abbrev two : ℕ → List ℕ
-two n = zeros 2 n ++ decimal n
 
 abbrev hour_in : ℤ → List ℕ
 hour_in offset = two (unsigned_abs offset / 3_600)
@@ -212,8 +206,7 @@ settle_of-ahead offset local h =
 
 utc_kind : (kind : ZoneKind) → is_utc_kind kind ≡ true → zone_of_kind kind ≡ UTC
 utc_kind Utc h = refl
-utc_kind (Fixed ahead) h = cc
-utc_kind (Rules rules) h = cc
+utc_kind kind h = cc
 
 utc_zone : (zone : Zone) → is_utc zone ≡ true → zone_of zone ≡ UTC
 unfolding zone_of
@@ -270,10 +263,6 @@ pub utc_minutes : (secs : ℤ) → unsigned_abs (offset_at UTC (nanos_of_seconds
 unfolding offset_at
 utc_minutes secs = refl
 
-other_test : (n : ℕ) (test : Bool) → (n ≡ 0 → ⊥) → (n == 0) ≡ test → (n == 0) ≡ false
-other_test n true none e = absurd (none (eqb-true n 0 e))
-other_test n false none e = e
-
 unread_by : (find : List ℕ → Option TimeZone) (tz : TimeZone) (utc : Bool) (secs : ℤ) → (utc ≡ true → tz ≡ UTC) → (unsigned_abs (offset_at tz (nanos_of_seconds secs)) % 60 ≡ 0 → ⊥)
     → zone_meant find (zone_word utc (offset_at tz (nanos_of_seconds secs))) ≡ Err StrayWord
 unfolding zone_word
@@ -281,7 +270,7 @@ unread_by find tz true secs is none =
     absurd (none (ap (λ z. unsigned_abs (offset_at z (nanos_of_seconds secs)) % 60) (is refl) ∙ utc_minutes secs))
 unread_by find tz false secs is none =
     let offset = offset_at tz (nanos_of_seconds secs) in
-    seconds_unread find offset (offset_at-in_range tz (nanos_of_seconds secs)) (other_test (unsigned_abs offset % 60) _ none refl)
+    seconds_unread find offset (offset_at-in_range tz (nanos_of_seconds secs)) (ne_eqb (unsigned_abs offset % 60) 0 none)
 
 pub shown_unread : (find : List ℕ → Option TimeZone) (zone : Zone) (secs : ℤ) → (unsigned_abs (shown_offset zone secs) % 60 ≡ 0 → ⊥) → zone_meant find (shown_word zone secs) ≡ Err StrayWord
 shown_unread find zone secs none = unread_by find (zone_of zone) (is_utc zone) secs (utc_zone zone) none

@@ -1,5 +1,6 @@
 -- Which faults a file's bytes can have.
-use Rattle.std.proofs.Common.{◌≡◌, ℕ, Bool, true, false, List, [], ◌∷◌, ◌++◌, length, refl, Option, Some, None, Result, Ok, Err}
+use Rattle.std.proofs.Common.{◌≡◌, ℕ, inl, inr, Bool, true, false, List, [], ◌∷◌, ◌++◌, length, refl, Option, Some, None, Result, Ok, Err}
+use Rattle.std.proofs.lemmas.Bool.{cases_Bool, false_from_ne_true}
 use Rattle.std.specs.Prelude.{nat_le}
 use Rattle.std.specs.Option.{option_or}
 use Rattle.std.specs.Str.{is_utf8, IsUtf8}
@@ -10,17 +11,13 @@ use Rattle.cal_lines.specs.headline.Lines.{logical_lines}
 use Rattle.cal_read.specs.TimerText.{TimerLine, bad_line, broken_line, fault_following, fault_joining, first_fault, lists_of, some_expressions, timer_in, timer_of, unless_fault}
 use Rattle.cal_read.specs.headline.TimerText.{excepted, is_exception, is_expression, listed, most_expressions, without_mark}
 use Rattle.cal_read.specs.declared.timer.fault.TimerFault.{TimerFault}
-use Rattle.cal_read.specs.declared.timer.fault.TimerFault.TheVariants.{BadLine, NoMemory, NothingToDo, NotUtf8, ReadFailed, TooLarge, TooMany}
+use Rattle.cal_read.specs.declared.timer.fault.TimerFault.TheVariants.{BadLine, NotUtf8, ReadFailed, TooMany}
 
 -- the faults that a line can have
 abbrev pub is_of_line : TimerFault → Bool
-is_of_line ReadFailed = false
-is_of_line TooLarge = false
-is_of_line (NotUtf8 line) = false
 is_of_line (BadLine line fault) = true
 is_of_line (TooMany line) = true
-is_of_line NothingToDo = false
-is_of_line NoMemory = false
+is_of_line fault = false
 
 text_is_of_line : {E : Type 0} (number : ℕ) (r : Result E SpecFault) (fault : TimerFault) → bad_line number r ≡ Some fault → is_of_line fault ≡ true
 text_is_of_line number (Ok expr) fault e = cc
@@ -55,20 +52,16 @@ never_of_list None [] xs never h = cc
 never_of_list None (e ∷ es) xs never h = cc
 never_of_list (Some fault) es xs never h = never cc
 
-never_as : {E : Type 0} (read : List ℕ → Result E SpecFault) (bytes : List ℕ) (utf8 : Bool) → is_utf8 bytes ≡ utf8 → timer_in read bytes ≡ Err ReadFailed → ⊥
-unfolding timer_in timer_of lists_of
-never_as read bytes true e = rw e (never_of_list _ _ _ (λ h. never_of_line (first_is_of_line read [] (assignments_in false (logical_lines 1 (without_mark bytes))) ReadFailed h)))
-never_as read bytes false e = rw e (λ h. cc)
-
 -- the bytes of a file are never a failed reader
 pub never_failed : {E : Type 0} (read : List ℕ → Result E SpecFault) (bytes : List ℕ) → timer_in read bytes ≡ Err ReadFailed → ⊥
-never_failed read bytes = never_as read bytes (is_utf8 bytes) refl
+unfolding timer_in timer_of lists_of
+never_failed read bytes h =
+    elim (cases_Bool (is_utf8 bytes)) [
+      | inl text ↦ never_of_list _ _ _ (λ e. never_of_line (first_is_of_line read [] (assignments_in false (logical_lines 1 (without_mark bytes))) ReadFailed e)) (rw text at h)
+      | inr broken ↦ (let none = rw broken at h in cc)
+    ]
 
 -- what is no UTF-8 isn't taken for it
-no_text : (bytes : List ℕ) (utf8 : Bool) → is_utf8 bytes ≡ utf8 → (IsUtf8 bytes → ⊥) → is_utf8 bytes ≡ false
-no_text bytes true e h = absurd (h (IsUtf8-from_is_utf8 bytes e))
-no_text bytes false e h = e
-
 pub broken_bytes : {E : Type 0} (read : List ℕ → Result E SpecFault) (bytes : List ℕ) (number : ℕ) → (IsUtf8 bytes → ⊥) → number ≡ broken_line bytes → timer_in read bytes ≡ Err (NotUtf8 number)
 unfolding timer_in
-broken_bytes read bytes number broken e = rw (no_text bytes (is_utf8 bytes) refl broken, e) refl
+broken_bytes read bytes number broken e = rw (false_from_ne_true (is_utf8 bytes) (λ h. broken (IsUtf8-from_is_utf8 bytes h)), e) refl

@@ -12,9 +12,9 @@ use Rattle.cal_read.specs.TimerRule.{AreFine, IsFirstTimerFault, JudgesTimer}
 use Rattle.cal_read.specs.TimerText.{TimerLine, Timer, entries, fault_following, first_fault, lists_of, some_entries, some_expressions, unless_fault}
 use Rattle.cal_read.specs.headline.TimerText.{excepted, is_exception, is_exception_reset, is_expression, is_reset, listed}
 use Rattle.cal_read.specs.declared.timer.fault.TimerFault.{TimerFault}
-use Rattle.cal_read.specs.declared.timer.fault.TimerFault.TheVariants.{ReadFailed, TooLarge, NotUtf8, BadLine, TooMany, NothingToDo, NoMemory}
+use Rattle.cal_read.specs.declared.timer.fault.TimerFault.TheVariants.{NothingToDo}
 use Rattle.cal_read.proofs.TimerLemmas.{first_is_of_line, is_of_line}
-use Rattle.cal_text.proofs.General.{after_last_here, after_last_more}
+use Rattle.cal_text.proofs.General.{after_last_here, after_last_more, option_or_none}
 
 -- The lines of a section
 pub no_header : (inside : Bool) (lines : List Line) → list_any (λ line. is_header line.text) lines ≡ false → timer_lines inside lines ≡ (if inside then lines else [])
@@ -82,10 +82,6 @@ excepted_without_reset = kept_without_reset is_exception is_exception_reset
 abbrev AreFineBehind : {E : Type 0} → (List ℕ → Result E SpecFault) → List Assignment → List Assignment → Type 0
 AreFineBehind read first all = (before : List Assignment) (a : Assignment) (after : List Assignment) → all ≡ before ++ (a ∷ after) → fault_following read (first ++ before) a ≡ None
 
-option_parts : (o p : Option TimerFault) → option_or o p ≡ None → (o ≡ None) × (p ≡ None)
-option_parts None p h = (refl, h)
-option_parts (Some fault) p h = cc
-
 pub no_split : (before : List Assignment) (a : Assignment) (after : List Assignment) → [] ≡ before ++ (a ∷ after) → ⊥
 no_split [] a after e = cc
 no_split (b ∷ before) a after e = cc
@@ -103,7 +99,7 @@ fine_from_none : {E : Type 0} (read : List ℕ → Result E SpecFault) (first al
 unfolding first_fault
 fine_from_none read first [] h = λ before a after split. absurd (no_split before a after split)
 fine_from_none read first (x ∷ xs) h =
-    let parts = option_parts (fault_following read first x) (first_fault read (first ++ x ∷ []) xs) h in
+    let parts = option_or_none (fault_following read first x) (first_fault read (first ++ x ∷ []) xs) h in
     fine_more read first x xs parts.0 (fine_from_none read (first ++ x ∷ []) xs parts.1)
 
 none_from_fine : {E : Type 0} (read : List ℕ → Result E SpecFault) (first all : List Assignment) → AreFineBehind read first all → first_fault read first all ≡ None
@@ -162,13 +158,8 @@ some_from_fault read first (x ∷ before) a after fault fine e =
 
 -- The one result
 judged_fault : {E : Type 0} (read : List ℕ → Result E SpecFault) (all : List Assignment) (fault : TimerFault) → is_of_line fault ≡ true → IsFirstTimerFault read all fault → JudgesTimer read all (Err fault)
-judged_fault read all ReadFailed e h = h
-judged_fault read all TooLarge e h = h
-judged_fault read all (NotUtf8 n) e h = h
-judged_fault read all (BadLine n f) e h = h
-judged_fault read all (TooMany n) e h = h
 judged_fault read all NothingToDo e h = cc
-judged_fault read all NoMemory e h = h
+judged_fault read all fault e h = h
 
 judged_lists : {E : Type 0} (read : List ℕ → Result E SpecFault) (all : List Assignment) (es xs : List (TimerLine E)) → AreFine read all → entries read all ≡ record { expressions = es; exceptions = xs } → JudgesTimer read all (some_expressions es xs)
 judged_lists {E} read all [] xs fine e = (fine, ap (λ (lists : Timer E). lists.expressions) e)
@@ -205,9 +196,4 @@ pub only_judged : {E : Type 0} (read : List ℕ → Result E SpecFault) (all : L
 unfolding lists_of
 only_judged read all (Ok lists) h = rw (none_from_fine read [] all h.0, h.1) (sym (some_if_any lists.expressions lists.exceptions h.2))
 only_judged read all (Err NothingToDo) h = rw (none_from_fine read [] all h.0, h.1) refl
-only_judged read all (Err ReadFailed) h = faulted read all ReadFailed h
-only_judged read all (Err TooLarge) h = faulted read all TooLarge h
-only_judged read all (Err (NotUtf8 n)) h = faulted read all (NotUtf8 n) h
-only_judged read all (Err (BadLine n f)) h = faulted read all (BadLine n f) h
-only_judged read all (Err (TooMany n)) h = faulted read all (TooMany n) h
-only_judged read all (Err NoMemory) h = faulted read all NoMemory h
+only_judged read all (Err fault) h = faulted read all fault h

@@ -1,7 +1,7 @@
 -- Lemmas on the expressions of a timer file that an exception covers, and on the others, which are added to its merge.
-use Rattle.std.proofs.Common.{◌≡◌, ◌++◌, ℕ, zero, suc, ◌+◌, ◌<◌, false, List, [], ◌∷◌, length, map, get_or, Option, None, Some, ℤ, inl, inr, refl, sym, subst, ap, ◌∙◌, arith, take}
-use Rattle.std.proofs.lemmas.List.{append_assoc, append-nil, map-append}
-use Rattle.cal_elapse.proofs.CoveredLemmas.{elapses_except-kept, kept_none, kept_one, kept_without, matches_among}
+use Rattle.std.proofs.Common.{◌≡◌, ◌++◌, ℕ, zero, suc, ◌+◌, ◌<◌, false, List, [], ◌∷◌, length, map, get_or, ℤ, inr, sym, ap, ◌∙◌, arith, take}
+use Rattle.std.proofs.lemmas.List.{append_assoc, map-append}
+use Rattle.cal_elapse.proofs.CoveredLemmas.{elapses_except-kept, kept_one, kept_without, matches_among}
 use Rattle.cal_elapse.proofs.ElapsesLemmas.{without-elapses}
 use Rattle.cal_elapse.specs.Covered.{AreAmong}
 use Rattle.cal_elapse.specs.Elapses.{elapses_after}
@@ -16,8 +16,6 @@ use Rattle.cal_read.specs.declared.timer.TimerLine as declared_line
 use Rattle.cal_rising.specs.Merge.{Merge, merged}
 use Rattle.cal_spec.specs.headline.Fields.{Fields}
 use Rattle.cal_spec.specs.headline.Match.{Sets}
-use Rattle.cal_spec.specs.ZoneSuffix.{name_in, offset_said}
-use Rattle.cal_spec.specs.headline.ZoneSuffix.{ZoneSuffix, ahead, of_name}
 use Rattle.cal_report.proofs.TimerLemmas.{shown_more}
 use Rattle.cal_report.specs.TimerPlan.{IsAdded, IsCoveredEntry, each_of, entry_sets}
 use Rattle.cal_report.specs.TimerReport.{elapses_of_lists, timed_entry}
@@ -27,21 +25,14 @@ use Rattle.cal_request.specs.headline.Request.{Request}
 place_among : (e f : TimerLine Fields) → e.expr.zone ≡ f.expr.zone → AreAmong (entry_sets e) (entry_sets f) → (asked : Request) (i : ℤ)
     → IsPlace (timed_entry asked e) i → IsPlace (timed_entry asked f) i
 unfolding timed_entry timed
-place_among e f zone among asked i p = record {
-  local = p.local;
-  within = p.within;
-  is_match = matches_among (entry_sets e) (entry_sets f) among p.local p.is_match;
-  placed = rw (← zone) p.placed;
-}
+place_among e f zone among asked i p = grind (arith, matches_among)
 
 pub covered_at : (e : TimerLine Fields) (lines : List declared_line.TimerLine) (masks : List Masks) (own : Sets) (i : ℕ) (line : declared_line.TimerLine) (theirs : Masks)
     → map sets_in masks ≡ map entry_sets (map shown lines) → i < length lines → i < length masks → line ≡ get_or lines i line → theirs ≡ get_or masks i theirs
     → own ≡ entry_sets e → e.expr.zone ≡ line.expr.zone → AreAmong own (sets_in theirs) → IsCoveredEntry e (map shown lines)
 covered_at e [] masks own i line theirs all h k is so same zone among asked j p = absurd (omega arith)
 covered_at e (x ∷ lines) [] own i line theirs all h k is so same zone among asked j p = absurd (omega arith)
-covered_at e (x ∷ lines) (m ∷ masks) own zero line theirs all h k is so same zone among asked j p =
-    let sets : sets_in theirs ≡ entry_sets (shown line) = cc in
-    inl (subst (λ (l : declared_line.TimerLine). IsPlace (timed_entry asked (shown l)) j) is (place_among e (shown line) zone (rw (same, sets) at among) asked j p))
+covered_at e (x ∷ lines) (m ∷ masks) own zero line theirs all h k is so same zone among asked j p = grind (arith, place_among)
 covered_at e (x ∷ lines) (m ∷ masks) own (suc i) line theirs all h k is so same zone among asked j p =
     inr (covered_at e lines masks own i line theirs (cc) (omega arith) (omega arith) is so same zone among asked j p)
 
@@ -84,12 +75,4 @@ pub merge_added : (asked : Request) (base : ℤ) (lists : Timer Fields) (empty s
     → merge ≡ record { started = false; lists = some.lists; exceptions = some.exceptions ++ each_of asked base lists.exceptions }
     → merged merge ≡ elapses_of_lists asked base lists
 unfolding elapses_of_lists
-merge_added asked base lists empty some merge none a all =
-    let exceptions = map (timed_entry asked) lists.exceptions in
-    let whole : merge ≡ record { started = false; lists = each_after a.kept base; exceptions = each_after exceptions base }
-    = all ∙ (λ j. record {
-      started = false;
-      lists = (ap (λ (m : Merge). m.lists) a.is ∙ ap (λ (m : Merge). m.lists ++ each_after a.kept base) none) j;
-      exceptions = ap (λ (m : Merge). m.exceptions ++ each_after exceptions base) (a.is ∙ ap (λ (m : Merge). record { started = false; lists = m.lists ++ each_after a.kept base; exceptions = m.exceptions }) none) j;
-    }) in
-    ap merged whole ∙ (without-elapses a.kept exceptions base ∙ elapses_except-kept (map (timed_entry asked) lists.expressions) exceptions a.kept base a.are_kept)
+merge_added asked base lists empty some merge none a all = grind (arith, without-elapses, elapses_except-kept)

@@ -1,8 +1,8 @@
 -- Lemmas on what is answered to one text, and to texts in a row.
-use Rattle.std.proofs.Common.{◌≡◌, ℕ, suc, ◌+◌, ◌<◌, ◌≤◌, Bool, true, false, ◌||◌, map, List, [], ◌∷◌, ◌++◌, length, drop, take, get_or, Option, Result, Ok, Err, refl, sym, subst, ap, ◌∙◌, arith, codes, add-one, drop-cons}
+use Rattle.std.proofs.Common.{◌≡◌, ℕ, ◌<◌, Bool, true, false, ◌||◌, map, List, [], ◌∷◌, ◌++◌, length, take, Option, Result, Ok, Err, refl, sym, subst, ap, ◌∙◌, arith, codes}
 use Rattle.std.specs.Prelude.{is_err, if◌then◌else◌}
 use Rattle.std.specs.List.{flat_map, join_by, list_any}
-use Rattle.std.proofs.lemmas.List.{append-nil, append_assoc, drop_all, length-map, map-append, take-map, take_more}
+use Rattle.std.proofs.lemmas.List.{append-nil, append_assoc, length-map, take-map}
 use Rattle.std.proofs.lemmas.List.Concat.{flat_map-append}
 use Rattle.std.specs.Io.KnownBytes.{Appends}
 use Rattle.cal_bytes.specs.Bytes.{Leaves, AppendsFront, Writes}
@@ -119,9 +119,7 @@ goes_on-none answer rest = reports_left-all answer rest
 
 pub reports_more : (answer : List ℕ → Answer) (is_later : Bool) (done : List (List ℕ)) (text : List ℕ) (rest : List (List ℕ)) → GoesOn answer is_later done
     → reports_text answer (done ++ text ∷ rest) ≡ (reports_text answer done ++ later_text is_later (answer text)) ++ reports_left (is_later || is_fine (status_in (answer text))) answer rest
-reports_more answer is_later done text rest on =
-    on (text ∷ rest) ∙ (ap (λ (t : List ℕ). reports_text answer done ++ t) (reports_left-next is_later answer text rest)
-    ∙ sym (append_assoc (reports_text answer done) (later_text is_later (answer text)) (reports_left (is_later || is_fine (status_in (answer text))) answer rest)))
+reports_more answer is_later done text rest on = grind (arith, reports_left-next, append_assoc, reports_left)
 
 pub reports_one : (answer : List ℕ → Answer) (is_later : Bool) (done : List (List ℕ)) (text : List ℕ) → GoesOn answer is_later done
     → reports_text answer (done ++ text ∷ []) ≡ reports_text answer done ++ later_text is_later (answer text)

@@ -1,7 +1,7 @@
 -- The headline's law: a run that ends well has accepted what was asked.
 use Rattle.std.proofs.Common.{◌≡◌, ◌<◌, ◌-◌, ◌++◌, ◌∙◌, ℕ, suc, ℤ, Bool, true, false, not, cond, List, [], ◌∷◌, Option, None, Some, Result, Ok, Err, map, take, drop, filter, length, refl, sym, ap, subst, arith, append_assoc}
 use Rattle.std.proofs.lemmas.List.{take-append-drop}
-use Rattle.std.specs.Prelude.{is_err, is_none, nat_le, if◌then◌else◌}
+use Rattle.std.specs.Prelude.{is_err, nat_le, if◌then◌else◌}
 use Rattle.std.specs.List.{AllByRecursion, filter_map, find, list_any, suffix_len}
 use Rattle.std.specs.Str.{is_utf8}
 use Rattle.std.proofs.lemmas.Bool.{or_parts}
@@ -33,7 +33,6 @@ use Rattle.cal_report.specs.headline.Headline.{AreAccepted, AreSpelled, Expressi
 use Rattle.cal_report.specs.Report.{answer_by, answer_to, base_in, file_name, report, texts_report, whole_report}
 use Rattle.cal_report.specs.headline.Report.{Report}
 use Rattle.cal_report.specs.TimerReport.{answer_of_timer, answer_unless, lacks_zone, timer_answer, unzoned}
-use Rattle.cal_request.specs.Request.{is_timer}
 use Rattle.cal_request.specs.headline.Request.{Request}
 use Rattle.cal_request.specs.declared.request.Status.TheVariants.{Fine, Refused}
 use Rattle.cal_request.specs.declared.request.Verb.TheVariants as verb
@@ -129,10 +128,7 @@ joining_spelled : AreNormalForms → (list : List Assignment) (a : Assignment) �
 joining_spelled some list a h = joining_by some list a (nat_le most_expressions (length list)) refl h
 
 fine_spelled : AreNormalForms → (all : List Assignment) → AreFine expr_in all → AreSpelled all
-fine_spelled some all fine before a after split = (
-  λ is. joining_spelled some (listed before) a (sym (fault_of_expression expr_in before a is) ∙ fine before a after split),
-  λ is. joining_spelled some (excepted before) a (sym (fault_of_exception expr_in before a is) ∙ fine before a after split),
-)
+fine_spelled some all fine before a after split = grind (arith, joining_spelled, fault_of_expression, fault_of_exception)
 
 -- the text of an assignment is one
 abbrev IsSpelled : Assignment → Type 0
@@ -149,8 +145,7 @@ each_spelled : (adds : Assignment → Bool) (all front rest : List Assignment) �
     → AllByRecursion IsSpelled (filter adds rest)
 each_spelled adds all front [] split h = tt
 each_spelled adds all front (a ∷ rest) split h =
-    kept_spelled adds a rest (adds a) (λ is. h front a rest split is)
-    (each_spelled adds all (front ++ a ∷ []) rest (split ∙ sym (append_assoc front (a ∷ []) rest)) h)
+    grind (arith, kept_spelled, append_assoc, each_spelled adds all (front ++ a ∷ []) rest (split ∙ sym (append_assoc front (a ∷ []) rest)) h)
 
 listed_spelled : (all : List Assignment) → AreSpelled all → AllByRecursion IsSpelled (listed all)
 unfolding listed
@@ -239,9 +234,7 @@ accepted_of one some asked bytes name base (Err fault) read h = cc
 report_of_timer : (asked : Request) (bytes : List ℕ) (base : ℤ) → asked.verb ≡ verb.Timer → base_in asked ≡ Ok base
     → report asked (Ok bytes) ≡ whole_report (timer_answer asked base (file_name asked) (Ok bytes))
 unfolding report
-report_of_timer asked bytes base verb sought =
-    let timer : is_timer asked.verb ≡ true = ap is_timer verb in
-    rw (sought, timer) refl
+report_of_timer asked bytes base verb sought = grind arith
 
 pub fine_file_is_accepted : HaveOneNormalForm → AreNormalForms → (asked : Request) (bytes : List ℕ) (base : ℤ) → asked.verb ≡ verb.Timer → base_in asked ≡ Ok base
     → (report asked (Ok bytes)).status ≡ Fine → IsAcceptedFile asked bytes

@@ -5,7 +5,7 @@ use Rattle.std.proofs.lemmas.Int.{ints}
 use Rattle.std.specs.List.{slice_get}
 use Rattle.jiff.proofs.SpanFacts.{signed_arith}
 use Rattle.jiff.specs.Types.{Fold, Offset, TimeZone}
-use Rattle.jiff.specs.Words.{ambiguous_at, compatible_offset}
+use Rattle.jiff.specs.Words.{ambiguous_at}
 use Rattle.cal_zone.specs.Instant.{IsInstant}
 use Rattle.cal_zone.specs.headline.Local.{seconds_in_all-is}
 use Rattle.cal_zone.specs.headline.Place.{datetime_of, place_of, settle_of}
@@ -23,16 +23,14 @@ use Rattle.cal_read.specs.declared.stamp.fault.StampFault.{StampFault}
 use Rattle.cal_report.specs.ElapseLines.{AreInstants}
 use Rattle.cal_report.specs.headline.Headline.{AreElapsesOf, Expression, Schedule, meaning}
 use Rattle.cal_report.specs.Report.{base_from, base_in, second_or_fault}
-use Rattle.cal_report.specs.TimestampReport.{second_at, stamp_in}
+use Rattle.cal_report.specs.TimestampReport.{stamp_in}
 use Rattle.cal_request.specs.headline.Request.{Request}
 use Rattle.cal_report.proofs.HeadlineLemmas.{one_elapses}
 
 -- Instants
 
 second_low : (stamp : Result ℤ StampFault) (base : ℤ) → second_or_fault stamp ≡ Ok base → pos 0 ≤ℤ base
-second_low (Ok micros) base h =
-    let same : second_at micros ≡ base = cc in
-    subst (λ (b : ℤ). pos 0 ≤ℤ b) same (omega (arith, ints))
+second_low (Ok micros) base h = grind (arith, ints, signed_arith)
 second_low (Err fault) base h = cc
 
 base_from_low : (asked : Request) (text : Option (List ℕ)) (base : ℤ) → pos 0 ≤ℤ asked.now → base_from asked text ≡ Ok base → pos 0 ≤ℤ base
@@ -73,10 +71,7 @@ is_shown fields tz i h =
 
 pub is_alone : (fields : Fields) (tz : TimeZone) (i j : ℤ) → IsPlace (timed fields tz) i → IsPlace (timed fields tz) j → local_of tz i ≡ local_of tz j → i ≡ j
 unfolding timed
-is_alone fields tz i j h k same =
-    let one : pos h.local ≡ pos k.local = sym (place_of-Some tz (pos h.local) i h.placed).1 ∙ (same ∙ (place_of-Some tz (pos k.local) j k.placed).1) in
-    let both : Some i ≡ Some j = sym h.placed ∙ (ap (place_of tz) one ∙ k.placed) in
-    cc
+is_alone fields tz i j h k same = grind (arith, ints, signed_arith, place_of-Some)
 
 none_shown : (tz : TimeZone) (local : ℤ) (o : Option ℤ) → ((second : ℤ) → local_of tz second ≡ local → ⊥) → place_of tz local ≡ o → o ≡ None
 none_shown tz local None never e = refl
@@ -92,7 +87,4 @@ later_by local i before after is less = omega (arith, signed_arith)
 pub fold_has_its_first : (tz : TimeZone) (local i : ℤ) (before after : Offset) → ambiguous_at tz (datetime_of local) ≡ Fold before after → place_of tz local ≡ Some i
     → (i ≡ local -ℤ before.seconds) × (after.seconds <ℤ before.seconds → i <ℤ (local -ℤ after.seconds))
 unfolding settle_of
-fold_has_its_first tz local i before after fold at =
-    let settled = (place_of-Some tz local i at).0 in
-    let is : i ≡ local -ℤ before.seconds = sym settled ∙ ap (λ o. local -ℤ (compatible_offset o).seconds) fold in
-    (is, λ less. later_by local i before.seconds after.seconds is less)
+fold_has_its_first tz local i before after fold at = grind (arith, ints, signed_arith, place_of-Some, later_by)

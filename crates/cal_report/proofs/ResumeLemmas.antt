@@ -1,11 +1,10 @@
 -- The law on a cut output: how many elapses are in a prefix of a report, and what the same begun again shows.
-use Rattle.std.proofs.Common.{◌≡◌, ◌↔◌, ◌≤◌, ◌<◌, ◌+◌, ◌++◌, ◌∙◌, ℕ, zero, suc, ℤ, Bool, true, false, List, [], ◌∷◌, Option, None, Some, Result, Ok, Err, map, take, drop, length, codes, nat_le, refl, sym, ap, subst, arith, append-nil, append_assoc, length-append, length-take}
+use Rattle.std.proofs.Common.{◌≡◌, ◌↔◌, ◌≤◌, ◌<◌, ◌+◌, ◌++◌, ◌∙◌, ℕ, zero, suc, ℤ, Bool, true, false, List, [], ◌∷◌, Option, None, Some, Result, Ok, Err, map, take, drop, length, codes, nat_le, refl, sym, ap, subst, arith, append-nil, append_assoc, length-append}
 use Rattle.std.proofs.Math.Seq.{take-append_seam}
 use Rattle.std.proofs.lemmas.Bool.Decides.{nat_tests}
-use Rattle.std.proofs.lemmas.List.{drop-take, get_or-take, take-append-drop, take-append-le}
-use Rattle.std.proofs.lemmas.Option.{get_or_from_slice_get, slice_get_read, slice_get_within}
+use Rattle.std.proofs.lemmas.List.{drop-take, take-append-drop, take-append-le}
 use Rattle.std.specs.Io.KnownBytes.{Appends}
-use Rattle.std.specs.List.{AllByRecursion, AllZip, join_by, slice_get}
+use Rattle.std.specs.List.{AllByRecursion, AllZip, join_by}
 use Rattle.jiff.specs.Types.{TimeZone}
 use Rattle.cal_bytes.specs.Bytes.{AppendsFront, Writes}
 use Rattle.cal_bytes.specs.declared.whole.WholeFault.{WholeFault}

@@ -1,5 +1,5 @@
 -- Lemmas on the report of a timer file: the merge of its elapses, line by line, and the texts of its lines.
-use Rattle.std.proofs.Common.{◌≢◌, Result, Ok, Err, ◌≡◌, ℕ, zero, suc, ◌+◌, ◌<◌, ◌++◌, Bool, true, false, List, [], ◌∷◌, length, map, take, drop, get_or, Option, None, Some, ℤ, pos, ◌≤ℤ◌, refl, ap, ◌∙◌, subst, string_bytes, arith}
+use Rattle.std.proofs.Common.{◌≢◌, Result, Ok, ◌≡◌, ℕ, zero, suc, ◌+◌, ◌<◌, ◌++◌, Bool, true, false, List, [], ◌∷◌, length, map, take, drop, get_or, Option, None, Some, ℤ, pos, ◌≤ℤ◌, refl, ap, ◌∙◌, string_bytes, arith}
 use Rattle.std.specs.List.{find, flat_map}
 use Rattle.std.specs.Option.{option_map, unwrap_or}
 use Rattle.std.proofs.lemmas.Bool.{false_from_ne_true}
@@ -9,8 +9,6 @@ use Rattle.jiff.specs.Types.{UTC}
 use Rattle.cal_rising.specs.Merge.{Merge, merged}
 use Rattle.cal_elapse.proofs.InstantLemmas.{IsInstant-elapse}
 use Rattle.cal_read.specs.TimerText.{TimerLine, Timer, timer_text}
-use Rattle.cal_read.specs.declared.timer.fault.TimerFault.{TimerFault}
-use Rattle.cal_read.specs.declared.timer.fault.TimerFault.TheVariants as timer
 use Rattle.cal_read.specs.TimerView.{shown}
 use Rattle.cal_read.specs.declared.timer.TimerLine as declared_line
 use Rattle.cal_bytes.specs.declared.whole.WholeFault.{WholeFault}
@@ -39,9 +37,7 @@ found_there p e es false is h = rw is h
 
 pub line_found : (p : TimerLine Fields → Bool) (lines : List declared_line.TimerLine) (i : ℕ) (line : declared_line.TimerLine) → i < length lines → line ≡ get_or lines i line → p (shown line) ≡ true → find p (map shown lines) ≢ None
 line_found p [] i line h is lacks = absurd (omega arith)
-line_found p (x ∷ lines) zero line h is lacks =
-    let here : p (shown x) ≡ true = subst (λ (l : declared_line.TimerLine). p (shown l) ≡ true) is lacks in
-    rw here (λ never. cc)
+line_found p (x ∷ lines) zero line h is lacks = grind arith
 line_found p (x ∷ lines) (suc i) line h is lacks =
     found_there p (shown x) (map shown lines) (p (shown x)) refl (line_found p lines i line (omega arith) is lacks)
 

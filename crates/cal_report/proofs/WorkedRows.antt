@@ -2,7 +2,7 @@
 use Rattle.jiff.specs.Types.{UTC, Date}
 use Rattle.std.specs.FinMap.{empty}
 use Rattle.cal_zone.specs.headline.Zone.{utc, zone_of}
-use Rattle.std.proofs.Common.{nat_lt, ◌≡◌, ℕ, ◌<◌, [], ◌∷◌, ◌++◌, None, Some, Ok, codes, pos, ◌∙◌, ap, sym, inl, true, false, refl, rules, arith}
+use Rattle.std.proofs.Common.{◌≡◌, ℕ, ◌<◌, [], ◌∷◌, ◌++◌, None, Some, Ok, codes, pos, ◌∙◌, ap, sym, inl, true, false, refl, rules, arith}
 use Rattle.std.specs.Fmt.{digits}
 use Rattle.jiff.specs.Words.{epoch_day, weekday_of}
 use Rattle.jiff_core.proofs.CalendarLemmas.{days_from_civil-day_count}
@@ -11,7 +11,7 @@ use Rattle.jiff.proofs.SpanFacts.{signed_arith}
 use Rattle.jiff_core.specs.Calendar.{weekday_number}
 use Rattle.cal_zone.specs.headline.Days.{date_of}
 use Rattle.cal_zone.proofs.DayLemmas.{date_of-epoch_day}
-use Rattle.cal_zone.specs.headline.Local.{civil_date, seconds_in_all, seconds_in_all-is}
+use Rattle.cal_zone.specs.headline.Local.{civil_date, seconds_in_all-is}
 use Rattle.cal_read.specs.Stamp.{in_moments, moment_in}
 use Rattle.cal_read.specs.StampForm.{day_shift, form_by_end, form_of}
 use Rattle.cal_report.specs.Resume.{AreShown, IsBegunAgain}

@@ -1,11 +1,8 @@
 -- The merge of rising lists: its first number is the least of their first ones, and once that is given what is left is
 -- the merge of what is left of each.
-use Rattle.std.proofs.Common.{◌≡◌, ◌↔◌, ◌<◌, ◌≤◌, ◌+◌, ℕ, zero, suc, List, [], ◌∷◌, ◌++◌, length, take, drop, get_or, set, inl, inr, Option, None, Some, ℤ, ◌<ℤ◌, ◌≤ℤ◌, refl, sym, ap, ◌∙◌, subst, arith, map, add-one, slice_get}
-use Rattle.std.proofs.Math.Seq.{take-length}
-use Rattle.std.proofs.Math.ListN.{drop_of_length-le}
+use Rattle.std.proofs.Common.{◌≡◌, ◌↔◌, ◌<◌, ◌+◌, ℕ, zero, suc, List, [], ◌∷◌, length, take, drop, get_or, set, inl, inr, Option, None, Some, ℤ, ◌<ℤ◌, ◌≤ℤ◌, refl, sym, ap, ◌∙◌, arith, map, add-one, slice_get}
 use Rattle.std.proofs.lemmas.Cmp.{int_ranked}
-use Rattle.std.proofs.lemmas.Int.{by_lt_z, ints}
-use Rattle.std.proofs.lemmas.List.{append-nil}
+use Rattle.std.proofs.lemmas.Int.{ints}
 use Rattle.std.proofs.lemmas.List.Elements.{All-head, All-tail}
 use Rattle.std.proofs.lemmas.Map.Keys.{sorted_tail}
 use Rattle.std.specs.BTreeSet.{insert_key}
@@ -18,7 +15,7 @@ use Rattle.std.specs.declared.cmp.Ordering.TheVariants.{Less, Equal, Greater}
 use Rattle.cal_rising.specs.Merge.{HasHead, Branch, lesser, numbers, passed}
 use Rattle.cal_rising.specs.RisingList.{HasAny, with_numbers, union}
 use Rattle.cal_rising.specs.headline.Elements.{Has}
-use Rattle.cal_text.proofs.General.{chained, lt_test, not_lt_test, lt_from_less, rises-drop, squeezed}
+use Rattle.cal_text.proofs.General.{lt_from_less, rises-drop}
 use Rattle.cal_rising.proofs.RisingLemmas.{above_first, later_members, same_rising, Has-union, rises-union}
 
 -- the lesser of none and another is the other
@@ -26,35 +23,17 @@ lesser-none : (a : Option ℤ) → lesser a None ≡ a
 lesser-none None = refl
 lesser-none (Some x) = refl
 
-lesser-below : (x y : ℤ) → x ≤ℤ y → lesser (Some x) (Some y) ≡ Some x
-lesser-below x y h = rw (not_lt_test y x h)
-
-lesser-above : (x y : ℤ) → y <ℤ x → lesser (Some x) (Some y) ≡ Some y
-lesser-above x y h = rw (lt_test y x h)
-
-lesser-three : (x y z : ℤ) → lesser (Some x) (lesser (Some y) (Some z)) ≡ lesser (lesser (Some x) (Some y)) (Some z)
-lesser-three x y z =
-    by_lt_z y x
-    (λ a. by_lt_z z y
-    (λ b. rw (lesser-above y z b, lesser-above x y a, lesser-above y z b) (lesser-above x z (omega (arith, ints))))
-    (λ b. rw (lesser-below y z b, lesser-above x y a) (sym (lesser-below y z b))))
-    (λ a. by_lt_z z y
-    (λ b. rw (lesser-above y z b, lesser-below x y a))
-    (λ b. rw (lesser-below y z b, lesser-below x y a) (sym (lesser-below x z (omega (arith, ints))))))
-
 lesser-assoc : (a b c : Option ℤ) → lesser a (lesser b c) ≡ lesser (lesser a b) c
 lesser-assoc None b c = refl
 lesser-assoc (Some x) None c = refl
 lesser-assoc (Some x) (Some y) None = sym (lesser-none (lesser (Some x) (Some y)))
-lesser-assoc (Some x) (Some y) (Some z) = lesser-three x y z
+lesser-assoc (Some x) (Some y) (Some z) = grind (arith, ints)
 
 -- the first number of a list with one more
 first_inserted : (o : Ordering) (x y : ℤ) (ys more : List ℤ) → int_cmp x y ≡ o → slice_get (match_ordering o (x ∷ y ∷ ys) (y ∷ ys) (y ∷ more)) 0 ≡ lesser (Some x) (Some y)
-first_inserted Less x y ys more e = sym (lesser-below x y (omega (arith, ints, lt_from_less x y e)))
-first_inserted Equal x y ys more e =
-    let same = int_cmp-IsAntisymmetric x y e in
-    ap Some (sym same) ∙ sym (lesser-below x y (omega (arith, ints, same)))
-first_inserted Greater x y ys more e = sym (lesser-above x y (int_ranked x y Greater (sym e)))
+first_inserted Less x y ys more e = grind (arith, ints, lt_from_less x y e)
+first_inserted Equal x y ys more e = grind (arith, ints, int_cmp-IsAntisymmetric x y e)
+first_inserted Greater x y ys more e = grind (arith, ints, int_ranked x y Greater (sym e))
 
 first-insert_key : (x : ℤ) (ys : List ℤ) → slice_get (insert_key int_cmp ys x) 0 ≡ lesser (Some x) (slice_get ys 0)
 first-insert_key x [] = refl
@@ -63,24 +42,19 @@ first-insert_key x (y ∷ ys) = first_inserted (int_cmp x y) x y ys (insert_key 
 -- the first number of a rising list is the least
 lesser-first : (x : ℤ) (xs : List ℤ) → IsStrictlySortedBy int_cmp (x ∷ xs) → lesser (Some x) (slice_get xs 0) ≡ Some x
 lesser-first x [] h = refl
-lesser-first x (y ∷ ys) h = lesser-below x y (omega (arith, ints, above_first x y (y ∷ ys) h (inl refl)))
+lesser-first x (y ∷ ys) h = grind (arith, ints, above_first x y (y ∷ ys) h (inl refl))
 
 first-with_numbers : (xs ys : List ℤ) → IsStrictlySortedBy int_cmp xs → slice_get (with_numbers xs ys) 0 ≡ lesser (slice_get xs 0) (slice_get ys 0)
 first-with_numbers [] ys h = refl
 first-with_numbers (x ∷ xs) ys h =
-    first-insert_key x (with_numbers xs ys)
-    ∙ ap (lesser (Some x)) (first-with_numbers xs ys (sorted_tail int_cmp x xs h))
-    ∙ lesser-assoc (Some x) (slice_get xs 0) (slice_get ys 0)
-    ∙ ap (λ a. lesser a (slice_get ys 0)) (lesser-first x xs h)
+    grind (arith, ints, first-insert_key, sorted_tail, lesser-assoc, lesser-first, first-with_numbers xs ys (sorted_tail int_cmp x xs h))
 
 -- the first number of a union with one list more is the lesser of two
 first-union_more : (ss : List Branch) (i : ℕ) (d : Branch) → i < length ss → All HasHead ss
     → slice_get (union (map numbers (take (suc i) ss))) 0 ≡ lesser (slice_get (union (map numbers (take i ss))) 0) (get_or ss i d).head
 unfolding union
 first-union_more [] i d lt h = absurd (omega arith)
-first-union_more (s ∷ ss) zero d lt h =
-    let here = All-head HasHead s ss h in
-    first-with_numbers (numbers s) [] here.1 ∙ lesser-none (slice_get (numbers s) 0) ∙ sym here.0
+first-union_more (s ∷ ss) zero d lt h = grind (arith, ints, All-head, first-with_numbers, lesser-none)
 first-union_more (s ∷ ss) (suc i) d lt h =
     let here = All-head HasHead s ss h in
     first-with_numbers (numbers s) (union (map numbers (take (suc i) ss))) here.1
@@ -92,51 +66,27 @@ first-union_more (s ∷ ss) (suc i) d lt h =
 pub least_more : (ss ts : List Branch) (i : ℕ) (s : Branch) (least head next : Option ℤ) → ss ≡ ts → All HasHead ts → i < length ss
     → least ≡ slice_get (union (map numbers (take i ss))) 0 → s ≡ get_or ss i s → head ≡ s.head → next ≡ lesser least head
     → next ≡ slice_get (union (map numbers (take (i + 1) ss))) 0
-least_more ss ts i s least head next same heads lt so_far there its now =
-    let all : All HasHead ss = subst (λ (l : List Branch). All HasHead l) (sym same) heads in
-    let before = slice_get (union (map numbers (take i ss))) 0 in
-    rw (add-one i) (
-    now
-    ∙ ap (λ (a : Option ℤ). lesser a head) so_far
-    ∙ ap (λ (b : Option ℤ). lesser before b) (its ∙ ap (λ (t : Branch). t.head) there)
-    ∙ sym (first-union_more ss i s lt all)
-    )
+least_more ss ts i s least head next same heads lt so_far there its now = grind (arith, ints, add-one, first-union_more)
 
 -- what is left of a rising list once its least number, or a lesser one, was given
 Has-passed : (m : ℤ) (xs : List ℤ) → IsStrictlySortedBy int_cmp xs → ((i : ℤ) → Has xs i → m ≤ℤ i) → (i : ℤ) → Has (passed m xs) i ↔ ((m <ℤ i) × Has xs i)
 Has-passed m [] h low i = (λ n. absurd n, λ p. p.1)
-Has-passed m (y ∷ ys) h low i =
-    by_lt_z m y
-    (λ lt. rw (lt_test m y lt) (
-      λ n. (elim n [ inl e ↦ subst (λ (j : ℤ). m <ℤ j) e lt | inr k ↦ chained m y i lt (above_first y i ys h k) ], n),
-      λ p. p.1,
-    ))
-    (λ ge. rw (not_lt_test m y ge) (
-    let same = squeezed y m ge (low y (inl refl)) in
-    subst (λ (z : ℤ). Has ys i ↔ ((z <ℤ i) × Has (y ∷ ys) i)) same (later_members y ys h i)
-    ))
+Has-passed m (y ∷ ys) h low i = grind (arith, ints, above_first y i ys h, low y (inl refl))
 
 HasAny-passed : (m : ℤ) (ss : List Branch) → All HasHead ss → ((i : ℤ) → HasAny (map numbers ss) i → m ≤ℤ i)
     → (i : ℤ) → HasAny (map (passed m) (map numbers ss)) i ↔ ((m <ℤ i) × HasAny (map numbers ss) i)
 HasAny-passed m [] h low i = (λ n. absurd n, λ p. p.1)
 HasAny-passed m (s ∷ ss) h low i =
-    let here = Has-passed m (numbers s) (All-head HasHead s ss h).1 (λ j n. low j (inl n)) i in
-    let rest = HasAny-passed m ss (All-tail HasHead s ss h) (λ j n. low j (inr n)) i in (
-      λ n. elim n [ inl k ↦ ((here.0 k).0, inl (here.0 k).1) | inr k ↦ ((rest.0 k).0, inr (rest.0 k).1) ],
-      λ p. elim p.1 [ inl k ↦ inl (here.1 (p.0, k)) | inr k ↦ inr (rest.1 (p.0, k)) ],
-    )
+    grind (arith, ints, Has-passed, All-head, All-tail, HasAny-passed m ss (All-tail HasHead s ss h) (λ j n. low j (inr n)) i)
 
 -- no member of a rising list is below its first
 first_is_least : (m : ℤ) (xs : List ℤ) → IsStrictlySortedBy int_cmp xs → slice_get xs 0 ≡ Some m → (i : ℤ) → Has xs i → m ≤ℤ i
 first_is_least m [] h e i n = absurd n
-first_is_least m (x ∷ xs) h e i (inl f) = let same : x ≡ m = cc in omega (arith, ints)
-first_is_least m (x ∷ xs) h e i (inr n) = let same : x ≡ m = cc in omega (arith, ints, above_first x i xs h n)
+first_is_least m (x ∷ xs) h e i n = grind (arith, ints, above_first x i xs h)
 
 later_by_first : (m : ℤ) (xs : List ℤ) → IsStrictlySortedBy int_cmp xs → slice_get xs 0 ≡ Some m → (i : ℤ) → Has (drop 1 xs) i ↔ ((m <ℤ i) × Has xs i)
 later_by_first m [] h e i = absurd (cc)
-later_by_first m (x ∷ xs) h e i =
-    let same : x ≡ m = cc in
-    subst (λ (z : ℤ). Has xs i ↔ ((z <ℤ i) × Has (x ∷ xs) i)) same (later_members x xs h i)
+later_by_first m (x ∷ xs) h e i = grind (arith, later_members x xs h i)
 
 -- once the least number is given, what is left is the union of what is left of each
 pub union-passed : (m : ℤ) (ss : List Branch) → All HasHead ss
@@ -146,12 +96,7 @@ union-passed m ss h e =
     let rises = rises-union lists in
     let low = λ (i : ℤ) (n : HasAny lists i). first_is_least m (union lists) rises e i ((Has-union lists i).1 n) in
     same_rising (union (map (passed m) lists)) (drop 1 (union lists)) (rises-union (map (passed m) lists)) (rises-drop (union lists) 1 rises)
-    (λ i.
-    let left = HasAny-passed m ss h low i in
-    let after = later_by_first m (union lists) rises e i in (
-      λ n. let p = left.0 ((Has-union (map (passed m) lists) i).0 n) in after.1 (p.0, (Has-union lists i).1 p.1),
-      λ n. let p = after.0 n in (Has-union (map (passed m) lists) i).1 (left.1 (p.0, (Has-union lists i).0 p.1)),
-    ))
+    (λ i. grind (arith, HasAny-passed m ss h low i, later_by_first m (union lists) rises e i, Has-union (map (passed m) lists) i, Has-union lists i))
 
 -- one source more has become what a function makes of it
 changed_next : (f : List ℤ → List ℤ) (xs ys : List Branch) (i : ℕ) (y d : Branch) → i < length xs → i < length ys
@@ -170,8 +115,7 @@ pub changed_more : (f : List ℤ → List ℤ) (xs ys : List Branch) (i : ℕ) (
     → map numbers (take i xs) ≡ map f (map numbers (take i ys)) → get_or xs i d ≡ get_or ys i d
     → numbers y ≡ f (numbers (get_or xs i d))
     → map numbers (take (i + 1) (set xs i y)) ≡ map f (map numbers (take (i + 1) ys))
-changed_more f xs ys i y d lt lu so_far same now =
-    rw (add-one i) (changed_next f xs ys i y d lt lu so_far (now ∙ ap (λ (s : Branch). f (numbers s)) same))
+changed_more f xs ys i y d lt lu so_far same now = grind (arith, ints, add-one, changed_next)
 
 -- one source more has a head
 pub has_head_more : (ss : List Branch) (i : ℕ) (s : Branch) → i < length ss → HasHead s → ((k : ℕ) (d : Branch) → k < i → HasHead (get_or ss k d))
@@ -181,4 +125,4 @@ has_head_more (x ∷ ss) zero s lt h below zero d le = h
 has_head_more (x ∷ ss) zero s lt h below (suc k) d le = absurd (omega arith)
 has_head_more (x ∷ ss) (suc i) s lt h below zero d le = below zero d (omega arith)
 has_head_more (x ∷ ss) (suc i) s lt h below (suc k) d le =
-    has_head_more ss i s (omega arith) h (λ (j : ℕ) (e : Branch) (l : j < i). below (suc j) e (omega arith)) k d (omega arith)
+    grind (arith, ints, has_head_more ss i s (omega arith) h (λ (j : ℕ) (e : Branch) (l : j < i). below (suc j) e (omega arith)) k d (omega arith))

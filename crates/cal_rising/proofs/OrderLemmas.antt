@@ -40,20 +40,8 @@ module _ {A : Type 0} (cmp : A → A → Ordering) (exact : IsAntisymmetric cmp)
   has_inserted : (o : Ordering) (x y z : A) (ys more : List A) → cmp x y ≡ o → (Has more z ↔ ((x ≡ z) ⊎ Has ys z))
       → Has (match_ordering o (x ∷ y ∷ ys) (y ∷ ys) (y ∷ more)) z ↔ ((x ≡ z) ⊎ Has (y ∷ ys) z)
   has_inserted Less x y z ys more e rest = (λ h. h, λ h. h)
-  has_inserted Equal x y z ys more e rest = (
-    λ h. inr h,
-    λ h. elim h [ inl same ↦ inl (subst (λ w. w ≡ z) (exact x y e) same) | inr k ↦ k ],
-  )
-  has_inserted Greater x y z ys more e rest = (
-    λ h. elim h [
-      | inl same ↦ inr (inl same)
-      | inr k ↦ elim (rest.0 k) [ inl same ↦ inl same | inr m ↦ inr (inr m) ]
-    ],
-    λ h. elim h [
-      | inl same ↦ inr (rest.1 (inl same))
-      | inr k ↦ elim k [ inl same ↦ inl same | inr m ↦ inr (rest.1 (inr m)) ]
-    ],
-  )
+  has_inserted Equal x y z ys more e rest = grind (arith, exact x y e)
+  has_inserted Greater x y z ys more e rest = grind arith
 
   -- the elements once x is placed
   pub has-insert_key : (x : A) (ys : List A) (z : A) → Has (insert_key cmp ys x) z ↔ ((x ≡ z) ⊎ Has ys z)
@@ -61,30 +49,16 @@ module _ {A : Type 0} (cmp : A → A → Ordering) (exact : IsAntisymmetric cmp)
   has-insert_key x (y ∷ ys) z = has_inserted (cmp x y) x y z ys (insert_key cmp ys x) refl (has-insert_key x ys z)
 
 module _ {A : Type 0} (cmp : A → A → Ordering) (total : IsTotalOrder cmp) where
-  not_below_itself : (x : A) → cmp x x ≡ Less → ⊥
-  not_below_itself x h = let tied = tied_itself total x in cc
-
-  not_both_below : (x y : A) → cmp x y ≡ Less → cmp y x ≡ Less → ⊥
-  not_both_below x y h k = not_below_itself x (total.trans x y x h k)
-
   same_first : (x y : A) (xs ys : List A) → IsStrictlySortedBy cmp (x ∷ xs) → IsStrictlySortedBy cmp (y ∷ ys)
       → Has (y ∷ ys) x → Has (x ∷ xs) y → x ≡ y
   unfolding IsStrictlySortedBy
-  same_first x y xs ys sx sy hx hy = elim hx [
-    | inl same ↦ sym same
-    | inr k ↦ elim hy [
-      | inl same ↦ same
-      | inr m ↦ absurd (not_both_below x y (all_at (λ z. cmp x z ≡ Less) xs y sx.0 m) (all_at (λ z. cmp y z ≡ Less) ys x sy.0 k))
-    ]
-  ]
+  same_first x y xs ys sx sy hx hy =
+      grind (arith, all_at (λ z. cmp x z ≡ Less) xs y sx.0, all_at (λ z. cmp y z ≡ Less) ys x sy.0, total.trans x y x, tied_itself total x)
 
   -- an element of the one tail is one of the other
   has_tail : (x z : A) (xs ys : List A) → IsStrictlySortedBy cmp (x ∷ xs) → Has xs z → Has (x ∷ ys) z → Has ys z
   unfolding IsStrictlySortedBy
-  has_tail x z xs ys sorted h k = elim k [
-    | inl same ↦ absurd (not_below_itself x (subst (λ w. cmp x w ≡ Less) (sym same) (all_at (λ w. cmp x w ≡ Less) xs z sorted.0 h)))
-    | inr m ↦ m
-  ]
+  has_tail x z xs ys sorted h k = grind (arith, all_at (λ w. cmp x w ≡ Less) xs z sorted.0 h, tied_itself total x)
 
   -- two such lists with the same elements are equal
   pub same_sorted : (xs ys : List A) → IsStrictlySortedBy cmp xs → IsStrictlySortedBy cmp ys → ((z : A) → Has xs z ↔ Has ys z) → xs ≡ ys

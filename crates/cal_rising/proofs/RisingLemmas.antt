@@ -1,10 +1,9 @@
 -- Rising lists: what is after the first is above it, and a union has the members of its lists.
-use Rattle.std.proofs.Common.{◌≡◌, ◌⊎◌, ◌↔◌, ◌+◌, ℕ, zero, suc, add-one, true, false, List, [], ◌∷◌, inl, inr, None, Some, ℤ, ◌<ℤ◌, ◌≤ℤ◌, int_lt, refl, sym, ap, subst, arith, drop, slice_get}
-use Rattle.std.proofs.lemmas.Cmp.{int_cmp_total, int_ranked}
+use Rattle.std.proofs.Common.{◌≡◌, ◌⊎◌, ◌↔◌, List, [], ◌∷◌, inl, inr, ℤ, ◌<ℤ◌, arith}
+use Rattle.std.proofs.lemmas.Cmp.{int_cmp_total}
 use Rattle.std.proofs.lemmas.Int.{ints}
-use Rattle.std.proofs.lemmas.Map.Keys.{sorted_head, sorted_tail}
+use Rattle.std.proofs.lemmas.Map.Keys.{sorted_head}
 use Rattle.std.specs.BTreeSet.{insert_key}
-use Rattle.std.specs.Cmp.{int_cmp_is}
 use Rattle.std.specs.FinMap.{int_cmp-IsAntisymmetric}
 use Rattle.std.specs.List.Sorted.{IsStrictlySortedBy}
 use Rattle.std.specs.Ordering.{int_cmp}
@@ -20,15 +19,9 @@ use Rattle.cal_text.proofs.General.{lt_from_less}
 pub above_first : (x i : ℤ) (xs : List ℤ) → IsStrictlySortedBy int_cmp (x ∷ xs) → Has xs i → x <ℤ i
 above_first x i xs h m = lt_from_less x i (all_at (λ y. int_cmp x y ≡ Less) xs i (sorted_head int_cmp x xs h) m)
 
-not_below_itself : (x : ℤ) → x <ℤ x → ⊥
-not_below_itself x h = omega (arith, ints)
-
 -- the later members of a rising list are those above its first
 pub later_members : (x : ℤ) (xs : List ℤ) → IsStrictlySortedBy int_cmp (x ∷ xs) → (i : ℤ) → Has xs i ↔ ((x <ℤ i) × Has (x ∷ xs) i)
-later_members x xs h i = (
-  λ m. (above_first x i xs h m, inr m),
-  λ p. elim p.1 [ inl e ↦ absurd (not_below_itself x (subst (λ (j : ℤ). x <ℤ j) (sym e) p.0)) | inr m ↦ m ],
-)
+later_members x xs h i = grind (arith, ints, above_first x i xs h)
 
 -- two rising lists with the same members are equal
 pub same_rising : (xs ys : List ℤ) → IsStrictlySortedBy int_cmp xs → IsStrictlySortedBy int_cmp ys → ((i : ℤ) → Has xs i ↔ Has ys i) → xs ≡ ys
@@ -44,28 +37,17 @@ rises-insert_key = sorted-insert_key int_cmp int_cmp_total
 -- placing several adds them all
 pub Has-with_numbers : (xs ys : List ℤ) (i : ℤ) → Has (with_numbers xs ys) i ↔ (Has xs i ⊎ Has ys i)
 Has-with_numbers [] ys i = (λ m. inr m, λ m. elim m [ inl n ↦ absurd n | inr n ↦ n ])
-Has-with_numbers (x ∷ xs) ys i =
-    let one = Has-insert_key x (with_numbers xs ys) i in
-    let rest = Has-with_numbers xs ys i in (
-      λ m. elim (one.0 m) [ inl e ↦ inl (inl e) | inr n ↦ elim (rest.0 n) [ inl k ↦ inl (inr k) | inr k ↦ inr k ] ],
-      λ m. elim m [ inl n ↦ elim n [ inl e ↦ one.1 (inl e) | inr k ↦ one.1 (inr (rest.1 (inl k))) ] | inr k ↦ one.1 (inr (rest.1 (inr k))) ],
-    )
+Has-with_numbers (x ∷ xs) ys i = grind (arith, ints, Has-insert_key, Has-with_numbers xs ys i)
 
 -- the union has the members of the lists
 pub Has-union : (xss : List (List ℤ)) (i : ℤ) → Has (union xss) i ↔ HasAny xss i
 unfolding union
 Has-union [] i = (λ m. m, λ m. m)
-Has-union (xs ∷ xss) i =
-    let here = Has-with_numbers xs (union xss) i in
-    let rest = Has-union xss i in (
-      λ m. elim (here.0 m) [ inl n ↦ inl n | inr n ↦ inr (rest.0 n) ],
-      λ m. elim m [ inl n ↦ here.1 (inl n) | inr n ↦ here.1 (inr (rest.1 n)) ],
-    )
+Has-union (xs ∷ xss) i = grind (arith, ints, Has-with_numbers, Has-union xss i)
 
 pub IsUnion-union : (xss : List (List ℤ)) → IsUnion xss (union xss)
 IsUnion-union xss = record { rises = rises-union xss; members = Has-union xss }
 
 pub IsUnion-only : (xss : List (List ℤ)) (xs : List ℤ) → IsUnion xss xs → xs ≡ union xss
 IsUnion-only xss xs h =
-    same_rising xs (union xss) h.rises (rises-union xss)
-    (λ i. (λ m. (Has-union xss i).1 ((h.members i).0 m), λ m. (h.members i).1 ((Has-union xss i).0 m)))
+    same_rising xs (union xss) h.rises (rises-union xss) (λ i. grind (arith, Has-union xss i, h.members i))

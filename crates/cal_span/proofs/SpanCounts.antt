@@ -1,5 +1,5 @@
 -- Lemmas on counts of units: those that division finds are the counts of a span, and there are no others.
-use Rattle.std.proofs.Common.{◌≡◌, ℕ, ◌+◌, ◌*◌, ◌/◌, ◌%◌, ◌<◌, ◌≤◌, List, [], ◌∷◌, ◌++◌, codes, length, drop, get_or, Bool, true, false, cond, nat_lt, refl, sym, ap, ◌∙◌, subst, lit<, arith}
+use Rattle.std.proofs.Common.{◌≡◌, ℕ, ◌+◌, ◌*◌, ◌/◌, ◌%◌, ◌<◌, ◌≤◌, List, [], ◌∷◌, ◌++◌, codes, length, drop, get_or, Bool, true, false, cond, nat_lt, refl, ap, ◌∙◌, lit<, arith}
 use Rattle.std.proofs.Math.Nat.{div-eq_of_lt, mod-eq_of_lt}
 use Rattle.std.proofs.lemmas.Bool.{lt-ltb, le-ltb, ltb-false}
 use Rattle.std.proofs.lemmas.List.{append_assoc, at_drop_more}
@@ -12,6 +12,7 @@ use Rattle.cal_bytes.specs.headline.Bytes.{joined}
 use Rattle.cal_span.specs.headline.Scale.{size_of, scales, unit_name}
 use Rattle.cal_span.specs.SpanText.{weight, AreReduced, AreCounts, IsSpanText}
 use Rattle.cal_span.specs.headline.SpanText.{Count, count_text, counts_in_row, counts_text, positive, counts_of, units_text, span_text}
+use Rattle.std.proofs.lemmas.Bool.Decides.{nat_tests}
 
 -- no unit is empty
 pub size_of_positive : (unit : Scale) → 0 < size_of unit
@@ -40,7 +41,7 @@ weight-counts_of-remainder (unit ∷ units) n =
 reduced-counts_of : (units : List Scale) (n : ℕ) → AreReduced units (counts_of units n)
 reduced-counts_of [] n = tt
 reduced-counts_of (unit ∷ units) n =
-    (refl, omega (arith, weight-counts_of-remainder units (n % size_of unit), mod_below n (size_of unit) (size_of_positive unit)), reduced-counts_of units (n % size_of unit))
+    grind (arith, nat_tests, weight-counts_of-remainder, mod_below, size_of_positive, reduced-counts_of units (n % size_of unit))
 
 -- the microsecond leaves nothing
 remainder-scales : (n : ℕ) → remainder scales n ≡ 0
@@ -48,21 +49,14 @@ remainder-scales n = omega arith
 
 -- division finds the counts of a span
 pub are_counts_of : (n : ℕ) → AreCounts n (counts_of scales n)
-are_counts_of n = record {
-  sum = omega (arith, weight-counts_of-remainder scales n, remainder-scales n);
-  reduced = reduced-counts_of scales n;
-}
+are_counts_of n = grind (arith, nat_tests, weight-counts_of-remainder, remainder-scales, reduced-counts_of)
 
 -- reduced counts are those that division finds
 pub counts_of-weight : (units : List Scale) (cs : List Count) → AreReduced units cs → cs ≡ counts_of units (weight cs)
 counts_of-weight [] [] h = refl
 counts_of-weight [] (c ∷ cs) h = absurd h
 counts_of-weight (unit ∷ units) [] h = absurd h
-counts_of-weight (unit ∷ units) (c ∷ cs) h =
-    subst (λ (u : Scale). (c ∷ cs) ≡ counts_of (u ∷ units) (weight (c ∷ cs))) h.0
-    (let below : weight cs < size_of c.unit = subst (λ (u : Scale). weight cs < size_of u) (sym h.0) h.1 in
-    rw (div-mul-add c.number (size_of c.unit) (weight cs) below, mod-mul-add c.number (size_of c.unit) (weight cs) below)
-    (ap (λ (rest : List Count). c ∷ rest) (counts_of-weight units cs h.2)))
+counts_of-weight (unit ∷ units) (c ∷ cs) h = grind (arith, nat_tests, div-mul-add, mod-mul-add, counts_of-weight units cs h.2)
 
 -- the function gives a span text, and there is no other
 pub is_span_text : (n : ℕ) → IsSpanText n (span_text n)
@@ -76,14 +70,10 @@ span_text_only n text h =
 
 -- a unit that fits has a count, and one that doesn't fit has none
 positive_taken : (unit : Scale) (units : List Scale) (n : ℕ) → size_of unit ≤ n → positive (counts_of (unit ∷ units) n) ≡ record { number = n / size_of unit; unit = unit } ∷ positive (counts_of units (n % size_of unit))
-positive_taken unit units n fits =
-    ap (λ (b : Bool). cond b (record { number = n / size_of unit; unit = unit } ∷ positive (counts_of units (n % size_of unit))) (positive (counts_of units (n % size_of unit))))
-    (lt-ltb 0 (n / size_of unit) (omega (arith, le-div 1 n (size_of unit) (size_of_positive unit) (omega arith))))
+positive_taken unit units n fits = grind (arith, nat_tests, lt-ltb, le-div, size_of_positive)
 
 positive_skipped : (unit : Scale) (units : List Scale) (n : ℕ) → n < size_of unit → positive (counts_of (unit ∷ units) n) ≡ positive (counts_of units (n % size_of unit))
-positive_skipped unit units n below =
-    ap (λ (b : Bool). cond b (record { number = n / size_of unit; unit = unit } ∷ positive (counts_of units (n % size_of unit))) (positive (counts_of units (n % size_of unit))))
-    (le-ltb 0 (n / size_of unit) (omega (arith, div-eq_of_lt below)))
+positive_skipped unit units n below = grind (arith, nat_tests, le-ltb, div-eq_of_lt)
 
 -- counts in a row with this in front of the first and a space in front of each other one
 abbrev pub led : List ℕ → List Count → List ℕ
@@ -95,8 +85,7 @@ led_space [] = refl
 led_space (c ∷ cs) = refl
 
 led_first : (lead : List ℕ) (c : Count) (cs : List Count) → led lead (c ∷ cs) ≡ joined (lead ∷ decimal c.number ∷ unit_name c.unit ∷ []) ++ led (codes " ") cs
-led_first lead c cs =
-    ap (λ (text : List ℕ). lead ++ (count_text c ++ text)) (led_space cs) ∙ sym (append_assoc lead (count_text c) (led (codes " ") cs))
+led_first lead c cs = grind (arith, nat_tests, led_space, append_assoc)
 
 -- at first all counts are left, with nothing in front
 pub counts_in_row-led : (cs : List Count) → counts_in_row cs ≡ led [] cs
@@ -122,9 +111,7 @@ led_skipped lead units i d size n within e below =
 -- one count more, kept where it isn't zero
 weight-kept : (c : Count) (kept : List Count) (n : ℕ) → weight kept ≡ n → (b : Bool) → nat_lt 0 c.number ≡ b → weight (cond b (c ∷ kept) kept) ≡ c.number * size_of c.unit + n
 weight-kept c kept n e true t = ap (λ (m : ℕ). c.number * size_of c.unit + m) e
-weight-kept c kept n e false t =
-    let none : c.number ≡ 0 = omega (arith, ltb-false 0 c.number t) in
-    rw none (omega (arith, e))
+weight-kept c kept n e false t = grind (arith, nat_tests, ltb-false)
 
 -- the counts that aren't zero are worth as much as all
 pub weight-positive : (cs : List Count) → weight (positive cs) ≡ weight cs
@@ -135,9 +122,7 @@ weight-positive (c ∷ cs) = weight-kept c (positive cs) (weight cs) (weight-pos
 positive-counts_of_zero : (units : List Scale) → positive (counts_of units 0) ≡ []
 positive-counts_of_zero [] = refl
 positive-counts_of_zero (unit ∷ units) =
-    positive_skipped unit units 0 (size_of_positive unit)
-    ∙ ap (λ (m : ℕ). positive (counts_of units m)) (mod-eq_of_lt (size_of_positive unit))
-    ∙ positive-counts_of_zero units
+    grind (arith, nat_tests, positive_skipped, size_of_positive, mod-eq_of_lt, positive-counts_of_zero units)
 
 pub span_text_zero : span_text 0 ≡ codes "0"
 unfolding units_text
@@ -149,5 +134,4 @@ counts_text-row (c ∷ cs) some = refl
 
 pub span_text_row : (n : ℕ) → 0 < n → counts_in_row (positive (counts_of scales n)) ≡ span_text n
 unfolding units_text
-span_text_row n some =
-    sym (counts_text-row (positive (counts_of scales n)) (omega (arith, weight-positive (counts_of scales n), (are_counts_of n).sum)))
+span_text_row n some = grind (arith, nat_tests, counts_text-row, weight-positive, are_counts_of)

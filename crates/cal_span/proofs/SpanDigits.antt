@@ -1,5 +1,5 @@
 -- Lemmas on the digits that `decimal` writes, as span texts are read: they are numbers with no point.
-use Rattle.std.proofs.Common.{◌≡◌, ℕ, ◌+◌, ◌*◌, ◌^◌, ◌<◌, List, [], ◌∷◌, length, true, false, cond, ◌||◌, refl, ◌∙◌, arith}
+use Rattle.std.proofs.Common.{◌≡◌, ℕ, ◌*◌, ◌^◌, ◌<◌, List, [], ◌∷◌, length, true, false, ◌||◌, refl, arith}
 use Rattle.std.proofs.lemmas.Bool.Decides.{nat_tests}
 use Rattle.std.proofs.lemmas.Fmt.{decimal_is_IsNumeral}
 use Rattle.std.proofs.lemmas.List.{take_all, drop_all}
@@ -49,8 +49,7 @@ position_or_len-digits (c ∷ cs) h = rw h.0.point (omega (arith, position_or_le
 
 count_by-digits : (ds : List ℕ) → AreDigits ds → count_by is_point ds ≡ 0
 count_by-digits [] h = refl
-count_by-digits (c ∷ cs) h =
-    sum_by-cons (λ x. cond (is_point x) 1 0) c cs ∙ rw h.0.point (omega (arith, count_by-digits cs h.1))
+count_by-digits (c ∷ cs) h = grind (arith, nat_tests, sum_by-cons, count_by-digits cs h.1)
 
 list_all-digits : (ds : List ℕ) → AreDigits ds → list_all (λ b. is_ascii_digit b || is_point b) ds ≡ true
 list_all-digits [] h = refl
@@ -63,12 +62,9 @@ list_any-digits (c ∷ cs) some h = rw h.0.digit refl
 pub is_number-decimal : (n : ℕ) → n < 2 ^ 64 → is_number (decimal n) ≡ true
 unfolding is_number
 is_number-decimal n small =
-    let digits = are_digits-decimal n small in
-    let some = (decimal_is_IsNumeral n small).0.0 in
-    rw (list_all-digits (decimal n) digits, count_by-digits (decimal n) digits, list_any-digits (decimal n) some digits) refl
+    grind (arith, nat_tests, are_digits-decimal, decimal_is_IsNumeral, list_all-digits, count_by-digits, list_any-digits)
 
 pub number_worth-decimal : (n size : ℕ) → n < 2 ^ 64 → number_worth (decimal n) size ≡ n * size
 unfolding number_worth
 number_worth-decimal n size small =
-    let digits = are_digits-decimal n small in
-    rw (position_or_len-digits (decimal n) digits, take_all (length (decimal n)) (decimal n) (omega arith), drop_all (length (decimal n) + 1) (decimal n) (omega arith), (decimal_is_IsNumeral n small).1) (omega arith)
+    grind (arith, nat_tests, are_digits-decimal, position_or_len-digits, take_all, drop_all, decimal_is_IsNumeral)

@@ -1,5 +1,5 @@
 -- Numbers, by the digits before and after the point.
-use Rattle.std.proofs.Common.{ℕ, suc, ◌+◌, ◌-◌, ◌*◌, ◌^◌, ◌/◌, ◌<◌, ◌≤◌, ◌≡◌, Bool, true, false, cond, not, ◌&&◌, ◌||◌, leb, List, [], ◌∷◌, length, take, drop, get_or, min, refl, sym, ap, ◌∙◌, arith, zero-add, add-one, ⊎_elim}
+use Rattle.std.proofs.Common.{ℕ, suc, ◌+◌, ◌-◌, ◌*◌, ◌^◌, ◌/◌, ◌<◌, ◌≤◌, ◌≡◌, Bool, true, false, cond, not, ◌&&◌, ◌||◌, leb, List, [], ◌∷◌, length, take, drop, get_or, min, refl, sym, ◌∙◌, arith, zero-add, add-one, ⊎_elim}
 use Rattle.std.specs.Prelude.{count_by, nat_le, nat_lt}
 use Rattle.std.specs.List.{list_all, list_any, position_or_len, before_first, after_first}
 use Rattle.std.specs.Char.{is_ascii_digit, digit_value}
@@ -52,11 +52,9 @@ at_most_one n = grind (arith, nat_tests)
 
 -- digits with at most one point are the digits before it and those after it
 one_point_step : (x : ℕ) (xs before after : List ℕ) (digit point rest : Bool) (n : ℕ) → is_ascii_digit x ≡ digit → (point ≡ true → digit ≡ false) → (rest && nat_le n 0) ≡ list_all is_ascii_digit xs → (rest && nat_le n 1) ≡ (list_all is_ascii_digit before && list_all is_ascii_digit after) → (((digit || point) && rest) && nat_le (cond point 1 0 + n) 1) ≡ (list_all is_ascii_digit (cond point [] (x ∷ before)) && list_all is_ascii_digit (cond point xs after))
-one_point_step x xs before after true true rest n is apart none one =
-    absurd (false≢true (sym (apart refl)))
+one_point_step x xs before after true true rest n is apart none one = grind (arith, nat_tests, false≢true)
 one_point_step x xs before after true false rest n is apart none one = rw (is, zero-add) one
-one_point_step x xs before after false true rest n is apart none one =
-    rw at_most_one none
+one_point_step x xs before after false true rest n is apart none one = grind (arith, nat_tests, at_most_one)
 one_point_step x xs before after false false rest n is apart none one = rw is refl
 
 one_point : (xs : List ℕ) → (list_all is_digit_or_point xs && nat_le (count_by is_point xs) 1) ≡ (list_all is_ascii_digit (before_first is_point xs) && list_all is_ascii_digit (after_first is_point xs))
@@ -67,31 +65,23 @@ one_point (x ∷ xs) =
 -- digits before the point or after it are some digits
 some_digit_step : (x : ℕ) (xs before after : List ℕ) (point : Bool) → (point ≡ true → is_ascii_digit x ≡ false) → list_all is_ascii_digit (cond point [] (x ∷ before)) ≡ true → list_all is_ascii_digit (cond point xs after) ≡ true → list_any is_ascii_digit (x ∷ xs) ≡ nat_lt 0 (length (cond point [] (x ∷ before)) + length (cond point xs after))
 some_digit_step x [] before after true apart all_before all_after = rw (apart refl) refl
-some_digit_step x (y ∷ xs) before after true apart all_before all_after =
-    let first = (and_parts (is_ascii_digit y) (list_all is_ascii_digit xs) all_after).0 in
-    rw (apart refl, first) (sym (lt-ltb 0 (0 + suc (length xs)) (omega arith)))
-some_digit_step x xs before after false apart all_before all_after =
-    let first = (and_parts (is_ascii_digit x) (list_all is_ascii_digit before) all_before).0 in
-    rw first (sym (lt-ltb 0 (suc (length before) + length after) (omega arith)))
+some_digit_step x (y ∷ xs) before after true apart all_before all_after = grind (arith, nat_tests, and_parts, lt-ltb)
+some_digit_step x xs before after false apart all_before all_after = grind (arith, nat_tests, and_parts, lt-ltb)
 
 some_digit : (xs : List ℕ) → list_all is_ascii_digit (before_first is_point xs) ≡ true → list_all is_ascii_digit (after_first is_point xs) ≡ true → list_any is_ascii_digit xs ≡ nat_lt 0 (length (before_first is_point xs) + length (after_first is_point xs))
 some_digit [] all_before all_after = refl
-some_digit (x ∷ xs) all_before all_after =
-    rw (before_first-cons x xs, after_first-cons x xs) (some_digit_step x xs (before_first is_point xs) (after_first is_point xs) (is_point x) (point_no_digit x) (rw (before_first-cons x xs) at all_before) (rw (after_first-cons x xs) at all_after))
+some_digit (x ∷ xs) all_before all_after = grind (arith, nat_tests, before_first-cons, after_first-cons, some_digit_step, point_no_digit)
 
 -- a number by its digits before the point and those after it
 number_parts : (xs before after : List ℕ) → before ≡ before_first is_point xs → after ≡ after_first is_point xs → list_all is_ascii_digit before ≡ true → list_all is_ascii_digit after ≡ true → is_number xs ≡ nat_lt 0 (length before + length after)
 unfolding is_number
-number_parts xs before after at_before at_after all_before all_after =
-    rw (one_point xs, ← at_before, ← at_after, all_before, all_after) (rw (at_before, at_after) (some_digit xs (ap (list_all is_ascii_digit) (sym at_before) ∙ all_before) (ap (list_all is_ascii_digit) (sym at_after) ∙ all_after)))
+number_parts xs before after at_before at_after all_before all_after = grind (arith, nat_tests, one_point, some_digit)
 
 pub is_number_from_parts : (xs before after : List ℕ) → before ≡ before_first is_point xs → after ≡ after_first is_point xs → list_all is_ascii_digit before ≡ true → list_all is_ascii_digit after ≡ true → 0 < length before + length after → is_number xs ≡ true
-is_number_from_parts xs before after at_before at_after all_before all_after some =
-    number_parts xs before after at_before at_after all_before all_after ∙ lt-ltb 0 _ some
+is_number_from_parts xs before after at_before at_after all_before all_after some = grind (arith, nat_tests, number_parts, lt-ltb)
 
 pub no_number_from_empty : (xs before after : List ℕ) → before ≡ before_first is_point xs → after ≡ after_first is_point xs → length before ≡ 0 → length after ≡ 0 → is_number xs ≡ false
-no_number_from_empty xs before after at_before at_after none_before none_after =
-    number_parts xs [] [] (sym (nil_from_length before none_before) ∙ at_before) (sym (nil_from_length after none_after) ∙ at_after) refl refl
+no_number_from_empty xs before after at_before at_after none_before none_after = grind (arith, nat_tests, number_parts, nil_from_length)
 
 pub no_number_from_parts : (xs before after : List ℕ) → before ≡ before_first is_point xs → after ≡ after_first is_point xs → (list_all is_ascii_digit before && list_all is_ascii_digit after) ≡ false → is_number xs ≡ false
 unfolding is_number
@@ -106,13 +96,7 @@ divisor_more i divisor so_far = rw (add-one, pow-suc) (omega arith)
 
 -- the term of a digit in a unit of at most a year
 pub term_is : (digits : List ℕ) (i divisor size : ℕ) → i < length digits → list_all is_ascii_digit digits ≡ true → size ≤ 31557600000000 → divisor ≡ min (10 ^ (i + 1)) top → (get_or digits i 0 - 48) * size / divisor ≡ digit_value (get_or digits i 0) * size / 10 ^ (i + 1)
-term_is digits i divisor size within all small at_power =
-    let digit = digit_value_at digits i within all in
-    let value : get_or digits i 0 - 48 ≡ digit_value (get_or digits i 0) = omega (arith, digit.2) in
-    let nine : get_or digits i 0 - 48 ≤ 9 = omega (arith, digit.1) in
-    let bound : (get_or digits i 0 - 48) * size ≤ 9 * 31557600000000 = mul-le-mul nine small in
-    let positive : 0 < 10 ^ (i + 1) = omega (arith, one-le-pow (i + 1) 10 (omega arith)) in
-    rw at_power (quotient_at_top ((get_or digits i 0 - 48) * size) (10 ^ (i + 1)) (omega arith) positive ∙ ap (λ d. d * size / 10 ^ (i + 1)) value)
+term_is digits i divisor size within all small at_power = grind (arith, nat_tests, digit_value_at, mul-le-mul, one-le-pow, quotient_at_top)
 
 -- one more digit after the point
 pub fraction_more : (digits : List ℕ) (i sum size : ℕ) → i < length digits → min (sum + fraction_worth size (i + 1) (drop i digits)) top ≡ min (fraction_worth size 1 digits) top → min (min (sum + digit_value (get_or digits i 0) * size / 10 ^ (i + 1)) top + fraction_worth size (i + 1 + 1) (drop (i + 1) digits)) top ≡ min (fraction_worth size 1 digits) top

@@ -13,6 +13,7 @@ use Rattle.cal_span.specs.Span.{limit}
 use Rattle.cal_span.specs.SpanValue.{Piece, Pair, is_kind, words_in, pairs_of, pairs_in, is_number, unit_in, number_worth, worth_of, sum_with}
 use Rattle.cal_span.proofs.SpanWords.{same_from_is_kind}
 use Rattle.cal_text.proofs.DigitLemmas.{top}
+use Rattle.std.proofs.lemmas.Bool.Decides.{nat_tests}
 
 pub no_kind : (j k : CharKind) → (k ≡ j → ⊥) → is_kind j k ≡ false
 no_kind j k differs = false_from_ne_true (is_kind j k) (λ e. differs (sym (same_from_is_kind j k e)))
@@ -24,8 +25,7 @@ stray_first w (v ∷ ws) other = rw other refl
 
 pub stray_is : (bytes text rest : List ℕ) (kind : CharKind) → words_in bytes ≡ record { kind = kind; text = text } ∷ words_in rest → (kind ≡ Numeric → ⊥) → pairs_in bytes ≡ record { number = []; unit = None } ∷ pairs_in rest
 unfolding pairs_in
-stray_is bytes text rest kind words other =
-    ap pairs_of words ∙ stray_first (record { kind = kind; text = text }) (words_in rest) (no_kind Numeric kind other)
+stray_is bytes text rest kind words other = grind (arith, nat_tests, stray_first, no_kind)
 
 -- a number with no unit word after it
 pub last_is : (bytes text rest : List ℕ) → words_in bytes ≡ record { kind = Numeric; text = text } ∷ words_in rest → words_in rest ≡ [] → pairs_in bytes ≡ record { number = text; unit = None } ∷ pairs_in rest
@@ -34,8 +34,7 @@ last_is bytes text rest words none = ap pairs_of words ∙ rw none refl
 
 pub bare_is : (bytes text rest next after : List ℕ) (kind : CharKind) → words_in bytes ≡ record { kind = Numeric; text = text } ∷ words_in rest → words_in rest ≡ record { kind = kind; text = next } ∷ words_in after → (kind ≡ Letter → ⊥) → pairs_in bytes ≡ record { number = text; unit = None } ∷ pairs_in rest
 unfolding pairs_in
-bare_is bytes text rest next after kind words next_words other =
-    ap pairs_of words ∙ rw next_words (rw (no_kind Letter kind other) refl)
+bare_is bytes text rest next after kind words next_words other = grind (arith, nat_tests, no_kind)
 
 -- a number with its unit word
 pub unit_is : (bytes text rest next after : List ℕ) → words_in bytes ≡ record { kind = Numeric; text = text } ∷ words_in rest → words_in rest ≡ record { kind = Letter; text = next } ∷ words_in after → pairs_in bytes ≡ record { number = text; unit = Some next } ∷ pairs_in after
@@ -62,9 +61,7 @@ worth_good p unit good some = rw (good, some) refl
 -- the sum with one more pair, which stays at the top
 added_by : (sum m x : ℕ) (r : Option Span) → x ≡ min (sum + min m top) top → MatchOption r (limit < x) (λ span. (span.micros ≡ x) × (x ≤ limit)) → MatchResult (ok_or r TooLarge) (λ span. sum_with sum (Ok m) ≡ Ok span.micros) (λ fault. sum_with sum (Ok m) ≡ Err fault)
 added_by sum m x None at_top beyond = rw (lt-leb (sum + m) limit (omega arith)) refl
-added_by sum m x (Some span) at_top (is, small) =
-    rw (le-leb (sum + m) limit (omega arith)) (let e : sum + m ≡ span.micros = omega arith in ap (λ n. Ok n) e)
+added_by sum m x (Some span) at_top (is, small) = grind (arith, nat_tests, le-leb)
 
 pub added_is : (sum m x : ℕ) (worth : Result ℕ SpanFault) (r : Option Span) (out : Result Span SpanFault) → worth ≡ Ok m → x ≡ min (sum + min m top) top → MatchOption r (limit < x) (λ span. (span.micros ≡ x) × (x ≤ limit)) → out ≡ ok_or r TooLarge → MatchResult out (λ span. sum_with sum worth ≡ Ok span.micros) (λ fault. sum_with sum worth ≡ Err fault)
-added_is sum m x worth r out at_worth at_top found at_out =
-    rw (at_out, at_worth) (added_by sum m x r at_top found)
+added_is sum m x worth r out at_worth at_top found at_out = grind (arith, nat_tests, added_by)

@@ -1,6 +1,6 @@
 -- A span text that was written is read again: the text of counts splits into these counts, each is worth
 -- its number times its unit, and the sum is the span.
-use Rattle.std.proofs.Common.{◌≡◌, ℕ, zero, suc, ◌+◌, ◌*◌, ◌^◌, ◌<◌, ◌≤◌, List, [], ◌∷◌, ◌++◌, codes, length, true, false, nat_le, Some, Ok, map, refl, sym, ap, ◌∙◌, subst, lit<, arith}
+use Rattle.std.proofs.Common.{◌≡◌, ℕ, zero, suc, ◌+◌, ◌*◌, ◌^◌, ◌<◌, ◌≤◌, List, [], ◌∷◌, ◌++◌, codes, length, false, Some, Ok, map, refl, sym, ap, ◌∙◌, subst, lit<, arith}
 use Rattle.std.proofs.lemmas.Bool.{le-leb}
 use Rattle.std.proofs.lemmas.Fmt.{decimal_nonempty}
 use Rattle.std.proofs.lemmas.List.{append_assoc, append-nil}
@@ -11,36 +11,31 @@ use Rattle.std.specs.Prelude.{decimal, not, filter}
 use Rattle.cal_span.specs.declared.scale.Scale.{Scale}
 use Rattle.cal_span.specs.declared.scale.Scale.TheVariants.{Year, Month, Week, Day, Hour, Minute, Second, Millisecond, Microsecond}
 use Rattle.cal_span.specs.declared.span.word.CharKind.{CharKind}
-use Rattle.cal_span.specs.declared.span.word.CharKind.TheVariants.{Blank, Numeric, Letter, Other}
+use Rattle.cal_span.specs.declared.span.word.CharKind.TheVariants.{Blank, Numeric, Letter}
 use Rattle.cal_span.specs.Scale.{words_for}
 use Rattle.cal_span.specs.headline.Scale.{size_of, scales, unit_name}
 use Rattle.cal_span.specs.Span.{limit}
 use Rattle.cal_span.specs.SpanText.{weight}
 use Rattle.cal_span.specs.headline.SpanText.{Count, count_text, counts_in_row, positive, counts_of, span_text}
-use Rattle.cal_span.specs.SpanValue.{is_micro, kind_of, is_kind, Piece, characters, with_front, runs, words_in, Pair, pairs_of, pairs_in, is_number, unit_named, number_worth, worth_of, judged, value_of_pairs, span_of}
+use Rattle.cal_span.specs.SpanValue.{kind_of, is_kind, Piece, characters, with_front, runs, words_in, Pair, pairs_of, pairs_in, is_number, unit_named, number_worth, worth_of, judged, value_of_pairs, span_of}
 use Rattle.cal_span.proofs.SpanCounts.{size_of_positive, are_counts_of, weight-positive, span_text_zero, span_text_row}
 use Rattle.cal_span.proofs.SpanDigits.{AreDigits, are_digits-decimal, kind_of_digit, is_number-decimal, number_worth-decimal}
 use Rattle.cal_span.proofs.SpanWords.{is_kind-same}
+use Rattle.cal_span.proofs.SpanRuns.{BeginsApart}
 
 -- Words
 
 -- a character of one ASCII byte
 characters-ascii : (b : ℕ) (bytes : List ℕ) → b < 128 → characters (b ∷ bytes) ≡ record { kind = kind_of b; text = b ∷ [] } ∷ characters bytes
 characters-ascii b [] small = refl
-characters-ascii b (c ∷ bytes) small =
-    let plain : is_micro b c ≡ false = grind (arith, nat_tests, small) in rw plain refl
+characters-ascii b (c ∷ bytes) small = grind (arith, nat_tests)
 
 -- each byte is an ASCII character of this kind
 abbrev pub AllOfKind : CharKind → List ℕ → Type 0
 AllOfKind kind [] = Unit {0}
 AllOfKind kind (b ∷ bytes) = (b < 128) × (kind_of b ≡ kind) × AllOfKind kind bytes
 
--- the first piece, if any, is of another kind
-abbrev pub IsApart : CharKind → List Piece → Type 0
-IsApart kind [] = Unit {0}
-IsApart kind (p ∷ ps) = is_kind kind p.kind ≡ false
-
-with_front-apart : (kind : CharKind) (text : List ℕ) (ps : List Piece) → IsApart kind ps → with_front (record { kind = kind; text = text }) ps ≡ record { kind = kind; text = text } ∷ ps
+with_front-apart : (kind : CharKind) (text : List ℕ) (ps : List Piece) → BeginsApart kind ps → with_front (record { kind = kind; text = text }) ps ≡ record { kind = kind; text = text } ∷ ps
 with_front-apart kind text [] apart = refl
 with_front-apart kind text (p ∷ ps) apart = rw apart refl
 
@@ -48,18 +43,12 @@ with_front-same : (kind : CharKind) (b : ℕ) (text : List ℕ) (ps : List Piece
 with_front-same kind b text ps = rw (is_kind-same kind) refl
 
 -- bytes of one kind are one run, where another kind or nothing follows
-pub runs-of_kind : (kind : CharKind) (b : ℕ) (front rest : List ℕ) → AllOfKind kind (b ∷ front) → IsApart kind (runs (characters rest)) → runs (characters ((b ∷ front) ++ rest)) ≡ record { kind = kind; text = b ∷ front } ∷ runs (characters rest)
-runs-of_kind kind b [] rest same apart =
-    ap runs (characters-ascii b rest same.0)
-    ∙ ap (λ (k : CharKind). with_front (record { kind = k; text = b ∷ [] }) (runs (characters rest))) same.1
-    ∙ with_front-apart kind (b ∷ []) (runs (characters rest)) apart
+pub runs-of_kind : (kind : CharKind) (b : ℕ) (front rest : List ℕ) → AllOfKind kind (b ∷ front) → BeginsApart kind (runs (characters rest)) → runs (characters ((b ∷ front) ++ rest)) ≡ record { kind = kind; text = b ∷ front } ∷ runs (characters rest)
+runs-of_kind kind b [] rest same apart = grind (arith, nat_tests, characters-ascii, with_front-apart)
 runs-of_kind kind b (c ∷ front) rest same apart =
-    ap runs (characters-ascii b ((c ∷ front) ++ rest) same.0)
-    ∙ ap (λ (k : CharKind). with_front (record { kind = k; text = b ∷ [] }) (runs (characters ((c ∷ front) ++ rest)))) same.1
-    ∙ ap (with_front (record { kind = kind; text = b ∷ [] })) (runs-of_kind kind c front rest same.2 apart)
-    ∙ with_front-same kind b (c ∷ front) (runs (characters rest))
+    grind (arith, nat_tests, characters-ascii, with_front-same, runs-of_kind kind c front rest same.2 apart)
 
-runs-of_kind_front : (kind : CharKind) (front rest : List ℕ) → 0 < length front → AllOfKind kind front → IsApart kind (runs (characters rest)) → runs (characters (front ++ rest)) ≡ record { kind = kind; text = front } ∷ runs (characters rest)
+runs-of_kind_front : (kind : CharKind) (front rest : List ℕ) → 0 < length front → AllOfKind kind front → BeginsApart kind (runs (characters rest)) → runs (characters (front ++ rest)) ≡ record { kind = kind; text = front } ∷ runs (characters rest)
 runs-of_kind_front kind [] rest some same apart = absurd (omega arith)
 runs-of_kind_front kind (b ∷ front) rest some same apart = runs-of_kind kind b front rest same apart
 
@@ -98,12 +87,12 @@ count_words (c ∷ cs) =
     record { kind = Numeric; text = decimal c.number } ∷ record { kind = Letter; text = unit_name c.unit } ∷ count_words cs
 
 -- a count is two runs, where no letter follows
-runs-count : (c : Count) (rest : List ℕ) → c.number < 2 ^ 64 → IsApart Letter (runs (characters rest)) → runs (characters (count_text c ++ rest)) ≡ record { kind = Numeric; text = decimal c.number } ∷ record { kind = Letter; text = unit_name c.unit } ∷ runs (characters rest)
+runs-count : (c : Count) (rest : List ℕ) → c.number < 2 ^ 64 → BeginsApart Letter (runs (characters rest)) → runs (characters (count_text c ++ rest)) ≡ record { kind = Numeric; text = decimal c.number } ∷ record { kind = Letter; text = unit_name c.unit } ∷ runs (characters rest)
 runs-count c rest small apart =
     let unit = runs-of_kind_front Letter (unit_name c.unit) rest (name_of_nonempty c.unit) (letters-unit_name c.unit) apart in
     let grouped : count_text c ++ rest ≡ decimal c.number ++ (unit_name c.unit ++ rest) = append_assoc (decimal c.number) (unit_name c.unit ++ []) rest ∙ ap (λ (name : List ℕ). decimal c.number ++ (name ++ rest)) (append-nil (unit_name c.unit)) in
     ap (λ (bytes : List ℕ). runs (characters bytes)) grouped
-    ∙ runs-of_kind_front Numeric (decimal c.number) (unit_name c.unit ++ rest) (decimal_nonempty c.number small) (numeric_digits (decimal c.number) (are_digits-decimal c.number small)) (subst (IsApart Numeric) (sym unit) refl)
+    ∙ runs-of_kind_front Numeric (decimal c.number) (unit_name c.unit ++ rest) (decimal_nonempty c.number small) (numeric_digits (decimal c.number) (are_digits-decimal c.number small)) (subst (BeginsApart Numeric) (sym unit) refl)
     ∙ ap (λ (ps : List Piece). record { kind = Numeric; text = decimal c.number } ∷ ps) unit
 
 small_number : (c : Count) (cs : List Count) → weight (c ∷ cs) ≤ limit → c.number < 2 ^ 64
@@ -118,7 +107,7 @@ spaced_runs [] = []
 spaced_runs (c ∷ cs) =
     record { kind = Blank; text = codes " " } ∷ record { kind = Numeric; text = decimal c.number } ∷ record { kind = Letter; text = unit_name c.unit } ∷ spaced_runs cs
 
-spaced_runs-apart : (cs : List Count) → IsApart Letter (spaced_runs cs)
+spaced_runs-apart : (cs : List Count) → BeginsApart Letter (spaced_runs cs)
 spaced_runs-apart [] = tt
 spaced_runs-apart (c ∷ cs) = refl
 
@@ -126,21 +115,20 @@ runs-spaced : (cs : List Count) → weight cs ≤ limit → runs (characters (sp
 runs-spaced [] within = refl
 runs-spaced (c ∷ cs) within =
     let others = runs-spaced cs (omega arith) in
-    let first = runs-count c (spaced cs) (small_number c cs within) (subst (IsApart Letter) (sym others) (spaced_runs-apart cs)) in
-    runs-of_kind Blank 32 [] (count_text c ++ spaced cs) (lit< tt, refl, tt) (subst (IsApart Blank) (sym first) refl)
+    let first = runs-count c (spaced cs) (small_number c cs within) (subst (BeginsApart Letter) (sym others) (spaced_runs-apart cs)) in
+    runs-of_kind Blank 32 [] (count_text c ++ spaced cs) (lit< tt, refl, tt) (subst (BeginsApart Blank) (sym first) refl)
     ∙ ap (λ (ps : List Piece). record { kind = Blank; text = codes " " } ∷ ps) first
     ∙ ap (λ (ps : List Piece). record { kind = Blank; text = codes " " } ∷ record { kind = Numeric; text = decimal c.number } ∷ record { kind = Letter; text = unit_name c.unit } ∷ ps) others
 
 words-spaced : (cs : List Count) → filter (λ w. not (is_kind Blank w.kind)) (spaced_runs cs) ≡ count_words cs
 words-spaced [] = refl
-words-spaced (c ∷ cs) =
-    ap (λ (ps : List Piece). record { kind = Numeric; text = decimal c.number } ∷ record { kind = Letter; text = unit_name c.unit } ∷ ps) (words-spaced cs)
+words-spaced (c ∷ cs) = grind (arith, nat_tests, words-spaced cs)
 
 words-row : (c : Count) (cs : List Count) → weight (c ∷ cs) ≤ limit → words_in (counts_in_row (c ∷ cs)) ≡ count_words (c ∷ cs)
 unfolding words_in counts_in_row
 words-row c cs within =
     let others = runs-spaced cs (omega arith) in
-    let first = runs-count c (spaced cs) (small_number c cs within) (subst (IsApart Letter) (sym others) (spaced_runs-apart cs)) in
+    let first = runs-count c (spaced cs) (small_number c cs within) (subst (BeginsApart Letter) (sym others) (spaced_runs-apart cs)) in
     ap (filter (λ w. not (is_kind Blank w.kind))) first
     ∙ ap (λ (ps : List Piece). record { kind = Numeric; text = decimal c.number } ∷ record { kind = Letter; text = unit_name c.unit } ∷ filter (λ w. not (is_kind Blank w.kind)) ps) others
     ∙ ap (λ (ps : List Piece). record { kind = Numeric; text = decimal c.number } ∷ record { kind = Letter; text = unit_name c.unit } ∷ ps) (words-spaced cs)
@@ -168,15 +156,12 @@ unit_named-unit_name Microsecond = refl
 
 worth-pair_of : (c : Count) → c.number < 2 ^ 64 → worth_of (pair_of c) ≡ Ok (c.number * size_of c.unit)
 unfolding worth_of
-worth-pair_of c small =
-    rw (is_number-decimal c.number small, unit_named-unit_name c.unit, number_worth-decimal c.number (size_of c.unit) small) refl
+worth-pair_of c small = grind (arith, nat_tests, is_number-decimal, unit_named-unit_name, number_worth-decimal)
 
 judged-counts : (sum : ℕ) (cs : List Count) → sum + weight cs ≤ limit → judged sum (map pair_of cs) ≡ Ok (sum + weight cs)
 judged-counts sum [] within = ap Ok (omega arith)
 judged-counts sum (c ∷ cs) within =
-    let worth = worth-pair_of c (small_number c cs (omega arith)) in
-    let fits : nat_le (sum + c.number * size_of c.unit) limit ≡ true = le-leb (sum + c.number * size_of c.unit) limit (omega arith) in
-    rw (worth, fits) (judged-counts (sum + c.number * size_of c.unit) cs (omega arith) ∙ ap Ok (omega arith))
+    grind (arith, nat_tests, worth-pair_of, small_number, le-leb, judged-counts (sum + c.number * size_of c.unit) cs (omega arith))
 
 -- The value of a span text
 

@@ -12,6 +12,7 @@ use Rattle.std.specs.List.{AllByRecursion}
 use Rattle.cal_text.specs.AndThen.{◌>>=◌}
 use Rattle.cal_span.specs.SpanValue.{unit_named, Pair, pairs_in, is_number, unit_in, worth_in, worth_of, sum_with, judged, value_of_pairs, span_of}
 use Rattle.cal_span.specs.SpanRule.{AreWorth, IsFaultAfter, IsFirstFault, Judges}
+use Rattle.std.proofs.lemmas.Bool.Decides.{nat_tests}
 
 -- a pair alone is at fault in its number or in its unit
 worth_fault_by : (number : List ℕ) (good : Bool) (unit : Option Scale) (f : SpanFault) → cond good (worth_in number unit) (Err BadNumber) ≡ Err f → (f ≡ BadNumber) ⊎ (f ≡ UnknownUnit)
@@ -34,8 +35,7 @@ fault_after : (sum : ℕ) (p : Pair) (f : SpanFault) → worth_of p ≡ Err f �
 fault_after sum p Empty e = e
 fault_after sum p BadNumber e = e
 fault_after sum p UnknownUnit e = e
-fault_after sum p TooLarge e =
-    ⊎_elim (λ (h : TooLarge ≡ BadNumber). cc) (λ (h : TooLarge ≡ UnknownUnit). cc) (worth_fault p TooLarge e)
+fault_after sum p TooLarge e = grind (arith, nat_tests, ⊎_elim, worth_fault)
 
 -- one more pair before those that are judged
 one_before : (sum : ℕ) (p : Pair) (ps : List Pair) (m : ℕ) (r : Result ℕ SpanFault) → worth_of p ≡ Ok m → JudgesFrom (sum + m) ps r → JudgesFrom sum (p ∷ ps) r
@@ -46,15 +46,13 @@ one_before sum p ps m (Err f) e (before, q, after, k, split, are, small, fault) 
     (p ∷ before, q, after, m + k, ap (λ qs. p ∷ qs) split, (m, k, e, are, refl), omega arith, subst (λ s. IsFaultAfter s q f) regrouped fault)
 
 with_first : (sum : ℕ) (p : Pair) (ps : List Pair) (m : ℕ) (fits : Bool) → sum ≤ limit → nat_le (sum + m) limit ≡ fits → worth_of p ≡ Ok m → (sum + m ≤ limit → JudgesFrom (sum + m) ps (judged (sum + m) ps)) → JudgesFrom sum (p ∷ ps) (cond fits (Ok (sum + m)) (Err TooLarge) >>= λ more. judged more ps)
-with_first sum p ps m true small test e further =
-    one_before sum p ps m (judged (sum + m) ps) e (further (leb-true (sum + m) limit test))
+with_first sum p ps m true small test e further = grind (arith, nat_tests, one_before, leb-true)
 with_first sum p ps m false small test e further =
     let beyond = leb-false (sum + m) limit test in
     ([], p, ps, 0, refl, refl, omega arith, (m, e, omega arith))
 
 by_worth : (sum : ℕ) (p : Pair) (ps : List Pair) (worth : Result ℕ SpanFault) → sum ≤ limit → worth_of p ≡ worth → ((m : ℕ) → sum + m ≤ limit → JudgesFrom (sum + m) ps (judged (sum + m) ps)) → JudgesFrom sum (p ∷ ps) (sum_with sum worth >>= λ more. judged more ps)
-by_worth sum p ps (Ok m) small e further =
-    with_first sum p ps m (nat_le (sum + m) limit) small refl e (further m)
+by_worth sum p ps (Ok m) small e further = grind (arith, nat_tests, with_first)
 by_worth sum p ps (Err f) small e further =
     ([], p, ps, 0, refl, refl, omega arith, fault_after (sum + 0) p f e)
 
@@ -64,16 +62,11 @@ judges_from sum (p ∷ ps) small =
     by_worth sum p ps (worth_of p) small refl (λ m fits. judges_from (sum + m) ps fits)
 
 judges_all : (p : Pair) (ps : List Pair) (r : Result ℕ SpanFault) → JudgesFrom 0 (p ∷ ps) r → Judges (p ∷ ps) r
-judges_all p ps (Ok n) (k, are, is, small) =
-    let same : k ≡ n = omega arith in (omega arith, subst (λ s. AreWorth (p ∷ ps) s) same are, small)
-judges_all p ps (Err Empty) (before, q, after, k, split, are, small, fault) =
-    ⊎_elim (λ (h : Empty ≡ BadNumber). cc) (λ (h : Empty ≡ UnknownUnit). cc) (worth_fault q Empty fault)
-judges_all p ps (Err BadNumber) (before, q, after, k, split, are, small, fault) =
-    (before, q, after, k, split, are, omega arith, fault)
-judges_all p ps (Err UnknownUnit) (before, q, after, k, split, are, small, fault) =
-    (before, q, after, k, split, are, omega arith, fault)
-judges_all p ps (Err TooLarge) (before, q, after, k, split, are, small, (m, e, beyond)) =
-    (before, q, after, k, split, are, omega arith, (m, e, omega arith))
+judges_all p ps (Ok n) (k, are, is, small) = grind (arith, nat_tests)
+judges_all p ps (Err Empty) (before, q, after, k, split, are, small, fault) = grind (arith, nat_tests, ⊎_elim, worth_fault)
+judges_all p ps (Err BadNumber) (before, q, after, k, split, are, small, fault) = grind (arith, nat_tests)
+judges_all p ps (Err UnknownUnit) (before, q, after, k, split, are, small, fault) = grind (arith, nat_tests)
+judges_all p ps (Err TooLarge) (before, q, after, k, split, are, small, (m, e, beyond)) = grind (arith, nat_tests)
 
 judges_value : (ps : List Pair) → Judges ps (value_of_pairs ps)
 judges_value [] = refl
@@ -89,9 +82,7 @@ sum_with-fits sum m fits = rw (le-leb (sum + m) limit fits) refl
 
 only_sum : (sum : ℕ) (ps : List Pair) (k : ℕ) → AreWorth ps k → sum + k ≤ limit → judged sum ps ≡ Ok (sum + k)
 only_sum sum [] k are fits = rw are (rw add-zero refl)
-only_sum sum (p ∷ ps) n (m, k, e, are, is) fits =
-    let regrouped : sum + m + k ≡ sum + n = omega arith in
-    rw e (ap (λ r. r >>= λ more. judged more ps) (sum_with-fits sum m (omega arith)) ∙ only_sum (sum + m) ps k are (omega arith) ∙ ap (λ s. Ok s) regrouped)
+only_sum sum (p ∷ ps) n (m, k, e, are, is) fits = grind (arith, nat_tests, sum_with-fits, only_sum (sum + m) ps k are (omega arith))
 
 -- and the fault where it gives a fault
 fault_first : (sum : ℕ) (p : Pair) (after : List Pair) (f : SpanFault) → IsFaultAfter sum p f → judged sum (p ∷ after) ≡ Err f
@@ -101,9 +92,7 @@ fault_first sum p after UnknownUnit e = rw e refl
 fault_first sum p after TooLarge (m, e, beyond) = rw e (rw (lt-leb (sum + m) limit beyond) refl)
 
 only_fault : (sum : ℕ) (before : List Pair) (p : Pair) (after : List Pair) (k : ℕ) (f : SpanFault) → AreWorth before k → sum + k ≤ limit → IsFaultAfter (sum + k) p f → judged sum (before ++ (p ∷ after)) ≡ Err f
-only_fault sum [] p after k f are fits fault =
-    let same : sum + k ≡ sum = omega arith in
-    fault_first sum p after f (subst (λ s. IsFaultAfter s p f) same fault)
+only_fault sum [] p after k f are fits fault = grind (arith, nat_tests, fault_first)
 only_fault sum (q ∷ before) p after n f (m, k, e, are, is) fits fault =
     let regrouped : sum + n ≡ sum + m + k = omega arith in
     rw e (ap (λ r. r >>= λ more. judged more (before ++ (p ∷ after))) (sum_with-fits sum m (omega arith)) ∙ only_fault (sum + m) before p after k f are (omega arith) (subst (λ s. IsFaultAfter s p f) regrouped fault))

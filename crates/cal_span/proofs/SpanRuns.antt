@@ -6,6 +6,7 @@ use Rattle.cal_span.specs.declared.span.word.CharKind.{CharKind}
 use Rattle.cal_span.proofs.SpanWords.{is_kind-same, same_from_is_kind}
 use Rattle.cal_span.specs.SpanValue.{Piece, is_kind, characters, with_front, runs}
 use Rattle.cal_span.specs.SpanRule.{IsRun, AreRuns, AreApart}
+use Rattle.std.proofs.lemmas.Bool.Decides.{nat_tests}
 
 -- one character is a run
 run_alone : (s : Piece) → IsRun (s ∷ []) s
@@ -38,8 +39,7 @@ runs_cut text = are_runs (characters text)
 -- no two neighbours are of one kind
 apart_joined : (s w : Piece) (ws : List Piece) → is_kind s.kind w.kind ≡ true → AreApart (w ∷ ws) → AreApart (record { kind = s.kind; text = s.text ++ w.text } ∷ ws)
 apart_joined s w [] same apart = tt
-apart_joined s w (v ∷ ws) same (first, rest) =
-    (ap (λ k. is_kind k v.kind) (same_from_is_kind s.kind w.kind same) ∙ first, rest)
+apart_joined s w (v ∷ ws) same (first, rest) = grind (arith, nat_tests, same_from_is_kind)
 
 apart_by : (s w : Piece) (ws : List Piece) (same : Bool) → is_kind s.kind w.kind ≡ same → AreApart (w ∷ ws) → AreApart (cond same (record { kind = s.kind; text = s.text ++ w.text } ∷ ws) (s ∷ w ∷ ws))
 apart_by s w ws true test apart = apart_joined s w ws test apart
@@ -59,12 +59,11 @@ runs_longest text = runs_apart (characters text)
 -- Only these are
 
 -- a run of this kind may not come before them
-BeginsApart : CharKind → List Piece → Type 0
+abbrev pub BeginsApart : CharKind → List Piece → Type 0
 BeginsApart k [] = Unit {0}
 BeginsApart k (v ∷ ws) = is_kind k v.kind ≡ false
 
 apart_before : (w : Piece) (ws : List Piece) → AreApart (w ∷ ws) → BeginsApart w.kind ws
-unfolding BeginsApart
 apart_before w [] apart = tt
 apart_before w (v ∷ ws) (first, rest) = first
 
@@ -74,7 +73,6 @@ apart_after w (v ∷ ws) (first, rest) = rest
 
 -- a character in front of a run of another kind
 first_apart : (s : Piece) (k : CharKind) (ws : List Piece) → s.kind ≡ k → BeginsApart k ws → with_front s ws ≡ s ∷ ws
-unfolding BeginsApart
 first_apart s k [] kind apart = refl
 first_apart s k (v ∷ ws) kind apart = rw kind (rw apart refl)
 
@@ -83,21 +81,16 @@ first_joined : (s : Piece) (k : CharKind) (text : List ℕ) (ws : List Piece) �
 first_joined s k text ws kind = rw kind (rw (is_kind-same k) refl)
 
 piece_is : (s : Piece) (k : CharKind) → s.kind ≡ k → s ≡ record { kind = k; text = s.text ++ [] }
-piece_is s k kind =
-    let same : record { kind = s.kind; text = s.text } ≡ record { kind = k; text = s.text ++ [] } = cc (kind, append-nil s.text) in
-    same
+piece_is s k kind = grind (arith, nat_tests, append-nil)
 
 run_front : (front rest : List Piece) (k : CharKind) (ws : List Piece) → 0 < length front → AllByRecursion (λ (s : Piece). s.kind ≡ k) front → BeginsApart k ws → runs rest ≡ ws → runs (front ++ rest) ≡ record { kind = k; text = flat_map (λ (s : Piece). s.text) front } ∷ ws
 run_front [] rest k ws some kinds apart e = absurd (omega arith)
-run_front (s ∷ []) rest k ws some (kind, none) apart e =
-    ap (with_front s) e ∙ first_apart s k ws kind apart ∙ ap (λ w. w ∷ ws) (piece_is s k kind)
+run_front (s ∷ []) rest k ws some (kind, none) apart e = grind (arith, nat_tests, first_apart, piece_is)
 run_front (s ∷ t ∷ front) rest k ws some (kind, kinds) apart e =
-    ap (with_front s) (run_front (t ∷ front) rest k ws (omega arith) kinds apart e) ∙ first_joined s k (flat_map (λ (u : Piece). u.text) (t ∷ front)) ws kind
+    grind (arith, nat_tests, first_joined, run_front (t ∷ front) rest k ws (omega arith) kinds apart e)
 
 run_is : (front : List Piece) (w : Piece) (ws : List Piece) → IsRun front w → record { kind = w.kind; text = flat_map (λ (s : Piece). s.text) front } ∷ ws ≡ w ∷ ws
-run_is front w ws run =
-    let same : record { kind = w.kind; text = flat_map (λ (s : Piece). s.text) front } ≡ record { kind = w.kind; text = w.text } = cc (run.text) in
-    ap (λ v. v ∷ ws) same
+run_is front w ws run = grind (arith, nat_tests)
 
 only_runs : (ss ws : List Piece) → AreRuns ss ws → AreApart ws → ws ≡ runs ss
 only_runs ss [] none apart = rw none refl

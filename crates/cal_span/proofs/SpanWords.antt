@@ -4,8 +4,9 @@ use Rattle.std.specs.Prelude.{filter, not}
 use Rattle.std.proofs.lemmas.List.{append-nil, drop-drop, length-append, length-take-le}
 use Rattle.cal_span.specs.declared.span.word.CharKind.{CharKind}
 use Rattle.cal_span.specs.declared.span.word.CharKind.TheVariants.{Blank, Numeric, Letter, Other}
-use Rattle.cal_span.specs.SpanValue.{Piece, is_kind, with_front, runs, characters, words_in}
+use Rattle.cal_span.specs.SpanValue.{Piece, is_kind, runs, characters, words_in}
 use Rattle.cal_span.specs.SpanWord.{front_of, after_front}
+use Rattle.std.proofs.lemmas.Bool.Decides.{nat_tests}
 
 pub is_kind-same : (j : CharKind) → is_kind j j ≡ true
 is_kind-same Blank = refl
@@ -36,31 +37,24 @@ without_blanks ws = filter (λ (w : Piece). not (is_kind Blank w.kind)) ws
 
 -- the first run, where the second character is or is not of the first one's kind
 runs_second : (s t : Piece) (ss : List Piece) (same : Bool) → is_kind s.kind t.kind ≡ same → runs (t ∷ ss) ≡ record { kind = t.kind; text = t.text ++ front_of t.kind ss } ∷ runs (after_front t.kind ss) → cond same (record { kind = s.kind; text = s.text ++ (t.text ++ front_of t.kind ss) } ∷ runs (after_front t.kind ss)) (s ∷ record { kind = t.kind; text = t.text ++ front_of t.kind ss } ∷ runs (after_front t.kind ss)) ≡ record { kind = s.kind; text = s.text ++ cond same (t.text ++ front_of s.kind ss) [] } ∷ runs (cond same (after_front s.kind ss) (t ∷ ss))
-runs_second s t ss true test by_rest =
-    let at : CharKind → List Piece = λ k. record { kind = s.kind; text = s.text ++ (t.text ++ front_of k ss) } ∷ runs (after_front k ss) in
-    ap at (sym (same_from_is_kind s.kind t.kind test))
+runs_second s t ss true test by_rest = grind (arith, nat_tests, same_from_is_kind)
 runs_second s t ss false test by_rest = rw append-nil (ap (λ ws. s ∷ ws) (sym by_rest))
 
 -- the first run of characters is the prefix of the first one's kind
 pub runs_first : (s : Piece) (ss : List Piece) → runs (s ∷ ss) ≡ record { kind = s.kind; text = s.text ++ front_of s.kind ss } ∷ runs (after_front s.kind ss)
 runs_first s [] = rw append-nil refl
-runs_first s (t ∷ ss) =
-    ap (with_front s) (runs_first t ss) ∙ runs_second s t ss (is_kind s.kind t.kind) refl (runs_first t ss)
+runs_first s (t ∷ ss) = grind (arith, nat_tests, runs_second, runs_first t ss)
 
 -- one more character of the prefix's kind
 pub front_more : (kind : CharKind) (bytes : List ℕ) (len width : ℕ) (rest : List ℕ) → rest ≡ drop len bytes → characters rest ≡ record { kind = kind; text = take width rest } ∷ characters (drop width rest) → front_of kind (characters (drop len bytes)) ≡ take width (drop len bytes) ++ front_of kind (characters (drop (len + width) bytes))
-front_more kind bytes len width rest at first =
-    ap (λ s. front_of kind (characters s)) (sym at) ∙ ap (front_of kind) first ∙ rw (is_kind-same kind) (rw at (rw drop-drop refl))
+front_more kind bytes len width rest at first = grind (arith, nat_tests, is_kind-same, drop-drop)
 
 pub after_more : (kind : CharKind) (bytes : List ℕ) (len width : ℕ) (rest : List ℕ) → rest ≡ drop len bytes → characters rest ≡ record { kind = kind; text = take width rest } ∷ characters (drop width rest) → after_front kind (characters (drop len bytes)) ≡ after_front kind (characters (drop (len + width) bytes))
-after_more kind bytes len width rest at first =
-    ap (λ s. after_front kind (characters s)) (sym at) ∙ ap (after_front kind) first ∙ rw (is_kind-same kind) (rw at (rw drop-drop refl))
+after_more kind bytes len width rest at first = grind (arith, nat_tests, is_kind-same, drop-drop)
 
 -- blanks at the start are in no word
 without_blanks_first : (s : Piece) (ss : List Piece) (blank : Bool) → is_kind Blank s.kind ≡ blank → without_blanks (runs (s ∷ ss)) ≡ without_blanks (runs (cond blank (after_front Blank ss) (s ∷ ss)))
-without_blanks_first s ss true test =
-    let same : Blank ≡ s.kind = same_from_is_kind Blank s.kind test in
-    ap without_blanks (runs_first s ss) ∙ rw test (ap (λ k. without_blanks (runs (after_front k ss))) (sym same))
+without_blanks_first s ss true test = grind (arith, nat_tests, same_from_is_kind, runs_first)
 without_blanks_first s ss false test = refl
 
 without_blanks_after : (ss : List Piece) → without_blanks (runs ss) ≡ without_blanks (runs (after_front Blank ss))
@@ -70,19 +64,15 @@ without_blanks_after (s ∷ ss) = without_blanks_first s ss (is_kind Blank s.kin
 -- what comes after the blanks is none
 after_blanks_step : (t : Piece) (ts : List Piece) (s : Piece) (rest : List Piece) (blank : Bool) → is_kind Blank t.kind ≡ blank → (after_front Blank ts ≡ s ∷ rest → is_kind Blank s.kind ≡ false) → cond blank (after_front Blank ts) (t ∷ ts) ≡ s ∷ rest → is_kind Blank s.kind ≡ false
 after_blanks_step t ts s rest true test further at = further at
-after_blanks_step t ts s rest false test further at =
-    let same : t ≡ s = cc in ap (λ (p : Piece). is_kind Blank p.kind) (sym same) ∙ test
+after_blanks_step t ts s rest false test further at = grind (arith, nat_tests)
 
 after_blanks : (ss : List Piece) (s : Piece) (rest : List Piece) → after_front Blank ss ≡ s ∷ rest → is_kind Blank s.kind ≡ false
 after_blanks [] s rest at = cc
-after_blanks (t ∷ ts) s rest at =
-    after_blanks_step t ts s rest (is_kind Blank t.kind) refl (after_blanks ts s rest) at
+after_blanks (t ∷ ts) s rest at = grind (arith, nat_tests, after_blanks_step, after_blanks ts s rest)
 
 -- the first word, where the text has one
 word_first : (ss : List Piece) (s : Piece) (rest : List Piece) → after_front Blank ss ≡ s ∷ rest → without_blanks (runs ss) ≡ record { kind = s.kind; text = front_of s.kind (s ∷ rest) } ∷ without_blanks (runs (after_front s.kind (s ∷ rest)))
-word_first ss s rest at =
-    let solid = after_blanks ss s rest at in
-    without_blanks_after ss ∙ ap (λ ts. without_blanks (runs ts)) at ∙ ap without_blanks (runs_first s rest) ∙ rw solid (rw (is_kind-same s.kind) refl)
+word_first ss s rest at = grind (arith, nat_tests, after_blanks, without_blanks_after, runs_first, is_kind-same)
 
 -- the first word of a text by what the code found: the bytes after the blanks, the kind of the
 -- first of them, and the prefix of that kind
@@ -94,9 +84,7 @@ first_word_is bytes solid kind width text rest at first front after =
 
 -- a word has at least the bytes of its first character
 pub word_length : (solid : List ℕ) (kind : CharKind) (width : ℕ) (text : List ℕ) → characters solid ≡ record { kind = kind; text = take width solid } ∷ characters (drop width solid) → text ≡ front_of kind (characters solid) → width ≤ length solid → width ≤ length text
-word_length solid kind width text first front fits =
-    let parts : text ≡ take width solid ++ front_of kind (characters (drop width solid)) = front ∙ ap (front_of kind) first ∙ rw (is_kind-same kind) refl in
-    omega (arith, ap length parts, length-append (take width solid) (front_of kind (characters (drop width solid))), length-take-le width solid fits)
+word_length solid kind width text first front fits = grind (arith, nat_tests, is_kind-same, length-append, length-take-le)
 
 pub no_word_is : (bytes solid : List ℕ) → characters solid ≡ after_front Blank (characters bytes) → solid ≡ [] → words_in bytes ≡ []
 unfolding words_in

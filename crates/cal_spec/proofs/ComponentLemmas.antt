@@ -1,8 +1,8 @@
 -- Components that were read have a meaning, and no more counted parts than are allowed.
-use Rattle.std.proofs.Common.{ℕ, suc, ◌+◌, ◌-◌, ◌<◌, ◌≤◌, ◌≡◌, Bool, true, false, cond, ◌&&◌, List, [], ◌∷◌, length, Option, Some, None, Ok, refl, ap, arith, leb, eqb}
+use Rattle.std.proofs.Common.{ℕ, suc, ◌+◌, ◌-◌, ◌<◌, ◌≤◌, ◌≡◌, ◌⊎◌, inl, inr, Bool, true, false, cond, ◌&&◌, List, [], ◌∷◌, length, Option, Some, None, Ok, refl, ap, arith, leb, eqb}
 use Rattle.std.specs.List.{AllByRecursion, slice_split}
 use Rattle.std.specs.Option.{option_or}
-use Rattle.std.proofs.lemmas.Bool.{and_parts, leb-true, ltb-false, leb-false, eqb-false, not-false}
+use Rattle.std.proofs.lemmas.Bool.{and_parts, cases_Bool, leb-true, ltb-false, leb-false, eqb-false, not-false}
 use Rattle.cal_text.specs.headline.Separators.{is_comma}
 use Rattle.cal_spec.specs.Components.{is_star, counted, room_in, part_due, parts_of, first_value_fault, parts_listed, component_of}
 use Rattle.cal_spec.specs.Parts.{is_time, is_within, is_outside, is_backward, is_zero, is_idle, fault_of}
@@ -13,20 +13,16 @@ use Rattle.cal_spec.specs.Sound.{AreSound}
 use Rattle.cal_spec.specs.headline.Sound.{IsWithin, IsEndWithin, EndsAfter, IsStep, GoesOn, IsSound}
 use Rattle.cal_spec.specs.declared.part.Part.{Part}
 use Rattle.cal_spec.specs.declared.slot.Slot.{Slot}
-use Rattle.cal_spec.specs.declared.slot.Slot.TheVariants.{Year, Month, Day, DayFromEnd, Hour, Minute, Second}
-use Rattle.cal_spec.specs.declared.spec_fault.SpecFault.{SpecFault}
+use Rattle.cal_spec.specs.declared.slot.Slot.TheVariants.{DayFromEnd}
 use Rattle.cal_spec.specs.declared.spec_fault.SpecFault.TheVariants.{OutOfField, BackwardRange, ZeroRepeat, NoRepeat, TooManyParts}
-use Rattle.cal_text.proofs.General.{some_piece}
+use Rattle.cal_text.proofs.General.{some_piece, option_or_none}
 use Rattle.cal_spec.proofs.ReadLemmas.{bind_ok, unless_ok, cond_ok}
 
 -- a part without a fault
 
 no_fault : (a b c d : Bool) → cond a (Some OutOfField) (cond b (Some BackwardRange) (cond c (Some ZeroRepeat) (cond d (Some NoRepeat) None))) ≡ None → (a ≡ false) × (b ≡ false) × (c ≡ false) × (d ≡ false)
-no_fault true b c d at = cc
-no_fault false true c d at = cc
-no_fault false false true d at = cc
-no_fault false false false true at = cc
 no_fault false false false false at = (refl, refl, refl, refl)
+no_fault a b c d at = cc
 
 within_from : (slot : Slot) (n : ℕ) → is_within slot n ≡ true → IsWithin slot n
 within_from slot n test =
@@ -54,13 +50,8 @@ is_step (Some r) test = let some = eqb-false r 0 test in grind (arith, some)
 goes_on : (slot : Slot) (a : ℕ) (end step : Option ℕ) → is_idle slot a end step ≡ false → GoesOn slot a end step
 goes_on slot a (Some b) step test = tt
 goes_on slot a None None test = tt
-goes_on Year a None (Some r) test = ltb-false _ _ test
-goes_on Month a None (Some r) test = ltb-false _ _ test
-goes_on Day a None (Some r) test = ltb-false _ _ test
 goes_on DayFromEnd a None (Some r) test = leb-false _ _ test
-goes_on Hour a None (Some r) test = ltb-false _ _ test
-goes_on Minute a None (Some r) test = ltb-false _ _ test
-goes_on Second a None (Some r) test = ltb-false _ _ test
+goes_on slot a None (Some r) test = ltb-false _ _ test
 
 pub sound_part : (slot : Slot) (p : Part) → fault_of slot p ≡ None → IsSound slot p
 unfolding fault_of
@@ -74,14 +65,10 @@ sound_part slot p at =
       goes_on = goes_on slot p.start p.end p.step none.3;
     }
 
-or_none : (o p : Option SpecFault) → option_or o p ≡ None → (o ≡ None) × (p ≡ None)
-or_none None p at = (refl, at)
-or_none (Some e) p at = cc
-
 pub sound_parts : (slot : Slot) (ps : List Part) → first_value_fault slot ps ≡ None → AllByRecursion (IsSound slot) ps
 sound_parts slot [] at = tt
 sound_parts slot (p ∷ ps) at =
-    let none = or_none (fault_of slot p) (first_value_fault slot ps) at in
+    let none = option_or_none (fault_of slot p) (first_value_fault slot ps) at in
     (sound_part slot p none.0, sound_parts slot ps none.1)
 
 -- as many parts as texts, and no more than are allowed
@@ -138,26 +125,25 @@ pub record IsRead (slot : Slot) (room : ℕ) (c : Option (List Part)) : Type 0 w
   pub sound : AreSound slot c
   pub few : counted slot c ≤ room
 
-star_read : (slot : Slot) (room : ℕ) (c : Option (List Part)) → None ≡ c → IsRead slot room c
-star_read slot room None at = record { sound = tt; few = omega arith }
-star_read slot room (Some ps) at = cc
-
-listed_read : (slot : Slot) (room : ℕ) (text : List ℕ) (ps : List Part) (c : Option (List Part)) → parts_listed slot room text ≡ Ok ps → Some ps ≡ c → IsRead slot room c
-listed_read slot room text ps None at is = cc
-listed_read slot room text ps (Some qs) at is =
-    let same : ps ≡ qs = cc in
-    let read = listed_ok slot room text qs (rw same at at) in
-    record {
-      sound = (parts_some slot (room_in slot room) text qs read.shapes, sound_parts slot qs read.values);
-      few = counted_in (is_time slot) (length qs) room (parts_counted slot (room_in slot room) (slice_split is_comma text) qs read.shapes).1;
-    }
-
-component_by : (slot : Slot) (room : ℕ) (text : List ℕ) (star : Bool) (c : Option (List Part)) → cond star (Ok None) (parts_listed slot room text >>= λ ps. Ok (Some ps)) ≡ Ok c → IsRead slot room c
-component_by slot room text true c at = star_read slot room c cc
-component_by slot room text false c at =
-    let one = bind_ok (parts_listed slot room text) (λ ps. Ok (Some ps)) c at in
-    listed_read slot room text one.value c one.first cc
+-- a component that was read is a star, or its parts were read
+pub component_is : (slot : Slot) (room : ℕ) (text : List ℕ) (c : Option (List Part)) → component_of slot room text ≡ Ok c
+    → ((is_star text ≡ true) × (c ≡ None)) ⊎ ((is_star text ≡ false) × ((ps : List Part) × (c ≡ Some ps) × ListedRead slot room text ps))
+unfolding component_of
+component_is slot room text c at =
+    elim (cases_Bool (is_star text)) [
+      | inl star ↦ inl (star, (let none = rw star at at in cc))
+      | inr other ↦ (let one = bind_ok (parts_listed slot room text) (λ ps. Ok (Some ps)) c (rw other at at) in inr (other, (one.value, (let is = one.next in cc), listed_ok slot room text one.value one.first)))
+    ]
 
 pub component_read : (slot : Slot) (room : ℕ) (text : List ℕ) (c : Option (List Part)) → component_of slot room text ≡ Ok c → IsRead slot room c
-unfolding component_of
-component_read slot room text c at = component_by slot room text (is_star text) c at
+component_read slot room text c at =
+    elim (component_is slot room text c at) [
+      | inl star ↦ rw star.1 (record { sound = tt; few = omega arith })
+      | inr listed ↦
+          (let read = listed.1.2 in
+          let ps = listed.1.0 in
+          rw listed.1.1 (record {
+            sound = (parts_some slot (room_in slot room) text ps read.shapes, sound_parts slot ps read.values);
+            few = counted_in (is_time slot) (length ps) room (parts_counted slot (room_in slot room) (slice_split is_comma text) ps read.shapes).1;
+          }))
+    ]

@@ -1,9 +1,10 @@
 -- A component that was read is one by the rule, and one by the rule is read.
-use Rattle.std.proofs.Common.{ℕ, ◌+◌, ◌-◌, ◌<◌, ◌≤◌, ◌≡◌, Bool, true, false, cond, ◌&&◌, ◌||◌, List, [], ◌∷◌, ◌++◌, length, codes, Option, Some, None, Ok, refl, sym, ap, ◌∙◌, arith, leb}
+use Rattle.std.proofs.Common.{inl, inr, ℕ, ◌+◌, ◌-◌, ◌<◌, ◌≤◌, ◌≡◌, Bool, true, false, cond, ◌&&◌, ◌||◌, List, [], ◌∷◌, ◌++◌, length, codes, Option, Some, None, Ok, refl, sym, ap, ◌∙◌, arith, leb}
 use Rattle.std.specs.Prelude.{◌==◌}
 use Rattle.std.specs.List.{AllByRecursion, AllZip, list_all, slice_split, join_with_byte}
 use Rattle.std.specs.Char.{is_ascii_digit}
 use Rattle.std.proofs.lemmas.Bool.{and_parts, and_from, or_right, le-leb, le-ltb, lt-leb, ne_eqb, leb-true, false_from_ne_true, not_from_true}
+use Rattle.std.proofs.lemmas.Bool.Decides.{nat_tests}
 use Rattle.std.proofs.lemmas.List.{append-nil, append_assoc}
 use Rattle.std.proofs.lemmas.List.Splits.{join_with_byte-slice_split}
 use Rattle.std.proofs.lemmas.Slice.Eq.{bytes_eq-Decides}
@@ -12,17 +13,15 @@ use Rattle.cal_spec.specs.Components.{is_star, counted, room_in, part_due, parts
 use Rattle.cal_spec.specs.headline.GrammarRule.{IsNumber, IsNext, IsPartText, IsPartOf, AreListed, IsComponent}
 use Rattle.cal_spec.specs.Parts.{is_time, is_within, is_outside, is_backward, is_zero, is_idle, fault_of}
 use Rattle.cal_spec.specs.headline.Parts.{with_values}
-use Rattle.cal_text.specs.AndThen.{◌>>=◌}
 use Rattle.cal_spec.specs.headline.Slot.{least, greatest}
 use Rattle.cal_spec.specs.headline.Sound.{IsWithin, IsEndWithin, EndsAfter, IsStep, GoesOn, IsSound}
 use Rattle.cal_spec.specs.declared.part.Part.{Part}
 use Rattle.cal_spec.specs.declared.slot.Slot.{Slot}
-use Rattle.cal_spec.specs.declared.slot.Slot.TheVariants.{Year, Month, Day, DayFromEnd, Hour, Minute, Second}
-use Rattle.cal_spec.proofs.ComponentLemmas.{parts_of-cons, sound_parts, listed_ok}
+use Rattle.cal_spec.specs.declared.slot.Slot.TheVariants.{DayFromEnd}
+use Rattle.cal_spec.proofs.ComponentLemmas.{ListedRead, component_is, parts_of-cons, sound_parts}
 use Rattle.cal_spec.proofs.FaultLemmas.{part_due_is}
 use Rattle.cal_spec.proofs.PartRule.{part_found, part_only}
-use Rattle.cal_text.proofs.General.{some_piece, both_all, IsClear, Apart, clear_of, split_join_with_byte}
-use Rattle.cal_spec.proofs.ReadLemmas.{bind_ok}
+use Rattle.cal_text.proofs.General.{some_piece, wider, both_all, IsClear, Apart, clear_of, split_join_with_byte}
 
 -- A part with a meaning has no fault
 
@@ -45,13 +44,8 @@ not_zero (Some r) h = ne_eqb r 0 (λ e. omega (arith, h, e))
 not_idle : (slot : Slot) (a : ℕ) (end step : Option ℕ) → GoesOn slot a end step → is_idle slot a end step ≡ false
 not_idle slot a (Some b) step h = refl
 not_idle slot a None None h = refl
-not_idle Year a None (Some r) h = le-ltb 2199 (a + r) h
-not_idle Month a None (Some r) h = le-ltb 12 (a + r) h
-not_idle Day a None (Some r) h = le-ltb 31 (a + r) h
 not_idle DayFromEnd a None (Some r) h = lt-leb a r h
-not_idle Hour a None (Some r) h = le-ltb 23 (a + r) h
-not_idle Minute a None (Some r) h = le-ltb 59 (a + r) h
-not_idle Second a None (Some r) h = le-ltb 59 (a + r) h
+not_idle slot a None (Some r) h = le-ltb _ _ h
 
 no_fault_of : (slot : Slot) (p : Part) → IsSound slot p → fault_of slot p ≡ None
 unfolding fault_of
@@ -72,9 +66,8 @@ parts_found slot room (t ∷ ts) ps at =
     let is : with_values slot due.value ≡ read.first = let e = due.next in cc in
     rw read.is ((due.value, part_found slot t due.value due.first, sym is), parts_found slot (room - 1) ts read.rest read.rest_is)
 
-listed_found : (slot : Slot) (room : ℕ) (text : List ℕ) (ps : List Part) → parts_listed slot room text ≡ Ok ps → AreListed slot text ps
-listed_found slot room text ps at =
-    let read = listed_ok slot room text ps at in
+listed_found : (slot : Slot) (room : ℕ) (text : List ℕ) (ps : List Part) → ListedRead slot room text ps → AreListed slot text ps
+listed_found slot room text ps read =
     let some = some_piece is_comma text in
     record {
       texts = slice_split is_comma text;
@@ -84,24 +77,12 @@ listed_found slot room text ps at =
       sound = sound_parts slot ps read.values;
     }
 
-star_text : (text : List ℕ) (c : Option (List Part)) (slot : Slot) → is_star text ≡ true → None ≡ c → IsComponent slot text c
-star_text text None slot star is = (bytes_eq-Decides text (codes "*")).0 star
-star_text text (Some ps) slot star is = cc
-
-listed_text : (slot : Slot) (room : ℕ) (text : List ℕ) (ps : List Part) (c : Option (List Part)) → parts_listed slot room text ≡ Ok ps → Some ps ≡ c → IsComponent slot text c
-listed_text slot room text ps None at is = cc
-listed_text slot room text ps (Some qs) at is =
-    let same : ps ≡ qs = cc in listed_found slot room text qs (rw same at at)
-
-component_by : (slot : Slot) (room : ℕ) (text : List ℕ) (star : Bool) (c : Option (List Part)) → is_star text ≡ star → cond star (Ok None) (parts_listed slot room text >>= λ ps. Ok (Some ps)) ≡ Ok c → IsComponent slot text c
-component_by slot room text true c star at = star_text text c slot star cc
-component_by slot room text false c star at =
-    let one = bind_ok (parts_listed slot room text) (λ ps. Ok (Some ps)) c at in
-    listed_text slot room text one.value c one.first cc
-
 pub component_found : (slot : Slot) (room : ℕ) (text : List ℕ) (c : Option (List Part)) → component_of slot room text ≡ Ok c → IsComponent slot text c
-unfolding component_of
-component_found slot room text c at = component_by slot room text (is_star text) c refl at
+component_found slot room text c at =
+    elim (component_is slot room text c at) [
+      | inl star ↦ rw star.1 ((bytes_eq-Decides text (codes "*")).0 star.0)
+      | inr listed ↦ rw listed.1.1 (listed_found slot room text listed.1.0 listed.1.2)
+    ]
 
 -- The bytes of parts and of components
 
@@ -114,19 +95,10 @@ abbrev pub is_component_byte : ℕ → Bool
 is_component_byte b = (b == 42) || ((b == 44) || is_part_byte b)
 
 pub digit_is_part_byte : (b : ℕ) → is_ascii_digit b ≡ true → is_part_byte b ≡ true
-digit_is_part_byte b digit =
-    let range = and_parts (leb 48 b) (leb b 57) digit in
-    let low = leb-true 48 b range.0 in
-    and_from (leb 46 b) (leb b 57) (le-leb 46 b (omega (arith, low))) range.1
-
-digits_are_part_bytes : (bs : List ℕ) → list_all is_ascii_digit bs ≡ true → list_all is_part_byte bs ≡ true
-digits_are_part_bytes [] all = refl
-digits_are_part_bytes (b ∷ bs) all =
-    let parts = and_parts (is_ascii_digit b) (list_all is_ascii_digit bs) all in
-    and_from (is_part_byte b) (list_all is_part_byte bs) (digit_is_part_byte b parts.0) (digits_are_part_bytes bs parts.1)
+digit_is_part_byte b digit = grind (arith, nat_tests)
 
 number_bytes : (text : List ℕ) (n : ℕ) → IsNumber text n → list_all is_part_byte text ≡ true
-number_bytes text n is = digits_are_part_bytes text is.digits
+number_bytes text n is = wider is_ascii_digit is_part_byte text digit_is_part_byte is.digits
 
 end_bytes : (text : List ℕ) (last : Option ℕ) → IsNext (codes "..") text last → list_all is_part_byte text ≡ true
 end_bytes text None is = rw is refl
@@ -150,11 +122,8 @@ texts_clear slot (t ∷ ts) [] zip = absurd zip
 texts_clear slot (t ∷ ts) (p ∷ ps) zip =
     (clear_of is_part_byte is_comma t part_no_comma (part_bytes t zip.0.0 zip.0.1), texts_clear slot ts ps zip.1)
 
-part_byte_in : (bs : List ℕ) → list_all is_part_byte bs ≡ true → list_all is_component_byte bs ≡ true
-part_byte_in [] all = refl
-part_byte_in (b ∷ bs) all =
-    let parts = and_parts (is_part_byte b) (list_all is_part_byte bs) all in
-    and_from (is_component_byte b) (list_all is_component_byte bs) (or_right (b == 42) ((b == 44) || is_part_byte b) (or_right (b == 44) (is_part_byte b) parts.0)) (part_byte_in bs parts.1)
+part_byte_in : (text : List ℕ) → list_all is_part_byte text ≡ true → list_all is_component_byte text ≡ true
+part_byte_in text = wider is_part_byte is_component_byte text (λ b h. or_right (b == 42) ((b == 44) || is_part_byte b) (or_right (b == 44) (is_part_byte b) h))
 
 joined_bytes : (slot : Slot) (ts : List (List ℕ)) (ps : List Part) → AllZip (IsPartOf slot) ts ps → list_all is_component_byte (join_with_byte 44 ts) ≡ true
 joined_bytes slot [] ps zip = refl

@@ -47,19 +47,11 @@ three_by s u year month day t false is first second at =
     rw (← made) (inl (ap (λ front. year ++ (front ++ (month ++ (u ∷ day)))) (sym (dash_is s is first)) ∙ ap (λ front. year ++ (codes "-" ++ (month ++ (front ++ day)))) (sym (sign_is u second))))
 
 date_by_found : (ss : List ℕ) (ts : List (List ℕ)) (t : DateTexts) → AllByRecursion (λ b. is_date_sign b ≡ true) ss → date_texts_by ss ts ≡ Some t → IsDateShape (woven ss ts) t
-date_by_found [] ts t signs at = cc
-date_by_found (s ∷ []) [] t signs at = cc
-date_by_found (s ∷ []) (a ∷ []) t signs at = cc
 date_by_found (s ∷ []) (a ∷ b ∷ []) t signs at =
     let made : record { year = codes "*"; month = a; day = b; from_end = is_tilde s } ≡ t = cc in
     two_found s a b t signs.0 made
-date_by_found (s ∷ []) (a ∷ b ∷ c ∷ ts) t signs at = cc
-date_by_found (s ∷ u ∷ []) [] t signs at = cc
-date_by_found (s ∷ u ∷ []) (a ∷ []) t signs at = cc
-date_by_found (s ∷ u ∷ []) (a ∷ b ∷ []) t signs at = cc
 date_by_found (s ∷ u ∷ []) (a ∷ b ∷ c ∷ []) t signs at = three_by s u a b c t (is_tilde s) refl signs.0 signs.1.0 at
-date_by_found (s ∷ u ∷ []) (a ∷ b ∷ c ∷ d ∷ ts) t signs at = cc
-date_by_found (s ∷ u ∷ v ∷ ss) ts t signs at = cc
+date_by_found ss ts t signs at = cc
 
 date_shape_found : (word : List ℕ) (t : DateTexts) → date_texts word ≡ Some t → IsDateShape word t
 unfolding date_texts
@@ -90,13 +82,11 @@ date_shape_only word t y m d (inr shape) = ap date_texts shape.1 ∙ two_only t.
 -- The shape of a time
 
 time_by_found : (ts : List (List ℕ)) (t : TimeTexts) → time_texts_by ts ≡ Some t → IsTimeShape (join_with_byte 58 ts) t
-time_by_found [] t at = cc
-time_by_found (a ∷ []) t at = cc
 time_by_found (a ∷ b ∷ []) t at =
     let made : record { hour = a; minute = b; second = codes "00" } ≡ t = cc in rw (← made) (inr (refl, refl))
 time_by_found (a ∷ b ∷ c ∷ []) t at =
     let made : record { hour = a; minute = b; second = c } ≡ t = cc in rw (← made) (inl refl)
-time_by_found (a ∷ b ∷ c ∷ d ∷ ts) t at = cc
+time_by_found ts t at = cc
 
 time_shape_found : (word : List ℕ) (t : TimeTexts) → time_texts word ≡ Some t → IsTimeShape word t
 unfolding time_texts

@@ -1,5 +1,5 @@
 -- The fault of a text is the first of all judgements.
-use Rattle.std.proofs.Common.{ℕ, ◌+◌, ◌-◌, ◌<◌, ◌≡◌, Bool, true, false, cond, List, [], ◌∷◌, ◌++◌, length, map, Option, Some, None, Ok, Err, Result, refl, sym, ap, ◌∙◌, arith, ltb, eqb, zero-add}
+use Rattle.std.proofs.Common.{inl, inr, ℕ, ◌+◌, ◌-◌, ◌<◌, ◌≡◌, Bool, true, false, cond, List, [], ◌∷◌, ◌++◌, length, map, Option, Some, None, Ok, Err, Result, refl, sym, ap, ◌∙◌, arith, ltb, eqb, zero-add}
 use Rattle.std.specs.Option.{option_or}
 use Rattle.std.specs.Result.{result_err}
 use Rattle.std.proofs.lemmas.Bool.{eqb-false}
@@ -25,7 +25,7 @@ use Rattle.cal_spec.specs.declared.slot.Slot.{Slot}
 use Rattle.cal_spec.specs.declared.slot.Slot.TheVariants.{Year, Month, Hour, Minute, Second}
 use Rattle.cal_spec.specs.declared.spec_fault.SpecFault.{SpecFault}
 use Rattle.cal_spec.specs.declared.spec_fault.SpecFault.TheVariants.{TextTooLong, TooManyParts}
-use Rattle.cal_spec.proofs.ComponentLemmas.{component_read, parts_of-cons, parts_counted, listed_ok}
+use Rattle.cal_spec.proofs.ComponentLemmas.{component_is, component_read, parts_of-cons, parts_counted}
 use Rattle.cal_spec.proofs.FieldLemmas.{fields_with, DateRead, date_found}
 use Rattle.cal_spec.proofs.ReadLemmas.{Follows, bind_ok, cond_ok}
 
@@ -106,26 +106,12 @@ unfolding component_of component_faults
 component_fault slot before room text sum = star_fault slot before room text (is_star text) sum
 
 -- the count of a component that was read is that of its text
-none_counted : (slot : Slot) (c : Option (List Part)) → None ≡ c → counted slot c ≡ 0
-none_counted slot None is = refl
-none_counted slot (Some ps) is = cc
-
-some_counted : (slot : Slot) (room : ℕ) (text : List ℕ) (ps : List Part) (c : Option (List Part)) → parts_listed slot room text ≡ Ok ps → Some ps ≡ c → counted slot c ≡ cond (is_time slot) (length (pieces_of text) - 1) (length (pieces_of text))
-some_counted slot room text ps None at is = cc
-some_counted slot room text ps (Some qs) at is =
-    let same : ps ≡ qs = cc in
-    let read = listed_ok slot room text qs (rw same at at) in
-    ap (λ n. cond (is_time slot) (n - 1) n) (parts_counted slot (room_in slot room) (pieces_of text) qs read.shapes).0
-
-counted_by : (slot : Slot) (room : ℕ) (text : List ℕ) (star : Bool) (c : Option (List Part)) → cond star (Ok None) (parts_listed slot room text >>= λ ps. Ok (Some ps)) ≡ Ok c → counted slot c ≡ cond star 0 (cond (is_time slot) (length (pieces_of text) - 1) (length (pieces_of text)))
-counted_by slot room text true c at = none_counted slot c cc
-counted_by slot room text false c at =
-    let one = bind_ok (parts_listed slot room text) (λ ps. Ok (Some ps)) c at in
-    some_counted slot room text one.value c one.first cc
-
 pub component_counted : (slot : Slot) (room : ℕ) (text : List ℕ) (c : Option (List Part)) → component_of slot room text ≡ Ok c → counted slot c ≡ numbered slot text
-unfolding component_of
-component_counted slot room text c at = counted_by slot room text (is_star text) c at
+component_counted slot room text c at =
+    elim (component_is slot room text c at) [
+      | inl star ↦ rw (star.1, star.0) refl
+      | inr listed ↦ rw (listed.1.1, listed.0) (ap (λ n. cond (is_time slot) (n - 1) n) (parts_counted slot (room_in slot room) (pieces_of text) listed.1.0 listed.1.2.shapes).0)
+    ]
 
 -- one component more
 left_after : (slot : Slot) (before room : ℕ) (text : List ℕ) (c : Option (List Part)) → before + room ≡ 240 → component_of slot room text ≡ Ok c → before + numbered slot text + (room - counted slot c) ≡ 240

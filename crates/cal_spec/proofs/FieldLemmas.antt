@@ -1,12 +1,14 @@
 -- Fields that were read are those of an expression.
-use Rattle.std.proofs.Common.{ℕ, ℤ, ◌-◌, ◌≤◌, ◌≡◌, Bool, true, false, cond, ◌||◌, List, [], ◌∷◌, length, map, Option, Some, None, Ok, Err, Result, refl, arith, ltb, codes, subst}
+use Rattle.std.proofs.Common.{ℕ, ℤ, ◌-◌, ◌+◌, ◌≤◌, ◌≡◌, Bool, true, false, cond, List, [], ◌∷◌, length, map, Option, Some, None, Ok, Err, Result, refl, arith, ltb, codes, subst}
 use Rattle.std.specs.Prelude.{IfOk, is_some}
 use Rattle.std.specs.List.{list_any, slice_split}
 use Rattle.std.specs.Option.{ok_or, option_map}
 use Rattle.std.specs.Str.{str_eq_ignore_ascii_case}
-use Rattle.std.proofs.lemmas.Bool.{or_left, or_right, le-leb, ltb-false}
+use Rattle.std.proofs.lemmas.Bool.{or_left, le-leb, ltb-false}
+use Rattle.std.proofs.lemmas.List.Folds.{list_any_at}
 use Rattle.jiff_core.specs.declared.civil.weekday.Weekday.{Weekday}
 use Rattle.jiff_core.specs.declared.civil.weekday.Weekday.TheVariants.{Monday, Tuesday, Wednesday, Thursday, Friday, Saturday, Sunday}
+use Rattle.jiff_core.specs.Weekday.{monday_zero}
 use Rattle.cal_zone.specs.headline.Weekday.{week}
 use Rattle.cal_text.specs.headline.Separators.{is_comma}
 use Rattle.cal_spec.specs.Components.{most_counted, counted, component_of}
@@ -121,22 +123,16 @@ items_of-cons t ts items at =
 
 -- a weekday that is in the set makes it one with some day
 among_week : (f : Weekday → Bool) (day : Weekday) → f day ≡ true → list_any (λ d. d) (map f week) ≡ true
-among_week f Monday h = or_left (f Monday) (f Tuesday || (f Wednesday || (f Thursday || (f Friday || (f Saturday || (f Sunday || false)))))) h
-among_week f Tuesday h = or_right (f Monday) (f Tuesday || (f Wednesday || (f Thursday || (f Friday || (f Saturday || (f Sunday || false)))))) (or_left (f Tuesday) (f Wednesday || (f Thursday || (f Friday || (f Saturday || (f Sunday || false))))) h)
-among_week f Wednesday h = or_right (f Monday) (f Tuesday || (f Wednesday || (f Thursday || (f Friday || (f Saturday || (f Sunday || false)))))) (or_right (f Tuesday) (f Wednesday || (f Thursday || (f Friday || (f Saturday || (f Sunday || false))))) (or_left (f Wednesday) (f Thursday || (f Friday || (f Saturday || (f Sunday || false)))) h))
-among_week f Thursday h = or_right (f Monday) (f Tuesday || (f Wednesday || (f Thursday || (f Friday || (f Saturday || (f Sunday || false)))))) (or_right (f Tuesday) (f Wednesday || (f Thursday || (f Friday || (f Saturday || (f Sunday || false))))) (or_right (f Wednesday) (f Thursday || (f Friday || (f Saturday || (f Sunday || false)))) (or_left (f Thursday) (f Friday || (f Saturday || (f Sunday || false))) h)))
-among_week f Friday h = or_right (f Monday) (f Tuesday || (f Wednesday || (f Thursday || (f Friday || (f Saturday || (f Sunday || false)))))) (or_right (f Tuesday) (f Wednesday || (f Thursday || (f Friday || (f Saturday || (f Sunday || false))))) (or_right (f Wednesday) (f Thursday || (f Friday || (f Saturday || (f Sunday || false)))) (or_right (f Thursday) (f Friday || (f Saturday || (f Sunday || false))) (or_left (f Friday) (f Saturday || (f Sunday || false)) h))))
-among_week f Saturday h = or_right (f Monday) (f Tuesday || (f Wednesday || (f Thursday || (f Friday || (f Saturday || (f Sunday || false)))))) (or_right (f Tuesday) (f Wednesday || (f Thursday || (f Friday || (f Saturday || (f Sunday || false))))) (or_right (f Wednesday) (f Thursday || (f Friday || (f Saturday || (f Sunday || false)))) (or_right (f Thursday) (f Friday || (f Saturday || (f Sunday || false))) (or_right (f Friday) (f Saturday || (f Sunday || false)) (or_left (f Saturday) (f Sunday || false) h)))))
-among_week f Sunday h = or_right (f Monday) (f Tuesday || (f Wednesday || (f Thursday || (f Friday || (f Saturday || (f Sunday || false)))))) (or_right (f Tuesday) (f Wednesday || (f Thursday || (f Friday || (f Saturday || (f Sunday || false))))) (or_right (f Wednesday) (f Thursday || (f Friday || (f Saturday || (f Sunday || false)))) (or_right (f Thursday) (f Friday || (f Saturday || (f Sunday || false))) (or_right (f Friday) (f Saturday || (f Sunday || false)) (or_right (f Saturday) (f Sunday || false) (or_left (f Sunday) false h))))))
+among_week f Monday h = list_any_at (λ d. d) (map f week) 0 false (omega arith) h
+among_week f Tuesday h = list_any_at (λ d. d) (map f week) 1 false (omega arith) h
+among_week f Wednesday h = list_any_at (λ d. d) (map f week) 2 false (omega arith) h
+among_week f Thursday h = list_any_at (λ d. d) (map f week) 3 false (omega arith) h
+among_week f Friday h = list_any_at (λ d. d) (map f week) 4 false (omega arith) h
+among_week f Saturday h = list_any_at (λ d. d) (map f week) 5 false (omega arith) h
+among_week f Sunday h = list_any_at (λ d. d) (map f week) 6 false (omega arith) h
 
 none_until : (day : Weekday) → days_until day day ≡ 0
-none_until Monday = refl
-none_until Tuesday = refl
-none_until Wednesday = refl
-none_until Thursday = refl
-none_until Friday = refl
-none_until Saturday = refl
-none_until Sunday = refl
+none_until day = let week : monday_zero day + 7 - monday_zero day ≡ 7 = omega arith in rw week refl
 
 covers_first : (days : Days) → is_covered days.first days ≡ true
 covers_first days = rw (none_until days.first) (le-leb 0 (days_until days.first days.last) (omega arith))

@@ -1,8 +1,8 @@
 -- How long normal texts are: fewer than 4,096 bytes.
-use Rattle.std.proofs.Common.{◌≡◌, ℕ, zero, suc, ◌+◌, ◌-◌, ◌*◌, ◌/◌, ◌^◌, ◌<◌, ◌≤◌, Bool, true, false, ◌&&◌, nat_le, List, [], ◌∷◌, ◌++◌, length, codes, Option, None, Some, refl, sym, subst, lit≤, arith, length-append}
+use Rattle.std.proofs.Common.{◌≡◌, ℕ, zero, suc, ◌+◌, ◌-◌, ◌*◌, ◌/◌, ◌^◌, ◌<◌, ◌≤◌, Bool, true, false, nat_le, List, [], ◌∷◌, ◌++◌, length, codes, Option, None, Some, refl, sym, subst, lit≤, arith, length-append}
 use Rattle.std.specs.Fmt.{decimal}
 use Rattle.std.specs.List.{AllByRecursion, flat_map}
-use Rattle.std.proofs.lemmas.Bool.{and_parts, leb-true}
+use Rattle.std.proofs.lemmas.Bool.{leb-true}
 use Rattle.std.proofs.lemmas.Fmt.{length-decimal-le}
 use Rattle.std.proofs.lemmas.List.{length-replicate}
 use Rattle.std.proofs.lemmas.Nat.{div-add-mod'}
@@ -22,7 +22,7 @@ use Rattle.cal_spec.specs.headline.ZoneSuffix.{ZoneSuffix, suffix_text}
 use Rattle.cal_spec.proofs.SuffixLemmas.{suffix_word}
 use Rattle.cal_spec.specs.declared.part.Part.{Part}
 use Rattle.cal_spec.specs.declared.slot.Slot.{Slot}
-use Rattle.cal_spec.specs.declared.slot.Slot.TheVariants.{Year, Month, Day, DayFromEnd, Hour, Minute, Second}
+use Rattle.cal_spec.specs.declared.slot.Slot.TheVariants.{Year, Month, DayFromEnd, Hour, Minute, Second}
 use Rattle.cal_spec.proofs.NormalFieldsLemmas.{are_normal, component_sound, fields_valid, starred_is}
 use Rattle.cal_spec.proofs.NormalLemmas.{each_part}
 use Rattle.cal_text.proofs.General.{check_all, each_checked}
@@ -45,21 +45,12 @@ AreSmall (Some ps) = AllByRecursion IsSmall ps
 
 slot_bounds : (slot : Slot) → (greatest slot ≤ 2199) × (greatest slot ≤ least slot + 229)
 slot_bounds Year = (lit≤ tt, lit≤ tt)
-slot_bounds Month = (lit≤ tt, lit≤ tt)
-slot_bounds Day = (lit≤ tt, lit≤ tt)
-slot_bounds DayFromEnd = (lit≤ tt, lit≤ tt)
-slot_bounds Hour = (lit≤ tt, lit≤ tt)
-slot_bounds Minute = (lit≤ tt, lit≤ tt)
-slot_bounds Second = (lit≤ tt, lit≤ tt)
+slot_bounds slot = (lit≤ tt, lit≤ tt)
 
 repeat_below : (slot : Slot) (a r : ℕ) → IsWithin slot a → IsSecondWithin slot a r → r < 1_000
 repeat_below Year a r within goes = omega (arith, within.0)
-repeat_below Month a r within goes = omega arith
-repeat_below Day a r within goes = omega arith
 repeat_below DayFromEnd a r within goes = omega (arith, within.1)
-repeat_below Hour a r within goes = omega arith
-repeat_below Minute a r within goes = omega arith
-repeat_below Second a r within goes = omega arith
+repeat_below slot a r within goes = omega arith
 
 step_below : (slot : Slot) (a : ℕ) (end step : Option ℕ) → IsWithin slot a → IsEndWithin slot end → GoesOn slot a end step → IsNormalTo a end step → IsBelow 1_000 step
 step_below slot a None None start last goes normal = tt

@@ -20,11 +20,11 @@ use Rattle.cal_spec.specs.ValidFields.{IsValidFields}
 use Rattle.cal_spec.specs.declared.part.Part.{Part}
 use Rattle.cal_spec.specs.declared.slot.Slot.{Slot}
 use Rattle.cal_spec.specs.declared.slot.Slot.TheVariants.{Year, Month, Hour, Minute, Second}
-use Rattle.cal_spec.proofs.NormalLemmas.{part_eq_exact, part_exact, part_total, parts_from_sound}
+use Rattle.cal_spec.proofs.NormalLemmas.{part_eq_exact, part_exact, parts_from_sound}
 use Rattle.cal_spec.proofs.OrderLemmas.{has_in_order}
 use Rattle.std.specs.Cmp.{both_ways}
 use Rattle.cal_spec.proofs.ReducedLemmas.{last_lies, last_of, last_reached}
-use Rattle.cal_text.proofs.General.{list_any-map, list_any-same}
+use Rattle.cal_text.proofs.General.{list_any-map, list_any-same, option_or_none}
 
 -- a range of one number
 one_number : (a v : ℕ) → nat_eq v a ≡ lies a a v
@@ -106,11 +106,11 @@ every_second v = sym (every_number 0 59 v)
 starred_by : (t : Bool) (p : Part) (v : ℕ) → part_eq p each ≡ t → component_has Second (cond t None (Some (p ∷ []))) v ≡ component_has Second (Some (p ∷ [])) v
 starred_by true p v is =
     let here : part_has Second p v ≡ lies 0 59 v = ap (λ q. part_has Second q v) (part_eq_exact p each is) ∙ every_second v in
-    sym (or_none (part_has Second p v) ∙ here)
+    sym (option_or_none (part_has Second p v) ∙ here)
   where
-    or_none : (b : Bool) → (b || false) ≡ b
-    or_none true = refl
-    or_none false = refl
+    option_or_none : (b : Bool) → (b || false) ≡ b
+    option_or_none true = refl
+    option_or_none false = refl
 starred_by false p v is = refl
 
 starred_has : (ps : List Part) (v : ℕ) → component_has Second (starred ps) v ≡ component_has Second (Some ps) v

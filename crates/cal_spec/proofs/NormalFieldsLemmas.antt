@@ -4,7 +4,7 @@ use Rattle.std.specs.List.{AllByRecursion}
 use Rattle.std.specs.List.Sorted.{IsStrictlySortedBy}
 use Rattle.std.proofs.lemmas.List.{length-map}
 use Rattle.std.specs.declared.cmp.Ordering.{Ordering}
-use Rattle.std.specs.declared.cmp.Ordering.TheVariants.{Less, Equal, Greater}
+use Rattle.std.specs.declared.cmp.Ordering.TheVariants.{Less}
 use Rattle.std.specs.BTreeSet.{insert_key}
 use Rattle.std.specs.Ordering.{match_ordering}
 use Rattle.cal_rising.proofs.OrderLemmas.{all_at, all_from, same_sorted}
@@ -96,8 +96,7 @@ normal_twice raw all = normal_fixed (normal_parts raw) (are_normal raw all)
 length_inserted : (o : Ordering) (x y : Part) (ys more : List Part) → 0 < length more → length more ≤ length ys + 1
     → (0 < length (match_ordering o (x ∷ y ∷ ys) (y ∷ ys) (y ∷ more))) × (length (match_ordering o (x ∷ y ∷ ys) (y ∷ ys) (y ∷ more)) ≤ length (y ∷ ys) + 1)
 length_inserted Less x y ys more some few = (omega arith, omega arith)
-length_inserted Equal x y ys more some few = (omega arith, omega arith)
-length_inserted Greater x y ys more some few = (omega arith, omega arith)
+length_inserted o x y ys more some few = (omega arith, omega arith)
 
 length-insert_key : (x : Part) (ys : List Part) → (0 < length (insert_key part_cmp ys x)) × (length (insert_key part_cmp ys x) ≤ length ys + 1)
 length-insert_key x [] = (omega arith, omega arith)

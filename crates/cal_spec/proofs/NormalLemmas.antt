@@ -7,7 +7,7 @@ use Rattle.std.specs.List.Sorted.{IsPermutation, IsSorted}
 use Rattle.std.specs.Option.{option_cmp, option_eq}
 use Rattle.std.specs.Ordering.{nat_cmp, ordering_then, is_eq, eq_by_cmp}
 use Rattle.std.specs.declared.cmp.Ordering.{Ordering}
-use Rattle.std.specs.declared.cmp.Ordering.TheVariants.{Less, Equal, Greater}
+use Rattle.std.specs.declared.cmp.Ordering.TheVariants.{Equal}
 use Rattle.std.proofs.lemmas.Bool.Decides.{nat_tests}
 use Rattle.std.proofs.lemmas.Cmp.{eq_by_cmp_equiv}
 use Rattle.std.proofs.lemmas.List.Kept.{IsStrictlySortedBy-dedup, Contains-dedup, Contains-from_dedup}
@@ -44,14 +44,12 @@ nat_tied a b h = grind (arith, nat_tests)
 
 option_tied : (a b : Option ℕ) → option_cmp nat_cmp a b ≡ Equal → a ≡ b
 option_tied None None h = refl
-option_tied None (Some y) h = cc
-option_tied (Some x) None h = cc
 option_tied (Some x) (Some y) h = ap Some (nat_tied x y h)
+option_tied a b h = cc
 
 then_tied : (o q : Ordering) → ordering_then o q ≡ Equal → (o ≡ Equal) × (q ≡ Equal)
-then_tied Less q h = cc
 then_tied Equal q h = (refl, h)
-then_tied Greater q h = cc
+then_tied o q h = cc
 
 pub same_part : (p q : Part) → p.start ≡ q.start → p.end ≡ q.end → p.step ≡ q.step → p ≡ q
 same_part p q start end step =
@@ -70,10 +68,9 @@ nat_ties : (a b : ℕ) → nat_eq a b ≡ is_eq (nat_cmp a b)
 nat_ties a b = grind (arith, nat_tests)
 
 option_ties : (a b : Option ℕ) → option_eq nat_eq a b ≡ is_eq (option_cmp nat_cmp a b)
-option_ties None None = refl
-option_ties None (Some y) = refl
-option_ties (Some x) None = refl
 option_ties (Some x) (Some y) = nat_ties x y
+option_ties None None = refl
+option_ties a b = refl
 
 pub part_ties : (p q : Part) → part_eq p q ≡ eq_by_cmp part_cmp p q
 unfolding part_cmp
@@ -84,9 +81,8 @@ part_ties p q =
 pub part_eq_exact : (p q : Part) → part_eq p q ≡ true → p ≡ q
 part_eq_exact p q h = part_exact p q (tied (part_cmp p q) (sym (part_ties p q) ∙ h)) where
   tied : (o : Ordering) → is_eq o ≡ true → o ≡ Equal
-  tied Less e = cc
   tied Equal e = refl
-  tied Greater e = cc
+  tied o e = cc
 
 -- parts once each stay the parts
 part_equiv : IsEquivalence part_eq

@@ -31,10 +31,7 @@ written = flat_map spelled
 written-digit : (b : ℕ) (ss : List Symbol) → written (with_digit b ss) ≡ b ∷ written ss
 written-digit b [] = refl
 written-digit b (digits ds ∷ ss) = refl
-written-digit b (dots ∷ ss) = refl
-written-digit b (slash ∷ ss) = refl
-written-digit b (point ∷ ss) = refl
-written-digit b (other c ∷ ss) = refl
+written-digit b ss = refl
 
 spelled-lone : (b : ℕ) (p s : Bool) → is_point b ≡ p → is_slash b ≡ s → spelled (cond p point (cond s slash (other b))) ≡ b ∷ []
 spelled-lone b true s is_p is_s = ap (λ c. c ∷ []) (sym (eqb-true b 46 is_p))
@@ -85,12 +82,8 @@ digits_read slot ds ss r sound at =
     }
 
 number_read : (slot : Slot) (ss : List Symbol) (r : Counted) → AllByRecursion IsSymbol ss → number_due slot ss ≡ Ok r → NumberRead ss r
-number_read slot [] r sound at = cc
 number_read slot (digits ds ∷ ss) r sound at = digits_read slot ds ss r sound.0 at
-number_read slot (dots ∷ ss) r sound at = cc
-number_read slot (slash ∷ ss) r sound at = cc
-number_read slot (point ∷ ss) r sound at = cc
-number_read slot (other b ∷ ss) r sound at = cc
+number_read slot ss r sound at = cc
 
 after_sound : (ss : List Symbol) (r : Counted) → AllByRecursion IsSymbol ss → NumberRead ss r → AllByRecursion IsSymbol r.after
 after_sound ss r sound read = (rw read.is at sound).1
@@ -122,10 +115,7 @@ end_read : (slot : Slot) (a b : ℕ) (ss : List Symbol) (p : Part) → AllByRecu
 unfolding after_end
 end_read slot a b [] p sound at = record { step = None; back = refl; is = cc }
 end_read slot a b (slash ∷ ss) p sound at = step_read slot a (Some b) ss p sound.1 at
-end_read slot a b (digits ds ∷ ss) p sound at = cc
-end_read slot a b (dots ∷ ss) p sound at = cc
-end_read slot a b (point ∷ ss) p sound at = cc
-end_read slot a b (other c ∷ ss) p sound at = cc
+end_read slot a b ss p sound at = cc
 
 -- what comes after the first number of a part
 pub record IsRest (text : List ℕ) (a : ℕ) (p : Part) : Type 0 where
@@ -171,9 +161,7 @@ unfolding after_start
 start_read slot a [] p sound at = rest_from_step [] a p (record { step = None; back = refl; is = cc })
 start_read slot a (dots ∷ ss) p sound at = range_read slot a ss p sound.1 at
 start_read slot a (slash ∷ ss) p sound at = rest_from_step (slash ∷ ss) a p (step_read slot a None ss p sound.1 at)
-start_read slot a (digits ds ∷ ss) p sound at = cc
-start_read slot a (point ∷ ss) p sound at = cc
-start_read slot a (other c ∷ ss) p sound at = cc
+start_read slot a ss p sound at = cc
 
 part_by : (text front middle back : List ℕ) (a : ℕ) (last step : Option ℕ) (p : Part) → record { start = a; end = last; step = step } ≡ p → text ≡ front ++ (middle ++ back) → IsNumber front a → IsNext (codes "..") middle last → IsNext (codes "/") back step → IsPartText text p
 part_by text front middle back a last step p is whole start_is end_is step_is =

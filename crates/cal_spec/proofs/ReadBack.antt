@@ -1,17 +1,15 @@
 -- The normal text of an expression is read as the expression.
-use Rattle.std.proofs.Common.{◌≡◌, ℕ, ◌+◌, ◌-◌, ◌<◌, ◌≤◌, Bool, true, false, ◌||◌, nat_eq, nat_lt, List, [], ◌∷◌, ◌++◌, length, codes, Option, None, Some, Ok, refl, sym, ap, ◌∙◌, arith, append_assoc}
+use Rattle.std.proofs.Common.{◌≡◌, ℕ, ◌<◌, Bool, true, false, ◌||◌, nat_eq, nat_lt, List, [], ◌∷◌, ◌++◌, length, codes, Option, None, Some, Ok, refl, ap, ◌∙◌, arith, append_assoc, inl}
 use Rattle.std.specs.Prelude.{filter}
 use Rattle.std.specs.Char.{is_ascii_alphabetic}
-use Rattle.std.specs.List.{list_all, list_any, slice_split}
-use Rattle.std.proofs.lemmas.Bool.{and_parts, le-ltb, lt-ltb, or_parts}
+use Rattle.std.specs.List.{list_all, list_any}
+use Rattle.std.proofs.lemmas.Bool.{and_parts, le-ltb, lt-ltb}
 use Rattle.std.proofs.lemmas.Bool.Decides.{nat_tests}
-use Rattle.std.proofs.lemmas.List.{append-nil, length-append}
+use Rattle.std.proofs.lemmas.List.{append-nil}
 use Rattle.cal_bytes.specs.headline.Bytes.{joined}
-use Rattle.cal_spec.specs.Components.{counted}
-use Rattle.cal_spec.specs.DateAndTime.{DateFields, TimeFields, date_due, date_fields, date_in_word, date_texts, is_date_sign, is_tilde, room_after, time_due, time_fields, time_in_word, time_texts}
 use Rattle.cal_text.specs.headline.Separators.{is_colon}
 use Rattle.cal_spec.specs.headline.ExprText.{component_text, day_lead, expr_text, fields_text, row_text, zone_text}
-use Rattle.cal_spec.specs.headline.Fields.{Fields, counted_parts, parts_in}
+use Rattle.cal_spec.specs.headline.Fields.{Fields}
 use Rattle.cal_spec.specs.Grammar.{fields_at, fields_in}
 use Rattle.cal_spec.specs.NormalForm.{normal_fields}
 use Rattle.cal_spec.specs.headline.Slot.{day_slot}
@@ -21,22 +19,23 @@ use Rattle.cal_spec.specs.Weekdays.{weekdays_in}
 use Rattle.cal_spec.specs.Words.{after_weekdays, date_or_time, roles_of}
 use Rattle.cal_text.specs.headline.Words.{is_blank, words}
 use Rattle.cal_spec.specs.headline.Words.{Roles}
-use Rattle.cal_zone.specs.headline.ZoneName.{begins_with_letter, is_zone_byte}
+use Rattle.cal_zone.specs.headline.ZoneName.{begins_with_letter}
 use Rattle.cal_zone.specs.OffsetWord.{begins_zone}
 use Rattle.cal_zone.specs.headline.OffsetWord.{begins_with_sign, is_sign}
 use Rattle.cal_spec.specs.ZoneSuffix.{IsSuffixOption, suffix_due, suffix_in}
 use Rattle.cal_spec.specs.headline.ZoneSuffix.{ZoneSuffix, suffix_text}
 use Rattle.cal_spec.proofs.SuffixLemmas.{suffix_word, letter_some}
-use Rattle.cal_spec.specs.declared.part.Part.{Part}
 use Rattle.cal_spec.specs.declared.slot.Slot.TheVariants.{Year, Month, Hour, Minute, Second}
 use Rattle.cal_spec.proofs.LengthLemmas.{AreSmall, expr_length, small_component, small_second}
 use Rattle.cal_spec.proofs.NormalFieldsLemmas.{fields_valid}
-use Rattle.cal_text.proofs.General.{split_alone, split_at, some_front, both_all, clear_of, filter_alone, filter_at, wider}
-use Rattle.cal_spec.proofs.ReadBackParts.{component_back, component_bytes, component_some, is_component_byte}
+use Rattle.cal_text.proofs.General.{split_alone, split_at, some_front, both_all, clear_of, wider}
+use Rattle.cal_spec.proofs.ComponentRule.{is_component_byte}
+use Rattle.cal_spec.proofs.ReadBackParts.{component_printed, printed_bytes, printed_some}
+use Rattle.cal_spec.specs.headline.GrammarRule.{IsDate, IsTime, last_sign}
 use Rattle.cal_spec.proofs.ReadBackWeekdays.{ReadsDays, weekdays_all, weekdays_some}
 use Rattle.cal_spec.proofs.WordRule.{no_shorthand}
 use Rattle.cal_spec.proofs.WeekdayLemmas.{weekdays_text-all, weekdays_text-some}
-use Rattle.cal_spec.proofs.DateRule.{date_with, time_with}
+use Rattle.cal_spec.proofs.DateRule.{are_few, date_only, time_only}
 
 -- fields that are read back: valid, with small numbers
 pub record IsReadable (f : Fields) : Type 0 where
@@ -50,38 +49,22 @@ pub record IsReadable (f : Fields) : Type 0 where
 
 -- The words of the date and of the time
 
-abbrev sign : Bool → ℕ
-sign true = 126
-sign false = 45
-
 date_word : Fields → List ℕ
-date_word f = component_text 4 f.year ++ (45 ∷ (component_text 2 f.month ++ (sign f.from_end ∷ component_text 2 f.day)))
+date_word f = component_text 4 f.year ++ (45 ∷ (component_text 2 f.month ++ (day_lead f.from_end ++ component_text 2 f.day)))
 
 time_word : Fields → List ℕ
 time_word f = component_text 2 f.hour ++ (58 ∷ (component_text 2 f.minute ++ (58 ∷ component_text 2 f.second)))
 
-regrouped : (a b c rest : List ℕ) (s : ℕ) → (a ++ (45 ∷ (b ++ (s ∷ c)))) ++ rest ≡ a ++ (45 ∷ (b ++ (s ∷ (c ++ rest))))
-regrouped a b c rest s = append_assoc a (45 ∷ (b ++ (s ∷ c))) rest ∙ ap (λ t. a ++ (45 ∷ t)) (append_assoc b (s ∷ c) rest)
-
-layout : (t : Bool) (a b c d e g : List ℕ)
-    → joined (joined ([] ∷ a ∷ []) ∷ joined (codes "-" ∷ b ∷ []) ∷ joined (day_lead t ∷ c ∷ []) ∷ joined (codes " " ∷ d ∷ []) ∷ joined (codes ":" ∷ e ∷ []) ∷ joined (codes ":" ∷ g ∷ []) ∷ [])
-    ≡ (a ++ (45 ∷ (b ++ (sign t ∷ c)))) ++ (32 ∷ (d ++ (58 ∷ (e ++ (58 ∷ g)))))
-layout true a b c d e g =
-    rw (append-nil a, append-nil b, append-nil c, append-nil d, append-nil e, append-nil g, append-nil g) (sym (regrouped a b c (32 ∷ (d ++ (58 ∷ (e ++ (58 ∷ g))))) 126))
-layout false a b c d e g =
-    rw (append-nil a, append-nil b, append-nil c, append-nil d, append-nil e, append-nil g, append-nil g) (sym (regrouped a b c (32 ∷ (d ++ (58 ∷ (e ++ (58 ∷ g))))) 45))
+layout : (lead a b c d e g : List ℕ)
+    → joined (joined ([] ∷ a ∷ []) ∷ joined (codes "-" ∷ b ∷ []) ∷ joined (lead ∷ c ∷ []) ∷ joined (codes " " ∷ d ∷ []) ∷ joined (codes ":" ∷ e ∷ []) ∷ joined (codes ":" ∷ g ∷ []) ∷ [])
+    ≡ (a ++ (45 ∷ (b ++ (lead ++ c)))) ++ (32 ∷ (d ++ (58 ∷ (e ++ (58 ∷ g)))))
+layout lead a b c d e g =
+    rw (append-nil a, append-nil b, append-nil c, append-nil d, append-nil e, append-nil g, append-nil g) (simp append_assoc)
 
 fields_printed : (f : Fields) → fields_text f ≡ date_word f ++ (32 ∷ time_word f)
 unfolding fields_text row_text date_word time_word
 fields_printed f =
-    layout f.from_end (component_text 4 f.year) (component_text 2 f.month) (component_text 2 f.day) (component_text 2 f.hour) (component_text 2 f.minute) (component_text 2 f.second)
-
--- what no component has
-no_sign : (b : ℕ) → is_component_byte b ≡ true → is_date_sign b ≡ false
-no_sign b h = grind (arith, nat_tests)
-
-no_colon : (b : ℕ) → is_component_byte b ≡ true → is_colon b ≡ false
-no_colon b h = grind (arith, nat_tests)
+    layout (day_lead f.from_end) (component_text 4 f.year) (component_text 2 f.month) (component_text 2 f.day) (component_text 2 f.hour) (component_text 2 f.minute) (component_text 2 f.second)
 
 -- the bytes of a date, of a time, and of neither weekdays nor zones
 abbrev is_date_byte : ℕ → Bool
@@ -111,38 +94,36 @@ time_no_blank b h = grind (arith, nat_tests)
 time_no_letter : (b : ℕ) → is_time_byte b ≡ true → is_ascii_alphabetic b ≡ false
 time_no_letter b h = grind (arith, nat_tests)
 
-component_clear : (p : ℕ → Bool) (width : ℕ) (c : Option (List Part)) → ((b : ℕ) → is_component_byte b ≡ true → p b ≡ false) → AreSmall c → list_any p (component_text width c) ≡ false
-component_clear p width c apart small = clear_of is_component_byte p (component_text width c) apart (component_bytes width c small)
-
-sign_in_date : (t : Bool) → is_date_byte (sign t) ≡ true
-sign_in_date true = refl
-sign_in_date false = refl
+lead_in_date : (t : Bool) → list_all is_date_byte (day_lead t) ≡ true
+lead_in_date true = refl
+lead_in_date false = refl
 
 date_bytes : (f : Fields) → IsReadable f → list_all is_date_byte (date_word f) ≡ true
 unfolding date_word
 date_bytes f h =
-    both_all is_date_byte (component_text 4 f.year) (45 ∷ (component_text 2 f.month ++ (sign f.from_end ∷ component_text 2 f.day)))
-    (wider is_component_byte is_date_byte (component_text 4 f.year) in_date (component_bytes 4 f.year h.year))
-    (both_all is_date_byte (component_text 2 f.month) (sign f.from_end ∷ component_text 2 f.day)
-    (wider is_component_byte is_date_byte (component_text 2 f.month) in_date (component_bytes 2 f.month h.month))
-    (rw (sign_in_date f.from_end) (wider is_component_byte is_date_byte (component_text 2 f.day) in_date (component_bytes 2 f.day h.day))))
+    both_all is_date_byte (component_text 4 f.year) (45 ∷ (component_text 2 f.month ++ (day_lead f.from_end ++ component_text 2 f.day)))
+    (wider is_component_byte is_date_byte (component_text 4 f.year) in_date (printed_bytes Year 4 f.year h.valid.year h.year))
+    (both_all is_date_byte (component_text 2 f.month) (day_lead f.from_end ++ component_text 2 f.day)
+    (wider is_component_byte is_date_byte (component_text 2 f.month) in_date (printed_bytes Month 2 f.month h.valid.month h.month))
+    (both_all is_date_byte (day_lead f.from_end) (component_text 2 f.day) (lead_in_date f.from_end)
+    (wider is_component_byte is_date_byte (component_text 2 f.day) in_date (printed_bytes (day_slot f.from_end) 2 f.day h.valid.day h.day))))
 
 time_bytes : (f : Fields) → IsReadable f → list_all is_time_byte (time_word f) ≡ true
 unfolding time_word
 time_bytes f h =
     both_all is_time_byte (component_text 2 f.hour) (58 ∷ (component_text 2 f.minute ++ (58 ∷ component_text 2 f.second)))
-    (wider is_component_byte is_time_byte (component_text 2 f.hour) in_time (component_bytes 2 f.hour h.hour))
+    (wider is_component_byte is_time_byte (component_text 2 f.hour) in_time (printed_bytes Hour 2 f.hour h.valid.hour h.hour))
     (both_all is_time_byte (component_text 2 f.minute) (58 ∷ component_text 2 f.second)
-    (wider is_component_byte is_time_byte (component_text 2 f.minute) in_time (component_bytes 2 f.minute h.minute))
-    (wider is_component_byte is_time_byte (component_text 2 f.second) in_time (component_bytes 2 f.second h.second)))
+    (wider is_component_byte is_time_byte (component_text 2 f.minute) in_time (printed_bytes Minute 2 f.minute h.valid.minute h.minute))
+    (wider is_component_byte is_time_byte (component_text 2 f.second) in_time (printed_bytes Second 2 f.second h.valid.second h.second)))
 
 date_some : (f : Fields) → IsReadable f → 0 < length (date_word f)
 unfolding date_word
-date_some f h = some_front (component_text 4 f.year) _ (component_some 4 f.year Year h.valid.year h.year)
+date_some f h = some_front (component_text 4 f.year) _ (printed_some Year 4 f.year h.valid.year h.year)
 
 time_some : (f : Fields) → IsReadable f → 0 < length (time_word f)
 unfolding time_word
-time_some f h = some_front (component_text 2 f.hour) _ (component_some 2 f.hour Hour h.valid.hour h.hour)
+time_some f h = some_front (component_text 2 f.hour) _ (printed_some Hour 2 f.hour h.valid.hour h.hour)
 
 no_letter_first : (q : ℕ → Bool) (word : List ℕ) → ((b : ℕ) → q b ≡ true → is_ascii_alphabetic b ≡ false) → list_all q word ≡ true → begins_with_letter word ≡ false
 no_letter_first q [] apart all = refl
@@ -160,110 +141,42 @@ date_zone : (f : Fields) → IsReadable f → begins_zone (date_word f) ≡ fals
 unfolding date_word
 date_zone f h =
     let letter = no_letter_first is_date_byte (date_word f) date_no_letter (date_bytes f h) in
-    let sign = front_no_sign (component_text 4 f.year) (45 ∷ (component_text 2 f.month ++ (sign f.from_end ∷ component_text 2 f.day))) (component_some 4 f.year Year h.valid.year h.year) (component_bytes 4 f.year h.year) in
+    let sign = front_no_sign (component_text 4 f.year) (45 ∷ (component_text 2 f.month ++ (day_lead f.from_end ++ component_text 2 f.day))) (printed_some Year 4 f.year h.valid.year h.year) (printed_bytes Year 4 f.year h.valid.year h.year) in
     rw (letter, sign) refl
 
 time_zone : (f : Fields) → IsReadable f → begins_zone (time_word f) ≡ false
 unfolding time_word
 time_zone f h =
     let letter = no_letter_first is_time_byte (time_word f) time_no_letter (time_bytes f h) in
-    let sign = front_no_sign (component_text 2 f.hour) (58 ∷ (component_text 2 f.minute ++ (58 ∷ component_text 2 f.second))) (component_some 2 f.hour Hour h.valid.hour h.hour) (component_bytes 2 f.hour h.hour) in
+    let sign = front_no_sign (component_text 2 f.hour) (58 ∷ (component_text 2 f.minute ++ (58 ∷ component_text 2 f.second))) (printed_some Hour 2 f.hour h.valid.hour h.hour) (printed_bytes Hour 2 f.hour h.valid.hour h.hour) in
     rw (letter, sign) refl
 
 -- Date and time
 
-sign_is : (t : Bool) → is_date_sign (sign t) ≡ true
-sign_is true = refl
-sign_is false = refl
+lead_is : (t : Bool) → day_lead t ≡ last_sign t
+lead_is true = refl
+lead_is false = refl
 
-tilde_is : (t : Bool) → is_tilde (sign t) ≡ t
-tilde_is true = refl
-tilde_is false = refl
-
-three_of : (t : Bool) (a b c : List ℕ) → list_any is_date_sign a ≡ false → list_any is_date_sign b ≡ false → list_any is_date_sign c ≡ false
-    → date_texts (a ++ (45 ∷ (b ++ (sign t ∷ c)))) ≡ Some (record { year = a; month = b; day = c; from_end = t })
-unfolding date_texts
-three_of t a b c ca cb cc' =
-    let signs : filter is_date_sign (a ++ (45 ∷ (b ++ (sign t ∷ c)))) ≡ 45 ∷ sign t ∷ [] =
-    filter_at is_date_sign a 45 (b ++ (sign t ∷ c)) ca refl
-    ∙ ap (λ ss. 45 ∷ ss) (filter_at is_date_sign b (sign t) c cb (sign_is t) ∙ ap (λ ss. sign t ∷ ss) (filter_alone is_date_sign c cc')) in
-    let texts : slice_split is_date_sign (a ++ (45 ∷ (b ++ (sign t ∷ c)))) ≡ a ∷ b ∷ c ∷ [] =
-    split_at is_date_sign a 45 (b ++ (sign t ∷ c)) ca refl
-    ∙ ap (λ ts. a ∷ ts) (split_at is_date_sign b (sign t) c cb (sign_is t) ∙ ap (λ ts. b ∷ ts) (split_alone is_date_sign c cc')) in
-    rw (signs, texts) (ap (λ u. Some (record { year = a; month = b; day = c; from_end = u })) (tilde_is t))
-
-date_texts_back : (f : Fields) → IsReadable f
-    → date_texts (date_word f) ≡ Some (record { year = component_text 4 f.year; month = component_text 2 f.month; day = component_text 2 f.day; from_end = f.from_end })
+date_printed : (f : Fields) → IsReadable f → IsDate (date_word f) f
 unfolding date_word
-date_texts_back f h =
-    three_of f.from_end (component_text 4 f.year) (component_text 2 f.month) (component_text 2 f.day)
-    (component_clear is_date_sign 4 f.year no_sign h.year) (component_clear is_date_sign 2 f.month no_sign h.month) (component_clear is_date_sign 2 f.day no_sign h.day)
+date_printed f h = record {
+  texts = record { year = component_text 4 f.year; month = component_text 2 f.month; day = component_text 2 f.day; from_end = f.from_end };
+  shape = inl (ap (λ lead. component_text 4 f.year ++ (45 ∷ (component_text 2 f.month ++ (lead ++ component_text 2 f.day)))) (lead_is f.from_end));
+  from_end = refl;
+  year = component_printed Year 4 f.year h.valid.year h.year;
+  month = component_printed Month 2 f.month h.valid.month h.month;
+  day = component_printed (day_slot f.from_end) 2 f.day h.valid.day h.day;
+}
 
-time_texts_back : (f : Fields) → IsReadable f
-    → time_texts (time_word f) ≡ Some (record { hour = component_text 2 f.hour; minute = component_text 2 f.minute; second = component_text 2 f.second })
-unfolding time_word time_texts
-time_texts_back f h =
-    let a = component_text 2 f.hour in
-    let b = component_text 2 f.minute in
-    let c = component_text 2 f.second in
-    let texts : slice_split is_colon (a ++ (58 ∷ (b ++ (58 ∷ c)))) ≡ a ∷ b ∷ c ∷ [] =
-    split_at is_colon a 58 (b ++ (58 ∷ c)) (component_clear is_colon 2 f.hour no_colon h.hour) refl
-    ∙ ap (λ ts. a ∷ ts) (split_at is_colon b 58 c (component_clear is_colon 2 f.minute no_colon h.minute) refl
-    ∙ ap (λ ts. b ∷ ts) (split_alone is_colon c (component_clear is_colon 2 f.second no_colon h.second))) in
-    rw texts refl
-
--- the counted parts of a date's component are its parts
-counted_year : (c : Option (List Part)) → counted Year c ≡ parts_in c
-counted_year None = refl
-counted_year (Some ps) = refl
-
-counted_month : (c : Option (List Part)) → counted Month c ≡ parts_in c
-counted_month None = refl
-counted_month (Some ps) = refl
-
-counted_day : (t : Bool) (c : Option (List Part)) → counted (day_slot t) c ≡ parts_in c
-counted_day true None = refl
-counted_day true (Some ps) = refl
-counted_day false None = refl
-counted_day false (Some ps) = refl
-
-counted_hour : (c : Option (List Part)) → counted Hour c ≡ parts_in c - 1
-counted_hour None = refl
-counted_hour (Some ps) = refl
-
-counted_minute : (c : Option (List Part)) → counted Minute c ≡ parts_in c - 1
-counted_minute None = refl
-counted_minute (Some ps) = refl
-
-counted_second : (c : Option (List Part)) → counted Second c ≡ parts_in c - 1
-counted_second None = refl
-counted_second (Some ps) = refl
-
-few_counted : (f : Fields) → IsReadable f
-    → counted Year f.year + counted Month f.month + counted (day_slot f.from_end) f.day + counted Hour f.hour + counted Minute f.minute + counted Second f.second ≤ 240
-unfolding counted_parts
-few_counted f h =
-    let few = h.valid.few in
-    omega (arith, counted_year f.year, counted_month f.month, counted_day f.from_end f.day, counted_hour f.hour, counted_minute f.minute, counted_second f.second)
-
-date_back : (f : Fields) → IsReadable f → date_in_word (date_word f) ≡ Ok (date_with f)
-unfolding date_in_word date_fields
-date_back f h =
-    let few = few_counted f h in
-    let year = component_back Year 240 4 f.year (omega arith) h.valid.year h.year in
-    let month = component_back Month (240 - counted Year f.year) 2 f.month (omega arith) h.valid.month h.month in
-    let day = component_back (day_slot f.from_end) (240 - counted Year f.year - counted Month f.month) 2 f.day (omega arith) h.valid.day h.day in
-    ap date_due (date_texts_back f h) ∙ rw (year, month, day) refl
-
-time_back : (f : Fields) → IsReadable f → time_in_word (room_after (date_with f)) (time_word f) ≡ Ok (time_with f)
-unfolding time_in_word time_fields
-time_back f h =
-    let few = few_counted f h in
-    let room = room_after (date_with f) in
-    let hour = component_back Hour room 2 f.hour (omega arith) h.valid.hour h.hour in
-    let minute = component_back Minute (room - counted Hour f.hour) 2 f.minute (omega arith) h.valid.minute h.minute in
-    let second = component_back Second (room - counted Hour f.hour - counted Minute f.minute) 2 f.second (omega arith) h.valid.second h.second in
-    ap (time_due room) (time_texts_back f h) ∙ rw (hour, minute, second) refl
+time_printed : (f : Fields) → IsReadable f → IsTime (time_word f) f
+unfolding time_word
+time_printed f h = record {
+  texts = record { hour = component_text 2 f.hour; minute = component_text 2 f.minute; second = component_text 2 f.second };
+  shape = inl refl;
+  hour = component_printed Hour 2 f.hour h.valid.hour h.hour;
+  minute = component_printed Minute 2 f.minute h.valid.minute h.minute;
+  second = component_printed Second 2 f.second h.valid.second h.second;
+}
 
 -- Words
 
@@ -330,16 +243,14 @@ zone_back : (suffix : Option ZoneSuffix) → IsSuffixOption suffix → suffix_in
 zone_back None h = refl
 zone_back (Some suffix) h = ap suffix_due (suffix_word suffix h).back
 
-same_fields : (f : Fields) → record { weekdays = f.weekdays; year = f.year; month = f.month; day = f.day; hour = f.hour; minute = f.minute; second = f.second; from_end = f.from_end; zone = f.zone } ≡ f
-same_fields f = refl
-
 roles_back : (f : Fields) (weekdays : Option (List ℕ)) → IsReadable f → weekdays_in weekdays ≡ Ok f.weekdays → fields_at (roles weekdays f) ≡ Ok f
 unfolding fields_at roles
 roles_back f weekdays h days =
-    let date = date_back f h in
-    let time = time_back f h in
+    let few = are_few f h.valid.few in
+    let date = date_only (date_word f) f few (date_printed f h) in
+    let time = time_only (time_word f) f few (time_printed f h) in
     let name = zone_back f.zone h.valid.zone in
-    rw (days, date, time, name) (ap Ok (same_fields f))
+    rw (days, date, time, name) refl
 
 -- The whole text
 

@@ -6,12 +6,12 @@ use Rattle.cal_spec.specs.Reads.{unless}
 use Rattle.cal_spec.specs.declared.spec_fault.SpecFault.{SpecFault}
 
 -- what a read with a value is made of
-pub record Follows {A B : Type 0} (r : Result A SpecFault) (f : A → Result B SpecFault) (y : B) : Type 0 where
+pub record Follows {A B E : Type 0} (r : Result A E) (f : A → Result B E) (y : B) : Type 0 where
   pub value : A
   pub first : r ≡ Ok value
   pub next : f value ≡ Ok y
 
-pub bind_ok : {A B : Type 0} (r : Result A SpecFault) (f : A → Result B SpecFault) (y : B) → (r >>= f) ≡ Ok y → Follows r f y
+pub bind_ok : {A B E : Type 0} (r : Result A E) (f : A → Result B E) (y : B) → (r >>= f) ≡ Ok y → Follows r f y
 bind_ok (Ok x) f y at = record { value = x; first = refl; next = at }
 bind_ok (Err e) f y at = cc
 

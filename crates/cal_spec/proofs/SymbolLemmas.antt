@@ -1,9 +1,9 @@
 -- The symbols of a text, and the numbers among them.
-use Rattle.std.proofs.Common.{ℕ, suc, ◌+◌, ◌<◌, ◌≤◌, ◌≡◌, Bool, true, false, ◌&&◌, List, [], ◌∷◌, ◌++◌, length, take, drop, get_or, refl, sym, ap, ◌∙◌, arith}
+use Rattle.std.proofs.Common.{ℕ, suc, ◌+◌, ◌<◌, ◌≤◌, ◌≡◌, inl, inr, Bool, true, false, ◌&&◌, List, [], ◌∷◌, ◌++◌, length, take, drop, get_or, refl, sym, ap, ◌∙◌, arith}
 use Rattle.std.specs.Prelude.{⊤, cond, leb}
 use Rattle.std.specs.List.{AllByRecursion, list_all, prefix_len}
 use Rattle.std.specs.Char.{is_ascii_digit}
-use Rattle.std.proofs.lemmas.Bool.{and_parts, and_from, leb-true, le-leb, ne_eqb}
+use Rattle.std.proofs.lemmas.Bool.{and_parts, and_from, cases_Bool, leb-true, le-leb, ne_eqb}
 use Rattle.std.proofs.lemmas.List.{take-append-drop}
 use Rattle.cal_text.specs.headline.Separators.{is_point}
 use Rattle.cal_spec.specs.Parts.{Symbol, digits, dots, slash, point, other, is_slash, with_digit, with_byte, lone, symbols}
@@ -50,28 +50,20 @@ symbols_number b (d ∷ ds) rest digit all apart =
     symbols_digit b (d ∷ (ds ++ rest)) digit ∙ ap (with_digit b) (symbols_number d ds rest parts.0 parts.1 apart)
 
 -- the digits at the start
-front_step : (b : ℕ) (bs : List ℕ) (digit : Bool) → is_ascii_digit b ≡ digit → list_all is_ascii_digit (take (prefix_len is_ascii_digit bs) bs) ≡ true → list_all is_ascii_digit (take (cond digit (1 + prefix_len is_ascii_digit bs) 0) (b ∷ bs)) ≡ true
-front_step b bs true is all = let e : 1 + prefix_len is_ascii_digit bs ≡ suc (prefix_len is_ascii_digit bs) = omega arith in rw e (rw is all)
-front_step b bs false is all = refl
-
-front_is_digits : (bs : List ℕ) → list_all is_ascii_digit (take (prefix_len is_ascii_digit bs) bs) ≡ true
-front_is_digits [] = refl
-front_is_digits (b ∷ bs) = front_step b bs (is_ascii_digit b) refl (front_is_digits bs)
-
-after_step : (b : ℕ) (bs : List ℕ) (digit : Bool) → is_ascii_digit b ≡ digit → begins_with is_ascii_digit (drop (prefix_len is_ascii_digit bs) bs) ≡ false → begins_with is_ascii_digit (drop (cond digit (1 + prefix_len is_ascii_digit bs) 0) (b ∷ bs)) ≡ false
-after_step b bs true is none = let e : 1 + prefix_len is_ascii_digit bs ≡ suc (prefix_len is_ascii_digit bs) = omega arith in rw e none
-after_step b bs false is none = is
-
-after_is_none : (bs : List ℕ) → begins_with is_ascii_digit (drop (prefix_len is_ascii_digit bs) bs) ≡ false
-after_is_none [] = refl
-after_is_none (b ∷ bs) = after_step b bs (is_ascii_digit b) refl (after_is_none bs)
+front_digits : (bs : List ℕ) → (list_all is_ascii_digit (take (prefix_len is_ascii_digit bs) bs) ≡ true) × (begins_with is_ascii_digit (drop (prefix_len is_ascii_digit bs) bs) ≡ false)
+front_digits [] = (refl, refl)
+front_digits (b ∷ bs) =
+    let more = front_digits bs in
+    let one : 1 + prefix_len is_ascii_digit bs ≡ suc (prefix_len is_ascii_digit bs) = omega arith in
+    elim (cases_Bool (is_ascii_digit b)) [ inl digit ↦ rw (digit, one) (rw digit more.0, more.1) | inr none ↦ rw none (refl, none) ]
 
 -- the first symbol of a text that begins with a digit
 pub digits_first : (b : ℕ) (bs : List ℕ) → is_ascii_digit b ≡ true → symbols (b ∷ bs) ≡ digits (take (prefix_len is_ascii_digit (b ∷ bs)) (b ∷ bs)) ∷ symbols (drop (prefix_len is_ascii_digit (b ∷ bs)) (b ∷ bs))
 digits_first b bs digit =
     let n = prefix_len is_ascii_digit bs in
     let e : 1 + n ≡ suc n = omega arith in
-    rw (digit, e) (ap (λ cs. symbols (b ∷ cs)) (sym (take-append-drop n bs)) ∙ symbols_number b (take n bs) (drop n bs) digit (front_is_digits bs) (after_is_none bs))
+    let front = front_digits bs in
+    rw (digit, e) (ap (λ cs. symbols (b ∷ cs)) (sym (take-append-drop n bs)) ∙ symbols_number b (take n bs) (drop n bs) digit front.0 front.1)
 
 -- a number has digits
 abbrev pub IsSymbol : Symbol → Type 0
@@ -81,10 +73,7 @@ IsSymbol s = ⊤
 digit_of_symbols : (b : ℕ) (ss : List Symbol) → is_ascii_digit b ≡ true → AllByRecursion IsSymbol ss → AllByRecursion IsSymbol (with_digit b ss)
 digit_of_symbols b [] digit all = ((rw digit refl, omega arith), tt)
 digit_of_symbols b (digits ds ∷ ss) digit all = ((rw digit all.0.0, omega arith), all.1)
-digit_of_symbols b (dots ∷ ss) digit all = ((rw digit refl, omega arith), all)
-digit_of_symbols b (slash ∷ ss) digit all = ((rw digit refl, omega arith), all)
-digit_of_symbols b (point ∷ ss) digit all = ((rw digit refl, omega arith), all)
-digit_of_symbols b (other c ∷ ss) digit all = ((rw digit refl, omega arith), all)
+digit_of_symbols b (s ∷ ss) digit all = ((rw digit refl, omega arith), all)
 
 lone_is_sign : (c : ℕ) (p s : Bool) → IsSymbol (cond p point (cond s slash (other c)))
 lone_is_sign c true s = tt

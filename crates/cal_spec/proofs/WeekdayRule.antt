@@ -1,40 +1,40 @@
 -- A weekday list that was read is one by the rule, and one by the rule is read.
-use Rattle.std.proofs.Common.{ℕ, suc, ◌-◌, ◌<◌, ◌≡◌, ◌⊎◌, inl, inr, Bool, true, false, cond, not, ◌&&◌, ◌||◌, List, [], ◌∷◌, ◌++◌, length, map, take, drop, get_or, codes, Option, Some, None, Ok, refl, sym, ap, ◌∙◌, arith}
+use Rattle.std.proofs.Common.{ℕ, suc, ◌-◌, ◌<◌, ◌≡◌, ◌⊎◌, inl, inr, Bool, true, false, cond, ◌&&◌, ◌||◌, List, [], ◌∷◌, ◌++◌, length, map, take, drop, get_or, codes, Option, Some, None, Ok, refl, sym, ap, ◌∙◌, arith}
 use Rattle.std.specs.Prelude.{◌==◌, is_some, slice_index}
 use Rattle.std.specs.List.{AllByRecursion, AllZip, list_all, slice_split, join_with_byte, position_or_len, find}
 use Rattle.std.specs.Option.{option_map}
 use Rattle.std.specs.Char.{is_ascii_alphabetic, is_ascii_lowercase, to_ascii_lowercase}
 use Rattle.std.specs.Str.{str_eq_ignore_ascii_case}
-use Rattle.std.proofs.lemmas.Bool.{and_parts, and_from, or_cases, or_left, eqb-true}
+use Rattle.std.proofs.lemmas.Bool.{and_parts, cases_Bool, or_cases, or_left, eqb-true}
 use Rattle.std.proofs.lemmas.Bool.Decides.{nat_tests}
 use Rattle.std.proofs.lemmas.List.{append-nil, append_assoc, take-append-drop, length-append, take_at, drop_at}
+use Rattle.std.proofs.lemmas.List.Folds.{list_all-map}
 use Rattle.std.proofs.lemmas.List.Splits.{join_with_byte-slice_split}
 use Rattle.std.proofs.lemmas.Slice.Eq.{bytes_eq-Decides}
 use Rattle.jiff_core.specs.declared.civil.weekday.Weekday.{Weekday}
-use Rattle.jiff_core.specs.declared.civil.weekday.Weekday.TheVariants.{Monday, Tuesday, Wednesday, Thursday, Friday, Saturday, Sunday}
+use Rattle.jiff_core.specs.declared.civil.weekday.Weekday.TheVariants.{Monday}
 use Rattle.cal_zone.specs.headline.Weekday.{week, name_of, short_name_of}
 use Rattle.cal_text.specs.headline.Separators.{is_comma}
 use Rattle.cal_spec.specs.headline.GrammarRule.{IsName, IsItem, AreWeekdays, HasWeekdays}
-use Rattle.cal_spec.specs.Weekdays.{day_named, is_no_letter, leading_letters, after_letters, after_joint, days_to, days_by, days_of, items_of, without_comma, listed_days, weekdays_of, weekdays_in}
+use Rattle.cal_spec.specs.Weekdays.{day_named, is_no_letter, leading_letters, after_letters, after_joint, days_to, days_from, days_by, days_of, items_of, without_comma, listed_days, weekdays_of, weekdays_in}
 use Rattle.cal_spec.specs.headline.Weekdays.{set_of}
 use Rattle.cal_zone.specs.headline.ZoneName.{begins_with_letter}
 use Rattle.cal_spec.specs.declared.weekdays.Days.{Days}
 use Rattle.cal_spec.proofs.FieldLemmas.{items_of-cons, weekdays_found}
-use Rattle.cal_text.proofs.General.{both_all, some_pieces, IsClear, Apart, clear_of, split_join_with_byte}
+use Rattle.cal_text.proofs.General.{both_all, some_none, some_pieces, wider, IsClear, Apart, clear_of, split_join_with_byte}
 
 -- Names
 
 same_word : (text name : List ℕ) → str_eq_ignore_ascii_case text name ≡ true → map to_ascii_lowercase text ≡ map to_ascii_lowercase name
 same_word text name test = (bytes_eq-Decides (map to_ascii_lowercase text) (map to_ascii_lowercase name)).0 test
 
-module _ {X : Type 0} (p : X → Bool) where
-  found_step : (y : X) (ys : List X) (x : X) (test : Bool) → p y ≡ test → (find p ys ≡ Some x → p x ≡ true) → cond test (Some y) (find p ys) ≡ Some x → p x ≡ true
-  found_step y ys x true is rest at = let same : y ≡ x = cc in rw same at is
-  found_step y ys x false is rest at = rest at
-
-  found_passes : (xs : List X) (x : X) → find p xs ≡ Some x → p x ≡ true
-  found_passes [] x at = cc
-  found_passes (y ∷ ys) x at = found_step y ys x (p y) refl (found_passes ys x) at
+found_passes : {X : Type 0} (p : X → Bool) (xs : List X) (x : X) → find p xs ≡ Some x → p x ≡ true
+found_passes p [] x at = cc
+found_passes p (y ∷ ys) x at =
+    elim (cases_Bool (p y)) [
+      | inl is ↦ (let same : y ≡ x = (let e = rw is at at in cc) in rw same at is)
+      | inr fails ↦ found_passes p ys x (rw fails at at)
+    ]
 
 name_found : (text : List ℕ) (day : Weekday) → day_named text ≡ Some day → IsName text day
 unfolding day_named
@@ -45,83 +45,46 @@ name_found text day at =
       | inr short ↦ inr (same_word text (short_name_of day) short)
     ]
 
-name_only : (text : List ℕ) (day : Weekday) → IsName text day → day_named text ≡ Some day
+-- each weekday is found by its names, and they have only letters
+names_of : (day : Weekday) → (day_named (name_of day) ≡ Some day) × (day_named (short_name_of day) ≡ Some day) × (list_all is_ascii_lowercase (map to_ascii_lowercase (name_of day)) ≡ true) × (list_all is_ascii_lowercase (map to_ascii_lowercase (short_name_of day)) ≡ true)
 unfolding day_named name_of
-name_only text Monday (inl is) = rw is refl
-name_only text Monday (inr is) = rw is refl
-name_only text Tuesday (inl is) = rw is refl
-name_only text Tuesday (inr is) = rw is refl
-name_only text Wednesday (inl is) = rw is refl
-name_only text Wednesday (inr is) = rw is refl
-name_only text Thursday (inl is) = rw is refl
-name_only text Thursday (inr is) = rw is refl
-name_only text Friday (inl is) = rw is refl
-name_only text Friday (inr is) = rw is refl
-name_only text Saturday (inl is) = rw is refl
-name_only text Saturday (inr is) = rw is refl
-name_only text Sunday (inl is) = rw is refl
-name_only text Sunday (inr is) = rw is refl
+names_of Monday = (refl, refl, refl, refl)
+names_of day = (refl, refl, refl, refl)
 
--- a name has only letters
+name_only : (text : List ℕ) (day : Weekday) → IsName text day → day_named text ≡ Some day
+unfolding day_named
+name_only text day (inl is) = rw is (names_of day).0
+name_only text day (inr is) = rw is (names_of day).1
+
+some_name : (text : List ℕ) (day : Weekday) → IsName text day → 0 < length text
+unfolding day_named name_of
+some_name [] day is = absurd (some_none day (sym (name_only [] day is)))
+some_name (b ∷ bs) day is = omega arith
 
 letter_by : (b : ℕ) → is_ascii_lowercase (to_ascii_lowercase b) ≡ true → is_ascii_alphabetic b ≡ true
 letter_by b test = grind (arith, nat_tests)
 
 letters_by : (bs : List ℕ) → list_all is_ascii_lowercase (map to_ascii_lowercase bs) ≡ true → list_all is_ascii_alphabetic bs ≡ true
-letters_by [] all = refl
-letters_by (b ∷ bs) all =
-    let parts = and_parts (is_ascii_lowercase (to_ascii_lowercase b)) (list_all is_ascii_lowercase (map to_ascii_lowercase bs)) all in
-    and_from (is_ascii_alphabetic b) (list_all is_ascii_alphabetic bs) (letter_by b parts.0) (letters_by bs parts.1)
-
-long_letters : (day : Weekday) → list_all is_ascii_lowercase (map to_ascii_lowercase (name_of day)) ≡ true
-unfolding name_of
-long_letters Monday = refl
-long_letters Tuesday = refl
-long_letters Wednesday = refl
-long_letters Thursday = refl
-long_letters Friday = refl
-long_letters Saturday = refl
-long_letters Sunday = refl
-
-short_letters : (day : Weekday) → list_all is_ascii_lowercase (map to_ascii_lowercase (short_name_of day)) ≡ true
-unfolding name_of
-short_letters Monday = refl
-short_letters Tuesday = refl
-short_letters Wednesday = refl
-short_letters Thursday = refl
-short_letters Friday = refl
-short_letters Saturday = refl
-short_letters Sunday = refl
+letters_by bs all = wider (λ b. is_ascii_lowercase (to_ascii_lowercase b)) is_ascii_alphabetic bs letter_by (rw list_all-map at all)
 
 pub name_letters : (text : List ℕ) (day : Weekday) → IsName text day → list_all is_ascii_alphabetic text ≡ true
-name_letters text day (inl is) = letters_by text (ap (list_all is_ascii_lowercase) is ∙ long_letters day)
-name_letters text day (inr is) = letters_by text (ap (list_all is_ascii_lowercase) is ∙ short_letters day)
+name_letters text day (inl is) = letters_by text (ap (list_all is_ascii_lowercase) is ∙ (names_of day).2)
+name_letters text day (inr is) = letters_by text (ap (list_all is_ascii_lowercase) is ∙ (names_of day).3)
 
 -- the letters at the start
 
-front_len : (xs : List ℕ) (c : ℕ) (ys : List ℕ) → list_all is_ascii_alphabetic xs ≡ true → is_ascii_alphabetic c ≡ false → position_or_len is_no_letter (xs ++ (c ∷ ys)) ≡ length xs
-front_len [] c ys all stop = rw stop refl
-front_len (x ∷ xs) c ys all stop =
+front_len : (xs rest : List ℕ) → list_all is_ascii_alphabetic xs ≡ true → begins_with_letter rest ≡ false → position_or_len is_no_letter (xs ++ rest) ≡ length xs
+front_len [] [] all stop = refl
+front_len [] (c ∷ ys) all stop = rw stop refl
+front_len (x ∷ xs) rest all stop =
     let parts = and_parts (is_ascii_alphabetic x) (list_all is_ascii_alphabetic xs) all in
-    let rest = front_len xs c ys parts.1 stop in
-    rw (parts.0, rest) (omega arith)
+    let after = front_len xs rest parts.1 stop in
+    rw (parts.0, after) (omega arith)
 
-whole_len : (xs : List ℕ) → list_all is_ascii_alphabetic xs ≡ true → position_or_len is_no_letter xs ≡ length xs
-whole_len [] all = refl
-whole_len (x ∷ xs) all =
-    let parts = and_parts (is_ascii_alphabetic x) (list_all is_ascii_alphabetic xs) all in
-    let rest = whole_len xs parts.1 in
-    rw (parts.0, rest) (omega arith)
-
-pub letters_at : (xs : List ℕ) (c : ℕ) (ys : List ℕ) → list_all is_ascii_alphabetic xs ≡ true → is_ascii_alphabetic c ≡ false → (leading_letters (xs ++ (c ∷ ys)) ≡ xs) × (after_letters (xs ++ (c ∷ ys)) ≡ c ∷ ys)
-letters_at xs c ys all stop =
-    let len = front_len xs c ys all stop in
-    (ap (λ n. take n (xs ++ (c ∷ ys))) len ∙ take_at xs (c ∷ ys) _ refl, ap (λ n. drop n (xs ++ (c ∷ ys))) len ∙ drop_at xs (c ∷ ys) _ refl)
-
-pub letters_alone : (xs : List ℕ) → list_all is_ascii_alphabetic xs ≡ true → (leading_letters xs ≡ xs) × (after_letters xs ≡ [])
-letters_alone xs all =
-    let len = whole_len xs all in
-    (ap (λ n. take n xs) len ∙ ap (take (length xs)) (sym (append-nil xs)) ∙ take_at xs [] _ refl, ap (λ n. drop n xs) len ∙ ap (drop (length xs)) (sym (append-nil xs)) ∙ drop_at xs [] _ refl)
+letters_at : (xs rest : List ℕ) → list_all is_ascii_alphabetic xs ≡ true → begins_with_letter rest ≡ false → (leading_letters (xs ++ rest) ≡ xs) × (after_letters (xs ++ rest) ≡ rest)
+letters_at xs rest all stop =
+    let len = front_len xs rest all stop in
+    (ap (λ n. take n (xs ++ rest)) len ∙ take_at xs rest _ refl, ap (λ n. drop n (xs ++ rest)) len ∙ drop_at xs rest _ refl)
 
 -- Items
 
@@ -184,55 +147,29 @@ item_found item days at =
 
 -- what the rule writes is an item
 
-dash_joint : (name : List ℕ) → 0 < length name → after_joint (codes "-" ++ name) ≡ Some name
-dash_joint [] some = absurd (omega arith)
-dash_joint (b ∷ bs) some = refl
+joint_passed : (joint last : List ℕ) → (joint ≡ codes "..") ⊎ (joint ≡ codes "-") → 0 < length last → (begins_with_letter (joint ++ last) ≡ false) × (after_joint (joint ++ last) ≡ Some last)
+joint_passed joint last (inl dots) some = rw dots (refl, refl)
+joint_passed joint [] (inr dash) some = absurd (omega arith)
+joint_passed joint (b ∷ bs) (inr dash) some = rw dash (refl, refl)
 
-some_name : (text : List ℕ) (day : Weekday) → IsName text day → 0 < length text
-unfolding name_of
-some_name [] Monday (inl is) = cc
-some_name [] Monday (inr is) = cc
-some_name [] Tuesday (inl is) = cc
-some_name [] Tuesday (inr is) = cc
-some_name [] Wednesday (inl is) = cc
-some_name [] Wednesday (inr is) = cc
-some_name [] Thursday (inl is) = cc
-some_name [] Thursday (inr is) = cc
-some_name [] Friday (inl is) = cc
-some_name [] Friday (inr is) = cc
-some_name [] Saturday (inl is) = cc
-some_name [] Saturday (inr is) = cc
-some_name [] Sunday (inl is) = cc
-some_name [] Sunday (inr is) = cc
-some_name (b ∷ bs) day is = omega arith
+days_joined : (first : Weekday) (text name : List ℕ) → after_joint text ≡ Some name → days_from first text ≡ days_to first (Some name)
+days_joined first [] name at = cc
+days_joined first (b ∷ bs) name at = ap (days_to first) at
 
 single_only : (text : List ℕ) (days : Days) → IsName text days.first → days.last ≡ days.first → days_of text ≡ Some days
 unfolding days_of
 single_only text days named same =
-    let letters = letters_alone text (name_letters text days.first named) in
+    let letters : (leading_letters text ≡ text) × (after_letters text ≡ []) = rw append-nil at (letters_at text [] (name_letters text days.first named) refl) in
     let made : record { first = days.first; last = days.first } ≡ days = ap (λ (d : Weekday). record { first = days.first; last = d }) (sym same) in
     rw (letters.0, letters.1, name_only text days.first named) (ap Some made)
 
-dots_only : (first last : List ℕ) (days : Days) → IsName first days.first → IsName last days.last → days_of (first ++ (codes ".." ++ last)) ≡ Some days
-unfolding days_of
-dots_only first last days named next =
-    let letters = letters_at first 46 (46 ∷ last) (name_letters first days.first named) refl in
-    rw (letters.0, letters.1, name_only first days.first named, name_only last days.last next) refl
-
-dash_only : (first last : List ℕ) (days : Days) → IsName first days.first → IsName last days.last → days_of (first ++ (codes "-" ++ last)) ≡ Some days
-unfolding days_of
-dash_only first last days named next =
-    let letters = letters_at first 45 last (name_letters first days.first named) refl in
-    rw (letters.0, letters.1, name_only first days.first named, dash_joint last (some_name last days.last next), name_only last days.last next) refl
-
-joined_by : (text first joint last : List ℕ) (days : Days) → text ≡ first ++ (joint ++ last) → IsName first days.first → IsName last days.last → (joint ≡ codes "..") ⊎ (joint ≡ codes "-") → days_of text ≡ Some days
-joined_by text first joint last days whole named next (inl dots) = ap days_of (whole ∙ ap (λ j. first ++ (j ++ last)) dots) ∙ dots_only first last days named next
-joined_by text first joint last days whole named next (inr dash) = ap days_of (whole ∙ ap (λ j. first ++ (j ++ last)) dash) ∙ dash_only first last days named next
-
 pub item_only : (text : List ℕ) (days : Days) → IsItem text days → days_of text ≡ Some days
+unfolding days_of
 item_only text days (inl one) = single_only text days one.0 one.1
 item_only text days (inr two) =
-    joined_by text two.first two.joint two.last days two.whole two.first_name two.last_name two.joint_is
+    let passed = joint_passed two.joint two.last two.joint_is (some_name two.last days.last two.last_name) in
+    let letters = letters_at two.first (two.joint ++ two.last) (name_letters two.first days.first two.first_name) passed.0 in
+    rw (two.whole, letters.0, letters.1, name_only two.first days.first two.first_name, days_joined days.first (two.joint ++ two.last) two.last passed.1, name_only two.last days.last two.last_name) refl
 
 -- The list
 
@@ -291,14 +228,11 @@ is_item_byte b = is_ascii_alphabetic b || ((b == 45) || (b == 46))
 item_no_comma : Apart is_item_byte is_comma
 item_no_comma b h = grind (arith, nat_tests)
 
-letter_is_item : (bs : List ℕ) → list_all is_ascii_alphabetic bs ≡ true → list_all is_item_byte bs ≡ true
-letter_is_item [] all = refl
-letter_is_item (b ∷ bs) all =
-    let parts = and_parts (is_ascii_alphabetic b) (list_all is_ascii_alphabetic bs) all in
-    and_from (is_item_byte b) (list_all is_item_byte bs) (or_left (is_ascii_alphabetic b) ((b == 45) || (b == 46)) parts.0) (letter_is_item bs parts.1)
+letter_is_item : (b : ℕ) → is_ascii_alphabetic b ≡ true → is_item_byte b ≡ true
+letter_is_item b letter = or_left (is_ascii_alphabetic b) ((b == 45) || (b == 46)) letter
 
 name_bytes : (text : List ℕ) (day : Weekday) → IsName text day → list_all is_item_byte text ≡ true
-name_bytes text day is = letter_is_item text (name_letters text day is)
+name_bytes text day is = wider is_ascii_alphabetic is_item_byte text letter_is_item (name_letters text day is)
 
 joint_bytes : (joint : List ℕ) → (joint ≡ codes "..") ⊎ (joint ≡ codes "-") → list_all is_item_byte joint ≡ true
 joint_bytes joint (inl is) = rw is refl
@@ -309,17 +243,13 @@ item_bytes text days (inl one) = name_bytes text days.first one.0
 item_bytes text days (inr two) =
     rw two.whole (both_all is_item_byte two.first (two.joint ++ two.last) (name_bytes two.first days.first two.first_name) (both_all is_item_byte two.joint two.last (joint_bytes two.joint two.joint_is) (name_bytes two.last days.last two.last_name)))
 
-items_clear : (ts : List (List ℕ)) (items : List Days) → AllZip IsItem ts items → AllByRecursion (IsClear is_comma) ts
-items_clear [] [] zip = tt
-items_clear [] (d ∷ items) zip = tt
-items_clear (t ∷ ts) [] zip = absurd zip
-items_clear (t ∷ ts) (d ∷ items) zip = (clear_of is_item_byte is_comma t item_no_comma (item_bytes t d zip.0), items_clear ts items zip.1)
-
-items_only : (ts : List (List ℕ)) (items : List Days) → AllZip IsItem ts items → items_of ts ≡ Ok items
-items_only [] [] zip = refl
+items_only : (ts : List (List ℕ)) (items : List Days) → AllZip IsItem ts items → AllByRecursion (IsClear is_comma) ts × (items_of ts ≡ Ok items)
+items_only [] [] zip = (tt, refl)
 items_only [] (d ∷ items) zip = absurd zip
 items_only (t ∷ ts) [] zip = absurd zip
-items_only (t ∷ ts) (d ∷ items) zip = rw (item_only t d zip.0, items_only ts items zip.1) refl
+items_only (t ∷ ts) (d ∷ items) zip =
+    let more = items_only ts items zip.1 in
+    ((clear_of is_item_byte is_comma t item_no_comma (item_bytes t d zip.0), more.0), rw (item_only t d zip.0, more.1) refl)
 
 -- a text that ends in a letter loses nothing, and one comma after it is taken off
 
@@ -371,7 +301,7 @@ length_at : (front : List ℕ) (b : ℕ) → length (front ++ (b ∷ [])) - 1 �
 length_at front b = simp length-append (omega arith)
 
 letter_no_comma : (b : ℕ) → is_ascii_alphabetic b ≡ true → is_comma b ≡ false
-letter_no_comma b letter = item_no_comma b (or_left (is_ascii_alphabetic b) ((b == 45) || (b == 46)) letter)
+letter_no_comma b letter = item_no_comma b (letter_is_item b letter)
 
 kept_by : (front : List ℕ) (b : ℕ) → is_comma b ≡ false → without_comma (front ++ (b ∷ [])) ≡ front ++ (b ∷ [])
 kept_by front b stop = rw (length_at front b, last_at front b, stop) refl
@@ -395,10 +325,6 @@ pub record BeginsWithName (text : List ℕ) (day : Weekday) : Type 0 where
   pub named : IsName name day
   pub stop : begins_with_letter rest ≡ false
 
-joint_stops : (joint rest : List ℕ) → (joint ≡ codes "..") ⊎ (joint ≡ codes "-") → begins_with_letter (joint ++ rest) ≡ false
-joint_stops joint rest (inl is) = rw is refl
-joint_stops joint rest (inr is) = rw is refl
-
 item_begins : (text : List ℕ) (days : Days) → IsItem text days → BeginsWithName text days.first
 item_begins text days (inl one) = record { name = text; rest = []; whole = sym (append-nil text); named = one.0; stop = refl }
 item_begins text days (inr two) = record {
@@ -406,7 +332,7 @@ item_begins text days (inr two) = record {
   rest = two.joint ++ two.last;
   whole = two.whole;
   named = two.first_name;
-  stop = joint_stops two.joint two.last two.joint_is;
+  stop = (joint_passed two.joint two.last two.joint_is (some_name two.last days.last two.last_name)).0;
 }
 
 stops_more : (rest more : List ℕ) → begins_with_letter rest ≡ false → begins_with_letter more ≡ false → begins_with_letter (rest ++ more) ≡ false
@@ -430,20 +356,16 @@ word_begins : (word text : List ℕ) (day : Weekday) → BeginsWithName text day
 word_begins word text day begins (inl same) = rw same begins
 word_begins word text day begins (inr more) = rw more (begins_more text (codes ",") day refl begins)
 
-leading_at : (name rest : List ℕ) → list_all is_ascii_alphabetic name ≡ true → begins_with_letter rest ≡ false → leading_letters (name ++ rest) ≡ name
-leading_at name [] all stop = ap leading_letters (append-nil name) ∙ (letters_alone name all).0
-leading_at name (c ∷ ys) all stop = (letters_at name c ys all stop).0
-
 begins_named : (word : List ℕ) (day : Weekday) → BeginsWithName word day → is_some (day_named (leading_letters word)) ≡ true
 begins_named word day begins =
-    rw (begins.whole, leading_at begins.name begins.rest (name_letters begins.name day begins.named) begins.stop, name_only begins.name day begins.named) refl
+    rw (begins.whole, (letters_at begins.name begins.rest (name_letters begins.name day begins.named) begins.stop).0, name_only begins.name day begins.named) refl
 
 listed_only : (word t : List ℕ) (ts : List (List ℕ)) (items : List Days) → AllZip IsItem (t ∷ ts) items → (word ≡ join_with_byte 44 (t ∷ ts)) ⊎ (word ≡ join_with_byte 44 (t ∷ ts) ++ codes ",") → listed_days word ≡ Ok (set_of items)
 unfolding listed_days
 listed_only word t ts items zip whole =
     let list = trimmed_is word (join_with_byte 44 (t ∷ ts)) (joined_ends t ts items zip) whole in
-    let pieces = split_join_with_byte 44 t ts refl (items_clear (t ∷ ts) items zip) in
-    rw (list, pieces, items_only (t ∷ ts) items zip) refl
+    let all = items_only (t ∷ ts) items zip in
+    rw (list, split_join_with_byte 44 t ts refl all.0, all.1) refl
 
 list_by : (word : List ℕ) (ts : List (List ℕ)) (items : List Days) → 0 < length ts → AllZip IsItem ts items → (word ≡ join_with_byte 44 ts) ⊎ (word ≡ join_with_byte 44 ts ++ codes ",") → weekdays_of word ≡ Ok (set_of items)
 unfolding weekdays_of

@@ -5,7 +5,7 @@ use lib.Lanes.{fold_l}
 use Rattle.std.proofs.lemmas.Bool.{or_from, and_from, le-leb, or_parts, and_parts, cases_lt, false≢true, leb-true, ltb-false, ltb-true, not-true}
 use Rattle.std.proofs.lemmas.Int.{ints, to_z-of_z}
 use Rattle.std.proofs.lemmas.List.{length-append, append-nil, append_assoc, drop-append-le, drop_all, get_or-reverse, get_or-take, length-reverse, length-take-le, map-append, reverse-append, reverse-reverse, take-append-drop, take_more}
-use Rattle.std.proofs.lemmas.List.Folds.{list_all-append, length-flat_map-take}
+use Rattle.std.proofs.lemmas.List.Folds.{list_any-append, list_all-append, length-flat_map-take}
 use Rattle.std.proofs.lemmas.Str.Parse.{digit_from_value}
 use Rattle.std.specs.Char.{is_ascii_digit, digit_value, is_ascii_alphabetic}
 use Rattle.std.specs.Cmp.{int_cmp_is}
@@ -41,39 +41,28 @@ use Rattle.std.specs.Io.KnownBytes.{Appends, Consumes, append_known}
 -- Truth values
 
 pub and_true : (x : Bool) → (x && true) ≡ x
-and_true true = refl
-and_true false = refl
+and_true x = grind arith
 
 pub and_none : (x : Bool) → (x && false) ≡ false
-and_none true = refl
-and_none false = refl
+and_none x = grind arith
 
 pub and_regrouped : (x y z : Bool) → ((x && y) && z) ≡ (x && (y && z))
-and_regrouped true y z = refl
-and_regrouped false y z = refl
+and_regrouped x y z = grind arith
 
 pub and_shared : (x y z : Bool) → ((x && y) || (x && z)) ≡ (x && (y || z))
-and_shared true y z = refl
-and_shared false y z = refl
+and_shared x y z = grind arith
 
 pub beq_same : (a b : Bool) → beq a b ≡ true → a ≡ b
-beq_same true true h = refl
-beq_same true false h = absurd (cc)
-beq_same false true h = absurd (cc)
-beq_same false false h = refl
+beq_same a b h = grind arith
 
 pub both_follow : (a b c d : Bool) → (a ≡ true → c ≡ true) → (b ≡ true → d ≡ true) → (a && b) ≡ true → (c && d) ≡ true
-both_follow true true c d p q h = rw (p refl, q refl) refl
-both_follow true false c d p q h = absurd (cc)
-both_follow false b c d p q h = absurd (cc)
+both_follow a b c d p q h = grind arith
 
 pub or_false : (a b : Bool) → b ≡ false → a ≡ (a || b)
-or_false true b h = refl
-or_false false b h = sym h
+or_false a b h = grind arith
 
 pub or_assoc : (x y z : Bool) → ((x || y) || z) ≡ (x || (y || z))
-or_assoc true y z = refl
-or_assoc false y z = refl
+or_assoc x y z = grind arith
 
 -- lists of truth values, compared by computing
 unfoldable pub same_bool : Bool → Bool → Bool
@@ -88,21 +77,15 @@ same_bools (b ∷ bs) (c ∷ cs) = same_bool b c && same_bools bs cs
 
 same_bool_is : (b c : Bool) → same_bool b c ≡ true → b ≡ c
 unfolding same_bool
-same_bool_is true true h = refl
-same_bool_is true false h = absurd (false≢true h)
-same_bool_is false true h = absurd (false≢true h)
-same_bool_is false false h = refl
+same_bool_is true c h = grind arith
+same_bool_is false c h = grind arith
 
 pub same_bools_is : (bs cs : List Bool) → same_bools bs cs ≡ true → bs ≡ cs
 unfolding same_bools
 same_bools_is [] [] h = refl
-same_bools_is [] (c ∷ cs) h = absurd (false≢true h)
-same_bools_is (b ∷ bs) [] h = absurd (false≢true h)
-same_bools_is (b ∷ bs) (c ∷ cs) h =
-    let parts = and_parts (same_bool b c) (same_bools bs cs) h in
-    let first = same_bool_is b c parts.0 in
-    let rest = same_bools_is bs cs parts.1 in
-    cc
+same_bools_is [] (c ∷ cs) h = grind arith
+same_bools_is (b ∷ bs) [] h = grind arith
+same_bools_is (b ∷ bs) (c ∷ cs) h = let parts = and_parts (same_bool b c) (same_bools bs cs) h in grind (arith, same_bool_is b c parts.0, same_bools_is bs cs parts.1)
 
 -- a test of all lists of n truth values
 abbrev pub check_all : ℕ → (List Bool → Bool) → Bool
@@ -123,17 +106,9 @@ abbrev pub all_below : ℕ → (ℕ → Bool) → Bool
 all_below zero f = true
 all_below (suc n) f = f n && all_below n f
 
-at_last : (f : ℕ → Bool) (n k : ℕ) → n ≡ k → f k ≡ true → f n ≡ true
-at_last f n k same h = rw same h
-
 pub below_all : (k : ℕ) (f : ℕ → Bool) (n : ℕ) → all_below k f ≡ true → n < k → f n ≡ true
 below_all zero f n all small = absurd (omega arith)
-below_all (suc k) f n all small =
-    let parts = and_parts _ _ all in
-    elim (cases_lt n k) [
-      | inl below ↦ below_all k f n parts.1 below
-      | inr above ↦ at_last f n k (omega (arith, small, above)) parts.0
-    ]
+below_all (suc k) f n all small = grind (arith, below_all k f n)
 
 -- Numbers
 
@@ -158,37 +133,28 @@ none_between low high i none = grind (arith, nat_tests)
 
 -- what passes lies below a number from which on nothing does
 pub below_end : (passes : ℕ → Bool) (n s : ℕ) → ((i : ℕ) → n ≤ i → passes i ≡ false) → passes s ≡ true → s < n
-below_end passes n s none holds =
-    elim (cases_lt s n) [
-      | inl low ↦ low
-      | inr high ↦ (let no : passes s ≡ false = none s high in let clash : true ≡ false = sym holds ∙ no in absurd (cc))
-    ]
+below_end passes n s none holds = grind (arith, none s)
 
 -- a number between two multiples of the size
 pub quotient_part : (size a t : ℕ) → 0 < size → a * size ≤ t → t < (a + 1) * size → t / size ≡ a
-quotient_part size a t positive low high =
-    let least = le-div a t size positive low in
-    let most = div_below t size (a + 1) positive high in
-    omega (arith, least, most)
+quotient_part size a t positive low high = omega (arith, le-div a t size positive low, div_below t size (a + 1) positive high)
 
 pub remainder_part : (size a l t : ℕ) → t / size ≡ a → a * size + l ≤ t → l ≤ t % size
-remainder_part size a l t same low =
-    let parts : a * size + t % size ≡ t = (rw same at (div-add-mod' t size)) in
-    omega (arith, parts)
+remainder_part size a l t same low = omega (arith, (rw same at (div-add-mod' t size)))
 
 pub max_is : (a b : ℕ) → ((max a b ≡ a) × (b ≤ a)) ⊎ ((max a b ≡ b) × (a ≤ b))
-max_is a b = elim (cases_lt a b) [ inl less ↦ inr (grind arith, omega arith) | inr not_less ↦ inl (grind arith, omega arith) ]
+max_is a b = grind arith
 
 pub max_from_zero : (old months most : ℕ) → old ≡ 0 → most ≡ max old months → most ≡ months
-max_from_zero old months most none is = elim (max_is old months) [ inl high ↦ omega arith | inr at ↦ omega arith ]
+max_from_zero old months most none is = omega arith
 
 -- the lesser of two is no less than what neither is
 pub min_from : (a b low : ℤ) → low ≤ℤ a → low ≤ℤ b → low ≤ℤ int_min a b
-min_from a b low p q = elim (int_lt b a) as (λ c. low ≤ℤ (if c then b else a)) [ true ↦ q | false ↦ p ]
+min_from a b low p q = grind arith
 
 -- the greater of two is no more than what neither is
 pub max_to : (a b high : ℤ) → a ≤ℤ high → b ≤ℤ high → int_max a b ≤ℤ high
-max_to a b high p q = elim (int_lt b a) as (λ c. cond c a b ≤ℤ high) [ true ↦ p | false ↦ q ]
+max_to a b high p q = grind arith
 
 pub lt_from_test : (last p : ℤ) → int_lt last p ≡ true → last <ℤ p
 lt_from_test last p h = grind (arith, ints)
@@ -207,9 +173,6 @@ pos_unsigned_abs (negsuc n) second least below e = absurd (omega (arith, ints))
 pub lt_from_less : (a b : ℤ) → int_cmp a b ≡ Less → a <ℤ b
 lt_from_less a b e = int_ranked a b Less (sym e)
 
-pub squeezed : (a b : ℤ) → a ≤ℤ b → b ≤ℤ a → a ≡ b
-squeezed a b h k = omega (arith, ints)
-
 -- machine words are alike exactly where their numbers are
 alike_tests : (m n : ℕ) (a b : ℤ) → (m ≡ n → a ≡ b) → (a ≡ b → m ≡ n) → nat_eq m n ≡ int_eq a b
 alike_tests m n a b back forth = grind (arith, ints)
@@ -225,22 +188,13 @@ pub bit_at-shift : (m j k : ℕ) → bit_at (m / 2 ^ j) k ≡ bit_at m (j + k)
 bit_at-shift m j k = ap (λ (x : ℕ). x % 2) (shr-shr m j k)
 
 pub bit_at-small : (m i : ℕ) → m < 2 ^ 64 → bit_at m i ≡ 1 → i < 64
-bit_at-small m i fits one =
-    elim (cases_lt i 64) [ inl low ↦ low | inr high ↦ (let zero : bit_at m i ≡ 0 = bit_at_above m 64 i fits high in absurd (omega (arith, zero, one))) ]
+bit_at-small m i fits one = grind (arith, bit_at_above m 64 i fits)
 
 pub min_of_bits : (x y : ℕ) → x < 2 → y < 2 → (min x y == 1) ≡ ((x == 1) && (y == 1))
-min_of_bits x y p q =
-    elim (cases_lt x 1) [
-      | inl low ↦ (let none : x ≡ 0 = omega arith in let least : min x y ≡ 0 = omega arith in rw (least, none))
-      | inr high ↦ (let one : x ≡ 1 = omega arith in let same : min x y ≡ y = omega arith in rw (same, one))
-    ]
+min_of_bits x y p q = grind (arith, nat_tests)
 
 pub max_of_bits : (x y : ℕ) → x < 2 → y < 2 → (max x y == 1) ≡ ((x == 1) || (y == 1))
-max_of_bits x y p q =
-    elim (cases_lt x 1) [
-      | inl low ↦ (let none : x ≡ 0 = omega arith in let most : max x y ≡ y = omega arith in rw (most, none))
-      | inr high ↦ (let one : x ≡ 1 = omega arith in let most : max x y ≡ 1 = omega arith in rw (most, one))
-    ]
+max_of_bits x y p q = grind (arith, nat_tests)
 
 pub bit_at-mod : (m i : ℕ) → i < 64 → bit_at (m % 2 ^ 64) i ≡ bit_at m i
 bit_at-mod m i low =
@@ -300,73 +254,56 @@ high_bits_same m k i h high =
 -- the or of several words is no less than each of them
 fold_least : (a : ℕ) (xs : List ℕ) → a ≤ fold_l bit_or a xs
 fold_least a [] = omega arith
-fold_least a (x ∷ xs) =
-    let both = le_or_l a x in
-    let rest = fold_least (bit_or a x) xs in
-    omega (arith, both, rest)
+fold_least a (x ∷ xs) = omega (arith, le_or_l a x, fold_least (bit_or a x) xs)
 
 pub fold_each : (a : ℕ) (xs : List ℕ) (k : ℕ) → k < length xs → get_or xs k 0 ≤ fold_l bit_or a xs
 fold_each a [] k h = absurd (omega arith)
-fold_each a (x ∷ xs) zero h =
-    let both = le_or_r a x in
-    let rest = fold_least (bit_or a x) xs in
-    omega (arith, both, rest)
+fold_each a (x ∷ xs) zero h = omega (arith, le_or_r a x, fold_least (bit_or a x) xs)
 fold_each a (x ∷ xs) (suc k) h = fold_each (bit_or a x) xs k (omega arith)
 
 -- Options and results
 
 pub by_test : (b : Bool) (s place : ℤ) → ◌≡◌ {A = Option ℤ} (if b then Some s else None) (Some place) → (b ≡ true) × (s ≡ place)
-by_test true s place e = (refl, cc)
-by_test false s place e = cc
+by_test b s place e = grind arith
 
 pub some_none : {A : Type 0} (x : A) → Some x ≡ None → ⊥
 some_none x h = cc
 
 -- an option that is seen as nothing is nothing
 pub none_by_view : {A B : Type 0} (view : A → B) (o : Option A) → None ≡ option_map view o → o ≡ None
-none_by_view view None e = refl
-none_by_view view (Some x) e = absurd (cc)
+none_by_view view o e = grind arith
 
 pub not_some : {A : Type 0} (o : Option A) → is_some o ≡ false → o ≡ None
-not_some None e = refl
-not_some (Some x) e = absurd (cc)
+not_some o e = grind arith
 
 pub is_some-option_map : {A B : Type 0} (f : A → B) (o : Option A) → is_some (option_map f o) ≡ is_some o
-is_some-option_map f None = refl
-is_some-option_map f (Some x) = refl
+is_some-option_map f o = grind arith
 
 -- pairs that are seen by their first or by both
 pub map-first : {B X Y : Type 0} (f : B → X) (g : B → Y) (o : Option B)
     → option_map f o ≡ option_map (λ (p : X × Y). p.0) (option_map (λ b. (f b, g b)) o)
-map-first f g None = refl
-map-first f g (Some b) = refl
+map-first f g o = grind arith
 
 pub pair_none : {X Y : Type 0} (o : Option (X × Y)) → None ≡ option_map (λ (p : X × Y). p.0) o → o ≡ None
-pair_none None h = refl
-pair_none (Some p) h = absurd (cc)
+pair_none o h = grind arith
 
 pub pair_some : {X Y : Type 0} (o : Option (X × Y)) (x : X) (y : Y) → Some x ≡ option_map (λ (p : X × Y). p.0) o
     → Some y ≡ option_map (λ (p : X × Y). p.1) o → o ≡ Some (x, y)
-pair_some None x y h k = absurd (cc)
-pair_some (Some p) x y h k = ap₂ (λ a b. Some (a, b)) (sym (ap (λ o. unwrap_or o x) h)) (sym (ap (λ o. unwrap_or o y) k))
+pair_some o x y h k = grind arith
 
 pub unwrap_or_kept : (next : Option ℕ) (local last : ℕ) → IsSome next → IfSome next (λ l. l ≡ last) → unwrap_or next local ≡ last
-unwrap_or_kept None local last some kept = absurd (let no = some in cc)
-unwrap_or_kept (Some t) local last some kept = kept
+unwrap_or_kept next local last some kept = grind arith
 
 -- which of two answers a test gave
 pub none_chosen : (b : Bool) (local : ℕ) → ◌≡◌ {A = Option ℕ} (cond b None (Some local)) None → b ≡ true
-none_chosen true local h = refl
-none_chosen false local h = absurd (cc)
-
--- which of two answers a test gave
-pub some_chosen : (b : Bool) (local : ℕ) → ◌≡◌ {A = Option ℕ} (cond b None (Some local)) (Some local) → b ≡ false
-some_chosen true local h = absurd (cc)
-some_chosen false local h = refl
+none_chosen b local h = grind arith
 
 pub option_or-none : {A : Type 0} (o : Option A) → option_or o None ≡ o
-option_or-none None = refl
-option_or-none (Some x) = refl
+option_or-none o = grind arith
+
+pub option_or_none : {A : Type 0} (o p : Option A) → option_or o p ≡ None → (o ≡ None) × (p ≡ None)
+option_or_none None p at = (refl, at)
+option_or_none (Some e) p at = cc
 
 pub some_found : {A : Type 0} (o : Option A) → is_none o ≡ false → (x : A) × (o ≡ Some x)
 some_found None h = cc
@@ -452,11 +389,9 @@ taken_whole xs ys n long e =
 
 pub slice_get-taken : (n : ℕ) (xs : List ℤ) (k : ℕ) (e : ℤ) → slice_get (take n xs) k ≡ Some e → slice_get xs k ≡ Some e
 slice_get-taken n xs k e at =
-    let within : k < length (take n xs) = slice_get_within (take n xs) k e at in
-    let size : length (take n xs) ≤ length xs = simp length-take (omega arith) in
-    let most : length (take n xs) ≤ n = simp length-take (omega arith) in
-    slice_get_read xs (length xs) k e refl (omega arith)
-    (sym (get_or_from_slice_get (take n xs) k e e at) ∙ get_or-take n xs k e (omega arith))
+    let within = slice_get_within (take n xs) k e at in
+    slice_get_read xs (length xs) k e refl (omega (arith, within, length-take n xs))
+    (sym (get_or_from_slice_get (take n xs) k e e at) ∙ get_or-take n xs k e (omega (arith, within, length-take n xs)))
 
 -- the end of a list that passes, and what follows the last that does, once one more comes
 suffix_more : {X : Type 0} (p : X → Bool) (xs : List X) (x : X) → p x ≡ true → suffix_len p (xs ++ x ∷ []) ≡ 1 + suffix_len p xs
@@ -495,27 +430,19 @@ Apart q p = (b : ℕ) → q b ≡ true → p b ≡ false
 -- bytes of a class that has no separator
 pub clear_of : (q p : ℕ → Bool) (text : List ℕ) → Apart q p → list_all q text ≡ true → IsClear p text
 clear_of q p [] apart all = refl
-clear_of q p (b ∷ bs) apart all =
-    let parts = and_parts (q b) (list_all q bs) all in
-    rw (apart b parts.0) (clear_of q p bs apart parts.1)
+clear_of q p (b ∷ bs) apart all = grind (arith, apart b, clear_of q p bs apart)
 
 pub clear_append : (p : ℕ → Bool) (xs ys : List ℕ) → IsClear p xs → IsClear p ys → IsClear p (xs ++ ys)
-clear_append p [] ys first second = second
-clear_append p (x ∷ xs) ys first second =
-    let parts = or_parts (p x) (list_any p xs) first in or_from (p x) (list_any p (xs ++ ys)) parts.0 (clear_append p xs ys parts.1 second)
+clear_append p xs ys first second = list_any-append p xs ys ∙ or_from (list_any p xs) (list_any p ys) first second
 
 pub wider : (q p : ℕ → Bool) (text : List ℕ) → ((b : ℕ) → q b ≡ true → p b ≡ true) → list_all q text ≡ true → list_all p text ≡ true
 wider q p [] holds all = refl
-wider q p (b ∷ bs) holds all =
-    let parts = and_parts (q b) (list_all q bs) all in
-    and_from (p b) (list_all p bs) (holds b parts.0) (wider q p bs holds parts.1)
+wider q p (b ∷ bs) holds all = grind (arith, holds b, wider q p bs holds)
 
 pub list_all-take : (p : ℕ → Bool) (xs : List ℕ) (n : ℕ) → list_all p xs ≡ true → list_all p (take n xs) ≡ true
 list_all-take p xs zero h = refl
 list_all-take p [] (suc n) h = refl
-list_all-take p (x ∷ xs) (suc n) h =
-    let parts = and_parts (p x) (list_all p xs) h in
-    rw (parts.0, list_all-take p xs n parts.1) refl
+list_all-take p (x ∷ xs) (suc n) h = grind (arith, list_all-take p xs n)
 
 -- what holds of each of some holds of them together, and the other way round
 pub all_append : (P : ℕ → Type 0) (xs ys : List ℕ) → AllByRecursion P xs → AllByRecursion P ys → AllByRecursion P (xs ++ ys)
@@ -553,29 +480,21 @@ some_piece p (x ∷ xs) =
 -- a text without separators is one piece
 pub split_alone : (p : ℕ → Bool) (xs : List ℕ) → IsClear p xs → slice_split p xs ≡ xs ∷ []
 split_alone p [] clear = refl
-split_alone p (x ∷ xs) clear =
-    let parts = or_parts (p x) (list_any p xs) clear in
-    rw (parts.0, split_alone p xs parts.1) refl
+split_alone p (x ∷ xs) clear = grind (arith, split_alone p xs)
 
 -- a text without separators in front of one
 pub split_at : (p : ℕ → Bool) (front : List ℕ) (c : ℕ) (rest : List ℕ) → IsClear p front → p c ≡ true → slice_split p (front ++ (c ∷ rest)) ≡ front ∷ slice_split p rest
 split_at p [] c rest clear sign = rw sign refl
-split_at p (x ∷ xs) c rest clear sign =
-    let parts = or_parts (p x) (list_any p xs) clear in
-    rw (parts.0, split_at p xs c rest parts.1 sign) refl
+split_at p (x ∷ xs) c rest clear sign = grind (arith, split_at p xs c rest)
 
 -- the separators themselves
 pub filter_at : (p : ℕ → Bool) (front : List ℕ) (c : ℕ) (rest : List ℕ) → IsClear p front → p c ≡ true → filter p (front ++ (c ∷ rest)) ≡ c ∷ filter p rest
 filter_at p [] c rest clear is = rw is refl
-filter_at p (x ∷ xs) c rest clear is =
-    let parts = or_parts (p x) (list_any p xs) clear in
-    rw (parts.0) (filter_at p xs c rest parts.1 is)
+filter_at p (x ∷ xs) c rest clear is = grind (arith, filter_at p xs c rest)
 
 pub filter_alone : (p : ℕ → Bool) (xs : List ℕ) → IsClear p xs → filter p xs ≡ []
 filter_alone p [] clear = refl
-filter_alone p (x ∷ xs) clear =
-    let parts = or_parts (p x) (list_any p xs) clear in
-    rw (parts.0) (filter_alone p xs parts.1)
+filter_alone p (x ∷ xs) clear = grind (arith, filter_alone p xs)
 
 -- texts joined by a separator are its pieces
 pub split_join_with_byte : (c : ℕ) (t : List ℕ) (ts : List (List ℕ)) → nat_eq c c ≡ true → AllByRecursion (IsClear (λ b. b == c)) (t ∷ ts) → slice_split (λ b. b == c) (join_with_byte c (t ∷ ts)) ≡ t ∷ ts
@@ -600,27 +519,17 @@ woven_first x cs (t ∷ ts) some = woven_onto x cs t ts
 pub some_pieces : (p : ℕ → Bool) (xs : List ℕ) → 0 < length (slice_split p xs)
 some_pieces p xs = omega (arith, length-slice_split p xs)
 
-woven_step : (p : ℕ → Bool) (x : ℕ) (xs : List ℕ) (test : Bool) → woven (filter p xs) (slice_split p xs) ≡ xs → woven (cond test (x ∷ filter p xs) (filter p xs)) (cond test ([] ∷ slice_split p xs) (onto_first x (slice_split p xs))) ≡ x ∷ xs
-woven_step p x xs true rest = ap (λ more. x ∷ more) rest
-woven_step p x xs false rest = woven_first x (filter p xs) (slice_split p xs) (some_pieces p xs) ∙ ap (λ more. x ∷ more) rest
-
 -- a text is its pieces with its separators between them
 pub woven_whole : (p : ℕ → Bool) (xs : List ℕ) → woven (filter p xs) (slice_split p xs) ≡ xs
 woven_whole p [] = refl
-woven_whole p (x ∷ xs) = woven_step p x xs (p x) (woven_whole p xs)
-
--- each separator passes
-filter_step : (p : ℕ → Bool) (x : ℕ) (xs : List ℕ) (test : Bool) → p x ≡ test → AllByRecursion (λ b. p b ≡ true) (filter p xs) → AllByRecursion (λ b. p b ≡ true) (cond test (x ∷ filter p xs) (filter p xs))
-filter_step p x xs true is rest = (is, rest)
-filter_step p x xs false is rest = rest
+woven_whole p (x ∷ xs) = grind (arith, woven_whole p xs, woven_first x (filter p xs) (slice_split p xs) (some_pieces p xs))
 
 pub filter_kept : (p : ℕ → Bool) (xs : List ℕ) → AllByRecursion (λ b. p b ≡ true) (filter p xs)
 filter_kept p [] = tt
-filter_kept p (x ∷ xs) = filter_step p x xs (p x) refl (filter_kept p xs)
+filter_kept p (x ∷ xs) = grind (arith, filter_kept p xs)
 
 not_found : (test : Bool) (m : ℕ) → cond test (Some m) None ≡ None → test ≡ false
-not_found true m at = cc
-not_found false m at = refl
+not_found test m at = grind arith
 
 -- cut at the first separator
 pub split_some : (p : ℕ → Bool) (xs : List ℕ) (n : ℕ) → position p xs ≡ Some n → slice_split p xs ≡ take n xs ∷ slice_split p (drop (n + 1) xs)
@@ -646,13 +555,9 @@ filter_some : (p : ℕ → Bool) (xs : List ℕ) → position_or_len p xs < leng
 filter_some p [] within = absurd (omega arith)
 filter_some p (x ∷ xs) within = filter_some_step p x xs (p x) (filter_some p xs) within
 
-filter_none_step : (p : ℕ → Bool) (x : ℕ) (xs : List ℕ) (test : Bool) → (length xs ≤ position_or_len p xs → filter p xs ≡ []) → suc (length xs) ≤ cond (not test) (1 + position_or_len p xs) 0 → cond test (x ∷ filter p xs) (filter p xs) ≡ []
-filter_none_step p x xs true rest past = absurd (omega arith)
-filter_none_step p x xs false rest past = rest (omega arith)
-
 filter_none : (p : ℕ → Bool) (xs : List ℕ) → length xs ≤ position_or_len p xs → filter p xs ≡ []
 filter_none p [] past = refl
-filter_none p (x ∷ xs) past = filter_none_step p x xs (p x) (filter_none p xs) past
+filter_none p (x ∷ xs) past = grind (arith, filter_none p xs)
 
 -- cut at the first separator, with the separator itself
 pub cut_some : (p : ℕ → Bool) (xs : List ℕ) (n : ℕ) → position p xs ≡ Some n → (slice_split p xs ≡ take n xs ∷ slice_split p (drop (n + 1) xs)) × (filter p xs ≡ get_or xs n 0 ∷ filter p (drop (n + 1) xs))
@@ -677,24 +582,13 @@ index_none p xs at =
     let none = ltb-false _ _ (not_found (nat_lt (position_or_len p xs) (length xs)) (position_or_len p xs) at) in
     omega (arith, none, prefix_len-le-length (λ x. not (p x)) xs)
 
--- one passes exactly where the index of the first lies in the list
-below_step : (p : ℕ → Bool) (x : ℕ) (xs : List ℕ) (test : Bool) → (position_or_len p xs < length xs → list_any p xs ≡ true)
-    → cond (not test) (1 + position_or_len p xs) 0 < suc (length xs) → (test || list_any p xs) ≡ true
-below_step p x xs true rest within = refl
-below_step p x xs false rest within = rest (omega arith)
-
 pub any_below : (p : ℕ → Bool) (xs : List ℕ) → position_or_len p xs < length xs → list_any p xs ≡ true
 any_below p [] within = absurd (omega arith)
-any_below p (x ∷ xs) within = below_step p x xs (p x) (any_below p xs) within
-
-above_step : (p : ℕ → Bool) (x : ℕ) (xs : List ℕ) (test : Bool) → (length xs ≤ position_or_len p xs → list_any p xs ≡ false)
-    → suc (length xs) ≤ cond (not test) (1 + position_or_len p xs) 0 → (test || list_any p xs) ≡ false
-above_step p x xs true rest past = absurd (omega arith)
-above_step p x xs false rest past = rest (omega arith)
+any_below p (x ∷ xs) within = grind (arith, any_below p xs)
 
 pub none_above : (p : ℕ → Bool) (xs : List ℕ) → length xs ≤ position_or_len p xs → list_any p xs ≡ false
 none_above p [] past = refl
-none_above p (x ∷ xs) past = above_step p x xs (p x) (none_above p xs) past
+none_above p (x ∷ xs) past = grind (arith, none_above p xs)
 
 -- the lines of a text, by its first line feed
 lines_of_more : (part : List ℕ) (parts : List (List ℕ)) → 0 < length parts → lines_of_parts (part ∷ parts) ≡ strip_carriage_return part ∷ lines_of_parts parts
@@ -722,9 +616,7 @@ lines_last text some none =
 -- digits pass the test of each digit, and the other way round
 pub digits_all : (ds : List ℕ) → AllDigits 10 ds → list_all is_ascii_digit ds ≡ true
 digits_all [] h = refl
-digits_all (c ∷ cs) h =
-    let range = digit_from_value c h.0 in
-    and_from (is_ascii_digit c) (list_all is_ascii_digit cs) (and_from (nat_le 48 c) (nat_le c 57) (le-leb 48 c range.0) (le-leb c 57 range.1)) (digits_all cs h.1)
+digits_all (c ∷ cs) h = grind (arith, nat_tests, digit_from_value c h.0, digits_all cs h.1)
 
 -- zeros in front change nothing
 pub zeros_all : (k : ℕ) (ds : List ℕ) → list_all is_ascii_digit (replicate k 48 ++ ds) ≡ list_all is_ascii_digit ds
@@ -740,16 +632,13 @@ digit_below b h = grind (arith, nat_tests)
 
 all_digits : (ds : List ℕ) → list_all is_ascii_digit ds ≡ true → AllDigits 10 ds
 all_digits [] h = tt
-all_digits (d ∷ ds) h =
-    let parts = and_parts (is_ascii_digit d) (list_all is_ascii_digit ds) h in
-    (digit_below d parts.0, all_digits ds parts.1)
+all_digits (d ∷ ds) h = let parts = and_parts (is_ascii_digit d) (list_all is_ascii_digit ds) h in (digit_below d parts.0, all_digits ds parts.1)
 
 -- four digits write less than 10,000
 pub short_number : (ds : List ℕ) → list_all is_ascii_digit ds ≡ true → length ds ≤ 4 → digits_value 10 ds < 10_000
 short_number ds all short =
-    let fits = digits_value-lt 10 ds (all_digits ds all) in
     let most : 10 ^ length ds ≤ 10 ^ 4 = pow-le-pow_right (omega arith) short in
-    omega (arith, fits, most)
+    omega (arith, digits_value-lt 10 ds (all_digits ds all), most)
 
 -- each byte of digits is a digit
 pub digit_value_at : (digits : List ℕ) (i : ℕ) → i < length digits → list_all is_ascii_digit digits ≡ true → (48 ≤ get_or digits i 0) × (get_or digits i 0 ≤ 57) × (digit_value (get_or digits i 0) + 48 ≡ get_or digits i 0)

@@ -1,5 +1,5 @@
 -- Lemmas on what is reported of an end: the texts and lines on both outputs, the buffer, and the status.
-use Rattle.std.proofs.Common.{◌≡◌, ℕ, Bool, true, false, List, [], Option, Result, Ok, Err, refl, sym, ◌∙◌}
+use Rattle.std.proofs.Common.{arith, ◌≡◌, ℕ, Bool, true, false, List, [], Option, Result, Ok, Err, refl, sym, ◌∙◌}
 use Rattle.std.specs.Io.KnownBytes.{append_known}
 use Rattle.std.proofs.KnownBytes.{Appends-kept}
 use Rattle.std.proofs.lemmas.Bool.{false≢true}
@@ -36,10 +36,7 @@ fault_written ErrFailed come out out' err err' status o e = record { by_status =
 fault_written NoMemory come out out' err err' status o e = record { by_status = refl; out_bytes = o; err_bytes = e }
 
 same_status : (r : Result Unit RunFault) (said : Stop) → ended_status r (Err said) ≡ status_by r said.status
-same_status (Ok done) said = refl
-same_status (Err OutFailed) said = refl
-same_status (Err ErrFailed) said = refl
-same_status (Err NoMemory) said = refl
+same_status r said = grind arith
 
 -- what is written of a stop is what is said of it
 TextsFit : Outlet → declared_stop.Stop → Type 0
@@ -134,14 +131,10 @@ reaches_unflushed before written reached text w s = reaches_front before written
 
 -- what was written before the line of the fault, also where the buffer couldn't be written out
 err_before : (r flushed : Result Unit RunFault) (a b : Option (List ℕ)) (text : List ℕ) → IsFlushed r flushed → Writes a b r text → Writes a b flushed text
-err_before (Ok done) (Ok flushed) a b text is w = w
-err_before (Ok done) (Err fault) a b text is w = whole_front a b text w
-err_before (Err fault) flushed a b text is w = rw is w
+err_before r flushed a b text is w = grind (arith, whole_front a b text)
 
 flushed_status : (r flushed : Result Unit RunFault) (status : ℕ) (come : Result Report Stop) → IsFlushed r flushed → ended_status r come ≡ status_by r status → status_by flushed status ≡ ended_status flushed come
-flushed_status (Ok done) (Ok flushed) status come is same = sym same
-flushed_status (Ok done) (Err fault) status come is same = rw is refl
-flushed_status (Err fault) flushed status come is same = rw is (sym same)
+flushed_status r flushed status come is same = grind arith
 
 pub works : (known : Known) (arguments : List (List ℕ)) (answered : Result Status declared_stop.Stop) (out out1 out2 reached err err1 err2 err3 : Option (List ℕ)) (failed : Bool) (written flushed : Result Unit RunFault) (status last : ℕ)
     → AnsweredArguments known arguments answered out out1 err err1

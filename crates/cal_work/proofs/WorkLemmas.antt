@@ -103,25 +103,15 @@ came_of : Option (List ℕ) → ℕ → Result (List ℕ) WholeFault
 came_of None limit = Ok []
 came_of (Some all) limit = came_within (nat_le (length all) limit) all
 
-within_fits : (b : Bool) (all : List ℕ) (limit : ℕ) → nat_le (length all) limit ≡ b → Comes (Some all) limit (came_within b all)
-unfolding came_within
-within_fits true all limit is = (let le : length all ≤ limit = grind (arith, nat_tests) in le, refl)
-within_fits false all limit is = let gt : limit < length all = grind (arith, nat_tests) in gt
-
 came_fits : (old : Option (List ℕ)) (limit : ℕ) → Comes old limit (came_of old limit)
-unfolding came_of
+unfolding came_of came_within
 came_fits None limit = (omega arith, tt)
-came_fits (Some all) limit = within_fits (nat_le (length all) limit) all limit refl
-
-within_uncut : (b : Bool) (all : List ℕ) → is_read_failed (came_within b all) ≡ false
-unfolding came_within
-within_uncut true all = refl
-within_uncut false all = refl
+came_fits (Some all) limit = grind (arith, nat_tests)
 
 came_uncut : (old : Option (List ℕ)) (limit : ℕ) → is_read_failed (came_of old limit) ≡ false
-unfolding came_of
+unfolding came_of came_within
 came_uncut None limit = refl
-came_uncut (Some all) limit = within_uncut (nat_le (length all) limit) all
+came_uncut (Some all) limit = grind arith
 
 -- Zone files
 
@@ -304,8 +294,7 @@ unread_ends (Err NoMemory) report out out' err err' t = (refl, still_front out o
 -- what isn't read doesn't count
 same_from : (asked : Request) (a b : Result (List ℕ) WholeFault) (t : Bool) (base : Result ℤ StampFault) → is_timer asked.verb ≡ t → (t && is_ok base) ≡ false → report_from asked a base ≡ report_from asked b base
 same_from asked a b t (Err fault) is h = refl
-same_from asked a b true (Ok base) is h = absurd (false≢true (sym h))
-same_from asked a b false (Ok base) is h = rw is refl
+same_from asked a b t (Ok base) is h = grind arith
 
 unread_same : (asked : Request) (a b : Result (List ℕ) WholeFault) → reads_input asked ≡ false → report asked a ≡ report asked b
 unfolding report

@@ -1,7 +1,7 @@
 -- From one change of a rule to the next its clock goes alike, over a new year too.
 use Rattle.std.proofs.Common.{◌≡◌, ◌∙◌, inl, inr, ◌≤◌, ℤ, pos, ◌+ℤ◌, ◌-ℤ◌, ◌≤ℤ◌, ◌<ℤ◌, Bool, true, false, ◌&&◌, if◌then◌else◌, int_le, int_lt, Option, None, Some, refl, sym, ap, subst, arith, vec_len}
 use Rattle.std.proofs.lemmas.Bool.{and_parts}
-use borrow.Author.Differences.{le-true, le-false}
+use borrow.Author.Differences.{le-false}
 use Rattle.jiff.proofs.SpanFacts.{signed_arith}
 use Rattle.jiff.specs.Types.{Offset, Posix as ByRule}
 use Rattle.jiff.specs.Words.{ambiguous_at, nanos_of_seconds, offset_at, IsEpochDay}
@@ -73,10 +73,8 @@ civil_in_year rule d past other local next has e from begun later years before_n
 next_in_next_year : (rule : Posix) (d : Dst) (y low : ℤ) (next : ℤ × OffsetInfo) (o : ℤ × ℤ) (a b : Bool) → o.0 <ℤ next.0 → o.1 <ℤ next.0 → int_lt low o.0 ≡ a → int_lt low o.1 ≡ b
     → (if a then transition_of rule d (utc_window d y rule.std_offset) o.0 else (if b then transition_of rule d (utc_window d y rule.std_offset) o.1 else next_year rule d y)) ≡ Some next
     → next_year rule d y ≡ Some next
-next_in_next_year rule d y low next o true b p q e f g =
-    let at = transition_at_moment rule d (utc_window d y rule.std_offset) o.0 next g in absurd (omega (arith, signed_arith))
-next_in_next_year rule d y low next o false true p q e f g =
-    let at = transition_at_moment rule d (utc_window d y rule.std_offset) o.1 next g in absurd (omega (arith, signed_arith))
+next_in_next_year rule d y low next o true b p q e f g = grind (arith, signed_arith, transition_at_moment)
+next_in_next_year rule d y low next o false true p q e f g = grind (arith, signed_arith, transition_at_moment)
 next_in_next_year rule d y low next o false false p q e f g = g
 
 of_next_year : (rule : Posix) (d : Dst) (y : ℤ) (next : ℤ × OffsetInfo) (b : Bool) → int_le (pos 9999) y ≡ b → (if b then None else first_of_year rule d (y +ℤ pos 1)) ≡ Some next
@@ -86,18 +84,12 @@ of_next_year rule d y next false e g = let under = le-false (pos 9999) y e in (o
 
 -- what lies no later than the first end of a window lies no later than both
 ordered_above : (high : ℤ) (w : ℤ × ℤ) → high ≤ℤ (ordered w).0 → (high ≤ℤ w.0) × (high ≤ℤ w.1)
-ordered_above high w = elim (int_le w.0 w.1) as (λ b. int_le w.0 w.1 ≡ b → high ≤ℤ (if b then w else (w.1, w.0)).0 → (high ≤ℤ w.0) × (high ≤ℤ w.1)) [
-  | true ↦ λ e h. let under = le-true w.0 w.1 e in (h, omega (arith, signed_arith))
-  | false ↦ λ e h. let over = le-false w.0 w.1 e in (omega (arith, signed_arith), h)
-] refl
+ordered_above high w = grind (arith, signed_arith, int_le)
 
 -- the window's ends are then the rule's moments: daylight saving time isn't in force all year
 parts_above : (high first last start end : ℤ) (some b : Bool) → first <ℤ high → (int_same start first && some) ≡ b → high ≤ℤ (window_of b start last end).0 → high ≤ℤ (window_of b start last end).1
     → (high ≤ℤ start) × (high ≤ℤ end)
-parts_above high first last start end some true above e p q =
-    let same = and_parts _ _ (and_parts _ _ e).0 in
-    let at = le-true start first same.0 in
-    absurd (omega (arith, signed_arith))
+parts_above high first last start end some true above e p q = grind (arith, signed_arith, and_parts)
 parts_above high first last start end some false above e p q = (p, q)
 
 moments_above : (d : Dst) (y : ℤ) (std : Offset) (high : ℤ) → first_nanosecond y <ℤ high → high ≤ℤ (utc_window d y std).0 → high ≤ℤ (utc_window d y std).1
@@ -189,11 +181,7 @@ by_rule (Some rule) past other local even quiet same from later years before_eve
 even_by_rule : (z : Table) (rule : Posix) (past even : ℤ) → vec_len z.transitions ≤ count_at z past → IsEvenUntil (zone_of_table z) past even → z.posix_tz ≡ Some rule
     → IsEvenUntil (ByRule rule) past even
 unfolding offset_at
-even_by_rule z rule past even all same has = λ second from before.
-    let type : Offset = (type_after z (vec_len z.transitions)).offset in
-    let behind : (n : ℤ) → past ≤ℤ n → OfTable.offset_at z (nanos_of_seconds n) ≡ ByPosix.offset_at rule (nanos_of_seconds n)
-    = λ n later. offset_behind z past n all later ∙ ap (λ (o : Option Posix). match_some o type (λ tz. ByPosix.offset_at tz (nanos_of_seconds n))) (rule_behind z ∙ has) in
-    ap (λ (o : Offset). o.seconds) (sym (behind second from)) ∙ same second from before ∙ ap (λ (o : Offset). o.seconds) (behind past (omega (arith, signed_arith)))
+even_by_rule z rule past even all same has = grind (arith, signed_arith, vec_len, offset_behind, rule_behind)
 
 pub alike_by_next_behind : (z : Table) (past other local even : ℤ) → vec_len z.transitions ≤ count_at z past → IsQuiet (OfTable.next_at z (nanos_of_seconds past)) past local
     → IsEvenUntil (zone_of_table z) past even → (past +ℤ pos 374_397) ≡ other → other ≤ℤ local → IsLocalSecond local → IsLocalSecond other → (local +ℤ pos 93_599) <ℤ even

@@ -1,7 +1,7 @@
 -- What a clock shows, against the local second that it stands for.
-use Rattle.std.proofs.Common.{◌≡◌, ◌+◌, ◌*◌, ℕ, ℤ, pos, sym, ap, ◌∙◌, arith}
+use Rattle.std.proofs.Common.{◌≡◌, ◌*◌, ℕ, ℤ, pos, sym, ap, ◌∙◌, arith}
 use Rattle.jiff.specs.Types.{DateTime, Offset, TimeZone}
-use Rattle.jiff.specs.Words.{civil_nanos, epoch_day, nanos_of_seconds, offset_at, weekday_of}
+use Rattle.jiff.specs.Words.{civil_nanos, epoch_day, nanos_of_seconds, offset_at}
 use Rattle.jiff_core.specs.Time.{time_seconds}
 use Rattle.jiff_core.proofs.CalendarLemmas.{days_in_month_bounds, weekday_number_bound}
 use Rattle.jiff.proofs.SpanFacts.{signed_arith}
@@ -9,7 +9,7 @@ use Rattle.cal_zone.specs.Civil.{shown_at, IsCivil}
 use Rattle.cal_zone.specs.headline.Civil.{civil_of}
 use Rattle.cal_zone.specs.headline.Days.{date_of}
 use Rattle.cal_zone.proofs.DayLemmas.{date_of-epoch_day}
-use Rattle.cal_zone.specs.headline.Local.{civil_date, day_of, second_of_day, hour_of, minute_of, second_of}
+use Rattle.cal_zone.specs.headline.Local.{civil_date, day_of, second_of_day}
 use Rattle.cal_zone.specs.Instant.{IsInstant}
 use Rattle.cal_zone.specs.headline.Zone.{local_of}
 use Rattle.cal_zone.proofs.YearLemmas.{year-from_1969, year-to_2200}
@@ -29,23 +29,7 @@ time_seconds-whole dt local e = omega (arith, signed_arith, dt.time.hour_in, dt.
 pub shown_at-civil_of : (tz : TimeZone) (second : ℤ) (dt : DateTime) → civil_nanos dt ≡ nanos_of_seconds (local_of tz second)
     → shown_at (offset_at tz (nanos_of_seconds second)) dt ≡ civil_of tz second
 unfolding civil_of
-shown_at-civil_of tz second dt e =
-    let day = epoch_day-whole dt (local_of tz second) e in
-    let date : dt.date ≡ date_of (day_of (local_of tz second)) = sym (date_of-epoch_day dt.date) ∙ ap date_of day in
-    let within = time_seconds-whole dt (local_of tz second) e in
-    let hour : dt.time.hour ≡ hour_of (second_of_day (local_of tz second)) = omega (arith, dt.time.minute_in, dt.time.second_in) in
-    let minute : dt.time.minute ≡ minute_of (second_of_day (local_of tz second)) = omega (arith, dt.time.minute_in, dt.time.second_in) in
-    let sec : dt.time.second ≡ second_of (second_of_day (local_of tz second)) = omega (arith, dt.time.second_in) in
-    λ i. record {
-      year = (date i).year;
-      month = (date i).month;
-      day = (date i).day;
-      weekday = weekday_of (date i) + 1;
-      hour = hour i;
-      minute = minute i;
-      second = sec i;
-      offset = offset_at tz (nanos_of_seconds second);
-    }
+shown_at-civil_of tz second dt e = grind (arith, signed_arith, epoch_day-whole, date_of-epoch_day, time_seconds-whole)
 
 -- at an instant they are in their ranges
 pub IsCivil-shown_at : (tz : TimeZone) (dt : DateTime) (secs : ℤ) (offset : Offset) → civil_nanos dt ≡ nanos_of_seconds (local_of tz secs) → IsInstant secs → IsCivil (shown_at offset.seconds dt)

@@ -1,5 +1,5 @@
 -- The local second that has its place at an instant is the one that the clock shows then.
-use Rattle.std.proofs.Common.{◌≡◌, ◌∙◌, None, Some, ℤ, pos, ◌≤ℤ◌, ◌<ℤ◌, arith, subst, sym}
+use Rattle.std.proofs.Common.{◌≡◌, None, Some, ℤ, pos, ◌≤ℤ◌, ◌<ℤ◌, arith}
 use Rattle.jiff.proofs.SpanFacts.{signed_arith}
 use Rattle.jiff.specs.Types.{TimeZone}
 use Rattle.cal_zone.specs.LocalAt.{IsLocalAt}
@@ -9,16 +9,11 @@ use Rattle.cal_zone.proofs.PlaceLemmas.{place_of-Some}
 
 -- where that is none of 1970 to 2199
 pub local_at-outside : (tz : TimeZone) (instant shown : ℤ) → shown ≡ local_of tz instant → (pos 0 ≤ℤ shown → pos 7_258_118_400 ≤ℤ shown) → IsLocalAt tz instant None
-local_at-outside tz instant shown at outside = λ local inside placed.
-    let same : shown ≡ local = at ∙ (place_of-Some tz local instant placed).1 in
-    let low : pos 0 ≤ℤ shown = omega (arith, signed_arith) in
-    let high = outside low in
-    absurd (omega (arith, signed_arith))
+local_at-outside tz instant shown at outside = grind (arith, signed_arith, place_of-Some)
 
 -- where that has its place elsewhere, or none
 pub local_at-elsewhere : (tz : TimeZone) (instant shown : ℤ) → shown ≡ local_of tz instant → (place_of tz shown ≡ Some instant → ⊥) → IsLocalAt tz instant None
-local_at-elsewhere tz instant shown at elsewhere = λ local inside placed.
-    elsewhere (subst (λ (z : ℤ). place_of tz z ≡ Some instant) (sym (place_of-Some tz local instant placed).1 ∙ sym at) placed)
+local_at-elsewhere tz instant shown at elsewhere = grind (arith, signed_arith, place_of-Some)
 
 -- and where it has its place there
 pub local_at-here : (tz : TimeZone) (instant shown : ℤ) → pos 0 ≤ℤ shown → shown <ℤ pos 7_258_118_400 → place_of tz shown ≡ Some instant → IsLocalAt tz instant (Some shown)

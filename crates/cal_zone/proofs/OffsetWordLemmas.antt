@@ -1,12 +1,11 @@
 -- Words that are fixed offsets, and zones ahead of UTC.
-use Rattle.std.proofs.Common.{◌≡◌, ◌⊎◌, inl, inr, ℕ, zero, suc, ℤ, pos, negsuc, neg_ℤ, int_lt, if◌then◌else◌, append-nil, append_assoc, length-append, ◌+◌, ◌*◌, ◌/◌, ◌%◌, ◌<◌, ◌≤◌, Bool, true, false, ◌&&◌, ◌||◌, ◌==◌, cond, min, List, [], ◌∷◌, ◌++◌, length, codes, decimal, unsigned_abs, Option, None, Some, option_map, refl, ap, sym, ◌∙◌, arith, le-leb, leb-true}
+use Rattle.std.proofs.Common.{◌≡◌, ◌⊎◌, inl, inr, ℕ, zero, suc, ℤ, pos, negsuc, neg_ℤ, int_lt, if◌then◌else◌, append-nil, append_assoc, length-append, ◌+◌, ◌*◌, ◌/◌, ◌%◌, ◌<◌, ◌≤◌, Bool, true, false, ◌&&◌, ◌||◌, ◌==◌, cond, min, List, [], ◌∷◌, ◌++◌, length, codes, decimal, unsigned_abs, Option, None, Some, option_map, refl, ap, arith, le-leb, leb-true}
 use Rattle.std.specs.Char.{is_ascii_digit}
 use Rattle.std.specs.Fmt.{digits}
 use Rattle.std.specs.List.{list_all}
 use Rattle.std.specs.Str.Parse.{digits_value}
-use Rattle.std.proofs.lemmas.Bool.{and_from, and_parts, cases_lt, eqb-true, le-ltb}
+use Rattle.std.proofs.lemmas.Bool.{and_parts, eqb-true, le-ltb}
 use Rattle.std.proofs.lemmas.Bool.Decides.{nat_tests}
-use Rattle.std.proofs.lemmas.List.Folds.{list_all-append}
 use Rattle.std.proofs.lemmas.Option.{cond_some}
 use Rattle.jiff.proofs.SpanFacts.{signed_arith}
 use Rattle.jiff.specs.Words.{IsOffsetSeconds}
@@ -21,14 +20,7 @@ use Rattle.cal_text.proofs.General.{both_all, all_below, below_all}
 
 two-found : (greatest a b n : ℕ) → two_digits greatest a b ≡ Some n → AreTwoDigits (a ∷ b ∷ []) n × (n ≤ greatest)
 unfolding two_digits
-two-found greatest a b n h =
-    let found = cond_some _ _ _ h in
-    let upper = and_parts _ _ found.0 in
-    let both = and_parts _ _ upper.0 in
-    let tens : is_ascii_digit a ≡ true = both.0 in
-    let ones : is_ascii_digit b ≡ true = both.1 in
-    let within : digits_value 10 (a ∷ b ∷ []) ≤ greatest = leb-true _ _ upper.1 in
-    (record { two = refl; digits = rw (tens, ones) refl; value = found.1 }, rw (← found.1) within)
+two-found greatest a b n h = grind (arith, signed_arith, cond_some, and_parts, leb-true)
 
 two-only : (greatest n : ℕ) (text : List ℕ) → AreTwoDigits text n → n ≤ greatest
     → (a : ℕ) × (b : ℕ) × (text ≡ a ∷ b ∷ []) × (two_digits greatest a b ≡ Some n)
@@ -133,11 +125,7 @@ digit_bytes [] h = refl
 digit_bytes (b ∷ bs) h = let parts = and_parts (is_ascii_digit b) (list_all is_ascii_digit bs) h in rw (parts.0, digit_bytes bs parts.1) refl
 
 clock-bytes : (text : List ℕ) (n : ℕ) → IsClock text n → (list_all is_offset_byte text ≡ true) × (length text ≡ 5)
-clock-bytes text n h =
-    let hour = digit_bytes h.hour h.hour_is.digits in
-    let minute = digit_bytes h.minute h.minute_is.digits in
-    let long : length (h.hour ++ (codes ":" ++ h.minute)) ≡ 5 = omega (arith, length-append h.hour (codes ":" ++ h.minute), h.hour_is.two, h.minute_is.two) in
-    rw h.whole (both_all is_offset_byte h.hour (codes ":" ++ h.minute) hour minute, long)
+clock-bytes text n h = grind (arith, signed_arith, digit_bytes, length-append, both_all)
 
 bytes-by : (word clock : List ℕ) (distance : ℕ) (seconds : ℤ) → (list_all is_offset_byte clock ≡ true) × (length clock ≡ 5)
     → ((word ≡ codes "+" ++ clock) × (seconds ≡ pos distance)) ⊎ ((word ≡ codes "-" ++ clock) × (seconds ≡ neg_ℤ (pos distance)))
@@ -170,7 +158,7 @@ offset-minutes word seconds is =
 
 -- What is printed
 
-abbrev two : ℕ → List ℕ
+abbrev pub two : ℕ → List ℕ
 two n = zeros 2 n ++ decimal n
 
 abbrev is_two : ℕ → Bool
@@ -189,30 +177,15 @@ two_printed n small =
     record { two = eqb-true _ _ long; digits = more.0; value = eqb-true _ _ value }
 
 printed-clock : (n : ℕ) → n ≤ 93_540 → n % 60 ≡ 0 → IsClock (two (n / 3_600) ++ (codes ":" ++ two (n / 60 % 60))) n
-printed-clock n near whole =
-    record {
-      hour = two (n / 3_600);
-      minute = two (n / 60 % 60);
-      hours = n / 3_600;
-      minutes = n / 60 % 60;
-      whole = refl;
-      hour_is = two_printed (n / 3_600) (omega arith);
-      minute_is = two_printed (n / 60 % 60) (omega arith);
-      hours_in = omega arith;
-      minutes_in = omega arith;
-      sum = omega (arith, whole);
-    }
+printed-clock n near whole = grind (arith, signed_arith, two_printed)
 
 pieces-joined : (sign a b c d : List ℕ) → joined (sign ∷ a ∷ b ∷ codes ":" ∷ c ∷ d ∷ []) ≡ sign ++ ((a ++ b) ++ (codes ":" ++ (c ++ d)))
-pieces-joined sign a b c d =
-    ap (λ t. sign ++ t) (ap (λ t. a ++ (b ++ (codes ":" ++ (c ++ t)))) (append-nil d) ∙ sym (append_assoc a b (codes ":" ++ (c ++ d))))
+pieces-joined sign a b c d = grind (arith, signed_arith, append-nil, append_assoc)
 
 printed-by : (seconds : ℤ) (clock : List ℕ) (t : Bool) → clock ≡ two (unsigned_abs seconds / 3_600) ++ (codes ":" ++ two (unsigned_abs seconds / 60 % 60))
     → unsigned_abs seconds % 60 ≡ 0 → int_lt seconds (pos 0) ≡ t → offset_text seconds ≡ (if t then codes "-" else codes "+") ++ clock
 unfolding offset_text
-printed-by seconds clock t is whole west =
-    rw (whole, west, is) (pieces-joined (if t then codes "-" else codes "+") (zeros 2 (unsigned_abs seconds / 3_600)) (decimal (unsigned_abs seconds / 3_600))
-    (zeros 2 (unsigned_abs seconds / 60 % 60)) (decimal (unsigned_abs seconds / 60 % 60)))
+printed-by seconds clock t is whole west = grind (arith, signed_arith, pieces-joined)
 
 pub printed-word : (seconds : ℤ) → AreWholeMinutes seconds → IsOffsetWord (offset_text seconds) seconds
 printed-word (pos n) h =

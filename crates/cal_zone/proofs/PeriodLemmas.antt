@@ -1,10 +1,8 @@
 -- Between two changes a clock is equally far ahead of UTC.
-use Rattle.std.proofs.Common.{◌≡◌, ◌∙◌, ◌⊎◌, inl, inr, ◌==◌, ◌<◌, ◌≤◌, ℤ, pos, neg_ℤ, ◌+ℤ◌, ◌-ℤ◌, ◌*ℤ◌, ◌≤ℤ◌, ◌<ℤ◌, Bool, true, false, ◌&&◌, cond, if◌then◌else◌, int_le, int_lt, IfSome, Option, None, Some, refl, sym, ap, subst, arith, vec_len}
+use Rattle.std.proofs.Common.{◌≡◌, ◌∙◌, ◌⊎◌, inl, inr, ◌<◌, ◌≤◌, ℤ, pos, neg_ℤ, ◌+ℤ◌, ◌≤ℤ◌, ◌<ℤ◌, Bool, true, false, if◌then◌else◌, int_le, int_lt, IfSome, Option, None, Some, refl, sym, ap, subst, arith, vec_len}
 use Rattle.std.specs.Int.{int_max}
 use Rattle.std.proofs.lemmas.Bool.{cases_lt, and_from}
 use Rattle.std.proofs.lemmas.Int.{by_lt_z}
-use Rattle.std.proofs.lemmas.Bool.Decides.{nat_tests}
-use borrow.Author.Differences.{lt-false}
 use Rattle.jiff.specs.Types.{Fixed, Offset, Posix as ByRule, TimeZone, Tzif as ByTable, UTC, Unknown}
 use Rattle.jiff.specs.Words.{nanos_of_seconds, next_at, offset_at, IsEpochDay}
 use Rattle.jiff.proofs.SpanFacts.{signed_arith}
@@ -33,14 +31,8 @@ use Rattle.cal_zone.proofs.RuleLemmas.{IsApart, IsBeside, clamped, in_its_year, 
 
 -- what lies within the ends is on one side of a moment that doesn't
 beside_within : (low high moment at other : ℤ) → IsApart low high (pos 0) moment → low ≤ℤ at → at <ℤ high → low ≤ℤ other → other <ℤ high → IsBeside moment at other
-beside_within low high moment at other (inl h) a b c d = record {
-  le = le_yes moment at (omega (arith, signed_arith)) ∙ sym (le_yes moment other (omega (arith, signed_arith)));
-  lt = not_lt_test at moment (omega (arith, signed_arith)) ∙ sym (not_lt_test other moment (omega (arith, signed_arith)));
-}
-beside_within low high moment at other (inr h) a b c d = record {
-  le = le_no moment at (omega (arith, signed_arith)) ∙ sym (le_no moment other (omega (arith, signed_arith)));
-  lt = lt_test at moment (omega (arith, signed_arith)) ∙ sym (lt_test other moment (omega (arith, signed_arith)));
-}
+beside_within low high moment at other (inl h) a b c d = grind (arith, signed_arith, le_yes, not_lt_test)
+beside_within low high moment at other (inr h) a b c d = grind (arith, signed_arith, le_no, lt_test)
 
 -- a rule's moments lie in their year
 abbrev pub IsIn : ℤ → ℤ → ℤ → Type 0
@@ -48,9 +40,7 @@ IsIn low high moment = (low ≤ℤ moment) × (moment ≤ℤ high)
 
 moment_in : (day : Option ℤ) (low high time seconds : ℤ) → low ≤ℤ high → IsIn low high (moment_on day low high time seconds)
 moment_in None low high time seconds order = (order, omega (arith, signed_arith))
-moment_in (Some d) low high time seconds order =
-    let kept = clamped low high (d *ℤ nanos_per_day +ℤ nanos_of_seconds (time -ℤ seconds)) order in
-    (kept.from, kept.to)
+moment_in (Some d) low high time seconds order = grind (arith, signed_arith, clamped)
 
 rule_in : (y : ℤ) (d : DayTime) (seconds : ℤ) → first_nanosecond y ≤ℤ last_nanosecond y → IsIn (first_nanosecond y) (last_nanosecond y) (rule_nanos y d seconds)
 unfolding rule_nanos
@@ -80,10 +70,7 @@ no_none false moment e f = cc
 
 transition_some : (rule : Posix) (d : Dst) (w : ℤ × ℤ) (low high moment : ℤ) → neg_ℤ (pos 377_705_023_201_000_000_000) ≤ℤ low → high ≤ℤ pos 253_402_207_200_999_999_999
     → IsIn low high moment → transition_of rule d w moment ≡ None → ⊥
-transition_some rule d w low high moment from to p e =
-    no_none (int_le (neg_ℤ (pos 377_705_023_201_000_000_000)) moment && int_le moment (pos 253_402_207_200_999_999_999)) _
-    (and_from _ _ (le_yes (neg_ℤ (pos 377_705_023_201_000_000_000)) moment (omega (arith, signed_arith))) (le_yes moment (pos 253_402_207_200_999_999_999) (omega (arith, signed_arith))))
-    e
+transition_some rule d w low high moment from to p e = grind (arith, signed_arith, no_none, int_le, and_from, le_yes)
 
 -- so where no transition comes, the year has none left
 passed_ends : (rule : Posix) (d : Dst) (y first last low high : ℤ) (o : ℤ × ℤ) → o.0 ≤ℤ o.1 → (a b : Bool) → int_lt low o.0 ≡ a → int_lt low o.1 ≡ b
@@ -92,10 +79,7 @@ passed_ends : (rule : Posix) (d : Dst) (y first last low high : ℤ) (o : ℤ ×
     → IsApart low high (pos 0) o.0 × IsApart low high (pos 0) o.1
 passed_ends rule d y first last low high o rises true b e f from to p q g = absurd (transition_some rule d (utc_window d y rule.std_offset) first last o.0 from to p g)
 passed_ends rule d y first last low high o rises false true e f from to p q g = absurd (transition_some rule d (utc_window d y rule.std_offset) first last o.1 from to q g)
-passed_ends rule d y first last low high o rises false false e f from to p q g =
-    let passed = lt-false low o.0 e in
-    let also = lt-false low o.1 f in
-    (inl (omega (arith, signed_arith)), inl (omega (arith, signed_arith)))
+passed_ends rule d y first last low high o rises false false e f from to p q g = grind (arith, signed_arith)
 
 abbrev lowest : ℤ
 lowest = neg_ℤ (pos 377_705_023_201_000_000_000)
@@ -179,19 +163,12 @@ even_behind : (z : Table) (from second : ℤ) → vec_len z.transitions ≤ coun
     → IsUnchanged (OfTable.next_at z (nanos_of_seconds from)) from second
     → OfTable.offset_at z (nanos_of_seconds second) ≡ OfTable.offset_at z (nanos_of_seconds from)
 even_behind z from second all begun bound later same =
-    let type : Offset = (type_after z (vec_len z.transitions)).offset in
-    let by_rule : IsUnchanged (match_some (rule_after z (vec_len z.transitions)) None (λ tz. ByPosix.next_at tz (nanos_of_seconds from))) from second
-    = rw (rule_behind z) (subst (λ next. IsUnchanged next from second) (next_behind z from all) same) in
-    offset_behind z from second all later
-    ∙ even_by (rule_after z (vec_len z.transitions)) type from second begun bound later by_rule
-    ∙ sym (offset_behind z from from all (omega (arith, signed_arith)))
+    grind (arith, signed_arith, vec_len, rule_behind, next_behind, offset_behind, even_by)
 
 -- and before it up to the next row
 next_row : (z : Table) (from : ℤ) → count_at z from < vec_len z.transitions
     → OfTable.next_at z (nanos_of_seconds from) ≡ Some (OfTable.transition_view (transition_at z (count_at z from)))
-next_row z from some =
-    let other : (count_at z from == vec_len z.transitions) ≡ false = grind (arith, nat_tests) in
-    rw (floor_second-whole from, other) refl
+next_row z from some = grind (arith, signed_arith, vec_len, floor_second-whole)
 
 even_between : (z : Table) (from second : ℤ) → count_at z from < vec_len z.transitions → from ≤ℤ second → IsUnchanged (OfTable.next_at z (nanos_of_seconds from)) from second
     → OfTable.offset_at z (nanos_of_seconds second) ≡ OfTable.offset_at z (nanos_of_seconds from)
@@ -210,24 +187,15 @@ even_until UTC from second begun bound later same = refl
 even_until Unknown from second begun bound later same = refl
 even_until (Fixed o) from second begun bound later same = refl
 even_until (ByRule rule) from second begun bound later same = ap (λ o. o.seconds) (even_by_rule rule from second begun bound later same)
-even_until (ByTable table) from second begun bound later same = elim (cases_lt (count_at table.now from) (vec_len table.now.transitions)) [
-  | inl some ↦ ap (λ o. o.seconds) (even_between table.now from second some later same)
-  | inr all ↦ ap (λ o. o.seconds) (even_behind table.now from second all begun bound later same)
-]
+even_until (ByTable table) from second begun bound later same = grind (arith, signed_arith, cases_lt, vec_len, even_between, even_behind)
 
 -- what lies before the greater of two numbers, and not before the first, lies before the second
 pub max_before : (a b x : ℤ) → x <ℤ int_max a b → a ≤ℤ x → x <ℤ b
-max_before a b x = elim (int_lt b a) as (λ v. x <ℤ cond v a b → a ≤ℤ x → x <ℤ b) [
-  | true ↦ λ before from. absurd (omega (arith, signed_arith))
-  | false ↦ λ before from. before
-]
+max_before a b x = grind (arith, signed_arith)
 
 -- so the clock is even from an instant of a period to its end
 pub even_within : (tz : TimeZone) (from to : ℤ) (period : Period) → IsPeriodAt tz from period → to ≤ℤ period.to → IsEvenUntil tz from to
-even_within tz from to period at within = λ second later before.
-    let begun = at.begun in
-    let end = at.within in
-    at.even second (omega (arith, signed_arith)) (omega (arith, signed_arith)) ∙ sym (at.even from begun end)
+even_within tz from to period at within = grind (arith, signed_arith)
 
 -- and to the end of the next one, where the clock is as far ahead in it
 pub even_over : (tz : TimeZone) (from turn to : ℤ) (period next : Period) → IsPeriodAt tz from period → turn ≡ period.to → IsPeriodAt tz turn next → to ≤ℤ next.to

@@ -1,5 +1,5 @@
 -- Places of local seconds.
-use Rattle.std.proofs.Common.{◌≡◌, ◌∙◌, ℤ, pos, ◌+ℤ◌, ◌-ℤ◌, Bool, Option, Some, None, refl, sym, ap, arith, int_eq, true, false, if◌then◌else◌}
+use Rattle.std.proofs.Common.{◌≡◌, ◌∙◌, ℤ, pos, ◌-ℤ◌, Bool, Some, None, refl, sym, ap, arith, int_eq, true, false, if◌then◌else◌}
 use Rattle.std.proofs.lemmas.Bool.Decides.{Decides-int_eq}
 use Rattle.std.proofs.lemmas.Int.{ints}
 use Rattle.jiff.specs.Types.{AmbiguousOffset, DateTime, Fixed, Offset, TimeZone, UTC}
@@ -41,7 +41,7 @@ picked_instant-settle_of tz local h = omega (arith, signed_arith, civil_nanos-da
 picked_by : (o : Offset) (shown : DateTime) (b : Bool) → int_eq o.seconds (pos 0) ≡ b
     → (compatible_offset (ambiguous_at (if b then UTC else Fixed o) shown)).seconds ≡ o.seconds
 unfolding ambiguous_at
-picked_by o shown true e = grind (arith, ints, e)
+picked_by o shown true e = grind (arith, ints)
 picked_by o shown false e = refl
 
 pub settle_of-fixed_zone : (o : Offset) (local : ℤ) → settle_of (fixed_zone o) local ≡ local -ℤ o.seconds
@@ -69,33 +69,25 @@ instant_of-settled tz offsets shown local day e f =
 -- a local second settles near itself
 pub settle_of-near : (tz : TimeZone) (local : ℤ) → IsOffsetSeconds (local -ℤ settle_of tz local)
 unfolding settle_of
-settle_of-near tz local =
-    let bound = (compatible_offset (ambiguous_at tz (datetime_of local))).in_range in
-    (omega (arith, signed_arith), omega (arith, signed_arith))
+settle_of-near tz local = grind (arith, signed_arith)
 
 -- the place is where a local second settles, if the clock shows it there
 pub place_of-shown : (tz : TimeZone) (local second : ℤ) → second ≡ settle_of tz local → local_of tz second ≡ local → place_of tz local ≡ Some second
 unfolding place_of
-place_of-shown tz local second settled shown =
-    rw (← settled, (Decides-int_eq (local_of tz second) local).1 shown)
+place_of-shown tz local second settled shown = grind (arith, signed_arith, Decides-int_eq)
 
 pub place_of-skipped : (tz : TimeZone) (local second : ℤ) → second ≡ settle_of tz local → (local_of tz second ≡ local → ⊥) → place_of tz local ≡ None
 unfolding place_of
-place_of-skipped tz local second settled skipped =
-    rw (← settled, other_test (local_of tz second) local skipped)
+place_of-skipped tz local second settled skipped = grind (arith, signed_arith, other_test)
 
 -- a place is where its local second settles, and the clock shows the local second there
 pub place_of-Some : (tz : TimeZone) (local place : ℤ) → place_of tz local ≡ Some place → (settle_of tz local ≡ place) × (local_of tz place ≡ local)
 unfolding place_of
-place_of-Some tz local place e =
-    let h = by_test _ (settle_of tz local) place e in
-    (h.1, ap (local_of tz) (sym h.1) ∙ (Decides-int_eq (local_of tz (settle_of tz local)) local).0 h.0)
+place_of-Some tz local place e = grind (arith, signed_arith, by_test, Decides-int_eq)
 
 pub by_the_offset : (tz : TimeZone) (local place : ℤ) → place_of tz local ≡ Some place → local -ℤ place ≡ offset_at tz (nanos_of_seconds place)
 unfolding local_of
-by_the_offset tz local place e =
-    let shown = (place_of-Some tz local place e).1 in
-    omega (arith, signed_arith)
+by_the_offset tz local place e = grind (arith, signed_arith, place_of-Some)
 
 pub within : (tz : TimeZone) (local place : ℤ) → place_of tz local ≡ Some place → IsOffsetSeconds (local -ℤ place)
 within tz local place e = rw (by_the_offset tz local place e) (offset_at-in_range tz (nanos_of_seconds place))
@@ -110,12 +102,7 @@ same_where a b c d to from = grind (arith, ints)
 pub place_of-tried : (tz : TimeZone) (local : ℤ) (offsets : AmbiguousOffset) → ambiguous_at tz (datetime_of local) ≡ offsets
     → place_of tz local ≡ place_at tz local (compatible_offset offsets)
 unfolding place_of place_at settle_of local_of
-place_of-tried tz local offsets e =
-    let second = local -ℤ (compatible_offset offsets).seconds in
-    rw e
-    (ap (λ b. if b then Some second else None)
-    (same_where (second +ℤ offset_at tz (nanos_of_seconds second)) local (offset_at tz (nanos_of_seconds second)) (compatible_offset offsets).seconds
-    (λ f. omega (arith, signed_arith)) (λ f. omega (arith, signed_arith))))
+place_of-tried tz local offsets e = grind (arith, signed_arith, same_where)
 
 pub place_at-there : (tz : TimeZone) (local : ℤ) (offset : Offset) → offset_at tz (nanos_of_seconds (local -ℤ offset.seconds)) ≡ offset.seconds
     → place_at tz local offset ≡ Some (local -ℤ offset.seconds)

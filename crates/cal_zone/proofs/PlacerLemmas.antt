@@ -1,11 +1,10 @@
 -- Stretches of local seconds that all lie equally far from their places.
-use Rattle.std.proofs.Common.{◌≡◌, ◌∙◌, ◌==◌, ◌-◌, ◌<◌, ◌≤◌, ℕ, zero, suc, ℤ, pos, ◌+ℤ◌, ◌-ℤ◌, ◌≤ℤ◌, ◌<ℤ◌, Option, Some, None, true, false, cond, int_le, int_lt, get_or, length, map, List, refl, sym, ap, subst, arith, vec_len}
+use Rattle.std.proofs.Common.{◌≡◌, ◌∙◌, ◌-◌, ◌<◌, ◌≤◌, ℕ, zero, suc, ℤ, pos, ◌+ℤ◌, ◌-ℤ◌, ◌≤ℤ◌, ◌<ℤ◌, Option, Some, None, true, false, cond, int_le, int_lt, get_or, length, map, List, refl, sym, ap, arith, vec_len}
 use Rattle.std.specs.Int.{int_min, int_max}
 use Rattle.std.proofs.lemmas.Bool.Decides.{nat_tests}
 use Rattle.std.proofs.lemmas.List.{get_or-map, length-map}
 use Rattle.std.specs.List.Sorted.{IsPartitionPoint}
 use Rattle.std.proofs.lemmas.List.Sums.{prefix_len_is, prefix_len_passes}
-use borrow.Author.Differences.{le-true}
 use Rattle.jiff.specs.Types.{AmbiguousOffset, DateTime, Offset, TimeZone, Unambiguous, Posix as ByRule}
 use Rattle.jiff.specs.Words.{ambiguous_at, civil_seconds, compatible_offset, nanos_of_seconds, offset_at, IsEpochDay, IsOffsetSeconds}
 use Rattle.jiff.proofs.SpanFacts.{signed_arith}
@@ -16,11 +15,11 @@ use Rattle.jiff_tz.specs.declared.posix.TimeZone.{TimeZone as Posix}
 use Rattle.jiff_tz.specs.PosixRule.{ambiguous_at_by, dst_at_by, match_some}
 use Rattle.jiff_tz.specs.PosixRule as ByPosix
 use Rattle.jiff_tz.specs.PosixText.{dst_view, tz_view}
-use Rattle.std.specs.Option.{is_some, option_map}
+use Rattle.std.specs.Option.{option_map}
 use Rattle.cal_zone.specs.Steady.{IsAlike}
 use Rattle.jiff_tz.specs.Tzif as OfTable
 use Rattle.jiff_tz.specs.Tzif.{ambiguous_after, civil_count_at, civil_end, civil_start, count_at, floor_second, is_inside, no_transition, rule_after, transition_at, type_after}
-use Rattle.jiff_tz.specs.TzifText.{is_ordered, no_row, transition_text}
+use Rattle.jiff_tz.specs.TzifText.{no_row, transition_text}
 use Rattle.jiff_tz.proofs.TzifLemmas.{le_no, le_yes, seconds_rise}
 use Rattle.cal_zone.specs.Local.{IsLocalSecond}
 use Rattle.cal_zone.specs.headline.Local.{day_of}
@@ -39,29 +38,19 @@ max_in_range x y p q = elim (int_lt y x) as (λ b. IsOffsetSeconds (cond b x y))
 
 -- what a row touches on the civil clock is near it
 start_near : (row : Transition) → IsOffsetSeconds (civil_start row -ℤ row.second)
-start_near row =
-    let near = min_in_range row.before.seconds row.after.offset.seconds row.before.in_range row.after.offset.in_range in
-    (omega (arith, signed_arith), omega (arith, signed_arith))
+start_near row = grind (arith, signed_arith, min_in_range)
 
 end_near : (row : Transition) → IsOffsetSeconds (civil_end row -ℤ row.second)
-end_near row =
-    let near = max_in_range row.before.seconds row.after.offset.seconds row.before.in_range row.after.offset.in_range in
-    (omega (arith, signed_arith), omega (arith, signed_arith))
+end_near row = grind (arith, signed_arith, max_in_range)
 
 -- the rows before a count are passed
 row_passed : (z : Table) (second : ℤ) (row : ℕ) → row < count_at z second → (transition_at z row).second ≤ℤ second
-row_passed z second row l =
-    let pass = prefix_len_passes (λ t. int_le t.second second) z.transitions.items row (no_transition z) l in
-    let under = le-true (transition_at z row).second second pass in
-    omega (arith, signed_arith)
+row_passed z second row l = grind (arith, signed_arith, prefix_len_passes, int_le)
 
 -- up to the next row the count is the same
 pub count_stays : (z : Table) (from second : ℤ) → count_at z from < vec_len z.transitions → from ≤ℤ second
     → second <ℤ (transition_at z (count_at z from)).second → count_at z second ≡ count_at z from
-count_stays z from second some begun within =
-    prefix_len_is (λ t. int_le t.second second) z.transitions.items (count_at z from) (no_transition z) (omega arith)
-    (λ row l. le_yes (transition_at z row).second second (omega (arith, signed_arith, row_passed z from row l)))
-    (λ l. le_no (transition_at z (count_at z from)).second second within)
+count_stays z from second some begun within = grind (arith, signed_arith, prefix_len_is, int_le, le_yes, row_passed, le_no)
 
 -- on the civil clock too, away from the rows
 civil_count_stays : (z : Table) (from local : ℤ) → count_at z from < vec_len z.transitions → (from +ℤ pos 93_599) ≤ℤ local
@@ -86,9 +75,7 @@ outside z from local begun = outside_after z (count_at z from) local
 
 -- and no rule holds
 pub no_rule : (z : Table) (rows : ℕ) → rows < vec_len z.transitions → rule_after z rows ≡ None
-no_rule z rows some =
-    let other : (rows == vec_len z.transitions) ≡ false = grind (arith, nat_tests) in
-    rw other refl
+no_rule z rows some = grind (arith, signed_arith, vec_len)
 
 -- the second of an instant in whole seconds, and of the civil time of a local second
 pub floor_second-whole : (second : ℤ) → floor_second (nanos_of_seconds second) ≡ second
@@ -102,14 +89,13 @@ civil_seconds-datetime_of local day = omega (arith, signed_arith, epoch_day-date
 pub offset_between : (z : Table) (from second : ℤ) → count_at z from < vec_len z.transitions → from ≤ℤ second
     → second <ℤ (transition_at z (count_at z from)).second
     → OfTable.offset_at z (nanos_of_seconds second) ≡ (type_after z (count_at z from)).offset
-offset_between z from second some begun within =
-    rw (floor_second-whole second, count_stays z from second some begun within, no_rule z (count_at z from) some) refl
+offset_between z from second some begun within = grind (arith, signed_arith, floor_second-whole, count_stays, no_rule)
 
 ambiguous_between : (z : Table) (from local : ℤ) → IsEpochDay (day_of local) → count_at z from < vec_len z.transitions → (from +ℤ pos 93_599) ≤ℤ local
     → (local +ℤ pos 93_599) <ℤ (transition_at z (count_at z from)).second
     → OfTable.ambiguous_at z (datetime_of local) ≡ Unambiguous (type_after z (count_at z from)).offset
 ambiguous_between z from local day some begun within =
-    rw (civil_seconds-datetime_of local day, civil_count_stays z from local some begun within, outside z from local begun, no_rule z (count_at z from) some) refl
+    grind (arith, signed_arith, civil_seconds-datetime_of, civil_count_stays, outside, no_rule)
 
 -- the place of a local second that is far enough from the rows before and behind it
 pub place_of-between : (z : Table) (from local : ℤ) → IsLocalSecond local → count_at z from < vec_len z.transitions → (from +ℤ pos 93_599) ≤ℤ local
@@ -126,9 +112,7 @@ place_of-between z from local within_years some begun within =
     (let in_range = offset.in_range in omega (arith, signed_arith))))
 
 pub length_of_copy : (z : Table) (rows : List Transition) → map transition_text rows ≡ map transition_text z.transitions.items → length rows ≡ vec_len z.transitions
-length_of_copy z rows copy =
-    let same : length rows ≡ length z.transitions.items = sym (length-map rows transition_text) ∙ ap length copy ∙ length-map z.transitions.items transition_text in
-    omega arith
+length_of_copy z rows copy = grind (arith, signed_arith, length-map)
 
 -- rows that say what a table's rows say: what a caller is given of a table
 pub row_of_copy : (z : Table) (rows : List Transition) → map transition_text rows ≡ map transition_text z.transitions.items
@@ -142,9 +126,7 @@ row_of_copy z rows copy row d l =
 -- they are ordered as the table's are
 pub ordered_copy : (z : Table) (rows : List Transition) → map transition_text rows ≡ map transition_text z.transitions.items
     → (row later : ℕ) (d : Transition) → row ≤ later → later < length rows → (get_or rows row d).second ≤ℤ (get_or rows later d).second
-ordered_copy z rows copy row later d le l =
-    let ordered : is_ordered z.first.offset.seconds (map transition_text rows) ≡ true = subst (λ texts. is_ordered z.first.offset.seconds texts ≡ true) (sym copy) z.ordered in
-    seconds_rise z.first.offset.seconds rows d ordered row later le l
+ordered_copy z rows copy row later d le l = grind (arith, signed_arith, seconds_rise)
 
 -- and as many of them lie at or before a second
 pub count_of_copy : (z : Table) (rows : List Transition) → map transition_text rows ≡ map transition_text z.transitions.items
@@ -158,9 +140,7 @@ count_of_copy z rows copy second count d bound point =
 
 -- what holds after some rows is what the last of them set
 pub type_after-row : (z : Table) (rows : ℕ) → 0 < rows → type_after z rows ≡ (transition_at z (rows - 1)).after
-type_after-row z rows some =
-    let other : (rows == 0) ≡ false = grind (arith, nat_tests) in
-    rw other refl
+type_after-row z rows some = grind (arith, signed_arith)
 
 -- local seconds at which the clock goes alike lie equally far from their places
 pub place_of-alike : (tz : TimeZone) (local other place : ℤ) → IsAlike tz local other → place_of tz other ≡ Some place → place_of tz local ≡ Some (local -ℤ (other -ℤ place))
@@ -187,10 +167,7 @@ offset_standard rule n none = rw (dst_never rule.std_offset rule.dst n none) ref
 
 pub alike_standard : (rule : Posix) (local other : ℤ) → rule.dst ≡ None → IsAlike (ByRule rule) local other
 unfolding offset_at ambiguous_at
-alike_standard rule local other none = record {
-  civil = ambiguous_standard rule.std_offset rule.dst (datetime_of local) none ∙ sym (ambiguous_standard rule.std_offset rule.dst (datetime_of other) none);
-  instants = λ offset. ap (λ o. o.seconds) (offset_standard rule (nanos_of_seconds (local -ℤ offset.seconds)) none ∙ sym (offset_standard rule (nanos_of_seconds (other -ℤ offset.seconds)) none));
-}
+alike_standard rule local other none = grind (arith, signed_arith, ambiguous_standard, offset_standard)
 
 -- the clock goes alike by the rule behind a table, if there is one
 abbrev pub AreAlikeBy : Option Posix → ℤ → ℤ → Type 0
@@ -231,18 +208,14 @@ outside_behind z from local all begun = outside_after z (vec_len z.transitions) 
 
 ambiguous_behind : (z : Table) (from local : ℤ) → IsEpochDay (day_of local) → vec_len z.transitions ≤ count_at z from → (from +ℤ pos 93_599) ≤ℤ local
     → OfTable.ambiguous_at z (datetime_of local) ≡ ambiguous_after z (vec_len z.transitions) (datetime_of local)
-ambiguous_behind z from local day all begun =
-    rw (civil_seconds-datetime_of local day, civil_count_behind z from local all begun, outside_behind z from local all begun) refl
+ambiguous_behind z from local day all begun = grind (arith, signed_arith, civil_seconds-datetime_of, civil_count_behind, outside_behind)
 
 pub offset_behind : (z : Table) (from second : ℤ) → vec_len z.transitions ≤ count_at z from → from ≤ℤ second
     → OfTable.offset_at z (nanos_of_seconds second) ≡ match_some (rule_after z (vec_len z.transitions)) (type_after z (vec_len z.transitions)).offset (λ tz. ByPosix.offset_at tz (nanos_of_seconds second))
-offset_behind z from second all begun =
-    rw (floor_second-whole second, count_behind z from second all begun) refl
+offset_behind z from second all begun = grind (arith, signed_arith, floor_second-whole, count_behind)
 
 pub rule_behind : (z : Table) → rule_after z (vec_len z.transitions) ≡ z.posix_tz
-rule_behind z =
-    let same : (vec_len z.transitions == vec_len z.transitions) ≡ true = grind (arith, nat_tests) in
-    rw same refl
+rule_behind z = grind (arith, signed_arith, vec_len)
 
 -- so there the table's clock goes as its rule's does
 pub alike_behind_rows : (z : Table) (local other : ℤ) → IsLocalSecond local → IsLocalSecond other → vec_len z.transitions ≤ count_at z (other -ℤ pos 93_599) → other ≤ℤ local
@@ -274,6 +247,4 @@ alike_without_dst (Some rule) given local other e none =
 
 -- where all rows are passed so early, they still are
 pub all_later : (z : Table) (local : ℤ) → vec_len z.transitions ≤ count_at z (local -ℤ pos 374_397) → vec_len z.transitions ≤ count_at z (local -ℤ pos 93_599)
-all_later z local all =
-    let later = count_behind z (local -ℤ pos 374_397) (local -ℤ pos 93_599) all (omega (arith, signed_arith)) in
-    omega arith
+all_later z local all = grind (arith, signed_arith, count_behind)

@@ -1,8 +1,7 @@
 -- The clock of a POSIX rule goes alike far enough from its moments, within a year.
-use Rattle.std.proofs.Common.{◌≡◌, ◌∙◌, ◌⊎◌, inl, inr, ℤ, pos, ◌+ℤ◌, ◌-ℤ◌, ◌*ℤ◌, ◌≤ℤ◌, ◌<ℤ◌, neg_ℤ, Bool, true, false, ◌&&◌, ◌||◌, ◌==◌, ◌≤◌, vec_len, if◌then◌else◌, int_le, int_lt, Option, None, Some, refl, sym, ap, arith}
-use Rattle.std.specs.Int.{int_min}
+use Rattle.std.proofs.Common.{◌≡◌, ◌∙◌, ◌⊎◌, inl, inr, ℤ, pos, ◌+ℤ◌, ◌-ℤ◌, ◌*ℤ◌, ◌≤ℤ◌, ◌<ℤ◌, Bool, true, false, ◌&&◌, ◌||◌, ◌≤◌, vec_len, if◌then◌else◌, int_le, int_lt, Option, None, Some, refl, sym, arith}
 use Rattle.std.proofs.lemmas.Bool.{and_parts}
-use borrow.Author.Differences.{le-true, le-false, lt-true, lt-false}
+use borrow.Author.Differences.{lt-true, lt-false}
 use Rattle.jiff.specs.Types.{Date, DateTime, Offset}
 use Rattle.jiff.specs.Words.{civil_nanos, epoch_day, nanos_of_seconds, IsEpochDay, IsOffsetSeconds}
 use Rattle.jiff_core.specs.Calendar.{day_count, days_from_civil, days_in_year, days_of_months, IsYear}
@@ -18,8 +17,6 @@ use Rattle.cal_zone.proofs.PlacerLemmas.{count_behind, floor_second-whole}
 use Rattle.jiff_tz.specs.declared.tzif.Tzif.{Tzif as Table}
 use Rattle.jiff_tz.specs.Tzif as OfTable
 use Rattle.jiff_tz.specs.Tzif.{count_at}
-use Rattle.std.proofs.lemmas.Bool.Decides.{nat_tests}
-use Rattle.std.proofs.lemmas.Int.{ints}
 use Rattle.cal_zone.proofs.DayLemmas.{epoch_day-date_of}
 use Rattle.cal_zone.proofs.PlaceLemmas.{civil_nanos-datetime_of}
 use Rattle.jiff.proofs.SpanFacts.{signed_arith}
@@ -88,10 +85,7 @@ near_by low high a b kept other more p q some h (inl x) (inr y) = omega (arith, 
 near_by low high a b kept other more p q some h (inr x) y = omega (arith, signed_arith)
 
 clamped_near : (low high a b more : ℤ) → low ≤ℤ high → pos 0 ≤ℤ more → a ≤ℤ (b +ℤ more) → clamp_to low high a ≤ℤ (clamp_to low high b +ℤ more)
-clamped_near low high a b more order some h =
-    let p = clamped low high a order in
-    let q = clamped low high b order in
-    near_by low high a b (clamp_to low high a) (clamp_to low high b) more q.from p.to some h p.below q.above
+clamped_near low high a b more order some h = grind (arith, signed_arith, clamped, near_by)
 
 -- a moment that is moved, and kept within the civil datetimes
 kept_low : (low high by more moment moved kept : ℤ) → moment ≤ℤ (low +ℤ by) → civil_min ≤ℤ low → pos 0 ≤ℤ by → pos 0 ≤ℤ more → moved ≤ℤ (moment +ℤ more)
@@ -109,10 +103,8 @@ civil_order = omega (arith, signed_arith)
 
 apart_kept : (low high by more moment moved : ℤ) → civil_min ≤ℤ low → high ≤ℤ civil_max → pos 0 ≤ℤ by → pos 0 ≤ℤ more
     → moved ≤ℤ (moment +ℤ more) → moment ≤ℤ (moved +ℤ more) → IsApart low high by moment → IsApart low high (by +ℤ more) (clamp_to civil_min civil_max moved)
-apart_kept low high by more moment moved from to some also a b (inl h) =
-    kept_low low high by more moment moved _ h from some also a (clamped civil_min civil_max moved civil_order).below
-apart_kept low high by more moment moved from to some also a b (inr h) =
-    kept_high low high by more moment moved _ h to some also b (clamped civil_min civil_max moved civil_order).above
+apart_kept low high by more moment moved from to some also a b (inl h) = grind (arith, signed_arith, kept_low, clamped, civil_order)
+apart_kept low high by more moment moved from to some also a b (inr h) = grind (arith, signed_arith, kept_high, clamped, civil_order)
 
 -- a rule's moment on the wall clock is near the one at UTC
 abbrev pub moment_on : Option ℤ → ℤ → ℤ → ℤ → ℤ → ℤ
@@ -144,24 +136,17 @@ pub record AreBeside (std dst : Offset) (w : ℤ × ℤ) (at other : ℤ) : Type
   pub before_end : IsBeside (saturating_sub w.1 (shift_between std dst)) at other
 
 pub ambiguous_beside : (std dst : Offset) (w : ℤ × ℤ) (at other : ℤ) → AreBeside std dst w at other → ambiguous_by std dst w at ≡ ambiguous_by std dst w other
-ambiguous_beside std dst w at other h =
-    rw (h.start.le, h.start.lt, h.end.le, h.end.lt, h.after_start.le, h.after_start.lt, h.before_end.le, h.before_end.lt) refl
+ambiguous_beside std dst w at other h = grind (arith, signed_arith)
 
 pub window_beside : (w : ℤ × ℤ) (at other : ℤ) → IsBeside w.0 at other → IsBeside w.1 at other → in_window w at ≡ in_window w other
 window_beside w at other start end = rw (start.le, start.lt, end.le, end.lt) refl
 
 -- the ends of a window by their order
 pub ordered_rises : (w : ℤ × ℤ) → (ordered w).0 ≤ℤ (ordered w).1
-ordered_rises w = elim (int_le w.0 w.1) as (λ b. int_le w.0 w.1 ≡ b → (if b then w else (w.1, w.0)).0 ≤ℤ (if b then w else (w.1, w.0)).1) [
-  | true ↦ λ e. let under = le-true w.0 w.1 e in omega (arith, signed_arith)
-  | false ↦ λ e. let over = le-false w.0 w.1 e in omega (arith, signed_arith)
-] refl
+ordered_rises w = grind (arith, signed_arith, int_le)
 
 pub ordered_apart : (low high : ℤ) (w : ℤ × ℤ) → IsApart low high (pos 0) (ordered w).0 → IsApart low high (pos 0) (ordered w).1 → IsApart low high (pos 0) w.0 × IsApart low high (pos 0) w.1
-ordered_apart low high w = elim (int_le w.0 w.1) as (λ b. IsApart low high (pos 0) (if b then w else (w.1, w.0)).0 → IsApart low high (pos 0) (if b then w else (w.1, w.0)).1 → IsApart low high (pos 0) w.0 × IsApart low high (pos 0) w.1) [
-  | true ↦ λ p q. (p, q)
-  | false ↦ λ p q. (q, p)
-]
+ordered_apart low high w = grind (arith, signed_arith, int_le)
 
 -- a moment that is a transition is its instant
 by_range : (b : Bool) (moment : ℤ) (info : OffsetInfo) (next : ℤ × OffsetInfo) → (if b then Some (moment, info) else None) ≡ Some next → next.0 ≡ moment
@@ -169,23 +154,14 @@ by_range true moment info next e = cc
 by_range false moment info next e = absurd (cc)
 
 pub transition_at_moment : (rule : Posix) (d : Dst) (w : ℤ × ℤ) (moment : ℤ) (next : ℤ × OffsetInfo) → transition_of rule d w moment ≡ Some next → next.0 ≡ moment
-transition_at_moment rule d w moment next e =
-    by_range (int_le (neg_ℤ (pos 377_705_023_201_000_000_000)) moment && int_le moment (pos 253_402_207_200_999_999_999)) moment _ next e
+transition_at_moment rule d w moment next e = grind (arith, signed_arith, by_range, int_le)
 
 window_ends : (rule : Posix) (d : Dst) (y low high : ℤ) (next : ℤ × OffsetInfo) (o : ℤ × ℤ) → o.0 ≤ℤ o.1 → (a b : Bool) → int_lt low o.0 ≡ a → int_lt low o.1 ≡ b
     → (if a then transition_of rule d (utc_window d y rule.std_offset) o.0 else (if b then transition_of rule d (utc_window d y rule.std_offset) o.1 else next_year rule d y)) ≡ Some next
     → high ≤ℤ next.0 → IsApart low high (pos 0) o.0 × IsApart low high (pos 0) o.1
-window_ends rule d y low high next o rises true b e f g h =
-    let at = transition_at_moment rule d (utc_window d y rule.std_offset) o.0 next g in
-    (inr (omega (arith, signed_arith)), inr (omega (arith, signed_arith)))
-window_ends rule d y low high next o rises false true e f g h =
-    let passed = lt-false low o.0 e in
-    let at = transition_at_moment rule d (utc_window d y rule.std_offset) o.1 next g in
-    (inl (omega (arith, signed_arith)), inr (omega (arith, signed_arith)))
-window_ends rule d y low high next o rises false false e f g h =
-    let passed = lt-false low o.0 e in
-    let also = lt-false low o.1 f in
-    (inl (omega (arith, signed_arith)), inl (omega (arith, signed_arith)))
+window_ends rule d y low high next o rises true b e f g h = grind (arith, signed_arith, transition_at_moment)
+window_ends rule d y low high next o rises false true e f g h = grind (arith, signed_arith, transition_at_moment)
+window_ends rule d y low high next o rises false false e f g h = grind (arith, signed_arith)
 
 -- the first transition after the low end is the first of the window's ends behind it
 window_by : (rule : Posix) (d : Dst) (y low high : ℤ) (next : ℤ × OffsetInfo) → next_by rule d y low ≡ Some next → high ≤ℤ next.0
@@ -223,10 +199,7 @@ pub record IsPart (first last low high : ℤ) : Type 0 where
 end_left_out : (low high first last end std : ℤ) (b : Bool) → IsPart first last low high → high ≤ℤ (last +ℤ pos 1) → IsOffsetSeconds std
     → int_lt (clamp_to civil_min civil_max (end +ℤ nanos_of_seconds std)) first ≡ b → (b || int_lt last (clamp_to civil_min civil_max (end +ℤ nanos_of_seconds std))) ≡ true
     → IsApart low high (pos 93_599_000_000_000) end
-end_left_out low high first last end std true part to offset e f =
-    let kept = clamped civil_min civil_max (end +ℤ nanos_of_seconds std) civil_order in
-    let passed = lt-true (clamp_to civil_min civil_max (end +ℤ nanos_of_seconds std)) first e in
-    end_passed low high first last end std part.from (omega (arith, signed_arith)) offset (omega (arith, signed_arith)) kept.above
+end_left_out low high first last end std true part to offset e f = grind (arith, signed_arith, clamped, civil_order, end_passed)
 end_left_out low high first last end std false part to offset e f =
     let kept = clamped civil_min civil_max (end +ℤ nanos_of_seconds std) civil_order in
     let to_come = lt-true last (clamp_to civil_min civil_max (end +ℤ nanos_of_seconds std)) f in
@@ -246,8 +219,7 @@ window_parts : (low high first last start end std : ℤ) (b : Bool) → IsPart f
     → IsApart low high (pos 0) start × IsApart low high (pos 93_599_000_000_000) end
 window_parts low high first last start end std true part offset e p q =
     (p, end_left_out low high first last end std _ part (ends_with_year low high last part.to q) offset refl (and_parts _ _ e).1)
-window_parts low high first last start end std false part offset e p q =
-    (p, apart_near low high (pos 0) (pos 93_599_000_000_000) end end q (omega (arith, signed_arith)) (omega (arith, signed_arith)))
+window_parts low high first last start end std false part offset e p q = grind (arith, signed_arith, apart_near)
 
 pub moments_apart : (d : Dst) (y : ℤ) (std : Offset) (low high : ℤ) → IsPart (first_nanosecond y) (last_nanosecond y) low high
     → IsApart low high (pos 0) (utc_window d y std).0 → IsApart low high (pos 0) (utc_window d y std).1
@@ -268,10 +240,7 @@ in_its_year d =
 
 -- and a date that lies in a year is of that year
 pub of_the_year : (d : Date) (y : ℤ) → IsYear y → first_day y ≤ℤ epoch_day d → epoch_day d <ℤ (first_day y +ℤ pos (days_in_year y)) → d.year ≡ y
-of_the_year d y year from to =
-    let count = days_from_civil-day_count d.year d.month d.day in
-    let first = days_from_civil-day_count y 1 1 in
-    day_count-year_is y d.year d.month d.day year (civil d) (omega (arith, signed_arith)) (omega (arith, signed_arith))
+of_the_year d y year from to = grind (arith, signed_arith, days_from_civil-day_count, day_count-year_is, civil)
 
 -- the year of a second from an earlier one of a year on, before the year's end
 pub year_goes_on : (past second : ℤ) → IsEpochDay (day_of past) → IsEpochDay (day_of second) → past ≤ℤ second → second <ℤ year_end (datetime_of past).date.year
@@ -299,10 +268,7 @@ year_begun past past_in =
 -- what a rule with daylight saving time gives in a year
 pub ambiguous_in : (std : Offset) (dst : Option Dst) (d : Dst) (shown : DateTime) (y n : ℤ) → dst ≡ Some d → shown.date.year ≡ y → civil_nanos shown ≡ n
     → ambiguous_at_by std dst shown ≡ ambiguous_by std d.offset (rule_nanos y d.rule.start (pos 0), rule_nanos y d.rule.end (pos 0)) n
-ambiguous_in std dst d shown y n e f g =
-    ap (λ (o : Option Dst). ambiguous_at_by std o shown) e
-    ∙ ap (λ (year : ℤ). ambiguous_by std d.offset (rule_nanos year d.rule.start (pos 0), rule_nanos year d.rule.end (pos 0)) (civil_nanos shown)) f
-    ∙ ap (ambiguous_by std d.offset (rule_nanos y d.rule.start (pos 0), rule_nanos y d.rule.end (pos 0))) g
+ambiguous_in std dst d shown y n e f g = grind (arith, signed_arith)
 
 pub offset_in : (rule : Posix) (d : Dst) (y n : ℤ) → rule.dst ≡ Some d → year_of_nanos n ≡ y
     → ByPosix.offset_at rule n ≡ match_some (if in_window (utc_window d y rule.std_offset) n then Some d else None) rule.std_offset (λ dst. dst.offset)
@@ -343,9 +309,7 @@ next_found rule (Some d) n change e = (d, refl, e)
 
 -- behind the last row of a table it is one of its rule
 pub next_behind : (z : Table) (past : ℤ) → vec_len z.transitions ≤ count_at z past → OfTable.next_at z (nanos_of_seconds past) ≡ match_some z.posix_tz None (λ rule. ByPosix.next_at rule (nanos_of_seconds past))
-next_behind z past all =
-    let same : (vec_len z.transitions == vec_len z.transitions) ≡ true = grind (arith, nat_tests) in
-    rw (floor_second-whole past, count_behind z past past all (omega (arith, signed_arith)), same) refl
+next_behind z past all = grind (arith, signed_arith, vec_len, floor_second-whole, count_behind)
 
 -- a year ends with its 31 December
 december : (d : Date) (y : ℤ) → d.year ≡ y → pos d.month ≡ pos 12 → pos d.day ≡ pos 31 → epoch_day d ≡ days_from_civil y 12 31

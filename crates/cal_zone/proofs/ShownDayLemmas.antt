@@ -1,6 +1,5 @@
 -- Instants that a clock shows on one day.
-use Rattle.std.proofs.Common.{◌≡◌, ◌∙◌, ◌+◌, ◌*◌, ℕ, ℤ, pos, ◌+ℤ◌, ◌-ℤ◌, ◌≤ℤ◌, ◌<ℤ◌, cond, int_lt, true, false, unsigned_abs, codes, List, [], ◌∷◌, ◌++◌, refl, ap, arith}
-use Rattle.std.specs.Int.{int_max}
+use Rattle.std.proofs.Common.{◌≡◌, ◌∙◌, ◌+◌, ◌*◌, ℕ, ℤ, pos, ◌+ℤ◌, ◌-ℤ◌, ◌≤ℤ◌, ◌<ℤ◌, unsigned_abs, codes, List, [], ◌∷◌, ◌++◌, refl, ap, arith}
 use Rattle.std.specs.Int.Signed.{pos-nat_abs, yes_non_neg}
 use Rattle.std.proofs.lemmas.List.{append-nil, append_assoc}
 use Rattle.jiff.specs.Types.{TimeZone}
@@ -68,6 +67,4 @@ shown_on_day c since word =
 pub text_on_day : (zone : Zone) (second : ℤ) (shown : Civil) (since : ℕ) → civil_of (zone_of zone) second ≡ at_second shown since
     → instant_text zone second ≡ joined (day_text shown ∷ time_text (hour_of since) (minute_of since) (second_of since) ∷ (codes " " ++ zone_word (is_utc zone) shown.offset) ∷ [])
 unfolding instant_text
-text_on_day zone second shown since e =
-    ap (λ c. shown_text c ++ zone_word (is_utc zone) c.offset) e
-    ∙ shown_on_day shown since (zone_word (is_utc zone) shown.offset)
+text_on_day zone second shown since e = grind (arith, signed_arith, shown_on_day)

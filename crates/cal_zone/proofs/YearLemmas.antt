@@ -11,7 +11,7 @@ use Rattle.jiff_core.proofs.MarchLemmas.{day_count-early, day_count-late}
 use Rattle.cal_zone.proofs.DayLemmas.{epoch_day-date_of}
 use Rattle.cal_zone.specs.headline.Local.{civil_date, seconds_in_all, seconds_in_all-is}
 
-days_from_civil-1970 : days_from_civil (pos 1970) 1 1 ≡ pos 0
+pub days_from_civil-1970 : days_from_civil (pos 1970) 1 1 ≡ pos 0
 days_from_civil-1970 =
     omega (arith, signed_arith, days_from_civil-day_count (pos 1970) 1 1, day_count-early (pos 1970) 11969 1 1 refl (omega arith) (omega arith) (omega arith))
 

@@ -13,23 +13,19 @@ returns-then-starts_with c =
 pub returns-in-Ok : goal.returns-in-Ok
 returns-in-Ok c =
     let sign = starts_char 43 c.args.text.now c.starts_with.result c.starts_with.ensures.cases (lit< tt) (lit< tt) in
-    let read = number_between-parsed _ c.args.least c.args.most c.args.text.now c.parse.result c.parse.ensures.value.0 (λ at. cc (sign.1 at)) (omega arith) in
-    sym (read ∙ rw (c.in-Ok.is, le-leb _ _ c.if-least-number.true, le-leb _ _ c.if-number-most.true) refl)
+    grind (arith, nat_tests, sign.1, number_between-parsed _ c.args.least c.args.most c.args.text.now c.parse.result c.parse.ensures.value.0)
 
 pub returns-in_default : goal.returns-in_default
 returns-in_default c =
     let sign = starts_char 43 c.args.text.now c.starts_with.result c.starts_with.ensures.cases (lit< tt) (lit< tt) in
-    let read = number_between-parsed _ c.args.least c.args.most c.args.text.now c.parse.result c.parse.ensures.value.0 (λ at. cc (sign.1 at)) (omega arith) in
-    sym (read ∙ rw c.in-Ok.is (grind (arith, nat_tests)))
+    grind (arith, nat_tests, sign.1, number_between-parsed _ c.args.least c.args.most c.args.text.now c.parse.result c.parse.ensures.value.0)
 
 pub returns-in_default-2 : goal.returns-in_default-2
 returns-in_default-2 c =
     let sign = starts_char 43 c.args.text.now c.starts_with.result c.starts_with.ensures.cases (lit< tt) (lit< tt) in
-    let read = number_between-parsed _ c.args.least c.args.most c.args.text.now c.parse.result c.parse.ensures.value.0 (λ at. cc (sign.1 at)) (omega arith) in
-    sym (read ∙ rw c.in-Ok.is (grind (arith, nat_tests)))
+    grind (arith, nat_tests, sign.1, number_between-parsed _ c.args.least c.args.most c.args.text.now c.parse.result c.parse.ensures.value.0)
 
 pub returns-in_default-3 : goal.returns-in_default-3
 returns-in_default-3 c =
     let sign = starts_char 43 c.args.text.now c.starts_with.result c.starts_with.ensures.cases (lit< tt) (lit< tt) in
-    let read = number_between-parsed _ c.args.least c.args.most c.args.text.now c.parse.result c.parse.ensures.value.0 (λ at. cc (sign.1 at)) (omega arith) in
-    sym (read ∙ rw c.in_default.is refl)
+    grind (arith, nat_tests, sign.1, number_between-parsed _ c.args.least c.args.most c.args.text.now c.parse.result c.parse.ensures.value.0)

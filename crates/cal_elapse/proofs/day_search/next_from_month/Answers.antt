@@ -12,35 +12,13 @@ use Rattle.cal_elapse.proofs.MonthLemmas.{first_day-end, first_day-rises, length
 use Rattle.cal_elapse.proofs.day_search.next_from_month.Goals as goal
 
 pub loop-next-init : goal.loop-next-init
-loop-next-init c =
-    let none = count_from-begun (month_in (sets_in c.args.masks.now)) c.args.from c.args.from (omega arith) (λ t above below. absurd (omega arith)) in
-    record {
-      from_in = omega arith;
-      index_in = c.requires.from_in;
-      none = λ t above below. absurd (omega arith);
-      counted = omega (arith, none);
-    }
+loop-next-init c = grind (arith, count_from-begun)
 
 pub of-requires-clause-few : goal.of-requires-clause-few
-of-requires-clause-few c =
-    let most = count_from-most (month_in (sets_in c.args.masks.now)) c.args.from (c.loop-next.index - c.args.from) in
-    let inv = c.loop-next.invariant in
-    let found = c.in-Some.ensures in
-    let low = found.0 in
-    let high = found.1 in
-    let few = c.requires.few in
-    let from_in = inv.from_in in
-    let counted = inv.counted in
-    omega arith
+of-requires-clause-few c = grind (arith, count_from-most)
 
 pub overflow_add-result : goal.overflow_add-result
-overflow_add-result c =
-    let month = c.month_at-month.result in
-    let first = month.first_is in
-    let within = month.index_in in
-    let rises = first_day-rises month.index 2_760 (omega arith) in
-    let end = first_day-end in
-    omega (arith, c.in-Some-next.ensures)
+overflow_add-result c = grind (arith, first_day-rises, first_day-end)
 
 pub returns-in-Some-next-clause-first : goal.returns-in-Some-next-clause-first
 returns-in-Some-next-clause-first c =
@@ -91,8 +69,6 @@ loop-next-preserved c =
     let inv = c.loop-next.invariant in
     let from_in = inv.from_in in
     let found = c.in-Some.ensures in
-    let low = found.0 in
-    let high = found.1 in
     let same = c.month_at-month.ensures in
     let begins : month.first ≡ first_day c.in-Some.next = month.first_is ∙ ap first_day same in
     let long : month.length ≡ length_of c.in-Some.next = month.length_is ∙ ap length_of same in
@@ -118,17 +94,7 @@ loop-next-preserved c =
     }
 
 pub returns-clause-first : goal.returns-clause-first
-returns-clause-first c =
-    let inv = c.loop-next.invariant in
-    let s = sets_in c.args.masks.now in
-    let none = months_none s c.loop-next.index 2_760 (omega arith) c.in_default.ensures in
-    let all = first_day-end in
-    λ t above below.
-    elim (cases_lt t (first_day c.loop-next.index)) [ inl early ↦ inv.none t above early | inr late ↦ none t late (omega arith) ]
+returns-clause-first c = grind (arith, months_none, first_day-end)
 
 pub returns-clause-counted : goal.returns-clause-counted
-returns-clause-counted c =
-    let inv = c.loop-next.invariant in
-    let s = sets_in c.args.masks.now in
-    let rest = count_from-on (month_in s) c.args.from c.loop-next.index 2_760 inv.from_in inv.index_in c.in_default.ensures in
-    rw rest inv.counted
+returns-clause-counted c = grind (arith, count_from-on)

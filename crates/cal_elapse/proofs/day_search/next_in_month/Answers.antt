@@ -12,20 +12,10 @@ returns-then-not-has_month-clause-first c =
     none_of_month (sets_in c.args.masks.now) month.index month.first month.length c.args.from month.index_in month.first_is month.length_is c.requires.low fails
 
 pub next-requires : goal.next-requires
-next-requires c =
-    let long = c.args.month.length_is in
-    let bounds = length_bounds c.args.month.index in
-    let high = c.requires.high in
-    omega arith
+next-requires c = omega (arith, length_bounds c.args.month.index)
 
 pub overflow_add-result : goal.overflow_add-result
-overflow_add-result c =
-    let month = c.args.month in
-    let first = month.first_is in
-    let within = month.index_in in
-    let rises = first_day-rises month.index 2_760 (omega arith) in
-    let end = first_day-end in
-    omega (arith, c.in-Some.ensures)
+overflow_add-result c = grind (arith, first_day-rises, first_day-end)
 
 pub returns-in-Some-clause-first : goal.returns-in-Some-clause-first
 returns-in-Some-clause-first c =
@@ -36,7 +26,6 @@ returns-in-Some-clause-first c =
 pub returns-in-None-clause-first : goal.returns-in-None-clause-first
 returns-in-None-clause-first c =
     let month = c.args.month in
-    let long = month.length_is in
     let bounds = length_bounds month.index in
     none_in_month (sets_in c.args.masks.now) month.first month.length c.of.result.bits c.args.from
     (record { days = c.of.ensures.days; within = c.of.ensures.within }) c.requires.low (omega arith) c.in-None.ensures

@@ -1,12 +1,9 @@
-use Rattle.std.proofs.Common.{◌&&◌, ◌+◌, Bool, List, Option, nat_lt, sym, ap, ◌∙◌, arith}
+use Rattle.std.proofs.Common.{◌&&◌, ◌+◌, Bool, List, Option, nat_lt, sym, ap, ◌∙◌}
 use Rattle.cal_elapse.specs.Masks.{slot_of}
-use Rattle.cal_elapse.proofs.PartLemmas.{greatest_of_all, members_by, whole_window}
+use Rattle.cal_elapse.proofs.PartLemmas.{members_by, whole_window}
 use Rattle.cal_spec.specs.headline.Members.{component_has}
 use Rattle.cal_spec.specs.declared.part.Part.{Part}
 use Rattle.cal_elapse.proofs.masks_of.members.Goals as goal
-
-pub in_parts-requires-clause-within : goal.in_parts-requires-clause-within
-in_parts-requires-clause-within c = omega (arith, greatest_of_all (slot_of c.args.field c.args.expr.now.from_end))
 
 pub returns-in-Some : goal.returns-in-Some
 returns-in-Some c = λ i.

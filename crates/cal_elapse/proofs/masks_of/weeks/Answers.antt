@@ -1,10 +1,6 @@
 use Rattle.std.proofs.Common.{◌%◌, slice_index_or, false}
-use Rattle.cal_elapse.proofs.MasksLemmas.{filled_more, filled_none}
+use Rattle.cal_elapse.proofs.MasksLemmas.{filled_none}
 use Rattle.cal_elapse.proofs.masks_of.weeks.Goals as goal
 
 pub loop-index-init : goal.loop-index-init
 loop-index-init c = filled_none (λ i. slice_index_or c.args.weekdays.now (i % 7) false)
-
-pub loop-index-preserved : goal.loop-index-preserved
-loop-index-preserved c =
-    filled_more c.loop-index.mask c.put_bit-mask.result c.loop-index.index (λ i. slice_index_or c.args.weekdays.now (i % 7) false) c.loop-index.invariant c.put_bit-mask.ensures.here c.put_bit-mask.ensures.others

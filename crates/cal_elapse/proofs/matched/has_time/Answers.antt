@@ -11,7 +11,7 @@ pub returns-then-has_minute : goal.returns-then-has_minute
 returns-then-has_minute c =
     let m = c.args.masks.now in
     let s = c.args.second in
-    let whole : time_in (sets_in m) s ≡ (minute_in (sets_in m) (s / 60) && is_bit m.seconds (s % 60)) = split_at _ _ _ 60 1_440 (seconds_split m) (s / 60) s (omega arith) refl in
+    let whole : time_in (sets_in m) s ≡ (minute_in (sets_in m) (s / 60) && is_bit m.seconds (s % 60)) = split_at (seconds_split m) (s / 60) s (omega arith) refl in
     let minute : minute_in (sets_in m) (s / 60) ≡ true = cc in
     rw (whole, minute) c.has_bit.ensures
 
@@ -19,6 +19,6 @@ pub returns-else-has_minute : goal.returns-else-has_minute
 returns-else-has_minute c =
     let m = c.args.masks.now in
     let s = c.args.second in
-    let whole : time_in (sets_in m) s ≡ (minute_in (sets_in m) (s / 60) && is_bit m.seconds (s % 60)) = split_at _ _ _ 60 1_440 (seconds_split m) (s / 60) s (omega arith) refl in
+    let whole : time_in (sets_in m) s ≡ (minute_in (sets_in m) (s / 60) && is_bit m.seconds (s % 60)) = split_at (seconds_split m) (s / 60) s (omega arith) refl in
     let minute : minute_in (sets_in m) (s / 60) ≡ false = cc in
     rw (whole, minute) c.if-has_minute.false

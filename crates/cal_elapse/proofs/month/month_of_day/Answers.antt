@@ -12,10 +12,8 @@ years_since-requires c =
 
 pub overflow_sub-result : goal.overflow_sub-result
 overflow_sub-result c =
-    let at = located c.args.day c.requires in
     let day : c.from-2.result ≡ (civil_date c.args.day).day = c.from-2.ensures ∙ ap (λ (d : Date). d.day) c.date_of-date.ensures in
-    let first = at.first in
-    omega arith
+    omega (arith, located c.args.day c.requires)
 
 pub invariant_of-result : goal.invariant_of-result
 invariant_of-result c =
@@ -25,8 +23,6 @@ invariant_of-result c =
     index_by c.date_of-date.result (civil_date c.args.day) c.years_since.result c.from.result same c.years_since.ensures c.from.ensures at.year_low at.year_high in
     let day : c.from-2.result ≡ (civil_date c.args.day).day = c.from-2.ensures ∙ ap (λ (d : Date). d.day) same in
     let length = length_by c.date_of-date.result (civil_date c.args.day) c.into.result same (c.into.ensures ∙ c.days_in_month.ensures.value) at.year_low at.year_high in
-    let first = at.first in
-    let within = at.within in
     record {
       index_in = omega arith;
       first_is = rw index (omega arith);
@@ -34,21 +30,4 @@ invariant_of-result c =
     }
 
 pub returns-clause-index : goal.returns-clause-index
-returns-clause-index c =
-    let at = located c.args.day c.requires in
-    index_by c.date_of-date.result (civil_date c.args.day) c.years_since.result c.from.result (search (c.date_of-date.ensures)) c.years_since.ensures c.from.ensures at.year_low at.year_high
-
-pub returns-clause-low : goal.returns-clause-low
-returns-clause-low c =
-    let at = located c.args.day c.requires in
-    let day : c.from-2.result ≡ (civil_date c.args.day).day = c.from-2.ensures ∙ ap (λ (d : Date). d.day) c.date_of-date.ensures in
-    let one = (civil_date c.args.day).day_in.0 in
-    omega arith
-
-pub returns-clause-high : goal.returns-clause-high
-returns-clause-high c =
-    let at = located c.args.day c.requires in
-    let day : c.from-2.result ≡ (civil_date c.args.day).day = c.from-2.ensures ∙ ap (λ (d : Date). d.day) c.date_of-date.ensures in
-    let length = length_by c.date_of-date.result (civil_date c.args.day) c.into.result c.date_of-date.ensures (c.into.ensures ∙ c.days_in_month.ensures.value) at.year_low at.year_high in
-    let last = (civil_date c.args.day).day_in.1 in
-    omega arith
+returns-clause-index c = grind (arith, located, index_by)

@@ -1,4 +1,4 @@
-use Rattle.std.proofs.Common.{◌≡◌, ◌∙◌, ◌+◌, ◌/◌, ◌<◌, arith, ap, drop, subst, sym, None, Some, ℕ}
+use Rattle.std.proofs.Common.{◌≡◌, ◌∙◌, ◌+◌, ◌/◌, arith, ap, drop, sym, Some}
 use Rattle.std.specs.List.{position}
 use Rattle.std.proofs.lemmas.List.{get_or-drop, length-drop}
 use Rattle.cal_elapse.specs.Scan.{is_set}
@@ -9,19 +9,10 @@ pub returns-in-Some : goal.returns-in-Some
 returns-in-Some c = found_here c.args.words.now c.args.from c.in-Some.bit c.cell_at.result c.requires.inside c.in-Some.ensures c.cell_at.ensures
 
 pub returns-in_default-first_set : goal.returns-in_default-first_set
-returns-in_default-first_set c =
-    let n = c.args.from / 64 + 1 in
-    let none : position is_set (drop n c.args.words.now) ≡ None = ap (position is_set) (sym c.split_at.ensures.back) ∙ (sym c.first_set.ensures ∙ c.in_default-first_set.is) in
-    let long = c.requires.whole in
-    let after = length-drop n c.args.words.now in
-    no_word_set c.args.words.now c.args.from c.requires.whole c.requires.inside (omega (arith, after, long)) c.in_default.ensures none
+returns-in_default-first_set c = grind (arith, drop, length-drop, no_word_set)
 
 pub lowest_bit-requires : goal.lowest_bit-requires
-lowest_bit-requires c =
-    let n = c.args.from / 64 + 1 in
-    let some : position is_set (drop n c.args.words.now) ≡ Some c.in-Some-first_set.later = ap (position is_set) (sym c.split_at.ensures.back) ∙ (sym c.first_set.ensures ∙ c.in-Some-first_set.is) in
-    let first = position-first (drop n c.args.words.now) c.in-Some-first_set.later some in
-    subst (λ (x : ℕ). 0 < x) (get_or-drop n c.args.words.now c.in-Some-first_set.later 0) first.some
+lowest_bit-requires c = grind (arith, drop, position-first, get_or-drop)
 
 pub returns : goal.returns
 returns c =

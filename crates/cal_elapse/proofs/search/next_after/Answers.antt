@@ -7,18 +7,10 @@ use Rattle.cal_elapse.proofs.SearchLemmas.{search_today}
 use Rattle.cal_elapse.proofs.search.next_after.Goals as goal
 
 pub overflow_add-result : goal.overflow_add-result
-overflow_add-result c =
-    let count = seconds_in_all-is in
-    let inside = c.requires.inside in
-    let small = c.in-Some.ensures.1 in
-    let second = c.from.ensures in
-    omega arith
+overflow_add-result c = omega (arith, seconds_in_all-is)
 
 pub overflow_add-local : goal.overflow_add-local
-overflow_add-local c =
-    let count = seconds_in_all-is in
-    let inside = c.requires.inside in
-    omega arith
+overflow_add-local c = omega (arith, seconds_in_all-is)
 
 pub returns-in-Some : goal.returns-in-Some
 returns-in-Some c =

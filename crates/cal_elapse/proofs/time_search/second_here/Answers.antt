@@ -1,9 +1,5 @@
-use Rattle.std.proofs.Common.{◌≡◌, ℕ, ◌+◌, ◌*◌, ◌/◌, ◌%◌, subst, true, false, Some, arith}
+use Rattle.std.proofs.Common.{◌/◌, ◌%◌, arith}
 use Rattle.cal_elapse.specs.Bits.{is_bit}
-use Rattle.cal_elapse.specs.Masks.{sets_in}
-use Rattle.cal_elapse.specs.Months.{minute_in}
-use Rattle.cal_spec.specs.headline.Match.{time_in}
-use Rattle.cal_elapse.specs.Search.{IsFirstPassing, NonePasses}
 use Rattle.cal_elapse.proofs.CarryLemmas.{first_here, none_by_high, none_by_low}
 use Rattle.cal_elapse.proofs.TimeLemmas.{seconds_split}
 use Rattle.cal_elapse.proofs.time_search.second_here.Goals as goal
@@ -11,27 +7,17 @@ use Rattle.cal_text.proofs.General.{below_end}
 
 pub returns-then-not-has_minute : goal.returns-then-not-has_minute
 returns-then-not-has_minute c =
-    let m = c.args.masks.now in
     let f = c.args.from in
-    let parts : f / 60 * 60 + f % 60 ≡ f = omega arith in
-    let no : minute_in (sets_in m) (f / 60) ≡ false = cc in
-    subst (λ (n : ℕ). NonePasses (time_in (sets_in m)) n ((f / 60 + 1) * 60)) parts
-    (none_by_high _ _ _ 60 1_440 (seconds_split m) (f / 60) (f % 60) (omega arith) no)
+    none_by_high (seconds_split c.args.masks.now) (f / 60) (f % 60) f (omega arith) (omega arith) (cc)
 
 pub returns-in-None : goal.returns-in-None
 returns-in-None c =
-    let m = c.args.masks.now in
     let f = c.args.from in
-    let parts : f / 60 * 60 + f % 60 ≡ f = omega arith in
-    subst (λ (n : ℕ). NonePasses (time_in (sets_in m)) n ((f / 60 + 1) * 60)) parts
-    (none_by_low _ _ _ 60 1_440 (seconds_split m) (f / 60) (f % 60) 64 (omega arith) (omega arith) c.in-None.ensures)
+    none_by_low (seconds_split c.args.masks.now) (f / 60) (f % 60) f 64 (omega arith) (omega arith) (omega arith) c.in-None.ensures
 
 pub returns-in-Some : goal.returns-in-Some
 returns-in-Some c =
     let m = c.args.masks.now in
     let f = c.args.from in
-    let parts : f / 60 * 60 + f % 60 ≡ f = omega arith in
-    let yes : minute_in (sets_in m) (f / 60) ≡ true = cc in
     let small = below_end (is_bit m.seconds) 60 c.in-Some.second m.last_second c.in-Some.ensures.2 in
-    subst (λ (n : ℕ). IsFirstPassing (time_in (sets_in m)) n ((f / 60 + 1) * 60) (Some (f / 60 * 60 + c.in-Some.second))) parts
-    (first_here _ _ _ 60 1_440 (seconds_split m) (f / 60) (f % 60) 64 c.in-Some.second (omega arith) yes small c.in-Some.ensures)
+    first_here (seconds_split m) (f / 60) (f % 60) f 64 c.in-Some.second (omega arith) (omega arith) (cc) small c.in-Some.ensures

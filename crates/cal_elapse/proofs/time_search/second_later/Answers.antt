@@ -5,20 +5,11 @@ use Rattle.cal_elapse.proofs.TimeLemmas.{seconds_split}
 use Rattle.cal_elapse.proofs.time_search.second_later.Goals as goal
 use Rattle.cal_text.proofs.General.{below_end}
 
-pub lowest_bit-requires : goal.lowest_bit-requires
-lowest_bit-requires c = c.args.masks.now.some_second
-
-pub overflow_mul-result : goal.overflow_mul-result
-overflow_mul-result c = omega (arith, c.in-Some.ensures)
-
-pub overflow_add-result : goal.overflow_add-result
-overflow_add-result c = omega (arith, c.in-Some.ensures, c.lowest_bit.ensures)
-
 pub returns-in-None : goal.returns-in-None
-returns-in-None c = none_later _ _ _ 60 1_440 (seconds_split c.args.masks.now) c.args.minute 1_440 (omega arith) c.in-None.ensures
+returns-in-None c = none_later (seconds_split c.args.masks.now) c.args.minute 1_440 (omega arith) c.in-None.ensures
 
 pub returns-in-Some : goal.returns-in-Some
 returns-in-Some c =
     let m = c.args.masks.now in
     let small = below_end (is_bit m.seconds) 60 c.lowest_bit.result m.last_second c.lowest_bit.ensures.2 in
-    search (first_later _ _ _ 60 1_440 (seconds_split m) c.args.minute 1_440 c.in-Some.minute 64 c.lowest_bit.result c.in-Some.ensures.1 small c.in-Some.ensures c.lowest_bit.ensures)
+    search (first_later (seconds_split m) c.args.minute 1_440 c.in-Some.minute 64 c.lowest_bit.result c.in-Some.ensures.1 small c.in-Some.ensures c.lowest_bit.ensures)

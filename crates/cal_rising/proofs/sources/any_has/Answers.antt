@@ -1,4 +1,4 @@
-use Rattle.std.proofs.Common.{rules, ◌∙◌, FitsSigned, ap, arith, length-set, map, set, sym, w64}
+use Rattle.std.proofs.Common.{rules, ◌∙◌, ap, arith, length-set, map, set, sym, w64}
 use Rattle.std.proofs.Math.Seq.{map-set_same}
 use Rattle.std.proofs.lemmas.Int.{to_z-of_z}
 use Rattle.cal_rising.specs.Merge.{Branch, numbers}
@@ -8,13 +8,11 @@ use Rattle.cal_text.proofs.General.{taken_whole}
 
 pub returns-then-has-clause-has : goal.returns-then-has-clause-has
 returns-then-has-clause-has g c =
-    let fits : FitsSigned w64 c.args.number = search rules in
-    behind_here _ _ _ _ _ _ _ c.loop-branch.invariant.behind (to_z-of_z w64 c.args.number fits) c.deref_mut-branch-items.ensures.value (omega arith) (sym c.has.ensures.has ∙ c.if-has.true)
+    behind_here _ _ _ _ _ _ _ c.loop-branch.invariant.behind (to_z-of_z w64 c.args.number (search rules)) c.deref_mut-branch-items.ensures.value (omega arith) (sym c.has.ensures.has ∙ c.if-has.true)
 
 pub returns-clause-has : goal.returns-clause-has
 returns-clause-has g c =
-    let fits : FitsSigned w64 c.args.number = search rules in
-    behind_all _ _ _ _ _ _ c.loop-branch.invariant.behind (to_z-of_z w64 c.args.number fits) c.deref_mut-branch-items.ensures.value (omega arith)
+    behind_all _ _ _ _ _ _ c.loop-branch.invariant.behind (to_z-of_z w64 c.args.number (search rules)) c.deref_mut-branch-items.ensures.value (omega arith)
 
 pub returns-then-has-clause-same : goal.returns-then-has-clause-same
 returns-then-has-clause-same g c =

@@ -16,15 +16,7 @@ returns-then-local-lt0 c =
     ])
 
 pub returns-in-Some : goal.returns-in-Some
-returns-in-Some c =
-    let shown = c.shown_at-local.result in
-    let fits : FitsSigned w64 shown = search rules in
-    let place_fits : FitsSigned w64 c.in-Some.place = search rules in
-    let secs_fits : FitsSigned w64 c.secs.result = search rules in
-    let there : c.in-Some.place ≡ c.secs.result = search rules in
-    rw (to_z-of_z w64 shown fits)
-    (local_at-here (zone_of c.args.zone) c.args.instant.secs shown (omega (arith, signed_arith)) (omega (arith, signed_arith))
-    (sym (rw (to_z-of_z w64 shown fits) at c.place.ensures) ∙ c.in-Some.is ∙ ap Some (there ∙ c.secs.ensures.value)))
+returns-in-Some c = grind (arith, signed_arith, to_z-of_z, local_at-here, c.place.ensures, c.in-Some.is, c.secs.ensures.value)
 
 pub returns-in_default : goal.returns-in_default
 returns-in_default c =

@@ -16,13 +16,7 @@ returns-in-Some-new c =
     c.period_by-before.ensures turn c.period_by-after.ensures (omega (arith, signed_arith)) same
 
 pub returns-in_default-new : goal.returns-in_default-new
-returns-in_default-new c =
-    let before_fits : FitsSigned w64 c.period_by-before.result.to = search rules in
-    let turn : c.in-Some.turn.secs ≡ c.period_by-before.result.to = c.in-Some.ensures.value ∙ to_z-of_z w64 c.period_by-before.result.to before_fits in
-    even_within c.args.rules.now c.args.from.secs c.in-Some.turn.secs c.period_by-before.result c.period_by-before.ensures (omega (arith, signed_arith))
+returns-in_default-new c = grind (arith, signed_arith, c.in-Some.ensures.value, to_z-of_z, even_within, c.period_by-before.ensures)
 
 pub returns-in_default-new-2 : goal.returns-in_default-new-2
-returns-in_default-new-2 c =
-    let before_fits : FitsSigned w64 c.period_by-before.result.to = search rules in
-    let turn : c.in-Some.turn.secs ≡ c.period_by-before.result.to = c.in-Some.ensures.value ∙ to_z-of_z w64 c.period_by-before.result.to before_fits in
-    even_within c.args.rules.now c.args.from.secs c.in-Some.turn.secs c.period_by-before.result c.period_by-before.ensures (omega (arith, signed_arith))
+returns-in_default-new-2 c = grind (arith, signed_arith, c.in-Some.ensures.value, to_z-of_z, even_within, c.period_by-before.ensures)

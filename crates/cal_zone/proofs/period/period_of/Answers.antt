@@ -7,16 +7,7 @@ use Rattle.cal_zone.proofs.ZoneLemmas.{zone_of-utc, zone_of-offset, zone_of-rule
 use Rattle.cal_zone.proofs.period.period_of.Goals as goal
 
 pub returns-in-Utc : goal.returns-in-Utc
-returns-in-Utc c =
-    let of = c.whole.ensures in
-    let in_range = c.args.instant.in_range in
-    record {
-      begun = omega (arith, signed_arith);
-      within = omega (arith, signed_arith);
-      even = λ second from before.
-          ap (λ tz. offset_at tz (nanos_of_seconds second)) (zone_of-utc c.args.zone c.in-Utc.is) ∙ offset_at-UTC (nanos_of_seconds second)
-          ∙ sym (ap (λ offset. offset.seconds) of.offset);
-    }
+returns-in-Utc c = grind (arith, signed_arith, c.whole.ensures, c.args.instant.in_range, zone_of-utc, c.in-Utc.is, offset_at-UTC)
 
 pub returns-in-Offset : goal.returns-in-Offset
 returns-in-Offset c =

@@ -1,4 +1,4 @@
-use Rattle.std.proofs.Common.{◌≡◌, ◌-ℤ◌, ◌∙◌, sym, ap, Some, arith, rules, w64, FitsSigned}
+use Rattle.std.proofs.Common.{◌≡◌, ◌-ℤ◌, ◌∙◌, sym, ap, Some, arith}
 use Rattle.std.proofs.lemmas.Int.{to_z-of_z}
 use Rattle.jiff.proofs.SpanFacts.{signed_arith}
 use Rattle.cal_zone.specs.headline.Place.{place_of}
@@ -14,9 +14,7 @@ pub place_by-requires : goal.place_by-requires
 place_by-requires c = (omega (arith, signed_arith), omega (arith, signed_arith))
 
 pub returns-in-Utc : goal.returns-in-Utc
-returns-in-Utc c =
-    let fits : FitsSigned w64 c.args.local = search rules in
-    ap Some (to_z-of_z w64 _ fits) ∙ sym (ap (λ tz. place_of tz c.args.local) (zone_of-utc c.args.zone c.in-Utc.is) ∙ place_of-UTC c.args.local)
+returns-in-Utc c = grind (arith, signed_arith, to_z-of_z, zone_of-utc, c.in-Utc.is, place_of-UTC)
 
 pub returns-in-Offset : goal.returns-in-Offset
 returns-in-Offset c =
@@ -25,8 +23,4 @@ returns-in-Offset c =
     ap Some (omega (arith, signed_arith, c.unix_second.ensures, c.in-Offset.ahead.in_range)) ∙ sym there
 
 pub returns-in-Rules : goal.returns-in-Rules
-returns-in-Rules c =
-    let fits : FitsSigned w64 c.args.local = search rules in
-    c.place_by.ensures
-    ∙ ap (λ local. place_of c.in-Rules.rules.now local) (to_z-of_z w64 _ fits)
-    ∙ sym (ap (λ tz. place_of tz c.args.local) (zone_of-rules c.args.zone c.in-Rules.rules c.in-Rules.is))
+returns-in-Rules c = grind (arith, signed_arith, c.place_by.ensures, to_z-of_z, zone_of-rules, c.in-Rules.is)

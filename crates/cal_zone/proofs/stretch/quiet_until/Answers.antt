@@ -8,9 +8,7 @@ use Rattle.cal_zone.specs.Steady.{year_end}
 use Rattle.cal_zone.proofs.stretch.quiet_until.Goals as goal
 
 pub overflow_sub-before_change : goal.overflow_sub-before_change
-overflow_sub-before_change c =
-    let range = c.in-Some.next.timestamp.in_range in
-    omega (arith, signed_arith, c.floor_second-before_change.ensures)
+overflow_sub-before_change c = grind (arith, signed_arith, c.in-Some.next.timestamp.in_range, c.floor_second-before_change.ensures)
 
 pub returns-then-past-year_end : goal.returns-then-past-year_end
 returns-then-past-year_end c = λ local after before.

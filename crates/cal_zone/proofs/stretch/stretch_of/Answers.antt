@@ -8,14 +8,7 @@ use Rattle.cal_zone.proofs.ZoneLemmas.{zone_of-utc, zone_of-offset, zone_of-rule
 use Rattle.cal_zone.proofs.stretch.stretch_of.Goals as goal
 
 pub returns-in-Utc : goal.returns-in-Utc
-returns-in-Utc c =
-    let of = c.whole.ensures in
-    record {
-      begun = omega (arith, signed_arith);
-      within = omega (arith, signed_arith);
-      steady = λ local years begun within.
-          ap (λ tz. place_of tz local) (zone_of-utc c.args.zone c.in-Utc.is) ∙ place_of-UTC local ∙ ap Some (omega (arith, signed_arith));
-    }
+returns-in-Utc c = grind (arith, signed_arith, c.whole.ensures, zone_of-utc, c.in-Utc.is, place_of-UTC)
 
 pub returns-in-Offset : goal.returns-in-Offset
 returns-in-Offset c =

@@ -1,4 +1,4 @@
-use Rattle.std.proofs.Common.{◌≡◌, ◌∙◌, ◌≤ℤ◌, ap, arith, None, Some, pos, rules}
+use Rattle.std.proofs.Common.{◌≡◌, ◌∙◌, ◌≤ℤ◌, ap, arith, None, pos, rules}
 use Rattle.jiff.proofs.SpanFacts.{signed_arith}
 use Rattle.cal_zone.specs.LocalAt.{IsLocalAt}
 use Rattle.cal_zone.specs.headline.Local.{seconds_in_all, seconds_in_all-is}

@@ -1,4 +1,4 @@
-use Rattle.std.proofs.Common.{◌≡◌, ◌↔◌, ◌∙◌, ◌<ℤ◌, ◌≤ℤ◌, ℤ, FitsSigned, ap, arith, pos, rules, subst, true, w64, int_eq}
+use Rattle.std.proofs.Common.{◌≡◌, ◌↔◌, ◌∙◌, ◌<ℤ◌, ℤ, FitsSigned, ap, arith, rules, subst, true, w64, int_eq}
 use Rattle.std.proofs.lemmas.Bool.{false≢true}
 use Rattle.std.proofs.lemmas.Int.{to_z-of_z}
 use Rattle.jiff.proofs.SpanFacts.{signed_arith}
@@ -24,19 +24,7 @@ returns-in-Some-clause-has c =
     ∙ ap (λ (v : Window). is_member int_eq (rest_of v) number) c.self.view_is
 
 pub returns-in_default-clause-has : goal.returns-in_default-clause-has
-returns-in_default-clause-has c =
-    let w = c.self.inside.window in
-    let number = c.args.number in
-    let fits : FitsSigned w64 number = search rules in
-    let last_fits : FitsSigned w64 w.last = search rules in
-    let low : number ≤ℤ w.last = omega (arith, signed_arith) in
-    not_above w number low ∙ ap (λ (v : Window). is_member int_eq (rest_of v) number) c.self.view_is
+returns-in_default-clause-has c = grind (arith, w64, signed_arith, not_above, int_eq)
 
 pub returns-in_default-2-clause-has : goal.returns-in_default-2-clause-has
-returns-in_default-2-clause-has c =
-    let w = c.self.inside.window in
-    let number = c.args.number in
-    let fits : FitsSigned w64 number = search rules in
-    let low : pos 0 ≤ℤ w.last = omega (arith, signed_arith, c.self.invariant.0.low, c.self.invariant.0.above) in
-    not_instant w number low (λ h. false≢true ((c.in_default.ensures.some).1 (rw (to_z-of_z w64 number fits) h)))
-    ∙ ap (λ (v : Window). is_member int_eq (rest_of v) number) c.self.view_is
+returns-in_default-2-clause-has c = grind (arith, w64, signed_arith, not_instant, false≢true, to_z-of_z, int_eq)

@@ -5,27 +5,13 @@ use Rattle.cal_elapse.proofs.MonthLemmas.{first_day-end, first_day-rises, length
 use Rattle.cal_elapse.proofs.month_days.MonthDays.of.Goals as goal
 
 pub first_day_bit-requires : goal.first_day_bit-requires
-first_day_bit-requires c =
-    let month = c.args.month in
-    let long = month.length_is in
-    let bounds = length_bounds month.index in
-    omega arith
+first_day_bit-requires c = grind (arith, length_bounds)
 
 pub overflow_add-weekdays : goal.overflow_add-weekdays
-overflow_add-weekdays c =
-    let month = c.args.month in
-    let first = month.first_is in
-    let within = month.index_in in
-    let rises = first_day-rises month.index 2_760 (omega arith) in
-    let end = first_day-end in
-    omega arith
+overflow_add-weekdays c = grind (arith, first_day-rises, first_day-end)
 
 pub all_days-requires : goal.all_days-requires
-all_days-requires c =
-    let month = c.args.month in
-    let long = month.length_is in
-    let bounds = length_bounds month.index in
-    omega arith
+all_days-requires c = grind (arith, length_bounds)
 
 pub returns-clause-days : goal.returns-clause-days
 returns-clause-days c = λ k small.

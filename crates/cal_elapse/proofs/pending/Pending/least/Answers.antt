@@ -18,10 +18,7 @@ pub returns-then-self-clause-near : goal.returns-then-self-clause-near
 returns-then-self-clause-near c = near_answer _ c.self.inside.least c.args.self.now c.self.view_is
 
 pub returns-else-self-clause-least : goal.returns-else-self-clause-least
-returns-else-self-clause-least c =
-    search
-    (least_answer _ c.self.inside.least c.self.inside.least c.args.self.now c.self.view_is c.self.invariant.round
-    (found_kept _ c.self.inside.least c.self.invariant.first c.if-self.false))
+returns-else-self-clause-least c = grind (arith, least_answer, found_kept)
 
 pub returns-else-self-clause-rises : goal.returns-else-self-clause-rises
 returns-else-self-clause-rises c = rises_answer _ c.self.inside.least c.args.self.now c.self.view_is

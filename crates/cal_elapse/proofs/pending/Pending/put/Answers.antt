@@ -1,11 +1,8 @@
-use Rattle.std.proofs.Common.{◌≡◌, ◌∙◌, List, ap, length, pos, w64, ℕ}
+use Rattle.std.proofs.Common.{◌≡◌, ◌∙◌, List, ap, pos, w64, ℕ}
 use Rattle.std.proofs.lemmas.Int.{to_z-of_z}
 use Rattle.cal_elapse.specs.Bits.{is_in_words}
 use Rattle.cal_elapse.proofs.RingLemmas.{HasMore, near_there, put_answer, put_from, second_inside, second_is}
 use Rattle.cal_elapse.proofs.pending.Pending.put.Goals as goal
-
-pub set_cell-requires-clause-whole : goal.set_cell-requires-clause-whole
-set_cell-requires-clause-whole c = ap length (c.as_mut_slice.ensures.value ∙ c.deref_mut.ensures.value) ∙ c.self.invariant.round.whole
 
 pub invariant_of-self : goal.invariant_of-self
 invariant_of-self c =

@@ -1,4 +1,4 @@
-use Rattle.std.proofs.Common.{◌∙◌, ◌||◌, ◌%◌, List, ap, arith, length, w64, ℕ}
+use Rattle.std.proofs.Common.{◌∙◌, ◌||◌, ◌%◌, List, ap, arith, w64, ℕ}
 use Rattle.std.proofs.lemmas.Int.{to_z-of_z}
 use Rattle.cal_elapse.specs.Bits.{is_bit, is_in_words}
 use Rattle.cal_elapse.specs.Ring.{cells_behind}
@@ -6,9 +6,6 @@ use Rattle.cal_elapse.proofs.FillLemmas.{HasAll, begun_least, filled_answer, fil
 use Rattle.cal_elapse.proofs.RingLemmas.{rises-instants}
 use Rattle.cal_elapse.proofs.pending.Pending.put_all.Goals as goal
 use Rattle.cal_text.proofs.General.{pos_unsigned_abs}
-
-pub set_cells-requires-clause-whole : goal.set_cells-requires-clause-whole
-set_cells-requires-clause-whole c = ap length (c.as_mut_slice.ensures.value ∙ c.deref_mut.ensures.value) ∙ c.self.invariant.round.whole
 
 pub invariant_of-self : goal.invariant_of-self
 invariant_of-self c =

@@ -5,11 +5,8 @@ use Rattle.cal_elapse.proofs.searcher.Searcher.keep.Goals as goal
 
 pub overflow_add-self : goal.overflow_add-self
 overflow_add-self c =
-    let count = seconds_in_all-is in
     let found = rw c.in-Some.is at c.requires in
-    omega (arith, found.0)
+    omega (arith, seconds_in_all-is, found.0)
 
 pub invariant_of-self : goal.invariant_of-self
-invariant_of-self c =
-    let found = rw c.in-Some.is at c.requires in
-    record { few_months = c.args.self.now.few_months; is_left = search (left_after c.args.self.now.masks c.in-Some.local found.1) }
+invariant_of-self c = grind (arith, left_after)

@@ -4,23 +4,15 @@ use Rattle.cal_elapse.specs.Masks.{sets_in}
 use Rattle.cal_elapse.specs.Most.{IsMostAfter}
 use Rattle.cal_elapse.proofs.CountLemmas.{count_from-nothing}
 use Rattle.cal_elapse.proofs.MinuteLemmas.{next_found}
-use Rattle.cal_elapse.proofs.MostLemmas.{most_begun, next_counted, next_most}
+use Rattle.cal_elapse.proofs.MostLemmas.{next_counted, next_most}
 use Rattle.cal_elapse.proofs.searcher.Searcher.next_left.Goals as goal
 use Rattle.cal_text.proofs.General.{unwrap_or_kept}
-
-pub returns-then-not-has_left-clause-none : goal.returns-then-not-has_left-clause-none
-returns-then-not-has_left-clause-none c = λ is same. c.has_left.ensures.none c.if-not-has_left.true same
 
 pub returns-then-not-has_left-clause-counted : goal.returns-then-not-has_left-clause-counted
 returns-then-not-has_left-clause-counted c = let nothing = count_from-nothing (matches (sets_in c.args.self.now.masks)) (c.args.local + 1) c.args.local in omega arith
 
-pub returns-then-not-has_left-clause-most : goal.returns-then-not-has_left-clause-most
-returns-then-not-has_left-clause-most c = most_begun (sets_in c.args.self.now.masks) c.args.local c.args.self.now.most_months
-
 pub returns-clause-next : goal.returns-clause-next
-returns-clause-next c =
-    let now = c.args.self.now in
-    (next_found now.masks c.args.local c.search.result.local (c.has_left.ensures.more c.if-not-has_left.false) c.search.ensures.found.first).0
+returns-clause-next c = grind (arith, next_found)
 
 pub returns-clause-none : goal.returns-clause-none
 returns-clause-none c = λ none same.
@@ -35,12 +27,7 @@ returns-clause-last c = λ same.
     unwrap_or_kept c.search.result.local c.args.local _ known.1 c.search.ensures.last
 
 pub returns-clause-counted : goal.returns-clause-counted
-returns-clause-counted c =
-    let now = c.args.self.now in
-    let known = next_found now.masks c.args.local c.search.result.local (c.has_left.ensures.more c.if-not-has_left.false) c.search.ensures.found.first in
-    let one = next_counted (matches (sets_in now.masks)) c.args.local c.search.result.local known in
-    let more = c.search.ensures.counted in
-    omega arith
+returns-clause-counted c = grind (arith, next_found, next_counted)
 
 pub returns-clause-most : goal.returns-clause-most
 returns-clause-most c =

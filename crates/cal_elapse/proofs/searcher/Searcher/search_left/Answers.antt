@@ -1,4 +1,4 @@
-use Rattle.std.proofs.Common.{◌≡◌, ◌∙◌, ◌+◌, ◌-◌, Some, arith, refl, subst, sym, true}
+use Rattle.std.proofs.Common.{◌≡◌, ◌∙◌, ◌+◌, ◌-◌, Some, arith, refl, subst}
 use Rattle.cal_spec.specs.headline.Match.{matches}
 use Rattle.cal_elapse.specs.Count.{count_from}
 use Rattle.cal_elapse.specs.Left.{IsNextLeft, NoneLeft}
@@ -22,21 +22,10 @@ loop-next-init c =
     }
 
 pub next_left-requires-clause-start : goal.next_left-requires-clause-start
-next_left-requires-clause-start c =
-    let kept = c.loop-next.invariant in
-    let there : matches (sets_in c.loop-next.self.masks) c.loop-next.last ≡ true
-    = subst (λ (m : Masks). matches (sets_in m) c.loop-next.last ≡ true) (sym kept.masks) kept.rest.is_match in
-    (match_inside (sets_in c.loop-next.self.masks) c.loop-next.last there, there)
+next_left-requires-clause-start c = grind (arith, match_inside)
 
 pub next_left-requires-clause-few : goal.next_left-requires-clause-few
-next_left-requires-clause-few c =
-    let kept = c.loop-next.invariant in
-    let most = count_from-most (matches (sets_in c.args.self.now.masks)) (c.args.local + 1) (c.loop-next.last - c.args.local) in
-    let counted = kept.counted in
-    let begun = kept.rest.begun in
-    let few = c.requires.few in
-    let inside = (next_left-requires-clause-start c).0 in
-    omega arith
+next_left-requires-clause-few c = grind (arith, count_from-most, next_left-requires-clause-start)
 
 pub loop-next-preserved : goal.loop-next-preserved
 loop-next-preserved c =
@@ -47,7 +36,6 @@ loop-next-preserved c =
     let sets = sets_in c.args.self.now.masks in
     let found = subst (λ (m : Masks). IsNextLeft (matches (sets_in m)) last (Some next)) kept.masks c.in-Some.ensures.next in
     let begun = kept.rest.begun in
-    let low = found.1.0 in
     let one = subst (λ (m : Masks). c.next_left.new.self.searches ≡ c.loop-next.self.searches + count_from (matches (sets_in m)) (last + 1) (next - last)) kept.masks c.in-Some.ensures.counted in
     let both = count_from-then (matches sets) local last next begun (omega arith) in
     let counted = kept.counted in
@@ -66,12 +54,7 @@ returns-clause-whole c = λ same.
     subst (λ (m : Masks). NoneLeft (matches (sets_in m)) c.loop-next.last) kept.masks (c.next_left.ensures.none c.in_default.is (kept.found same))
 
 pub returns-clause-counted : goal.returns-clause-counted
-returns-clause-counted c =
-    let kept = c.loop-next.invariant in
-    let nothing = count_from-nothing (matches (sets_in c.loop-next.self.masks)) (c.loop-next.last + 1) c.loop-next.last in
-    let more = c.in_default.ensures.counted in
-    let counted = kept.counted in
-    omega arith
+returns-clause-counted c = grind (arith, count_from-nothing)
 
 pub returns-clause-most : goal.returns-clause-most
 returns-clause-most c =

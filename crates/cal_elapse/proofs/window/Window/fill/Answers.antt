@@ -23,10 +23,7 @@ pub search-ahead-requires-clause-start : goal.search-ahead-requires-clause-start
 search-ahead-requires-clause-start c = search (placed_is_match _ c.place_rest-placed.result c.place_rest-placed.ensures.placed)
 
 pub search-ahead-requires-clause-few : goal.search-ahead-requires-clause-few
-search-ahead-requires-clause-few c =
-    let few = few_searches _ c.place_rest-placed.result c.place_rest-placed.ensures.placed in
-    let inside = (placed_is_match _ c.place_rest-placed.result c.place_rest-placed.ensures.placed).0 in
-    omega arith
+search-ahead-requires-clause-few c = grind (arith, few_searches, placed_is_match)
 
 pub loop-ahead-preserved : goal.loop-ahead-preserved
 loop-ahead-preserved c =

@@ -1,17 +1,14 @@
-use Rattle.std.proofs.Common.{◌≡◌, ◌∙◌, ℕ, FitsSigned, ap, of_z, rules, subst, subst₂, sym, to_z, w64}
+use Rattle.std.proofs.Common.{◌≡◌, ◌∙◌, ℕ, FitsSigned, ap, of_z, rules, subst, sym, to_z, w64}
 use Rattle.std.proofs.lemmas.Int.{to_z-of_z}
 use Rattle.cal_zone.specs.Instant.{IsInstant}
 use Rattle.cal_zone.specs.headline.Local.{seconds_in_all}
 use Rattle.cal_elapse.specs.Looks.{IsSearch}
 use Rattle.cal_elapse.specs.Masks.{sets_in}
-use Rattle.cal_elapse.specs.Most.{IsLooked}
 use Rattle.cal_elapse.specs.Search.{IsFirstPassing}
 use Rattle.cal_elapse.specs.Window.{start_of, timed_by}
-use Rattle.cal_spec.specs.headline.Match.{Sets, matches}
-use Rattle.cal_elapse.proofs.MostLemmas.{search_looked}
+use Rattle.cal_spec.specs.headline.Match.{matches}
 use Rattle.cal_elapse.proofs.ReadyLemmas.{begun_ready, timed_by-timed}
 use Rattle.cal_elapse.proofs.window.Window.new.Goals as goal
-use Rattle.cal_text.proofs.General.{max_from_zero}
 
 pub returns-clause-ready : goal.returns-clause-ready
 returns-clause-ready c =
@@ -27,12 +24,3 @@ pub returns-clause-timed : goal.returns-clause-timed
 returns-clause-timed c =
     ap (timed_by c.search-ahead.new.self.masks) c.new-2.ensures
     ∙ timed_by-timed c.search-ahead.new.self.masks c.args.zone c.args.expr.now (ap sets_in c.search-ahead.ensures.masks ∙ c.of-searcher.ensures.masks)
-
-pub returns-clause-masks : goal.returns-clause-masks
-returns-clause-masks c = ap sets_in c.search-ahead.ensures.masks ∙ c.of-searcher.ensures.masks
-
-pub returns-clause-looked : goal.returns-clause-looked
-returns-clause-looked c =
-    let looked = search_looked _ _ c.search-ahead.result c.search-ahead.ensures.found in
-    subst₂ (λ (sets : Sets) (from : ℕ). IsLooked sets from c.search-ahead.new.self.most_months) c.of-searcher.ensures.masks c.first_local.ensures.start
-    (subst (IsLooked (sets_in c.of-searcher.result.masks) c.first_local.result) (sym (max_from_zero _ _ _ c.of-searcher.ensures.looked c.search-ahead.ensures.most)) looked)

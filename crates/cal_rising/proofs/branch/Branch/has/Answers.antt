@@ -1,4 +1,4 @@
-use Rattle.std.proofs.Common.{rules, ◌∙◌, ◌≤ℤ◌, FitsSigned, ap, sym, w64}
+use Rattle.std.proofs.Common.{rules, ◌∙◌, ap, sym, w64}
 use Rattle.std.specs.Cmp.{int_eq_equiv}
 use Rattle.cal_rising.specs.Merge.{Branch, numbers}
 use Rattle.std.specs.Ordering.{int_eq}
@@ -11,10 +11,7 @@ pub returns-in-Some-clause-has : goal.returns-in-Some-clause-has
 returns-in-Some-clause-has g c =
     let head = c.in-Some.head in
     let number = c.args.number in
-    let fits : FitsSigned w64 head = search rules in
-    let number_fits : FitsSigned w64 number = search rules in
-    let high : number ≤ℤ head = search rules in
-    same_word w64 head number fits number_fits
+    same_word w64 head number (search rules) (search rules)
     ∙ int_eq_equiv.symm head number
-    ∙ sym (is_member-head c.self.inside.head _ head number c.self.invariant c.in-Some.is high)
+    ∙ sym (is_member-head c.self.inside.head _ head number c.self.invariant c.in-Some.is (search rules))
     ∙ ap (λ (s : Branch). is_member int_eq (numbers s) number) c.self.view_is

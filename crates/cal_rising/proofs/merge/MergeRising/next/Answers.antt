@@ -1,66 +1,42 @@
-use Rattle.std.proofs.Common.{rules, ◌∙◌, ◌≡◌, FitsSigned, List, ℤ, None, Some, ap, false, sym, true, w64, slice_get, drop, int_eq}
+use Rattle.std.proofs.Common.{rules, ◌∙◌, List, ℤ, ap, false, sym, true, w64, slice_get, drop}
 use Rattle.std.proofs.lemmas.Int.{to_z-of_z}
-use Rattle.std.specs.Set.{is_member}
 use Rattle.cal_rising.specs.Rises.{rises-union}
-use Rattle.cal_rising.specs.RisingList.{IsSameFrom, union, without}
-use Rattle.cal_rising.proofs.WithoutLemmas.{without-given, without-later-nothing, without-nothing, without-passed}
+use Rattle.cal_rising.specs.RisingList.{union, without}
+use Rattle.cal_rising.proofs.WithoutLemmas.{without-first}
 use Rattle.cal_rising.proofs.merge.MergeRising.next.Goals as goal
+use Rattle.cal_text.proofs.General.{list-no_first}
 
-pub returns-then-not-has_onward-clause-given : goal.returns-then-not-has_onward-clause-given
-returns-then-not-has_onward-clause-given g c =
-    let number = c.in-Some.number in
-    let fits : FitsSigned w64 number = search rules in
-    let lists = c.loop-number.self-inside.sources in
-    let exceptions = union c.loop-number.self-inside.exceptions in
+pub returns-then-not-has_onward : goal.returns-then-not-has_onward
+returns-then-not-has_onward g c =
+    let number = to_z-of_z w64 c.in-Some.number (search rules) in
     let left = union c.has_onward.new.self in
-    let onward : IsSameFrom number left exceptions = λ i le. c.has_onward.ensures.left i (rw (to_z-of_z w64 number fits) le) in
-    let at : slice_get (union lists) 0 ≡ Some number = sym c.next.ensures.given ∙ c.in-Some.is in
-    let lacks : is_member int_eq exceptions number ≡ false = sym (rw (to_z-of_z w64 number fits) at c.has_onward.ensures.has) ∙ c.if-not-has_onward.true in
-    rw (to_z-of_z w64 number fits)
-    (ap (λ (xs : List ℤ). slice_get xs 0) (sym (without-given number (union lists) exceptions left at (rises-union lists) onward lacks) ∙ c.loop-number.invariant.same))
-
-pub returns-then-not-has_onward-clause-left : goal.returns-then-not-has_onward-clause-left
-returns-then-not-has_onward-clause-left g c =
-    let number = c.in-Some.number in
-    let fits : FitsSigned w64 number = search rules in
-    let lists = c.loop-number.self-inside.sources in
-    let exceptions = union c.loop-number.self-inside.exceptions in
-    let left = union c.has_onward.new.self in
-    let onward : IsSameFrom number left exceptions = λ i le. c.has_onward.ensures.left i (rw (to_z-of_z w64 number fits) le) in
-    let at : slice_get (union lists) 0 ≡ Some number = sym c.next.ensures.given ∙ c.in-Some.is in
-    let lacks : is_member int_eq exceptions number ≡ false = sym (rw (to_z-of_z w64 number fits) at c.has_onward.ensures.has) ∙ c.if-not-has_onward.true in
-    ap (λ (xs : List ℤ). without xs left) c.next.ensures.left
-    ∙ ap (drop 1) (sym (without-given number (union lists) exceptions left at (rises-union lists) onward lacks) ∙ c.loop-number.invariant.same)
+    let turn = sym (without-first c.in-Some.number false _ _ left (sym c.next.ensures.given ∙ c.in-Some.is) (rises-union c.loop-number.self-inside.sources)
+    (rw number at c.has_onward.ensures.left) (sym (rw number at c.has_onward.ensures.has) ∙ c.if-not-has_onward.true)) ∙ c.loop-number.invariant.same in
+    record {
+      given = rw number (ap (λ (xs : List ℤ). slice_get xs 0) turn);
+      left = ap (λ (xs : List ℤ). without xs left) c.next.ensures.left ∙ ap (drop 1) turn;
+      marked = c.loop-number.invariant.started;
+    }
 
 pub loop-number-preserved : goal.loop-number-preserved
 loop-number-preserved g c =
-    let number = c.in-Some.number in
-    let fits : FitsSigned w64 number = search rules in
-    let lists = c.loop-number.self-inside.sources in
-    let exceptions = union c.loop-number.self-inside.exceptions in
+    let number = to_z-of_z w64 c.in-Some.number (search rules) in
     let left = union c.has_onward.new.self in
-    let onward : IsSameFrom number left exceptions = λ i le. c.has_onward.ensures.left i (rw (to_z-of_z w64 number fits) le) in
-    let at : slice_get (union lists) 0 ≡ Some number = sym c.next.ensures.given ∙ c.in-Some.is in
-    let there : is_member int_eq exceptions number ≡ true = sym (rw (to_z-of_z w64 number fits) at c.has_onward.ensures.has) ∙ c.if-not-has_onward.false in
+    let turn = without-first c.in-Some.number true _ _ left (sym c.next.ensures.given ∙ c.in-Some.is) (rises-union c.loop-number.self-inside.sources)
+    (rw number at c.has_onward.ensures.left) (sym (rw number at c.has_onward.ensures.has) ∙ c.if-not-has_onward.false) in
     record {
       started = c.loop-number.invariant.started;
-      same = ap (λ (xs : List ℤ). without xs left) c.next.ensures.left
-          ∙ without-passed number (union lists) exceptions left at (rises-union lists) onward there
-          ∙ c.loop-number.invariant.same;
+      same = ap (λ (xs : List ℤ). without xs left) c.next.ensures.left ∙ sym turn ∙ c.loop-number.invariant.same;
     }
 
-pub returns-clause-given : goal.returns-clause-given
-returns-clause-given g c =
-    let lists = c.loop-number.self-inside.sources in
+pub returns : goal.returns
+unfolding without
+returns g c =
     let exceptions = union c.loop-number.self-inside.exceptions in
-    let at : slice_get (union lists) 0 ≡ None = sym c.next.ensures.given ∙ c.in_default.is in
-    ap (λ (xs : List ℤ). slice_get xs 0) (sym (without-nothing (union lists) exceptions at) ∙ c.loop-number.invariant.same)
-
-pub returns-clause-left : goal.returns-clause-left
-returns-clause-left g c =
-    let lists = c.loop-number.self-inside.sources in
-    let exceptions = union c.loop-number.self-inside.exceptions in
-    let at : slice_get (union lists) 0 ≡ None = sym c.next.ensures.given ∙ c.in_default.is in
-    ap (λ (xs : List ℤ). without xs exceptions) c.next.ensures.left
-    ∙ without-later-nothing (union lists) exceptions at
-    ∙ ap (drop 1) (sym (without-nothing (union lists) exceptions at) ∙ c.loop-number.invariant.same)
+    let none = list-no_first (union c.loop-number.self-inside.sources) (sym c.next.ensures.given ∙ c.in_default.is) in
+    let same = sym (ap (λ (xs : List ℤ). without xs exceptions) none) ∙ c.loop-number.invariant.same in
+    record {
+      given = ap (λ (xs : List ℤ). slice_get xs 0) same;
+      left = ap (λ (xs : List ℤ). without xs exceptions) (c.next.ensures.left ∙ ap (drop 1) none) ∙ ap (drop 1) same;
+      marked = c.loop-number.invariant.started;
+    }

@@ -9,29 +9,21 @@ use Rattle.cal_spec.proofs.NormalLemmas.{parts_from_sound}
 use Rattle.cal_spec.proofs.NormalFieldsLemmas.{fields_valid, fields_twice}
 use Rattle.cal_spec.proofs.expr.Expr.normal.Goals as goal
 
-pub normal_date-requires-clause-year : goal.normal_date-requires-clause-year
+pub normal_date-requires : goal.normal_date-requires
 unfolding fields_of
-normal_date-requires-clause-year c = parts_from_sound Year _ c.requires.year
+normal_date-requires c = record {
+  year = parts_from_sound Year _ c.requires.year;
+  month = parts_from_sound Month _ c.requires.month;
+  day = parts_from_sound (day_slot c.args.fields.date.from_end) _ c.requires.day;
+}
 
-pub normal_date-requires-clause-month : goal.normal_date-requires-clause-month
+pub normal_time-requires : goal.normal_time-requires
 unfolding fields_of
-normal_date-requires-clause-month c = parts_from_sound Month _ c.requires.month
-
-pub normal_date-requires-clause-day : goal.normal_date-requires-clause-day
-unfolding fields_of
-normal_date-requires-clause-day c = parts_from_sound (day_slot c.args.fields.date.from_end) _ c.requires.day
-
-pub normal_time-requires-clause-hour : goal.normal_time-requires-clause-hour
-unfolding fields_of
-normal_time-requires-clause-hour c = parts_from_sound Hour _ c.requires.hour
-
-pub normal_time-requires-clause-minute : goal.normal_time-requires-clause-minute
-unfolding fields_of
-normal_time-requires-clause-minute c = parts_from_sound Minute _ c.requires.minute
-
-pub normal_time-requires-clause-second : goal.normal_time-requires-clause-second
-unfolding fields_of
-normal_time-requires-clause-second c = parts_from_sound Second _ c.requires.second
+normal_time-requires c = record {
+  hour = parts_from_sound Hour _ c.requires.hour;
+  minute = parts_from_sound Minute _ c.requires.minute;
+  second = parts_from_sound Second _ c.requires.second;
+}
 
 pub invariant_of-result : goal.invariant_of-result
 unfolding fields_of normal_fields

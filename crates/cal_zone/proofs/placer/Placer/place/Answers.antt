@@ -11,14 +11,7 @@ use Rattle.cal_zone.proofs.placer.Placer.place.Goals.{in-Utc, in_default}
 
 pub returns-then-matches-clause-value : goal.returns-then-matches-clause-value
 returns-then-matches-clause-value c =
-    let fits : FitsSigned w64 c.args.local = search rules in
-    elim c.match-matches.branch [
-      | in-Utc w ↦
-          ap Some (to_z-of_z w64 c.args.local fits)
-          ∙ sym (ap (λ tz. place_of tz c.args.local) (zone_of-utc c.self.inside.zone w.in-Utc.is) ∙ place_of-UTC c.args.local)
-          ∙ ap (λ zone. place_of (zone_of zone) c.args.local) c.self.view_is
-      | in_default w ↦ absurd (false≢true (sym w.matches-is ∙ c.if-matches.true))
-    ]
+    grind (arith, signed_arith, in-Utc, to_z-of_z, zone_of-utc, place_of-UTC, c.self.view_is, in_default, false≢true, c.if-matches.true)
 
 pub overflow_sub-result : goal.overflow_sub-result
 overflow_sub-result c =

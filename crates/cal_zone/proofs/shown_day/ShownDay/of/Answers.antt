@@ -1,4 +1,4 @@
-use Rattle.std.proofs.Common.{◌≡◌, ◌∙◌, ◌++◌, ◌+ℤ◌, ◌-ℤ◌, ◌≤ℤ◌, ◌<ℤ◌, ℤ, unsigned_abs, length, codes, pos, of_z, to_z, sym, ap, arith, rules, w32, w64, FitsSigned}
+use Rattle.std.proofs.Common.{◌≡◌, ◌∙◌, ◌++◌, ◌+ℤ◌, ◌-ℤ◌, ◌≤ℤ◌, ◌<ℤ◌, ℤ, unsigned_abs, length, codes, pos, of_z, to_z, sym, ap, arith, rules, w64, FitsSigned}
 use Rattle.std.proofs.lemmas.Int.{to_z-of_z}
 use Rattle.jiff.proofs.SpanFacts.{signed_arith}
 use Rattle.jiff.specs.Words.{nanos_of_seconds, offset_at}
@@ -17,8 +17,7 @@ overflow_sub-midnight c =
 
 pub overflow_add-midnight : goal.overflow_add-midnight
 overflow_add-midnight c =
-    let years = c.args.instant.in_range in
-    omega (arith, signed_arith, c.secs.ensures.value, c.since_midnight.ensures, c.civil_at-shown.ensures.ranges.hour, c.civil_at-shown.ensures.ranges.minute, c.civil_at-shown.ensures.ranges.second)
+    grind (arith, signed_arith, c.args.instant.in_range, c.secs.ensures.value, c.since_midnight.ensures, c.civil_at-shown.ensures.ranges.hour, c.civil_at-shown.ensures.ranges.minute, c.civil_at-shown.ensures.ranges.second)
 
 -- the midnight as the code computes it
 abbrev midnight_of : ℤ → ℤ → ℤ
@@ -27,8 +26,7 @@ midnight_of second since = to_z w64 (of_z w64 (to_z w64 (of_z w64 second) -ℤ t
 -- it lies a part of a day before the instant
 midnight : (c : goal.After-min) → midnight_of c.secs.result c.since_midnight.result ≡ c.args.instant.secs -ℤ pos (seconds_shown c.civil_at-shown.result)
 midnight c =
-    let years = c.args.instant.in_range in
-    omega (arith, signed_arith, c.secs.ensures.value, c.since_midnight.ensures, c.civil_at-shown.ensures.ranges.hour, c.civil_at-shown.ensures.ranges.minute, c.civil_at-shown.ensures.ranges.second)
+    grind (arith, signed_arith, c.args.instant.in_range, c.secs.ensures.value, c.since_midnight.ensures, c.civil_at-shown.ensures.ranges.hour, c.civil_at-shown.ensures.ranges.minute, c.civil_at-shown.ensures.ranges.second)
 
 abbrev next_midnight_of : ℤ → ℤ → ℤ
 next_midnight_of second since = to_z w64 (of_z w64 (midnight_of second since +ℤ pos 86_400))
@@ -42,10 +40,7 @@ next_midnight c =
 -- what lies on the day lies in the period, and between the two midnights
 at_midnight : (c : goal.After-min) (second : ℤ) → to_z w64 (of_z w64 c.max.result) ≤ℤ second
     → (c.args.period.from ≤ℤ second) × (midnight_of c.secs.result c.since_midnight.result ≤ℤ second)
-at_midnight c second from =
-    let max_fits : FitsSigned w64 c.max.result = search rules in
-    let from_fits : FitsSigned w64 c.args.period.from = search rules in
-    (omega (arith, signed_arith, c.max.ensures.self_bound), omega (arith, signed_arith, c.max.ensures.other_bound))
+at_midnight c second from = grind (arith, signed_arith, c.max.ensures.self_bound, c.max.ensures.other_bound)
 
 at_next_midnight : (c : goal.After-min) (second : ℤ) → second <ℤ to_z w64 (of_z w64 c.min.result)
     → (second <ℤ c.args.period.to) × (second <ℤ (midnight_of c.secs.result c.since_midnight.result +ℤ pos 86_400))
@@ -63,13 +58,7 @@ space : (c : goal.After-min) → c.push.new.text.items ≡ codes " "
 space c = c.push.ensures ∙ ap (λ front. front ++ codes " ") c.new-word.ensures
 
 word : (c : goal.After-min) → c.push_zone.new.text.items ≡ codes " " ++ zone_word (is_utc c.args.zone) c.civil_at-shown.result.offset
-word c =
-    let in_range = c.civil_at-shown.ensures.ranges.offset in
-    let fits : FitsSigned w32 c.civil_at-shown.result.offset = omega (arith, signed_arith) in
-    c.push_zone.ensures.text
-    ∙ ap (λ offset. c.push.new.text.items ++ zone_word c.is_utc.result offset) (to_z-of_z w32 c.civil_at-shown.result.offset fits)
-    ∙ ap (λ front. front ++ zone_word c.is_utc.result c.civil_at-shown.result.offset) (space c)
-    ∙ ap (λ utc. codes " " ++ zone_word utc c.civil_at-shown.result.offset) c.is_utc.ensures
+word c = grind (arith, signed_arith, c.civil_at-shown.ensures.ranges.offset, c.push_zone.ensures.text, to_z-of_z, space, c.is_utc.ensures)
 
 pub returns-clause-day : goal.returns-clause-day
 returns-clause-day c =
@@ -102,13 +91,7 @@ returns-clause-day c =
     }
 
 pub returns-clause-begun : goal.returns-clause-begun
-returns-clause-begun c =
-    let max_fits : FitsSigned w64 c.max.result = search rules in
-    let from_fits : FitsSigned w64 c.args.period.from = search rules in
-    let start = midnight c in
-    let begun = c.requires.begun in
-    let within = max_to (to_z w64 (of_z w64 c.args.period.from)) (midnight_of c.secs.result c.since_midnight.result) c.args.instant.secs (omega (arith, signed_arith)) (omega (arith, signed_arith)) in
-    rw (to_z-of_z w64 c.max.result max_fits, c.max.ensures.value) within
+returns-clause-begun c = grind (arith, signed_arith, midnight, max_to, to_z-of_z, c.max.ensures.value)
 
 pub returns-clause-within : goal.returns-clause-within
 returns-clause-within c =
