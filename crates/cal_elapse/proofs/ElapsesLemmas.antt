@@ -13,7 +13,7 @@ use Rattle.cal_elapse.specs.Merged.{each_after}
 use Rattle.cal_rising.specs.Rises.{rises-without}
 use Rattle.cal_rising.specs.RisingList.{HasAny, union, without}
 use Rattle.cal_rising.specs.headline.Elements.{Has}
-use Rattle.cal_text.proofs.General.{chained, rises-drop}
+use Rattle.cal_text.proofs.General.{int_lt_trans, rises-drop}
 use Rattle.cal_rising.proofs.RisingLemmas.{above_first, later_members, same_rising, Has-union, rises-union}
 use Rattle.cal_rising.proofs.WithoutLemmas.{Has-without, without-none}
 
@@ -163,7 +163,7 @@ later_above b e xs ys k all again at =
       rises = rises-drop xs (suc k) all.rises;
       members = λ i. (
         λ m. (((after i).0 m).0, ((all.members i).0 ((after i).0 m).1).1),
-        λ p. (after i).1 (p.0, (all.members i).1 (chained b e i up p.0, p.1)),
+        λ p. (after i).1 (p.0, (all.members i).1 (int_lt_trans b e i up p.0, p.1)),
       );
     })
 

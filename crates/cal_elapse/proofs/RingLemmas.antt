@@ -18,7 +18,7 @@ use Rattle.cal_elapse.specs.Ring.{cells_in_all, cells_in_all-is, instants_in, is
 use Rattle.cal_rising.specs.headline.Elements.{Has}
 use Rattle.cal_elapse.specs.Search.{IsFirstPassing}
 use Rattle.cal_elapse.proofs.ElapsesLemmas.{first-least, first-none}
-use Rattle.cal_text.proofs.General.{less, list-first, list-no_first, get_or-zeros, lt_from_pos, lt_of_pos, rises-drop}
+use Rattle.cal_text.proofs.General.{int_cmp-less, list-first, list-no_first, get_or-zeros, lt_from_pos, lt_of_pos, rises-drop}
 use Rattle.cal_rising.proofs.RisingLemmas.{Has-insert_key, rises-insert_key, later_members, same_rising}
 
 -- Numbers in a row
@@ -64,7 +64,7 @@ next_above low from h = omega (arith, ints)
 above-rising : (passes : ℕ → Bool) (low : ℤ) (from n : ℕ) → low <ℤ pos from → AllByRecursion (λ y. int_cmp low y ≡ Less) (rising_from passes from n)
 above-rising passes low from zero h = tt
 above-rising passes low from (suc n) h =
-    above_if (passes from) low (pos from) (rising_from passes (suc from) n) (less low (pos from) h) (above-rising passes low (suc from) n (next_above low from h))
+    above_if (passes from) low (pos from) (rising_from passes (suc from) n) (int_cmp-less low (pos from) h) (above-rising passes low (suc from) n (next_above low from h))
 
 rising_if : (b : Bool) (x : ℤ) (rest : List ℤ) → AllByRecursion (λ y. int_cmp x y ≡ Less) rest → IsStrictlySortedBy int_cmp rest → IsStrictlySortedBy int_cmp (cond b (x ∷ rest) rest)
 unfolding IsStrictlySortedBy

@@ -23,7 +23,7 @@ use Rattle.cal_elapse.specs.Search.{NonePasses}
 use Rattle.cal_elapse.specs.Window.{IsMatchAhead, IsPlacedBelow, IsReady, Windowed, bound_of, start_of, timed_by, timed_of, to_place, with_place}
 use Rattle.cal_elapse.specs.declared.window.Window.{Window}
 use Rattle.cal_elapse.proofs.ElapsesLemmas.{elapses_after-first, first_elapse-least, first_elapse-none}
-use Rattle.cal_text.proofs.General.{chained, list-first, lt_from_test, none_chosen, drop_none}
+use Rattle.cal_text.proofs.General.{int_lt_trans, list-first, lt_from_test, none_chosen, drop_none}
 use Rattle.cal_rising.proofs.RisingLemmas.{Has-insert_key, rises-insert_key, above_first, later_members}
 
 -- a place is near its local second
@@ -138,7 +138,7 @@ windowed_later e from bound last x xs w =
       rises = sorted_tail int_cmp x xs w.rises;
       members = λ i. (
         λ m. (((later_members x xs w.rises i).0 m).0, ((w.members i).0 (inr m)).1),
-        λ p. (later_members x xs w.rises i).1 (p.0, (w.members i).1 (chained last x i above p.0, p.1)),
+        λ p. (later_members x xs w.rises i).1 (p.0, (w.members i).1 (int_lt_trans last x i above p.0, p.1)),
       );
       reach = λ i m. w.reach i (inr m);
     }

@@ -9,7 +9,7 @@ use Rattle.jiff.proofs.SpanFacts.{signed_arith}
 use Rattle.jiff.specs.Types.{TimeZone, UTC}
 use Rattle.jiff.specs.Words.{nanos_of_seconds, offset_at, IsOffsetSeconds}
 use Rattle.cal_bytes.specs.headline.Bytes.{joined}
-use Rattle.cal_text.proofs.General.{both_all, clear_of, wider}
+use Rattle.cal_text.proofs.General.{list_all-both, clear_of, list_all-wider}
 use Rattle.cal_zone.proofs.OffsetWordLemmas.{nearest, offset-back, offset-found, two_printed, two}
 use Rattle.cal_zone.proofs.PlaceLemmas.{settle_of-UTC, settle_of-fixed_zone, local_of-UTC}
 use Rattle.cal_zone.proofs.ZoneLemmas.{offset_at-in_range}
@@ -62,7 +62,7 @@ no_letter : (b : ℕ) → b ≤ 45 → is_ascii_alphabetic b ≡ false
 no_letter b to = grind (arith, nat_tests)
 
 digits_fit : (ds : List ℕ) → list_all is_ascii_digit ds ≡ true → list_all is_signed_byte ds ≡ true
-digits_fit ds = wider is_ascii_digit is_signed_byte ds digit_fits
+digits_fit ds = list_all-wider is_ascii_digit is_signed_byte ds digit_fits
 
 -- a sign and such bytes
 record IsSigned (text : List ℕ) : Type 0 where
@@ -136,7 +136,7 @@ minutes_fit offset h =
     let most = abs_within offset h in
     let hour = digits_fit (hour_in offset) (two_printed (unsigned_abs offset / 3_600) (omega arith)).digits in
     let minute = digits_fit (minute_in offset) (two_printed (unsigned_abs offset / 60 % 60) (omega arith)).digits in
-    both_all is_signed_byte (hour_in offset) (58 ∷ minute_in offset) hour minute
+    list_all-both is_signed_byte (hour_in offset) (58 ∷ minute_in offset) hour minute
 
 seconds_fit : (offset : ℤ) → IsOffsetSeconds offset → list_all is_signed_byte (hour_in offset ++ (58 ∷ (minute_in offset ++ (58 ∷ second_in offset)))) ≡ true
 seconds_fit offset h =
@@ -144,8 +144,8 @@ seconds_fit offset h =
     let hour = digits_fit (hour_in offset) (two_printed (unsigned_abs offset / 3_600) (omega arith)).digits in
     let minute = digits_fit (minute_in offset) (two_printed (unsigned_abs offset / 60 % 60) (omega arith)).digits in
     let second = digits_fit (second_in offset) (two_printed (unsigned_abs offset % 60) (omega arith)).digits in
-    both_all is_signed_byte (hour_in offset) (58 ∷ (minute_in offset ++ (58 ∷ second_in offset))) hour
-    (both_all is_signed_byte (minute_in offset) (58 ∷ second_in offset) minute second)
+    list_all-both is_signed_byte (hour_in offset) (58 ∷ (minute_in offset ++ (58 ∷ second_in offset))) hour
+    (list_all-both is_signed_byte (minute_in offset) (58 ∷ second_in offset) minute second)
 
 offset_signed_by : (offset : ℤ) (whole : Bool) → IsOffsetSeconds offset → (unsigned_abs offset % 60 == 0) ≡ whole → IsSigned (offset_text offset)
 offset_signed_by offset true h e = rw (in_minutes offset e) (signed_by offset _ _ refl (minutes_fit offset h))

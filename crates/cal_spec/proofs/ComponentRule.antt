@@ -21,7 +21,7 @@ use Rattle.cal_spec.specs.declared.slot.Slot.TheVariants.{DayFromEnd}
 use Rattle.cal_spec.proofs.ComponentLemmas.{ListedRead, component_is, parts_of-cons, sound_parts}
 use Rattle.cal_spec.proofs.FaultLemmas.{part_due_is}
 use Rattle.cal_spec.proofs.PartRule.{part_found, part_only}
-use Rattle.cal_text.proofs.General.{some_piece, wider, both_all, IsClear, Apart, clear_of, split_join_with_byte}
+use Rattle.cal_text.proofs.General.{some_piece, list_all-wider, list_all-both, IsClear, Apart, clear_of, split_join_with_byte}
 
 -- A part with a meaning has no fault
 
@@ -98,7 +98,7 @@ pub digit_is_part_byte : (b : ℕ) → is_ascii_digit b ≡ true → is_part_byt
 digit_is_part_byte b digit = grind (arith, nat_tests)
 
 number_bytes : (text : List ℕ) (n : ℕ) → IsNumber text n → list_all is_part_byte text ≡ true
-number_bytes text n is = wider is_ascii_digit is_part_byte text digit_is_part_byte is.digits
+number_bytes text n is = list_all-wider is_ascii_digit is_part_byte text digit_is_part_byte is.digits
 
 end_bytes : (text : List ℕ) (last : Option ℕ) → IsNext (codes "..") text last → list_all is_part_byte text ≡ true
 end_bytes text None is = rw is refl
@@ -110,7 +110,7 @@ step_bytes text (Some n) is = rw is.1 (number_bytes is.0 n is.2)
 
 part_bytes : (text : List ℕ) (p : Part) → IsPartText text p → list_all is_part_byte text ≡ true
 part_bytes text p is =
-    rw is.whole (both_all is_part_byte is.front (is.middle ++ is.back) (number_bytes is.front p.start is.start) (both_all is_part_byte is.middle is.back (end_bytes is.middle p.end is.end) (step_bytes is.back p.step is.step)))
+    rw is.whole (list_all-both is_part_byte is.front (is.middle ++ is.back) (number_bytes is.front p.start is.start) (list_all-both is_part_byte is.middle is.back (end_bytes is.middle p.end is.end) (step_bytes is.back p.step is.step)))
 
 part_no_comma : Apart is_part_byte is_comma
 part_no_comma b h = ne_eqb b 44 (λ e. omega (arith, e, leb-true 46 b (and_parts (leb 46 b) (leb b 57) h).0))
@@ -123,14 +123,14 @@ texts_clear slot (t ∷ ts) (p ∷ ps) zip =
     (clear_of is_part_byte is_comma t part_no_comma (part_bytes t zip.0.0 zip.0.1), texts_clear slot ts ps zip.1)
 
 part_byte_in : (text : List ℕ) → list_all is_part_byte text ≡ true → list_all is_component_byte text ≡ true
-part_byte_in text = wider is_part_byte is_component_byte text (λ b h. or_right (b == 42) ((b == 44) || is_part_byte b) (or_right (b == 44) (is_part_byte b) h))
+part_byte_in text = list_all-wider is_part_byte is_component_byte text (λ b h. or_right (b == 42) ((b == 44) || is_part_byte b) (or_right (b == 44) (is_part_byte b) h))
 
 joined_bytes : (slot : Slot) (ts : List (List ℕ)) (ps : List Part) → AllZip (IsPartOf slot) ts ps → list_all is_component_byte (join_with_byte 44 ts) ≡ true
 joined_bytes slot [] ps zip = refl
 joined_bytes slot (t ∷ ts) [] zip = absurd zip
 joined_bytes slot (t ∷ []) (p ∷ ps) zip = part_byte_in t (part_bytes t zip.0.0 zip.0.1)
 joined_bytes slot (t ∷ u ∷ ts) (p ∷ ps) zip =
-    both_all is_component_byte t (44 ∷ join_with_byte 44 (u ∷ ts)) (part_byte_in t (part_bytes t zip.0.0 zip.0.1)) (joined_bytes slot (u ∷ ts) ps zip.1)
+    list_all-both is_component_byte t (44 ∷ join_with_byte 44 (u ∷ ts)) (part_byte_in t (part_bytes t zip.0.0 zip.0.1)) (joined_bytes slot (u ∷ ts) ps zip.1)
 
 pub component_bytes : (slot : Slot) (text : List ℕ) (c : Option (List Part)) → IsComponent slot text c → list_all is_component_byte text ≡ true
 component_bytes slot text None is = rw is refl

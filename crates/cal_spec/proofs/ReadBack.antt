@@ -28,7 +28,7 @@ use Rattle.cal_spec.proofs.SuffixLemmas.{suffix_word, letter_some}
 use Rattle.cal_spec.specs.declared.slot.Slot.TheVariants.{Year, Month, Hour, Minute, Second}
 use Rattle.cal_spec.proofs.LengthLemmas.{AreSmall, expr_length, small_component, small_second}
 use Rattle.cal_spec.proofs.NormalFieldsLemmas.{fields_valid}
-use Rattle.cal_text.proofs.General.{split_alone, split_at, some_front, both_all, clear_of, wider}
+use Rattle.cal_text.proofs.General.{split_alone, split_at, some_front, list_all-both, clear_of, list_all-wider}
 use Rattle.cal_spec.proofs.ComponentRule.{is_component_byte}
 use Rattle.cal_spec.proofs.ReadBackParts.{component_printed, printed_bytes, printed_some}
 use Rattle.cal_spec.specs.headline.GrammarRule.{IsDate, IsTime, last_sign}
@@ -101,21 +101,21 @@ lead_in_date false = refl
 date_bytes : (f : Fields) → IsReadable f → list_all is_date_byte (date_word f) ≡ true
 unfolding date_word
 date_bytes f h =
-    both_all is_date_byte (component_text 4 f.year) (45 ∷ (component_text 2 f.month ++ (day_lead f.from_end ++ component_text 2 f.day)))
-    (wider is_component_byte is_date_byte (component_text 4 f.year) in_date (printed_bytes Year 4 f.year h.valid.year h.year))
-    (both_all is_date_byte (component_text 2 f.month) (day_lead f.from_end ++ component_text 2 f.day)
-    (wider is_component_byte is_date_byte (component_text 2 f.month) in_date (printed_bytes Month 2 f.month h.valid.month h.month))
-    (both_all is_date_byte (day_lead f.from_end) (component_text 2 f.day) (lead_in_date f.from_end)
-    (wider is_component_byte is_date_byte (component_text 2 f.day) in_date (printed_bytes (day_slot f.from_end) 2 f.day h.valid.day h.day))))
+    list_all-both is_date_byte (component_text 4 f.year) (45 ∷ (component_text 2 f.month ++ (day_lead f.from_end ++ component_text 2 f.day)))
+    (list_all-wider is_component_byte is_date_byte (component_text 4 f.year) in_date (printed_bytes Year 4 f.year h.valid.year h.year))
+    (list_all-both is_date_byte (component_text 2 f.month) (day_lead f.from_end ++ component_text 2 f.day)
+    (list_all-wider is_component_byte is_date_byte (component_text 2 f.month) in_date (printed_bytes Month 2 f.month h.valid.month h.month))
+    (list_all-both is_date_byte (day_lead f.from_end) (component_text 2 f.day) (lead_in_date f.from_end)
+    (list_all-wider is_component_byte is_date_byte (component_text 2 f.day) in_date (printed_bytes (day_slot f.from_end) 2 f.day h.valid.day h.day))))
 
 time_bytes : (f : Fields) → IsReadable f → list_all is_time_byte (time_word f) ≡ true
 unfolding time_word
 time_bytes f h =
-    both_all is_time_byte (component_text 2 f.hour) (58 ∷ (component_text 2 f.minute ++ (58 ∷ component_text 2 f.second)))
-    (wider is_component_byte is_time_byte (component_text 2 f.hour) in_time (printed_bytes Hour 2 f.hour h.valid.hour h.hour))
-    (both_all is_time_byte (component_text 2 f.minute) (58 ∷ component_text 2 f.second)
-    (wider is_component_byte is_time_byte (component_text 2 f.minute) in_time (printed_bytes Minute 2 f.minute h.valid.minute h.minute))
-    (wider is_component_byte is_time_byte (component_text 2 f.second) in_time (printed_bytes Second 2 f.second h.valid.second h.second)))
+    list_all-both is_time_byte (component_text 2 f.hour) (58 ∷ (component_text 2 f.minute ++ (58 ∷ component_text 2 f.second)))
+    (list_all-wider is_component_byte is_time_byte (component_text 2 f.hour) in_time (printed_bytes Hour 2 f.hour h.valid.hour h.hour))
+    (list_all-both is_time_byte (component_text 2 f.minute) (58 ∷ component_text 2 f.second)
+    (list_all-wider is_component_byte is_time_byte (component_text 2 f.minute) in_time (printed_bytes Minute 2 f.minute h.valid.minute h.minute))
+    (list_all-wider is_component_byte is_time_byte (component_text 2 f.second) in_time (printed_bytes Second 2 f.second h.valid.second h.second)))
 
 date_some : (f : Fields) → IsReadable f → 0 < length (date_word f)
 unfolding date_word

@@ -21,7 +21,7 @@ use Rattle.cal_spec.specs.headline.Weekdays.{set_of}
 use Rattle.cal_zone.specs.headline.ZoneName.{begins_with_letter}
 use Rattle.cal_spec.specs.declared.weekdays.Days.{Days}
 use Rattle.cal_spec.proofs.FieldLemmas.{items_of-cons, weekdays_found}
-use Rattle.cal_text.proofs.General.{both_all, some_none, some_pieces, wider, IsClear, Apart, clear_of, split_join_with_byte}
+use Rattle.cal_text.proofs.General.{list_all-both, some_none, some_pieces, list_all-wider, IsClear, Apart, clear_of, split_join_with_byte}
 
 -- Names
 
@@ -65,7 +65,7 @@ letter_by : (b : ℕ) → is_ascii_lowercase (to_ascii_lowercase b) ≡ true →
 letter_by b test = grind (arith, nat_tests)
 
 letters_by : (bs : List ℕ) → list_all is_ascii_lowercase (map to_ascii_lowercase bs) ≡ true → list_all is_ascii_alphabetic bs ≡ true
-letters_by bs all = wider (λ b. is_ascii_lowercase (to_ascii_lowercase b)) is_ascii_alphabetic bs letter_by (rw list_all-map at all)
+letters_by bs all = list_all-wider (λ b. is_ascii_lowercase (to_ascii_lowercase b)) is_ascii_alphabetic bs letter_by (rw list_all-map at all)
 
 pub name_letters : (text : List ℕ) (day : Weekday) → IsName text day → list_all is_ascii_alphabetic text ≡ true
 name_letters text day (inl is) = letters_by text (ap (list_all is_ascii_lowercase) is ∙ (names_of day).2)
@@ -232,7 +232,7 @@ letter_is_item : (b : ℕ) → is_ascii_alphabetic b ≡ true → is_item_byte b
 letter_is_item b letter = or_left (is_ascii_alphabetic b) ((b == 45) || (b == 46)) letter
 
 name_bytes : (text : List ℕ) (day : Weekday) → IsName text day → list_all is_item_byte text ≡ true
-name_bytes text day is = wider is_ascii_alphabetic is_item_byte text letter_is_item (name_letters text day is)
+name_bytes text day is = list_all-wider is_ascii_alphabetic is_item_byte text letter_is_item (name_letters text day is)
 
 joint_bytes : (joint : List ℕ) → (joint ≡ codes "..") ⊎ (joint ≡ codes "-") → list_all is_item_byte joint ≡ true
 joint_bytes joint (inl is) = rw is refl
@@ -241,7 +241,7 @@ joint_bytes joint (inr is) = rw is refl
 item_bytes : (text : List ℕ) (days : Days) → IsItem text days → list_all is_item_byte text ≡ true
 item_bytes text days (inl one) = name_bytes text days.first one.0
 item_bytes text days (inr two) =
-    rw two.whole (both_all is_item_byte two.first (two.joint ++ two.last) (name_bytes two.first days.first two.first_name) (both_all is_item_byte two.joint two.last (joint_bytes two.joint two.joint_is) (name_bytes two.last days.last two.last_name)))
+    rw two.whole (list_all-both is_item_byte two.first (two.joint ++ two.last) (name_bytes two.first days.first two.first_name) (list_all-both is_item_byte two.joint two.last (joint_bytes two.joint two.joint_is) (name_bytes two.last days.last two.last_name)))
 
 items_only : (ts : List (List ℕ)) (items : List Days) → AllZip IsItem ts items → AllByRecursion (IsClear is_comma) ts × (items_of ts ≡ Ok items)
 items_only [] [] zip = (tt, refl)

@@ -112,15 +112,15 @@ below_all (suc k) f n all small = grind (arith, below_all k f n)
 
 -- Numbers
 
-pub other_test : (a b : ℤ) → (a ≡ b → ⊥) → int_eq a b ≡ false
-other_test a b e = grind (arith, ints)
+pub int_eq-other : (a b : ℤ) → (a ≡ b → ⊥) → int_eq a b ≡ false
+int_eq-other a b e = grind (arith, ints)
 
-pub chained : (a b c : ℤ) → a <ℤ b → b <ℤ c → a <ℤ c
-chained a b c h k = omega (arith, ints)
+pub int_lt_trans : (a b c : ℤ) → a <ℤ b → b <ℤ c → a <ℤ c
+int_lt_trans a b c h k = omega (arith, ints)
 
 -- order by `cmp`
-pub less : (a b : ℤ) → a <ℤ b → int_cmp a b ≡ Less
-less a b h = sym (int_cmp_is a b Less h)
+pub int_cmp-less : (a b : ℤ) → a <ℤ b → int_cmp a b ≡ Less
+int_cmp-less a b h = sym (int_cmp_is a b Less h)
 
 pub lt_test : (a b : ℤ) → a <ℤ b → int_lt a b ≡ true
 lt_test a b h = grind (arith, ints)
@@ -263,8 +263,8 @@ fold_each a (x ∷ xs) (suc k) h = fold_each (bit_or a x) xs k (omega arith)
 
 -- Options and results
 
-pub by_test : (b : Bool) (s place : ℤ) → ◌≡◌ {A = Option ℤ} (if b then Some s else None) (Some place) → (b ≡ true) × (s ≡ place)
-by_test b s place e = grind arith
+pub some_by_test : (b : Bool) (s place : ℤ) → ◌≡◌ {A = Option ℤ} (if b then Some s else None) (Some place) → (b ≡ true) × (s ≡ place)
+some_by_test b s place e = grind arith
 
 pub some_none : {A : Type 0} (x : A) → Some x ≡ None → ⊥
 some_none x h = cc
@@ -323,8 +323,8 @@ no_ok (Err e) P h = tt
 pub some_front : (xs ys : List ℕ) → 0 < length xs → 0 < length (xs ++ ys)
 some_front xs ys h = omega (arith, length-append xs ys)
 
-pub both_all : (q : ℕ → Bool) (xs ys : List ℕ) → list_all q xs ≡ true → list_all q ys ≡ true → list_all q (xs ++ ys) ≡ true
-both_all q xs ys h k = list_all-append q xs ys ∙ and_from (list_all q xs) (list_all q ys) h k
+pub list_all-both : (q : ℕ → Bool) (xs ys : List ℕ) → list_all q xs ≡ true → list_all q ys ≡ true → list_all q (xs ++ ys) ≡ true
+list_all-both q xs ys h k = list_all-append q xs ys ∙ and_from (list_all q xs) (list_all q ys) h k
 
 -- a list by its first item and the rest
 pub list-first : (xs : List ℤ) (x : ℤ) → slice_get xs 0 ≡ Some x → xs ≡ x ∷ drop 1 xs
@@ -435,9 +435,9 @@ clear_of q p (b ∷ bs) apart all = grind (arith, apart b, clear_of q p bs apart
 pub clear_append : (p : ℕ → Bool) (xs ys : List ℕ) → IsClear p xs → IsClear p ys → IsClear p (xs ++ ys)
 clear_append p xs ys first second = list_any-append p xs ys ∙ or_from (list_any p xs) (list_any p ys) first second
 
-pub wider : (q p : ℕ → Bool) (text : List ℕ) → ((b : ℕ) → q b ≡ true → p b ≡ true) → list_all q text ≡ true → list_all p text ≡ true
-wider q p [] holds all = refl
-wider q p (b ∷ bs) holds all = grind (arith, holds b, wider q p bs holds)
+pub list_all-wider : (q p : ℕ → Bool) (text : List ℕ) → ((b : ℕ) → q b ≡ true → p b ≡ true) → list_all q text ≡ true → list_all p text ≡ true
+list_all-wider q p [] holds all = refl
+list_all-wider q p (b ∷ bs) holds all = grind (arith, holds b, list_all-wider q p bs holds)
 
 pub list_all-take : (p : ℕ → Bool) (xs : List ℕ) (n : ℕ) → list_all p xs ≡ true → list_all p (take n xs) ≡ true
 list_all-take p xs zero h = refl

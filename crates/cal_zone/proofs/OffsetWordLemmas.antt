@@ -14,7 +14,7 @@ use Rattle.cal_zone.specs.headline.InstantText.{offset_text, zeros}
 use Rattle.cal_zone.specs.OffsetWord.{AreWholeMinutes, clock_seconds, clock_in, offset_in, two_digits}
 use Rattle.cal_zone.specs.headline.OffsetWord.{AreTwoDigits, IsClock, IsOffsetWord, begins_with_sign, is_sign}
 use Rattle.cal_zone.specs.headline.ZoneAhead.{offset_of_seconds}
-use Rattle.cal_text.proofs.General.{both_all, all_below, below_all}
+use Rattle.cal_text.proofs.General.{list_all-both, all_below, below_all}
 
 -- Two digits
 
@@ -125,7 +125,7 @@ digit_bytes [] h = refl
 digit_bytes (b ∷ bs) h = let parts = and_parts (is_ascii_digit b) (list_all is_ascii_digit bs) h in rw (parts.0, digit_bytes bs parts.1) refl
 
 clock-bytes : (text : List ℕ) (n : ℕ) → IsClock text n → (list_all is_offset_byte text ≡ true) × (length text ≡ 5)
-clock-bytes text n h = grind (arith, signed_arith, digit_bytes, length-append, both_all)
+clock-bytes text n h = grind (arith, signed_arith, digit_bytes, length-append, list_all-both)
 
 bytes-by : (word clock : List ℕ) (distance : ℕ) (seconds : ℤ) → (list_all is_offset_byte clock ≡ true) × (length clock ≡ 5)
     → ((word ≡ codes "+" ++ clock) × (seconds ≡ pos distance)) ⊎ ((word ≡ codes "-" ++ clock) × (seconds ≡ neg_ℤ (pos distance)))

@@ -12,7 +12,7 @@ use Rattle.cal_zone.specs.headline.Place.{datetime_of, place_of, settle_of, time
 use Rattle.cal_zone.specs.headline.Zone.{local_of}
 use Rattle.cal_zone.proofs.DayLemmas.{epoch_day-date_of}
 use Rattle.cal_zone.proofs.ZoneLemmas.{offset_at-in_range}
-use Rattle.cal_text.proofs.General.{by_test, other_test}
+use Rattle.cal_text.proofs.General.{some_by_test, int_eq-other}
 
 -- the civil time of a local second stands for that second
 pub civil_nanos-datetime_of : (local : ℤ) → IsEpochDay (day_of local) → civil_nanos (datetime_of local) ≡ nanos_of_seconds local
@@ -78,12 +78,12 @@ place_of-shown tz local second settled shown = grind (arith, signed_arith, Decid
 
 pub place_of-skipped : (tz : TimeZone) (local second : ℤ) → second ≡ settle_of tz local → (local_of tz second ≡ local → ⊥) → place_of tz local ≡ None
 unfolding place_of
-place_of-skipped tz local second settled skipped = grind (arith, signed_arith, other_test)
+place_of-skipped tz local second settled skipped = grind (arith, signed_arith, int_eq-other)
 
 -- a place is where its local second settles, and the clock shows the local second there
 pub place_of-Some : (tz : TimeZone) (local place : ℤ) → place_of tz local ≡ Some place → (settle_of tz local ≡ place) × (local_of tz place ≡ local)
 unfolding place_of
-place_of-Some tz local place e = grind (arith, signed_arith, by_test, Decides-int_eq)
+place_of-Some tz local place e = grind (arith, signed_arith, some_by_test, Decides-int_eq)
 
 pub by_the_offset : (tz : TimeZone) (local place : ℤ) → place_of tz local ≡ Some place → local -ℤ place ≡ offset_at tz (nanos_of_seconds place)
 unfolding local_of
@@ -112,4 +112,4 @@ place_at-there tz local offset e = rw ((Decides-int_eq (offset_at tz (nanos_of_s
 pub place_at-elsewhere : (tz : TimeZone) (local : ℤ) (offset : Offset) → (offset_at tz (nanos_of_seconds (local -ℤ offset.seconds)) ≡ offset.seconds → ⊥)
     → place_at tz local offset ≡ None
 unfolding place_at
-place_at-elsewhere tz local offset e = rw (other_test (offset_at tz (nanos_of_seconds (local -ℤ offset.seconds))) offset.seconds e)
+place_at-elsewhere tz local offset e = rw (int_eq-other (offset_at tz (nanos_of_seconds (local -ℤ offset.seconds))) offset.seconds e)
