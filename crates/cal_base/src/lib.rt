@@ -11,7 +11,8 @@ pub use cal_span::{
 };
 pub use cal_text::{are_digits, first_word, last_word, trim_blanks, whole_of};
 pub use cal_zone::{
-    Civil, Clock, DAY, DAYS, Instant, Moment, Placer, Rules, WEEK, Zone, ZoneFault, ZoneTable,
-    begins_with_letter, begins_zone, civil, date_of_day, is_zone_name, laws, place, push_instant,
-    push_offset, read_offset, settle, short_weekday_name, weekday_name, write_instant,
+    Civil, Clock, DAY, Instant, LOCAL_END, Moment, Placer, Rules, WEEK, Zone, ZoneFault, ZoneTable,
+    begins_with_letter, begins_zone, civil, date_of_day, day_of, is_zone_name, laws, place,
+    push_instant, push_offset, read_offset, second_of_day, settle, short_weekday_name,
+    weekday_name, write_instant,
 };

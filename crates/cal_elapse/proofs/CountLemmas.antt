@@ -96,3 +96,6 @@ unfolding count_from
 count_from-begun passes start bound low none =
     let nothing = λ (t : ℕ) (above : start + 0 ≤ t) (below : t < start + 0 + (bound - start)). none t (omega arith) (omega arith) in
     ap (count_from passes start) (omega arith) ∙ count_from-none passes start 0 (bound - start) nothing
+
+-- how many there can be
+pub ruleset count_bounds = (count_from-begun, count_from-most)

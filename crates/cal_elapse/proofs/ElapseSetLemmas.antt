@@ -1,10 +1,11 @@
 -- What an expression in a zone answers of an instant, and what that says of the rest of its elapses.
-use Rattle.std.proofs.Common.{◌<◌, ◌≡◌, ◌↔◌, ℕ, Bool, true, false, [], ◌∷◌, inl, inr, None, Some, ℤ, pos, ◌<ℤ◌, ◌≤ℤ◌, arith, int_eq}
+use Rattle.std.proofs.Common.{◌≡◌, ◌↔◌, Bool, true, false, [], ◌∷◌, inl, inr, None, Some, ℤ, negsuc, pos, unsigned_abs, ◌<ℤ◌, ◌≤ℤ◌, arith, int_eq}
 use Rattle.std.proofs.lemmas.Bool.{false≢true}
 use Rattle.jiff.proofs.SpanFacts.{signed_arith}
 use Rattle.std.specs.Set.{is_member}
 use Rattle.cal_zone.specs.Instant.{IsInstant}
-use Rattle.cal_zone.specs.headline.Local.{seconds_in_all, seconds_in_all-is}
+use Rattle.cal_zone.specs.Local.{IsLocalSecond}
+use Rattle.cal_zone.specs.headline.Local.{seconds_in_all-is}
 use Rattle.cal_zone.specs.LocalAt.{IsLocalAt}
 use Rattle.cal_zone.specs.headline.Place.{place_of}
 use Rattle.cal_zone.specs.headline.Zone.{zone_of}
@@ -21,12 +22,14 @@ use Rattle.cal_elapse.specs.Window.{timed_by, timed_of}
 use Rattle.cal_elapse.specs.declared.masks.Masks.{Masks}
 use Rattle.cal_elapse.specs.declared.window.Window.{Window}
 use Rattle.cal_elapse.proofs.ElapsesLemmas.{AreAbove-elapses_after}
+use Rattle.cal_zone.proofs.LocalLemmas.{local_inside}
 
 -- the one local second that can have its place there is tested
-pub has-local : (masks : Masks) (zone : Zone) (instant : ℤ) (local : ℕ) (b : Bool) → local < seconds_in_all → place_of (zone_of zone) (pos local) ≡ Some instant
-    → b ≡ matches (sets_in masks) local → (b ≡ true) ↔ IsPlace (timed_by masks zone) instant
+pub has-local : (masks : Masks) (zone : Zone) (instant local : ℤ) (b : Bool) → IsLocalSecond local → place_of (zone_of zone) local ≡ Some instant
+    → b ≡ matches (sets_in masks) (unsigned_abs local) → (b ≡ true) ↔ IsPlace (timed_by masks zone) instant
 unfolding timed_by
-has-local masks zone instant local b within placed is = grind (arith, one_local_second)
+has-local masks zone instant (pos n) b inside placed is = let within = local_inside (pos n) inside in grind (arith, one_local_second)
+has-local masks zone instant (negsuc n) b inside placed is = absurd (omega (arith, signed_arith, inside.0))
 
 pub has-none : (masks : Masks) (zone : Zone) (instant : ℤ) → IsLocalAt (zone_of zone) instant None → (false ≡ true) ↔ IsPlace (timed_by masks zone) instant
 unfolding timed_by

@@ -8,8 +8,8 @@ pub mod DayLemmas
 pub mod ElapseSetLemmas
 pub mod ElapsesLemmas
 pub mod FillLemmas
+pub mod FoundLemmas
 pub mod InstantLemmas
-pub mod LocalLemmas
 pub mod LookLemmas
 pub mod MasksLemmas
 pub mod MinuteLemmas

@@ -1,5 +1,5 @@
 -- What is left of the minute of a match, as a search takes bit after bit.
-use Rattle.std.proofs.Common.{IsSome, ◌≡◌, ◌≢◌, ◌∙◌, ℕ, ◌+◌, ◌-◌, ◌*◌, ◌/◌, ◌%◌, ◌^◌, ◌<◌, Bool, true, ◌&&◌, Option, Some, w64, sym, subst, refl, arith, ltb-true}
+use Rattle.std.proofs.Common.{IsSome, ◌≡◌, ◌≢◌, ◌∙◌, ℕ, ◌+◌, ◌-◌, ◌*◌, ◌/◌, ◌%◌, ◌^◌, ◌<◌, Bool, true, false, ◌&&◌, Option, Some, ℤ, option_map, pos, unsigned_abs, w64, sym, subst, refl, arith, ltb-true}
 use Rattle.std.proofs.lemmas.Bool.{and_parts, false_from_ne_true}
 use Rattle.std.specs.Int.{trailing_zeros}
 use Rattle.cal_zone.specs.headline.Local.{seconds_in_all, seconds_in_all-is}
@@ -9,10 +9,11 @@ use Rattle.cal_elapse.specs.Left.{IsLeft, IsMoreLeft, IsNextLeft, IsRest, NoneLe
 use Rattle.cal_elapse.specs.Looks.{IsSearch}
 use Rattle.cal_elapse.specs.Masks.{sets_in}
 use Rattle.cal_elapse.specs.Months.{day_in, minute_in}
-use Rattle.cal_elapse.specs.Search.{IsFirstPassing}
+use Rattle.cal_elapse.specs.Search.{IsFirstLocal, IsFirstPassing}
 use Rattle.cal_elapse.specs.declared.masks.Masks.{Masks}
 use Rattle.cal_elapse.proofs.BitLemmas.{first_bit, is_bit-none, is_bit-shifted}
 use Rattle.cal_elapse.proofs.CarryLemmas.{split_at}
+use Rattle.cal_elapse.proofs.FoundLemmas.{first_local, first_passing}
 use Rattle.cal_elapse.proofs.LookLemmas.{looks_today}
 use Rattle.cal_elapse.proofs.SearchLemmas.{locals_split}
 use Rattle.cal_elapse.proofs.TimeLemmas.{seconds_split}
@@ -65,12 +66,17 @@ next_left : (m : Masks) (found from left bit : ℕ) → IsLeft m found from left
     → IsFirstPassing (matches (sets_in m)) (found + 1) seconds_in_all (Some (from + bit))
 next_left m found from left bit h lowest = grind (arith, bit_matches, match_inside)
 
+-- and what is left behind it
+pub left_behind : (m : Masks) (found from left bit more : ℕ) → IsLeft m found from left → IsFirstPassing (is_bit left) 0 64 (Some bit) → is_bit more bit ≡ false
+    → ((i : ℕ) → i ≢ bit → is_bit more i ≡ is_bit left i) → IsLeft m (from + bit) from more
+left_behind m found from left bit more h lowest cleared others = grind arith
+
 pub left_inside : (m : Masks) (found from left bit : ℕ) → IsLeft m found from left → IsFirstPassing (is_bit left) 0 64 (Some bit) → from + bit < seconds_in_all
 left_inside m found from left bit h lowest = match_inside (sets_in m) (from + bit) (bit_matches m found from left bit h lowest.2)
 
 -- a search that takes it
 pub search_left : (m : Masks) (found from left bit : ℕ) → IsLeft m found from left → IsFirstPassing (is_bit left) 0 64 (Some bit)
-    → IsSearch (sets_in m) (found + 1) (record { local = Some (from + bit); months = 1 })
+    → IsSearch (sets_in m) (found + 1) (record { local = Some (pos (from + bit)); months = 1 })
 search_left m found from left bit h lowest =
     let count = seconds_in_all-is in
     let sets = sets_in m in
@@ -83,7 +89,7 @@ search_left m found from left bit h lowest =
     let here : day_in sets (found / 86_400) ≡ true = subst (λ (d : ℕ). day_in sets d ≡ true) day (day_of_match sets (from + bit) holds).0 in
     let looks = looks_today sets found ((from + bit) % 86_400) (omega arith) here (omega arith) (omega arith) in
     record {
-      first = next_left m found from left bit h lowest;
+      first = first_local (matches sets) (found + 1) (from + bit) (next_left m found from left bit h lowest);
       counted = sym (rw parts at looks);
       few = omega arith;
     }
@@ -107,9 +113,9 @@ next_known : (passes : ℕ → Bool) (local : ℕ) (next : Option ℕ) → ((t :
 next_known passes local next inside more none = grind arith
 
 -- so what a search after it found
-pub next_found : (m : Masks) (local : ℕ) (next : Option ℕ) → IsMoreLeft (matches (sets_in m)) local → IsFirstPassing (matches (sets_in m)) (local + 1) seconds_in_all next
-    → IsNextLeft (matches (sets_in m)) local next × IsSome next
-next_found m local next more first = next_known (matches (sets_in m)) local next (match_inside (sets_in m)) more first
+pub next_found : (m : Masks) (local : ℕ) (next : Option ℤ) → IsMoreLeft (matches (sets_in m)) local → IsFirstLocal (matches (sets_in m)) (pos (local + 1)) next
+    → IsNextLeft (matches (sets_in m)) local (option_map unsigned_abs next) × IsSome next
+next_found m local next more first = grind (arith, next_known, match_inside, first_passing)
 
 -- where nothing is known to be left, the rest is empty
 pub rest_unknown : (passes : ℕ → Bool) (local : ℕ) → passes local ≡ true → IsRest passes local 0 local

@@ -218,3 +218,6 @@ index_by d e years months same y m low high = grind (arith, unsigned_abs, to_z, 
 
 pub length_by : (d e : Date) (l : ℕ) → d ≡ e → l ≡ days_in_month (to_z w16 (of_z w16 d.year)) d.month → pos 1_970 ≤ℤ e.year → e.year ≤ℤ pos 2_199 → l ≡ month_length e
 length_by d e l same is low high = grind (arith, to_z, w16, of_z, year_word)
+
+-- where months begin and how long they are
+pub ruleset month_bounds = (first_day-end, first_day-rises, length_bounds)

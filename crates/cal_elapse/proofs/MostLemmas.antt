@@ -1,5 +1,5 @@
 -- The most months that one of several searches looked at.
-use Rattle.std.proofs.Common.{◌≡◌, ◌∙◌, ℕ, ◌+◌, ◌<◌, ◌≤◌, Bool, true, Option, max, unwrap_or, IsSome, ◌-◌, arith, inl, inr, refl, subst, sym}
+use Rattle.std.proofs.Common.{◌≡◌, ◌∙◌, ℕ, ◌+◌, ◌<◌, ◌≤◌, Bool, true, Option, max, unwrap_or, IsSome, ◌-◌, arith, inl, inr, option_map, refl, subst, sym, unsigned_abs, ℤ}
 use Rattle.std.proofs.lemmas.Bool.{cases_lt}
 use Rattle.cal_spec.specs.headline.Match.{Sets, matches}
 use Rattle.cal_elapse.specs.Count.{count_from}
@@ -7,22 +7,24 @@ use Rattle.cal_elapse.specs.Left.{IsNextLeft}
 use Rattle.cal_elapse.specs.Looks.{IsSearch}
 use Rattle.cal_elapse.specs.Most.{IsLooked, IsMost, IsMostAfter}
 use Rattle.cal_elapse.specs.Search.{NonePasses}
-use Rattle.cal_elapse.specs.declared.search.Next.{Next}
+use Rattle.cal_elapse.specs.declared.search.Found.{Found}
 use Rattle.cal_elapse.proofs.CountLemmas.{count_from-nothing, count_from-to}
+use Rattle.cal_elapse.proofs.FoundLemmas.{first_passing}
 use Rattle.cal_text.proofs.General.{max_from_zero, max_is}
 
 -- a search looked at its months
-pub search_looked : (sets : Sets) (from : ℕ) (found : Next) → IsSearch sets from found → IsLooked sets from found.months
-search_looked sets from found search = grind arith
+pub search_looked : (sets : Sets) (from : ℕ) (found : Found) → IsSearch sets from found → IsLooked sets from found.months
+search_looked sets from found search =
+    record { answer = option_map unsigned_abs found.local; first = first_passing (matches sets) from found.local search.first; looked = search.counted }
 
 -- after no match
 pub most_begun : (sets : Sets) (from before : ℕ) → IsMostAfter sets from from before before
 most_begun sets from before = record { not_below = omega arith; all = λ months one. absurd (let low = one.low in let high = one.high in omega arith); one = inl refl }
 
 -- after one match
-pub most_next : (sets : Sets) (t next before : ℕ) (found : Next) → matches sets t ≡ true → IsSearch sets (t + 1) found → t < next → NonePasses (matches sets) (t + 1) next
-    → IsMostAfter sets t next before (max before found.months)
-most_next sets t next before found holds search later none = grind (arith, search_looked, max_is)
+pub most_next : (sets : Sets) (t next before months : ℕ) → matches sets t ≡ true → IsLooked sets (t + 1) months → t < next → NonePasses (matches sets) (t + 1) next
+    → IsMostAfter sets t next before (max before months)
+most_next sets t next before months holds looked later none = grind (arith, max_is)
 
 -- after some matches and then some more
 pub most_on : (sets : Sets) (a b c x y z : ℕ) → a ≤ b → b ≤ c → IsMostAfter sets a b x y → IsMostAfter sets b c y z → IsMostAfter sets a c x z
@@ -71,15 +73,19 @@ pub most_more : (sets : Sets) (start a b most more : ℕ) → start ≤ a → a 
 most_more sets start a b most more low high h later = record { first = h.first; begun = h.begun; later = most_on sets start a b h.first most more low high h.later later }
 
 -- and up to the match that it found
-pub most_start : (sets : Sets) (start bound old most : ℕ) (found : Next) → IsSearch sets start found → start ≤ bound → NonePasses (matches sets) start bound → old ≡ 0
-    → most ≡ max old found.months → IsMost sets start bound most
-most_start sets start bound old most found search low none zero is = grind (arith, max_from_zero, most_same)
+pub most_start : (sets : Sets) (start bound old most months : ℕ) → IsLooked sets start months → start ≤ bound → NonePasses (matches sets) start bound → old ≡ 0
+    → most ≡ max old months → IsMost sets start bound most
+most_start sets start bound old most months looked low none zero is = grind (arith, max_from_zero, most_same)
 
 -- The next match of a minute
 
-pub next_counted : (passes : ℕ → Bool) (local : ℕ) (next : Option ℕ) → IsNextLeft passes local next × IsSome next → count_from passes (local + 1) (unwrap_or next local - local) ≡ 1
+pub next_counted : (passes : ℕ → Bool) (local : ℤ) (next : Option ℤ) → IsNextLeft passes (unsigned_abs local) (option_map unsigned_abs next) × IsSome next
+    → count_from passes (unsigned_abs local + 1) (unsigned_abs (unwrap_or next local) - unsigned_abs local) ≡ 1
 next_counted passes local next known = grind (arith, count_from-nothing, count_from-to)
 
-pub next_most : (sets : Sets) (local before : ℕ) (found : Next) (next : Option ℕ) → matches sets local ≡ true → IsSearch sets (local + 1) found
-    → IsNextLeft (matches sets) local next × IsSome next → IsMostAfter sets local (unwrap_or next local) before (max before found.months)
-next_most sets local before found next holds search known = grind (arith, most_next)
+pub next_most : (sets : Sets) (local : ℤ) (before : ℕ) (found : Found) (next : Option ℤ) → matches sets (unsigned_abs local) ≡ true → IsSearch sets (unsigned_abs local + 1) found
+    → IsNextLeft (matches sets) (unsigned_abs local) (option_map unsigned_abs next) × IsSome next
+    → IsMostAfter sets (unsigned_abs local) (unsigned_abs (unwrap_or next local)) before (max before found.months)
+next_most sets local before found next holds search known =
+    let looked = search_looked sets (unsigned_abs local + 1) found search in
+    grind (arith, most_next)

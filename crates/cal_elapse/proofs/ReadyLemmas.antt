@@ -1,11 +1,12 @@
 -- The window is ready at first, and after each match that is placed.
-use Rattle.std.proofs.Common.{◌≡◌, ℕ, ◌+◌, ◌-◌, ◌<◌, ◌≤◌, Bool, List, Option, Some, ℤ, pos, ◌+ℤ◌, ◌≤ℤ◌, sym, ap, subst, arith, true, [], negsuc, max}
+use Rattle.std.proofs.Common.{◌≡◌, ℕ, ◌+◌, ◌-◌, ◌≤◌, Bool, List, Option, Some, ℤ, pos, ◌+ℤ◌, ◌≤ℤ◌, sym, ap, subst, arith, true, [], negsuc, max, unsigned_abs}
 use Rattle.std.proofs.lemmas.Int.{ints}
 use Rattle.jiff.proofs.SpanFacts.{signed_arith}
 use Rattle.cal_zone.specs.Instant.{IsInstant}
 use Rattle.cal_spec.specs.headline.Fields.{Fields}
 use Rattle.cal_spec.specs.headline.Members.{sets_of}
 use Rattle.cal_elapse.specs.headline.Timed.{timed}
+use Rattle.cal_zone.specs.Local.{IsLocalSecond}
 use Rattle.cal_zone.specs.headline.Local.{seconds_in_all, seconds_in_all-is}
 use Rattle.cal_zone.specs.headline.Place.{place_of}
 use Rattle.cal_zone.specs.headline.Zone.{zone_of}
@@ -16,33 +17,41 @@ use Rattle.cal_elapse.specs.Masks.{sets_in}
 use Rattle.cal_elapse.specs.Most.{IsMost}
 use Rattle.cal_elapse.specs.Rest.{rest_of}
 use Rattle.cal_rising.specs.headline.Elements.{Has}
-use Rattle.cal_elapse.specs.Search.{IsFirstPassing, NonePasses}
+use Rattle.cal_elapse.specs.Search.{IsFirstLocal, NonePasses}
 use Rattle.cal_elapse.specs.Window.{IsMatchAhead, IsPlacedTo, IsReady, Windowed, bound_of, count_from, start_of, timed_by, timed_of, with_place}
 use Rattle.cal_elapse.specs.declared.masks.Masks.{Masks}
-use Rattle.cal_elapse.specs.declared.search.Next.{Next}
+use Rattle.cal_elapse.specs.declared.search.Found.{Found}
 use Rattle.cal_elapse.specs.declared.searcher.Searcher.{Searcher}
 use Rattle.cal_elapse.specs.declared.window.Window.{Window}
 use Rattle.cal_elapse.proofs.CountLemmas.{count_from-begun, count_from-most, count_from-on, count_from-with}
-use Rattle.cal_elapse.proofs.MostLemmas.{most_more, most_next, most_start}
+use Rattle.cal_zone.proofs.LocalLemmas.{local_inside}
+use Rattle.cal_elapse.proofs.FoundLemmas.{first_match, first_passing}
+use Rattle.cal_elapse.proofs.MostLemmas.{most_more, most_next, most_start, search_looked}
 use Rattle.cal_elapse.proofs.WindowLemmas.{timed_by-near, windowed_on, windowed_put, windowed_start}
 use Rattle.cal_spec.specs.headline.Match.{matches}
 
 -- what the search answered
-pub record IsNext (e : Timed) (from : ℕ) (answer : Option ℕ) : Type 0 where
+pub record IsNext (e : Timed) (from : ℕ) (answer : Option ℤ) : Type 0 where
   pub low : from ≤ bound_of answer
   pub none : NonePasses e.matches from (bound_of answer)
   pub found : IsMatchAhead e answer
 
-next_by : (e : Timed) (from : ℕ) (found : Option ℕ) → from ≤ seconds_in_all → IsFirstPassing e.matches from seconds_in_all found → IsNext e from found
-next_by e from found h none = grind arith
+-- none lies before the one found
+none_before : (passes : ℕ → Bool) (from : ℕ) (ahead : Option ℤ) → from ≤ seconds_in_all → IsFirstLocal passes (pos from) ahead → (from ≤ bound_of ahead) × NonePasses passes from (bound_of ahead)
+none_before passes from ahead within none = grind (arith, first_passing)
 
-pub is_next : (masks : Masks) (zone : Zone) (from : ℕ) (found : Option ℕ) → from ≤ seconds_in_all → IsFirstPassing (matches (sets_in masks)) from seconds_in_all found
+next_by : (e : Timed) (from : ℕ) (found : Option ℤ) → from ≤ seconds_in_all → IsFirstLocal e.matches (pos from) found → IsNext e from found
+next_by e from found h first =
+    let before = none_before e.matches from found h first in
+    record { low = before.0; none = before.1; found = first_match e.matches (pos from) found (omega (arith, ints)) first }
+
+pub is_next : (masks : Masks) (zone : Zone) (from : ℕ) (found : Option ℤ) → from ≤ seconds_in_all → IsFirstLocal (matches (sets_in masks)) (pos from) found
     → IsNext (timed_by masks zone) from found
 unfolding timed_by
 is_next masks zone from found h first = next_by (timed_by masks zone) from found h first
 
 -- the same masks after a search
-pub ready_after : (v : Window) (searcher : Searcher) (ahead : Option ℕ) (pending : List ℤ) → searcher.masks ≡ v.searcher.masks → pos 0 ≤ℤ v.base → v.base ≤ℤ v.last
+pub ready_after : (v : Window) (searcher : Searcher) (ahead : Option ℤ) (pending : List ℤ) → searcher.masks ≡ v.searcher.masks → pos 0 ≤ℤ v.base → v.base ≤ℤ v.last
     → Windowed (timed_of v) (start_of v.base) (bound_of ahead) v.last pending → IsMatchAhead (timed_of v) ahead → start_of v.base ≤ bound_of ahead
     → searcher.searches ≡ count_from (timed_of v).matches (start_of v.base) (bound_of ahead - start_of v.base) + 1
     → IsMost (sets_in v.searcher.masks) (start_of v.base) (bound_of ahead) searcher.most_months
@@ -55,15 +64,18 @@ unfolding timed_by
 put_at masks zone from bound last xs w holds near = windowed_put (timed_by masks zone) from bound last xs (timed_by-near masks zone) w holds near
 
 -- the match ahead is placed
-pub placed_to : (v : Window) (local : ℕ) (ahead : Option ℕ) (pending : List ℤ) → IsReady v → v.ahead ≡ Some local → ((i : ℤ) → Has v.pending i → pos local ≤ℤ (i +ℤ pos 93_599))
-    → pending ≡ with_place (place_of (zone_of v.zone) (pos local)) v.last v.pending → IsPlacedTo (record v { ahead = ahead; pending = pending }) local
-placed_to v local ahead pending h at near put =
+pub placed_to : (v : Window) (local : ℤ) (ahead : Option ℤ) (pending : List ℤ) → IsReady v → v.ahead ≡ Some local → ((i : ℤ) → Has v.pending i → local ≤ℤ (i +ℤ pos 93_599))
+    → pending ≡ with_place (place_of (zone_of v.zone) local) v.last v.pending → IsPlacedTo (record v { ahead = ahead; pending = pending }) local
+placed_to v (negsuc n) ahead pending h at near put =
+    let match_here = subst (IsMatchAhead (timed_of v)) at h.found in
+    absurd (omega (arith, ints, match_here.0.0))
+placed_to v (pos local) ahead pending h at near put =
     let e = timed_of v in
     let start = start_of v.base in
-    let here = subst (λ (o : Option ℕ). Windowed e start (bound_of o) v.last v.pending) at h.windowed in
+    let here = subst (λ (o : Option ℤ). Windowed e start (bound_of o) v.last v.pending) at h.windowed in
     let match_here = subst (IsMatchAhead e) at h.found in
-    let begun = subst (λ (o : Option ℕ). start ≤ bound_of o) at h.begun in
-    let counted = subst (λ (o : Option ℕ). v.searcher.searches ≡ count_from e.matches start (bound_of o - start) + 1) at h.counted in
+    let begun = subst (λ (o : Option ℤ). start ≤ bound_of o) at h.begun in
+    let counted = subst (λ (o : Option ℤ). v.searcher.searches ≡ count_from e.matches start (bound_of o - start) + 1) at h.counted in
     record {
       windowed = subst (Windowed e start (local + 1) v.last) (sym put) (put_at v.searcher.masks v.zone start local v.last v.pending here match_here.1 near);
       found = match_here;
@@ -71,23 +83,23 @@ placed_to v local ahead pending h at near put =
       above = h.above;
       begun = begun;
       counted = omega (arith, count_from-with e.matches start local begun match_here.1);
-      looked = subst (λ (o : Option ℕ). IsMost (sets_in v.searcher.masks) start (bound_of o) v.searcher.most_months) at h.looked;
+      looked = subst (λ (o : Option ℤ). IsMost (sets_in v.searcher.masks) start (bound_of o) v.searcher.most_months) at h.looked;
     }
 
 -- what was placed last is a match
-pub placed_is_match : (v : Window) (local : ℕ) → IsPlacedTo v local → (local < seconds_in_all) × (matches (sets_in v.searcher.masks) local ≡ true)
+pub placed_is_match : (v : Window) (local : ℤ) → IsPlacedTo v local → IsLocalSecond local × (matches (sets_in v.searcher.masks) (unsigned_abs local) ≡ true)
 unfolding timed_by
 placed_is_match v local h = h.found
 
--- none lies before the one found
-none_before : (passes : ℕ → Bool) (from : ℕ) (ahead : Option ℕ) → from ≤ seconds_in_all → IsFirstPassing passes from seconds_in_all ahead → (from ≤ bound_of ahead) × NonePasses passes from (bound_of ahead)
-none_before passes from ahead within none = grind arith
-
 -- and the next is found
-pub next_ready : (v : Window) (local : ℕ) (searcher : Searcher) (ahead : Option ℕ) (found : Next) → IsPlacedTo v local → searcher.masks ≡ v.searcher.masks
-    → searcher.searches ≡ v.searcher.searches + 1 → searcher.most_months ≡ max v.searcher.most_months found.months → IsSearch (sets_in v.searcher.masks) (local + 1) found
-    → IsFirstPassing (matches (sets_in v.searcher.masks)) (local + 1) seconds_in_all ahead → IsReady (record v { searcher = searcher; ahead = ahead })
-next_ready v local searcher ahead found h masks more most search first =
+pub next_ready : (v : Window) (local : ℤ) (searcher : Searcher) (found : Found) → IsPlacedTo v local → searcher.masks ≡ v.searcher.masks
+    → searcher.searches ≡ v.searcher.searches + 1 → searcher.most_months ≡ max v.searcher.most_months found.months → IsSearch (sets_in v.searcher.masks) (unsigned_abs local + 1) found
+    → IsReady (record v { searcher = searcher; ahead = found.local })
+next_ready v (negsuc n) searcher found h masks more most search = absurd (omega (arith, ints, h.found.0.0))
+next_ready v (pos local) searcher found h masks more most search =
+    let ahead = found.local in
+    let first = search.first in
+    let inside = local_inside (pos local) h.found.0 in
     let e = timed_of v in
     let start = start_of v.base in
     let begun = h.begun in
@@ -98,17 +110,21 @@ next_ready v local searcher ahead found h masks more most search first =
     let count = count_from-on e.matches start (local + 1) (bound_of ahead) (omega arith) next.low next.none in
     let none = none_before (matches (sets_in v.searcher.masks)) (local + 1) ahead (omega arith) first in
     let looked = most_more (sets_in v.searcher.masks) start local (bound_of ahead) v.searcher.most_months (max v.searcher.most_months found.months) begun (omega arith) h.looked
-    (most_next (sets_in v.searcher.masks) local (bound_of ahead) v.searcher.most_months found (placed_is_match v local h).1 search (omega arith) none.1) in
+    (most_next (sets_in v.searcher.masks) local (bound_of ahead) v.searcher.most_months found.months (placed_is_match v (pos local) h).1
+    (search_looked (sets_in v.searcher.masks) (local + 1) found search) (omega arith) none.1) in
     ready_after v searcher ahead v.pending masks h.low h.above on next.found (omega arith) (omega arith)
     (subst (IsMost (sets_in v.searcher.masks) start (bound_of ahead)) (sym most) looked)
 
 -- so few searches were made
-pub few_searches : (v : Window) (local : ℕ) → IsPlacedTo v local → v.searcher.searches ≤ local + 1
+pub few_searches : (v : Window) (local : ℤ) → IsPlacedTo v local → v.searcher.searches ≤ unsigned_abs local + 1
 few_searches v local h = grind (arith, count_from-most)
 
 -- the members are the places of earlier local seconds
-pub placed_before : (v : Window) (local : ℕ) → IsReady v → v.ahead ≡ Some local → (i : ℤ) → Has v.pending i → i ≤ℤ (pos local +ℤ pos 93_599)
-placed_before v local h at i m =
+pub placed_before : (v : Window) (local : ℤ) → IsReady v → v.ahead ≡ Some local → (i : ℤ) → Has v.pending i → i ≤ℤ (local +ℤ pos 93_599)
+placed_before v (negsuc n) h at i m =
+    let match_here = subst (IsMatchAhead (timed_of v)) at h.found in
+    absurd (omega (arith, ints, match_here.0.0))
+placed_before v (pos local) h at i m =
     let bound : bound_of v.ahead ≡ local = ap bound_of at in
     let place = ((h.windowed.members i).0 m).1 in
     let near = (timed_by-near v.searcher.masks v.zone place.local i place.placed).1 in
@@ -119,11 +135,13 @@ start_inside (pos n) h = let count = seconds_in_all-is in omega (arith, signed_a
 start_inside (negsuc n) h = absurd (omega (arith, signed_arith, h.0))
 
 -- the window before anything is placed
-pub begun_ready : (searcher after : Searcher) (zone : Zone) (base : ℤ) (ahead : Option ℕ) (pending : List ℤ) (found : Next) → IsInstant base → searcher.searches ≡ 0
+pub begun_ready : (searcher after : Searcher) (zone : Zone) (base : ℤ) (pending : List ℤ) (found : Found) → IsInstant base → searcher.searches ≡ 0
     → searcher.most_months ≡ 0 → after.masks ≡ searcher.masks → after.searches ≡ searcher.searches + 1 → after.most_months ≡ max searcher.most_months found.months
-    → IsSearch (sets_in searcher.masks) (start_of base) found → pending ≡ [] → IsFirstPassing (matches (sets_in searcher.masks)) (start_of base) seconds_in_all ahead
-    → IsReady (record { searcher = after; zone = zone; base = base; ahead = ahead; last = base; pending = pending })
-begun_ready searcher after zone base ahead pending found instant zero unlooked masks more most search none first =
+    → IsSearch (sets_in searcher.masks) (start_of base) found → pending ≡ []
+    → IsReady (record { searcher = after; zone = zone; base = base; ahead = found.local; last = base; pending = pending })
+begun_ready searcher after zone base pending found instant zero unlooked masks more most search none =
+    let ahead = found.local in
+    let first = search.first in
     let v : Window = record { searcher = searcher; zone = zone; base = base; ahead = ahead; last = base; pending = pending } in
     let e = timed_by searcher.masks zone in
     let start = start_of base in
@@ -132,7 +150,7 @@ begun_ready searcher after zone base ahead pending found instant zero unlooked m
     let on = windowed_on e start start (bound_of ahead) base [] next.low next.none empty in
     let count = count_from-begun e.matches start (bound_of ahead) next.low next.none in
     ready_after v after ahead pending masks instant.0 (omega (arith, ints)) (subst (Windowed e start (bound_of ahead) base) (sym none) on) next.found next.low (omega arith)
-    (most_start (sets_in searcher.masks) start (bound_of ahead) searcher.most_months after.most_months found search next.low
+    (most_start (sets_in searcher.masks) start (bound_of ahead) searcher.most_months after.most_months found.months (search_looked (sets_in searcher.masks) start found search) next.low
     (none_before (matches (sets_in searcher.masks)) start ahead (start_inside base instant) first).1 unlooked most)
 
 -- the masks of an expression mean in a zone what the expression does

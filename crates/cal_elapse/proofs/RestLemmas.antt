@@ -1,6 +1,6 @@
 -- What is left of the minute of a match that is placed, once it is placed at once.
 use Rattle.std.proofs.Common.{◌≡◌, ◌⊎◌, ◌↔◌, ◌+◌, ◌-◌, ◌*◌, ◌/◌, ◌<◌, ◌≤◌, ◌∙◌, Bool, ℕ, IsSomeAnd, List, None, Option, Some, ℤ, pos, ◌+ℤ◌, ◌-ℤ◌, ◌≤ℤ◌, ◌<ℤ◌, FitsSigned, arith, ap, inl, inr, of_z, refl, subst, sym, to_z, w64, slice_get}
-use Rattle.std.proofs.lemmas.Int.{ints, to_z-of_z}
+use Rattle.std.proofs.lemmas.Int.{ints, to_z-of_z, to_z_pos}
 use Rattle.jiff.proofs.SpanFacts.{signed_arith}
 use Rattle.jiff.specs.Types.{TimeZone}
 use Rattle.std.specs.Ordering.{int_cmp}
@@ -25,7 +25,7 @@ use Rattle.cal_elapse.specs.Window.{IsMatchAhead, IsPlacedTo, Windowed, start_of
 use Rattle.cal_elapse.specs.declared.masks.Masks.{Masks}
 use Rattle.cal_elapse.specs.declared.searcher.Searcher.{Searcher}
 use Rattle.cal_elapse.specs.declared.window.Window.{Window}
-use Rattle.cal_elapse.proofs.LocalLemmas.{signed_word}
+use Rattle.cal_zone.proofs.LocalLemmas.{local_inside, local_inside-pos}
 use Rattle.cal_elapse.proofs.CountLemmas.{count_from-part}
 use Rattle.cal_elapse.proofs.MostLemmas.{most_more}
 use Rattle.cal_elapse.proofs.WindowLemmas.{IsPlacedFrom, timed_by-near, windowed_more}
@@ -45,6 +45,10 @@ ahead_near tz from to offset ahead order inside =
     let count = seconds_in_all-is in
     let near = within tz (pos from) (pos from -ℤ offset) (ahead (pos from) (omega (arith, ints), omega (arith, ints)) (omega (arith, ints)) (omega (arith, ints))) in
     (omega (arith, signed_arith, near), omega (arith, signed_arith, near))
+
+-- a local second as it is passed
+signed_word : (local : ℕ) (signed : ℤ) → local < seconds_in_all → signed ≡ pos local → to_z w64 (of_z w64 signed) ≡ pos local
+signed_word local signed inside is = ap (λ z. to_z w64 (of_z w64 z)) is ∙ to_z_pos w64 local (omega (arith, seconds_in_all-is))
 
 -- how far a clock is ahead from a local second to its minute's end, and in the machine's numbers both of them, that, the
 -- places of both and the second after the first place
@@ -86,7 +90,7 @@ run_of tz local from to offset inside fits from_is to_is ahead =
     }
 
 -- the place of a local second of the minute
-place_there : (v : Window) (local t : ℕ) (offset : ℤ) → IsPlacedTo v local → AreAhead (zone_of v.zone) (pos local) (pos (local / 60 * 60 + 59)) offset
+place_there : (v : Window) (local t : ℕ) (offset : ℤ) → IsPlacedTo v (pos local) → AreAhead (zone_of v.zone) (pos local) (pos (local / 60 * 60 + 59)) offset
     → local ≤ t → t ≤ local / 60 * 60 + 59 → (timed_of v).place t ≡ Some (pos t -ℤ offset)
 unfolding timed_by
 place_there v local t offset h ahead low high =
@@ -121,7 +125,7 @@ begins least place le = omega (arith, ints)
 reaches : (end t : ℕ) (least i : ℤ) → t ≤ end → pos end ≤ℤ (least +ℤ pos 93_599) → least ≤ℤ i → pos t ≤ℤ (i +ℤ pos 93_599)
 reaches end t least i up near le = omega (arith, ints)
 
-module _ (v : Window) (local bits last : ℕ) (offset least : ℤ) (h : IsPlacedTo v local) (b : IsBehind v local bits last offset least) where
+module _ (v : Window) (local bits last : ℕ) (offset least : ℤ) (h : IsPlacedTo v (pos local)) (b : IsBehind v local bits last offset least) where
   up : last ≤ local / 60 * 60 + 59
   up = rest_inside _ local bits last b.rest
 
@@ -166,7 +170,7 @@ module _ (v : Window) (local bits last : ℕ) (offset least : ℤ) (h : IsPlaced
       let below = p.below in
       let count = seconds_in_all-is in
       let inside = up in
-      let end = minute_end local h.found.0 in
+      let end = minute_end local (local_inside (pos local) h.found.0) in
       (omega (arith, ints), omega (arith, ints))
 
   pub rest_near : (member i : ℤ) → Has v.pending member → IsOneOf ((pos local -ℤ offset) +ℤ pos 1) bits i → IsNear member i
@@ -187,27 +191,27 @@ passed_by : (t end : ℕ) (last offset i : ℤ) → Some (pos t -ℤ offset) ≡
 passed_by t end last offset i at up early above = grind (arith, signed_arith)
 
 -- the window once the rest is placed
-module _ (v : Window) (local : ℕ) (searcher : Searcher) (bits last : ℕ) (h : IsPlacedTo v local) (masks : searcher.masks ≡ v.searcher.masks)
+module _ (v : Window) (local : ℕ) (searcher : Searcher) (bits last : ℕ) (h : IsPlacedTo v (pos local)) (masks : searcher.masks ≡ v.searcher.masks)
     (more : searcher.searches ≡ v.searcher.searches + count_from (matches (sets_in v.searcher.masks)) (local + 1) (last - local))
     (most : IsMostAfter (sets_in v.searcher.masks) local last v.searcher.most_months searcher.most_months)
     (rest : IsRest (matches (sets_in v.searcher.masks)) local bits last)
   where
     -- with what is pending then
     rest_placed : (pending : List ℤ) → Windowed (timed_of v) (start_of v.base) (last + 1) v.last pending
-        → IsPlacedTo (record v { searcher = searcher; pending = pending }) last
+        → IsPlacedTo (record v { searcher = searcher; pending = pending }) (pos last)
     unfolding timed_by
     rest_placed pending windowed =
         let same : timed_of v ≡ timed_by searcher.masks v.zone = ap (λ m. timed_by m v.zone) (sym masks) in
         let start = start_of v.base in
         let count = seconds_in_all-is in
-        let inside : last < seconds_in_all = omega (arith, rest_inside _ local bits last rest, minute_end local h.found.0) in
+        let inside : last < seconds_in_all = omega (arith, rest_inside _ local bits last rest, minute_end local (local_inside (pos local) h.found.0)) in
         let part = count_from-part (matches (sets_in v.searcher.masks)) start local last h.begun rest.begun in
         let counted : searcher.searches ≡ count_from (timed_of v).matches start (last + 1 - start) = omega (arith, h.counted) in
         let begun = h.begun in
         let later = rest.begun in
         record {
           windowed = subst (λ (e : Timed). Windowed e start (last + 1) v.last pending) same windowed;
-          found = subst (λ (e : Timed). IsMatchAhead e (Some last)) same (inside, rest.is_match);
+          found = subst (λ (e : Timed). IsMatchAhead e (Some (pos last))) same (local_inside-pos last inside, rest.is_match);
           low = h.low;
           above = h.above;
           begun = omega arith;
@@ -218,7 +222,7 @@ module _ (v : Window) (local : ℕ) (searcher : Searcher) (bits last : ℕ) (h :
 
     -- where nothing is pending, and all places up to the minute's end are at the last instant given or before it
     pub rest_passed : (offset : ℤ) → None ≡ slice_get v.pending 0 → AreAhead (zone_of v.zone) (pos local) (pos (local / 60 * 60 + 59)) offset
-        → (pos (local / 60 * 60 + 59) -ℤ offset) ≤ℤ v.last → IsPlacedTo (record v { searcher = searcher }) last
+        → (pos (local / 60 * 60 + 59) -ℤ offset) ≤ℤ v.last → IsPlacedTo (record v { searcher = searcher }) (pos last)
     rest_passed offset none ahead early =
         let later = rest.begun in
         let not_above = λ (i : ℤ) (above : v.last <ℤ i) (p : IsPlacedFrom (timed_of v) (local + 1) (last + 1) i).
@@ -233,7 +237,7 @@ module _ (v : Window) (local : ℕ) (searcher : Searcher) (bits last : ℕ) (h :
 
     -- where it is put
     pub rest_put : (offset least : ℤ) (pending : List ℤ) → IsBehind v local bits last offset least → IsStrictlySortedBy int_cmp pending
-        → ((i : ℤ) → Has pending i ↔ (Has v.pending i ⊎ IsOneOf ((pos local -ℤ offset) +ℤ pos 1) bits i)) → IsPlacedTo (record v { searcher = searcher; pending = pending }) last
+        → ((i : ℤ) → Has pending i ↔ (Has v.pending i ⊎ IsOneOf ((pos local -ℤ offset) +ℤ pos 1) bits i)) → IsPlacedTo (record v { searcher = searcher; pending = pending }) (pos last)
     rest_put offset least pending b rises members =
         let inside = rest_inside _ local bits last rest in
         let above = one_above v local bits last offset least h b in

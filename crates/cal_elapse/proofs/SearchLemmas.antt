@@ -1,16 +1,17 @@
 -- The tests of a search, and its steps.
-use Rattle.std.proofs.Common.{◌≡◌, ℕ, ◌+◌, ◌*◌, ◌/◌, ◌%◌, ◌<◌, ◌≤◌, true, false, ◌&&◌, nat_lt, ◌==◌, Option, ap, ◌∙◌, to_z, of_z, w64, negsuc, ◌^◌, unsigned_abs, ◌≤ℤ◌, None, Some, ℤ, pos, refl, sym, inl, inr, arith}
+use Rattle.std.proofs.Common.{◌≡◌, ℕ, ◌+◌, ◌*◌, ◌/◌, ◌%◌, ◌<◌, ◌≤◌, true, false, ◌&&◌, nat_lt, ◌==◌, Option, ap, ◌∙◌, subst, None, Some, ℤ, pos, refl, sym, inl, inr, arith}
 use Rattle.std.proofs.lemmas.Bool.{and_parts, cases_lt}
 use Rattle.std.proofs.lemmas.Bool.Decides.{nat_tests}
-use Rattle.std.proofs.lemmas.Int.{ints, to_z_pos}
+use Rattle.std.proofs.lemmas.Int.{ints}
 use Rattle.cal_zone.specs.headline.Local.{civil_date, seconds_in_all, seconds_in_all-is}
 use Rattle.cal_spec.specs.headline.Match.{Sets, date_in, time_in, matches}
 use Rattle.cal_elapse.proofs.CarryLemmas.{Splits, first_here, first_later, first_then, first_within, none_by_high, none_by_low, none_later, split_at}
+use Rattle.cal_elapse.proofs.FoundLemmas.{first_local}
 use Rattle.cal_elapse.proofs.LookLemmas.{looks_today}
 use Rattle.cal_elapse.specs.Looks.{IsSearch}
 use Rattle.cal_elapse.specs.Months.{day_in}
 use Rattle.cal_elapse.specs.Steps.{day_to_start, second_on}
-use Rattle.cal_elapse.specs.Search.{IsFirstPassing, NonePasses}
+use Rattle.cal_elapse.specs.Search.{IsFirstLocal, IsFirstPassing, NonePasses}
 
 pub inside : (t : ℕ) → t < 7_258_118_400 → nat_lt t seconds_in_all ≡ true
 inside t h =
@@ -32,6 +33,9 @@ locals_split sets = record {
       let time : (a * 86_400 + b) % 86_400 ≡ b = omega arith in
       matches_on sets a (a * 86_400 + b) low (omega arith) (omega arith) ∙ ap (λ (n : ℕ). date_in sets (civil_date a) && time_in sets n) time;
 }
+
+pub locals_at : (sets : Sets) (t : ℕ) → t < seconds_in_all → matches sets t ≡ (day_in sets (t / 86_400) && time_in sets (t % 86_400))
+locals_at sets t below = split_at (locals_split sets) (t / 86_400) t (let count = seconds_in_all-is in omega arith) refl
 
 -- nothing on the first day or on a later one
 pub none_of_all : (sets : Sets) (day r from : ℕ) (today : Option ℕ) → day * 86_400 + r ≡ from → day < 84_006 → r < 86_400 → IsFirstPassing (time_in sets) r 86_400 today
@@ -71,6 +75,22 @@ first_of_all sets day r from f first (Some s) parts inside small today found beg
           (first_here (locals_split sets) day r from 86_400 s parts inside holds today.1 today)))
     ]
 
+-- the same of local seconds as they are passed
+pub none_found : (sets : Sets) (day r : ℕ) (from : ℤ) (today : Option ℕ) → pos (day * 86_400 + r) ≡ from → day < 84_006 → r < 86_400 → IsFirstPassing (time_in sets) r 86_400 today
+    → NonePasses (day_in sets) (day_to_start day today) 84_006 → IsFirstLocal (matches sets) from None
+none_found sets day r from today parts inside small none later = λ t above below.
+    let count = seconds_in_all-is in
+    none_of_all sets day r (day * 86_400 + r) today refl inside small none later t (omega (arith, ints)) (omega arith)
+
+pub first_found : (sets : Sets) (day r f first : ℕ) (from found : ℤ) (today : Option ℕ) → pos (day * 86_400 + r) ≡ from → day < 84_006 → r < 86_400
+    → IsFirstPassing (time_in sets) r 86_400 today → IsFirstPassing (day_in sets) (day_to_start day today) 84_006 (Some f) → IsFirstPassing (time_in sets) 0 86_400 (Some first)
+    → found ≡ pos (f * 86_400 + second_on f day today first) → IsFirstLocal (matches sets) from (Some found)
+first_found sets day r f first from found today parts inside small none later begins is =
+    let t : ℕ = f * 86_400 + second_on f day today first in
+    let all : IsFirstPassing (matches sets) (day * 86_400 + r) (84_006 * 86_400) (Some t) = first_of_all sets day r (day * 86_400 + r) f first today refl inside small none later begins in
+    let there = first_local (matches sets) (day * 86_400 + r) t (subst (λ (n : ℕ). IsFirstPassing (matches sets) (day * 86_400 + r) n (Some t)) (sym seconds_in_all-is) all) in
+    subst (λ (z : ℤ). IsFirstLocal (matches sets) z (Some found)) parts (subst (λ (z : ℤ). IsFirstLocal (matches sets) (pos (day * 86_400 + r)) (Some z)) (sym is) there)
+
 -- after a match, on its day
 pub later_today : (sets : Sets) (t second : ℕ) → t < seconds_in_all → matches sets t ≡ true → IsFirstPassing (time_in sets) (t % 86_400 + 1) 86_400 (Some second)
     → IsFirstPassing (matches sets) (t + 1) seconds_in_all (Some (t / 86_400 * 86_400 + second))
@@ -81,24 +101,16 @@ later_today sets t second below holds found =
     first_within (matches sets) (t + 1) ((t / 86_400 + 1) * 86_400) seconds_in_all (t / 86_400 * 86_400 + second) (omega arith)
     (first_here (locals_split sets) (t / 86_400) (t % 86_400 + 1) (t + 1) 86_400 second (omega arith) day (and_parts _ _ both).0 found.1 found)
 
--- a search begins at a number that isn't below 0
-pub begins : (from : ℤ) → pos 0 ≤ℤ from → from ≤ℤ pos seconds_in_all → pos (unsigned_abs (to_z w64 (of_z w64 from))) ≡ from
-begins (pos n) low high =
-    let count = seconds_in_all-is in
-    let small : n < 2 ^ 63 = omega (arith, ints) in
-    rw (to_z_pos w64 n small) refl
-begins (negsuc n) low high = absurd (omega (arith, ints))
-
 -- a search after a match that ends on its day
-pub search_today : (sets : Sets) (t second found : ℕ) → t < seconds_in_all → matches sets t ≡ true → IsFirstPassing (time_in sets) (t % 86_400 + 1) 86_400 (Some second)
-    → found ≡ t / 86_400 * 86_400 + second → IsSearch sets (t + 1) (record { local = Some found; months = 1 })
+pub search_today : (sets : Sets) (t second : ℕ) (found : ℤ) → t < seconds_in_all → matches sets t ≡ true → IsFirstPassing (time_in sets) (t % 86_400 + 1) 86_400 (Some second)
+    → found ≡ pos (t / 86_400 * 86_400 + second) → IsSearch sets (t + 1) (record { local = Some found; months = 1 })
 search_today sets t second found below holds time same =
     let count = seconds_in_all-is in
     let day : t / 86_400 < 84_006 = omega arith in
     let both = sym (split_at (locals_split sets) (t / 86_400) t day refl) ∙ holds in
     let small = time.1 in
     record {
-      first = rw same (later_today sets t second below holds time);
+      first = rw same (first_local (matches sets) (t + 1) (t / 86_400 * 86_400 + second) (later_today sets t second below holds time));
       counted = rw same (sym (looks_today sets t second day (and_parts _ _ both).0 time.0 small));
       few = omega arith;
     }

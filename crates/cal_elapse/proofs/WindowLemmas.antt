@@ -1,5 +1,5 @@
 -- What stays true of the pending instants as matches are placed, and what of them is the first elapse.
-use Rattle.std.proofs.Common.{◌≡◌, ◌⊎◌, ◌↔◌, ℕ, ◌+◌, ◌<◌, ◌≤◌, cond, Bool, true, false, List, [], ◌∷◌, inl, inr, Option, None, Some, ℤ, pos, ◌+ℤ◌, ◌<ℤ◌, ◌≤ℤ◌, int_lt, refl, sym, ap, ◌∙◌, subst, arith, of_z, to_z, w64, slice_get, drop}
+use Rattle.std.proofs.Common.{◌≡◌, ◌⊎◌, ◌↔◌, ℕ, ◌+◌, ◌<◌, ◌≤◌, cond, Bool, true, false, List, [], ◌∷◌, inl, inr, Option, None, Some, ℤ, negsuc, pos, ◌+ℤ◌, ◌<ℤ◌, ◌≤ℤ◌, int_lt, refl, sym, ap, ◌∙◌, subst, arith, slice_get, drop}
 use Rattle.std.proofs.lemmas.Bool.{cases_lt}
 use Rattle.std.proofs.lemmas.Int.{ints}
 use Rattle.std.proofs.lemmas.Map.Keys.{sorted_tail}
@@ -8,11 +8,12 @@ use Rattle.std.specs.Ordering.{int_cmp}
 use Rattle.std.specs.List.Sorted.{IsStrictlySortedBy}
 use Rattle.std.specs.BTreeSet.{insert_key}
 use Rattle.cal_zone.specs.Instant.{IsInstant}
-use Rattle.cal_zone.specs.headline.Local.{seconds_in_all, seconds_in_all-is}
+use Rattle.cal_zone.specs.Local.{IsLocalSecond}
+use Rattle.cal_zone.specs.headline.Local.{seconds_in_all}
 use Rattle.cal_zone.specs.declared.zone.Zone.{Zone}
 use Rattle.cal_zone.specs.headline.Place.{place_of}
 use Rattle.jiff.specs.Types.{TimeZone}
-use Rattle.cal_elapse.proofs.LocalLemmas.{signed_word}
+use Rattle.cal_zone.proofs.LocalLemmas.{local_inside}
 use Rattle.cal_elapse.specs.Near.{IsNear}
 use Rattle.cal_zone.proofs.PlaceLemmas.{within}
 use Rattle.cal_elapse.specs.declared.masks.Masks.{Masks}
@@ -165,20 +166,22 @@ elapse_of : (e : Timed) (bound : ℕ) (i : ℤ) → bound ≤ seconds_in_all →
 elapse_of e bound i h p = record { local = p.local; within = omega arith; is_match = p.is_match; placed = p.placed }
 
 -- with nothing pending all is placed
-pub all_placed : (ahead : Option ℕ) → to_place ahead None ≡ None → ahead ≡ None
+pub all_placed : (ahead : Option ℤ) → to_place ahead None ≡ None → ahead ≡ None
 all_placed ahead h = grind arith
 
-bound_in : (e : Timed) (ahead : Option ℕ) → IsMatchAhead e ahead → bound_of ahead ≤ seconds_in_all
-bound_in e ahead h = grind arith
+bound_in : (e : Timed) (ahead : Option ℤ) → IsMatchAhead e ahead → bound_of ahead ≤ seconds_in_all
+bound_in e ahead h = grind (arith, local_inside)
 
 -- a match that isn't placed has its place above the least member that can be given
-later_place : (ahead : Option ℕ) (x j : ℤ) (t : ℕ) → to_place ahead (Some x) ≡ None → bound_of ahead ≤ t → t < seconds_in_all → pos t ≤ℤ (j +ℤ pos 93_599) → x ≤ℤ j
-later_place ahead x j t full late inside near = grind (arith, none_chosen, int_lt, ints)
+later_place : (ahead : Option ℤ) (x j : ℤ) (t : ℕ) → to_place ahead (Some x) ≡ None → bound_of ahead ≤ t → t < seconds_in_all → pos t ≤ℤ (j +ℤ pos 93_599) → x ≤ℤ j
+later_place None x j t full late inside near = grind arith
+later_place (Some (pos n)) x j t full late inside near = grind (arith, none_chosen, int_lt, ints)
+later_place (Some (negsuc n)) x j t full late inside near = grind (arith, none_chosen, int_lt, ints)
 
 at_least : (x j : ℤ) (xs : List ℤ) → IsStrictlySortedBy int_cmp (x ∷ xs) → Has (x ∷ xs) j → x ≤ℤ j
 at_least x j xs h fact = grind (arith, ints, above_first)
 
-least_place : (e : Timed) (from : ℕ) (ahead : Option ℕ) (last x j : ℤ) (xs : List ℤ) → AreNear e → Windowed e from (bound_of ahead) last (x ∷ xs)
+least_place : (e : Timed) (from : ℕ) (ahead : Option ℤ) (last x j : ℤ) (xs : List ℤ) → AreNear e → Windowed e from (bound_of ahead) last (x ∷ xs)
     → to_place ahead (Some x) ≡ None → last <ℤ j → IsPlace e j → x ≤ℤ j
 least_place e from ahead last x j xs near w full above p =
     elim (cases_lt p.local (bound_of ahead)) [
@@ -187,12 +190,12 @@ least_place e from ahead last x j xs near w full above p =
     ]
 
 -- the first member is the first elapse, once nothing is to be placed before it
-pub full_first : (e : Timed) (from : ℕ) (ahead : Option ℕ) (last : ℤ) (xs : List ℤ) → AreNear e → Windowed e from (bound_of ahead) last xs → IsMatchAhead e ahead
+pub full_first : (e : Timed) (from : ℕ) (ahead : Option ℤ) (last : ℤ) (xs : List ℤ) → AreNear e → Windowed e from (bound_of ahead) last xs → IsMatchAhead e ahead
     → to_place ahead (slice_get xs 0) ≡ None → slice_get (elapses_after (e ∷ []) last) 0 ≡ slice_get xs 0
 full_first e from ahead last [] near w found full =
     let none = all_placed ahead full in
     first_elapse-none (e ∷ []) last (λ i above m. elim m [
-      | inl p ↦ (w.members i).1 (above, subst (λ (o : Option ℕ). IsPlacedBelow e (bound_of o) i) (sym none) (placed_of e i p))
+      | inl p ↦ (w.members i).1 (above, subst (λ (o : Option ℤ). IsPlacedBelow e (bound_of o) i) (sym none) (placed_of e i p))
       | inr n ↦ n
     ])
 full_first e from ahead last (x ∷ xs) near w found full =
@@ -231,32 +234,26 @@ pub none_given : (v : Window) → IsReady v → to_place v.ahead (slice_get v.pe
 none_given v h full none = drop_none (elapses_after (timed_of v ∷ []) v.last) (sym (first_given v h full ∙ none))
 
 -- the place of a local second that lies no farther from a member than a place can is near to the member
-pub put_near : (tz : TimeZone) (local : ℕ) (place member : ℤ) → place_of tz (pos local) ≡ Some place → pos local ≤ℤ (member +ℤ pos 93_599)
-    → member ≤ℤ (pos local +ℤ pos 93_599) → IsNear member place
+pub put_near : (tz : TimeZone) (local place member : ℤ) → place_of tz local ≡ Some place → local ≤ℤ (member +ℤ pos 93_599)
+    → member ≤ℤ (local +ℤ pos 93_599) → IsNear member place
 put_near tz local place member at low high =
-    let near = within tz (pos local) place at in
+    let near = within tz local place at in
     (omega (arith, signed_arith, near), omega (arith, signed_arith, near))
 
 -- the place of a local second that lies above an instant is one
-pub put_instant : (tz : TimeZone) (local : ℕ) (place last : ℤ) → place_of tz (pos local) ≡ Some place → local < seconds_in_all → pos 0 ≤ℤ last → last <ℤ place → IsInstant place
+pub put_instant : (tz : TimeZone) (local place last : ℤ) → place_of tz local ≡ Some place → IsLocalSecond local → pos 0 ≤ℤ last → last <ℤ place → IsInstant place
 put_instant tz local place last at inside low above =
-    let near = within tz (pos local) place at in
-    let count = seconds_in_all-is in
-    (omega (arith, ints), omega (arith, signed_arith, near))
+    let near = within tz local place at in
+    (omega (arith, ints), omega (arith, signed_arith, near, inside.1))
 
--- what is found there is its place
-pub place_found : (tz : TimeZone) (local : ℕ) (signed : ℤ) (found : Option ℤ) → local < seconds_in_all → signed ≡ pos local → found ≡ place_of tz (to_z w64 (of_z w64 signed))
-    → place_of tz (pos local) ≡ found
-place_found tz local signed found inside is at = sym (at ∙ ap (place_of tz) (signed_word local signed inside is))
-
-to_place-near : (x i : ℤ) (local : ℕ) → to_place (Some local) (Some x) ≡ Some local → x ≤ℤ i → pos local ≤ℤ (i +ℤ pos 93_599)
+to_place-near : (x i local : ℤ) → to_place (Some local) (Some x) ≡ Some local → x ≤ℤ i → local ≤ℤ (i +ℤ pos 93_599)
 to_place-near x i local h le = grind (arith, ints)
 
-near_members : (xs : List ℤ) (local : ℕ) → IsStrictlySortedBy int_cmp xs → to_place (Some local) (slice_get xs 0) ≡ Some local → (i : ℤ) → Has xs i → pos local ≤ℤ (i +ℤ pos 93_599)
+near_members : (xs : List ℤ) (local : ℤ) → IsStrictlySortedBy int_cmp xs → to_place (Some local) (slice_get xs 0) ≡ Some local → (i : ℤ) → Has xs i → local ≤ℤ (i +ℤ pos 93_599)
 near_members [] local rises h i m = absurd m
 near_members (x ∷ xs) local rises h i m = to_place-near x i local h (at_least x i xs rises m)
 
 -- a match that is to be placed is no later than a member by more than a place can be
-pub near_ahead : (xs : List ℤ) (local : ℕ) (least : Option ℤ) (b : Bool) → IsStrictlySortedBy int_cmp xs → least ≡ slice_get xs 0 → to_place (Some local) least ≡ cond b (Some local) None → b ≡ true
-    → (i : ℤ) → Has xs i → pos local ≤ℤ (i +ℤ pos 93_599)
+pub near_ahead : (xs : List ℤ) (local : ℤ) (least : Option ℤ) (b : Bool) → IsStrictlySortedBy int_cmp xs → least ≡ slice_get xs 0 → to_place (Some local) least ≡ cond b (Some local) None → b ≡ true
+    → (i : ℤ) → Has xs i → local ≤ℤ (i +ℤ pos 93_599)
 near_ahead xs local least b rises at test holds = near_members xs local rises (ap (to_place (Some local)) (sym at) ∙ (rw holds at test))

@@ -1,8 +1,10 @@
 -- What is pending of an expression's elapses in a zone, while its matching local seconds are placed one after another.
-use Rattle.std.specs.Prelude.{◌≡◌, ◌↔◌, ◌+◌, ◌-◌, ◌<◌, ◌≤◌, cond, ℕ, true, List, Option, None, Some, ℤ, pos, negsuc, ◌+ℤ◌, ◌-ℤ◌, ◌<ℤ◌, ◌≤ℤ◌, int_lt}
+use Rattle.std.specs.Prelude.{◌≡◌, ◌↔◌, ◌+◌, ◌-◌, ◌<◌, ◌≤◌, cond, ℕ, true, List, Option, None, Some, ℤ, pos, negsuc, ◌+ℤ◌, ◌-ℤ◌, ◌<ℤ◌, ◌≤ℤ◌, int_lt, unsigned_abs, IfSome, unwrap_or}
+use Rattle.std.specs.Option.{option_map}
 use Rattle.std.specs.Ordering.{int_cmp}
 use Rattle.std.specs.List.Sorted.{IsStrictlySortedBy}
 use Rattle.std.specs.BTreeSet.{insert_key}
+use Rattle.cal_zone.specs.Local.{IsLocalSecond}
 use Rattle.cal_zone.specs.headline.Local.{seconds_in_all}
 use Rattle.cal_zone.specs.headline.Place.{place_of}
 use Rattle.cal_zone.specs.headline.Zone.{zone_of}
@@ -36,20 +38,18 @@ start_of (pos base) = base - 93_599
 start_of (negsuc n) = 0
 
 -- the first local second that is not placed: the match that was found, or none of them
-abbrev pub bound_of : Option ℕ → ℕ
-bound_of None = seconds_in_all
-bound_of (Some local) = local
+abbrev pub bound_of : Option ℤ → ℕ
+bound_of ahead = unwrap_or (option_map unsigned_abs ahead) seconds_in_all
 
 -- what was found is a match
-abbrev pub IsMatchAhead : Timed → Option ℕ → Type 0
-IsMatchAhead e None = Unit {0}
-IsMatchAhead e (Some local) = (local < seconds_in_all) × (e.matches local ≡ true)
+abbrev pub IsMatchAhead : Timed → Option ℤ → Type 0
+IsMatchAhead e ahead = IfSome ahead (λ local. IsLocalSecond local × (e.matches (unsigned_abs local) ≡ true))
 
 -- the match that is to be placed before the least member can be given
-abbrev pub to_place : Option ℕ → Option ℤ → Option ℕ
+abbrev pub to_place : Option ℤ → Option ℤ → Option ℤ
 to_place None least = None
 to_place (Some local) None = Some local
-to_place (Some local) (Some least) = cond (int_lt least (pos local -ℤ pos 93_599)) None (Some local)
+to_place (Some local) (Some least) = cond (int_lt least (local -ℤ pos 93_599)) None (Some local)
 
 -- a place is put where it is above the last instant given
 abbrev pub with_place : Option ℤ → ℤ → List ℤ → List ℤ
@@ -74,11 +74,11 @@ pub record IsReady (w : Window) : Type 0 where
   pub looked : IsMost (sets_in w.searcher.masks) (start_of w.base) (bound_of w.ahead) w.searcher.most_months
 
 -- all matching local seconds up to this one, which is a match, are placed, and no search was made after it yet
-pub record IsPlacedTo (w : Window) (local : ℕ) : Type 0 where
-  pub windowed : Windowed (timed_of w) (start_of w.base) (local + 1) w.last w.pending
+pub record IsPlacedTo (w : Window) (local : ℤ) : Type 0 where
+  pub windowed : Windowed (timed_of w) (start_of w.base) (unsigned_abs local + 1) w.last w.pending
   pub found : IsMatchAhead (timed_of w) (Some local)
   pub low : pos 0 ≤ℤ w.base
   pub above : w.base ≤ℤ w.last
-  pub begun : start_of w.base ≤ local
-  pub counted : w.searcher.searches ≡ count_from (timed_of w).matches (start_of w.base) (local + 1 - start_of w.base)
-  pub looked : IsMost (sets_in w.searcher.masks) (start_of w.base) local w.searcher.most_months
+  pub begun : start_of w.base ≤ unsigned_abs local
+  pub counted : w.searcher.searches ≡ count_from (timed_of w).matches (start_of w.base) (unsigned_abs local + 1 - start_of w.base)
+  pub looked : IsMost (sets_in w.searcher.masks) (start_of w.base) (unsigned_abs local) w.searcher.most_months

@@ -14,6 +14,7 @@ use crate::month_search::{has_month, next_month};
 
 /// The first day that matches and isn't before `from`, a day of the month or the one after it; `None` where there is
 /// none. Counts the months that it looks at.
+#[tactic(auto, using(crate::proofs::LookLemmas::looks_here, crate::proofs::LookLemmas::looks_on))]
 pub(crate) fn next_day(masks: &Masks, month: Month, from: u32, looks: &mut u32) -> Option<u32>
     requires low { month.first ≤ from }
     requires high { from ≤ month.first + month.length }
@@ -28,6 +29,7 @@ pub(crate) fn next_day(masks: &Masks, month: Month, from: u32, looks: &mut u32) 
 }
 
 /// The first one in the month.
+#[tactic(auto, using(crate::proofs::MonthLemmas::month_bounds))]
 fn next_in_month(masks: &Masks, month: Month, from: u32, looks: &mut u32) -> Option<u32>
     requires low { month.first ≤ from }
     requires high { from ≤ month.first + month.length }
@@ -45,6 +47,7 @@ fn next_in_month(masks: &Masks, month: Month, from: u32, looks: &mut u32) -> Opt
 }
 
 /// The first one from a month's first day on.
+#[tactic(auto, using(crate::proofs::MonthLemmas::month_bounds, crate::proofs::CountLemmas::count_bounds))]
 fn next_from_month(masks: &Masks, from: u32, looks: &mut u32) -> Option<u32>
     requires from_in { from ≤ 2_760 }
     requires few { looks.old ≤ from }

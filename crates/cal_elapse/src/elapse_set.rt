@@ -35,7 +35,7 @@ impl<'z> ElapseSet<'z> {
         ensures same { self.new ≡ self.old }
     {
         match self.zone.local_at(instant) {
-            Some(local) => is_match(&self.masks, local.unsigned_abs()),
+            Some(local) => is_match(&self.masks, local),
             None => false,
         }
     }

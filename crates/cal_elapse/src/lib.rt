@@ -7,7 +7,6 @@ mod day_search;
 mod elapse_set;
 mod elapses;
 pub mod laws;
-mod local;
 mod masks;
 mod masks_of;
 mod matched;

@@ -1,23 +1,24 @@
 //! Whether a local second matches, seen by looking at it (systemd.time(7), Calendar Events).
 
-ghost use Rattle.std.specs.Prelude.{◌≡◌, ◌<◌};
-ghost use Rattle.cal_zone.specs.headline.Local.{seconds_in_all};
+ghost use Rattle.std.specs.Prelude.{◌≡◌, ◌<◌, unsigned_abs};
+ghost use Rattle.cal_zone.specs.Local.{IsLocalSecond};
 ghost use Rattle.cal_elapse.specs.Masks.{sets_in};
 ghost use Rattle.cal_elapse.specs.Months.{day_in};
 ghost use Rattle.cal_spec.specs.headline.Match.{matches, time_in};
 
 use crate::Masks;
 use crate::bits::has_bit;
-use crate::local::{day_of, second_of_day};
 use crate::month::month_of_day;
 use crate::month_days::MonthDays;
 use crate::month_search::has_month;
 use crate::time_search::has_minute;
+use cal_zone::{day_of, second_of_day};
 
 /// Whether a local second matches. Its time of day is looked at first, as that costs the least.
-pub(crate) fn is_match(masks: &Masks, local: u64) -> bool
-    requires { local < seconds_in_all }
-    ensures { result ≡ matches (sets_in masks.now) local }
+#[tactic(auto, using(cal_zone::proofs::LocalLemmas::local_arith, crate::proofs::SearchLemmas::locals_at, std::proofs::lemmas::Bool::and_right))]
+pub(crate) fn is_match(masks: &Masks, local: i64) -> bool
+    requires { IsLocalSecond local }
+    ensures { result ≡ matches (sets_in masks.now) (unsigned_abs local) }
 {
     has_time(masks, second_of_day(local)) && has_day(masks, day_of(local))
 }
@@ -31,6 +32,7 @@ fn has_time(masks: &Masks, second: u32) -> bool
 }
 
 /// Whether a day matches, by its number from 1970-01-01 on, which is below 84,006.
+#[tactic(auto, using(crate::proofs::MonthLemmas::month_bounds))]
 fn has_day(masks: &Masks, day: u32) -> bool
     requires { day < 84_006 }
     ensures { result ≡ day_in (sets_in masks.now) day }

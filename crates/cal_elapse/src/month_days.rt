@@ -20,6 +20,7 @@ pub(crate) struct MonthDays {
 impl MonthDays {
     /// The days of a month whose year and number are members: the mask of days, and the mask of weekdays turned so
     /// that it begins with that of the month's first day.
+    #[tactic(auto, using(crate::proofs::MonthLemmas::month_bounds))]
     pub(crate) fn of(masks: &Masks, month: Month, looks: &mut u32) -> MonthDays
         requires member { month_in (sets_in masks.now) month.index ≡ true }
         requires few { looks.old < 2_760 }

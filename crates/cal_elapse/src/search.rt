@@ -1,6 +1,7 @@
 //! The search for the next matching local second: the next day that matches, and on it the next time of day.
-ghost use Rattle.std.specs.Prelude.{◌≡◌, ◌+◌, ◌≤◌, ◌<◌, true, pos, ◌≤ℤ◌, IfSome, unsigned_abs};
+ghost use Rattle.std.specs.Prelude.{◌≡◌, ◌+◌, ◌*◌, ◌≤◌, ◌<◌, true, pos, ◌≤ℤ◌, unsigned_abs};
 ghost use Rattle.std.specs.Option.{option_map};
+ghost use Rattle.cal_zone.specs.Local.{IsLocalSecond};
 ghost use Rattle.cal_zone.specs.headline.Local.{seconds_in_all};
 ghost use Rattle.cal_elapse.specs.Looks.{IsSearch, month_looks};
 ghost use Rattle.cal_elapse.specs.Masks.{sets_in};
@@ -10,10 +11,9 @@ ghost use Rattle.cal_spec.specs.headline.Match.{matches, time_in};
 
 use crate::Masks;
 use crate::day_search::next_day;
-use crate::local::{day_of, second_of_day, signed};
 use crate::month::month_of_day;
 use crate::time_search::{first_second, next_second};
-use cal_zone::{DAY, DAYS};
+use cal_zone::{DAY, LOCAL_END, day_of, second_of_day};
 
 /// What a search found.
 #[derive(Clone, Copy, Debug, PartialEq, Eq)]
@@ -25,17 +25,9 @@ pub struct Found {
     pub months: u32,
 }
 
-/// The same, with the local second as a whole number, as the search itself has it.
-#[derive(Clone, Copy)]
-pub struct Next {
-    /// The least matching local second; `None` where there is none.
-    pub local: Option<u64>,
-    /// How many months the search looked at.
-    pub months: u32,
-}
-
 /// The least local second of the years 1970 to 2199 that matches and isn't below `from`, which is from 0 to
 /// 7,258,118,400 (systemd.time(7), Calendar Events), with the number of months looked at.
+#[tactic(auto, using(cal_zone::proofs::LocalLemmas::local_arith, crate::proofs::LookLemmas::looks_most))]
 pub fn next_local(masks: &Masks, from: i64) -> Found
     requires low { pos 0 ≤ℤ from }
     requires high { from ≤ℤ pos seconds_in_all }
@@ -44,28 +36,9 @@ pub fn next_local(masks: &Masks, from: i64) -> Found
         ≡ month_looks (sets_in masks.now) (unsigned_abs from) (option_map unsigned_abs result.local) }
     ensures few { result.months ≤ 2_760 }
 {
-    let next = next_at(masks, from.unsigned_abs());
-    let months = next.months;
-    match next.local {
-        Some(local) => Found {
-            local: Some(signed(local)),
-            months,
-        },
-        None => Found {
-            local: None,
-            months,
-        },
-    }
-}
-
-/// What it finds from a local second on.
-pub(crate) fn next_at(masks: &Masks, from: u64) -> Next
-    requires { from ≤ seconds_in_all }
-    ensures { IsSearch (sets_in masks.now) from result }
-{
     let mut months = 0;
-    if from / DAY == DAYS {
-        return Next {
+    if from == LOCAL_END {
+        return Found {
             local: None,
             months,
         };
@@ -80,12 +53,12 @@ pub(crate) fn next_at(masks: &Masks, from: u64) -> Next
     ) {
         Some(found) => {
             let second = second_on(found, day, today, first_second(masks));
-            Next {
-                local: Some(u64::from(found) * DAY + u64::from(second)),
+            Found {
+                local: Some(local_on(found, second)),
                 months,
             }
         }
-        None => Next {
+        None => Found {
             local: None,
             months,
         },
@@ -94,18 +67,28 @@ pub(crate) fn next_at(masks: &Masks, from: u64) -> Next
 
 /// The next match after a match. Where it lies on the same day, the one month looked at is that of the match, whose
 /// year and number are members.
-pub(crate) fn next_after(masks: &Masks, local: u64) -> Next
-    requires inside { local < seconds_in_all }
-    requires is_match { matches (sets_in masks.now) local ≡ true }
-    ensures { IsSearch (sets_in masks.now) (local + 1) result }
+#[tactic(auto, using(cal_zone::proofs::LocalLemmas::local_arith))]
+pub(crate) fn next_after(masks: &Masks, local: i64) -> Found
+    requires inside { IsLocalSecond local }
+    requires is_match { matches (sets_in masks.now) (unsigned_abs local) ≡ true }
+    ensures { IsSearch (sets_in masks.now) (unsigned_abs local + 1) result }
 {
     match second_after(masks, second_of_day(local)) {
-        Some(second) => Next {
-            local: Some(local / DAY * DAY + u64::from(second)),
+        Some(second) => Found {
+            local: Some(local_on(day_of(local), second)),
             months: 1,
         },
-        None => next_at(masks, local + 1),
+        None => next_local(masks, local + 1),
     }
+}
+
+/// The local second of a day, by its number, and a time of day.
+fn local_on(day: u32, second: u32) -> i64
+    requires day { day < 84_006 }
+    requires second { second < 86_400 }
+    ensures { result ≡ pos (day * 86_400 + second) }
+{
+    i64::from(day) * DAY + i64::from(second)
 }
 
 /// The next time of day after one; `None` where the day ends before.
@@ -113,7 +96,7 @@ fn second_after(masks: &Masks, second: u32) -> Option<u32>
     requires { second < 86_400 }
     ensures { IsFirstPassing (time_in (sets_in masks.now)) (second + 1) 86_400 result }
 {
-    if u64::from(second) + 1 < DAY {
+    if i64::from(second) + 1 < DAY {
         next_second(masks, second + 1)
     } else {
         None

@@ -1,6 +1,8 @@
 //! The search of an expression's matches, whose calls are counted.
 
-ghost use Rattle.std.specs.Prelude.{◌≡◌, ◌+◌, ◌-◌, ◌<◌, ◌≤◌, true, false, max, None, IfSome, unwrap_or};
+ghost use Rattle.std.specs.Prelude.{◌≡◌, ◌+◌, ◌-◌, ◌<◌, ◌≤◌, ◌≤ℤ◌, pos, true, false, max, None, IfSome, unsigned_abs, unwrap_or};
+ghost use Rattle.std.specs.Option.{option_map};
+ghost use Rattle.cal_zone.specs.Local.{IsLocalSecond};
 ghost use Rattle.cal_zone.specs.headline.Local.{seconds_in_all};
 ghost use Rattle.cal_elapse.specs.Count.{count_from};
 ghost use Rattle.cal_elapse.specs.Left.{IsLeft, IsMoreLeft, IsNextLeft, IsRest, NoneLeft};
@@ -13,17 +15,17 @@ ghost use Rattle.cal_spec.specs.headline.Members.{sets_of};
 
 use crate::Masks;
 use crate::bits::{lowest_bit, with_bit, without_lowest};
-use crate::search::{Next, next_after, next_at};
+use crate::search::{Found, next_after, next_local};
 use cal_spec::Expr;
-use cal_zone::{DAY, DAYS};
+use cal_zone::{LOCAL_END, second_of_day};
 
 /// Where a search begins.
 #[derive(Drop)]
 pub enum Start {
     /// At a local second, from 0 to 7,258,118,400.
-    At(u64),
+    At(i64),
     /// After a match. Its day matches, so that no day is sought where the next match lies on it too.
-    After(u64),
+    After(i64),
 }
 
 /// What is left of a match's minute, once it was searched.
@@ -32,7 +34,8 @@ pub struct RestOfMinute {
     /// A bit for each match after it: bit i for the local second i + 1 after it.
     pub bits: u64,
     /// The last of them; the match itself where there is none.
-    pub last: u64,
+    pub last: i64,
+    ghost last_in: { IsLocalSecond last },
 }
 
 /// The masks of an expression, how often they were searched, and the most months that one of these searches looked at.
@@ -45,13 +48,15 @@ pub struct Searcher {
     searches: u64,
     most_months: u32,
     /// The match that was found last; before any the end of the local seconds.
-    found: u64,
+    found: i64,
     /// The local second of the lowest bit of `left`.
-    from: u64,
+    from: i64,
     /// A bit for each match after the last one in its minute.
     left: u64,
     ghost few_months: { most_months ≤ 2_760 },
-    ghost is_left: { IsLeft masks found from left },
+    ghost found_low: { pos 0 ≤ℤ found },
+    ghost from_low: { pos 0 ≤ℤ from },
+    ghost is_left: { IsLeft masks (unsigned_abs found) (unsigned_abs from) left },
 }
 
 impl Searcher {
@@ -65,7 +70,7 @@ impl Searcher {
             masks: Masks::of(expr),
             searches: 0,
             most_months: 0,
-            found: DAYS * DAY,
+            found: LOCAL_END,
             from: 0,
             left: 0,
         }
@@ -89,7 +94,7 @@ impl Searcher {
     /// The least matching local second from the start on, with the months looked at. Each call is one search, and it
     /// answers what `next_local` does from there on.
     #[inline(always)]
-    pub fn search(&mut self, start: Start) -> Next
+    pub fn search(&mut self, start: Start) -> Found
         requires start { CanStart (matches (sets_in self.old.masks)) start }
         requires few { self.old.searches ≤ seconds_in_all }
         ensures found { IsSearch (sets_in self.old.masks) (begin_of start) result }
@@ -108,24 +113,26 @@ impl Searcher {
     }
 
     /// Whether more is left of the minute of a match, as far as that is known.
-    pub fn has_left(&self, local: u64) -> bool
-        ensures more { result ≡ true → IsMoreLeft (matches (sets_in self.now.masks)) local }
-        ensures none { result ≡ false → local ≡ self.now.found → NoneLeft (matches (sets_in self.now.masks)) local }
+    pub fn has_left(&self, local: i64) -> bool
+        ensures more { result ≡ true → IsMoreLeft (matches (sets_in self.now.masks)) (unsigned_abs local) }
+        ensures none { result ≡ false → local ≡ self.now.found
+            → NoneLeft (matches (sets_in self.now.masks)) (unsigned_abs local) }
     {
         self.left != 0 && self.found == local
     }
 
     /// Searches on after a match to the end of its minute, where it is known what is left of that. Each bit is what one
     /// search found.
-    pub fn search_left(&mut self, local: u64) -> RestOfMinute
+    pub fn search_left(&mut self, local: i64) -> RestOfMinute
         requires start { CanStart (matches (sets_in self.old.masks)) (Start.After local) }
-        requires few { self.old.searches ≤ local + 1 }
-        ensures rest { IsRest (matches (sets_in self.old.masks)) local result.bits result.last }
-        ensures whole { local ≡ self.old.found → NoneLeft (matches (sets_in self.old.masks)) result.last }
+        requires few { self.old.searches ≤ unsigned_abs local + 1 }
+        ensures rest { IsRest (matches (sets_in self.old.masks)) (unsigned_abs local) result.bits (unsigned_abs result.last) }
+        ensures whole { local ≡ self.old.found → NoneLeft (matches (sets_in self.old.masks)) (unsigned_abs result.last) }
         ensures masks { self.new.masks ≡ self.old.masks }
         ensures counted { self.new.searches ≡ self.old.searches
-            + count_from (matches (sets_in self.old.masks)) (local + 1) (result.last - local) }
-        ensures most { IsMostAfter (sets_in self.old.masks) local result.last self.old.most_months self.new.most_months }
+            + count_from (matches (sets_in self.old.masks)) (unsigned_abs local + 1) (unsigned_abs result.last - unsigned_abs local) }
+        ensures most { IsMostAfter (sets_in self.old.masks) (unsigned_abs local) (unsigned_abs result.last)
+            self.old.most_months self.new.most_months }
     {
         let mut bits = 0;
         let mut last = local;
@@ -138,16 +145,20 @@ impl Searcher {
 
     /// The next match in the minute of a match, by one search; `None`, without a search, where none is known to be left.
     #[inline(always)]
-    fn next_left(&mut self, local: u64) -> Option<u64>
+    fn next_left(&mut self, local: i64) -> Option<i64>
         requires start { CanStart (matches (sets_in self.old.masks)) (Start.After local) }
         requires few { self.old.searches ≤ seconds_in_all }
-        ensures next { IsNextLeft (matches (sets_in self.old.masks)) local result }
-        ensures none { result ≡ None → local ≡ self.old.found → NoneLeft (matches (sets_in self.old.masks)) local }
+        ensures inside { IfSome result IsLocalSecond }
+        ensures next { IsNextLeft (matches (sets_in self.old.masks)) (unsigned_abs local) (option_map unsigned_abs result) }
+        ensures none { result ≡ None → local ≡ self.old.found
+            → NoneLeft (matches (sets_in self.old.masks)) (unsigned_abs local) }
         ensures last { local ≡ self.old.found → unwrap_or result local ≡ self.new.found }
         ensures masks { self.new.masks ≡ self.old.masks }
         ensures counted { self.new.searches ≡ self.old.searches
-            + count_from (matches (sets_in self.old.masks)) (local + 1) (unwrap_or result local - local) }
-        ensures most { IsMostAfter (sets_in self.old.masks) local (unwrap_or result local) self.old.most_months self.new.most_months }
+            + count_from (matches (sets_in self.old.masks)) (unsigned_abs local + 1)
+            (unsigned_abs (unwrap_or result local) - unsigned_abs local) }
+        ensures most { IsMostAfter (sets_in self.old.masks) (unsigned_abs local) (unsigned_abs (unwrap_or result local))
+            self.old.most_months self.new.most_months }
     {
         if !self.has_left(local) {
             return None;
@@ -156,25 +167,26 @@ impl Searcher {
     }
 
     /// The least match from a local second on.
-    fn find_at(&mut self, local: u64) -> Next
-        requires { local ≤ seconds_in_all }
-        ensures found { IsSearch (sets_in self.old.masks) local result }
+    fn find_at(&mut self, local: i64) -> Found
+        requires low { pos 0 ≤ℤ local }
+        requires high { local ≤ℤ pos seconds_in_all }
+        ensures found { IsSearch (sets_in self.old.masks) (unsigned_abs local) result }
         ensures masks { self.new.masks ≡ self.old.masks }
         ensures searches { self.new.searches ≡ self.old.searches }
         ensures most { self.new.most_months ≡ self.old.most_months }
         ensures last { IfSome result.local (λ local. local ≡ self.new.found) }
     {
-        let found = next_at(&self.masks, local);
+        let found = next_local(&self.masks, local);
         self.keep(found.local);
         found
     }
 
     /// The next match after a match: the next one in its minute, if that is the match that was found last.
     #[inline(always)]
-    fn find_after(&mut self, local: u64) -> Next
-        requires inside { local < seconds_in_all }
-        requires is_match { matches (sets_in self.old.masks) local ≡ true }
-        ensures found { IsSearch (sets_in self.old.masks) (local + 1) result }
+    fn find_after(&mut self, local: i64) -> Found
+        requires inside { IsLocalSecond local }
+        requires is_match { matches (sets_in self.old.masks) (unsigned_abs local) ≡ true }
+        ensures found { IsSearch (sets_in self.old.masks) (unsigned_abs local + 1) result }
         ensures masks { self.new.masks ≡ self.old.masks }
         ensures searches { self.new.searches ≡ self.old.searches }
         ensures most { self.new.most_months ≡ self.old.most_months }
@@ -190,28 +202,29 @@ impl Searcher {
 
     /// The next match in the minute of the match that was found last. The one month looked at is that of both.
     #[inline(always)]
-    fn find_left(&mut self) -> Next
+    fn find_left(&mut self) -> Found
         requires { 0 < self.old.left }
-        ensures found { IsSearch (sets_in self.old.masks) (self.old.found + 1) result }
+        ensures found { IsSearch (sets_in self.old.masks) (unsigned_abs self.old.found + 1) result }
         ensures masks { self.new.masks ≡ self.old.masks }
         ensures searches { self.new.searches ≡ self.old.searches }
         ensures most { self.new.most_months ≡ self.old.most_months }
         ensures last { IfSome result.local (λ local. local ≡ self.new.found) }
     {
         let bit = lowest_bit(self.left);
-        let local = self.from + u64::from(bit);
+        let local = self.from + i64::from(bit);
         self.left = without_lowest(self.left);
         self.found = local;
-        Next {
+        Found {
             local: Some(local),
             months: 1,
         }
     }
 
     /// Keeps a match as the one found last, with what is left of its minute.
-    fn keep(&mut self, found: Option<u64>)
+    #[tactic(auto, using(cal_zone::proofs::LocalLemmas::local_arith))]
+    fn keep(&mut self, found: Option<i64>)
         requires { IfSome found
-            (λ local. (local < seconds_in_all) × (matches (sets_in self.old.masks) local ≡ true)) }
+            (λ local. IsLocalSecond local × (matches (sets_in self.old.masks) (unsigned_abs local) ≡ true)) }
         ensures masks { self.new.masks ≡ self.old.masks }
         ensures searches { self.new.searches ≡ self.old.searches }
         ensures most { self.new.most_months ≡ self.old.most_months }
@@ -222,6 +235,6 @@ impl Searcher {
         };
         self.found = local;
         self.from = local + 1;
-        self.left = self.masks.seconds >> (local % 60 + 1);
+        self.left = self.masks.seconds >> (second_of_day(local) % 60 + 1);
     }
 }

@@ -1,6 +1,7 @@
 //! The matches of an expression in a zone, placed one after another.
 
-ghost use Rattle.std.specs.Prelude.{◌≡◌, ◌<◌, ◌≤◌, ℤ, pos, ◌+ℤ◌, ◌-ℤ◌, ◌≤ℤ◌, cond};
+ghost use Rattle.std.specs.Prelude.{◌≡◌, ◌+◌, ◌*◌, ◌/◌, ◌≤◌, ℤ, pos, ◌+ℤ◌, ◌≤ℤ◌, cond, unsigned_abs};
+ghost use Rattle.cal_zone.specs.Local.{IsLocalSecond};
 ghost use Rattle.cal_zone.specs.headline.Local.{seconds_in_all};
 ghost use Rattle.cal_zone.specs.headline.Place.{place_of};
 ghost use Rattle.cal_zone.specs.headline.Zone.{zone_of};
@@ -8,14 +9,13 @@ ghost use Rattle.cal_rising.specs.headline.Elements.{Has};
 ghost use Rattle.cal_elapse.specs.Window.{start_of, to_place, with_place};
 
 use crate::Pending;
-use crate::local::signed;
 use crate::searcher::{Searcher, Start};
 use cal_spec::Expr;
 use cal_zone::{Instant, Placer, Zone};
 use std::alloc::{AllocError, Global};
 
 /// How far a place can lie from its local second.
-const FARTHEST: u64 = 93_599;
+const FARTHEST: i64 = 93_599;
 
 /// What is pending of the elapses of an expression in a zone. Every public call leaves it ready, as `IsReady` says.
 #[derive(Drop)]
@@ -25,7 +25,7 @@ pub struct Window<'z> {
     /// What all elapses are later than.
     base: i64,
     /// The match that was found and isn't placed yet.
-    ahead: Option<u64>,
+    ahead: Option<i64>,
     /// The instant that was given last, or the base.
     pub last: i64,
     /// The places above `last` of the matches before the one ahead.
@@ -75,6 +75,7 @@ impl<'z> Window<'z> {
     }
 
     /// Places matches until the least pending instant can be given.
+    #[tactic(auto, using(cal_zone::proofs::LocalLemmas::local_arith, crate::proofs::ReadyLemmas::few_searches, crate::proofs::ReadyLemmas::placed_is_match))]
     pub fn fill(&mut self)
         requires { IsReady self.old }
         ensures ready { IsReady self.new }
@@ -99,28 +100,28 @@ impl<'z> Window<'z> {
 
     /// Places what is left of the minute of a match that is placed, where all of that is to be placed and can be at once.
     /// Gives the last match that is placed.
-    fn place_rest(&mut self, local: u64) -> u64
+    #[tactic(auto, using(cal_zone::proofs::LocalLemmas::local_arith, crate::proofs::ReadyLemmas::few_searches, crate::proofs::ReadyLemmas::placed_is_match))]
+    fn place_rest(&mut self, local: i64) -> i64
         requires { IsPlacedTo self.old local }
         ensures placed { IsPlacedTo self.new result }
-        ensures on { local ≤ result }
+        ensures on { local ≤ℤ result }
         ensures masks { self.new.searcher.masks ≡ self.old.searcher.masks }
         ensures timed { timed_of self.new ≡ timed_of self.old }
         ensures base { self.new.base ≡ self.old.base }
         ensures last { self.new.last ≡ self.old.last }
     {
-        let end = local / 60 * 60 + 59;
+        let end = minute_end(local);
         let least = self.pending.least();
         if !self.searcher.has_left(local) || !is_to_place(end, least) {
             return local;
         }
-        let (from, to) = (signed(local), signed(end));
-        let Some(offset) = self.zone.offset_over(from, to) else {
+        let Some(offset) = self.zone.offset_over(local, end) else {
             return local;
         };
-        let place = from - offset;
+        let place = local - offset;
         match least {
             // No place of what is left is above the last instant given.
-            None if to - offset <= self.last => self.searcher.search_left(local).last,
+            None if end - offset <= self.last => self.searcher.search_left(local).last,
             // All that is left lies after the least pending instant, as the match lies at it or after it.
             Some(least) if least <= place => {
                 let rest = self.searcher.search_left(local);
@@ -154,43 +155,44 @@ impl<'z> Window<'z> {
 }
 
 /// The local second that the first search begins at: no place of an earlier one is above the base.
-fn first_local(base: Instant) -> u64
-    ensures start { result ≡ start_of base.secs }
-    ensures inside { result ≤ seconds_in_all }
+#[tactic(auto, using(cal_zone::proofs::LocalLemmas::local_arith))]
+fn first_local(base: Instant) -> i64
+    ensures start { result ≡ pos (start_of base.secs) }
+    ensures inside { result ≤ℤ pos seconds_in_all }
 {
-    base.secs().unsigned_abs().saturating_sub(FARTHEST)
+    (base.secs() - FARTHEST).max(0)
+}
+
+/// The last local second of the minute of a local second.
+fn minute_end(local: i64) -> i64
+    requires { IsLocalSecond local }
+    ensures { result ≡ pos (unsigned_abs local / 60 * 60 + 59) }
+{
+    local / 60 * 60 + 59
 }
 
 /// Whether a match is to be placed before the least pending instant can be given: it could be placed at that instant or
 /// before it.
-fn is_to_place(local: u64, least: Option<i64>) -> bool
-    requires { local < seconds_in_all }
+fn is_to_place(local: i64, least: Option<i64>) -> bool
+    requires { IsLocalSecond local }
     ensures { to_place (Some local) least ≡ cond result (Some local) None }
 {
     match least {
-        Some(instant) => earliest_place(local) <= instant,
+        Some(instant) => local - FARTHEST <= instant,
         None => true,
     }
 }
 
-/// The earliest instant that can be the place of a local second.
-fn earliest_place(local: u64) -> i64
-    requires { local < seconds_in_all }
-    ensures { result ≡ pos local -ℤ pos 93_599 }
-{
-    signed(local) - signed(FARTHEST)
-}
-
 /// Puts the place of a local second where it is above the last instant given.
-fn put_place(pending: &mut Pending, placer: &mut Placer<'_>, local: u64, last: i64)
-    requires local_in { local < seconds_in_all }
+fn put_place(pending: &mut Pending, placer: &mut Placer<'_>, local: i64, last: i64)
+    requires local_in { IsLocalSecond local }
     requires last_in { pos 0 ≤ℤ last }
-    requires before { (i : ℤ) → Has pending.old i → i ≤ℤ (pos local +ℤ pos 93_599) }
-    requires near { (i : ℤ) → Has pending.old i → pos local ≤ℤ (i +ℤ pos 93_599) }
-    ensures put { pending.new ≡ with_place (place_of (zone_of placer.old) (pos local)) last pending.old }
+    requires before { (i : ℤ) → Has pending.old i → i ≤ℤ (local +ℤ pos 93_599) }
+    requires near { (i : ℤ) → Has pending.old i → local ≤ℤ (i +ℤ pos 93_599) }
+    ensures put { pending.new ≡ with_place (place_of (zone_of placer.old) local) last pending.old }
     ensures zone { placer.new ≡ placer.old }
 {
-    let Some(instant) = placer.place(signed(local)) else {
+    let Some(instant) = placer.place(local) else {
         return;
     };
     if instant <= last {

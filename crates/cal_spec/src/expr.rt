@@ -1,6 +1,6 @@
 //! Calendar expressions as values (systemd.time(7), Calendar Events).
 
-ghost use Rattle.std.specs.Prelude.{◌≡◌, ◌<◌, ◌≤ℤ◌, ◌<ℤ◌, pos, unsigned_abs, option_copied, option_map, IfSome};
+ghost use Rattle.std.specs.Prelude.{◌≡◌, ◌<◌, unsigned_abs, option_copied, option_map, IfSome};
 ghost use Rattle.jiff.specs.Words.{IsOffsetSeconds};
 ghost use Rattle.cal_spec.specs.NormalForm.{AreParts, normal_component, normal_second};
 ghost use Rattle.cal_spec.specs.headline.NormalForm.{normal_from_end};
@@ -35,7 +35,7 @@ impl Model for Expr {
 }
 
 impl Expr {
-    ghost use Rattle.cal_zone.specs.headline.Local.{seconds_in_all};
+    ghost use Rattle.cal_zone.specs.Local.{IsLocalSecond};
     ghost use Rattle.cal_spec.specs.Expr.{IsExpr, component};
     ghost use Rattle.cal_spec.specs.Fields.{fields_of};
     ghost use Rattle.cal_spec.specs.headline.Match.{matches};
@@ -70,11 +70,10 @@ impl Expr {
     /// Whether the expression matches a local second of the years 1970 to 2199, counted from 1970-01-01 00:00:00 on
     /// the clock: whether its weekday, its date and its time are the expression's.
     pub fn has(&self, local: i64) -> bool
-        requires from { pos 0 ≤ℤ local }
-        requires before { local <ℤ pos seconds_in_all }
+        requires { IsLocalSecond local }
         ensures { result ≡ matches (sets_of self.now) (unsigned_abs local) }
     {
-        has_local(&self.fields, local.unsigned_abs())
+        has_local(&self.fields, local)
     }
 
     /// Whether a number is a member of a field: of the day, whether it is a day of the month, or its count from the

@@ -1,8 +1,8 @@
 //! Which local seconds an expression matches (systemd.time(7), Calendar Events).
 
-ghost use Rattle.std.specs.Prelude.{◌≡◌, ◌<◌, ◌≤◌, false, length, slice_index_or};
+ghost use Rattle.std.specs.Prelude.{◌≡◌, ◌<◌, false, unsigned_abs, slice_index_or};
 ghost use Rattle.jiff.specs.Words.{monday_zero};
-ghost use Rattle.cal_zone.specs.headline.Local.{seconds_in_all};
+ghost use Rattle.cal_zone.specs.Local.{IsLocalSecond};
 ghost use Rattle.cal_spec.specs.Fields.{fields_of};
 ghost use Rattle.cal_spec.specs.headline.Match.{date_in, day_number, matches, time_in};
 ghost use Rattle.cal_spec.specs.headline.Members.{sets_of};
@@ -10,16 +10,16 @@ ghost use Rattle.cal_spec.specs.headline.Members.{sets_of};
 use crate::fields::{Fields, TimeFields};
 use crate::members::component_has;
 use crate::slot::{Slot, day_slot};
-use cal_zone::{DAY, date_of_day};
+use cal_zone::{date_of_day, day_of, second_of_day};
 use jiff::civil::{Date, Weekday};
 
 /// Whether a local second of the years 1970 to 2199 matches: whether its weekday, date and time all do.
-#[tactic(auto, unfolding(crate::specs::headline::Match::matches))]
-pub fn has_local(fields: &Fields, local: u64) -> bool
-    requires { local < seconds_in_all }
-    ensures { result ≡ matches (sets_of (fields_of fields.now)) local }
+#[tactic(auto, using(cal_zone::proofs::LocalLemmas::local_arith), unfolding(crate::specs::headline::Match::matches))]
+pub fn has_local(fields: &Fields, local: i64) -> bool
+    requires { IsLocalSecond local }
+    ensures { result ≡ matches (sets_of (fields_of fields.now)) (unsigned_abs local) }
 {
-    has_date(fields, date_of_day(local / DAY)) && has_time(fields, local % DAY)
+    has_date(fields, date_of_day(day_of(local))) && has_time(fields, second_of_day(local))
 }
 
 /// Whether the date is one of the expression's.
@@ -46,7 +46,7 @@ fn has_weekday(weekdays: &[bool; 7], weekday: Weekday) -> bool
 
 /// Whether that many seconds after midnight are a time of the expression's.
 #[tactic(auto, unfolding(crate::specs::headline::Match::time_in, crate::specs::headline::Members::sets_of, crate::specs::Fields::fields_of))]
-fn has_time(fields: &Fields, second: u64) -> bool
+fn has_time(fields: &Fields, second: u32) -> bool
     requires { second < 86_400 }
     ensures { result ≡ time_in (sets_of (fields_of fields.now)) second }
 {

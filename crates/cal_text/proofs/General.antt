@@ -1,9 +1,9 @@
 -- Lemmas that name nothing of this project, for all crates. A step of a single proof stays beside it.
-use Rattle.std.proofs.Common.{Bool, List, None, Option, Some, [], ap, arith, cond, drop, false, if◌then◌else◌, int_eq, int_lt, length, nat_le, refl, replicate, slice_get, suc, sym, true, zero, ℕ, ℤ, ◌++◌, ◌<ℤ◌, ◌<◌, ◌∙◌, ◌∷◌, ◌≡◌, ◌≤ℤ◌, Err, FitsSigned, IfOk, IfSome, IsSome, Ok, Result, add-one, append-nil, append_assoc, ap₂, decimal, drop-cons, get_or, inl, inr, leb, length-drop, length-take, map, max, min, nat_eq, nat_lt, negsuc, not, of_z, option_map, pos, pow_pos, reverse, subst, take, to_z, unsigned_abs, unwrap_or, ◌%◌, ◌&&◌, ◌*◌, ◌+◌, ◌-◌, ◌/◌, ◌==◌, ◌^◌, ◌||◌, ◌≢◌, ◌≤◌, ◌⊎◌}
+use Rattle.std.proofs.Common.{Bool, List, None, Option, Some, [], ap, arith, cond, drop, false, if◌then◌else◌, int_eq, int_lt, length, nat_le, refl, replicate, slice_get, suc, sym, true, zero, ℕ, ℤ, ◌++◌, ◌+ℤ◌, ◌-ℤ◌, ◌<ℤ◌, ◌<◌, ◌∙◌, ◌∷◌, ◌≡◌, ◌≤ℤ◌, Err, FitsSigned, IfOk, IfSome, IsSome, Ok, Result, add-one, append-nil, append_assoc, ap₂, decimal, drop-cons, get_or, inl, inr, leb, length-drop, length-take, map, max, min, nat_eq, nat_lt, negsuc, not, of_z, option_map, pos, pow_pos, reverse, subst, take, to_z, unsigned_abs, unwrap_or, w64, ◌%◌, ◌&&◌, ◌*◌, ◌+◌, ◌-◌, ◌/◌, ◌==◌, ◌^◌, ◌||◌, ◌≢◌, ◌≤◌, ◌⊎◌}
 use lib.Bits.{bit_or}
 use lib.Lanes.{fold_l}
 use Rattle.std.proofs.lemmas.Bool.{or_from, and_from, le-leb, or_parts, and_parts, cases_lt, false≢true, leb-true, ltb-false, ltb-true, not-true}
-use Rattle.std.proofs.lemmas.Int.{ints, to_z-of_z}
+use Rattle.std.proofs.lemmas.Int.{ints, to_z-of_z, to_z_pos}
 use Rattle.std.proofs.lemmas.List.{length-append, append-nil, append_assoc, drop-append-le, drop_all, get_or-reverse, get_or-take, length-reverse, length-take-le, map-append, reverse-append, reverse-reverse, take-append-drop, take_more}
 use Rattle.std.proofs.lemmas.List.Folds.{list_any-append, list_all-append, length-flat_map-take}
 use Rattle.std.proofs.lemmas.Str.Parse.{digit_from_value}
@@ -165,10 +165,22 @@ lt_of_pos at t i is h = omega (arith, ints)
 pub lt_from_pos : (at t : ℕ) (i : ℤ) → pos t ≡ i → pos at <ℤ i → at < t
 lt_from_pos at t i is h = omega (arith, ints)
 
--- a number above one that is not negative is its own size
-pub pos_unsigned_abs : (start : ℤ) (second least : ℕ) → pos least <ℤ start → second ≡ unsigned_abs start → pos second ≡ start
-pos_unsigned_abs (pos n) second least below e = ap pos e
-pos_unsigned_abs (negsuc n) second least below e = absurd (omega (arith, ints))
+-- a number that isn't negative is its own size
+pub pos_unsigned_abs : (z : ℤ) (n : ℕ) → pos 0 ≤ℤ z → n ≡ unsigned_abs z → pos n ≡ z
+pos_unsigned_abs (pos m) n low e = ap pos e
+pos_unsigned_abs (negsuc m) n low e = absurd (omega (arith, ints))
+
+-- the sum of two such numbers, as a machine has it
+pub sum_whole : (a b : ℤ) (n m : ℕ) → a ≡ pos n → b ≡ pos m → n + m < 2 ^ 63 → to_z w64 (of_z w64 (to_z w64 (of_z w64 a) +ℤ to_z w64 (of_z w64 b))) ≡ pos (n + m)
+sum_whole a b n m is_n is_m small = rw (is_n, is_m, to_z_pos w64 n (omega arith), to_z_pos w64 m (omega arith)) (to_z_pos w64 (n + m) small)
+
+-- and how many lie between them
+pub between_whole : (a b : ℤ) (n m : ℕ) → a ≡ pos n → b ≡ pos m → m < n → n < 2 ^ 63
+    → unsigned_abs (to_z w64 (of_z w64 (to_z w64 (of_z w64 (to_z w64 (of_z w64 a) -ℤ to_z w64 (of_z w64 b))) -ℤ pos 1))) ≡ n - m - 1
+between_whole a b n m is_n is_m less small =
+    let apart : (pos n -ℤ pos m) ≡ pos (n - m) = omega (arith, ints) in
+    let between : (pos (n - m) -ℤ pos 1) ≡ pos (n - m - 1) = omega (arith, ints) in
+    rw (is_n, is_m, to_z_pos w64 n small, to_z_pos w64 m (omega arith), apart, to_z_pos w64 (n - m) (omega arith), between, to_z_pos w64 (n - m - 1) (omega arith)) refl
 
 pub lt_from_less : (a b : ℤ) → int_cmp a b ≡ Less → a <ℤ b
 lt_from_less a b e = int_ranked a b Less (sym e)
@@ -291,12 +303,12 @@ pub pair_some : {X Y : Type 0} (o : Option (X × Y)) (x : X) (y : Y) → Some x 
     → Some y ≡ option_map (λ (p : X × Y). p.1) o → o ≡ Some (x, y)
 pair_some o x y h k = grind arith
 
-pub unwrap_or_kept : (next : Option ℕ) (local last : ℕ) → IsSome next → IfSome next (λ l. l ≡ last) → unwrap_or next local ≡ last
+pub unwrap_or_kept : {A : Type 0} (next : Option A) (local last : A) → IsSome next → IfSome next (λ l. l ≡ last) → unwrap_or next local ≡ last
 unwrap_or_kept next local last some kept = grind arith
 
 -- which of two answers a test gave
-pub none_chosen : (b : Bool) (local : ℕ) → ◌≡◌ {A = Option ℕ} (cond b None (Some local)) None → b ≡ true
-none_chosen b local h = grind arith
+pub none_chosen : {A : Type 0} (b : Bool) (x : A) → ◌≡◌ {A = Option A} (cond b None (Some x)) None → b ≡ true
+none_chosen b x h = grind arith
 
 pub option_or-none : {A : Type 0} (o : Option A) → option_or o None ≡ o
 option_or-none o = grind arith

@@ -3,6 +3,7 @@ pub mod CivilLemmas
 pub mod DayLemmas
 pub mod DigitLemmas
 pub mod LocalAtLemmas
+pub mod LocalLemmas
 pub mod OffsetLemmas
 pub mod OffsetWordLemmas
 pub mod PeriodLemmas

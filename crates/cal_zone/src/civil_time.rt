@@ -1,23 +1,16 @@
 //! The civil time that a zone's clocks show at an instant.
-ghost use Rattle.std.specs.Prelude.{◌≡◌, ◌<◌};
+ghost use Rattle.std.specs.Prelude.{◌≡◌};
 ghost use Rattle.jiff.specs.Types.{TimeZone};
 ghost use Rattle.jiff.specs.Words.{nanos_of_seconds, offset_at};
 ghost use Rattle.cal_zone.specs.Civil.{shown_at, IsCivil};
 ghost use Rattle.cal_zone.specs.headline.Civil.{civil_of};
-ghost use Rattle.cal_zone.specs.headline.Local.{civil_date};
 ghost use Rattle.cal_zone.specs.headline.Zone.{offset_of, zone_of};
 
 use crate::zone::{Ahead, ZoneKind};
 use crate::{Civil, Instant, Zone};
 use jiff::Timestamp;
-use jiff::civil::{Date, DateTime};
+use jiff::civil::DateTime;
 use jiff::tz::Offset;
-
-/// The seconds of a day.
-pub const DAY: u64 = 86_400;
-
-/// The days of the years 1970 to 2199.
-pub const DAYS: u64 = 84_006;
 
 /// What a clock in the zone shows at the instant.
 pub fn civil(zone: Zone, instant: Instant) -> Civil
@@ -61,17 +54,6 @@ pub(crate) fn fixed_offset(ahead: Ahead) -> Offset
         unreachable!()
     };
     offset
-}
-
-/// The date of a day of the years 1970 to 2199, by its number from 1970-01-01 on, which is below [`DAYS`].
-pub fn date_of_day(day: u64) -> Date
-    requires { day < DAYS }
-    ensures { result ≡ civil_date day }
-{
-    let Ok(timestamp) = Timestamp::from_second((day * DAY) as i64) else {
-        unreachable!()
-    };
-    Offset::UTC.to_datetime(timestamp).date()
 }
 
 /// The fields of what a clock at the offset shows.

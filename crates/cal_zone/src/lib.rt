@@ -4,6 +4,7 @@
 mod civil_fields;
 mod civil_time;
 mod clock;
+mod days;
 mod instant;
 mod instant_text;
 pub mod laws;
@@ -23,8 +24,9 @@ mod zone_name;
 mod zone_table;
 
 pub use civil_fields::Civil;
-pub use civil_time::{DAY, DAYS, civil, date_of_day};
+pub use civil_time::civil;
 pub use clock::Clock;
+pub use days::{DAY, LOCAL_END, date_of_day, day_of, second_of_day};
 pub use instant::Instant;
 pub use instant_text::{push_instant, push_offset, write_instant};
 pub use locals::local_at;

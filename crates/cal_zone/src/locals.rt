@@ -5,8 +5,7 @@ ghost use Rattle.cal_zone.specs.LocalAt.{IsLocalAt};
 ghost use Rattle.cal_zone.specs.headline.Zone.{local_of, zone_of};
 
 use crate::civil_time::offset_in;
-use crate::stretch::END;
-use crate::{Instant, Zone, place};
+use crate::{Instant, LOCAL_END, Zone, place};
 use jiff::Timestamp;
 
 /// The local second of the years 1970 to 2199 whose place is the instant; `None` where it is the place of none.
@@ -17,7 +16,7 @@ pub fn local_at(zone: Zone, instant: Instant) -> Option<i64>
     ensures { IsLocalAt (zone_of zone.entry) instant.secs result }
 {
     let local = shown_at(zone, instant);
-    if local < 0 || END <= local {
+    if local < 0 || LOCAL_END <= local {
         return None;
     }
     match place(zone, local) {

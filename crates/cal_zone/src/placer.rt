@@ -6,9 +6,9 @@ ghost use Rattle.cal_zone.specs.LocalAt.{IsLocalAt};
 ghost use Rattle.cal_zone.specs.headline.Place.{place_of};
 ghost use Rattle.cal_zone.specs.headline.Zone.{zone_of};
 
-use crate::stretch::{END, Stretch, stretch_of};
+use crate::stretch::{Stretch, stretch_of};
 use crate::zone::ZoneKind;
-use crate::{Instant, Zone, local_at, place};
+use crate::{Instant, LOCAL_END, Zone, local_at, place};
 use std::marker::Model;
 
 /// How many local seconds are placed by the zone's rules, each by itself, where no steady stretch is known.
@@ -95,7 +95,11 @@ impl<'z> Placer<'z> {
         ensures zone { self.new ≡ self.old }
     {
         if let Some(local) = instant.secs().checked_add(self.stretch.offset) {
-            if 0 <= local && self.stretch.from <= local && local < self.stretch.to && local < END {
+            if 0 <= local
+                && self.stretch.from <= local
+                && local < self.stretch.to
+                && local < LOCAL_END
+            {
                 return Some(local);
             }
         }

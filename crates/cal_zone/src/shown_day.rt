@@ -55,7 +55,7 @@ impl ShownDay {
         push_zone(&mut word, zone.is_utc(), shown.offset);
         ShownDay {
             from: period.from.max(midnight),
-            to: period.to.min(midnight + DAY as i64),
+            to: period.to.min(midnight + DAY),
             midnight,
             day,
             word,

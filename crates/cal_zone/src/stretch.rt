@@ -13,7 +13,7 @@ ghost use Rattle.cal_zone.specs.headline.Zone.{zone_of};
 
 use crate::places::datetime;
 use crate::zone::ZoneKind;
-use crate::{DAY, DAYS, Instant, Zone};
+use crate::{DAY, Instant, LOCAL_END, Zone};
 use jiff::tz::Tzif;
 use jiff_core::Timestamp;
 use jiff_tz::{TimeZone, Transition, posix, tzif};
@@ -45,9 +45,6 @@ pub(crate) fn stretch_of(zone: Zone, local: i64) -> Option<Stretch>
     }
 }
 
-/// The local second after the last.
-pub(crate) const END: i64 = (DAYS * DAY) as i64;
-
 /// All local seconds, each so far ahead of its place.
 fn whole(offset: i64) -> Stretch
     ensures from { result.from ≡ pos 0 }
@@ -56,7 +53,7 @@ fn whole(offset: i64) -> Stretch
 {
     Stretch {
         from: 0,
-        to: END,
+        to: LOCAL_END,
         offset,
     }
 }
@@ -95,7 +92,7 @@ pub(crate) fn alike_behind(table: &Tzif, local: i64, even: Instant) -> i64
         Some(rule) if rule.dst.is_some() => {
             quiet_until(table.next_transition(instant(past)), past).min(even.secs() - FARTHEST)
         }
-        _ => END,
+        _ => LOCAL_END,
     }
 }
 
@@ -122,7 +119,7 @@ fn alike_by_rule(rule: posix::TimeZone, local: i64, even: Instant) -> i64
         let past = local - FAR;
         return quiet_until(rule.next_transition(instant(past)), past).min(even.secs() - FARTHEST);
     }
-    END
+    LOCAL_END
 }
 
 /// The local second before which a rule's civil clock goes on as it does [`FAR`] after this second: far enough before
@@ -152,7 +149,7 @@ pub(crate) fn year_after(second: i64) -> i64
     ensures bound { IsWithin 1_000_000_000_000 result }
 {
     let last = datetime(second).date().last_of_year();
-    (i64::from(last.to_plain().to_unix_epoch_day()) + 1) * DAY as i64
+    (i64::from(last.to_plain().to_unix_epoch_day()) + 1) * DAY
 }
 
 /// The instant of a second.

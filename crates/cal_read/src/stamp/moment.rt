@@ -55,7 +55,7 @@ pub(crate) fn today(now: Instant, zone: Zone) -> i64
     ensures value { result ≡ today now.secs (zone_of zone.entry) }
     ensures range { IsBetween (neg_ℤ (pos 2)) (pos 84_008) result }
 {
-    local_second(now, zone).div_euclid(DAY as i64)
+    local_second(now, zone).div_euclid(DAY)
 }
 
 /// What the zone's clock shows at the instant, as a local second.
@@ -84,7 +84,7 @@ fn local_time(day: i64, seconds: u64) -> i64
     requires seconds { seconds ≤ 90_000 }
     ensures { result ≡ day *ℤ pos 86_400 +ℤ pos seconds }
 {
-    day * DAY as i64 + seconds as i64
+    day * DAY + seconds as i64
 }
 
 /// The microseconds of Unix time that many after the second, which lies near the instants.

@@ -3,7 +3,6 @@ use Rattle.cal_elapse.specs.Masks.{sets_in}
 use Rattle.cal_elapse.specs.Months.{day_in, first_day, first_day-suc}
 use Rattle.cal_elapse.specs.Search.{IsFirstPassing}
 use Rattle.cal_elapse.proofs.CarryLemmas.{first_then, first_within}
-use Rattle.cal_elapse.proofs.LookLemmas.{looks_here, looks_on}
 use Rattle.cal_elapse.proofs.MonthLemmas.{first_day-end, first_day-rises}
 use Rattle.cal_elapse.proofs.day_search.next_day.Goals as goal
 
@@ -15,9 +14,6 @@ returns-in-Some-clause-first c =
     let next = first_day-suc month.index in
     first_within (day_in (sets_in c.args.masks.now)) c.args.from (month.first + month.length) 84_006 c.in-Some.day (omega arith) c.in-Some.ensures.first
 
-pub returns-in-Some-clause-counted : goal.returns-in-Some-clause-counted
-returns-in-Some-clause-counted c = grind (arith, looks_here)
-
 pub returns-in-None-clause-first : goal.returns-in-None-clause-first
 returns-in-None-clause-first c =
     let month = c.args.month in
@@ -25,6 +21,3 @@ returns-in-None-clause-first c =
     let next : first_day (month.index + 1) ≡ month.first + month.length = ap first_day one ∙ (first_day-suc month.index ∙ omega arith) in
     first_then (day_in (sets_in c.args.masks.now)) c.args.from (month.first + month.length) 84_006 c.next_from_month.result c.in-None.ensures.first c.requires.high
     (subst (λ (t : ℕ). IsFirstPassing (day_in (sets_in c.args.masks.now)) t 84_006 c.next_from_month.result) next c.next_from_month.ensures.first)
-
-pub returns-in-None-clause-counted : goal.returns-in-None-clause-counted
-returns-in-None-clause-counted c = grind (arith, looks_on)

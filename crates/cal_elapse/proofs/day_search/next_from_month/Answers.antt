@@ -6,19 +6,10 @@ use Rattle.cal_elapse.specs.Months.{day_in, first_day, first_day-suc, length_of,
 use Rattle.cal_elapse.specs.Search.{IsFirstPassing, NonePasses}
 use Rattle.cal_elapse.specs.Bits.{is_bit}
 use Rattle.cal_elapse.proofs.CarryLemmas.{first_then, first_within}
-use Rattle.cal_elapse.proofs.CountLemmas.{count_from-begun, count_from-most, count_from-on}
+use Rattle.cal_elapse.proofs.CountLemmas.{count_from-on}
 use Rattle.cal_elapse.proofs.LookLemmas.{count_step, first_in_month, looks_some, none_in_month}
 use Rattle.cal_elapse.proofs.MonthLemmas.{first_day-end, first_day-rises, length_bounds, months_none}
 use Rattle.cal_elapse.proofs.day_search.next_from_month.Goals as goal
-
-pub loop-next-init : goal.loop-next-init
-loop-next-init c = grind (arith, count_from-begun)
-
-pub of-requires-clause-few : goal.of-requires-clause-few
-of-requires-clause-few c = grind (arith, count_from-most)
-
-pub overflow_add-result : goal.overflow_add-result
-overflow_add-result c = grind (arith, first_day-rises, first_day-end)
 
 pub returns-in-Some-next-clause-first : goal.returns-in-Some-next-clause-first
 returns-in-Some-next-clause-first c =

@@ -2,7 +2,7 @@ use Rattle.std.proofs.Common.{◌≡◌, false, arith}
 use Rattle.cal_elapse.specs.Masks.{sets_in}
 use Rattle.cal_elapse.specs.Months.{month_in}
 use Rattle.cal_elapse.proofs.LookLemmas.{first_in_month, none_in_month, none_of_month}
-use Rattle.cal_elapse.proofs.MonthLemmas.{first_day-end, first_day-rises, length_bounds}
+use Rattle.cal_elapse.proofs.MonthLemmas.{length_bounds}
 use Rattle.cal_elapse.proofs.day_search.next_in_month.Goals as goal
 
 pub returns-then-not-has_month-clause-first : goal.returns-then-not-has_month-clause-first
@@ -10,12 +10,6 @@ returns-then-not-has_month-clause-first c =
     let month = c.args.month in
     let fails : month_in (sets_in c.args.masks.now) month.index ≡ false = cc in
     none_of_month (sets_in c.args.masks.now) month.index month.first month.length c.args.from month.index_in month.first_is month.length_is c.requires.low fails
-
-pub next-requires : goal.next-requires
-next-requires c = omega (arith, length_bounds c.args.month.index)
-
-pub overflow_add-result : goal.overflow_add-result
-overflow_add-result c = grind (arith, first_day-rises, first_day-end)
 
 pub returns-in-Some-clause-first : goal.returns-in-Some-clause-first
 returns-in-Some-clause-first c =

@@ -1,19 +1,27 @@
-use Rattle.std.proofs.Common.{◌∙◌, FitsSigned, arith, rules, subst, sym, w64}
-use Rattle.std.proofs.lemmas.Int.{ints, to_z-of_z}
+use Rattle.std.proofs.Common.{◌≡◌, ◌∙◌, FitsSigned, Option, ap, of_z, rules, subst, sym, to_z, w64, ℤ}
+use Rattle.std.proofs.lemmas.Int.{to_z-of_z}
+use Rattle.jiff.specs.Types.{TimeZone}
 use Rattle.cal_zone.specs.Instant.{IsInstant}
-use Rattle.cal_zone.specs.headline.Local.{seconds_in_all-is}
+use Rattle.cal_zone.specs.headline.Place.{place_of}
 use Rattle.cal_zone.specs.headline.Zone.{zone_of}
-use Rattle.cal_elapse.proofs.WindowLemmas.{place_found, put_instant, put_near}
+use Rattle.cal_elapse.specs.Near.{IsNear}
+use Rattle.cal_elapse.proofs.WindowLemmas.{put_instant, put_near}
 use Rattle.cal_elapse.proofs.window.put_place.Goals as goal
 
-pub place-requires : goal.place-requires
-place-requires c = let count = seconds_in_all-is in (omega (arith, ints), omega (arith, ints))
+-- what is found for a local second as it is passed
+place_found : (tz : TimeZone) (local : ℤ) (found : Option ℤ) → FitsSigned w64 local → found ≡ place_of tz (to_z w64 (of_z w64 local)) → place_of tz local ≡ found
+place_found tz local found fits at = sym (at ∙ ap (place_of tz) (to_z-of_z w64 local fits))
 
 pub put-requires-clause-instant : goal.put-requires-clause-instant
 put-requires-clause-instant c =
     let fits : FitsSigned w64 c.in-Some.instant = search rules in
     subst IsInstant (sym (to_z-of_z w64 c.in-Some.instant fits))
-    (put_instant (zone_of c.args.placer.now) c.args.local c.in-Some.instant c.args.last (place_found (zone_of c.args.placer.now) c.args.local c.signed.result c.place.result c.requires.local_in c.signed.ensures c.place.ensures.value ∙ c.in-Some.is) c.requires.local_in c.requires.last_in (search rules))
+    (put_instant (zone_of c.args.placer.now) c.args.local c.in-Some.instant c.args.last (place_found (zone_of c.args.placer.now) c.args.local c.place.result c.ranges.local c.place.ensures.value ∙ c.in-Some.is)
+    c.requires.local_in c.requires.last_in (search rules))
 
 pub put-requires-clause-near : goal.put-requires-clause-near
-put-requires-clause-near c = grind (arith, w64, to_z-of_z, put_near, place_found)
+put-requires-clause-near c = λ member has.
+    let fits : FitsSigned w64 c.in-Some.instant = search rules in
+    subst (IsNear member) (sym (to_z-of_z w64 c.in-Some.instant fits))
+    (put_near (zone_of c.args.placer.now) c.args.local c.in-Some.instant member (place_found (zone_of c.args.placer.now) c.args.local c.place.result c.ranges.local c.place.ensures.value ∙ c.in-Some.is)
+    (c.requires.near member has) (c.requires.before member has))

@@ -1,6 +1,8 @@
 use Rattle.std.proofs.Common.{arith}
-use Rattle.cal_zone.specs.headline.Local.{seconds_in_all-is}
+use Rattle.cal_zone.proofs.LocalLemmas.{local_arith}
+use Rattle.cal_spec.specs.headline.Match.{matches}
 use Rattle.cal_spec.proofs.matching.has_local.Goals as goal
 
-pub date_of_day-requires : goal.date_of_day-requires
-date_of_day-requires c = omega (arith, seconds_in_all-is)
+pub returns-then-has_date : goal.returns-then-has_date
+unfolding matches
+returns-then-has_date c = grind (arith, local_arith)

@@ -4,7 +4,7 @@ use Rattle.jiff.proofs.SpanFacts.{signed_arith}
 use Rattle.cal_zone.specs.headline.Zone.{zone_of}
 use Rattle.cal_zone.proofs.LocalAtLemmas.{local_at-elsewhere, local_at-here, local_at-outside}
 use Rattle.cal_zone.proofs.locals.local_at.Goals as goal
-use Rattle.cal_zone.proofs.locals.local_at.Goals.{then-local-lt0-via-then-local-lt0, then-local-lt0-via-else-local-lt0+then-local-ge-END}
+use Rattle.cal_zone.proofs.locals.local_at.Goals.{then-local-lt0-via-then-local-lt0, then-local-lt0-via-else-local-lt0+then-local-ge-LOCAL_END}
 
 pub returns-then-local-lt0 : goal.returns-then-local-lt0
 returns-then-local-lt0 c =
@@ -12,7 +12,7 @@ returns-then-local-lt0 c =
     local_at-outside (zone_of c.args.zone) c.args.instant.secs c.shown_at-local.result c.shown_at-local.ensures
     (λ low. elim c.then-local-lt0.branch [
       | then-local-lt0-via-then-local-lt0 w ↦ absurd (omega (arith, signed_arith))
-      | then-local-lt0-via-else-local-lt0+then-local-ge-END w ↦ omega (arith, signed_arith)
+      | then-local-lt0-via-else-local-lt0+then-local-ge-LOCAL_END w ↦ omega (arith, signed_arith)
     ])
 
 pub returns-in-Some : goal.returns-in-Some

@@ -1,17 +1,7 @@
 use Rattle.std.proofs.Common.{◌≡◌, nat_lt, true, ◌∙◌, arith}
 use Rattle.std.proofs.lemmas.Bool.Decides.{nat_tests}
 use Rattle.cal_elapse.proofs.DayLemmas.{days_are, days_end}
-use Rattle.cal_elapse.proofs.MonthLemmas.{first_day-end, first_day-rises, length_bounds}
 use Rattle.cal_elapse.proofs.month_days.MonthDays.of.Goals as goal
-
-pub first_day_bit-requires : goal.first_day_bit-requires
-first_day_bit-requires c = grind (arith, length_bounds)
-
-pub overflow_add-weekdays : goal.overflow_add-weekdays
-overflow_add-weekdays c = grind (arith, first_day-rises, first_day-end)
-
-pub all_days-requires : goal.all_days-requires
-all_days-requires c = grind (arith, length_bounds)
 
 pub returns-clause-days : goal.returns-clause-days
 returns-clause-days c = λ k small.

@@ -1,5 +1,6 @@
 use Rattle.std.proofs.Common.{◌∙◌, ◌||◌, ◌%◌, List, ap, arith, w64, ℕ}
 use Rattle.std.proofs.lemmas.Int.{to_z-of_z}
+use Rattle.jiff.proofs.SpanFacts.{signed_arith}
 use Rattle.cal_elapse.specs.Bits.{is_bit, is_in_words}
 use Rattle.cal_elapse.specs.Ring.{cells_behind}
 use Rattle.cal_elapse.proofs.FillLemmas.{HasAll, begun_least, filled_answer, filled_from, round_of_all}
@@ -13,7 +14,7 @@ invariant_of-self c =
     let bits = c.args.bits in
     let same = c.as_mut_slice.ensures.value ∙ c.deref_mut.ensures.value in
     let begun = begun_least old c.self.inside.least c.args.start c.args.self.now c.self.view_is c.self.invariant c.requires.begun in
-    let second = pos_unsigned_abs c.args.start c.unsigned_abs-second.result c.self.inside.least begun.below (rw (to_z-of_z w64 c.args.start c.ranges.start) at c.unsigned_abs-second.ensures.value) in
+    let second = pos_unsigned_abs c.args.start c.unsigned_abs-second.result (omega (arith, signed_arith, begun.below)) (rw (to_z-of_z w64 c.args.start c.ranges.start) at c.unsigned_abs-second.ensures.value) in
     let all : HasAll old c.set_cells.new.words c.unsigned_abs-second.result bits
     = record {
       held = λ i there. search (c.set_cells.ensures.set i there)
@@ -32,7 +33,7 @@ returns-clause-members c = λ i.
     let bits = c.args.bits in
     let same = c.as_mut_slice.ensures.value ∙ c.deref_mut.ensures.value in
     let begun = begun_least old c.self.inside.least c.args.start c.args.self.now c.self.view_is c.self.invariant c.requires.begun in
-    let second = pos_unsigned_abs c.args.start c.unsigned_abs-second.result c.self.inside.least begun.below (rw (to_z-of_z w64 c.args.start c.ranges.start) at c.unsigned_abs-second.ensures.value) in
+    let second = pos_unsigned_abs c.args.start c.unsigned_abs-second.result (omega (arith, signed_arith, begun.below)) (rw (to_z-of_z w64 c.args.start c.ranges.start) at c.unsigned_abs-second.ensures.value) in
     let all : HasAll old c.set_cells.new.words c.unsigned_abs-second.result bits
     = record {
       held = λ j there. c.set_cells.ensures.set j there

@@ -4,6 +4,6 @@ use Rattle.jiff.proofs.SpanFacts.{signed_arith}
 use Rattle.cal_zone.proofs.LocalAtLemmas.{local_at-here}
 use Rattle.cal_zone.proofs.placer.Placer.local_at.Goals as goal
 
-pub returns-then-local-lt-END-clause-value : goal.returns-then-local-lt-END-clause-value
-returns-then-local-lt-END-clause-value c =
+pub returns-then-local-lt-LOCAL_END-clause-value : goal.returns-then-local-lt-LOCAL_END-clause-value
+returns-then-local-lt-LOCAL_END-clause-value c =
     grind (arith, signed_arith, c.in-Some.ensures, c.self.invariant, to_z-of_z, local_at-here, c.self.view_is, c.secs.ensures.value)

@@ -1,0 +1,16 @@
+-- Local seconds as they are passed, and as the definitions count them.
+use Rattle.std.proofs.Common.{◌≡◌, ◌<◌, arith, nat_lt, negsuc, pos, unsigned_abs, ℕ, ℤ}
+use Rattle.std.proofs.lemmas.Int.{ints, to_z-of_z}
+use Rattle.jiff.proofs.SpanFacts.{signed_arith}
+use Rattle.cal_zone.specs.Local.{IsLocalSecond}
+use Rattle.cal_zone.specs.headline.Local.{seconds_in_all, seconds_in_all-is}
+
+pub local_inside : (local : ℤ) → IsLocalSecond local → unsigned_abs local < seconds_in_all
+local_inside (pos n) h = omega (arith, ints, seconds_in_all-is, h.1)
+local_inside (negsuc n) h = absurd (omega (arith, ints, h.0))
+
+pub local_inside-pos : (local : ℕ) → local < seconds_in_all → IsLocalSecond (pos local)
+local_inside-pos local h = let count = seconds_in_all-is in (omega (arith, ints), omega (arith, ints))
+
+-- what arithmetic on local seconds needs
+pub ruleset local_arith = (signed_arith, to_z-of_z, nat_lt, seconds_in_all-is, local_inside)
