@@ -39,7 +39,7 @@ fn a_rule(rt: HostRuntime) {
 }
 
 /// The rules of the zone file, where memory isn't refused.
-fn fixed(rt: &(impl Abort + AllocGlobal)) -> Option<Rules> {
+fn read_fixed(rt: &(impl Abort + AllocGlobal)) -> Option<Rules> {
     let bytes = zone_file(rt.alloc()).ok()?;
     match Rules::file(rt.alloc(), "Test/Fixed", &bytes) {
         Ok(rules) => {
@@ -57,7 +57,7 @@ fn fixed(rt: &(impl Abort + AllocGlobal)) -> Option<Rules> {
 #[test]
 fn a_zone_file_and_a_table(rt: HostRuntime) {
     let mut table = ZoneTable::new(rt.alloc());
-    let Some(rules) = fixed(&rt) else {
+    let Some(rules) = read_fixed(&rt) else {
         return;
     };
     match table.add("Test/Fixed", rules) {

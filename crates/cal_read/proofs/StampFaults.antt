@@ -11,7 +11,7 @@ use Rattle.cal_zone.specs.headline.ZoneName.{begins_with_letter}
 use Rattle.cal_text.specs.headline.Separators.{is_colon}
 use Rattle.cal_spec.specs.Weekdays.{day_named}
 use Rattle.cal_text.specs.AndThen.{◌>>=◌}
-use Rattle.cal_read.specs.Stamp.{Setting, Written, in_moments, after_second, before_second, settled, today, name_found, offset_found, zone_meant, zone_alone, zone_by_words, written_in, begins_with_digit, after_date, after_weekday, weekday_found, civil_time, moment_of_written, moment_of_form, moment_in}
+use Rattle.cal_read.specs.Stamp.{Setting, Written, in_moments, after_second, before_second, settle_on, today, name_found, offset_found, zone_meant, zone_alone, zone_by_words, written_in, begins_with_digit, after_date, after_weekday, weekday_found, civil_time, moment_of_written, moment_of_form, moment_in}
 use Rattle.cal_read.specs.StampCivilRule.{HasNoSuchDate}
 use Rattle.cal_read.specs.StampDate.{day_written}
 use Rattle.cal_read.specs.StampForm.{Form, nothing, present, later, earlier, counted, from_today, civil, form_of}
@@ -40,9 +40,9 @@ no_moment : (micros : ℤ) → Never (in_moments micros)
 unfolding in_moments
 no_moment micros = never_if _ (Ok micros) (Err OutOfRange) (λ h. cc) (λ h. cc)
 
-no_settled : (zone : TimeZone) (day : ℤ) (micros : ℕ) → Never (settled zone day micros)
-unfolding settled
-no_settled zone day micros = no_moment _
+no_settle_on : (zone : TimeZone) (day : ℤ) (micros : ℕ) → Never (settle_on zone day micros)
+unfolding settle_on
+no_settle_on zone day micros = no_moment _
 
 no_after : (second : ℤ) (span : Result ℕ SpanFault) → after_second second span ≡ Err NoSuchDate → ⊥
 no_after second (Ok n) h = no_moment _ h
@@ -91,7 +91,7 @@ no_after_date at weekday day (w ∷ ws) =
 
 no_moment_of_written : (now : ℤ) (c : Written) → moment_of_written now c ≡ Err NoSuchDate → ⊥
 unfolding moment_of_written
-no_moment_of_written now c = never_if _ _ (Err WrongWeekday) (no_settled c.zone _ c.micros) (λ h. cc)
+no_moment_of_written now c = never_if _ _ (Err WrongWeekday) (no_settle_on c.zone _ c.micros) (λ h. cc)
 
 -- Where it comes from
 
@@ -121,7 +121,7 @@ by_form now at present h = absurd (no_moment _ h)
 by_form now at (later span) h = absurd (no_after now (span_of span) h)
 by_form now at (earlier span) h = absurd (no_before now (span_of span) h)
 by_form now at (counted span) h = absurd (no_after (pos 0) (span_of span) h)
-by_form now at (from_today shift ws) h = absurd (never_then (zone_by_words at ws) (λ zone. settled zone (today now zone +ℤ shift) 0) (no_zone at ws) (λ zone. no_settled zone (today now zone +ℤ shift) 0) h)
+by_form now at (from_today shift ws) h = absurd (never_then (zone_by_words at ws) (λ zone. settle_on zone (today now zone +ℤ shift) 0) (no_zone at ws) (λ zone. no_settle_on zone (today now zone +ℤ shift) 0) h)
 by_form now at (civil ws) h = (ws, refl, in_civil at ws (fault_first (civil_time at ws) (moment_of_written now) (no_moment_of_written now) h))
 
 pub written_date : (now : ℤ) (at : Setting) (text : List ℕ) → moment_in now at text ≡ Err NoSuchDate → (ws : List (List ℕ)) × (form_of text ≡ civil ws) × HasNoSuchDate ws

@@ -39,7 +39,7 @@ use Rattle.cal_read.proofs.StampPrintedZones.{IsLastWord, last_byte, shown_last,
 use Rattle.cal_read.proofs.StampRule.{only}
 use Rattle.cal_text.specs.AndThen.{◌>>=◌}
 use Rattle.cal_zone.specs.headline.Moment.{micros_of}
-use Rattle.cal_read.specs.Stamp.{Setting, after_date, begins_with_digit, civil_time, fits_weekday, in_moments, moment_in, moment_of_form, moment_of_written, settled, written_in, zone_meant}
+use Rattle.cal_read.specs.Stamp.{Setting, after_date, begins_with_digit, civil_time, fits_weekday, in_moments, moment_in, moment_of_form, moment_of_written, settle_on, written_in, zone_meant}
 use Rattle.cal_read.specs.StampDate.{day_written}
 use Rattle.cal_read.specs.StampForm.{Form, civil, counted, earlier, later}
 use Rattle.cal_read.specs.StampPrinted.{ShowsMinutes, ShowsYear}
@@ -286,9 +286,9 @@ in_time : (micros : ℤ) → pos 0 ≤ℤ micros → micros ≤ℤ pos 7_258_211
 unfolding in_moments
 in_time micros from to = grind (arith, ints)
 
-settled_back : (zone : TimeZone) (local secs : ℤ) → IsInstant secs → settle_of zone local ≡ secs → settled zone (day_of local) (micros_in (second_of_day local)) ≡ Ok (micros_of secs)
-unfolding settled
-settled_back zone local secs h back =
+settle_on_back : (zone : TimeZone) (local secs : ℤ) → IsInstant secs → settle_of zone local ≡ secs → settle_on zone (day_of local) (micros_in (second_of_day local)) ≡ Ok (micros_of secs)
+unfolding settle_on
+settle_on_back zone local secs h back =
     let micros = micros_in-is (second_of_day local) (second_below local) in
     let shown = day_of local *ℤ pos 86_400 +ℤ pos (micros_in (second_of_day local) / 1_000_000) in
     let whole : shown ≡ local = omega (arith, signed_arith, micros) in
@@ -306,7 +306,7 @@ moment_back : (now local secs : ℤ) (zone : TimeZone) (date : Date) → IsInsta
     → moment_of_written now (record { weekday = Some (day_in date); day = Some (day_of local); micros = micros_in (second_of_day local); zone = zone }) ≡ Ok (micros_of secs)
 unfolding moment_of_written
 moment_back now local secs zone date h back e =
-    rw (fits date (day_of local) e) (settled_back zone local secs h back)
+    rw (fits date (day_of local) e) (settle_on_back zone local secs h back)
 
 -- The law
 

@@ -54,8 +54,8 @@ today now zone = day_of (local_of zone now)
 
 -- the moment of that many microseconds after a day's midnight: a local time that the clock skips is moved on by what is
 -- skipped, and of one that it shows twice this is the first
-unfoldable pub settled : TimeZone → ℤ → ℕ → Result ℤ StampFault
-settled zone day micros =
+unfoldable pub settle_on : TimeZone → ℤ → ℕ → Result ℤ StampFault
+settle_on zone day micros =
     in_moments (micros_of (settle_of zone (day *ℤ pos 86_400 +ℤ pos (micros / 1_000_000))) +ℤ pos (micros % 1_000_000))
 
 -- Words
@@ -134,7 +134,7 @@ fits_weekday (Some weekday) day = weekday_number day == monday_zero weekday
 unfoldable pub moment_of_written : ℤ → Written → Result ℤ StampFault
 moment_of_written now c =
     let day = unwrap_or c.day (today now c.zone) in
-    if fits_weekday c.weekday day then settled c.zone day c.micros else Err WrongWeekday
+    if fits_weekday c.weekday day then settle_on c.zone day c.micros else Err WrongWeekday
 
 -- The meaning
 
@@ -144,7 +144,7 @@ moment_of_form now at present = in_moments (micros_of now)
 moment_of_form now at (later span) = after_second now (span_of span)
 moment_of_form now at (earlier span) = before_second now (span_of span)
 moment_of_form now at (counted span) = after_second (pos 0) (span_of span)
-moment_of_form now at (from_today shift ws) = zone_by_words at ws >>= λ zone. settled zone (today now zone +ℤ shift) 0
+moment_of_form now at (from_today shift ws) = zone_by_words at ws >>= λ zone. settle_on zone (today now zone +ℤ shift) 0
 moment_of_form now at (civil ws) = civil_time at ws >>= λ written. moment_of_written now written
 
 -- the microseconds of the moment that a text means, by the present second and the zones, or the text's fault

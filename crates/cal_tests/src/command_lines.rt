@@ -13,9 +13,9 @@ fn read(alloc: Global, line: &str) -> Result<Result<Ask, CommandFault>, Fail> {
 }
 
 /// One line for what the arguments come to.
-fn shown(alloc: Global, line: &str) -> Result<String, Fail> {
+fn format_answer(alloc: Global, line: &str) -> Result<String, Fail> {
     match read(alloc, line)? {
-        Ok(ask) => asked(alloc, &ask),
+        Ok(ask) => format_ask(alloc, &ask),
         Err(CommandFault::Usage(_)) => Ok(String::from_str(alloc, "usage")?),
         Err(CommandFault::Help(_)) => Ok(String::from_str(alloc, "help")?),
         Err(fault) => Ok(String::from_str(alloc, fault.words())?),
@@ -23,7 +23,7 @@ fn shown(alloc: Global, line: &str) -> Result<String, Fail> {
 }
 
 /// One line for what is asked: the verb, the iterations, what was given, and the texts.
-fn asked(alloc: Global, ask: &Ask) -> Result<String, Fail> {
+fn format_ask(alloc: Global, ask: &Ask) -> Result<String, Fail> {
     let verb = match ask.request.verb {
         Verb::Calendar => "calendar",
         Verb::Timer => "timer",
@@ -81,7 +81,7 @@ fn push_zones(line: &mut String, zones: &[ZoneItem]) -> Result<(), Fail> {
 
 /// The line of arguments comes to this.
 fn expect_shown(rt: &(impl Abort + AllocGlobal), line: &str, want: &str) -> Result<(), Fail> {
-    let found = shown(rt.alloc(), line)?;
+    let found = format_answer(rt.alloc(), line)?;
     assert!(rt; found.as_str() == want, "{found} at {line}");
     Ok(())
 }

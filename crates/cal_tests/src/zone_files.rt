@@ -71,7 +71,7 @@ fn expect_loaded(rt: &impl Abort, row: Row<'_>, found: (Loaded, [Option<i64>; 4]
 }
 
 /// A zone file that is loaded under the name `Test/Fixed`.
-fn loaded(bytes: &[u8]) -> Row<'_> {
+fn row_of(bytes: &[u8]) -> Row<'_> {
     Row {
         name: "Test/Fixed",
         bytes,
@@ -85,7 +85,7 @@ fn loaded(bytes: &[u8]) -> Row<'_> {
 #[test]
 fn one_name_more(rt: HostRuntime) -> Result<(), Fail> {
     let bytes = zone_file(rt.alloc())?;
-    let first = loaded(bytes.as_slice());
+    let first = row_of(bytes.as_slice());
     let second = Row {
         name: "Test/A",
         midnights: [IN_UTC, HOUR_AHEAD, HOUR_AHEAD, None],
@@ -116,7 +116,7 @@ static REFUSALS: [(&str, usize, Then, LoadFault); 8] = [
 #[test]
 fn refusals_in_order(rt: HostRuntime) -> Result<(), Fail> {
     let bytes = zone_file(rt.alloc())?;
-    let first = loaded(bytes.as_slice());
+    let first = row_of(bytes.as_slice());
     for (name, limit, then, fault) in &REFUSALS {
         let second = Row {
             name,

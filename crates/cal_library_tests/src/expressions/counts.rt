@@ -93,7 +93,7 @@ fn written_out(alloc: Global, text: &str, piece: &str, count: u16) -> Result<Str
 }
 
 /// The count and the rest of a line.
-fn counted(line: &str) -> Result<(u16, &str), Fail> {
+fn split_count(line: &str) -> Result<(u16, &str), Fail> {
     let (count, text) = line.split_once(": ").ok_or("no count")?;
     Ok((count.parse()?, text))
 }
@@ -101,7 +101,7 @@ fn counted(line: &str) -> Result<(u16, &str), Fail> {
 /// Each line is a text with its normal text.
 fn expect_accepted(rt: &impl Abort, alloc: Global, piece: &str, lines: &str) -> Result<(), Fail> {
     for line in lines.lines() {
-        let (count, rest) = counted(line)?;
+        let (count, rest) = split_count(line)?;
         let (text, normal) = rest.split_once(" -> ").ok_or("no arrow")?;
         let text = written_out(alloc, text, piece, count)?;
         let normal = written_out(alloc, normal, piece, count)?;
@@ -119,7 +119,7 @@ fn expect_refused(
     lines: &str,
 ) -> Result<(), Fail> {
     for line in lines.lines() {
-        let (count, text) = counted(line)?;
+        let (count, text) = split_count(line)?;
         let text = written_out(alloc, text, piece, count)?;
         expect_fault(rt, alloc, &text, fault);
     }

@@ -63,7 +63,7 @@ fn one_too_many(rt: HostRuntime) -> Result<(), Fail> {
 }
 
 /// The timer file of nine lines, filled up with comments to this many bytes.
-fn filled(alloc: Global, len: usize) -> Result<Vec<u8>, AllocError> {
+fn fill_file(alloc: Global, len: usize) -> Result<Vec<u8>, AllocError> {
     let mut bytes = TIMER_FILE.to_vec(alloc)?;
     for place in bytes.len()..len {
         bytes.push(if place % 64 == 0 { b'\n' } else { b'#' })?;
@@ -74,7 +74,7 @@ fn filled(alloc: Global, len: usize) -> Result<Vec<u8>, AllocError> {
 #[test]
 fn the_largest_file(rt: HostRuntime) -> Result<(), Fail> {
     assert_eq!(rt; Timer::FILE_LIMIT, 1_048_576);
-    let largest = filled(rt.alloc(), 1_048_576)?;
+    let largest = fill_file(rt.alloc(), 1_048_576)?;
     let timer = read(rt.alloc(), largest.as_slice())?;
     expect_lines(&rt, &timer, UNIT_LINES, TIMER_FILE);
     Ok(())
@@ -82,7 +82,7 @@ fn the_largest_file(rt: HostRuntime) -> Result<(), Fail> {
 
 #[test]
 fn a_larger_file(rt: HostRuntime) -> Result<(), Fail> {
-    let larger = filled(rt.alloc(), 1_048_577)?;
+    let larger = fill_file(rt.alloc(), 1_048_577)?;
     let fault = read(rt.alloc(), larger.as_slice()).err();
     assert_eq!(rt; fault, Some(TimerFault::TooLarge));
     Ok(())

@@ -10,7 +10,7 @@ ghost use Rattle.cal_read.specs.StampViews.{micros_or_fault, setting_seen, writt
 
 use crate::StampFault;
 use crate::stamp::date::read_date;
-use crate::stamp::moment::{settled, today};
+use crate::stamp::moment::{settle_on, today};
 use crate::stamp::setting::Setting;
 use crate::stamp::time::read_time;
 use crate::stamp::written::Written;
@@ -121,7 +121,7 @@ pub(crate) fn moment_of_written(now: Instant, written: Written) -> Result<Moment
     if !fits_weekday(written.weekday, day) {
         return Err(StampFault::WrongWeekday);
     }
-    settled(written.zone, day, written.micros)
+    settle_on(written.zone, day, written.micros)
 }
 
 /// Whether the day has the weekday, if one is named.

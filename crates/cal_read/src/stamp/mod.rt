@@ -21,7 +21,9 @@ pub(crate) mod zone;
 use crate::StampFault;
 use crate::stamp::civil::{moment_of_written, read_civil};
 use crate::stamp::form::{Form, form_of};
-use crate::stamp::moment::{after_second, before_second, micros_of, moment_of, near_day, settled};
+use crate::stamp::moment::{
+    after_second, before_second, micros_of, moment_of, near_day, settle_on,
+};
 use crate::stamp::setting::Setting;
 use crate::stamp::zone::read_zone;
 use cal_span::read_span;
@@ -52,7 +54,7 @@ pub fn read_stamp(
         Form::Counted(span) => after_second(0, read_span(span)?),
         Form::Midnight(day, after) => {
             let zone = read_zone(after, &at)?;
-            settled(zone, near_day(now, zone, day), 0)
+            settle_on(zone, near_day(now, zone, day), 0)
         }
         Form::Civil(text) => {
             let written = read_civil(text, &at)?;

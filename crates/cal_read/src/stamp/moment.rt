@@ -5,7 +5,7 @@ ghost use Rattle.jiff.specs.Words.{IsBetween};
 ghost use Rattle.cal_zone.specs.Instant.{IsInstant};
 ghost use Rattle.cal_zone.specs.headline.Zone.{local_of, zone_of};
 ghost use Rattle.cal_zone.specs.headline.Moment.{micros_of};
-ghost use Rattle.cal_read.specs.Stamp.{before_second, after_second, in_moments, settled, today};
+ghost use Rattle.cal_read.specs.Stamp.{before_second, after_second, in_moments, settle_on, today};
 ghost use Rattle.cal_read.specs.StampViews.{shift_of, micros_or_fault};
 
 use crate::StampFault;
@@ -68,11 +68,11 @@ fn local_second(now: Instant, zone: Zone) -> i64
 
 /// The moment of that many microseconds after midnight of the day. A local time that the zone's clock skips is moved on
 /// by what is skipped, and of one that it shows twice this is the first (systemd.time(7), Parsing Timestamps).
-#[tactic(auto, unfolding(crate::specs::Stamp::settled))]
-pub(crate) fn settled(zone: Zone, day: i64, micros: u64) -> Result<Moment, StampFault>
+#[tactic(auto, unfolding(crate::specs::Stamp::settle_on))]
+pub(crate) fn settle_on(zone: Zone, day: i64, micros: u64) -> Result<Moment, StampFault>
     requires day { IsBetween (neg_ℤ (pos 3)) (pos 84_009) day }
     requires micros { micros ≤ 90_000_000_000 }
-    ensures { micros_or_fault result ≡ settled (zone_of zone.entry) day micros }
+    ensures { micros_or_fault result ≡ settle_on (zone_of zone.entry) day micros }
 {
     let second = settle(zone, local_time(day, micros / SECOND));
     moment_of(with_micros(second, micros % SECOND))
