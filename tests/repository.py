@@ -1,8 +1,7 @@
-"""What the scripts of this repository share: its crates, how much of the machine they may use, and a line of progress."""
+"""What ./build and ./test share: the crates, how much of the machine they may use, and a line of progress."""
 
 import os
 import re
-import shutil
 import subprocess
 import sys
 import time
@@ -11,66 +10,46 @@ ROOT = os.path.dirname(os.path.dirname(os.path.realpath(__file__)))
 
 
 def libraries():
-    """Each crate with the libraries that crates.txt names for it, lowest first."""
-    named = {}
-    with open(f"{ROOT}/crates.txt") as it:
-        for line in it:
+    """Returns for each crate the libraries that crates.txt names, lowest crate first."""
+    named, ordered = {}, {}
+    with open(f"{ROOT}/crates.txt") as file:
+        for line in file:
             name, colon, words = line.split("#")[0].partition(":")
             if colon:
                 named[name.strip()] = words.split()
-    found = {}
 
     def visit(name):
-        if name in named and name not in found:
-            for it in named[name]:
-                visit(it)
-            found[name] = named[name]
+        if name in named and name not in ordered:
+            for library in named[name]:
+                visit(library)
+            ordered[name] = named[name]
 
     for name in named:
         visit(name)
-    return found
+    return ordered
 
 
 def seconds():
-    """How long one processor took to prove each crate, as crates.txt has it."""
-    with open(f"{ROOT}/crates.txt") as it:
-        return {found[1]: int(found[2]) for found in re.finditer(r"(?m)^(\w+):.*# (\d+)$", it.read())}
+    """Returns the seconds that one processor takes to prove each crate, as crates.txt says."""
+    with open(f"{ROOT}/crates.txt") as file:
+        return {name: int(number) for name, number in re.findall(r"(?m)^(\w+):.*# (\d+)$", file.read())}
 
 
 def below(name, named):
-    """The crates of this repository that a crate is built on, lowest first."""
-    found = {it for of in named[name] if of in named for it in [of, *below(of, named)]}
-    return [it for it in named if it in found]
-
-
-def kit():
-    """The folder of the Rattle kit, or None where its command isn't on the PATH."""
-    rt = shutil.which("rt")
-    return rt and os.path.dirname(os.path.dirname(os.path.realpath(rt)))
-
-
-def words(tree, name, named):
-    """The words by which rt has a crate checked, over the libraries that a tree has in its folders out/rlib."""
-    own, root = below(name, named), f"{ROOT}/crates/{name}/src"
-    found = ["--crate-name", name, "src/main.rt" if os.path.isfile(f"{root}/main.rt") else "src/lib.rt"]
-    for it in ["std", *named[name]]:
-        folder = f"{tree}/crates/{it}/out/rlib" if it in own else f"{kit()}/rlibs"
-        found += ["--extern", f"{it}={folder}/{it}.rlib"]
-    for folder in [f"{kit()}/rlibs", *[f"{tree}/crates/{it}/out/rlib" for it in own]]:
-        found += ["-L", f"dependency={folder}"]
-    logic = ["--antt-project", f"{kit()}/rattle/logic/antt-project.json", "--logic-built", f"{kit()}/logic_built"]
-    return [*found, *logic, "--jobs", "1", "--links", f"{name}="]
+    """Returns the crates of this repository that a crate builds on, lowest first."""
+    found = {crate for own in named[name] if own in named for crate in [own, *below(own, named)]}
+    return [crate for crate in named if crate in found]
 
 
 def kit_version():
     return subprocess.run(["rt", "version"], capture_output=True, text=True).stdout.strip()
 
 
-def lanes(memory, share=1.0, each=1.0):
-    """How many checks run side by side: `each` for each processor, and at most as many as a share of the free memory holds."""
-    with open("/proc/meminfo") as it:
-        free = next(1024 * int(line.split()[1]) for line in it if line.startswith("MemAvailable:"))
-    return max(1, min(int(each * len(os.sched_getaffinity(0))), int(share * free) // memory))
+def lanes(memory, each=1.0):
+    """Returns how many checks to run side by side: `each` per processor, if the free memory allows."""
+    with open("/proc/meminfo") as file:
+        free = next(1024 * int(line.split()[1]) for line in file if line.startswith("MemAvailable:"))
+    return max(1, min(int(each * len(os.sched_getaffinity(0))), free // memory))
 
 
 def clock(seconds):
@@ -78,7 +57,7 @@ def clock(seconds):
 
 
 class Progress:
-    """One line on standard error that says how far the work is. A terminal shows the last one only."""
+    """A line on standard error that says how far the work is. A terminal shows only the latest one."""
 
     def __init__(self, name):
         self.name, self.start, self.shown, self.is_terminal = name, time.monotonic(), "", sys.stderr.isatty()
