@@ -87,7 +87,7 @@ impl<'z> Elapses<'z> {
 }
 
 impl Rising for Elapses<'_> {
-    ghost use Rattle.std.specs.Prelude.{◌≡◌, ◌≤◌, drop, slice_get};
+    ghost use Rattle.std.specs.Prelude.{◌≡◌, ◌≤◌, IfSome, IsSome, drop, slice_get};
     ghost use Rattle.std.specs.Ordering.{int_eq};
     ghost use Rattle.std.specs.Set.{is_member};
     ghost use Rattle.cal_elapse.specs.Rest.{rest_of, rises-rest_of};
@@ -116,15 +116,16 @@ impl Rising for Elapses<'_> {
         self.window.take()
     }
 
-    /// Whether the instant is an elapse that is left to give. It makes no search.
-    fn has(&mut self, number: i64) -> bool
-        ensures has { result ≡ is_member int_eq (rest_of self.old) number }
+    /// Returns whether `number` is an elapse that was not returned yet. It makes no search, and it can always tell.
+    fn has(&mut self, number: i64) -> Option<bool>
+        ensures has { IfSome result (λ has. has ≡ is_member int_eq (rest_of self.old) number) }
+        ensures says { IsSome result }
         ensures same { rest_of self.new ≡ rest_of self.old }
         ensures window { self.new ≡ self.old }
     {
         match Instant::new(number) {
-            Some(instant) if self.window.last < number => self.all.has(instant),
-            _ => false,
+            Some(instant) if self.window.last < number => Some(self.all.has(instant)),
+            _ => Some(false),
         }
     }
 

@@ -1,8 +1,9 @@
 -- A rising list without the numbers of another: its members, and what one turn of a merge leaves of both.
-use Rattle.std.proofs.Common.{◌≡◌, ◌≢◌, ◌↔◌, ◌||◌, ◌&&◌, ◌<◌, ◌≤◌, ◌+◌, ℕ, suc, cond, Bool, true, false, not, List, [], ◌∷◌, length, drop, slice_get, get_or, get_or-set_other, set, map, zero, Option, Some, ℤ, ◌≤ℤ◌, int_eq, refl, sym, ap, ◌∙◌, arith}
+use Rattle.std.proofs.Common.{None, IfSome, ◌≡◌, ◌≢◌, ◌↔◌, ◌||◌, ◌&&◌, ◌<◌, ◌≤◌, ◌+◌, ℕ, suc, cond, Bool, true, false, not, List, [], ◌∷◌, length, drop, slice_get, get_or, get_or-set_other, set, map, zero, Option, Some, ℤ, ◌≤ℤ◌, int_eq, refl, sym, ap, ◌∙◌, arith}
 use Rattle.std.specs.List.{AllByRecursion, list_any}
 use Rattle.std.specs.List.Sorted.{IsStrictlySortedBy}
 use Rattle.std.specs.Ordering.{int_cmp}
+use Rattle.std.specs.Option.{option_eq}
 use Rattle.std.specs.Set.{is_member}
 use Rattle.std.specs.declared.cmp.Ordering.TheVariants.{Less}
 use Rattle.std.proofs.lemmas.Map.Keys.{sorted_head}
@@ -11,7 +12,7 @@ use Rattle.std.proofs.lemmas.Bool.Decides.{Decides-int_eq}
 use Rattle.std.proofs.lemmas.Int.{ints}
 use Rattle.std.proofs.lemmas.List.{get_or_default}
 use borrow.Author.Count.{below_more}
-use Rattle.cal_rising.specs.Merge.{Branch, numbers, numbers_by}
+use Rattle.cal_rising.specs.Merge.{Branch, HasHead, numbers, numbers_by}
 use Rattle.cal_rising.specs.Rises.{rises-union, rises-without}
 use Rattle.cal_rising.specs.RisingList.{HasAny, IsSameFrom, IsUnionWithout, union, without}
 use Rattle.cal_rising.specs.headline.Elements.{Has}
@@ -67,6 +68,17 @@ is_member-first m n (x ∷ xs) h at le = grind (arith, above_not_in x n xs, sort
 pub is_member-head : (head : Option ℤ) (xs : List ℤ) (m n : ℤ) → IsStrictlySortedBy int_cmp (numbers_by head xs) → head ≡ Some m → n ≤ℤ m
     → is_member int_eq (numbers_by head xs) n ≡ int_eq n m
 is_member-head head xs m n h e le = is_member-first m n (numbers_by head xs) h (rw e refl) le
+
+member_reached : (head : Option ℤ) (xs : List ℤ) (n : ℤ) → head ≡ slice_get (numbers_by head xs) 0 → IsStrictlySortedBy int_cmp (numbers_by head xs)
+    → IfSome head (λ head. n ≤ℤ head) → option_eq int_eq head (Some n) ≡ is_member int_eq (numbers_by head xs) n
+member_reached None [] n first rises at = refl
+member_reached None (x ∷ xs) n first rises at = absurd (cc)
+member_reached (Some m) xs n first rises at = int_eq_equiv.symm m n ∙ sym (is_member-head (Some m) xs m n rises refl at)
+
+-- A branch that was read up to a number had that number exactly if it is now the first one.
+pub is_member-reached : (s was : Branch) (n : ℤ) → HasHead s → IfSome s.head (λ head. n ≤ℤ head) → IsSameFrom n (numbers s) (numbers was)
+    → option_eq int_eq s.head (Some n) ≡ is_member int_eq (numbers was) n
+is_member-reached s was n h at same = member_reached s.head s.after n h.0 h.1 at ∙ same n (grind (arith, ints))
 
 -- lists with the same numbers from one number on leave the same of a list above that number
 without-same : (n : ℤ) (xs ys zs : List ℤ) → AllByRecursion (λ y. int_cmp n y ≡ Less) xs → IsSameFrom n zs ys → without xs zs ≡ without xs ys

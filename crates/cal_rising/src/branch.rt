@@ -1,6 +1,6 @@
-//! One source of a merge, with the number that was taken from it and not given yet.
+//! One source of a merge, with the number that was read from it and not returned yet.
 
-ghost use Rattle.std.specs.Prelude.{◌≡◌, None};
+ghost use Rattle.std.specs.Prelude.{◌≡◌, ◌≤ℤ◌, None, IfSome};
 ghost use Rattle.std.specs.Set.{is_member};
 ghost use Rattle.std.specs.Ordering.{int_eq};
 ghost use Rattle.cal_rising.specs.Merge.{HasHead, numbers, passed};
@@ -9,15 +9,16 @@ ghost use Rattle.cal_rising.specs.RisingList.{IsSameFrom};
 use crate::Rising;
 use std::marker::Model;
 
-/// How often a source is asked before it takes a step, as a step of a source with few numbers costs far more.
+/// How many questions a source answers before one number is read from it. Reading a number of a sparse source costs far
+/// more than a question.
 const ASKED_FOR_A_STEP: u8 = 128;
 
-/// A source of numbers that rise, seen as the number taken from it, if there is one, and what is after that.
+/// A source and the number read ahead from it, if there is one. A contract sees that number and the numbers after it.
 #[derive(Drop)]
 pub struct Branch<S: Rising> {
     head: Option<i64>,
     source: S,
-    /// How often it was asked since it took a step.
+    /// How often the source was asked since a number was last read from it.
     asked: u8,
 }
 
@@ -34,7 +35,7 @@ impl<S: Rising> Model for Branch<S> {
 }
 
 impl<S: Rising> Branch<S> {
-    /// The source, of which no number was taken yet.
+    /// Creates a branch of which no number has been read yet.
     pub fn new(source: S) -> Self
         ensures { result ≡ record { head = None; after = S.rest source } }
     {
@@ -45,7 +46,7 @@ impl<S: Rising> Branch<S> {
         }
     }
 
-    /// Takes the first number of the source, unless one is taken already. What there is to give stays the same.
+    /// Reads a number from the source unless one is waiting already. The numbers to be returned stay the same.
     pub fn fetch(&mut self)
         ensures same { numbers self.new ≡ numbers self.old }
         ensures taken { HasHead self.new }
@@ -55,14 +56,14 @@ impl<S: Rising> Branch<S> {
         }
     }
 
-    /// The number that was taken and not given yet.
+    /// Returns the number that was read and not returned yet.
     pub fn head(&self) -> Option<i64>
         ensures { result ≡ self.now.head }
     {
         self.head
     }
 
-    /// Gives the number that was taken, where it is not above this one.
+    /// Drops the number that was read if it is not above `number`.
     pub fn pass(&mut self, number: i64)
         requires { HasHead self.old }
         ensures { numbers self.new ≡ passed number (numbers self.old) }
@@ -72,19 +73,52 @@ impl<S: Rising> Branch<S> {
         }
     }
 
-    /// Whether it has still to give the number. The number that was taken is the answer, where it isn't below this one.
-    pub fn has(&mut self, number: i64) -> bool
+    /// Returns whether `number` is still to be returned. The caller promises not to ask for a smaller number again, so a
+    /// source that cannot tell is read up to `number`.
+    pub fn has_onward(&mut self, number: i64) -> bool
         ensures has { result ≡ is_member int_eq (numbers self.old) number }
+        ensures left { IsSameFrom number (numbers self.new) (numbers self.old) }
+    {
+        match self.has(number) {
+            Some(true) => true,
+            Some(false) => {
+                self.follow(number);
+                false
+            }
+            None => {
+                self.reach(number);
+                self.head == Some(number)
+            }
+        }
+    }
+
+    /// Returns whether `number` is still to be returned, or `None` if the source cannot tell. The number read ahead decides
+    /// unless it is below `number`.
+    fn has(&mut self, number: i64) -> Option<bool>
+        ensures has { IfSome result (λ has. has ≡ is_member int_eq (numbers self.old) number) }
         ensures same { numbers self.new ≡ numbers self.old }
     {
         match self.head {
-            Some(head) if number <= head => head == number,
+            Some(head) if number <= head => Some(head == number),
             _ => self.source.has(number),
         }
     }
 
-    /// Once it was asked often enough, takes the next number of the source in the place of one below this number.
-    pub fn follow(&mut self, number: i64)
+    /// Reads numbers from the source until one is not below `number`.
+    fn reach(&mut self, number: i64)
+        ensures left { IsSameFrom number (numbers self.new) (numbers self.old) }
+        ensures reached { IfSome self.new.head (λ head. number ≤ℤ head) }
+        ensures taken { HasHead self.new }
+    {
+        self.fetch();
+        'steps: while self.head.is_some_and(|head| head < number) {
+            self.head = None;
+            self.fetch();
+        }
+    }
+
+    /// Replaces a number read ahead that is below `number` by the next one, but only after enough questions.
+    fn follow(&mut self, number: i64)
         ensures { IsSameFrom number (numbers self.new) (numbers self.old) }
     {
         if self.head.is_some_and(|head| head >= number) {

@@ -1,12 +1,13 @@
-//! A list of numbers that is given one after another.
+//! A source that returns the numbers of a list.
 
-ghost use Rattle.std.specs.Prelude.{◌≡◌, drop};
+ghost use Rattle.std.specs.Prelude.{◌≡◌, IfSome, IsSome, drop};
 ghost use Rattle.std.specs.List.Sorted.{IsStrictlySortedBy, IsStrictlySortedBy-prop};
-ghost use Rattle.std.specs.Ordering.{int_cmp};
+ghost use Rattle.std.specs.Ordering.{int_cmp, int_eq};
+ghost use Rattle.std.specs.Set.{is_member};
 
 use crate::Rising;
 
-/// Numbers that rise, with the count of those that were given already.
+/// A list of strictly increasing numbers, and how many of them were returned already.
 #[derive(Drop)]
 pub struct Listed {
     numbers: Vec<i64>,
@@ -15,7 +16,7 @@ pub struct Listed {
 }
 
 impl Listed {
-    /// The source that gives these numbers, which have to rise strictly.
+    /// Creates a source of these numbers, which must be strictly increasing.
     pub fn new(numbers: Vec<i64>) -> Self
         requires { IsStrictlySortedBy int_cmp numbers.items }
         ensures { ⟦<Listed as Rising>⟧.rest result ≡ numbers.items }
@@ -36,11 +37,18 @@ impl Rising for Listed {
         number
     }
 
-    fn has(&mut self, number: i64) -> bool {
-        self.numbers
-            .iter()
-            .skip(self.given)
-            .any(|here| *here == number)
+    /// Returns whether `number` is in the list and was not returned yet. A list can always tell.
+    fn has(&mut self, number: i64) -> Option<bool>
+        ensures has { IfSome result (λ has. has ≡ is_member int_eq (drop self.old.given self.old.numbers.items) number) }
+        ensures says { IsSome result }
+        ensures same { self.new ≡ self.old }
+    {
+        Some(
+            self.numbers
+                .iter()
+                .skip(self.given)
+                .any(|here| *here == number),
+        )
     }
 
     ghost rises = { λ listed. listed.rising };

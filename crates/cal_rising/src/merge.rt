@@ -83,10 +83,6 @@ impl<S: Rising> Rising for Merge<S> {
         None
     }
 
-    fn has(&mut self, number: i64) -> bool {
-        self.sources.has(number) && !self.exceptions.has(number)
-    }
-
     ghost use Rattle.cal_rising.specs.RisingList.{union};
     ghost use Rattle.cal_rising.specs.Rises.{rises-union, rises-without};
 

@@ -1,25 +1,31 @@
-//! What gives numbers one after another, each greater than the one before.
+//! The trait of sources that return numbers one after another, each greater than the last.
 
-ghost use Rattle.std.specs.Prelude.{◌≡◌, ℤ, List, drop, slice_get};
+ghost use Rattle.std.specs.Prelude.{◌≡◌, ℤ, List, IfSome, drop, slice_get};
 ghost use Rattle.std.specs.List.Sorted.{IsStrictlySortedBy};
 ghost use Rattle.std.specs.Ordering.{int_cmp, int_eq};
 ghost use Rattle.std.specs.Set.{is_member};
 
-/// A source of numbers that rise. What it is to give is its rest, a strictly rising list.
+/// A source of strictly increasing numbers. The numbers that it has yet to return are its rest.
 pub trait Rising {
-    /// The numbers that are left to give.
+    /// The numbers that the source has yet to return.
     ghost rest: { Self → List ℤ };
 
-    /// Gives the first of the rest and drops it from there; `None` where nothing is left. It takes no memory.
+    /// Removes and returns the first number of the rest. Returns `None` if the rest is empty. It does not allocate.
     fn next(&mut self) -> Option<i64>
         ensures given { result ≡ slice_get (rest self.old) 0 }
         ensures left { rest self.new ≡ drop 1 (rest self.old) };
 
-    /// Whether the rest has the number; the rest stays as it is. It takes no memory.
-    fn has(&mut self, number: i64) -> bool
-        ensures has { result ≡ is_member int_eq (rest self.old) number }
-        ensures same { rest self.new ≡ rest self.old };
+    /// Returns whether the rest contains `number`, or `None` if the source cannot tell. The rest does not change. It does
+    /// not allocate.
+    ///
+    /// By default a source cannot tell; a [`Merge`](crate::Merge) then reads it up to the number instead.
+    fn has(&mut self, _number: i64) -> Option<bool>
+        ensures has { IfSome result (λ has. has ≡ is_member int_eq (rest self.old) _number) }
+        ensures same { rest self.new ≡ rest self.old }
+    {
+        None
+    }
 
-    /// Whatever the value, its rest rises.
+    /// The rest of every value is strictly increasing.
     ghost rises: { (s : Self) → IsStrictlySortedBy int_cmp (rest s) };
 }

@@ -50,7 +50,7 @@ impl<S: Rising> Sources<S> {
         Ok(())
     }
 
-    /// Whether one of the sources has the number, where no number below it is asked for again.
+    /// Returns whether one of the sources has `number`. The caller promises not to ask for a smaller number again.
     pub fn has_onward(&mut self, number: i64) -> bool
         ensures has { result ≡ is_member int_eq (union self.old) number }
         ensures left { IsSameFrom number (union self.new) (union self.old) }
@@ -73,10 +73,6 @@ impl<S: Rising> Rising for Sources<S> {
             pass_all(&mut self.branches, number);
         }
         least
-    }
-
-    fn has(&mut self, number: i64) -> bool {
-        any_has(&mut self.branches, number)
     }
 
     ghost use Rattle.cal_rising.specs.Rises.{rises-union};
@@ -117,30 +113,17 @@ fn pass_all<S: Rising>(branches: &mut Vec<Branch<S>>, number: i64)
     }
 }
 
-/// Whether one of the sources has the number.
-fn any_has<S: Rising>(branches: &mut Vec<Branch<S>>, number: i64) -> bool
-    ensures has { result ≡ list_any (λ xs. is_member int_eq xs number) (map numbers branches.old.items) }
-    ensures same { map numbers branches.new.items ≡ map numbers branches.old.items }
-{
-    for branch in branches.iter_mut() {
-        if branch.has(number) {
-            return true;
-        }
-    }
-    false
-}
-
-/// The same, where no number below this one is asked for again: a source behind it that lacks it may take a step.
+/// Returns whether one of the sources has `number`. The caller promises not to ask for a smaller number again, so a source
+/// without `number` may be read further.
 fn follow_all<S: Rising>(branches: &mut Vec<Branch<S>>, number: i64) -> bool
     ensures has { result ≡ list_any (λ xs. is_member int_eq xs number) (map numbers branches.old.items) }
     ensures left { (i : ℤ) → number ≤ℤ i → list_any (λ xs. is_member int_eq xs i) (map numbers branches.new.items)
         ≡ list_any (λ xs. is_member int_eq xs i) (map numbers branches.old.items) }
 {
     for branch in branches.iter_mut() {
-        if branch.has(number) {
+        if branch.has_onward(number) {
             return true;
         }
-        branch.follow(number);
     }
     false
 }

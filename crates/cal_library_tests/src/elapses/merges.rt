@@ -1,7 +1,9 @@
 //! Lists of numbers, and elapses, that are given as one: those of several sources, without those of exceptions.
 
 use super::elapses_of;
-use crate::numbers::{add, add_except, expect_first, expect_numbers, merge_two, merge_without};
+use crate::numbers::{
+    Silent, add, add_except, expect_first, expect_numbers, listed, merge_two, merge_without,
+};
 use crate::shared::{SUMMER_TIME, posix};
 use cal_base::Zone;
 use cal_elapse::{Elapses, Listed, Merge};
@@ -34,6 +36,18 @@ fn exceptions(rt: HostRuntime) -> Result<(), AllocError> {
     expect_numbers(&rt, &mut merge, &[1, 7, 9]);
     let mut alone = merge_without(alloc, &[], &[], &[5, 8])?;
     expect_numbers(&rt, &mut alone, &[]);
+    Ok(())
+}
+
+/// A source that can't tell what it has suppresses the same numbers as an exception.
+#[test]
+fn silent_exceptions(rt: HostRuntime) -> Result<(), AllocError> {
+    let alloc = rt.alloc();
+    let mut merge = Merge::new(alloc);
+    add(&mut merge, Silent::new(listed(alloc, &[1, 5, 9])?))?;
+    add(&mut merge, Silent::new(listed(alloc, &[5, 7])?))?;
+    add_except(&mut merge, Silent::new(listed(alloc, &[0, 5, 8])?))?;
+    expect_numbers(&rt, &mut merge, &[1, 7, 9]);
     Ok(())
 }
 

@@ -1,4 +1,4 @@
-use Rattle.std.proofs.Common.{rules, ◌∙◌, List, ap, arith, length-set, map, set, sym, w64, ℤ, int_eq}
+use Rattle.std.proofs.Common.{rules, ◌∙◌, List, ap, arith, length-set, map, set, sym, w64, int_eq}
 use Rattle.std.proofs.lemmas.Int.{to_z-of_z}
 use Rattle.std.specs.List.{list_any}
 use Rattle.std.specs.Set.{is_member}
@@ -7,29 +7,27 @@ use Rattle.cal_rising.proofs.WithoutLemmas.{any_replaced, behind_all, behind_her
 use Rattle.cal_rising.proofs.sources.follow_all.Goals as goal
 use Rattle.cal_text.proofs.General.{taken_whole}
 
-pub returns-then-has-clause-has : goal.returns-then-has-clause-has
-returns-then-has-clause-has g c =
-    behind_here _ _ _ _ _ _ _ c.loop-branch.invariant.behind (to_z-of_z w64 c.args.number (search rules)) c.deref_mut-branch-items.ensures.value (omega arith) (sym c.has.ensures.has ∙ c.if-has.true)
+pub returns-then-has_onward-clause-has : goal.returns-then-has_onward-clause-has
+returns-then-has_onward-clause-has g c =
+    behind_here _ _ _ _ _ _ _ c.loop-branch.invariant.behind (to_z-of_z w64 c.args.number (search rules)) c.deref_mut-branch-items.ensures.value (omega arith) (sym c.has_onward.ensures.has ∙ c.if-has_onward.true)
 
 pub returns-clause-has : goal.returns-clause-has
 returns-clause-has g c =
     behind_all _ _ _ _ _ _ c.loop-branch.invariant.behind (to_z-of_z w64 c.args.number (search rules)) c.deref_mut-branch-items.ensures.value (omega arith)
 
-pub returns-then-has-clause-left : goal.returns-then-has-clause-left
-returns-then-has-clause-left g c = λ i le.
-    let whole = taken_whole (set c.loop-branch.branch-items c.loop-branch.branch-index c.has.new.self) c.args.branches.now.items c.args.branches.now.len (omega (arith, length-set {A = Branch})) (omega arith) in
+pub returns-then-has_onward-clause-left : goal.returns-then-has_onward-clause-left
+returns-then-has_onward-clause-left g c = λ i le.
+    let whole = taken_whole (set c.loop-branch.branch-items c.loop-branch.branch-index c.has_onward.new.self) c.args.branches.now.items c.args.branches.now.len (omega (arith, length-set {A = Branch})) (omega arith) in
     let any = λ (ss : List Branch). list_any (λ xs. is_member int_eq xs i) (map numbers ss) in
     ap any whole
-    ∙ any_replaced i c.loop-branch.branch-items c.loop-branch.branch-index c.has.new.self c.branch-item.result (omega arith)
-    (ap (λ (xs : List ℤ). is_member int_eq xs i) c.has.ensures.same)
+    ∙ any_replaced i c.loop-branch.branch-items c.loop-branch.branch-index c.has_onward.new.self c.branch-item.result (omega arith) (c.has_onward.ensures.left i (rw (to_z-of_z w64 c.args.number (search rules)) le))
     ∙ c.loop-branch.invariant.left i (rw (to_z-of_z w64 c.args.number (search rules)) le)
     ∙ ap any c.deref_mut-branch-items.ensures.value
 
 pub loop-branch-preserved : goal.loop-branch-preserved
 loop-branch-preserved g c = record {
-  behind = behind_more _ _ _ _ _ _ c.loop-branch.invariant.behind (omega arith) (sym c.has.ensures.has ∙ c.if-has.false);
+  behind = behind_more _ _ _ _ _ _ c.loop-branch.invariant.behind (omega arith) (sym c.has_onward.ensures.has ∙ c.if-has_onward.false);
   left = λ i le.
-      any_replaced i c.loop-branch.branch-items c.loop-branch.branch-index c.follow.new.self c.branch-item.result (omega arith)
-      (c.follow.ensures i le ∙ ap (λ (xs : List ℤ). is_member int_eq xs i) c.has.ensures.same)
+      any_replaced i c.loop-branch.branch-items c.loop-branch.branch-index c.has_onward.new.self c.branch-item.result (omega arith) (c.has_onward.ensures.left i le)
       ∙ c.loop-branch.invariant.left i le;
 }

@@ -1,0 +1,15 @@
+use Rattle.std.proofs.Common.{length}
+use Rattle.cal_rising.specs.Merge.{HasHead, numbers}
+use Rattle.cal_rising.specs.RisingList.{IsSameFrom}
+use Rattle.cal_rising.proofs.branch.Branch.reach.Given as goal
+
+-- from `number` on the branch has the numbers that it had, and its first number is read
+abbrev pub invariant-steps : goal.invariant-steps
+invariant-steps g l = record {
+  left : IsSameFrom l.number (numbers l.self) (numbers l.fn.self);
+  taken : HasHead l.self;
+}
+
+-- each turn drops one number
+abbrev pub decreases-steps : goal.decreases-steps
+decreases-steps g l = length (numbers l.self)
