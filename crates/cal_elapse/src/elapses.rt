@@ -1,11 +1,12 @@
 //! The elapses of a calendar expression in a zone, one after another (systemd.time(7), Calendar Events).
 
+use crate::NoMemory;
 use crate::elapse_set::ElapseSet;
 use crate::window::Window;
 use cal_rising::Rising;
 use cal_spec::Expr;
 use cal_zone::{Instant, Zone};
-use std::alloc::{AllocError, Global};
+use std::alloc::Global;
 use std::marker::Model;
 
 /// The elapses of an expression in a zone, later than a base: the places of all matching local seconds of the years
@@ -52,7 +53,7 @@ impl<'z> Elapses<'z> {
         expr: &Expr,
         zone: Zone<'z>,
         base: Instant,
-    ) -> Result<Elapses<'z>, AllocError>
+    ) -> Result<Elapses<'z>, NoMemory>
         ensures rest { IfOk result (λ elapses. rest_of elapses
             ≡ elapses_after (timed expr.now (zone_of zone.entry) ∷ []) base.secs) }
         ensures timed { IfOk result (λ elapses. timed_of elapses ≡ timed expr.now (zone_of zone.entry)) }

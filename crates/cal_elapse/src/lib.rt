@@ -21,7 +21,7 @@ mod searcher;
 mod time_search;
 mod window;
 
-pub use cal_rising::{Listed, Merge, Rising};
+pub use cal_rising::{Listed, Merge, NoMemory, Rising};
 pub use elapses::Elapses;
 pub use masks::Masks;
 pub use pending::Pending;

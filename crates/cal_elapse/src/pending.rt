@@ -8,8 +8,9 @@ ghost use Rattle.cal_zone.specs.Instant.{IsInstant};
 ghost use Rattle.cal_elapse.specs.Near.{IsNear};
 ghost use Rattle.cal_rising.specs.headline.Elements.{Has};
 
+use crate::NoMemory;
 use crate::ring::{CELLS, WORDS, clear_cell, first_held, set_cell, set_cells};
-use std::alloc::{AllocError, Global};
+use std::alloc::Global;
 use std::marker::Model;
 
 /// What stands for the least member where there is none: no instant is as late.
@@ -44,7 +45,7 @@ impl Pending {
     ghost use Rattle.cal_elapse.specs.Ring.{IsOneOf};
 
     /// The empty set.
-    pub fn new(alloc: Global) -> Result<Pending, AllocError>
+    pub fn new(alloc: Global) -> Result<Pending, NoMemory>
         ensures { IfOk result (λ pending. pending ≡ []) }
     {
         Ok(Pending {

@@ -8,11 +8,11 @@ ghost use Rattle.cal_zone.specs.headline.Zone.{zone_of};
 ghost use Rattle.cal_rising.specs.headline.Elements.{Has};
 ghost use Rattle.cal_elapse.specs.Window.{start_of, to_place, with_place};
 
-use crate::Pending;
 use crate::searcher::{Searcher, Start};
+use crate::{NoMemory, Pending};
 use cal_spec::Expr;
 use cal_zone::{Instant, Placer, Zone};
-use std::alloc::{AllocError, Global};
+use std::alloc::Global;
 
 /// How far a place can lie from its local second.
 const FARTHEST: i64 = 93_599;
@@ -50,7 +50,7 @@ impl<'z> Window<'z> {
         expr: &Expr,
         zone: Zone<'z>,
         base: Instant,
-    ) -> Result<Window<'z>, AllocError>
+    ) -> Result<Window<'z>, NoMemory>
         ensures ready { IfOk result IsReady }
         ensures timed { IfOk result (λ window. timed_of window ≡ timed expr.now (zone_of zone.entry)) }
         ensures last { IfOk result (λ window. window.last ≡ base.secs) }

@@ -11,3 +11,5 @@ mod sources;
 pub use listed::Listed;
 pub use merge::Merge;
 pub use rising::Rising;
+/// The error of a call that could not allocate.
+pub use std::alloc::AllocError as NoMemory;

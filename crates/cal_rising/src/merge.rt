@@ -3,9 +3,9 @@
 ghost use Rattle.std.specs.Prelude.{◌≡◌, ◌++◌, ◌∷◌, [], true, false, IfErr, OnErr, OnOk, slice_get, drop};
 ghost use Rattle.cal_rising.specs.Merge.{merged};
 
-use crate::Rising;
 use crate::sources::Sources;
-use std::alloc::{AllocError, Global};
+use crate::{NoMemory, Rising};
+use std::alloc::Global;
 use std::marker::Model;
 
 /// Sources of rising numbers, given as one: each number that one of them has and no exception has, once.
@@ -41,7 +41,7 @@ impl<S: Rising> Merge<S> {
     /// Adds a source, as long as no number was asked for.
     ///
     /// A refusal of memory leaves the merge as it was and hands the source back.
-    pub fn add(&mut self, source: S) -> Result<(), (S, AllocError)>
+    pub fn add(&mut self, source: S) -> Result<(), (S, NoMemory)>
         requires { self.old.started ≡ false }
         ensures added { OnOk result
             (self.new ≡ record { started = false; lists = self.old.lists ++ S.rest source ∷ []; exceptions = self.old.exceptions }) }
@@ -54,7 +54,7 @@ impl<S: Rising> Merge<S> {
     /// Adds an exception, as long as no number was asked for: none of its numbers is given, whichever source has it.
     ///
     /// A refusal of memory leaves the merge as it was and hands the exception back.
-    pub fn add_except(&mut self, exception: S) -> Result<(), (S, AllocError)>
+    pub fn add_except(&mut self, exception: S) -> Result<(), (S, NoMemory)>
         requires { self.old.started ≡ false }
         ensures added { OnOk result
             (self.new ≡ record { started = false; lists = self.old.lists; exceptions = self.old.exceptions ++ S.rest exception ∷ [] }) }

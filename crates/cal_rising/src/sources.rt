@@ -7,9 +7,9 @@ ghost use Rattle.std.specs.Ordering.{int_eq};
 ghost use Rattle.cal_rising.specs.Merge.{HasHead, lesser, numbers, passed};
 ghost use Rattle.cal_rising.specs.RisingList.{IsSameFrom, union};
 
-use crate::Rising;
 use crate::branch::Branch;
-use std::alloc::{AllocError, Global};
+use crate::{NoMemory, Rising};
+use std::alloc::Global;
 use std::marker::Model;
 
 /// Sources of rising numbers, seen as what each of them has still to give.
@@ -38,7 +38,7 @@ impl<S: Rising> Sources<S> {
     }
 
     /// Adds a source. A refusal of memory leaves the sources as they were and hands the new one back.
-    pub fn add(&mut self, source: S) -> Result<(), (S, AllocError)>
+    pub fn add(&mut self, source: S) -> Result<(), (S, NoMemory)>
         ensures added { OnOk result (self.new ≡ self.old ++ S.rest source ∷ []) }
         ensures unchanged { OnErr result (self.new ≡ self.old) }
         ensures handed_back { IfErr result (λ refused. refused.0 ≡ source) }
