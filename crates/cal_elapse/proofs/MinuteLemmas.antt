@@ -1,23 +1,23 @@
 -- What is left of the minute of a match, as a search takes bit after bit.
-use Rattle.std.proofs.Common.{IsSome, ◌≡◌, ◌≢◌, ◌∙◌, ℕ, ◌+◌, ◌-◌, ◌*◌, ◌/◌, ◌%◌, ◌^◌, ◌<◌, Bool, true, false, ◌&&◌, Option, Some, ℤ, option_map, pos, unsigned_abs, w64, sym, subst, refl, arith, ltb-true}
-use Rattle.std.proofs.lemmas.Bool.{and_parts, false_from_ne_true}
+use Rattle.std.proofs.Common.{IsSome, ◌≡◌, ◌≢◌, ◌∙◌, ℕ, ◌+◌, ◌-◌, ◌*◌, ◌/◌, ◌%◌, ◌^◌, ◌<◌, ◌≤◌, Bool, true, false, ◌&&◌, Option, Some, ℤ, option_map, pos, unsigned_abs, w64, sym, subst, refl, arith, ltb-true, nat_lt}
+use Rattle.std.proofs.lemmas.Bool.{and_parts, false_from_ne_true, lt-ltb}
 use Rattle.std.specs.Int.{trailing_zeros}
 use Rattle.cal_zone.specs.headline.Local.{seconds_in_all, seconds_in_all-is}
 use Rattle.cal_spec.specs.headline.Match.{Sets, matches, time_in}
 use Rattle.cal_elapse.specs.Bits.{is_bit}
-use Rattle.cal_elapse.specs.Left.{IsLeft, IsMoreLeft, IsNextLeft, IsRest, NoneLeft}
+use Rattle.cal_elapse.specs.Left.{IsLeft, IsMoreLeft, IsNextLeft, IsRest, NoneLeft, minute_matches}
 use Rattle.cal_elapse.specs.Looks.{IsSearch}
 use Rattle.cal_elapse.specs.Masks.{sets_in}
 use Rattle.cal_elapse.specs.Months.{day_in, minute_in}
 use Rattle.cal_elapse.specs.Search.{IsFirstLocal, IsFirstPassing}
 use Rattle.cal_elapse.specs.declared.masks.Masks.{Masks}
 use Rattle.cal_elapse.proofs.BitLemmas.{first_bit, is_bit-none, is_bit-shifted}
-use Rattle.cal_elapse.proofs.CarryLemmas.{split_at}
+use Rattle.cal_elapse.proofs.CarryLemmas.{Splits, first_later, first_then, split_at}
 use Rattle.cal_elapse.proofs.FoundLemmas.{first_local, first_passing}
 use Rattle.cal_elapse.proofs.LookLemmas.{looks_today}
 use Rattle.cal_elapse.proofs.SearchLemmas.{locals_split}
-use Rattle.cal_elapse.proofs.TimeLemmas.{seconds_split}
-use Rattle.cal_text.proofs.General.{below_end}
+use Rattle.cal_elapse.proofs.TimeLemmas.{minutes_split, seconds_split}
+use Rattle.cal_text.proofs.General.{and_regrouped, below_end}
 
 no_bit : (i : ℕ) → is_bit 0 i ≡ true → ⊥
 no_bit i bit = let none = is_bit-none i in cc
@@ -34,77 +34,190 @@ day_of_match sets t holds =
     let both = and_parts _ _ (sym (split_at (locals_split sets) (t / 86_400) t (omega arith) refl) ∙ holds) in
     (both.0, both.1)
 
--- in the minute of a match the second decides
-by_second : (m : Masks) (local t : ℕ) → matches (sets_in m) local ≡ true → t / 60 ≡ local / 60 → matches (sets_in m) t ≡ is_bit m.seconds (t % 60)
-by_second m local t holds same =
-    let count = seconds_in_all-is in
-    let sets = sets_in m in
-    let within = match_inside sets local holds in
-    let here = day_of_match sets local holds in
-    let day : t / 86_400 ≡ local / 86_400 = omega arith in
-    let minute : t % 86_400 / 60 ≡ local % 86_400 / 60 = omega arith in
-    let second : t % 86_400 % 60 ≡ t % 60 = omega arith in
-    let minute_holds : minute_in sets (local % 86_400 / 60) ≡ true
-    = (and_parts _ _ (sym (split_at (seconds_split m) (local % 86_400 / 60) (local % 86_400) (omega arith) refl) ∙ here.1)).0 in
-    let time : time_in sets (t % 86_400) ≡ (minute_in sets (local % 86_400 / 60) && is_bit m.seconds (t % 86_400 % 60))
-    = split_at (seconds_split m) (local % 86_400 / 60) (t % 86_400) (omega arith) minute in
-    split_at (locals_split sets) (local / 86_400) t (omega arith) day ∙ rw (here.0, time, minute_holds, second) refl
+-- A unit of 60: local seconds in their minute, or minutes in their hour
 
--- nothing is left behind the last local second
-pub left_none : (m : Masks) (end : ℕ) → end ≡ seconds_in_all → IsLeft m end 0 0
-left_none m end is = grind (arith, no_bit, false_from_ne_true, match_inside, is_bit-none)
+-- a minute, counted from 1970, is an hour and a minute of it
+hour_matches : Masks → ℕ → Bool
+hour_matches m hour = nat_lt hour 2_016_144 && (day_in (sets_in m) (hour / 24) && is_bit m.hours (hour % 24))
 
--- what the seconds leave behind a match
-pub left_after : (m : Masks) (local : ℕ) → matches (sets_in m) local ≡ true → IsLeft m local (local + 1) (m.seconds / 2 ^ (local % 60 + 1))
-left_after m local holds = grind (arith, below_end, is_bit-shifted, by_second)
+hours_split : (m : Masks) → Splits (minute_matches (sets_in m)) (hour_matches m) (is_bit m.minutes) 60 2_016_144
+unfolding minute_matches hour_matches
+hours_split m = record {
+  positive = omega arith;
+  split = λ a b low small.
+      let day : (a * 60 + b) / 1_440 ≡ a / 24 = omega arith in
+      let minute : (a * 60 + b) % 1_440 ≡ a % 24 * 60 + b = omega arith in
+      let here = (minutes_split m).split (a % 24) b (omega arith) small in
+      rw (lt-ltb (a * 60 + b) 120_968_640 (omega arith), lt-ltb a 2_016_144 low, day, minute, here) (sym (and_regrouped (day_in (sets_in m) (a / 24)) (is_bit m.hours (a % 24)) (is_bit m.minutes b)));
+}
 
-bit_matches : (m : Masks) (found from left bit : ℕ) → IsLeft m found from left → is_bit left bit ≡ true → matches (sets_in m) (from + bit) ≡ true
-bit_matches m found from left bit h set = grind arith
+-- a local second is a minute and a second of it
+minutes_of_all : (m : Masks) → Splits (matches (sets_in m)) (minute_matches (sets_in m)) (is_bit m.seconds) 60 120_968_640
+unfolding minute_matches
+minutes_of_all m = record {
+  positive = omega arith;
+  split = λ a b low small.
+      let day : (a * 60 + b) / 86_400 ≡ a / 1_440 = omega arith in
+      let time : (a * 60 + b) % 86_400 ≡ a % 1_440 * 60 + b = omega arith in
+      let here = (seconds_split m).split (a % 1_440) b (omega arith) small in
+      split_at (locals_split (sets_in m)) (a / 1_440) (a * 60 + b) (omega arith) day ∙ rw (lt-ltb a 120_968_640 low, time, here) (sym (and_regrouped (day_in (sets_in m) (a / 1_440)) (minute_in (sets_in m) (a % 1_440)) (is_bit m.seconds b)));
+}
 
--- the lowest bit is the next match
-next_left : (m : Masks) (found from left bit : ℕ) → IsLeft m found from left → IsFirstPassing (is_bit left) 0 64 (Some bit)
-    → IsFirstPassing (matches (sets_in m)) (found + 1) seconds_in_all (Some (from + bit))
-next_left m found from left bit h lowest = grind (arith, bit_matches, match_inside)
+-- in the unit of one that passes the low part decides
+by_low : (passes high low : ℕ → Bool) (limit found t : ℕ) → Splits passes high low 60 limit → found / 60 < limit → passes found ≡ true → t / 60 ≡ found / 60 → passes t ≡ low (t % 60)
+by_low passes high low limit found t s within holds same =
+    let both = and_parts _ _ (sym (split_at s (found / 60) found within refl) ∙ holds) in
+    let here : high (found / 60) ≡ true = both.0 in
+    split_at s (found / 60) t within same ∙ rw here refl
+
+-- what the low parts leave behind it
+left_after : (passes high : ℕ → Bool) (mask limit found : ℕ) → Splits passes high (is_bit mask) 60 limit → ((i : ℕ) → 60 ≤ i → is_bit mask i ≡ false) → found / 60 < limit
+    → passes found ≡ true → IsLeft passes found (found + 1) (mask / 2 ^ (found % 60 + 1))
+left_after passes high mask limit found s last within holds = record {
+  begun = omega arith;
+  behind = λ i set. omega arith;
+  unit = λ i set.
+      let small = below_end (is_bit mask) 60 (found % 60 + 1 + i) last (sym (is_bit-shifted mask (found % 60 + 1) i) ∙ set) in
+      omega arith;
+  passing = λ t later same.
+      let place : t % 60 ≡ found % 60 + 1 + (t - (found + 1)) = omega arith in
+      by_low passes high (is_bit mask) limit found t s within holds same ∙ rw place (sym (is_bit-shifted mask (found % 60 + 1) (t - (found + 1))));
+}
+
+-- nothing is left where none passes
+left_none : (passes : ℕ → Bool) (found : ℕ) → ((t : ℕ) → found < t → passes t ≡ false) → IsLeft passes found 0 0
+left_none passes found none = grind (arith, no_bit, is_bit-none)
+
+bit_passes : (passes : ℕ → Bool) (found from left bit : ℕ) → IsLeft passes found from left → is_bit left bit ≡ true → passes (from + bit) ≡ true
+bit_passes passes found from left bit h set = grind arith
+
+-- the lowest bit is the next one that passes
+next_left : (passes : ℕ → Bool) (found from left bit end : ℕ) → IsLeft passes found from left → IsFirstPassing (is_bit left) 0 64 (Some bit) → from + bit < end
+    → IsFirstPassing passes (found + 1) end (Some (from + bit))
+next_left passes found from left bit end h lowest inside = grind (arith, bit_passes)
 
 -- and what is left behind it
-pub left_behind : (m : Masks) (found from left bit more : ℕ) → IsLeft m found from left → IsFirstPassing (is_bit left) 0 64 (Some bit) → is_bit more bit ≡ false
-    → ((i : ℕ) → i ≢ bit → is_bit more i ≡ is_bit left i) → IsLeft m (from + bit) from more
-left_behind m found from left bit more h lowest cleared others = grind arith
+pub left_behind : (passes : ℕ → Bool) (found from left bit more : ℕ) → IsLeft passes found from left → IsFirstPassing (is_bit left) 0 64 (Some bit) → is_bit more bit ≡ false
+    → ((i : ℕ) → i ≢ bit → is_bit more i ≡ is_bit left i) → IsLeft passes (from + bit) from more
+left_behind passes found from left bit more h lowest cleared others = grind arith
 
-pub left_inside : (m : Masks) (found from left bit : ℕ) → IsLeft m found from left → IsFirstPassing (is_bit left) 0 64 (Some bit) → from + bit < seconds_in_all
-left_inside m found from left bit h lowest = match_inside (sets_in m) (from + bit) (bit_matches m found from left bit h lowest.2)
+-- What is left of a minute
 
--- a search that takes it
-pub search_left : (m : Masks) (found from left bit : ℕ) → IsLeft m found from left → IsFirstPassing (is_bit left) 0 64 (Some bit)
-    → IsSearch (sets_in m) (found + 1) (record { local = Some (pos (from + bit)); months = 1 })
-search_left m found from left bit h lowest =
+pub seconds_none : (m : Masks) (end : ℕ) → end ≡ seconds_in_all → IsLeft (matches (sets_in m)) end 0 0
+seconds_none m end is = left_none _ end (λ t later. grind (arith, false_from_ne_true, match_inside))
+
+pub seconds_after : (m : Masks) (local : ℕ) → matches (sets_in m) local ≡ true → IsLeft (matches (sets_in m)) local (local + 1) (m.seconds / 2 ^ (local % 60 + 1))
+seconds_after m local holds =
+    let count = seconds_in_all-is in
+    left_after _ _ m.seconds 120_968_640 local (minutes_of_all m) m.last_second (omega (arith, match_inside (sets_in m) local holds)) holds
+
+pub left_inside : (m : Masks) (found from left bit : ℕ) → IsLeft (matches (sets_in m)) found from left → IsFirstPassing (is_bit left) 0 64 (Some bit) → from + bit < seconds_in_all
+left_inside m found from left bit h lowest = match_inside (sets_in m) (from + bit) (bit_passes _ found from left bit h lowest.2)
+
+-- a search that takes a match of the same day
+search_on : (m : Masks) (found next : ℕ) → next / 86_400 ≡ found / 86_400 → IsFirstPassing (matches (sets_in m)) (found + 1) seconds_in_all (Some next)
+    → IsSearch (sets_in m) (found + 1) (record { local = Some (pos next); months = 1 })
+search_on m found next day first =
     let count = seconds_in_all-is in
     let sets = sets_in m in
-    let holds = bit_matches m found from left bit h lowest.2 in
-    let within = match_inside sets (from + bit) holds in
-    let later = h.behind bit lowest.2 in
-    let same = h.minute bit lowest.2 in
-    let day : (from + bit) / 86_400 ≡ found / 86_400 = omega arith in
-    let parts : found / 86_400 * 86_400 + (from + bit) % 86_400 ≡ from + bit = omega arith in
-    let here : day_in sets (found / 86_400) ≡ true = subst (λ (d : ℕ). day_in sets d ≡ true) day (day_of_match sets (from + bit) holds).0 in
-    let looks = looks_today sets found ((from + bit) % 86_400) (omega arith) here (omega arith) (omega arith) in
+    let later = first.0 in
+    let within = first.1 in
+    let parts : found / 86_400 * 86_400 + next % 86_400 ≡ next = omega arith in
+    let here : day_in sets (found / 86_400) ≡ true = subst (λ (d : ℕ). day_in sets d ≡ true) day (day_of_match sets next first.2).0 in
+    let looks = looks_today sets found (next % 86_400) (omega arith) here (omega arith) (omega arith) in
     record {
-      first = first_local (matches sets) (found + 1) (from + bit) (next_left m found from left bit h lowest);
+      first = first_local (matches sets) (found + 1) next first;
       counted = sym (rw parts at looks);
       few = omega arith;
     }
 
+pub search_left : (m : Masks) (found from left bit : ℕ) → IsLeft (matches (sets_in m)) found from left → IsFirstPassing (is_bit left) 0 64 (Some bit)
+    → IsSearch (sets_in m) (found + 1) (record { local = Some (pos (from + bit)); months = 1 })
+search_left m found from left bit h lowest =
+    let same = h.unit bit lowest.2 in
+    search_on m found (from + bit) (omega arith) (next_left _ found from left bit seconds_in_all h lowest (left_inside m found from left bit h lowest))
+
+-- What is left of an hour
+
+minute_inside : (sets : Sets) (minute : ℕ) → minute_matches sets minute ≡ true → minute < 120_968_640
+unfolding minute_matches
+minute_inside sets minute holds = ltb-true minute 120_968_640 (and_parts _ _ holds).0
+
+-- the minute of a match
+minute_of_match : (m : Masks) (local : ℕ) → matches (sets_in m) local ≡ true → minute_matches (sets_in m) (local / 60) ≡ true
+minute_of_match m local holds =
+    let count = seconds_in_all-is in
+    let within = match_inside (sets_in m) local holds in
+    (and_parts _ _ (sym (split_at (minutes_of_all m) (local / 60) local (omega arith) refl) ∙ holds)).0
+
+pub minutes_none : (m : Masks) (end : ℕ) → end ≡ seconds_in_all → IsLeft (minute_matches (sets_in m)) (end / 60) 0 0
+minutes_none m end is =
+    let count = seconds_in_all-is in
+    left_none _ (end / 60) (λ t later. false_from_ne_true _ (λ holds. let within = minute_inside (sets_in m) t holds in omega arith))
+
+pub minutes_after : (m : Masks) (local : ℕ) → matches (sets_in m) local ≡ true
+    → IsLeft (minute_matches (sets_in m)) (local / 60) (local / 60 + 1) (m.minutes / 2 ^ (local / 60 % 60 + 1))
+minutes_after m local holds =
+    let count = seconds_in_all-is in
+    left_after _ _ m.minutes 2_016_144 (local / 60) (hours_split m) m.last_minute (omega (arith, match_inside (sets_in m) local holds)) (minute_of_match m local holds)
+
+pub minutes_inside : (m : Masks) (found from minutes bit : ℕ) → IsLeft (minute_matches (sets_in m)) (found / 60) from minutes → IsFirstPassing (is_bit minutes) 0 64 (Some bit)
+    → from + bit < 120_968_640
+minutes_inside m found from minutes bit h lowest = minute_inside (sets_in m) (from + bit) (bit_passes _ (found / 60) from minutes bit h lowest.2)
+
+-- where nothing is left of the minute, its lowest bit is the minute of the next match
+pub next_later : (m : Masks) (found from start minutes bit first : ℕ) → IsLeft (matches (sets_in m)) found from 0
+    → IsLeft (minute_matches (sets_in m)) (found / 60) start minutes → IsFirstPassing (is_bit minutes) 0 64 (Some bit) → IsFirstPassing (is_bit m.seconds) 0 64 (Some first)
+    → IsFirstPassing (matches (sets_in m)) (found + 1) seconds_in_all (Some ((start + bit) * 60 + first))
+next_later m found from start minutes bit first h later lowest second =
+    let count = seconds_in_all-is in
+    let passes = matches (sets_in m) in
+    let low = below_end (is_bit m.seconds) 60 first m.last_second second.2 in
+    let inside = minutes_inside m found start minutes bit later lowest in
+    let minute = next_left _ (found / 60) start minutes bit 120_968_640 later lowest inside in
+    let all : 120_968_640 * 60 ≡ seconds_in_all = omega arith in
+    rw (← all)
+    (first_then passes (found + 1) ((found / 60 + 1) * 60) (120_968_640 * 60) (Some ((start + bit) * 60 + first))
+    (λ t above below. h.passing t (omega arith) (omega arith) ∙ is_bit-none (t - from)) (omega arith)
+    (first_later (minutes_of_all m) (found / 60 + 1) 120_968_640 (start + bit) 64 first inside low minute second))
+
+-- a search that takes it
+pub search_later : (m : Masks) (found from start minutes bit first : ℕ) → IsLeft (matches (sets_in m)) found from 0
+    → IsLeft (minute_matches (sets_in m)) (found / 60) start minutes → IsFirstPassing (is_bit minutes) 0 64 (Some bit) → IsFirstPassing (is_bit m.seconds) 0 64 (Some first)
+    → IsSearch (sets_in m) (found + 1) (record { local = Some (pos ((start + bit) * 60 + first)); months = 1 })
+search_later m found from start minutes bit first h later lowest second =
+    let low = below_end (is_bit m.seconds) 60 first m.last_second second.2 in
+    let same = later.unit bit lowest.2 in
+    search_on m found ((start + bit) * 60 + first) (omega arith) (next_later m found from start minutes bit first h later lowest second)
+
+-- what is left of its minute, and of its hour
+pub seconds_later : (m : Masks) (found from start minutes bit first : ℕ) → IsLeft (matches (sets_in m)) found from 0
+    → IsLeft (minute_matches (sets_in m)) (found / 60) start minutes → IsFirstPassing (is_bit minutes) 0 64 (Some bit) → IsFirstPassing (is_bit m.seconds) 0 64 (Some first)
+    → IsLeft (matches (sets_in m)) ((start + bit) * 60 + first) ((start + bit) * 60 + first + 1) (m.seconds / 2 ^ (first + 1))
+seconds_later m found from start minutes bit first h later lowest second =
+    let low = below_end (is_bit m.seconds) 60 first m.last_second second.2 in
+    let same : ((start + bit) * 60 + first) % 60 ≡ first = omega arith in
+    rw same at (seconds_after m ((start + bit) * 60 + first) (next_later m found from start minutes bit first h later lowest second).2)
+
+pub minutes_later : (m : Masks) (found start minutes bit first more : ℕ) → IsLeft (minute_matches (sets_in m)) (found / 60) start minutes → IsFirstPassing (is_bit minutes) 0 64 (Some bit)
+    → IsFirstPassing (is_bit m.seconds) 0 64 (Some first) → is_bit more bit ≡ false → ((i : ℕ) → i ≢ bit → is_bit more i ≡ is_bit minutes i)
+    → IsLeft (minute_matches (sets_in m)) (((start + bit) * 60 + first) / 60) start more
+minutes_later m found start minutes bit first more later lowest second cleared others =
+    let low = below_end (is_bit m.seconds) 60 first m.last_second second.2 in
+    let same : ((start + bit) * 60 + first) / 60 ≡ start + bit = omega arith in
+    rw same (left_behind _ (found / 60) start minutes bit more later lowest cleared others)
+
 -- A minute that is searched to its end
 
 -- where something is left of the match found last, another follows
-pub more_left : (m : Masks) (found from left local : ℕ) → IsLeft m found from left → left < 2 ^ 64 → 0 < left → found ≡ local → IsMoreLeft (matches (sets_in m)) local
+pub more_left : (m : Masks) (found from left local : ℕ) → IsLeft (matches (sets_in m)) found from left → left < 2 ^ 64 → 0 < left → found ≡ local → IsMoreLeft (matches (sets_in m)) local
 more_left m found from left local h fits some same =
     let lowest = first_bit left some fits in
     subst (IsMoreLeft (matches (sets_in m))) same
-    (record { match_at = from + trailing_zeros w64 left; behind = h.behind _ lowest.2; minute = h.minute _ lowest.2; is_match = bit_matches m found from left _ h lowest.2 })
+    (record { match_at = from + trailing_zeros w64 left; behind = h.behind _ lowest.2; minute = h.unit _ lowest.2; is_match = bit_passes _ found from left _ h lowest.2 })
 
 -- where nothing is, none does
-pub none_left : (m : Masks) (found from left local : ℕ) → IsLeft m found from left → left ≡ 0 → local ≡ found → NoneLeft (matches (sets_in m)) local
+pub none_left : (m : Masks) (found from left local : ℕ) → IsLeft (matches (sets_in m)) found from left → left ≡ 0 → local ≡ found → NoneLeft (matches (sets_in m)) local
 none_left m found from left local h nothing same = grind (arith, is_bit-none)
 
 -- the next match lies in the minute, where one follows there

@@ -67,7 +67,14 @@ searched_some v i h full at =
 same_below : (v : Window) (i : ℤ) (top : ℕ) → IsReady v → Has v.pending i → to_place v.ahead (Some i) ≡ None → (pos top) ≡ (i +ℤ pos 93_600) → start_of v.base ≤ top
     → (t : ℕ) → start_of v.base ≤ t → matches (sets_in v.searcher.masks) t ≡ true → (t < bound_of v.ahead → t < top) × (t < top → t < bound_of v.ahead)
 unfolding timed_by
-same_below v i top h m full is begun t above holds = grind (arith, matches_below, late_bound, match_inside)
+same_below v i top h m full is begun t above holds = (
+  λ below. elim (cases_lt t top) [ inl early ↦ early | inr late ↦ absurd (matches_below v i top h m is begun t late below holds) ],
+  λ early.
+      elim (cases_lt t (bound_of v.ahead)) [
+        | inl below ↦ below
+        | inr past ↦ absurd (let all = late_bound v.ahead i top full is (omega arith) in omega (arith, match_inside (sets_in v.searcher.masks) t holds))
+      ],
+)
 
 pub looked_some : (v : Window) (i : ℤ) → IsReady v → to_place v.ahead (slice_get v.pending 0) ≡ None → slice_get v.pending 0 ≡ Some i
     → IsMostSearched (sets_in v.searcher.masks) v.base (Some i) v.searcher.most_months

@@ -1,19 +1,22 @@
--- What is left of the minute of a match.
-use Rattle.std.specs.Prelude.{◌≡◌, ◌+◌, ◌-◌, ◌*◌, ◌/◌, ◌<◌, ◌≤◌, ℕ, Bool, true, Option, None, Some}
+-- What is left of the minute of a match, and of its hour.
+use Rattle.std.specs.Prelude.{◌≡◌, ◌+◌, ◌-◌, ◌*◌, ◌/◌, ◌%◌, ◌<◌, ◌≤◌, ◌&&◌, nat_lt, ℕ, Bool, true, Option, None, Some}
 use Rattle.cal_zone.specs.headline.Local.{seconds_in_all}
 use Rattle.cal_elapse.specs.Bits.{is_bit}
-use Rattle.cal_elapse.specs.Masks.{sets_in}
+use Rattle.cal_elapse.specs.Months.{day_in, minute_in}
 use Rattle.cal_elapse.specs.Search.{IsFirstPassing, NonePasses}
-use Rattle.cal_elapse.specs.declared.masks.Masks.{Masks}
-use Rattle.cal_spec.specs.headline.Match.{matches}
+use Rattle.cal_spec.specs.headline.Match.{Sets}
 
--- Bit i of `left` is the local second from + i. The bits that are set are those of all matches behind the one that was
--- found, in its minute.
-pub record IsLeft (masks : Masks) (found from left : ℕ) : Type 0 where
+-- A minute, counted from the start of 1970, has matches: its date, its hour and its minute all match.
+unfoldable pub minute_matches : Sets → ℕ → Bool
+minute_matches sets minute = nat_lt minute 120_968_640 && (day_in sets (minute / 1_440) && minute_in sets (minute % 1_440))
+
+-- Bit i of `left` stands for the number from + i. The bits that are set are those of the numbers that pass the test, come
+-- after the one that was found and lie in the same unit of 60: local seconds of one minute, or minutes of one hour.
+pub record IsLeft (passes : ℕ → Bool) (found from left : ℕ) : Type 0 where
   pub begun : from ≤ found + 1
   pub behind : (i : ℕ) → is_bit left i ≡ true → found < from + i
-  pub minute : (i : ℕ) → is_bit left i ≡ true → (from + i) / 60 ≡ found / 60
-  pub matching : (t : ℕ) → found < t → t / 60 ≡ found / 60 → matches (sets_in masks) t ≡ is_bit left (t - from)
+  pub unit : (i : ℕ) → is_bit left i ≡ true → (from + i) / 60 ≡ found / 60
+  pub passing : (t : ℕ) → found < t → t / 60 ≡ found / 60 → passes t ≡ is_bit left (t - from)
 
 -- what one search after a match found in its minute, if any is known to be left of that
 abbrev pub IsNextLeft : (ℕ → Bool) → ℕ → Option ℕ → Type 0

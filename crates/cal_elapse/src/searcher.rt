@@ -1,11 +1,11 @@
 //! The search of an expression's matches, whose calls are counted.
 
-ghost use Rattle.std.specs.Prelude.{◌≡◌, ◌+◌, ◌-◌, ◌<◌, ◌≤◌, ◌≤ℤ◌, pos, true, false, max, None, IfSome, unsigned_abs, unwrap_or};
+ghost use Rattle.std.specs.Prelude.{◌≡◌, ◌+◌, ◌-◌, ◌*◌, ◌/◌, ◌<◌, ◌≤◌, ◌≤ℤ◌, pos, true, false, max, None, IfSome, unsigned_abs, unwrap_or};
 ghost use Rattle.std.specs.Option.{option_map};
 ghost use Rattle.cal_zone.specs.Local.{IsLocalSecond};
 ghost use Rattle.cal_zone.specs.headline.Local.{seconds_in_all};
 ghost use Rattle.cal_elapse.specs.Count.{count_from};
-ghost use Rattle.cal_elapse.specs.Left.{IsLeft, IsMoreLeft, IsNextLeft, IsRest, NoneLeft};
+ghost use Rattle.cal_elapse.specs.Left.{IsLeft, IsMoreLeft, IsNextLeft, IsRest, NoneLeft, minute_matches};
 ghost use Rattle.cal_elapse.specs.Looks.{IsSearch};
 ghost use Rattle.cal_elapse.specs.Masks.{sets_in};
 ghost use Rattle.cal_elapse.specs.Most.{IsMostAfter};
@@ -41,7 +41,8 @@ pub struct RestOfMinute {
 /// The masks of an expression, how often they were searched, and the most months that one of these searches looked at.
 /// The fields are private, so that nothing is searched without being counted.
 ///
-/// What is left of the minute of the last match is kept, as most searches end in the minute of the match before.
+/// The matches after the last one in its minute, and the minutes after it in its hour, are kept as bits, because most
+/// searches end in the same minute or the same hour.
 #[derive(Drop)]
 pub struct Searcher {
     masks: Masks,
@@ -51,12 +52,17 @@ pub struct Searcher {
     found: i64,
     /// The local second of the lowest bit of `left`.
     from: i64,
-    /// A bit for each match after the last one in its minute.
+    /// A bit for each match after the last one, in its minute.
     left: u64,
+    /// The minute of the lowest bit of `minutes`, counted from the start of 1970.
+    minute: u32,
+    /// A bit for each minute with matches after that of the last match, in its hour.
+    minutes: u64,
     ghost few_months: { most_months ≤ 2_760 },
     ghost found_low: { pos 0 ≤ℤ found },
     ghost from_low: { pos 0 ≤ℤ from },
-    ghost is_left: { IsLeft masks (unsigned_abs found) (unsigned_abs from) left },
+    ghost is_left: { IsLeft (matches (sets_in masks)) (unsigned_abs found) (unsigned_abs from) left },
+    ghost are_left: { IsLeft (minute_matches (sets_in masks)) (unsigned_abs found / 60) minute minutes },
 }
 
 impl Searcher {
@@ -73,6 +79,8 @@ impl Searcher {
             found: LOCAL_END,
             from: 0,
             left: 0,
+            minute: 0,
+            minutes: 0,
         }
     }
 
@@ -192,8 +200,13 @@ impl Searcher {
         ensures most { self.new.most_months ≡ self.old.most_months }
         ensures last { IfSome result.local (λ local. local ≡ self.new.found) }
     {
-        if local == self.found && self.left != 0 {
-            return self.find_left();
+        if local == self.found {
+            if self.left != 0 {
+                return self.find_left();
+            }
+            if self.minutes != 0 {
+                return self.find_later();
+            }
         }
         let found = next_after(&self.masks, local);
         self.keep(found.local);
@@ -220,7 +233,31 @@ impl Searcher {
         }
     }
 
-    /// Keeps a match as the one found last, with what is left of its minute.
+    /// Returns the first match of the next minute with matches, if that minute is in the same hour and nothing is left of
+    /// the minute of the last match. The search examines one month, that of both matches.
+    #[inline(always)]
+    fn find_later(&mut self) -> Found
+        requires none { self.old.left ≡ 0 }
+        requires more { 0 < self.old.minutes }
+        ensures found { IsSearch (sets_in self.old.masks) (unsigned_abs self.old.found + 1) result }
+        ensures masks { self.new.masks ≡ self.old.masks }
+        ensures searches { self.new.searches ≡ self.old.searches }
+        ensures most { self.new.most_months ≡ self.old.most_months }
+        ensures last { IfSome result.local (λ local. local ≡ self.new.found) }
+    {
+        let second = lowest_bit(self.masks.seconds);
+        let local = local_in(self.minute + lowest_bit(self.minutes), second);
+        self.found = local;
+        self.from = local + 1;
+        self.left = self.masks.seconds >> (second + 1);
+        self.minutes = without_lowest(self.minutes);
+        Found {
+            local: Some(local),
+            months: 1,
+        }
+    }
+
+    /// Stores the match that was found last, with the rest of its minute and of its hour.
     #[tactic(auto, using(cal_zone::proofs::LocalLemmas::local_arith))]
     fn keep(&mut self, found: Option<i64>)
         requires { IfSome found
@@ -236,5 +273,26 @@ impl Searcher {
         self.found = local;
         self.from = local + 1;
         self.left = self.masks.seconds >> (second_of_day(local) % 60 + 1);
+        let minute = minute_of(local);
+        self.minute = minute + 1;
+        self.minutes = self.masks.minutes >> (minute % 60 + 1);
     }
+}
+
+/// Returns the minute of a local second, counted from the start of 1970.
+#[tactic(auto, using(cal_zone::proofs::LocalLemmas::local_arith))]
+fn minute_of(local: i64) -> u32
+    requires { IsLocalSecond local }
+    ensures { result ≡ unsigned_abs local / 60 }
+{
+    (local / 60) as u32
+}
+
+/// Returns the local second of a minute, counted from the start of 1970, and a second of that minute.
+fn local_in(minute: u32, second: u32) -> i64
+    requires minute { minute < 120_968_640 }
+    requires second { second < 60 }
+    ensures { result ≡ pos (minute * 60 + second) }
+{
+    i64::from(minute) * 60 + i64::from(second)
 }

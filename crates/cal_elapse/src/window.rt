@@ -110,9 +110,12 @@ impl<'z> Window<'z> {
         ensures base { self.new.base ≡ self.old.base }
         ensures last { self.new.last ≡ self.old.last }
     {
+        if !self.searcher.has_left(local) {
+            return local;
+        }
         let end = minute_end(local);
         let least = self.pending.least();
-        if !self.searcher.has_left(local) || !is_to_place(end, least) {
+        if !is_to_place(end, least) {
             return local;
         }
         let Some(offset) = self.zone.offset_over(local, end) else {

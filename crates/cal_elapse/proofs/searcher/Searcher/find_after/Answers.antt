@@ -11,6 +11,11 @@ returns-then-self-ne0-clause-found c =
     let same : c.args.self.now.found ≡ c.args.local = grind (arith, signed_arith) in
     subst (λ (n : ℕ). IsSearch (sets_in c.args.self.now.masks) (n + 1) c.find_left.result) (ap unsigned_abs same) c.find_left.ensures.found
 
+pub returns-then-self-ne0-2-clause-found : goal.returns-then-self-ne0-2-clause-found
+returns-then-self-ne0-2-clause-found c =
+    let same : c.args.self.now.found ≡ c.args.local = grind (arith, signed_arith) in
+    subst (λ (n : ℕ). IsSearch (sets_in c.args.self.now.masks) (n + 1) c.find_later.result) (ap unsigned_abs same) c.find_later.ensures.found
+
 pub keep-requires : goal.keep-requires
 keep-requires c = first_match _ _ _ (omega (arith, ints)) c.next_after-found.ensures.first
 

@@ -1,8 +1,10 @@
-use Rattle.std.proofs.Common.{◌≡◌, ◌+◌, ◌<◌, ◌+ℤ◌, ◌≤ℤ◌, ℕ, ℤ, arith, of_z, pos, refl, rules, sym, to_z, unsigned_abs, w64}
+use Rattle.std.proofs.Common.{◌≡◌, ◌+◌, ◌<◌, ◌+ℤ◌, ◌≤ℤ◌, ℕ, ℤ, arith, of_z, pos, refl, rules, subst, sym, to_z, unsigned_abs, w64}
 use Rattle.std.proofs.lemmas.Int.{to_z-of_z}
 use Rattle.jiff.proofs.SpanFacts.{signed_arith}
 use Rattle.cal_zone.specs.headline.Local.{seconds_in_all, seconds_in_all-is}
 use Rattle.cal_text.proofs.General.{pos_unsigned_abs, sum_whole}
+use Rattle.cal_elapse.specs.Left.{IsLeft, minute_matches}
+use Rattle.cal_elapse.specs.Masks.{sets_in}
 use Rattle.cal_elapse.proofs.MinuteLemmas.{left_behind, left_inside, search_left}
 use Rattle.cal_elapse.proofs.searcher.Searcher.find_left.Goals as goal
 
@@ -25,6 +27,13 @@ invariant_of-self-clause-is_left c =
     let now = c.args.self.now in
     rw (next_is now.from c.from.result c.lowest_bit-bit.result now.from_low c.from.ensures (left_inside _ _ _ _ _ now.is_left c.lowest_bit-bit.ensures))
     (left_behind _ _ _ _ _ _ now.is_left c.lowest_bit-bit.ensures (c.without_lowest-self.ensures.cleared _ c.lowest_bit-bit.ensures) (λ i. c.without_lowest-self.ensures.others _ i c.lowest_bit-bit.ensures))
+
+pub invariant_of-self-clause-are_left : goal.invariant_of-self-clause-are_left
+invariant_of-self-clause-are_left c =
+    let now = c.args.self.now in
+    let same = now.is_left.unit _ c.lowest_bit-bit.ensures.2 in
+    rw (next_is now.from c.from.result c.lowest_bit-bit.result now.from_low c.from.ensures (left_inside _ _ _ _ _ now.is_left c.lowest_bit-bit.ensures))
+    (subst (λ (minute : ℕ). IsLeft (minute_matches (sets_in now.masks)) minute now.minute now.minutes) (sym same) now.are_left)
 
 pub returns-clause-found : goal.returns-clause-found
 returns-clause-found c =
