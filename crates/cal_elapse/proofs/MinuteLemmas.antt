@@ -1,4 +1,4 @@
--- What is left of the minute of a match, as a search takes bit after bit.
+-- What is left of the minute and of the hour of a match, while each search takes one bit.
 use Rattle.std.proofs.Common.{IsSome, ◌≡◌, ◌≢◌, ◌∙◌, ℕ, ◌+◌, ◌-◌, ◌*◌, ◌/◌, ◌%◌, ◌^◌, ◌<◌, ◌≤◌, Bool, true, false, ◌&&◌, Option, Some, ℤ, option_map, pos, unsigned_abs, w64, sym, subst, refl, arith, ltb-true, nat_lt}
 use Rattle.std.proofs.lemmas.Bool.{and_parts, false_from_ne_true, lt-ltb}
 use Rattle.std.specs.Int.{trailing_zeros}
@@ -34,9 +34,9 @@ day_of_match sets t holds =
     let both = and_parts _ _ (sym (split_at (locals_split sets) (t / 86_400) t (omega arith) refl) ∙ holds) in
     (both.0, both.1)
 
--- A unit of 60: local seconds in their minute, or minutes in their hour
+-- For any unit of 60: local seconds in their minute, or minutes in their hour.
 
--- a minute, counted from 1970, is an hour and a minute of it
+-- A minute, counted from the start of 1970, has matches if its hour, counted likewise, and its minute in that hour do.
 hour_matches : Masks → ℕ → Bool
 hour_matches m hour = nat_lt hour 2_016_144 && (day_in (sets_in m) (hour / 24) && is_bit m.hours (hour % 24))
 
@@ -51,7 +51,7 @@ hours_split m = record {
       rw (lt-ltb (a * 60 + b) 120_968_640 (omega arith), lt-ltb a 2_016_144 low, day, minute, here) (sym (and_regrouped (day_in (sets_in m) (a / 24)) (is_bit m.hours (a % 24)) (is_bit m.minutes b)));
 }
 
--- a local second is a minute and a second of it
+-- A local second matches if its minute has matches and its second is a member.
 minutes_of_all : (m : Masks) → Splits (matches (sets_in m)) (minute_matches (sets_in m)) (is_bit m.seconds) 60 120_968_640
 unfolding minute_matches
 minutes_of_all m = record {
@@ -63,14 +63,14 @@ minutes_of_all m = record {
       split_at (locals_split (sets_in m)) (a / 1_440) (a * 60 + b) (omega arith) day ∙ rw (lt-ltb a 120_968_640 low, time, here) (sym (and_regrouped (day_in (sets_in m) (a / 1_440)) (minute_in (sets_in m) (a % 1_440)) (is_bit m.seconds b)));
 }
 
--- in the unit of one that passes the low part decides
+-- In the unit of a number that passes, the low part alone decides.
 by_low : (passes high low : ℕ → Bool) (limit found t : ℕ) → Splits passes high low 60 limit → found / 60 < limit → passes found ≡ true → t / 60 ≡ found / 60 → passes t ≡ low (t % 60)
 by_low passes high low limit found t s within holds same =
     let both = and_parts _ _ (sym (split_at s (found / 60) found within refl) ∙ holds) in
     let here : high (found / 60) ≡ true = both.0 in
     split_at s (found / 60) t within same ∙ rw here refl
 
--- what the low parts leave behind it
+-- the numbers that pass after `found`, in its unit, are the low parts above that of `found`
 left_after : (passes high : ℕ → Bool) (mask limit found : ℕ) → Splits passes high (is_bit mask) 60 limit → ((i : ℕ) → 60 ≤ i → is_bit mask i ≡ false) → found / 60 < limit
     → passes found ≡ true → IsLeft passes found (found + 1) (mask / 2 ^ (found % 60 + 1))
 left_after passes high mask limit found s last within holds = record {
@@ -84,7 +84,7 @@ left_after passes high mask limit found s last within holds = record {
       by_low passes high (is_bit mask) limit found t s within holds same ∙ rw place (sym (is_bit-shifted mask (found % 60 + 1) (t - (found + 1))));
 }
 
--- nothing is left where none passes
+-- nothing is left if no later number passes
 left_none : (passes : ℕ → Bool) (found : ℕ) → ((t : ℕ) → found < t → passes t ≡ false) → IsLeft passes found 0 0
 left_none passes found none = grind (arith, no_bit, is_bit-none)
 
@@ -96,12 +96,12 @@ next_left : (passes : ℕ → Bool) (found from left bit end : ℕ) → IsLeft p
     → IsFirstPassing passes (found + 1) end (Some (from + bit))
 next_left passes found from left bit end h lowest inside = grind (arith, bit_passes)
 
--- and what is left behind it
+-- and without that bit, what is left after it
 pub left_behind : (passes : ℕ → Bool) (found from left bit more : ℕ) → IsLeft passes found from left → IsFirstPassing (is_bit left) 0 64 (Some bit) → is_bit more bit ≡ false
     → ((i : ℕ) → i ≢ bit → is_bit more i ≡ is_bit left i) → IsLeft passes (from + bit) from more
 left_behind passes found from left bit more h lowest cleared others = grind arith
 
--- What is left of a minute
+-- What is left of a minute.
 
 pub seconds_none : (m : Masks) (end : ℕ) → end ≡ seconds_in_all → IsLeft (matches (sets_in m)) end 0 0
 seconds_none m end is = left_none _ end (λ t later. grind (arith, false_from_ne_true, match_inside))
@@ -114,7 +114,7 @@ seconds_after m local holds =
 pub left_inside : (m : Masks) (found from left bit : ℕ) → IsLeft (matches (sets_in m)) found from left → IsFirstPassing (is_bit left) 0 64 (Some bit) → from + bit < seconds_in_all
 left_inside m found from left bit h lowest = match_inside (sets_in m) (from + bit) (bit_passes _ found from left bit h lowest.2)
 
--- a search that takes a match of the same day
+-- The search that finds a later match of the same day examines one month.
 search_on : (m : Masks) (found next : ℕ) → next / 86_400 ≡ found / 86_400 → IsFirstPassing (matches (sets_in m)) (found + 1) seconds_in_all (Some next)
     → IsSearch (sets_in m) (found + 1) (record { local = Some (pos next); months = 1 })
 search_on m found next day first =
@@ -137,13 +137,13 @@ search_left m found from left bit h lowest =
     let same = h.unit bit lowest.2 in
     search_on m found (from + bit) (omega arith) (next_left _ found from left bit seconds_in_all h lowest (left_inside m found from left bit h lowest))
 
--- What is left of an hour
+-- What is left of an hour.
 
 minute_inside : (sets : Sets) (minute : ℕ) → minute_matches sets minute ≡ true → minute < 120_968_640
 unfolding minute_matches
 minute_inside sets minute holds = ltb-true minute 120_968_640 (and_parts _ _ holds).0
 
--- the minute of a match
+-- the minute of a match has matches
 minute_of_match : (m : Masks) (local : ℕ) → matches (sets_in m) local ≡ true → minute_matches (sets_in m) (local / 60) ≡ true
 minute_of_match m local holds =
     let count = seconds_in_all-is in
@@ -165,7 +165,7 @@ pub minutes_inside : (m : Masks) (found from minutes bit : ℕ) → IsLeft (minu
     → from + bit < 120_968_640
 minutes_inside m found from minutes bit h lowest = minute_inside (sets_in m) (from + bit) (bit_passes _ (found / 60) from minutes bit h lowest.2)
 
--- where nothing is left of the minute, its lowest bit is the minute of the next match
+-- If nothing is left of the minute, the lowest bit of the hour is the minute of the next match.
 pub next_later : (m : Masks) (found from start minutes bit first : ℕ) → IsLeft (matches (sets_in m)) found from 0
     → IsLeft (minute_matches (sets_in m)) (found / 60) start minutes → IsFirstPassing (is_bit minutes) 0 64 (Some bit) → IsFirstPassing (is_bit m.seconds) 0 64 (Some first)
     → IsFirstPassing (matches (sets_in m)) (found + 1) seconds_in_all (Some ((start + bit) * 60 + first))
@@ -181,7 +181,7 @@ next_later m found from start minutes bit first h later lowest second =
     (λ t above below. h.passing t (omega arith) (omega arith) ∙ is_bit-none (t - from)) (omega arith)
     (first_later (minutes_of_all m) (found / 60 + 1) 120_968_640 (start + bit) 64 first inside low minute second))
 
--- a search that takes it
+-- the search that finds that match
 pub search_later : (m : Masks) (found from start minutes bit first : ℕ) → IsLeft (matches (sets_in m)) found from 0
     → IsLeft (minute_matches (sets_in m)) (found / 60) start minutes → IsFirstPassing (is_bit minutes) 0 64 (Some bit) → IsFirstPassing (is_bit m.seconds) 0 64 (Some first)
     → IsSearch (sets_in m) (found + 1) (record { local = Some (pos ((start + bit) * 60 + first)); months = 1 })
@@ -190,7 +190,7 @@ search_later m found from start minutes bit first h later lowest second =
     let same = later.unit bit lowest.2 in
     search_on m found ((start + bit) * 60 + first) (omega arith) (next_later m found from start minutes bit first h later lowest second)
 
--- what is left of its minute, and of its hour
+-- what is then left of its minute, and of its hour
 pub seconds_later : (m : Masks) (found from start minutes bit first : ℕ) → IsLeft (matches (sets_in m)) found from 0
     → IsLeft (minute_matches (sets_in m)) (found / 60) start minutes → IsFirstPassing (is_bit minutes) 0 64 (Some bit) → IsFirstPassing (is_bit m.seconds) 0 64 (Some first)
     → IsLeft (matches (sets_in m)) ((start + bit) * 60 + first) ((start + bit) * 60 + first + 1) (m.seconds / 2 ^ (first + 1))

@@ -1,7 +1,6 @@
 pub mod Bits
 pub mod Count
 pub mod Covered
-pub mod ElapseSet
 pub mod Elapses
 pub mod Left
 pub mod Looks

@@ -1,7 +1,6 @@
 //! The elapses of a calendar expression in a zone, one after another (systemd.time(7), Calendar Events).
 
 use crate::NoMemory;
-use crate::elapse_set::ElapseSet;
 use crate::window::Window;
 use cal_rising::Rising;
 use cal_spec::Expr;
@@ -17,21 +16,17 @@ use std::marker::Model;
 #[derive(Drop)]
 pub struct Elapses<'z> {
     window: Window<'z>,
-    /// All that the expression has, those before the base and those given too.
-    all: ElapseSet<'z>,
 }
 
 impl<'z> Model for Elapses<'z> {
-    ghost use Rattle.std.specs.Prelude.{◌≡◌};
-    ghost use Rattle.cal_elapse.specs.ElapseSet.{timed_set};
-    ghost use Rattle.cal_elapse.specs.Window.{IsReady, timed_of};
+    ghost use Rattle.cal_elapse.specs.Window.{IsReady};
     ghost use Rattle.cal_elapse.specs.declared.window.Window.{Window as PlainWindow};
 
     ghost Value = { PlainWindow };
 
     ghost view = { λ e. e.window };
 
-    ghost invariant = { λ e. IsReady e.window × (timed_set e.all ≡ timed_of e.window) };
+    ghost invariant = { λ e. IsReady e.window };
 }
 
 impl<'z> Elapses<'z> {
@@ -66,7 +61,6 @@ impl<'z> Elapses<'z> {
     {
         Ok(Elapses {
             window: Window::new(alloc, expr, zone, base)?,
-            all: ElapseSet::of(expr, zone),
         })
     }
 
@@ -125,7 +119,7 @@ impl Rising for Elapses<'_> {
         ensures window { self.new ≡ self.old }
     {
         match Instant::new(number) {
-            Some(instant) if self.window.last < number => Some(self.all.has(instant)),
+            Some(instant) if self.window.last < number => Some(self.window.has_elapse(instant)),
             _ => Some(false),
         }
     }

@@ -4,7 +4,6 @@
 mod bits;
 mod covers;
 mod day_search;
-mod elapse_set;
 mod elapses;
 pub mod laws;
 mod masks;

@@ -13,9 +13,9 @@ ghost use Rattle.cal_elapse.specs.Start.{CanStart, begin_of};
 ghost use Rattle.cal_spec.specs.headline.Match.{matches};
 ghost use Rattle.cal_spec.specs.headline.Members.{sets_of};
 
-use crate::Masks;
 use crate::bits::{lowest_bit, with_bit, without_lowest};
 use crate::search::{Found, next_after, next_local};
+use crate::{Masks, matched};
 use cal_spec::Expr;
 use cal_zone::{LOCAL_END, second_of_day};
 
@@ -118,6 +118,14 @@ impl Searcher {
         };
         self.most_months = self.most_months.max(found.months);
         found
+    }
+
+    /// Returns whether a local second matches. This is not a search.
+    pub fn is_match(&self, local: i64) -> bool
+        requires { IsLocalSecond local }
+        ensures { result ≡ matches (sets_in self.now.masks) (unsigned_abs local) }
+    {
+        matched::is_match(&self.masks, local)
     }
 
     /// Whether more is left of the minute of a match, as far as that is known.

@@ -33,13 +33,14 @@ pub struct Window<'z> {
 }
 
 impl<'z> Window<'z> {
-    ghost use Rattle.std.specs.Prelude.{◌≡◌, ◌<◌, ◌≤◌, [], ◌∷◌, ℤ, pos, ◌+ℤ◌, ◌≤ℤ◌, None, Some, IfOk, drop, slice_get};
+    ghost use Rattle.std.specs.Prelude.{◌≡◌, ◌↔◌, ◌<◌, ◌≤◌, [], ◌∷◌, ℤ, pos, ◌+ℤ◌, ◌≤ℤ◌, true, None, Some, IfOk, drop, slice_get};
     ghost use Rattle.cal_zone.specs.headline.Zone.{zone_of};
     ghost use Rattle.cal_elapse.specs.Elapses.{elapses_after};
     ghost use Rattle.cal_rising.specs.headline.Elements.{Has};
     ghost use Rattle.cal_elapse.specs.Masks.{sets_in};
     ghost use Rattle.cal_elapse.specs.Most.{IsLooked};
     ghost use Rattle.cal_elapse.specs.Searched.{IsMostSearched, IsSearched};
+    ghost use Rattle.cal_elapse.specs.headline.Elapses.{IsPlace};
     ghost use Rattle.cal_elapse.specs.headline.Timed.{timed};
     ghost use Rattle.cal_elapse.specs.Window.{IsPlacedTo, IsReady, timed_of, to_place};
     ghost use Rattle.cal_spec.specs.headline.Members.{sets_of};
@@ -154,6 +155,18 @@ impl<'z> Window<'z> {
             self.last = instant;
         }
         instant
+    }
+
+    /// Returns whether the instant is an elapse of the expression, already returned or not. It is one if the local second
+    /// that the zone's clock shows at the instant matches and has its place there. This makes no search.
+    pub fn has_elapse(&mut self, instant: Instant) -> bool
+        ensures has { (result ≡ true) ↔ IsPlace (timed_of self.old) instant.secs }
+        ensures same { self.new ≡ self.old }
+    {
+        match self.zone.local_at(instant) {
+            Some(local) => self.searcher.is_match(local),
+            None => false,
+        }
     }
 }
 

@@ -3,7 +3,7 @@ use Rattle.std.proofs.lemmas.Bool.{false≢true}
 use Rattle.std.proofs.lemmas.Int.{to_z-of_z}
 use Rattle.jiff.proofs.SpanFacts.{signed_arith}
 use Rattle.std.specs.Set.{is_member}
-use Rattle.cal_elapse.specs.headline.Elapses.{IsPlace, Timed}
+use Rattle.cal_elapse.specs.headline.Elapses.{IsPlace}
 use Rattle.cal_elapse.specs.Rest.{rest_of}
 use Rattle.cal_elapse.specs.Window.{timed_of}
 use Rattle.cal_elapse.specs.declared.window.Window.{Window}
@@ -18,9 +18,7 @@ returns-in-Some-clause-has c =
     let last_fits : FitsSigned w64 w.last = search rules in
     let above : w.last <ℤ number = omega (arith, signed_arith) in
     let at : c.in-Some.instant.secs ≡ number = c.in-Some.ensures.value ∙ to_z-of_z w64 number fits in
-    let here : (c.has.result ≡ true) ↔ IsPlace (timed_of w) c.in-Some.instant.secs =
-    subst (λ (e : Timed). (c.has.result ≡ true) ↔ IsPlace e c.in-Some.instant.secs) c.self.invariant.1 c.has.ensures.has in
-    in_rest w number c.has.result above (subst (λ (i : ℤ). (c.has.result ≡ true) ↔ IsPlace (timed_of w) i) at here)
+    in_rest w number c.has_elapse.result above (subst (λ (i : ℤ). (c.has_elapse.result ≡ true) ↔ IsPlace (timed_of w) i) at c.has_elapse.ensures.has)
     ∙ ap (λ (v : Window). is_member int_eq (rest_of v) number) c.self.view_is
 
 pub returns-in_default-clause-has : goal.returns-in_default-clause-has
