@@ -1,6 +1,6 @@
 -- A span text that was written is read again: the text of counts splits into these counts, each is worth
 -- its number times its unit, and the sum is the span.
-use Rattle.std.proofs.Common.{◌≡◌, ℕ, zero, suc, ◌+◌, ◌*◌, ◌^◌, ◌<◌, ◌≤◌, List, [], ◌∷◌, ◌++◌, codes, length, false, Some, Ok, map, refl, sym, ap, ◌∙◌, subst, lit<, arith}
+use Rattle.std.proofs.Common.{◌≡◌, ℕ, zero, suc, ◌+◌, ◌*◌, ◌^◌, ◌<◌, ◌≤◌, List, [], ◌∷◌, ◌++◌, codes, length, Some, Ok, map, refl, sym, ap, ◌∙◌, subst, lit<, arith}
 use Rattle.std.proofs.lemmas.Bool.{le-leb}
 use Rattle.std.proofs.lemmas.Fmt.{decimal_nonempty}
 use Rattle.std.proofs.lemmas.List.{append_assoc, append-nil}
@@ -177,6 +177,21 @@ span_of-row (c ∷ cs) some within =
 span_of_zero : span_of (codes "0") ≡ Ok 0
 unfolding span_of pairs_in words_in worth_of is_number number_worth
 span_of_zero = refl
+
+-- a text of digits alone is a number of seconds
+words-decimal : (n : ℕ) → n < 2 ^ 64 → words_in (decimal n) ≡ record { kind = Numeric; text = decimal n } ∷ []
+unfolding words_in
+words-decimal n small =
+    let digits = numeric_digits (decimal n) (are_digits-decimal n small) in
+    ap (λ (bytes : List ℕ). filter (λ w. not (is_kind Blank w.kind)) (runs (characters bytes))) (sym (append-nil (decimal n)))
+    ∙ ap (filter (λ w. not (is_kind Blank w.kind))) (runs-of_kind_front Numeric (decimal n) [] (decimal_nonempty n small) digits tt)
+
+pub span_of-decimal : (n : ℕ) → n * 1_000_000 ≤ limit → span_of (decimal n) ≡ Ok (n * 1_000_000)
+unfolding span_of pairs_in worth_of
+span_of-decimal n within =
+    let small : n < 2 ^ 64 = omega arith in
+    ap (λ (ws : List Piece). value_of_pairs (pairs_of ws)) (words-decimal n small)
+    ∙ rw (is_number-decimal n small, number_worth-decimal n 1_000_000 small, le-leb (0 + n * 1_000_000) limit (omega arith)) (ap Ok (omega arith))
 
 pub span_of-span_text : (n : ℕ) → n ≤ limit → span_of (span_text n) ≡ Ok n
 span_of-span_text zero within = ap span_of span_text_zero ∙ span_of_zero
