@@ -1,6 +1,5 @@
 -- What contracts see of a zone's rules.
 use Rattle.jiff.specs.Types.{TimeZone, Tzif}
-use Rattle.jiff.specs.Words.{plain_zone}
 use Rattle.jiff_tz.specs.declared.tzif.Tzif.{Tzif as Table}
 use Rattle.cal_zone.specs.declared.rules.RulesKind.{RulesKind}
 use Rattle.cal_zone.specs.declared.rules.RulesKind.TheVariants.{Posix, File}
@@ -11,5 +10,5 @@ zone_of_table table = Tzif (record { ref_ptr = (0, 0); now = table })
 
 -- the zone of these rules, as `jiff` has it
 abbrev pub zone_of_rules : RulesKind → TimeZone
-zone_of_rules (Posix zone) = plain_zone zone
+zone_of_rules (Posix zone) = zone
 zone_of_rules (File table) = zone_of_table table

@@ -27,7 +27,7 @@ pub struct Rules {
 
 #[derive(Debug, Drop)]
 enum RulesKind {
-    Posix(TimeZone<'static>),
+    Posix(jiff_tz::TimeZone<'static>),
     File(Tzif),
 }
 
@@ -56,7 +56,7 @@ impl Rules {
         let _ = alloc;
         match TimeZone::posix(rule) {
             Ok(zone) => Ok(Rules {
-                kind: RulesKind::Posix(zone),
+                kind: RulesKind::Posix(zone.to_plain()),
             }),
             Err(_) => Err(ZoneFault::BadRule),
         }
@@ -105,7 +105,7 @@ impl Rules {
         ensures next { (n : ℤ) → next_at (plain_zone result) n ≡ next_at self.now n }
     {
         match &self.kind {
-            RulesKind::Posix(zone) => *zone,
+            RulesKind::Posix(zone) => TimeZone::from_plain(*zone),
             RulesKind::File(table) => TimeZone::tzif(table),
         }
     }
@@ -140,7 +140,7 @@ impl Rules {
         match &self.kind {
             RulesKind::Posix(zone) => self.stretch_until(
                 local,
-                alike_in_zone(zone.to_plain(), local, even),
+                alike_in_zone(*zone, local, even),
             ),
             RulesKind::File(table) => self.stretch_until(local, alike_behind(table, local, even)),
         }
