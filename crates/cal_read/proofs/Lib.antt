@@ -1,6 +1,7 @@
 pub mod ListedLemmas
 pub mod ResumedLemmas
 pub mod StampCivilRule
+pub mod StampCounted
 pub mod StampFaults
 pub mod StampLemmas
 pub mod StampPrinted

@@ -1,7 +1,7 @@
 //! That texts are read by the rule in its own words. Each law is a function that does nothing, and whose contract is the
 //! law.
 
-ghost use Rattle.std.specs.Prelude.{◌≡◌, ℕ, ℤ, List, Ok, Err};
+ghost use Rattle.std.specs.Prelude.{◌≡◌, ◌++◌, ℕ, ℤ, pos, List, Ok, Err, codes, decimal};
 ghost use Rattle.jiff.specs.Types.{TimeZone};
 ghost use Rattle.cal_zone.specs.headline.Civil.{civil_of};
 ghost use Rattle.cal_zone.specs.Instant.{IsInstant};
@@ -60,4 +60,11 @@ pub fn printed_instants_read_back()
     ensures none { (now : ℤ) (local : TimeZone) (table : ZoneMap) (zone : Zone) (secs : ℤ) → IsInstant secs
         → (ShowsYear (civil_of (zone_of zone) secs) → ⊥)
         → moment_in now (setting local (zone_named table)) (instant_text zone secs) ≡ Err NoSuchDate }
+{}
+
+/// `@` and the decimal digits of an instant are read as that instant, whatever the present and the zones are
+/// (systemd.time(7), Parsing Timestamps).
+pub fn counted_seconds_read_back()
+    ensures { (now : ℤ) (at : Setting) (n : ℕ) → IsInstant (pos n)
+        → moment_in now at (codes "@" ++ decimal n) ≡ Ok (micros_of (pos n)) }
 {}
