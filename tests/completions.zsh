@@ -1,5 +1,5 @@
-# What zsh offers at the end of a line, a word a line: for tests/completions, which calls it with the folder of the
-# completions and the line. A shell in a terminal of its own is given the line and a tab; its `compadd` says what it adds.
+# Prints what zsh offers at the end of a line, one word in each line. tests/completions calls this with the folder of the
+# completions and the line. A second shell, on a terminal of its own, gets the line and a tab. There `compadd` prints the words.
 zmodload zsh/zpty
 zpty shell zsh -f -i
 zpty -w shell "PROMPT=; fpath=(${(q)1} \$fpath); autoload -U compinit; compinit -u -D; bindkey '^I' complete-word
