@@ -49,7 +49,7 @@ pub digit_first : (word rest : List ℕ) → IsNumber word → begins_with_digit
 digit_first [] rest h = absurd (omega (arith, h.some))
 digit_first (d ∷ ds) rest h = (and_parts (is_ascii_digit d) (list_all is_ascii_digit ds) h.digits).0
 
-no_letter_first : (word : List ℕ) → begins_with_digit word ≡ true → begins_with_letter word ≡ false
+pub no_letter_first : (word : List ℕ) → begins_with_digit word ≡ true → begins_with_letter word ≡ false
 no_letter_first [] h = refl
 no_letter_first (b ∷ bs) h = digit_no_letter b h
 
@@ -64,7 +64,7 @@ offset_begins word seconds h = elim h.signed [
   | inr west ↦ rw west.0 (refl, refl)
 ]
 
-zone_begins : (find : List ℕ → Option TimeZone) (word : List ℕ) (zone : TimeZone) → MeansZone find word zone → begins_with_digit word ≡ false
+pub zone_begins : (find : List ℕ → Option TimeZone) (word : List ℕ) (zone : TimeZone) → MeansZone find word zone → begins_with_digit word ≡ false
 zone_begins find word zone (inl name) = no_digit_first word name.0
 zone_begins find word zone (inr offset) = (offset_begins word offset.0 offset.1).1
 
@@ -95,13 +95,13 @@ date_word word None day e h = cc
 date_word word (Some date) day e h =
     date_pieces word (slice_split is_hyphen word) date (sym (join_with_byte-slice_split 45 word)) e
 
-date_no_colon : (word : List ℕ) (day : ℤ) → day_written word ≡ Ok day → list_any is_colon word ≡ false
+pub date_no_colon : (word : List ℕ) (day : ℤ) → day_written word ≡ Ok day → list_any is_colon word ≡ false
 unfolding day_written
 date_no_colon word day h =
     let p = date_word word _ day refl h in
     rw (p.whole, list_any-append is_colon p.year (45 ∷ (p.month ++ (45 ∷ p.day))), list_any-append is_colon p.month (45 ∷ p.day), no_colon p.year p.is_year.digits, no_colon p.month p.is_month.digits, no_colon p.day p.is_day.digits) refl
 
-date_begins : (word : List ℕ) (day : ℤ) → day_written word ≡ Ok day → begins_with_letter word ≡ false
+pub date_begins : (word : List ℕ) (day : ℤ) → day_written word ≡ Ok day → begins_with_letter word ≡ false
 unfolding day_written
 date_begins word day h =
     let p = date_word word _ day refl h in
@@ -132,25 +132,25 @@ time_word word None micros e h = cc
 time_word word (Some n) micros e h =
     time_pieces word (slice_split is_colon word) n (sym (join_with_byte-slice_split 58 word)) e
 
-time_has_colon : (word : List ℕ) (micros : ℕ) → time_written word ≡ Ok micros → list_any is_colon word ≡ true
+pub time_has_colon : (word : List ℕ) (micros : ℕ) → time_written word ≡ Ok micros → list_any is_colon word ≡ true
 unfolding time_written
 time_has_colon word micros h =
     let p = time_word word _ micros refl h in
     rw (p.whole, list_any-append is_colon p.hour (58 ∷ p.after), no_colon p.hour p.is_hour.digits) refl
 
-time_begins : (word : List ℕ) (micros : ℕ) → time_written word ≡ Ok micros → begins_with_digit word ≡ true
+pub time_begins : (word : List ℕ) (micros : ℕ) → time_written word ≡ Ok micros → begins_with_digit word ≡ true
 unfolding time_written
 time_begins word micros h =
     let p = time_word word _ micros refl h in rw p.whole (digit_first p.hour (58 ∷ p.after) p.is_hour)
 
 -- Words of the rule are read
 
-means_from : (find : List ℕ → Option TimeZone) (word : List ℕ) (zone : TimeZone) → MeansZone find word zone → zone_meant find word ≡ Ok zone
+pub means_from : (find : List ℕ → Option TimeZone) (word : List ℕ) (zone : TimeZone) → MeansZone find word zone → zone_meant find word ≡ Ok zone
 means_from find word zone (inl name) = rw (name.0, name.1) refl
 means_from find word zone (inr offset) =
     rw ((offset_begins word offset.0 offset.1).0, offset-only word offset.0 offset.1, offset.2) refl
 
-zone_from : (at : Setting) (name : Option (List ℕ)) (zone : TimeZone) → NamesZone at name zone → zone_by_words at (option_to_list name) ≡ Ok zone
+pub zone_from : (at : Setting) (name : Option (List ℕ)) (zone : TimeZone) → NamesZone at name zone → zone_by_words at (option_to_list name) ≡ Ok zone
 zone_from at None zone h = ap Ok (sym h)
 zone_from at (Some word) zone h = rw (means_from at.find word zone h) refl
 
@@ -199,14 +199,14 @@ means_offset : (word : List ℕ) (zone : TimeZone) (offset : Option ℤ) → off
 means_offset word zone None e h = cc
 means_offset word zone (Some seconds) e h = (seconds, offset-found word seconds e, cc)
 
-means : (find : List ℕ → Option TimeZone) (word : List ℕ) (zone : TimeZone) → zone_meant find word ≡ Ok zone → MeansZone find word zone
+pub means : (find : List ℕ → Option TimeZone) (word : List ℕ) (zone : TimeZone) → zone_meant find word ≡ Ok zone → MeansZone find word zone
 means find word zone h =
     elim (cases_Bool (begins_with_letter word)) [
       | inl letter ↦ inl (letter, means_name (find word) zone (rw letter at h))
       | inr other ↦ inr (means_offset word zone _ refl (rw other at h))
     ]
 
-zone_of_words : (at : Setting) (ws : List (List ℕ)) (zone : TimeZone) → zone_by_words at ws ≡ Ok zone → (name : Option (List ℕ)) × (ws ≡ option_to_list name) × NamesZone at name zone
+pub zone_of_words : (at : Setting) (ws : List (List ℕ)) (zone : TimeZone) → zone_by_words at ws ≡ Ok zone → (name : Option (List ℕ)) × (ws ≡ option_to_list name) × NamesZone at name zone
 zone_of_words at [] zone h = (None, refl, cc)
 zone_of_words at (w ∷ []) zone h =
     let meant = bind_ok (zone_meant at.find w) (λ z. zone_alone z []) zone h in

@@ -3,7 +3,9 @@ pub mod Stamp
 pub mod StampCivilRule
 pub mod StampDate
 pub mod StampFault
+pub mod StampFaultRule
 pub mod StampForm
+pub mod StampMomentRule
 pub mod StampPrinted
 pub mod StampRule
 pub mod StampTime

@@ -1,10 +1,10 @@
 //! That texts are read by the rule in its own words. Each law is a function that does nothing, and whose contract is the
 //! law.
 
-ghost use Rattle.std.specs.Prelude.{◌≡◌, ◌++◌, ℕ, ℤ, pos, List, Ok, Err, codes, decimal};
+ghost use Rattle.std.specs.Prelude.{◌≡◌, ◌++◌, ◌↔◌, ℕ, ℤ, pos, List, Ok, Err, codes, decimal};
 ghost use Rattle.jiff.specs.Types.{TimeZone};
 ghost use Rattle.cal_zone.specs.headline.Civil.{civil_of};
-ghost use Rattle.cal_zone.specs.Instant.{IsInstant};
+ghost use Rattle.cal_zone.specs.Instant.{IsInstant, IsMoment};
 ghost use Rattle.cal_zone.specs.headline.InstantText.{instant_text};
 ghost use Rattle.cal_zone.specs.Local.{IsLocalSecond};
 ghost use Rattle.cal_zone.specs.headline.Zone.{utc, zone_of};
@@ -14,11 +14,14 @@ ghost use Rattle.cal_zone.specs.declared.zone.Zone.{Zone};
 ghost use Rattle.cal_zone.specs.headline.Moment.{micros_of};
 ghost use Rattle.cal_read.specs.Stamp.{Setting, Written, civil_time, moment_in};
 ghost use Rattle.cal_read.specs.StampCivilRule.{HasNoSuchDate, IsCivilTime};
-ghost use Rattle.cal_read.specs.StampForm.{Form, civil, form_of};
+ghost use Rattle.cal_read.specs.StampFaultRule.{HasError};
+ghost use Rattle.cal_read.specs.StampForm.{Form, civil, counted, earlier, form_of, from_today, later};
+ghost use Rattle.cal_read.specs.StampMomentRule.{FallsOn, IsCivilMoment, IsDay, IsMidnight, LiesAfter, LiesBefore, MeansTime};
 ghost use Rattle.cal_read.specs.StampPrinted.{ShowsMinutes, ShowsYear};
 ghost use Rattle.cal_read.specs.StampRule.{HasForm};
 ghost use Rattle.cal_read.specs.StampViews.{setting};
-ghost use Rattle.cal_read.specs.declared.stamp.fault.StampFault.TheVariants.{NoSuchDate, StrayWord};
+ghost use Rattle.cal_read.specs.declared.stamp.fault.StampFault.{StampFault};
+ghost use Rattle.cal_read.specs.declared.stamp.fault.StampFault.TheVariants.{NoSuchDate, OutOfRange, StrayWord, WrongWeekday};
 
 /// Each text has exactly one form by the rule of systemd.time(7), Parsing Timestamps: that of the first that fits the
 /// text without the blanks at its ends. It is the one by which `read_stamp` reads the text.
@@ -40,6 +43,54 @@ pub fn one_civil_time()
 pub fn only_written_dates_are_none()
     ensures { (now : ℤ) (at : Setting) (text : List ℕ) → moment_in now at text ≡ Err NoSuchDate
         → (ws : List (List ℕ)) × (form_of text ≡ civil ws) × HasNoSuchDate ws }
+{}
+
+/// A span text after `+` or before `left` means the moment that much after the present, and one after `-` or before `ago`
+/// the moment that much before it. One after `@` counts from 1970-01-01 00:00:00 UTC (systemd.time(7), Parsing
+/// Timestamps).
+pub fn spans_count_from_the_present()
+    ensures later { (now : ℤ) (at : Setting) (text span : List ℕ) (time : ℤ) → HasForm text (later span)
+        → ((moment_in now at text ≡ Ok time) ↔ (LiesAfter now span time × IsMoment time)) }
+    ensures earlier { (now : ℤ) (at : Setting) (text span : List ℕ) (time : ℤ) → HasForm text (earlier span)
+        → ((moment_in now at text ≡ Ok time) ↔ (LiesBefore now span time × IsMoment time)) }
+    ensures counted { (now : ℤ) (at : Setting) (text span : List ℕ) (time : ℤ) → HasForm text (counted span)
+        → ((moment_in now at text ≡ Ok time) ↔ (LiesAfter (pos 0) span time × IsMoment time)) }
+{}
+
+/// `today`, `yesterday` and `tomorrow` mean the midnight that begins the day, counted from the day that the clock of the
+/// zone shows at the present (systemd.time(7), Parsing Timestamps).
+pub fn near_days_begin_at_midnight()
+    ensures { (now : ℤ) (at : Setting) (text : List ℕ) (shift : ℤ) (words : List (List ℕ)) (time : ℤ)
+        → HasForm text (from_today shift words)
+        → ((moment_in now at text ≡ Ok time) ↔ (IsMidnight now at shift words time × IsMoment time)) }
+{}
+
+/// A civil time means the time that the clock of its zone shows on its day, and the day is one of the weekday that is named
+/// (systemd.time(7), Parsing Timestamps). If it isn't, that is the error, even if the time is out of range.
+pub fn weekdays_are_checked()
+    ensures right { (now : ℤ) (at : Setting) (text : List ℕ) (words : List (List ℕ)) (time : ℤ)
+        → HasForm text (civil words)
+        → ((moment_in now at text ≡ Ok time) ↔ (IsCivilMoment now at words time × IsMoment time)) }
+    ensures wrong { (now : ℤ) (at : Setting) (text : List ℕ) (words : List (List ℕ)) (c : Written) (day : ℤ)
+        → HasForm text (civil words) → IsCivilTime at words c → IsDay now c.zone c.day day
+        → ((moment_in now at text ≡ Err WrongWeekday) ↔ (FallsOn c.weekday day → ⊥)) }
+{}
+
+/// The error of a civil time is that of the first word that can't be read where it stands, from the left. If all can be
+/// read, it is `WrongWeekday`, and only then `OutOfRange`, which comes last in the other forms too (systemd.time(7),
+/// Parsing Timestamps).
+pub fn first_error()
+    ensures { (now : ℤ) (at : Setting) (text : List ℕ) (form : Form) (fault : StampFault) → HasForm text form
+        → ((moment_in now at text ≡ Err fault) ↔ HasError now at form fault) }
+{}
+
+/// A timestamp lies between the first moment and the last, and a text that means any other time is `OutOfRange`
+/// (systemd.time(7), Parsing Timestamps).
+pub fn moments_are_in_range()
+    ensures inside { (now : ℤ) (at : Setting) (text : List ℕ) (time : ℤ) → moment_in now at text ≡ Ok time
+        → IsMoment time }
+    ensures beyond { (now : ℤ) (at : Setting) (text : List ℕ) (form : Form) (time : ℤ) → HasForm text form
+        → MeansTime now at form time → (IsMoment time → ⊥) → moment_in now at text ≡ Err OutOfRange }
 {}
 
 /// An instant that is printed is read as that instant, whatever the present, the local zone and the table are, where the
