@@ -1,4 +1,5 @@
 pub use Rattle.cal_bytes.proofs.Pieces
+pub use Rattle.cal_bytes.proofs.PutLemmas
 pub use Rattle.cal_bytes.proofs.ShortText
 pub use Rattle.cal_span.proofs.SpanCounts
 pub use Rattle.cal_span.proofs.SpanDigits
@@ -11,13 +12,23 @@ pub use Rattle.cal_span.proofs.SpanRuns
 pub use Rattle.cal_span.proofs.SpanWords
 pub use Rattle.cal_span.proofs.WorkedRows
 pub use Rattle.cal_text.proofs.DigitLemmas
+pub use Rattle.cal_text.proofs.General
 pub use Rattle.cal_text.proofs.TrimLemmas
 pub use Rattle.cal_text.proofs.WordLemmas
+pub use Rattle.cal_zone.proofs.AlikeLemmas
 pub use Rattle.cal_zone.proofs.CivilLemmas
 pub use Rattle.cal_zone.proofs.DayLemmas
+pub use Rattle.cal_zone.proofs.LocalAtLemmas
+pub use Rattle.cal_zone.proofs.LocalLemmas
 pub use Rattle.cal_zone.proofs.OffsetLemmas
+pub use Rattle.cal_zone.proofs.OffsetWordLemmas
+pub use Rattle.cal_zone.proofs.PeriodLemmas
 pub use Rattle.cal_zone.proofs.PlaceLemmas
+pub use Rattle.cal_zone.proofs.PlacerLemmas
+pub use Rattle.cal_zone.proofs.RuleLemmas
+pub use Rattle.cal_zone.proofs.ShownDayLemmas
 pub use Rattle.cal_zone.proofs.WeekdayLemmas
 pub use Rattle.cal_zone.proofs.YearLemmas
 pub use Rattle.cal_zone.proofs.ZoneLemmas
 pub use Rattle.cal_zone.proofs.ZoneMapLemmas
+pub use Rattle.cal_zone.proofs.DigitLemmas as ZoneDigitLemmas

@@ -1,6 +1,7 @@
 pub use Rattle.cal_bytes.specs.Bytes
 pub use Rattle.cal_bytes.specs.Fill
 pub use Rattle.cal_bytes.specs.Output
+pub use Rattle.cal_bytes.specs.Puts
 pub use Rattle.cal_bytes.specs.SplitPieces
 pub use Rattle.cal_bytes.specs.Whole
 pub use Rattle.cal_span.specs.Scale
@@ -10,11 +11,13 @@ pub use Rattle.cal_span.specs.SpanRule
 pub use Rattle.cal_span.specs.SpanText
 pub use Rattle.cal_span.specs.SpanValue
 pub use Rattle.cal_span.specs.SpanWord
+pub use Rattle.cal_text.specs.AndThen
 pub use Rattle.cal_text.specs.TrimRule
 pub use Rattle.cal_zone.specs.Civil
 pub use Rattle.cal_zone.specs.Instant
 pub use Rattle.cal_zone.specs.InstantText
 pub use Rattle.cal_zone.specs.Local
+pub use Rattle.cal_zone.specs.LocalAt
 pub use Rattle.cal_zone.specs.OffsetWord
 pub use Rattle.cal_zone.specs.Period
 pub use Rattle.cal_zone.specs.Place

@@ -29,7 +29,6 @@ pub use clock::Clock;
 pub use days::{DAY, LOCAL_END, date_of_day, day_of, second_of_day};
 pub use instant::Instant;
 pub use instant_text::{push_instant, push_offset, write_instant};
-pub use locals::local_at;
 pub use moment::Moment;
 pub use offset_word::{begins_zone, read_offset};
 pub use placer::Placer;

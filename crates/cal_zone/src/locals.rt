@@ -12,7 +12,7 @@ use jiff::Timestamp;
 ///
 /// It is the one that the zone's clock shows then, unless the clock showed it before: an instant of the second pass,
 /// where the clock is turned back, is no place. (systemd.time(7), Calendar Events.)
-pub fn local_at(zone: Zone, instant: Instant) -> Option<i64>
+pub(crate) fn local_at(zone: Zone, instant: Instant) -> Option<i64>
     ensures { IsLocalAt (zone_of zone.entry) instant.secs result }
 {
     let local = shown_at(zone, instant);

@@ -6,9 +6,10 @@ ghost use Rattle.cal_zone.specs.LocalAt.{IsLocalAt};
 ghost use Rattle.cal_zone.specs.headline.Place.{place_of};
 ghost use Rattle.cal_zone.specs.headline.Zone.{zone_of};
 
+use crate::locals::local_at;
 use crate::stretch::{Stretch, stretch_of};
 use crate::zone::ZoneKind;
-use crate::{Instant, LOCAL_END, Zone, local_at, place};
+use crate::{Instant, LOCAL_END, Zone, place};
 use std::marker::Model;
 
 /// How many local seconds are placed by the zone's rules, each by itself, where no steady stretch is known.
