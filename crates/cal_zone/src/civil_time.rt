@@ -64,7 +64,7 @@ fn fields(shown: DateTime, offset: Offset) -> Civil
         year: shown.year(),
         month: shown.month() as u8,
         day: shown.day() as u8,
-        weekday: shown.weekday().index() + 1,
+        weekday: shown.weekday().to_monday_one_offset() as u8,
         hour: shown.hour() as u8,
         minute: shown.minute() as u8,
         second: shown.second() as u8,

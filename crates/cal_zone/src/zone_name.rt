@@ -37,7 +37,7 @@ fn are_zone_bytes(text: &[u8]) -> bool
 fn is_zone_byte(byte: u8) -> bool
     ensures { result ≡ is_zone_byte byte }
 {
-    byte.is_ascii_alphanumeric() || byte == b'/' || byte == b'_' || byte == b'+' || byte == b'-'
+    byte.is_ascii_alphanumeric() || b"/_+-".contains(&byte)
 }
 
 /// Whether the text is the name of UTC, which may be in any case.
