@@ -1,4 +1,4 @@
--- What a clock shows, against the local second that it stands for.
+-- Civil times and the local seconds that they stand for.
 use Rattle.std.proofs.Common.{◌≡◌, ◌*◌, ℕ, ℤ, pos, sym, ap, ◌∙◌, arith}
 use Rattle.jiff.specs.Types.{DateTime, Offset, TimeZone}
 use Rattle.jiff.specs.Words.{civil_nanos, epoch_day, nanos_of_seconds, offset_at}
@@ -15,23 +15,23 @@ use Rattle.cal_zone.specs.headline.Zone.{local_of}
 use Rattle.cal_zone.proofs.YearLemmas.{year-from_1969, year-to_2200}
 use Rattle.cal_zone.proofs.ZoneLemmas.{offset_at-in_range}
 
--- the day number of a datetime that stands for a whole local second
+-- the day number of a civil time is that of its local second
 pub epoch_day-whole : (dt : DateTime) (local : ℤ) → civil_nanos dt ≡ nanos_of_seconds local → epoch_day dt.date ≡ day_of local
 unfolding civil_nanos
 epoch_day-whole dt local e = omega (arith, signed_arith, dt.time.hour_in, dt.time.minute_in, dt.time.second_in, dt.time.subsec_in)
 
--- and its seconds after midnight
+-- the seconds since midnight of a civil time are those of its local second
 pub time_seconds-whole : (dt : DateTime) (local : ℤ) → civil_nanos dt ≡ nanos_of_seconds local → time_seconds dt.time ≡ second_of_day local
 unfolding civil_nanos
 time_seconds-whole dt local e = omega (arith, signed_arith, dt.time.hour_in, dt.time.minute_in, dt.time.second_in, dt.time.subsec_in)
 
--- such a datetime has the fields of the civil time
+-- the fields of `jiff`'s civil time are those of `civil_of`
 pub shown_at-civil_of : (tz : TimeZone) (second : ℤ) (dt : DateTime) → civil_nanos dt ≡ nanos_of_seconds (local_of tz second)
     → shown_at (offset_at tz (nanos_of_seconds second)) dt ≡ civil_of tz second
 unfolding civil_of
 shown_at-civil_of tz second dt e = grind (arith, signed_arith, epoch_day-whole, date_of-epoch_day, time_seconds-whole)
 
--- at an instant they are in their ranges
+-- the fields of the civil time at an instant are in their ranges
 pub IsCivil-shown_at : (tz : TimeZone) (dt : DateTime) (secs : ℤ) (offset : Offset) → civil_nanos dt ≡ nanos_of_seconds (local_of tz secs) → IsInstant secs → IsCivil (shown_at offset.seconds dt)
 unfolding local_of
 IsCivil-shown_at tz dt secs offset e h =
@@ -50,7 +50,7 @@ IsCivil-shown_at tz dt secs offset e h =
       offset = offset.in_range;
     }
 
--- the date that a clock in UTC shows at a day's first second is that day's
+-- the date of a day number is what UTC shows at the first second of that day
 pub date_of_midnight : (shown : DateTime) (day : ℕ) → civil_nanos shown ≡ nanos_of_seconds (pos (day * 86_400)) → shown.date ≡ civil_date day
 unfolding civil_date
 date_of_midnight shown day h =

@@ -1,4 +1,4 @@
--- The two digits of a number below a hundred.
+-- Numbers below 100 with two digits.
 use Rattle.std.proofs.Common.{◌≡◌, ◌+◌, ◌/◌, ◌%◌, ◌<◌, ◌≤◌, ℕ, decimal, [], ◌∷◌, ◌++◌, refl, arith}
 use Rattle.std.proofs.lemmas.Bool.{cases_lt}
 use Rattle.std.proofs.lemmas.Fmt.{decimal_digit, decimal_step}
@@ -11,6 +11,6 @@ below_ten n h = grind (arith, signed_arith, decimal_digit)
 from_ten : (n : ℕ) → 10 ≤ n → n < 100 → zeros 2 n ++ decimal n ≡ (48 + n / 10) ∷ (48 + n % 10) ∷ []
 from_ten n from h = rw (decimal_step n from (omega arith), decimal_digit (n / 10) (omega arith)) refl
 
--- as they are printed
+-- padded with zeros to two digits, a number below 100 is its tens and its ones
 pub two_digits_are : (n : ℕ) → n < 100 → zeros 2 n ++ decimal n ≡ (48 + n / 10) ∷ (48 + n % 10) ∷ []
 two_digits_are n h = grind (arith, signed_arith, cases_lt, below_ten, from_ten)

@@ -1,4 +1,4 @@
--- The local second that has its place at an instant is the one that the clock shows then.
+-- The local second whose place is a given instant: what the clock shows at the instant, if anything.
 use Rattle.std.proofs.Common.{◌≡◌, None, Some, ℤ, pos, ◌≤ℤ◌, ◌<ℤ◌, arith}
 use Rattle.jiff.proofs.SpanFacts.{signed_arith}
 use Rattle.jiff.specs.Types.{TimeZone}
@@ -7,14 +7,14 @@ use Rattle.cal_zone.specs.headline.Place.{place_of}
 use Rattle.cal_zone.specs.headline.Zone.{local_of}
 use Rattle.cal_zone.proofs.PlaceLemmas.{place_of-Some}
 
--- where that is none of 1970 to 2199
+-- there is none if the clock shows a time outside the years 1970 to 2199
 pub local_at-outside : (tz : TimeZone) (instant shown : ℤ) → shown ≡ local_of tz instant → (pos 0 ≤ℤ shown → pos 7_258_118_400 ≤ℤ shown) → IsLocalAt tz instant None
 local_at-outside tz instant shown at outside = grind (arith, signed_arith, place_of-Some)
 
--- where that has its place elsewhere, or none
+-- there is none if the local second that the clock shows has another place, or none
 pub local_at-elsewhere : (tz : TimeZone) (instant shown : ℤ) → shown ≡ local_of tz instant → (place_of tz shown ≡ Some instant → ⊥) → IsLocalAt tz instant None
 local_at-elsewhere tz instant shown at elsewhere = grind (arith, signed_arith, place_of-Some)
 
--- and where it has its place there
+-- the local second that the clock shows is the one, if the instant is its place
 pub local_at-here : (tz : TimeZone) (instant shown : ℤ) → pos 0 ≤ℤ shown → shown <ℤ pos 7_258_118_400 → place_of tz shown ≡ Some instant → IsLocalAt tz instant (Some shown)
 local_at-here tz instant shown low high placed = ((low, omega (arith, signed_arith)), placed)

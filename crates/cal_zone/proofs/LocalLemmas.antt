@@ -1,4 +1,4 @@
--- Local seconds as they are passed, and as the definitions count them.
+-- Local seconds as integers, as functions get them, and as natural numbers, as definitions count them.
 use Rattle.std.proofs.Common.{◌≡◌, ◌<◌, arith, nat_lt, negsuc, pos, unsigned_abs, ℕ, ℤ}
 use Rattle.std.proofs.lemmas.Int.{ints, to_z-of_z}
 use Rattle.jiff.proofs.SpanFacts.{signed_arith}
@@ -12,5 +12,5 @@ local_inside (negsuc n) h = absurd (omega (arith, ints, h.0))
 pub local_inside-pos : (local : ℕ) → local < seconds_in_all → IsLocalSecond (pos local)
 local_inside-pos local h = let count = seconds_in_all-is in (omega (arith, ints), omega (arith, ints))
 
--- what arithmetic on local seconds needs
+-- the rules for arithmetic on local seconds
 pub ruleset local_arith = (signed_arith, to_z-of_z, nat_lt, seconds_in_all-is, local_inside)

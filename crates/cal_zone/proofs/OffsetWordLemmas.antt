@@ -1,4 +1,4 @@
--- Words that are fixed offsets, and zones ahead of UTC.
+-- Words for fixed UTC offsets, and zones with a fixed offset.
 use Rattle.std.proofs.Common.{◌≡◌, ◌⊎◌, inl, inr, ℕ, zero, suc, ℤ, pos, negsuc, neg_ℤ, int_lt, if◌then◌else◌, append-nil, append_assoc, length-append, ◌+◌, ◌*◌, ◌/◌, ◌%◌, ◌<◌, ◌≤◌, Bool, true, false, ◌&&◌, ◌||◌, ◌==◌, cond, min, List, [], ◌∷◌, ◌++◌, length, codes, decimal, unsigned_abs, Option, None, Some, option_map, refl, ap, arith, le-leb, leb-true}
 use Rattle.std.specs.Char.{is_ascii_digit}
 use Rattle.std.specs.Fmt.{digits}
@@ -133,7 +133,7 @@ bytes-by : (word clock : List ℕ) (distance : ℕ) (seconds : ℤ) → (list_al
 bytes-by word clock distance seconds h (inl east) = rw east.0 (h.0, omega (arith, h.1), refl)
 bytes-by word clock distance seconds h (inr west) = rw west.0 (h.0, omega (arith, h.1), refl)
 
--- digits, a sign and a colon, six in all, the sign first
+-- an offset is six bytes: a sign first, then digits and a colon
 pub offset-bytes : (word : List ℕ) (seconds : ℤ) → IsOffsetWord word seconds
     → (list_all is_offset_byte word ≡ true) × (length word ≡ 6) × (begins_with_sign word ≡ true)
 offset-bytes word seconds h = bytes-by word h.clock h.distance seconds (clock-bytes h.clock h.distance h.clock_is) h.signed
@@ -156,7 +156,7 @@ offset-minutes word seconds is =
     let c = h.clock_is in
     whole-by word h.clock h.distance seconds (clock-minutes h.distance c.hours c.minutes c.hours_in c.minutes_in c.sum) h.signed
 
--- What is printed
+-- Printing an offset and parsing it again
 
 abbrev pub two : ℕ → List ℕ
 two n = zeros 2 n ++ decimal n
@@ -206,7 +206,7 @@ printed-word (negsuc n) h =
 pub offset-back : (seconds : ℤ) → AreWholeMinutes seconds → offset_in (offset_text seconds) ≡ Some seconds
 offset-back seconds h = offset-only (offset_text seconds) seconds (printed-word seconds h)
 
--- Zones
+-- Zones with a fixed offset
 
 pub nearest : (seconds : ℤ) → IsOffsetSeconds seconds → (offset_of_seconds seconds).seconds ≡ seconds
 unfolding offset_of_seconds

@@ -1,4 +1,7 @@
--- Between two changes a clock is equally far ahead of UTC.
+-- Between two transitions, the UTC offset is constant.
+--
+-- A "moment" in these lemmas is a nanosecond at which a POSIX rule starts or ends daylight saving time; its "window" is
+-- the two moments of one year.
 use Rattle.std.proofs.Common.{◌≡◌, ◌∙◌, ◌⊎◌, inl, inr, ◌<◌, ◌≤◌, ℤ, pos, neg_ℤ, ◌+ℤ◌, ◌≤ℤ◌, ◌<ℤ◌, Bool, true, false, if◌then◌else◌, int_le, int_lt, IfSome, Option, None, Some, refl, sym, ap, subst, arith, vec_len}
 use Rattle.std.specs.Int.{int_max}
 use Rattle.std.proofs.lemmas.Bool.{cases_lt, and_from}
@@ -29,12 +32,12 @@ use Rattle.cal_zone.proofs.PlacerLemmas.{floor_second-whole, offset_between, off
 use Rattle.cal_text.proofs.General.{lt_test, not_lt_test}
 use Rattle.cal_zone.proofs.RuleLemmas.{IsApart, IsBeside, clamped, in_its_year, moment_on, next_behind, offset_in, ordered_apart, ordered_rises, utc_year, window_apart, window_beside, window_of}
 
--- what lies within the ends is on one side of a moment that doesn't
+-- two times in `low..high` are on the same side of a moment outside this range
 beside_within : (low high moment at other : ℤ) → IsApart low high (pos 0) moment → low ≤ℤ at → at <ℤ high → low ≤ℤ other → other <ℤ high → IsBeside moment at other
 beside_within low high moment at other (inl h) a b c d = grind (arith, signed_arith, le_yes, not_lt_test)
 beside_within low high moment at other (inr h) a b c d = grind (arith, signed_arith, le_no, lt_test)
 
--- a rule's moments lie in their year
+-- the moments that a rule has in a year are in that year
 abbrev pub IsIn : ℤ → ℤ → ℤ → Type 0
 IsIn low high moment = (low ≤ℤ moment) × (moment ≤ℤ high)
 
@@ -63,7 +66,7 @@ pub ordered_in : (low high : ℤ) (w : ℤ × ℤ) (b : Bool) → IsIn low high 
 ordered_in low high w true p q = (p, q)
 ordered_in low high w false p q = (q, p)
 
--- such a moment is an instant of `jiff`'s, so there is a transition at it
+-- a moment in `jiff`'s range is a transition
 no_none : (b : Bool) (moment : ℤ × OffsetInfo) → b ≡ true → (if b then Some moment else None) ≡ None → ⊥
 no_none true moment e f = cc
 no_none false moment e f = cc
@@ -72,7 +75,7 @@ transition_some : (rule : Posix) (d : Dst) (w : ℤ × ℤ) (low high moment : �
     → IsIn low high moment → transition_of rule d w moment ≡ None → ⊥
 transition_some rule d w low high moment from to p e = grind (arith, signed_arith, no_none, int_le, and_from, le_yes)
 
--- so where no transition comes, the year has none left
+-- if there is no later transition, both moments of the year have passed
 passed_ends : (rule : Posix) (d : Dst) (y first last low high : ℤ) (o : ℤ × ℤ) → o.0 ≤ℤ o.1 → (a b : Bool) → int_lt low o.0 ≡ a → int_lt low o.1 ≡ b
     → neg_ℤ (pos 377_705_023_201_000_000_000) ≤ℤ first → last ≤ℤ pos 253_402_207_200_999_999_999 → IsIn first last o.0 → IsIn first last o.1
     → (if a then transition_of rule d (utc_window d y rule.std_offset) o.0 else (if b then transition_of rule d (utc_window d y rule.std_offset) o.1 else next_year rule d y)) ≡ None
@@ -87,7 +90,7 @@ lowest = neg_ℤ (pos 377_705_023_201_000_000_000)
 abbrev highest : ℤ
 highest = pos 253_402_207_200_999_999_999
 
--- the moments of a year from an instant on and before the next change
+-- no moment of the year is between an instant and the next transition after it
 window_even : (rule : Posix) (d : Dst) (y low high : ℤ) (next : Option (ℤ × OffsetInfo)) → next_by rule d y low ≡ next → IfSome next (λ change. high ≤ℤ change.0)
     → first_nanosecond y ≤ℤ last_nanosecond y → lowest ≤ℤ first_nanosecond y → last_nanosecond y ≤ℤ highest
     → IsApart low high (pos 0) (utc_window d y rule.std_offset).0 × IsApart low high (pos 0) (utc_window d y rule.std_offset).1
@@ -103,7 +106,7 @@ not_after : (next : Option (ℤ × OffsetInfo)) (at : ℤ) → IfSome next (λ c
 not_after (Some change) at h = omega (arith, signed_arith)
 not_after None at h = h
 
--- the year of an instant from 1970 to 2200, and its ends
+-- the year of an instant from 1970 to 2200, and its first and last nanosecond
 pub year_order : (y : ℤ) → first_nanosecond y ≤ℤ last_nanosecond y
 year_order y = let long = days_in_year_bounds y in omega (arith, signed_arith)
 
@@ -117,7 +120,7 @@ instant_year from begun bound =
     let long = days_in_year_bounds (date_of (day_of from)).year in
     (omega (arith, signed_arith), omega (arith, signed_arith), omega (arith, signed_arith))
 
--- at instants of one year with no change between them a rule's clock is equally far ahead
+-- within one year, the UTC offset of a rule is constant until the next transition
 even_in_summer : (rule : Posix) (d : Dst) (from second : ℤ) → rule.dst ≡ Some d → pos 0 ≤ℤ from → from ≤ℤ pos 7_258_500_000 → from ≤ℤ second
     → IsUnchanged (next_by rule d (year_of_nanos (nanos_of_seconds from)) (nanos_of_seconds from)) from second
     → ByPosix.offset_at rule (nanos_of_seconds second) ≡ ByPosix.offset_at rule (nanos_of_seconds from)
@@ -152,7 +155,7 @@ even_by_rule rule from second begun bound later same = elim (no_dst rule.dst) [
       (subst (λ next. IsUnchanged next from second) (ap (λ dst. match_some dst None (λ d. next_by rule d (year_of_nanos (nanos_of_seconds from)) (nanos_of_seconds from))) some.1) same)
 ]
 
--- behind the last row of a table by its rule, if it has one
+-- after the last transition of a table, its POSIX rule decides, if it has one
 even_by : (rule : Option Posix) (type : Offset) (from second : ℤ) → pos 0 ≤ℤ from → from ≤ℤ pos 7_258_500_000 → from ≤ℤ second
     → IsUnchanged (match_some rule None (λ tz. ByPosix.next_at tz (nanos_of_seconds from))) from second
     → match_some rule type (λ tz. ByPosix.offset_at tz (nanos_of_seconds second)) ≡ match_some rule type (λ tz. ByPosix.offset_at tz (nanos_of_seconds from))
@@ -165,7 +168,7 @@ even_behind : (z : Table) (from second : ℤ) → vec_len z.transitions ≤ coun
 even_behind z from second all begun bound later same =
     grind (arith, signed_arith, vec_len, rule_behind, next_behind, offset_behind, even_by)
 
--- and before it up to the next row
+-- before the last transition of a table, the UTC offset is constant until the next transition of the table
 next_row : (z : Table) (from : ℤ) → count_at z from < vec_len z.transitions
     → OfTable.next_at z (nanos_of_seconds from) ≡ Some (OfTable.transition_view (transition_at z (count_at z from)))
 next_row z from some = grind (arith, signed_arith, vec_len, floor_second-whole)
@@ -179,7 +182,7 @@ even_between z from second some later same =
     offset_between z from second some later (omega (arith, signed_arith))
     ∙ sym (offset_between z from from some (omega (arith, signed_arith)) (omega (arith, signed_arith)))
 
--- so it is with a clock of any kind
+-- in a zone of any kind, the UTC offset is constant until the next transition or the end of the year
 pub even_until : (tz : TimeZone) (from second : ℤ) → pos 0 ≤ℤ from → from ≤ℤ pos 7_258_500_000 → from ≤ℤ second
     → IsUnchanged (next_at tz (nanos_of_seconds from)) from second → offset_at tz (nanos_of_seconds second) ≡ offset_at tz (nanos_of_seconds from)
 unfolding offset_at next_at
@@ -189,15 +192,15 @@ even_until (Fixed o) from second begun bound later same = refl
 even_until (ByRule rule) from second begun bound later same = ap (λ o. o.seconds) (even_by_rule rule from second begun bound later same)
 even_until (ByTable table) from second begun bound later same = grind (arith, signed_arith, cases_lt, vec_len, even_between, even_behind)
 
--- what lies before the greater of two numbers, and not before the first, lies before the second
+-- a number below the maximum of `a` and `b`, and not below `a`, is below `b`
 pub max_before : (a b x : ℤ) → x <ℤ int_max a b → a ≤ℤ x → x <ℤ b
 max_before a b x = grind (arith, signed_arith)
 
--- so the clock is even from an instant of a period to its end
+-- the UTC offset is constant from the start of a period to its end
 pub even_within : (tz : TimeZone) (from to : ℤ) (period : Period) → IsPeriodAt tz from period → to ≤ℤ period.to → IsEvenUntil tz from to
 even_within tz from to period at within = grind (arith, signed_arith)
 
--- and to the end of the next one, where the clock is as far ahead in it
+-- if the next period has the same UTC offset, it is constant to the end of that period
 pub even_over : (tz : TimeZone) (from turn to : ℤ) (period next : Period) → IsPeriodAt tz from period → turn ≡ period.to → IsPeriodAt tz turn next → to ≤ℤ next.to
     → next.offset.seconds ≡ period.offset.seconds → IsEvenUntil tz from to
 even_over tz from turn to period next at ends after within same = λ second later before.

@@ -1,4 +1,6 @@
--- Stretches of local seconds that all lie equally far from their places.
+-- Ranges of local seconds with a constant UTC offset.
+--
+-- A "row" of a table is one of its transitions. The "count" at a second is the number of rows at or before it.
 use Rattle.std.proofs.Common.{◌≡◌, ◌∙◌, ◌-◌, ◌<◌, ◌≤◌, ℕ, zero, suc, ℤ, pos, ◌+ℤ◌, ◌-ℤ◌, ◌≤ℤ◌, ◌<ℤ◌, Option, Some, None, true, false, cond, int_le, int_lt, get_or, length, map, List, refl, sym, ap, arith, vec_len}
 use Rattle.std.specs.Int.{int_min, int_max}
 use Rattle.std.proofs.lemmas.Bool.Decides.{nat_tests}
@@ -29,30 +31,30 @@ use Rattle.cal_zone.proofs.DayLemmas.{epoch_day-date_of}
 use Rattle.cal_zone.proofs.PlaceLemmas.{by_the_offset, place_at-there, place_of-Some, place_of-tried}
 use Rattle.cal_text.proofs.General.{none_by_view}
 
--- the lesser and the greater of two offsets are offsets
+-- the minimum and the maximum of two UTC offsets are in the range of offsets
 min_in_range : (x y : ℤ) → IsOffsetSeconds x → IsOffsetSeconds y → IsOffsetSeconds (int_min x y)
 min_in_range x y p q = elim (int_lt y x) as (λ b. IsOffsetSeconds (cond b y x)) [ true ↦ q | false ↦ p ]
 
 max_in_range : (x y : ℤ) → IsOffsetSeconds x → IsOffsetSeconds y → IsOffsetSeconds (int_max x y)
 max_in_range x y p q = elim (int_lt y x) as (λ b. IsOffsetSeconds (cond b x y)) [ true ↦ p | false ↦ q ]
 
--- what a row touches on the civil clock is near it
+-- the gap or fold of a row starts and ends at most one UTC offset from the row
 start_near : (row : Transition) → IsOffsetSeconds (civil_start row -ℤ row.second)
 start_near row = grind (arith, signed_arith, min_in_range)
 
 end_near : (row : Transition) → IsOffsetSeconds (civil_end row -ℤ row.second)
 end_near row = grind (arith, signed_arith, max_in_range)
 
--- the rows before a count are passed
+-- rows with an index below the count are at or before the second
 row_passed : (z : Table) (second : ℤ) (row : ℕ) → row < count_at z second → (transition_at z row).second ≤ℤ second
 row_passed z second row l = grind (arith, signed_arith, prefix_len_passes, int_le)
 
--- up to the next row the count is the same
+-- the count stays the same until the next row
 pub count_stays : (z : Table) (from second : ℤ) → count_at z from < vec_len z.transitions → from ≤ℤ second
     → second <ℤ (transition_at z (count_at z from)).second → count_at z second ≡ count_at z from
 count_stays z from second some begun within = grind (arith, signed_arith, prefix_len_is, int_le, le_yes, row_passed, le_no)
 
--- on the civil clock too, away from the rows
+-- the count in local time is the same as in UTC, for local seconds more than one UTC offset away from the rows
 civil_count_stays : (z : Table) (from local : ℤ) → count_at z from < vec_len z.transitions → (from +ℤ pos 93_599) ≤ℤ local
     → (local +ℤ pos 93_599) <ℤ (transition_at z (count_at z from)).second → civil_count_at z local ≡ count_at z from
 civil_count_stays z from local some begun within =
@@ -62,7 +64,7 @@ civil_count_stays z from local some begun within =
     (λ l. le_no (civil_start (transition_at z (count_at z from))) local
     (let near = start_near (transition_at z (count_at z from)) in omega (arith, signed_arith)))
 
--- there no gap or fold is touched
+-- such local seconds are not in a gap or a fold
 outside_after : (z : Table) (rows : ℕ) (local : ℤ) → (0 < rows → civil_end (transition_at z (rows - 1)) ≤ℤ local) → is_inside z rows local ≡ false
 outside_after z zero local ended = refl
 outside_after z (suc rows) local ended = grind (arith, nat_tests)
@@ -73,11 +75,11 @@ outside z from local begun = outside_after z (count_at z from) local
     let near = end_near (transition_at z (count_at z from - 1)) in
     omega (arith, signed_arith, row_passed z from (count_at z from - 1) (omega arith)))
 
--- and no rule holds
+-- the POSIX rule of a table isn't used before the last row
 pub no_rule : (z : Table) (rows : ℕ) → rows < vec_len z.transitions → rule_after z rows ≡ None
 no_rule z rows some = grind (arith, signed_arith, vec_len)
 
--- the second of an instant in whole seconds, and of the civil time of a local second
+-- the second of an instant that is a whole number of seconds, and that of the civil time of a local second
 pub floor_second-whole : (second : ℤ) → floor_second (nanos_of_seconds second) ≡ second
 floor_second-whole second = omega (arith, signed_arith)
 
@@ -85,7 +87,7 @@ civil_seconds-datetime_of : (local : ℤ) → IsEpochDay (day_of local) → civi
 unfolding civil_seconds datetime_of time_of
 civil_seconds-datetime_of local day = omega (arith, signed_arith, epoch_day-date_of (day_of local) day)
 
--- the offset of a table between two rows, at an instant and at a civil time
+-- the UTC offset between two rows of a table, at an instant and at a civil time
 pub offset_between : (z : Table) (from second : ℤ) → count_at z from < vec_len z.transitions → from ≤ℤ second
     → second <ℤ (transition_at z (count_at z from)).second
     → OfTable.offset_at z (nanos_of_seconds second) ≡ (type_after z (count_at z from)).offset
@@ -97,7 +99,7 @@ ambiguous_between : (z : Table) (from local : ℤ) → IsEpochDay (day_of local)
 ambiguous_between z from local day some begun within =
     grind (arith, signed_arith, civil_seconds-datetime_of, civil_count_stays, outside, no_rule)
 
--- the place of a local second that is far enough from the rows before and behind it
+-- the place of a local second more than one UTC offset away from the rows before and after it
 pub place_of-between : (z : Table) (from local : ℤ) → IsLocalSecond local → count_at z from < vec_len z.transitions → (from +ℤ pos 93_599) ≤ℤ local
     → (local +ℤ pos 93_599) <ℤ (transition_at z (count_at z from)).second
     → place_of (zone_of_table z) local ≡ Some (local -ℤ (type_after z (count_at z from)).offset.seconds)
@@ -114,7 +116,7 @@ place_of-between z from local within_years some begun within =
 pub length_of_copy : (z : Table) (rows : List Transition) → map transition_text rows ≡ map transition_text z.transitions.items → length rows ≡ vec_len z.transitions
 length_of_copy z rows copy = grind (arith, signed_arith, length-map)
 
--- rows that say what a table's rows say: what a caller is given of a table
+-- each row of a copy has the content of the table's row with the same index; functions on a table return such a copy
 pub row_of_copy : (z : Table) (rows : List Transition) → map transition_text rows ≡ map transition_text z.transitions.items
     → (row : ℕ) (d : Transition) → row < length rows → transition_text (get_or rows row d) ≡ transition_text (transition_at z row)
 row_of_copy z rows copy row d l =
@@ -123,12 +125,12 @@ row_of_copy z rows copy row d l =
     ∙ ap (λ texts. get_or texts row no_row) copy
     ∙ get_or-map transition_text z.transitions.items row (no_transition z) no_row (omega arith)
 
--- they are ordered as the table's are
+-- the rows of a copy are in ascending order, as those of the table are
 pub ordered_copy : (z : Table) (rows : List Transition) → map transition_text rows ≡ map transition_text z.transitions.items
     → (row later : ℕ) (d : Transition) → row ≤ later → later < length rows → (get_or rows row d).second ≤ℤ (get_or rows later d).second
 ordered_copy z rows copy row later d le l = grind (arith, signed_arith, seconds_rise)
 
--- and as many of them lie at or before a second
+-- a second has the same count in a copy as in the table
 pub count_of_copy : (z : Table) (rows : List Transition) → map transition_text rows ≡ map transition_text z.transitions.items
     → (second : ℤ) (count : ℕ) (d : Transition) → count ≤ length rows → IsPartitionPoint (λ t. int_le t.second second ≡ true) (λ t. int_le t.second second ≡ false) rows count
     → count ≡ count_at z second
@@ -138,11 +140,11 @@ count_of_copy z rows copy second count d bound point =
     (λ row l. sym (ap (λ text. int_le text.second second) (row_of_copy z rows copy row d (omega arith))) ∙ point.0 row d (omega arith) l)
     (λ l. sym (ap (λ text. int_le text.second second) (row_of_copy z rows copy count d (omega arith))) ∙ point.1 count d (omega arith) (omega arith)))
 
--- what holds after some rows is what the last of them set
+-- the local time type after some rows is the one that the last of them sets
 pub type_after-row : (z : Table) (rows : ℕ) → 0 < rows → type_after z rows ≡ (transition_at z (rows - 1)).after
 type_after-row z rows some = grind (arith, signed_arith)
 
--- local seconds at which the clock goes alike lie equally far from their places
+-- if the clock behaves the same around two local seconds, both have the same distance to their places
 pub place_of-alike : (tz : TimeZone) (local other place : ℤ) → IsAlike tz local other → place_of tz other ≡ Some place → place_of tz local ≡ Some (local -ℤ (other -ℤ place))
 unfolding settle_of
 place_of-alike tz local other place alike placed =
@@ -155,7 +157,7 @@ place_of-alike tz local other place alike placed =
     ∙ place_at-there tz local offset (alike.instants offset ∙ there)
     ∙ ap Some (omega (arith, signed_arith))
 
--- without daylight saving time a rule's clock always goes alike
+-- according to a rule without daylight saving time, the clock behaves the same around all local seconds
 ambiguous_standard : (std : Offset) (dst : Option Dst) (shown : DateTime) → dst ≡ None → ambiguous_at_by std dst shown ≡ Unambiguous std
 ambiguous_standard std dst shown none = rw none refl
 
@@ -169,7 +171,7 @@ pub alike_standard : (rule : Posix) (local other : ℤ) → rule.dst ≡ None �
 unfolding offset_at ambiguous_at
 alike_standard rule local other none = grind (arith, signed_arith, ambiguous_standard, offset_standard)
 
--- the clock goes alike by the rule behind a table, if there is one
+-- according to the POSIX rule of a table, if it has one, the clock behaves the same around both local seconds
 abbrev pub AreAlikeBy : Option Posix → ℤ → ℤ → Type 0
 AreAlikeBy None local other = Unit {0}
 AreAlikeBy (Some rule) local other = IsAlike (ByRule rule) local other
@@ -186,7 +188,7 @@ unfolding offset_at
 instants_alike None type offset local other h = refl
 instants_alike (Some rule) type offset local other h = h.instants offset
 
--- behind the last row all rows are passed
+-- from the last row on, the count is the number of all rows
 pub count_behind : (z : Table) (from second : ℤ) → vec_len z.transitions ≤ count_at z from → from ≤ℤ second → count_at z second ≡ vec_len z.transitions
 count_behind z from second all begun =
     prefix_len_is (λ t. int_le t.second second) z.transitions.items (vec_len z.transitions) (no_transition z) (omega arith)
@@ -217,7 +219,8 @@ offset_behind z from second all begun = grind (arith, signed_arith, floor_second
 pub rule_behind : (z : Table) → rule_after z (vec_len z.transitions) ≡ z.posix_tz
 rule_behind z = grind (arith, signed_arith, vec_len)
 
--- so there the table's clock goes as its rule's does
+-- if all rows are more than one UTC offset before `other`, and the clock behaves the same around both local seconds
+-- according to the rule, it does so according to the table
 pub alike_behind_rows : (z : Table) (local other : ℤ) → IsLocalSecond local → IsLocalSecond other → vec_len z.transitions ≤ count_at z (other -ℤ pos 93_599) → other ≤ℤ local
     → AreAlikeBy z.posix_tz local other → IsAlike (zone_of_table z) local other
 unfolding offset_at ambiguous_at
@@ -245,6 +248,6 @@ alike_without_dst (Some rule) given local other e none =
     let same : tz_view given ≡ tz_view rule = cc in
     alike_standard rule local other (none_by_view dst_view rule.dst (ap (option_map dst_view) (sym none) ∙ ap (λ text. text.dst) same))
 
--- where all rows are passed so early, they still are
+-- if all rows are at least 374,397 seconds before a local second, they are at least 93,599 seconds before it
 pub all_later : (z : Table) (local : ℤ) → vec_len z.transitions ≤ count_at z (local -ℤ pos 374_397) → vec_len z.transitions ≤ count_at z (local -ℤ pos 93_599)
 all_later z local all = grind (arith, signed_arith, count_behind)

@@ -1,4 +1,4 @@
--- Instants that a clock shows on one day.
+-- The texts of the instants of one day.
 use Rattle.std.proofs.Common.{◌≡◌, ◌∙◌, ◌+◌, ◌*◌, ℕ, ℤ, pos, ◌+ℤ◌, ◌-ℤ◌, ◌≤ℤ◌, ◌<ℤ◌, unsigned_abs, codes, List, [], ◌∷◌, ◌++◌, refl, ap, arith}
 use Rattle.std.specs.Int.Signed.{pos-nat_abs, yes_non_neg}
 use Rattle.std.proofs.lemmas.List.{append-nil, append_assoc}
@@ -16,11 +16,11 @@ use Rattle.cal_zone.specs.headline.Zone.{is_utc, local_of, zone_of}
 use Rattle.cal_zone.specs.declared.civil_fields.Civil.{Civil}
 use Rattle.cal_zone.specs.declared.zone.Zone.{Zone}
 
--- the seconds since the midnight of what is shown
+-- the seconds since midnight
 abbrev pub seconds_shown : Civil → ℕ
 seconds_shown c = c.hour * 3_600 + c.minute * 60 + c.second
 
--- before the next midnight the day goes on, where the clock does
+-- while the UTC offset stays the same, a clock shows the same date until the next midnight
 pub day_goes_on : (tz : TimeZone) (here second midnight : ℤ) → offset_at tz (nanos_of_seconds second) ≡ offset_at tz (nanos_of_seconds here)
     → midnight ≡ here -ℤ pos (seconds_shown (civil_of tz here)) → midnight ≤ℤ second → second <ℤ (midnight +ℤ pos 86_400)
     → civil_of tz second ≡ at_second (civil_of tz here) (unsigned_abs (second -ℤ midnight))
@@ -63,7 +63,7 @@ shown_on_day c since word =
     ap (λ shown. shown ++ word) (shown_parts (at_second c since) ∙ ap (λ date. joined (weekday_name c.weekday ∷ codes " " ∷ date ∷ codes " " ∷ time ∷ codes " " ∷ [])) (same_date c since))
     ∙ regrouped (weekday_name c.weekday) (date_text c) time (codes " ") word
 
--- its text: that of the day, the time, and the word of the zone
+-- the text of an instant is the text of its day, the time and the zone
 pub text_on_day : (zone : Zone) (second : ℤ) (shown : Civil) (since : ℕ) → civil_of (zone_of zone) second ≡ at_second shown since
     → instant_text zone second ≡ joined (day_text shown ∷ time_text (hour_of since) (minute_of since) (second_of since) ∷ (codes " " ++ zone_word (is_utc zone) shown.offset) ∷ [])
 unfolding instant_text

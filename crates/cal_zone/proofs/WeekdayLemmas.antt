@@ -1,4 +1,4 @@
--- Weekdays by their numbers.
+-- The numbers of the weekdays.
 use Rattle.std.proofs.Common.{◌≡◌, ℕ, ◌-◌, refl, ap, ◌∙◌}
 use Rattle.std.specs.Prelude.{slice_index_or}
 use Rattle.jiff.specs.Words.{monday_zero}
@@ -16,7 +16,7 @@ in_week Friday = refl
 in_week Saturday = refl
 in_week Sunday = refl
 
--- the name of the weekday with that number
+-- the name by number is the name of the weekday
 pub numbered : (day : Weekday) (n : ℕ) → monday_zero day ≡ n - 1 → short_name_of day ≡ weekday_name n
 unfolding weekday_name
 numbered day n e = ap short_name_of (in_week day) ∙ ap (λ k. short_name_of (slice_index_or week k Sunday)) e

@@ -1,4 +1,4 @@
--- Which years the days of the calculator have.
+-- The day numbers of the years 1969 to 2200.
 use Rattle.std.proofs.Common.{◌≡◌, ℕ, ◌/◌, ◌<◌, inl, pos, negsuc, ◌≤ℤ◌, ◌<ℤ◌, ◌+ℤ◌, ◌*ℤ◌, refl, rules, arith}
 use Rattle.std.proofs.lemmas.Int.{by_lt_z}
 use Rattle.jiff.specs.Types.{Date}
@@ -39,19 +39,19 @@ last_of_2199 = record { year = pos 2199; month = 12; day = 31; year_in = search 
 last_of_2200 : Date
 last_of_2200 = record { year = pos 2200; month = 12; day = 31; year_in = search rules; month_in = search rules; day_in = search rules }
 
--- the days from 0 on lie in 1970 or later
+-- days from number 0 on are in 1970 or later
 pub year-from_1970 : (d : Date) → pos 0 ≤ℤ epoch_day d → pos 1970 ≤ℤ d.year
 unfolding first_of_1970
 year-from_1970 d h =
     by_lt_z d.year (pos 1970) (λ lt. absurd (omega (arith, signed_arith, days_from_civil-1970, epoch_day-lt d first_of_1970 (inl lt)))) (λ ge. ge)
 
--- the days from -365 on lie in 1969 or later
+-- days from number -365 on are in 1969 or later
 pub year-from_1969 : (d : Date) → negsuc 364 ≤ℤ epoch_day d → pos 1969 ≤ℤ d.year
 unfolding first_of_1969
 year-from_1969 d h =
     by_lt_z d.year (pos 1969) (λ lt. absurd (omega (arith, signed_arith, days_from_civil-1969, epoch_day-lt d first_of_1969 (inl lt)))) (λ ge. ge)
 
--- and those up to 84,005 in 2199 or earlier
+-- days up to number 84,005 are in 2199 or earlier
 pub year-to_2199 : (d : Date) → epoch_day d ≤ℤ pos 84_005 → d.year ≤ℤ pos 2199
 unfolding last_of_2199
 year-to_2199 d h =
@@ -62,7 +62,7 @@ unfolding last_of_2200
 year-to_2200 d h =
     by_lt_z (pos 2200) d.year (λ lt. absurd (omega (arith, signed_arith, days_from_civil-2200, epoch_day-lt last_of_2200 d (inl lt)))) (λ ge. ge)
 
--- each local second lies in the years 1970 to 2199
+-- every local second is in the years 1970 to 2199
 pub year_of_local : (local : ℕ) → local < seconds_in_all → IsBetween (pos 1970) (pos 2199) (civil_date (local / 86_400)).year
 unfolding civil_date
 year_of_local local h =
@@ -84,13 +84,13 @@ first_of_2200 = record { year = pos 2200; month = 1; day = 1; year_in = search r
 last_of_1969 : Date
 last_of_1969 = record { year = pos 1969; month = 12; day = 31; year_in = search rules; month_in = search rules; day_in = search rules }
 
--- the days of the years 1970 to 2199 are those from 0 to 84,005
+-- the days of the years 1970 to 2199 have the numbers 0 to 84,005
 pub day_of_year : (d : Date) → IsBetween (pos 1970) (pos 2199) d.year → IsBetween (pos 0) (pos 84_005) (epoch_day d)
 unfolding first_of_2200 last_of_1969
 day_of_year d (from, to) =
     (omega (arith, signed_arith, days_from_civil-last_1969, epoch_day-lt last_of_1969 d (inl (omega (arith, signed_arith)))), omega (arith, signed_arith, days_from_civil-first_2200, epoch_day-lt d first_of_2200 (inl (omega (arith, signed_arith)))))
 
--- so each second of their dates is counted
+-- every second of a date in the years 1970 to 2199 is a local second
 pub local_of_year : (d : Date) (second : ℕ) → IsBetween (pos 1970) (pos 2199) d.year → second < 86_400 → (pos 0 ≤ℤ (epoch_day d *ℤ pos 86_400 +ℤ pos second)) × ((epoch_day d *ℤ pos 86_400 +ℤ pos second) <ℤ pos seconds_in_all)
 local_of_year d second year h =
     let day = day_of_year d year in

@@ -1,4 +1,4 @@
--- Zones of each kind.
+-- The time zone of `jiff` for each kind of zone.
 use Rattle.std.proofs.Common.{◌≡◌, ℤ, ap}
 use Rattle.std.specs.Borrow.{Bor}
 use Rattle.jiff.specs.Types.{Fixed, Offset, Posix, TimeZone, Tzif, UTC, Unknown}
@@ -29,7 +29,7 @@ pub zone_of-rules : (zone : Zone) (rules : Bor Rules) → zone.kind ≡ ByRules 
 unfolding zone_of
 zone_of-rules zone rules e = ap zone_of_kind e
 
--- the offset of a zone is one of `jiff`'s at every instant
+-- the UTC offset of a zone is in `jiff`'s range at every instant
 pub offset_at-in_range : (tz : TimeZone) (n : ℤ) → IsOffsetSeconds (offset_at tz n)
 unfolding offset_at
 offset_at-in_range UTC n = zero_in_range

@@ -1,4 +1,4 @@
--- Zone tables, seen as finite maps.
+-- Zone tables as finite maps.
 use Rattle.std.proofs.Common.{◌≡◌, ℕ, List, [], ◌∷◌, map, refl, ap, sym, ◌∙◌, cond, true, false}
 use Rattle.std.specs.BTreeMap.{BTreeMap, get_by_text, is_at, UpdatesBy}
 use Rattle.std.specs.Cmp.{eq_by_cmp_equiv}
@@ -24,22 +24,22 @@ find-lookup : (q : List ℕ) (es : List (String Global × TimeZone))
 find-lookup q [] = refl
 find-lookup q (e ∷ es) = ap (cond (is_eq (slice_cmp nat_cmp q (string_bytes e.0))) (Some e.1)) (find-lookup q es)
 
--- the map has at a name what the tree has at a text of these bytes
+-- looking a name up in the map returns what looking it up in the tree returns
 pub get-zone_map_in : (zones : BTreeMap (String Global) TimeZone) (q : List ℕ) → get (zone_map_in zones) q ≡ get_by_text zones q
 get-zone_map_in zones q = get-from_entries nat_list_cmp_total _ q ∙ find-lookup q zones.entries
 
--- what a name other than that of UTC gives
+-- a name other than `UTC` is looked up in the tree
 pub zone_named-zone_map_in : (zones : BTreeMap (String Global) TimeZone) (table : ZoneMap) (name : List ℕ) → zone_map_in zones ≡ table → is_utc_name name ≡ false
     → zone_named table name ≡ get_by_text zones name
 unfolding zone_named
 zone_named-zone_map_in zones table name view other =
     ap (λ b. cond b (Some UTC) (get table name)) other ∙ ap (λ t. get t name) (sym view) ∙ get-zone_map_in zones name
 
--- the two ways to ask whether a name is that one
+-- comparing two names for equality agrees with their order
 same_test : (name q : List ℕ) → bytes_eq name q ≡ eq_by_cmp (slice_cmp nat_cmp) q name
 same_test name q = sym (is_eq-slice_cmp name q) ∙ (eq_by_cmp_equiv nat_list_cmp_total).symm name q
 
--- where the tree changes at one text, the map changes at that name
+-- if the tree is updated at one name, so is the map
 pub zone_map_in-insert : (old new : BTreeMap (String Global) TimeZone) (name : List ℕ) (zone : TimeZone)
     → UpdatesBy string_cmp (λ key. slice_cmp nat_cmp name (string_bytes key)) old new (Some zone)
     → zone_map_in new ≡ insert (zone_map_in old) name zone

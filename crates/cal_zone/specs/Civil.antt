@@ -1,4 +1,4 @@
--- Civil times of a day.
+-- Civil times, field by field.
 use Rattle.std.specs.Prelude.{ℕ, ◌+◌, ◌≤◌, ℤ, pos}
 use Rattle.std.specs.Int.{IsInRange}
 use Rattle.jiff.specs.Types.{DateTime}
@@ -6,7 +6,7 @@ use Rattle.jiff.specs.Words.{weekday_of, IsBetween, IsOffsetSeconds}
 use Rattle.cal_zone.specs.declared.civil_fields.Civil.{Civil}
 use Rattle.cal_zone.specs.headline.Local.{hour_of, minute_of, second_of}
 
--- the fields of a date with a time of day, at an offset
+-- a date and time of day with a UTC offset
 abbrev pub shown_at : ℤ → DateTime → Civil
 shown_at offset shown = record {
   year = shown.date.year;
@@ -19,7 +19,7 @@ shown_at offset shown = record {
   offset = offset;
 }
 
--- the ranges of what is shown at an instant
+-- the ranges of the fields at an instant
 pub record IsCivil (shown : Civil) : Type 0 where
   pub year : IsBetween (pos 1969) (pos 2200) shown.year
   pub month : IsInRange 1 12 shown.month
@@ -30,7 +30,7 @@ pub record IsCivil (shown : Civil) : Type 0 where
   pub second : shown.second ≤ 59
   pub offset : IsOffsetSeconds shown.offset
 
--- the same day at a time that many seconds after its midnight
+-- the same day at another time, which is given in seconds since midnight
 abbrev pub at_second : Civil → ℕ → Civil
 at_second c second = record {
   year = c.year;

@@ -1,7 +1,7 @@
--- What contracts see of an instant.
+-- The ranges of instants and moments.
 use Rattle.std.specs.Prelude.{ℤ, pos, ◌≤ℤ◌}
 
--- the last instant: the last local second of 2199 at the offset farthest west of UTC
+-- the last instant: the end of the year 2199 at the UTC offset farthest west
 abbrev pub last_instant : ℤ
 last_instant = pos 7_258_211_998
 

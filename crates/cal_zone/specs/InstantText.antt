@@ -4,6 +4,6 @@ use Rattle.cal_bytes.specs.headline.Bytes.{joined}
 use Rattle.cal_zone.specs.declared.civil_fields.Civil.{Civil}
 use Rattle.cal_zone.specs.headline.InstantText.{date_text, weekday_name}
 
--- the day that a clock shows: weekday and date, each with a space after it
+-- weekday and date, each followed by a space
 unfoldable pub day_text : Civil → List ℕ
 day_text c = joined (weekday_name c.weekday ∷ codes " " ∷ date_text c ∷ codes " " ∷ [])

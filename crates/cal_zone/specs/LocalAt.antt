@@ -1,10 +1,11 @@
--- Which local second has an instant as its place: systemd.time(7), Calendar Events.
+-- The local second whose place is a given instant: systemd.time(7), Calendar Events.
 use Rattle.std.specs.Prelude.{◌≡◌, Option, None, Some, ℤ}
 use Rattle.jiff.specs.Types.{TimeZone}
 use Rattle.cal_zone.specs.Local.{IsLocalSecond}
 use Rattle.cal_zone.specs.headline.Place.{place_of}
 
--- the local second of the years 1970 to 2199 that has its place at the instant, or None where none has it there
+-- `Some local` if `local` is a local second of the years 1970 to 2199 whose place is `instant`, and `None` if there is
+-- no such local second
 abbrev pub IsLocalAt : TimeZone → ℤ → Option ℤ → Type 0
 IsLocalAt tz instant None = (local : ℤ) → IsLocalSecond local → place_of tz local ≡ Some instant → ⊥
 IsLocalAt tz instant (Some local) = IsLocalSecond local × (place_of tz local ≡ Some instant)

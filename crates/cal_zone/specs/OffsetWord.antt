@@ -1,40 +1,40 @@
--- A fixed offset in a zone's place, computed from its word: systemd.time(7), Calendar Events and Parsing Timestamps.
+-- How a fixed UTC offset is computed from its word: systemd.time(7), Calendar Events and Parsing Timestamps.
 use Rattle.std.specs.Prelude.{ℕ, ℤ, ◌+◌, ◌*◌, ◌≤◌, ◌%◌, ◌≡◌, ◌||◌, ◌&&◌, ◌==◌, Bool, pos, neg_ℤ, unsigned_abs, nat_le, if◌then◌else◌, List, [], ◌∷◌, Option, None, Some, option_map}
 use Rattle.std.specs.Char.{is_ascii_digit}
 use Rattle.std.specs.Str.Parse.{digits_value}
 use Rattle.cal_zone.specs.headline.ZoneName.{begins_with_letter}
 use Rattle.cal_zone.specs.headline.OffsetWord.{begins_with_sign}
 
--- where a zone may be, a word that begins with a letter or a sign is one
+-- whether a word in a zone's position is read as a zone: it begins with a letter or a sign
 abbrev pub begins_zone : List ℕ → Bool
 begins_zone word = begins_with_letter word || begins_with_sign word
 
--- the number that two digits write, up to the greatest
+-- the number that two digits stand for, if it is at most `greatest`
 unfoldable pub two_digits : ℕ → ℕ → ℕ → Option ℕ
 two_digits greatest tens ones =
     let number = digits_value 10 (tens ∷ ones ∷ []) in
     if is_ascii_digit tens && is_ascii_digit ones && nat_le number greatest then Some number else None
 
--- the seconds of that many hours and minutes
+-- hours and minutes in seconds
 abbrev pub clock_seconds : Option ℕ → Option ℕ → Option ℕ
 clock_seconds (Some hours) (Some minutes) = Some (hours * 3_600 + minutes * 60)
 clock_seconds hours minutes = None
 
--- the seconds of `hh:mm`
+-- `hh:mm` in seconds
 unfoldable pub clock_in : List ℕ → Option ℕ
 clock_in (a ∷ b ∷ c ∷ d ∷ e ∷ []) = if c == 58 then clock_seconds (two_digits 25 a b) (two_digits 59 d e) else None
 clock_in text = None
 
--- how many seconds the word says that a clock is ahead of UTC
+-- the UTC offset in seconds that a word stands for
 unfoldable pub offset_in : List ℕ → Option ℤ
 offset_in [] = None
 offset_in (sign ∷ clock) =
     if sign == 43 then option_map pos (clock_in clock)
     else (if sign == 45 then option_map (λ seconds. neg_ℤ (pos seconds)) (clock_in clock) else None)
 
--- The rule in its own words
+-- The values of such words
 
--- what such a word can say: whole minutes, at most 25:59 from UTC
+-- a UTC offset that a word can stand for: whole minutes, at most 25:59
 pub record AreWholeMinutes (seconds : ℤ) : Type 0 where
   pub near : unsigned_abs seconds ≤ 93_540
   pub whole : unsigned_abs seconds % 60 ≡ 0

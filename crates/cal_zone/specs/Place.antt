@@ -1,11 +1,10 @@
--- The place of a local second where only one offset is tried.
+-- The place of a local second if only one UTC offset is tried.
 use Rattle.std.specs.Prelude.{ℤ, ◌-ℤ◌, Option, Some, None, if◌then◌else◌}
 use Rattle.std.specs.Ordering.{int_eq}
 use Rattle.jiff.specs.Types.{Offset, TimeZone}
 use Rattle.jiff.specs.Words.{nanos_of_seconds, offset_at}
 
--- what is found where only one offset is tried: the second at which a clock at that offset shows the local second,
--- if the zone has that offset there
+-- the instant that a local second has at this offset, if the zone really has this offset at that instant
 unfoldable pub place_at : TimeZone → ℤ → Offset → Option ℤ
 place_at tz local offset =
     let second = local -ℤ offset.seconds in

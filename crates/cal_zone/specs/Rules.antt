@@ -4,11 +4,11 @@ use Rattle.jiff_tz.specs.declared.tzif.Tzif.{Tzif as Table}
 use Rattle.cal_zone.specs.declared.rules.RulesKind.{RulesKind}
 use Rattle.cal_zone.specs.declared.rules.RulesKind.TheVariants.{Posix, File}
 
--- the zone of a file's table, wherever the table is kept
+-- the zone with the table of a zone file, wherever in memory the table is
 abbrev pub zone_of_table : Table → TimeZone
 zone_of_table table = Tzif (record { ref_ptr = (0, 0); now = table })
 
--- the zone of these rules, as `jiff` has it
+-- the zone with these rules, as a `TimeZone` of `jiff`
 abbrev pub zone_of_rules : RulesKind → TimeZone
 zone_of_rules (Posix zone) = zone
 zone_of_rules (File table) = zone_of_table table

@@ -1,4 +1,4 @@
--- Local seconds in a row that all lie equally far from their places.
+-- Ranges of local seconds with a constant UTC offset.
 use Rattle.std.specs.Prelude.{◌≡◌, ◌⊎◌, ◌<◌, ℕ, ℤ, pos, ◌+ℤ◌, ◌-ℤ◌, ◌*ℤ◌, ◌≤ℤ◌, ◌<ℤ◌, Option, Some, vec_len}
 use Rattle.jiff.specs.Types.{Offset, TimeZone}
 use Rattle.jiff.specs.Words.{ambiguous_at, nanos_of_seconds, offset_at}
@@ -11,47 +11,48 @@ use Rattle.cal_zone.specs.Local.{IsLocalSecond}
 use Rattle.cal_zone.specs.headline.Place.{datetime_of, place_of}
 use Rattle.cal_zone.specs.declared.stretch.Stretch.{Stretch}
 
--- each local second of the stretch has a place, and it is that local second less the offset
+-- in this range, the place of every local second is the local second minus the offset
 abbrev pub IsSteady : TimeZone → Stretch → Type 0
 IsSteady tz stretch =
     (local : ℤ) → IsLocalSecond local → stretch.from ≤ℤ local → local <ℤ stretch.to
     → place_of tz local ≡ Some (local -ℤ stretch.offset)
 
--- each local second from this one to that one has a place, and it is that local second less the offset
+-- from `from` to `to` inclusive, the place of every local second is the local second minus the offset
 abbrev pub AreAhead : TimeZone → ℤ → ℤ → ℤ → Type 0
 AreAhead tz from to offset =
     (local : ℤ) → IsLocalSecond local → from ≤ℤ local → local ≤ℤ to → place_of tz local ≡ Some (local -ℤ offset)
 
--- the stretch is steady, and the local second is one of it
+-- the range has a constant UTC offset and contains the local second
 pub record IsSteadyAt (tz : TimeZone) (local : ℤ) (stretch : Stretch) : Type 0 where
   pub begun : stretch.from ≤ℤ local
   pub within : local <ℤ stretch.to
   pub steady : IsSteady tz stretch
 
--- the table has that row, and this is its second
+-- the table has a transition with this index, and it is at this second
 abbrev pub IsSecondOfRow : Table → ℕ → ℤ → Type 0
 IsSecondOfRow table row second = (row < vec_len table.transitions) × (second ≡ (transition_at table row).second)
 
--- the clock goes at both local seconds alike: at their civil times, and at the instants that are as far from them
+-- the clock behaves the same around both local seconds: their civil times are both unambiguous, both in a gap or both
+-- in a fold, with the same offsets; and instants equally far from them have the same UTC offset
 pub record IsAlike (tz : TimeZone) (local other : ℤ) : Type 0 where
   pub civil : ambiguous_at tz (datetime_of local) ≡ ambiguous_at tz (datetime_of other)
   pub instants : (offset : Offset) → offset_at tz (nanos_of_seconds (local -ℤ offset.seconds)) ≡ offset_at tz (nanos_of_seconds (other -ℤ offset.seconds))
 
--- so it goes from a local second on, before this one
+-- the clock behaves the same from the local second `from` on, before `to`
 abbrev pub IsAlikeUntil : TimeZone → ℤ → ℤ → Type 0
 IsAlikeUntil tz from to = (local : ℤ) → IsLocalSecond local → from ≤ℤ local → local <ℤ to → IsAlike tz local from
 
--- the first second of the year after, on a clock at UTC
+-- the first second of the next year, in UTC
 abbrev pub year_end : ℤ → ℤ
 year_end year = (first_day year +ℤ pos (days_in_year year)) *ℤ pos 86_400
 
--- from this second on and before that one the clock is equally far ahead of UTC
+-- the UTC offset is constant from `from` on, before `to`
 abbrev pub IsEvenUntil : TimeZone → ℤ → ℤ → Type 0
 IsEvenUntil tz from to =
     (second : ℤ) → from ≤ℤ second → second <ℤ to → offset_at tz (nanos_of_seconds second) ≡ offset_at tz (nanos_of_seconds from)
 
--- the first change after an instant is far enough after the local second, and the local seconds from that far after the
--- instant to this one are of one year
+-- the first transition after the instant `past` is at least 374,397 seconds (four times the largest UTC offset, and one
+-- second) after `local`; and `local` is in the year of `past`, or 374,397 seconds after `past` that year is over
 pub record IsQuiet (next : Option (ℤ × OffsetInfo)) (past local : ℤ) : Type 0 where
   pub change : ℤ × OffsetInfo
   pub is : next ≡ Some change

@@ -1,4 +1,4 @@
--- Zone files: RFC 8536, as `jiff` reads them.
+-- Zone files: RFC 8536, as parsed by `jiff`.
 use Rattle.std.specs.Prelude.{◌≡◌, ◌⊎◌, ◌<◌, ◌≤◌, ℕ, true, false, List, length, Ok, IsOk, IsErr}
 use Rattle.jiff.specs.Types.{TimeZone, UTC, Unknown, Fixed, Posix, Tzif}
 use Rattle.jiff_tz.specs.Tzif.{tzif_view, HasBadRule, RuleAgrees}
@@ -7,11 +7,11 @@ use Rattle.cal_zone.specs.headline.ZoneName.{is_zone_name}
 use Rattle.cal_zone.specs.declared.zone_fault.ZoneFault.{ZoneFault}
 use Rattle.cal_zone.specs.declared.zone_fault.ZoneFault.TheVariants.{BadName, BadRule, BadFile, TooLarge, NoMemory, NameTaken}
 
--- the most bytes that a zone file may have
+-- the maximum size of a zone file, in bytes
 abbrev pub file_limit : ℕ
 file_limit = 1_048_576
 
--- the zone is what `jiff` reads from the bytes
+-- the zone is what `jiff` parses from the bytes; only tables are parsed from files
 abbrev pub IsReadFrom : List ℕ → TimeZone → Type 0
 IsReadFrom bytes UTC = ⊥
 IsReadFrom bytes Unknown = ⊥
@@ -19,17 +19,17 @@ IsReadFrom bytes (Fixed offset) = ⊥
 IsReadFrom bytes (Posix rule) = ⊥
 IsReadFrom bytes (Tzif table) = (read_tzif bytes ≡ Ok (tzif_view table.now)) × RuleAgrees table.now
 
--- the name and the size of a file that is read at all
+-- a file that is parsed: its name is valid and it isn't too large
 pub record IsReadable (name bytes : List ℕ) : Type 0 where
   pub named : is_zone_name name ≡ true
   pub fits : length bytes ≤ file_limit
 
--- the zone of a file
+-- `zone` is the zone of the file
 abbrev pub IsFileZone : List ℕ → List ℕ → TimeZone → Type 0
 IsFileZone name bytes zone = IsReadable name bytes × IsReadFrom bytes zone
 
--- Why a file gives no zone. The name is judged first, then the size, then the bytes, which are rejected where
--- they are no such file or where the rule in them disagrees with their table.
+-- The errors for a zone file. The name is checked first, then the size, then the bytes, which are invalid if they are
+-- not a zone file or if the POSIX rule in them contradicts their table.
 abbrev pub IsFileFault : List ℕ → List ℕ → ZoneFault → Type 0
 IsFileFault name bytes BadName = is_zone_name name ≡ false
 IsFileFault name bytes BadRule = ⊥

@@ -1,4 +1,4 @@
--- What a zone table has, and what can be added to it.
+-- Adding to a zone table.
 use Rattle.std.specs.Prelude.{◌≡◌, ℕ, Bool, true, false, List, is_some}
 use Rattle.cal_zone.specs.headline.ZoneMap.{ZoneMap}
 use Rattle.cal_zone.specs.headline.ZoneName.{is_zone_name}
@@ -6,16 +6,17 @@ use Rattle.cal_zone.specs.declared.zone_fault.ZoneFault.{ZoneFault}
 use Rattle.cal_zone.specs.declared.zone_fault.ZoneFault.TheVariants.{BadName, BadRule, BadFile, TooLarge, NoMemory, NameTaken}
 use Rattle.cal_zone.specs.headline.ZoneTable.{zone_named}
 
--- the table has a zone of that name
+-- whether the table has a zone named `name`
 abbrev pub is_taken : ZoneMap → List ℕ → Bool
 is_taken table name = is_some (zone_named table name)
 
--- a name that a zone can be added under
+-- `name` is valid and not taken
 pub record IsAddable (table : ZoneMap) (name : List ℕ) : Type 0 where
   pub named : is_zone_name name ≡ true
   pub free : is_taken table name ≡ false
 
--- why a zone can't be added: the form of the name is judged first, then whether it is free
+-- whether adding a zone under `name` may fail with this error: the form of the name is checked first, then whether it
+-- is taken
 abbrev pub IsAddFault : ZoneMap → List ℕ → ZoneFault → Type 0
 IsAddFault table name BadName = is_zone_name name ≡ false
 IsAddFault table name BadRule = ⊥

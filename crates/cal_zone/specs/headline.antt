@@ -1,4 +1,4 @@
--- The definitions that the headline rests on.
+-- The definitions that the law `headline` of cal_report depends on.
 pub mod Civil
 pub mod DayAfter
 pub mod Days

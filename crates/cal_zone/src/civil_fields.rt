@@ -1,9 +1,9 @@
-//! What a clock shows.
+//! Civil dates and times, field by field.
 
-/// A civil date and time of day with its offset from UTC.
+/// A civil date and time of day, with its UTC offset.
 #[derive(Clone, Copy, Debug, PartialEq, Eq)]
 pub struct Civil {
-    /// The year.
+    /// 1969 to 2200 for every instant.
     pub year: i16,
     /// 1 to 12.
     pub month: u8,
@@ -17,6 +17,6 @@ pub struct Civil {
     pub minute: u8,
     /// 0 to 59.
     pub second: u8,
-    /// How far the clock is ahead of UTC, in seconds.
+    /// The UTC offset in seconds, positive east of UTC.
     pub offset: i32,
 }

@@ -1,4 +1,4 @@
-//! The civil time that a zone's clocks show at an instant.
+//! Conversion from Unix time to civil time.
 ghost use Rattle.std.specs.Prelude.{◌≡◌};
 ghost use Rattle.jiff.specs.Types.{TimeZone};
 ghost use Rattle.jiff.specs.Words.{nanos_of_seconds, offset_at};
@@ -12,7 +12,7 @@ use jiff::Timestamp;
 use jiff::civil::DateTime;
 use jiff::tz::Offset;
 
-/// What a clock in the zone shows at the instant.
+/// Returns the civil date and time that clocks in the zone show at `instant`.
 pub fn civil(zone: Zone, instant: Instant) -> Civil
     ensures value { result ≡ civil_of (zone_of zone.entry) instant.secs }
     ensures ranges { IsCivil result }
@@ -23,7 +23,7 @@ pub fn civil(zone: Zone, instant: Instant) -> Civil
     civil_at(offset_in(zone, timestamp), instant)
 }
 
-/// What a clock that is so far ahead of UTC shows at the instant.
+/// Returns what a clock with the given UTC offset shows at `instant`.
 pub(crate) fn civil_at(offset: Offset, instant: Instant) -> Civil
     ensures value { (tz : TimeZone) → offset_at tz (nanos_of_seconds instant.secs) ≡ offset.seconds
         → result ≡ civil_of tz instant.secs }
@@ -35,7 +35,7 @@ pub(crate) fn civil_at(offset: Offset, instant: Instant) -> Civil
     fields(offset.to_datetime(timestamp), offset)
 }
 
-/// How far the zone's clock is ahead of UTC at the instant.
+/// Returns the UTC offset of the zone at `timestamp`.
 pub(crate) fn offset_in(zone: Zone, timestamp: Timestamp) -> Offset
     ensures { result.seconds ≡ offset_at (zone_of zone.entry) timestamp.nanosecond }
 {
@@ -46,7 +46,7 @@ pub(crate) fn offset_in(zone: Zone, timestamp: Timestamp) -> Offset
     }
 }
 
-/// The offset of a clock that is always so far ahead.
+/// Converts a fixed offset to the `Offset` type of `jiff`.
 pub(crate) fn fixed_offset(ahead: Ahead) -> Offset
     ensures { result ≡ offset_of ahead }
 {
@@ -56,7 +56,6 @@ pub(crate) fn fixed_offset(ahead: Ahead) -> Offset
     offset
 }
 
-/// The fields of what a clock at the offset shows.
 fn fields(shown: DateTime, offset: Offset) -> Civil
     ensures { result ≡ shown_at offset.seconds shown }
 {

@@ -1,4 +1,4 @@
-//! What a zone's clock shows at many instants, most of them without a look at its rules.
+//! Conversion of many instants of one zone to civil time, with caches that make it fast for instants close together.
 
 ghost use Rattle.std.specs.Prelude.{◌≡◌, ◌+◌, ◌≤◌, ◌++◌, length};
 ghost use Rattle.cal_bytes.specs.declared.short_text.TheConstants.{ROOM};
@@ -16,8 +16,10 @@ use cal_bytes::ShortText;
 use jiff::tz::Offset;
 use std::marker::Model;
 
-/// Shows instants in a zone, cheaply where they lie near each other: it keeps a period, at whose instants the clock is
-/// equally far ahead of UTC, and the day that it showed last. A contract sees only the zone.
+/// A converter from instants to civil time and text in one zone, fast for instants close together.
+///
+/// It caches a period with a constant UTC offset, and the text of the day that it printed last. The cached values never
+/// change a result, so contracts see only the zone.
 #[derive(Drop)]
 pub struct Clock<'z> {
     zone: Zone<'z>,
@@ -39,7 +41,7 @@ impl<'z> Model for Clock<'z> {
 }
 
 impl<'z> Clock<'z> {
-    /// No instant is shown in the zone yet.
+    /// Creates a clock for the zone, with empty caches.
     pub fn new(zone: Zone<'z>) -> Clock<'z>
         ensures { result ≡ zone.entry }
     {
@@ -54,14 +56,14 @@ impl<'z> Clock<'z> {
         }
     }
 
-    /// The zone whose clock it is.
+    /// Returns the zone.
     pub fn zone(&self) -> Zone<'z>
         ensures { result ≡ self.now }
     {
         self.zone
     }
 
-    /// What the clock shows at the instant, as [`civil`](crate::civil) has it.
+    /// Returns what clocks in the zone show at `instant`, as [`civil`](crate::civil) does.
     pub fn civil(&mut self, instant: Instant) -> Civil
         ensures value { result ≡ civil_of (zone_of self.old) instant.secs }
         ensures ranges { IsCivil result }
@@ -70,7 +72,7 @@ impl<'z> Clock<'z> {
         civil_at(self.period_at(instant).offset, instant)
     }
 
-    /// Appends the text of the instant, as [`push_instant`](crate::push_instant) forms it.
+    /// Appends the text of `instant`, as formatted by [`push_instant`](crate::push_instant): at most 84 bytes.
     pub fn push(&mut self, text: &mut ShortText, instant: Instant)
         requires room { length text.old.items + 84 ≤ ROOM }
         ensures text { text.new.items ≡ text.old.items ++ instant_text self.old instant.secs }
@@ -85,7 +87,8 @@ impl<'z> Clock<'z> {
         self.push_outside(text, instant);
     }
 
-    /// The same of an instant that isn't on the day. One that has it is kept for those that come next.
+    /// Appends the text of an instant outside the cached day, and caches the day of that instant for the calls that
+    /// follow.
     #[cold]
     #[inline(never)]
     fn push_outside(&mut self, text: &mut ShortText, instant: Instant)
@@ -100,7 +103,8 @@ impl<'z> Clock<'z> {
         self.day = day;
     }
 
-    /// A period that has the instant: the one that is kept, or another in its place.
+    /// Returns a period that contains `instant`. This is the cached period if possible, and otherwise a new one, which
+    /// replaces it.
     fn period_at(&mut self, instant: Instant) -> Period
         ensures period { IsPeriodAt (zone_of self.old) instant.secs result }
         ensures zone { self.new ≡ self.old }

@@ -1,4 +1,7 @@
-//! Days of a civil clock: the date of a day, and the day and the time of day of a local second.
+//! Days and local seconds.
+//!
+//! A local second is a second of a zone's civil clock, counted from 1970-01-01 00:00:00 on that clock. A day number
+//! counts the days from 1970-01-01, which is day 0.
 
 ghost use Rattle.std.specs.Prelude.{◌≡◌, ◌<◌, ◌/◌, ◌%◌, ◌≤ℤ◌, pos, unsigned_abs};
 ghost use Rattle.cal_zone.specs.Local.{IsLocalSecond};
@@ -8,13 +11,14 @@ use jiff::Timestamp;
 use jiff::civil::Date;
 use jiff::tz::Offset;
 
-/// The seconds of a day.
+/// The number of seconds in a day.
 pub const DAY: i64 = 86_400;
 
-/// The local second after the last: the years 1970 to 2199 have 84,006 days.
+/// The end of the supported local seconds: the years 1970 to 2199 have 84,006 days, and this is the first local second
+/// of 2200.
 pub const LOCAL_END: i64 = 84_006 * DAY;
 
-/// The number of the day of a local second of the years 1970 to 2199: from 0, for 1970-01-01, to 84,005.
+/// Returns the day number of a local second of the years 1970 to 2199: 0 for 1970-01-01, up to 84,005.
 pub fn day_of(local: i64) -> u32
     requires { IsLocalSecond local }
     ensures { result ≡ unsigned_abs local / 86_400 }
@@ -22,7 +26,7 @@ pub fn day_of(local: i64) -> u32
     (local / DAY) as u32
 }
 
-/// The seconds since midnight, from 0 to 86,399, at a local second that isn't before 1970.
+/// Returns the seconds since midnight, 0 to 86,399, of a local second in 1970 or later.
 pub fn second_of_day(local: i64) -> u32
     requires { pos 0 ≤ℤ local }
     ensures { result ≡ unsigned_abs local % 86_400 }
@@ -30,7 +34,7 @@ pub fn second_of_day(local: i64) -> u32
     (local % DAY) as u32
 }
 
-/// The date of a day of the years 1970 to 2199, by its number from 0 to 84,005.
+/// Returns the date with the day number `day`, 0 (1970-01-01) to 84,005 (2199-12-31).
 pub fn date_of_day(day: u32) -> Date
     requires { day < 84_006 }
     ensures { result ≡ civil_date day }

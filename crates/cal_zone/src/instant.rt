@@ -2,8 +2,8 @@
 ghost use Rattle.std.specs.Prelude.{◌≡◌, ◌↔◌, IsSome, IfSome};
 ghost use Rattle.cal_zone.specs.Instant.{IsInstant};
 
-/// A number of whole seconds of Unix time, from 0 to 7,258,211,998: the last local second of the year 2199
-/// at the offset farthest west of UTC.
+/// A number of whole seconds of Unix time, from 0 to 7,258,211,998. The upper limit is the end of the year 2199 at the
+/// UTC offset farthest west, -25:59:59.
 #[derive(Clone, Copy, Debug, PartialEq, Eq)]
 pub struct Instant {
     secs: i64,
@@ -11,10 +11,11 @@ pub struct Instant {
 }
 
 impl Instant {
-    /// The seconds of the last instant.
+    /// The last instant, in seconds of Unix time.
     pub const LAST: i64 = 7_258_211_998;
 
-    /// The instant of that many seconds, or `None` outside 0 to [`Instant::LAST`].
+    /// Returns the instant `secs` seconds after 1970-01-01 00:00:00 UTC, or `None` if `secs` is negative or greater
+    /// than [`Instant::LAST`].
     pub fn new(secs: i64) -> Option<Instant>
         ensures some { IsSome result ↔ IsInstant secs }
         ensures value { IfSome result (λ i. i.secs ≡ secs) }
@@ -25,7 +26,7 @@ impl Instant {
         Some(Instant { secs })
     }
 
-    /// The seconds since 1970-01-01 00:00:00 UTC.
+    /// Returns the seconds since 1970-01-01 00:00:00 UTC.
     pub fn secs(self) -> i64
         ensures value { result ≡ self.secs }
         ensures range { IsInstant result }

@@ -1,4 +1,4 @@
-//! Instants as text.
+//! The text of instants and of UTC offsets.
 
 ghost use Rattle.std.specs.Prelude.{◌≡◌, ◌+◌, ◌<◌, ◌≤◌, decimal, ◌++◌, false, length};
 ghost use Rattle.std.specs.Int.{IsInRange};
@@ -13,10 +13,11 @@ use cal_bytes::{Fill, ShortText, Sink, WriteFault, padding, push, push_all, put_
 use itoa::Buffer;
 use jiff::civil::Weekday;
 
-/// Appends the text of the instant as the zone's clock shows it: weekday, date and time, and then `UTC` for
-/// [`Zone::utc`] alone and otherwise how far the clock is ahead of UTC, with seconds where they aren't 0
-/// (systemd.time(7), Displaying Timestamps). So it is `Sat 2020-02-29 00:00:00 UTC` or
-/// `Thu 1970-01-01 00:53:28 +00:53:28`. It takes at most 84 bytes.
+/// Appends the instant as clocks in the zone show it (systemd.time(7), Displaying Timestamps): weekday, date, time, and
+/// then `UTC` for [`Zone::utc`] or the UTC offset for every other zone, even if that offset is 0.
+///
+/// Examples are `Sat 2020-02-29 00:00:00 UTC`, and `Thu 1970-01-01 00:53:28 +00:53:28` for an offset that isn't a whole
+/// number of minutes. At most 84 bytes are appended.
 #[tactic(auto, unfolding(crate::specs::headline::InstantText::instant_text))]
 pub fn push_instant(text: &mut ShortText, zone: Zone, instant: Instant)
     requires room { length text.old.items + 84 ≤ ROOM }
@@ -28,7 +29,7 @@ pub fn push_instant(text: &mut ShortText, zone: Zone, instant: Instant)
     push_zone(text, zone.is_utc(), shown.offset);
 }
 
-/// Writes the text of the instant, as [`push_instant`] forms it.
+/// Writes the text of `instant`, as formatted by [`push_instant`].
 pub fn write_instant<W: Sink>(out: &mut W, zone: Zone, instant: Instant) -> Result<(), WriteFault>
     requires { W.is_failed out.old ≡ false }
     ensures { Puts W.Sink out.old out.new result (instant_text zone.entry instant.secs) }
@@ -38,7 +39,7 @@ pub fn write_instant<W: Sink>(out: &mut W, zone: Zone, instant: Instant) -> Resu
     put_all(out, text.as_slice())
 }
 
-/// Appends what a clock shows, up to the word of its zone.
+/// Appends weekday, date and time, with a trailing space for the zone to follow.
 #[tactic(auto, unfolding(crate::specs::headline::InstantText::shown_text, crate::specs::InstantText::day_text))]
 fn push_civil(text: &mut ShortText, shown: &Civil)
     requires ranges { IsCivil shown.now }
@@ -51,7 +52,7 @@ fn push_civil(text: &mut ShortText, shown: &Civil)
     push(text, b" ");
 }
 
-/// Appends the day that a clock shows.
+/// Appends weekday and date, such as `Sat 2020-02-29 `, with a trailing space.
 #[tactic(auto, unfolding(crate::specs::InstantText::day_text, crate::specs::headline::InstantText::date_text))]
 pub(crate) fn push_day(text: &mut ShortText, shown: &Civil)
     requires ranges { IsCivil shown.now }
@@ -81,7 +82,7 @@ pub(crate) fn push_day(text: &mut ShortText, shown: &Civil)
     );
 }
 
-/// Appends a time of day.
+/// Appends a time of day, such as `09:30:00`.
 #[tactic(auto, unfolding(crate::specs::headline::InstantText::time_text))]
 pub(crate) fn push_time(text: &mut ShortText, hour: u8, minute: u8, second: u8)
     requires hour { hour < 100 }
@@ -100,7 +101,7 @@ pub(crate) fn push_time(text: &mut ShortText, hour: u8, minute: u8, second: u8)
     );
 }
 
-/// The two digits of a number below a hundred: the last two of a hundred more.
+/// Formats a number below 100 with two digits. Adding 100 keeps the leading zero of numbers below 10.
 #[tactic(auto)]
 fn two_digits(number: u8) -> [u8; 2]
     requires { number < 100 }
@@ -111,7 +112,7 @@ fn two_digits(number: u8) -> [u8; 2]
     [digits[1], digits[2]]
 }
 
-/// Appends the word of a zone after a time: `UTC` for UTC itself, and otherwise how far its clock is ahead.
+/// Appends the zone of a printed time: `UTC` if `is_utc`, and otherwise the UTC offset.
 #[tactic(auto, unfolding(crate::specs::headline::InstantText::zone_word))]
 pub(crate) fn push_zone(text: &mut ShortText, is_utc: bool, offset: i32)
     requires room { length text.old.items + 40 ≤ ROOM }
@@ -125,7 +126,7 @@ pub(crate) fn push_zone(text: &mut ShortText, is_utc: bool, offset: i32)
     }
 }
 
-/// Appends how far a clock is ahead, as `+02:00`, or as `+00:53:28` where the seconds aren't 0.
+/// Appends a UTC offset in seconds as `+02:00`, or as `+00:53:28` if it isn't a whole number of minutes.
 #[tactic(auto, unfolding(crate::specs::headline::InstantText::offset_text))]
 pub fn push_offset(text: &mut ShortText, offset: i32)
     requires room { length text.old.items + 40 ≤ ROOM }
@@ -156,14 +157,13 @@ pub fn push_offset(text: &mut ShortText, offset: i32)
     }
 }
 
-/// `-` for a clock after UTC, and otherwise `+`.
 fn sign<'a>(offset: i32) -> &'a [u8]
     ensures { result.now ≡ sign_text offset }
 {
     if offset < 0 { b"-" } else { b"+" }
 }
 
-/// The short English name of a weekday, Monday being 1.
+/// Returns the short English name of a weekday, 1 (Monday) to 7 (Sunday).
 #[tactic(auto, using(crate::proofs::WeekdayLemmas::numbered))]
 fn short_name<'a>(weekday: u8) -> &'a [u8]
     requires { IsInRange 1 7 weekday }

@@ -1,5 +1,7 @@
-//! Laws of local seconds and dates, for the proofs of the crates above. Each is a function that does nothing,
-//! and whose contract is the law.
+//! Laws of local seconds, dates, zones and offsets, for the proofs of other crates.
+//!
+//! A law is a function that does nothing at run time: its contract states a fact, which a proof gets by naming the
+//! function.
 ghost use Rattle.std.specs.Prelude.{◌≡◌, ℕ, ◌/◌, ◌<◌, ℤ, pos, ◌≤ℤ◌, ◌<ℤ◌, ◌+ℤ◌, ◌-ℤ◌, ◌*ℤ◌, List, Some, None, false};
 ghost use Rattle.std.specs.FinMap.{insert};
 ghost use Rattle.jiff.specs.Types.{Date, Fold, Gap, Offset, TimeZone, UTC, Unambiguous};
@@ -16,13 +18,13 @@ ghost use Rattle.cal_zone.specs.headline.ZoneMap.{ZoneMap};
 ghost use Rattle.cal_zone.specs.headline.ZoneName.{is_utc_name};
 ghost use Rattle.cal_zone.specs.headline.ZoneTable.{zone_named};
 
-/// Each day number of `jiff`'s calendar has a date, and no other date has that number.
+/// Every day number in the range of `jiff`'s calendar has a date, and no other date has that day number.
 pub fn days_have_one_date()
     ensures number { (day : ℤ) → IsEpochDay day → epoch_day (date_of day) ≡ day }
     ensures only { (day : ℤ) (date : Date) → epoch_day date ≡ day → date_of day ≡ date }
 {}
 
-/// There are 7,258,118,400 local seconds; each lies in the years 1970 to 2199, and each second of a date of these
+/// There are 7,258,118,400 local seconds. Each of them is in the years 1970 to 2199, and each second of a date in these
 /// years is one of them.
 pub fn local_seconds_are_counted()
     ensures count { seconds_in_all ≡ 7_258_118_400 }
@@ -33,8 +35,8 @@ pub fn local_seconds_are_counted()
         × ((epoch_day date *ℤ pos 86_400 +ℤ pos second) <ℤ pos seconds_in_all) }
 {}
 
-/// A local second's civil time stands for it, it settles at the instant that `jiff`'s compatible conversion picks
-/// for that time, and in UTC its place is itself.
+/// The civil time of a local second is that many seconds after 1970-01-01 00:00:00, and `settle_of` is the instant that
+/// `jiff`'s compatible conversion picks for this civil time. In UTC, the place of a local second is the same number.
 pub fn places_are_those_of_jiff()
     ensures civil { (local : ℤ) → IsEpochDay (day_of local)
         → civil_nanos (datetime_of local) ≡ nanos_of_seconds local }
@@ -43,13 +45,13 @@ pub fn places_are_those_of_jiff()
     ensures utc { (local : ℤ) → place_of UTC local ≡ Some local }
 {}
 
-/// At its place a zone's clock shows the local second that was asked for.
+/// At the place of a local second, the zone's clock shows that local second.
 pub fn places_show_their_local_time()
     ensures { (tz : TimeZone) (local place : ℤ) → place_of tz local ≡ Some place → local_of tz place ≡ local }
 {}
 
-/// A place differs from its local second by the offset that the zone has there, so by at most 93,599 seconds, whatever
-/// the conversion does.
+/// A local second and its place differ by the zone's UTC offset at the place, and so by at most 93,599 seconds,
+/// whatever the conversion of `jiff` does.
 pub fn places_are_near()
     ensures by_the_offset { (tz : TimeZone) (local place : ℤ) → place_of tz local ≡ Some place
         → local -ℤ place ≡ offset_at tz (nanos_of_seconds place) }
@@ -57,16 +59,17 @@ pub fn places_are_near()
         → IsOffsetSeconds (local -ℤ place) }
 {}
 
-/// Two local seconds with one place are one.
+/// No two local seconds have the same place.
 pub fn places_are_of_one_local_second()
     ensures { (tz : TimeZone) (a b place : ℤ) → place_of tz a ≡ Some place → place_of tz b ≡ Some place → a ≡ b }
 {}
 
-/// What the place is where `jiff` finds that the zone's clock shows a civil time once, skips it, or shows it twice.
+/// How the place of a local second follows from what `jiff` reports of its civil time: that it occurs once, is in a
+/// gap, or is in a fold.
 ///
-/// One offset is tried each time: the only one, or the one before the clock was changed. So of a civil time that is
-/// shown twice the place is the first or none, and one that is skipped has no place where the zone has the later
-/// offset at the second tried.
+/// Only one UTC offset is tried: the only one, or the one before the transition. So in a fold, the place is the first
+/// occurrence or none. In a gap there is no place, unless the zone really has the earlier offset at the instant that is
+/// tried.
 pub fn places_by_the_offset_tried()
     ensures once { (tz : TimeZone) (local : ℤ) (offset : Offset)
         → ambiguous_at tz (datetime_of local) ≡ Unambiguous offset → place_of tz local ≡ place_at tz local offset }
@@ -82,7 +85,7 @@ pub fn places_by_the_offset_tried()
         → place_at tz local offset ≡ None }
 {}
 
-/// A zone of fixed offset places each local second at itself less the offset.
+/// In a zone with a fixed offset, the place of a local second is that local second minus the offset.
 pub fn fixed_zones_place_every_local_second()
     ensures place { (offset : Offset) (local : ℤ)
         → place_of (fixed_zone offset) local ≡ Some (local -ℤ offset.seconds) }
@@ -90,7 +93,7 @@ pub fn fixed_zones_place_every_local_second()
         → settle_of (fixed_zone offset) local ≡ local -ℤ offset.seconds }
 {}
 
-/// A zone that was added is found under its name, and every other name gives what it gave.
+/// A zone that was added to a table is found under its name, and look-ups of every other name are unchanged.
 pub fn tables_change_at_one_name()
     ensures here { (table : ZoneMap) (name : List ℕ) (zone : TimeZone) → is_utc_name name ≡ false
         → zone_named (insert table name zone) name ≡ Some zone }
@@ -98,9 +101,9 @@ pub fn tables_change_at_one_name()
         → zone_named (insert table name zone) other ≡ zone_named table other }
 {}
 
-/// A word is an offset exactly where it is a sign, two digits of hours, a colon and two digits of minutes
-/// (systemd.time(7), Calendar Events and Parsing Timestamps), and it is at most one. What is printed of a clock that is
-/// whole minutes from UTC is such a word again.
+/// A word is an offset if and only if it is a sign, two digits of hours, a colon and two digits of minutes
+/// (systemd.time(7), Calendar Events and Parsing Timestamps), and no word stands for two offsets. An offset of whole
+/// minutes, up to 25:59, is printed as a word that is parsed as the same offset.
 pub fn one_offset_word()
     ensures found { (word : List ℕ) (seconds : ℤ) → offset_in word ≡ Some seconds → IsOffsetWord word seconds }
     ensures only { (word : List ℕ) (seconds : ℤ) → IsOffsetWord word seconds → offset_in word ≡ Some seconds }

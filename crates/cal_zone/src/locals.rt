@@ -1,4 +1,4 @@
-//! Which local second has an instant as its place.
+//! Conversion from instants back to local seconds.
 
 ghost use Rattle.std.specs.Prelude.{◌≡◌};
 ghost use Rattle.cal_zone.specs.LocalAt.{IsLocalAt};
@@ -8,10 +8,10 @@ use crate::civil_time::offset_in;
 use crate::{Instant, LOCAL_END, Zone, place};
 use jiff::Timestamp;
 
-/// The local second of the years 1970 to 2199 whose place is the instant; `None` where it is the place of none.
+/// Returns the local second of the years 1970 to 2199 whose place is `instant`, or `None` if there is none.
 ///
-/// It is the one that the zone's clock shows then, unless the clock showed it before: an instant of the second pass,
-/// where the clock is turned back, is no place. (systemd.time(7), Calendar Events.)
+/// The result is what the zone's clock shows at `instant`, unless the clock showed the same before: after clocks are
+/// turned back, the second occurrence of a local time is not a place. (systemd.time(7), Calendar Events.)
 pub(crate) fn local_at(zone: Zone, instant: Instant) -> Option<i64>
     ensures { IsLocalAt (zone_of zone.entry) instant.secs result }
 {
@@ -25,7 +25,7 @@ pub(crate) fn local_at(zone: Zone, instant: Instant) -> Option<i64>
     }
 }
 
-/// The local second that the zone's clock shows at the instant.
+/// Returns the local second that the zone's clock shows at `instant`, even if this is its second occurrence.
 fn shown_at(zone: Zone, instant: Instant) -> i64
     ensures { result ≡ local_of (zone_of zone.entry) instant.secs }
 {

@@ -5,7 +5,8 @@ ghost use Rattle.cal_zone.specs.Instant.{IsMoment};
 
 use crate::Instant;
 
-/// A number of whole microseconds of Unix time, from 0 to 7,258,211,998,999,999: those of the instants.
+/// A number of whole microseconds of Unix time, from 0 to 7,258,211,998,999,999: up to the last microsecond of the last
+/// [`Instant`].
 #[derive(Clone, Copy, Debug, PartialEq, Eq)]
 pub struct Moment {
     micros: i64,
@@ -13,10 +14,11 @@ pub struct Moment {
 }
 
 impl Moment {
-    /// The microseconds of the last moment, the last of the last instant.
+    /// The last moment, in microseconds of Unix time.
     pub const LAST: i64 = 7_258_211_998_999_999;
 
-    /// The moment of that many microseconds, or `None` outside 0 to 7,258,211,998,999,999.
+    /// Returns the moment `micros` microseconds after 1970-01-01 00:00:00 UTC, or `None` if `micros` is not in 0 to
+    /// 7,258,211,998,999,999.
     pub fn new(micros: i64) -> Option<Moment>
         ensures some { IsSome result ↔ IsMoment micros }
         ensures value { IfSome result (λ moment. moment.micros ≡ micros) }
@@ -27,7 +29,7 @@ impl Moment {
         Some(Moment { micros })
     }
 
-    /// The microseconds since 1970-01-01 00:00:00 UTC.
+    /// Returns the microseconds since 1970-01-01 00:00:00 UTC.
     pub fn micros(self) -> i64
         ensures value { result ≡ self.micros }
         ensures range { IsMoment result }
@@ -35,7 +37,7 @@ impl Moment {
         self.micros
     }
 
-    /// The instant of the second that the moment lies in.
+    /// Returns the moment rounded down to a whole second.
     pub fn instant(self) -> Instant
         ensures { result.secs ≡ pos (unsigned_abs self.micros / 1_000_000) }
     {

@@ -1,4 +1,4 @@
-//! Fixed offsets in the place of a zone's name.
+//! Fixed UTC offsets, such as `+02:00`, that can be written instead of a zone's name.
 
 ghost use Rattle.std.specs.Prelude.{◌≡◌, ◌≤◌, IfSome};
 ghost use Rattle.jiff.specs.Words.{IsOffsetSeconds};
@@ -6,16 +6,17 @@ ghost use Rattle.cal_zone.specs.OffsetWord.{begins_zone, clock_in, offset_in, tw
 
 use crate::begins_with_letter;
 
-/// Whether the word is a zone where a zone may be: it begins with a letter, as a name does, or with `+` or `-`, as an
-/// offset does (systemd.time(7), Calendar Events and Parsing Timestamps).
+/// Returns whether `word` is read as a zone if it is in a zone's position: it begins with a letter, as names do, or
+/// with `+` or `-`, as offsets do (systemd.time(7), Calendar Events and Parsing Timestamps). The rest of the word may
+/// still be invalid.
 pub fn begins_zone(word: &[u8]) -> bool
     ensures { result ≡ begins_zone word.now }
 {
     begins_with_letter(word) || matches!(word, [b'+' | b'-', ..])
 }
 
-/// How many seconds ahead of UTC the word `+hh:mm` is, or behind it `-hh:mm`, with hh from 00 to 25 and mm from 00 to
-/// 59: -93,540 to 93,540. `None` where the word has another form.
+/// Parses `+hh:mm` or `-hh:mm`, with hh from 00 to 25 and mm from 00 to 59, as a UTC offset in seconds: -93,540 to
+/// 93,540. Returns `None` for any other word.
 #[tactic(auto, unfolding(crate::specs::OffsetWord::offset_in))]
 pub fn read_offset(word: &[u8]) -> Option<i32>
     ensures value { result ≡ offset_in word.now }
@@ -28,7 +29,7 @@ pub fn read_offset(word: &[u8]) -> Option<i32>
     }
 }
 
-/// The seconds of `hh:mm`.
+/// Parses `hh:mm`, up to 25:59, as a number of seconds.
 #[tactic(auto, unfolding(crate::specs::OffsetWord::clock_in))]
 fn read_clock(text: &[u8]) -> Option<u32>
     ensures value { result ≡ clock_in text.now }
@@ -40,7 +41,7 @@ fn read_clock(text: &[u8]) -> Option<u32>
     }
 }
 
-/// The number that two digits write, up to the greatest.
+/// Parses two digits as a number of at most `greatest`.
 #[tactic(auto, unfolding(crate::specs::OffsetWord::two_digits))]
 fn two_digits(tens: u8, ones: u8, greatest: u32) -> Option<u32>
     ensures value { result ≡ two_digits greatest tens ones }

@@ -1,4 +1,7 @@
-//! Periods: instants in a row at which a zone's clock is equally far ahead of UTC.
+//! Periods: ranges of instants at which a zone has a constant UTC offset.
+//!
+//! Inside a period, converting an instant to civil time needs no look-up of the zone's rules. [`Clock`](crate::Clock)
+//! caches one.
 
 ghost use Rattle.std.specs.Prelude.{◌≡◌, option_map, pos};
 ghost use Rattle.jiff_tz.specs.PosixRule.{transition_view};
@@ -15,7 +18,7 @@ use jiff::Timestamp;
 use jiff::tz::Offset;
 use jiff_tz::Transition;
 
-/// The instants from `from` on and before `to`, and how far a clock is ahead of UTC at each of them.
+/// The instants `from..to`, all at the same UTC offset.
 #[derive(Clone, Copy)]
 pub(crate) struct Period {
     pub(crate) from: i64,
@@ -23,7 +26,7 @@ pub(crate) struct Period {
     pub(crate) offset: Offset,
 }
 
-/// A period of a zone that has the instant.
+/// Returns a period of the zone that contains `instant`.
 pub(crate) fn period_of(zone: Zone, instant: Instant) -> Period
     ensures { IsPeriodAt (zone_of zone.entry) instant.secs result }
 {
@@ -34,7 +37,7 @@ pub(crate) fn period_of(zone: Zone, instant: Instant) -> Period
     }
 }
 
-/// All instants, at one offset.
+/// Returns the period of all instants, for a zone with a fixed offset.
 fn whole(offset: Offset) -> Period
     ensures from { result.from ≡ pos 0 }
     ensures to { result.to ≡ pos 7_258_211_999 }
@@ -47,8 +50,8 @@ fn whole(offset: Offset) -> Period
     }
 }
 
-/// The period that begins at the instant where the clock goes by rules: to the next change, and at most to the end of
-/// the year.
+/// Returns the period that starts at `instant`. It ends at the next transition, and at the latest with the year, in
+/// UTC.
 fn period_by(rules: &Rules, instant: Instant) -> Period
     ensures { IsPeriodAt rules.now instant.secs result }
 {
@@ -65,8 +68,10 @@ fn period_by(rules: &Rules, instant: Instant) -> Period
     }
 }
 
-/// An instant before which the clock of these rules is as far ahead of UTC as at this one: past the end of the year,
-/// where it doesn't change there.
+/// Returns an instant before which the UTC offset stays what it is at `from`.
+///
+/// A period ends with the year even if there is no transition. So if the next period has the same offset, the result is
+/// the end of that one. Returns `from` itself, for an empty range, near the end of the supported instants.
 pub(crate) fn even_until(rules: &Rules, from: Instant) -> Instant
     ensures { IsEvenUntil rules.now from.secs result.secs }
 {
@@ -81,7 +86,8 @@ pub(crate) fn even_until(rules: &Rules, from: Instant) -> Instant
     }
 }
 
-/// The second before which a clock goes on as it does at this one.
+/// Returns the end of the range that starts at `second` and has a constant UTC offset, given the zone's next
+/// transition.
 fn unchanged_until(next: Option<Transition>, second: i64) -> i64
     requires { CanSettle second }
     ensures { IsUnchangedUntil (option_map transition_view next) second result }

@@ -1,4 +1,4 @@
-//! The places of many local seconds of one zone, most of them without a look at its rules.
+//! Conversion of many local seconds of one zone to instants, with a cached range in which it is one subtraction.
 
 ghost use Rattle.std.specs.Prelude.{◌≡◌, IfSome};
 ghost use Rattle.cal_zone.specs.Local.{IsLocalSecond};
@@ -12,16 +12,19 @@ use crate::zone::ZoneKind;
 use crate::{Instant, LOCAL_END, Zone, place};
 use std::marker::Model;
 
-/// How many local seconds are placed by the zone's rules, each by itself, where no steady stretch is known.
+/// How far `seek_from` moves ahead after a search that found no range: up to there, local seconds are converted one by
+/// one, since a search costs more than a conversion.
 const ONE_BY_ONE: i64 = 1_000;
 
-/// Places local seconds of a zone, cheaply where they rise: it keeps a steady stretch, whose local seconds all lie
-/// equally far from their places. A contract sees only the zone.
+/// A converter from local seconds of one zone to their places, fast for ascending local seconds.
+///
+/// It caches a range of local seconds with a constant UTC offset and asks `jiff` only outside it. The cached range
+/// never changes a result, so contracts see only the zone.
 #[derive(Drop)]
 pub struct Placer<'z> {
     zone: Zone<'z>,
     stretch: Stretch,
-    /// No stretch is sought before this local second.
+    /// Local seconds before this one don't start a search for a range.
     seek_from: i64,
 }
 
@@ -40,7 +43,7 @@ impl<'z> Model for Placer<'z> {
 impl<'z> Placer<'z> {
     ghost use Rattle.cal_zone.specs.Steady.{AreAhead};
 
-    /// Nothing is placed in the zone yet.
+    /// Creates a placer for the zone, with an empty cache.
     pub fn new(zone: Zone<'z>) -> Placer<'z>
         ensures { result ≡ zone.entry }
     {
@@ -55,14 +58,14 @@ impl<'z> Placer<'z> {
         }
     }
 
-    /// The zone whose local seconds it places.
+    /// Returns the zone.
     pub fn zone(&self) -> Zone<'z>
         ensures { result ≡ self.now }
     {
         self.zone
     }
 
-    /// The place of a local second, as [`place`] has it.
+    /// Returns the place of `local`, as [`place`] does, or `None` if the clock skips it.
     pub fn place(&mut self, local: i64) -> Option<i64>
         requires { IsLocalSecond local }
         ensures value { result ≡ place_of (zone_of self.old) local }
@@ -77,7 +80,8 @@ impl<'z> Placer<'z> {
         self.place_outside(local)
     }
 
-    /// How far each local second from `from` to `to` is ahead of its place, where that is one number and known already.
+    /// Returns the UTC offset that all local seconds from `from` to `to` (inclusive) have in common, if they are all in
+    /// the cached range; then each of them has a place. `None` only means that this isn't known.
     pub fn offset_over(&self, from: i64, to: i64) -> Option<i64>
         ensures { IfSome result (AreAhead (zone_of self.now) from to) }
     {
@@ -90,7 +94,7 @@ impl<'z> Placer<'z> {
         None
     }
 
-    /// The local second whose place is the instant, as [`local_at`] has it.
+    /// Returns the local second whose place is `instant`, as [`local_at`] does, or `None` if there is none.
     pub fn local_at(&mut self, instant: Instant) -> Option<i64>
         ensures value { IsLocalAt (zone_of self.old) instant.secs result }
         ensures zone { self.new ≡ self.old }
@@ -107,8 +111,8 @@ impl<'z> Placer<'z> {
         self.local_outside(instant)
     }
 
-    /// The same of an instant that the stretch doesn't reach, as the zone's rules say. A stretch that does is sought
-    /// for those that come next.
+    /// Computes [`Placer::local_at`] for an instant outside the cached range, by the zone's rules. Then caches a range
+    /// that contains the result, if one is found, for the calls that follow.
     #[cold]
     #[inline(never)]
     fn local_outside(&mut self, instant: Instant) -> Option<i64>
@@ -122,8 +126,8 @@ impl<'z> Placer<'z> {
         Some(local)
     }
 
-    /// The place of a local second that isn't in the stretch, as the zone's rules say. A stretch that has it is sought
-    /// for those that come next.
+    /// Computes [`Placer::place`] for a local second outside the cached range, by the zone's rules. Caches a range that
+    /// contains it, if one is found, for the calls that follow.
     #[cold]
     #[inline(never)]
     fn place_outside(&mut self, local: i64) -> Option<i64>
@@ -137,7 +141,8 @@ impl<'z> Placer<'z> {
         place(self.zone, local)
     }
 
-    /// Keeps a steady stretch that has the local second, where one is known.
+    /// Caches a range with a constant offset that contains `local`. If none is found, puts the next search off by
+    /// [`ONE_BY_ONE`].
     fn seek(&mut self, local: i64)
         requires { IsLocalSecond local }
         ensures { self.new ≡ self.old }

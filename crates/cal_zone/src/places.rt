@@ -1,4 +1,4 @@
-//! Where local seconds lie on the clock of Unix time.
+//! Conversion from local seconds to Unix time.
 
 ghost use Rattle.std.specs.Prelude.{◌≡◌, ◌-ℤ◌};
 ghost use Rattle.jiff.specs.Words.{IsOffsetSeconds};
@@ -12,12 +12,12 @@ use jiff::Timestamp;
 use jiff::civil::DateTime;
 use jiff::tz::Offset;
 
-/// The place of a local second of the years 1970 to 2199 (0 to 7,258,118,399): the second of Unix time at which
+/// Returns the place of a local second of the years 1970 to 2199 (0 to 7,258,118,399): the second of Unix time at which
 /// the zone's clock shows it.
 ///
-/// This is the second that `jiff`'s compatible conversion gives, so of a local second that the clock shows twice it
-/// is the first. `None` where the clock doesn't show the local second there: it skips it. (systemd.time(7),
-/// Calendar Events.)
+/// If the clock shows the local second twice, as it does after being turned back, this is the first occurrence, which
+/// `jiff`'s compatible conversion picks. Returns `None` if the clock skips the local second. (systemd.time(7), Calendar
+/// Events.)
 pub fn place(zone: Zone, local: i64) -> Option<i64>
     requires { IsLocalSecond local }
     ensures { result ≡ place_of (zone_of zone.entry) local }
@@ -29,9 +29,9 @@ pub fn place(zone: Zone, local: i64) -> Option<i64>
     }
 }
 
-/// The second of Unix time that `jiff`'s compatible conversion gives for a local second from -300,000 to
-/// 7,258,500,000: a local second that the clock skips is moved on by what is skipped, and of one that it shows
-/// twice this is the first. (systemd.time(7), Parsing Timestamps.)
+/// Converts a local second from -300,000 to 7,258,500,000 to Unix time, resolving gaps and folds as `jiff`'s compatible
+/// conversion does: a local second that the clock skips is moved forward by the length of the gap, and of one that it
+/// shows twice the first occurrence is taken. (systemd.time(7), Parsing Timestamps.)
 pub fn settle(zone: Zone, local: i64) -> i64
     requires { CanSettle local }
     ensures value { result ≡ settle_of (zone_of zone.entry) local }
@@ -44,7 +44,7 @@ pub fn settle(zone: Zone, local: i64) -> i64
     }
 }
 
-/// The second of Unix time at which a clock that is always so far ahead shows a local second.
+/// Converts a local second at a fixed offset to Unix time.
 fn unix_second(ahead: Ahead, local: i64) -> i64
     requires { CanSettle local }
     ensures { result ≡ local -ℤ ahead.seconds }
@@ -52,7 +52,7 @@ fn unix_second(ahead: Ahead, local: i64) -> i64
     local - i64::from(ahead.seconds)
 }
 
-/// The place of a local second where the clock goes by rules.
+/// Returns the place of a local second in a zone with rules, or `None` if the clock skips it.
 pub(crate) fn place_by(rules: &Rules, local: i64) -> Option<i64>
     requires { CanSettle local }
     ensures { result ≡ place_of rules.now local }
@@ -65,7 +65,7 @@ pub(crate) fn place_by(rules: &Rules, local: i64) -> Option<i64>
     }
 }
 
-/// The second that a local second settles at where the clock goes by rules.
+/// Converts a local second to Unix time in a zone with rules, as [`settle`] does.
 fn settle_by(rules: &Rules, local: i64) -> i64
     requires { CanSettle local }
     ensures value { result ≡ settle_of rules.now local }
@@ -78,7 +78,8 @@ fn settle_by(rules: &Rules, local: i64) -> i64
     timestamp.as_second()
 }
 
-/// The local second that a clock by these rules shows at a second near those that can be settled.
+/// Returns the local second that the clock shows at a second of Unix time. The second must be in the range of the
+/// results of [`settle`].
 fn shown_by(rules: &Rules, second: i64) -> i64
     requires { IsNearSettled second }
     ensures { result ≡ local_of rules.now second }
@@ -89,7 +90,7 @@ fn shown_by(rules: &Rules, second: i64) -> i64
     second + i64::from(rules.offset(timestamp).seconds())
 }
 
-/// The civil time of a local second.
+/// Returns the date and time of day of a local second.
 pub(crate) fn datetime(local: i64) -> DateTime
     requires { CanSettle local }
     ensures { result ≡ datetime_of local }

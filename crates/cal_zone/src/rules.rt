@@ -1,4 +1,4 @@
-//! Rules of zones that go forward and back: a POSIX rule, or the table of a zone file.
+//! The rules of zones whose UTC offset can change: a POSIX rule, or the table of a zone file.
 
 ghost use Rattle.std.specs.Prelude.{◌≡◌, ◌↔◌, true, ℤ, IsOk, IsSome, IfOk, IfErr, IfSome, MatchResult};
 ghost use Rattle.jiff.specs.Placed.{IsPosixZone};
@@ -19,7 +19,7 @@ use jiff::{Error, Timestamp};
 use std::alloc::Global;
 use std::marker::Model;
 
-/// The rules by which a zone's clock goes: those of a POSIX rule or of a zone file, as `jiff` reads them.
+/// The rules of a zone: a POSIX rule or a zone file, as parsed by `jiff`.
 #[derive(Debug, Drop)]
 pub struct Rules {
     kind: RulesKind,
@@ -42,12 +42,13 @@ impl Model for Rules {
 }
 
 impl Rules {
-    /// The most bytes that a zone file may have.
+    /// The maximum size of a zone file, in bytes.
     pub const FILE_LIMIT: usize = 1_048_576;
 
-    /// The rules of a POSIX rule, as `CET-1CEST,M3.5.0,M10.5.0/3`.
+    /// Parses a POSIX rule such as `CET-1CEST,M3.5.0,M10.5.0/3`.
     ///
-    /// [`ZoneFault::BadRule`] comes exactly where `jiff` reads no rule. Today this takes no memory.
+    /// Fails with [`ZoneFault::BadRule`] if and only if `jiff` can't parse the rule. Doesn't allocate today; `alloc` is
+    /// unused.
     pub fn posix(alloc: Global, rule: &str) -> Result<Rules, ZoneFault>
         ensures read { IsOk result ↔ IsSome (read_whole rule.now) }
         ensures zone { IfOk result (IsPosixZone rule.now) }
@@ -62,11 +63,14 @@ impl Rules {
         }
     }
 
-    /// The rules of a zone file (RFC 8536) of that name.
+    /// Parses a zone file (RFC 8536) for a zone that is to be named `name`.
     ///
-    /// The faults are, in this order: [`ZoneFault::BadName`] where the name isn't of the form of a zone's name,
-    /// [`ZoneFault::TooLarge`] where the file has more than 1,048,576 bytes, [`ZoneFault::BadFile`] where `jiff`
-    /// refuses the bytes for another cause than memory, and [`ZoneFault::NoMemory`].
+    /// The errors are, in the order in which they are checked:
+    ///
+    /// - [`ZoneFault::BadName`] if `name` doesn't have the form of a zone's name;
+    /// - [`ZoneFault::TooLarge`] if the file has more than 1,048,576 bytes;
+    /// - [`ZoneFault::BadFile`] if `jiff` rejects the bytes;
+    /// - [`ZoneFault::NoMemory`] if allocation fails.
     pub fn file(alloc: Global, name: &str, bytes: &[u8]) -> Result<Rules, ZoneFault>
         ensures { MatchResult result
             (IsFileZone name.now bytes.now)
@@ -79,7 +83,7 @@ impl Rules {
         }
     }
 
-    /// The same where the name is known to be of that form.
+    /// Like [`Rules::file`], for a name that is known to have the form of a zone's name.
     pub fn named_file(alloc: Global, name: &str, bytes: &[u8]) -> Result<Rules, ZoneFault>
         requires { is_zone_name name.now ≡ true }
         ensures { MatchResult result
@@ -98,7 +102,7 @@ impl Rules {
         }
     }
 
-    /// The zone of these rules, as `jiff` has it.
+    /// Returns these rules as a `TimeZone` of `jiff`.
     pub(crate) fn time_zone(&self) -> TimeZone<'_>
         ensures at { (n : ℤ) → offset_at (plain_zone result) n ≡ offset_at self.now n }
         ensures of { (shown : DateTime) → ambiguous_at (plain_zone result) shown ≡ ambiguous_at self.now shown }
@@ -110,14 +114,15 @@ impl Rules {
         }
     }
 
-    /// How far the clock is ahead of UTC at an instant.
+    /// Returns the UTC offset at `timestamp`.
     pub(crate) fn offset(&self, timestamp: Timestamp) -> Offset
         ensures { result.seconds ≡ offset_at self.now timestamp.nanosecond }
     {
         let time_zone = self.time_zone();
         time_zone.to_offset(timestamp)
     }
-    /// A steady stretch that begins at a local second, where one is known.
+    /// Returns a range with a constant UTC offset that starts at `local`, if one is found: from the table of a zone
+    /// file, and otherwise from the POSIX rule.
     pub(crate) fn stretch(&self, local: i64) -> Option<Stretch>
         requires { IsLocalSecond local }
         ensures { IfSome result (IsSteadyAt self.now local) }
@@ -130,8 +135,8 @@ impl Rules {
         self.stretch_by_rule(local)
     }
 
-    /// A steady stretch that begins at a local second where the clock goes by a POSIX rule: of a file's rules, after
-    /// its last row.
+    /// Returns a range with a constant UTC offset that starts at `local`, if a POSIX rule decides the offset there. In
+    /// a zone file, that is the rule after the last transition of the table.
     fn stretch_by_rule(&self, local: i64) -> Option<Stretch>
         requires { IsLocalSecond local }
         ensures { IfSome result (IsSteadyAt self.now local) }
@@ -146,8 +151,8 @@ impl Rules {
         }
     }
 
-    /// The stretch that begins at a local second, and before whose end the clock goes on as it does there. There is
-    /// none where this is its end already, nor where the clock skips the local second.
+    /// Returns the range `local..to`, for which the caller has shown that the clock doesn't change in it. Returns
+    /// `None` if this range is empty or if the clock skips `local`.
     fn stretch_until(&self, local: i64, to: i64) -> Option<Stretch>
         requires local_in { IsLocalSecond local }
         requires alike { IsAlikeUntil self.now local to }

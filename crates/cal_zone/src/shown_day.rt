@@ -1,4 +1,4 @@
-//! Days as a zone's clock shows them: what the texts of all instants of a day share.
+//! Days on a zone's clock, with the text that all instants of one day share.
 
 ghost use Rattle.std.specs.Prelude.{◌≡◌, ◌+◌, ◌*◌, ◌≤◌, ◌++◌, ◌-ℤ◌, ◌≤ℤ◌, ◌<ℤ◌, length, pos};
 ghost use Rattle.jiff.specs.Words.{IsBetween};
@@ -13,8 +13,9 @@ use crate::period::Period;
 use crate::{Civil, DAY, Instant, Zone};
 use cal_bytes::{ShortText, push};
 
-/// The instants from `from` on and before `to`, which a clock shows on one day: their texts are the day's, the time
-/// since its midnight, and the word of the zone.
+/// The instants `from..to`, all on one day of a zone's clock and at one UTC offset.
+///
+/// The text of each of them is `day`, the time since `midnight`, and `word`, which is the zone.
 #[derive(Drop)]
 pub(crate) struct ShownDay {
     pub(crate) from: i64,
@@ -25,7 +26,7 @@ pub(crate) struct ShownDay {
 }
 
 impl ShownDay {
-    /// A day of no instants.
+    /// Creates a day that contains no instants.
     pub(crate) fn empty() -> ShownDay
         ensures from { result.from ≡ pos 0 }
         ensures to { result.to ≡ pos 0 }
@@ -40,7 +41,8 @@ impl ShownDay {
         }
     }
 
-    /// The day that the zone's clock shows at the instant, as far as the period goes.
+    /// Returns the day of the zone's clock that contains `instant`, limited to `period`, in which the UTC offset is
+    /// known to be constant.
     pub(crate) fn of(zone: Zone, period: Period, instant: Instant) -> ShownDay
         requires { IsPeriodAt (zone_of zone) instant.secs period }
         ensures day { IsDay zone.entry result }
@@ -62,7 +64,7 @@ impl ShownDay {
         }
     }
 
-    /// Appends the text of one of its instants.
+    /// Appends the text of an instant of this day.
     pub(crate) fn push(&self, text: &mut ShortText, second: i64)
         requires short { HasShortTexts self.now }
         requires day { IsBetween (pos 0) (pos 86_399) (second -ℤ self.now.midnight) }
@@ -82,7 +84,6 @@ impl ShownDay {
     }
 }
 
-/// The seconds since midnight.
 fn since_midnight(shown: &Civil) -> i64
     ensures { result ≡ pos (shown.now.hour * 3_600 + shown.now.minute * 60 + shown.now.second) }
 {

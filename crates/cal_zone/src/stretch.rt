@@ -1,4 +1,7 @@
-//! Stretches of local seconds in which a zone's clock neither skips nor repeats any, nor changes its offset.
+//! Ranges of local seconds with a constant UTC offset.
+//!
+//! Inside such a range there is no gap and no fold, so converting a local second to its place is one subtraction.
+//! [`Placer`](crate::Placer) caches one range.
 
 ghost use Rattle.std.specs.Prelude.{◌≡◌, ◌≤◌, ◌≤ℤ◌, ◌-ℤ◌, IfSome, int_le, option_map, pos, vec_len};
 ghost use Rattle.jiff.specs.Types.{Posix as ByRule};
@@ -18,14 +21,15 @@ use jiff::tz::Tzif;
 use jiff_core::Timestamp;
 use jiff_tz::{TimeZone, Transition, posix, tzif};
 
-/// How far a place can lie from its local second.
+/// The largest UTC offset that `jiff` accepts, in seconds (25:59:59): a place is at most this far from its local
+/// second.
 const FARTHEST: i64 = 93_599;
 
-/// How far a stretch stays away from the changes of a rule: a change at UTC and what it touches on the civil clock lie
-/// up to four offsets apart.
+/// How far a range stays away from the transitions of a POSIX rule. A rule fixes a transition in UTC, while gap and
+/// fold are in local time; the two can be up to four offsets apart.
 pub(crate) const FAR: i64 = 4 * FARTHEST + 1;
 
-/// The local seconds from `from` on and before `to`, and how far each of them is ahead of its place.
+/// The local seconds `from..to`, all at the same UTC offset in seconds.
 #[derive(Clone, Copy)]
 pub(crate) struct Stretch {
     pub(crate) from: i64,
@@ -33,7 +37,7 @@ pub(crate) struct Stretch {
     pub(crate) offset: i64,
 }
 
-/// A steady stretch of a zone that has a local second, where one is known.
+/// Returns a range with a constant UTC offset that contains `local`, if one is found.
 pub(crate) fn stretch_of(zone: Zone, local: i64) -> Option<Stretch>
     requires { IsLocalSecond local }
     ensures { IfSome result (IsSteadyAt (zone_of zone.entry) local) }
@@ -45,7 +49,7 @@ pub(crate) fn stretch_of(zone: Zone, local: i64) -> Option<Stretch>
     }
 }
 
-/// All local seconds, each so far ahead of its place.
+/// Returns the range of all local seconds, for a zone with a fixed offset.
 fn whole(offset: i64) -> Stretch
     ensures from { result.from ≡ pos 0 }
     ensures to { result.to ≡ pos 7_258_118_400 }
@@ -58,8 +62,11 @@ fn whole(offset: i64) -> Stretch
     }
 }
 
-/// The steady stretch of a zone file's table that begins at a local second. It ends where the next row can touch the
-/// civil clock: there is none where that is already so, nor after the last row.
+/// Returns the range with a constant UTC offset that starts at `local`, by the transitions of a zone file's table.
+///
+/// It ends [`FARTHEST`] before the next transition, since that transition can affect local seconds up to one offset
+/// earlier. Returns `None` if `local` is already that close, or if no transition follows: from there on the file's
+/// POSIX rule decides, if it has one.
 pub(crate) fn stretch_of_table(table: &Tzif, local: i64) -> Option<Stretch>
     requires { IsLocalSecond local }
     ensures { IfSome result (IsSteadyAt (zone_of_table table.now) local) }
@@ -76,9 +83,12 @@ pub(crate) fn stretch_of_table(table: &Tzif, local: i64) -> Option<Stretch>
     })
 }
 
-/// The local second before which a table's clock goes on as it does at this one, once all rows are passed. It does so
-/// for ever where no rule has summer time. The clock is even from [`FAR`] before this local second on, and before
-/// `even`.
+/// Returns the end of a range that starts at `local` in which a table's clock doesn't change, if the last transition of
+/// the table is at least [`FAR`] before `local`. Returns `local`, for an empty range, if it isn't.
+///
+/// After the last transition the table's POSIX rule decides. If there is no such rule, or it has no daylight saving
+/// time, the range extends to [`LOCAL_END`]. The caller guarantees a constant UTC offset from [`FAR`] before `local`
+/// until `even`.
 pub(crate) fn alike_behind(table: &Tzif, local: i64, even: Instant) -> i64
     requires local_in { IsLocalSecond local }
     requires even { IsEvenUntil (zone_of_table table.now) (local -ℤ pos 374_397) even.secs }
@@ -96,8 +106,10 @@ pub(crate) fn alike_behind(table: &Tzif, local: i64, even: Instant) -> i64
     }
 }
 
-/// The local second before which the clock of a zone by a POSIX rule goes on as it does at this one. The clock is even
-/// from [`FAR`] before this local second on, and before `even`.
+/// Returns the end of a range that starts at `local` in which the clock of a zone doesn't change, if the zone is a
+/// POSIX rule. Returns `local`, for an empty range, for every other zone.
+///
+/// The caller guarantees a constant UTC offset from [`FAR`] before `local` until `even`.
 pub(crate) fn alike_in_zone(zone: TimeZone<'_>, local: i64, even: Instant) -> i64
     requires local_in { IsLocalSecond local }
     requires even { IsEvenUntil zone (local -ℤ pos 374_397) even.secs }
@@ -109,7 +121,7 @@ pub(crate) fn alike_in_zone(zone: TimeZone<'_>, local: i64, even: Instant) -> i6
     }
 }
 
-/// The same of the rule.
+/// Like [`alike_in_zone`], for the rule itself.
 fn alike_by_rule(rule: posix::TimeZone, local: i64, even: Instant) -> i64
     requires local_in { IsLocalSecond local }
     requires even { IsEvenUntil (ByRule rule) (local -ℤ pos 374_397) even.secs }
@@ -122,8 +134,12 @@ fn alike_by_rule(rule: posix::TimeZone, local: i64, even: Instant) -> i64
     LOCAL_END
 }
 
-/// The local second before which a rule's civil clock goes on as it does [`FAR`] after this second: far enough before
-/// the rule's next change, and within a year.
+/// Returns the end of a range of local seconds without a gap or a fold, given the first transition of a POSIX rule
+/// after `past`.
+///
+/// The range starts [`FAR`] after `past` and ends [`FAR`] before the transition. It also ends with the year of `past`,
+/// unless it starts after that year: a POSIX rule is evaluated year by year. Returns `past`, for an empty range, if
+/// there is no transition or if `past` is before 1970.
 fn quiet_until(next: Option<Transition>, past: i64) -> i64
     requires { past ≤ℤ pos 7_258_500_000 }
     ensures { IsQuietUntil (option_map transition_view next) past result }
@@ -142,7 +158,7 @@ fn quiet_until(next: Option<Transition>, past: i64) -> i64
     }
 }
 
-/// Where the year of a second ends, on a clock at UTC.
+/// Returns the first second of the next year, in UTC.
 pub(crate) fn year_after(second: i64) -> i64
     requires { CanSettle second }
     ensures value { result ≡ year_end (datetime_of second).date.year }
@@ -152,7 +168,6 @@ pub(crate) fn year_after(second: i64) -> i64
     (i64::from(last.to_plain().to_unix_epoch_day()) + 1) * DAY
 }
 
-/// The instant of a second.
 fn instant(second: i64) -> Timestamp
     requires { IsNearSettled second }
     ensures { result.nanosecond ≡ nanos_of_seconds second }
@@ -163,7 +178,7 @@ fn instant(second: i64) -> Timestamp
     timestamp.to_plain()
 }
 
-/// How many rows of a table lie at or before a second.
+/// Returns the number of transitions of the table at or before `second`.
 fn rows_passed(table: &Tzif, second: i64) -> usize
     ensures value { result ≡ count_at table.now second }
     ensures bound { result ≤ vec_len table.now.transitions }
@@ -175,14 +190,13 @@ fn rows_passed(table: &Tzif, second: i64) -> usize
     )
 }
 
-/// The second of a row of a table, if the table has that row.
 fn second_of_row(table: &Tzif, row: usize) -> Option<i64>
     ensures { IfSome result (IsSecondOfRow table.now row) }
 {
     Some(table.transitions().get(row)?.second)
 }
 
-/// How far the clock is ahead of UTC after that many rows of a table.
+/// Returns the UTC offset after the first `rows` transitions of the table.
 fn offset_after(table: &Tzif, rows: usize) -> i64
     requires { rows ≤ vec_len table.now.transitions }
     ensures { result ≡ (type_after table.now rows).offset.seconds }

@@ -1,11 +1,11 @@
-//! The English names of the weekdays, which texts are read and printed by.
+//! The English names of the weekdays, for parsing and printing.
 
 ghost use Rattle.std.specs.Prelude.{◌≡◌, ◌≤◌, length};
 ghost use Rattle.cal_zone.specs.headline.Weekday.{name_of, short_name_of};
 
 use jiff::civil::Weekday;
 
-/// The week, from Monday on.
+/// The weekdays in order, from Monday to Sunday.
 pub const WEEK: [Weekday; 7] = [
     Weekday::Monday,
     Weekday::Tuesday,
@@ -16,7 +16,7 @@ pub const WEEK: [Weekday; 7] = [
     Weekday::Sunday,
 ];
 
-/// The English name of a weekday (systemd.time(7), Calendar Events).
+/// Returns the English name of a weekday (systemd.time(7), Calendar Events).
 #[tactic(auto, unfolding(crate::specs::headline::Weekday::name_of))]
 pub fn weekday_name(weekday: Weekday) -> &'static [u8]
     ensures { result.now ≡ name_of weekday }
@@ -32,7 +32,7 @@ pub fn weekday_name(weekday: Weekday) -> &'static [u8]
     }
 }
 
-/// The first three letters of a weekday's name, in which it is printed.
+/// Returns the first three letters of a weekday's name, the form that is printed.
 #[tactic(auto, unfolding(crate::specs::headline::Weekday::name_of))]
 pub fn short_weekday_name(weekday: Weekday) -> &'static [u8]
     ensures name { result.now ≡ short_name_of weekday }

@@ -1,4 +1,4 @@
-//! Zones: how a civil clock is reckoned from Unix time.
+//! Time zones.
 
 ghost use Rattle.std.specs.Prelude.{◌≡◌, true, false};
 ghost use Rattle.jiff.specs.Types.{Offset};
@@ -6,7 +6,7 @@ ghost use Rattle.jiff.specs.Words.{fixed_zone, IsOffsetSeconds};
 
 use crate::Rules;
 
-/// How a civil clock is reckoned: as UTC, at a fixed offset, or by rules.
+/// A time zone: UTC, a fixed UTC offset, or rules such as those of a zone file.
 #[derive(Clone, Copy)]
 pub struct Zone<'t> {
     pub(crate) kind: ZoneKind<'t>,
@@ -19,7 +19,7 @@ pub(crate) enum ZoneKind<'t> {
     Rules(&'t Rules),
 }
 
-/// How far a clock is ahead of UTC.
+/// A fixed UTC offset in seconds, in the range that `jiff` accepts.
 #[derive(Clone, Copy)]
 pub(crate) struct Ahead {
     pub(crate) seconds: i32,
@@ -30,7 +30,7 @@ impl<'t> Zone<'t> {
     ghost use Rattle.cal_zone.specs.headline.Zone.{is_utc, utc, zone_of};
     ghost use Rattle.cal_zone.specs.headline.ZoneAhead.{zone_ahead};
 
-    /// UTC, whose civil clock is the Unix clock.
+    /// Returns UTC, whose civil clock counts Unix time.
     pub fn utc() -> Zone<'static>
         ensures { result ≡ utc }
     {
@@ -39,7 +39,8 @@ impl<'t> Zone<'t> {
         }
     }
 
-    /// The zone whose clock is always that many seconds ahead of UTC. It differs from UTC also where these are 0.
+    /// Returns the zone with a fixed UTC offset in seconds, from -93,599 to 93,599. It is distinguished from UTC and
+    /// printed differently, even if the offset is 0.
     pub fn offset(seconds: i32) -> Zone<'static>
         requires { IsOffsetSeconds seconds }
         ensures zone { (offset : Offset) → offset.seconds ≡ seconds → zone_of result ≡ fixed_zone offset }
@@ -51,7 +52,7 @@ impl<'t> Zone<'t> {
         }
     }
 
-    /// The zone whose clock goes by these rules.
+    /// Returns the zone with these rules.
     pub fn rules(rules: &'t Rules) -> Zone<'t>
         ensures zone { zone_of result ≡ rules.now }
         ensures distinct { is_utc result ≡ false }
@@ -61,7 +62,7 @@ impl<'t> Zone<'t> {
         }
     }
 
-    /// Whether this is UTC itself, [`Zone::utc`].
+    /// Returns whether this is [`Zone::utc`]. A zone with the fixed offset 0 is not.
     pub fn is_utc(self) -> bool
         ensures { result ≡ is_utc self.entry }
     {

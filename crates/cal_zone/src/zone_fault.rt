@@ -1,28 +1,28 @@
-//! Why a zone is rejected.
+//! The errors for zones.
 
 ghost use Rattle.std.specs.Prelude.{◌≡◌};
 
-/// Why the rules of a zone, or its name in a table, are rejected.
+/// Why the rules of a zone, or its name in a table, are invalid.
 #[derive(Clone, Copy, PartialEq, Eq, Debug)]
 pub enum ZoneFault {
-    /// The name isn't of the form of a zone's name.
+    /// The name doesn't have the form of a zone's name.
     BadName = 1,
-    /// The text is no POSIX rule.
+    /// Not a valid POSIX rule.
     BadRule = 2,
-    /// The bytes are no zone file.
+    /// Not a valid zone file.
     BadFile = 3,
     /// The zone file has more than 1,048,576 bytes.
     TooLarge = 4,
-    /// Memory was refused.
+    /// Out of memory.
     NoMemory = 5,
-    /// The table has a zone of that name, as it always has for `UTC` in any case.
+    /// The table already has a zone of this name. The name `UTC`, in any case, is always taken.
     NameTaken = 6,
 }
 
 impl ZoneFault {
     ghost use Rattle.cal_zone.specs.ZoneFault.{words_of};
 
-    /// What is reported to a user; running out of memory has no words.
+    /// Returns the message for users, which is empty for [`ZoneFault::NoMemory`].
     pub fn words(&self) -> &str
         ensures { result.now ≡ words_of self.now }
     {

@@ -1,4 +1,4 @@
-//! The table of the zones that have a name.
+//! The table of named zones.
 
 ghost use Rattle.std.specs.Prelude.{◌≡◌, true, option_map, IfSome, IfErr, OnErr, MatchResult};
 ghost use Rattle.std.specs.FinMap as map;
@@ -9,7 +9,8 @@ use std::alloc::Global;
 use std::collections::BTreeMap;
 use std::marker::Model;
 
-/// Zones by name: a finite map from names to rules. `UTC`, in any case, is always there beside them.
+/// A table of zones: a finite map from names to rules. `UTC`, in any case, is always a name of UTC and is not in the
+/// map.
 #[derive(Drop)]
 pub struct ZoneTable {
     alloc: Global,
@@ -37,7 +38,7 @@ impl ZoneTable {
     ghost use Rattle.cal_zone.specs.ZoneTable.{IsAddable, IsAddFault};
     ghost use Rattle.cal_zone.specs.headline.ZoneTable.{zone_named};
 
-    /// The table with no zone.
+    /// Creates an empty table, in which only `UTC` is found.
     pub fn new(alloc: Global) -> Self
         ensures { result ≡ map.empty }
     {
@@ -47,11 +48,11 @@ impl ZoneTable {
         }
     }
 
-    /// Adds the rules under a name.
+    /// Adds a zone with these rules under `name`.
     ///
-    /// A refusal leaves the table as it was and hands the rules back: [`ZoneFault::BadName`] where the name isn't
-    /// of the form of a zone's name, [`ZoneFault::NameTaken`] where the table has a zone of that name, as it has
-    /// for `UTC` in any case, and [`ZoneFault::NoMemory`].
+    /// On failure the table is unchanged and the rules are returned to the caller. Fails with [`ZoneFault::BadName`] if
+    /// `name` doesn't have the form of a zone's name, with [`ZoneFault::NameTaken`] if the table already has a zone of
+    /// this name, which it always has for `UTC` in any case, and with [`ZoneFault::NoMemory`] if allocation fails.
     pub fn add(&mut self, name: &str, rules: Rules) -> Result<(), (Rules, ZoneFault)>
         ensures added { MatchResult result
             (λ _. IsAddable self.old name.now × (self.new ≡ map.insert self.old name.now rules))
@@ -66,7 +67,7 @@ impl ZoneTable {
         }
     }
 
-    /// The same where the name is known to be of that form.
+    /// Like [`ZoneTable::add`], for a name that is known to have the form of a zone's name.
     pub fn add_named(&mut self, name: &str, rules: Rules) -> Result<(), (Rules, ZoneFault)>
         requires { is_zone_name name.now ≡ true }
         ensures added { MatchResult result
@@ -90,8 +91,8 @@ impl ZoneTable {
         }
     }
 
-    /// The zone of that name: UTC for `UTC` in any case, and otherwise the zone of exactly that name, if there is
-    /// one.
+    /// Returns the zone named `name`: UTC for `UTC` in any case, and otherwise the zone that was added under exactly
+    /// this name. Returns `None` if there is none.
     #[tactic(auto, unfolding(crate::specs::headline::Zone::zone_of, crate::specs::headline::ZoneTable::zone_named))]
     pub fn find(&self, name: &str) -> Option<Zone<'_>>
         ensures zone { option_map zone_of result ≡ zone_named self.now name.now }

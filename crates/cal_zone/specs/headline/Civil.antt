@@ -1,4 +1,4 @@
--- What a clock in a zone shows at an instant.
+-- Conversion from Unix time to civil time.
 use Rattle.std.specs.Prelude.{ℕ, ◌+◌, ℤ}
 use Rattle.jiff.specs.Types.{Date, TimeZone}
 use Rattle.jiff.specs.Words.{nanos_of_seconds, offset_at, weekday_of}
@@ -7,7 +7,7 @@ use Rattle.cal_zone.specs.headline.Days.{date_of}
 use Rattle.cal_zone.specs.headline.Local.{day_of, second_of_day, hour_of, minute_of, second_of}
 use Rattle.cal_zone.specs.headline.Zone.{local_of}
 
--- the fields of a date, a second after its midnight and an offset; Monday is weekday 1
+-- a date, a time in seconds since midnight and a UTC offset, field by field; weekday 1 is Monday
 abbrev pub shown_fields : Date → ℕ → ℤ → Civil
 shown_fields date second offset = record {
   year = date.year;
@@ -20,7 +20,7 @@ shown_fields date second offset = record {
   offset = offset;
 }
 
--- the civil time at a second of Unix time
+-- the civil time in a zone at a second of Unix time
 unfoldable pub civil_of : TimeZone → ℤ → Civil
 civil_of tz second =
     let local = local_of tz second in

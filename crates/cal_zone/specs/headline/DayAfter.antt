@@ -1,5 +1,8 @@
--- That each day has a day after it, so that each day number has a date: a date of `jiff`'s holds that its month and its
--- day are in range, and a definition can hold that only where it is shown.
+-- That every day number has a date.
+--
+-- A date of `jiff` carries proofs that its month and its day are in range, so `date_of` can only be defined together
+-- with a proof that such a date exists. It is found by counting from the first date: every date but the last has a next
+-- one.
 use Rattle.std.specs.Prelude.{◌≡◌, ℕ, zero, suc, ◌+◌, ◌<◌, ◌≤◌, ℤ, pos, neg_ℤ, ◌+ℤ◌, ◌-ℤ◌, ◌<ℤ◌, negsuc, min, refl}
 use Rattle.std.proofs.Common.{arith, rules, inl, inr}
 use Rattle.std.proofs.lemmas.Bool.{cases_lt}
@@ -12,19 +15,19 @@ use Rattle.jiff.proofs.SpanFacts.{signed_arith}
 use Rattle.jiff_core.proofs.CalendarLemmas.{days_in_month_bounds}
 use Rattle.jiff.proofs.Family.{days_from_civil-day, days_from_civil-next_month, days_from_civil-next_year, days_from_civil-min, days_from_civil-max}
 
--- a date whose day number this is
+-- a date with day number `day`
 pub record DateOn (day : ℤ) : Type 0 where
   pub date : Date
   pub is : epoch_day date ≡ day
 
--- every month has a first day
+-- the first day of a month is a date
 first_in : (year : ℤ) (month : ℕ) → IsInRange 1 (days_in_month year month) 1
 first_in year month = let long = days_in_month_bounds year month in (omega arith, omega arith)
 
 first_of_month : (year : ℤ) (month : ℕ) → IsYear year → IsInRange 1 12 month → Date
 first_of_month year month y m = record { year = year; month = month; day = 1; year_in = y; month_in = m; day_in = first_in year month }
 
--- the day after, within the month
+-- the next day, if it is in the same month
 next_in : (d : Date) → d.day < month_length d → IsInRange 1 (month_length d) (d.day + 1)
 next_in d before = (omega arith, omega arith)
 
@@ -35,7 +38,7 @@ epoch_day-next_of : (d : Date) (before : d.day < month_length d) → epoch_day (
 unfolding next_of
 epoch_day-next_of d before = omega (arith, signed_arith, days_from_civil-day d.year d.month (d.day + 1) d.day (omega arith) d.day_in.0)
 
--- the day after the last of a month, within the year
+-- the next day after the end of a month, if it is in the same year
 next_month_in : (d : Date) → d.month < 12 → IsInRange 1 12 (d.month + 1)
 next_month_in d before = (omega arith, omega arith)
 
@@ -44,7 +47,7 @@ epoch_day-next_month : (d : Date) (before : d.month < 12) → month_length d ≤
 unfolding first_of_month
 epoch_day-next_month d before last = days_from_civil-next_month d.year d.month d.day d.month_in.0 (omega (arith, d.day_in.1))
 
--- the day after the last of a year
+-- the next day after the end of a year
 next_year_in : (d : Date) → d.year <ℤ pos 9999 → IsYear (d.year +ℤ pos 1)
 next_year_in d before = (omega (arith, signed_arith), omega (arith, signed_arith))
 
@@ -64,11 +67,11 @@ last_of_december d last december =
     let bounds = days_in_month_bounds d.year d.month in
     omega (arith, d.day_in.1)
 
--- the day number of a date with these parts
+-- dates with the same year, month and day have the same day number, here for 9999-12-31
 epoch_day_is : (d : Date) → d.year ≡ pos 9999 → d.month ≡ 12 → d.day ≡ 31 → epoch_day d ≡ days_from_civil (pos 9999) 12 31
 epoch_day_is d year month day = rw (year, month, day)
 
--- so the last day of a year before the last has a day after it, and 9999-12-31 is the last day
+-- the last day of every year before 9999 has a next day; 9999-12-31, the last date, has day number 2,932,896
 next_of_december : (d : Date) → epoch_day d <ℤ pos 2_932_896 → month_length d ≤ d.day → 12 ≤ d.month → DateOn (epoch_day d +ℤ pos 1)
 next_of_december d before last late =
     let december : d.month ≡ 12 = omega (arith, d.month_in.1) in
@@ -78,7 +81,7 @@ next_of_december d before last late =
     (λ y. let year : d.year ≡ pos 9999 = omega (arith, signed_arith, d.year_in.1) in
     absurd (omega (arith, signed_arith, days_from_civil-max, epoch_day_is d year december day)))
 
--- every day before 9999-12-31 has a day after it
+-- every date before 9999-12-31 has a next day
 next : (d : Date) → epoch_day d <ℤ pos 2_932_896 → DateOn (epoch_day d +ℤ pos 1)
 next d before =
     elim (cases_lt d.day (month_length d)) [
@@ -92,7 +95,7 @@ next d before =
 first_year_in : IsYear (neg_ℤ (pos 9999))
 first_year_in = search rules
 
--- -9999-01-01, the first day
+-- the first date is -9999-01-01
 first_date : DateOn (pos 0 -ℤ pos 4_371_587)
 unfolding first_of_month
 first_date = record { date = first_of_month (neg_ℤ (pos 9999)) 1 first_year_in january_in; is = days_from_civil-min }
@@ -106,7 +109,7 @@ one_more n day later e f = omega (arith, signed_arith)
 fewer : (n : ℕ) → suc n ≤ 7_304_483 → n ≤ 7_304_483
 fewer n h = omega arith
 
--- the date that many days after -9999-01-01
+-- the date `n` days after -9999-01-01
 date_counted : (n : ℕ) → n ≤ 7_304_483 → DateOn (pos n -ℤ pos 4_371_587)
 date_counted zero h = first_date
 date_counted (suc n) h =
@@ -114,8 +117,8 @@ date_counted (suc n) h =
     let after = next before.date (not_last n (epoch_day before.date) h before.is) in
     record { date = after.date; is = one_more n (epoch_day before.date) (epoch_day after.date) before.is after.is }
 
--- a day's place among the days from -9999-01-01 to 9999-12-31; a day outside them, which no caller has, is
--- taken to the nearer end
+-- the position of a day in the days from -9999-01-01 to 9999-12-31; days outside this range, which no caller has, are
+-- mapped to its nearer end
 unfoldable pub place_among : ℤ → ℕ
 place_among (pos n) = min n 7_304_483
 place_among (negsuc n) = 0
@@ -125,6 +128,6 @@ unfolding place_among
 place_among_bound (pos n) = omega arith
 place_among_bound (negsuc n) = omega arith
 
--- a date for each day
+-- the date of every day number, which for days outside `jiff`'s range is its first or last date
 pub dated : (day : ℤ) → DateOn (pos (place_among (day +ℤ pos 4_371_587)) -ℤ pos 4_371_587)
 dated day = date_counted (place_among (day +ℤ pos 4_371_587)) (place_among_bound (day +ℤ pos 4_371_587))

@@ -1,4 +1,4 @@
--- The date of a day number, counted from 1970-01-01: the one date of `jiff`'s calendar that has this number.
+-- The date of a day number, which counts days from 1970-01-01: the one date of `jiff`'s calendar with this number.
 use Rattle.std.specs.Prelude.{ℤ}
 use Rattle.jiff.specs.Types.{Date}
 use Rattle.cal_zone.specs.headline.DayAfter.{dated}

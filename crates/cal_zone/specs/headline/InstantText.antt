@@ -8,11 +8,11 @@ use Rattle.cal_zone.specs.headline.Zone.{is_utc, zone_of}
 use Rattle.cal_zone.specs.declared.civil_fields.Civil.{Civil}
 use Rattle.cal_zone.specs.declared.zone.Zone.{Zone}
 
--- the zeros in front of a number that is printed in at least that many digits
+-- the zeros before `n` if it is printed with at least `width` digits
 abbrev pub zeros : ℕ → ℕ → List ℕ
 zeros width n = replicate (width - length (decimal n)) 48
 
--- the short English name of a weekday, Monday being 1
+-- the short English name of weekday `n`, where 1 is Monday
 unfoldable pub weekday_name : ℕ → List ℕ
 weekday_name n = short_name_of (slice_index_or week (n - 1) Sunday)
 
@@ -27,33 +27,33 @@ unfoldable pub time_text : ℕ → ℕ → ℕ → List ℕ
 time_text hour minute second =
     joined (zeros 2 hour ∷ decimal hour ∷ codes ":" ∷ zeros 2 minute ∷ decimal minute ∷ codes ":" ∷ zeros 2 second ∷ decimal second ∷ [])
 
--- `-` for a clock after UTC, and else `+`
+-- `-` for a clock that is behind UTC, and otherwise `+`
 abbrev pub sign_text : ℤ → List ℕ
 sign_text offset = if int_lt offset (pos 0) then codes "-" else codes "+"
 
--- `+02:00`: the hours and the minutes
+-- `+02:00`: sign, hours and minutes
 abbrev pub minutes_pieces : ℤ → List (List ℕ)
 minutes_pieces offset =
     let ahead = unsigned_abs offset in
     sign_text offset ∷ zeros 2 (ahead / 3_600) ∷ decimal (ahead / 3_600) ∷ codes ":" ∷ zeros 2 (ahead / 60 % 60) ∷ decimal (ahead / 60 % 60) ∷ []
 
--- how far a clock is ahead of UTC: `+02:00`, and `+00:53:28` where the seconds aren't 0
+-- a UTC offset in seconds: `+02:00`, or `+00:53:28` if it isn't a whole number of minutes
 unfoldable pub offset_text : ℤ → List ℕ
 offset_text offset =
     let second = unsigned_abs offset % 60 in
     if second == 0 then joined (minutes_pieces offset)
     else joined (minutes_pieces offset ++ (codes ":" ∷ zeros 2 second ∷ decimal second ∷ []))
 
--- the word of a zone after a time: `UTC` for UTC itself, and else how far its clock is ahead
+-- the zone after a time: `UTC` for UTC itself, and otherwise the UTC offset
 unfoldable pub zone_word : Bool → ℤ → List ℕ
 zone_word is_utc offset = if is_utc then codes "UTC" else offset_text offset
 
--- what a clock shows: weekday, date and time, each with a space after it
+-- weekday, date and time, each followed by a space
 unfoldable pub shown_text : Civil → List ℕ
 shown_text c =
     joined (weekday_name c.weekday ∷ codes " " ∷ date_text c ∷ codes " " ∷ time_text c.hour c.minute c.second ∷ codes " " ∷ [])
 
--- the instant as the zone's clock shows it
+-- an instant as clocks in the zone show it
 unfoldable pub instant_text : Zone → ℤ → List ℕ
 instant_text zone second =
     let shown = civil_of (zone_of zone) second in

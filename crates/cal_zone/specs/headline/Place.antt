@@ -1,4 +1,4 @@
--- Where the local seconds of a zone lie on the clock of Unix time.
+-- Conversion from the local seconds of a zone to Unix time.
 use Rattle.std.specs.Prelude.{◌<◌, ℕ, ℤ, ◌-ℤ◌, Option, Some, None, if◌then◌else◌}
 use Rattle.std.specs.Ordering.{int_eq}
 use Rattle.std.proofs.Common.{arith}
@@ -9,7 +9,7 @@ use Rattle.cal_zone.specs.headline.Days.{date_of}
 use Rattle.cal_zone.specs.headline.Local.{day_of, second_of_day, hour_of, minute_of, second_of}
 use Rattle.cal_zone.specs.headline.Zone.{local_of}
 
--- the time of day that many seconds after midnight
+-- the time of day `second` seconds after midnight
 unfoldable pub time_of : (second : ℕ) → second < 86_400 → Time
 time_of second h = record {
   hour = hour_of second;
@@ -22,15 +22,16 @@ time_of second h = record {
   subsec_in = omega arith;
 }
 
--- the civil time of a local second
+-- the date and time of day of a local second
 unfoldable pub datetime_of : ℤ → DateTime
 datetime_of local = record { date = date_of (day_of local); time = time_of (second_of_day local) (omega (arith, signed_arith)) }
 
--- the second of Unix time that `jiff`'s compatible conversion gives for a local second
+-- the second of Unix time that `jiff`'s compatible conversion returns for a local second: it moves a local second in a
+-- gap forward, and takes the first occurrence of one in a fold
 unfoldable pub settle_of : TimeZone → ℤ → ℤ
 settle_of tz local = local -ℤ (compatible_offset (ambiguous_at tz (datetime_of local))).seconds
 
--- the place of a local second: that second, if the zone's clock shows the local second there; a local second
--- that the clock skips has none, and of one that it shows twice this is the first
+-- the place of a local second: the second that it is converted to, if the zone's clock shows the local second then; so
+-- a local second that the clock skips has no place, and one that it shows twice has its first occurrence
 unfoldable pub place_of : TimeZone → ℤ → Option ℤ
 place_of tz local = if int_eq (local_of tz (settle_of tz local)) local then Some (settle_of tz local) else None

@@ -3,11 +3,11 @@ use Rattle.std.specs.Prelude.{ℕ, List, [], ◌∷◌, codes, take}
 use Rattle.jiff_core.specs.declared.civil.weekday.Weekday.{Weekday}
 use Rattle.jiff_core.specs.declared.civil.weekday.Weekday.TheVariants.{Monday, Tuesday, Wednesday, Thursday, Friday, Saturday, Sunday}
 
--- the week, from Monday on
+-- the weekdays in order, from Monday to Sunday
 abbrev pub week : List Weekday
 week = Monday ∷ Tuesday ∷ Wednesday ∷ Thursday ∷ Friday ∷ Saturday ∷ Sunday ∷ []
 
--- the whole name
+-- the full name
 unfoldable pub name_of : Weekday → List ℕ
 name_of Monday = codes "Monday"
 name_of Tuesday = codes "Tuesday"
@@ -17,6 +17,6 @@ name_of Friday = codes "Friday"
 name_of Saturday = codes "Saturday"
 name_of Sunday = codes "Sunday"
 
--- its first three letters
+-- the first three letters of the name
 abbrev pub short_name_of : Weekday → List ℕ
 short_name_of day = take 3 (name_of day)

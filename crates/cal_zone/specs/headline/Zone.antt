@@ -11,7 +11,7 @@ use Rattle.cal_zone.specs.declared.zone.Zone.{Zone}
 abbrev pub utc : Zone
 utc = record { kind = Utc }
 
--- UTC itself is distinguished from a zone whose clock never differs from it
+-- whether a zone is UTC itself, and not a zone that merely never differs from UTC
 abbrev pub is_utc_kind : ZoneKind → Bool
 is_utc_kind Utc = true
 is_utc_kind (Fixed ahead) = false
@@ -20,7 +20,7 @@ is_utc_kind (Rules rules) = false
 abbrev pub is_utc : Zone → Bool
 is_utc zone = is_utc_kind zone.kind
 
--- how far a clock is ahead, as `jiff` has it
+-- a fixed offset as an `Offset` of `jiff`
 abbrev pub offset_of : Ahead → Offset
 offset_of ahead = record { seconds = ahead.seconds; in_range = ahead.in_range }
 
@@ -29,10 +29,10 @@ zone_of_kind Utc = UTC
 zone_of_kind (Fixed ahead) = fixed_zone (offset_of ahead)
 zone_of_kind (Rules rules) = rules.now
 
--- the zone as `jiff` has it
+-- the zone as a `TimeZone` of `jiff`
 unfoldable pub zone_of : Zone → TimeZone
 zone_of zone = zone_of_kind zone.kind
 
--- the second that a clock in the zone shows at a second of Unix time
+-- the local second that clocks in the zone show at a second of Unix time
 unfoldable pub local_of : TimeZone → ℤ → ℤ
 local_of tz second = second +ℤ offset_at tz (nanos_of_seconds second)

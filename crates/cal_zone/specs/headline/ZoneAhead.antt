@@ -1,5 +1,6 @@
--- The zone whose clock is always that many seconds ahead of UTC. An offset of `jiff` holds that it is in range, and a
--- definition can hold that only where it is shown.
+-- Zones with a fixed UTC offset.
+--
+-- An offset of `jiff` carries a proof that it is in range, so it can only be defined together with such a proof.
 use Rattle.std.specs.Prelude.{ℕ, ℤ, pos, negsuc, neg_ℤ, min, suc}
 use Rattle.std.proofs.Common.{arith}
 use Rattle.jiff.specs.Types.{Offset, TimeZone}
@@ -12,7 +13,7 @@ east_in n = (omega (arith, signed_arith), omega (arith, signed_arith))
 pub west_in : (n : ℕ) → IsOffsetSeconds (neg_ℤ (pos (min (suc n) 93_599)))
 west_in n = (omega (arith, signed_arith), omega (arith, signed_arith))
 
--- an offset of that many seconds; one past 25:59:59, which no caller has, is taken to the nearer end
+-- the offset of `seconds` seconds; offsets beyond 25:59:59, which no caller has, are mapped to the nearer limit
 unfoldable pub offset_of_seconds : ℤ → Offset
 offset_of_seconds (pos n) = record { seconds = pos (min n 93_599); in_range = east_in n }
 offset_of_seconds (negsuc n) = record { seconds = neg_ℤ (pos (min (suc n) 93_599)); in_range = west_in n }

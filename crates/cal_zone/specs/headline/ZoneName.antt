@@ -1,10 +1,10 @@
--- What is a zone's name: systemd.time(7), Calendar Events.
+-- The form of a zone's name: systemd.time(7), Calendar Events.
 use Rattle.std.specs.Prelude.{ℕ, Bool, false, ◌&&◌, ◌||◌, ◌==◌, nat_le, List, [], ◌∷◌, length, map, codes}
 use Rattle.std.specs.Char.{is_ascii_alphabetic, is_ascii_alphanumeric, to_ascii_lowercase}
 use Rattle.std.specs.List.{list_all}
 use Rattle.std.specs.Str.{bytes_eq}
 
--- letters, digits, `/`, `_`, `+` and `-`
+-- the bytes of a zone's name: letters, digits, `/`, `_`, `+` and `-`
 abbrev pub is_zone_byte : ℕ → Bool
 is_zone_byte b = is_ascii_alphanumeric b || (b == 47) || (b == 95) || (b == 43) || (b == 45)
 
@@ -12,14 +12,14 @@ abbrev pub begins_with_letter : List ℕ → Bool
 begins_with_letter [] = false
 begins_with_letter (b ∷ bs) = is_ascii_alphabetic b
 
--- the most bytes that a name may have
+-- the maximum length of a zone's name
 abbrev pub most_name_bytes : ℕ
 most_name_bytes = 255
 
--- a letter followed by such bytes
+-- a letter followed by letters, digits, `/`, `_`, `+` and `-`, up to the maximum length
 unfoldable pub is_zone_name : List ℕ → Bool
 is_zone_name name = begins_with_letter name && list_all is_zone_byte name && nat_le (length name) most_name_bytes
 
--- the name of UTC, in any case
+-- `UTC`, in any case
 unfoldable pub is_utc_name : List ℕ → Bool
 is_utc_name name = bytes_eq (map to_ascii_lowercase name) (codes "utc")

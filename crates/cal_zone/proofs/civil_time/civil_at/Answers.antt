@@ -7,13 +7,13 @@ use Rattle.cal_zone.specs.headline.Zone.{local_of}
 use Rattle.cal_zone.proofs.CivilLemmas.{shown_at-civil_of, IsCivil-shown_at}
 use Rattle.cal_zone.proofs.civil_time.civil_at.Goals as goal
 
--- what a zone's clock shows, if it is so far ahead
+-- the clock of a zone shows this civil time, if the zone has this UTC offset at the instant
 shown : (c : goal.After-fields) (tz : TimeZone) → offset_at tz (nanos_of_seconds c.args.instant.secs) ≡ c.args.offset.seconds
     → civil_nanos c.to_datetime.result ≡ nanos_of_seconds (local_of tz c.args.instant.secs)
 unfolding local_of
 shown c tz here = omega (arith, signed_arith, c.to_datetime.ensures, c.in-Ok.ensures.value)
 
--- as that of the fixed offset is
+-- a zone with this fixed offset has it at the instant
 fixed : (c : goal.After-fields) → offset_at (Fixed c.args.offset) (nanos_of_seconds c.args.instant.secs) ≡ c.args.offset.seconds
 unfolding offset_at
 fixed c = refl

@@ -1,4 +1,4 @@
--- Of a file only the table counts, not where it is kept.
+-- The zone of a file depends on its table only, and not on where in memory the table is.
 use Rattle.std.proofs.Common.{sym, ap, ◌∙◌}
 use Rattle.jiff.specs.Words.{offset_at, ambiguous_at, next_at}
 use Rattle.cal_zone.specs.Rules.{zone_of_rules}
