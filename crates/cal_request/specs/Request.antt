@@ -1,9 +1,9 @@
--- What a request may be.
+-- The limits of requests, and what the verbs depend on.
 use Rattle.std.specs.Prelude.{ℕ, ◌≤◌, Bool, true, false}
 use Rattle.cal_request.specs.declared.request.Verb.{Verb}
 use Rattle.cal_request.specs.declared.request.Verb.TheVariants.{Calendar, Timer, Timestamp, Timespan}
 
--- how many elapses a request can ask for at most
+-- the maximum number of elapses that a request can ask for
 abbrev pub most_iterations : ℕ
 most_iterations = 1_000_000
 
@@ -11,21 +11,21 @@ most_iterations = 1_000_000
 abbrev pub IsCount : ℕ → Type 0
 IsCount n = (1 ≤ n) × (n ≤ most_iterations)
 
--- whether a verb seeks elapses: only such a verb has a base, and takes memory
+-- whether a verb computes elapses: only these verbs have a base time and allocate
 abbrev pub seeks_elapses : Verb → Bool
 seeks_elapses Calendar = true
 seeks_elapses Timestamp = false
 seeks_elapses Timespan = false
 seeks_elapses Timer = true
 
--- whether a verb reads or shows instants: only such a verb has a present and zones
+-- whether a verb reads or prints instants: only these verbs depend on the present and on zones
 abbrev pub has_zones : Verb → Bool
 has_zones Calendar = true
 has_zones Timestamp = true
 has_zones Timespan = false
 has_zones Timer = true
 
--- whether a verb has a file in place of texts
+-- whether a verb reads a timer file, whose path is the only text
 abbrev pub is_timer : Verb → Bool
 is_timer Calendar = false
 is_timer Timestamp = false

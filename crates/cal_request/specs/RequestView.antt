@@ -1,4 +1,4 @@
--- What contracts see of a request.
+-- The conversion of the code's requests to those of the definitions.
 use Rattle.std.specs.Prelude.{ℤ, map}
 use Rattle.std.specs.String.{string_bytes}
 use Rattle.std.specs.Option.{option_map}

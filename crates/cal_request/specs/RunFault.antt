@@ -1,9 +1,9 @@
--- Which writer failed where a run ended with a fault.
+-- Which writer failed if a run ended with an error.
 use Rattle.std.specs.Prelude.{Bool, true, false, Result, Ok, Err}
 use Rattle.cal_request.specs.declared.request.RunFault.{RunFault}
 use Rattle.cal_request.specs.declared.request.RunFault.TheVariants.{OutFailed, ErrFailed, NoMemory}
 
--- whether a run ended with the fault of the writer of the reports, or of the refusals
+-- whether a run ended because writing a report failed, or because writing an error line failed
 abbrev pub is_out_failed : {T : Type 0} → Result T RunFault → Bool
 is_out_failed (Ok ended) = false
 is_out_failed (Err OutFailed) = true

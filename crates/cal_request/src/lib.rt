@@ -1,4 +1,4 @@
-//! What the program is asked to do, and how a run ends.
+//! Requests to the program, and how a run ends.
 #![tactic(auto)]
 
 mod request;

@@ -1,18 +1,18 @@
-//! What the program is asked to do, and how a run ends.
+//! Requests to the program, and how a run ends.
 
 ghost use Rattle.std.specs.Prelude.{◌≡◌, None, false, true, vec_len};
 ghost use Rattle.cal_request.specs.Request.{IsCount, is_timer, seeks_elapses};
 
-/// What is asked of each text, or of a timer file (systemd-analyze(1)).
+/// The verb of a request: what to report of each text, or of a timer file (systemd-analyze(1)).
 #[derive(Clone, Copy, PartialEq, Eq, Debug)]
 pub enum Verb {
-    /// The normal form of a calendar expression and its next elapses.
+    /// `calendar`: the normal form of a calendar expression, and its next elapses.
     Calendar,
-    /// The next elapses of the expressions of a timer file, whose name is the one text.
+    /// `timer`: the next elapses of a timer file, whose path is the only text.
     Timer,
-    /// The instant that a timestamp means.
+    /// `timestamp`: the instant that a timestamp resolves to.
     Timestamp,
-    /// How long a time span is.
+    /// `timespan`: the length of a time span.
     Timespan,
 }
 
@@ -20,21 +20,21 @@ impl Verb {
     ghost use Rattle.std.specs.Prelude.{◌≡◌};
     ghost use Rattle.cal_request.specs.Request.{has_zones, is_timer, seeks_elapses};
 
-    /// Whether the verb seeks elapses: only such a verb has a base, and takes memory.
+    /// Returns whether the verb computes elapses. Only these verbs have a base time and allocate.
     pub fn seeks_elapses(self) -> bool
         ensures { result ≡ seeks_elapses self }
     {
         matches!(self, Verb::Calendar | Verb::Timer)
     }
 
-    /// Whether the verb reads or shows instants: only such a verb has a present and zones.
+    /// Returns whether the verb reads or prints instants. Only these verbs depend on the present and on zones.
     pub fn has_zones(self) -> bool
         ensures { result ≡ has_zones self }
     {
         !matches!(self, Verb::Timespan)
     }
 
-    /// Whether the verb has a file in place of texts.
+    /// Returns whether the verb reads a timer file, whose path is the only text.
     pub fn is_timer(self) -> bool
         ensures { result ≡ is_timer self }
     {
@@ -42,28 +42,30 @@ impl Verb {
     }
 }
 
-/// A request.
+/// A request: a verb with its texts and options.
 #[derive(Debug, Drop)]
 pub struct Request {
-    /// What is asked of each text.
+    /// The verb.
     pub verb: Verb,
-    /// The texts, in order; of a timer only the file's name.
+    /// The expressions, timestamps or spans in the order of the arguments; for [`Verb::Timer`], only the path of the
+    /// timer file.
     pub texts: Vec<String>,
-    /// How many elapses are shown at most: 1 to 1,000,000.
+    /// The maximum number of elapses to report, 1 to 1,000,000.
     pub iterations: u32,
-    /// The timestamp after which elapses are sought, or `None` for the present. Only verbs that seek elapses have one.
+    /// The base time as a timestamp that isn't parsed yet: only elapses after it are reported. `None` stands for the
+    /// present. Verbs that don't compute elapses have no base time.
     pub base: Option<String>,
     ghost count: { IsCount iterations },
     ghost file: { is_timer verb ≡ true → vec_len texts ≡ 1 },
     ghost sought: { seeks_elapses verb ≡ false → base ≡ None },
 }
 
-/// How a run that could write all of its text ended.
+/// How a run ended whose output could be written in full.
 #[derive(Clone, Copy, PartialEq, Eq, Debug)]
 pub enum Status {
-    /// Every text was accepted.
+    /// Every text was valid.
     Fine,
-    /// Some text was rejected, and reported on standard error.
+    /// At least one text was invalid. Each error was written to standard error.
     Refused,
 }
 
@@ -71,14 +73,15 @@ impl Status {
     ghost use Rattle.std.specs.Prelude.{◌≡◌};
     ghost use Rattle.cal_request.specs.Status.{is_fine, status_and};
 
-    /// Whether nothing was rejected.
+    /// Returns whether no text was invalid.
     pub fn is_fine(self) -> bool
         ensures { result ≡ is_fine self }
     {
         matches!(self, Status::Fine)
     }
 
-    /// The status of this and of what came after it: fine where both are.
+    /// Combines the statuses of two parts of a run into [`Status::Fine`] if both are `Fine`, and otherwise
+    /// [`Status::Refused`].
     pub fn and(self, later: Status) -> Status
         ensures { result ≡ status_and self later }
     {
@@ -89,13 +92,13 @@ impl Status {
     }
 }
 
-/// Why a run could not write all of its text. Each writer has a prefix of its whole text then.
+/// Why a run could not write its output in full. What each of the two writers got is then a prefix of its whole output.
 #[derive(Clone, Copy, PartialEq, Eq, Debug)]
 pub enum RunFault {
-    /// The writer of the reports failed.
+    /// Writing a report failed.
     OutFailed = 1,
-    /// The writer of the refusals failed.
+    /// Writing an error line failed.
     ErrFailed = 2,
-    /// Memory was refused.
+    /// Out of memory.
     NoMemory = 3,
 }

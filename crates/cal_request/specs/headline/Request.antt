@@ -1,10 +1,10 @@
--- What is asked of a run.
+-- Requests, as the definitions use them.
 use Rattle.std.specs.Prelude.{ℕ, ℤ, List, Option}
 use Rattle.cal_zone.specs.headline.ZoneMap.{ZoneMap}
 use Rattle.cal_zone.specs.declared.zone.Zone.{Zone}
 use Rattle.cal_request.specs.declared.request.Verb.{Verb}
 
--- what is asked: a request without where its texts lie in memory, the present instant, and the zones
+-- a request with the present instant, the local zone and the named zones, independent of where its texts are in memory
 pub record Request : Type 0 where
   pub verb : Verb
   pub texts : List (List ℕ)
