@@ -1,4 +1,4 @@
--- The command of `clap`, and what it found.
+-- The command as it is described to `clap`, and what `clap` finds in arguments.
 use Rattle.std.proofs.Common.{arith, ◌≡◌, ◌≢◌, List, [], ◌∷◌, ◌++◌, append_assoc, Some, Bool, true, false, refl, sym, ap, ◌∙◌, inl, inr, ◌⊎◌, Result, Ok, Err}
 use Rattle.std.specs.Prelude.{not}
 use Rattle.std.specs.List.{list_any}
@@ -32,7 +32,7 @@ among p kind [] at holds = absurd at
 among p kind (k ∷ ks) (inl same) holds = grind (arith, ap p same)
 among p kind (k ∷ ks) (inr later) holds = grind (arith, among p kind ks later holds)
 
--- what is reported of a fault of `clap` is its fault
+-- the error that is reported for an error of `clap` is right for the arguments
 pub reported_fault : (arguments : List Text) (kind : ErrorKind) (said : CommandFault) → (takes_arguments arguments ≡ true → kind ≡ OutOfMemory)
     → (kind ≡ OutOfMemory) ⊎ IsAmong kind (faults_in arguments) → IsReportedOf kind said → IsFaultOf arguments said
 reported_fault arguments kind (usage text) passes kinds reported =
@@ -44,7 +44,7 @@ reported_fault arguments kind bad_now passes kinds reported = absurd reported
 reported_fault arguments kind bad_zones passes kinds reported = absurd reported
 reported_fault arguments kind bad_local passes kinds reported = absurd reported
 
--- what is read of the values that were parsed is what the arguments ask for
+-- the result of checking the values that `clap` parsed is right for the arguments
 pub read_said : (arguments : List Text) (given : Given) (said : Result Ask CommandFault) → faults_in arguments ≡ [] → Some given ≡ parsed_in arguments
     → IsReadAs said (read_options given) → IsAskOf arguments said
 unfolding asked_in
@@ -57,7 +57,7 @@ read_said arguments given (Err bad_zones) none parsed is = (none, rw (← parsed
 read_said arguments given (Err bad_local) none parsed is = (none, rw (← parsed) (sym is))
 read_said arguments given (Err no_memory) none parsed is = tt
 
--- where `clap` takes the arguments, they are answered, or memory is refused
+-- if `clap` accepts the arguments, the result is what they ask for, or that memory ran out
 pub taken_arguments : (arguments : List Text) (said : Result Ask CommandFault) → IsAskOf arguments said → takes_arguments arguments ≡ true
     → (said ≡ Err no_memory) ⊎ (said ≡ asked_in arguments)
 taken_arguments arguments (Ok ask) is takes = inr (sym is.1)

@@ -1,4 +1,4 @@
--- The values of options.
+-- The parsing of option values.
 use Rattle.std.proofs.Common.{◌≡◌, ◌≢◌, ℕ, ◌<◌, ◌≤◌, ◌^◌, List, [], ◌∷◌, length, Option, None, Some, Result, Ok, Err, Bool, true, false, cond, nat_le, ◌==◌, ◌&&◌, get_or, refl, ap, ap₂, sym, ◌∙◌, ◌+◌, lit<, Bor, ◌++◌, map, append-nil, append_assoc, arith, option_map, pos, ℤ, IsSome, IfSome, ◌↔◌}
 use Rattle.std.specs.Prelude.{not}
 use Rattle.std.specs.List.{slice_split}
@@ -26,17 +26,17 @@ no_plus : (text : List ℕ) → get_or text 0 0 ≡ 43 → all_ascii_digits text
 no_plus [] at = absurd (omega arith)
 no_plus (c ∷ cs) at = rw at refl
 
--- a sign is no digit
+-- a text that begins with `+` is not a number
 pub number_between-plus : (least most : ℕ) (text : List ℕ) → get_or text 0 0 ≡ 43 → number_between least most text ≡ None
 unfolding number_between
 number_between-plus least most text at = grind (arith, no_plus text at)
 
--- a number that was read, if it is in range
+-- the number in the result of parsing, if it is in range
 abbrev pub within : {E : Type 0} → ℕ → ℕ → Result ℕ E → Option ℕ
 within least most (Ok n) = cond (nat_le least n && nat_le n most) (Some n) None
 within least most (Err e) = None
 
--- the number that `parse` read, if it is in range
+-- checking the result of `parse` against the range is `number_between`
 pub number_between-parsed : (E : Type 0) (least most : ℕ) (text : List ℕ) (r : Result ℕ E) → ParsesUnsigned 64 10 text r → get_or text 0 0 ≢ 43
     → most < 2 ^ 64 → number_between least most text ≡ within least most r
 unfolding number_between
@@ -45,7 +45,7 @@ number_between-parsed E least most text (Ok n) read unsigned small =
 number_between-parsed E least most text (Err e) refused unsigned small =
     grind (arith, nat_tests, parse_plain own {E = E} 64 text (Err e) refused unsigned)
 
--- a number in range is in range
+-- the result of `number_between` is in range
 pub number_between-range : (least most n : ℕ) (text : List ℕ) → Some n ≡ number_between least most text → (least ≤ n) × (n ≤ most)
 unfolding number_between
 number_between-range least most n text is = grind (arith, nat_tests)
@@ -63,7 +63,7 @@ pub instant_some : (made : Option Instant) (secs : ℤ) → IsSome made ↔ IsIn
     → option_map (λ instant. instant.secs) made ≡ Some secs
 instant_some made secs variant value inside = grind (arith, variant)
 
--- what `split_once` gives at a byte of ASCII
+-- `split_once` at an ASCII character returns the parts before and after it
 pub parts_at-split : (c : ℕ) (text : List ℕ) (r : Option (Bor (List ℕ) × Bor (List ℕ))) → IsSplitOnceResult c text r → c < 128
     → option_map (λ parts. (parts.0.now, parts.1.now)) r ≡ parts_at (λ byte. byte == c) text
 parts_at-split c text None h small =
@@ -73,7 +73,7 @@ parts_at-split c text (Some x) h small =
     let cut = split_once_first c text (Some x) h small in
     rw (any_below (λ byte. byte == c) text cut.0, cut.1, cut.2) refl
 
--- an item, and what comes after its comma
+-- a text with a comma has the part before it as its first item, and the rest are the items of the part after it
 pub item_some : (text : List ℕ) (x : Bor (List ℕ) × Bor (List ℕ)) → IsSplitOnceResult 44 text (Some x)
     → slice_split is_comma text ≡ x.0.now ∷ slice_split is_comma x.1.now
 item_some text x h =
@@ -85,7 +85,7 @@ item_none text h =
     let cut = split_once_first 44 text None h (lit< tt) in
     slice_split_none is_comma text (λ k d within. not-true _ (prefix_len_passes (λ x. not (is_comma x)) text k d (omega (arith, cut))))
 
--- the items read so far, n of them, with those that are left
+-- `done` are the `n` items parsed so far and `left` those still to be parsed; together they are the items of `text`
 abbrev pub ZonesRead : List ZoneItem → ℕ → List (List ℕ) → List ℕ → Type 0
 ZonesRead done n left text =
     (option_map (λ later. done ++ later) (zone_items_in left) ≡ zone_items_in (slice_split is_comma text))

@@ -1,4 +1,4 @@
--- The definitions, tried on worked arguments.
+-- The definitions, evaluated on the examples of arguments.
 use Rattle.std.proofs.Common.{◌≡◌, ℕ, true, List, Some, Ok, Err, refl}
 use Rattle.clap.proofs.OnLiterals.{clap_on_literals}
 use Rattle.cal_command.specs.Ask.{bad_iterations, help, usage}

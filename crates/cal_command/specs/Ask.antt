@@ -1,5 +1,5 @@
--- What the arguments ask for, without where it lies in memory: systemd-analyze(1), and this project's own
--- options for the present and for zones.
+-- What arguments ask for, independent of where it is in memory: systemd-analyze(1), and this project's own options for
+-- the present and for zones.
 use Rattle.std.specs.Prelude.{ℕ, ℤ, List, Option, Result, Ok, Err, map}
 use Rattle.std.specs.Borrow.{Bor}
 use Rattle.std.specs.String.{string_bytes}
@@ -12,23 +12,23 @@ use Rattle.cal_command.specs.declared.command_fault.CommandFault as declared_fau
 use Rattle.cal_command.specs.declared.command_fault.CommandFault.TheVariants.{Usage, Help, BadIterations, BadNow, BadZones, BadLocal, NoMemory}
 use Rattle.cal_request.specs.declared.request.Verb.{Verb}
 
--- the bytes of each word
+-- the bytes of each argument
 abbrev pub texts_of : List (Bor (List ℕ)) → List (List ℕ)
 texts_of = map (λ word. word.now)
 
--- what is said of the local zone: UTC itself, that many seconds ahead of it, a POSIX rule, or a name of the table
+-- the local zone as it is given: UTC itself, a UTC offset in seconds, a POSIX rule, or a name
 pub data LocalZone : Type 0 where
   in_utc : LocalZone
   ahead : ℤ → LocalZone
   by_rule : List ℕ → LocalZone
   of_name : List ℕ → LocalZone
 
--- a zone file and the name that its zone gets
+-- the path of a zone file, and the name for its zone
 pub record ZoneItem : Type 0 where
   pub name : List ℕ
   pub path : List ℕ
 
--- what the arguments ask for; where no present instant is given it is the clock's
+-- what the arguments ask for; without a present instant, the system's clock is read
 pub record Ask : Type 0 where
   pub verb : Verb
   pub texts : List (List ℕ)
@@ -58,7 +58,7 @@ shown_ask ask = record {
   zones = map shown_item ask.zones.items;
 }
 
--- why the arguments ask for nothing, by what is reported: the text of `clap`, or which value is bad
+-- the errors for arguments: usage and help with the text of `clap`, an invalid value, or no memory
 pub data CommandFault : Type 0 where
   usage : List ℕ → CommandFault
   help : List ℕ → CommandFault
@@ -77,7 +77,7 @@ shown_fault BadZones = bad_zones
 shown_fault BadLocal = bad_local
 shown_fault NoMemory = no_memory
 
--- what the arguments came to
+-- the result of parsing the arguments
 abbrev pub shown_answer : Result declared_ask.Ask declared_fault.CommandFault → Result Ask CommandFault
 shown_answer (Ok ask) = Ok (shown_ask ask)
 shown_answer (Err fault) = Err (shown_fault fault)

@@ -1,4 +1,4 @@
--- The command line, and what its arguments ask for by what `clap` parses of them: systemd-analyze(1).
+-- The command line: what arguments ask for, given what `clap` parses: systemd-analyze(1).
 use Rattle.std.specs.Prelude.{◌≡◌, ◌≢◌, ⊤, Bool, true, false, not, List, [], ◌∷◌, ◌++◌, take, Option, None, Some, Result, Ok, Err, codes, if◌then◌else◌, option_and_then, option_map}
 use Rattle.std.specs.List.{list_any}
 use Rattle.std.specs.Option.{option_map_or}
@@ -13,21 +13,21 @@ use Rattle.cal_request.specs.Request.{has_zones, is_timer, seeks_elapses}
 use Rattle.cal_request.specs.declared.request.Verb.{Verb}
 use Rattle.cal_request.specs.declared.request.Verb.TheVariants.{Calendar, Timer, Timestamp, Timespan}
 
--- ---- the command, as `clap` knows it
+-- ---- the command, as it is described to `clap`
 
--- an option with one value, which may be given once
+-- an option that takes one value and may be given once
 abbrev pub option_rule : Text → Rule
 option_rule name = record (new_rule name) { long = Some name; action = Some Set; value_names = 1 }
 
--- one text or more
+-- the positional argument for one or more texts
 abbrev pub texts_rule : Rule
 texts_rule = record (new_rule (codes "text")) { action = Some Append; value_names = 1; required = true }
 
--- the one file of a timer
+-- the positional argument for the one file of `timer`
 abbrev pub file_rule : Rule
 file_rule = record (new_rule (codes "text")) { action = Some Set; value_names = 1; required = true }
 
--- the options of the verbs that know instants, and of those that seek elapses
+-- the options of the verbs that read or print instants, and of those that compute elapses
 abbrev pub zone_rules : List Rule
 zone_rules = option_rule (codes "local") ∷ option_rule (codes "zones") ∷ option_rule (codes "now") ∷ []
 
@@ -37,7 +37,7 @@ elapse_rules = option_rule (codes "iterations") ∷ option_rule (codes "base-tim
 abbrev pub verb_shape : Text → List Rule → Rule → Shape
 verb_shape name options texts = record (new_app name).top { rules = options ++ texts ∷ [] }
 
--- a subcommand for each verb
+-- the whole command, with a subcommand for each verb
 abbrev pub command_app : App
 command_app = record {
   top = record (new_app (codes "calendar-analyze")).top {
@@ -51,15 +51,15 @@ command_app = record {
       ∷ verb_shape (codes "timespan") [] texts_rule ∷ verb_shape (codes "timer") elapse_rules file_rule ∷ [];
 }
 
--- `clap` states that it takes the arguments
+-- whether `clap` accepts the arguments
 unfoldable pub takes_arguments : List Text → Bool
 takes_arguments arguments = takes command_app arguments
 
--- the kinds of fault that `clap` may find in the arguments: none where it parses them
+-- the kinds of errors that `clap` may report for the arguments; none if it parses them
 unfoldable pub faults_in : List Text → Kinds
 faults_in arguments = fault_of command_app arguments
 
--- ---- what the arguments that it parses ask for
+-- ---- what the arguments ask for, if `clap` parses them
 
 abbrev pub verb_named : Text → Option Verb
 verb_named name =
@@ -68,7 +68,7 @@ verb_named name =
     else if bytes_eq name (codes "timespan") then Some Timespan
     else if bytes_eq name (codes "timer") then Some Timer else None
 
--- the values that were given
+-- the verb and the values that were given
 pub record Given : Type 0 where
   pub verb : Verb
   pub texts : List Text
@@ -78,11 +78,11 @@ pub record Given : Type 0 where
   pub local : Option Text
   pub zones : Option Text
 
--- the value of an option that the verb has, where it is given
+-- the value of an option, if the verb has this option and it is given
 abbrev pub value_given : Bool → Text → List Row → Option Text
 value_given has name rows = if has then first_of name rows else None
 
--- the texts; of a timer only one
+-- the texts, of which `timer` has only one
 abbrev pub texts_kept : Verb → List Text → List Text
 texts_kept verb texts = if is_timer verb then take 1 texts else texts
 
@@ -103,21 +103,21 @@ given_with verb rows texts = record {
 abbrev pub given_by : Verb → List Row → Option Given
 given_by verb rows = option_map (given_with verb rows) (texts_given verb rows)
 
--- what is given for the verb of that name, by these values
+-- the verb with the name that was found, and the values found for it
 unfoldable pub given_in : Option (Text × List Row) → Option Given
 given_in = option_and_then (λ found. option_and_then (λ verb. given_by verb found.1) (verb_named found.0))
 
--- what `clap` finds in the arguments
+-- the verb and the values that `clap` finds in the arguments
 unfoldable pub parsed_in : List Text → Option Given
 parsed_in arguments = given_in (subcommand_of command_app arguments)
 
--- a bad value is this fault
+-- fails with `fault` if the value is invalid, and goes on with the value otherwise
 abbrev pub unless_bad : {A : Type 0} → CommandFault → Option A → (A → Result Ask CommandFault) → Result Ask CommandFault
 unless_bad fault None next = Err fault
 unless_bad fault (Some value) next = next value
 
--- what the values ask for, or the first of them that is bad: one iteration, the clock's present, UTC and no zone file
--- where nothing is given
+-- what the values ask for, or the error for the first invalid one; the defaults are one elapse, the present of the
+-- system's clock, UTC and no zone files
 unfoldable pub read_options : Given → Result Ask CommandFault
 read_options given =
     unless_bad bad_iterations (option_map_or count_in given.iterations (Some 1)) (λ iterations.
@@ -133,22 +133,23 @@ read_options given =
       zones = zones;
     })))))
 
--- what the arguments ask for, where `clap` parses them: then there is a verb with its texts
+-- what the arguments ask for, if `clap` parses them; in that case there is a verb with texts, so the default `usage []`
+-- is never the result
 unfoldable pub asked_in : List Text → Result Ask CommandFault
 asked_in arguments = option_map_or read_options (parsed_in arguments) (Err (usage []))
 
--- ---- command line is exact
+-- ---- which results are right
 
 abbrev pub is_of_help : ErrorKind → Bool
 is_of_help DisplayHelp = true
 is_of_help DisplayVersion = true
 is_of_help _ = false
 
--- `clap` parses the arguments, and this is what they ask for
+-- `clap` parses the arguments, and `said` is what they ask for
 abbrev pub HasRead : List Text → Result Ask CommandFault → Type 0
 HasRead arguments said = (faults_in arguments ≡ []) × (asked_in arguments ≡ said)
 
--- `clap` gives no matches, by a fault of this kind
+-- `clap` doesn't accept the arguments, and may report an error of this kind for them
 abbrev pub HasRefused : List Text → (ErrorKind → Bool) → Type 0
 HasRefused arguments is_kind = (takes_arguments arguments ≡ false) × (list_any is_kind (faults_in arguments) ≡ true)
 
@@ -161,18 +162,19 @@ IsFaultOf arguments bad_zones = HasRead arguments (Err bad_zones)
 IsFaultOf arguments bad_local = HasRead arguments (Err bad_local)
 IsFaultOf arguments no_memory = ⊤
 
--- what the arguments ask for by what `clap` parses of them, or its text where it gives no matches; or memory was refused
+-- `said` is right for the arguments: what they ask for if `clap` parses them, usage or help if it doesn't, or that
+-- memory ran out, which is always possible
 abbrev pub IsAskOf : List Text → Result Ask CommandFault → Type 0
 IsAskOf arguments (Ok ask) = HasRead arguments (Ok ask)
 IsAskOf arguments (Err fault) = IsFaultOf arguments fault
 
--- the fault that is reported of what `clap` answers in place of matches, by the kind of its answer
+-- the error that is reported if `clap` returns an error of this kind
 abbrev pub IsReportedOf : ErrorKind → CommandFault → Type 0
 IsReportedOf kind (usage text) = (is_of_help kind ≡ false) × (kind ≢ OutOfMemory)
 IsReportedOf kind (help text) = (is_of_help kind ≡ true) × (kind ≢ OutOfMemory)
 IsReportedOf kind no_memory = ⊤
 IsReportedOf kind _ = ⊥
 
--- the command with these arguments more
+-- the command with `rules` as further arguments
 abbrev pub with_rules : App → List Rule → App
 with_rules app rules = record app { top = record app.top { rules = app.top.rules ++ rules } }

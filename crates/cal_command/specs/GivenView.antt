@@ -1,4 +1,4 @@
--- The values that `clap` found, without where they lie in memory, and what is read of them.
+-- The values that `clap` found, independent of where they are in memory, and results of checking them.
 use Rattle.std.specs.Prelude.{◌≡◌, ⊤, Result, Ok, Err}
 use Rattle.std.specs.Option.{option_copied}
 use Rattle.cal_command.specs.Ask.{CommandFault, usage, help, bad_iterations, bad_now, bad_zones, bad_local, no_memory, Ask, texts_of}
@@ -25,7 +25,7 @@ IsFaultRead bad_zones said = Err bad_zones ≡ said
 IsFaultRead bad_local said = Err bad_local ≡ said
 IsFaultRead no_memory said = ⊤
 
--- this is what was read, unless memory was refused
+-- the result of the code is `said`, unless memory ran out
 abbrev pub IsReadAs : Result Ask CommandFault → Result Ask CommandFault → Type 0
 IsReadAs (Ok ask) said = Ok ask ≡ said
 IsReadAs (Err fault) said = IsFaultRead fault said

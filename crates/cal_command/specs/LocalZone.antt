@@ -1,16 +1,16 @@
--- What holds of a local zone that the command line names.
+-- The offset of a local zone of the command line.
 use Rattle.std.specs.Prelude.{ℤ, pos}
 use Rattle.jiff.specs.Words.{IsOffsetSeconds}
 use Rattle.cal_command.specs.declared.ask.LocalZone.{LocalZone}
 use Rattle.cal_command.specs.declared.ask.LocalZone.TheVariants.{Utc, Offset, Posix, Name}
 
--- the seconds ahead of UTC of a zone that is said by these; 0 for the others
+-- the UTC offset of a zone that is given by its offset, and 0 for every other zone
 abbrev pub seconds_ahead : LocalZone → ℤ
 seconds_ahead Utc = pos 0
 seconds_ahead (Offset seconds) = seconds
 seconds_ahead (Posix rule) = pos 0
 seconds_ahead (Name name) = pos 0
 
--- an offset that a local zone can have
+-- the offset of a local zone is in range
 abbrev pub IsLocalOffset : LocalZone → Type 0
 IsLocalOffset local = IsOffsetSeconds (seconds_ahead local)

@@ -1,5 +1,5 @@
--- What the text of each option says: systemd-analyze(1), `--iterations` and `--base-time`, and this project's own options
--- for the present and for zones.
+-- The values of options: systemd-analyze(1), `--iterations` and `--base-time`, and this project's own options for the
+-- present and for zones.
 use Rattle.std.specs.Prelude.{ℕ, ℤ, ◌&&◌, ◌==◌, Bool, pos, List, [], ◌∷◌, length, drop, Option, None, Some, codes, nat_eq, nat_lt, nat_le, if◌then◌else◌, unsigned_abs, option_and_then, option_map}
 use Rattle.std.specs.List.{after_first, before_first, list_any, slice_split, starts_with}
 use Rattle.std.specs.Str.{all_ascii_digits, str_eq_ignore_ascii_case}
@@ -11,7 +11,7 @@ use Rattle.cal_command.specs.Ask.{LocalZone, in_utc, ahead, by_rule, of_name, Zo
 use Rattle.cal_request.specs.Request.{most_iterations}
 use Rattle.cal_text.specs.headline.Separators.{is_equals, is_comma}
 
--- the number that a text of only digits writes, where it is from least to most
+-- the number that a text of digits stands for, if it is from `least` to `most`
 unfoldable pub number_between : ℕ → ℕ → List ℕ → Option ℕ
 number_between least most text =
     let number = digits_value 10 text in
@@ -22,41 +22,41 @@ number_between least most text =
 unfoldable pub count_in : List ℕ → Option ℕ
 count_in = number_between 1 most_iterations
 
--- `--now`: an instant, as `@` and its seconds
+-- `--now`: an instant, written as `@` and its seconds
 unfoldable pub present_in : List ℕ → Option ℤ
 present_in [] = None
 present_in (byte ∷ bytes) = if byte == 64 then option_map pos (number_between 0 (unsigned_abs last_instant) bytes) else None
 
--- what comes before and after the first separator, where there is one
+-- the parts of a text before and after the first separator, if there is one
 abbrev pub parts_at : (ℕ → Bool) → List ℕ → Option (List ℕ × List ℕ)
 parts_at is_separator text =
     if list_any is_separator text then Some (before_first is_separator text, after_first is_separator text) else None
 
--- a zone's name and a file, where the name has a name's form and the file is not empty
+-- an item of `--zones`, if its name has the form of a zone's name and its path is not empty
 abbrev pub named_file : List ℕ × List ℕ → Option ZoneItem
 named_file parts =
     if is_zone_name parts.0 && nat_lt 0 (length parts.1) then Some (record { name = parts.0; path = parts.1 }) else None
 
--- an item of `--zones`, `NAME=FILE`: the first `=` splits it
+-- an item of `--zones`, `NAME=FILE`, is split at its first `=`
 unfoldable pub zone_item_in : List ℕ → Option ZoneItem
 zone_item_in item = option_and_then named_file (parts_at is_equals item)
 
--- each of the items
+-- all items, if each of them is valid
 unfoldable pub zone_items_in : List (List ℕ) → Option (List ZoneItem)
 zone_items_in [] = Some []
 zone_items_in (item ∷ items) =
     option_and_then (λ zone. option_map (λ zones. zone ∷ zones) (zone_items_in items)) (zone_item_in item)
 
--- how many zone files `--zones` names at most
+-- the maximum number of items of `--zones`
 abbrev pub most_zones : ℕ
 most_zones = 64
 
--- `--zones`: items between commas, at most that many
+-- `--zones`: items that are separated by commas, up to the maximum number
 unfoldable pub zones_in : List ℕ → Option (List ZoneItem)
 zones_in text =
     let items = slice_split is_comma text in if nat_le (length items) most_zones then zone_items_in items else None
 
--- `--local`: `UTC` in any case, `posix:` and a rule, an offset, or what has the form of a zone's name
+-- `--local`: `UTC` in any case, `posix:` and a rule, a name that has the form of a zone's name, or an offset
 unfoldable pub local_in : List ℕ → Option LocalZone
 local_in text =
     if str_eq_ignore_ascii_case text (codes "UTC") then Some in_utc

@@ -1,4 +1,4 @@
--- Words of the command line, with what is found in them and what they ask for: systemd-analyze(1).
+-- Examples of arguments, with what `clap` finds in them and what they ask for: systemd-analyze(1).
 use Rattle.std.specs.Prelude.{ℕ, List, [], ◌∷◌, None, Some, codes, pos}
 use Rattle.cal_command.specs.Ask.{Ask, in_utc, of_name}
 use Rattle.cal_command.specs.CommandLine.{Given}
@@ -8,15 +8,15 @@ use Rattle.cal_request.specs.declared.request.Verb.TheVariants.{Calendar}
 abbrev pub daily_arguments : List (List ℕ)
 daily_arguments = codes "calendar" ∷ codes "daily" ∷ []
 
--- the verb and the text, and no option
+-- what `clap` finds in `calendar daily`: the verb, one text and no options
 abbrev pub daily_given : Given
 daily_given = record { verb = Calendar; texts = codes "daily" ∷ []; iterations = None; base = None; now = None; local = None; zones = None }
 
--- one elapse after the clock's present, in UTC and with no zone file
+-- what `calendar daily` asks for: one elapse after the present of the system's clock, in UTC and with no zone files
 abbrev pub daily_ask : Ask
 daily_ask = record { verb = Calendar; texts = codes "daily" ∷ []; iterations = 1; base = None; now = None; local = in_utc; zones = [] }
 
--- each option of `calendar`, `daily` among them and `weekly` after them
+-- every option of `calendar`, with the text `daily` between them and `weekly` after them
 abbrev pub options_arguments : List (List ℕ)
 options_arguments =
     codes "calendar" ∷ codes "--iterations=3" ∷ codes "--base-time" ∷ codes "now" ∷ codes "daily" ∷ codes "--now" ∷ codes "@5"
@@ -33,11 +33,11 @@ options_ask = record {
   zones = record { name = codes "Here"; path = codes "here.tz" } ∷ [];
 }
 
--- 0 elapses
+-- an invalid number of elapses
 abbrev pub none_arguments : List (List ℕ)
 none_arguments = codes "calendar" ∷ codes "--iterations=0" ∷ codes "daily" ∷ []
 
--- a call for help, and a verb that there isn't
+-- a call for help, and an unknown verb
 abbrev pub help_arguments : List (List ℕ)
 help_arguments = codes "--help" ∷ []
 

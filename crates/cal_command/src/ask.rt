@@ -1,4 +1,4 @@
-//! What the arguments ask for (systemd-analyze(1)).
+//! The result of parsing the command line (systemd-analyze(1)).
 
 ghost use Rattle.std.specs.Prelude.{◌≡◌, ◌<◌, true, string_bytes, vec_len};
 ghost use Rattle.cal_zone.specs.headline.ZoneName.{is_zone_name};
@@ -7,42 +7,42 @@ ghost use Rattle.cal_command.specs.LocalZone.{IsLocalOffset};
 use cal_request::Request;
 use cal_zone::Instant;
 
-/// What the arguments ask for.
+/// A parsed command line: a request, with the present and the zones that were given.
 ///
-/// The field of an option that the verb lacks holds what it holds where the option isn't given.
+/// If the verb doesn't have an option, its field has the same value as if the option weren't given.
 #[derive(Debug, Drop)]
 pub struct Ask {
-    /// What is asked of each text. There is at least one text.
+    /// The verb with its texts and options. There is at least one text.
     pub request: Request,
-    /// The present instant, or `None` for the clock's.
+    /// The present instant of `--now`, or `None` to read the system's clock.
     pub now: Option<Instant>,
-    /// The local zone.
+    /// The local zone of `--local`, UTC by default.
     pub local: LocalZone,
-    /// The zone files, in the order in which they are named.
+    /// The zone files of `--zones`, in the order of the arguments.
     pub zones: Vec<ZoneItem>,
     ghost some_text: { 0 < vec_len request.texts },
     ghost offset: { IsLocalOffset local },
 }
 
-/// What is said of the local zone.
+/// The local zone as it is given on the command line, before rules are parsed and names are looked up.
 #[derive(Debug, Drop)]
 pub enum LocalZone {
     /// UTC itself.
     Utc,
-    /// So many seconds ahead of UTC: -93,540 to 93,540, whole minutes.
+    /// A fixed UTC offset in seconds: whole minutes, from -93,540 to 93,540.
     Offset(i32),
-    /// By a POSIX rule, which isn't read yet.
+    /// A POSIX rule, not parsed yet.
     Posix(String),
-    /// The zone of that name in the table, where there is one.
+    /// The name of a zone, not looked up yet.
     Name(String),
 }
 
-/// A zone file, and the name that its zone gets in the table.
+/// An item of `--zones`: a zone file, and the name for its zone.
 #[derive(Debug, Drop)]
 pub struct ZoneItem {
-    /// The name, of the form of a zone's name.
+    /// The name, which has the form of a zone's name.
     pub name: String,
-    /// Where the file lies; not empty.
+    /// The path of the file; not empty.
     pub path: String,
     ghost named: { is_zone_name (string_bytes name) ≡ true },
 }

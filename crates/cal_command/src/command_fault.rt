@@ -1,34 +1,46 @@
-//! Why the words of a command line ask for nothing that can be done.
+//! The errors for the command line.
 
 ghost use Rattle.std.specs.Prelude.{◌≡◌};
 ghost use Rattle.cal_command.specs.declared.command_fault.CommandFault.TheVariants.{NoMemory};
 
 use std::alloc::AllocError;
 
-/// Why the words of a command line are rejected, or that they ask only for help.
+/// Why a command line is invalid, or that it only asks for help.
+///
+/// The variants have these numbers:
+///
+/// | Number | Variant |
+/// |---|---|
+/// | 1 | `Usage` |
+/// | 2 | `Help` |
+/// | 3 | `BadIterations` |
+/// | 4 | `BadNow` |
+/// | 5 | `BadZones` |
+/// | 6 | `BadLocal` |
+/// | 7 | `NoMemory` |
 #[derive(Debug, Drop)]
 pub enum CommandFault {
-    /// The words aren't those of a command; the text says why and how to ask for help. Its number is 1.
+    /// `clap` can't parse the arguments. Its text says why, and how to get help.
     Usage(String),
-    /// Help or the version is asked for; this is its text. Its number is 2.
+    /// Help or the version is asked for; this is the text to print.
     Help(String),
-    /// `--iterations` isn't a number from 1 to 1,000,000. Its number is 3.
+    /// `--iterations` isn't a number from 1 to 1,000,000.
     BadIterations,
-    /// `--now` isn't `@` and the seconds of an instant. Its number is 4.
+    /// `--now` isn't `@` and the seconds of an instant.
     BadNow,
-    /// `--zones` isn't a list of 1 to 64 names and files. Its number is 5.
+    /// `--zones` isn't a list of 1 to 64 items with a name and a file each.
     BadZones,
-    /// `--local` is no zone. Its number is 6.
+    /// `--local` doesn't have the form of a zone.
     BadLocal,
-    /// Memory was refused. Its number is 7.
+    /// Out of memory.
     NoMemory,
 }
 
 impl CommandFault {
     ghost use Rattle.cal_command.specs.CommandFault.{words_of};
 
-    /// What is reported to a user; for usage and help the whole text, with the end of its last line; running out of memory has no
-    /// words.
+    /// Returns the message for users: for usage and help the text of `clap`, up to and including its last line feed.
+    /// The message of [`CommandFault::NoMemory`] is empty.
     pub fn words(&self) -> &str
         ensures { result.now ≡ words_of self.now }
     {

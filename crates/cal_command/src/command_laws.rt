@@ -1,4 +1,6 @@
-//! What holds of the arguments whatever they are, and of some arguments that are written out.
+//! Laws of the command line: one for all arguments, and some for examples that are written out.
+//!
+//! A law is a function that does nothing at run time: its contract states a fact.
 
 ghost use Rattle.std.specs.Prelude.{◌≡◌, ◌⊎◌, ℕ, true, List, Some, Result, Ok, Err};
 ghost use Rattle.cal_command.specs.Ask.{CommandFault, Ask, bad_iterations, help, no_memory, usage};
@@ -6,13 +8,15 @@ ghost use Rattle.cal_command.specs.CommandLine.{IsAskOf, asked_in, parsed_in, ta
 ghost use Rattle.cal_command.specs.WorkedArguments.{daily_given, daily_ask, daily_arguments, help_arguments};
 ghost use Rattle.cal_command.specs.WorkedArguments.{none_arguments, options_ask, options_arguments, stray_arguments};
 
-/// Words that `clap` takes are answered by what they ask for, unless memory was refused: neither usage nor help is reported.
+/// If `clap` accepts the arguments, the result is what they ask for, unless allocation fails. It is neither usage nor
+/// help.
 pub fn taken_arguments_are_answered()
     ensures { (arguments : List (List ℕ)) (said : Result Ask CommandFault) → IsAskOf arguments said → takes_arguments arguments ≡ true
         → (said ≡ Err no_memory) ⊎ (said ≡ asked_in arguments) }
 {}
 
-/// `clap` takes `calendar daily` and the arguments with every option, and they ask for what they say.
+/// `clap` accepts `calendar daily`, and an example with every option. The requests that they result in are written out
+/// in the definitions.
 pub fn worked_arguments_are_taken()
     ensures daily_taken { takes_arguments daily_arguments ≡ true }
     ensures daily_found { parsed_in daily_arguments ≡ Some daily_given }
@@ -21,7 +25,8 @@ pub fn worked_arguments_are_taken()
     ensures options_asked { IsAskOf options_arguments (Ok options_ask) }
 {}
 
-/// A number of elapses that is 0, a call for help and a verb that there isn't are reported as such, with any text.
+/// `--iterations=0`, `--help` and an unknown verb are reported as bad iterations, help and usage. The law says nothing
+/// about the texts of `clap`.
 pub fn worked_arguments_are_refused()
     ensures none { IsAskOf none_arguments (Err bad_iterations) }
     ensures help { (text : List ℕ) → IsAskOf help_arguments (Err (help text)) }

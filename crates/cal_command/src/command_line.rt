@@ -1,4 +1,5 @@
-//! The command line: a subcommand of `clap` for each verb, and what the arguments ask for by the values that it finds.
+//! The parsing of the command line: a `clap` command with a subcommand for each verb, and the checks of the values that
+//! `clap` found.
 
 ghost use Rattle.std.specs.Prelude.{◌≡◌, ◌<◌, ◌≤◌, [], IfSome, false, true, codes, length, map, IfOk, IfErr, option_map};
 ghost use Rattle.std.specs.Option.{option_copied};
@@ -20,28 +21,28 @@ use std::alloc::{AllocError, Global};
 use std::convert::AsStr;
 
 impl Ask {
-    /// What the arguments after the program's name ask for (systemd-analyze(1)): a verb, its options and its texts in any
-    /// order, where arguments after a `--` are texts.
+    /// Parses the arguments after the program's name (systemd-analyze(1)): a verb, and then its options and texts in
+    /// any order. After an argument `--`, all arguments are texts.
     ///
     /// - `calendar TEXT..` and `timer FILE` have `--iterations`, `--base-time`, `--now`, `--zones` and `--local`,
-    ///   `timestamp TEXT..` has the last three, and `timespan TEXT..` none.
-    /// - `--iterations=N`: digits for 1 to 1,000,000, else [`CommandFault::BadIterations`]; 1 where it isn't given.
-    /// - `--now=@N`: digits for 0 to 7,258,211,998, else [`CommandFault::BadNow`].
-    /// - `--zones=NAME=FILE,..`: 1 to 64 items, each with the form of a zone's name and a file that isn't empty, else
-    ///   [`CommandFault::BadZones`].
-    /// - `--local=Z`: `UTC` in any case, `+hh:mm` or `-hh:mm` up to 25:59, `posix:` and a rule, or the form of a
-    ///   zone's name, else [`CommandFault::BadLocal`]; UTC where it isn't given.
+    ///   `timestamp TEXT..` has the last three, and `timespan TEXT..` has none.
+    /// - `--iterations=N`: digits for 1 to 1,000,000, or else [`CommandFault::BadIterations`]; 1 by default.
+    /// - `--now=@N`: digits for 0 to 7,258,211,998, or else [`CommandFault::BadNow`].
+    /// - `--zones=NAME=FILE,..`: 1 to 64 items, each with a name that has the form of a zone's name and a path that
+    ///   isn't empty, or else [`CommandFault::BadZones`].
+    /// - `--local=Z`: `UTC` in any case, `+hh:mm` or `-hh:mm` up to 25:59, `posix:` and a rule, or a name that has the
+    ///   form of a zone's name, or else [`CommandFault::BadLocal`]; UTC by default.
     ///
-    /// Words that `clap` doesn't parse, an option that is given twice among them, are [`CommandFault::Usage`], and a
-    /// call for help or the version is [`CommandFault::Help`]. Of several bad values the first in this order is reported.
-    /// [`CommandFault::NoMemory`] comes where memory is refused.
+    /// Fails with [`CommandFault::Usage`] if `clap` can't parse the arguments, for example because an option is given
+    /// twice, and with [`CommandFault::Help`] if help or the version is asked for. If several values are invalid, the
+    /// first in the order above is reported. Fails with [`CommandFault::NoMemory`] if allocation fails.
     pub fn of<'a>(alloc: Global, arguments: &'a [&'a str]) -> Result<Ask, CommandFault>
         ensures exact { IsAskOf (texts_of arguments.now) (shown_answer result) }
     {
         Self::of_arguments(alloc, arguments)
     }
 
-    /// The same for arguments of any type that lends its text.
+    /// Like [`Ask::of`], for arguments of any string type.
     pub fn of_arguments<'a, S: AsStr>(
         alloc: Global,
         arguments: &'a [S],
@@ -59,7 +60,7 @@ impl Ask {
     }
 }
 
-/// What the values ask for.
+/// Checks the values of the options and builds the request.
 #[tactic(auto, unfolding(crate::specs::CommandLine::read_options))]
 fn read_options(alloc: Global, given: Given) -> Result<Ask, CommandFault>
     requires { 0 < length given.texts.now }
@@ -91,7 +92,7 @@ fn read_options(alloc: Global, given: Given) -> Result<Ask, CommandFault>
     })
 }
 
-/// What `clap` found.
+/// Returns the verb and the values that `clap` found, or `None` if it found no verb or no texts.
 fn find_values<'b, 'a>(matches: &'b ArgMatches<'a>) -> Option<Given<'b, 'a>>
     ensures { option_map values_of result ≡ given_in (subcommand_rows_of matches.now) }
 {
@@ -99,7 +100,7 @@ fn find_values<'b, 'a>(matches: &'b ArgMatches<'a>) -> Option<Given<'b, 'a>>
     values_for(verb_named(name)?, values)
 }
 
-/// The values that `clap` found for the verb.
+/// Returns the values that `clap` found for the verb, or `None` if it found no texts.
 fn values_for<'b, 'a>(verb: Verb, values: &'b ArgMatches<'a>) -> Option<Given<'b, 'a>>
     ensures { option_map values_of result ≡ given_by verb (rows_of (found_of values.now)) }
 {
@@ -115,7 +116,7 @@ fn values_for<'b, 'a>(verb: Verb, values: &'b ArgMatches<'a>) -> Option<Given<'b
     })
 }
 
-/// The texts; of a timer only one.
+/// Returns the texts that `clap` found. For `timer` there is at most one.
 fn texts_for<'b, 'a>(verb: Verb, values: &'b ArgMatches<'a>) -> Option<&'b [&'a str]>
     ensures file { IfSome result (λ texts. is_timer verb ≡ true → length texts.now ≤ 1) }
     ensures value { option_map (λ texts. texts_of texts.now) result ≡ texts_given verb (rows_of (found_of values.now)) }
@@ -124,7 +125,7 @@ fn texts_for<'b, 'a>(verb: Verb, values: &'b ArgMatches<'a>) -> Option<&'b [&'a 
     Some(texts_kept(verb, texts))
 }
 
-/// The texts; of a timer only the first.
+/// Shortens the texts of `timer` to one. `clap` never finds more, but shortening them here spares a proof of that.
 fn texts_kept<'b, 'a>(verb: Verb, texts: &'b [&'a str]) -> &'b [&'a str]
     ensures file { is_timer verb ≡ true → length result.now ≤ 1 }
     ensures value { texts_of result.now ≡ texts_kept verb (texts_of texts.entry.now) }
@@ -136,14 +137,13 @@ fn texts_kept<'b, 'a>(verb: Verb, texts: &'b [&'a str]) -> &'b [&'a str]
     }
 }
 
-/// The value of an option that the verb has, where it is given.
+/// Returns the value of an option, if the verb has this option and it was given.
 fn value_of<'a>(values: &ArgMatches<'a>, has: bool, name: &str) -> Option<&'a str>
     ensures { option_copied result ≡ value_given has name.now (rows_of (found_of values.now)) }
 {
     if has { values.get_str(name) } else { None }
 }
 
-/// The verb of that name.
 fn verb_named(name: &str) -> Option<Verb>
     ensures { result ≡ verb_named name.now }
 {
@@ -156,7 +156,7 @@ fn verb_named(name: &str) -> Option<Verb>
     }
 }
 
-/// What `clap` parses of the arguments.
+/// Parses the arguments with `clap`.
 fn parse<'a, S: AsStr>(alloc: Global, arguments: &'a [S]) -> Result<ArgMatches<'a>, CommandFault>
     ensures faults { IfOk result (λ _. faults_in (map S.text arguments.now) ≡ []) }
     ensures found { IfOk result (λ matches. given_in (subcommand_rows_of matches) ≡ parsed_in (map S.text arguments.now)) }
@@ -168,7 +168,7 @@ fn parse<'a, S: AsStr>(alloc: Global, arguments: &'a [S]) -> Result<ArgMatches<'
     }
 }
 
-/// What is reported where `clap` gives no matches.
+/// Converts an error of `clap`, which is also how it returns help and the version.
 fn convert_error(alloc: Global, error: &Error) -> CommandFault
     ensures { IsReportedOf (kind_of error.now) (shown_fault result) }
 {
@@ -185,7 +185,8 @@ fn convert_error(alloc: Global, error: &Error) -> CommandFault
     }
 }
 
-/// The text of `clap`, with a line feed at its end; of the version it has none. `None` where memory is refused.
+/// Returns the text of an error of `clap`. It always ends in a line feed, which is added for the version, whose text
+/// has none. Returns `None` if allocation fails.
 fn text_of(alloc: Global, error: &Error) -> Option<String> {
     let Ok(mut text) = error.to_string(alloc) else {
         return None;
@@ -196,14 +197,13 @@ fn text_of(alloc: Global, error: &Error) -> Option<String> {
     Some(text)
 }
 
-/// Whether help or the version was asked for.
 fn is_of_help(kind: ErrorKind) -> bool
     ensures { result ≡ is_of_help kind }
 {
     matches!(kind, ErrorKind::DisplayHelp | ErrorKind::DisplayVersion)
 }
 
-/// The command, with a subcommand for each verb.
+/// Builds the `clap` command, with a subcommand for each verb.
 fn build_command<'a>(alloc: Global) -> Result<Command<'a>, AllocError>
     ensures { IfOk result (λ command. app_of command ≡ command_app) }
 {
@@ -221,7 +221,7 @@ fn build_command<'a>(alloc: Global) -> Result<Command<'a>, AllocError>
         .subcommand(build_timer(alloc)?)
 }
 
-/// `calendar TEXT..`
+/// Builds the subcommand `calendar TEXT..`.
 fn build_calendar<'a>(alloc: Global) -> Result<Command<'a>, AllocError>
     ensures app { IfOk result (λ command. shape_of command ≡ verb_shape (codes "calendar") elapse_rules texts_rule) }
     ensures local { IfOk result (λ command. (fields_of command).has_globals ≡ false) }
@@ -235,7 +235,7 @@ fn build_calendar<'a>(alloc: Global) -> Result<Command<'a>, AllocError>
     ))
 }
 
-/// `timestamp TEXT..`
+/// Builds the subcommand `timestamp TEXT..`.
 fn build_timestamp<'a>(alloc: Global) -> Result<Command<'a>, AllocError>
     ensures app { IfOk result (λ command. shape_of command ≡ verb_shape (codes "timestamp") zone_rules texts_rule) }
     ensures local { IfOk result (λ command. (fields_of command).has_globals ≡ false) }
@@ -246,7 +246,7 @@ fn build_timestamp<'a>(alloc: Global) -> Result<Command<'a>, AllocError>
     with_zone_options(alloc, command)?.arg(texts_arg(alloc, "Timestamp, as in systemd.time(7)"))
 }
 
-/// `timespan TEXT..`
+/// Builds the subcommand `timespan TEXT..`.
 fn build_timespan<'a>(alloc: Global) -> Result<Command<'a>, AllocError>
     ensures app { IfOk result (λ command. shape_of command ≡ verb_shape (codes "timespan") [] texts_rule) }
     ensures local { IfOk result (λ command. (fields_of command).has_globals ≡ false) }
@@ -257,7 +257,7 @@ fn build_timespan<'a>(alloc: Global) -> Result<Command<'a>, AllocError>
         .arg(texts_arg(alloc, "Time span, as in systemd.time(7)"))
 }
 
-/// `timer FILE`
+/// Builds the subcommand `timer FILE`.
 fn build_timer<'a>(alloc: Global) -> Result<Command<'a>, AllocError>
     ensures app { IfOk result (λ command. shape_of command ≡ verb_shape (codes "timer") elapse_rules file_rule) }
     ensures local { IfOk result (λ command. (fields_of command).has_globals ≡ false) }
@@ -273,7 +273,7 @@ fn build_timer<'a>(alloc: Global) -> Result<Command<'a>, AllocError>
     with_elapse_options(alloc, command)?.arg(file)
 }
 
-/// The command with the options of the verbs that seek elapses.
+/// Adds the options of the verbs that compute elapses.
 fn with_elapse_options<'a>(alloc: Global, command: Command<'a>) -> Result<Command<'a>, AllocError>
     requires { (fields_of command).has_globals ≡ false }
     ensures app { IfOk result (λ changed. app_of changed ≡ with_rules (app_of command.entry) elapse_rules) }
@@ -295,7 +295,7 @@ fn with_elapse_options<'a>(alloc: Global, command: Command<'a>) -> Result<Comman
     with_zone_options(alloc, command)
 }
 
-/// The command with the options of the verbs that know instants.
+/// Adds the options of the verbs that read or print instants.
 fn with_zone_options<'a>(alloc: Global, command: Command<'a>) -> Result<Command<'a>, AllocError>
     requires { (fields_of command).has_globals ≡ false }
     ensures app { IfOk result (λ changed. app_of changed ≡ with_rules (app_of command.entry) zone_rules) }
@@ -317,7 +317,7 @@ fn with_zone_options<'a>(alloc: Global, command: Command<'a>) -> Result<Command<
         ))
 }
 
-/// An option with one value.
+/// Creates an option that takes one value and may be given once.
 fn option_arg<'a>(alloc: Global, name: &'a str, value: &'a str, help: &'a str) -> Arg<'a>
     ensures rule { rule_of result ≡ option_rule name.entry.now }
     ensures local { result.global ≡ false }
@@ -329,7 +329,7 @@ fn option_arg<'a>(alloc: Global, name: &'a str, value: &'a str, help: &'a str) -
         .action(ArgAction::Set)
 }
 
-/// One text or more.
+/// Creates the positional argument for one or more texts.
 fn texts_arg<'a>(alloc: Global, help: &'a str) -> Arg<'a>
     ensures rule { rule_of result ≡ texts_rule }
     ensures local { result.global ≡ false }

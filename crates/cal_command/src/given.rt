@@ -1,11 +1,12 @@
-//! The values that `clap` finds for a verb.
+//! The values that `clap` finds in the arguments.
 
 ghost use Rattle.std.specs.Prelude.{◌≡◌, ◌≤◌, None, false, length, true};
 ghost use Rattle.cal_request.specs.Request.{is_timer, seeks_elapses};
 
 use cal_request::Verb;
 
-/// The values that `clap` found for a verb. An option that the verb lacks has none, and a timer has at most one text.
+/// The values that `clap` found for a verb, not checked yet. If the verb doesn't have an option, the option is `None`.
+/// For `timer` there is at most one text.
 #[derive(Clone, Copy)]
 pub(crate) struct Given<'b, 'a> {
     pub(crate) verb: Verb,

@@ -1,4 +1,4 @@
-//! The command line: what the arguments ask for.
+//! The command line of the program.
 #![tactic(auto)]
 
 mod ask;

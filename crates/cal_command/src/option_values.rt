@@ -1,4 +1,7 @@
-//! The values of options: what the text of each says, or that it says nothing (systemd-analyze(1)).
+//! The parsing of option values (systemd-analyze(1)).
+//!
+//! The functions whose names end in `_of` take the value of an option that may be missing, and return its default if it
+//! is. The functions whose names end in `_in` parse a value. Both return `None` for an invalid value.
 
 ghost use Rattle.std.specs.Prelude.{◌≡◌, ◌≤◌, ◌<◌, ◌==◌, ◌∷◌, [], true, None, Some, length, map, option_map, IfSome, IfOk, string_bytes, vec_len};
 ghost use Rattle.std.specs.List.{slice_split};
@@ -15,13 +18,13 @@ use crate::ask::{LocalZone, ZoneItem};
 use cal_zone::{Instant, is_zone_name, read_offset};
 use std::alloc::{AllocError, Global};
 
-/// How many elapses `--iterations` asks for at most.
+/// The maximum of `--iterations`.
 const MOST_ITERATIONS: u64 = 1_000_000;
 
-/// How many zone files `--zones` names at most.
+/// The maximum number of items of `--zones`.
 const MOST_ZONES: usize = 64;
 
-/// What `--iterations` says: 1 where it isn't given.
+/// Parses `--iterations`, 1 by default.
 pub(crate) fn iterations_of(text: Option<&str>) -> Option<u32>
     ensures value { result ≡ option_map_or count_in (option_copied text.entry) (Some 1) }
     ensures range { IfSome result IsCount }
@@ -32,7 +35,7 @@ pub(crate) fn iterations_of(text: Option<&str>) -> Option<u32>
     }
 }
 
-/// The base, which is read later, on the heap.
+/// Copies the value of `--base-time`, which is parsed later, once the present and the zones are known.
 pub(crate) fn base_of(alloc: Global, text: Option<&str>) -> Result<Option<String>, AllocError>
     ensures value { IfOk result (λ base. option_map string_bytes base ≡ option_copied text.entry) }
     ensures none { IfOk result (λ base. text.entry ≡ None → base ≡ None) }
@@ -43,7 +46,7 @@ pub(crate) fn base_of(alloc: Global, text: Option<&str>) -> Result<Option<String
     }
 }
 
-/// What `--now` says: the clock's present where it isn't given.
+/// Parses `--now`. Returns `Some(None)` if it isn't given: then the clock of the system is read.
 pub(crate) fn now_of(text: Option<&str>) -> Option<Option<Instant>>
     ensures { option_map (option_map (λ now. now.secs)) result
         ≡ option_map_or (λ text. option_map Some (present_in text)) (option_copied text.entry) (Some None) }
@@ -54,7 +57,7 @@ pub(crate) fn now_of(text: Option<&str>) -> Option<Option<Instant>>
     }
 }
 
-/// What `--zones` says: no file where it isn't given.
+/// Parses `--zones`, no items by default.
 pub(crate) fn zones_of(
     alloc: Global,
     text: Option<&str>,
@@ -68,7 +71,7 @@ pub(crate) fn zones_of(
     }
 }
 
-/// What `--local` says: UTC where it isn't given.
+/// Parses `--local`, UTC by default.
 pub(crate) fn local_of(alloc: Global, text: Option<&str>) -> Result<Option<LocalZone>, AllocError>
     ensures value { IfOk result (λ local. option_map shown_local local
         ≡ option_map_or local_in (option_copied text.entry) (Some in_utc)) }
@@ -80,7 +83,7 @@ pub(crate) fn local_of(alloc: Global, text: Option<&str>) -> Result<Option<Local
     }
 }
 
-/// A number of elapses: digits for 1 to [`MOST_ITERATIONS`].
+/// Parses a number of elapses: digits for 1 to [`MOST_ITERATIONS`].
 pub(crate) fn count_in(value: &str) -> Option<u32>
     ensures value { result ≡ count_in value.now }
     ensures range { IfSome result IsCount }
@@ -89,7 +92,7 @@ pub(crate) fn count_in(value: &str) -> Option<u32>
     Some(number as u32)
 }
 
-/// An instant: `@` and digits for 0 to [`Instant::LAST`].
+/// Parses an instant: `@` and digits for 0 to [`Instant::LAST`].
 pub(crate) fn present_in(value: &str) -> Option<Instant>
     ensures { option_map (λ instant. instant.secs) result ≡ present_in value.now }
 {
@@ -97,7 +100,7 @@ pub(crate) fn present_in(value: &str) -> Option<Instant>
     Instant::new(number as i64)
 }
 
-/// The number that a text of only digits writes, where it is from `least` to `most`.
+/// Parses a number from `least` to `most`. Only digits are accepted, so a `+`, which `parse` would take, is rejected.
 fn number_between(text: &str, least: u64, most: u64) -> Option<u64>
     ensures { result ≡ number_between least most text.now }
 {
@@ -110,7 +113,7 @@ fn number_between(text: &str, least: u64, most: u64) -> Option<u64>
     }
 }
 
-/// Zone files, as items between commas.
+/// Parses the items of `--zones`, which are separated by commas.
 fn zones_in(alloc: Global, text: &str) -> Result<Option<Vec<ZoneItem>>, AllocError>
     ensures { IfOk result (λ zones. option_map (λ items. map shown_item items.items) zones ≡ zones_in text.now) }
 {
@@ -130,7 +133,8 @@ fn zones_in(alloc: Global, text: &str) -> Result<Option<Vec<ZoneItem>>, AllocErr
     Ok(Some(items))
 }
 
-/// The item before the first comma, and what comes after it.
+/// Splits the text at its first comma. The second part is `None` if there is no comma, which is different from an empty
+/// part after one.
 fn first_item(text: &str) -> (&str, Option<&str>)
     ensures items { slice_split is_comma text.now ≡ result.0.now ∷ pieces_after is_comma (option_copied result.1) }
     ensures shorter { left (option_copied result.1) ≤ length text.now }
@@ -141,7 +145,7 @@ fn first_item(text: &str) -> (&str, Option<&str>)
     }
 }
 
-/// The name and the file of an item, where both have their form.
+/// Splits an item `NAME=FILE` at its first `=`, if the name has the form of a zone's name and the path isn't empty.
 #[tactic(auto, unfolding(crate::specs::OptionValues::zone_item_in))]
 fn zone_item_in(item: &str) -> Option<(&str, &str)>
     ensures value { option_map (λ parts. record { name = parts.0.now; path = parts.1.now }) result ≡ zone_item_in item.now }
@@ -155,7 +159,6 @@ fn zone_item_in(item: &str) -> Option<(&str, &str)>
     }
 }
 
-/// The item on the heap.
 fn zone_item(alloc: Global, name: &str, path: &str) -> Result<ZoneItem, AllocError>
     requires { is_zone_name name.now ≡ true }
     ensures { IfOk result (λ item. shown_item item ≡ record { name = name.now; path = path.now }) }
@@ -166,7 +169,7 @@ fn zone_item(alloc: Global, name: &str, path: &str) -> Result<ZoneItem, AllocErr
     })
 }
 
-/// What comes before and after the first separator, where there is one.
+/// Splits the text at the first separator, if there is one.
 fn parts_at(text: &str, separator: char) -> Option<(&str, &str)>
     requires { separator < 128 }
     ensures { option_map (λ parts. (parts.0.now, parts.1.now)) result ≡ parts_at (λ byte. byte == separator) text.now }
@@ -174,7 +177,7 @@ fn parts_at(text: &str, separator: char) -> Option<(&str, &str)>
     text.split_once(separator)
 }
 
-/// A local zone.
+/// Parses a local zone. An offset is never mistaken for a name, since names begin with a letter.
 #[tactic(auto, unfolding(crate::specs::OptionValues::local_in))]
 fn local_in(alloc: Global, text: &str) -> Result<Option<LocalZone>, AllocError>
     ensures value { IfOk result (λ local. option_map shown_local local ≡ local_in text.now) }
@@ -193,7 +196,7 @@ fn local_in(alloc: Global, text: &str) -> Result<Option<LocalZone>, AllocError>
     Ok(offset.map(LocalZone::Offset))
 }
 
-/// The texts on the heap.
+/// Copies the texts.
 pub(crate) fn to_owned(alloc: Global, texts: &[&str]) -> Result<Vec<String>, AllocError>
     ensures texts { IfOk result (λ all. map string_bytes all.items ≡ texts_of texts.now) }
     ensures count { IfOk result (λ all. vec_len all ≡ length texts.now) }
