@@ -1,4 +1,4 @@
-//! The real system: its files and its clock. Nothing is known of either.
+//! The real system, with its files and its clock. Nothing is proved of what they return.
 
 use cal_bytes::Port;
 use cal_work::System;
@@ -6,10 +6,10 @@ use std::fs;
 use std::rt::Files;
 use std::time::{Clock, SystemTime, UNIX_EPOCH};
 
-/// What the program runs on.
+/// The system that the program runs on.
 #[derive(Clone, Copy)]
 pub struct Machine<'a, R> {
-    /// What gives files and the time.
+    /// The runtime, through which files are opened and the clock is read.
     pub rt: &'a R,
 }
 

@@ -1,5 +1,5 @@
-//! The program `calendar-analyze`: when calendar expressions and timer files elapse, which instants timestamps mean,
-//! and how long time spans are (systemd-analyze(1), systemd.time(7), systemd.timer(5)).
+//! The program `calendar-analyze`: reports when calendar expressions and timer files elapse, which instants timestamps
+//! resolve to, and how long time spans are (systemd-analyze(1), systemd.time(7), systemd.timer(5)).
 #![tactic(auto)]
 
 ghost use Rattle.std.specs.Prelude.{◌≡◌, false};
@@ -18,19 +18,20 @@ use std::process::ExitCode;
 use std::rt::Env;
 use std::{env, io};
 
-/// What is said of arguments that aren't UTF-8, as `clap` says it.
+/// The message for arguments that aren't UTF-8, in the words of `clap`.
 const NOT_UTF_8: &str = "error: invalid UTF-8 was detected in one or more arguments
 
 For more information, try '--help'.
 ";
 
-/// How many bytes of the reports are held back until they are written.
+/// The size of the output buffer, in bytes.
 const BUFFER: usize = 8192;
 
 fn main(rt: HostRuntime) -> ExitCode {
     let mut err = Port::new(rt.stderr());
     let out = rt.stdout();
-    // On a terminal nothing is held back, so that the line of a fault appears between the reports, where its text was.
+    // On a terminal, output isn't buffered, so that an error line appears between the reports, in the order of the
+    // texts.
     let capacity = if out.is_terminal() { 0 } else { BUFFER };
     let arguments = match given_arguments(&rt) {
         Ok(arguments) => arguments,
@@ -51,12 +52,12 @@ fn main(rt: HostRuntime) -> ExitCode {
     ExitCode::from(ended.status)
 }
 
-/// The arguments after the program's name.
+/// Returns the arguments after the program's name.
 fn given_arguments<R: Env + AllocGlobal>(rt: &R) -> io::Result<Vec<String>> {
     Ok(env::args(rt)?.skip(1).collect(rt.alloc())?)
 }
 
-/// Why the program stops where its arguments can't be had: they aren't UTF-8, or memory is refused.
+/// Returns the reason to stop if the arguments can't be read: they aren't UTF-8, or allocation failed.
 fn stop_of(alloc: Global, error: &io::Error) -> Stop {
     if error.kind() == ErrorKind::OutOfMemory {
         return Stop::Run(RunFault::NoMemory);
@@ -67,11 +68,11 @@ fn stop_of(alloc: Global, error: &io::Error) -> Stop {
     }
 }
 
-/// Tells of a stop before there is any work.
+/// Writes the error line for a stop before any work was done, and returns the exit status.
 fn refuse<E: Sink>(err: &mut E, stop: &Stop) -> ExitCode
     requires { E.is_failed err.old ≡ false }
 {
-    // Where its line can't be written, only the status tells.
+    // If the line can't be written, the exit status still reports the failure.
     let _ = write_stop(err, stop);
     ExitCode::from(stop.status())
 }
