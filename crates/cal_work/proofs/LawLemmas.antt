@@ -1,4 +1,4 @@
--- Where a system tells all, what is seen is what it tells.
+-- Lemmas behind the law `known_systems_decide`: if everything about a system is known, the program sees exactly that.
 use Rattle.std.proofs.Common.{◌≡◌, ◌⊎◌, inl, inr, ℕ, ℤ, ◌<◌, ◌≤◌, Bool, true, false, List, [], ◌∷◌, length, Option, None, Some, Result, Ok, Err, IfOk, IfNone, refl, sym, arith, nat_le}
 use Rattle.std.specs.Prelude.{IsSome}
 use Rattle.std.specs.FinMap.{empty}
@@ -24,7 +24,7 @@ use Rattle.cal_work.specs.declared.zone_files.LoadFault.{LoadFault}
 use Rattle.cal_command.proofs.CommandLineLemmas.{taken_arguments}
 use Rattle.cal_text.proofs.General.{some_none}
 
--- What is seen of one file
+-- What the program sees of one file
 
 fits_limit : (b : Bool) (all : List ℕ) (limit : ℕ) → nat_le (length all) limit ≡ b → length all ≤ limit → taken_of b all ≡ Ok all
 fits_limit true all limit is h = refl
@@ -46,14 +46,14 @@ seen_known limit (Some (Some all)) (Some (Err whole.ReadFailed)) some h sure = a
 seen_known limit (Some (Some all)) (Some (Err whole.TooLarge)) some h sure = inl (rw (past_limit (nat_le (length all) limit) all limit refl h) refl)
 seen_known limit (Some (Some all)) (Some (Err whole.NoMemory)) some h sure = inr refl
 
--- a file that is open is reported as one
+-- if a file could be opened, `known_seen` has some result of reading it as well
 known_open : (limit : ℕ) (known : Option (Option (List ℕ))) (came : Result (List ℕ) WholeFault) → IsSome known → SeesBytes known limit (Some came) → (c : Result (List ℕ) WholeFault) × (known_seen limit known ≡ Some c)
 unfolding known_seen
 known_open limit None came some h = absurd (false≢true some)
 known_open limit (Some None) came some h = absurd (some_none came h)
 known_open limit (Some (Some all)) came some h = (taken_of (nat_le (length all) limit) all, refl)
 
--- Steps in a row
+-- Consecutive steps
 
 and_then_or : {A B : Type 0} (next other : A → Result B Stop) (r s : Result A Stop) → IsOr r s → ((x : A) → r ≡ Ok x → IsOr (next x) (other x)) → IsOr (and_then next r) (and_then other s)
 and_then_or next other (Ok x) s (inl e) h = rw (sym e) (h x refl)
@@ -69,7 +69,8 @@ after_load : (known : Known) (items : List ZoneItem) (found : List ZoneFound) (n
 after_load known items found name later (Ok more) h = later more h
 after_load known items found name later (Err fault) h = inl refl
 
--- memory was refused to the reads of a file, whose name may be refused before
+-- Allocation failed while the file was read. With a bad zone name the file would not have been read at all, so then the
+-- outcome is that of the bad name.
 zone_unread : {A : Type 0} (next other : ZoneMap → Result A Stop) (table : ZoneMap) (item : ZoneItem) (f : ZoneFound) (c : Result (List ℕ) WholeFault) (seen : Seen) (b : Bool) → is_zone_name item.name ≡ b → f.seen ≡ Some (Err whole.NoMemory) → seen ≡ Some c
     → IsOr (and_then next (or_load_stop item.name (loaded table item f))) (and_then other (or_load_stop item.name (loaded table item (record { seen = seen; zone = f.zone }))))
 unfolding loaded
@@ -88,7 +89,7 @@ zones_known known table (item ∷ items) (f ∷ found) all h =
           zone_unread (λ more. table_by more items found) (λ more. table_by more items (known_zones known items found)) table item f open_file.0 _ (is_zone_name item.name) refl e open_file.1
     ]
 
--- The clock and the file of a timer
+-- The clock and the timer file
 
 present_known : (given clock : Option ℤ) (time : Option (Option ℤ)) → IsSome time → IfNone given (GivesTime time clock) → present_by given clock ≡ present_by given (known_time time)
 unfolding present_by
@@ -106,7 +107,7 @@ run_known known asked seen true is all h =
       | inr e ↦ rw (e, is) (inr refl)
     ]
 
--- The whole
+-- The whole work
 
 ask_known : (known : Known) (ask : Ask) (world : World) → TellsAll known → Fits known ask world → IsOr (outcome_of ask world) (outcome (known_world known ask world))
 unfolding outcome outcome_of known_world

@@ -1,4 +1,4 @@
--- Lemmas on what is reported of an end: the texts and lines on both outputs, the buffer, and the status.
+-- Lemmas on how the work ends: the bytes on both outputs, the flushed buffer, and the status.
 use Rattle.std.proofs.Common.{arith, ◌≡◌, ℕ, Bool, true, false, List, [], Option, Result, Ok, Err, refl, sym, ◌∙◌}
 use Rattle.std.specs.Io.KnownBytes.{append_known}
 use Rattle.std.proofs.KnownBytes.{Appends-kept}
@@ -26,9 +26,9 @@ use Rattle.cal_report.proofs.AnswerLemmas.{writes_nothing}
 use Rattle.cal_report.proofs.ReportLemmas.{nothing_front, whole_front}
 use Rattle.cal_text.proofs.General.{append_known-nil}
 
--- What was written of a stop
+-- What was written for a stop
 
--- a run that was cut
+-- what was written if an output or an allocation failed during the run
 fault_written : (fault : RunFault) (come : Result Report Stop) (out out' err err' : Option (List ℕ)) → ended_status {T = Unit} (Err fault) come ≡ 1 → AppendsFront out out' (out_text come) → AppendsFront err err' (err_text come)
     → WritesOf {T = Unit} (Err fault) (fault_stop fault).status come out out' err err'
 fault_written OutFailed come out out' err err' status o e = record { by_status = refl; out_bytes = o; err_bytes = e }
@@ -38,7 +38,7 @@ fault_written NoMemory come out out' err err' status o e = record { by_status = 
 same_status : (r : Result Unit RunFault) (said : Stop) → ended_status r (Err said) ≡ status_by r said.status
 same_status r said = grind arith
 
--- what is written of a stop is what is said of it
+-- the text written for a stop is all that the stop reports, and goes to the output that it belongs on
 TextsFit : Outlet → declared_stop.Stop → Type 0
 TextsFit OnOut stop = ((shown_stop stop).out ≡ text_of stop) × ((shown_stop stop).err ≡ [])
 TextsFit OnErr stop = ((shown_stop stop).out ≡ []) × ((shown_stop stop).err ≡ text_of stop)
@@ -71,7 +71,7 @@ texts_fit (Open path) = (refl, refl)
 texts_fit (Run fault) = tt
 
 module _ (stop : declared_stop.Stop) (r : Result Unit RunFault) (come : Result Report Stop) (out out1 out' err err1 err' : Option (List ℕ)) (s : StopsAs stop come) (at_out : out1 ≡ out) (at_err : err1 ≡ err) where
-  -- a stop before any run, by its outlet
+  -- what was written for a stop before any run, for each output that it can be reported on
   early_written : (outlet : Outlet) → outlet_of stop ≡ outlet → TextsFit outlet stop → TellsOn outlet (text_of stop) r out1 out' err1 err' → WritesOf r (shown_stop stop).status come out out' err err'
   unfolding TextsFit
   early_written OnOut is fits (w, same) =
@@ -110,7 +110,7 @@ tells_stop (Open path) r out1 out' err1 err' t come out err s = early_written (O
 
 -- The buffer
 
--- where a call failed, a prefix of the text has gone through the buffer, and what it still holds
+-- If a write failed, the bytes that reached the output and those still in the buffer make a prefix of the text.
 reaches_front : (before written reached : Option (List ℕ)) (text : List ℕ) (b : Bool) → AppendsFront before written text → Flushes written reached b → (held : List ℕ) × AppendsFront before (append_known reached held) text
 reaches_front before written reached text true w s =
     ([], record { front = w.front; rest = w.rest; whole = w.whole; written = rw (append_known-nil reached) (Appends-kept before written reached w.front w.written s) })
@@ -127,9 +127,9 @@ reaches_flushed (Err fault) before written reached text w s = reaches_front befo
 pub reaches_unflushed : (before written reached : Option (List ℕ)) (text : List ℕ) → Writes {T = Unit} {E = RunFault} before written (Ok tt) text → Flushes written reached false → Reaches {T = Unit} before reached (Err OutFailed) text
 reaches_unflushed before written reached text w s = reaches_front before written reached text false (whole_front before written text w) s
 
--- The whole
+-- The whole work
 
--- what was written before the line of the fault, also where the buffer couldn't be written out
+-- the bytes on standard error before the final error line, also if the flush failed
 err_before : (r flushed : Result Unit RunFault) (a b : Option (List ℕ)) (text : List ℕ) → IsFlushed r flushed → Writes a b r text → Writes a b flushed text
 err_before r flushed a b text is w = grind (arith, whole_front a b text)
 

@@ -1,4 +1,5 @@
--- Lemmas on the program's work: what each step found makes a world, and what was written is that of the outcome in it.
+-- Lemmas on the program's work: what the steps found makes up one world, and what was written is the outcome in that
+-- world.
 use Rattle.std.proofs.Common.{◌≡◌, ℕ, ℤ, ◌+◌, ◌<◌, ◌≤◌, Bool, true, false, ◌&&◌, List, [], ◌∷◌, length, Option, None, Some, Result, Ok, Err, IfNone, refl, sym, ap, subst, ◌∙◌, arith, length-append, nat_le}
 use Rattle.std.specs.Prelude.{IsSome, is_some, is_ok, MatchResult}
 use Rattle.std.specs.FinMap.{empty}
@@ -48,11 +49,11 @@ use Rattle.cal_text.proofs.General.{no_ok, some_none}
 
 -- Stops
 
--- a stop of the program's own words
+-- a stop with a known report that doesn't stand for a failed output
 pub is_stop : {X : Type 0} (stop : declared_stop.Stop) (said : Stop) → is_out_stop stop ≡ false → is_err_stop stop ≡ false → shown_stop stop ≡ said → StopsAs {X = X} stop (Err said)
 is_stop stop said out err is = record { before_out = out; before_err = err; stopped = refl; said = λ h. ap (λ s. Err s) (sym is) }
 
--- a step that stopped is the stop of all that would come after it
+-- if a step stopped, all the steps after it stop with the same report
 pub stops : {A B : Type 0} (stop : declared_stop.Stop) (next : A → Result B Stop) (come : Result A Stop) → StopsAs stop come → StopsAs stop (and_then next come)
 stops stop next (Ok value) s = absurd (false≢true s.stopped)
 stops stop next (Err said) s = record { before_out = s.before_out; before_err = s.before_err; stopped = refl; said = λ h. ap (λ r. and_then next r) (s.said h) }
@@ -60,13 +61,13 @@ stops stop next (Err said) s = record { before_out = s.before_out; before_err = 
 said_inside : {A : Type 0} (x y : Result A Stop) (a b : Stop) → x ≡ Err a → y ≡ Err b → x ≡ y → a ≡ b
 said_inside x y a b p q h = cc
 
--- and it stops others that stop at the same
+-- the same stop, for a step with another type of result
 pub stops_other : {A B : Type 0} (stop : declared_stop.Stop) (said : Stop) → StopsAs {X = A} stop (Err said) → StopsAs {X = B} stop (Err said)
 stops_other {A = A} stop said s = record { before_out = s.before_out; before_err = s.before_err; stopped = refl; said = λ h. ap (λ x. Err x) (said_inside {A = A} (Err said) (Err (shown_stop stop)) said (shown_stop stop) refl refl (s.said h)) }
 
--- What is seen
+-- What the program sees of a file
 
--- what comes of a file fits where nothing is reported of it
+-- without knowledge about a file, any result of reading it is possible
 unknown_comes : (old : Option (List ℕ)) (limit : ℕ) (came : Result (List ℕ) WholeFault) → Comes old limit came → Comes None limit came
 unknown_comes old limit (Ok bytes) c = (c.0, tt)
 unknown_comes old limit (Err whole.ReadFailed) c = tt
@@ -94,7 +95,7 @@ comes_beyond (Some xs) (Some ys) limit h =
     let more : limit < length h.front = h.is_more in
     omega (arith, e, more)
 
--- what would come of a file that is open and isn't read
+-- what reading would return for a file that was opened but not read: some result that agrees with what is known
 came_within : Bool → List ℕ → Result (List ℕ) WholeFault
 came_within true all = Ok all
 came_within false all = Err whole.TooLarge
@@ -119,7 +120,7 @@ reads_unnamed : (name : List ℕ) (came : Result (List ℕ) WholeFault) → is_z
 reads_unnamed name (Ok bytes) h = λ named. absurd (false≢true (sym h ∙ named))
 reads_unnamed name (Err fault) h = tt
 
--- a file that was opened and loaded, or rejected
+-- a zone file that was opened, and then loaded or rejected
 pub loads : (known : Known) (before after : ZoneMap) (item : ZoneItem) (r : Result Unit LoadFault) (old new : Option (List ℕ)) (may failed : Bool) → Opens (known.file item.path) (Some old) → may ≡ known.may_fail item.path
     → failed ≡ is_load_unread r → MatchResult r (λ done. IsLoaded old new before after item.name) (IsLoadFault old new before item.name) → (may ≡ false → failed ≡ false) → Loads known before after item r
 unfolding loaded
@@ -181,7 +182,7 @@ loads known before after item (Err (Zone zone.NameTaken)) old new may failed ope
   loads = rw (h.is_taken.0, h.is_taken.1) refl;
 }
 
--- a file that can't be opened
+-- a zone file that can't be opened
 pub loads_none : (known : Known) (table : ZoneMap) (item : ZoneItem) → Opens (known.file item.path) None → Loads known table table item (Err ReadFailed)
 unfolding loaded
 loads_none known table item opens = record {
@@ -190,7 +191,8 @@ loads_none known table item opens = record {
   loads = refl;
 }
 
--- The files in order: what was found so far goes on with whatever is found of those that are left.
+-- The loop over the zone files. Whatever is found of the remaining files, adding it to what was found so far gives the
+-- same table or stop as starting over from the current table.
 pub record Continues (known : Known) (items : List ZoneItem) (table : ZoneMap) (left : List ZoneItem) (rest : List ZoneFound) : Type 0 where
   pub found : List ZoneFound
   pub sees : SeesZones known empty items found
@@ -199,7 +201,7 @@ pub record Continues (known : Known) (items : List ZoneItem) (table : ZoneMap) (
 abbrev pub GoesOn : Known → List ZoneItem → ZoneMap → List ZoneItem → Type 0
 GoesOn known items table left = (rest : List ZoneFound) → SeesZones known table left rest → Continues known items table left rest
 
--- the next of those that are left is loaded
+-- the next file was loaded
 pub next_loaded : (known : Known) (items left more : List ZoneItem) (item : ZoneItem) (table after : ZoneMap) → left ≡ item ∷ more → GoesOn known items table left → Loads known table after item (Ok tt) → GoesOn known items after more
 unfolding table_by
 next_loaded known items left more item table after is goes l rest h =
@@ -208,7 +210,7 @@ next_loaded known items left more item table after is goes l rest h =
     let on = first (l.found ∷ rest) (l.sees, rw is_loaded h) in
     record { found = on.found; sees = on.sees; same = on.same ∙ (rw is_loaded refl) }
 
--- or it stops the work
+-- the next file stops the work
 pub next_stops : {T : Type 0} (view : T → ZoneMap) (known : Known) (items left more : List ZoneItem) (item : ZoneItem) (table after : ZoneMap) (fault : LoadFault) (stop : declared_stop.Stop) → left ≡ item ∷ more
     → GoesOn known items table left → Loads known table after item (Err fault) → StopsAs {X = Unit} stop (Err (load_stop item.name fault)) → ReadsZones view known items (Err stop)
 unfolding table_by
@@ -219,7 +221,7 @@ next_stops view known items left more item table after fault stop is goes l s =
     let same : table_by empty items on.found ≡ Err (load_stop item.name fault) = on.same ∙ (rw is_refused refl) in
     record { found = on.found; sees = on.sees; answers = rw same (stops_other stop (load_stop item.name fault) s) }
 
--- none is left
+-- no files are left
 pub none_left : {T : Type 0} (view : T → ZoneMap) (known : Known) (items left : List ZoneItem) (table : ZoneMap) (result : T) → left ≡ [] → table ≡ view result → GoesOn known items table left → ReadsZones view known items (Ok result)
 unfolding table_by
 none_left view known items left table result is same goes =
@@ -253,14 +255,14 @@ unfolding local_by
 unread_rule rule table true is h = absurd (h is)
 unread_rule rule table false is h = rw is refl
 
--- a rule that isn't read
+-- a POSIX rule that `jiff` can't parse
 pub local_refused : (said : LocalZone) (table : ZoneMap) → IsUnread said → local_by said table utc ≡ Err rule_stop
 local_refused in_utc table h = absurd h
 local_refused (ahead seconds) table h = absurd h
 local_refused (by_rule rule) table h = unread_rule rule table (is_some (rule_read rule)) refl h
 local_refused (of_name name) table h = absurd h
 
--- Ends
+-- How the work ended
 
 -- a stop before any run
 pub early : (stop : declared_stop.Stop) (come : Result Report Stop) (out err : Option (List ℕ)) → StopsAs stop come → EndsAs (Err stop) come out out err err
@@ -274,7 +276,7 @@ early (Run OutFailed) come out err s = absurd (false≢true (sym s.before_out))
 early (Run ErrFailed) come out err s = absurd (false≢true (sym s.before_err))
 early (Run NoMemory) come out err s = (refl, nothing_front out (out_text come), nothing_front err (err_text come))
 
--- a run
+-- the end of a run
 run_ends : (r : Result Status RunFault) (read : Result (List ℕ) WholeFault) (report : Report) (out out' err err' : Option (List ℕ)) → IsReported r out out' err err' read report → EndsAs (ran r) (Ok report) out out' err err'
 run_ends (Ok status) read report out out' err err' t = (ap exit_status (sym t.status), t.out, t.err)
 run_ends (Err OutFailed) read report out out' err err' t = (refl, t.out, t.err)
@@ -284,14 +286,14 @@ run_ends (Err NoMemory) read report out out' err err' t = (refl, t.out, t.err)
 still_front : (a b : Option (List ℕ)) (text : List ℕ) → b ≡ a → AppendsFront a b text
 still_front a b text is = rw is (nothing_front a text)
 
--- a run to whose reads memory was refused
+-- the end of a run whose input could not be read because allocation failed
 unread_ends : (r : Result Status RunFault) (report : Report) (out out' err err' : Option (List ℕ)) → IsReported r out out' err err' (Err whole.NoMemory) report → EndsAs (ran r) (Err memory_stop) out out' err err'
 unread_ends (Ok status) report out out' err err' t = absurd (t.had refl)
 unread_ends (Err OutFailed) report out out' err err' t = (refl, still_front out out' _ (t.unread refl).0, still_front err err' _ (t.unread refl).1)
 unread_ends (Err ErrFailed) report out out' err err' t = (refl, still_front out out' _ (t.unread refl).0, still_front err err' _ (t.unread refl).1)
 unread_ends (Err NoMemory) report out out' err err' t = (refl, still_front out out' _ (t.unread refl).0, still_front err err' _ (t.unread refl).1)
 
--- what isn't read doesn't count
+-- the report of a run that doesn't use its input is the same for any input
 same_from : (asked : Request) (a b : Result (List ℕ) WholeFault) (t : Bool) (base : Result ℤ StampFault) → is_timer asked.verb ≡ t → (t && is_ok base) ≡ false → report_from asked a base ≡ report_from asked b base
 same_from asked a b t (Err fault) is h = refl
 same_from asked a b t (Ok base) is h = grind arith
@@ -312,7 +314,7 @@ unfolding run_by came_of came_within
 report_had asked None limit h timer = rw timer refl
 report_had asked (Some all) limit h timer = rw timer (within_had asked all (nat_le (length all) limit) h)
 
--- the run of a timer whose file was opened, by what was read of it
+-- the run of a timer whose file was opened, with what was read from the file
 timer_by : (known : Known) (asked : Request) (r : Result Status RunFault) (old new : Option (List ℕ)) (may failed : Bool) (out out' err err' : Option (List ℕ)) (read : Result (List ℕ) WholeFault) (b : Bool)
     → reads_input asked ≡ b → is_timer asked.verb ≡ true → Opens (known.file (file_name asked)) (Some old) → may ≡ known.may_fail (file_name asked) → (may ≡ false → failed ≡ false)
     → failed ≡ is_read_failed read → ReadsIf b old new read → IsReported r out out' err err' read (report asked read) → Runs known asked (ran r) out out' err err'
@@ -349,7 +351,7 @@ pub timer_runs : (known : Known) (asked : Request) (r : Result Status RunFault) 
 timer_runs known asked r old new may failed out out' err err' timer opens mays sure by =
     timer_by known asked r old new may failed out out' err err' by.read (reads_input asked) refl timer opens mays sure by.fails by.input by.holds
 
--- the run of another verb
+-- the run of a verb without a file
 pub texts_run : (known : Known) (asked : Request) (r : Result Status RunFault) (old new : Option (List ℕ)) (failed : Bool) (out out' err err' : Option (List ℕ))
     → is_timer asked.verb ≡ false → ByReading asked old new failed (IsReported r out out' err err') → Runs known asked (ran r) out out' err err'
 unfolding run_by
@@ -357,7 +359,7 @@ texts_run known asked r old new failed out out' err err' plain by =
     let same : report asked by.read ≡ report asked (Ok []) = unread_same asked by.read (Ok []) (and_left (is_timer asked.verb) (is_ok (base_in asked)) plain) in
     record { seen = None; sees = rw plain tt; ends = rw plain (rw (sym same) (run_ends r by.read _ out out' err err' by.holds)) }
 
--- the file of a timer can't be opened
+-- the timer file can't be opened
 pub file_stops : (known : Known) (asked : Request) (stop : declared_stop.Stop) (out err : Option (List ℕ)) → is_timer asked.verb ≡ true → Opens (known.file (file_name asked)) None → StopsAs {X = Unit} stop (Err (unread_stop (file_name asked)))
     → Runs known asked (Err stop) out out err err
 unfolding run_by
@@ -367,7 +369,7 @@ file_stops known asked stop out err timer opens s = record {
   ends = rw timer (early stop (Err (unread_stop (file_name asked))) out err (stops_other stop (unread_stop (file_name asked)) s));
 }
 
--- The whole, by how far it came
+-- The whole work, by the step that it reached
 
 module _ (known : Known) (ask : Ask) (stop : declared_stop.Stop) (out err : Option (List ℕ)) where
   pub zones_stop : ReadsZones (λ table. table) known ask.zones (Err stop) → Answered known ask (Err stop) out out err err
@@ -410,7 +412,7 @@ ran_whole known ask result out out' err err' table local now z l clock is_time i
       ends = rw (z.answers, l.answers, is_now) r.ends;
     }
 
--- the arguments came to what is ask
+-- the arguments were accepted
 pub arguments_answered : (known : Known) (arguments : List (List ℕ)) (ask : Ask) (result : Result Status declared_stop.Stop) (out out' err err' : Option (List ℕ)) → IsAskOf arguments (Ok ask) → Answered known ask result out out' err err' → AnsweredArguments known arguments result out out' err err'
 unfolding outcome outcome_of
 arguments_answered known arguments ask result out out' err err' asks a = record {
@@ -428,7 +430,7 @@ command_stops command.BadZones = is_stop (Command command.BadZones) (command_sto
 command_stops command.BadLocal = is_stop (Command command.BadLocal) (command_stop bad_local) refl refl refl
 command_stops command.NoMemory = is_stop (Command command.NoMemory) (command_stop no_memory) refl refl refl
 
--- or to nothing that can be done
+-- the arguments were rejected, or ask for help
 pub arguments_refused : (known : Known) (arguments : List (List ℕ)) (fault : declared_fault.CommandFault) (out err : Option (List ℕ)) → IsAskOf arguments (Err (shown_fault fault)) → AnsweredArguments known arguments (Err (Command fault)) out out err err
 unfolding outcome
 arguments_refused known arguments fault out err asks = record {

@@ -1,4 +1,4 @@
--- The definitions, tried on a worked system.
+-- The definitions of the work, tried on the example system.
 use Rattle.std.proofs.Common.{refl}
 use Rattle.cal_command.proofs.WorkedRows.{daily_asked}
 use Rattle.cal_command.specs.WorkedArguments.{daily_arguments}

@@ -1,4 +1,4 @@
--- What it is to load a zone file: this project's own option, over zone files (RFC 8536).
+-- What it is to load a zone file (RFC 8536). The option `--zones` is this project's own.
 use Rattle.std.specs.Prelude.{◌≡◌, ℕ, Bool, true, false, List, Option, Result, Ok, Err}
 use Rattle.std.specs.FinMap.{insert}
 use Rattle.jiff.specs.Types.{TimeZone}
@@ -12,7 +12,7 @@ use Rattle.cal_zone.specs.declared.zone_fault.ZoneFault.TheVariants.{BadName, Ba
 use Rattle.cal_work.specs.declared.zone_files.LoadFault.{LoadFault}
 use Rattle.cal_work.specs.declared.zone_files.LoadFault.TheVariants.{ReadFailed, Zone}
 
--- the reader's bytes are a zone's, and the table has that zone more under a name that was free
+-- The bytes read are a valid zone file, the name was free, and the table has gained this zone.
 pub record IsLoaded (old new : Option (List ℕ)) (before after : ZoneMap) (name : List ℕ) : Type 0 where
   pub bytes : List ℕ
   pub given : GivesAll old new file_limit bytes
@@ -21,13 +21,13 @@ pub record IsLoaded (old new : Option (List ℕ)) (before after : ZoneMap) (name
   pub addable : IsAddable before name
   pub added : after ≡ insert before name zone
 
--- the reader's bytes are no zone file
+-- the bytes read are not a valid zone file
 pub record HasBadFile (old new : Option (List ℕ)) (name : List ℕ) : Type 0 where
   pub bytes : List ℕ
   pub given : GivesAll old new file_limit bytes
   pub is_bad : IsFileFault name bytes BadFile
 
--- the reader's bytes are a zone's, but the name is taken
+-- the bytes read are a valid zone file, but the name is taken
 pub record HasTakenName (old new : Option (List ℕ)) (table : ZoneMap) (name : List ℕ) : Type 0 where
   pub bytes : List ℕ
   pub given : GivesAll old new file_limit bytes
@@ -35,8 +35,8 @@ pub record HasTakenName (old new : Option (List ℕ)) (table : ZoneMap) (name : 
   pub is_zone : IsFileZone name bytes zone
   pub is_taken : IsAddFault table name NameTaken
 
--- Why a file can't be loaded. The name is judged first, and then the file is read; its bytes are judged once all of
--- them have come, and last of all whether the name is free.
+-- Why a zone file can't be loaded. The name is checked before the file is read, the bytes once the file is read to its
+-- end, and whether the name is free last of all.
 abbrev pub IsZoneLoadFault : Option (List ℕ) → Option (List ℕ) → ZoneMap → List ℕ → ZoneFault → Type 0
 IsZoneLoadFault old new table name BadName = (is_zone_name name ≡ false) × (new ≡ old)
 IsZoneLoadFault old new table name BadRule = ⊥
@@ -49,7 +49,7 @@ abbrev pub IsLoadFault : Option (List ℕ) → Option (List ℕ) → ZoneMap →
 IsLoadFault old new table name ReadFailed = (is_zone_name name ≡ true) × CameWithin old new file_limit
 IsLoadFault old new table name (Zone fault) = IsZoneLoadFault old new table name fault
 
--- whether the reader is what failed
+-- whether reading the file failed
 abbrev pub is_reader_fault : LoadFault → Bool
 is_reader_fault ReadFailed = true
 is_reader_fault (Zone fault) = false

@@ -1,4 +1,4 @@
--- What the program's arguments come to in a world: the report, or the one stop that comes first.
+-- What the program's arguments come to in a world: a report, or the first stop.
 use Rattle.std.specs.Prelude.{ℕ, ℤ, pos, Bool, true, false, not, ◌&&◌, int_lt, List, [], ◌∷◌, Option, None, Some, is_some, Result, Ok, Err, if◌then◌else◌}
 use Rattle.std.specs.FinMap.{insert, empty}
 use Rattle.jiff.specs.Types.{TimeZone}
@@ -25,13 +25,13 @@ use Rattle.cal_work.specs.declared.zone_files.LoadFault.TheVariants.{ReadFailed,
 use Rattle.cal_request.specs.declared.request.RunFault.{RunFault}
 use Rattle.cal_request.specs.declared.request.RunFault.TheVariants as run
 
--- what is seen of a zone file, and the zone that `jiff` reads from it, if it reads one
+-- what is seen of a zone file, and the zone that `jiff` reads from it, if it accepts the file
 pub record ZoneFound : Type 0 where
   pub seen : Seen
   pub zone : Option TimeZone
 
--- What the outcome takes from outside: what the arguments came to, what is found of each zone file in order, the local
--- zone, the seconds of the clock, and what is seen of the file of a timer.
+-- Everything that the outcome depends on: the parsed arguments, what is found of each zone file in order, the local
+-- zone, the clock's seconds, and what is seen of the timer file.
 pub record World : Type 0 where
   pub said : Result Ask CommandFault
   pub zones : List ZoneFound
@@ -39,14 +39,14 @@ pub record World : Type 0 where
   pub clock : Option ℤ
   pub file : Seen
 
--- the next step, unless it stopped
+-- the next step, unless the one before it stopped
 abbrev pub and_then : {A B F : Type 0} → (A → Result B F) → Result A F → Result B F
 and_then next (Ok value) = next value
 and_then next (Err stop) = Err stop
 
 -- The zone files
 
--- the table with the zone of that name, if `jiff` reads one and the name is free
+-- the table with the zone added, if `jiff` accepts the file and the name is free
 abbrev pub with_zone : ZoneMap → List ℕ → Option TimeZone → Result ZoneMap LoadFault
 with_zone table name None = Err (Zone BadFile)
 with_zone table name (Some zone) = if is_taken table name then Err (Zone NameTaken) else Ok (insert table name zone)
@@ -57,7 +57,7 @@ with_bytes table name read (Err whole.ReadFailed) = Err ReadFailed
 with_bytes table name read (Err whole.TooLarge) = Err (Zone TooLarge)
 with_bytes table name read (Err whole.NoMemory) = Err (Zone NoMemory)
 
--- the name is judged before the file is read
+-- the name is checked before the file is read
 abbrev pub with_file : ZoneMap → List ℕ → Option TimeZone → Seen → Result ZoneMap LoadFault
 with_file table name read None = Err ReadFailed
 with_file table name read (Some came) = if is_zone_name name then with_bytes table name read came else Err (Zone BadName)
@@ -69,7 +69,7 @@ abbrev pub or_load_stop : List ℕ → Result ZoneMap LoadFault → Result ZoneM
 or_load_stop name (Ok table) = Ok table
 or_load_stop name (Err fault) = Err (load_stop name fault)
 
--- the table of all zone files, in order, or the first that can't be loaded
+-- the table of all zone files, added in order, or the stop for the first file that can't be loaded
 unfoldable pub table_by : ZoneMap → List ZoneItem → List ZoneFound → Result ZoneMap Stop
 table_by table [] found = Ok table
 table_by table (item ∷ items) [] = Ok table
@@ -86,7 +86,7 @@ local_by (of_name name) table zone = if is_some (zone_named table name) then Ok 
 
 -- The present instant
 
--- the instant of that many seconds, where there is one
+-- the instant with this many seconds, if it is in the supported range
 unfoldable pub instant_in : ℤ → Option ℤ
 instant_in secs = if not (int_lt secs (pos 0)) && not (int_lt last_instant secs) then Some secs else None
 
@@ -98,14 +98,14 @@ abbrev pub clock_by : Option ℤ → Result ℤ Stop
 clock_by None = Err clock_stop
 clock_by (Some secs) = or_clock_stop (instant_in secs)
 
--- that of the arguments, or else the clock's
+-- the instant given by the arguments, or else the clock's
 unfoldable pub present_by : Option ℤ → Option ℤ → Result ℤ Stop
 present_by (Some now) clock = Ok now
 present_by None clock = clock_by clock
 
 -- The run
 
--- what is read of the file of a timer
+-- what is read from the timer file
 abbrev pub input_by : List ℕ → Seen → Result (Result (List ℕ) WholeFault) Stop
 input_by path None = Err (unread_stop path)
 input_by path (Some (Ok bytes)) = Ok (Ok bytes)
@@ -113,7 +113,7 @@ input_by path (Some (Err whole.ReadFailed)) = Ok (Err whole.ReadFailed)
 input_by path (Some (Err whole.TooLarge)) = Ok (Err whole.TooLarge)
 input_by path (Some (Err whole.NoMemory)) = Err memory_stop
 
--- other verbs have no file
+-- other verbs read no file
 abbrev pub input_if : Bool → List ℕ → Seen → Result (Result (List ℕ) WholeFault) Stop
 input_if true path seen = input_by path seen
 input_if false path seen = Ok (Ok [])
@@ -121,7 +121,7 @@ input_if false path seen = Ok (Ok [])
 unfoldable pub run_by : Request → Seen → Result Report Stop
 run_by asked seen = and_then (λ read. Ok (report asked read)) (input_if (is_timer asked.verb) (file_name asked) seen)
 
--- The whole
+-- The whole work
 
 abbrev pub asked_at : Ask → ZoneMap → ClockZone → ℤ → Request
 asked_at ask table local now = record {
@@ -134,7 +134,7 @@ asked_at ask table local now = record {
   zones = table;
 }
 
--- the report of what is ask, or the first stop: the zone files in order, the local zone, the clock, the file
+-- the report, or the first stop, in the order of the work: zone files, local zone, clock, timer file
 unfoldable pub outcome_of : Ask → World → Result Report Stop
 outcome_of ask world =
     and_then (λ table.
@@ -165,12 +165,12 @@ abbrev pub outcome_status : Result Report Stop → ℕ
 outcome_status (Ok report) = exit_status report.status
 outcome_status (Err said) = said.status
 
--- a report that couldn't be written whole has status 1; a stop keeps its own where its line couldn't be written
+-- The status if standard error failed: 1 for a report, while a stop keeps its own status.
 abbrev pub cut_status : Result Report Stop → ℕ
 cut_status (Ok report) = 1
 cut_status (Err said) = said.status
 
--- the status, by what couldn't be written
+-- the status, depending on which output or allocation failed, if any did
 abbrev pub ended_status : {T : Type 0} → Result T RunFault → Result Report Stop → ℕ
 ended_status (Ok all) outcome = outcome_status outcome
 ended_status (Err run.OutFailed) outcome = 1

@@ -1,4 +1,4 @@
--- What the program says where it stops before all is done, and its status.
+-- What the program reports if it stops before everything is done, and its status then.
 use Rattle.std.specs.Prelude.{ℕ, Bool, true, false, List, [], ◌∷◌, string_bytes, codes}
 use Rattle.cal_bytes.specs.headline.Bytes.{joined}
 use Rattle.cal_zone.specs.declared.zone_fault.ZoneFault.{ZoneFault}
@@ -18,33 +18,33 @@ use Rattle.cal_work.specs.declared.stop.Outlet.TheVariants.{OnOut, OnErr, Later}
 use Rattle.cal_work.specs.declared.stop.Stop as declared_stop
 use Rattle.cal_work.specs.declared.stop.Stop.TheVariants.{Command, Zones, LocalRule, LocalName, Clock, Open, Run}
 
--- what is said of a stop: the text of help on standard output, or a line on standard error, and the status
+-- the report of a stop: the text of help on standard output, or a line on standard error, and the status
 pub record Stop : Type 0 where
   pub out : List ℕ
   pub err : List ℕ
   pub status : ℕ
 
--- a line on standard error
+-- a stop with one line on standard error
 abbrev pub with_line : List ℕ → ℕ → Stop
 with_line line status = record { out = []; err = line; status = status }
 
--- a line of the program's own
+-- an error line that begins with the program's name
 unfoldable pub own_line : List ℕ → List ℕ
 own_line words = joined (codes "calendar-analyze: " ∷ words ∷ codes "\n" ∷ [])
 
--- the line of a zone file
+-- the error line for a zone file
 unfoldable pub zones_line : List ℕ → List ℕ → List ℕ
 zones_line name words = joined (codes "calendar-analyze: --zones: " ∷ name ∷ codes ": " ∷ words ∷ codes "\n" ∷ [])
 
--- the line of a file that can't be opened
+-- the error line for a timer file that can't be opened
 unfoldable pub unread_line : List ℕ → List ℕ
 unread_line path = joined (path ∷ codes ": cannot be read\n" ∷ [])
 
--- memory was refused, whatever it was ask for
+-- Out of memory. The report is the same whatever the memory was for.
 abbrev pub memory_stop : Stop
 memory_stop = with_line (own_line (codes "out of memory")) 1
 
--- the words of the command line ask for nothing that can be done, or only for help
+-- the arguments are invalid, or ask only for help or the version
 abbrev pub command_stop : CommandFault → Stop
 command_stop (usage text) = with_line text 2
 command_stop (help text) = record { out = text; err = []; status = 0 }
@@ -63,7 +63,7 @@ abbrev pub load_stop : List ℕ → LoadFault → Stop
 load_stop name ReadFailed = with_line (zones_line name (words_of ReadFailed)) 2
 load_stop name (Zone fault) = zone_stop name fault
 
--- the local zone can't be had, or no present instant
+-- the local zone or the present instant can't be determined
 abbrev pub rule_stop : Stop
 rule_stop = with_line (own_line (codes "--local: bad rule")) 2
 
@@ -73,17 +73,17 @@ name_stop = with_line (own_line (codes "--local: no such zone")) 2
 abbrev pub clock_stop : Stop
 clock_stop = with_line (own_line (codes "clock out of range")) 2
 
--- the file of a timer can't be opened
+-- the timer file can't be opened
 abbrev pub unread_stop : List ℕ → Stop
 unread_stop path = with_line (unread_line path) 1
 
--- a run was cut; nothing is said where standard error itself failed
+-- A run ended early. If standard error itself failed, nothing more is reported.
 abbrev pub fault_stop : RunFault → Stop
 fault_stop run.OutFailed = with_line (own_line (codes "output failed")) 1
 fault_stop run.ErrFailed = with_line [] 1
 fault_stop run.NoMemory = memory_stop
 
--- what is said of each stop
+-- the report of each stop
 abbrev pub shown_stop : declared_stop.Stop → Stop
 shown_stop (Command fault) = command_stop (shown_fault fault)
 shown_stop (Zones name fault) = load_stop (string_bytes name) fault
@@ -93,7 +93,7 @@ shown_stop Clock = clock_stop
 shown_stop (Open path) = unread_stop (string_bytes path)
 shown_stop (Run fault) = fault_stop fault
 
--- the text that is written of a stop, to whichever output
+-- the text that is written for a stop, whichever output it goes to
 abbrev pub command_text : declared_fault.CommandFault → List ℕ
 command_text (command.Help text) = string_bytes text
 command_text fault = (command_stop (shown_fault fault)).err
@@ -102,8 +102,8 @@ abbrev pub text_of : declared_stop.Stop → List ℕ
 text_of (Command fault) = command_text fault
 text_of stop = (shown_stop stop).err
 
--- where each stop is reported: help on standard output, others on standard error; what couldn't be written, and running out of
--- memory, is reported once the output is flushed
+-- Where each stop is reported: help on standard output, other stops on standard error. A failed output and running out
+-- of memory are reported only after the output is flushed.
 abbrev pub zone_outlet : ZoneFault → Outlet
 zone_outlet zone.NoMemory = Later run.NoMemory
 zone_outlet fault = OnErr
@@ -126,7 +126,7 @@ outlet_of Clock = OnErr
 outlet_of (Open path) = OnErr
 outlet_of (Run fault) = Later fault
 
--- whether it is the failure of standard output or of standard error, or stands for running out of memory
+-- whether a stop stands for a failure of standard output, for a failure of standard error, or for running out of memory
 abbrev pub is_out_outlet : Outlet → Bool
 is_out_outlet (Later run.OutFailed) = true
 is_out_outlet outlet = false
@@ -148,7 +148,7 @@ is_err_stop stop = is_err_outlet (outlet_of stop)
 abbrev pub is_for_memory : declared_stop.Stop → Bool
 is_for_memory stop = is_memory_outlet (outlet_of stop)
 
--- the exit status of a run that could write all of its text
+-- the exit status of a run that could write everything
 abbrev pub exit_status : Status → ℕ
 exit_status Fine = 0
 exit_status Refused = 1

@@ -1,5 +1,5 @@
--- Where the system tells all of its files and its clock, there is one outcome: unless memory runs out it goes by what
--- is known, by what `clap` makes of the arguments, and by the zones that `jiff` reads.
+-- If everything about a system's files and clock is known, there is only one possible outcome, unless memory runs out.
+-- It depends on the system, on what `clap` makes of the arguments, and on the zones that `jiff` reads from the files.
 use Rattle.std.specs.Prelude.{◌≡◌, ◌⊎◌, ℕ, ℤ, Bool, true, false, List, [], ◌∷◌, length, nat_le, Option, None, Some, IsSome, Result, Ok, Err, slice_index_or}
 use Rattle.cal_zone.specs.ZoneFile.{file_limit}
 use Rattle.cal_bytes.specs.declared.whole.WholeFault.{WholeFault}
@@ -11,13 +11,13 @@ use Rattle.cal_report.specs.headline.Report.{Report}
 use Rattle.cal_work.specs.Stop.{Stop, command_stop, memory_stop}
 use Rattle.cal_work.specs.System.{Known, Seen}
 
--- all is known of each file and of the clock, and no read fails
+-- the bytes of each file and the clock's time are known, and no read fails
 pub record TellsAll (known : Known) : Type 0 where
   pub files : (path : List ℕ) → IsSome (known.file path)
   pub sure : (path : List ℕ) → known.may_fail path ≡ false
   pub time : IsSome known.time
 
--- what is seen of a file of these bytes, where at most that many are taken
+-- the result of reading a file with these bytes; the first argument says whether they are within the limit
 abbrev pub taken_of : Bool → List ℕ → Result (List ℕ) WholeFault
 taken_of true all = Ok all
 taken_of false all = Err TooLarge
@@ -31,14 +31,15 @@ abbrev pub known_time : Option (Option ℤ) → Option ℤ
 known_time None = None
 known_time (Some time) = time
 
--- each zone file is seen as it is known, with the zone that `jiff` reads from it
+-- each zone file is seen as it is known to be, with the zone that `jiff` reads from it
 unfoldable pub known_zones : Known → List ZoneItem → List ZoneFound → List ZoneFound
 known_zones known [] found = []
 known_zones known (item ∷ items) [] = []
 known_zones known (item ∷ items) (f ∷ found) =
     record { seen = known_seen file_limit (known.file item.path); zone = f.zone } ∷ known_zones known items found
 
--- the world that is known, where `clap` takes the arguments as this and `jiff` reads the zones of a world
+-- The world of a known system. What `clap` makes of the arguments is given, and the zones that `jiff` reads are those
+-- of another world.
 unfoldable pub known_world : Known → Ask → World → World
 known_world known ask world = record {
   said = Ok ask;
@@ -52,6 +53,6 @@ abbrev pub known_outcome : Known → Result Ask CommandFault → World → Resul
 known_outcome known (Ok ask) world = outcome (known_world known ask world)
 known_outcome known (Err said) world = Err (command_stop said)
 
--- the one, unless memory was refused
+-- the known outcome, or running out of memory
 abbrev pub IsOr : {T : Type 0} → Result T Stop → Result T Stop → Type 0
 IsOr come known = (come ≡ known) ⊎ (come ≡ Err memory_stop)

@@ -1,4 +1,4 @@
--- What each step of the program's work answers, by the world that it found.
+-- What each step of the program's work returns, in terms of the world that it found.
 use Rattle.std.specs.Prelude.{◌≡◌, ℕ, ℤ, Bool, false, List, Option, None, Some, Result, Ok, Err, IsErr, IsSome, IfOk, IfNone}
 use Rattle.std.specs.FinMap.{empty}
 use Rattle.std.specs.Io.KnownBytes.{Appends}
@@ -24,7 +24,7 @@ use Rattle.cal_work.specs.declared.stop.Outlet.TheVariants.{OnOut, OnErr, Later}
 use Rattle.cal_work.specs.declared.stop.Stop as declared_stop
 use Rattle.cal_work.specs.declared.stop.Stop.TheVariants.{Run}
 
--- whether it is the failure of standard output, or of standard error
+-- whether the work ended because standard output or standard error failed
 abbrev pub is_out_cut : {T : Type 0} → Result T declared_stop.Stop → Bool
 is_out_cut (Ok x) = false
 is_out_cut (Err stop) = is_out_stop stop
@@ -33,21 +33,21 @@ abbrev pub is_err_cut : {T : Type 0} → Result T declared_stop.Stop → Bool
 is_err_cut (Ok x) = false
 is_err_cut (Err stop) = is_err_stop stop
 
--- a stop before any run is what is said, unless it stands for running out of memory
+-- A stop before any run is the one that the definitions have, unless it stands for running out of memory.
 pub record StopsAs {X : Type 0} (stop : declared_stop.Stop) (come : Result X Stop) : Type 0 where
   pub before_out : is_out_stop stop ≡ false
   pub before_err : is_err_stop stop ≡ false
   pub stopped : IsErr come
   pub said : is_for_memory stop ≡ false → come ≡ Err (shown_stop stop)
 
--- a step answers what is come to
+-- the result of a step is the one that the definitions have; `view` maps the code's value to theirs
 abbrev pub Answers : {A B : Type 0} → (A → B) → Result A declared_stop.Stop → Result B Stop → Type 0
 Answers view (Ok value) come = come ≡ Ok (view value)
 Answers view (Err stop) come = StopsAs stop come
 
 -- The steps
 
--- a zone file into the table
+-- one zone file
 abbrev pub LoadsAs : Result Unit LoadFault → ZoneMap → Result ZoneMap LoadFault → Type 0
 LoadsAs (Ok done) table come = come ≡ Ok table
 LoadsAs (Err fault) table come = come ≡ Err fault
@@ -63,7 +63,7 @@ pub record ReadsZones {T : Type 0} (view : T → ZoneMap) (known : Known) (items
   pub sees : SeesZones known empty items found
   pub answers : Answers view result (table_by empty items found)
 
--- the rule of the local zone, where there is one
+-- if the local zone is given as a POSIX rule, `rules` are its parsed rules
 abbrev pub HasRules : LocalZone → Option TimeZone → Type 0
 HasRules in_utc rules = Unit {0}
 HasRules (ahead seconds) rules = Unit {0}
@@ -71,7 +71,7 @@ HasRules (by_rule rule) None = ⊥
 HasRules (by_rule rule) (Some zone) = IsSome (rule_read rule) × IsPosixZone rule zone
 HasRules (of_name name) rules = Unit {0}
 
--- a rule that `jiff` doesn't read
+-- the local zone is given as a POSIX rule that `jiff` can't parse
 abbrev pub IsUnread : LocalZone → Type 0
 IsUnread in_utc = ⊥
 IsUnread (ahead seconds) = ⊥
@@ -96,14 +96,14 @@ pub record Presents {T : Type 0} (view : T → ℤ) (known : Known) (given : Opt
   pub asked : IfNone given (GivesTime known.time clock)
   pub answers : Answers view result (present_by given clock)
 
--- How the work for what is ask ended
+-- How the work ended
 
--- the run's end
+-- the result of a run, as the result of the work
 abbrev pub ran : Result Status RunFault → Result Status declared_stop.Stop
 ran (Ok status) = Ok status
 ran (Err fault) = Err (Run fault)
 
--- the run of a request was cut, or there was none
+-- a run that ended early, or a stop before any run
 abbrev pub StopEnds : declared_stop.Stop → Result Report Stop → Option (List ℕ) → Option (List ℕ) → Option (List ℕ) → Option (List ℕ) → Type 0
 StopEnds (Run fault) come out out' err err' =
     (ended_status {T = Unit} (Err fault) come ≡ 1) × AppendsFront out out' (out_text come) × AppendsFront err err' (err_text come)
@@ -114,7 +114,7 @@ EndsAs (Ok status) come out out' err err' =
     (outcome_status come ≡ exit_status status) × Appends out out' (out_text come) × Appends err err' (err_text come)
 EndsAs (Err stop) come out out' err err' = StopEnds stop come out out' err err'
 
--- the run of a request, with what was seen of its file
+-- the run of a request, with what was seen of the timer file
 pub record Runs (known : Known) (asked : Request) (result : Result Status declared_stop.Stop) (out out' err err' : Option (List ℕ)) : Type 0 where
   pub seen : Seen
   pub sees : SeesFile known asked seen
@@ -130,9 +130,9 @@ pub record AnsweredArguments (known : Known) (arguments : List (List ℕ)) (resu
   pub fits : FitsArguments known arguments world
   pub ends : EndsAs result (outcome world) out out' err err'
 
--- What is written of it
+-- What is written at the end
 
--- the status that goes with what was written: its own where all of it or all but standard error was written
+-- The status once the output is flushed: 1 if standard output or an allocation failed, and else as before.
 abbrev pub status_by : {T : Type 0} → Result T RunFault → ℕ → ℕ
 status_by (Ok all) status = status
 status_by (Err OutFailed) status = 1
@@ -144,13 +144,13 @@ pub record WritesOf {T : Type 0} (written : Result T RunFault) (status : ℕ) (c
   pub out_bytes : Writes out out' written (out_text come)
   pub err_bytes : Writes err err' written (err_text come)
 
--- settling can fail
+-- a flush can fail, which matters only if nothing failed before
 abbrev pub IsFlushed : {T : Type 0} → Result T RunFault → Result T RunFault → Type 0
 IsFlushed (Ok all) (Ok flushed) = Unit {0}
 IsFlushed (Ok all) (Err fault) = fault ≡ OutFailed
 IsFlushed (Err fault) flushed = flushed ≡ Err fault
 
--- a stop is reported on its output, or later
+-- a stop is reported on the output that belongs to it, or later
 abbrev pub TellsOn : Outlet → List ℕ → Result Unit RunFault → Option (List ℕ) → Option (List ℕ) → Option (List ℕ) → Option (List ℕ) → Type 0
 TellsOn OnOut text result out out' err err' = Writes out out' result text × (err' ≡ err)
 TellsOn OnErr text result out out' err err' = Writes err err' result text × (out' ≡ out)

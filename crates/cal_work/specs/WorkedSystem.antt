@@ -1,4 +1,4 @@
--- A system that tells all, tried on `calendar daily`: one without files, whose clock gives 0.
+-- An example of a completely known system: it has no files, and its clock shows 0. The example runs `calendar daily`.
 use Rattle.std.specs.Prelude.{false, [], None, Some, Ok, pos}
 use Rattle.cal_command.specs.WorkedArguments.{daily_ask}
 use Rattle.cal_work.specs.Outcome.{World}
@@ -8,6 +8,6 @@ use Rattle.cal_zone.specs.headline.Zone.{utc}
 abbrev pub bare_system : Known
 bare_system = record { file = λ path. Some None; may_fail = λ path. false; time = Some (Some (pos 0)) }
 
--- what the work takes from it
+-- the world that the program finds in this system
 abbrev pub daily_world : World
 daily_world = record { said = Ok daily_ask; zones = []; local = utc; clock = Some (pos 0); file = None }

@@ -1,5 +1,5 @@
--- From the arguments to the bytes: there is a world that fits all that the system tells, and what is written and the
--- status are those of the outcome in that world.
+-- From the arguments to the bytes: some world agrees with all that is known about the system, and the bytes written and
+-- the status are those of the outcome in that world.
 use Rattle.std.specs.Prelude.{◌≡◌, ℕ, Bool, true, false, List, [], ◌∷◌, Option, None, Some, Result, Ok, Err, IfOk, IfNone}
 use Rattle.std.specs.FinMap.{empty}
 use Rattle.std.specs.Io.KnownBytes.{Keeps, Appends, append_known}
@@ -26,9 +26,9 @@ use Rattle.cal_work.specs.System.{Known, Seen, Sees, GivesTime}
 use Rattle.cal_request.specs.declared.request.RunFault.{RunFault}
 use Rattle.cal_work.specs.declared.arguments_to_bytes.Ended.{Ended}
 
--- The world fits what is known, as far as it was asked
+-- The world agrees with what is known, as far as the program asked for it
 
--- the zone that `jiff` reads from a zone file, or that it reads none
+-- the third argument is the zone that `jiff` reads from a zone file with these bytes, or `None` if it rejects the file
 abbrev pub IsReadZone : List ℕ → List ℕ → Option TimeZone → Type 0
 IsReadZone name bytes None = IsFileFault name bytes BadFile
 IsReadZone name bytes (Some zone) = IsFileZone name bytes zone
@@ -42,14 +42,14 @@ pub record SeesZone (known : Known) (item : ZoneItem) (found : ZoneFound) : Type
   pub sees : Sees known file_limit item.path found.seen
   pub reads : ReadsZone item.name found.seen found.zone
 
--- each zone file in order is found so, up to the first that can't be loaded
+-- What is found of each zone file, in order. The files after the first one that can't be loaded are not opened.
 abbrev pub SeesZones : Known → ZoneMap → List ZoneItem → List ZoneFound → Type 0
 SeesZones known table [] found = Unit {0}
 SeesZones known table (item ∷ items) [] = ⊥
 SeesZones known table (item ∷ items) (f ∷ found) =
     SeesZone known item f × IfOk (loaded table item f) (λ more. SeesZones known more items found)
 
--- the local zone is the one that is said, as `jiff` has it
+-- the local zone is the one that the arguments name, as `jiff` has it
 abbrev pub IsLocal : LocalZone → ZoneMap → ClockZone → Type 0
 IsLocal in_utc table zone = zone ≡ utc
 IsLocal (ahead seconds) table zone =
@@ -57,7 +57,7 @@ IsLocal (ahead seconds) table zone =
 IsLocal (by_rule rule) table zone = (is_utc zone ≡ false) × IsPosixZone rule (zone_of zone)
 IsLocal (of_name name) table zone = (is_utc zone ≡ is_utc_name name) × (zone_named table name ≡ Some (zone_of zone))
 
--- the file of a timer is seen so
+-- what is seen of the timer file
 abbrev pub SeesIf : Bool → Known → List ℕ → Seen → Type 0
 SeesIf true known path seen = Sees known most_file_bytes path seen
 SeesIf false known path seen = Unit {0}
@@ -75,31 +75,32 @@ pub record Fits (known : Known) (ask : Ask) (world : World) : Type 0 where
   pub zones : SeesZones known empty ask.zones world.zones
   pub after : IfOk (table_by empty ask.zones world.zones) (FitsAt known ask world)
 
--- and so do the arguments
+-- the arguments parse as the world says, and the rest of the world fits what they ask for
 pub record FitsArguments (known : Known) (arguments : List (List ℕ)) (world : World) : Type 0 where
   pub said : IsAskOf arguments world.said
   pub fits : IfOk world.said (λ ask. Fits known ask world)
 
 -- What is written
 
--- all of a text, or a prefix of it and no more through a buffer that couldn't be written out
+-- All of a text. If something failed, the bytes that reached the output and those left in a buffer that could not be
+-- flushed (`held`) make a prefix of the text.
 abbrev pub Reaches : {T : Type 0} → Option (List ℕ) → Option (List ℕ) → Result T RunFault → List ℕ → Type 0
 Reaches old reached (Ok all) text = Appends old reached text
 Reaches old reached (Err fault) text = (held : List ℕ) × AppendsFront old (append_known reached held) text
 
--- the line of a fault, or a prefix of it where standard error fails
+-- the final error line, or a prefix of it if standard error fails
 abbrev pub TellsFault : {T : Type 0} → Option (List ℕ) → Option (List ℕ) → Bool → Result T RunFault → Type 0
 TellsFault old new failed (Ok all) = Keeps old new
 TellsFault old new false (Err fault) = Appends old new (fault_stop fault).err
 TellsFault old new true (Err fault) = AppendsFront old new (fault_stop fault).err
 
--- a text, or a prefix of it and then the line of the fault
+-- a text, or a prefix of it followed by the final error line
 pub record Tells {T : Type 0} (old new : Option (List ℕ)) (failed : Bool) (written : Result T RunFault) (text : List ℕ) : Type 0 where
   pub before : Option (List ℕ)
   pub text_bytes : Writes old before written text
   pub line : TellsFault before new failed written
 
--- the whole of the program's work
+-- the program's whole work
 pub record Works (known : Known) (arguments : List (List ℕ)) (out reached err err' : Option (List ℕ)) (err_failed : Bool) (ended : Ended) : Type 0 where
   pub world : World
   pub fits : FitsArguments known arguments world

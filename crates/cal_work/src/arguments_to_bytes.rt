@@ -1,8 +1,7 @@
-//! All of the program's work: from the arguments to the bytes on both outputs and the status
-//! (systemd-analyze(1)).
+//! The program's whole work, from the arguments to the bytes on both outputs and the exit status (systemd-analyze(1)).
 //!
-//! The order is the command line, the zone files in order, the local zone, the clock, opening the file of a timer, the
-//! run. The first that stops is the only one that is reported.
+//! The order is: the arguments, the zone files one after another, the local zone, the clock, opening the timer file,
+//! the run. The first step that fails ends the work, and only its error is reported.
 
 ghost use Rattle.std.specs.Prelude.{◌≡◌, ℕ, List, Option, Result, Ok, Err, Some, None, true, false, is_err, map, option_map, IfOk, IfErr};
 ghost use Rattle.cal_bytes.specs.Bytes.{Writes};
@@ -32,18 +31,20 @@ use std::convert::AsStr;
 /// How the work ended.
 #[derive(Clone, Copy, PartialEq, Eq, Debug)]
 pub struct Ended {
-    /// The exit status.
+    /// Exit status.
     pub status: u8,
-    /// Whether all of the text was written; else the cause is reported on standard error, where that works.
+    /// Whether everything was written. If not, the reason was reported on standard error, unless that is what failed.
     pub written: Result<(), RunFault>,
 }
 
-/// Does what the arguments ask for. Reports and the text of help go to `out`, which is flushed at the
-/// end; refusals and the line of a stop go to `err`.
+/// Does what the arguments ask for.
 ///
-/// The status is that of the report or of the stop; it is 1 where `out` fails or memory is refused, and where `err`
-/// fails in a report. Where it failed, each output has a prefix of its whole text, and `err` the line of the fault
-/// after it.
+/// Reports and the text of help go to `out`, which is flushed at the end. Error lines go to `err`.
+///
+/// The status is 0 for success and for help; 1 if an expression, a timestamp, a span or the timer file is rejected, if
+/// `out` fails or memory runs out, or if `err` fails during a report; and 2 if the arguments, a zone file, the local
+/// zone or the clock are at fault. If an output or an allocation fails, each output has a prefix of its whole text,
+/// followed on `err` by the line that reports the failure.
 pub fn work<S: System, T: AsStr, O: Output, E: Sink>(
     alloc: Global,
     system: &S,
@@ -69,7 +70,7 @@ pub fn work<S: System, T: AsStr, O: Output, E: Sink>(
     }
 }
 
-/// The status that goes with what was written: its own where all of it or all but standard error was written.
+/// Returns the status once the output is flushed: 1 if the output or an allocation failed, and else `status`.
 fn status_by(written: Result<(), RunFault>, status: u8) -> u8
     ensures { result ≡ status_by written status }
 {
@@ -79,9 +80,9 @@ fn status_by(written: Result<(), RunFault>, status: u8) -> u8
     }
 }
 
-// The work, up to the first stop
+// The work, up to the first step that fails
 
-/// Answers what the arguments ask for.
+/// Parses the arguments and does what they ask for.
 fn answer_arguments<S: System, T: AsStr, O: Sink, E: Sink>(
     alloc: Global,
     system: &S,
@@ -102,7 +103,7 @@ fn answer_arguments<S: System, T: AsStr, O: Sink, E: Sink>(
     }
 }
 
-/// Answers what is asked.
+/// Prepares the zones and the present instant, and runs the request.
 fn answer<S: System, O: Sink, E: Sink>(
     alloc: Global,
     system: &S,
@@ -138,7 +139,7 @@ fn answer<S: System, O: Sink, E: Sink>(
 
 // The steps
 
-/// The table of the zone files, which are read in order.
+/// Reads the zone files, in order, into a new table.
 fn read_zones<S: System>(alloc: Global, system: &S, items: &[ZoneItem]) -> Result<ZoneTable, Stop>
     ensures { ReadsZones (λ table. table) (S.tells system.now) (map shown_item items.now) result }
 {
@@ -155,7 +156,7 @@ fn read_zones<S: System>(alloc: Global, system: &S, items: &[ZoneItem]) -> Resul
     Ok(table)
 }
 
-/// Reads a zone file into the table. One that can't be opened is one that can't be read.
+/// Reads a zone file into the table. A file that can't be opened is reported like one that can't be read.
 fn load_item<S: System>(
     alloc: Global,
     system: &S,
@@ -170,7 +171,7 @@ fn load_item<S: System>(
     }
 }
 
-/// The stop of a zone file that can't be loaded.
+/// Returns the stop for a zone file that can't be loaded. The stop owns the name, so allocating it can fail as well.
 fn zone_stop(alloc: Global, name: &str, fault: LoadFault) -> Stop
     ensures { StopsAs {X = Unit} result (Err (load_stop name.now fault)) }
 {
@@ -180,7 +181,7 @@ fn zone_stop(alloc: Global, name: &str, fault: LoadFault) -> Stop
     }
 }
 
-/// The rules of the local zone, where it is said by a rule.
+/// Parses the local zone if it is given as a POSIX rule. Returns `None` if it is given in another way.
 fn read_rules(alloc: Global, local: &LocalZone) -> Result<Option<Rules>, Stop>
     ensures rules { IfOk result (HasRules (shown_local local.now)) }
     ensures refused { IfErr result (λ stop. StopsAs {X = Unit} stop (Err rule_stop) × IsUnread (shown_local local.now)) }
@@ -194,7 +195,7 @@ fn read_rules(alloc: Global, local: &LocalZone) -> Result<Option<Rules>, Stop>
     }
 }
 
-/// The local zone: the one that is said, by its rules where it has any.
+/// Returns the local zone. `rules` are its parsed rules if it is given as a POSIX rule.
 fn local_zone<'t>(
     local: &LocalZone,
     rules: &'t Option<Rules>,
@@ -218,7 +219,7 @@ fn local_zone<'t>(
     }
 }
 
-/// The present instant: the one that is given, or the clock's.
+/// Returns the present instant: the one given with `--now`, or else the clock's.
 fn find_present<S: System>(system: &S, given: Option<Instant>) -> Result<Instant, Stop>
     ensures { Presents (λ now. now.secs) (S.tells system.now) (option_map (λ now. now.secs) given) result }
 {
@@ -228,7 +229,7 @@ fn find_present<S: System>(system: &S, given: Option<Instant>) -> Result<Instant
     }
 }
 
-/// The instant of the clock.
+/// Reads the clock. Fails with `Stop::Clock` if it has no time or one outside the supported range.
 fn read_clock<S: System>(system: &S) -> Result<Instant, Stop>
     ensures { Reads (λ now. now.secs) (S.tells system.now) result }
 {
@@ -241,7 +242,7 @@ fn read_clock<S: System>(system: &S) -> Result<Instant, Stop>
     }
 }
 
-/// The instant of that many seconds, where there is one.
+/// Returns the instant with this many seconds, if it is in the supported range.
 #[tactic(auto, unfolding(crate::specs::Outcome::instant_in))]
 fn instant_in(secs: i64) -> Option<Instant>
     ensures { option_map (λ now. now.secs) result ≡ instant_in secs }
@@ -249,7 +250,7 @@ fn instant_in(secs: i64) -> Option<Instant>
     Instant::new(secs)
 }
 
-/// Runs a request; the file of a timer is opened before.
+/// Runs a request. For a timer, opens its file first.
 fn run_request<S: System, O: Sink, E: Sink>(
     alloc: Global,
     system: &S,
@@ -279,7 +280,7 @@ fn run_request<S: System, O: Sink, E: Sink>(
     }
 }
 
-/// The end of a run as the end of the work.
+/// Converts the result of a run to the result of the work.
 fn after_run(run: Result<Status, RunFault>) -> Result<Status, Stop>
     ensures { result ≡ ran run }
 {
@@ -289,7 +290,7 @@ fn after_run(run: Result<Status, RunFault>) -> Result<Status, Stop>
     }
 }
 
-/// Opens the file of a timer.
+/// Opens the timer file.
 fn open_file<S: System>(alloc: Global, system: &S, path: &str) -> Result<S::File, Stop>
     ensures opened { IfOk result (λ file. Opens ((S.tells system.now).file path.now) (Some (S.File.remaining file))) }
     ensures sure { IfOk result (λ file. S.File.may_fail file ≡ (S.tells system.now).may_fail path.now) }
@@ -306,10 +307,10 @@ fn open_file<S: System>(alloc: Global, system: &S, path: &str) -> Result<S::File
     }
 }
 
-// What is reported of a stop
+// What is reported at the end
 
-/// Writes what is said of a stop, and answers the status beside whether it could be written. Lack of memory and what
-/// couldn't be written are reported at the end.
+/// Reports a stop, unless it has to wait for the flush of the output, and returns the status together with whether the
+/// report was written. A failed output and running out of memory are reported later, by `tell_fault`.
 fn tell<O: Sink, E: Sink>(answered: &Result<Status, Stop>, out: &mut O, err: &mut E) -> Ended
     requires out { O.is_failed out.old ≡ is_out_cut answered.now }
     requires err { E.is_failed err.old ≡ is_err_cut answered.now }
@@ -331,7 +332,7 @@ fn tell<O: Sink, E: Sink>(answered: &Result<Status, Stop>, out: &mut O, err: &mu
     }
 }
 
-/// Writes what is said of a stop that is neither a run's nor for running out of memory: help on `out`, and else on `err`.
+/// Reports a stop right away: help on `out`, other stops on `err`. Returns the error if it has to be reported later.
 fn tell_stop<O: Sink, E: Sink>(stop: &Stop, out: &mut O, err: &mut E) -> Result<(), RunFault>
     requires out { O.is_failed out.old ≡ is_out_stop stop.now }
     requires err { E.is_failed err.old ≡ is_err_stop stop.now }
@@ -352,7 +353,7 @@ fn tell_stop<O: Sink, E: Sink>(stop: &Stop, out: &mut O, err: &mut E) -> Result<
     }
 }
 
-/// Flushes the output, also where something failed, so that what comes before the fault goes out.
+/// Flushes the output even if something failed, so that everything written before the failure gets out.
 fn flush_output<O: Output>(written: Result<(), RunFault>, out: &mut O) -> Result<(), RunFault>
     requires { O.is_failed out.old ≡ is_out_failed written }
     ensures bytes { (before : Option (List ℕ)) (text : List ℕ) → Writes before (O.written out.old) written text
@@ -370,7 +371,7 @@ fn flush_output<O: Output>(written: Result<(), RunFault>, out: &mut O) -> Result
     }
 }
 
-/// Tells why not all could be written, unless standard error is what failed.
+/// Reports why not everything was written, unless standard error is what failed.
 fn tell_fault<E: Sink>(written: Result<(), RunFault>, err: &mut E)
     requires { E.is_failed err.old ≡ is_err_failed written }
     ensures line { TellsFault (E.written err.old) (E.written err.new) (E.is_failed err.new) written }
@@ -379,7 +380,7 @@ fn tell_fault<E: Sink>(written: Result<(), RunFault>, err: &mut E)
     match written {
         Ok(()) | Err(RunFault::ErrFailed) => {}
         Err(fault) => {
-            // Where this line can't be written, only the status tells.
+            // If this line can't be written either, only the exit status shows the failure.
             let _ = write_stop(err, &Stop::Run(fault));
         }
     }

@@ -1,4 +1,4 @@
-//! All that the program does between its arguments and its status.
+//! The program's whole work, from its arguments to its exit status.
 #![tactic(auto)]
 
 mod arguments_to_bytes;

@@ -1,4 +1,4 @@
-//! Why the program stops before all is done, what it says then, and its status.
+//! Why the program stops before everything is done, what it reports then, and its exit status.
 
 ghost use Rattle.std.specs.Prelude.{◌≡◌, [], false};
 ghost use Rattle.cal_bytes.specs.Puts.{Puts};
@@ -11,27 +11,28 @@ use cal_command::CommandFault;
 use cal_request::{RunFault, Status};
 use cal_zone::ZoneFault;
 
-/// Why the program stops.
+/// Why the program stops before everything is done.
 #[derive(Debug, Drop)]
 pub enum Stop {
-    /// The words of the command line ask for nothing that can be done, or only for help.
+    /// The arguments are invalid, or ask only for help or the version.
     Command(CommandFault),
-    /// The zone file of that name can't be loaded.
+    /// The zone file with this name can't be loaded.
     Zones(String, LoadFault),
-    /// The rule of the local zone is none.
+    /// The POSIX rule given for the local zone is invalid.
     LocalRule,
-    /// The local zone isn't in the table.
+    /// The name given for the local zone is not in the table.
     LocalName,
-    /// The clock gives no instant.
+    /// The clock shows no time, or one outside the supported range.
     Clock,
-    /// The file of that name can't be opened.
+    /// The timer file at this path can't be opened.
     Open(String),
-    /// The run ended with a fault, or memory was refused before it.
+    /// The run ended early, or allocation failed before the run.
     Run(RunFault),
 }
 
 impl Stop {
-    /// The exit status: 0 for help, 1 for a file or a run and where memory is refused, and else 2.
+    /// Returns the exit status: 0 for help; 1 if the timer file can't be opened, the run ended early or memory ran out;
+    /// and 2 for everything else.
     pub fn status(&self) -> u8
         ensures { result ≡ (shown_stop self.now).status }
     {
@@ -44,7 +45,7 @@ impl Stop {
         }
     }
 
-    /// Where it is reported.
+    /// Returns where the stop is reported.
     pub(crate) fn outlet(&self) -> Outlet
         ensures { result ≡ outlet_of self.now }
     {
@@ -60,15 +61,15 @@ impl Stop {
 /// Where a stop is reported.
 #[derive(Clone, Copy, PartialEq, Eq, Debug)]
 pub(crate) enum Outlet {
-    /// On standard output, as help is.
+    /// Standard output, for help.
     OnOut,
-    /// On standard error.
+    /// Standard error.
     OnErr,
-    /// On standard error, but only once the output is flushed: what couldn't be written, and running out of memory.
+    /// Standard error, but only after the output is flushed. This is for failed outputs, and for running out of memory.
     Later(RunFault),
 }
 
-/// Where it is reported that the words ask for nothing that can be done.
+/// Returns where an error in the arguments, or help, is reported.
 fn command_outlet(fault: &CommandFault) -> Outlet
     ensures { result ≡ command_outlet fault.now }
 {
@@ -83,7 +84,7 @@ fn command_outlet(fault: &CommandFault) -> Outlet
     }
 }
 
-/// Where it is reported that a zone file can't be loaded.
+/// Returns where an unusable zone file is reported.
 fn load_outlet(fault: LoadFault) -> Outlet
     ensures { result ≡ load_outlet fault }
 {
@@ -93,7 +94,7 @@ fn load_outlet(fault: LoadFault) -> Outlet
     }
 }
 
-/// The status where the words ask for nothing that can be done.
+/// Returns the exit status for an error in the arguments, or for help.
 fn command_status(fault: &CommandFault) -> u8
     ensures { result ≡ (command_stop (shown_fault fault.now)).status }
 {
@@ -108,7 +109,7 @@ fn command_status(fault: &CommandFault) -> u8
     }
 }
 
-/// The status where a zone file can't be loaded, whatever its name.
+/// Returns the exit status for a zone file that can't be loaded.
 fn load_status(fault: LoadFault) -> u8
     ensures { result ≡ (load_stop [] fault).status }
 {
@@ -119,7 +120,7 @@ fn load_status(fault: LoadFault) -> u8
     }
 }
 
-/// The status where a run ended with a fault.
+/// Returns the exit status for a run that could not write everything.
 fn fault_status(fault: RunFault) -> u8
     ensures { result ≡ (fault_stop fault).status }
 {
@@ -128,7 +129,7 @@ fn fault_status(fault: RunFault) -> u8
     }
 }
 
-/// Writes what is said of a stop: its line, the text of help, or nothing where standard error is what failed.
+/// Writes the report of a stop: its error line or the text of help. Writes nothing if standard error is what failed.
 pub fn write_stop<W: Sink>(out: &mut W, stop: &Stop) -> Result<(), WriteFault>
     requires { W.is_failed out.old ≡ false }
     ensures { Puts W.Sink out.old out.new result (text_of stop.now) }
@@ -146,7 +147,7 @@ pub fn write_stop<W: Sink>(out: &mut W, stop: &Stop) -> Result<(), WriteFault>
     }
 }
 
-/// Writes what is said where the words ask for nothing that can be done.
+/// Writes the error line for invalid arguments, or the text of help.
 fn write_command<W: Sink>(out: &mut W, fault: &CommandFault) -> Result<(), WriteFault>
     requires { W.is_failed out.old ≡ false }
     ensures { Puts W.Sink out.old out.new result (command_text fault.now) }
@@ -161,7 +162,7 @@ fn write_command<W: Sink>(out: &mut W, fault: &CommandFault) -> Result<(), Write
     }
 }
 
-/// Writes what is said of the zone file of that name.
+/// Writes the error line for a zone file that can't be loaded.
 fn write_load<W: Sink>(out: &mut W, name: &str, fault: LoadFault) -> Result<(), WriteFault>
     requires { W.is_failed out.old ≡ false }
     ensures { Puts W.Sink out.old out.new result (load_stop name.now fault).err }
@@ -172,7 +173,7 @@ fn write_load<W: Sink>(out: &mut W, name: &str, fault: LoadFault) -> Result<(), 
     }
 }
 
-/// Writes the line of a zone file.
+/// Writes an error line about a zone file, with its name and the message.
 fn write_zones<W: Sink>(out: &mut W, name: &str, words: &str) -> Result<(), WriteFault>
     requires { W.is_failed out.old ≡ false }
     ensures { Puts W.Sink out.old out.new result (zones_line name.now words.now) }
@@ -189,7 +190,7 @@ fn write_zones<W: Sink>(out: &mut W, name: &str, words: &str) -> Result<(), Writ
     )
 }
 
-/// Writes the line of a file that can't be opened.
+/// Writes the error line for a timer file that can't be opened.
 fn write_unread<W: Sink>(out: &mut W, path: &str) -> Result<(), WriteFault>
     requires { W.is_failed out.old ≡ false }
     ensures { Puts W.Sink out.old out.new result (unread_line path.now) }
@@ -197,7 +198,7 @@ fn write_unread<W: Sink>(out: &mut W, path: &str) -> Result<(), WriteFault>
     put_pieces(out, &[path.as_bytes(), b": cannot be read\n"])
 }
 
-/// Writes a line of the program's own.
+/// Writes an error line that begins with the program's name.
 #[tactic(auto, unfolding(crate::specs::Stop::own_line))]
 fn write_own<W: Sink>(out: &mut W, words: &str) -> Result<(), WriteFault>
     requires { W.is_failed out.old ≡ false }
@@ -206,7 +207,7 @@ fn write_own<W: Sink>(out: &mut W, words: &str) -> Result<(), WriteFault>
     put_pieces(out, &[b"calendar-analyze: ", words.as_bytes(), b"\n"])
 }
 
-/// The exit status of a run that could write all of its text: 0, or 1 where a text was rejected.
+/// Returns the exit status of a run that could write everything: 0, or 1 if any input was rejected.
 pub fn exit_status(status: Status) -> u8
     ensures { result ≡ exit_status status }
 {

@@ -1,4 +1,4 @@
-//! Laws of the program's whole work. Each is a function that does nothing, and whose contract is the law.
+//! Laws about the program's whole work. Each is a function that does nothing and whose contract is the law.
 
 ghost use Rattle.std.specs.Prelude.{◌≡◌, true, List, ℕ};
 ghost use Rattle.cal_command.specs.CommandLine.{asked_in, takes_arguments};
@@ -9,16 +9,16 @@ ghost use Rattle.cal_work.specs.WorkLaw.{IsOr, TellsAll, known_outcome};
 ghost use Rattle.cal_work.specs.WorkedSystem.{bare_system, daily_world};
 ghost use Rattle.cal_work.specs.Works.{FitsArguments};
 
-/// Where the system tells all of its files and its clock, no read fails and `clap` takes the arguments, the outcome in any
-/// world that fits is the one that goes by the arguments and what is known, and by the zones that `jiff` reads there; or
-/// memory was refused.
+/// If everything about the system's files and clock is known, no read fails and `clap` accepts the arguments, there is
+/// only one possible outcome, unless memory runs out: the one computed from the arguments, the system and the zones
+/// that `jiff` reads.
 pub fn known_systems_decide()
     ensures { (known : Known) (arguments : List (List ℕ)) (world : World) → TellsAll known → takes_arguments arguments ≡ true
         → FitsArguments known arguments world → IsOr (outcome world) (known_outcome known (asked_in arguments) world) }
 {}
 
-/// What that law asks for can be: by a system without files whose clock gives 0, by the arguments `calendar daily`, and by
-/// a world that fits these.
+/// Shows that the conditions of `known_systems_decide` can be met: by a system without files whose clock shows 0, the
+/// arguments `calendar daily`, and a world that fits both.
 pub fn bare_systems_decide()
     ensures all { TellsAll bare_system }
     ensures taken { takes_arguments daily_arguments ≡ true }

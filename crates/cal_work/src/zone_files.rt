@@ -1,4 +1,4 @@
-//! Zone files that are read into the table of zones.
+//! Loads zone files into the table of zones.
 
 ghost use Rattle.std.specs.Prelude.{◌≡◌, true, false, MatchResult, OnErr};
 ghost use Rattle.cal_zone.specs.headline.ZoneName.{is_zone_name};
@@ -9,18 +9,23 @@ use cal_zone::{Rules, ZoneFault, ZoneTable, is_zone_name};
 use std::alloc::Global;
 
 /// Why a zone file can't be loaded.
+///
+/// | number | error |
+/// |---|---|
+/// | 1 | `ReadFailed` |
+/// | 2 | `Zone` |
 #[derive(Clone, Copy, PartialEq, Eq, Debug)]
 pub enum LoadFault {
-    /// The reader failed. Its number is 1.
+    /// Reading the file failed.
     ReadFailed,
-    /// The name or the file is rejected. Its number is 2.
+    /// The name or the contents of the file are rejected.
     Zone(ZoneFault),
 }
 
 impl LoadFault {
     ghost use Rattle.cal_work.specs.LoadFault.{words_of};
 
-    /// What is reported to a user; for a rejected name or file these are the words of that fault.
+    /// Returns the message for the user. For `Zone` it is the message of the error inside.
     pub fn words(&self) -> &str
         ensures { result.now ≡ words_of self.now }
     {
@@ -31,12 +36,16 @@ impl LoadFault {
     }
 }
 
-/// Reads a zone file (RFC 8536) and adds its rules to the table under that name.
+/// Reads a zone file (RFC 8536) and adds its rules to the table under `name`.
 ///
-/// A refusal leaves the table as it was. The faults are, in this order: [`ZoneFault::BadName`], for which nothing is
-/// read; [`LoadFault::ReadFailed`] where the reader failed, or [`ZoneFault::TooLarge`] where more than 1,048,576
-/// bytes came; [`ZoneFault::BadFile`]; [`ZoneFault::NameTaken`]. [`ZoneFault::NoMemory`] comes where memory is
-/// refused.
+/// Fails, and leaves the table unchanged, with the first of these errors that applies:
+///
+/// - [`ZoneFault::BadName`] if the name is invalid. Nothing is read then.
+/// - [`LoadFault::ReadFailed`] if reading fails, or [`ZoneFault::TooLarge`] if there are more than 1,048,576 bytes.
+/// - [`ZoneFault::BadFile`] if the bytes are not a valid zone file.
+/// - [`ZoneFault::NameTaken`] if the table has a zone with this name.
+///
+/// Fails with [`ZoneFault::NoMemory`] if allocation fails.
 pub fn load_zone<R: Source>(
     alloc: Global,
     table: &mut ZoneTable,
@@ -58,7 +67,7 @@ pub fn load_zone<R: Source>(
     }
 }
 
-/// The same where the name is known to be of the form of a zone's name.
+/// Like [`load_zone`], for a name that is known to be valid.
 pub(crate) fn load_named<R: Source>(
     alloc: Global,
     table: &mut ZoneTable,

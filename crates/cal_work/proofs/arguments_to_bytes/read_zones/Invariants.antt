@@ -1,4 +1,4 @@
--- What was found of the files so far goes on with whatever is found of those that are left.
+-- Whatever is found of the remaining files continues what was found so far.
 use Rattle.std.proofs.Common.{drop, map}
 use Rattle.cal_command.specs.Ask.{shown_item}
 use Rattle.cal_work.proofs.WorkLemmas.{GoesOn}
