@@ -1,4 +1,4 @@
-//! Readers and writers that end, fail or never end, and what is read and written through them.
+//! Reading and writing through sources and sinks that end, fail or never end.
 
 use cal_base::{
     Faulty, Output, Port, Sink, Source, Then, WholeFault, WriteFault, put_all, read_whole,
@@ -8,34 +8,35 @@ use std::io::BufWriter;
 use std::process::Abort;
 use std::test::Fail;
 
-/// A reader's bytes, how many it gives a call, what it does from their end on, the limit of the reading, its fault,
-/// and how many calls are made: one for each piece, and one that finds the end or the failure.
+/// A test of `read_whole`: the bytes of the source, how many of them each call returns, what the source does after its
+/// last byte, the limit, the expected error, and the expected number of calls. There is one call for each piece, and
+/// one more that finds the end or the failure.
 type Reading = (&'static str, usize, Then, usize, Option<WholeFault>, u64);
 
 static READINGS: [Reading; 8] = [
     ("abcde", 1, Then::Zero, 5, None, 6),
     ("abcde", 3, Then::Zero, 9, None, 3),
-    // An empty reader at limit 0.
+    // An empty source, with a limit of 0.
     ("", 1, Then::Zero, 0, None, 1),
     // Exactly as many bytes as the limit.
     ("0123456789", 1, Then::Zero, 10, None, 11),
-    // The reader fails at its third call, whatever the limit is.
+    // The source fails at its third call, before the limit is reached.
     ("xx", 1, Then::Error, 9, Some(WholeFault::ReadFailed), 3),
-    // One byte more than the limit came before it would have failed.
+    // The byte over the limit arrives before the source would have failed.
     ("xx", 1, Then::Error, 1, Some(WholeFault::TooLarge), 2),
-    // A reader that never ends is called at most once more than the limit.
+    // An endless source: reading stops with the first byte over the limit.
     ("", 1, Then::Endless, 10, Some(WholeFault::TooLarge), 11),
     ("xxx", 1, Then::Endless, 0, Some(WholeFault::TooLarge), 1),
 ];
 
-/// Reads the whole of a reader; gives the bytes or the fault, and how many calls were made.
+/// Reads a source to its end. Returns the bytes or the error, and the number of calls made.
 fn read(alloc: Global, reader: Faulty, limit: usize) -> (Result<Vec<u8>, WholeFault>, u64) {
     let mut port = Port::new(reader);
     let whole = read_whole(alloc, &mut port, limit);
     (whole, port.into_inner().calls())
 }
 
-/// The reading gives the reader's bytes or the fault, after that many calls.
+/// Reads the source, and expects its bytes or the error of the test, after the expected number of calls.
 fn expect_reading(rt: &(impl Abort + AllocGlobal), reading: Reading) -> Result<(), Fail> {
     let (text, step, then, limit, wanted, calls) = reading;
     assert!(rt; step > 0);
@@ -47,7 +48,7 @@ fn expect_reading(rt: &(impl Abort + AllocGlobal), reading: Reading) -> Result<(
     Ok(())
 }
 
-/// Whether what was read is the text, or its fault the one that is wanted.
+/// Returns whether the result is `text`, or the error `wanted`.
 fn is_wanted(text: &str, wanted: Option<WholeFault>, whole: &Result<Vec<u8>, WholeFault>) -> bool {
     match whole {
         Ok(whole) => wanted.is_none() && whole.as_slice() == text.as_bytes(),
@@ -55,7 +56,6 @@ fn is_wanted(text: &str, wanted: Option<WholeFault>, whole: &Result<Vec<u8>, Who
     }
 }
 
-/// Each reading is as its row says.
 fn expect_readings(rt: &(impl Abort + AllocGlobal), readings: &[Reading]) -> Result<(), Fail> {
     for reading in readings {
         expect_reading(rt, *reading)?;
@@ -68,7 +68,7 @@ fn reads_whole(rt: HostRuntime) -> Result<(), Fail> {
     expect_readings(&rt, &READINGS)
 }
 
-/// Makes the next call of a reader, which has to give that many bytes, and then to hold these; or to fail.
+/// Expects the next call to return `count` bytes (or to fail, for `None`), and `into` to hold `held` afterwards.
 fn expect_fetch(
     rt: &impl Abort,
     reader: &mut Port<Faulty>,
@@ -105,8 +105,8 @@ fn readers_end_or_go_on(rt: HostRuntime) {
     }
 }
 
-/// How many bytes of `abc` a writer takes a call and in all, what it does from there on, the bytes that it has then,
-/// and how many calls are made.
+/// A sink that `abc` is written to: how many bytes it takes in each call and in all, what it does after that, the bytes
+/// it has in the end, and the expected number of calls.
 type Writer = (usize, usize, Then, &'static str, u64);
 
 static WRITERS: [Writer; 8] = [
@@ -115,20 +115,20 @@ static WRITERS: [Writer; 8] = [
     (1, 2, Then::Error, "ab", 3),
     (3, 1, Then::Interrupted, "a", 2),
     (1, 0, Then::Interrupted, "", 1),
-    // That nothing is taken is a failure.
+    // A call that takes 0 bytes is a failure.
     (1, 0, Then::Zero, "", 1),
     (1, 2, Then::Zero, "ab", 3),
     (9, 2, Then::Endless, "ab", 2),
 ];
 
-/// The fault of writing `abc` to a writer, and the writer.
+/// Writes `abc` to a sink. Returns the error, if any, and the sink.
 fn write(writer: Faulty) -> (Option<WriteFault>, Faulty) {
     let mut port = Port::new(writer);
     let fault = put_all(&mut port, b"abc").err();
     (fault, port.into_inner())
 }
 
-/// A text is written by as many calls as it takes, and where the writer fails, a prefix of it was written.
+/// Expects each sink to get all of `abc` or, if it fails, a prefix.
 fn expect_written(rt: &(impl Abort + AllocGlobal), writers: &[Writer]) {
     for (step, limit, then, written, calls) in writers {
         assert!(rt; *step > 0);
@@ -143,8 +143,8 @@ fn writes_until_it_fails(rt: HostRuntime) {
     expect_written(&rt, &WRITERS);
 }
 
-/// What a buffer answers to `abc` and to being flushed over a writer that takes that many bytes, whether it has failed, and
-/// the writer.
+/// Offers `abc` to a buffer over a sink that takes `limit` bytes, and flushes it. Returns the results of the two calls
+/// and whether the buffer has failed, together with the sink.
 fn hold_back(alloc: Global, limit: usize) -> Result<((Option<usize>, bool, bool), Faulty), Fail> {
     let writer = Faulty::new(Vec::new(alloc), 2, limit, Then::Error);
     let mut port = Port::new(BufWriter::new(alloc, writer)?);
@@ -153,7 +153,7 @@ fn hold_back(alloc: Global, limit: usize) -> Result<((Option<usize>, bool, bool)
     Ok((answers, writer))
 }
 
-/// What a buffer holds back goes out when it is flushed, as far as the writer takes it.
+/// A buffer passes on what it holds when it is flushed, as far as the sink takes it.
 #[test]
 fn held_back_until_flushed(rt: HostRuntime) -> Result<(), Fail> {
     for (limit, is_flushed, written) in [(3, true, "abc"), (2, false, "ab")] {

@@ -1,5 +1,5 @@
-//! The elapses of expressions in zones, one list of them and several as one. Expected instants are worked out by hand,
-//! or by a plain filter over all local seconds.
+//! The elapses of expressions in zones, each by itself and several merged. Expected instants are worked out by hand, or
+//! found by testing every local second.
 
 mod filter;
 mod merges;
@@ -14,14 +14,14 @@ use std::alloc::Global;
 use std::process::Abort;
 use std::test::Fail;
 
-/// Whether a local second matches.
+/// Returns whether the expression matches a local second.
 fn has_local(expr: &Expr, local: i64) -> bool
     requires { IsLocalSecond local }
 {
     expr.has(local)
 }
 
-/// The elapses of an expression in a zone that are later than a base.
+/// Returns the elapses of an expression that are later than `base`.
 fn elapses_from<'z>(
     alloc: Global,
     expr: &Expr,
@@ -31,7 +31,7 @@ fn elapses_from<'z>(
     Ok(Elapses::new(alloc, expr, zone, instant(base)?)?)
 }
 
-/// The elapses of a text in a zone that are later than a base.
+/// Parses an expression and returns its elapses that are later than `base`.
 pub(crate) fn elapses_of<'z>(
     alloc: Global,
     text: &str,
@@ -42,7 +42,7 @@ pub(crate) fn elapses_of<'z>(
     elapses_from(alloc, &expr, zone, base)
 }
 
-/// The source answers with these, one after another, and has each before it gives it.
+/// Expects the source to return these values in this order. Before each one, `has` must not deny it.
 fn expect_answers<S: Rising>(rt: &impl Abort, source: &mut S, answers: &[Option<i64>]) {
     for answer in answers {
         if let Some(number) = *answer {
@@ -52,10 +52,10 @@ fn expect_answers<S: Rising>(rt: &impl Abort, source: &mut S, answers: &[Option<
     }
 }
 
-/// A text, a base, and the first answers of the elapses after it.
+/// An expression, a base time, and the first elapses after it; `None` if there are no more.
 type Row = (&'static str, i64, &'static [Option<i64>]);
 
-/// The elapses of each text after its base begin with these answers.
+/// Expects the first elapses of each expression to be those of its row.
 fn expect_elapses(
     rt: &(impl Abort + AllocGlobal),
     zone: Zone<'_>,
@@ -68,15 +68,15 @@ fn expect_elapses(
     Ok(())
 }
 
-/// How far a clock is ahead of UTC, and a row of it.
+/// UTC offsets in seconds, each with a row for a zone at that offset.
 static AT_OFFSETS: [(i32, Row); 6] = [
-    // The last second west of UTC, and from that instant on.
+    // The last local second of 2199 at -10:00. It elapses after 2199 has ended in UTC, and it is the last elapse.
     (
         -36_000,
         ("23:59:59", 7_258_118_398, &[Some(7_258_154_399), None]),
     ),
     (-36_000, ("23:59:59", 7_258_154_399, &[None])),
-    // Every second.
+    // Every second, from two bases.
     (
         19_800,
         (
@@ -97,7 +97,8 @@ static AT_OFFSETS: [(i32, Row); 6] = [
             &[Some(1_704_067_203), Some(1_704_067_204)],
         ),
     ),
-    // Farthest east, where the first midnight lies before 1970, and farthest west, up to the last instant.
+    // At the largest offset east the first local midnights are before 1970, and at the largest offset west the elapses
+    // go up to the last supported instant.
     (93_599, ("daily", 0, &[Some(79_201)])),
     (
         -93_599,
@@ -114,8 +115,9 @@ fn at_offsets(rt: HostRuntime) -> Result<(), Fail> {
     Ok(())
 }
 
-/// One search by `new`, one for each of the seconds from the base less 93,599 to the third elapse plus 93,599, and so
-/// one more than these. Each ends in the month in which it begins, and looks only at that one.
+/// Counts the searches for an expression that matches every second. `new` makes one search, and each of the 187,202
+/// seconds from 93,599 before the base to 93,599 after the third elapse takes one more, whatever the zone. No search
+/// examines a month other than the one that it starts in.
 #[test]
 fn searches_of_every_second(rt: HostRuntime) -> Result<(), Fail> {
     let mut elapses = elapses_of(rt.alloc(), "*:*:*", Zone::utc(), NEW_YEAR)?;
@@ -127,13 +129,13 @@ fn searches_of_every_second(rt: HostRuntime) -> Result<(), Fail> {
     Ok(())
 }
 
-/// The next elapse, and how many searches were made by then.
+/// Returns the next elapse and the number of searches made so far.
 fn next_counted(elapses: &mut Elapses<'_>) -> (Option<i64>, u64) {
     let elapse = elapses.next();
     (elapse, elapses.searches())
 }
 
-/// A search without a match is one, and a call after the last elapse makes none.
+/// A search that finds nothing is counted too. After the last elapse there are no more searches.
 #[test]
 fn searches_to_the_end(rt: HostRuntime) -> Result<(), Fail> {
     let mut elapses = elapses_of(rt.alloc(), "2024-01-02", Zone::utc(), NEW_YEAR)?;

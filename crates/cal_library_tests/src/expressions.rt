@@ -1,4 +1,5 @@
-//! Calendar expressions: what is wrong with a text that is none, the normal text of one, and which seconds it has.
+//! Calendar expressions: the error for each kind of invalid expression, the normal form of valid ones, and their
+//! accessors.
 
 use cal_base::Port;
 use cal_spec::{SpecFault, read_expr, write_expr};
@@ -12,7 +13,7 @@ mod normal_texts;
 mod offsets;
 mod refusals;
 
-/// The text is an expression with this normal text.
+/// Expects `text` to be a valid expression with this normal form.
 fn expect_normal_text(rt: &impl Abort, alloc: Global, text: &str, normal: &str) {
     let mut out = Port::new(Vec::new(alloc));
     match read_expr(alloc, text) {
@@ -26,7 +27,7 @@ fn expect_normal_text(rt: &impl Abort, alloc: Global, text: &str, normal: &str) 
     );
 }
 
-/// The text is no expression, for this fault.
+/// Expects `text` to be rejected with this error.
 fn expect_fault(rt: &impl Abort, alloc: Global, text: &str, fault: SpecFault) {
     assert_eq!(rt; read_expr(alloc, text).err(), Some(fault), "at {text:?}");
 }

@@ -1,4 +1,4 @@
-//! Instants: what a clock shows at them, and how they are written.
+//! Instants: the local time that a clock shows, and how instants are printed.
 
 use crate::shared::{SUMMER_TIME, instant, posix, zone_file_of_2024};
 use cal_base::{Clock, Instant, Port, Rules, ShortText, Zone, civil, write_instant};
@@ -6,14 +6,15 @@ use std::alloc::Global;
 use std::process::Abort;
 use std::test::Fail;
 
-/// The text of an instant.
+/// Returns the printed instant, or `None` if writing it fails.
 fn text_of(alloc: Global, zone: Zone, instant: Instant) -> Option<Vec<u8>> {
     let mut out = Port::new(Vec::new(alloc));
     write_instant(&mut out, zone, instant).ok()?;
     Some(out.into_inner())
 }
 
-/// The clock of a zone shows that many seconds of Unix time as a text, also where one clock shows them one after another.
+/// Expects each instant to be printed with the text next to it, by `write_instant` and by one `Clock` that shows them
+/// all one after another.
 fn expect_texts(
     rt: &(impl Abort + AllocGlobal),
     zone: Zone,
@@ -42,7 +43,7 @@ fn in_utc(rt: HostRuntime) -> Result<(), Fail> {
         &[
             (1_582_934_400, "Sat 2020-02-29 00:00:00 UTC"),
             (0, "Thu 1970-01-01 00:00:00 UTC"),
-            // The last second of 2199, the same ten hours west of UTC, and the last instant.
+            // The last second of 2199 in UTC, the last second of 2199 at -10:00, and the last supported instant.
             (7_258_118_399, "Tue 2199-12-31 23:59:59 UTC"),
             (7_258_154_399, "Wed 2200-01-01 09:59:59 UTC"),
             (7_258_211_998, "Thu 2200-01-02 01:59:58 UTC"),
@@ -50,16 +51,16 @@ fn in_utc(rt: HostRuntime) -> Result<(), Fail> {
     )
 }
 
-/// How far a clock is ahead of UTC, seconds of Unix time, and their text.
+/// UTC offsets in seconds, each with an instant and how it is printed at that offset.
 static BY_OFFSET: [(i32, i64, &str); 7] = [
     (0, 0, "Thu 1970-01-01 00:00:00 +00:00"),
-    // Offsets with seconds, to the farthest ones.
+    // Offsets with seconds, up to the largest ones.
     (3_208, 0, "Thu 1970-01-01 00:53:28 +00:53:28"),
     (-93_599, 100_000, "Thu 1970-01-01 01:46:41 -25:59:59"),
     (93_599, 79_201, "Sat 1970-01-03 00:00:00 +25:59:59"),
-    // The last second west of UTC.
+    // The last second of 2199 at -10:00.
     (-36_000, 7_258_154_399, "Tue 2199-12-31 23:59:59 -10:00"),
-    // Less than an hour west.
+    // Less than an hour west of UTC.
     (-1, 0, "Wed 1969-12-31 23:59:59 -00:00:01"),
     (-60, 0, "Wed 1969-12-31 23:59:00 -00:01"),
 ];
@@ -73,18 +74,18 @@ fn at_offsets(rt: HostRuntime) -> Result<(), Fail> {
     Ok(())
 }
 
-/// Before and after the clock goes forward and back, and the two times at which it shows the same.
+/// Instants around the two transitions of 2024, and the two instants that show the same local time.
 static IN_2024: [(i64, &str); 6] = [
     (1_711_762_200, "Sat 2024-03-30 02:30:00 +01:00"),
     (1_711_846_799, "Sun 2024-03-31 01:59:59 +01:00"),
     (1_711_846_800, "Sun 2024-03-31 03:00:00 +02:00"),
     (1_729_989_000, "Sun 2024-10-27 02:30:00 +02:00"),
     (1_729_992_600, "Sun 2024-10-27 02:30:00 +01:00"),
-    // The year after the two changes that a zone file lists.
+    // In the year after the transitions that the zone file lists.
     (1_751_328_000, "Tue 2025-07-01 02:00:00 +02:00"),
 ];
 
-/// By a rule, and by a zone file that has the changes of that year in its table.
+/// The zone is given by a POSIX rule first, and then by a zone file that lists the transitions of 2024.
 #[test]
 fn by_rules(rt: HostRuntime) -> Result<(), Fail> {
     let rules = posix(rt.alloc(), SUMMER_TIME)?;

@@ -1,5 +1,5 @@
-//! The tests of the library, only on public calls: a module for each subject, in which each row has its name. What
-//! the contracts say of all arguments is not tested again.
+//! Tests of the library through its public functions, one module for each subject. What a contract proves for all
+//! arguments is not tested again.
 #![tactic(auto)]
 
 #[cfg(test)]

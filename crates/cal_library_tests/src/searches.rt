@@ -1,4 +1,4 @@
-//! The search for the next matching local second, and what it is built on: rows worked out by hand.
+//! The search for the next matching local second, and the bit sets below it. Expected results are worked out by hand.
 
 ghost use Rattle.std.specs.Prelude.{◌≡◌, []};
 
@@ -9,7 +9,7 @@ use std::alloc::AllocError;
 use std::process::Abort;
 use std::test::Fail;
 
-/// What the search finds from a local second on; `None` where it can't begin there.
+/// Searches from a local second on. Returns `None` if `from` is outside the supported range.
 fn found_from(expr: &Expr, from: i64) -> Option<Found> {
     if from < 0 || from > 7_258_118_400 {
         return None;
@@ -17,25 +17,25 @@ fn found_from(expr: &Expr, from: i64) -> Option<Found> {
     Some(next_local(&Masks::of(expr), from))
 }
 
-/// Expressions, from which local second on they are sought, the local second that is found, and how many months are
-/// looked at.
+/// An expression, the local second where the search starts, the expected match, and the expected number of months
+/// examined.
 type Search = (&'static str, i64, Option<i64>, u32);
 
 static SEARCHES: [Search; 8] = [
-    // Leap days: the first one, the one after it, over the year 2100, which has none, and after the last one.
+    // Leap days: the first one, the next one, the one after 2096, since the year 2100 has none, and the end of the
+    // range.
     ("*-2-29 0:0:0", 0, Some(68_169_600), 3),
     ("*-2-29 0:0:0", 68_169_601, Some(194_400_000), 5),
     ("*-2-29 0:0:0", 3_981_398_400, Some(4_233_686_400), 8),
     ("*-2-29 0:0:0", 7_258_118_400, None, 0),
-    // A date that isn't its weekday, and the 31st of all months that have none.
+    // A date that doesn't fall on the given weekday, and day 31 of all the months that don't have one.
     ("Mon 2024-01-02", 0, None, 1),
     ("*-2,4,6,9,11-31", 0, None, 1_150),
-    // The last second, and the next year's month.
+    // The last second of the range, and a match in the next year.
     ("*:*:*", 7_258_118_399, Some(7_258_118_399), 1),
     ("*-1-31 0:0:0", 2_592_001, Some(34_128_000), 2),
 ];
 
-/// Each search finds what its row says.
 fn expect_found(rt: &(impl Abort + AllocGlobal), searches: &[Search]) -> Result<(), Fail> {
     for (text, from, local, months) in searches {
         let found = found_from(&expr(rt.alloc(), text)?, *from);
@@ -50,7 +50,7 @@ fn finds_the_next(rt: HostRuntime) -> Result<(), Fail> {
     expect_found(&rt, &SEARCHES)
 }
 
-/// Puts two instants into an empty set, which differ by at most 187,199, and the first of them once more.
+/// Puts two instants into an empty set, and then the first one again. They may be at most 187,199 seconds apart.
 pub(crate) fn put_three(rt: &impl Abort, pending: &mut Pending, one: i64, other: i64)
     requires { pending.old ≡ [] }
 {
@@ -62,7 +62,7 @@ pub(crate) fn put_three(rt: &impl Abort, pending: &mut Pending, one: i64, other:
     pending.put(one);
 }
 
-/// The set gives these, and then nothing.
+/// Expects the set to return these instants from the earliest to the latest, and then to be empty.
 pub(crate) fn expect_members(rt: &impl Abort, pending: &mut Pending, members: &[i64]) {
     for member in members {
         let answers = (pending.least(), pending.take_least());
@@ -71,8 +71,8 @@ pub(crate) fn expect_members(rt: &impl Abort, pending: &mut Pending, members: &[
     assert_eq!(rt; (pending.least(), pending.take_least()), (None, None));
 }
 
-/// Two instants, and the order in which the set gives them: the second and the third pair lie past the end of a round of
-/// 187,200 seconds, and so far from one another as members may.
+/// Pairs of instants, and the order in which the set returns them. The set is a ring of 187,200 seconds: the second
+/// pair is on both sides of its end, and the third pair is as far apart as instants in the set may be.
 static PAIRS: [(i64, i64, [i64; 2]); 3] = [
     (100, 50, [50, 100]),
     (187_199, 187_201, [187_199, 187_201]),
@@ -89,7 +89,7 @@ fn each_once_rising(rt: HostRuntime) -> Result<(), AllocError> {
     Ok(())
 }
 
-/// No word, and as many words as the set of pending instants has: without one that is set, and with the last one.
+/// No words at all, and as many words as the set of pending instants has: first all 0, then only the last one not 0.
 #[test]
 fn first_word(rt: HostRuntime) {
     let mut words = [0; 2_925];
@@ -98,7 +98,7 @@ fn first_word(rt: HostRuntime) {
     assert_eq!(rt; first_set(&words), Some(2_924));
 }
 
-/// One word that isn't 0, at each index of each length up to 70.
+/// The single word that is not 0 is found at every index of every length up to 70.
 #[test]
 fn each_index(rt: HostRuntime) {
     for length in 0..=70 {

@@ -1,5 +1,5 @@
-//! What the modules of both crates of tests share: values that are read from texts which are known to be good. Where one is
-//! refused, or memory is, the test fails.
+//! Constants and helpers that both test crates use. The helpers parse inputs that are known to be valid, and the test
+//! fails if one is rejected or allocation fails.
 
 use cal_base::{Instant, Rules};
 use cal_spec::{Expr, read_expr};
@@ -9,18 +9,18 @@ use std::test::Fail;
 /// Mon 2024-01-01 00:00:00 UTC, in seconds of Unix time.
 pub const NEW_YEAR: i64 = 1_704_067_200;
 
-/// The rule of a clock that is an hour ahead of UTC, and two in summer.
+/// A POSIX rule: one hour ahead of UTC, two hours in summer.
 pub const SUMMER_TIME: &str = "CET-1CEST,M3.5.0,M10.5.0/3";
 
-/// The rule of a clock that goes forward an hour, and back ten minutes later.
+/// A POSIX rule that goes forward by an hour, and back ten minutes later.
 pub const FORWARD_AND_BACK: &str = "AAA0BBB,M3.5.0/2,M3.5.0/3:10";
 
-/// The expression that a text is.
+/// Parses a calendar expression.
 pub fn expr(alloc: Global, text: &str) -> Result<Expr, Fail> {
     Ok(read_expr(alloc, text)?)
 }
 
-/// The rules that a POSIX rule says.
+/// Parses a POSIX rule.
 pub fn posix(alloc: Global, rule: &str) -> Result<Rules, Fail> {
     let Ok(rules) = Rules::posix(alloc, rule) else {
         return Err("a rule is refused".into());
@@ -28,16 +28,16 @@ pub fn posix(alloc: Global, rule: &str) -> Result<Rules, Fail> {
     Ok(rules)
 }
 
-/// The instant at a second of Unix time, from 0 to 7,258,211,998.
+/// Returns the instant at `secs` seconds of Unix time, which must be from 0 to 7,258,211,998.
 pub fn instant(secs: i64) -> Result<Instant, Fail> {
     Ok(Instant::new(secs).ok_or("no instant")?)
 }
 
-/// The header and the data of a zone file of version 2 with one local time type, 3,600 seconds east of UTC.
+/// The header and data of a version 2 zone file with a single local time type, 3,600 seconds east of UTC.
 const BLOCK: [u8; 54] =
     *b"TZif2\0\0\0\0\0\0\0\0\0\0\0\0\0\0\0\0\0\0\0\0\0\0\0\0\0\0\0\0\0\0\0\0\0\0\x01\0\0\0\x04\0\0\x0e\x10\0\0CET\0";
 
-/// That file of 115 bytes, with the footer `CET-1`.
+/// Returns a zone file of 115 bytes with one local time type and the footer `CET-1`.
 pub fn zone_file(alloc: Global) -> Result<Vec<u8>, AllocError> {
     let mut bytes = Vec::from_slice(alloc, &BLOCK)?;
     bytes.extend_from_slice(&BLOCK)?;
@@ -45,13 +45,13 @@ pub fn zone_file(alloc: Global) -> Result<Vec<u8>, AllocError> {
     Ok(bytes)
 }
 
-/// The header and the data of a zone file of version 2 with two local time types, an hour and two hours east of UTC, and
-/// with the changes of 2024: to summer time at 1,711,846,800, and back at 1,729,990,800.
+/// The header and data of a version 2 zone file with two local time types, one hour and two hours east of UTC, and the
+/// transitions of 2024: to summer time at 1,711,846,800, and back at 1,729,990,800.
 const BLOCK_OF_2024: [u8; 83] =
     *b"TZif2\0\0\0\0\0\0\0\0\0\0\0\0\0\0\0\0\0\0\0\0\0\0\0\0\0\0\0\0\0\0\x02\0\0\0\x02\0\0\0\x09\
 \0\0\0\0\x66\x08\xb5\x90\0\0\0\0\x67\x1d\x90\x90\x01\0\0\0\x0e\x10\0\0\0\0\x1c\x20\x01\x04CET\0CEST\0";
 
-/// The file with these changes, and after them the rule [`SUMMER_TIME`].
+/// Returns a zone file with the transitions of 2024, whose footer is the rule [`SUMMER_TIME`].
 pub fn zone_file_of_2024(alloc: Global) -> Result<Vec<u8>, AllocError> {
     let mut bytes = Vec::from_slice(alloc, &BLOCK)?;
     bytes.extend_from_slice(&BLOCK_OF_2024)?;
@@ -61,7 +61,8 @@ pub fn zone_file_of_2024(alloc: Global) -> Result<Vec<u8>, AllocError> {
     Ok(bytes)
 }
 
-/// The first two sections of a unit file; the first expression is dropped, and the second one is continued.
+/// A timer file with two sections. `OnBootSec=` drops the first expression, and the second one is continued after a
+/// comment.
 pub const TIMER_FILE: &[u8] = b"\
 [Unit]
 Description=x
@@ -74,7 +75,7 @@ OnCalendar=Mon \\
 OnCalendar=hourly
 ";
 
-/// A timer file with an exception; a reset of the expressions leaves it.
+/// A timer file with an exception. `OnBootSec=` drops the first expression, but not the exception.
 pub const EXCEPT_FILE: &[u8] = b"\
 [Timer]
 OnCalendar=daily

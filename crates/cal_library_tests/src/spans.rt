@@ -1,27 +1,28 @@
-//! Time spans: what texts are read as, what they are rejected for, and how spans are written. The values are those of
-//! systemd.time(7), Parsing Time Spans, worked out by hand.
+//! Time spans: how they are parsed, why they are rejected and how they are printed. The values follow systemd.time(7),
+//! Parsing Time Spans, and are worked out by hand.
 
 use cal_base::{Port, Span, SpanFault, read_span, write_span};
 use std::alloc::Global;
 use std::process::Abort;
 use std::test::Fail;
 
-/// Texts with their microseconds, and how spans of these are written.
+/// Spans, their length in microseconds, and how that length is printed.
 static READ_AND_WRITTEN: [(&str, u64, &str); 11] = [
-    // Span list: a year and a microsecond, parts without blanks, a number without a unit, and nothing.
+    // A fraction down to the microsecond, parts without blanks between them, a number without a unit, zero, and seconds
+    // that make up whole minutes.
     ("1year 0.000001s", 31_557_600_000_001, "1y 1us"),
     ("300ms20s 5day", 432_020_300_000, "5d 20s 300ms"),
     (".7", 700_000, "700ms"),
     ("0", 0, "0"),
     ("300s", 300_000_000, "5min"),
-    // Fractions: one that is met exactly, and two whose digits are rounded down one by one.
+    // A fraction with an exact value, and two whose digits are rounded down one by one.
     ("1.5h", 5_400_000_000, "1h 30min"),
     ("0.0000019s", 1, "1us"),
     ("1.0000001h", 3_600_000_360, "1h 360us"),
-    // Thirty days are no month, and a month is a twelfth of a year.
+    // Thirty days are not a month: a month is a twelfth of a year.
     ("30d", 2_592_000_000_000, "4w 2d"),
     ("1M 1m", 2_629_860_000_000, "1month 1min"),
-    // The greatest span.
+    // The largest span.
     (
         "9223372036854775807us",
         9_223_372_036_854_775_807,
@@ -29,12 +30,12 @@ static READ_AND_WRITTEN: [(&str, u64, &str); 11] = [
     ),
 ];
 
-/// Pairs of a number and a unit, added up.
+/// Pairs of a number and a unit are added up.
 const SUMS: &str = "\
 5 5 -> 10000000|5\t5 -> 10000000| \t5 \t s\t  -> 5000000|1y2months3w4d5h6min7s8ms9us -> 38995567008009|\
 1. -> 1000000|.5 -> 500000|1.h -> 3600000000";
 
-/// Each spelling of each unit.
+/// Every spelling of every unit.
 const UNIT_WORDS: &str = "\
 3usec -> 3|3us -> 3|3\u{b5}s -> 3|3\u{3bc}s -> 3|3 \u{3bc}s 4\u{b5}s -> 7|3msec -> 3000|3ms -> 3000|\
 3seconds -> 3000000|3second -> 3000000|3sec -> 3000000|3s -> 3000000|3minutes -> 180000000|3minute -> 180000000|\
@@ -43,7 +44,7 @@ const UNIT_WORDS: &str = "\
 3week -> 1814400000000|3w -> 1814400000000|3months -> 7889400000000|3month -> 7889400000000|3M -> 7889400000000|\
 3years -> 94672800000000|3year -> 94672800000000|3y -> 94672800000000";
 
-/// Digits after the point, each rounded down by itself.
+/// Each digit after the point is rounded down by itself.
 const FRACTIONS: &str = "\
 0.00000009min -> 5|0.000000019min -> 0|0.9us -> 0|0.1y -> 3155760000000|0.99999y -> 31557284424000|\
 0.999999999999999999999999999999y -> 31557599999997|0.123456789012345678901234567890y -> 3895999964934|\
@@ -58,12 +59,12 @@ const FRACTIONS: &str = "\
 0.123456789012345678901234567890s -> 123456|0.1ms -> 100|0.999999999999999999999999999999ms -> 999|\
 0.123456789012345678901234567890ms -> 123|0.999999999999999999999999999999us -> 0";
 
-/// Up to the greatest span.
+/// Spans up to the largest one.
 const UP_TO_THE_LIMIT: &str = "\
 9223372036854775806us 1us -> 9223372036854775807|9223372036854.775807 -> 9223372036854775807|\
 1000000000000000000us -> 1000000000000000000|0000000000000000000000001us -> 1";
 
-/// Above the greatest span.
+/// Spans above the largest one.
 static ABOVE_THE_LIMIT: [(SpanFault, &str); 1] = [(
     SpanFault::TooLarge,
     "\
@@ -72,7 +73,7 @@ static ABOVE_THE_LIMIT: [(SpanFault, &str); 1] = [(
 5s 18446744073709551615y",
 )];
 
-/// The first fault from the left.
+/// If several parts are invalid, the leftmost error is reported.
 static FIRST_FAULTS: [(SpanFault, &str); 4] = [
     (SpanFault::Empty, "| \t "),
     (
@@ -88,12 +89,12 @@ static FIRST_FAULTS: [(SpanFault, &str); 4] = [
     (SpanFault::TooLarge, "99999999999999999999 1..5"),
 ];
 
-/// The microseconds of a text, or its fault.
+/// Parses a span and returns its microseconds.
 fn micros(text: &str) -> Result<u64, SpanFault> {
     Ok(read_span(text)?.micros())
 }
 
-/// Of the rows, which are joined by `|`, each is a text, an arrow, and its microseconds.
+/// Expects each span to have the microseconds next to it. The rows are separated by `|`.
 fn expect_values(rt: &impl Abort, rows: &str) -> Result<(), Fail> {
     for row in rows.split('|') {
         let (text, wanted) = row.split_once(" -> ").ok_or("no arrow")?;
@@ -103,21 +104,21 @@ fn expect_values(rt: &impl Abort, rows: &str) -> Result<(), Fail> {
     Ok(())
 }
 
-/// Each of the texts, which are joined by `|`, is rejected for the fault.
+/// Expects each span to be rejected with this error. They are separated by `|`.
 fn expect_fault(rt: &impl Abort, fault: SpanFault, texts: &str) {
     for text in texts.split('|') {
         assert!(rt; micros(text) == Err(fault), "at {text:?}");
     }
 }
 
-/// The text of a span.
+/// Returns the printed span, or `None` if writing it fails.
 fn text_of(alloc: Global, span: Span) -> Option<Vec<u8>> {
     let mut out = Port::new(Vec::new(alloc));
     write_span(&mut out, span).ok()?;
     Some(out.into_inner())
 }
 
-/// Each span of that many microseconds is written so.
+/// Expects each length in microseconds to be printed as in its row.
 fn expect_written(rt: &(impl Abort + AllocGlobal), rows: &[(&str, u64, &str)]) -> Result<(), Fail> {
     for (text, micros, human) in rows {
         let span = Span::new(*micros).ok_or("above the limit")?;
@@ -135,7 +136,6 @@ fn reads_and_writes(rt: HostRuntime) -> Result<(), Fail> {
     expect_written(&rt, &READ_AND_WRITTEN)
 }
 
-/// Sums of pairs, every unit word, each digit rounded down, and the limit.
 #[test]
 fn reads(rt: HostRuntime) -> Result<(), Fail> {
     for rows in [SUMS, UNIT_WORDS, FRACTIONS, UP_TO_THE_LIMIT] {
@@ -158,7 +158,7 @@ static FAULTS: [(SpanFault, u8, &str); 4] = [
     (SpanFault::TooLarge, 4, "time span too large"),
 ];
 
-/// Each fault has its number and the words that it is shown by.
+/// Each error has its number, and is shown by its message.
 #[test]
 fn numbers_and_shown_words(rt: HostRuntime) -> Result<(), Fail> {
     for (fault, number, words) in &FAULTS {

@@ -1,4 +1,4 @@
-//! The words and the blanks of texts.
+//! Splitting off words, and trimming blanks.
 
 use cal_base::{first_word, last_word, trim_blanks};
 use std::process::Abort;

@@ -1,4 +1,4 @@
-//! Timer files: the expressions that a file has in the end, and why a file is rejected.
+//! Timer files: which expressions a file ends up with, and why a file is rejected.
 
 use crate::shared::TIMER_FILE;
 use cal_base::Port;
@@ -13,26 +13,26 @@ mod counts;
 mod exceptions;
 mod lines;
 
-/// The expressions of the timer file of nine lines.
+/// The expressions of [`TIMER_FILE`].
 pub(crate) const UNIT_LINES: Lines = &[(6, "Mon  *:0/30"), (9, "hourly")];
 
-/// The expressions and the exceptions of the file with an exception.
+/// The expressions of `EXCEPT_FILE`; its exceptions are `EXCEPT_EXCEPTIONS`.
 pub(crate) const EXCEPT_LINES: Lines = &[(5, "12:00")];
 
 pub(crate) const EXCEPT_EXCEPTIONS: Lines = &[(3, "Sat,Sun 12:00")];
 
-/// The expressions of a file: the number of each one's line, and its text.
+/// Expressions of a file, each with the number of its line.
 pub type Lines = &'static [(u32, &'static str)];
 
-/// A file with its expressions, or with the fault for which it is rejected.
+/// A file, and its expressions or the error it is rejected with.
 type Row = (&'static str, Result<Lines, TimerFault>);
 
-/// What a file of these bytes is read as.
+/// Parses a timer file.
 pub fn read(alloc: Global, file: &[u8]) -> Result<Timer, TimerFault> {
     read_timer(alloc, &mut Port::new(file))
 }
 
-/// The list has these expressions.
+/// Expects the list to have these expressions. `file` only appears in the failure message.
 pub fn expect_list(rt: &impl Abort, list: &[TimerLine], expected: Lines, file: &[u8]) {
     assert!(rt; list.len() == expected.len(), "in {file:?}");
     for (line, (number, text)) in list.iter().zip(expected) {
@@ -43,12 +43,12 @@ pub fn expect_list(rt: &impl Abort, list: &[TimerLine], expected: Lines, file: &
     }
 }
 
-/// The timer has these expressions.
+/// Expects the timer to have these expressions.
 fn expect_lines(rt: &impl Abort, timer: &Timer, expected: Lines, file: &[u8]) {
     expect_list(rt, timer.lines(), expected, file);
 }
 
-/// The file has these expressions, or it is rejected for this fault.
+/// Expects the file to have these expressions, or to be rejected with this error.
 fn expect_file(rt: &impl Abort, alloc: Global, file: &str, expected: &Result<Lines, TimerFault>) {
     match (read(alloc, file.as_bytes()), expected) {
         (Ok(timer), Ok(lines)) => expect_lines(rt, &timer, lines, file.as_bytes()),
@@ -56,14 +56,12 @@ fn expect_file(rt: &impl Abort, alloc: Global, file: &str, expected: &Result<Lin
     }
 }
 
-/// Each file has the expressions beside it, or is rejected for the fault beside it.
 fn expect_files(rt: &impl Abort, alloc: Global, rows: &[Row]) {
     for (file, expected) in rows {
         expect_file(rt, alloc, file, expected);
     }
 }
 
-/// The timer file of nine lines.
 #[test]
 fn timer_file(rt: HostRuntime) -> Result<(), Fail> {
     let timer = read(rt.alloc(), TIMER_FILE)?;

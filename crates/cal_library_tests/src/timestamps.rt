@@ -1,5 +1,5 @@
-//! Timestamps: texts that are timestamps and texts that are none, each with its moment or its fault (systemd.time(7),
-//! Parsing Timestamps), worked out by hand.
+//! Timestamps (systemd.time(7), Parsing Timestamps): valid ones with their moments, and invalid ones with their errors.
+//! The values are worked out by hand.
 
 use crate::shared::instant;
 use cal_base::{Instant, SpanFault, Zone, ZoneTable};
@@ -16,24 +16,24 @@ mod order;
 mod span_texts;
 mod zones;
 
-/// Fri 2012-11-23 10:15:22 UTC.
+/// The present in most of these tests: Fri 2012-11-23 10:15:22 UTC.
 const PRESENT: i64 = 1_353_665_722;
 
-/// What texts mean, of which bars part one from the next: timestamps, each with an arrow and the microseconds of its
-/// moment, and texts that are none, each of which has the fault.
+/// Timestamps, separated by `|`. In `moments`, each has an arrow and the microseconds of its moment; in `refusals` are
+/// the ones that are rejected, by their error.
 struct Table {
     moments: &'static str,
     refusals: &'static [(StampFault, &'static str)],
 }
 
-/// A present, a local zone by its seconds east of UTC (0 for UTC itself), and what texts mean there.
+/// A present, a local zone as its seconds east of UTC (0 for UTC itself), and what timestamps resolve to with both.
 struct Setting {
     now: i64,
     east: i32,
     table: Table,
 }
 
-/// Where and when a text is read: at a present, in a local zone, and with the zones that have a name.
+/// What a timestamp is read against: the present, the local zone and the named zones.
 #[derive(Clone, Copy)]
 struct Place<'a> {
     now: Instant,
@@ -41,7 +41,7 @@ struct Place<'a> {
     table: &'a ZoneTable,
 }
 
-/// A list of timestamps: a text of each form, eight hours ahead of UTC, in UTC, and in UTC a minute after the first moment.
+/// A timestamp of each form: at +08:00, in UTC, and in UTC one minute after the start of 1970.
 static EACH_FORM: [Setting; 3] = [
     Setting {
         now: PRESENT,
@@ -89,19 +89,19 @@ static EACH_FORM: [Setting; 3] = [
     },
 ];
 
-/// The microseconds of the moment that a text means, or its fault.
+/// Parses a timestamp and returns the microseconds of its moment.
 fn micros(place: Place<'_>, text: &str) -> Result<i64, StampFault> {
     let moment = read_stamp(text, place.now, place.local, place.table)?;
     Ok(moment.micros())
 }
 
-/// The text and the microseconds on both sides of an arrow.
+/// Splits a line at its arrow into a timestamp and microseconds.
 fn text_and_micros(line: &str) -> Result<(&str, i64), Fail> {
     let (text, micros) = line.split_once(" -> ").ok_or("no arrow")?;
     Ok((text, micros.parse()?))
 }
 
-/// Each text means the moment of the microseconds beside it.
+/// Expects each timestamp to resolve to the microseconds next to it.
 fn expect_micros(rt: &impl Abort, place: Place<'_>, moments: &str) -> Result<(), Fail> {
     if moments.is_empty() {
         return Ok(());
@@ -113,14 +113,14 @@ fn expect_micros(rt: &impl Abort, place: Place<'_>, moments: &str) -> Result<(),
     Ok(())
 }
 
-/// Each text has the fault.
+/// Expects each timestamp to be rejected with this error.
 fn expect_fault(rt: &impl Abort, place: Place<'_>, fault: StampFault, texts: &str) {
     for text in texts.split('|') {
         assert_eq!(rt; micros(place, text), Err(fault), "at {text:?}");
     }
 }
 
-/// The texts of the table mean what is beside them.
+/// Expects the timestamps of the table to resolve to their moments, or to be rejected with their errors.
 fn expect_moments(
     rt: &impl Abort,
     now: i64,
@@ -140,7 +140,7 @@ fn expect_moments(
     Ok(())
 }
 
-/// The texts of each setting mean what is beside them, where no zone has a name.
+/// Like `expect_moments`, for each setting, with no named zones.
 fn expect_settings(rt: &impl Abort, alloc: Global, settings: &[Setting]) -> Result<(), Fail> {
     let zones = ZoneTable::new(alloc);
     for setting in settings {
@@ -150,12 +150,12 @@ fn expect_settings(rt: &impl Abort, alloc: Global, settings: &[Setting]) -> Resu
     Ok(())
 }
 
-/// The texts mean what is beside them, at the present in UTC.
+/// Like `expect_moments`, at [`PRESENT`] in UTC with no named zones.
 fn expect_in_utc(rt: &impl Abort, alloc: Global, table: &Table) -> Result<(), Fail> {
     expect_moments(rt, PRESENT, Zone::utc(), &ZoneTable::new(alloc), table)
 }
 
-/// The zone that is that many seconds east of UTC, and UTC itself for 0.
+/// Returns the zone this many seconds east of UTC, or UTC itself for 0.
 fn zone_east(rt: &impl Abort, seconds: i32) -> Zone<'static> {
     if seconds == 0 {
         return Zone::utc();

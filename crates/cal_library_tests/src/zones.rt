@@ -1,5 +1,5 @@
-//! Zones: the places of local seconds, the rules that are read and rejected, zones by name, and damaged zone files. What a
-//! rule says is worked out by hand.
+//! Zones: converting local seconds, parsing POSIX rules, finding zones by name, and damaged zone files. Expected values
+//! are worked out by hand.
 
 mod damaged;
 mod names;

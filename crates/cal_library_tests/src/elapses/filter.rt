@@ -1,4 +1,4 @@
-//! Elapses against a plain filter: the places of all local seconds that match.
+//! Elapses compared with a filter that tests every local second.
 
 use super::has_local;
 use super::merges::merge_elapses;
@@ -11,7 +11,8 @@ use std::alloc::AllocError;
 use std::process::Abort;
 use std::test::Fail;
 
-/// From which instant to which the elapses are compared, and how far the zone's clock is from UTC at most.
+/// The range of instants in which elapses are compared, after `base` and up to `limit`, and the largest UTC offset of
+/// the zone in seconds.
 #[derive(Clone, Copy)]
 struct Stretch {
     base: i64,
@@ -19,8 +20,8 @@ struct Stretch {
     farthest: i64,
 }
 
-/// Puts the places of the local seconds that match into a list: those above the base and up to the limit, of all local
-/// seconds that can have such a place.
+/// Appends the instants in the range that have a matching local second. Every local second that could have an instant
+/// in the range is tested.
 fn push_places(
     rt: &impl Abort,
     instants: &mut Vec<i64>,
@@ -45,7 +46,7 @@ fn push_places(
     Ok(())
 }
 
-/// Puts those of the text's expression into the list.
+/// Like `push_places`, for an expression that has yet to be parsed.
 fn push_places_of(
     rt: &(impl Abort + AllocGlobal),
     instants: &mut Vec<i64>,
@@ -57,7 +58,7 @@ fn push_places_of(
     Ok(push_places(rt, instants, &expr, zone, stretch)?)
 }
 
-/// The places of all local seconds that match one of the texts, sorted, each once.
+/// Returns the instants in the range at which any of the expressions elapses: sorted, and each instant once.
 fn by_filter(
     rt: &(impl Abort + AllocGlobal),
     texts: &[&str],
@@ -73,20 +74,20 @@ fn by_filter(
     Ok(instants)
 }
 
-/// The source gives these instants, and then none up to the limit.
+/// Expects the source to return exactly these instants, and after them none up to `limit`.
 fn expect_all<S: Rising>(rt: &impl Abort, source: &mut S, instants: &[i64], limit: i64) {
     expect_first(rt, source, instants);
     assert!(rt; source.next().unwrap_or(i64::MAX) > limit, "after {limit}");
 }
 
-/// The days around the change of a clock that goes forward an hour, and back ten minutes later.
+/// Three days around the clock changes of `FORWARD_AND_BACK`, which goes forward an hour and back ten minutes later.
 const FORWARD_AND_SOON_BACK: Stretch = Stretch {
     base: 1_711_756_800,
     limit: 1_712_016_000,
     farthest: 93_599,
 };
 
-/// Up to the limit the elapses of the texts as one are those of the filter.
+/// Expects the merged elapses of the expressions to be those that the filter finds.
 fn agree(rt: &(impl Abort + AllocGlobal), texts: &[&str]) -> Result<(), Fail> {
     let rules = posix(rt.alloc(), FORWARD_AND_BACK)?;
     let (zone, stretch) = (Zone::rules(&rules), FORWARD_AND_SOON_BACK);
@@ -96,13 +97,13 @@ fn agree(rt: &(impl Abort + AllocGlobal), texts: &[&str]) -> Result<(), Fail> {
     Ok(())
 }
 
-/// Every second of these days.
+/// An expression that matches every second.
 #[test]
 fn forward_and_soon_back(rt: HostRuntime) -> Result<(), Fail> {
     agree(&rt, &["*:*:*"])
 }
 
-/// Two expressions as one on these days.
+/// Two expressions, merged.
 #[test]
 fn merged_forward_and_soon_back(rt: HostRuntime) -> Result<(), Fail> {
     agree(&rt, &["*:0/7:13", "*:*:30"])

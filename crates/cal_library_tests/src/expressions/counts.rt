@@ -1,4 +1,4 @@
-//! How many bytes and how many parts a text may have.
+//! How many bytes and how many parts an expression may have.
 
 use super::{expect_fault, expect_normal_text};
 use cal_spec::SpecFault::{self, *};
@@ -6,15 +6,16 @@ use std::alloc::{AllocError, Global};
 use std::process::Abort;
 use std::test::Fail;
 
-/// Long texts. Each line begins with a count, and in what follows `#` stands for the piece that many times.
+/// Long expressions. Each line begins with a count, and `#` in the line stands for that many copies of `piece`.
 struct Table {
     piece: &'static str,
-    /// After the text an arrow and its normal text.
+    /// Each line is an expression, an arrow and its normal form.
     accepted: &'static str,
     refused: &'static [(SpecFault, &'static str)],
 }
 
-/// 4,096 bytes are allowed, and no more; one too many is reported before all other faults. A zone name has at most 255.
+/// An expression may have up to 4,096 bytes; one byte more is reported before any other error. A zone name may have up
+/// to 255 bytes.
 static BYTES: [Table; 4] = [
     Table {
         piece: " ",
@@ -38,9 +39,8 @@ static BYTES: [Table; 4] = [
     },
 ];
 
-/// The 240th part of a component of a date is allowed, and the next not. Of a component of a time it is the 241st,
-/// since the first one isn't counted. The first part too many is a fault where it is expected: before its shape, and before
-/// the values of its component.
+/// An expression may have up to 240 parts; the first part of the hour, of the minute and of the second is not counted.
+/// The first part over the limit is rejected before it is parsed, and before the values of its component are checked.
 static PARTS: [Table; 1] = [Table {
     piece: ",1",
     accepted: "\
@@ -79,7 +79,7 @@ static PARTS: [Table; 1] = [Table {
     ],
 }];
 
-/// The text with its mark, where it has one, written out.
+/// Replaces the `#` in `text`, if there is one, by `count` copies of `piece`.
 fn written_out(alloc: Global, text: &str, piece: &str, count: u16) -> Result<String, AllocError> {
     let Some((front, back)) = text.split_once("#") else {
         return String::from_str(alloc, text);
@@ -92,13 +92,13 @@ fn written_out(alloc: Global, text: &str, piece: &str, count: u16) -> Result<Str
     Ok(whole)
 }
 
-/// The count and the rest of a line.
+/// Splits a line into its count and the text after it.
 fn split_count(line: &str) -> Result<(u16, &str), Fail> {
     let (count, text) = line.split_once(": ").ok_or("no count")?;
     Ok((count.parse()?, text))
 }
 
-/// Each line is a text with its normal text.
+/// Expects each expression to have the normal form next to it.
 fn expect_accepted(rt: &impl Abort, alloc: Global, piece: &str, lines: &str) -> Result<(), Fail> {
     for line in lines.lines() {
         let (count, rest) = split_count(line)?;
@@ -110,7 +110,7 @@ fn expect_accepted(rt: &impl Abort, alloc: Global, piece: &str, lines: &str) -> 
     Ok(())
 }
 
-/// Each line is a text with this fault.
+/// Expects each expression to be rejected with this error.
 fn expect_refused(
     rt: &impl Abort,
     alloc: Global,
@@ -126,7 +126,7 @@ fn expect_refused(
     Ok(())
 }
 
-/// Each text of the table has the normal text or the fault beside it.
+/// Expects the accepted expressions to have their normal forms, and the others to be rejected with their errors.
 fn expect_table(rt: &impl Abort, alloc: Global, table: &Table) -> Result<(), Fail> {
     expect_accepted(rt, alloc, table.piece, table.accepted)?;
     for (fault, lines) in table.refused {
@@ -135,7 +135,6 @@ fn expect_table(rt: &impl Abort, alloc: Global, table: &Table) -> Result<(), Fai
     Ok(())
 }
 
-/// So it is for each table.
 fn expect_tables(rt: &impl Abort, alloc: Global, tables: &[Table]) -> Result<(), Fail> {
     for table in tables {
         expect_table(rt, alloc, table)?;

@@ -1,9 +1,9 @@
-//! The numbers and the words of the faults of expressions.
+//! The numbers and the messages of the errors of expressions.
 
 use cal_spec::SpecFault;
 use std::test::Fail;
 
-/// Each fault with its number and its words.
+/// Each error with its number and its message.
 static FAULTS: [(SpecFault, u8, &str); 15] = [
     (SpecFault::Empty, 1, "empty expression"),
     (

@@ -1,12 +1,12 @@
-//! What an expression shows of itself.
+//! The accessors of a parsed expression.
 
 use crate::shared::expr;
 use cal_spec::{Expr, Field, Part};
 use std::process::Abort;
 use std::test::Fail;
 
-/// What an expression shows: its weekdays, its components from the year to the second, whether its days are counts
-/// from the month's end, and the name of its zone.
+/// What the accessors return: the weekdays from Monday on, the components from year to second, whether days are counted
+/// from the end of the month, and the zone's name.
 #[derive(Clone, Copy, PartialEq, Eq, Debug)]
 struct Shown<'a> {
     weekdays: [bool; 7],
@@ -15,12 +15,12 @@ struct Shown<'a> {
     zone_name: Option<&'a str>,
 }
 
-/// A number, the end of a range and the step of a repetition.
+/// Makes a part from a value, the end of a range and the step of a repetition.
 const fn part(start: u16, end: Option<u16>, step: Option<u16>) -> Part {
     Part { start, end, step }
 }
 
-/// One number.
+/// Makes a part that is a single value.
 const fn number(start: u16) -> Part {
     part(start, None, None)
 }
@@ -41,7 +41,7 @@ fn fields_of(expr: &Expr) -> Shown<'_> {
     }
 }
 
-/// The text's expression shows this.
+/// Expects the accessors of an expression to return these values.
 fn expect_shown(
     rt: &(impl Abort + AllocGlobal),
     text: &str,
@@ -70,7 +70,7 @@ fn mondays_and_fridays(rt: HostRuntime) -> Result<(), Fail> {
     expect_shown(&rt, "mon,fri 12-1/2-3,1 *:30:45", expected)
 }
 
-/// Parts are in their order, centuries are written out, and `UTC` is kept in capitals.
+/// Parts are sorted, two-digit years are expanded, and `UTC` is in capitals.
 #[test]
 fn each_kind_of_part(rt: HostRuntime) -> Result<(), Fail> {
     let expected = Shown {

@@ -1,4 +1,4 @@
-//! Fixed offsets in the place of a zone's name: where an offset may be, its bounds, and what is none.
+//! Fixed offsets in place of a zone name: where one may stand, the smallest and the largest, and what is not an offset.
 
 use super::normal_texts::expect_normal_texts;
 use super::refusals::{Refused, expect_refusals};
@@ -6,7 +6,7 @@ use crate::shared::expr;
 use cal_spec::SpecFault::*;
 use std::test::Fail;
 
-/// An offset after each word that may come before it.
+/// An offset after each kind of word that it can follow.
 const PLACES: &str = "\
 daily +02:00 -> *-*-* 00:00:00 +02:00|12:00 +02:00 -> *-*-* 12:00:00 +02:00|\
 12:00:30 -05:30 -> *-*-* 12:00:30 -05:30|*:*:* +05:45 -> *-*-* *:*:* +05:45|\
@@ -22,7 +22,8 @@ monthly -02:00 -> *-*-01 00:00:00 -02:00|quarterly +02:00 -> *-01,04,07,10-01 00
 semi-annually +02:00 -> *-01,07-01 00:00:00 +02:00|bi-annually -02:00 -> *-01,07-01 00:00:00 -02:00|\
 yearly +02:00 -> *-01-01 00:00:00 +02:00|annually -00:30 -> *-01-01 00:00:00 -00:30";
 
-/// The least and the greatest hours and minutes. An offset of nothing has a plus sign, and isn't `UTC`.
+/// The smallest and the largest hours and minutes. An offset of zero is written with a plus sign, and is not the same
+/// as `UTC`.
 const BOUNDS: &str = "\
 12:00 +00:00 -> *-*-* 12:00:00 +00:00|12:00 -00:00 -> *-*-* 12:00:00 +00:00|12:00 utc -> *-*-* 12:00:00 UTC|\
 12:00 +00:01 -> *-*-* 12:00:00 +00:01|12:00 -00:01 -> *-*-* 12:00:00 -00:01|\
@@ -31,7 +32,7 @@ const BOUNDS: &str = "\
 12:00 -24:00 -> *-*-* 12:00:00 -24:00|12:00 +25:00 -> *-*-* 12:00:00 +25:00|\
 12:00 +25:59 -> *-*-* 12:00:00 +25:59|12:00 -25:59 -> *-*-* 12:00:00 -25:59";
 
-/// What begins with a sign where a zone may be and is no offset, and what comes after a zone.
+/// Words with a sign in the zone's place that are not offsets, and words after a zone.
 static NO_OFFSETS: [Refused; 1] = [(
     StrayWord,
     "\
@@ -44,7 +45,7 @@ Mon +1:2|2024-1-1 +x|2024-1-1 -1:2|2024-1-1 +12:00:00|daily -5|daily +2:00|weekl
 Mon UTC +02:00|2024-1-1 +02:00 12:00|2024-1-1 +02:00 UTC",
 )];
 
-/// The first word of a text is read as if there were no offsets.
+/// The first word of an expression is never an offset.
 static FIRST_WORDS: [Refused; 3] = [
     (
         BadTime,
@@ -54,7 +55,7 @@ static FIRST_WORDS: [Refused; 3] = [
     (UnknownShorthand, "Foo +02:00|fortnightly +02:00"),
 ];
 
-/// Of two faults the one on the left is reported, whichever it is.
+/// If several parts are invalid, the leftmost error is reported.
 static ORDER: [Refused; 5] = [
     (BadWeekday, "Mon,,Tue +02:00|Mon,,Tue +x"),
     (BadDate, "7 +02:00|7 +x|1 -1"),
@@ -63,7 +64,7 @@ static ORDER: [Refused; 5] = [
     (NoRepeat, "20/4:00 +02:00|20/4:00 +x"),
 ];
 
-/// Texts with the seconds that their zone's clock is ahead of UTC, or the name of their zone.
+/// Expressions with the offset of their zone in seconds, or with its name.
 static ZONES: [(&str, Option<i32>, Option<&str>); 9] = [
     ("daily", None, None),
     ("daily utc", None, Some("UTC")),

@@ -1,14 +1,14 @@
-//! Texts that are no expressions, each with its one fault.
+//! Invalid expressions, each with the one error that is reported.
 
 use super::expect_fault;
 use cal_spec::SpecFault::{self, *};
 use std::alloc::Global;
 use std::process::Abort;
 
-/// A fault, and texts that have it, of which bars part one from the next.
+/// An error, and expressions that are rejected with it, separated by `|`.
 pub(super) type Refused = (SpecFault, &'static str);
 
-/// The rejected texts: one at least of each fault of a short text, and the refusals of the grammar.
+/// At least one expression for each error that a short expression can have.
 static REFUSED_TEXTS: [Refused; 12] = [
     (Empty, ""),
     (BadWeekday, "Mon,,Tue"),
@@ -24,10 +24,9 @@ static REFUSED_TEXTS: [Refused; 12] = [
     (UnknownShorthand, "fortnightly"),
 ];
 
-/// No word at all.
 static BLANKS: [Refused; 1] = [(Empty, " |\t| \t \t")];
 
-/// Which words may be where.
+/// Words in places where they can't stand.
 static WORDS: [Refused; 2] = [
     (
         StrayWord,
@@ -45,7 +44,6 @@ UTC 12:00",
     ),
 ];
 
-/// Lists of weekdays.
 static WEEKDAYS: [Refused; 1] = [(
     BadWeekday,
     "\
@@ -54,7 +52,7 @@ Mon/2|Mon1|Mon-1|Mon,1|Mon:Tue|Mon~Tue|Mon*|Mon--Tue|Mon.-Tue|Mon-.Tue|Mon,Tuesd
 Mon\u{e4}|Mon,,12:00|a1 12:00",
 )];
 
-/// Shapes of dates.
+/// Malformed dates.
 static DATES: [Refused; 1] = [(
     BadDate,
     "\
@@ -64,7 +62,7 @@ static DATES: [Refused; 1] = [(
 1-1.5|1-1..2.5|1~*/1|1~1,",
 )];
 
-/// Shapes of times, and fractions of a second.
+/// Malformed times, and fractions of a second.
 static TIMES: [Refused; 2] = [
     (
         BadTime,
@@ -80,7 +78,7 @@ static TIMES: [Refused; 2] = [
     ),
 ];
 
-/// Numbers too large, outside of their field, ranges that run backwards, and repetitions.
+/// Values that are too large or out of range, ranges that run backwards, and repetitions.
 static NUMBERS: [Refused; 6] = [
     (
         NumberTooLarge,
@@ -107,7 +105,7 @@ static NUMBERS: [Refused; 6] = [
     ),
 ];
 
-/// Texts with two faults, of which the first by the rule is reported.
+/// Expressions with two errors; the one reported is the first by the documented order.
 static ORDER: [Refused; 11] = [
     (
         BadDate,
@@ -138,14 +136,13 @@ static ORDER: [Refused; 11] = [
     (BadWeekday, "Mon,, 13-1|Mon,, daily 5|Foo1 25:0"),
 ];
 
-/// Each text has this fault.
+/// Expects each expression to be rejected with this error. They are separated by `|`.
 fn expect_faults(rt: &impl Abort, alloc: Global, fault: SpecFault, lines: &str) {
     for text in lines.split('|') {
         expect_fault(rt, alloc, text, fault);
     }
 }
 
-/// Each text of the table has the fault beside it.
 pub(super) fn expect_refusals(rt: &impl Abort, alloc: Global, table: &[Refused]) {
     for (fault, lines) in table {
         expect_faults(rt, alloc, *fault, lines);

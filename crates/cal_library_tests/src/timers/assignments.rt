@@ -7,9 +7,8 @@ use std::alloc::Global;
 use std::process::Abort;
 use std::test::Fail;
 
-/// Sections.
 static SECTIONS: [Row; 9] = [
-    // The empty file.
+    // An empty file.
     ("", Err(TimerFault::NothingToDo)),
     (
         "OnCalendar=hourly\n[Timer]\nOnCalendar=daily\n[Unit]\nOnCalendar=weekly",
@@ -20,12 +19,12 @@ static SECTIONS: [Row; 9] = [
         Ok(&[(2, "daily"), (6, "hourly")]),
     ),
     (" \t[Timer] \t\nOnCalendar=daily", Ok(&[(2, "daily")])),
-    // A line that only begins or only ends like a header is none.
+    // A line that only begins or only ends like a section header is not one.
     (
         "[Timer]\n[Unit\nUnit]\n[\n]\nOnCalendar=daily",
         Ok(&[(6, "daily")]),
     ),
-    // A header may hold `=`.
+    // A section header may contain `=`.
     (
         "[Timer]\n[a=b]\nOnCalendar=hourly\n[Timer]\nOnCalendar=daily",
         Ok(&[(5, "daily")]),
@@ -38,7 +37,6 @@ static SECTIONS: [Row; 9] = [
     ),
 ];
 
-/// Keys and values.
 static KEYS_AND_VALUES: [Row; 8] = [
     // A repetition that reaches no further value.
     (
@@ -53,7 +51,7 @@ static KEYS_AND_VALUES: [Row; 8] = [
         "[Timer]\n\rOnCalendar\r=\rdaily\r \r\n",
         Ok(&[(2, "daily")]),
     ),
-    // Other keys, lines without `=`, and keys that only look alike.
+    // Other keys, lines without `=`, and keys that only look similar.
     (
         "[Timer]\noncalendar=x\nONCALENDAR=x\nOnCalendars=x\nX-OnCalendar=x\nOn Calendar=x\nOnCalendar=daily",
         Ok(&[(7, "daily")]),
@@ -70,14 +68,14 @@ static KEYS_AND_VALUES: [Row; 8] = [
         "[Timer]\nOnCalendar=fortnightly",
         Err(TimerFault::BadLine(2, SpecFault::UnknownShorthand)),
     ),
-    // The first bad line counts, also where a later reset drops it.
+    // The first bad line is reported, even if a later reset drops its expression.
     (
         "[Timer]\nOnCalendar=25:00\nOnCalendar=\nOnCalendar=7",
         Err(TimerFault::BadLine(2, SpecFault::OutOfField)),
     ),
 ];
 
-/// The keys that empty the list by an empty value; that of the calendar comes first.
+/// The keys that reset the list if their value is empty.
 static KEYS: [&str; 6] = [
     "OnCalendar",
     "OnActiveSec",
@@ -87,11 +85,10 @@ static KEYS: [&str; 6] = [
     "OnUnitInactiveSec",
 ];
 
-/// A file in which `KEY` stands for a key, and its expressions.
+/// A file in which `KEY` stands for one of the keys, and its expressions.
 type RowOfKey = (&'static str, Lines);
 
-/// An empty value of a key empties the list. Neither another name, nor a name alone, nor another section, nor a comment
-/// does.
+/// A key with an empty value resets the list. Another key, a comment or a key in another section doesn't.
 static RESETS: [RowOfKey; 4] = [
     (
         "[Timer]\nOnCalendar=daily\nKEY=\n[Timer]\nOnCalendar=hourly",
@@ -108,7 +105,7 @@ static RESETS: [RowOfKey; 4] = [
     ),
 ];
 
-/// The file with its mark written out as this key.
+/// Replaces `KEY` in a file by a key.
 fn file_with_key(alloc: Global, file: &str, key: &str) -> Result<String, Fail> {
     let (before, after) = file.split_once("KEY").ok_or("no key")?;
     let mut whole = String::from_str(alloc, before)?;
@@ -117,7 +114,7 @@ fn file_with_key(alloc: Global, file: &str, key: &str) -> Result<String, Fail> {
     Ok(whole)
 }
 
-/// Each file with the key has the expressions beside it.
+/// Expects each file, with this key, to have the expressions next to it.
 fn expect_with_key(
     rt: &impl Abort,
     alloc: Global,

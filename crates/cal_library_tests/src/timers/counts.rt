@@ -1,4 +1,4 @@
-//! How many expressions and how many bytes a file may have.
+//! How many expressions and how many bytes a timer file may have.
 
 use super::{Lines, UNIT_LINES, expect_file, expect_lines, read};
 use crate::shared::TIMER_FILE;
@@ -13,29 +13,29 @@ const EXCEPTION: &str = "X-ExceptOnCalendar=Sat";
 
 const RESET: &str = "OnCalendar=";
 
-/// Lines after a header, each that many times, with the expressions or the fault of that file.
+/// The lines after `[Timer]`, each with the number of its copies, and the expressions or the error of that file.
 type Counted = (&'static [(u32, &'static str)], Result<Lines, TimerFault>);
 
-/// At most 256 expressions are allowed at a time, and the one too many is reported where it is.
+/// A file may have 256 expressions at a time; the error has the line of the first one over the limit.
 static COUNTED: [Counted; 4] = [
     (
         &[(256, DAILY), (1, RESET), (1, "OnCalendar=hourly")],
         Ok(&[(259, "hourly")]),
     ),
-    // Exceptions are counted by themselves.
+    // Exceptions have a limit of their own.
     (
         &[(257, EXCEPTION), (1, DAILY)],
         Err(TimerFault::TooMany(258)),
     ),
     (&[(257, DAILY)], Err(TimerFault::TooMany(258))),
-    // The text of the one too many isn't judged any more.
+    // The expression over the limit is not parsed.
     (
         &[(256, DAILY), (1, "OnCalendar=x!")],
         Err(TimerFault::TooMany(258)),
     ),
 ];
 
-/// Appends the line that many times.
+/// Appends `count` copies of the line.
 fn push_lines(file: &mut String, count: u32, line: &str) -> Result<(), AllocError> {
     for _ in 0..count {
         file.push_str(line)?;
@@ -44,7 +44,7 @@ fn push_lines(file: &mut String, count: u32, line: &str) -> Result<(), AllocErro
     Ok(())
 }
 
-/// The header, and then each line that many times.
+/// Returns a timer file with the given number of copies of each line.
 fn counted_file(alloc: Global, lines: &[(u32, &str)]) -> Result<String, AllocError> {
     let mut file = String::from_str(alloc, "[Timer]\n")?;
     for (count, line) in lines {
@@ -62,7 +62,7 @@ fn one_too_many(rt: HostRuntime) -> Result<(), Fail> {
     Ok(())
 }
 
-/// The timer file of nine lines, filled up with comments to this many bytes.
+/// Returns `TIMER_FILE`, padded with comments to `len` bytes.
 fn fill_file(alloc: Global, len: usize) -> Result<Vec<u8>, AllocError> {
     let mut bytes = TIMER_FILE.to_vec(alloc)?;
     for place in bytes.len()..len {

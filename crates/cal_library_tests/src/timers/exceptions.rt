@@ -1,4 +1,4 @@
-//! Timer files with exceptions: their lists, and why a file is rejected.
+//! Timer files with exceptions: the two lists, and why a file is rejected.
 
 use super::{EXCEPT_EXCEPTIONS, EXCEPT_LINES, Lines, expect_list, read};
 use crate::shared::EXCEPT_FILE;
@@ -8,16 +8,16 @@ use std::alloc::Global;
 use std::process::Abort;
 use std::test::Fail;
 
-/// Files with their expressions and their exceptions.
+/// Files, each with its expressions and its exceptions.
 static READ: [(&[u8], Lines, Lines); 4] = [
     (EXCEPT_FILE, EXCEPT_LINES, EXCEPT_EXCEPTIONS),
-    // An empty value of their key empties only the exceptions.
+    // An empty `X-ExceptOnCalendar=` resets only the exceptions.
     (
         b"[Timer]\nOnCalendar=daily\nX-ExceptOnCalendar=Sat\nX-ExceptOnCalendar = \nX-ExceptOnCalendar=Sun",
         &[(2, "daily")],
         &[(5, "Sun")],
     ),
-    // The key is exact, and read only in the section `Timer`.
+    // The key has to match exactly, and counts only in the section `Timer`.
     (
         b"[Unit]\nX-ExceptOnCalendar=x!\n[Timer]\nOnCalendar=daily\nx-exceptoncalendar=x!\nExceptOnCalendar=x!\nX-ExceptOnCalendars=x!",
         &[(4, "daily")],
@@ -30,15 +30,15 @@ static READ: [(&[u8], Lines, Lines); 4] = [
     ),
 ];
 
-/// Files with the faults for which they are rejected.
+/// Files, each with the error it is rejected with.
 static REFUSED: [(&str, TimerFault); 4] = [
-    // Nothing to do is judged by the expressions.
+    // A file needs an expression: exceptions alone are nothing to do.
     ("[Timer]\nX-ExceptOnCalendar=Sat", TimerFault::NothingToDo),
     (
         "[Timer]\nOnCalendar=daily\nX-ExceptOnCalendar=Sat\nOnBootSec=",
         TimerFault::NothingToDo,
     ),
-    // A rejected exception rejects the file, also where a later line drops it.
+    // An invalid exception rejects the file, even if a later line drops it.
     (
         "[Timer]\nOnCalendar=daily\nX-ExceptOnCalendar=20/4:00\nX-ExceptOnCalendar=",
         TimerFault::BadLine(3, SpecFault::NoRepeat),
@@ -49,7 +49,7 @@ static REFUSED: [(&str, TimerFault); 4] = [
     ),
 ];
 
-/// The file has these expressions and exceptions.
+/// Expects the file to have these expressions and exceptions.
 fn expect_lists(
     rt: &(impl Abort + AllocGlobal),
     file: &[u8],
@@ -70,7 +70,7 @@ fn lists(rt: HostRuntime) -> Result<(), Fail> {
     Ok(())
 }
 
-/// What a file is rejected for, if it is.
+/// Returns the error that a file is rejected with, if any.
 fn fault_of(alloc: Global, file: &str) -> Option<TimerFault> {
     read(alloc, file.as_bytes()).err()
 }

@@ -1,10 +1,9 @@
-//! Ends of lines, marks, comments and continued lines.
+//! Line ends, byte order marks, comments and continued lines.
 
 use super::{Row, expect_files};
 use cal_read::TimerFault;
 use cal_spec::SpecFault;
 
-/// Ends of lines, and byte order marks.
 static ENDS_OF_LINES_AND_MARKS: [Row; 7] = [
     ("[Timer]\r\nOnCalendar=daily\r\n", Ok(&[(2, "daily")])),
     (
@@ -24,7 +23,6 @@ static ENDS_OF_LINES_AND_MARKS: [Row; 7] = [
     ("[Timer]\rOnCalendar=daily", Err(TimerFault::NothingToDo)),
 ];
 
-/// Comments.
 static COMMENTS: [Row; 6] = [
     (
         "# x\n[Timer]\n; x\n \t # x\nOnCalendar=daily",
@@ -34,13 +32,13 @@ static COMMENTS: [Row; 6] = [
         "[Timer]\n#OnCalendar=hourly\n;OnCalendar=\nOnCalendar=daily",
         Ok(&[(4, "daily")]),
     ),
-    // A comment continues nothing.
+    // A backslash at the end of a comment doesn't continue it.
     ("[Timer]\n# x \\\nOnCalendar=daily", Ok(&[(3, "daily")])),
     (
         "[Timer]\nOnCalendar=Mon \\\n; x \\\n12:00\nOnCalendar=daily",
         Ok(&[(2, "Mon  12:00"), (5, "daily")]),
     ),
-    // A mark after other characters begins none.
+    // `#` and `;` begin a comment only at the start of a line.
     (
         "[Timer]\nOnCalendar=daily # x",
         Err(TimerFault::BadLine(2, SpecFault::StrayWord)),
@@ -51,7 +49,6 @@ static COMMENTS: [Row; 6] = [
     ),
 ];
 
-/// Continued lines.
 static CONTINUED_LINES: [Row; 10] = [
     (
         "[Timer]\nOnCalendar=Mon\\\n12:00\\\nUTC\nOnCalendar=daily",
@@ -61,18 +58,18 @@ static CONTINUED_LINES: [Row; 10] = [
         "[Timer]\nOnCalendar\\\n=\\\ndaily\nOnCalendar=hourly",
         Ok(&[(2, "daily"), (5, "hourly")]),
     ),
-    // A line of blanks and a backslash adds a space, whatever comes before it.
+    // A line with only blanks and a backslash adds a space.
     (
         "[Timer]\nOnCalendar=Mon\\\n \\\n12:00",
         Ok(&[(2, "Mon  12:00")]),
     ),
-    // At the end of the file a line just ends.
+    // A backslash at the end of the file is dropped.
     ("[Timer]\nOnCalendar=daily\\", Ok(&[(2, "daily")])),
     (
         "[Ti\\\nmer]\n[Timer]\nOnCalendar=daily",
         Ok(&[(4, "daily")]),
     ),
-    // An even number of backslashes continues nothing; of an odd number the last becomes a space.
+    // An even number of backslashes doesn't continue a line. Of an odd number, the last one becomes a space.
     (
         "[Timer]\nOnCalendar=daily\\\\\nOnCalendar=daily",
         Err(TimerFault::BadLine(2, SpecFault::BadWeekday)),
@@ -85,7 +82,7 @@ static CONTINUED_LINES: [Row; 10] = [
         "[Timer]\nOnCalendar=daily\\ \n",
         Err(TimerFault::BadLine(2, SpecFault::BadWeekday)),
     ),
-    // The number is that of the first line.
+    // The error has the number of the first of the continued lines.
     (
         "[Timer]\n\nOnCalendar=Mon \\\n\\\n25:00",
         Err(TimerFault::BadLine(3, SpecFault::OutOfField)),

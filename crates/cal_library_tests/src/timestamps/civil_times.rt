@@ -1,10 +1,10 @@
-//! Weekdays, dates and times that are written, and their shapes.
+//! Timestamps that write out a weekday, a date or a time.
 
 use super::{Table, expect_in_utc};
 use cal_read::StampFault::*;
 use std::test::Fail;
 
-/// Dates of one to four digits, and the years that two digits mean.
+/// Dates with one to four digits for the year, and the years that two digits stand for.
 static DATES: Table = Table {
     moments: "\
 2012-11-23 -> 1353628800000000|12-11-23 -> 1353628800000000|\x202012-11-23\t -> 1353628800000000|\
@@ -20,7 +20,7 @@ static DATES: Table = Table {
     )],
 };
 
-/// Words that are no dates.
+/// Malformed dates.
 static SHAPES_OF_DATES: Table = Table {
     moments: "",
     refusals: &[(
@@ -32,7 +32,7 @@ static SHAPES_OF_DATES: Table = Table {
     )],
 };
 
-/// Times of two and three parts.
+/// Times with and without seconds.
 static TIMES: Table = Table {
     moments: "\
 0:0 -> 1353628800000000|00:00:00 -> 1353628800000000|23:59 -> 1353715140000000|23:59:59 -> 1353715199000000|\
@@ -46,7 +46,7 @@ static TIMES: Table = Table {
     )],
 };
 
-/// Six digits of a fraction are kept, and the rest is dropped.
+/// Six digits of a fraction count, and the rest is dropped.
 static FRACTIONS: Table = Table {
     moments: "\
 1:2:3.4 -> 1353632523400000|1:2:3.456789 -> 1353632523456789|1:2:3.4567891 -> 1353632523456789|\
@@ -61,7 +61,7 @@ static FRACTIONS: Table = Table {
     )],
 };
 
-/// Weekday names, short and whole, in any case; no comma and no other letters.
+/// Weekday names may be short or whole, in any case. No comma or other characters may follow.
 static WEEKDAYS: Table = Table {
     moments: "\
 Fri 2012-11-23 -> 1353628800000000|friday 2012-11-23 -> 1353628800000000|FRI\t2012-11-23 -> 1353628800000000|\
@@ -91,7 +91,7 @@ Fri..Fri 2012-11-23|UTC|utc 1:2|a|daily|infinity|T1:2|x2012-11-23|Fri\n2012-11-2
     ],
 };
 
-/// What may come after a date and after a time.
+/// What may follow a date or a time.
 static WORDS_AFTER: Table = Table {
     moments: "\
 2012-11-23 1:2 -> 1353632520000000|2012-11-23\t \t1:2:3\tUTC -> 1353632523000000|\

@@ -1,4 +1,4 @@
-//! `today`, `yesterday` and `tomorrow`, and the present day where no date is written.
+//! `today`, `yesterday` and `tomorrow`, and times without a date, which are on the present day.
 
 use super::{PRESENT, Setting, Table, expect_in_utc, expect_moments, expect_settings};
 use crate::shared::posix;
@@ -6,7 +6,7 @@ use cal_base::{Zone, ZoneTable};
 use cal_read::StampFault::*;
 use std::test::Fail;
 
-/// The days beside the present one, with and without blanks.
+/// The days next to the present one, in UTC and at +14:00, where the next day has already begun.
 static NEAR_DAYS: [Setting; 2] = [
     Setting {
         now: PRESENT,
@@ -32,7 +32,7 @@ Fri 0:0 UTC -> 1353628800000000",
     },
 ];
 
-/// Other cases, and what may not come after a day.
+/// The words in other cases, and words that can't follow a day.
 static REFUSED_DAYS: Table = Table {
     moments: "",
     refusals: &[
@@ -51,9 +51,10 @@ today Mars/One|yesterday Fri|tomorrow today|today U!|12:00 today|2012-11-23 toda
     ],
 };
 
-/// What texts mean at these presents, by a clock whose midnight is skipped on 2024-03-10, and shown twice on 2024-11-03.
+/// Presents, each with what timestamps resolve to. The clock skips the midnight of 2024-03-10, and shows that of
+/// 2024-11-03 twice.
 static DAYS_OF_A_CHANGE: [(i64, Table); 2] = [
-    // On the day whose midnight is skipped.
+    // The day whose midnight is skipped.
     (
         1_710_086_400,
         Table {
@@ -63,7 +64,7 @@ today -> 1710046800000000|yesterday -> 1709960400000000|tomorrow -> 171012960000
             refusals: &[],
         },
     ),
-    // On the day whose midnight is shown twice.
+    // The day whose midnight comes twice.
     (
         1_730_653_200,
         Table {
@@ -75,7 +76,7 @@ today -> 1730606400000000|yesterday -> 1730520000000000|tomorrow -> 173069640000
     ),
 ];
 
-/// The days at both ends of the range of instants.
+/// The first and the last days of the supported range.
 static FIRST_AND_LAST_DAYS: [Setting; 4] = [
     Setting {
         now: 0,

@@ -1,11 +1,11 @@
-//! Fixed offsets in the place of a zone's name, and lines of reports that are read back.
+//! Fixed offsets in place of a zone name, and reading back printed instants.
 
 use super::{PRESENT, Setting, Table, expect_in_utc, expect_settings};
 use cal_base::SpanFault;
 use cal_read::StampFault::*;
 use std::test::Fail;
 
-/// An offset after each word that may come before it, its bounds, and what is none.
+/// An offset after each kind of word that it can follow, the smallest and the largest, and what is not an offset.
 static OFFSETS: Table = Table {
     moments: "\
 2012-11-23 11:12 +08:00 -> 1353640320000000|today +08:00 -> 1353600000000000|\
@@ -43,7 +43,7 @@ today -|today UTC +02:00|yesterday +02:00 UTC|tomorrow +02:00 12:00",
     ],
 };
 
-/// The first and the last moment, and the zones in which a civil time passes them.
+/// The first and the last moment, and offsets that shift a local time into the supported range or out of it.
 static RANGE_ENDS: [Setting; 1] = [Setting {
     now: PRESENT,
     east: 7_200,
@@ -57,8 +57,8 @@ static RANGE_ENDS: [Setting; 1] = [Setting {
     },
 }];
 
-/// Lines of reports: in both passes of a local time that comes twice, after one that is skipped, at the ends of the
-/// years, and by clocks that are seconds from UTC.
+/// Instants as reports print them: in both occurrences of a repeated local time, after a skipped one, and at the ends
+/// of the range. An instant can't be read back if its offset has seconds, or if its local year is 1969 or 2200.
 static LINES_OF_REPORTS: [Setting; 1] = [Setting {
     now: 0,
     east: 19_800,

@@ -1,10 +1,10 @@
-//! Two faults in one text: that of the earlier word, then `WrongWeekday`, then `OutOfRange`.
+//! Timestamps with two errors: the leftmost word's error comes first, then `WrongWeekday`, then `OutOfRange`.
 
 use super::{PRESENT, Setting, Table, expect_in_utc, expect_settings};
 use cal_read::StampFault::*;
 use std::test::Fail;
 
-/// Of two faults the one on the left is reported, whichever it is.
+/// If several words are invalid, the leftmost error is reported.
 static EARLIER_WORDS_FIRST: Table = Table {
     moments: "",
     refusals: &[
@@ -33,7 +33,7 @@ static EARLIER_WORDS_FIRST: Table = Table {
     ],
 };
 
-/// A weekday is compared once every word is read.
+/// The weekday is compared with the date only after all words are parsed.
 static WEEKDAYS_AFTER_WORDS: Table = Table {
     moments: "",
     refusals: &[
@@ -47,7 +47,7 @@ static WEEKDAYS_AFTER_WORDS: Table = Table {
     ],
 };
 
-/// Whether there is such a moment is asked last.
+/// The range is checked last.
 static RANGE_LAST: [Setting; 2] = [
     Setting {
         now: PRESENT,

@@ -1,24 +1,24 @@
-//! The present, and span texts counted from it or from 0.
+//! The present, and spans counted from the present or from 0.
 
 use super::{Table, expect_in_utc};
 use cal_base::SpanFault;
 use cal_read::StampFault::*;
 use std::test::Fail;
 
-/// Nothing but blanks is no word.
+/// Blanks alone are empty.
 static BLANKS_ALONE: Table = Table {
     moments: "",
     refusals: &[(Empty, "|\x20|\t|\x20\t \t")],
 };
 
-/// `now` alone, only in this case.
+/// `now` has to stand alone, in lower case.
 static THE_PRESENT: Table = Table {
     moments: "\
 now -> 1353665722000000|\x20now -> 1353665722000000|now\t -> 1353665722000000|\t now \t\x20 -> 1353665722000000",
     refusals: &[(BadWeekday, "NOW|Now|nows|now now|now 1:2|n ow")],
 };
 
-/// Spans after the present and before it.
+/// Spans counted forward and back from the present.
 static AFTER_AND_BEFORE: Table = Table {
     moments: "\
 +5min -> 1353666022000000|+ 5 min -> 1353666022000000|\x20+5min\x20 -> 1353666022000000|\
@@ -42,7 +42,7 @@ static COUNTED_FROM_0: Table = Table {
     refusals: &[(OutOfRange, "@7258211999|@9223372036854775807us")],
 };
 
-/// Each fault of a span text after each sign and before each word.
+/// Every error of a span, after each sign and before `left` and `ago`.
 static BAD_SPANS: Table = Table {
     moments: "",
     refusals: &[
@@ -66,7 +66,7 @@ static BAD_SPANS: Table = Table {
     ],
 };
 
-/// `left` and `ago` are whole words, in only this case, with a blank before them.
+/// `left` and `ago` are whole words in lower case, with a blank before them.
 static WORDS_AT_THE_END: Table = Table {
     moments: "",
     refusals: &[

@@ -1,4 +1,4 @@
-//! The zone that the last word names.
+//! Zone names as the last word of a timestamp.
 
 use super::{PRESENT, Table, expect_moments, zone_east};
 use crate::shared::{SUMMER_TIME, posix};
@@ -8,7 +8,7 @@ use std::alloc::Global;
 use std::process::Abort;
 use std::test::Fail;
 
-/// Names are looked up as they are, `UTC` in any case.
+/// Zone names have to match exactly, except that `UTC` may be in any case.
 static NAMES: Table = Table {
     moments: "\
 2012-11-23 Test/Fixed -> 1353625200000000|2012-11-23 1:2 Test/Fixed -> 1353628920000000|\
@@ -24,7 +24,7 @@ Fri 1:2\tTest/Fixed\x20 -> 1353628920000000|today Test/Fixed -> 1353625200000000
     ],
 };
 
-/// The present day of the zone named, east and west of UTC, where the local zone is far east.
+/// The present day is that of the named zone, even if the local zone has another one.
 static DAYS_OF_THE_ZONE_NAMED: Table = Table {
     moments: "\
 today East -> 1353664800000000|1:2 East -> 1353668520000000|Sat 1:2 East -> 1353668520000000|\
@@ -32,8 +32,8 @@ today West -> 1353582000000000|Thu 1:2 West -> 1353585720000000|2012-11-23 West 
     refusals: &[(WrongWeekday, "Fri 1:2 East|Fri 1:2 West")],
 };
 
-/// A civil time that the clock skips is moved on by what is skipped, and of one that it shows twice the first is
-/// meant.
+/// A local time that the clock skips is moved forward by the length of the gap, and one that it shows twice resolves to
+/// the first occurrence.
 static CHANGES_OF_A_CLOCK: Table = Table {
     moments: "\
 2024-03-31 01:59:59.5 -> 1711846799500000|2024-03-31 02:00 -> 1711846800000000|\
@@ -44,7 +44,7 @@ static CHANGES_OF_A_CLOCK: Table = Table {
     refusals: &[],
 };
 
-/// A table of two zones, each a name and a rule.
+/// Makes a table of two zones from names and POSIX rules.
 fn table_of(rt: &impl Abort, alloc: Global, zones: [(&str, &str); 2]) -> Result<ZoneTable, Fail> {
     let mut table = ZoneTable::new(alloc);
     for (name, rule) in zones {

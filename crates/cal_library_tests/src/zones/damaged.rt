@@ -1,4 +1,4 @@
-//! Zone files that are cut short or have a wrong byte: each is rejected, or gives a zone with rising elapses.
+//! Zone files that are cut short or have a wrong byte: each is rejected, or the elapses in its zone still increase.
 
 use crate::elapses::elapses_of;
 use crate::shared::{NEW_YEAR, zone_file};
@@ -8,7 +8,7 @@ use std::alloc::Global;
 use std::process::Abort;
 use std::test::Fail;
 
-/// Whether the first three midnights in a zone rise.
+/// Returns whether the first three midnights in the zone are strictly increasing.
 fn rises(alloc: Global, zone: Zone<'_>) -> Result<bool, Fail> {
     let mut midnights = elapses_of(alloc, "daily", zone, NEW_YEAR)?;
     let mut last = NEW_YEAR;
@@ -21,7 +21,7 @@ fn rises(alloc: Global, zone: Zone<'_>) -> Result<bool, Fail> {
     Ok(true)
 }
 
-/// Whether the bytes are rejected as a bad zone file, or those midnights rise.
+/// Returns whether the bytes are rejected as a bad zone file, or the midnights in their zone increase.
 fn is_bad_or_rises(alloc: Global, bytes: &[u8]) -> Result<bool, Fail> {
     match Rules::file(alloc, "Test/Fixed", bytes) {
         Ok(rules) => rises(alloc, Zone::rules(&rules)),
@@ -29,7 +29,7 @@ fn is_bad_or_rises(alloc: Global, bytes: &[u8]) -> Result<bool, Fail> {
     }
 }
 
-/// The zone file, and each of its prefixes.
+/// Every prefix of the zone file, and the whole file.
 #[test]
 fn cut_zone_files(rt: HostRuntime) -> Result<(), Fail> {
     let whole = zone_file(rt.alloc())?;
@@ -39,7 +39,8 @@ fn cut_zone_files(rt: HostRuntime) -> Result<(), Fail> {
     Ok(())
 }
 
-/// The zone file with each byte in turn replaced by this one.
+/// Replaces each byte of the zone file in turn by `changed`, and expects every such file to be rejected or to have
+/// increasing midnights.
 fn expect_changed(rt: &(impl Abort + AllocGlobal), changed: u8) -> Result<(), Fail> {
     let whole = zone_file(rt.alloc())?;
     for at in 0..whole.len() {

@@ -1,5 +1,5 @@
-//! Names of zones: a letter, and after it letters, digits, `/`, `_`, `+` and `-`, at most 255 bytes in all; and the
-//! table in which zones are found by them.
+//! The form of zone names (a letter, then letters, digits, `/`, `_`, `+` or `-`, at most 255 bytes in all) and finding
+//! zones by name.
 
 use crate::shared::{NEW_YEAR, posix};
 use cal_base::{Zone, ZoneFault, ZoneTable, is_zone_name, place};
@@ -13,7 +13,7 @@ A|z|UTC|Europe/Berlin|Etc/GMT+12|America/Port-au-Prince|America/Argentina/Rio_Ga
 const NO_NAMES: &str = "\
 | |1x|/a|_a|+a|-a|a b| a|a |a.b|a:b|a,b|a\0|é|aé|Zürich";
 
-/// Each of the texts, which are joined by `|`, is a name, or each is none.
+/// Expects each text to be a valid name, or each to be invalid. They are separated by `|`.
 fn expect_names(rt: &impl Abort, texts: &str, are_names: bool) {
     for text in texts.split('|') {
         assert_eq!(rt; is_zone_name(text.as_bytes()), are_names, "{text}");
@@ -26,7 +26,7 @@ fn names(rt: HostRuntime) {
     expect_names(&rt, NO_NAMES, false);
 }
 
-/// The longest name, and one byte more.
+/// The longest name is valid, and one byte more is not.
 #[test]
 fn lengths(rt: HostRuntime) {
     let letters = [b'a'; 256];
@@ -34,8 +34,8 @@ fn lengths(rt: HostRuntime) {
     assert_eq!(rt; answers, (true, false));
 }
 
-/// Adds the zone of a POSIX rule under a name. A refusal hands the rules back, and gives their place of 02:00 of the
-/// first day with the fault.
+/// Adds the zone of a POSIX rule to the table. If the table rejects it, returns the error and, to show which rules were
+/// handed back, the instant of 02:00 on the first day of 1970 by these rules.
 fn add(
     alloc: Global,
     table: &mut ZoneTable,
@@ -48,19 +48,19 @@ fn add(
     }
 }
 
-/// The place of the midnight of New Year in the zone of that name.
+/// Returns the instant at which New Year 2024 begins in the zone with this name.
 fn midnight(table: &ZoneTable, name: &str) -> Option<i64> {
     place(table.find(name)?, NEW_YEAR)
 }
 
-/// Each name is found, with this place of that midnight, or it isn't found.
+/// Expects to find a zone under each name with this midnight, or no zone.
 fn expect_found(rt: &impl Abort, table: &ZoneTable, rows: &[(&str, Option<i64>)]) {
     for (name, instant) in rows {
         assert_eq!(rt; midnight(table, name), *instant, "{name}");
     }
 }
 
-/// Names that are rejected where `Test/Fixed` is taken, as `UTC` always is.
+/// Names that can't be added if `Test/Fixed` is in the table; `UTC` always is.
 static REFUSED: [(&str, ZoneFault); 7] = [
     ("Test/Fixed", ZoneFault::NameTaken),
     ("utc", ZoneFault::NameTaken),
@@ -71,8 +71,8 @@ static REFUSED: [(&str, ZoneFault); 7] = [
     ("a b", ZoneFault::BadName),
 ];
 
-/// Adding each name is rejected for its fault. The rules are handed back, those of a clock two hours ahead of UTC, and
-/// the table stays as it was.
+/// Expects each name to be rejected with its error, the rules to be handed back, and the table to stay unchanged. The
+/// rules are two hours ahead of UTC, so that their 02:00 is the instant 0.
 fn expect_refused(
     rt: &(impl Abort + AllocGlobal),
     table: &mut ZoneTable,
@@ -86,7 +86,7 @@ fn expect_refused(
     Ok(())
 }
 
-/// What is found where `Test/Fixed` is the only zone beside UTC.
+/// What each name finds if `Test/Fixed` is the only zone besides UTC.
 static FOUND: [(&str, Option<i64>); 6] = [
     ("Test/Fixed", Some(1_704_063_600)),
     ("uTc", Some(NEW_YEAR)),

@@ -1,23 +1,23 @@
-//! Where local seconds lie, around the changes of a clock and at fixed offsets.
+//! Converting local seconds to Unix time, around transitions and at fixed offsets.
 
 use crate::shared::{SUMMER_TIME, posix};
 use cal_base::{Placer, Zone, place, settle};
 use std::process::Abort;
 use std::test::Fail;
 
-/// Each local second has this place, if it has one, whoever places it.
+/// Expects each local second to have this instant, or none, both from `place` and from one `Placer` for all.
 fn expect_places(rt: &impl Abort, zone: Zone, rows: &[(i64, Option<i64>)]) {
     let mut placer = Placer::new(zone);
     for (local, instant) in rows {
         assert!(rt; *local >= 0 && *local <= 7_258_118_399);
         assert_eq!(rt; place(zone, *local), *instant, "at {local}");
         assert_eq!(rt; placer.place(*local), *instant, "by a placer at {local}");
-        // Where a stretch has it, this time from the stretch.
+        // The placer may now know a range with a constant offset, and then answers from that range.
         assert_eq!(rt; placer.place(*local), *instant, "once more at {local}");
     }
 }
 
-/// Each local second settles at this second of Unix time.
+/// Expects each local second to settle to this Unix second.
 fn expect_settled(rt: &impl Abort, zone: Zone, rows: &[(i64, i64)]) {
     for (local, second) in rows {
         assert!(rt; *local >= -300_000 && *local <= 7_258_500_000);
@@ -25,8 +25,8 @@ fn expect_settled(rt: &impl Abort, zone: Zone, rows: &[(i64, i64)]) {
     }
 }
 
-/// 2024-03-31 02:00 becomes 03:00, and 2024-10-27 03:00 becomes 02:00: a local second in the gap has no place and is moved
-/// on by the gap's length, and one in the fold is the first.
+/// In the gap from 02:00 to 03:00 on 2024-03-31 a local second has no instant, and settling moves it forward by the
+/// length of the gap. In the fold from 02:00 to 03:00 on 2024-10-27 it has the instant of its first occurrence.
 #[test]
 fn gap_and_fold(rt: HostRuntime) -> Result<(), Fail> {
     let rules = posix(rt.alloc(), SUMMER_TIME)?;
@@ -63,10 +63,10 @@ fn gap_and_fold(rt: HostRuntime) -> Result<(), Fail> {
     Ok(())
 }
 
-/// How far a clock is ahead of UTC, a local second and its place.
+/// UTC offsets in seconds, each with a local second and its Unix second.
 static AT_OFFSETS: [(i32, i64, i64); 4] = [
     (0, 1_704_067_200, 1_704_067_200),
-    // The first local second farthest east, and the last one farthest west.
+    // The first local second at the largest offset east, and the last one at the largest offset west.
     (93_599, 0, -93_599),
     (-93_599, 7_258_118_399, 7_258_211_998),
     (3_208, 3_208, 0),

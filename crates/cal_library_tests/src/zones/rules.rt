@@ -1,5 +1,5 @@
-//! Rules that are read and rules that are rejected, typed from POSIX (Environment Variables, `TZ`) with the longer
-//! rule times of RFC 8536 and with names of at most 15 bytes; and zone files.
+//! Valid and invalid rules, and zone files. The rules follow POSIX (Environment Variables, `TZ`), with the longer rule
+//! times of RFC 8536 and names of at most 15 bytes.
 
 use crate::shared::{NEW_YEAR, zone_file};
 use cal_base::{Rules, Zone, ZoneFault, place};
@@ -24,7 +24,8 @@ EST5EDT,M3.0.0,M11.1.0|EST5EDT,M3.6.0,M11.1.0|EST5EDT,M3.2.7,M11.1.0|EST5EDT,J0,
 EST5EDT,366,1|EST5EDT,M3.2.0/168,M11.1.0|EST5EDT,M3.2.0/2:60,M11.1.0|EST5ED4,M3.2.0,M11.1.0|:Europe/Berlin|\
 EST5EDT M3.2.0 M11.1.0|ÉST5|EST5EDT,M3.2,M11.1.0";
 
-/// Each of the rules, which are joined by `|`, is rejected for this fault, or read where it is none.
+/// Expects each rule to be rejected with this error, or to be parsed if `fault` is `None`. The rules are separated by
+/// `|`.
 fn expect_faults(rt: &(impl Abort + AllocGlobal), rules: &str, fault: Option<ZoneFault>) {
     for rule in rules.split('|') {
         assert_eq!(rt; Rules::posix(rt.alloc(), rule).err(), fault, "{rule}");
@@ -37,12 +38,12 @@ fn posix_rules(rt: HostRuntime) {
     expect_faults(&rt, REFUSED, Some(ZoneFault::BadRule));
 }
 
-/// The fault of the bytes as a zone file of that name.
+/// Returns the error for these bytes as the zone file with this name, if any.
 fn file_fault(alloc: Global, name: &str, bytes: &[u8]) -> Option<ZoneFault> {
     Rules::file(alloc, name, bytes).err()
 }
 
-/// By the zone file, the clock is an hour ahead of UTC.
+/// In the zone of this file, the clock is one hour ahead of UTC.
 #[test]
 fn reads_a_zone_file(rt: HostRuntime) -> Result<(), Fail> {
     let bytes = zone_file(rt.alloc())?;
@@ -54,14 +55,14 @@ fn reads_a_zone_file(rt: HostRuntime) -> Result<(), Fail> {
     Ok(())
 }
 
-/// The bytes are rejected as a zone file of each name, for its fault.
+/// Expects the bytes to be rejected as the zone file with each name, with its error.
 fn expect_refused(rt: &(impl Abort + AllocGlobal), bytes: &[u8], rows: &[(&str, ZoneFault)]) {
     for (name, fault) in rows {
         assert_eq!(rt; file_fault(rt.alloc(), name, bytes), Some(*fault), "{name}");
     }
 }
 
-/// The name is judged first, then the size, then what the bytes say.
+/// The name is checked first, then the size, then the contents.
 #[test]
 fn refuses_zone_files(rt: HostRuntime) -> Result<(), Fail> {
     let bad_names = [("1x", ZoneFault::BadName), ("", ZoneFault::BadName)];
@@ -78,7 +79,7 @@ fn refuses_zone_files(rt: HostRuntime) -> Result<(), Fail> {
             ("Test/Fixed", ZoneFault::TooLarge),
         ],
     );
-    // As large as a zone file may be.
+    // The largest size that a zone file may have.
     expect_refused(&rt, &too_large[1..], &bad_file);
     Ok(())
 }
