@@ -1,4 +1,4 @@
-//! Command lines: which arguments ask for what, and what is reported of the others.
+//! Command lines: which arguments ask for what, and which errors the others are reported with.
 
 use cal_command::{Ask, CommandFault, LocalZone, ZoneItem};
 use cal_request::Verb;
@@ -6,13 +6,13 @@ use std::alloc::Global;
 use std::process::Abort;
 use std::test::Fail;
 
-/// What the arguments of a line, which are joined by `|`, come to.
+/// Parses the arguments in `line`, which are separated by `|`.
 fn read(alloc: Global, line: &str) -> Result<Result<Ask, CommandFault>, Fail> {
     let arguments: Vec<&str> = line.split('|').collect(alloc)?;
     Ok(Ask::of(alloc, arguments.as_slice()))
 }
 
-/// One line for what the arguments come to.
+/// Returns one line that says what the arguments in `line` ask for, or the message of their error.
 fn format_answer(alloc: Global, line: &str) -> Result<String, Fail> {
     match read(alloc, line)? {
         Ok(ask) => format_ask(alloc, &ask),
@@ -22,7 +22,7 @@ fn format_answer(alloc: Global, line: &str) -> Result<String, Fail> {
     }
 }
 
-/// One line for what is asked: the verb, the iterations, what was given, and the texts.
+/// Returns one line with the verb, the iterations, the options that were given, and the texts.
 fn format_ask(alloc: Global, ask: &Ask) -> Result<String, Fail> {
     let verb = match ask.request.verb {
         Verb::Calendar => "calendar",
@@ -49,7 +49,7 @@ fn format_ask(alloc: Global, ask: &Ask) -> Result<String, Fail> {
     Ok(line)
 }
 
-/// Adds what is said of the local zone; of UTC nothing.
+/// Appends the local zone, unless it is UTC.
 fn push_local(alloc: Global, line: &mut String, local: &LocalZone) -> Result<(), Fail> {
     match local {
         LocalZone::Utc => {}
@@ -68,7 +68,6 @@ fn push_local(alloc: Global, line: &mut String, local: &LocalZone) -> Result<(),
     Ok(())
 }
 
-/// Adds the zone files.
 fn push_zones(line: &mut String, zones: &[ZoneItem]) -> Result<(), Fail> {
     for zone in zones {
         line.push_str(" with ")?;
@@ -79,14 +78,14 @@ fn push_zones(line: &mut String, zones: &[ZoneItem]) -> Result<(), Fail> {
     Ok(())
 }
 
-/// The line of arguments comes to this.
+/// Expects the arguments in `line` to be shown as `want`.
 fn expect_shown(rt: &(impl Abort + AllocGlobal), line: &str, want: &str) -> Result<(), Fail> {
     let found = format_answer(rt.alloc(), line)?;
     assert!(rt; found.as_str() == want, "{found} at {line}");
     Ok(())
 }
 
-/// On each line are arguments, an arrow, and what they come to.
+/// Expects the arguments on each line to be shown as the text after the arrow.
 fn check(rt: &(impl Abort + AllocGlobal), lines: &str) -> Result<(), Fail> {
     for line in lines.lines() {
         let (arguments, want) = line.split_once(" -> ").ok_or("no arrow")?;
@@ -95,7 +94,7 @@ fn check(rt: &(impl Abort + AllocGlobal), lines: &str) -> Result<(), Fail> {
     Ok(())
 }
 
-/// The arguments of each verb, options between texts, and counts, presents and zones up to their bounds.
+/// Arguments of every verb, options between and after the texts, and values up to their limits.
 const COMMANDS: &str = "\
 calendar|--iterations=2|--now=@1704067200|*-*-* 12:30:00 -> calendar 2 now 1704067200|*-*-* 12:30:00
 calendar|a -> calendar 1|a
@@ -142,7 +141,8 @@ fn commands(rt: HostRuntime) -> Result<(), Fail> {
     check(&rt, COMMANDS)
 }
 
-/// Bad values, of which the first is reported, and calls for help.
+/// Several bad values at once, of which one is reported, in the order `--iterations`, `--now`, `--zones`, `--local`;
+/// and requests for help or the version.
 const OTHERS: &str = "\
 calendar|--iterations=0|--now=5|daily -> bad iterations
 calendar|--local=5x|--zones=x|--now=5|--iterations=0|daily -> bad iterations
@@ -167,7 +167,7 @@ fn other_lines(rt: HostRuntime) -> Result<(), Fail> {
     check(&rt, OTHERS)
 }
 
-/// Lines whose arguments aren't those of a command.
+/// Arguments that are not a valid command.
 const NO_COMMANDS: &str = "\
 frobnicate|a
 
@@ -195,13 +195,13 @@ fn arguments_that_are_no_command(rt: HostRuntime) -> Result<(), Fail> {
     Ok(())
 }
 
-/// A line without any word, which isn't one with an empty word.
+/// No arguments at all, which is not the same as a single empty argument.
 #[test]
 fn no_word(rt: HostRuntime) {
     assert!(rt; matches!(Ask::of(rt.alloc(), &[]), Err(CommandFault::Usage(_))));
 }
 
-/// Each of the values, which are joined by `|`, is rejected by these words where it is that option's.
+/// Expects each value of the option to be rejected with the message `want`. The values are separated by `|`.
 fn check_values(
     rt: &(impl Abort + AllocGlobal),
     option: &str,
@@ -215,7 +215,7 @@ fn check_values(
     Ok(())
 }
 
-/// Options with bad values of theirs, which are joined by `|`, and the arguments that reject them.
+/// Options, each with bad values (separated by `|`) and the message that they are rejected with.
 static BAD_VALUES: [(&str, &str, &str); 4] = [
     (
         "iterations",
@@ -247,7 +247,7 @@ fn bad_values(rt: HostRuntime) -> Result<(), Fail> {
     Ok(())
 }
 
-/// A line with that many zone files.
+/// Returns a command line with `count` zone files.
 fn with_zones(alloc: Global, count: usize) -> Result<String, Fail> {
     let mut line = String::from_str(alloc, "calendar|--zones=A=f")?;
     for _ in 1..count {
@@ -268,7 +268,7 @@ fn at_most_sixty_four_zone_files(rt: HostRuntime) -> Result<(), Fail> {
     expect_shown(&rt, &more, "bad zones")
 }
 
-/// Lines that call for the text of help or usage.
+/// Arguments that print a text of help or usage.
 const TOLD: &str = "\
 --help
 --version
@@ -283,18 +283,17 @@ timer|a|b
 calendar|--nope|a
 ";
 
-/// Whether a text ends with one line feed.
+/// Returns whether the text ends with exactly one line feed.
 fn ends_once(text: &str) -> bool {
     text.ends_with('\n') && !text.ends_with("\n\n")
 }
 
-/// Whether no line of a text has more than 80 bytes.
+/// Returns whether no line of the text is longer than 80 bytes.
 fn is_narrow(text: &str) -> bool {
     text.lines().all(|row| row.len() <= 80)
 }
 
-/// Texts of help and usage end with one line feed, as the words of no other fault do, and have no line of more than 80
-/// bytes.
+/// Texts of help and usage end with exactly one line feed and fit into 80 columns.
 #[test]
 fn texts_fit_a_terminal(rt: HostRuntime) -> Result<(), Fail> {
     for line in TOLD.lines() {

@@ -1,5 +1,5 @@
-//! The tests of the whole, only on public calls: a module for each subject, in which each row has its name. What
-//! the contracts say of all arguments is not tested again.
+//! Tests of the program as a whole (command line, reports, and the work from arguments to status) through public
+//! functions, one module for each subject. What a contract proves for all arguments is not tested again.
 #![tactic(auto)]
 
 #[cfg(test)]

@@ -1,4 +1,4 @@
-//! Whole outputs of `run`, over memory. The expected texts are typed from the layouts.
+//! Whole outputs of `run`, written to memory. The expected texts were typed by hand from the layouts.
 
 ghost use Rattle.std.specs.Prelude.{◌≡◌, false};
 
@@ -18,11 +18,11 @@ use std::alloc::{AllocError, Global};
 use std::process::Abort;
 use std::test::Fail;
 
-/// A request, what goes with it, and the whole texts that it must write. The run ends well, and has rejected
-/// something where there is a text on standard error.
+/// A request, its surroundings, and everything that it should write. The run succeeds; its status is `Refused` exactly
+/// if something is expected on standard error.
 #[derive(Clone, Copy)]
 struct Row<'a> {
-    /// What the row is about.
+    /// What the row tests, for failure messages.
     about: &'a str,
     verb: Verb,
     texts: &'a [&'a str],
@@ -30,7 +30,7 @@ struct Row<'a> {
     base: Option<&'a str>,
     now: i64,
     local: Local,
-    /// The timer file.
+    /// Contents of the timer file.
     input: &'a [u8],
     out: &'a str,
     err: &'a str,
@@ -40,13 +40,13 @@ struct Row<'a> {
 #[derive(Clone, Copy)]
 enum Local {
     Utc,
-    /// So many seconds ahead of UTC.
+    /// A fixed UTC offset in seconds.
     Offset(i32),
-    /// By the rule of a clock that goes forward an hour in summer.
+    /// The rule [`SUMMER_TIME`].
     Summer,
 }
 
-/// What the rows have where they say nothing else: one elapse of each expression, from the turn of the year on, in UTC.
+/// The defaults of a row: one elapse of each expression, counted from the start of 2024, in UTC.
 const CALENDAR: Row<'static> = Row {
     about: "",
     verb: Verb::Calendar,
@@ -75,15 +75,14 @@ Normalized form: *-*-* 12:30:00
     ..CALENDAR
 };
 
-/// The zones that rows are run with.
+/// The zones that the rows can use.
 #[derive(Drop)]
 struct KnownZones {
     summer: Rules,
-    /// `Test/Fixed` by a zone file, and `Test/Summer` by a rule.
+    /// `Test/Fixed` from a zone file, and `Test/Summer` from a POSIX rule.
     table: ZoneTable,
 }
 
-/// Makes the zones.
 fn known_zones(alloc: Global) -> Result<KnownZones, Fail> {
     let file = zone_file(alloc)?;
     let Ok(fixed) = Rules::file(alloc, "Test/Fixed", file.as_slice()) else {
@@ -99,7 +98,7 @@ fn known_zones(alloc: Global) -> Result<KnownZones, Fail> {
     }
 }
 
-/// Each row writes its texts.
+/// Expects each row to write its texts.
 fn check(rt: &(impl Abort + AllocGlobal), rows: &[Row<'_>]) -> Result<(), Fail> {
     let zones = known_zones(rt.alloc())?;
     for row in rows {
@@ -108,7 +107,7 @@ fn check(rt: &(impl Abort + AllocGlobal), rows: &[Row<'_>]) -> Result<(), Fail> 
     Ok(())
 }
 
-/// The row writes its texts, over that timer file.
+/// Like `check`, for one row and with the timer file read from `input`.
 fn check_input<R: Source>(
     rt: &(impl Abort + AllocGlobal),
     row: Row<'_>,
@@ -125,21 +124,20 @@ fn check_input<R: Source>(
     Ok(())
 }
 
-/// What a run wrote on both outputs, and how it ended.
+/// What a run wrote to both outputs, and its result.
 type Written<'a> = (&'a [u8], &'a [u8], Result<Status, RunFault>);
 
-/// The row's texts were written, and its run ended well.
+/// Expects a run to have written the texts of the row, and to have succeeded.
 fn expect_texts(rt: &impl Abort, row: Row<'_>, written: Written<'_>) {
     let wanted = (row.out.as_bytes(), row.err.as_bytes(), Ok(status(row)));
     expect_written(rt, row.about, written, wanted);
 }
 
-/// What was written is what is wanted.
 fn expect_written(rt: &impl Abort, about: &str, written: Written<'_>, wanted: Written<'_>) {
     assert_eq!(rt; written, wanted, "at {about}");
 }
 
-/// How the run of a row ends.
+/// Returns the status that the row's run should have.
 fn status(row: Row<'_>) -> Status {
     if row.err.is_empty() {
         Status::Fine
@@ -148,7 +146,7 @@ fn status(row: Row<'_>) -> Status {
     }
 }
 
-/// Runs a row's request, over that timer file and these writers.
+/// Runs the request of a row.
 fn run_row<R: Source, O: Sink, E: Sink>(
     rt: &(impl Abort + AllocGlobal),
     row: Row<'_>,
@@ -166,7 +164,7 @@ fn run_row<R: Source, O: Sink, E: Sink>(
     Ok(run_request(rt, row, &request, now, zones, input, out, err))
 }
 
-/// Runs a request that was made of a row.
+/// Runs a request that was made from a row.
 fn run_request<R: Source, O: Sink, E: Sink>(
     rt: &(impl Abort + AllocGlobal),
     row: Row<'_>,
@@ -186,7 +184,6 @@ fn run_request<R: Source, O: Sink, E: Sink>(
     run(rt.alloc(), request, input, now, local, table, out, err)
 }
 
-/// A row's local zone.
 fn local_zone<'z>(rt: &impl Abort, local: Local, zones: &'z KnownZones) -> Zone<'z> {
     match local {
         Local::Utc => Zone::utc(),
@@ -198,7 +195,7 @@ fn local_zone<'z>(rt: &impl Abort, local: Local, zones: &'z KnownZones) -> Zone<
     }
 }
 
-/// A row's request.
+/// Makes the request of a row.
 fn request(rt: &(impl Abort + AllocGlobal), row: Row<'_>) -> Result<Request, AllocError> {
     let mut texts = Vec::new(rt.alloc());
     for text in row.texts {
@@ -220,7 +217,7 @@ fn request(rt: &(impl Abort + AllocGlobal), row: Row<'_>) -> Result<Request, All
     })
 }
 
-/// The texts of a request, and the name of the file that a timer is read from: the first, or none.
+/// The texts of requests, and the name of the timer file in each: the first text, or the empty name.
 const NAMES: [(&[&str], &str); 3] = [(&["t"], "t"), (&["a/b", "c"], "a/b"), (&[], "")];
 
 #[test]

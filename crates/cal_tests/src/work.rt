@@ -1,4 +1,4 @@
-//! The whole of the program's work, over systems in memory: the bytes on both outputs, and the status.
+//! The program's whole work, over systems in memory: the bytes on both outputs, and the status.
 
 mod disk;
 mod memory;
@@ -10,7 +10,7 @@ use std::io::BufWriter;
 use std::process::Abort;
 use std::test::Fail;
 
-/// What was done.
+/// What the program did: the bytes on standard output and on standard error, and the exit status.
 #[derive(Drop)]
 struct Done {
     out: Vec<u8>,
@@ -19,7 +19,6 @@ struct Done {
 }
 
 impl Done {
-    /// What the outputs have, and the status.
     fn of(out: Port<BufWriter<Vec<u8>>>, err: Port<Vec<u8>>, status: u8) -> Done {
         let (out, _left) = out.into_inner().into_parts();
         let err = err.into_inner();
@@ -27,13 +26,12 @@ impl Done {
     }
 }
 
-/// Does what the arguments of a line ask for, which are joined by `|`.
+/// Does what the arguments in `line`, which are separated by `|`, ask for.
 fn perform<S: System>(alloc: Global, system: &S, line: &str) -> Result<Done, Fail> {
     let arguments: Vec<&str> = line.split('|').collect(alloc)?;
     perform_arguments(alloc, system, arguments.as_slice())
 }
 
-/// Does what the arguments ask for.
 fn perform_arguments<S: System>(
     alloc: Global,
     system: &S,
@@ -45,17 +43,17 @@ fn perform_arguments<S: System>(
     Ok(Done::of(out, err, ended.status))
 }
 
-/// A line of arguments, the texts on standard output and on standard error, and the status.
+/// Arguments, separated by `|`, with the expected texts on standard output and standard error and the expected status.
 type Row<'a> = (&'a str, &'a str, &'a str, u8);
 
-/// The line of arguments does what is beside it.
+/// Expects the program to do what the row says.
 fn check<S: System>(rt: &(impl Abort + AllocGlobal), system: &S, row: Row<'_>) -> Result<(), Fail> {
     let done = perform(rt.alloc(), system, row.0)?;
     expect_done(rt, &done, row);
     Ok(())
 }
 
-/// On each line are arguments, an arrow, and the line that is reported of them on standard error. All end with this status.
+/// Expects the arguments on each line to be rejected with this status, and with the error line after the arrow.
 fn check_refused<S: System>(
     rt: &(impl Abort + AllocGlobal),
     system: &S,
@@ -70,7 +68,7 @@ fn check_refused<S: System>(
     Ok(())
 }
 
-/// What was done is what is beside the line.
+/// Expects the outputs and the status to be those of the row.
 fn expect_done(rt: &impl Abort, done: &Done, row: Row<'_>) {
     let (line, out, err, status) = row;
     assert_eq!(rt;

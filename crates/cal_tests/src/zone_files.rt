@@ -1,4 +1,4 @@
-//! Zone files that are loaded into the table of zones, and rejected ones.
+//! Loading zone files into the table of zones, and rejecting invalid ones.
 
 use cal_bytes::{Faulty, Port, Then};
 use cal_library_tests::shared::zone_file;
@@ -10,12 +10,12 @@ use std::alloc::Global;
 use std::process::Abort;
 use std::test::Fail;
 
-/// The place of local midnight of 2024-01-01 in the zone of that name.
+/// Returns the instant of local midnight on 2024-01-01 in the zone with this name, if there is one.
 fn midnight(table: &ZoneTable, name: &str) -> Option<i64> {
     place(table.find(name)?, 1_704_067_200)
 }
 
-/// The places of that midnight in the zones `UTC`, `Test/Fixed`, `Test/A` and `1x`.
+/// Returns that midnight in `UTC`, `Test/Fixed`, `Test/A` and `1x`.
 fn midnights(table: &ZoneTable) -> [Option<i64>; 4] {
     [
         midnight(table, "UTC"),
@@ -25,24 +25,24 @@ fn midnights(table: &ZoneTable) -> [Option<i64>; 4] {
     ]
 }
 
-/// In UTC, and where the clock is an hour ahead of it.
+/// The instants of that midnight in UTC, and in a zone one hour ahead of UTC.
 const IN_UTC: Option<i64> = Some(1_704_067_200);
 
 const HOUR_AHEAD: Option<i64> = Some(1_704_063_600);
 
-/// An attempt to load a file under a name, and what is in the table afterwards.
+/// A file to be loaded under a name, and what is expected to be in the table afterwards.
 #[derive(Clone, Copy)]
 struct Row<'a> {
     name: &'a str,
     bytes: &'a [u8],
-    /// After how many bytes the reader does what `then` says.
+    /// Number of bytes after which the source does what `then` says.
     limit: usize,
     then: Then,
     want: Result<(), LoadFault>,
     midnights: [Option<i64>; 4],
 }
 
-/// Each row in turn, over one table.
+/// Loads the file of each row, in order, into one table, and expects the results of the rows.
 fn check(rt: &(impl Abort + AllocGlobal), rows: &[Row<'_>]) -> Result<(), Fail> {
     let mut table = ZoneTable::new(rt.alloc());
     for row in rows {
@@ -52,10 +52,10 @@ fn check(rt: &(impl Abort + AllocGlobal), rows: &[Row<'_>]) -> Result<(), Fail> 
     Ok(())
 }
 
-/// What comes of loading a file, and whether its reader failed.
+/// The result of loading a file, and whether its source failed.
 type Loaded = (Result<(), LoadFault>, bool);
 
-/// Loads the row's file into the table.
+/// Loads the file of a row into the table.
 fn load(alloc: Global, table: &mut ZoneTable, row: Row<'_>) -> Result<Loaded, Fail> {
     let bytes = row.bytes.to_vec(alloc)?;
     let mut from = Port::new(Faulty::new(bytes, 50, row.limit, row.then));
@@ -63,14 +63,14 @@ fn load(alloc: Global, table: &mut ZoneTable, row: Row<'_>) -> Result<Loaded, Fa
     Ok((loaded, from.failed()))
 }
 
-/// It came to what the row says, and so does the table.
+/// Expects the result of loading the file, and the midnights of the table, to be those of the row.
 fn expect_loaded(rt: &impl Abort, row: Row<'_>, found: (Loaded, [Option<i64>; 4])) {
     let failed = row.want == Err(LoadFault::ReadFailed);
     let wanted = ((row.want, failed), row.midnights);
     assert_eq!(rt; found, wanted, "at {} {:?}", row.name, row.want);
 }
 
-/// A zone file that is loaded under the name `Test/Fixed`.
+/// Returns the row for a zone file that is loaded under the name `Test/Fixed`.
 fn row_of(bytes: &[u8]) -> Row<'_> {
     Row {
         name: "Test/Fixed",
@@ -94,13 +94,13 @@ fn one_name_more(rt: HostRuntime) -> Result<(), Fail> {
     check(&rt, &[first, second])
 }
 
-/// The reader of a zone file that is cut, and of a whole one.
+/// Limits for the source of a zone file: one that cuts the file short, and one that leaves it whole.
 const CUT: usize = 9;
 
 const WHOLE: usize = 999;
 
-/// A name, after how many bytes the reader does what, and the fault. The first fault is reported: a name that is none, then
-/// what the reader does, then the bytes, and last of all a name that is taken.
+/// A name, the source's limit, what the source does after that, and the expected error. Of several errors, an invalid
+/// name comes first, then errors while reading, then invalid contents, and a name that is taken comes last.
 static REFUSALS: [(&str, usize, Then, LoadFault); 8] = [
     ("1x", CUT, Then::Error, Zone(BadName)),
     ("1x", CUT, Then::Endless, Zone(BadName)),
@@ -112,7 +112,7 @@ static REFUSALS: [(&str, usize, Then, LoadFault); 8] = [
     ("Test/Fixed", WHOLE, Then::Error, Zone(NameTaken)),
 ];
 
-/// Files that can't be loaded beside the one that is there leave the table as it was.
+/// A file that can't be loaded leaves the table unchanged.
 #[test]
 fn refusals_in_order(rt: HostRuntime) -> Result<(), Fail> {
     let bytes = zone_file(rt.alloc())?;
@@ -130,7 +130,7 @@ fn refusals_in_order(rt: HostRuntime) -> Result<(), Fail> {
     Ok(())
 }
 
-/// Bytes that are no zone file are rejected by this fault.
+/// Expects bytes that are not a zone file to be rejected with this error.
 fn check_bytes(
     rt: &(impl Abort + AllocGlobal),
     bytes: &[u8],
@@ -147,7 +147,7 @@ fn check_bytes(
     check(rt, &[row])
 }
 
-/// Up to the most bytes that are read, and one byte more.
+/// The largest size that is read, and one byte more.
 #[test]
 fn bytes_that_are_no_zone_file(rt: HostRuntime) -> Result<(), Fail> {
     check_bytes(&rt, b"hello", BadFile)?;

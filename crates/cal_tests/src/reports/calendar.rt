@@ -3,7 +3,7 @@
 use super::{CALENDAR, NOON_THIRTY, Row, check};
 use std::test::Fail;
 
-/// The last local second of all.
+/// The last supported local second, from one second before.
 const LAST_SECOND: Row<'static> = Row {
     about: "last second",
     texts: &["*-*-* 23:59:59"],
@@ -101,7 +101,7 @@ Normalized form: Wed *-*-* 17:48:00
        From now: 2d 17h 48min left
 ";
 
-/// Calendar expressions of every kind.
+/// Expressions of various kinds.
 static EXPRESSIONS: [Row<'static>; 4] = [
     LEAP_DAYS,
     Row {

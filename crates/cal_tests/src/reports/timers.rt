@@ -1,4 +1,4 @@
-//! Reports of timer files.
+//! Reports on timer files.
 
 use super::{CALENDAR, KnownZones, Local, Row, check, check_input, known_zones};
 use cal_bytes::{Faulty, Port, Then};
@@ -8,14 +8,14 @@ use std::alloc::{AllocError, Global};
 use std::process::Abort;
 use std::test::Fail;
 
-/// A request for the first elapse of the file `t`.
+/// A request for the next elapse of the timer file `t`.
 const TIMER: Row<'static> = Row {
     verb: Verb::Timer,
     texts: &["t"],
     ..CALENDAR
 };
 
-/// The elapses of two expressions, of which both have 11:00.
+/// Two expressions that both elapse at 11:00, which is listed once.
 const SHARED: &str = "  Original form: *:0/15
 Normalized form: *-*-* *:00/15:00
   Original form: *:0/20
@@ -44,7 +44,7 @@ Normalized form: *-*-* *:00:00
        From now: 1h left
 ";
 
-/// The timer file whose elapses are those of its last two lists.
+/// The report on `TIMER_FILE`, which has two expressions left after its reset.
 pub(super) const CONTINUED_TIMER: Row<'static> = Row {
     about: "timer file",
     iterations: 2,
@@ -80,7 +80,7 @@ Normalized form: Sat,Sun *-*-* 12:00:00
        From now: 3d 12h left
 ";
 
-/// The timer file with an exception, from a Friday's midnight on.
+/// The report on `EXCEPT_FILE`, starting at midnight on a Friday.
 pub(super) const EXCEPT_TIMER: Row<'static> = Row {
     about: "timer file with an exception",
     iterations: 2,
@@ -90,7 +90,7 @@ pub(super) const EXCEPT_TIMER: Row<'static> = Row {
     ..TIMER
 };
 
-/// The exception has only midnights.
+/// The exception has only midnights, so noon on Saturday stays.
 const MIDNIGHTS: &str = "  Original form: 12:00
 Normalized form: *-*-* 12:00:00
     Except form: Sat,Sun
@@ -141,7 +141,7 @@ fn exceptions(rt: HostRuntime) -> Result<(), Fail> {
     check(&rt, &EXCEPTIONS)
 }
 
-/// A file is rejected as a whole, by one line.
+/// An invalid file is rejected as a whole, with one error line.
 static REFUSED_TIMERS: [Row<'static>; 4] = [
     Row {
         about: "a refused expression",
@@ -174,7 +174,7 @@ fn refused_timers(rt: HostRuntime) -> Result<(), Fail> {
     check(&rt, &REFUSED_TIMERS)
 }
 
-/// A file with that many times `OnCalendar=daily`, and then these lines.
+/// Returns a file with `count` lines `OnCalendar=daily`, followed by `last`.
 fn many(alloc: Global, count: usize, last: &str) -> Result<String, AllocError> {
     let mut file = String::from_str(alloc, "[Timer]\n")?;
     for _ in 0..count {
@@ -184,7 +184,7 @@ fn many(alloc: Global, count: usize, last: &str) -> Result<String, AllocError> {
     Ok(file)
 }
 
-/// The report of a file with that many times `OnCalendar=daily` and a line of another kind, up to the elapses.
+/// Returns a report with `count` headings for the expression `daily`, followed by `last`.
 fn headings(alloc: Global, count: usize, last: &str) -> Result<String, AllocError> {
     let mut out = String::new(alloc);
     for _ in 0..count {
@@ -204,15 +204,15 @@ Normalized form: *-*-* *:00:00
 
 const TOMORROW: &str = "    Next elapse: Tue 2024-01-02 00:00:00 UTC\n       From now: 1d left\n";
 
-/// How many lines, those after them, how many headings, what is printed after them, and the refusal. As many as there
-/// may be are given as one; after a reset as many may be there anew.
+/// The number of lines `OnCalendar=daily`, the lines after them, the number of headings in the report, the text after
+/// the headings, and the error line. A file may have 256 expressions at a time, and a reset starts the count again.
 static MANY: [(usize, &str, usize, &str, &str); 3] = [
     (256, "", 256, TOMORROW, ""),
     (256, RESET, 0, HOURLY, ""),
     (257, RESET, 0, "", "t:258: more than 256 expressions\n"),
 ];
 
-/// The request for the elapses of this file, which writes these texts.
+/// Returns the row for a file with these contents.
 fn timer_row<'a>(input: &'a [u8], out: &'a str, err: &'a str) -> Row<'a> {
     Row {
         about: "many expressions",
@@ -234,10 +234,10 @@ fn as_many_expressions_as_there_may_be(rt: HostRuntime) -> Result<(), Fail> {
     Ok(())
 }
 
-/// How many bytes a reader gives a call, and what it does after how many in all.
+/// How many bytes a source returns in each call and in all, and what it does after that.
 type Reader = (usize, usize, Then);
 
-/// The row's file by this reader gives the row's texts.
+/// Expects the row to write its texts if its file is read from this source.
 fn check_reader(
     rt: &(impl Abort + AllocGlobal),
     zones: &KnownZones,
@@ -251,7 +251,6 @@ fn check_reader(
     check_input(rt, row, zones, &mut input)
 }
 
-/// So it does by each of these readers.
 fn check_readers(
     rt: &(impl Abort + AllocGlobal),
     row: Row<'_>,
@@ -264,7 +263,7 @@ fn check_readers(
     Ok(())
 }
 
-/// The timer files that readers give.
+/// The timer files that are read from slow or failing sources.
 static READ: [Row<'static>; 2] = [CONTINUED_TIMER, EXCEPT_TIMER];
 
 #[test]
@@ -275,7 +274,7 @@ fn slow_readers(rt: HostRuntime) -> Result<(), Fail> {
     Ok(())
 }
 
-/// A row whose file can't be read, for this reason.
+/// Returns the row for a file that can't be read; its only output is this error line.
 fn unread<'a>(row: Row<'a>, err: &'a str) -> Row<'a> {
     Row {
         out: "",
@@ -284,7 +283,7 @@ fn unread<'a>(row: Row<'a>, err: &'a str) -> Row<'a> {
     }
 }
 
-/// Readers that fail after that many bytes, also after the last one.
+/// A file can't be read if its source fails after any number of bytes, even after all of them.
 #[test]
 fn failing_readers(rt: HostRuntime) -> Result<(), Fail> {
     for row in &READ {
@@ -297,7 +296,7 @@ fn failing_readers(rt: HostRuntime) -> Result<(), Fail> {
     Ok(())
 }
 
-/// Readers that never end.
+/// An endless source is reported as a file that is too large.
 #[test]
 fn endless_readers(rt: HostRuntime) -> Result<(), Fail> {
     for row in &READ {

@@ -1,10 +1,10 @@
-//! Reports and refusals of time spans and timestamps.
+//! Reports on time spans and timestamps, and error lines for invalid ones.
 
 use super::{CALENDAR, Local, Row, check};
 use cal_request::Verb;
 use std::test::Fail;
 
-/// The span list, of which one is rejected.
+/// A list of time spans, one of them invalid.
 pub(super) const SPAN_LIST: Row<'static> = Row {
     about: "span list",
     texts: &["1year 0.000001s", "300ms20s 5day", ".7", "0", "5x"],
@@ -30,7 +30,7 @@ Original: 0
     ..CALENDAR
 };
 
-/// A request for timestamps, in UTC. The present is Fri 2012-11-23 10:15:22 UTC.
+/// A request for timestamps in UTC. The present is Fri 2012-11-23 10:15:22 UTC.
 const TIMESTAMP: Row<'static> = Row {
     verb: Verb::Timestamp,
     now: 1_353_665_722,
@@ -68,7 +68,7 @@ today Mars/One: no such zone
 11:12 UTC x: stray word
 ";
 
-/// The stamp list, of which most are rejected, where the clock is 8 hours ahead of UTC.
+/// A list of timestamps, most of them invalid, in a local zone that is 8 hours ahead of UTC.
 pub(super) const STAMP_LIST: Row<'static> = Row {
     about: "stamp list",
     texts: &[
@@ -92,7 +92,7 @@ pub(super) const STAMP_LIST: Row<'static> = Row {
     ..TIMESTAMP
 };
 
-/// A local time that is skipped is moved on.
+/// A skipped local time is moved forward by the length of the gap.
 const MOVED_ON: &str = "  Original form: 2024-03-31 02:30
 Normalized form: Sun 2024-03-31 03:30:00 +02:00
        (in UTC): Sun 2024-03-31 01:30:00 UTC

@@ -1,9 +1,9 @@
-//! Calendar reports in zones other than UTC, and after a base.
+//! Calendar reports in zones other than UTC, and reports with a base time.
 
 use super::{CALENDAR, Local, Row, check};
 use std::test::Fail;
 
-/// A local time that is skipped once a year has no elapse there.
+/// On the day that skips the local time there is no elapse.
 const GAP: &str = "  Original form: 02:30
 Normalized form: *-*-* 02:30:00
     Next elapse: Sat 2024-03-30 02:30:00 +01:00
@@ -14,7 +14,7 @@ Normalized form: *-*-* 02:30:00
        From now: 2d 30min left
 ";
 
-/// A local time that comes twice elapses the first time.
+/// A local time that occurs twice elapses at its first occurrence.
 const FOLD: &str = "  Original form: 02:30
 Normalized form: *-*-* 02:30:00
     Next elapse: Sun 2024-10-27 02:30:00 +02:00
@@ -85,7 +85,7 @@ Normalized form: *-*-* 00:00:00
        From now: 22h 1s left
 ";
 
-/// Three elapses where the clock is 5 hours and 30 minutes ahead of UTC.
+/// Three elapses in a local zone that is 5 hours and 30 minutes ahead of UTC.
 pub(super) const EVERY_SECOND: Row<'static> = Row {
     about: "every second",
     texts: &["*:*:*"],
@@ -106,7 +106,7 @@ Normalized form: *-*-* *:*:*
     ..CALENDAR
 };
 
-/// The last second of a clock ten hours behind UTC.
+/// The last supported local second, in a zone ten hours behind UTC.
 const BEFORE_THE_LAST_SECOND: Row<'static> = Row {
     about: "last second west",
     texts: &["*-*-* 23:59:59"],
@@ -150,14 +150,14 @@ Normalized form: *-*-* 00:00:00 Test/Fixed
        From now: 23h left
 ";
 
-/// An expression with an offset is meant on that clock, whatever the local zone is.
+/// An expression with an offset uses that offset, whatever the local zone is.
 const TWO_HOURS_EAST: &str = "  Original form: daily +02:00
 Normalized form: *-*-* 00:00:00 +02:00
     Next elapse: Mon 2024-01-01 22:00:00 UTC
        From now: 22h left
 ";
 
-/// The last seconds of a clock far west of UTC lie in 2200.
+/// The last local seconds far west of UTC are already in 2200 in UTC.
 const FAR_WEST: &str = "  Original form: *-*-* 23:59:59 -25:59
 Normalized form: *-*-* 23:59:59 -25:59
     Next elapse: Wed 2200-01-01 01:58:59 UTC
@@ -215,7 +215,7 @@ Normalized form: *-*-* *:*:*
        From now: 3s left
 ";
 
-/// Every second, from the second elapse on.
+/// Every second, with a base at the second elapse of [`EVERY_SECOND`].
 const FROM_THE_SECOND: Row<'static> = Row {
     about: "every second, from the second elapse on",
     iterations: 2,
@@ -224,7 +224,7 @@ const FROM_THE_SECOND: Row<'static> = Row {
     ..EVERY_SECOND
 };
 
-/// Every second, from the first elapse on.
+/// Every second, with a base at the first elapse of [`EVERY_SECOND`].
 pub(super) const FROM_THE_FIRST: Row<'static> = Row {
     about: "every second, from the first elapse on",
     base: Some("@1704067201"),
@@ -232,7 +232,7 @@ pub(super) const FROM_THE_FIRST: Row<'static> = Row {
     ..FROM_THE_SECOND
 };
 
-/// Bases: a run that starts at an elapse gives those after it; one that is rejected is all that is reported.
+/// A base at an elapse lists the elapses after it. If the base is invalid, only its error is reported.
 static BASES: [Row<'static>; 4] = [
     FROM_THE_SECOND,
     FROM_THE_FIRST,

@@ -1,4 +1,4 @@
-//! A system whose file fails or never ends, and tells nothing of it; and outputs that fail.
+//! Files that fail or never end, and outputs that fail. The system says nothing about its file in advance.
 
 use super::{check, perform};
 use cal_bytes::{Faulty, Port, Then};
@@ -10,7 +10,7 @@ use std::io::BufWriter;
 use std::process::Abort;
 use std::test::Fail;
 
-/// One file, `f`, that does what `then` says after `limit` bytes.
+/// A system with one file, `f`, which does what `then` says after `limit` bytes.
 #[derive(Clone, Copy)]
 struct Disk<'a> {
     alloc: Global,
@@ -35,7 +35,7 @@ impl<'a> System for Disk<'a> {
     }
 }
 
-/// After how many bytes a file does what, and what is reported.
+/// The number of bytes in a file, what the file does after them, and the end of its error line.
 type Failing = (usize, Then, &'static str);
 
 static ZONE_FILES: [Failing; 3] = [
@@ -50,7 +50,7 @@ static TIMER_FILES: [Failing; 3] = [
     (8, Then::Zero, "no calendar expression\n"),
 ];
 
-/// Of the line of words each failing file of these bytes is reported after these words, with this status.
+/// Expects each file to be reported with an error line that begins with `about`, and with this status.
 fn check_failing(
     rt: &(impl Abort + AllocGlobal),
     bytes: &[u8],
@@ -81,7 +81,7 @@ fn files_that_fail(rt: HostRuntime) -> Result<(), Fail> {
     check_failing(&rt, timer, "timer|f", &TIMER_FILES, ("f: ", 1))
 }
 
-/// A system whose file is empty.
+/// Returns a system whose file is empty.
 fn empty_disk(alloc: Global) -> Disk<'static> {
     Disk {
         alloc,
@@ -91,12 +91,13 @@ fn empty_disk(alloc: Global) -> Disk<'static> {
     }
 }
 
-/// The arguments ended so, and what the output has that fails.
+/// Expects the result, and the bytes that the failing output got.
 fn expect_cut(rt: &impl Abort, args: &[&str], cut: (Ended, &[u8]), wanted: (Ended, &[u8])) {
     assert_eq!(rt; cut, wanted, "at {args:?}");
 }
 
-/// Standard output that fails after 3 bytes has these of the whole text, and the fault is reported on standard error.
+/// Runs the program with a standard output that fails after 3 bytes. Expects it to have the first 3 bytes of `whole`,
+/// and standard error to report the failure.
 fn check_cut_out(rt: &(impl Abort + AllocGlobal), args: &[&str], whole: &[u8]) -> Result<(), Fail> {
     let disk = empty_disk(rt.alloc());
     let writer = Faulty::new(Vec::new(rt.alloc()), 7, 3, Then::Error);
@@ -131,7 +132,8 @@ fn outputs_that_fail(rt: HostRuntime) -> Result<(), Fail> {
     check_cut_out(&rt, &["--help"], help.out.as_slice())
 }
 
-/// Standard error that fails after 3 bytes has exactly these, and the status stays what it is.
+/// Runs the program with a standard error that fails after 3 bytes. Expects it to have `front`, and the status to be
+/// the one that the run would have without the failure.
 fn check_cut_err(
     rt: &(impl Abort + AllocGlobal),
     args: &[&str],

@@ -1,4 +1,4 @@
-//! A system in memory that tells its file and its clock.
+//! A system in memory, whose file and clock are known to the contracts.
 
 ghost use Rattle.std.specs.Prelude.{None, Some, true, if◌then◌else◌, bytes_eq};
 
@@ -8,7 +8,7 @@ use cal_library_tests::shared::{NEW_YEAR, zone_file};
 use cal_work::System;
 use std::test::Fail;
 
-/// One file, and the time.
+/// A system with one file and a fixed time.
 #[derive(Clone, Copy)]
 struct Memory<'a> {
     path: &'a str,
@@ -38,7 +38,7 @@ impl<'a> System for Memory<'a> {
     }
 }
 
-/// The file `f`, at the turn of the year.
+/// Returns a system with the file `f`, at the start of 2024.
 fn with_file(bytes: &[u8]) -> Memory<'_> {
     Memory {
         path: "f",
@@ -59,7 +59,7 @@ Normalized form: *-*-* *:00:00
        From now: 1h left
 ";
 
-/// A zone file by its option, and a timer file.
+/// A zone file that is loaded with `--zones`, and a timer file.
 #[test]
 fn reports(rt: HostRuntime) -> Result<(), Fail> {
     let bytes = zone_file(rt.alloc())?;
@@ -74,8 +74,8 @@ fn reports(rt: HostRuntime) -> Result<(), Fail> {
     check(&rt, &timer, ("timer|f", HOURLY, "", 0))
 }
 
-/// Lines whose option can't be taken, with what is reported: two bad values, of which the first is reported, and each alone; the
-/// empty rule, and a name that isn't in the table; names that are taken, the first by the same list, and a file that
+/// Options that are rejected, each with its error line: two bad values at once, of which one is reported, and each of
+/// them alone; an empty rule and an unknown name for the local zone; zone names that are taken; and a zone file that
 /// can't be opened.
 const REFUSED_OPTIONS: &str = "\
 calendar|--iterations=0|--now=5|daily -> calendar-analyze: bad iterations
@@ -92,7 +92,7 @@ calendar|--zones=utc=f|daily -> calendar-analyze: --zones: utc: zone name taken
 calendar|--zones=A=g|daily -> calendar-analyze: --zones: A: cannot be read
 ";
 
-/// Lines whose text or file can't be taken.
+/// Texts and files that are rejected, each with the error line.
 const REFUSED_TEXTS: &str = "\
 timer|g -> g: cannot be read
 timer| -> : cannot be read
@@ -109,8 +109,8 @@ fn refusals(rt: HostRuntime) -> Result<(), Fail> {
     check_refused(&rt, &memory, REFUSED_TEXTS, 1)
 }
 
-/// Two faults at once, where the clock gives no instant and the file is no zone file: the one that comes first in the
-/// program's work is reported alone.
+/// Up to three errors at once: the clock has no valid time, and `f` is neither a zone file nor a timer file. Only the
+/// error that the program meets first is reported.
 const WITHOUT_CLOCK: &str = "\
 calendar|--now=5|--zones=A=f|daily -> calendar-analyze: bad now
 calendar|--zones=A=f|daily -> calendar-analyze: --zones: A: bad zone file
@@ -124,7 +124,7 @@ timestamp|now -> calendar-analyze: clock out of range
 timespan|1h -> calendar-analyze: clock out of range
 ";
 
-/// The same at a present, where the file is no timer's.
+/// Like [`WITHOUT_CLOCK`], with a clock that works.
 const WITH_CLOCK: &str = "\
 timer|--base-time=Mon 2012-11-23|g -> g: cannot be read
 timer|--base-time=Mon 2012-11-23|f -> --base-time: weekday does not fit the date
@@ -139,7 +139,7 @@ fn the_first_is_told(rt: HostRuntime) -> Result<(), Fail> {
     check_refused(&rt, &memory, WITH_CLOCK, 1)
 }
 
-/// Help goes to standard output, and the text of usage to standard error.
+/// Help goes to standard output, and usage errors go to standard error.
 #[test]
 fn help_and_usage(rt: HostRuntime) -> Result<(), Fail> {
     let memory = with_file(b"");
