@@ -143,10 +143,7 @@ impl Rules {
     {
         let even = even_until(self, Instant::new(local - FAR)?);
         match &self.kind {
-            RulesKind::Posix(zone) => self.stretch_until(
-                local,
-                alike_in_zone(*zone, local, even),
-            ),
+            RulesKind::Posix(zone) => self.stretch_until(local, alike_in_zone(*zone, local, even)),
             RulesKind::File(table) => self.stretch_until(local, alike_behind(table, local, even)),
         }
     }
