@@ -99,6 +99,9 @@ texts_accepted some asked base (text ∷ texts) verb h =
     let same : text ∷ texts ≡ here.expression.text ∷ map text_of rest.expressions = let first = here.same in let later = rest.same in cc in
     record { expressions = here.expression ∷ rest.expressions; same = same; each = (here.accepted, rest.each) }
 
+never_fine : {A : Type 0} → Refused ≡ Fine → A
+never_fine h = cc
+
 none_by_status : (b : Bool) → (if b then Refused else Fine) ≡ Fine → b ≡ false
 none_by_status true h = cc
 none_by_status false h = refl
@@ -224,12 +227,12 @@ lists_accepted one some asked bytes lists read there =
 accepted_unless : HaveOneNormalForm → AreNormalForms → (asked : Request) (bytes name : List ℕ) (base : ℤ) (lists : Timer Fields) (o : Option ℕ)
     → timer_in expr_in bytes ≡ Ok lists → unzoned asked lists ≡ o → (whole_report (answer_unless asked base name lists o)).status ≡ Fine → IsAcceptedFile asked bytes
 accepted_unless one some asked bytes name base lists None read there h = lists_accepted one some asked bytes lists read there
-accepted_unless one some asked bytes name base lists (Some number) read there h = cc
+accepted_unless one some asked bytes name base lists (Some number) read there h = never_fine h
 
 accepted_of : HaveOneNormalForm → AreNormalForms → (asked : Request) (bytes name : List ℕ) (base : ℤ) (r : Result (Timer Fields) TimerFault)
     → timer_in expr_in bytes ≡ r → (whole_report (answer_of_timer asked base name r)).status ≡ Fine → IsAcceptedFile asked bytes
 accepted_of one some asked bytes name base (Ok lists) read h = accepted_unless one some asked bytes name base lists (unzoned asked lists) read refl h
-accepted_of one some asked bytes name base (Err fault) read h = cc
+accepted_of one some asked bytes name base (Err fault) read h = never_fine h
 
 report_of_timer : (asked : Request) (bytes : List ℕ) (base : ℤ) → asked.verb ≡ verb.Timer → base_in asked ≡ Ok base
     → report asked (Ok bytes) ≡ whole_report (timer_answer asked base (file_name asked) (Ok bytes))
