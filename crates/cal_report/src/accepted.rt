@@ -150,7 +150,7 @@ pub fn zone_for<'a>(context: Context<'a>, expr: &Expr) -> Option<Zone<'a>>
     }
 }
 
-/// Writes the report of what was read from the text, in its place among the others.
+/// Writes the report of an accepted text, after an empty line if another report came before it.
 #[tactic(auto, using(cal_bytes::proofs::PutLemmas::puts))]
 pub fn put_report<W: Sink>(
     out: &mut W,
@@ -165,21 +165,6 @@ pub fn put_report<W: Sink>(
         (joined (lead_text is_later ∷ report_text (asked_by context.entry) text.now accepted.entry ∷ [])) }
 {
     put_lead(out, is_later)?;
-    write_report(out, context, text, accepted)
-}
-
-/// Writes the report of what was read from the text.
-pub fn write_report<W: Sink>(
-    out: &mut W,
-    context: Context<'_>,
-    text: &str,
-    accepted: Accepted<'_>,
-) -> Result<(), WriteFault>
-    requires timely { IsTimely accepted }
-    requires out { W.is_failed out.old ≡ false }
-    ensures { Puts W.Sink out.old out.new result
-        (report_text (asked_by context.entry) text.now accepted.entry) }
-{
     match accepted {
         Accepted::Calendar(expr, mut elapses) => {
             write_calendar(out, context, text, &expr, &mut elapses)
