@@ -46,7 +46,7 @@ answered_so one some asked base text (Err words) verb is = (
   (words, search rules),
 )
 
-each_answered : HaveOneNormalForm → AreNormalForms → (asked : Request) (base : ℤ) (texts : List (List ℕ)) → asked.verb ≡ Calendar
+pub each_answered : HaveOneNormalForm → AreNormalForms → (asked : Request) (base : ℤ) (texts : List (List ℕ)) → asked.verb ≡ Calendar
     → AllZip (IsAnswerTo asked base) texts (map (lined_by (answer_to asked base)) texts)
 each_answered one some asked base [] verb = tt
 each_answered one some asked base (text ∷ texts) verb =

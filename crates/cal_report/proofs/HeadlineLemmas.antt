@@ -81,7 +81,7 @@ is_report asked base e = record {
   layout = rw (append-nil (heading_text original_label e.text e.fields), append-nil (heading_text original_label e.text e.fields)) (ap (λ (t : List ℕ). heading_text original_label e.text e.fields ++ t) (append-nil _));
 }
 
-each_report : (asked : Request) (base : ℤ) (es : List Expression)
+pub each_report : (asked : Request) (base : ℤ) (es : List Expression)
     → AllZip (λ e report. IsReportOf asked base (alone e) report) es (map (report_of asked base) es)
 each_report asked base [] = tt
 each_report asked base (e ∷ es) = (is_report asked base e, each_report asked base es)

@@ -1,10 +1,13 @@
 pub mod AddedLemmas
+pub mod AgainLemmas
+pub mod AmongLemmas
 pub mod AnswerLemmas
 pub mod ElapseTexts
 pub mod HeadlineAccepted
 pub mod HeadlineEach
 pub mod HeadlineElapses
 pub mod HeadlineLemmas
+pub mod ManyLemmas
 pub mod ReportLemmas
 pub mod ResumeLemmas
 pub mod TimelyLemmas

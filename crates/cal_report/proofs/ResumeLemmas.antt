@@ -276,7 +276,7 @@ elapses_from : (ts exceptions : List Timed) (base from : ℤ) (n : ℕ) (xs : Li
 elapses_from ts exceptions base from n xs zero h after = subst (λ (b : ℤ). AreElapses ts exceptions b xs) (sym after) h
 elapses_from ts exceptions base from n xs (suc k) h after = goes_on ts exceptions base from xs k h (slice_get-taken n xs k from after)
 
-zone_again : (asked again : Request) (suffix : Option ZoneSuffix) (tz : TimeZone) → again.local ≡ asked.local → again.zones ≡ asked.zones
+pub zone_again : (asked again : Request) (suffix : Option ZoneSuffix) (tz : TimeZone) → again.local ≡ asked.local → again.zones ≡ asked.zones
     → IsZoneFor asked suffix tz → IsZoneFor again suffix tz
 zone_again asked again None tz local zones h = rw local h
 zone_again asked again (Some (of_name name)) tz local zones h = rw zones h
@@ -323,7 +323,7 @@ one_report_of : (asked : Request) (base : ℤ) (e : Expression) (text : List ℕ
 one_report_of asked base e text h = of_reports asked base e text h.reports h.each h.layout
 
 -- the report of one accepted text
-text_report : HaveOneNormalForm → (asked : Request) (read : Result (List ℕ) WholeFault) (base : ℤ) (e : Expression)
+pub text_report : HaveOneNormalForm → (asked : Request) (read : Result (List ℕ) WholeFault) (base : ℤ) (e : Expression)
     → asked.verb ≡ Calendar → base_in asked ≡ Ok base → asked.texts ≡ e.text ∷ [] → IsAccepted asked e
     → IsReportOf asked base (alone e) (report asked read).out
 text_report one asked read base e verb sought texts accepted =
@@ -369,7 +369,7 @@ file_resumes one asked bytes base s front rest verb sought file all cut =
 -- What a run leaves, cut or whole
 
 -- what it wrote is a prefix of what it was to write
-front_written : {T E : Type 0} (result : Result T E) (old new : Option (List ℕ)) (text : List ℕ) → Writes old new result text → AppendsFront old new text
+pub front_written : {T E : Type 0} (result : Result T E) (old new : Option (List ℕ)) (text : List ℕ) → Writes old new result text → AppendsFront old new text
 front_written (Ok x) old new text h = record { front = text; rest = []; whole = sym (append-nil text); written = h }
 front_written (Err e) old new text h = h
 

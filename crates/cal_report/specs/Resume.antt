@@ -1,10 +1,11 @@
 -- How a cut output resumes: which of the elapses shown are in a prefix of a report, and what is asked to go on after
 -- the last of them: systemd-analyze(1), calendar, --iterations= and --base-time=; systemd.timer(5), OnCalendar=.
-use Rattle.std.specs.Prelude.{◌≡◌, ◌↔◌, ◌≤◌, ◌<◌, ◌+◌, ◌++◌, ℕ, zero, suc, ℤ, List, ◌∷◌, Result, Ok, Some, take, drop, length, slice_get, codes}
+use Rattle.std.specs.Prelude.{◌≡◌, ◌↔◌, ◌≤◌, ◌<◌, ◌+◌, ◌-◌, ◌++◌, ℕ, zero, suc, ℤ, List, [], ◌∷◌, Option, None, Some, Result, Ok, take, drop, length, slice_get, codes, option_map}
+use Rattle.std.specs.List.{AllZip, filter_map, flat_map}
 use Rattle.cal_bytes.specs.declared.whole.WholeFault.{WholeFault}
 use Rattle.cal_zone.specs.headline.InstantText.{instant_text}
 use Rattle.cal_report.specs.headline.ElapseLines.{elapse_texts, elapses_text, label_text}
-use Rattle.cal_report.specs.headline.Headline.{AreElapsesOf, Schedule, headings}
+use Rattle.cal_report.specs.headline.Headline.{AreElapsesOf, Expression, IsAccepted, IsRejected, Schedule, alone, base_text, headings}
 use Rattle.cal_report.specs.Report.{base_in, report}
 use Rattle.cal_request.specs.headline.Request.{Request}
 
@@ -51,6 +52,15 @@ pub record IsBegunAgain (asked : Request) (base : ℤ) (shown : List ℤ) (k : �
   pub sought : base_in again ≡ Ok from
   pub after : IsBaseAfter base shown k from
 
+-- the base of the next run as a user writes it: `@` and the seconds of the k-th elapse shown, or the old base if k is 0
+abbrev pub base_after : Option (List ℕ) → List ℤ → ℕ → Option (List ℕ)
+base_after base shown zero = base
+base_after base shown (suc before) = option_map base_text (slice_get shown before)
+
+-- the request begun again after the first k elapses shown, for k fewer
+abbrev pub begun_again : Request → List ℤ → ℕ → Request
+begun_again asked shown k = record asked { iterations = asked.iterations - k; base = base_after asked.base shown k }
+
 -- Of a prefix of the report: there is one number of elapses that are in it, and the report of the same begun again
 -- after that many shows exactly the others.
 pub record Resumes (asked : Request) (base : ℤ) (s : Schedule) (read : Result (List ℕ) WholeFault) (front : List ℕ) : Type 0 where
@@ -62,3 +72,35 @@ pub record Resumes (asked : Request) (base : ℤ) (s : Schedule) (read : Result 
   pub only : (k : ℕ) → Stand asked s shown front k → k ≡ number
   pub others : (again : Request) → IsBegunAgain asked base shown number again
       → (report again read).out ≡ showing asked s (drop number shown)
+
+-- the text is that of this accepted expression, or it is rejected if there is none
+abbrev pub IsReadAs : Request → List ℕ → Option Expression → Type 0
+IsReadAs asked text None = IsRejected asked text
+IsReadAs asked text (Some e) = (text ≡ e.text) × IsAccepted asked e
+
+-- The expressions are those of the texts that are accepted, in their order. Every other text is rejected.
+pub record AreAcceptedAmong (asked : Request) (texts : List (List ℕ)) (es : List Expression) : Type 0 where
+  pub found : List (Option Expression)
+  pub each : AllZip (IsReadAs asked) texts found
+  pub kept : es ≡ filter_map (λ it. it) found
+
+-- the same request for this text alone
+abbrev pub for_text : Request → List ℕ → Request
+for_text asked text = record asked { texts = text ∷ [] }
+
+-- what the same request for this expression alone prints
+abbrev pub report_of_one : Request → Result (List ℕ) WholeFault → Expression → List ℕ
+report_of_one asked read e = (report (for_text asked e.text) read).out
+
+-- Of a prefix of the reports of several expressions: it consists of the complete reports of the first of them, each with
+-- the empty line after it, and of a prefix of the next report, which resumes as it does if its text is asked for alone.
+pub record ResumesAmong (asked : Request) (base : ℤ) (es : List Expression) (read : Result (List ℕ) WholeFault) (front : List ℕ) : Type 0 where
+  pub before : List Expression
+  pub e : Expression
+  pub after : List Expression
+  pub texts : es ≡ before ++ (e ∷ after)
+  pub last : List ℕ
+  pub rest : List ℕ
+  pub layout : front ≡ flat_map (λ d. report_of_one asked read d ++ codes "\n") before ++ last
+  pub begins : report_of_one asked read e ≡ last ++ rest
+  pub resumes : Resumes (for_text asked e.text) base (alone e) read last

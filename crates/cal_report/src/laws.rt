@@ -1,7 +1,7 @@
 //! The headline of the program, and how a cut output resumes, as laws: functions that do nothing, and whose contracts
 //! are the laws.
 
-ghost use Rattle.std.specs.Prelude.{◌≡◌, ◌+◌, ◌++◌, ◌∷◌, [], ℕ, ℤ, pos, ◌<ℤ◌, ◌-ℤ◌, ◌<◌, Bool, List, Ok, None, Option, Some, Result, map, suc, take, drop, slice_get, true};
+ghost use Rattle.std.specs.Prelude.{◌≡◌, ◌+◌, ◌++◌, ◌∷◌, [], ℕ, ℤ, pos, ◌<ℤ◌, ◌-ℤ◌, ◌<◌, Bool, List, Ok, None, Option, Some, Result, map, suc, take, drop, length, slice_get, true};
 ghost use Rattle.std.specs.Io.KnownBytes.{Appends};
 ghost use Rattle.std.specs.List.{AllByRecursion};
 ghost use Rattle.jiff.specs.Types.{Fold, Offset, TimeZone};
@@ -16,10 +16,10 @@ ghost use Rattle.cal_spec.specs.headline.Members.{sets_of};
 ghost use Rattle.cal_elapse.specs.headline.Elapses.{AreElapses, IsPlace, Timed};
 ghost use Rattle.cal_elapse.specs.headline.Timed.{timed};
 ghost use Rattle.cal_report.specs.ElapseLines.{AreInstants};
-ghost use Rattle.cal_report.specs.headline.Headline.{AreAccepted, AreAllAccepted, AreAnswered, AreElapsesOf, AreReportsOf, Expression, IsAccepted, IsAcceptedFile, IsFileOf, IsFine, IsReportOf, Schedule, alone};
+ghost use Rattle.cal_report.specs.headline.Headline.{AreAccepted, AreAllAccepted, AreAnswered, AreElapsesOf, AreReportsOf, Expression, IsAccepted, IsAcceptedFile, IsFileOf, IsFine, IsReportOf, Schedule, alone, started_at};
 ghost use Rattle.cal_report.specs.Report.{ByReading, IsReported, base_in, report};
 ghost use Rattle.cal_report.specs.headline.Report.{Report};
-ghost use Rattle.cal_report.specs.Resume.{Resumes};
+ghost use Rattle.cal_report.specs.Resume.{AreAcceptedAmong, Resumes, ResumesAmong, begun_again, showing};
 ghost use Rattle.cal_request.specs.headline.Request.{Request};
 ghost use Rattle.cal_request.specs.declared.request.RunFault.{RunFault};
 ghost use Rattle.cal_request.specs.declared.request.Status.{Status};
@@ -29,9 +29,12 @@ ghost use Rattle.cal_request.specs.declared.request.Verb.TheVariants.{Calendar, 
 use cal_spec::laws::one_normal_form_of_fields;
 
 /// For every list of accepted expressions, base instant and zones, the elapses printed are exactly the matching instants
-/// after the base through 2199, each once, rising: the first n where n are asked for, or all where there are fewer. A
-/// matching instant is the place of a local second that matches, and of a timer file one at which no exception elapses.
-/// Starting again at any of them gives exactly those after it.
+/// after the base through 2199, each once, rising; a local time in a gap gives none, in a fold its first instant alone; an
+/// iteration count n gives the first n, and starting again at any printed instant gives exactly the rest; want of memory
+/// aside.
+///
+/// A matching instant is the place of a local second that matches. In a timer file it is also not an elapse of an
+/// exception.
 pub fn headline()
     // The report of each text is its heading and the first of its elapses.
     ensures calendar { (asked : Request) (read : Result (List ℕ) WholeFault) (base : ℤ) (es : List Expression)
@@ -83,9 +86,11 @@ pub fn headline()
     ensures one_list { (ts exceptions : List Timed) (base : ℤ) (xs ys : List ℤ)
         → AreElapses ts exceptions base xs → AreElapses ts exceptions base ys → xs ≡ ys }
 
-    // Each elapse is an instant, so that it can be a base. From there on the rest follows, and nothing else.
+    // Each elapse is an instant, and `@` and the seconds of an instant are a base there. From there on the rest follows,
+    // and nothing else.
     ensures instants { (asked : Request) (base : ℤ) (s : Schedule) (xs : List ℤ) → IsInstant asked.now
         → base_in asked ≡ Ok base → AreElapsesOf s base xs → AreInstants xs }
+    ensures based { (asked : Request) (secs : ℤ) → IsInstant secs → base_in (started_at asked secs) ≡ Ok secs }
     ensures again { (ts exceptions : List Timed) (base e : ℤ) (xs : List ℤ) (k : ℕ) → AreElapses ts exceptions base xs
         → slice_get xs k ≡ Some e → AreElapses ts exceptions e (drop (suc k) xs) }
     ensures in_parts { (ts exceptions : List Timed) (base e : ℤ) (xs ys : List ℤ) (k m : ℕ) → AreElapses ts exceptions base xs
@@ -107,18 +112,38 @@ pub fn headline()
     one_normal_form_of_fields();
 }
 
-/// Whatever prefix of its report is left of a run, the bytes say how to go on: there is exactly one number of elapses
-/// whose first line is complete in it, and the same request from the last of these on, for that many fewer elapses,
-/// prints exactly the others, with labels that count anew. Where there is none, that is the whole report again.
+/// Any prefix of a report says how to get the rest: exactly one number of elapses have a complete first line in it, and
+/// the same request, started again at the last of these elapses and for that many fewer, prints exactly the others, with
+/// labels that count anew. If no elapse is complete, that is the whole report again.
 pub fn cut_output_resumes()
     // A request for one text, whose report begins so.
     ensures calendar { (asked : Request) (read : Result (List ℕ) WholeFault) (base : ℤ) (e : Expression)
         (front rest : List ℕ) → asked.verb ≡ Calendar → base_in asked ≡ Ok base → asked.texts ≡ e.text ∷ []
         → IsAccepted asked e → (report asked read).out ≡ front ++ rest → Resumes asked base (alone e) read front }
+    // A request for any number of texts, of which these expressions are the accepted ones. The prefix consists of the
+    // complete reports of the first expressions, and of a prefix of the next report, which resumes as if its text had
+    // been asked for alone. There is only one way to cut it like that.
+    ensures several { (asked : Request) (read : Result (List ℕ) WholeFault) (base : ℤ) (es : List Expression)
+        (front rest : List ℕ) → asked.verb ≡ Calendar → base_in asked ≡ Ok base → AreAcceptedAmong asked asked.texts es
+        → 0 < length es → (report asked read).out ≡ front ++ rest → ResumesAmong asked base es read front }
+    ensures one_place { (asked : Request) (base : ℤ) (es : List Expression) (read : Result (List ℕ) WholeFault)
+        (front : List ℕ) (p q : ResumesAmong asked base es read front) → (p.before ≡ q.before) × (p.last ≡ q.last) }
+    // Every request has exactly one such list of expressions. If it is empty, so is standard output.
+    ensures accepted { (asked : Request) → asked.verb ≡ Calendar
+        → (es : List Expression) × AreAcceptedAmong asked asked.texts es }
+    ensures one_list { (asked : Request) (texts : List (List ℕ)) (es fs : List Expression)
+        → AreAcceptedAmong asked texts es → AreAcceptedAmong asked texts fs → es ≡ fs }
+    ensures nothing { (asked : Request) (read : Result (List ℕ) WholeFault) (base : ℤ) → asked.verb ≡ Calendar
+        → base_in asked ≡ Ok base → AreAcceptedAmong asked asked.texts [] → (report asked read).out ≡ [] }
     // A request for a timer file, whose report begins so.
     ensures timer { (asked : Request) (bytes : List ℕ) (base : ℤ) (s : Schedule) (front rest : List ℕ)
         → asked.verb ≡ Timer → base_in asked ≡ Ok base → IsFileOf bytes s → AreAllAccepted asked s
         → (report asked (Ok bytes)).out ≡ front ++ rest → Resumes asked base s (Ok bytes) front }
+
+    // The next run can always be asked for: its base is `@` and the seconds of the last elapse shown.
+    ensures again { (asked : Request) (read : Result (List ℕ) WholeFault) (base : ℤ) (s : Schedule) (front : List ℕ)
+        → IsInstant asked.now → base_in asked ≡ Ok base → (r : Resumes asked base s read front)
+        → (report (begun_again asked r.shown r.number) read).out ≡ showing asked s (drop r.number r.shown) }
 
     // What a run adds to its writer, however it ended, is such a prefix: by the contract of `run`.
     ensures written { (asked : Request) (base : ℤ) (e : Expression) (result : Result Status RunFault)
@@ -126,6 +151,11 @@ pub fn cut_output_resumes()
         → asked.verb ≡ Calendar → base_in asked ≡ Ok base → asked.texts ≡ e.text ∷ [] → IsAccepted asked e
         → (run : ByReading asked old new failed (IsReported result out_old out_new err_old err_new))
         → (front : List ℕ) × Appends out_old out_new front × Resumes asked base (alone e) run.read front }
+    ensures written_several { (asked : Request) (base : ℤ) (es : List Expression) (result : Result Status RunFault)
+        (old new : Option (List ℕ)) (failed : Bool) (out_old out_new err_old err_new : Option (List ℕ))
+        → asked.verb ≡ Calendar → base_in asked ≡ Ok base → AreAcceptedAmong asked asked.texts es → 0 < length es
+        → (run : ByReading asked old new failed (IsReported result out_old out_new err_old err_new))
+        → (front : List ℕ) × Appends out_old out_new front × ResumesAmong asked base es run.read front }
     ensures written_file { (asked : Request) (bytes : List ℕ) (base : ℤ) (s : Schedule)
         (result : Result Status RunFault) (old new : Option (List ℕ)) (failed : Bool)
         (out_old out_new err_old err_new : Option (List ℕ))

@@ -1,6 +1,6 @@
 -- What is printed of accepted expressions and of an accepted timer file, with no function that computes elapses:
 -- systemd-analyze(1), calendar; systemd.time(7), Calendar Events; systemd.timer(5), OnCalendar=.
-use Rattle.std.specs.Prelude.{◌≡◌, ◌<◌, ◌++◌, ℕ, ℤ, true, false, List, [], ◌∷◌, Option, None, Some, Result, Ok, Err, is_err, if◌then◌else◌, map, take, length, codes}
+use Rattle.std.specs.Prelude.{◌≡◌, ◌<◌, ◌++◌, ℕ, ℤ, true, false, List, [], ◌∷◌, Option, None, Some, Result, Ok, Err, is_err, if◌then◌else◌, map, take, length, codes, decimal, unsigned_abs}
 use Rattle.std.specs.List.{AllByRecursion, AllZip, filter_map, flat_map, join_by, list_any}
 use Rattle.std.specs.Result.{result_err, result_ok}
 use Rattle.std.specs.Str.{is_utf8}
@@ -107,6 +107,14 @@ pub record AreAnswered (asked : Request) (base : ℤ) (texts : List (List ℕ)) 
   pub out : report.out ≡ join_by (λ report. report) (codes "\n") (filter_map result_ok answers)
   pub err : report.err ≡ flat_map (λ line. line) (filter_map result_err answers)
   pub status : report.status ≡ (if list_any is_err answers then Refused else Fine)
+
+-- an instant as a base: `@` and its seconds
+abbrev pub base_text : ℤ → List ℕ
+base_text secs = codes "@" ++ decimal (unsigned_abs secs)
+
+-- the same request with this instant as its base
+abbrev pub started_at : Request → ℤ → Request
+started_at asked secs = record asked { base = Some (base_text secs) }
 
 -- the run says nothing on standard error, and its status is Fine
 pub record IsFine (report : Report) : Type 0 where

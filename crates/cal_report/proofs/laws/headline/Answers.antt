@@ -1,3 +1,4 @@
+use Rattle.cal_report.proofs.AgainLemmas.{base_at}
 use Rattle.cal_report.proofs.HeadlineAccepted.{fine_file_is_accepted, fine_texts_are_accepted}
 use Rattle.cal_report.proofs.HeadlineEach.{each_is_answered, each_is_written}
 use Rattle.cal_report.proofs.HeadlineElapses.{elapses_are_instants, fold_has_its_first, gap_has_no_place, goes_on, in_parts, is_alone, is_shown}
@@ -42,6 +43,9 @@ returns-clause-one_list c = one_elapses
 
 pub returns-clause-instants : goal.returns-clause-instants
 returns-clause-instants c = elapses_are_instants
+
+pub returns-clause-based : goal.returns-clause-based
+returns-clause-based c = base_at
 
 pub returns-clause-again : goal.returns-clause-again
 returns-clause-again c = goes_on
