@@ -1,7 +1,6 @@
 -- Components that were read have a meaning, and no more counted parts than are allowed.
 use Rattle.std.proofs.Common.{ℕ, suc, ◌+◌, ◌-◌, ◌<◌, ◌≤◌, ◌≡◌, ◌⊎◌, inl, inr, Bool, true, false, cond, ◌&&◌, List, [], ◌∷◌, length, Option, Some, None, Ok, refl, ap, arith, leb, eqb}
 use Rattle.std.specs.List.{AllByRecursion, slice_split}
-use Rattle.std.specs.Option.{option_or}
 use Rattle.std.proofs.lemmas.Bool.{and_parts, cases_Bool, leb-true, ltb-false, leb-false, eqb-false, not-false}
 use Rattle.cal_text.specs.headline.Separators.{is_comma}
 use Rattle.cal_spec.specs.Components.{is_star, counted, room_in, part_due, parts_of, first_value_fault, parts_listed, component_of}

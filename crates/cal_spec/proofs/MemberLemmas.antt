@@ -24,7 +24,7 @@ use Rattle.cal_spec.proofs.NormalLemmas.{part_eq_exact, part_exact, parts_from_s
 use Rattle.cal_spec.proofs.OrderLemmas.{has_in_order}
 use Rattle.std.specs.Cmp.{both_ways}
 use Rattle.cal_spec.proofs.ReducedLemmas.{last_lies, last_of, last_reached}
-use Rattle.cal_text.proofs.General.{list_any-map, list_any-same, option_or_none}
+use Rattle.cal_text.proofs.General.{list_any-map, list_any-same}
 
 -- a range of one number
 one_number : (a v : ℕ) → nat_eq v a ≡ lies a a v

@@ -46,12 +46,7 @@ fn digits_len(text: &[u8]) -> usize
     ensures value { result ≡ prefix_len is_ascii_digit text.now }
     ensures within { result ≤ length text.now }
 {
-    for (index, byte) in text.iter().enumerate() {
-        if !byte.is_ascii_digit() {
-            return index;
-        }
-    }
-    text.len()
+    text.iter().take_while(|byte| byte.is_ascii_digit()).count()
 }
 
 /// The number that the digits write, or `u16::MAX` where that is less.

@@ -125,12 +125,10 @@ fn find_named(shorthands: &[Shorthand], word: &[u8]) -> Option<Shorthand>
     ensures { result
         ≡ find (λ shorthand. list_any (str_eq_ignore_ascii_case word.now) (names_of shorthand)) shorthands.now }
 {
-    for shorthand in shorthands {
-        if is_named(shorthand.names(), word) {
-            return Some(*shorthand);
-        }
-    }
-    None
+    shorthands
+        .iter()
+        .copied()
+        .find(|shorthand| is_named(shorthand.names(), word))
 }
 
 /// Whether the word is one of the names, in any case.

@@ -96,12 +96,9 @@ fn find_named(days: &[Weekday], word: &[u8]) -> Option<Weekday>
     ensures { result ≡ find (λ day. str_eq_ignore_ascii_case word.now (name_of day)
         || str_eq_ignore_ascii_case word.now (short_name_of day)) days.now }
 {
-    for day in days {
-        if is_same_word(word, weekday_name(*day)) || is_same_word(word, short_weekday_name(*day)) {
-            return Some(*day);
-        }
-    }
-    None
+    days.iter().copied().find(|day| {
+        is_same_word(word, weekday_name(*day)) || is_same_word(word, short_weekday_name(*day))
+    })
 }
 
 /// The number of letters at the start of the word.
@@ -109,27 +106,16 @@ fn letters_len(word: &[u8]) -> usize
     ensures value { result ≡ position_or_len is_no_letter word.now }
     ensures within { result ≤ length word.now }
 {
-    match index_after_letters(word) {
-        Some(index) => index,
-        None => word.len(),
-    }
-}
-
-/// The index of the first byte that is no letter.
-fn index_after_letters(word: &[u8]) -> Option<usize>
-    ensures { result ≡ position is_no_letter word.now }
-{
-    word.iter().position(|byte| !byte.is_ascii_alphabetic())
+    word.iter()
+        .take_while(|byte| byte.is_ascii_alphabetic())
+        .count()
 }
 
 /// The word without one trailing comma.
 fn without_comma(word: &[u8]) -> &[u8]
     ensures { result.now ≡ without_comma word.now }
 {
-    match word {
-        [list @ .., b','] => list,
-        _ => word,
-    }
+    word.strip_suffix(b",").unwrap_or(word)
 }
 
 /// Whether the word consists of letters and `-`.

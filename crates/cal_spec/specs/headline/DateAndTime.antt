@@ -1,5 +1,5 @@
 -- The texts of the components of a calendar expression: systemd.time(7), Calendar Events.
-use Rattle.std.specs.Prelude.{ℕ, ◌==◌, Bool, List}
+use Rattle.std.specs.Prelude.{ℕ, Bool, List}
 
 -- the texts of a date's components, and whether its day is counted from the month's end
 pub record DateTexts : Type 0 where
