@@ -1,6 +1,7 @@
-//! Calls that take memory, whichever of their allocations is refused: each answers as with all of it, or that memory was
-//! refused, and then leaves what it was handed as it was. What is made before the call may be refused as well; then there
-//! is nothing to see. `tests/refused` refuses the allocations in turn.
+//! Calls that allocate. `tests/refused` makes each of their allocations fail in turn.
+//!
+//! A test succeeds if every allocation did. Otherwise it fails with the call's `NoMemory` or `AllocError`, after it has
+//! checked that the call left its arguments unchanged. `tests/refused` checks which of the two has to happen.
 
 ghost use Rattle.std.specs.Prelude.{◌≡◌, false};
 
@@ -8,19 +9,19 @@ use crate::numbers::{expect_numbers, listed, merge_two};
 use crate::searches::{expect_members, put_three};
 use crate::shared::{EXCEPT_FILE, SUMMER_TIME, TIMER_FILE, instant, zone_file};
 use crate::timers::{EXCEPT_EXCEPTIONS, EXCEPT_LINES, Lines, UNIT_LINES, expect_list, read};
-use cal_base::{Port, Rules, WholeFault, Zone, ZoneFault, ZoneTable, place, read_whole};
+use cal_base::{Port, Rules, Zone, ZoneTable, place, read_whole};
 use cal_elapse::{Elapses, Listed, Merge, Pending, Rising};
 use cal_read::TimerFault;
-use cal_spec::{SpecFault, read_expr};
+use cal_spec::read_expr;
+use std::alloc::AllocError;
 use std::process::Abort;
 use std::test::Fail;
 
 #[test]
-fn a_whole_reader(rt: HostRuntime) {
-    match read_whole(rt.alloc(), &mut Port::new(TIMER_FILE), 999) {
-        Ok(bytes) => assert_eq!(rt; bytes.as_slice(), TIMER_FILE),
-        Err(fault) => assert_eq!(rt; fault, WholeFault::NoMemory),
-    }
+fn a_whole_reader(rt: HostRuntime) -> Result<(), Fail> {
+    let bytes = read_whole(rt.alloc(), &mut Port::new(TIMER_FILE), 999)?;
+    assert_eq!(rt; bytes.as_slice(), TIMER_FILE);
+    Ok(())
 }
 
 /// The place of the turn of the year.
@@ -31,40 +32,28 @@ fn new_year(rules: &Rules) -> Option<i64> {
 const HOUR_BEFORE: Option<i64> = Some(1_704_063_600);
 
 #[test]
-fn a_rule(rt: HostRuntime) {
-    match Rules::posix(rt.alloc(), SUMMER_TIME) {
-        Ok(rules) => assert_eq!(rt; new_year(&rules), HOUR_BEFORE),
-        Err(fault) => assert_eq!(rt; fault, ZoneFault::NoMemory),
-    }
+fn a_rule(rt: HostRuntime) -> Result<(), Fail> {
+    let rules = Rules::posix(rt.alloc(), SUMMER_TIME)?;
+    assert_eq!(rt; new_year(&rules), HOUR_BEFORE);
+    Ok(())
 }
 
-/// The rules of the zone file, where memory isn't refused.
-fn read_fixed(rt: &(impl Abort + AllocGlobal)) -> Option<Rules> {
-    let bytes = zone_file(rt.alloc()).ok()?;
-    match Rules::file(rt.alloc(), "Test/Fixed", &bytes) {
-        Ok(rules) => {
-            assert_eq!(rt; new_year(&rules), HOUR_BEFORE);
-            Some(rules)
-        }
-        Err(fault) => {
-            assert_eq!(rt; fault, ZoneFault::NoMemory);
-            None
-        }
-    }
-}
-
-/// Adds the zone of the file. Where memory is refused, the table is as it was, and the rules are handed back.
+/// If `add` fails, the table is unchanged and the rules are handed back.
 #[test]
-fn a_zone_file_and_a_table(rt: HostRuntime) {
+fn a_zone_file_and_a_table(rt: HostRuntime) -> Result<(), Fail> {
     let mut table = ZoneTable::new(rt.alloc());
-    let Some(rules) = read_fixed(&rt) else {
-        return;
-    };
+    let bytes = zone_file(rt.alloc())?;
+    let rules = Rules::file(rt.alloc(), "Test/Fixed", &bytes)?;
+    assert_eq!(rt; new_year(&rules), HOUR_BEFORE);
     match table.add("Test/Fixed", rules) {
-        Ok(()) => assert!(rt; table.find("Test/Fixed").is_some()),
+        Ok(()) => {
+            assert!(rt; table.find("Test/Fixed").is_some());
+            Ok(())
+        }
         Err((rules, fault)) => {
-            let answers = (fault, new_year(&rules), table.find("Test/Fixed").is_some());
-            assert_eq!(rt; answers, (ZoneFault::NoMemory, HOUR_BEFORE, false));
+            let left = (new_year(&rules), table.find("Test/Fixed").is_some());
+            assert_eq!(rt; left, (HOUR_BEFORE, false));
+            Err(fault.into())
         }
     }
 }
@@ -77,102 +66,105 @@ static WEEKDAY_LISTS: [&str; 4] = [
 ];
 
 #[test]
-fn expressions(rt: HostRuntime) {
+fn expressions(rt: HostRuntime) -> Result<(), Fail> {
     for text in &WEEKDAY_LISTS {
-        let fault = read_expr(rt.alloc(), text).err();
-        assert!(rt;
-            matches!(fault, None | Some(SpecFault::NoMemory)),
-            "at {text}"
-        );
-    }
-}
-
-/// Once the set is made, nothing takes memory.
-#[test]
-fn pending_instants(rt: HostRuntime) {
-    if let Ok(mut pending) = Pending::new(rt.alloc()) {
-        put_three(&rt, &mut pending, 100, 50);
-        expect_members(&rt, &mut pending, &[50, 100]);
-    }
-}
-
-/// Once the elapses are made, nothing takes memory.
-#[test]
-fn elapses(rt: HostRuntime) -> Result<(), Fail> {
-    let base = instant(1_552_651_200)?;
-    let Ok(expr) = read_expr(rt.alloc(), "*-2-29 0:0:0") else {
-        return Ok(());
-    };
-    if let Ok(mut elapses) = Elapses::new(rt.alloc(), &expr, Zone::utc(), base) {
-        let answers = (elapses.next(), elapses.next());
-        assert_eq!(rt; answers, (Some(1_582_934_400), Some(1_709_164_800)));
+        read_expr(rt.alloc(), text)?;
     }
     Ok(())
 }
 
-/// Whether a source of these numbers was added; where memory is refused, it is handed back as it was.
-fn is_added(rt: &impl Abort, merge: &mut Merge<Listed>, source: Listed, numbers: &[i64]) -> bool
+/// A set that was made doesn't allocate.
+#[test]
+fn pending_instants(rt: HostRuntime) -> Result<(), Fail> {
+    let mut pending = Pending::new(rt.alloc())?;
+    put_three(&rt, &mut pending, 100, 50);
+    expect_members(&rt, &mut pending, &[50, 100]);
+    Ok(())
+}
+
+/// Elapses that were made don't allocate.
+#[test]
+fn elapses(rt: HostRuntime) -> Result<(), Fail> {
+    let base = instant(1_552_651_200)?;
+    let expr = read_expr(rt.alloc(), "*-2-29 0:0:0")?;
+    let mut elapses = Elapses::new(rt.alloc(), &expr, Zone::utc(), base)?;
+    let answers = (elapses.next(), elapses.next());
+    assert_eq!(rt; answers, (Some(1_582_934_400), Some(1_709_164_800)));
+    Ok(())
+}
+
+/// Adds a source of these numbers. If that fails, the source is handed back unchanged.
+fn add(
+    rt: &impl Abort,
+    merge: &mut Merge<Listed>,
+    source: Listed,
+    numbers: &[i64],
+) -> Result<(), AllocError>
     requires { merge.old.started ≡ false }
     ensures { merge.new.started ≡ false }
 {
     match merge.add(source) {
-        Ok(()) => true,
-        Err((mut handed_back, _)) => {
+        Ok(()) => Ok(()),
+        Err((mut handed_back, fault)) => {
             expect_numbers(rt, &mut handed_back, numbers);
-            false
+            Err(fault)
         }
     }
 }
 
-/// The merge has the lists that were added, and once it has them, nothing takes memory.
+/// The merge has the lists that were added, and its `next` doesn't allocate.
 #[test]
-fn merged_lists(rt: HostRuntime) {
+fn merged_lists(rt: HostRuntime) -> Result<(), Fail> {
     let mut merge = Merge::new(rt.alloc());
-    let (Ok(one), Ok(two)) = (listed(rt.alloc(), &[1, 5, 9]), listed(rt.alloc(), &[5, 7])) else {
-        return;
-    };
-    let has_one = is_added(&rt, &mut merge, one, &[1, 5, 9]);
-    let has_two = is_added(&rt, &mut merge, two, &[5, 7]);
-    let numbers: &[i64] = match (has_one, has_two) {
+    let one = listed(rt.alloc(), &[1, 5, 9])?;
+    let two = listed(rt.alloc(), &[5, 7])?;
+    let one = add(&rt, &mut merge, one, &[1, 5, 9]);
+    let two = add(&rt, &mut merge, two, &[5, 7]);
+    let numbers: &[i64] = match (one.is_ok(), two.is_ok()) {
         (true, true) => &[1, 5, 7, 9],
         (true, false) => &[1, 5, 9],
         (false, true) => &[5, 7],
         (false, false) => &[],
     };
     expect_numbers(&rt, &mut merge, numbers);
+    one?;
+    Ok(two?)
 }
 
-/// So it is for an exception.
+/// If an exception can't be added, it is handed back and the merge is unchanged.
 #[test]
-fn an_exception(rt: HostRuntime) {
-    let (Ok(mut merge), Ok(exception)) = (
-        merge_two(rt.alloc(), &[1, 5, 9], &[5, 7]),
-        listed(rt.alloc(), &[5, 8]),
-    ) else {
-        return;
-    };
+fn an_exception(rt: HostRuntime) -> Result<(), Fail> {
+    let mut merge = merge_two(rt.alloc(), &[1, 5, 9], &[5, 7])?;
+    let exception = listed(rt.alloc(), &[5, 8])?;
     match merge.add_except(exception) {
-        Ok(()) => expect_numbers(&rt, &mut merge, &[1, 7, 9]),
-        Err((mut handed_back, _)) => {
+        Ok(()) => {
+            expect_numbers(&rt, &mut merge, &[1, 7, 9]);
+            Ok(())
+        }
+        Err((mut handed_back, fault)) => {
             expect_numbers(&rt, &mut handed_back, &[5, 8]);
             expect_numbers(&rt, &mut merge, &[1, 5, 7, 9]);
+            Err(fault.into())
         }
     }
 }
 
-/// The file has these expressions and exceptions, or memory is refused.
-fn expect_lists(rt: &(impl Abort + AllocGlobal), file: &[u8], lines: Lines, exceptions: Lines) {
-    match read(rt.alloc(), file) {
-        Ok(timer) => {
-            expect_list(rt, timer.lines(), lines, file);
-            expect_list(rt, timer.exceptions(), exceptions, file);
-        }
-        Err(fault) => assert_eq!(rt; fault, TimerFault::NoMemory),
-    }
+/// The file has these expressions and exceptions.
+fn expect_lists(
+    rt: &(impl Abort + AllocGlobal),
+    file: &[u8],
+    lines: Lines,
+    exceptions: Lines,
+) -> Result<(), TimerFault> {
+    let timer = read(rt.alloc(), file)?;
+    expect_list(rt, timer.lines(), lines, file);
+    expect_list(rt, timer.exceptions(), exceptions, file);
+    Ok(())
 }
 
 #[test]
-fn timer_files(rt: HostRuntime) {
-    expect_lists(&rt, TIMER_FILE, UNIT_LINES, &[]);
-    expect_lists(&rt, EXCEPT_FILE, EXCEPT_LINES, EXCEPT_EXCEPTIONS);
+fn timer_files(rt: HostRuntime) -> Result<(), Fail> {
+    expect_lists(&rt, TIMER_FILE, UNIT_LINES, &[])?;
+    expect_lists(&rt, EXCEPT_FILE, EXCEPT_LINES, EXCEPT_EXCEPTIONS)?;
+    Ok(())
 }
