@@ -1,5 +1,5 @@
-/* A plain C loop to compare with: prints the lines of that many elapses in UTC, that many seconds apart, as the C library
-   makes them. It reads no expression and searches nothing. */
+/* A plain C loop for comparison: prints COUNT elapses in UTC, STEP seconds apart, after the instant FIRST. It reads no
+   expression and searches nothing. */
 #include <stdio.h>
 #include <stdlib.h>
 #include <time.h>

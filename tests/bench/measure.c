@@ -1,5 +1,5 @@
-/* Runs a command once, with its standard output thrown away, and prints the nanoseconds that it took, from before it was
-   started until it had ended, and the most kilobytes of memory that it held. */
+/* Runs a command once without its standard output. Prints the nanoseconds from before its start to its end, and the most
+   memory that it used, in kilobytes. */
 #include <fcntl.h>
 #include <stdio.h>
 #include <sys/resource.h>
@@ -9,16 +9,12 @@
 
 int main(int count, char **words) {
     if (count < 2) {
-        fprintf(stderr, "usage: measure COMMAND [WORD..]\n");
+        fprintf(stderr, "usage: measure COMMAND [ARGUMENT..]\n");
         return 2;
     }
     struct timespec before, after;
     clock_gettime(CLOCK_MONOTONIC, &before);
     pid_t child = vfork();
-    if (child < 0) {
-        perror("measure");
-        return 2;
-    }
     if (child == 0) {
         int nowhere = open("/dev/null", O_WRONLY);
         if (nowhere < 0 || dup2(nowhere, 1) < 0) _exit(127);
@@ -27,15 +23,11 @@ int main(int count, char **words) {
     }
     int status;
     struct rusage usage;
-    if (wait4(child, &status, 0, &usage) != child) {
-        perror("measure");
-        return 2;
-    }
-    clock_gettime(CLOCK_MONOTONIC, &after);
-    if (!WIFEXITED(status) || WEXITSTATUS(status) != 0) {
-        fprintf(stderr, "measure: %s did not end well\n", words[1]);
+    if (child < 0 || wait4(child, &status, 0, &usage) != child || status != 0) {
+        fprintf(stderr, "measure: %s failed\n", words[1]);
         return 1;
     }
+    clock_gettime(CLOCK_MONOTONIC, &after);
     long long taken = (after.tv_sec - before.tv_sec) * 1000000000LL + (after.tv_nsec - before.tv_nsec);
     printf("%lld %ld\n", taken, usage.ru_maxrss);
     return 0;
