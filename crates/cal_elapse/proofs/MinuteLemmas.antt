@@ -1,11 +1,11 @@
 -- What is left of the minute and of the hour of a match, while each search takes one bit.
-use Rattle.std.proofs.Common.{IsSome, ◌≡◌, ◌≢◌, ◌∙◌, ℕ, ◌+◌, ◌-◌, ◌*◌, ◌/◌, ◌%◌, ◌^◌, ◌<◌, ◌≤◌, Bool, true, false, ◌&&◌, Option, Some, ℤ, option_map, pos, unsigned_abs, w64, sym, subst, refl, arith, ltb-true, nat_lt}
-use Rattle.std.proofs.lemmas.Bool.{and_parts, false_from_ne_true, lt-ltb}
+use Rattle.std.proofs.Common.{IfSome, IsSome, ◌≡◌, ◌≢◌, ◌∙◌, ℕ, ◌+◌, ◌-◌, ◌*◌, ◌/◌, ◌%◌, ◌^◌, ◌<◌, ◌≤◌, Bool, true, false, ◌&&◌, Option, Some, ℤ, option_map, pos, unsigned_abs, w64, sym, subst, refl, arith, ltb-true, nat_lt}
+use Rattle.std.proofs.lemmas.Bool.{and_from, and_parts, false_from_ne_true, lt-ltb}
 use Rattle.std.specs.Int.{trailing_zeros}
 use Rattle.cal_zone.specs.headline.Local.{seconds_in_all, seconds_in_all-is}
 use Rattle.cal_spec.specs.headline.Match.{Sets, matches, time_in}
 use Rattle.cal_elapse.specs.Bits.{is_bit}
-use Rattle.cal_elapse.specs.Left.{IsLeft, IsMoreLeft, IsNextLeft, IsRest, NoneLeft, minute_matches}
+use Rattle.cal_elapse.specs.Left.{IsLeft, IsMoreLater, IsMoreLeft, IsNextLater, IsNextLeft, IsRest, NoneLeft, minute_matches}
 use Rattle.cal_elapse.specs.Looks.{IsSearch}
 use Rattle.cal_elapse.specs.Masks.{sets_in}
 use Rattle.cal_elapse.specs.Months.{day_in, minute_in}
@@ -206,6 +206,37 @@ minutes_later m found start minutes bit first more later lowest second cleared o
     let low = below_end (is_bit m.seconds) 60 first m.last_second second.2 in
     let same : ((start + bit) * 60 + first) / 60 ≡ start + bit = omega arith in
     rw same (left_behind _ (found / 60) start minutes bit more later lowest cleared others)
+
+-- An hour that is searched to its end.
+
+-- if minutes are left of a match, another match follows in its hour: the same second of the next of these minutes
+pub more_later : (m : Masks) (found start minutes : ℕ) → IsLeft (minute_matches (sets_in m)) (found / 60) start minutes → minutes < 2 ^ 64 → 0 < minutes → matches (sets_in m) found ≡ true
+    → IsMoreLater (matches (sets_in m)) found
+more_later m found start minutes h fits some holds =
+    let count = seconds_in_all-is in
+    let bit : ℕ = trailing_zeros w64 minutes in
+    let lowest = first_bit minutes some fits in
+    let here = match_inside (sets_in m) found holds in
+    let second = (and_parts _ _ (sym (split_at (minutes_of_all m) (found / 60) found (omega arith) refl) ∙ holds)).1 in
+    let inside = minutes_inside m found start minutes bit h lowest in
+    let unit = h.unit bit lowest.2 in
+    let behind = h.behind bit lowest.2 in
+    record {
+      match_at = (start + bit) * 60 + found % 60;
+      behind = omega arith;
+      hour = omega arith;
+      is_match = (minutes_of_all m).split (start + bit) (found % 60) inside (omega arith) ∙ and_from _ _ (bit_passes _ (found / 60) start minutes bit h lowest.2) second;
+    }
+
+-- so the next match lies in that hour
+hour_known : (passes : ℕ → Bool) (local : ℕ) (next : Option ℕ) → ((t : ℕ) → passes t ≡ true → t < seconds_in_all) → IsMoreLater passes local
+    → IsFirstPassing passes (local + 1) seconds_in_all next → IfSome next (λ next. IsNextLater passes local next) × IsSome next
+hour_known passes local next inside more none = grind arith
+
+-- and a search finds it
+pub hour_found : (m : Masks) (local : ℕ) (next : Option ℤ) → IsMoreLater (matches (sets_in m)) local → IsFirstLocal (matches (sets_in m)) (pos (local + 1)) next
+    → IfSome next (λ next. IsNextLater (matches (sets_in m)) local (unsigned_abs next)) × IsSome next
+hour_found m local next more first = grind (arith, hour_known, match_inside, first_passing)
 
 -- A minute that is searched to its end
 

@@ -3,10 +3,10 @@ use Rattle.std.proofs.Common.{◌≡◌, ◌∙◌, ℕ, ◌+◌, ◌<◌, ◌�
 use Rattle.std.proofs.lemmas.Bool.{cases_lt}
 use Rattle.cal_spec.specs.headline.Match.{Sets, matches}
 use Rattle.cal_elapse.specs.Count.{count_from}
-use Rattle.cal_elapse.specs.Left.{IsNextLeft}
 use Rattle.cal_elapse.specs.Looks.{IsSearch}
 use Rattle.cal_elapse.specs.Most.{IsLooked, IsMost, IsMostAfter}
-use Rattle.cal_elapse.specs.Search.{NonePasses}
+use Rattle.cal_zone.specs.headline.Local.{seconds_in_all}
+use Rattle.cal_elapse.specs.Search.{IsFirstPassing, NonePasses}
 use Rattle.cal_elapse.specs.declared.search.Found.{Found}
 use Rattle.cal_elapse.proofs.CountLemmas.{count_from-nothing, count_from-to}
 use Rattle.cal_elapse.proofs.FoundLemmas.{first_passing}
@@ -77,15 +77,15 @@ pub most_start : (sets : Sets) (start bound old most months : ℕ) → IsLooked 
     → most ≡ max old months → IsMost sets start bound most
 most_start sets start bound old most months looked low none zero is = grind (arith, max_from_zero, most_same)
 
--- The next match of a minute
+-- The next match of a minute or an hour.
 
-pub next_counted : (passes : ℕ → Bool) (local : ℤ) (next : Option ℤ) → IsNextLeft passes (unsigned_abs local) (option_map unsigned_abs next) × IsSome next
+pub next_counted : (passes : ℕ → Bool) (local : ℤ) (next : Option ℤ) → IsFirstPassing passes (unsigned_abs local + 1) seconds_in_all (option_map unsigned_abs next) → IsSome next
     → count_from passes (unsigned_abs local + 1) (unsigned_abs (unwrap_or next local) - unsigned_abs local) ≡ 1
-next_counted passes local next known = grind (arith, count_from-nothing, count_from-to)
+next_counted passes local next first some = grind (arith, count_from-nothing, count_from-to)
 
 pub next_most : (sets : Sets) (local : ℤ) (before : ℕ) (found : Found) (next : Option ℤ) → matches sets (unsigned_abs local) ≡ true → IsSearch sets (unsigned_abs local + 1) found
-    → IsNextLeft (matches sets) (unsigned_abs local) (option_map unsigned_abs next) × IsSome next
+    → IsFirstPassing (matches sets) (unsigned_abs local + 1) seconds_in_all (option_map unsigned_abs next) → IsSome next
     → IsMostAfter sets (unsigned_abs local) (unsigned_abs (unwrap_or next local)) before (max before found.months)
-next_most sets local before found next holds search known =
+next_most sets local before found next holds search first some =
     let looked = search_looked sets (unsigned_abs local + 1) found search in
     grind (arith, most_next)

@@ -1,11 +1,11 @@
--- What is left of the minute of a match that is placed, once it is placed at once.
-use Rattle.std.proofs.Common.{◌≡◌, ◌⊎◌, ◌↔◌, ◌+◌, ◌-◌, ◌*◌, ◌/◌, ◌<◌, ◌≤◌, ◌∙◌, Bool, ℕ, IsSomeAnd, List, None, Option, Some, ℤ, pos, ◌+ℤ◌, ◌-ℤ◌, ◌≤ℤ◌, ◌<ℤ◌, FitsSigned, arith, ap, inl, inr, of_z, refl, subst, sym, to_z, w64, slice_get}
+-- What is left of the minute or the hour of a match that is placed, if it is placed at once.
+use Rattle.std.proofs.Common.{◌≡◌, ◌⊎◌, ◌↔◌, ◌+◌, ◌-◌, ◌*◌, ◌/◌, ◌<◌, ◌≤◌, ◌∙◌, Bool, true, ℕ, IsSomeAnd, List, None, Option, Some, ℤ, pos, ◌+ℤ◌, ◌-ℤ◌, ◌≤ℤ◌, ◌<ℤ◌, FitsSigned, arith, ap, inl, inr, of_z, refl, subst, sym, to_z, unsigned_abs, w64, slice_get}
 use Rattle.std.proofs.lemmas.Int.{ints, to_z-of_z, to_z_pos}
 use Rattle.jiff.proofs.SpanFacts.{signed_arith}
 use Rattle.jiff.specs.Types.{TimeZone}
 use Rattle.std.specs.Ordering.{int_cmp}
 use Rattle.std.specs.List.Sorted.{IsStrictlySortedBy}
-use Rattle.cal_text.proofs.General.{list-first, list-no_first}
+use Rattle.cal_text.proofs.General.{list-first, list-no_first, pos_unsigned_abs}
 use Rattle.cal_rising.specs.headline.Elements.{Has}
 use Rattle.cal_spec.specs.headline.Match.{matches}
 use Rattle.cal_zone.proofs.PlaceLemmas.{within}
@@ -13,6 +13,7 @@ use Rattle.cal_zone.specs.headline.Local.{seconds_in_all, seconds_in_all-is}
 use Rattle.cal_zone.specs.Steady.{AreAhead}
 use Rattle.cal_zone.specs.headline.Zone.{zone_of}
 use Rattle.cal_zone.specs.Instant.{IsInstant}
+use Rattle.cal_zone.specs.Local.{IsLocalSecond}
 use Rattle.cal_elapse.specs.Bits.{is_bit}
 use Rattle.cal_elapse.specs.Near.{IsNear}
 use Rattle.cal_elapse.specs.Ring.{IsOneOf}
@@ -27,6 +28,7 @@ use Rattle.cal_elapse.specs.declared.searcher.Searcher.{Searcher}
 use Rattle.cal_elapse.specs.declared.window.Window.{Window}
 use Rattle.cal_zone.proofs.LocalLemmas.{local_inside, local_inside-pos}
 use Rattle.cal_elapse.proofs.CountLemmas.{count_from-part}
+use Rattle.cal_elapse.proofs.MinuteLemmas.{match_inside}
 use Rattle.cal_elapse.proofs.MostLemmas.{most_more}
 use Rattle.cal_elapse.proofs.WindowLemmas.{IsPlacedFrom, timed_by-near, windowed_more}
 
@@ -34,7 +36,11 @@ use Rattle.cal_elapse.proofs.WindowLemmas.{IsPlacedFrom, timed_by-near, windowed
 pub minute_end : (local : ℕ) → local < seconds_in_all → local / 60 * 60 + 59 < seconds_in_all
 minute_end local inside = let count = seconds_in_all-is in omega arith
 
--- the last of the rest lies in it
+-- and so does its hour
+pub hour_end : (local : ℕ) → local < seconds_in_all → local / 3_600 * 3_600 + 3_599 < seconds_in_all
+hour_end local inside = let count = seconds_in_all-is in omega arith
+
+-- the last of the rest lies in the minute
 pub rest_inside : (passes : ℕ → Bool) (local bits last : ℕ) → IsRest passes local bits last → last ≤ local / 60 * 60 + 59
 rest_inside passes local bits last rest = let same = rest.minute in omega arith
 
@@ -50,28 +56,27 @@ ahead_near tz from to offset ahead order inside =
 signed_word : (local : ℕ) (signed : ℤ) → local < seconds_in_all → signed ≡ pos local → to_z w64 (of_z w64 signed) ≡ pos local
 signed_word local signed inside is = ap (λ z. to_z w64 (of_z w64 z)) is ∙ to_z_pos w64 local (omega (arith, seconds_in_all-is))
 
--- how far a clock is ahead from a local second to its minute's end, and in the machine's numbers both of them, that, the
--- places of both and the second after the first place
-pub record IsRun (tz : TimeZone) (local : ℕ) (from to offset : ℤ) : Type 0 where
-  pub ahead : AreAhead tz (pos local) (pos (local / 60 * 60 + 59)) offset
+-- how far a clock is ahead from a local second to the end of its minute or hour, and in the machine's numbers both of
+-- them, that, the places of both and the second after the first place
+pub record IsRun (tz : TimeZone) (local end : ℕ) (from to offset : ℤ) : Type 0 where
+  pub ahead : AreAhead tz (pos local) (pos end) offset
   pub low : offset ≤ℤ pos 93_599
   pub high : pos 0 ≤ℤ (offset +ℤ pos 93_599)
   pub from_is : to_z w64 (of_z w64 from) ≡ pos local
-  pub to_is : to_z w64 (of_z w64 to) ≡ pos (local / 60 * 60 + 59)
+  pub to_is : to_z w64 (of_z w64 to) ≡ pos end
   pub offset_is : to_z w64 (of_z w64 offset) ≡ offset
   pub place : to_z w64 (of_z w64 (to_z w64 (of_z w64 from) -ℤ to_z w64 (of_z w64 offset))) ≡ (pos local -ℤ offset)
-  pub last : to_z w64 (of_z w64 (to_z w64 (of_z w64 to) -ℤ to_z w64 (of_z w64 offset))) ≡ (pos (local / 60 * 60 + 59) -ℤ offset)
+  pub last : to_z w64 (of_z w64 (to_z w64 (of_z w64 to) -ℤ to_z w64 (of_z w64 offset))) ≡ (pos end -ℤ offset)
   pub start : to_z w64 (of_z w64 (to_z w64 (of_z w64 (to_z w64 (of_z w64 from) -ℤ to_z w64 (of_z w64 offset))) +ℤ pos 1)) ≡ ((pos local -ℤ offset) +ℤ pos 1)
 
-pub run_of : (tz : TimeZone) (local : ℕ) (from to offset : ℤ) → local < seconds_in_all → FitsSigned w64 offset → from ≡ pos local → to ≡ pos (local / 60 * 60 + 59)
-    → AreAhead tz (to_z w64 (of_z w64 from)) (to_z w64 (of_z w64 to)) offset → IsRun tz local from to offset
-run_of tz local from to offset inside fits from_is to_is ahead =
+pub run_of : (tz : TimeZone) (local end : ℕ) (from to offset : ℤ) → local ≤ end → end < seconds_in_all → FitsSigned w64 offset → from ≡ pos local → to ≡ pos end
+    → AreAhead tz (to_z w64 (of_z w64 from)) (to_z w64 (of_z w64 to)) offset → IsRun tz local end from to offset
+run_of tz local end from to offset order inside fits from_is to_is ahead =
     let count = seconds_in_all-is in
-    let end = minute_end local inside in
-    let first = signed_word local from inside from_is in
-    let last = signed_word (local / 60 * 60 + 59) to end to_is in
-    let there : AreAhead tz (pos local) (pos (local / 60 * 60 + 59)) offset = rw (first, last) at ahead in
-    let near = ahead_near tz local (local / 60 * 60 + 59) offset there (omega arith) end in
+    let first = signed_word local from (omega arith) from_is in
+    let last = signed_word end to inside to_is in
+    let there : AreAhead tz (pos local) (pos end) offset = rw (first, last) at ahead in
+    let near = ahead_near tz local end offset there order inside in
     let shift = to_z-of_z w64 offset fits in
     let low = near.0 in
     let high = near.1 in
@@ -85,15 +90,22 @@ run_of tz local from to offset inside fits from_is to_is ahead =
       to_is = last;
       offset_is = shift;
       place = place;
-      last = rw (last, shift) (to_z-of_z w64 (pos (local / 60 * 60 + 59) -ℤ offset) (omega (arith, signed_arith)));
+      last = rw (last, shift) (to_z-of_z w64 (pos end -ℤ offset) (omega (arith, signed_arith)));
       start = rw place (to_z-of_z w64 ((pos local -ℤ offset) +ℤ pos 1) (omega (arith, signed_arith)));
     }
 
--- the place of a local second of the minute
-place_there : (v : Window) (local t : ℕ) (offset : ℤ) → IsPlacedTo v (pos local) → AreAhead (zone_of v.zone) (pos local) (pos (local / 60 * 60 + 59)) offset
-    → local ≤ t → t ≤ local / 60 * 60 + 59 → (timed_of v).place t ≡ Some (pos t -ℤ offset)
+-- a placed match as a whole number, and the last one as it is given
+pub placed_at : (v : Window) (local : ℤ) → IsPlacedTo v local → IsPlacedTo v (pos (unsigned_abs local))
+placed_at v local h = subst (IsPlacedTo v) (sym (pos_unsigned_abs local _ h.found.0.0 refl)) h
+
+pub placed_last : (v : Window) (last : ℤ) → IsLocalSecond last → FitsSigned w64 last → IsPlacedTo v (pos (unsigned_abs last)) → IsPlacedTo v (to_z w64 (of_z w64 last))
+placed_last v last inside fits h = subst (IsPlacedTo v) (pos_unsigned_abs last _ inside.0 refl ∙ sym (to_z-of_z w64 last fits)) h
+
+-- the place of a local second up to that end
+place_there : (v : Window) (local t end : ℕ) (offset : ℤ) → IsPlacedTo v (pos local) → AreAhead (zone_of v.zone) (pos local) (pos end) offset → local ≤ t → t ≤ end → end < seconds_in_all
+    → (timed_of v).place t ≡ Some (pos t -ℤ offset)
 unfolding timed_by
-place_there v local t offset h ahead low high =
+place_there v local t end offset h ahead low high inside =
     let count = seconds_in_all-is in
     ahead (pos t) (omega (arith, ints), omega (arith, ints)) (omega (arith, ints)) (omega (arith, ints))
 
@@ -137,6 +149,7 @@ module _ (v : Window) (local bits last : ℕ) (offset least : ℤ) (h : IsPlaced
   unfolding timed_by
   one_placed i one =
       let t : ℕ = local + 1 + one.bit in
+      let end = minute_end local (local_inside (pos local) h.found.0) in
       let high : t ≤ last = b.rest.within one.bit one.set in
       let same : t - (local + 1) ≡ one.bit = omega arith in
       record {
@@ -144,14 +157,15 @@ module _ (v : Window) (local bits last : ℕ) (offset least : ℤ) (h : IsPlaced
         from = omega arith;
         below = omega arith;
         is_match = b.rest.matching t (omega arith) high ∙ (ap (is_bit bits) same ∙ one.set);
-        placed = place_there v local t offset h b.ahead (omega arith) (omega arith) ∙ ap Some (one_at local one.bit offset i one.is);
+        placed = place_there v local t (local / 60 * 60 + 59) offset h b.ahead (omega arith) (omega arith) end ∙ ap Some (one_at local one.bit offset i one.is);
       }
 
   placed_one : (i : ℤ) → IsPlacedFrom (timed_of v) (local + 1) (last + 1) i → IsOneOf ((pos local -ℤ offset) +ℤ pos 1) bits i
   unfolding timed_by
   placed_one i p =
-      let end = up in
-      let there : Some (pos p.local -ℤ offset) ≡ Some i = sym (place_there v local p.local offset h b.ahead (omega arith) (omega arith)) ∙ p.placed in
+      let high = up in
+      let end = minute_end local (local_inside (pos local) h.found.0) in
+      let there : Some (pos p.local -ℤ offset) ≡ Some i = sym (place_there v local p.local (local / 60 * 60 + 59) offset h b.ahead (omega arith) (omega arith) end) ∙ p.placed in
       let same : (pos p.local -ℤ offset) ≡ i = cc in
       record {
         bit = p.local - (local + 1);
@@ -191,10 +205,10 @@ passed_by : (t end : ℕ) (last offset i : ℤ) → Some (pos t -ℤ offset) ≡
 passed_by t end last offset i at up early above = grind (arith, signed_arith)
 
 -- the window once the rest is placed
-module _ (v : Window) (local : ℕ) (searcher : Searcher) (bits last : ℕ) (h : IsPlacedTo v (pos local)) (masks : searcher.masks ≡ v.searcher.masks)
+module _ (v : Window) (local : ℕ) (searcher : Searcher) (last : ℕ) (h : IsPlacedTo v (pos local)) (masks : searcher.masks ≡ v.searcher.masks)
     (more : searcher.searches ≡ v.searcher.searches + count_from (matches (sets_in v.searcher.masks)) (local + 1) (last - local))
     (most : IsMostAfter (sets_in v.searcher.masks) local last v.searcher.most_months searcher.most_months)
-    (rest : IsRest (matches (sets_in v.searcher.masks)) local bits last)
+    (later : local ≤ last) (holds : matches (sets_in v.searcher.masks) last ≡ true)
   where
     -- with what is pending then
     rest_placed : (pending : List ℤ) → Windowed (timed_of v) (start_of v.base) (last + 1) v.last pending
@@ -204,14 +218,13 @@ module _ (v : Window) (local : ℕ) (searcher : Searcher) (bits last : ℕ) (h :
         let same : timed_of v ≡ timed_by searcher.masks v.zone = ap (λ m. timed_by m v.zone) (sym masks) in
         let start = start_of v.base in
         let count = seconds_in_all-is in
-        let inside : last < seconds_in_all = omega (arith, rest_inside _ local bits last rest, minute_end local (local_inside (pos local) h.found.0)) in
-        let part = count_from-part (matches (sets_in v.searcher.masks)) start local last h.begun rest.begun in
+        let inside : last < seconds_in_all = match_inside (sets_in v.searcher.masks) last holds in
+        let part = count_from-part (matches (sets_in v.searcher.masks)) start local last h.begun later in
         let counted : searcher.searches ≡ count_from (timed_of v).matches start (last + 1 - start) = omega (arith, h.counted) in
         let begun = h.begun in
-        let later = rest.begun in
         record {
           windowed = subst (λ (e : Timed). Windowed e start (last + 1) v.last pending) same windowed;
-          found = subst (λ (e : Timed). IsMatchAhead e (Some (pos last))) same (local_inside-pos last inside, rest.is_match);
+          found = subst (λ (e : Timed). IsMatchAhead e (Some (pos last))) same (local_inside-pos last inside, holds);
           low = h.low;
           above = h.above;
           begun = omega arith;
@@ -220,26 +233,24 @@ module _ (v : Window) (local : ℕ) (searcher : Searcher) (bits last : ℕ) (h :
               (most_more (sets_in v.searcher.masks) start local last v.searcher.most_months searcher.most_months begun later h.looked most);
         }
 
-    -- where nothing is pending, and all places up to the minute's end are at the last instant given or before it
-    pub rest_passed : (offset : ℤ) → None ≡ slice_get v.pending 0 → AreAhead (zone_of v.zone) (pos local) (pos (local / 60 * 60 + 59)) offset
-        → (pos (local / 60 * 60 + 59) -ℤ offset) ≤ℤ v.last → IsPlacedTo (record v { searcher = searcher }) (pos last)
-    rest_passed offset none ahead early =
-        let later = rest.begun in
+    -- if nothing is pending, and no place up to that end is above the last instant given
+    pub rest_passed : (end : ℕ) (offset : ℤ) → last ≤ end → end < seconds_in_all → None ≡ slice_get v.pending 0 → AreAhead (zone_of v.zone) (pos local) (pos end) offset
+        → (pos end -ℤ offset) ≤ℤ v.last → IsPlacedTo (record v { searcher = searcher }) (pos last)
+    rest_passed end offset high end_in none ahead early =
         let not_above = λ (i : ℤ) (above : v.last <ℤ i) (p : IsPlacedFrom (timed_of v) (local + 1) (last + 1) i).
         let below = p.below in
-        let up = rest_inside _ local bits last rest in
-        let at = sym (place_there v local p.local offset h ahead (omega arith) (omega arith)) ∙ p.placed in
-        passed_by p.local (local / 60 * 60 + 59) v.last offset i at (omega arith) early above in
+        let at = sym (place_there v local p.local end offset h ahead (omega arith) (omega arith) end_in) ∙ p.placed in
+        passed_by p.local end v.last offset i at (omega arith) early above in
         rest_placed v.pending
         (windowed_more (timed_of v) (start_of v.base) (local + 1) (last + 1) v.last v.pending v.pending (omega arith) h.windowed h.windowed.rises
         (λ i. (λ m. inl m, λ o. elim o [ inl m ↦ m | inr p ↦ absurd (not_above i p.0 p.1) ]))
         (λ i m. absurd (no_later v.pending none i m)))
 
     -- where it is put
-    pub rest_put : (offset least : ℤ) (pending : List ℤ) → IsBehind v local bits last offset least → IsStrictlySortedBy int_cmp pending
+    pub rest_put : (bits : ℕ) (offset least : ℤ) (pending : List ℤ) → IsBehind v local bits last offset least → IsStrictlySortedBy int_cmp pending
         → ((i : ℤ) → Has pending i ↔ (Has v.pending i ⊎ IsOneOf ((pos local -ℤ offset) +ℤ pos 1) bits i)) → IsPlacedTo (record v { searcher = searcher; pending = pending }) (pos last)
-    rest_put offset least pending b rises members =
-        let inside = rest_inside _ local bits last rest in
+    rest_put bits offset least pending b rises members =
+        let inside = rest_inside _ local bits last b.rest in
         let above = one_above v local bits last offset least h b in
         rest_placed pending
         (windowed_more (timed_of v) (start_of v.base) (local + 1) (last + 1) v.last v.pending pending (omega arith) h.windowed rises

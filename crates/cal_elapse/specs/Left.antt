@@ -30,6 +30,17 @@ pub record IsMoreLeft (passes : ℕ → Bool) (local : ℕ) : Type 0 where
   pub minute : match_at / 60 ≡ local / 60
   pub is_match : passes match_at ≡ true
 
+-- A number after this local second passes, in the same hour.
+pub record IsMoreLater (passes : ℕ → Bool) (local : ℕ) : Type 0 where
+  pub match_at : ℕ
+  pub behind : local < match_at
+  pub hour : match_at / 3_600 ≡ local / 3_600
+  pub is_match : passes match_at ≡ true
+
+-- This is the first number that passes after a local second, and it lies in the same hour.
+abbrev pub IsNextLater : (ℕ → Bool) → ℕ → ℕ → Type 0
+IsNextLater passes local next = (next / 3_600 ≡ local / 3_600) × IsFirstPassing passes (local + 1) seconds_in_all (Some next)
+
 -- none does
 abbrev pub NoneLeft : (ℕ → Bool) → ℕ → Type 0
 NoneLeft passes local = NonePasses passes (local + 1) (local / 60 * 60 + 60)

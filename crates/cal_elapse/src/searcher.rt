@@ -5,7 +5,7 @@ ghost use Rattle.std.specs.Option.{option_map};
 ghost use Rattle.cal_zone.specs.Local.{IsLocalSecond};
 ghost use Rattle.cal_zone.specs.headline.Local.{seconds_in_all};
 ghost use Rattle.cal_elapse.specs.Count.{count_from};
-ghost use Rattle.cal_elapse.specs.Left.{IsLeft, IsMoreLeft, IsNextLeft, IsRest, NoneLeft, minute_matches};
+ghost use Rattle.cal_elapse.specs.Left.{IsLeft, IsMoreLater, IsMoreLeft, IsNextLater, IsNextLeft, IsRest, NoneLeft, minute_matches};
 ghost use Rattle.cal_elapse.specs.Looks.{IsSearch};
 ghost use Rattle.cal_elapse.specs.Masks.{sets_in};
 ghost use Rattle.cal_elapse.specs.Most.{IsMostAfter};
@@ -177,6 +177,57 @@ impl Searcher {
             self.old.most_months self.new.most_months }
     {
         if !self.has_left(local) {
+            return None;
+        }
+        self.search(Start::After(local)).local
+    }
+
+    /// Returns whether a later minute in the hour of a match is known to have matches, too.
+    pub fn has_later(&self, local: i64) -> bool
+        ensures { result ≡ true → matches (sets_in self.now.masks) (unsigned_abs local) ≡ true
+            → IsMoreLater (matches (sets_in self.now.masks)) (unsigned_abs local) }
+    {
+        self.minutes != 0 && self.found == local
+    }
+
+    /// Searches on after a match through its hour, as far as it is known which minutes have matches. Returns the last match
+    /// that was found, which is the given one if none is known.
+    pub fn search_hour(&mut self, local: i64) -> i64
+        requires start { CanStart (matches (sets_in self.old.masks)) (Start.After local) }
+        requires few { self.old.searches ≤ unsigned_abs local + 1 }
+        ensures begun { unsigned_abs local ≤ unsigned_abs result }
+        ensures hour { unsigned_abs result / 3_600 ≡ unsigned_abs local / 3_600 }
+        ensures is_match { CanStart (matches (sets_in self.old.masks)) (Start.After result) }
+        ensures masks { self.new.masks ≡ self.old.masks }
+        ensures counted { self.new.searches ≡ self.old.searches
+            + count_from (matches (sets_in self.old.masks)) (unsigned_abs local + 1) (unsigned_abs result - unsigned_abs local) }
+        ensures most { IsMostAfter (sets_in self.old.masks) (unsigned_abs local) (unsigned_abs result)
+            self.old.most_months self.new.most_months }
+    {
+        let mut last = local;
+        while let Some(next) = self.next_later(last) {
+            last = next;
+        }
+        last
+    }
+
+    /// Returns the next match after a match, found by one search, if it is known to be in the same hour. Otherwise returns
+    /// `None` without a search.
+    #[inline(always)]
+    fn next_later(&mut self, local: i64) -> Option<i64>
+        requires start { CanStart (matches (sets_in self.old.masks)) (Start.After local) }
+        requires few { self.old.searches ≤ seconds_in_all }
+        ensures inside { IfSome result IsLocalSecond }
+        ensures next { IfSome result
+            (λ next. IsNextLater (matches (sets_in self.old.masks)) (unsigned_abs local) (unsigned_abs next)) }
+        ensures masks { self.new.masks ≡ self.old.masks }
+        ensures counted { self.new.searches ≡ self.old.searches
+            + count_from (matches (sets_in self.old.masks)) (unsigned_abs local + 1)
+            (unsigned_abs (unwrap_or result local) - unsigned_abs local) }
+        ensures most { IsMostAfter (sets_in self.old.masks) (unsigned_abs local) (unsigned_abs (unwrap_or result local))
+            self.old.most_months self.new.most_months }
+    {
+        if !self.has_later(local) {
             return None;
         }
         self.search(Start::After(local)).local

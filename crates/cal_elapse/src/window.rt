@@ -112,7 +112,7 @@ impl<'z> Window<'z> {
         ensures last { self.new.last ≡ self.old.last }
     {
         if !self.searcher.has_left(local) {
-            return local;
+            return self.pass_hour(local);
         }
         let end = minute_end(local);
         let least = self.pending.least();
@@ -132,6 +132,28 @@ impl<'z> Window<'z> {
                 self.pending.put_all(place + 1, rest.bits);
                 rest.last
             }
+            _ => local,
+        }
+    }
+
+    /// Searches on through the hour of a match that is placed, if nothing is pending and no place up to the end of that hour
+    /// is above the last instant given. Returns the last match that is placed.
+    #[tactic(auto, using(cal_zone::proofs::LocalLemmas::local_arith, crate::proofs::ReadyLemmas::few_searches, crate::proofs::ReadyLemmas::placed_is_match))]
+    fn pass_hour(&mut self, local: i64) -> i64
+        requires { IsPlacedTo self.old local }
+        ensures placed { IsPlacedTo self.new result }
+        ensures on { local ≤ℤ result }
+        ensures masks { self.new.searcher.masks ≡ self.old.searcher.masks }
+        ensures timed { timed_of self.new ≡ timed_of self.old }
+        ensures base { self.new.base ≡ self.old.base }
+        ensures last { self.new.last ≡ self.old.last }
+    {
+        if self.pending.least().is_some() || !self.searcher.has_later(local) {
+            return local;
+        }
+        let end = hour_end(local);
+        match self.zone.offset_over(local, end) {
+            Some(offset) if end - offset <= self.last => self.searcher.search_hour(local),
             _ => local,
         }
     }
@@ -185,6 +207,14 @@ fn minute_end(local: i64) -> i64
     ensures { result ≡ pos (unsigned_abs local / 60 * 60 + 59) }
 {
     local / 60 * 60 + 59
+}
+
+/// Returns the last local second of the hour of a local second.
+fn hour_end(local: i64) -> i64
+    requires { IsLocalSecond local }
+    ensures { result ≡ pos (unsigned_abs local / 3_600 * 3_600 + 3_599) }
+{
+    local / 3_600 * 3_600 + 3_599
 }
 
 /// Whether a match is to be placed before the least pending instant can be given: it could be placed at that instant or

@@ -2,11 +2,13 @@ use Rattle.std.proofs.Common.{◌+◌, FitsSigned, IsSome, arith, option_map, su
 use Rattle.std.proofs.lemmas.Int.{ints, to_z-of_z}
 use Rattle.std.proofs.lemmas.Option.{IfSome_then}
 use Rattle.cal_spec.specs.headline.Match.{matches}
+use Rattle.cal_zone.specs.headline.Local.{seconds_in_all}
 use Rattle.cal_elapse.specs.Left.{IsNextLeft}
+use Rattle.cal_elapse.specs.Search.{IsFirstPassing}
 use Rattle.cal_elapse.specs.Masks.{sets_in}
 use Rattle.cal_elapse.specs.Most.{IsMostAfter}
 use Rattle.cal_elapse.proofs.CountLemmas.{count_from-nothing}
-use Rattle.cal_elapse.proofs.FoundLemmas.{first_match}
+use Rattle.cal_elapse.proofs.FoundLemmas.{first_match, first_passing}
 use Rattle.cal_elapse.proofs.MinuteLemmas.{next_found}
 use Rattle.cal_elapse.proofs.MostLemmas.{next_counted, next_most}
 use Rattle.cal_elapse.proofs.searcher.Searcher.next_left.Goals as goal
@@ -26,6 +28,12 @@ known c =
     let fits : FitsSigned w64 c.args.local = c.ranges.local in
     next_found c.args.self.now.masks (unsigned_abs c.args.local) c.search.result.local (simp to_z-of_z at (c.has_left.ensures.more c.if-not-has_left.false)) (simp to_z-of_z at c.search.ensures.found).first
 
+-- and it is the first one
+first : (c : goal.After-search) → IsFirstPassing (matches (sets_in c.args.self.now.masks)) (unsigned_abs c.args.local + 1) seconds_in_all (option_map unsigned_abs c.search.result.local)
+first c =
+    let fits : FitsSigned w64 c.args.local = c.ranges.local in
+    first_passing _ (unsigned_abs c.args.local + 1) c.search.result.local (simp to_z-of_z at c.search.ensures.found).first
+
 pub returns-clause-next : goal.returns-clause-next
 returns-clause-next c = (known c).0
 
@@ -36,11 +44,11 @@ pub returns-clause-last : goal.returns-clause-last
 returns-clause-last c = λ same. unwrap_or_kept c.search.result.local c.args.local _ (known c).1 c.search.ensures.last
 
 pub returns-clause-counted : goal.returns-clause-counted
-returns-clause-counted c = let one = next_counted _ c.args.local c.search.result.local (known c) in omega arith
+returns-clause-counted c = let one = next_counted _ c.args.local c.search.result.local (first c) (known c).1 in omega arith
 
 pub returns-clause-most : goal.returns-clause-most
 returns-clause-most c =
     let now = c.args.self.now in
     let fits : FitsSigned w64 c.args.local = c.ranges.local in
     subst (IsMostAfter (sets_in now.masks) (unsigned_abs c.args.local) (unsigned_abs (unwrap_or c.search.result.local c.args.local)) now.most_months) (sym c.search.ensures.most)
-    (next_most (sets_in now.masks) c.args.local now.most_months c.search.result c.search.result.local c.requires.start.1 (simp to_z-of_z at c.search.ensures.found) (known c))
+    (next_most (sets_in now.masks) c.args.local now.most_months c.search.result c.search.result.local c.requires.start.1 (simp to_z-of_z at c.search.ensures.found) (first c) (known c).1)

@@ -1,34 +1,24 @@
-use Rattle.std.proofs.Common.{◌∙◌, FitsSigned, arith, of_z, pos, refl, rules, subst, sym, to_z, unsigned_abs, w64, ℤ}
+use Rattle.std.proofs.Common.{◌+◌, ◌*◌, ◌/◌, ◌∙◌, FitsSigned, arith, of_z, pos, refl, rules, subst, sym, to_z, unsigned_abs, w64, ℤ}
 use Rattle.std.proofs.lemmas.Int.{to_z-of_z}
 use Rattle.jiff.proofs.SpanFacts.{signed_arith}
-use Rattle.cal_zone.specs.Local.{IsLocalSecond}
 use Rattle.cal_zone.specs.headline.Local.{seconds_in_all-is}
 use Rattle.cal_zone.specs.headline.Zone.{zone_of}
-use Rattle.cal_elapse.specs.Window.{IsPlacedTo}
-use Rattle.cal_elapse.specs.declared.window.Window.{Window}
 use Rattle.cal_text.proofs.General.{pos_unsigned_abs}
 use Rattle.cal_zone.proofs.LocalLemmas.{local_inside}
-use Rattle.cal_elapse.proofs.RestLemmas.{IsBehind, IsRun, minute_end, rest_begun, rest_instants, rest_near, rest_passed, rest_put, run_of}
+use Rattle.cal_elapse.proofs.RestLemmas.{IsBehind, IsRun, minute_end, placed_at, placed_last, rest_begun, rest_inside, rest_instants, rest_near, rest_passed, rest_put, run_of}
 use Rattle.cal_elapse.proofs.WindowLemmas.{near_ahead}
 use Rattle.cal_elapse.proofs.window.Window.place_rest.Goals.{After-search_left-rest, In-Some}
 use Rattle.cal_elapse.proofs.window.Window.place_rest.Goals as goal
 
--- the match as a whole number, and the last one as it is given
-placed_at : (v : Window) (local : ℤ) → IsPlacedTo v local → IsPlacedTo v (pos (unsigned_abs local))
-placed_at v local h = subst (IsPlacedTo v) (sym (pos_unsigned_abs local _ h.found.0.0 refl)) h
-
-placed_last : (v : Window) (last : ℤ) → IsLocalSecond last → FitsSigned w64 last → IsPlacedTo v (pos (unsigned_abs last)) → IsPlacedTo v (to_z w64 (of_z w64 last))
-placed_last v last inside fits h = subst (IsPlacedTo v) (pos_unsigned_abs last _ inside.0 refl ∙ sym (to_z-of_z w64 last fits)) h
-
 -- how far the clock is ahead
-run_at : (c : In-Some) → IsRun (zone_of c.args.self.now.zone) (unsigned_abs c.args.local) c.args.local c.minute_end-end.result c.in-Some.offset
+run_at : (c : In-Some) → IsRun (zone_of c.args.self.now.zone) (unsigned_abs c.args.local) (unsigned_abs c.args.local / 60 * 60 + 59) c.args.local c.minute_end-end.result c.in-Some.offset
 run_at c =
     let fits : FitsSigned w64 c.args.local = c.ranges.local in
-    run_of _ (unsigned_abs c.args.local) _ _ c.in-Some.offset (local_inside c.args.local c.requires.found.0) (search rules) (sym (pos_unsigned_abs c.args.local _ c.requires.found.0.0 refl))
+    run_of _ (unsigned_abs c.args.local) _ _ _ c.in-Some.offset (omega arith) (minute_end _ (local_inside c.args.local c.requires.found.0)) (search rules) (sym (pos_unsigned_abs c.args.local _ c.requires.found.0.0 refl))
     (simp to_z-of_z at c.minute_end-end.ensures) c.in-Some.ensures
 
 -- what is left behind the match
-behind : (c : After-search_left-rest) → IsRun (zone_of c.args.self.now.zone) (unsigned_abs c.args.local) c.args.local c.minute_end-end.result c.in-Some.offset
+behind : (c : After-search_left-rest) → IsRun (zone_of c.args.self.now.zone) (unsigned_abs c.args.local) (unsigned_abs c.args.local / 60 * 60 + 59) c.args.local c.minute_end-end.result c.in-Some.offset
     → IsBehind c.args.self.now (unsigned_abs c.args.local) c.search_left-rest.result.bits (unsigned_abs c.search_left-rest.result.last) c.in-Some.offset c.in-Some-least.least
 behind c run =
     let fits : FitsSigned w64 c.args.local = c.ranges.local in
@@ -61,8 +51,9 @@ returns-in-None-clause-placed c =
     let run = run_at (goal.at.returns-in-None-clause-placed c).In-Some in
     let searched = rw (to_z-of_z w64 c.args.local fits) at c.search_left.ensures in
     placed_last _ c.search_left.result.last c.search_left.result.last_in (search rules)
-    (rest_passed c.args.self.now (unsigned_abs c.args.local) c.search_left.new.self c.search_left.result.bits (unsigned_abs c.search_left.result.last) (placed_at _ _ c.requires) searched.masks
-    searched.counted searched.most searched.rest c.in-Some.offset (sym c.in-None.is ∙ c.least-least.ensures.least) run.ahead (omega (arith, signed_arith)))
+    (rest_passed c.args.self.now (unsigned_abs c.args.local) c.search_left.new.self (unsigned_abs c.search_left.result.last) (placed_at _ _ c.requires) searched.masks searched.counted searched.most
+    searched.rest.begun searched.rest.is_match _ c.in-Some.offset (rest_inside _ _ _ _ searched.rest) (minute_end _ (local_inside c.args.local c.requires.found.0))
+    (sym c.in-None.is ∙ c.least-least.ensures.least) run.ahead (omega (arith, signed_arith)))
 
 pub overflow_add-place : goal.overflow_add-place
 overflow_add-place c =
@@ -94,6 +85,6 @@ returns-in-Some-least-clause-placed c =
     let run = run_at at.In-Some in
     let searched = rw (to_z-of_z w64 c.args.local fits) at c.search_left-rest.ensures in
     placed_last _ c.search_left-rest.result.last c.search_left-rest.result.last_in (search rules)
-    (rest_put c.args.self.now (unsigned_abs c.args.local) c.search_left-rest.new.self c.search_left-rest.result.bits (unsigned_abs c.search_left-rest.result.last) (placed_at _ _ c.requires) searched.masks
-    searched.counted searched.most searched.rest c.in-Some.offset c.in-Some-least.least c.put_all.new.self
+    (rest_put c.args.self.now (unsigned_abs c.args.local) c.search_left-rest.new.self (unsigned_abs c.search_left-rest.result.last) (placed_at _ _ c.requires) searched.masks searched.counted
+    searched.most searched.rest.begun searched.rest.is_match c.search_left-rest.result.bits c.in-Some.offset c.in-Some-least.least c.put_all.new.self
     (behind at.After-search_left-rest run) c.put_all.ensures.rises (rw run.start at c.put_all.ensures.members))
