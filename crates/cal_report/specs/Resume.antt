@@ -1,5 +1,5 @@
--- How a cut output resumes: which of the elapses shown are in a prefix of a report, and what is asked to go on after
--- the last of them: systemd-analyze(1), calendar, --iterations= and --base-time=; systemd.timer(5), OnCalendar=.
+-- How to continue a cut output: which of the elapses shown are complete in a prefix of a report, and which request shows
+-- the others (systemd-analyze(1), calendar, --iterations= and --base-time=; systemd.timer(5), OnCalendar=).
 use Rattle.std.specs.Prelude.{◌≡◌, ◌↔◌, ◌≤◌, ◌<◌, ◌+◌, ◌-◌, ◌++◌, ℕ, zero, suc, ℤ, List, [], ◌∷◌, Option, None, Some, Result, Ok, take, drop, length, slice_get, codes, option_map}
 use Rattle.std.specs.List.{AllZip, filter_map, flat_map}
 use Rattle.cal_bytes.specs.declared.whole.WholeFault.{WholeFault}
@@ -9,38 +9,38 @@ use Rattle.cal_report.specs.headline.Headline.{AreElapsesOf, Expression, IsAccep
 use Rattle.cal_report.specs.Report.{base_in, report}
 use Rattle.cal_request.specs.headline.Request.{Request}
 
--- the elapses that a report shows: the first n, as many as are asked for, of those after the base
+-- the elapses that a report shows: the first n after the base, if n are asked for
 pub record AreShown (asked : Request) (base : ℤ) (s : Schedule) (shown : List ℤ) : Type 0 where
   pub elapses : List ℤ
   pub these : AreElapsesOf s base elapses
   pub first : shown ≡ take asked.iterations elapses
 
--- the report that shows them: the headings, and then these elapses with labels that count from 1, or `never`
+-- the report that shows these elapses: the headings, and then the elapses with labels that count from 1, or `never`
 abbrev pub showing : Request → Schedule → List ℤ → List ℕ
 showing asked s shown = headings s ++ elapses_text asked.local asked.now shown
 
--- such a report up to the line feed that ends the first line of an elapse, which comes right after the ones before
+-- that report up to the line feed that ends the first line of `elapse`, which comes right after the elapses in `before`
 abbrev pub up_to_line : Request → Schedule → List ℤ → ℤ → List ℕ
 up_to_line asked s before elapse =
     headings s ++ (elapse_texts asked.local asked.now 1 before ++ (label_text (length before + 1) ++ (instant_text asked.local elapse ++ codes "\n")))
 
--- the text begins with another
+-- `text` begins with `lead`
 pub record Begins (text lead : List ℕ) : Type 0 where
   pub rest : List ℕ
   pub is : text ≡ lead ++ rest
 
--- Exactly the first k of the elapses shown are complete in the prefix.
+-- Exactly the first k of the elapses shown have a complete first line in the prefix `front`.
 pub record Stand (asked : Request) (s : Schedule) (shown : List ℤ) (front : List ℕ) (k : ℕ) : Type 0 where
   pub few : k ≤ length shown
   pub whole : (before : List ℤ) (elapse : ℤ) (after : List ℤ) → shown ≡ before ++ (elapse ∷ after)
       → Begins front (up_to_line asked s before elapse) ↔ (length before < k)
 
--- the base to go on from: the k-th of the elapses shown, or the old one where there is none
+-- the base of the next run: the k-th of the elapses shown, or the old base if k is 0
 abbrev pub IsBaseAfter : ℤ → List ℤ → ℕ → ℤ → Type 0
 IsBaseAfter base shown zero from = from ≡ base
 IsBaseAfter base shown (suc before) from = slice_get shown before ≡ Some from
 
--- The request is the other one begun again after the first k elapses: from the k-th on, and for that many fewer.
+-- `again` is the request `asked`, begun again after the first k elapses shown: from the k-th on, and for k fewer.
 pub record IsBegunAgain (asked : Request) (base : ℤ) (shown : List ℤ) (k : ℕ) (again : Request) : Type 0 where
   pub verb : again.verb ≡ asked.verb
   pub texts : again.texts ≡ asked.texts
@@ -61,8 +61,8 @@ base_after base shown (suc before) = option_map base_text (slice_get shown befor
 abbrev pub begun_again : Request → List ℤ → ℕ → Request
 begun_again asked shown k = record asked { iterations = asked.iterations - k; base = base_after asked.base shown k }
 
--- Of a prefix of the report: there is one number of elapses that are in it, and the report of the same begun again
--- after that many shows exactly the others.
+-- How to continue a prefix `front` of the report: there is exactly one number of elapses that are complete in it, and the
+-- request begun again after these elapses shows exactly the others.
 pub record Resumes (asked : Request) (base : ℤ) (s : Schedule) (read : Result (List ℕ) WholeFault) (front : List ℕ) : Type 0 where
   pub shown : List ℤ
   pub these : AreShown asked base s shown
@@ -92,8 +92,9 @@ for_text asked text = record asked { texts = text ∷ [] }
 abbrev pub report_of_one : Request → Result (List ℕ) WholeFault → Expression → List ℕ
 report_of_one asked read e = (report (for_text asked e.text) read).out
 
--- Of a prefix of the reports of several expressions: it consists of the complete reports of the first of them, each with
--- the empty line after it, and of a prefix of the next report, which resumes as it does if its text is asked for alone.
+-- How to continue a prefix `front` of the reports of several expressions: it consists of the complete reports of the first
+-- expressions, each with an empty line after it, and of a prefix of the next report. That prefix continues as it does if
+-- its text is asked for alone.
 pub record ResumesAmong (asked : Request) (base : ℤ) (es : List Expression) (read : Result (List ℕ) WholeFault) (front : List ℕ) : Type 0 where
   pub before : List Expression
   pub e : Expression
