@@ -1,5 +1,5 @@
 -- The definition of groups of lines against the rule's own words.
-use Rattle.std.proofs.Common.{arith, ◌≡◌, Bool, true, false, List, [], ◌∷◌, ◌++◌, refl, ap, ◌∙◌}
+use Rattle.std.proofs.Common.{arith, ◌≡◌, true, false, List, [], ◌∷◌, ◌++◌, refl, ap, ◌∙◌}
 use Rattle.cal_lines.specs.LineRule.{AreGroups, IsClosed, IsOpen, lines_of}
 use Rattle.cal_lines.specs.headline.Lines.{Group, Line, continued_by, groups, is_continued}
 

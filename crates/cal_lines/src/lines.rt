@@ -63,11 +63,7 @@ pub fn trim(text: &str) -> &str
 fn without_return(line: &str) -> &str
     ensures { result.now ≡ strip_carriage_return line.now }
 {
-    if line.as_bytes().last() == Some(&b'\r') {
-        &line[..line.len() - 1]
-    } else {
-        line
-    }
+    line.strip_suffix('\r').unwrap_or(line)
 }
 
 /// The first physical line of a text without its end, and what comes after it.
