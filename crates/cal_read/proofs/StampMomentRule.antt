@@ -83,11 +83,14 @@ one_day (negsuc n) day begun lasts = omega (arith, signed_arith)
 
 is_today : (now : ℤ) (zone : TimeZone) → IsPresentDay now zone (today now zone)
 unfolding today
-is_today now zone = record { begun = (around (local_of zone now)).0; lasts = (around (local_of zone now)).1 }
+is_today now zone =
+    let shown = around (local_of zone now) in
+    record { begun = omega (arith, signed_arith, shown.0); lasts = omega (arith, signed_arith, shown.1) }
 
 only_today : (now : ℤ) (zone : TimeZone) (day : ℤ) → IsPresentDay now zone day → day ≡ today now zone
 unfolding today
-only_today now zone day h = one_day (local_of zone now) day h.begun h.lasts
+only_today now zone day h =
+    let same = one_day (local_of zone now) day h.begun h.lasts in omega (arith, signed_arith, same)
 
 is_day : (now : ℤ) (zone : TimeZone) (written : Option ℤ) → IsDay now zone written (unwrap_or written (today now zone))
 is_day now zone None = is_today now zone
