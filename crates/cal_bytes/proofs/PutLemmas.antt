@@ -1,4 +1,4 @@
--- Lemmas on texts that are written by calls in a row.
+-- Lemmas on texts that are written by several calls.
 use Rattle.std.proofs.Common.{◌≡◌, ℕ, List, [], ◌++◌, Result, Ok, Err, false, sym, ◌∙◌, subst}
 use Rattle.std.proofs.KnownBytes.{Appends-nil}
 use Rattle.std.proofs.lemmas.Bool.{false≢true}
@@ -9,15 +9,15 @@ use Rattle.cal_bytes.specs.Puts.{Puts}
 use Rattle.cal_bytes.specs.declared.bytes.Sink.{Ghosts}
 use Rattle.cal_bytes.proofs.Pieces.{start, step, stop, finish, writes_err, respell}
 
--- The writer works, and of the text this rest is left to write.
+-- No call has failed, and `rest` of the text is still to be written.
 pub record PutsUpTo {W : Type 0} (sink : Ghosts W) (old new : W) (rest text : List ℕ) : Type 0 where
   pub works : sink.is_failed new ≡ false
   pub leaves : Leaves (sink.written old) (sink.written new) rest text
 
 module _ {W : Type 0} {sink : Ghosts W} where
-  -- Calls in a row
+  -- Two consecutive calls
 
-  -- the first failed
+  -- if the first call fails, a prefix of both texts together was written
   pub first_fails : {T E T' E' : Type 0} (a b : W) (first : Result T' E') (r : Result T E) (x y : List ℕ) → Puts sink a b first x → IsErr first → IsErr r → Puts sink a b r (x ++ y)
   first_fails a b (Ok u) r x y p failed is_err = absurd (false≢true failed)
   first_fails a b (Err e) r x y p failed is_err = record {
@@ -25,7 +25,7 @@ module _ {W : Type 0} {sink : Ghosts W} where
     bytes = writes_err _ _ r (x ++ y) is_err (stop _ _ _ x y (x ++ y) (start _ (x ++ y)) p.bytes);
   }
 
-  -- or it succeeded, and the second call's answer is the answer of both
+  -- if the first call succeeds, the result of the second is the result of both
   pub second_ends : {T E T' E' : Type 0} (a b c : W) (first : Result T' E') (r : Result T E) (x y : List ℕ) → Puts sink a b first x → IsOk first → Puts sink b c r y → Puts sink a c r (x ++ y)
   second_ends a b c (Err e) r x y p worked q = absurd (false≢true worked)
   second_ends a b c (Ok u) r x y p worked q = record {
@@ -33,41 +33,41 @@ module _ {W : Type 0} {sink : Ghosts W} where
     bytes = finish _ _ _ y (x ++ y) r (step _ _ _ x y (x ++ y) (start _ (x ++ y)) p.bytes) q.bytes;
   }
 
-  -- a text that is written under another spelling
+  -- the text may be replaced by an equal list of bytes
   pub text_respelled : {T E : Type 0} {a b : W} {r : Result T E} {x y : List ℕ} → Puts sink a b r x → x ≡ y → Puts sink a b r y
   text_respelled {a = a} {b = b} {r = r} p e = subst (λ (text : List ℕ). Puts sink a b r text) e p
 
-  -- nothing comes after the last
+  -- the last call, after which nothing is left
   pub last_ends : {T E : Type 0} (a b : W) (r : Result T E) (x : List ℕ) → Puts sink a b r x → Puts sink a b r (x ++ [])
   last_ends a b r x p = text_respelled p (sym (append-nil x))
 
-  -- nothing was written
+  -- a call that writes nothing
   pub puts_nothing : {T E : Type 0} {x : T} {a : W} → sink.is_failed a ≡ false → Puts {E = E} sink a a (Ok x) []
   puts_nothing {a = a} works = record { failed = works; bytes = Appends-nil (sink.written a) }
 
   -- Calls in a loop
 
-  -- all is left at first
+  -- before the first call, all of the text is still to be written
   pub put_none : {a : W} {text : List ℕ} → sink.is_failed a ≡ false → PutsUpTo sink a a text text
   put_none {a = a} {text = text} works = record { works = works; leaves = start (sink.written a) text }
 
-  -- what is left is the same text in other words
+  -- what is left may be replaced by an equal list of bytes
   pub left_respelled : {a b : W} {x y text : List ℕ} → PutsUpTo sink a b x text → x ≡ y → PutsUpTo sink a b y text
   left_respelled {a = a} {b = b} {text = text} before e = subst (λ (left : List ℕ). PutsUpTo sink a b left text) e before
 
-  -- one more piece was written
+  -- a call wrote the next piece
   pub put_next : {T E : Type 0} {u : T} {a b c : W} {left piece rest text : List ℕ} → left ≡ piece ++ rest → PutsUpTo sink a b left text → Puts {E = E} sink b c (Ok u) piece → PutsUpTo sink a c rest text
   put_next {piece = piece} {rest = rest} {text = text} split before p = record {
     works = p.failed;
     leaves = step _ _ _ piece rest text (respell _ _ _ _ text before.leaves split) p.bytes;
   }
 
-  -- or it was not written whole
+  -- a call failed to write the next piece
   pub put_cut : {T E T' E' : Type 0} {e : E'} {a b c : W} {left piece text : List ℕ} {r : Result T E} (rest : List ℕ) → left ≡ piece ++ rest → IsErr r → PutsUpTo sink a b left text → Puts {T = T'} sink b c (Err e) piece → Puts sink a c r text
   put_cut {piece = piece} {text = text} {r = r} rest split is_err before p = record {
     failed = p.failed ∙ sym is_err;
     bytes = writes_err _ _ r text is_err (stop _ _ _ piece rest text (respell _ _ _ _ text before.leaves split) p.bytes);
   }
 
--- for calls in a row
+-- the rules for consecutive calls
 pub ruleset puts = (first_fails, second_ends, last_ends)

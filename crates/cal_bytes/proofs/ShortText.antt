@@ -4,19 +4,19 @@ use Rattle.std.proofs.lemmas.List.{append-nil, append_assoc, take-replicate}
 use Rattle.std.proofs.lemmas.List.Concat.{flat_map-append}
 use Rattle.cal_bytes.specs.headline.Bytes.{joined}
 
--- the front of eight bytes of one kind
+-- a prefix of eight equal bytes
 pub taken : (n byte : ℕ) → n ≤ 8 → take n (replicate 8 byte) ≡ replicate n byte
 taken n byte h = take-replicate n 8 byte h
 
--- after a prefix come these pieces
+-- `text` is `front` followed by the pieces
 pub record Pushed (front text : List ℕ) (pieces : List (List ℕ)) : Type 0 where
   pub is : text ≡ front ++ joined pieces
 
--- the first piece was appended
+-- one piece was appended to `front`
 pub pushed_first : (front text piece : List ℕ) → text ≡ front ++ piece → Pushed front text (piece ∷ [])
 pushed_first front text piece is = record { is = is ∙ ap (λ rest. front ++ rest) (sym (append-nil piece)) }
 
--- one piece more was appended
+-- one more piece was appended
 pub pushed_more : (front text next piece : List ℕ) (pieces : List (List ℕ)) → Pushed front text pieces → next ≡ text ++ piece → Pushed front next (pieces ++ piece ∷ [])
 pushed_more front text next piece pieces before more = record {
   is = more ∙ ap (λ so_far. so_far ++ piece) before.is ∙ append_assoc front (joined pieces) piece

@@ -1,9 +1,9 @@
--- What comes before digits that have a width to fill.
+-- What a number is padded with on the left.
 use Rattle.std.specs.Prelude.{ℕ}
 use Rattle.cal_bytes.specs.declared.short_text.Fill.{Fill}
 use Rattle.cal_bytes.specs.declared.short_text.Fill.TheVariants.{Zero, Blank}
 
--- the ASCII code of a zero, or of a space
+-- the ASCII code of the padding: a zero or a space
 abbrev pub byte_of : Fill → ℕ
 byte_of Zero = 48
 byte_of Blank = 32

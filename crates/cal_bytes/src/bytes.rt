@@ -1,41 +1,42 @@
-//! Bytes out and in: the writers and readers that all of the project's calls take.
+//! The traits for output and input that every call of the project takes.
 
 ghost use Rattle.cal_bytes.specs.Bytes.{Offered, Fetched};
 ghost use Rattle.std.specs.Prelude.{◌≡◌, ℕ, List, Option, None, Bool, true, false, is_none};
 
-/// What takes bytes.
+/// A destination for bytes.
 ///
-/// A contract sees the bytes written so far, where the type tells them, and whether it has failed.
+/// A contract can see the bytes written so far, if the type keeps track of them, and whether a call has failed.
 pub trait Sink {
-    /// The bytes written so far, or `None` where the type doesn't tell them.
+    /// The bytes written so far, or `None` if the type doesn't keep track of them.
     ghost written: { Self → Option (List ℕ) } = { λ _. None };
 
     /// Whether a call has failed.
     ghost is_failed: { Self → Bool };
 
-    /// Offers a piece, and answers how many bytes from its start were written: at least one of a piece
-    /// that isn't empty. `None` says that it failed in this call and wrote nothing.
+    /// Writes a prefix of `piece` and returns its length, which is at least 1 unless `piece` is empty. Returns `None`
+    /// if the call fails; then it has written nothing.
     fn offer(&mut self, piece: &[u8]) -> Option<usize>
         requires { is_failed self.old ≡ false }
         ensures failed { is_failed self.new ≡ is_none result }
         ensures bytes { Offered (written self.old) (written self.new) piece.now result };
 }
 
-/// What gives bytes.
+/// A source of bytes.
 ///
-/// A contract sees the bytes still to come, where the type tells them, whether it has failed, and whether it ever may.
+/// A contract can see the bytes still to come, if the type keeps track of them, whether a call has failed, and whether
+/// one can fail at all.
 pub trait Source {
-    /// The bytes still to come, or `None` where the type doesn't tell them.
+    /// The bytes still to come, or `None` if the type doesn't keep track of them.
     ghost remaining: { Self → Option (List ℕ) } = { λ _. None };
 
     /// Whether a call has failed.
     ghost is_failed: { Self → Bool };
 
-    /// Whether a call may fail.
+    /// Whether a call can fail.
     ghost may_fail: { Self → Bool } = { λ _. true };
 
-    /// Puts the next bytes at the start of `into`, and answers how many: 0 for an `into` that isn't
-    /// empty only at the end. `None` says that it failed in this call and gave nothing.
+    /// Reads the next bytes into the start of `into` and returns how many. This is 0 only at the end of the source, or
+    /// if `into` is empty. Returns `None` if the call fails; then it has read nothing.
     fn fetch(&mut self, into: &mut [u8]) -> Option<usize>
         requires { is_failed self.old ≡ false }
         ensures failed { is_failed self.new ≡ is_none result }

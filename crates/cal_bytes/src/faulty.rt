@@ -1,28 +1,28 @@
-//! A reader and writer over memory that is slow and fails on purpose, for tests.
+//! An in-memory reader and writer for tests that is slow and fails on purpose.
 
 ghost use Rattle.std.specs.Prelude.{◌≡◌, ◌+◌, ◌-◌, ◌^◌, ◌<◌, ◌≤◌, min};
 
 use std::io;
 use std::io::{ErrorKind, Read, Write};
 
-/// What a [`Faulty`] does from its limit on.
+/// What a [`Faulty`] does once its limit is reached.
 #[derive(Clone, Copy, PartialEq, Eq, Debug)]
 pub enum Then {
-    /// Each call is an error.
+    /// Each call fails.
     Error,
-    /// Each call is an error of the kind `Interrupted`.
+    /// Each call fails with an error of the kind `Interrupted`.
     Interrupted,
-    /// A writer takes 0 bytes; a reader is at its end.
+    /// A writer accepts 0 bytes; a reader is at its end.
     Zero,
-    /// A reader gives `#` for ever; a writer's calls are errors.
+    /// A reader returns `#` forever; each call of a writer fails.
     Endless,
 }
 
-/// A std `Write` that appends to its bytes and a std `Read` that gives them, at most `step` bytes a
-/// call and `limit` bytes in all; then it does what [`Then`] says.
+/// A std `Write` that appends to a buffer, and a std `Read` that reads from it.
 ///
-/// A reader whose bytes are used up below the limit ends there. A growth of the bytes that is refused
-/// is an error of `write`.
+/// It moves at most `step` bytes a call and `limit` bytes in all; after that it does what its [`Then`] says. A reader
+/// that runs out of bytes before the limit is at its end. If the buffer can't grow because allocation fails, `write`
+/// returns an error.
 #[derive(Debug, Drop)]
 pub struct Faulty {
     bytes: Vec<u8>,
@@ -34,7 +34,7 @@ pub struct Faulty {
 }
 
 impl Faulty {
-    /// A reader of these bytes, or a writer that appends to them.
+    /// Creates a reader of `bytes`, or a writer that appends to them.
     pub fn new(bytes: Vec<u8>, step: usize, limit: usize, then: Then) -> Faulty
         requires { 0 < step }
         ensures { result ≡ record { bytes = bytes; step = step; limit = limit; «then» = «then»; moved = 0; calls = 0 } }
@@ -49,28 +49,27 @@ impl Faulty {
         }
     }
 
-    /// All the bytes: those given at first and those written since.
+    /// Returns all bytes: the initial ones and those written since.
     pub fn bytes(&self) -> &[u8]
         ensures { result.now ≡ self.now.bytes.items }
     {
         self.bytes.as_slice()
     }
 
-    /// The number of reads and writes so far, which stays at the greatest `u64`.
+    /// Returns the number of reads and writes so far, at most `u64::MAX`.
     pub fn calls(&self) -> u64
         ensures { result ≡ self.now.calls }
     {
         self.calls
     }
 
-    /// Counts one call more.
     fn count_call(&mut self)
         ensures { self.new ≡ record self.old { calls = min (self.old.calls + 1) (2 ^ 64 - 1) } }
     {
         self.calls = self.calls.saturating_add(1);
     }
 
-    /// How many of `wanted` bytes may move in this call: 0 from the limit on.
+    /// Returns how many of `wanted` bytes this call may move: 0 once the limit is reached.
     fn allowed(&self, wanted: usize) -> usize
         ensures wanted { result ≤ wanted }
         ensures within { result ≤ self.now.limit - self.now.moved }

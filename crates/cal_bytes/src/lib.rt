@@ -1,4 +1,4 @@
-//! Bytes out and in: writers, readers, and short texts on the stack.
+//! Output and input of bytes, and short texts on the stack.
 #![tactic(auto)]
 
 mod bytes;

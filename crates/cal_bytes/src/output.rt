@@ -1,4 +1,4 @@
-//! A writer with a buffer before it, whose bytes go out at the end.
+//! Buffered output.
 
 ghost use Rattle.cal_bytes.specs.Output.{Flushes};
 ghost use Rattle.std.specs.Io.Buffered.{writer_inner};
@@ -7,15 +7,15 @@ ghost use Rattle.std.specs.Prelude.{◌≡◌, ℕ, List, Option, None, not, tru
 use crate::{Port, Sink};
 use std::io::{BufWriter, Write};
 
-/// A [`Sink`] that may hold bytes back until it is flushed.
+/// A [`Sink`] that may keep bytes in a buffer until it is flushed.
 ///
-/// A contract sees the bytes that have gone through it, where the type tells them; what it holds back isn't among them.
+/// A contract can see the bytes that have left the buffer, if the type keeps track of them.
 pub trait Output: Sink {
-    /// The bytes that have gone through it, or `None` where the type doesn't tell them.
+    /// The bytes that have left the buffer, or `None` if the type doesn't keep track of them.
     ghost reached: { Self → Option (List ℕ) } = { λ _. None };
 
-    /// Writes out what is held back, and answers whether no call has failed, this one among them. Then all bytes
-    /// written so far have gone through it, and else the prefix of them.
+    /// Writes out the buffer, and returns `true` if no call has failed, including this one. In that case all bytes
+    /// written so far have left the buffer; otherwise a prefix of them has.
     fn flush(&mut self) -> bool
         ensures answer { result ≡ not (Self.is_failed self.new) }
         ensures failed { Self.is_failed self.old ≡ true → Self.is_failed self.new ≡ true }

@@ -1,15 +1,15 @@
-//! A std reader or writer as a [`Source`] or a [`Sink`] that remembers whether it has failed.
+//! A std reader or writer as a [`Source`] or [`Sink`].
 
 ghost use Rattle.std.specs.Prelude.{◌≡◌, true, false, None};
 
 use crate::bytes::{Sink, Source};
 use std::io::{Read, Write};
 
-/// A [`Sink`] over any std `Write`, and a [`Source`] over any std `Read`.
+/// A [`Sink`] over any std `Write`, and a [`Source`] over any std `Read`, which remembers whether a call has failed.
 ///
-/// Each call makes one `write` or one `read`. An error of any kind is a failure, an interrupted call
-/// too, and so are 0 bytes taken of a piece that isn't empty. What the inner value takes of memory for
-/// itself is its own: where that is refused, it is such an error.
+/// Each call makes one `write` or one `read`. Every error is a failure, also `Interrupted`, and so is a `write` that
+/// accepts 0 bytes of a piece that isn't empty. If the inner reader or writer allocates and that fails, it reports such
+/// an error too.
 #[derive(Debug, Drop)]
 pub struct Port<T> {
     pub(crate) inner: T,
@@ -17,7 +17,7 @@ pub struct Port<T> {
 }
 
 impl<T> Port<T> {
-    /// A port that hasn't failed yet.
+    /// Creates a port over `inner` that hasn't failed yet.
     pub fn new(inner: T) -> Port<T>
         ensures { result ≡ record { inner = inner; has_failed = false } }
     {
@@ -27,14 +27,14 @@ impl<T> Port<T> {
         }
     }
 
-    /// Whether a call has failed.
+    /// Returns whether a call has failed.
     pub fn failed(&self) -> bool
         ensures { result ≡ self.now.has_failed }
     {
         self.has_failed
     }
 
-    /// The reader or writer inside.
+    /// Returns the inner reader or writer.
     pub fn into_inner(self) -> T
         ensures { result ≡ self.inner }
     {
@@ -47,7 +47,7 @@ impl<T> Port<T> {
 }
 
 impl<T> Port<T> {
-    /// Marks the failure of a call, and gives that call's answer.
+    /// Records that a call has failed, and returns `None` for that call to return.
     fn fail(&mut self) -> Option<usize>
         ensures answer { result ≡ None }
         ensures mark { self.new ≡ record self.old { has_failed = true } }

@@ -1,4 +1,4 @@
-//! The two calls that write whole texts.
+//! Writing whole texts to a [`Sink`].
 
 ghost use Rattle.cal_bytes.specs.Puts.{Puts};
 ghost use Rattle.std.specs.List.{flat_map};
@@ -6,17 +6,16 @@ ghost use Rattle.std.specs.Prelude.{◌≡◌, false};
 
 use crate::bytes::Sink;
 
-/// Why a text was not written whole.
+/// Why a text was not written completely.
 #[derive(Clone, Copy, PartialEq, Eq, Debug)]
 pub enum WriteFault {
-    /// The writer failed; it has a prefix of the text.
+    /// The sink failed after it had accepted a prefix of the text, which may be empty.
     Failed = 1,
 }
 
-/// Writes all of a piece, by as many offers as it takes.
+/// Writes all of `piece`, in as many calls of [`Sink::offer`] as it takes.
 ///
-/// [`WriteFault::Failed`] comes exactly where an offer answered `None`; the writer has a prefix of the
-/// piece then.
+/// Fails with [`WriteFault::Failed`] if and only if a call of `offer` fails; then only a prefix of `piece` was written.
 pub fn put_all<W: Sink>(out: &mut W, piece: &[u8]) -> Result<(), WriteFault>
     requires { W.is_failed out.old ≡ false }
     ensures { Puts W.Sink out.old out.new result piece.now }
@@ -31,7 +30,7 @@ pub fn put_all<W: Sink>(out: &mut W, piece: &[u8]) -> Result<(), WriteFault>
     Ok(())
 }
 
-/// Writes pieces in a row, with the answers of [`put_all`].
+/// Writes the pieces in order. Fails as [`put_all`] does; then only a prefix of all the pieces together was written.
 pub fn put_pieces<W: Sink>(out: &mut W, pieces: &[&[u8]]) -> Result<(), WriteFault>
     requires { W.is_failed out.old ≡ false }
     ensures { Puts W.Sink out.old out.new result (flat_map (λ piece. piece.now) pieces.now) }

@@ -1,4 +1,4 @@
-//! Short texts on the stack: a layout is formed whole, piece after piece, so that it is written in one call.
+//! Short texts on the stack. They are put together from pieces, so that each can be written in one call.
 
 ghost use Rattle.std.specs.Prelude.{◌≡◌, ◌+◌, ◌-◌, ◌≤◌, ◌++◌, length, replicate};
 ghost use Rattle.std.specs.List.{flat_map};
@@ -7,22 +7,22 @@ ghost use Rattle.cal_bytes.specs.declared.short_text.TheConstants.{ROOM};
 
 use arrayvec::ArrayVec;
 
-/// What comes before digits that have a width to fill.
+/// What a number is padded with on the left.
 #[derive(Clone, Copy, PartialEq, Eq, Debug)]
 pub enum Fill {
-    /// `0`.
+    /// The digit `0`.
     Zero,
     /// A space.
     Blank,
 }
 
-/// The most bytes of a short text.
+/// The maximum length of a short text, in bytes.
 pub const ROOM: usize = 512;
 
-/// A text of at most [`ROOM`] bytes.
+/// A text of at most [`ROOM`] bytes, on the stack.
 pub type ShortText = ArrayVec<u8, 512>;
 
-/// Appends pieces in a row, which have to fit.
+/// Appends the pieces in order. The caller guarantees that they fit.
 pub fn push_all(text: &mut ShortText, pieces: &[&[u8]])
     requires { length text.old.items + length (flat_map (λ piece. piece.now) pieces.now) ≤ ROOM }
     ensures { text.new.items ≡ text.old.items ++ flat_map (λ piece. piece.now) pieces.now }
@@ -32,7 +32,7 @@ pub fn push_all(text: &mut ShortText, pieces: &[&[u8]])
     }
 }
 
-/// Appends a piece, which has to fit.
+/// Appends a piece. The caller guarantees that it fits.
 pub fn push(text: &mut ShortText, piece: &[u8])
     requires { length text.old.items + length piece.now ≤ ROOM }
     ensures { text.new.items ≡ text.old.items ++ piece.now }
@@ -42,7 +42,8 @@ pub fn push(text: &mut ShortText, piece: &[u8])
     }
 }
 
-/// What fills a number's digits up to a width of at most eight; nothing where they are as many.
+/// Returns the padding that goes in front of `digits` to fill `width`, which is at most 8. It is empty if there are at
+/// least `width` digits.
 #[tactic(auto, using(crate::proofs::ShortText::taken))]
 pub fn padding<'a>(digits: &'a str, width: usize, fill: Fill) -> &'a [u8]
     requires { width ≤ 8 }

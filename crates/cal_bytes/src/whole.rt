@@ -1,4 +1,4 @@
-//! Everything that a reader gives.
+//! Reading a source to its end.
 
 ghost use Rattle.std.specs.Prelude.{◌≡◌, false, MatchResult};
 ghost use Rattle.cal_bytes.specs.Whole.{is_read_failed, GivesAll, IsWholeFault};
@@ -6,25 +6,30 @@ ghost use Rattle.cal_bytes.specs.Whole.{is_read_failed, GivesAll, IsWholeFault};
 use crate::Source;
 use std::alloc::Global;
 
-/// Why the bytes of a reader can't be had.
+/// Why reading a source to its end failed.
 #[derive(Clone, Copy, PartialEq, Eq, Debug)]
 pub enum WholeFault {
-    /// The reader failed.
+    /// A read failed.
     ReadFailed = 1,
-    /// More bytes came than the limit.
+    /// The source has more bytes than the limit.
     TooLarge = 2,
-    /// Memory was refused.
+    /// Out of memory.
     NoMemory = 3,
 }
 
-/// How many bytes are asked for at a time.
+/// The number of bytes that one read asks for.
 const CHUNK: usize = 4_096;
 
-/// The bytes of a reader up to its end, at most `limit` of them.
+/// Reads a source to its end and returns its bytes, at most `limit` of them.
 ///
-/// [`WholeFault::ReadFailed`] comes exactly where a fetch answered `None`, and no fetch follows it. With
-/// [`WholeFault::TooLarge`] more than `limit` bytes came; nothing is read after that, so a reader that never ends is
-/// too large. At most `limit` + 1 fetches are made, since each but the last gives a byte.
+/// The errors are:
+///
+/// - [`WholeFault::ReadFailed`] if and only if a call of [`Source::fetch`] fails; no further call is made.
+/// - [`WholeFault::TooLarge`] if the source has more than `limit` bytes. Nothing is read after that, so an endless
+///   source is too large.
+/// - [`WholeFault::NoMemory`] if allocation fails.
+///
+/// It makes at most `limit` + 1 calls of `fetch`, since each but the last returns at least one byte.
 pub fn read_whole<R: Source>(
     alloc: Global,
     from: &mut R,

@@ -1,7 +1,7 @@
--- How the texts of calls in a row come together.
+-- How the pieces of a text are joined.
 use Rattle.std.specs.Prelude.{ℕ, List}
 use Rattle.std.specs.List.{flat_map}
 
--- The text of pieces in a row. Every layout is written as one such list.
+-- The pieces, joined in order. Every printed layout is defined as one such list of pieces.
 abbrev pub joined : List (List ℕ) → List ℕ
 joined = flat_map (λ piece. piece)

@@ -1,4 +1,4 @@
--- The names that are left decide.
+-- The result for the remaining names is the result for all of them: none so far was equal.
 use Rattle.std.proofs.Common.{◌≡◌, map, drop}
 use Rattle.std.specs.List.{list_any}
 use Rattle.std.specs.Str.{bytes_eq}

@@ -1,4 +1,4 @@
--- The writer works, and what is left to write is the rest.
+-- No call has failed, and `rest` is still to be written.
 use Rattle.std.proofs.Common.{length}
 use Rattle.cal_bytes.proofs.PutLemmas.{PutsUpTo}
 use Rattle.cal_bytes.proofs.put.put_all.Given as goal

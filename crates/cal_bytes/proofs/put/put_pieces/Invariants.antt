@@ -1,4 +1,4 @@
--- The writer works, and what is left to write is the pieces from the index on.
+-- No call has failed, and the pieces from the index on are still to be written.
 use Rattle.std.proofs.Common.{drop}
 use Rattle.std.specs.List.{flat_map}
 use Rattle.cal_bytes.proofs.PutLemmas.{PutsUpTo}

@@ -1,4 +1,4 @@
--- The reader works, and what was taken from it is the bytes so far, no more than the limit.
+-- No read has failed, and `bytes` is what was read so far, within the limit.
 use Rattle.std.proofs.Common.{◌≡◌, ◌-◌, ◌≤◌, false, length}
 use Rattle.std.specs.Io.KnownBytes.{Consumes}
 use Rattle.cal_bytes.proofs.whole.read_whole.Given as goal
