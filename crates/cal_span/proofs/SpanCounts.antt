@@ -1,4 +1,4 @@
--- Lemmas on counts of units: those that division finds are the counts of a span, and there are no others.
+-- Lemmas on the counts of units in a printed span: division with remainder finds them, and there are no others.
 use Rattle.std.proofs.Common.{◌≡◌, ℕ, ◌+◌, ◌*◌, ◌/◌, ◌%◌, ◌<◌, ◌≤◌, List, [], ◌∷◌, ◌++◌, codes, length, drop, get_or, Bool, true, false, cond, nat_lt, refl, ap, ◌∙◌, lit<, arith}
 use Rattle.std.proofs.Math.Nat.{div-eq_of_lt, mod-eq_of_lt}
 use Rattle.std.proofs.lemmas.Bool.{lt-ltb, le-ltb, ltb-false}
@@ -14,7 +14,7 @@ use Rattle.cal_span.specs.SpanText.{weight, AreReduced, AreCounts, IsSpanText}
 use Rattle.cal_span.specs.headline.SpanText.{Count, count_text, counts_in_row, counts_text, positive, counts_of, units_text, span_text}
 use Rattle.std.proofs.lemmas.Bool.Decides.{nat_tests}
 
--- no unit is empty
+-- every unit is longer than zero
 pub size_of_positive : (unit : Scale) → 0 < size_of unit
 size_of_positive Year = lit< tt
 size_of_positive Month = lit< tt
@@ -26,24 +26,24 @@ size_of_positive Second = lit< tt
 size_of_positive Millisecond = lit< tt
 size_of_positive Microsecond = lit< tt
 
--- what no unit has counted
+-- what remains after division by all units
 abbrev remainder : List Scale → ℕ → ℕ
 remainder [] n = n
 remainder (unit ∷ units) n = remainder units (n % size_of unit)
 
--- the counts and what is left are the whole
+-- the counts and the remainder add up to the whole
 weight-counts_of-remainder : (units : List Scale) (n : ℕ) → weight (counts_of units n) + remainder units n ≡ n
 weight-counts_of-remainder [] n = omega arith
 weight-counts_of-remainder (unit ∷ units) n =
     omega (arith, weight-counts_of-remainder units (n % size_of unit), div-add-mod' n (size_of unit))
 
--- what follows a count is a remainder by its unit, so below it
+-- the counts after a unit are less than one of the unit, since they come from the remainder
 reduced-counts_of : (units : List Scale) (n : ℕ) → AreReduced units (counts_of units n)
 reduced-counts_of [] n = tt
 reduced-counts_of (unit ∷ units) n =
     grind (arith, nat_tests, weight-counts_of-remainder, mod_below, size_of_positive, reduced-counts_of units (n % size_of unit))
 
--- the microsecond leaves nothing
+-- nothing remains after the microseconds
 remainder-scales : (n : ℕ) → remainder scales n ≡ 0
 remainder-scales n = omega arith
 
@@ -51,14 +51,14 @@ remainder-scales n = omega arith
 pub are_counts_of : (n : ℕ) → AreCounts n (counts_of scales n)
 are_counts_of n = grind (arith, nat_tests, weight-counts_of-remainder, remainder-scales, reduced-counts_of)
 
--- reduced counts are those that division finds
+-- counts that satisfy `AreReduced` are those that division finds
 pub counts_of-weight : (units : List Scale) (cs : List Count) → AreReduced units cs → cs ≡ counts_of units (weight cs)
 counts_of-weight [] [] h = refl
 counts_of-weight [] (c ∷ cs) h = absurd h
 counts_of-weight (unit ∷ units) [] h = absurd h
 counts_of-weight (unit ∷ units) (c ∷ cs) h = grind (arith, nat_tests, div-mul-add, mod-mul-add, counts_of-weight units cs h.2)
 
--- the function gives a span text, and there is no other
+-- `span_text` is a text of the span, and the only one
 pub is_span_text : (n : ℕ) → IsSpanText n (span_text n)
 unfolding units_text
 is_span_text n = (counts_of scales n, are_counts_of n, refl)
@@ -68,14 +68,14 @@ unfolding units_text
 span_text_only n text h =
     h.2 ∙ ap (λ (cs : List Count). counts_text (positive cs)) (counts_of-weight scales h.0 h.1.reduced ∙ ap (counts_of scales) h.1.sum)
 
--- a unit that fits has a count, and one that doesn't fit has none
+-- a unit that fits has a count that isn't zero, and a unit that doesn't fit has none
 positive_taken : (unit : Scale) (units : List Scale) (n : ℕ) → size_of unit ≤ n → positive (counts_of (unit ∷ units) n) ≡ record { number = n / size_of unit; unit = unit } ∷ positive (counts_of units (n % size_of unit))
 positive_taken unit units n fits = grind (arith, nat_tests, lt-ltb, le-div, size_of_positive)
 
 positive_skipped : (unit : Scale) (units : List Scale) (n : ℕ) → n < size_of unit → positive (counts_of (unit ∷ units) n) ≡ positive (counts_of units (n % size_of unit))
 positive_skipped unit units n below = grind (arith, nat_tests, le-ltb, div-eq_of_lt)
 
--- counts in a row with this in front of the first and a space in front of each other one
+-- the counts as they are printed in a loop: `lead` before the first and a space before each other one
 abbrev pub led : List ℕ → List Count → List ℕ
 led lead [] = []
 led lead (c ∷ cs) = lead ++ (count_text c ++ flat_map (λ d. codes " " ++ count_text d) cs)
@@ -87,13 +87,13 @@ led_space (c ∷ cs) = refl
 led_first : (lead : List ℕ) (c : Count) (cs : List Count) → led lead (c ∷ cs) ≡ joined (lead ∷ decimal c.number ∷ unit_name c.unit ∷ []) ++ led (codes " ") cs
 led_first lead c cs = grind (arith, nat_tests, led_space, append_assoc)
 
--- at first all counts are left, with nothing in front
+-- when the loop begins, all counts are left and `lead` is empty
 pub counts_in_row-led : (cs : List Count) → counts_in_row cs ≡ led [] cs
 unfolding counts_in_row
 counts_in_row-led [] = refl
 counts_in_row-led (c ∷ cs) = refl
 
--- what is left at the i-th unit is its count, where it fits, and what is left after it
+-- what is left at the unit of index i: its count, if the unit fits, and then what is left after it
 pub led_taken : (lead : List ℕ) (units : List Scale) (i : ℕ) (d : Scale) (size n : ℕ) → i < length units → size ≡ size_of (get_or units i d) → size ≤ n → led lead (positive (counts_of (drop i units) n)) ≡ joined (lead ∷ decimal (n / size) ∷ unit_name (get_or units i d) ∷ []) ++ led (codes " ") (positive (counts_of (drop (i + 1) units) (n % size)))
 led_taken lead units i d size n within e fits =
     rw e
@@ -108,17 +108,17 @@ led_skipped lead units i d size n within e below =
     ∙ ap (led lead) (positive_skipped (get_or units i d) (drop (i + 1) units) n small)
     ∙ ap (λ left. led lead (positive (counts_of (drop (i + 1) units) left))) (mod-eq_of_lt small)
 
--- one count more, kept where it isn't zero
+-- one more count, which is dropped if it is zero
 weight-kept : (c : Count) (kept : List Count) (n : ℕ) → weight kept ≡ n → (b : Bool) → nat_lt 0 c.number ≡ b → weight (cond b (c ∷ kept) kept) ≡ c.number * size_of c.unit + n
 weight-kept c kept n e true t = ap (λ (m : ℕ). c.number * size_of c.unit + m) e
 weight-kept c kept n e false t = grind (arith, nat_tests, ltb-false)
 
--- the counts that aren't zero are worth as much as all
+-- dropping the counts that are zero doesn't change the sum
 pub weight-positive : (cs : List Count) → weight (positive cs) ≡ weight cs
 weight-positive [] = refl
 weight-positive (c ∷ cs) = weight-kept c (positive cs) (weight cs) (weight-positive cs) (nat_lt 0 c.number) refl
 
--- the text of nothing, and of any other span
+-- the text of the empty span is `0`, and that of any other span is its counts
 positive-counts_of_zero : (units : List Scale) → positive (counts_of units 0) ≡ []
 positive-counts_of_zero [] = refl
 positive-counts_of_zero (unit ∷ units) =

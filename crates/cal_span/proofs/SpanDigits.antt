@@ -1,4 +1,4 @@
--- Lemmas on the digits that `decimal` writes, as span texts are read: they are numbers with no point.
+-- Lemmas on the digits that `decimal` prints: a time span reads them as numbers without a decimal point.
 use Rattle.std.proofs.Common.{◌≡◌, ℕ, ◌*◌, ◌^◌, ◌<◌, List, [], ◌∷◌, length, true, false, ◌||◌, refl, arith}
 use Rattle.std.proofs.lemmas.Bool.Decides.{nat_tests}
 use Rattle.std.proofs.lemmas.Fmt.{decimal_is_IsNumeral}
@@ -14,7 +14,7 @@ use Rattle.cal_span.specs.declared.span.word.CharKind.TheVariants.{Numeric}
 use Rattle.cal_text.specs.headline.Separators.{is_point}
 use Rattle.cal_span.specs.SpanValue.{kind_of, is_number, number_worth}
 
--- what a digit is and is not
+-- how a digit is classified
 pub record IsDigit (c : ℕ) : Type 0 where
   pub ascii : c < 128
   pub digit : is_ascii_digit c ≡ true
@@ -41,7 +41,7 @@ are_digits_by_value (c ∷ cs) h = (is_digit_by_value c h.0, are_digits_by_value
 pub are_digits-decimal : (n : ℕ) → n < 2 ^ 64 → AreDigits (decimal n)
 are_digits-decimal n small = are_digits_by_value (decimal n) (decimal_is_IsNumeral n small).0.1
 
--- digits have no point
+-- digits contain no decimal point
 
 position_or_len-digits : (ds : List ℕ) → AreDigits ds → position_or_len is_point ds ≡ length ds
 position_or_len-digits [] h = refl

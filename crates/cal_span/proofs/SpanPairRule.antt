@@ -1,4 +1,4 @@
--- The pairs of words are those of the rule, and nothing else is.
+-- The words form pairs by the rule, and in no other way.
 use Rattle.std.proofs.Common.{◌≡◌, ◌⊎◌, ◌&&◌, Bool, true, false, cond, List, [], ◌∷◌, Some, None, refl, sym, ap, ◌∙◌, inl, inr}
 use Rattle.std.proofs.lemmas.Bool.{false≢true}
 use Rattle.cal_span.specs.declared.span.word.CharKind.{CharKind}
@@ -14,14 +14,14 @@ IsFirst ws p rest = IsWithUnit ws p rest ⊎ (IsWithoutUnit ws p rest ⊎ IsNoNu
 another : (j k : CharKind) → is_kind j k ≡ false → k ≡ j → ⊥
 another j k test same = false≢true (sym test ∙ ap (is_kind j) same ∙ is_kind-same j)
 
--- a word with no unit word after it
+-- a word that no unit follows
 first_alone : (w : Piece) (ws : List Piece) (numeric : Bool) → is_kind Numeric w.kind ≡ numeric → BeginsWithNoUnit ws → IsFirst (w ∷ ws) (record { number = cond numeric w.text []; unit = None }) ws
 first_alone w ws true test no_unit =
     inr (inl (record { number = w; words = refl; is_number = sym (same_from_is_kind Numeric w.kind test); no_unit = no_unit; pair = refl }))
 first_alone w ws false test no_unit =
     inr (inr (record { word = w; words = refl; is_other = another Numeric w.kind test; pair = refl }))
 
--- a word in front of another one, which may be its unit
+-- a word with another word after it, which may be its unit
 first_of_two : (w v : Piece) (ws : List Piece) (numeric letter : Bool) → is_kind Numeric w.kind ≡ numeric → is_kind Letter v.kind ≡ letter → ArePairs ws (pairs_of ws) → ArePairs (v ∷ ws) (pairs_of (v ∷ ws)) → ArePairs (w ∷ v ∷ ws) (cond (numeric && letter) (record { number = cond numeric w.text []; unit = Some v.text } ∷ pairs_of ws) (record { number = cond numeric w.text []; unit = None } ∷ pairs_of (v ∷ ws)))
 first_of_two w v ws true true n l two one =
     (ws, inl (record { number = w; unit = v; words = refl; is_number = sym (same_from_is_kind Numeric w.kind n); is_unit = sym (same_from_is_kind Letter v.kind l); pair = refl }), two)
@@ -36,7 +36,7 @@ are_pairs (w ∷ []) = ([], first_alone w [] (is_kind Numeric w.kind) refl tt, r
 are_pairs (w ∷ v ∷ ws) =
     first_of_two w v ws (is_kind Numeric w.kind) (is_kind Letter v.kind) refl refl (are_pairs ws) (are_pairs (v ∷ ws))
 
--- Only these are
+-- There are no other pairs
 
 pairs_with_unit : (w v : Piece) (ws : List Piece) → w.kind ≡ Numeric → v.kind ≡ Letter → pairs_of (w ∷ v ∷ ws) ≡ record { number = w.text; unit = Some v.text } ∷ pairs_of ws
 pairs_with_unit w v ws n l = rw (n, l) refl

@@ -1,4 +1,4 @@
--- The first pair of a text, and the sum with it.
+-- Lemmas on the first pair of a time span, and on adding it to the sum.
 use Rattle.std.proofs.Common.{ℕ, ◌+◌, ◌<◌, ◌≤◌, ◌≡◌, true, false, min, List, [], ◌∷◌, Option, Some, None, Result, Ok, Err, MatchOption, MatchResult, refl, sym, ap, ◌∙◌, arith}
 use Rattle.std.specs.Option.{ok_or}
 use Rattle.std.proofs.lemmas.Bool.{false_from_ne_true, le-leb, lt-leb}
@@ -18,7 +18,7 @@ use Rattle.std.proofs.lemmas.Bool.Decides.{nat_tests}
 pub no_kind : (j k : CharKind) → (k ≡ j → ⊥) → is_kind j k ≡ false
 no_kind j k differs = false_from_ne_true (is_kind j k) (λ e. differs (sym (same_from_is_kind j k e)))
 
--- a word that is no number, where one is expected
+-- a word that is not a number where one is expected
 pub stray_first : (w : Piece) (ws : List Piece) → is_kind Numeric w.kind ≡ false → pairs_of (w ∷ ws) ≡ record { number = []; unit = None } ∷ pairs_of ws
 stray_first w [] other = rw other refl
 stray_first w (v ∷ ws) other = rw other refl
@@ -27,7 +27,7 @@ pub stray_is : (bytes text rest : List ℕ) (kind : CharKind) → words_in bytes
 unfolding pairs_in
 stray_is bytes text rest kind words other = grind (arith, nat_tests, stray_first, no_kind)
 
--- a number with no unit word after it
+-- a number that no unit follows
 pub last_is : (bytes text rest : List ℕ) → words_in bytes ≡ record { kind = Numeric; text = text } ∷ words_in rest → words_in rest ≡ [] → pairs_in bytes ≡ record { number = text; unit = None } ∷ pairs_in rest
 unfolding pairs_in
 last_is bytes text rest words none = ap pairs_of words ∙ rw none refl
@@ -36,7 +36,7 @@ pub bare_is : (bytes text rest next after : List ℕ) (kind : CharKind) → word
 unfolding pairs_in
 bare_is bytes text rest next after kind words next_words other = grind (arith, nat_tests, no_kind)
 
--- a number with its unit word
+-- a number and its unit
 pub unit_is : (bytes text rest next after : List ℕ) → words_in bytes ≡ record { kind = Numeric; text = text } ∷ words_in rest → words_in rest ≡ record { kind = Letter; text = next } ∷ words_in after → pairs_in bytes ≡ record { number = text; unit = Some next } ∷ pairs_in after
 unfolding pairs_in
 unit_is bytes text rest next after words next_words = ap pairs_of words ∙ rw next_words refl
@@ -45,7 +45,7 @@ pub no_pair : (bytes : List ℕ) → words_in bytes ≡ [] → pairs_in bytes �
 unfolding pairs_in
 no_pair bytes none = ap pairs_of none
 
--- the worth of a pair by what the code found
+-- the value of a pair, from what the code found
 pub worth_bad_number : (p : Pair) → is_number p.number ≡ false → worth_of p ≡ Err BadNumber
 unfolding worth_of
 worth_bad_number p bad = rw bad refl
@@ -58,7 +58,7 @@ pub worth_good : (p : Pair) (unit : Scale) → is_number p.number ≡ true → u
 unfolding worth_of
 worth_good p unit good some = rw (good, some) refl
 
--- the sum with one more pair, which stays at the top
+-- the sum with one more pair, which saturates
 added_by : (sum m x : ℕ) (r : Option Span) → x ≡ min (sum + min m top) top → MatchOption r (limit < x) (λ span. (span.micros ≡ x) × (x ≤ limit)) → MatchResult (ok_or r TooLarge) (λ span. sum_with sum (Ok m) ≡ Ok span.micros) (λ fault. sum_with sum (Ok m) ≡ Err fault)
 added_by sum m x None at_top beyond = rw (lt-leb (sum + m) limit (omega arith)) refl
 added_by sum m x (Some span) at_top (is, small) = grind (arith, nat_tests, le-leb)

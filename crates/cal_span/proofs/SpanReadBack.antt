@@ -1,5 +1,5 @@
--- A span text that was written is read again: the text of counts splits into these counts, each is worth
--- its number times its unit, and the sum is the span.
+-- Parsing a printed span gives the same span: its text is split into the counts again, each count is worth its number
+-- times its unit, and the sum is the span.
 use Rattle.std.proofs.Common.{◌≡◌, ℕ, zero, suc, ◌+◌, ◌*◌, ◌^◌, ◌<◌, ◌≤◌, List, [], ◌∷◌, ◌++◌, codes, length, Some, Ok, map, refl, sym, ap, ◌∙◌, subst, lit<, arith}
 use Rattle.std.proofs.lemmas.Bool.{le-leb}
 use Rattle.std.proofs.lemmas.Fmt.{decimal_nonempty}
@@ -25,7 +25,7 @@ use Rattle.cal_span.proofs.SpanRuns.{BeginsApart}
 
 -- Words
 
--- a character of one ASCII byte
+-- a byte below 128 is a character
 characters-ascii : (b : ℕ) (bytes : List ℕ) → b < 128 → characters (b ∷ bytes) ≡ record { kind = kind_of b; text = b ∷ [] } ∷ characters bytes
 characters-ascii b [] small = refl
 characters-ascii b (c ∷ bytes) small = grind (arith, nat_tests)
@@ -42,7 +42,7 @@ with_front-apart kind text (p ∷ ps) apart = rw apart refl
 with_front-same : (kind : CharKind) (b : ℕ) (text : List ℕ) (ps : List Piece) → with_front (record { kind = kind; text = b ∷ [] }) (record { kind = kind; text = text } ∷ ps) ≡ record { kind = kind; text = b ∷ text } ∷ ps
 with_front-same kind b text ps = rw (is_kind-same kind) refl
 
--- bytes of one kind are one run, where another kind or nothing follows
+-- bytes of one kind are one run if a run of another kind follows, or nothing
 pub runs-of_kind : (kind : CharKind) (b : ℕ) (front rest : List ℕ) → AllOfKind kind (b ∷ front) → BeginsApart kind (runs (characters rest)) → runs (characters ((b ∷ front) ++ rest)) ≡ record { kind = kind; text = b ∷ front } ∷ runs (characters rest)
 runs-of_kind kind b [] rest same apart = grind (arith, nat_tests, characters-ascii, with_front-apart)
 runs-of_kind kind b (c ∷ front) rest same apart =
@@ -80,13 +80,13 @@ name_of_nonempty Second = lit< tt
 name_of_nonempty Millisecond = lit< tt
 name_of_nonempty Microsecond = lit< tt
 
--- the words of counts: of each its digits and its unit
+-- the words of counts: the digits and the unit of each
 abbrev pub count_words : List Count → List Piece
 count_words [] = []
 count_words (c ∷ cs) =
     record { kind = Numeric; text = decimal c.number } ∷ record { kind = Letter; text = unit_name c.unit } ∷ count_words cs
 
--- a count is two runs, where no letter follows
+-- a count is two runs if no letter follows
 runs-count : (c : Count) (rest : List ℕ) → c.number < 2 ^ 64 → BeginsApart Letter (runs (characters rest)) → runs (characters (count_text c ++ rest)) ≡ record { kind = Numeric; text = decimal c.number } ∷ record { kind = Letter; text = unit_name c.unit } ∷ runs (characters rest)
 runs-count c rest small apart =
     let unit = runs-of_kind_front Letter (unit_name c.unit) rest (name_of_nonempty c.unit) (letters-unit_name c.unit) apart in
@@ -98,7 +98,7 @@ runs-count c rest small apart =
 small_number : (c : Count) (cs : List Count) → weight (c ∷ cs) ≤ limit → c.number < 2 ^ 64
 small_number c cs within = omega (arith, le-mul_of_pos_right c.number (size_of_positive c.unit))
 
--- counts with a space in front of each, and their runs
+-- counts with a space before each, and their runs
 abbrev spaced : List Count → List ℕ
 spaced = flat_map (λ c. codes " " ++ count_text c)
 
@@ -133,7 +133,7 @@ words-row c cs within =
     ∙ ap (λ (ps : List Piece). record { kind = Numeric; text = decimal c.number } ∷ record { kind = Letter; text = unit_name c.unit } ∷ filter (λ w. not (is_kind Blank w.kind)) ps) others
     ∙ ap (λ (ps : List Piece). record { kind = Numeric; text = decimal c.number } ∷ record { kind = Letter; text = unit_name c.unit } ∷ ps) (words-spaced cs)
 
--- Pairs and their worth
+-- Pairs and their values
 
 abbrev pub pair_of : Count → Pair
 pair_of c = record { number = decimal c.number; unit = Some (unit_name c.unit) }
@@ -163,7 +163,7 @@ judged-counts sum [] within = ap Ok (omega arith)
 judged-counts sum (c ∷ cs) within =
     grind (arith, nat_tests, worth-pair_of, small_number, le-leb, judged-counts (sum + c.number * size_of c.unit) cs (omega arith))
 
--- The value of a span text
+-- The value of a printed span
 
 span_of-row : (cs : List Count) → 0 < weight cs → weight cs ≤ limit → span_of (counts_in_row cs) ≡ Ok (weight cs)
 unfolding span_of pairs_in
@@ -178,7 +178,7 @@ span_of_zero : span_of (codes "0") ≡ Ok 0
 unfolding span_of pairs_in words_in worth_of is_number number_worth
 span_of_zero = refl
 
--- a text of digits alone is a number of seconds
+-- digits alone are a number of seconds
 words-decimal : (n : ℕ) → n < 2 ^ 64 → words_in (decimal n) ≡ record { kind = Numeric; text = decimal n } ∷ []
 unfolding words_in
 words-decimal n small =

@@ -1,4 +1,4 @@
--- The value of a list of pairs is the one that the rule gives.
+-- `judged` computes the value of pairs that the rule demands.
 use Rattle.std.proofs.Common.{ℕ, ◌+◌, ◌≤◌, ◌≡◌, Bool, true, false, cond, List, [], ◌∷◌, ◌++◌, Option, Some, None, Result, Ok, Err, refl, sym, ap, ◌∙◌, subst, arith, add-zero, zero-add, ◌⊎◌, inl, inr, ⊎_elim}
 use Rattle.std.specs.Prelude.{nat_le}
 use Rattle.std.proofs.lemmas.Bool.{leb-true, leb-false, le-leb, lt-leb}
@@ -14,7 +14,7 @@ use Rattle.cal_span.specs.SpanValue.{unit_named, Pair, pairs_in, is_number, unit
 use Rattle.cal_span.specs.SpanRule.{AreWorth, IsFaultAfter, IsFirstFault, Judges}
 use Rattle.std.proofs.lemmas.Bool.Decides.{nat_tests}
 
--- a pair alone is at fault in its number or in its unit
+-- a pair by itself can only be invalid because of its number or its unit
 worth_fault_by : (number : List ℕ) (good : Bool) (unit : Option Scale) (f : SpanFault) → cond good (worth_in number unit) (Err BadNumber) ≡ Err f → (f ≡ BadNumber) ⊎ (f ≡ UnknownUnit)
 worth_fault_by number true None f e = inr (cc)
 worth_fault_by number true (Some scale) f e = cc
@@ -24,20 +24,20 @@ worth_fault : (p : Pair) (f : SpanFault) → worth_of p ≡ Err f → (f ≡ Bad
 unfolding worth_of
 worth_fault p f e = worth_fault_by p.number (is_number p.number) (unit_in p.unit) f e
 
--- the rule from a sum on
+-- the rule, if the pairs follow others with this sum
 abbrev JudgesFrom : ℕ → List Pair → Result ℕ SpanFault → Type 0
 JudgesFrom sum ps (Ok n) = (k : ℕ) × AreWorth ps k × (n ≡ sum + k) × (n ≤ limit)
 JudgesFrom sum ps (Err f) =
     (before : List Pair) × (p : Pair) × (after : List Pair) × (k : ℕ) × (ps ≡ before ++ (p ∷ after)) × AreWorth before k × (sum + k ≤ limit) × IsFaultAfter (sum + k) p f
 
--- a pair with no worth is at fault after any sum
+-- a pair without a value is invalid after any sum
 fault_after : (sum : ℕ) (p : Pair) (f : SpanFault) → worth_of p ≡ Err f → IsFaultAfter sum p f
 fault_after sum p Empty e = e
 fault_after sum p BadNumber e = e
 fault_after sum p UnknownUnit e = e
 fault_after sum p TooLarge e = grind (arith, nat_tests, ⊎_elim, worth_fault)
 
--- one more pair before those that are judged
+-- one more pair in front of pairs that follow the rule
 one_before : (sum : ℕ) (p : Pair) (ps : List Pair) (m : ℕ) (r : Result ℕ SpanFault) → worth_of p ≡ Ok m → JudgesFrom (sum + m) ps r → JudgesFrom sum (p ∷ ps) r
 one_before sum p ps m (Ok n) e (k, are, is, small) =
     (m + k, (m, k, e, are, refl), omega arith, small)
@@ -76,7 +76,7 @@ pub judges_span : (text : List ℕ) → Judges (pairs_in text) (span_of text)
 unfolding span_of
 judges_span text = judges_value (pairs_in text)
 
--- the sum is the one answer where the rule gives a sum
+-- if the rule gives a value, `judged` returns it
 sum_with-fits : (sum m : ℕ) → sum + m ≤ limit → sum_with sum (Ok m) ≡ Ok (sum + m)
 sum_with-fits sum m fits = rw (le-leb (sum + m) limit fits) refl
 
@@ -84,7 +84,7 @@ only_sum : (sum : ℕ) (ps : List Pair) (k : ℕ) → AreWorth ps k → sum + k 
 only_sum sum [] k are fits = rw are (rw add-zero refl)
 only_sum sum (p ∷ ps) n (m, k, e, are, is) fits = grind (arith, nat_tests, sum_with-fits, only_sum (sum + m) ps k are (omega arith))
 
--- and the fault where it gives a fault
+-- if the rule gives an error, `judged` returns it
 fault_first : (sum : ℕ) (p : Pair) (after : List Pair) (f : SpanFault) → IsFaultAfter sum p f → judged sum (p ∷ after) ≡ Err f
 fault_first sum p after Empty e = rw e refl
 fault_first sum p after BadNumber e = rw e refl
@@ -116,7 +116,7 @@ only_value ps (Err TooLarge) fault = only_first_fault ps TooLarge fault
 pub one_judgement : (ps : List Pair) (a b : Result ℕ SpanFault) → Judges ps a → Judges ps b → a ≡ b
 one_judgement ps a b by_a by_b = sym (only_value ps a by_a) ∙ only_value ps b by_b
 
--- no word spells two units
+-- no spelling belongs to two units
 pub spelled_once : (unit : Scale) → AllByRecursion (λ (word : List ℕ). unit_named word ≡ Some unit) (words_for unit)
 unfolding unit_named words_for
 spelled_once Year = (refl, (refl, (refl, tt)))

@@ -1,4 +1,4 @@
--- The runs of a text are its characters, cut wherever their kind changes, and nothing else is.
+-- `runs` splits the characters of a text wherever their kind changes, and nothing else does.
 use Rattle.std.proofs.Common.{ℕ, ◌<◌, ◌≡◌, Bool, true, false, cond, List, [], ◌∷◌, ◌++◌, length, refl, sym, ap, ◌∙◌, subst, arith}
 use Rattle.std.specs.List.{AllByRecursion, flat_map}
 use Rattle.std.proofs.lemmas.List.{append-nil}
@@ -15,7 +15,7 @@ run_alone s = record { some = omega arith; kinds = (refl, tt); text = sym (appen
 kinds_as : (j k : CharKind) (ss : List Piece) → k ≡ j → AllByRecursion (λ (s : Piece). s.kind ≡ k) ss → AllByRecursion (λ (s : Piece). s.kind ≡ j) ss
 kinds_as j k ss e h = subst (λ (i : CharKind). AllByRecursion (λ (s : Piece). s.kind ≡ i) ss) e h
 
--- and a run with a character of its kind in front is one
+-- a run with a character of its kind in front is a run
 run_longer : (s w : Piece) (front : List Piece) → is_kind s.kind w.kind ≡ true → IsRun front w → IsRun (s ∷ front) (record { kind = s.kind; text = s.text ++ w.text })
 run_longer s w front same run =
     record { some = omega arith; kinds = (refl, kinds_as s.kind w.kind front (sym (same_from_is_kind s.kind w.kind same)) run.kinds); text = ap (λ text. s.text ++ text) run.text }
@@ -36,7 +36,7 @@ are_runs (s ∷ ss) = runs_first s ss (runs ss) (are_runs ss)
 pub runs_cut : (text : List ℕ) → AreRuns (characters text) (runs (characters text))
 runs_cut text = are_runs (characters text)
 
--- no two neighbours are of one kind
+-- neighbouring runs are of different kinds
 apart_joined : (s w : Piece) (ws : List Piece) → is_kind s.kind w.kind ≡ true → AreApart (w ∷ ws) → AreApart (record { kind = s.kind; text = s.text ++ w.text } ∷ ws)
 apart_joined s w [] same apart = tt
 apart_joined s w (v ∷ ws) same (first, rest) = grind (arith, nat_tests, same_from_is_kind)
@@ -56,9 +56,9 @@ runs_apart (s ∷ ss) = apart_first s (runs ss) (runs_apart ss)
 pub runs_longest : (text : List ℕ) → AreApart (runs (characters text))
 runs_longest text = runs_apart (characters text)
 
--- Only these are
+-- There are no other runs
 
--- a run of this kind may not come before them
+-- a run of kind k may stand in front of these runs: the first of them is of another kind
 abbrev pub BeginsApart : CharKind → List Piece → Type 0
 BeginsApart k [] = Unit {0}
 BeginsApart k (v ∷ ws) = is_kind k v.kind ≡ false
@@ -76,7 +76,7 @@ first_apart : (s : Piece) (k : CharKind) (ws : List Piece) → s.kind ≡ k → 
 first_apart s k [] kind apart = refl
 first_apart s k (v ∷ ws) kind apart = rw kind (rw apart refl)
 
--- and in front of one of its own
+-- a character in front of a run of its own kind
 first_joined : (s : Piece) (k : CharKind) (text : List ℕ) (ws : List Piece) → s.kind ≡ k → with_front s (record { kind = k; text = text } ∷ ws) ≡ record { kind = k; text = s.text ++ text } ∷ ws
 first_joined s k text ws kind = rw kind (rw (is_kind-same k) refl)
 

@@ -1,4 +1,4 @@
--- The definitions of time spans, tried on worked texts.
+-- Examples that check the definitions of time spans.
 use Rattle.std.proofs.Common.{◌≡◌, [], Ok, Err, codes, refl}
 use Rattle.std.specs.Fmt.{digits}
 use Rattle.cal_span.specs.Scale.{words_for}

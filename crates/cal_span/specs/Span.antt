@@ -1,4 +1,4 @@
--- What a `Span` may hold.
+-- The range of time spans.
 use Rattle.std.specs.Prelude.{ℕ}
 
 -- the longest time span, in microseconds

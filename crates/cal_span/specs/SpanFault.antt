@@ -1,9 +1,9 @@
--- What is said of a text that is no time span.
+-- The messages of the errors for time spans.
 use Rattle.std.specs.Prelude.{ℕ, List, codes}
 use Rattle.cal_span.specs.declared.span.fault.SpanFault.{SpanFault}
 use Rattle.cal_span.specs.declared.span.fault.SpanFault.TheVariants.{Empty, BadNumber, UnknownUnit, TooLarge}
 
--- the words that tell a user of the fault
+-- the message of an error
 abbrev pub words_of : SpanFault → List ℕ
 words_of Empty = codes "empty time span"
 words_of BadNumber = codes "bad number"

@@ -1,5 +1,5 @@
--- The rule by which a text has a value as a time span, in its own words (systemd.time(7), Parsing Time Spans). The law
--- `one_value` ties it to what `SpanValue` computes.
+-- What the value of a time span is, stated as a rule and not as a computation: systemd.time(7), Parsing Time Spans. The
+-- law `one_value` says that the functions of `SpanValue` follow this rule.
 use Rattle.std.specs.Prelude.{ℕ, ◌⊎◌, ◌+◌, ◌<◌, ◌≤◌, ◌≡◌, ⊤, false, List, [], ◌∷◌, ◌++◌, length, Some, None, Result, Ok, Err}
 use Rattle.std.specs.List.{AllByRecursion, flat_map}
 use Rattle.cal_span.specs.declared.span.fault.SpanFault.{SpanFault}
@@ -10,18 +10,18 @@ use Rattle.cal_span.specs.SpanValue.{Piece, Pair, is_kind, worth_of}
 
 -- Runs
 
--- one or more characters of one kind, in a row
+-- one or more consecutive characters of one kind
 pub record IsRun (ss : List Piece) (w : Piece) : Type 0 where
   pub some : 0 < length ss
   pub kinds : AllByRecursion (λ s. s.kind ≡ w.kind) ss
   pub text : w.text ≡ flat_map (λ s. s.text) ss
 
--- the characters, cut into such runs
+-- the characters, split into runs
 abbrev pub AreRuns : List Piece → List Piece → Type 0
 AreRuns ss [] = ss ≡ []
 AreRuns ss (w ∷ ws) = (front : List Piece) × (rest : List Piece) × (ss ≡ front ++ rest) × IsRun front w × AreRuns rest ws
 
--- neighbours are of different kinds, so no run can be made longer
+-- neighbouring runs are of different kinds, so none can be extended
 abbrev pub AreApart : List Piece → Type 0
 AreApart [] = ⊤
 AreApart (w ∷ []) = ⊤
@@ -29,12 +29,12 @@ AreApart (w ∷ v ∷ ws) = (is_kind w.kind v.kind ≡ false) × AreApart (v ∷
 
 -- Pairs
 
--- the first of the words is no unit word
+-- there are no words, or the first of them is not a unit
 abbrev pub BeginsWithNoUnit : List Piece → Type 0
 BeginsWithNoUnit [] = ⊤
 BeginsWithNoUnit (v ∷ ws) = v.kind ≡ Letter → ⊥
 
--- a number and its unit word
+-- a pair of a number and its unit
 pub record IsWithUnit (ws : List Piece) (p : Pair) (rest : List Piece) : Type 0 where
   pub number : Piece
   pub unit : Piece
@@ -43,7 +43,7 @@ pub record IsWithUnit (ws : List Piece) (p : Pair) (rest : List Piece) : Type 0 
   pub is_unit : unit.kind ≡ Letter
   pub pair : p ≡ record { number = number.text; unit = Some unit.text }
 
--- a number that no unit word follows
+-- a pair of a number that no unit follows
 pub record IsWithoutUnit (ws : List Piece) (p : Pair) (rest : List Piece) : Type 0 where
   pub number : Piece
   pub words : ws ≡ number ∷ rest
@@ -51,37 +51,37 @@ pub record IsWithoutUnit (ws : List Piece) (p : Pair) (rest : List Piece) : Type
   pub no_unit : BeginsWithNoUnit rest
   pub pair : p ≡ record { number = number.text; unit = None }
 
--- a word that is where a number is expected, and isn't one
+-- the pair for a word that is not a number where one is expected: its number is empty
 pub record IsNoNumber (ws : List Piece) (p : Pair) (rest : List Piece) : Type 0 where
   pub word : Piece
   pub words : ws ≡ word ∷ rest
   pub is_other : word.kind ≡ Numeric → ⊥
   pub pair : p ≡ record { number = []; unit = None }
 
--- words without blanks, taken as pairs
+-- the words form these pairs; blanks are not among the words
 abbrev pub ArePairs : List Piece → List Pair → Type 0
 ArePairs ws [] = ws ≡ []
 ArePairs ws (p ∷ ps) = (rest : List Piece) × (IsWithUnit ws p rest ⊎ (IsWithoutUnit ws p rest ⊎ IsNoNumber ws p rest)) × ArePairs rest ps
 
--- Worths
+-- Values
 
--- the pairs have worths, and n is their sum
+-- all pairs are valid, and n is the sum of their values
 abbrev pub AreWorth : List Pair → ℕ → Type 0
 AreWorth [] n = n ≡ 0
 AreWorth (p ∷ ps) n = (m : ℕ) × (k : ℕ) × (worth_of p ≡ Ok m) × AreWorth ps k × (n ≡ m + k)
 
--- after pairs with this sum, the pair p is at fault: the sum with it exceeds the limit, or it has no worth
+-- the pair p is invalid if it follows pairs with this sum: it has no value, or the sum with it is more than the limit
 abbrev pub IsFaultAfter : ℕ → Pair → SpanFault → Type 0
 IsFaultAfter sum p TooLarge = (m : ℕ) × (worth_of p ≡ Ok m) × (limit < sum + m)
 IsFaultAfter sum p fault = worth_of p ≡ Err fault
 
--- some pair is at fault, and none before it
+-- one of the pairs is invalid with this error, and none of the pairs before it is
 abbrev pub IsFirstFault : List Pair → SpanFault → Type 0
 IsFirstFault ps fault =
     (before : List Pair) × (p : Pair) × (after : List Pair) × (sum : ℕ) × (ps ≡ before ++ (p ∷ after)) × AreWorth before sum × (sum ≤ limit) × IsFaultAfter sum p fault
 
--- The value is the sum of the worths, of at least one pair and at most the limit. The fault is Empty
--- where there is no pair, and else that of the first pair at fault, from the left.
+-- The value is the sum of the pairs, of which there is at least one, and at most the limit. The error is `Empty` if
+-- there are no pairs, and that of the leftmost invalid pair otherwise.
 abbrev pub Judges : List Pair → Result ℕ SpanFault → Type 0
 Judges ps (Ok n) = (0 < length ps) × AreWorth ps n × (n ≤ limit)
 Judges ps (Err Empty) = ps ≡ []

@@ -1,15 +1,15 @@
--- How the text of a span is known without computing its counts (systemd.time(7), Parsing Time Spans).
+-- What the text of a printed span is, stated without computing its counts (systemd.time(7), Parsing Time Spans).
 use Rattle.std.specs.Prelude.{◌≡◌, ℕ, ◌+◌, ◌*◌, ◌<◌, List, [], ◌∷◌}
 use Rattle.cal_span.specs.headline.Scale.{size_of, scales}
 use Rattle.cal_span.specs.declared.scale.Scale.{Scale}
 use Rattle.cal_span.specs.headline.SpanText.{Count, counts_text, positive}
 
--- what counts are worth together, in microseconds
+-- the sum of the counts, in microseconds
 abbrev pub weight : List Count → ℕ
 weight [] = 0
 weight (c ∷ cs) = c.number * size_of c.unit + weight cs
 
--- One count for each unit, in the units' order, where all that follows a count is worth less than one of
+-- There is one count for each unit, in the order of the units, and all counts after it together are less than one of
 -- its unit.
 abbrev pub AreReduced : List Scale → List Count → Type 0
 AreReduced [] [] = Unit {0}
@@ -22,6 +22,6 @@ pub record AreCounts (n : ℕ) (cs : List Count) : Type 0 where
   pub sum : weight cs ≡ n
   pub reduced : AreReduced scales cs
 
--- A text is the span text of n if it is that of n's positive counts.
+-- A text is the printed span of n microseconds if it is the text of its counts that aren't zero.
 abbrev pub IsSpanText : ℕ → List ℕ → Type 0
 IsSpanText n text = (cs : List Count) × AreCounts n cs × (text ≡ counts_text (positive cs))

@@ -1,5 +1,5 @@
--- The value of a text as a time span (systemd.time(7), Parsing Time Spans): the text is split into
--- words, the words are taken as pairs of a number and a unit, and the pairs are judged from the left.
+-- The value of a time span (systemd.time(7), Parsing Time Spans). The text is split into words, the words form pairs of
+-- a number and a unit, and the pairs are added up from the left until one is invalid.
 use Rattle.std.specs.Prelude.{ℕ, ◌+◌, ◌*◌, ◌/◌, ◌^◌, ◌==◌, nat_le, Bool, true, false, not, ◌&&◌, ◌||◌, if◌then◌else◌, List, [], ◌∷◌, ◌++◌, filter, count_by, Option, Some, None, Result, Ok, Err}
 use Rattle.std.specs.List.{list_any, list_all, find, before_first, after_first}
 use Rattle.std.specs.Str.{bytes_eq}
@@ -20,18 +20,18 @@ use Rattle.cal_text.specs.AndThen.{◌>>=◌}
 
 -- Characters
 
--- the UTF-8 of the micro sign, U+00B5, or of the Greek letter mu, U+03BC
+-- whether the two bytes are the micro sign, U+00B5, or the Greek letter mu, U+03BC, in UTF-8
 abbrev pub is_micro : ℕ → ℕ → Bool
 is_micro b c = ((b == 194) && (c == 181)) || ((b == 206) && (c == 188))
 
--- the kind of a byte that begins no mu
+-- the kind of a byte that isn't the first of a micro sign or mu
 abbrev pub kind_of : ℕ → CharKind
 kind_of b =
     if is_blank b then Blank
     else (if is_ascii_digit b || is_point b then Numeric
     else (if is_ascii_alphabetic b then Letter else Other))
 
--- whether two kinds are one
+-- whether two kinds are the same
 abbrev pub is_kind : CharKind → CharKind → Bool
 is_kind Blank Blank = true
 is_kind Numeric Numeric = true
@@ -39,12 +39,12 @@ is_kind Letter Letter = true
 is_kind Other Other = true
 is_kind _ _ = false
 
--- a character, or a piece of several characters, of one kind
+-- one or more consecutive characters of one kind
 pub record Piece : Type 0 where
   pub kind : CharKind
   pub text : List ℕ
 
--- the characters of a text: a mu is a letter, and each byte of any other character is by itself
+-- the characters of a text: a micro sign or mu is a letter of two bytes, and every other byte is a character of its own
 abbrev pub characters : List ℕ → List Piece
 characters [] = []
 characters (b ∷ []) = record { kind = kind_of b; text = b ∷ [] } ∷ []
@@ -54,30 +54,32 @@ characters (b ∷ c ∷ bytes) =
 
 -- Words (systemd.time(7), Parsing Time Spans: blanks may come before, between and after them)
 
--- a piece in front of others: it joins the first of them where that is of its kind
+-- a character put in front of runs: it extends the first run if it is of the same kind, and is a run of its own
+-- otherwise
 abbrev pub with_front : Piece → List Piece → List Piece
 with_front s [] = s ∷ []
 with_front s (w ∷ ws) =
     if is_kind s.kind w.kind then record { kind = s.kind; text = s.text ++ w.text } ∷ ws
     else s ∷ w ∷ ws
 
--- the longest runs of one kind
+-- the characters, joined into the longest runs of one kind
 abbrev pub runs : List Piece → List Piece
 runs [] = []
 runs (s ∷ ss) = with_front s (runs ss)
 
--- the words of a text: its runs without the blanks between them
+-- the words of a text: its runs except for those of blanks
 unfoldable pub words_in : List ℕ → List Piece
 words_in bytes = filter (λ w. not (is_kind Blank w.kind)) (runs (characters bytes))
 
 -- Pairs (systemd.time(7), Parsing Time Spans)
 
--- a number and its unit word, if it has one; where a number is expected and there is none, the number is []
+-- a number, and its unit if it has one; if there is no number where one is expected, `number` is empty
 pub record Pair : Type 0 where
   pub number : List ℕ
   pub unit : Option (List ℕ)
 
--- what is where a number is expected: the word itself, where it is one of digits and points
+-- the number of a pair that begins with this word: the word itself if it consists of digits and decimal points, and
+-- empty otherwise
 abbrev pub numeral_in : Piece → List ℕ
 numeral_in w = if is_kind Numeric w.kind then w.text else []
 
@@ -85,8 +87,8 @@ numeral_in w = if is_kind Numeric w.kind then w.text else []
 abbrev pub is_unit_of : Piece → Piece → Bool
 is_unit_of w v = is_kind Numeric w.kind && is_kind Letter v.kind
 
--- A number and the unit word after it, if any, are a pair. Any other word is where a number is
--- due, and is a pair with no number.
+-- A number and the unit after it, if any, form a pair. Any other word where a number is expected is a pair with an
+-- empty number.
 abbrev pub pairs_of : List Piece → List Pair
 pairs_of [] = []
 pairs_of (w ∷ []) = record { number = numeral_in w; unit = None } ∷ []
@@ -98,9 +100,9 @@ pairs_of (w ∷ v ∷ ws) =
 unfoldable pub pairs_in : List ℕ → List Pair
 pairs_in bytes = pairs_of (words_in bytes)
 
--- The worth of a pair (systemd.time(7), Parsing Time Spans)
+-- The value of a pair (systemd.time(7), Parsing Time Spans)
 
--- digits and points with at most one point and at least one digit
+-- whether these are digits with at most one decimal point, and at least one digit
 unfoldable pub is_number : List ℕ → Bool
 is_number number =
     list_all (λ b. is_ascii_digit b || is_point b) number && nat_le (count_by is_point number) 1 && list_any is_ascii_digit number
@@ -109,52 +111,52 @@ is_number number =
 unfoldable pub unit_named : List ℕ → Option Scale
 unit_named word = find (λ scale. list_any (bytes_eq word) (words_for scale)) scales
 
--- the unit of a pair: without a unit word it is the second
+-- the unit of a pair, which is `Second` if none is given
 abbrev pub unit_in : Option (List ℕ) → Option Scale
 unit_in None = Some Second
 unit_in (Some word) = unit_named word
 
--- what the digits after the point add, where the first of them has this place: each digit times the
--- unit divided by 10 to its place, rounded down by itself
+-- what the digits after a decimal point add, from the given decimal place on: each digit times the size of the unit,
+-- divided by 10 to the power of its place and rounded down by itself
 abbrev pub fraction_worth : ℕ → ℕ → List ℕ → ℕ
 fraction_worth size place [] = 0
 fraction_worth size place (digit ∷ digits) =
     digit_value digit * size / 10 ^ place + fraction_worth size (place + 1) digits
 
--- these digits before the point and those after it, in a unit of this size, in microseconds
+-- the value in microseconds of a number with these digits before and after its decimal point, in a unit of this size
 abbrev pub digits_worth : List ℕ → List ℕ → ℕ → ℕ
 digits_worth whole fraction size = digits_value 10 whole * size + fraction_worth size 1 fraction
 
--- the number in a unit of this size, in microseconds
+-- the value of a number in microseconds, in a unit of this size
 unfoldable pub number_worth : List ℕ → ℕ → ℕ
 number_worth number size =
     digits_worth (before_first is_point number) (after_first is_point number) size
 
--- a number in a unit, where there is such a unit
+-- the value of a number in this unit, or the error if there is no such unit
 abbrev pub worth_in : List ℕ → Option Scale → Result ℕ SpanFault
 worth_in number None = Err UnknownUnit
 worth_in number (Some scale) = Ok (number_worth number (size_of scale))
 
--- the microseconds of a pair, or its fault: the number is judged before the unit
+-- the value of a pair in microseconds, or its error; the number is checked before the unit
 unfoldable pub worth_of : Pair → Result ℕ SpanFault
 worth_of p = if is_number p.number then worth_in p.number (unit_in p.unit) else Err BadNumber
 
--- The value of a text (systemd.time(7), Parsing Time Spans)
+-- The value of a time span (systemd.time(7), Parsing Time Spans)
 
--- the sum with one more pair
+-- the sum with the value of one more pair, or the error
 abbrev pub sum_with : ℕ → Result ℕ SpanFault → Result ℕ SpanFault
 sum_with sum worth = worth >>= λ m. if nat_le (sum + m) limit then Ok (sum + m) else Err TooLarge
 
--- the sum so far with the pairs that are left, or the fault of the first that has one
+-- the sum so far plus the remaining pairs, or the leftmost error
 abbrev pub judged : ℕ → List Pair → Result ℕ SpanFault
 judged sum [] = Ok sum
 judged sum (p ∷ ps) = sum_with sum (worth_of p) >>= λ more. judged more ps
 
--- no pair at all is a fault too
+-- the sum of the pairs, or an error if there are no pairs
 abbrev pub value_of_pairs : List Pair → Result ℕ SpanFault
 value_of_pairs [] = Err Empty
 value_of_pairs (p ∷ ps) = judged 0 (p ∷ ps)
 
--- the value of a text in microseconds, or its fault
+-- the value of a time span in microseconds, or its error
 unfoldable pub span_of : List ℕ → Result ℕ SpanFault
 span_of text = value_of_pairs (pairs_in text)

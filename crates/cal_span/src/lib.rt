@@ -1,4 +1,4 @@
-//! Time spans: what a text says, and how a span is written.
+//! Time spans: parsing and printing them.
 #![tactic(auto)]
 
 mod scale;

@@ -1,10 +1,10 @@
-//! The units of time that a time span is written in.
+//! The units of time spans.
 
 ghost use Rattle.std.specs.Prelude.{◌≡◌, ◌≤◌, ◌<◌, length, map};
 ghost use Rattle.cal_span.specs.Scale.{words_for};
 ghost use Rattle.cal_span.specs.headline.Scale.{size_of, unit_name};
 
-/// A unit of time, as in systemd.time(7), Parsing Time Spans.
+/// A unit of time (systemd.time(7), Parsing Time Spans).
 #[derive(Clone, Copy, PartialEq, Eq, Debug)]
 pub enum Scale {
     /// 365.25 days.
@@ -19,16 +19,16 @@ pub enum Scale {
     Hour,
     /// 60 seconds.
     Minute,
-    /// The unit of a number without one.
+    /// The default unit, for a number without a unit.
     Second,
     /// A thousandth of a second.
     Millisecond,
-    /// A millionth of a second, in which spans are counted.
+    /// A millionth of a second. This is the resolution of time spans.
     Microsecond,
 }
 
 impl Scale {
-    /// Every unit, from the largest down.
+    /// All units, from the largest to the smallest.
     pub const ALL: [Scale; 9] = [
         Scale::Year,
         Scale::Month,
@@ -41,8 +41,8 @@ impl Scale {
         Scale::Microsecond,
     ];
 
-    /// How many microseconds the unit has, from 1 to those of a year. A year is 365.25 days, and a
-    /// month a twelfth of it, as in systemd.time(7), Parsing Time Spans.
+    /// Returns the length of the unit in microseconds, from 1 to 31,557,600,000,000. A year is 365.25 days and a month
+    /// is a twelfth of a year (systemd.time(7), Parsing Time Spans).
     pub fn micros(self) -> u64
         ensures value { result ≡ size_of self }
         ensures positive { 0 < result }
@@ -61,8 +61,8 @@ impl Scale {
         }
     }
 
-    /// Every spelling of the unit in UTF-8, the long ones first, as in systemd.time(7), Parsing
-    /// Time Spans. Case matters.
+    /// Returns all spellings of the unit in UTF-8, the long ones first (systemd.time(7), Parsing Time Spans). Case
+    /// matters.
     #[tactic(auto, unfolding(crate::specs::Scale::words_for))]
     pub fn words(self) -> &'static [&'static [u8]]
         ensures { map (λ word. word.now) result.now ≡ words_for self }
@@ -76,12 +76,12 @@ impl Scale {
             Scale::Minute => &[b"minutes", b"minute", b"min", b"m"],
             Scale::Second => &[b"seconds", b"second", b"sec", b"s"],
             Scale::Millisecond => &[b"msec", b"ms"],
-            // The micro sign, U+00B5, and the Greek letter mu, U+03BC.
+            // With the micro sign, U+00B5, and with the Greek letter mu, U+03BC.
             Scale::Microsecond => &[b"usec", b"us", b"\xc2\xb5s", b"\xce\xbcs"],
         }
     }
 
-    /// The spelling in which the unit is printed.
+    /// Returns the spelling with which the unit is printed, at most 5 bytes.
     #[tactic(auto, unfolding(crate::specs::headline::Scale::unit_name))]
     pub fn name(self) -> &'static str
         ensures name { result.now ≡ unit_name self }

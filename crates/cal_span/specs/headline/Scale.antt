@@ -1,10 +1,10 @@
--- The units of time of systemd.time(7), Parsing Time Spans.
+-- The units of time: systemd.time(7), Parsing Time Spans.
 use Rattle.std.specs.Prelude.{ℕ, List, [], ◌∷◌, codes}
 use Rattle.cal_span.specs.declared.scale.Scale.{Scale}
 use Rattle.cal_span.specs.declared.scale.Scale.TheVariants.{Year, Month, Week, Day, Hour, Minute, Second, Millisecond, Microsecond}
 
--- how many microseconds a unit has: a year is 365.25 days, and a month a twelfth of it
--- (systemd.time(7), Parsing Time Spans)
+-- the length of a unit in microseconds: a year is 365.25 days, and a month is a twelfth of a year (systemd.time(7),
+-- Parsing Time Spans)
 abbrev pub size_of : Scale → ℕ
 size_of Year = 31557600000000
 size_of Month = 2629800000000
@@ -16,12 +16,12 @@ size_of Second = 1000000
 size_of Millisecond = 1000
 size_of Microsecond = 1
 
--- the units from the largest down
+-- all units, from the largest to the smallest
 abbrev pub scales : List Scale
 scales =
     Year ∷ Month ∷ Week ∷ Day ∷ Hour ∷ Minute ∷ Second ∷ Millisecond ∷ Microsecond ∷ []
 
--- the spelling in which a unit is printed (systemd.time(7), Parsing Time Spans)
+-- the spelling with which a unit is printed (systemd.time(7), Parsing Time Spans)
 unfoldable pub unit_name : Scale → List ℕ
 unit_name Year = codes "y"
 unit_name Month = codes "month"

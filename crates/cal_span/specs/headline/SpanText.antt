@@ -1,12 +1,12 @@
--- How a time span is printed (systemd.time(7), Parsing Time Spans): from the largest unit down, the
--- greatest whole count that fits what is left, counts of zero left out.
+-- How a time span is printed (systemd.time(7), Parsing Time Spans): for each unit, from the largest to the smallest,
+-- the largest whole count that fits into what remains, without the counts that are zero.
 use Rattle.std.specs.Prelude.{ℕ, ◌/◌, ◌%◌, List, [], ◌∷◌, codes, decimal, filter, nat_lt}
 use Rattle.std.specs.List.{join_by}
 use Rattle.cal_bytes.specs.headline.Bytes.{joined}
 use Rattle.cal_span.specs.headline.Scale.{size_of, scales, unit_name}
 use Rattle.cal_span.specs.declared.scale.Scale.{Scale}
 
--- that many of one unit
+-- a number of one unit
 pub record Count : Type 0 where
   pub number : ℕ
   pub unit : Scale
@@ -15,28 +15,28 @@ pub record Count : Type 0 where
 abbrev pub positive : List Count → List Count
 positive = filter (λ c. nat_lt 0 c.number)
 
--- a count as it is printed: its digits, and with no blank between them its unit
+-- a count as it is printed: its digits, followed directly by its unit
 abbrev pub count_text : Count → List ℕ
 count_text c = joined (decimal c.number ∷ unit_name c.unit ∷ [])
 
--- counts in a row, one space between them
+-- the counts in order, with a space between them
 unfoldable pub counts_in_row : List Count → List ℕ
 counts_in_row = join_by count_text (codes " ")
 
--- counts as they are printed: `0` where there is none
+-- the counts as they are printed, which is `0` if there are none
 abbrev pub counts_text : List Count → List ℕ
 counts_text [] = codes "0"
 counts_text (c ∷ cs) = counts_in_row (c ∷ cs)
 
--- the counts by division, unit by unit
+-- the counts of n microseconds in these units, by division with remainder
 abbrev pub counts_of : List Scale → ℕ → List Count
 counts_of [] n = []
 counts_of (unit ∷ units) n = record { number = n / size_of unit; unit = unit } ∷ counts_of units (n % size_of unit)
 
--- the text of n in the given units
+-- the text of n microseconds in these units
 unfoldable pub units_text : List Scale → ℕ → List ℕ
 units_text units n = counts_text (positive (counts_of units n))
 
--- the span text of n
+-- the printed span of n microseconds
 abbrev pub span_text : ℕ → List ℕ
 span_text = units_text scales

@@ -1,23 +1,25 @@
-//! Why a text is no time span.
+//! The errors for time spans.
 
 ghost use Rattle.std.specs.Prelude.{◌≡◌};
 
 use thiserror::Error;
 
-/// Why a text is no time span: what is wrong with its first pair of number and unit, from the left,
-/// that is at fault (systemd.time(7), Parsing Time Spans).
+/// Why a time span is invalid.
+///
+/// A time span is a list of pairs, each a number with an optional unit (systemd.time(7), Parsing Time Spans). The error
+/// is that of the leftmost invalid pair.
 #[derive(Clone, Copy, PartialEq, Eq, Debug, Error)]
 pub enum SpanFault {
-    /// There is no pair at all.
+    /// There are no pairs: the time span is empty or blank.
     #[error("empty time span")]
     Empty = 1,
-    /// There is no number where one is expected: a digit or more and at most one point.
+    /// Not a number where one is expected. A number has one or more digits and at most one decimal point.
     #[error("bad number")]
     BadNumber = 2,
-    /// The word after the number is no unit.
+    /// The word after the number is not a unit.
     #[error("unknown unit")]
     UnknownUnit = 3,
-    /// The sum, up to this pair, is more than 9,223,372,036,854,775,807 microseconds.
+    /// The sum of the pairs up to this one is more than 9,223,372,036,854,775,807 microseconds.
     #[error("time span too large")]
     TooLarge = 4,
 }
@@ -25,7 +27,7 @@ pub enum SpanFault {
 impl SpanFault {
     ghost use Rattle.cal_span.specs.SpanFault.{words_of};
 
-    /// What is reported to a user, the text of `Display` too.
+    /// Returns the message for users. `Display` prints the same.
     pub fn words(&self) -> &str
         ensures { result.now ≡ words_of self.now }
     {

@@ -1,4 +1,4 @@
-//! A length of time in microseconds.
+//! The type of time spans.
 
 ghost use Rattle.std.specs.Prelude.{◌≡◌, ◌≤◌, ◌<◌, MatchOption};
 ghost use Rattle.cal_span.specs.Span.{limit};
@@ -10,7 +10,7 @@ pub(crate) mod text;
 pub(crate) mod value;
 pub(crate) mod word;
 
-/// A time span: a number of microseconds, at most 9,223,372,036,854,775,807.
+/// A time span: a length of time in microseconds, at most 9,223,372,036,854,775,807.
 #[derive(Clone, Copy, PartialEq, Eq, Debug)]
 pub struct Span {
     micros: u64,
@@ -18,13 +18,12 @@ pub struct Span {
 }
 
 impl Span {
-    /// No time at all.
+    /// The empty time span.
     pub(crate) const ZERO: Span = Span { micros: 0 };
 
     const LIMIT: u64 = 9_223_372_036_854_775_807;
 
-    /// The span of that many microseconds, or `None` where they are more than
-    /// 9,223,372,036,854,775,807.
+    /// Creates a time span of `micros` microseconds. Returns `None` if `micros` is more than 9,223,372,036,854,775,807.
     pub fn new(micros: u64) -> Option<Span>
         ensures { MatchOption result
             (limit < micros)
@@ -37,7 +36,7 @@ impl Span {
         }
     }
 
-    /// The microseconds of the span, at most 9,223,372,036,854,775,807.
+    /// Returns the length in microseconds, at most 9,223,372,036,854,775,807.
     pub fn micros(self) -> u64
         ensures value { result ≡ self.micros }
         ensures in_range { result ≤ limit }

@@ -1,5 +1,6 @@
-//! The numbers of a span text, whole ones and ones with a point (systemd.time(7), Parsing Time
-//! Spans). What passes `u64::MAX` stays there, which is far beyond the longest span.
+//! The numbers in a time span, with or without a decimal point (systemd.time(7), Parsing Time Spans).
+//!
+//! All arithmetic saturates at `u64::MAX`, which is far more than the longest time span.
 
 ghost use Rattle.std.specs.Prelude.{◌≡◌, ◌≤◌, IsTrue, MatchOption, min, false, true};
 ghost use Rattle.std.specs.List.{list_all, position, before_first, after_first};
@@ -11,7 +12,7 @@ ghost use Rattle.cal_span.specs.SpanValue.{is_number, fraction_worth, digits_wor
 use crate::Scale;
 use cal_text::{are_digits, whole_of};
 
-/// A number: the digits before its point and those after it.
+/// A number: its digits before the decimal point and those after it.
 #[derive(Clone, Copy)]
 pub(crate) struct Number<'a> {
     whole: &'a [u8],
@@ -21,8 +22,8 @@ pub(crate) struct Number<'a> {
 }
 
 impl<'a> Number<'a> {
-    /// The number that the word is, or `None` where it isn't made of digits and at most one point,
-    /// with at least one digit.
+    /// Parses `word` as digits with at most one decimal point. Returns `None` for anything else, also for a decimal
+    /// point without digits.
     pub(crate) fn new(word: &'a [u8]) -> Option<Number<'a>>
         ensures { MatchOption result (is_number word.now ≡ false) (λ number.
             (is_number word.now ≡ true)
@@ -39,7 +40,7 @@ impl<'a> Number<'a> {
         Some(Number { whole, fraction })
     }
 
-    /// So much of the unit, in microseconds.
+    /// Returns the length of this many of `unit` in microseconds, or `u64::MAX` if it is more than that.
     pub(crate) fn worth(self, unit: Scale) -> u64
         ensures { result
             ≡ min (digits_worth self.entry.whole.now self.entry.fraction.now (size_of unit)) u64.MAX }
@@ -51,7 +52,7 @@ impl<'a> Number<'a> {
     }
 }
 
-/// The bytes before the first point and those after it.
+/// Returns the bytes before the first decimal point and those after it. Without a decimal point, all are before it.
 fn split_at_point(word: &[u8]) -> (&[u8], &[u8])
     ensures before { result.0.now ≡ before_first is_point word.now }
     ensures after { result.1.now ≡ after_first is_point word.now }
@@ -62,15 +63,15 @@ fn split_at_point(word: &[u8]) -> (&[u8], &[u8])
     }
 }
 
-/// The index of the first point.
 fn point_index(word: &[u8]) -> Option<usize>
     ensures { result ≡ position is_point word.now }
 {
     word.iter().position(|byte| *byte == b'.')
 }
 
-/// What the digits after a point add in a unit of this size: the term of each is rounded down by
-/// itself.
+/// Returns what the digits after a decimal point add to the value of a number, in a unit of `size` microseconds, which
+/// is at most a year. The contribution of each digit is rounded down separately. Returns `u64::MAX` if the sum is more
+/// than that.
 pub fn fraction_of(digits: &[u8], size: u64) -> u64
     requires digits { IsTrue (list_all is_ascii_digit digits.now) }
     requires size { size ≤ size_of Scale.Year }
@@ -79,7 +80,7 @@ pub fn fraction_of(digits: &[u8], size: u64) -> u64
     let mut sum = 0_u64;
     let mut divisor = 1_u64;
     for digit in digits {
-        // A divisor that stays at the top is far above a digit in any unit: the digit adds nothing.
+        // A divisor that saturates is far larger than nine of any unit, so the digit adds nothing.
         divisor = divisor.saturating_mul(10);
         sum = sum.saturating_add(u64::from(*digit - b'0') * size / divisor);
     }

@@ -1,5 +1,5 @@
-//! How a time span is written: from the largest unit down, the greatest whole count that fits what is
-//! left, as in `1h 30min`.
+//! Printing time spans. For each unit, from the largest to the smallest, a span has the largest whole count that fits
+//! into what remains, as in `1h 30min`.
 
 ghost use Rattle.std.specs.Prelude.{◌≡◌, ◌+◌, ◌≤◌, ℕ, List, [], ◌∷◌, ◌++◌, length, false, decimal};
 ghost use Rattle.cal_span.specs.Span.{limit};
@@ -17,11 +17,13 @@ use crate::span::Span;
 use cal_bytes::{ShortText, Sink, WriteFault, push, put_all};
 use itoa::Buffer;
 
-/// The most bytes of a span's text: of each of its nine units a space, 20 digits and a name of 5 bytes.
+/// The maximum length of a printed span, in bytes. Each of its nine units takes at most a space, 20 digits and a name
+/// of 5 bytes.
 pub const SPAN_ROOM: usize = 234;
 
-/// Appends the text of a span from the largest unit down, counts of zero left out, as `1h 30min`, or `0` where it is
-/// nothing (systemd.time(7), Parsing Time Spans). It takes at most [`SPAN_ROOM`] bytes.
+/// Appends a time span as it is printed: its units from the largest to the smallest without those that count zero, as
+/// in `1h 30min`, or `0` for the empty span (systemd.time(7), Parsing Time Spans). This is at most [`SPAN_ROOM`] bytes,
+/// and the caller guarantees that `text` has room for that many.
 pub fn push_span(text: &mut ShortText, span: Span)
     requires room { length text.old.items + SPAN_ROOM ≤ ROOM }
     ensures text { text.new.items ≡ text.old.items ++ span_text span.micros }
@@ -33,7 +35,7 @@ pub fn push_span(text: &mut ShortText, span: Span)
     }
 }
 
-/// The text of a span, as [`push_span`] forms it.
+/// Returns a time span as [`push_span`] prints it.
 pub fn format_span(span: Span) -> ShortText
     ensures { result.items ≡ span_text span.micros }
 {
@@ -42,9 +44,9 @@ pub fn format_span(span: Span) -> ShortText
     text
 }
 
-/// Writes the text of a span, as [`push_span`] forms it.
+/// Writes a time span as [`push_span`] prints it.
 ///
-/// [`WriteFault::Failed`] comes exactly where the writer failed; it has a prefix of the text then.
+/// Fails with [`WriteFault::Failed`] if and only if the writer fails; then only a prefix was written.
 pub fn write_span<W: Sink>(out: &mut W, span: Span) -> Result<(), WriteFault>
     requires { W.is_failed out.old ≡ false }
     ensures { Puts W.Sink out.old out.new result (span_text span.micros) }
@@ -53,18 +55,18 @@ pub fn write_span<W: Sink>(out: &mut W, span: Span) -> Result<(), WriteFault>
     put_all(out, text.as_slice())
 }
 
-/// Each number of microseconds has exactly one span text.
+/// Every number of microseconds is printed in exactly one way.
 pub fn one_text()
     ensures some { (n : ℕ) → IsSpanText n (span_text n) }
     ensures only { (n : ℕ) (text : List ℕ) → IsSpanText n text → text ≡ span_text n }
 {}
 
-/// The text of a span has that span's value: what was written is read again.
+/// Parsing a printed span gives the same span.
 pub fn text_reads_back()
     ensures { (n : ℕ) → n ≤ limit → span_of (span_text n) ≡ Ok n }
 {}
 
-/// Appends the counts that aren't zero, one space between them.
+/// Appends the units that don't count zero, with a space between them.
 fn push_counts(text: &mut ShortText, scales: &[Scale], micros: u64)
     requires few { length scales.now ≤ 9 }
     requires room { length text.old.items + SPAN_ROOM ≤ ROOM }
@@ -83,7 +85,7 @@ fn push_counts(text: &mut ShortText, scales: &[Scale], micros: u64)
     }
 }
 
-/// Appends one count, with what leads up to it in front.
+/// Appends `lead`, then one count and its unit.
 fn push_count(text: &mut ShortText, lead: &[u8], count: u64, unit: Scale)
     requires lead { length lead.now ≤ 1 }
     requires room { length text.old.items + 26 ≤ ROOM }

@@ -1,4 +1,4 @@
-//! The value of a text as a time span: pairs of a number and a unit, which are added up.
+//! Parsing time spans, and adding up their pairs of a number and a unit.
 
 ghost use Rattle.std.specs.Prelude.{◌≡◌, ◌<◌, ◌∷◌, [], MatchOption, MatchResult, Ok, Err, length, map};
 ghost use Rattle.std.specs.Option.{option_copied};
@@ -12,13 +12,14 @@ use crate::span::word::{CharKind, first_word};
 use crate::{Scale, Span, SpanFault};
 use cal_bytes::is_among;
 
-/// The time span that a text writes: one or more pairs of a number and an optional unit, with
-/// blanks before, between and after all of them. A number without a unit is in seconds. The values
-/// are added up, and each digit after a point is rounded down by itself to microseconds
-/// (systemd.time(7), Parsing Time Spans).
+/// Parses a time span: one or more numbers, each with an optional unit. Blanks may come before, between and after all
+/// of them (systemd.time(7), Parsing Time Spans).
 ///
-/// The fault is that of the first pair at fault, from the left; in a pair first `BadNumber`, then
-/// `UnknownUnit`, then `TooLarge`. A text of only blanks is `Empty`.
+/// A number without a unit counts seconds. The values are added up. Each digit after a decimal point is rounded down to
+/// microseconds separately.
+///
+/// If several pairs are invalid, the leftmost error is reported; in one pair `BadNumber` comes before `UnknownUnit`,
+/// and that before `TooLarge`. If `text` is empty or blank, the error is `Empty`.
 #[tactic(auto, unfolding(crate::specs::SpanValue::span_of))]
 pub fn read_span(text: &str) -> Result<Span, SpanFault>
     ensures { MatchResult result
@@ -36,15 +37,15 @@ pub fn read_span(text: &str) -> Result<Span, SpanFault>
     Ok(sum)
 }
 
-/// A number of a span text and its unit word, if it has one.
+/// A number in a time span, and the word of its unit if there is one.
 #[derive(Clone, Copy)]
 struct Pair<'a> {
     number: &'a [u8],
     unit: Option<&'a [u8]>,
 }
 
-/// The first pair of the bytes and what comes after it, or `None` where there are only blanks. A
-/// word that is where a number is expected is a pair with the empty number.
+/// Returns the first pair in `bytes` and the bytes after it, or `None` if there are only blanks. If the first word is
+/// not a number, the pair has an empty number, which [`add_pair`] rejects.
 fn first_pair(bytes: &[u8]) -> Option<(Pair<'_>, &[u8])>
     ensures { MatchOption result (pairs_in bytes.now ≡ []) (λ found.
         (pairs_in bytes.now
@@ -73,7 +74,7 @@ fn first_pair(bytes: &[u8]) -> Option<(Pair<'_>, &[u8])>
     }
 }
 
-/// The sum with one more pair.
+/// Adds a pair to `sum`, or returns the error of the pair.
 fn add_pair(sum: Span, pair: Pair<'_>) -> Result<Span, SpanFault>
     ensures { let worth = worth_of record {
       number = pair.entry.number.now;
@@ -92,7 +93,7 @@ fn add_pair(sum: Span, pair: Pair<'_>) -> Result<Span, SpanFault>
     Span::new(sum.micros().saturating_add(number.worth(unit))).ok_or(SpanFault::TooLarge)
 }
 
-/// The unit with this word as a spelling, or the second where there is no word.
+/// Returns the unit that is spelled `word`, or seconds if there is no word.
 fn unit_of(word: Option<&[u8]>) -> Option<Scale>
     ensures { result ≡ unit_in (option_copied word.entry) }
 {
@@ -102,7 +103,8 @@ fn unit_of(word: Option<&[u8]>) -> Option<Scale>
     }
 }
 
-/// The units that the first byte of the word leaves, from the largest down: no other has the word as a spelling.
+/// Returns the units that have a spelling with the same first byte as `word`, from the largest to the smallest, so that
+/// most units need not be compared.
 #[tactic(auto, unfolding(crate::specs::SpanValue::unit_named, crate::specs::Scale::words_for))]
 fn units_by_initial(word: &[u8]) -> &'static [Scale]
     ensures { find (λ unit. list_any (bytes_eq word.now) (words_for unit)) result.now ≡ unit_named word.now }
@@ -121,7 +123,7 @@ fn units_by_initial(word: &[u8]) -> &'static [Scale]
     }
 }
 
-/// The first of the units that has the word as a spelling.
+/// Returns the first of `units` that can be spelled `word`.
 fn find_unit(units: &[Scale], word: &[u8]) -> Option<Scale>
     ensures { result ≡ find (λ unit. list_any (bytes_eq word.now) (words_for unit)) units.now }
 {

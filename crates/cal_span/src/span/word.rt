@@ -1,16 +1,16 @@
-//! The words of a span text: its longest runs of one kind of character, without the blanks between
-//! them (systemd.time(7), Parsing Time Spans).
+//! Splitting a time span into words. A word is as many consecutive characters of one kind as there are; blanks only
+//! separate words (systemd.time(7), Parsing Time Spans).
 
 ghost use Rattle.std.specs.Prelude.{◌≡◌, ◌≤◌, ◌<◌, ◌∷◌, [], MatchOption, length, take, drop};
 ghost use Rattle.cal_span.specs.SpanValue.{characters, words_in};
 ghost use Rattle.cal_span.specs.SpanWord.{front_of, after_front};
 
-/// What a character of a span text is.
+/// The kind of a character in a time span.
 #[derive(Clone, Copy, PartialEq, Eq)]
 pub(crate) enum CharKind {
     /// A space or a tab.
     Blank,
-    /// A digit or a point.
+    /// A digit or a decimal point.
     Numeric,
     /// An ASCII letter, the micro sign or the Greek letter mu.
     Letter,
@@ -18,14 +18,14 @@ pub(crate) enum CharKind {
     Other,
 }
 
-/// Characters of one kind, as many as come in a row.
+/// A word: consecutive characters of one kind.
 #[derive(Clone, Copy)]
 pub(crate) struct Word<'a> {
     pub(crate) kind: CharKind,
     pub(crate) text: &'a [u8],
 }
 
-/// The first word of the bytes and what comes after it, or `None` where there are only blanks.
+/// Returns the first word in `bytes` and the bytes after it, or `None` if there are only blanks.
 pub(crate) fn first_word(bytes: &[u8]) -> Option<(Word<'_>, &[u8])>
     ensures { MatchOption result (words_in bytes.now ≡ []) (λ found.
         (words_in bytes.now
@@ -38,7 +38,7 @@ pub(crate) fn first_word(bytes: &[u8]) -> Option<(Word<'_>, &[u8])>
     Some((Word { kind, text }, rest))
 }
 
-/// The number of bytes of the longest prefix of this kind.
+/// Returns the length in bytes of the longest prefix whose characters are all of this kind.
 fn front_len(bytes: &[u8], kind: CharKind) -> usize
     ensures within { result ≤ length bytes.now }
     ensures front { take result bytes.now ≡ front_of kind (characters bytes.now) }
@@ -54,8 +54,8 @@ fn front_len(bytes: &[u8], kind: CharKind) -> usize
     len
 }
 
-/// The kind of the first character and the number of its bytes: two for a mu. Each byte of any
-/// other character outside ASCII is by itself.
+/// Returns the kind of the first character and its length in bytes, which is two for the micro sign and the letter mu.
+/// Any other character outside ASCII is read byte by byte.
 fn first(bytes: &[u8]) -> Option<(CharKind, usize)>
     ensures { MatchOption result (bytes.now ≡ []) (λ found.
         (characters bytes.now

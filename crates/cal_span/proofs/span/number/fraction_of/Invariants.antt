@@ -3,7 +3,7 @@ use Rattle.cal_span.specs.SpanValue.{fraction_worth}
 use Rattle.cal_text.proofs.DigitLemmas.{top}
 use Rattle.cal_span.proofs.span.number.fraction_of.Given as goal
 
--- the sum so far with what the rest adds is the whole
+-- the sum so far plus what the remaining digits add is the result, up to saturation
 abbrev pub invariant-loop-digit : goal.invariant-loop-digit
 invariant-loop-digit l = record {
   divisor : l.divisor ≡ min (10 ^ l.digit-index) top;

@@ -1,4 +1,4 @@
--- The text and the counts of the units from the index on are the whole.
+-- The text so far, followed by the counts of the remaining units, is the result.
 use Rattle.std.proofs.Common.{◌≡◌, ◌+◌, ◌*◌, ◌≤◌, ◌++◌, length, drop}
 use Rattle.cal_span.specs.headline.SpanText.{counts_in_row, positive, counts_of}
 use Rattle.cal_span.proofs.SpanCounts.{led}

@@ -3,7 +3,7 @@ use Rattle.cal_span.specs.SpanValue.{characters}
 use Rattle.cal_span.specs.SpanWord.{front_of, after_front}
 use Rattle.cal_span.proofs.span.word.front_len.Given as goal
 
--- so far all is of the kind, and the rest gives what is left of the prefix
+-- all bytes so far belong to the prefix, and the remaining bytes continue it
 abbrev pub invariant-loop-found : goal.invariant-loop-found
 invariant-loop-found l = record {
   in_range : l.len ≤ length l.bytes;
