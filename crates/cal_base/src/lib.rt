@@ -1,4 +1,4 @@
-//! Texts, spans, instants, zones, and bytes in and out: what every other crate of the project is built on.
+//! Bytes, words, time spans, instants and zones, re-exported from the crates that the rest of the project is built on.
 #![tactic(auto)]
 
 pub use cal_bytes::{
