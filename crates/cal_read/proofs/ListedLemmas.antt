@@ -1,4 +1,4 @@
--- The lists of all assignments are what comes from one assignment to the next.
+-- Lemmas which say that the lists built one assignment at a time are the lists of all assignments.
 use Rattle.std.proofs.Common.{◌≡◌, ◌≤◌, ◌<◌, ◌+◌, ◌&&◌, cond, ℕ, Bool, true, false, not, List, [], ◌∷◌, ◌++◌, codes, filter, length, refl, sym, subst, ap, ◌∙◌, arith, append_assoc, append-nil, length-append, Option, Some, None, Result, Ok, Err}
 use Rattle.std.specs.List.{after_last}
 use Rattle.std.specs.Prelude.{nat_le}
@@ -19,7 +19,7 @@ use Rattle.cal_read.specs.declared.timer.fault.TimerFault.TheVariants.{BadLine}
 use Rattle.cal_read.proofs.ResumedLemmas.{joined_bad, joined_many, joined_read, resumed_changed, resumed_fault}
 use Rattle.cal_text.proofs.General.{after_last_here, after_last_more, option_or-none}
 
--- of a list that one test adds to and another empties, where one more assignment comes
+-- a list to which `adds` adds and which `resets` clears, and how one more assignment changes it
 abbrev Kept : (adds resets : Assignment → Bool) → List Assignment → List Assignment
 Kept adds resets all = filter adds (after_last resets all)
 
@@ -38,7 +38,7 @@ kept_more adds resets before a e f =
     ∙ filter-append adds (after_last resets before) (a ∷ [])
     ∙ rw f refl
 
--- the list of expressions, and that of exceptions
+-- an assignment that neither adds to one of the lists nor clears it doesn't change that list
 listed_other : (before : List Assignment) (a : Assignment) → is_reset a ≡ false → is_expression a ≡ false → listed (before ++ a ∷ []) ≡ listed before
 unfolding listed
 listed_other before a e f = kept_other is_expression is_reset before a e f
@@ -47,12 +47,13 @@ excepted_other : (before : List Assignment) (a : Assignment) → is_exception_re
 unfolding excepted
 excepted_other before a e f = kept_other is_exception is_exception_reset before a e f
 
--- An assignment is at most one of the four: it has a value or none, and its key is that of exceptions or one of a timer's.
+-- An assignment is at most one of these four: it adds an expression, adds an exception, clears the expressions, or
+-- clears the exceptions. It either has a value or has none, and its key is that of exceptions or one of a timer's keys.
 no_value : (b x y : Bool) → (b && x) ≡ true → (not b && y) ≡ false
 no_value true x y e = refl
 no_value false x y e = cc
 
--- the key of exceptions is no key of a timer's
+-- the key of exceptions is not one of a timer's keys
 other_key : (key : List ℕ) → bytes_eq key exception_key ≡ true → (list_any (bytes_eq key) timer_keys ≡ false) × (bytes_eq key (codes "OnCalendar") ≡ false)
 other_key key e =
     let same : key ≡ exception_key = (bytes_eq-Decides key exception_key).0 e in
@@ -97,14 +98,14 @@ exception_is_no_exception_reset : (a : Assignment) → is_exception a ≡ true �
 unfolding is_exception is_exception_reset
 exception_is_no_exception_reset a e = false_from_ne_true (is_exception_reset a) (λ h. let other = no_value (has_no_value a) _ (bytes_eq a.key exception_key) h in absurd (cc))
 
--- what empties one list leaves the other
+-- what clears one list doesn't change the other
 pub excepted_kept : (before : List Assignment) (a : Assignment) → is_reset a ≡ true → excepted (before ++ a ∷ []) ≡ excepted before
 excepted_kept before a e = excepted_other before a (reset_is_no_exception_reset a e) (reset_is_no_exception a e)
 
 pub listed_kept : (before : List Assignment) (a : Assignment) → is_exception_reset a ≡ true → listed (before ++ a ∷ []) ≡ listed before
 listed_kept before a e = listed_other before a (exception_reset_is_no_reset a e) (exception_reset_is_no_expression a e)
 
--- the entries of these assignments are as many as the assignments
+-- every one of these assignments has an entry, so none of them is invalid
 abbrev AreAll : {E : Type 0} → (List ℕ → Result E SpecFault) → List Assignment → Type 0
 AreAll read list = length (entries_of read list) ≡ length list
 
@@ -114,7 +115,7 @@ entries_more read list a entry good =
     filter_map-append (λ a. entry_of a (read a.value)) list (a ∷ [])
     ∙ rw good refl
 
--- An assignment that comes to a list whose entries are all there has its fault, or its entry comes to the entries.
+-- An assignment is added to a list in which all are valid: either it has an error, or its entry is added.
 joins_by : {E : Type 0} (read : List ℕ → Result E SpecFault) (list : List Assignment) (a : Assignment) (many : Bool) (r : Result E SpecFault)
     → nat_le most_expressions (length list) ≡ many → read a.value ≡ r → AreAll read list
     → (with_assignment read (entries_of read list) a ≡ unless_fault (fault_joining read list a) (Ok (entries_of read (list ++ a ∷ []))))
@@ -138,21 +139,21 @@ joins_by {E} read list a false (Ok expr) m v all =
       λ h. ap length more ∙ length-append (entries_of read list) (entry ∷ []) ∙ ap (λ n. n + 1) all ∙ sym (length-append list (a ∷ [])),
     )
 
--- an assignment without a fault is passed over, and the first that has one decides
+-- if there is no error, go on with the list; otherwise the first error is the result
 decides : {E : Type 0} (o p : Option TimerFault) (es : List (TimerLine E)) (next : List (TimerLine E) → Result (Timer E) TimerFault) (r : Result (Timer E) TimerFault)
     → (o ≡ None → next es ≡ unless_fault p r) → with_list (unless_fault o (Ok es)) next ≡ unless_fault (option_or o p) r
 decides None p es next r h = h refl
 decides (Some fault) p es next r h = refl
 
--- what is left to do with these entries gives what all assignments give
+-- going on with the entries of the assignments in `before` gives the result for all assignments
 abbrev Resumes : {E : Type 0} → (List ℕ → Result E SpecFault) → List Assignment → List Assignment → Type 0
 Resumes read before after = resumed read (entries read before) after ≡ unless_fault (first_fault read before after) (some_entries (entries read (before ++ after)))
 
--- both lists have all their entries
+-- all assignments in both lists are valid
 abbrev AreAllRead : {E : Type 0} → (List ℕ → Result E SpecFault) → List Assignment → Type 0
 AreAllRead read before = AreAll read (listed before) × AreAll read (excepted before)
 
--- the first fault after others is that of the assignment or one after it
+-- the first error after `before` is that of the next assignment, or else the first after it
 ends : {E : Type 0} (read : List ℕ → Result E SpecFault) (before : List Assignment) (a : Assignment) (after : List Assignment) (o : Option TimerFault) → fault_following read before a ≡ o
     → unless_fault (option_or o (first_fault read (before ++ a ∷ []) after)) (some_entries (entries read ((before ++ a ∷ []) ++ after)))
     ≡ unless_fault (first_fault read before (a ∷ after)) (some_entries (entries read (before ++ (a ∷ after))))
@@ -163,7 +164,7 @@ ends read before a after o same =
 all_with : {E : Type 0} (read : List ℕ → Result E SpecFault) (list now : List Assignment) → now ≡ list → AreAll read list → AreAll read now
 all_with read list now e all = subst (λ (l : List Assignment). AreAll read l) (sym e) all
 
--- an expression, or an exception, that comes to its list
+-- an assignment is added to its list
 joins : {E : Type 0} (read : List ℕ → Result E SpecFault) (list : List Assignment) (a : Assignment) → AreAll read list
     → (with_assignment read (entries_of read list) a ≡ unless_fault (fault_joining read list a) (Ok (entries_of read (list ++ a ∷ []))))
     × (fault_joining read list a ≡ None → AreAll read (list ++ a ∷ []))
@@ -177,7 +178,8 @@ pub fault_of_exception : {E : Type 0} (read : List ℕ → Result E SpecFault) (
 unfolding fault_following
 fault_of_exception read before a f = rw (exception_is_no_expression a f, f) refl
 
--- what an assignment does to one of the lists: it has this fault, or the list is as if it had been there from the start
+-- What an assignment does to one of the lists: it has this error, or the list becomes the one that all assignments up
+-- to this one give.
 record Changes {E : Type 0} (read : List ℕ → Result E SpecFault) (adds resets : Assignment → Bool) (before : List Assignment) (a : Assignment) (fault : Option TimerFault) : Type 0 where
   pub is : changed read (adds a) (resets a) (entries_of read (Kept adds resets before)) a ≡ unless_fault fault (Ok (entries_of read (Kept adds resets (before ++ a ∷ []))))
   pub all : fault ≡ None → AreAll read (Kept adds resets (before ++ a ∷ []))
@@ -230,7 +232,7 @@ resumes_from read before (a ∷ after) all =
     (changes read is_exception is_exception_reset before a (is_exception a) (is_exception_reset a) refl refl (exception_is_no_exception_reset a) all.1)
     (either_fault read before a (is_expression a) refl) (resumes_from read (before ++ a ∷ []) after)
 
--- one assignment after the other gives the lists of all
+-- applying one assignment after another gives the lists of all assignments
 pub resumed_is_list : {E : Type 0} (read : List ℕ → Result E SpecFault) (assignments : List Assignment) → resumed read (record { expressions = []; exceptions = [] }) assignments ≡ lists_of read assignments
 unfolding lists_of entries listed excepted
 resumed_is_list read assignments = resumes_from read [] assignments (refl, refl)

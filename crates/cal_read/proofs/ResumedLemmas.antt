@@ -1,4 +1,4 @@
--- What each assignment and each logical line does to the lists.
+-- Lemmas on what each assignment and each logical line does to the lists.
 use Rattle.std.proofs.Common.{arith, ◌≡◌, ◌≤◌, ◌<◌, ℕ, Bool, true, false, List, [], ◌∷◌, ◌++◌, length, codes, refl, Some, None, Result, Ok, Err}
 use Rattle.std.specs.Str.{bytes_eq}
 use Rattle.std.specs.Prelude.{nat_le}
@@ -13,7 +13,7 @@ use Rattle.cal_read.specs.TimerView.{changed, with_assignment, resumed, with_lis
 use Rattle.cal_read.specs.declared.timer.fault.TimerFault.{TimerFault}
 use Rattle.cal_read.specs.declared.timer.fault.TimerFault.TheVariants.{TooMany}
 
--- an assignment changes one list and then the other, or its fault is the fault
+-- an assignment changes the list of expressions and then the list of exceptions, unless it has an error
 pub resumed_changed : {E : Type 0} (read : List ℕ → Result E SpecFault) (lists : Timer E) (a : Assignment) (after : List Assignment) (es : List (TimerLine E)) (r : Result (List (TimerLine E)) TimerFault)
     → changed read (is_expression a) (is_reset a) lists.expressions a ≡ Ok es → changed read (is_exception a) (is_exception_reset a) lists.exceptions a ≡ r
     → resumed read lists (a ∷ after) ≡ with_list r (λ xs. resumed read (record { expressions = es; exceptions = xs }) after)
@@ -25,12 +25,12 @@ pub resumed_fault : {E : Type 0} (read : List ℕ → Result E SpecFault) (lists
 unfolding resumed
 resumed_fault read lists a after fault e = rw e refl
 
--- an expression too many
+-- nothing can be added to a full list
 pub joined_many : {E : Type 0} (read : List ℕ → Result E SpecFault) (es : List (TimerLine E)) (a : Assignment) → most_expressions ≤ length es → with_assignment read es a ≡ Err (TooMany a.number)
 unfolding with_assignment
 joined_many read es a many = let is_many : nat_le most_expressions (length es) ≡ true = grind (arith, nat_tests) in rw is_many refl
 
--- an expression's text
+-- what is added to a list that has room, by whether the expression is valid
 read_bad : {E : Type 0} (es : List (TimerLine E)) (a : Assignment) (r : Result E SpecFault) (fault : TimerFault) → bad_line a.number r ≡ Some fault → with_read es a r ≡ Err fault
 read_bad es a (Ok expr) fault e = cc
 read_bad es a (Err f) fault e = cc
@@ -52,12 +52,12 @@ pub header_here : (inside : Bool) (line : Line) (after : List Line) → is_heade
 unfolding assignments_in timer_lines
 header_here inside line after e = rw e refl
 
--- a line outside of the section `Timer` assigns nothing
+-- a line outside the section `Timer` is not an assignment
 pub outside_here : (line : Line) (after : List Line) → is_header (trim_matches is_blank_or_return line.text) ≡ false → assignments_in false (line ∷ after) ≡ assignments_in false after
 unfolding assignments_in timer_lines
 outside_here line after e = rw e refl
 
--- nor does a line without `=`
+-- in the section, a line without `=` is not an assignment, and any other line that isn't a header is one
 pub nothing_here : (line : Line) (after : List Line) → is_header (trim_matches is_blank_or_return line.text) ≡ false → assignment_of (trimmed line) ≡ None → assignments_in true (line ∷ after) ≡ assignments_in true after
 unfolding assignments_in timer_lines
 nothing_here line after e f = rw (e, f) refl
@@ -66,7 +66,7 @@ pub assigned_here : (line : Line) (after : List Line) (a : Assignment) → is_he
 unfolding assignments_in timer_lines
 assigned_here line after a e f = rw (e, f) refl
 
--- where no line is left, the entries so far are the lists
+-- after the last line, the entries so far are the result
 pub no_lines : {E : Type 0} (read : List ℕ → Result E SpecFault) (lists : Timer E) (inside : Bool) → resumed read lists (assignments_in inside []) ≡ some_entries lists
 unfolding resumed assignments_in timer_lines
 no_lines read lists inside = refl

@@ -1,4 +1,4 @@
--- `@` and the digits of an instant are read as that instant.
+-- Parsing `@` and the digits of an instant gives that instant.
 use Rattle.std.proofs.Common.{◌≡◌, ℕ, ◌*◌, ◌≤◌, false, List, [], ◌∷◌, ℤ, pos, ◌+ℤ◌, ◌≤ℤ◌, Ok, refl, sym, ap, ◌∙◌, arith, append-nil, decimal, reverse}
 use Rattle.std.specs.List.{AllByRecursion}
 use Rattle.std.proofs.lemmas.Int.{ints}

@@ -1,4 +1,4 @@
--- That the words of a civil time have the error of the rule.
+-- The error of a civil time is the one that the rule of `StampFaultRule` demands.
 use Rattle.std.proofs.Common.{ℕ, ◌≡◌, ◌⊎◌, inl, inr, true, false, ◌||◌, List, [], ◌∷◌, ◌++◌, refl, sym, ap, ◌∙◌, append_assoc, Option, Some, None, Ok, Err, ℤ}
 use Rattle.std.specs.Prelude.{Result, is_some}
 use Rattle.std.specs.List.{list_any}
@@ -21,12 +21,12 @@ use Rattle.cal_read.specs.declared.stamp.fault.StampFault.{StampFault}
 use Rattle.cal_read.specs.declared.stamp.fault.StampFault.TheVariants.{BadDate, NoSuchZone, StrayWord}
 use Rattle.cal_read.proofs.StampCivilRule.{date_begins, date_no_colon, means, means_from, no_letter_first, time_begins, time_has_colon, zone_begins}
 
--- of two steps the first has the error, or the second after it
+-- if two steps together fail, either the first fails, or the first succeeds and the second fails
 pub err_of : {A B : Type 0} (r : Result A StampFault) (f : A → Result B StampFault) (e : StampFault) → (r >>= f) ≡ Err e → (r ≡ Err e) ⊎ ((x : A) × (r ≡ Ok x) × (f x ≡ Err e))
 err_of (Ok x) f e h = inr (x, refl, h)
 err_of (Err g) f e h = inl (let same : g ≡ e = cc in ap Err same)
 
--- Errors of the rule are found
+-- The error that the rule demands is returned
 
 no_offset_by : (word : List ℕ) (found : Option ℤ) → offset_in word ≡ found → ((seconds : ℤ) → IsOffsetWord word seconds → ⊥) → offset_in word ≡ None
 no_offset_by word None e none = e
@@ -61,7 +61,7 @@ date_or_time_only : (at : Setting) (weekday : Option Weekday) (word : List ℕ) 
 date_or_time_only at weekday word after fault (inl colon) = rw (colon.0, colon.1) refl
 date_or_time_only at weekday word after fault (inr none) = rw (none.0, none.1) refl
 
--- of words with a date or a time
+-- the error of a word that follows a date or a time
 body_only : (at : Setting) (first : Option (List ℕ)) (weekday : Option Weekday) (date time name : Option (List ℕ)) (day : Option ℤ) (micros : ℕ) (zone : TimeZone) (word : List ℕ) (after : List (List ℕ)) (fault : StampFault)
     → (is_some date || is_some time) ≡ true → WritesDate date day → WritesTime time micros → NamesZone at name zone → IsAtFault at first date time name word fault
     → after_weekday at weekday (option_to_list date ++ (option_to_list time ++ (option_to_list name ++ (word ∷ after)))) ≡ Err fault
@@ -109,7 +109,7 @@ first-only at ws fault (inl h) =
 first-only at ws fault (inr h) =
     let r = h.are_read in ap (civil_time at) r.whole ∙ soon_only at h.weekday r.has_weekday.0 fault r.has_weekday.1 h.is_bad_date
 
--- Errors that are found are of the rule
+-- The error that is returned satisfies the rule
 
 name_missing : (found : Option TimeZone) (fault : StampFault) → name_found found ≡ Err fault → (found ≡ None) × (fault ≡ NoSuchZone)
 name_missing None fault h = (refl, cc)
@@ -129,7 +129,7 @@ no_zone find word fault h =
       | inr other ↦ (let lost = offset_missing (offset_in word) fault (rw other at h) in inr (other, no_offset word lost.0, lost.1))
     ]
 
--- what comes after the weekday, or after none
+-- the words after the weekday, if there is one
 module _ (at : Setting) (first : Option (List ℕ)) (weekday : Option Weekday) (fault : StampFault) (names : NamesWeekday first weekday) where
   at_word : (date time name : Option (List ℕ)) (day : Option ℤ) (micros : ℕ) (zone : TimeZone) (word : List ℕ) (after : List (List ℕ))
       → WritesDate date day → WritesTime time micros → NamesZone at name zone → (is_some name ≡ true → (is_some date || is_some time) ≡ true) → IsAtFault at first date time name word fault
@@ -148,7 +148,7 @@ module _ (at : Setting) (first : Option (List ℕ)) (weekday : Option Weekday) (
         is_at_fault = h;
       })
 
-  -- the words in the zone's place and after it
+  -- the words from the zone on
   second_zone : (date time : Option (List ℕ)) (day : Option ℤ) (micros : ℕ) (w : List ℕ) (zone : TimeZone) (ws : List (List ℕ)) → (is_some date || is_some time) ≡ true → WritesDate date day → WritesTime time micros → NamesZone at (Some w) zone
       → zone_alone zone ws ≡ Err fault → HasFirstError at (option_to_list first ++ (option_to_list date ++ (option_to_list time ++ (w ∷ ws)))) fault
   second_zone date time day micros w zone [] some d t z h = cc
@@ -172,14 +172,14 @@ module _ (at : Setting) (first : Option (List ℕ)) (weekday : Option Weekday) (
         | inr none ↦ (let e = none.2 in cc)
       ]
 
-  -- the words after a time
+  -- the words after the time
   last_words : (date : Option (List ℕ)) (time : List ℕ) (day : Option ℤ) (micros : ℕ) (ws : List (List ℕ)) → WritesDate date day → time_written time ≡ Ok micros → written_in at weekday day micros ws ≡ Err fault
       → HasFirstError at (option_to_list first ++ (option_to_list date ++ (time ∷ ws))) fault
   last_words date time day micros [] d t h = cc
   last_words None time day micros (w ∷ ws) d t h = written_words None (Some time) day micros w ws refl d t (λ no. no) h
   last_words (Some date) time day micros (w ∷ ws) d t h = written_words (Some date) (Some time) day micros w ws refl d t (λ no. no) h
 
-  -- the words after a date
+  -- the words after the date
   day_words : (d : List ℕ) (day : ℤ) (ws : List (List ℕ)) → day_written d ≡ Ok day → after_date at weekday day ws ≡ Err fault → HasFirstError at (option_to_list first ++ (d ∷ ws)) fault
   day_words d day [] e h = cc
   day_words d day (w ∷ ws) e h =
@@ -229,7 +229,7 @@ first-found at (w ∷ ws) fault h =
       | inr other ↦ body at None None fault refl w ws (λ no. inr (other, no)) (rw other at h)
     ]
 
--- The words after a day's word
+-- The words after `today`, `yesterday` or `tomorrow`
 
 zone_only : (at : Setting) (name : Option (List ℕ)) (zone : TimeZone) (word : List ℕ) (after : List (List ℕ)) (fault : StampFault) → NamesZone at name zone → IsNoLastWord at name word fault
     → zone_by_words at (option_to_list name ++ (word ∷ after)) ≡ Err fault

@@ -1,4 +1,4 @@
--- That only a written date can be no date.
+-- Only a date that is written out can have the error `NoSuchDate`.
 use Rattle.std.proofs.Common.{ℕ, ◌≡◌, Bool, true, false, inl, inr, List, [], ◌∷◌, refl, ap, Option, Some, None, Ok, Err, ℤ, pos, ◌+ℤ◌}
 use Rattle.std.specs.Prelude.{Result, if◌then◌else◌}
 use Rattle.std.specs.List.{list_any}
@@ -19,7 +19,7 @@ use Rattle.cal_read.specs.StampTime.{time_numbers, micros_due, time_written}
 use Rattle.cal_read.specs.declared.stamp.fault.StampFault.{StampFault}
 use Rattle.cal_read.specs.declared.stamp.fault.StampFault.TheVariants.{NoSuchDate, OutOfRange, WrongWeekday}
 
--- What is never that fault
+-- What never has this error
 
 abbrev Never : {A : Type 0} → Result A StampFault → Type 0
 Never r = r ≡ Err NoSuchDate → ⊥
@@ -28,7 +28,7 @@ never_if : {A : Type 0} (test : Bool) (x y : Result A StampFault) → Never x �
 never_if true x y p q = p
 never_if false x y p q = q
 
--- of two steps the first has the fault, where the second never has
+-- if two steps together have this error, and the second never has, then the first does
 fault_first : {A B : Type 0} (r : Result A StampFault) (f : A → Result B StampFault) → ((x : A) → Never (f x)) → (r >>= f) ≡ Err NoSuchDate → r ≡ Err NoSuchDate
 fault_first (Ok x) f more h = absurd (more x h)
 fault_first (Err fault) f more h = let same : fault ≡ NoSuchDate = cc in ap Err same
@@ -93,7 +93,7 @@ no_moment_of_written : (now : ℤ) (c : Written) → moment_of_written now c ≡
 unfolding moment_of_written
 no_moment_of_written now c = never_if _ _ (Err WrongWeekday) (no_settle_on c.zone _ c.micros) (λ h. cc)
 
--- Where it comes from
+-- What can have this error
 
 body : (at : Setting) (weekday : Option Weekday) (ws : List (List ℕ)) → after_weekday at weekday ws ≡ Err NoSuchDate → HasNoSuchDate ws
 body at weekday [] h = cc

@@ -1,4 +1,4 @@
--- Numbers, pieces and moments of timestamps.
+-- Lemmas on the numbers, the pieces and the moments of timestamps.
 use Rattle.std.proofs.Common.{ℕ, ◌+◌, ◌*◌, ◌^◌, ◌≤◌, ◌≡◌, true, List, [], ◌∷◌, length, refl, sym, ap, arith, None, Err, ℤ, ◌+ℤ◌, ◌<ℤ◌}
 use Rattle.std.specs.Char.{is_ascii_digit, digit_value}
 use Rattle.std.specs.List.{list_all, slice_split}
@@ -20,7 +20,7 @@ use Rattle.cal_read.specs.declared.stamp.fault.StampFault.TheVariants.{OutOfRang
 
 -- Numbers
 
--- what digits after a point add is at most nine times the unit for each
+-- the digits of a fraction add at most nine times the unit each
 pub fraction_bound : (size place : ℕ) (ds : List ℕ) → list_all is_ascii_digit ds ≡ true → fraction_worth size place ds ≤ length ds * (9 * size)
 fraction_bound size place [] h = omega arith
 fraction_bound size place (d ∷ ds) h =
@@ -33,7 +33,7 @@ fraction_bound size place (d ∷ ds) h =
 
 -- Pieces
 
--- a fourth piece, or a third of seconds, is too many
+-- a date or time with more than three pieces is invalid, and so are seconds with more than two
 pub no_date : (word year month day b1 b2 b3 : List ℕ) → slice_split is_hyphen word ≡ year ∷ slice_split is_hyphen b1 → slice_split is_hyphen b1 ≡ month ∷ slice_split is_hyphen b2 → slice_split is_hyphen b2 ≡ day ∷ slice_split is_hyphen b3 → None ≡ date_numbers word
 unfolding date_numbers
 no_date word year month day b1 b2 b3 first next last =
@@ -55,7 +55,7 @@ pub too_late : (micros : ℤ) → last_moment <ℤ micros → in_moments micros 
 unfolding in_moments
 too_late micros late = grind (arith, ints)
 
--- the offset that a clock shows is how far it is ahead
+-- local time is UTC plus the offset that the clock shows
 pub local_of-civil : (zone : TimeZone) (second : ℤ) (shown : Civil) → shown ≡ civil_of zone second → local_of zone second ≡ second +ℤ shown.offset
 unfolding local_of civil_of
 local_of-civil zone second shown e = ap (λ o. second +ℤ o) (sym (ap (λ (s : Civil). s.offset) e))

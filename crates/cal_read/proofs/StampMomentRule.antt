@@ -1,4 +1,4 @@
--- That the moments that are read are those of the rule.
+-- The moments of timestamps are those that the rule of `StampMomentRule` demands.
 use Rattle.std.proofs.Common.{ℕ, ◌/◌, ◌%◌, ◌<◌, ◌≡◌, ◌⊎◌, Bool, true, false, inl, inr, List, refl, sym, ap, ◌∙◌, arith, rules, Option, Some, None, Ok, Err, ℤ, pos, negsuc, ◌+ℤ◌, ◌-ℤ◌, ◌*ℤ◌, ◌<ℤ◌, ◌≤ℤ◌, eq-eqb, unsigned_abs}
 use Rattle.std.specs.Prelude.{Result, ◌↔◌, if◌then◌else◌}
 use Rattle.std.specs.Int.{int_div_euclid, int_rem_euclid}
@@ -148,7 +148,7 @@ settles_outside zone day micros fault h =
     let is = is_outside _ fault h in
     (is.0, _, record { second = micros / 1_000_000; rest = micros % 1_000_000; whole = omega arith; below = omega arith; settled = refl }, is.1)
 
--- What a form means
+-- What each form resolves to
 
 span_after : (second : ℤ) (span : List ℕ) (value : Result ℕ SpanFault) (time : ℤ) → span_of span ≡ value → after_second second value ≡ Ok time → LiesAfter second span time × IsMoment time
 span_after second span (Ok n) time e h =
@@ -225,7 +225,7 @@ meant now at (counted span) time h = lies_after (pos 0) span time h
 meant now at (from_today shift ws) time h = is_midnight now at shift ws time h
 meant now at (civil ws) time h = is_civil_moment now at ws time h
 
--- What a text means
+-- What each text resolves to
 
 by_form : (now : ℤ) (at : Setting) (text : List ℕ) (form : Form) → HasForm text form → moment_in now at text ≡ moment_of_form now at form
 unfolding moment_in
@@ -281,7 +281,7 @@ midnight_error now at shift ws fault h =
           )
     ]
 
--- a span after a second, or before it
+-- the error of a time span that is added to a second, or subtracted from it
 module _ (span : List ℕ) (time : ℕ → ℤ) (of : Result ℕ SpanFault → Result ℤ StampFault) (good : (n : ℕ) → of (Ok n) ≡ in_moments (time n)) (bad : (why : SpanFault) → of (Err why) ≡ Err (BadSpan why)) where
   span_error : (value : Result ℕ SpanFault) (fault : StampFault) → span_of span ≡ value → of value ≡ Err fault → IsBadSpan span fault ⊎ (((n : ℕ) × (span_of span ≡ Ok n) × (IsMoment (time n) → ⊥)) × (fault ≡ OutOfRange))
   span_error (Ok n) fault e h = let out = is_outside (time n) fault (sym (good n) ∙ h) in inr ((n, e, out.1), out.0)

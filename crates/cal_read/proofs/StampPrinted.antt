@@ -1,4 +1,5 @@
--- An instant that is printed is read as that instant, where the clock shows whole minutes and a year that a date can have.
+-- Parsing a printed instant gives that instant, if the clock shows a year that a date can have and its offset is whole
+-- minutes.
 use Rattle.std.proofs.Common.{◌≡◌, ℕ, ◌+◌, ◌-◌, ◌*◌, ◌/◌, ◌%◌, ◌<◌, ◌≤◌, true, false, inr, List, [], ◌∷◌, ◌++◌, length, get_or, codes, ℤ, pos, neg_ℤ, ◌+ℤ◌, ◌*ℤ◌, ◌≤ℤ◌, Option, Some, Ok, Err, refl, sym, ap, ◌∙◌, arith, append_assoc, append-nil, decimal, eq-eqb, length-append, leb-true, reverse, slice_index_or, unsigned_abs}
 use Rattle.std.specs.List.{list_any}
 use Rattle.std.proofs.lemmas.List.{get_or-reverse}
@@ -48,7 +49,7 @@ use Rattle.cal_read.specs.StampTime.{time_written}
 use Rattle.cal_read.specs.StampViews.{setting}
 use Rattle.cal_read.specs.declared.stamp.fault.StampFault.TheVariants.{NoSuchDate, StrayWord}
 
--- The form of a line
+-- The form of a line. A line is a printed instant: weekday, date, time and zone.
 
 abbrev after_name : List ℕ → List ℕ → List ℕ → List ℕ
 after_name date time zone = 32 ∷ (date ++ (32 ∷ (time ++ (32 ∷ zone))))
@@ -75,7 +76,8 @@ solid_at : (text : List ℕ) → is_blank (get_or text 0 0) ≡ false → Starts
 solid_at [] h = tt
 solid_at (b ∷ bs) h = h
 
--- what a text is not: one that begins with a sign, ends in a word or begins with the word of a day
+-- what doesn't match: a text that begins with a sign, a text that ends with a given word, and a text that begins with
+-- the word for a day
 no_sign : (core : List ℕ) (sign : ℕ) (means : List ℕ → Form) → 65 ≤ get_or core 0 0 → sign < 65 → (other : Form) → IsBehindSign (sign ∷ []) means core other → ⊥
 no_sign core sign means capital below other p = absurd (omega (arith, capital, below, ap (λ t. get_or t 0 0) p.1))
 
@@ -111,7 +113,7 @@ module _ (day : Weekday) (name date time zone : List ℕ) (is : IsLine day name 
       let capital = leb-true 65 (get_or name 0 0) is.named.capital in
       omega (arith, capital, get_or-append name (after_name date time zone) 0 0 (omega (arith, is.named.long)))
 
-  -- the last byte is that of the zone
+  -- the last byte of a line is that of its zone
   line_last : last_byte (line name date time zone) ≡ last_byte zone
   line_last =
       last_of name (after_name date time zone) (omega arith)
@@ -152,7 +154,7 @@ module _ (day : Weekday) (name date time zone : List ℕ) (is : IsLine day name 
       let core = line name date time zone in
       inr (no_sign core 43 later line_capital (omega arith), inr (no_sign core 45 earlier line_capital (omega arith), inr (no_sign core 64 counted line_capital (omega arith), fits_end)))
 
-  -- a line is a civil time
+  -- a line has the form of a civil time
   line_form : HasForm (line name date time zone) (civil (line_words name date time zone))
   line_form = record {
     core = line name date time zone;
@@ -177,7 +179,7 @@ then_zone at day number micros word zone meant = rw meant refl
 no_zone : (at : Setting) (day : Option Weekday) (number : Option ℤ) (micros : ℕ) (word : List ℕ) → zone_meant at.find word ≡ Err StrayWord → written_in at day number micros (word ∷ []) ≡ Err StrayWord
 no_zone at day number micros word meant = rw meant refl
 
--- The line of a date, of that many seconds after its midnight and of a zone's word
+-- The line with this date, this second of the day and this word for the zone
 
 abbrev date_in : Date → List ℕ
 date_in date = date_word (year_of date) date.month date.day
@@ -185,7 +187,7 @@ date_in date = date_word (year_of date) date.month date.day
 abbrev time_in : ℕ → List ℕ
 time_in second = time_word (hour_of second) (minute_of second) (second_of second)
 
--- its weekday
+-- the weekday of the date
 abbrev day_in : Date → Weekday
 day_in date = slice_index_or week (weekday_of date) Sunday
 
@@ -205,7 +207,7 @@ is_line date second zone h last =
       zone_word = last;
     }
 
--- the pieces of a date and of a time are their words
+-- the printed date and time are made of numbers and the signs between them
 pieces_row : (sign : ℕ) (a b c d e f : List ℕ) → a ++ (b ++ ((sign ∷ []) ++ (c ++ (d ++ ((sign ∷ []) ++ (e ++ (f ++ []))))))) ≡ (a ++ b) ++ (sign ∷ ((c ++ d) ++ (sign ∷ (e ++ f))))
 pieces_row sign a b c d e f = simp (append_assoc, append-nil)
 
@@ -230,7 +232,7 @@ fields_printed date second offset zone =
     rw (number, date_printed (shown_fields date second offset), time_printed (hour_of second) (minute_of second) (second_of second))
     (pieces_line (short_name_of (day_in date)) (date_in date) (time_in second) zone)
 
--- what the clock of a zone shows
+-- what the zone's clock shows at an instant
 abbrev local_in : Zone → ℤ → ℤ
 local_in zone secs = local_of (zone_of zone) secs
 
@@ -247,7 +249,7 @@ printed_line zone secs =
 second_below : (secs : ℤ) → second_of_day secs < 86_400
 second_below secs = omega (arith, signed_arith)
 
--- a clock shows at an instant a day of 1969 or later that the calendar has
+-- the day that a clock shows at an instant is in 1969 or later, and jiff's calendar has it
 local_within : (zone : Zone) (secs : ℤ) → IsInstant secs → IsBetween (neg_ℤ (pos 93_599)) (pos 7_258_305_597) (local_in zone secs)
 unfolding local_of
 local_within zone secs h =
@@ -264,7 +266,7 @@ shown_since zone secs h =
     let within = local_within zone secs h in
     year-from_1969 (shown_date zone secs) (omega (arith, signed_arith, shown_day zone secs h, within.0))
 
--- the words are judged from the date on
+-- parsing a line comes down to parsing its date, its time and its zone
 words_read : (now : ℤ) (at : Setting) (date : Date) (second : ℕ) (zone : List ℕ) → second < 86_400 → IsLastWord zone
     → moment_in now at (line_of date second zone)
     ≡ ((day_written (date_in date) >>= λ number. after_date at (Some (day_in date)) number (time_in second ∷ zone ∷ [])) >>= λ written. moment_of_written now written)
@@ -275,7 +277,7 @@ words_read now at date second zone h last =
     ap (moment_of_form now at) (sym (only (line_of date second zone) (civil (line_words name (date_in date) (time_in second) zone)) (line_form (day_in date) name (date_in date) (time_in second) zone is)))
     ∙ ap (λ read. read >>= λ written. moment_of_written now written) (date_first at (day_in date) name (date_in date) (time_in second) zone is.named (date_no_colon date))
 
--- the microseconds after midnight that the time writes
+-- the microseconds after midnight
 abbrev micros_in : ℕ → ℕ
 micros_in second = (hour_of second * 3_600 + minute_of second * 60) * 1_000_000 + (second_of second * 1_000_000 + 0)
 
@@ -310,7 +312,7 @@ moment_back now local secs zone date h back e =
 
 -- The law
 
--- with a year that a date can have, the zone is judged last
+-- if the year is one that a date can have, only the zone can still be invalid
 zone_judged : (now local : ℤ) (at : Setting) (date : Date) (zone : List ℕ) → IsLastWord zone → IsBetween (pos 1_970) (pos 2_199) date.year → epoch_day date ≡ day_of local
     → moment_in now at (line_of date (second_of_day local) zone)
     ≡ (written_in at (Some (day_in date)) (Some (day_of local)) (micros_in (second_of_day local)) (zone ∷ []) >>= λ written. moment_of_written now written)

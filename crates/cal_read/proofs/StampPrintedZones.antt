@@ -1,4 +1,4 @@
--- The last word of a printed instant, `UTC` or an offset, as timestamps read it.
+-- Parsing the last word of a printed instant, which is `UTC` or an offset.
 use Rattle.std.proofs.Common.{◌≡◌, ℕ, ◌-◌, ◌/◌, ◌%◌, ◌<◌, ◌≤◌, ◌==◌, inl, inr, Bool, true, false, ◌&&◌, List, [], ◌∷◌, ◌++◌, length, get_or, codes, decimal, nat_le, ℤ, pos, negsuc, int_lt, ◌-ℤ◌, unsigned_abs, Option, None, Some, Ok, Err, refl, ap, ◌∙◌, arith, append_assoc, append-nil, length-append}
 use Rattle.std.specs.Char.{is_ascii_alphabetic, is_ascii_digit}
 use Rattle.std.specs.List.{list_all}
@@ -33,7 +33,7 @@ use Rattle.cal_read.specs.declared.stamp.fault.StampFault.TheVariants.{StrayWord
 abbrev pub last_byte : List ℕ → ℕ
 last_byte text = get_or text (length text - 1) 0
 
--- a word at the end of a text: its last byte is neither a blank nor a small letter
+-- a word that may end a printed instant: its last byte is neither a blank nor a lowercase letter
 pub record IsLastWord (word : List ℕ) : Type 0 where
   pub is_word : IsWord word
   pub from : 43 ≤ last_byte word
@@ -41,7 +41,7 @@ pub record IsLastWord (word : List ℕ) : Type 0 where
 
 -- The bytes of an offset
 
--- signs, digits and colons
+-- signs, digits and colons, and the few other bytes from `+` to `:`
 abbrev is_signed_byte : ℕ → Bool
 is_signed_byte b = nat_le 43 b && nat_le b 58
 
@@ -64,7 +64,7 @@ no_letter b to = grind (arith, nat_tests)
 digits_fit : (ds : List ℕ) → list_all is_ascii_digit ds ≡ true → list_all is_signed_byte ds ≡ true
 digits_fit ds = list_all-wider is_ascii_digit is_signed_byte ds digit_fits
 
--- a sign and such bytes
+-- a sign followed by such bytes
 record IsSigned (text : List ℕ) : Type 0 where
   sign : ℕ
   body : List ℕ
@@ -154,7 +154,7 @@ offset_signed_by offset false h e = rw (in_seconds offset e) (signed_by offset _
 offset_signed : (offset : ℤ) → IsOffsetSeconds offset → IsSigned (offset_text offset)
 offset_signed offset h = offset_signed_by offset _ h refl
 
--- An offset of whole minutes is read as that offset, and another one not at all
+-- An offset of whole minutes is parsed as that offset, and any other is rejected
 
 whole_minutes : (offset : ℤ) → IsOffsetSeconds offset → unsigned_abs offset % 60 ≡ 0 → AreWholeMinutes offset
 whole_minutes offset h whole =
@@ -197,7 +197,7 @@ seconds_unread : (find : List ℕ → Option TimeZone) (offset : ℤ) → IsOffs
 seconds_unread find offset h e =
     rw (signed_no_letter (offset_text offset) (offset_signed offset h), long_none (offset_text offset) _ (seconds_long offset h e) refl) refl
 
--- The word of a zone
+-- The word for a zone
 
 settle_of-ahead : (offset local : ℤ) → IsOffsetSeconds offset → settle_of (zone_ahead offset) local ≡ local -ℤ offset
 unfolding zone_ahead
@@ -216,7 +216,7 @@ utc_meant : (table : ZoneMap) → zone_meant (zone_named table) (codes "UTC") �
 unfolding zone_named is_utc_name
 utc_meant table = refl
 
--- the offset that a zone's clock has at a second
+-- the UTC offset of a zone at a second
 abbrev pub shown_offset : Zone → ℤ → ℤ
 shown_offset zone secs = offset_at (zone_of zone) (nanos_of_seconds secs)
 
@@ -232,7 +232,7 @@ last_by false offset h = signed_last (offset_text offset) (offset_signed offset 
 pub shown_last : (zone : Zone) (secs : ℤ) → IsLastWord (shown_word zone secs)
 shown_last zone secs = last_by (is_utc zone) (shown_offset zone secs) (offset_at-in_range (zone_of zone) (nanos_of_seconds secs))
 
--- a word that means a zone in which what the clock shows is the instant
+-- a word for a zone that converts the local second back to the instant
 pub record IsReadAs (find : List ℕ → Option TimeZone) (word : List ℕ) (local secs : ℤ) : Type 0 where
   pub zone : TimeZone
   pub meant : zone_meant find word ≡ Ok zone

@@ -1,4 +1,4 @@
--- Worked texts, computed by the definitions: the present is Fri 2012-11-23 10:15:22 UTC.
+-- Examples that check the definitions of timestamps. The present is Fri 2012-11-23 10:15:22 UTC.
 use Rattle.std.proofs.Common.{◌≡◌, ℕ, ℤ, pos, neg_ℤ, codes, refl, arith, Ok, Err, List, [], ◌∷◌, Some, None, if◌then◌else◌}
 use Rattle.std.specs.Prelude.{Result, map, ◌≤◌, ◌+◌}
 use Rattle.jiff.proofs.SpanFacts.{signed_arith}
@@ -27,11 +27,11 @@ use Rattle.cal_read.specs.declared.stamp.fault.StampFault.{StampFault}
 use Rattle.cal_read.specs.declared.stamp.fault.StampFault.TheVariants.{Empty, BadWeekday, BadDate, BadTime, NoSuchDate, WrongWeekday, BadSpan, NoSuchZone, StrayWord, OutOfRange}
 use Rattle.cal_zone.proofs.YearLemmas.{days_from_civil-1970}
 
--- UTC alone
+-- the only zone is UTC
 abbrev in_utc : Setting
 in_utc = record { local = UTC; find = λ name. if is_utc_name name then Some UTC else None }
 
--- each text with what it means
+-- a timestamp, and its moment or its error
 abbrev Row : Type 0
 Row = List ℕ × Result ℤ StampFault
 
@@ -77,7 +77,7 @@ rows =
     ∷ (codes "Wed 1969-12-31 23:00:00 -01:00", Err NoSuchDate)
     ∷ []
 
--- the numbers of the days: no row counts the years up to them
+-- the day numbers of November 2012, proved here so that computing an example doesn't count the years from 1970 on
 in_november : (day : ℕ) → 1 ≤ day → days_from_civil (pos 2_012) 11 day ≡ pos (15_644 + day)
 in_november day first =
     omega (arith, signed_arith, days_from_civil-day_count (pos 2_012) 11 day, day_count-late (pos 2_012) 12_012 11 day refl (omega arith) (omega arith) first)
@@ -86,7 +86,7 @@ rows_meant : map (λ (row : Row). moment_in (pos 1_353_665_722) in_utc row.0) ro
 unfolding moment_in form_of trim_matches trim_end_matches trim_start_matches form_by_end day_shift words in_moments today settle_on moment_of_written day_written date_numbers digits_number day_of_date time_written time_numbers clock_number second_written fraction_in day_named name_of span_of pairs_in words_in worth_of is_number number_worth unit_named words_for local_of offset_at settle_of ambiguous_at datetime_of weekday_number is_utc_name offset_in clock_in two_digits zone_ahead offset_of_seconds
 rows_meant = rw (in_november 23 (omega arith), in_november 22 (omega arith), days_from_civil-1970) refl
 
--- the words of a zone
+-- the words for a zone, and the zone that they stand for or their error
 abbrev ZoneRow : Type 0
 ZoneRow = List (List ℕ) × Result TimeZone StampFault
 
@@ -106,7 +106,7 @@ zone_rows =
     ∷ (codes "+02:00" ∷ codes "UTC" ∷ [], Err StrayWord)
     ∷ (codes "UTC" ∷ codes "+02:00" ∷ [], Err StrayWord)
     ∷ (codes "+02:00" ∷ codes "12:00" ∷ [], Err StrayWord)
-    -- the first word at fault is reported
+    -- the leftmost error is reported
     ∷ (codes "Mars/One" ∷ codes "+02:00" ∷ [], Err NoSuchZone)
     ∷ []
 

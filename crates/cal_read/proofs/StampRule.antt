@@ -1,4 +1,4 @@
--- That each text has exactly one form by the rule.
+-- Every text has exactly one form by the rule of `StampRule`.
 use Rattle.std.proofs.Common.{ℕ, ◌+◌, ◌-◌, ◌<◌, ◌≤◌, ◌≡◌, Bool, true, false, inl, inr, List, [], ◌∷◌, ◌++◌, suc, length, get_or, take, drop, refl, sym, ap, ◌∙◌, arith, length-append, drop-cons, ◌&&◌, ℤ, pos, codes, Option, Some, None, eq-eqb}
 use Rattle.std.specs.Prelude.{neg_ℤ, ◌==◌, if◌then◌else◌}
 use Rattle.std.specs.List.{list_all, list_any, suffix_len, before_last, after_last}
@@ -16,7 +16,7 @@ use Rattle.cal_text.specs.headline.Words.{is_blank, words}
 use Rattle.cal_read.specs.StampForm.{Form, present, later, earlier, counted, from_today, civil, day_shift, form_of, form_by_end, form_of_solid, form_of_words, form_by_day, form_by_ago, form_by_left}
 use Rattle.cal_read.specs.StampRule.{IsNothing, IsPresent, IsBehindSign, IsBeforeWord, IsNearDay, IsCivilForm, OrElse, FitsByWords, FitsByEnd, FitsBySign, FitsFirst, HasForm}
 
--- One form
+-- There is at most one form
 
 abbrev IsOne : (List ℕ → Form → Type 0) → Type 0
 IsOne P = (core : List ℕ) (f g : Form) → P core f → P core g → f ≡ g
@@ -75,7 +75,7 @@ one_by_sign =
 one_fits : IsOne FitsFirst
 one_fits = or_else IsNothing (OrElse IsPresent FitsBySign) one_nothing (or_else IsPresent FitsBySign one_present one_by_sign)
 
--- The first form that fits
+-- The first form that matches
 
 by_sign : (Q : List ℕ → Form → Type 0) (means : List ℕ → Form) (sign b : ℕ) (bs : List ℕ) (rest : Form) (test : Bool) → (b == sign) ≡ test → Q (b ∷ bs) rest
     → OrElse (IsBehindSign (sign ∷ []) means) Q (b ∷ bs) (if test then means bs else rest)
@@ -115,7 +115,7 @@ by_words core (w ∷ ws) are =
     (by_day (OrElse (IsNearDay (codes "tomorrow") (pos 1)) IsCivilForm) (codes "yesterday") (neg_ℤ (pos 1)) core w ws _ _ refl are
     (by_day IsCivilForm (codes "tomorrow") (pos 1) core w ws None _ refl are (ap civil (sym are))))
 
--- what a text that ends in a blank and a word is
+-- what it means that a text ends with a blank and a word
 some_blank_within : (text : List ℕ) → list_any is_blank text ≡ true → suffix_len is_solid text < length text
 some_blank_within text some =
     elim (cases_lt (suffix_len is_solid text) (length text)) [

@@ -1,4 +1,4 @@
--- Which faults a file's bytes can have.
+-- Lemmas on which errors the bytes of a file can have.
 use Rattle.std.proofs.Common.{◌≡◌, ℕ, inl, inr, Bool, true, false, List, [], ◌∷◌, ◌++◌, length, refl, Option, Some, None, Result, Ok, Err}
 use Rattle.std.proofs.lemmas.Bool.{cases_Bool, false_from_ne_true}
 use Rattle.std.specs.Prelude.{nat_le}
@@ -13,7 +13,7 @@ use Rattle.cal_read.specs.headline.TimerText.{excepted, is_exception, is_express
 use Rattle.cal_read.specs.declared.timer.fault.TimerFault.{TimerFault}
 use Rattle.cal_read.specs.declared.timer.fault.TimerFault.TheVariants.{BadLine, NotUtf8, ReadFailed, TooMany}
 
--- the faults that a line can have
+-- the errors that a line can have
 abbrev pub is_of_line : TimerFault → Bool
 is_of_line (BadLine line fault) = true
 is_of_line (TooMany line) = true
@@ -52,7 +52,7 @@ never_of_list None [] xs never h = cc
 never_of_list None (e ∷ es) xs never h = cc
 never_of_list (Some fault) es xs never h = never cc
 
--- the bytes of a file are never a failed reader
+-- the error for bytes is never that a read failed
 pub never_failed : {E : Type 0} (read : List ℕ → Result E SpecFault) (bytes : List ℕ) → timer_in read bytes ≡ Err ReadFailed → ⊥
 unfolding timer_in timer_of lists_of
 never_failed read bytes h =
@@ -61,7 +61,7 @@ never_failed read bytes h =
       | inr broken ↦ (let none = rw broken at h in cc)
     ]
 
--- what is no UTF-8 isn't taken for it
+-- bytes that aren't valid UTF-8 are rejected
 pub broken_bytes : {E : Type 0} (read : List ℕ → Result E SpecFault) (bytes : List ℕ) (number : ℕ) → (IsUtf8 bytes → ⊥) → number ≡ broken_line bytes → timer_in read bytes ≡ Err (NotUtf8 number)
 unfolding timer_in
 broken_bytes read bytes number broken e = rw (false_from_ne_true (is_utf8 bytes) (λ h. broken (IsUtf8-from_is_utf8 bytes h)), e) refl

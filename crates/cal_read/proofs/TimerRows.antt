@@ -1,4 +1,5 @@
--- The worked files of the rule, computed by the definitions; texts read as themselves, or as rejected.
+-- Examples that check the definitions of timer files. Parsing an expression gives back its text (`reads`), or always
+-- fails (`rejects`).
 use Rattle.std.proofs.Common.{◌≡◌, ℕ, List, [], ◌∷◌, ◌++◌, codes, refl, Result, Ok, Err}
 use Rattle.std.specs.Prelude.{map}
 use Rattle.std.specs.List.{flat_map}
@@ -15,15 +16,15 @@ use Rattle.cal_read.specs.headline.TimerText.{excepted, is_exception, is_excepti
 use Rattle.cal_read.specs.declared.timer.fault.TimerFault.{TimerFault}
 use Rattle.cal_read.specs.declared.timer.fault.TimerFault.TheVariants.{BadLine, NothingToDo, NotUtf8}
 
--- lines, each with its line feed
+-- a file with these lines, each ended by a line feed
 abbrev file : List (List ℕ) → List ℕ
 file = flat_map (λ line. line ++ 10 ∷ [])
 
--- a line that is continued
+-- a line that continues on the next one
 abbrev continued : List ℕ → List ℕ
 continued line = line ++ 92 ∷ []
 
--- an expression that reads as its own text
+-- an entry whose expression is its own text
 abbrev entry : ℕ → List ℕ → TimerLine (List ℕ)
 entry number text = record { number = number; text = text; expr = text }
 
@@ -33,29 +34,29 @@ reads text = Ok text
 abbrev rejects : List ℕ → Result (List ℕ) SpecFault
 rejects text = Err NoRepeat
 
--- the lists of a file
+-- the result of a file with these lists
 abbrev gives : List (TimerLine (List ℕ)) → List (TimerLine (List ℕ)) → Result (Timer (List ℕ)) TimerFault
 gives es xs = Ok (record { expressions = es; exceptions = xs })
 
--- how texts are read, a file and what it gives
+-- how expressions are parsed, a file, and its result
 abbrev Row : Type 0
 Row = (List ℕ → Result (List ℕ) SpecFault) × List ℕ × Result (Timer (List ℕ)) TimerFault
 
 abbrev rows : List Row
 rows =
-    -- the worked file
+    -- the main example
     (reads, file (codes "[Unit]" ∷ codes "Description=x" ∷ codes "[Timer]" ∷ codes "OnCalendar=daily" ∷ codes "OnBootSec=" ∷ continued (codes "OnCalendar=Mon ") ∷ codes "# the minutes" ∷ codes "  *:0/30" ∷ codes "OnCalendar=hourly" ∷ []), gives (entry 6 (codes "Mon  *:0/30") ∷ entry 9 (codes "hourly") ∷ []) [])
-    -- ends of lines, marks, sections, and backslashes
+    -- line endings, byte order marks, sections and backslashes
     ∷ (reads, 239 ∷ 187 ∷ 191 ∷ codes "[Timer]" ++ 13 ∷ 10 ∷ codes "OnCalendar= a " ++ 13 ∷ 13 ∷ 10 ∷ [], gives (entry 2 (codes "a") ∷ []) [])
     ∷ (reads, file (codes "OnCalendar=a" ∷ codes " [Timer] " ∷ codes "OnCalendar=b" ∷ codes "[Unit]" ∷ codes "OnCalendar=" ∷ []), gives (entry 3 (codes "b") ∷ []) [])
     ∷ (reads, codes "[Timer]" ++ 10 ∷ continued (codes "OnCalendar=a"), gives (entry 2 (codes "a") ∷ []) [])
     ∷ (reads, file (codes "[Timer]" ∷ continued (continued (codes "OnCalendar=a")) ∷ codes "OnCalendar=b" ∷ []), gives (entry 2 (codes "a" ++ 92 ∷ 92 ∷ []) ∷ entry 3 (codes "b") ∷ []) [])
     ∷ (reads, file (codes "[Timer]" ∷ continued (codes "; x ") ∷ codes "OnCalendar=a=b" ∷ []), gives (entry 3 (codes "a=b") ∷ []) [])
-    -- exceptions: their own key empties their list, and what empties the other leaves it
+    -- exceptions: only an empty value of their own key clears their list
     ∷ (reads, file (codes "[Timer]" ∷ codes "OnCalendar=daily" ∷ codes "X-ExceptOnCalendar=Sat,Sun 12:00" ∷ codes "OnBootSec=" ∷ codes "OnCalendar=12:00" ∷ []), gives (entry 5 (codes "12:00") ∷ []) (entry 3 (codes "Sat,Sun 12:00") ∷ []))
     ∷ (reads, file (codes "[Timer]" ∷ codes "OnCalendar=a" ∷ codes "X-ExceptOnCalendar=b" ∷ codes "X-ExceptOnCalendar=" ∷ codes "X-ExceptOnCalendar=c" ∷ []), gives (entry 2 (codes "a") ∷ []) (entry 5 (codes "c") ∷ []))
     ∷ (reads, file (codes "[Timer]" ∷ codes "X-ExceptOnCalendar=b" ∷ []), Err NothingToDo)
-    -- refusals
+    -- errors
     ∷ (rejects, [], Err NothingToDo)
     ∷ (rejects, codes "[Timer]" ++ 10 ∷ codes "OnCalendar=20/4:00", Err (BadLine 2 NoRepeat))
     ∷ (rejects, file (codes "[Timer]" ∷ codes "OnCalendar=daily" ∷ (codes "x" ++ 255 ∷ []) ∷ []), Err (NotUtf8 3))

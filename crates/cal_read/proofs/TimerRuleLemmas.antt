@@ -1,4 +1,4 @@
--- The definitions of timer files against the rule's own words.
+-- Lemmas which say that the definitions of timer files follow the rule of `TimerRule`.
 use Rattle.std.proofs.Common.{◌≡◌, ◌<◌, ℕ, Bool, true, false, List, [], ◌∷◌, ◌++◌, codes, filter, length, refl, sym, subst, ap, ◌∙◌, arith, append_assoc, append-nil, Option, Some, None, Result, Ok, Err}
 use Rattle.std.specs.List.{after_last, list_any}
 use Rattle.std.specs.Option.{option_or}
@@ -28,7 +28,7 @@ no_header false (line ∷ lines) h =
     let parts = or_parts (is_header line.text) (list_any (λ line. is_header line.text) lines) h in
     rw parts.0 (no_header false lines parts.1)
 
--- what comes after the last header
+-- the lines after the last header, if it opens the section
 abbrev opened : Line → List Line → List Line
 opened header rest = if bytes_eq (section_of header.text) (codes "Timer") then rest else []
 
@@ -43,7 +43,7 @@ unfolding timer_lines
 last_header inside [] rest header e none = rw e (no_header (bytes_eq (section_of header.text) (codes "Timer")) rest none)
 last_header inside (line ∷ front) rest header e none = header_passed (is_header line.text) inside line front rest header refl (λ inside. last_header inside front rest header e none)
 
--- The list after the last reset
+-- The list after it was last cleared
 after_last_after : {X : Type 0} (p : X → Bool) (xs ys : List X) → list_any p ys ≡ false → after_last p (xs ++ ys) ≡ after_last p xs ++ ys
 after_last_after p xs [] none = ap (after_last p) (append-nil xs) ∙ sym (append-nil (after_last p xs))
 after_last_after p xs (y ∷ ys) none =
@@ -53,7 +53,7 @@ after_last_after p xs (y ∷ ys) none =
     ∙ ap (λ front. front ++ ys) (after_last_more p xs y parts.0)
     ∙ append_assoc (after_last p xs) (y ∷ []) ys
 
--- a list that one test adds to and another empties
+-- a list to which `adds` adds and which `resets` clears
 kept_after_reset : (adds resets : Assignment → Bool) (front rest : List Assignment) (reset : Assignment) → resets reset ≡ true → list_any resets rest ≡ false → filter adds (after_last resets (front ++ (reset ∷ rest))) ≡ filter adds rest
 kept_after_reset adds resets front rest reset e none =
     ap (λ all. filter adds (after_last resets all)) (sym (append_assoc front (reset ∷ []) rest))
@@ -78,7 +78,7 @@ pub excepted_without_reset : (all : List Assignment) → list_any is_exception_r
 unfolding excepted
 excepted_without_reset = kept_without_reset is_exception is_exception_reset
 
--- The first fault. Where these come before, no assignment of the others has a fault.
+-- The first error. After the assignments in `first`, none in `all` has an error.
 abbrev AreFineBehind : {E : Type 0} → (List ℕ → Result E SpecFault) → List Assignment → List Assignment → Type 0
 AreFineBehind read first all = (before : List Assignment) (a : Assignment) (after : List Assignment) → all ≡ before ++ (a ∷ after) → fault_following read (first ++ before) a ≡ None
 
@@ -110,7 +110,7 @@ none_from_fine read first (x ∷ xs) fine =
     let rest : first_fault read (first ++ x ∷ []) xs ≡ None = none_from_fine read (first ++ x ∷ []) xs (λ before a after e. subst (λ (front : List Assignment). fault_following read front a ≡ None) (sym (append_assoc first (x ∷ []) before)) (fine (x ∷ before) a after (ap (λ ys. x ∷ ys) e))) in
     rw here rest
 
--- an assignment with a fault, after fine ones
+-- after the assignments in `first`, one in `all` has this error, and none before it has one
 record FirstFault {E : Type 0} (read : List ℕ → Result E SpecFault) (first all : List Assignment) (fault : TimerFault) : Type 0 where
   before : List Assignment
   at : Assignment
@@ -144,7 +144,7 @@ unfolding first_fault
 fault_from_some read first [] fault h = cc
 fault_from_some read first (x ∷ xs) fault h = fault_at read first x xs fault (fault_following read first x) refl h (fault_from_some read (first ++ x ∷ []) xs fault)
 
--- the first of all faults, where an assignment after fine ones has one
+-- if an assignment has an error and none before it has one, its error is the first
 some_from_fault : {E : Type 0} (read : List ℕ → Result E SpecFault) (first before : List Assignment) (a : Assignment) (after : List Assignment) (fault : TimerFault) → AreFineBehind read first before → fault_following read (first ++ before) a ≡ Some fault → first_fault read first (before ++ (a ∷ after)) ≡ Some fault
 unfolding first_fault
 some_from_fault read first [] a after fault fine e =
@@ -156,7 +156,7 @@ some_from_fault read first (x ∷ before) a after fault fine e =
     let there : fault_following read ((first ++ x ∷ []) ++ before) a ≡ Some fault = subst (λ (front : List Assignment). fault_following read front a ≡ Some fault) (sym (append_assoc first (x ∷ []) before)) e in
     rw here (some_from_fault read (first ++ x ∷ []) before a after fault fine_after there)
 
--- The one result
+-- There is exactly one result
 judged_fault : {E : Type 0} (read : List ℕ → Result E SpecFault) (all : List Assignment) (fault : TimerFault) → is_of_line fault ≡ true → IsFirstTimerFault read all fault → JudgesTimer read all (Err fault)
 judged_fault read all NothingToDo e h = cc
 judged_fault read all fault e h = h

@@ -1,4 +1,4 @@
--- Assignments of a unit file without where they lie in memory.
+-- How contracts see the assignments of a unit file: by their contents, not by where they are in memory.
 use Rattle.cal_read.specs.headline.Assignments.{Assignment}
 use Rattle.cal_read.specs.declared.assignments.Assignment as declared_assignment
 

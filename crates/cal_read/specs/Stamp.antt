@@ -1,4 +1,4 @@
--- The meaning of a timestamp: systemd.time(7), Parsing Timestamps. The text is read by the first form that fits.
+-- How a timestamp resolves to a moment: systemd.time(7), Parsing Timestamps. The first matching form decides.
 use Rattle.std.specs.Prelude.{ℕ, ◌/◌, ◌%◌, ◌==◌, Bool, true, false, not, ◌&&◌, if◌then◌else◌, ℤ, pos, int_lt, ◌+ℤ◌, ◌-ℤ◌, ◌*ℤ◌, List, [], ◌∷◌, Option, None, Some, Result, Ok, Err}
 use Rattle.std.specs.List.{list_any}
 use Rattle.std.specs.Option.{unwrap_or}
@@ -25,19 +25,19 @@ use Rattle.cal_read.specs.declared.stamp.fault.StampFault.TheVariants.{Empty, Ba
 use Rattle.cal_text.specs.AndThen.{◌>>=◌}
 use Rattle.cal_zone.specs.headline.Moment.{micros_of}
 
--- what a text is read by, aside from the present: the local zone, and the zone that a name has
+-- the zones that a timestamp can refer to: the local zone, and the zones that have a name
 pub record Setting : Type 0 where
   pub local : TimeZone
   pub find : List ℕ → Option TimeZone
 
--- Spans
+-- Time spans
 
--- the moment of that many microseconds of Unix time, where there is one
+-- the moment at this many microseconds of Unix time, or the error if there is none
 unfoldable pub in_moments : ℤ → Result ℤ StampFault
 in_moments micros =
     if not (int_lt micros (pos 0)) && not (int_lt last_moment micros) then Ok micros else Err OutOfRange
 
--- the moment a span after the second, or before it
+-- the moment that is a time span after the second, or before it
 abbrev pub after_second : ℤ → Result ℕ SpanFault → Result ℤ StampFault
 after_second second (Ok span) = in_moments (micros_of second +ℤ pos span)
 after_second second (Err fault) = Err (BadSpan fault)
@@ -48,51 +48,51 @@ before_second second (Err fault) = Err (BadSpan fault)
 
 -- Days
 
--- the present day in a zone
+-- the day that the zone's clock shows at present, as a day number
 unfoldable pub today : ℤ → TimeZone → ℤ
 today now zone = day_of (local_of zone now)
 
--- the moment of that many microseconds after a day's midnight: a local time that the clock skips is moved on by what is
--- skipped, and of one that it shows twice this is the first
+-- the moment that is this many microseconds after midnight of the day; a local time in a gap is moved forward by the
+-- length of the gap, and of a local time in a fold the first occurrence is used
 unfoldable pub settle_on : TimeZone → ℤ → ℕ → Result ℤ StampFault
 settle_on zone day micros =
     in_moments (micros_of (settle_of zone (day *ℤ pos 86_400 +ℤ pos (micros / 1_000_000))) +ℤ pos (micros % 1_000_000))
 
 -- Words
 
--- a name that has a zone
+-- the zone with a name, or the error if no zone has the name
 abbrev pub name_found : Option TimeZone → Result TimeZone StampFault
 name_found None = Err NoSuchZone
 name_found (Some zone) = Ok zone
 
--- a word that is an offset; any other word has no place here
+-- the zone of an offset, or the error if the word is not an offset
 abbrev pub offset_found : Option ℤ → Result TimeZone StampFault
 offset_found None = Err StrayWord
 offset_found (Some seconds) = Ok (zone_ahead seconds)
 
--- the zone that a word means: a word that begins with a letter is a name, and any other must be an offset, `+hh:mm` or
--- `-hh:mm`
+-- the zone of a word: if the word begins with a letter it must be the name of a zone, otherwise it must be an offset,
+-- `+hh:mm` or `-hh:mm`
 abbrev pub zone_meant : (List ℕ → Option TimeZone) → List ℕ → Result TimeZone StampFault
 zone_meant find w = if begins_with_letter w then name_found (find w) else offset_found (offset_in w)
 
--- no word comes after a zone
+-- no word may come after the zone
 abbrev pub zone_alone : TimeZone → List (List ℕ) → Result TimeZone StampFault
 zone_alone zone [] = Ok zone
 zone_alone zone (w ∷ ws) = Err StrayWord
 
--- no word, which means the local zone, or one that means a zone
+-- the zone of the remaining words: the local zone if there are none, and otherwise the zone of the only word
 abbrev pub zone_by_words : Setting → List (List ℕ) → Result TimeZone StampFault
 zone_by_words at [] = Ok at.local
 zone_by_words at (w ∷ ws) = zone_meant at.find w >>= λ zone. zone_alone zone ws
 
--- a civil time as it is written
+-- a parsed civil time
 pub record Written : Type 0 where
   pub weekday : Option Weekday
   pub day : Option ℤ
   pub micros : ℕ
   pub zone : TimeZone
 
--- with the zone that the words after it mean
+-- the civil time with these parts, in the zone of the remaining words
 abbrev pub written_in : Setting → Option Weekday → Option ℤ → ℕ → List (List ℕ) → Result Written StampFault
 written_in at weekday day micros ws =
     zone_by_words at ws >>= λ zone. Ok (record { weekday = weekday; day = day; micros = micros; zone = zone })
@@ -101,14 +101,14 @@ abbrev pub begins_with_digit : List ℕ → Bool
 begins_with_digit [] = false
 begins_with_digit (b ∷ bs) = is_ascii_digit b
 
--- after a date, a word that begins with a digit is the time
+-- the civil time from the words after its date: if the first begins with a digit, it is the time
 abbrev pub after_date : Setting → Option Weekday → ℤ → List (List ℕ) → Result Written StampFault
 after_date at weekday day [] = written_in at weekday (Some day) 0 []
 after_date at weekday day (w ∷ ws) =
     if begins_with_digit w then (time_written w >>= λ micros. written_in at weekday (Some day) micros ws)
     else written_in at weekday (Some day) 0 (w ∷ ws)
 
--- after the weekday, a word with a colon is the time, any other the date
+-- the civil time from the words after its weekday: if the first has a colon it is the time, otherwise it is the date
 abbrev pub after_weekday : Setting → Option Weekday → List (List ℕ) → Result Written StampFault
 after_weekday at weekday [] = Err BadDate
 after_weekday at weekday (w ∷ ws) =
@@ -119,24 +119,24 @@ abbrev pub weekday_found : Setting → Option Weekday → List (List ℕ) → Re
 weekday_found at None ws = Err BadWeekday
 weekday_found at (Some weekday) ws = after_weekday at (Some weekday) ws
 
--- a first word that begins with a letter is the weekday
+-- the civil time of these words: if the first begins with a letter, it is the weekday
 abbrev pub civil_time : Setting → List (List ℕ) → Result Written StampFault
 civil_time at [] = Err BadDate
 civil_time at (w ∷ ws) =
     if begins_with_letter w then weekday_found at (day_named w) ws else after_weekday at None (w ∷ ws)
 
--- whether the day is one of these weekdays
+-- whether the day is this weekday; true if no weekday is named
 abbrev pub fits_weekday : Option Weekday → ℤ → Bool
 fits_weekday None day = true
 fits_weekday (Some weekday) day = weekday_number day == monday_zero weekday
 
--- the moment of a civil time: a missing date is the present day in its zone
+-- the moment of a civil time; if it has no date, it is on the present day in its zone
 unfoldable pub moment_of_written : ℤ → Written → Result ℤ StampFault
 moment_of_written now c =
     let day = unwrap_or c.day (today now c.zone) in
     if fits_weekday c.weekday day then settle_on c.zone day c.micros else Err WrongWeekday
 
--- The meaning
+-- All forms
 
 abbrev pub moment_of_form : ℤ → Setting → Form → Result ℤ StampFault
 moment_of_form now at nothing = Err Empty
@@ -147,6 +147,6 @@ moment_of_form now at (counted span) = after_second (pos 0) (span_of span)
 moment_of_form now at (from_today shift ws) = zone_by_words at ws >>= λ zone. settle_on zone (today now zone +ℤ shift) 0
 moment_of_form now at (civil ws) = civil_time at ws >>= λ written. moment_of_written now written
 
--- the microseconds of the moment that a text means, by the present second and the zones, or the text's fault
+-- the moment of a timestamp in microseconds, or its error, given the present second and the zones
 unfoldable pub moment_in : ℤ → Setting → List ℕ → Result ℤ StampFault
 moment_in now at text = moment_of_form now at (form_of text)

@@ -1,5 +1,5 @@
--- The rule of a civil time in its own words: systemd.time(7), Parsing Timestamps. The law `one_civil_time` ties it to
--- what `Stamp` computes.
+-- What a civil time is, stated as a rule and not as a computation: systemd.time(7), Parsing Timestamps. The law
+-- `one_civil_time` says that the functions of `Stamp` follow this rule.
 use Rattle.std.specs.Prelude.{ℕ, ◌≡◌, ◌⊎◌, ◌||◌, true, ℤ, List, [], ◌∷◌, ◌++◌, Option, None, Some, is_some, Ok, Err}
 use Rattle.std.specs.Option.{option_to_list}
 use Rattle.jiff.specs.Types.{TimeZone, Weekday}
@@ -12,34 +12,34 @@ use Rattle.cal_read.specs.StampDate.{day_written}
 use Rattle.cal_read.specs.StampTime.{time_written}
 use Rattle.cal_read.specs.declared.stamp.fault.StampFault.TheVariants.{NoSuchDate}
 
--- no word, or a weekday's name
+-- the word is the name of a weekday, or there is no word and no weekday is named
 abbrev pub NamesWeekday : Option (List ℕ) → Option Weekday → Type 0
 NamesWeekday None weekday = weekday ≡ None
 NamesWeekday (Some word) weekday =
     (named : Weekday) × (begins_with_letter word ≡ true) × (day_named word ≡ Some named) × (weekday ≡ Some named)
 
--- no word, or a date
+-- the word is a date, or there is no word and no date
 abbrev pub WritesDate : Option (List ℕ) → Option ℤ → Type 0
 WritesDate None day = day ≡ None
 WritesDate (Some word) day = (number : ℤ) × (day_written word ≡ Ok number) × (day ≡ Some number)
 
--- no word, which means midnight, or a time
+-- the word is a time of day, or there is no word and the time is midnight
 abbrev pub WritesTime : Option (List ℕ) → ℕ → Type 0
 WritesTime None micros = micros ≡ 0
 WritesTime (Some word) micros = time_written word ≡ Ok micros
 
--- a name of the table, or an offset
+-- the word is the name of a zone in the table, or an offset
 abbrev pub MeansZone : (List ℕ → Option TimeZone) → List ℕ → TimeZone → Type 0
 MeansZone find word zone =
     ((begins_with_letter word ≡ true) × (find word ≡ Some zone))
     ⊎ ((seconds : ℤ) × IsOffsetWord word seconds × (zone ≡ zone_ahead seconds))
 
--- no word, which means the local zone, or one that means a zone
+-- the word stands for the zone, or there is no word and the zone is the local one
 abbrev pub NamesZone : Setting → Option (List ℕ) → TimeZone → Type 0
 NamesZone at None zone = zone ≡ at.local
 NamesZone at (Some word) zone = MeansZone at.find word zone
 
--- `[weekday] [date] [time] [zone]`, of which date or time must be there
+-- the words are `[weekday] [date] [time] [zone]`, with at least a date or a time
 pub record IsCivilTime (at : Setting) (words : List (List ℕ)) (c : Written) : Type 0 where
   pub weekday : Option (List ℕ)
   pub date : Option (List ℕ)
@@ -52,7 +52,7 @@ pub record IsCivilTime (at : Setting) (words : List (List ℕ)) (c : Written) : 
   pub has_time : WritesTime time c.micros
   pub has_zone : NamesZone at zone c.zone
 
--- one of the words is a date that there isn't
+-- one of the words is a date that doesn't exist
 abbrev pub HasNoSuchDate : List (List ℕ) → Type 0
 HasNoSuchDate [] = ⊥
 HasNoSuchDate (w ∷ ws) = (day_written w ≡ Err NoSuchDate) ⊎ HasNoSuchDate ws

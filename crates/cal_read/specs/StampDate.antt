@@ -1,4 +1,4 @@
--- The date of a timestamp: systemd.time(7), Parsing Timestamps. The calendar is `jiff`'s.
+-- The date of a timestamp: systemd.time(7), Parsing Timestamps. The calendar is that of `jiff`.
 use Rattle.std.specs.Prelude.{ℕ, ◌==◌, nat_le, Bool, ◌&&◌, if◌then◌else◌, ℤ, pos, List, [], ◌∷◌, length, Option, None, Some, Result, Ok, Err}
 use Rattle.std.specs.Char.{is_ascii_digit}
 use Rattle.std.specs.List.{list_all, slice_split}
@@ -10,7 +10,7 @@ use Rattle.cal_read.specs.declared.stamp.date.DateNumbers.{DateNumbers}
 use Rattle.cal_read.specs.declared.stamp.fault.StampFault.{StampFault}
 use Rattle.cal_read.specs.declared.stamp.fault.StampFault.TheVariants.{BadDate, NoSuchDate}
 
--- the number that one or more digits write, at most that many
+-- the number that 1 to `most` digits stand for
 unfoldable pub digits_number : ℕ → List ℕ → Option ℕ
 digits_number most word =
     if nat_le 1 (length word) && nat_le (length word) most && list_all is_ascii_digit word then Some (digits_value 10 word)
@@ -19,12 +19,12 @@ digits_number most word =
 abbrev pub is_hyphen : ℕ → Bool
 is_hyphen b = b == 45
 
--- a year, a month and a day as they are written
+-- a year, month and day as they are written
 abbrev pub date_by : Option ℕ → Option ℕ → Option ℕ → Option DateNumbers
 date_by (Some year) (Some month) (Some day) = Some (record { year = year; month = month; day = day })
 date_by year month day = None
 
--- the year of one to four digits, the others of one or two
+-- the year has one to four digits, the month and the day one or two
 abbrev pub date_of_pieces : List (List ℕ) → Option DateNumbers
 date_of_pieces (year ∷ month ∷ day ∷ []) = date_by (digits_number 4 year) (digits_number 2 month) (digits_number 2 day)
 date_of_pieces pieces = None
@@ -32,13 +32,13 @@ date_of_pieces pieces = None
 unfoldable pub date_numbers : List ℕ → Option DateNumbers
 date_numbers word = date_of_pieces (slice_split is_hyphen word)
 
--- a day from 1970-01-01 to 2199-12-31
+-- whether this is a day from 1970-01-01 to 2199-12-31
 abbrev pub is_day : ℕ → ℕ → ℕ → Bool
 is_day year month day =
     nat_le 1970 year && nat_le year 2199 && nat_le 1 month && nat_le month 12 && nat_le 1 day
     && nat_le day (days_in_month (pos year) month)
 
--- its day number from 1970-01-01 on
+-- the number of the day, counted from 1970-01-01
 unfoldable pub day_of_date : ℕ → ℕ → ℕ → Result ℤ StampFault
 day_of_date year month day =
     if is_day year month day then Ok (days_from_civil (pos year) month day) else Err NoSuchDate
@@ -47,6 +47,6 @@ abbrev pub day_due : Option DateNumbers → Result ℤ StampFault
 day_due None = Err BadDate
 day_due (Some date) = day_of_date (with_century date.year) date.month date.day
 
--- the day number of the date that the word writes, or its fault
+-- the day number of a date as it is written, or the error
 unfoldable pub day_written : List ℕ → Result ℤ StampFault
 day_written word = day_due (date_numbers word)

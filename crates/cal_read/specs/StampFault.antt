@@ -1,10 +1,10 @@
--- What is said of a text that is no timestamp.
+-- The messages of the errors for timestamps.
 use Rattle.std.specs.Prelude.{ℕ, List, ◌++◌, codes}
 use Rattle.cal_span.specs.SpanFault.{words_of as span_words}
 use Rattle.cal_read.specs.declared.stamp.fault.StampFault.{StampFault}
 use Rattle.cal_read.specs.declared.stamp.fault.StampFault.TheVariants.{Empty, BadWeekday, BadDate, BadTime, NoSuchDate, WrongWeekday, BadSpan, NoSuchZone, StrayWord, OutOfRange}
 
--- the words that tell a user of the fault
+-- the message of an error
 abbrev pub words_of : StampFault → List ℕ
 words_of Empty = codes "empty timestamp"
 words_of BadWeekday = codes "bad weekday"

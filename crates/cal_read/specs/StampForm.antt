@@ -1,12 +1,12 @@
--- The forms of a timestamp: systemd.time(7), Parsing Timestamps.
+-- The forms of timestamps: systemd.time(7), Parsing Timestamps.
 use Rattle.std.specs.Prelude.{ℕ, ◌==◌, ◌&&◌, if◌then◌else◌, ℤ, pos, neg_ℤ, List, [], ◌∷◌, codes, Option, None, Some}
 use Rattle.std.specs.List.{list_any, before_last, after_last}
 use Rattle.std.specs.Str.{bytes_eq}
 use Rattle.cal_text.specs.headline.Trim.{trim_matches}
 use Rattle.cal_text.specs.headline.Words.{is_blank, words}
 
--- what a text asks for: nothing at all, the present, a span text after the present, before it or after 0, that many
--- days from the present day with the words after, or the words of a civil time
+-- The forms: nothing; the present; a time span after the present, before it, or after 0; the midnight of the day that
+-- is so many days from today, with the words of its zone; and the words of a civil time.
 pub data Form : Type 0 where
   nothing : Form
   present : Form
@@ -16,12 +16,12 @@ pub data Form : Type 0 where
   from_today : ℤ → List (List ℕ) → Form
   civil : List (List ℕ) → Form
 
--- what comes before the last blank, where this word comes after it
+-- the text before the last blank, if the word after that blank is `word`
 abbrev pub before_word : List ℕ → List ℕ → Option (List ℕ)
 before_word word text =
     if list_any is_blank text && bytes_eq (after_last is_blank text) word then Some (before_last is_blank text) else None
 
--- how many days after the present day the word names
+-- how many days after the present day the day is that this word names
 unfoldable pub day_shift : List ℕ → Option ℤ
 day_shift word =
     if bytes_eq word (codes "today") then Some (pos 0)
@@ -36,7 +36,7 @@ abbrev pub form_of_words : List (List ℕ) → Form
 form_of_words [] = civil []
 form_of_words (w ∷ ws) = form_by_day (day_shift w) w ws
 
--- a text that ends in `left` is meant after the present, one that ends in `ago` before it
+-- the form of a text by its last word: `left` stands for a time span after the present, and `ago` for one before it
 abbrev pub form_by_ago : Option (List ℕ) → List ℕ → Form
 form_by_ago None text = form_of_words (words text)
 form_by_ago (Some span) text = earlier span
@@ -48,7 +48,7 @@ form_by_left (Some span) text = later span
 unfoldable pub form_by_end : List ℕ → Form
 form_by_end text = form_by_left (before_word (codes "left") text) text
 
--- what a text without blanks at its ends asks for: the first that fits
+-- the form of a text without leading and trailing blanks: the first that matches
 abbrev pub form_of_solid : List ℕ → Form
 form_of_solid [] = nothing
 form_of_solid (b ∷ bs) =
@@ -58,6 +58,6 @@ form_of_solid (b ∷ bs) =
     else (if b == 64 then counted bs
     else form_by_end (b ∷ bs))))
 
--- what a text asks for
+-- the form of a text
 unfoldable pub form_of : List ℕ → Form
 form_of text = form_of_solid (trim_matches is_blank text)

@@ -1,5 +1,5 @@
--- Which moment a timestamp means, in its own words: systemd.time(7), Parsing Timestamps. The laws of timestamps tie this to
--- what `Stamp` computes.
+-- Which moment a timestamp resolves to, stated as a rule and not as a computation: systemd.time(7), Parsing Timestamps.
+-- The laws in `cal_read::stamp::laws` say that the functions of `Stamp` follow this rule.
 use Rattle.std.specs.Prelude.{ℕ, ◌≡◌, ◌+◌, ◌*◌, ◌<◌, ℤ, pos, ◌+ℤ◌, ◌-ℤ◌, ◌*ℤ◌, ◌≤ℤ◌, ◌<ℤ◌, List, Option, None, Some, Ok}
 use Rattle.std.specs.Option.{option_to_list}
 use Rattle.jiff.specs.Types.{TimeZone, Weekday}
@@ -12,36 +12,36 @@ use Rattle.cal_read.specs.Stamp.{Setting, Written}
 use Rattle.cal_read.specs.StampCivilRule.{IsCivilTime, NamesZone}
 use Rattle.cal_read.specs.StampForm.{Form, nothing, present, later, earlier, counted, from_today, civil}
 
--- Spans
+-- Time spans
 
--- the time is as long after the second as the span text says
+-- the time is a time span after the second
 abbrev pub LiesAfter : ℤ → List ℕ → ℤ → Type 0
 LiesAfter second span time = (micros : ℕ) × (span_of span ≡ Ok micros) × (time -ℤ micros_of second ≡ pos micros)
 
--- the time is as long before the second as the span text says
+-- the time is a time span before the second
 abbrev pub LiesBefore : ℤ → List ℕ → ℤ → Type 0
 LiesBefore second span time = (micros : ℕ) × (span_of span ≡ Ok micros) × (micros_of second -ℤ time ≡ pos micros)
 
 -- Days
 
--- at the present, the zone's clock shows a time of that day, which has 86,400 seconds from its midnight on
+-- the zone's clock at present shows a time on this day: at its midnight, or less than 86,400 seconds later
 pub record IsPresentDay (now : ℤ) (zone : TimeZone) (day : ℤ) : Type 0 where
   pub begun : (day *ℤ pos 86_400) ≤ℤ local_of zone now
   pub lasts : local_of zone now <ℤ (day *ℤ pos 86_400 +ℤ pos 86_400)
 
--- the day that is written, or else the present day in the zone
+-- the day of the date, or the present day in the zone if there is no date
 abbrev pub IsDay : ℤ → TimeZone → Option ℤ → ℤ → Type 0
 IsDay now zone None day = IsPresentDay now zone day
 IsDay now zone (Some written) day = day ≡ written
 
--- the day falls on the weekday, if one is named: 1970-01-01 was a Thursday, three days after a Monday, and each weekday comes
--- again every seven days
+-- the day is the weekday, if one is named: 1970-01-01 was a Thursday, three days after a Monday, and weekdays repeat
+-- every seven days
 abbrev pub FallsOn : Option Weekday → ℤ → Type 0
 FallsOn None day = Unit
 FallsOn (Some weekday) day = (week : ℤ) × (day +ℤ pos 3 ≡ week *ℤ pos 7 +ℤ pos (monday_zero weekday))
 
--- the time is that many microseconds after midnight of the day by the zone's clock: a local time that the clock skips is moved
--- on by what is skipped, and of one that it shows twice this is the first
+-- the time is this many microseconds after midnight of the day on the zone's clock; a local time in a gap is moved
+-- forward by the length of the gap, and of a local time in a fold the first occurrence is used
 pub record IsTimeOfDay (zone : TimeZone) (day : ℤ) (micros : ℕ) (time : ℤ) : Type 0 where
   pub second : ℕ
   pub rest : ℕ
@@ -49,7 +49,7 @@ pub record IsTimeOfDay (zone : TimeZone) (day : ℤ) (micros : ℕ) (time : ℤ)
   pub below : rest < 1_000_000
   pub settled : time ≡ micros_of (settle_of zone (day *ℤ pos 86_400 +ℤ pos second)) +ℤ pos rest
 
--- the midnight that begins the day that many days after the present one, in the zone that the words mean
+-- the time is the midnight at which the day begins that is `shift` days after the present day, in the zone of the words
 pub record IsMidnight (now : ℤ) (at : Setting) (shift : ℤ) (words : List (List ℕ)) (time : ℤ) : Type 0 where
   pub name : Option (List ℕ)
   pub zone : TimeZone
@@ -59,7 +59,7 @@ pub record IsMidnight (now : ℤ) (at : Setting) (shift : ℤ) (words : List (Li
   pub has_today : IsPresentDay now zone today
   pub is_midnight : IsTimeOfDay zone (today +ℤ shift) 0 time
 
--- the time of a civil time, whose weekday is its day's
+-- the time is that of the civil time that the words stand for, whose day is the weekday that is named
 pub record IsCivilMoment (now : ℤ) (at : Setting) (words : List (List ℕ)) (time : ℤ) : Type 0 where
   pub written : Written
   pub day : ℤ
@@ -68,7 +68,7 @@ pub record IsCivilMoment (now : ℤ) (at : Setting) (words : List (List ℕ)) (t
   pub falls : FallsOn written.weekday day
   pub is_time : IsTimeOfDay written.zone day written.micros time
 
--- the microseconds of Unix time that a form means, whether these are a moment or not
+-- the form stands for this time in microseconds of Unix time, whether or not that is in the supported range
 abbrev pub MeansTime : ℤ → Setting → Form → ℤ → Type 0
 MeansTime now at nothing time = ⊥
 MeansTime now at present time = time ≡ micros_of now

@@ -1,13 +1,12 @@
--- What a clock shows of an instant that is printed, where the text is to be a timestamp: systemd.time(7), Parsing
--- Timestamps.
+-- Which printed instants are valid timestamps: systemd.time(7), Parsing Timestamps.
 use Rattle.std.specs.Prelude.{◌≡◌, ◌%◌, pos, unsigned_abs}
 use Rattle.jiff.specs.Words.{IsBetween}
 use Rattle.cal_zone.specs.declared.civil_fields.Civil.{Civil}
 
--- a year that a written date can have
+-- the year is one that a date may have
 abbrev pub ShowsYear : Civil → Type 0
 ShowsYear shown = IsBetween (pos 1_970) (pos 2_199) shown.year
 
--- a clock that is whole minutes from UTC
+-- the UTC offset is whole minutes
 abbrev pub ShowsMinutes : Civil → Type 0
 ShowsMinutes shown = unsigned_abs shown.offset % 60 ≡ 0

@@ -1,5 +1,6 @@
--- The rule by which a text has a form, in its own words: systemd.time(7), Parsing Timestamps. The law `one_form` ties it
--- to what `StampForm` computes.
+-- Which form a text has, stated as a rule and not as a computation: systemd.time(7), Parsing Timestamps. The law
+-- `one_form` says that the functions of `StampForm` follow this rule. The seven forms are tried in this order; `core`
+-- is the text without leading and trailing blanks.
 use Rattle.std.specs.Prelude.{ℕ, ◌≡◌, ◌⊎◌, true, ℤ, pos, neg_ℤ, List, [], ◌∷◌, ◌++◌, codes}
 use Rattle.cal_text.specs.TrimRule.{IsTrimmed}
 use Rattle.cal_text.specs.headline.Words.{is_blank, words}
@@ -9,20 +10,20 @@ use Rattle.cal_read.specs.StampForm.{Form, nothing, present, later, earlier, cou
 abbrev pub IsNothing : List ℕ → Form → Type 0
 IsNothing core form = (core ≡ []) × (form ≡ nothing)
 
--- 2: `now` alone
+-- 2: the word `now` and nothing else
 abbrev pub IsPresent : List ℕ → Form → Type 0
 IsPresent core form = (core ≡ codes "now") × (form ≡ present)
 
--- 3 and 4: a sign and a span text, so that no text begins with an offset
+-- 3 and 4: a sign and a time span; so a text that begins with an offset is read as a time span
 abbrev pub IsBehindSign : List ℕ → (List ℕ → Form) → List ℕ → Form → Type 0
 IsBehindSign sign means core form = (span : List ℕ) × (core ≡ sign ++ span) × (form ≡ means span)
 
--- 5: a span text, a blank and a word
+-- 5: a time span, a blank and the given word
 abbrev pub IsBeforeWord : List ℕ → (List ℕ → Form) → List ℕ → Form → Type 0
 IsBeforeWord word means core form =
     (span : List ℕ) × (blank : ℕ) × (is_blank blank ≡ true) × (core ≡ span ++ (blank ∷ word)) × (form ≡ means span)
 
--- 6: a day's word, and the words after it, which mean a zone
+-- 6: the word for a day, followed by the words of a zone
 abbrev pub IsNearDay : List ℕ → ℤ → List ℕ → Form → Type 0
 IsNearDay word shift core form =
     (after : List (List ℕ)) × (words core ≡ word ∷ after) × (form ≡ from_today shift after)
@@ -31,11 +32,11 @@ IsNearDay word shift core form =
 abbrev pub IsCivilForm : List ℕ → Form → Type 0
 IsCivilForm core form = form ≡ civil (words core)
 
--- the first, or the second where the first fits with no form
+-- the first form, or the second if the first doesn't match
 abbrev pub OrElse : (List ℕ → Form → Type 0) → (List ℕ → Form → Type 0) → List ℕ → Form → Type 0
 OrElse P Q core form = P core form ⊎ (((other : Form) → P core other → ⊥) × Q core form)
 
--- 6 and 7
+-- 6 or 7
 abbrev pub FitsByWords : List ℕ → Form → Type 0
 FitsByWords =
     OrElse (IsNearDay (codes "today") (pos 0))
@@ -52,11 +53,11 @@ FitsBySign =
     OrElse (IsBehindSign (codes "+") later)
     (OrElse (IsBehindSign (codes "-") earlier) (OrElse (IsBehindSign (codes "@") counted) FitsByEnd))
 
--- the first of the seven that fits
+-- the first of the seven forms that matches
 abbrev pub FitsFirst : List ℕ → Form → Type 0
 FitsFirst = OrElse IsNothing (OrElse IsPresent FitsBySign)
 
--- the form of a text
+-- the text has this form
 pub record HasForm (text : List ℕ) (form : Form) : Type 0 where
   pub core : List ℕ
   pub trimmed : IsTrimmed is_blank text core

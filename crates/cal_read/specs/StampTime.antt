@@ -8,7 +8,7 @@ use Rattle.cal_read.specs.StampDate.{digits_number}
 use Rattle.cal_read.specs.declared.stamp.fault.StampFault.{StampFault}
 use Rattle.cal_read.specs.declared.stamp.fault.StampFault.TheVariants.{BadTime}
 
--- one or two digits that write a number up to the greatest
+-- a number of one or two digits that is at most `greatest`
 abbrev pub up_to : ℕ → Option ℕ → Option ℕ
 up_to greatest None = None
 up_to greatest (Some n) = if nat_le n greatest then Some n else None
@@ -16,17 +16,17 @@ up_to greatest (Some n) = if nat_le n greatest then Some n else None
 unfoldable pub clock_number : ℕ → List ℕ → Option ℕ
 clock_number greatest word = up_to greatest (digits_number 2 word)
 
--- how many digits of a fraction are kept
+-- how many digits of a fraction are used
 abbrev pub kept_digits : ℕ
 kept_digits = 6
 
--- the microseconds of one or more digits after the point, of which the first are kept and the rest is dropped
+-- the microseconds of a fraction of one or more digits; the digits after the sixth are dropped
 unfoldable pub fraction_in : List ℕ → Option ℕ
 fraction_in digits =
     if nat_le 1 (length digits) && list_all is_ascii_digit digits then Some (fraction_worth 1_000_000 1 (take kept_digits digits))
     else None
 
--- that many seconds and microseconds, in microseconds
+-- seconds and microseconds together, in microseconds
 abbrev pub both : Option ℕ → Option ℕ → Option ℕ
 both (Some seconds) (Some micros) = Some (seconds * 1_000_000 + micros)
 both seconds micros = None
@@ -36,7 +36,7 @@ second_of_pieces (whole ∷ []) = both (clock_number 59 whole) (Some 0)
 second_of_pieces (whole ∷ digits ∷ []) = both (clock_number 59 whole) (fraction_in digits)
 second_of_pieces pieces = None
 
--- the microseconds of the seconds `S` or `S.` with digits
+-- the microseconds of `S`, or of `S.` followed by digits
 unfoldable pub second_written : List ℕ → Option ℕ
 second_written word = second_of_pieces (slice_split is_point word)
 
@@ -53,7 +53,7 @@ time_of_pieces pieces = None
 unfoldable pub time_numbers : List ℕ → Option ℕ
 time_numbers word = time_of_pieces (slice_split is_colon word)
 
--- the microseconds after midnight of the time that the word writes, or its fault
+-- the microseconds after midnight of a time as it is written, or the error
 abbrev pub micros_due : Option ℕ → Result ℕ StampFault
 micros_due None = Err BadTime
 micros_due (Some micros) = Ok micros

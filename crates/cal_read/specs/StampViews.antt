@@ -1,4 +1,4 @@
--- What contracts see of the answers of the calls that read a timestamp.
+-- How contracts see the results of the functions that parse timestamps.
 use Rattle.std.specs.Prelude.{ℕ, ℤ, pos, neg_ℤ, List, Option, Result}
 use Rattle.std.specs.Result.{result_map_both}
 use Rattle.jiff.specs.Types.{TimeZone}
@@ -17,7 +17,7 @@ use Rattle.cal_read.specs.declared.stamp.form.NearDay.TheVariants.{Yesterday, To
 use Rattle.cal_read.specs.declared.stamp.setting.Setting as zones
 use Rattle.cal_read.specs.declared.stamp.written.Written as written
 
--- an answer, by the microseconds of its moment
+-- a result, with its moment as microseconds of Unix time
 abbrev pub micros_or_fault : Result Moment StampFault → Result ℤ StampFault
 micros_or_fault = result_map_both (λ moment. moment.micros) (λ fault. fault)
 
@@ -30,7 +30,7 @@ written_seen w = record { weekday = w.weekday; day = w.day; micros = w.micros; z
 abbrev pub written_or_fault : Result written.Written StampFault → Result meaning.Written StampFault
 written_or_fault = result_map_both written_seen (λ fault. fault)
 
--- how many days after the present day
+-- how many days after the present day this day is
 abbrev pub shift_of : NearDay → ℤ
 shift_of Yesterday = neg_ℤ (pos 1)
 shift_of Today = pos 0
@@ -45,7 +45,7 @@ form_seen (Counted span) = forms.counted span.now
 form_seen (Midnight near after) = forms.from_today (shift_of near) (words after.now)
 form_seen (Civil text) = forms.civil (words text.now)
 
--- the zones by which a text is read
+-- the zones that a timestamp can refer to
 abbrev pub setting : TimeZone → (List ℕ → Option TimeZone) → meaning.Setting
 setting local find = record { local = local; find = find }
 

@@ -1,10 +1,10 @@
--- What is said of a timer file that is rejected: this project's own words.
+-- The messages of the errors for timer files, in this project's own words.
 use Rattle.std.specs.Prelude.{ℕ, List, [], codes, Option, None, Some}
 use Rattle.cal_spec.specs.SpecFault as spec_fault
 use Rattle.cal_read.specs.declared.timer.fault.TimerFault.{TimerFault}
 use Rattle.cal_read.specs.declared.timer.fault.TimerFault.TheVariants.{ReadFailed, TooLarge, NotUtf8, BadLine, TooMany, NothingToDo, NoMemory}
 
--- the words that tell a user of the fault
+-- the message of an error
 abbrev pub words_of : TimerFault → List ℕ
 words_of ReadFailed = codes "cannot be read"
 words_of TooLarge = codes "larger than 1048576 bytes"
@@ -14,7 +14,7 @@ words_of (TooMany line) = codes "more than 256 expressions"
 words_of NothingToDo = codes "no calendar expression"
 words_of NoMemory = []
 
--- the number of the line at fault
+-- the number of the line that has the error
 abbrev pub line_of : TimerFault → Option ℕ
 line_of ReadFailed = None
 line_of TooLarge = None

@@ -1,4 +1,5 @@
--- The lists of a timer file in the rule's own words, each as a law: systemd.timer(5), OnCalendar=; systemd.syntax(7).
+-- The result for a timer file, stated as a rule and not as a computation: systemd.timer(5), OnCalendar=;
+-- systemd.syntax(7).
 use Rattle.std.specs.Prelude.{◌≡◌, ◌<◌, ℕ, List, [], ◌∷◌, ◌++◌, length, None, Some, Result, Ok, Err}
 use Rattle.cal_spec.specs.declared.spec_fault.SpecFault.{SpecFault}
 use Rattle.cal_read.specs.headline.Assignments.{Assignment}
@@ -6,11 +7,11 @@ use Rattle.cal_read.specs.TimerText.{Timer, entries, fault_following}
 use Rattle.cal_read.specs.declared.timer.fault.TimerFault.{TimerFault}
 use Rattle.cal_read.specs.declared.timer.fault.TimerFault.TheVariants.{NothingToDo}
 
--- none of the assignments has a fault
+-- none of the assignments has an error
 abbrev pub AreFine : {E : Type 0} → (List ℕ → Result E SpecFault) → List Assignment → Type 0
 AreFine read all = (before : List Assignment) (a : Assignment) (after : List Assignment) → all ≡ before ++ (a ∷ after) → fault_following read before a ≡ None
 
--- it is the fault of an assignment before which none has one
+-- one of the assignments has this error, and none before it has one
 pub record IsFirstTimerFault {E : Type 0} (read : List ℕ → Result E SpecFault) (all : List Assignment) (fault : TimerFault) : Type 0 where
   pub before : List Assignment
   pub at : Assignment
@@ -19,8 +20,8 @@ pub record IsFirstTimerFault {E : Type 0} (read : List ℕ → Result E SpecFaul
   pub is_fault : fault_following read before at ≡ Some fault
   pub fine : AreFine read before
 
--- the result is the lists of assignments without a fault, of which one at least is an expression; or the first fault; or
--- that the list of expressions is empty
+-- if no assignment has an error, the result is both lists, or `NothingToDo` if there is no expression; otherwise it is
+-- the first error
 abbrev pub JudgesTimer : {E : Type 0} → (List ℕ → Result E SpecFault) → List Assignment → Result (Timer E) TimerFault → Type 0
 JudgesTimer read all (Ok lists) = AreFine read all × (entries read all ≡ lists) × (0 < length lists.expressions)
 JudgesTimer read all (Err NothingToDo) = AreFine read all × ((entries read all).expressions ≡ [])

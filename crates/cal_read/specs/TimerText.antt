@@ -1,4 +1,5 @@
--- What the text of a timer file comes to: its first fault, or its lists (systemd.timer(5), OnCalendar=).
+-- The result for a timer file: its first error, or its lists of expressions and exceptions (systemd.timer(5),
+-- OnCalendar=).
 use Rattle.std.specs.Prelude.{ℕ, ◌+◌, ◌==◌, nat_le, false, if◌then◌else◌, List, [], ◌∷◌, ◌++◌, length, take, Option, None, Some, Result, Ok, Err, count_by}
 use Rattle.std.specs.List.{filter_map}
 use Rattle.std.specs.Option.{option_or}
@@ -14,35 +15,35 @@ use Rattle.cal_read.specs.declared.timer.fault.TimerFault.{TimerFault}
 use Rattle.cal_read.specs.declared.timer.fault.TimerFault.TheVariants.{ReadFailed, TooLarge, NotUtf8, BadLine, TooMany, NothingToDo, NoMemory}
 use Rattle.cal_read.specs.headline.TimerText.{excepted, is_exception, is_expression, listed, most_expressions, without_mark}
 
--- an expression of a list: the number of its line, its text, and what it reads as
+-- an entry of a list: the number of its line, its text, and the parsed expression
 pub record TimerLine (E : Type 0) : Type 0 where
   pub number : ℕ
   pub text : List ℕ
   pub expr : E
 
--- the fault of a line whose text reads so
+-- the error of a line, given the result of parsing its expression
 abbrev pub bad_line : {E : Type 0} → ℕ → Result E SpecFault → Option TimerFault
 bad_line number (Ok expr) = None
 bad_line number (Err fault) = Some (BadLine number fault)
 
--- The fault of an assignment that comes to a list of these. It is one too many where the list holds the most already;
--- else its text is judged, also where a later reset drops it.
+-- The error of an assignment that adds to `list`. If the list is full, it is one too many, and it isn't parsed.
+-- Otherwise it is parsed, even if a later assignment clears the list.
 unfoldable pub fault_joining : {E : Type 0} → (List ℕ → Result E SpecFault) → List Assignment → Assignment → Option TimerFault
 fault_joining read list a =
     if nat_le most_expressions (length list) then Some (TooMany a.number) else bad_line a.number (read a.value)
 
--- the fault of an assignment after others, each list judged by its own resets
+-- the error of an assignment that comes after these others; each list is counted since it was last cleared
 unfoldable pub fault_following : {E : Type 0} → (List ℕ → Result E SpecFault) → List Assignment → Assignment → Option TimerFault
 fault_following read before a =
     if is_expression a then fault_joining read (listed before) a
     else (if is_exception a then fault_joining read (excepted before) a else None)
 
--- the first fault of assignments after others
+-- the first error of the assignments that come after these others
 unfoldable pub first_fault : {E : Type 0} → (List ℕ → Result E SpecFault) → List Assignment → List Assignment → Option TimerFault
 first_fault read before [] = None
 first_fault read before (a ∷ after) = option_or (fault_following read before a) (first_fault read (before ++ a ∷ []) after)
 
--- the entry of an assignment whose text reads so
+-- the entry of an assignment, given the result of parsing its expression
 abbrev pub entry_of : {E : Type 0} → Assignment → Result E SpecFault → Option (TimerLine E)
 entry_of a (Ok expr) = Some (record { number = a.number; text = a.value; expr = expr })
 entry_of a (Err fault) = None
@@ -51,7 +52,7 @@ entry_of a (Err fault) = None
 abbrev pub entries_of : {E : Type 0} → (List ℕ → Result E SpecFault) → List Assignment → List (TimerLine E)
 entries_of read list = filter_map (λ a. entry_of a (read a.value)) list
 
--- what a timer file gives: its expressions and its exceptions, each in the order of the file
+-- the contents of a timer file: its expressions and its exceptions, both in the order of the file
 pub record Timer (E : Type 0) : Type 0 where
   pub expressions : List (TimerLine E)
   pub exceptions : List (TimerLine E)
@@ -63,7 +64,7 @@ entries read assignments = record {
   exceptions = entries_of read (excepted assignments);
 }
 
--- an empty list of expressions is nothing to do, whatever the exceptions are
+-- both lists, or an error if there is no expression, even if there are exceptions
 abbrev pub some_expressions : {E : Type 0} → List (TimerLine E) → List (TimerLine E) → Result (Timer E) TimerFault
 some_expressions [] exceptions = Err NothingToDo
 some_expressions (e ∷ es) exceptions = Ok (record { expressions = e ∷ es; exceptions = exceptions })
@@ -75,38 +76,38 @@ abbrev pub unless_fault : {A : Type 0} → Option TimerFault → Result A TimerF
 unless_fault None result = result
 unless_fault (Some fault) result = Err fault
 
--- the lists, or the first fault
+-- the lists, or the first error
 unfoldable pub lists_of : {E : Type 0} → (List ℕ → Result E SpecFault) → List Assignment → Result (Timer E) TimerFault
 lists_of read assignments = unless_fault (first_fault read [] assignments) (some_entries (entries read assignments))
 
--- the lists that a text gives, or its fault
+-- the lists of a file with this text, or its error
 unfoldable pub timer_of : {E : Type 0} → (List ℕ → Result E SpecFault) → List ℕ → Result (Timer E) TimerFault
 timer_of read text = lists_of read (assignments_in false (logical_lines 1 (without_mark text)))
 
--- the number of the physical line that has the first bytes which aren't UTF-8
+-- the number of the physical line that contains the first byte which isn't valid UTF-8
 unfoldable pub broken_line : List ℕ → ℕ
 broken_line bytes = count_by (λ b. b == 10) (take (utf8_valid_len bytes) bytes) + 1
 
--- the lists that a file's bytes give, or their fault
+-- the lists of a file with these bytes, or its error
 unfoldable pub timer_in : {E : Type 0} → (List ℕ → Result E SpecFault) → List ℕ → Result (Timer E) TimerFault
 timer_in read bytes = if is_utf8 bytes then timer_of read bytes else Err (NotUtf8 (broken_line bytes))
 
--- the fault of an input that can't be had whole
+-- the error for an input that could not be read to its end
 abbrev pub input_fault : WholeFault → TimerFault
 input_fault whole.ReadFailed = ReadFailed
 input_fault whole.TooLarge = TooLarge
 input_fault whole.NoMemory = NoMemory
 
--- what reading a timer gives, by what the reads gave
+-- the lists of a file, or its error, given the result of reading its bytes
 abbrev pub timer_text : {E : Type 0} → (List ℕ → Result E SpecFault) → Result (List ℕ) WholeFault → Result (Timer E) TimerFault
 timer_text read (Ok bytes) = timer_in read bytes
 timer_text read (Err fault) = Err (input_fault fault)
 
--- the most bytes that a timer file may have
+-- the maximum size of a timer file, in bytes
 abbrev pub most_file_bytes : ℕ
 most_file_bytes = 1_048_576
 
--- what reading to the end gives: all the bytes, or the cause why they can't be had
+-- the result of reading an input to its end: all its bytes, or the error
 abbrev pub ReadsWhole : Option (List ℕ) → Option (List ℕ) → ℕ → Result (List ℕ) WholeFault → Type 0
 ReadsWhole old new limit (Ok bytes) = GivesAll old new limit bytes
 ReadsWhole old new limit (Err fault) = IsWholeFault old new limit fault

@@ -1,5 +1,5 @@
--- What contracts see of a timer: its expressions and exceptions without where they lie in memory, and what a step of
--- reading does to their lists.
+-- How contracts see a timer: by the contents of its lists, not by where they are in memory. Also, what one assignment
+-- does to the lists while a file is read.
 use Rattle.std.specs.Prelude.{ℕ, nat_le, Bool, true, false, if◌then◌else◌, List, [], ◌∷◌, ◌++◌, length, map, Result, Ok, Err, string_bytes}
 use Rattle.cal_spec.specs.headline.Fields.{Fields}
 use Rattle.cal_spec.specs.declared.spec_fault.SpecFault.{SpecFault}
@@ -11,7 +11,7 @@ use Rattle.cal_read.specs.declared.timer.list.ReadLists.{ReadLists}
 use Rattle.cal_read.specs.declared.timer.fault.TimerFault.{TimerFault}
 use Rattle.cal_read.specs.declared.timer.fault.TimerFault.TheVariants.{BadLine, TooMany}
 
--- an expression of a list
+-- an entry of a list
 abbrev pub shown : declared_line.TimerLine → TimerLine Fields
 shown line = record { number = line.number; text = string_bytes line.text; expr = line.expr }
 
@@ -19,28 +19,28 @@ shown line = record { number = line.number; text = string_bytes line.text; expr 
 abbrev pub shown_lists : ReadLists → Timer Fields
 shown_lists lists = record { expressions = map shown lists.expressions.items; exceptions = map shown lists.exceptions.items }
 
--- a list with the entry of a line whose text reads so
+-- a list with one more entry, given the result of parsing its expression, or the error
 abbrev pub with_read : {E : Type 0} → List (TimerLine E) → Assignment → Result E SpecFault → Result (List (TimerLine E)) TimerFault
 with_read es a (Ok expr) = Ok (es ++ record { number = a.number; text = a.value; expr = expr } ∷ [])
 with_read es a (Err fault) = Err (BadLine a.number fault)
 
--- a list with the entry of an assignment, or its fault
+-- a list with the entry of an assignment, or the error
 unfoldable pub with_assignment : {E : Type 0} → (List ℕ → Result E SpecFault) → List (TimerLine E) → Assignment → Result (List (TimerLine E)) TimerFault
 with_assignment read es a = if nat_le most_expressions (length es) then Err (TooMany a.number) else with_read es a (read a.value)
 
--- what an assignment does to a list that it adds to, or else empties
+-- a list after an assignment: with one more entry if it `adds`, or else empty if it `empties`
 abbrev pub changed : {E : Type 0} → (List ℕ → Result E SpecFault) → (adds empties : Bool) → List (TimerLine E) → Assignment → Result (List (TimerLine E)) TimerFault
 changed read true empties es a = with_assignment read es a
 changed read false true es a = Ok []
 changed read false false es a = Ok es
 
--- what follows a list, unless it has a fault
+-- what follows from a list, unless there was an error
 abbrev pub with_list : {E A : Type 0} → Result (List (TimerLine E)) TimerFault → (List (TimerLine E) → Result A TimerFault) → Result A TimerFault
 with_list (Ok es) next = next es
 with_list (Err fault) next = Err fault
 
--- The lists, from the entries so far and the assignments that are left: from one to the next, as the code goes. For
--- private contracts alone; the lemma `resumed_is_list` says that these are `lists_of`.
+-- The lists after the remaining assignments, given the lists so far. This follows the loop of the code and only private
+-- contracts use it; the lemma `resumed_is_list` says that the result is `lists_of`.
 unfoldable pub resumed : {E : Type 0} → (List ℕ → Result E SpecFault) → Timer E → List Assignment → Result (Timer E) TimerFault
 resumed read lists [] = some_entries lists
 resumed read lists (a ∷ after) =

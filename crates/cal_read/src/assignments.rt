@@ -1,4 +1,4 @@
-//! The assignments of a timer file, and what each is for (systemd.syntax(7); systemd.timer(5), OnCalendar=).
+//! The assignments of a timer file, and what each of them does (systemd.syntax(7); systemd.timer(5), OnCalendar=).
 
 ghost use Rattle.std.specs.Prelude.{◌≡◌, MatchOption, map, true, false};
 ghost use Rattle.std.specs.List.{list_any};
@@ -12,7 +12,7 @@ ghost use Rattle.cal_read.specs.headline.TimerText.{is_exception, is_exception_r
 use cal_bytes::is_among;
 use cal_lines::trim;
 
-/// The keys that empty the list of expressions by an empty value.
+/// The keys whose assignments clear the list of expressions if their value is empty.
 const TIMER_KEYS: [&[u8]; 6] = [
     b"OnActiveSec",
     b"OnBootSec",
@@ -22,20 +22,20 @@ const TIMER_KEYS: [&[u8]; 6] = [
     b"OnCalendar",
 ];
 
-/// The key of exceptions.
+/// The key of an exception.
 const EXCEPTION_KEY: &str = "X-ExceptOnCalendar";
 
-/// A key and its value, both without blanks at their ends.
+/// A key and its value, without leading and trailing blanks.
 #[derive(Clone, Copy)]
 pub(crate) struct Assignment<'t> {
-    /// The number of its line.
+    /// The number of the assignment's line.
     pub(crate) number: u32,
     pub(crate) key: &'t str,
     pub(crate) value: &'t str,
 }
 
 impl Assignment<'_> {
-    /// Whether it empties the list of expressions: whether one of the timer's keys has no value.
+    /// Returns whether the assignment clears the list of expressions: one of the `On..` keys with an empty value.
     #[tactic(auto, unfolding(crate::specs::headline::TimerText::is_reset))]
     pub(crate) fn is_reset(self) -> bool
         ensures { result ≡ is_reset (shown_assignment self.entry) }
@@ -43,7 +43,7 @@ impl Assignment<'_> {
         self.value.is_empty() && is_among(&TIMER_KEYS, self.key.as_bytes())
     }
 
-    /// Whether it is an expression's: whether `OnCalendar` has a value.
+    /// Returns whether the assignment is an expression: `OnCalendar` with a value.
     #[tactic(auto, unfolding(crate::specs::headline::TimerText::is_expression))]
     pub(crate) fn is_expression(self) -> bool
         ensures { result ≡ is_expression (shown_assignment self.entry) }
@@ -51,7 +51,7 @@ impl Assignment<'_> {
         !self.value.is_empty() && self.key == "OnCalendar"
     }
 
-    /// Whether it empties the list of exceptions: whether their key has no value.
+    /// Returns whether the assignment clears the list of exceptions: `X-ExceptOnCalendar` with an empty value.
     #[tactic(auto, unfolding(crate::specs::headline::TimerText::is_exception_reset))]
     pub(crate) fn is_exception_reset(self) -> bool
         ensures { result ≡ is_exception_reset (shown_assignment self.entry) }
@@ -59,7 +59,7 @@ impl Assignment<'_> {
         self.value.is_empty() && self.key == EXCEPTION_KEY
     }
 
-    /// Whether it is an exception's: whether their key has a value.
+    /// Returns whether the assignment is an exception: `X-ExceptOnCalendar` with a value.
     #[tactic(auto, unfolding(crate::specs::headline::TimerText::is_exception))]
     pub(crate) fn is_exception(self) -> bool
         ensures { result ≡ is_exception (shown_assignment self.entry) }
@@ -68,7 +68,8 @@ impl Assignment<'_> {
     }
 }
 
-/// The name of the section that a line opens, if it begins with `[` and ends with `]`.
+/// Returns the name of the section that a line opens. Returns `None` if the line doesn't begin with `[` and end with
+/// `]`.
 pub(crate) fn section(line: &str) -> Option<&[u8]>
     ensures { MatchOption result (is_header line.now ≡ false)
         (λ name. (is_header line.now ≡ true) × (name.now ≡ section_of line.now)) }
@@ -79,7 +80,8 @@ pub(crate) fn section(line: &str) -> Option<&[u8]>
     }
 }
 
-/// The assignment in a line: the key comes before the first `=`, and the value after it.
+/// Parses the assignment in a line, whose key is before the first `=` and whose value is after it. Returns `None` if
+/// the line has no `=`.
 #[tactic(auto, unfolding(crate::specs::headline::Assignments::assignment_of))]
 pub(crate) fn read_assignment(number: u32, line: &str) -> Option<Assignment<'_>>
     ensures { option_map shown_assignment result ≡ assignment_of (line_at number line.now) }

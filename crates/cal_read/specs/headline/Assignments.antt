@@ -1,4 +1,4 @@
--- The assignments of the section `Timer` of a unit file: systemd.syntax(7).
+-- The assignments in the section `Timer` of a unit file: systemd.syntax(7).
 use Rattle.std.specs.Prelude.{ℕ, ◌-◌, ◌==◌, Bool, ◌&&◌, if◌then◌else◌, List, [], ◌∷◌, length, map, take, drop, slice_index, codes, Option, None, Some}
 use Rattle.std.specs.List.{after_first, before_first, filter_map, list_any}
 use Rattle.std.specs.Str.{bytes_eq}
@@ -6,32 +6,32 @@ use Rattle.cal_text.specs.headline.Trim.{trim_matches}
 use Rattle.cal_lines.specs.headline.Lines.{Line, is_blank_or_return}
 use Rattle.cal_text.specs.headline.Separators.{is_equals}
 
--- a logical line that begins with `[` and ends with `]` opens the section named between them
+-- a logical line that begins with `[` and ends with `]` opens the section that is named in between
 abbrev pub is_header : List ℕ → Bool
 is_header text = (slice_index text 0 == 91) && (slice_index text (length text - 1) == 93)
 
 abbrev pub section_of : List ℕ → List ℕ
 section_of text = take (length text - 2) (drop 1 text)
 
--- a line without the blanks at its ends
+-- a line without leading and trailing blanks
 abbrev pub trimmed : Line → Line
 trimmed line = record { number = line.number; text = trim_matches is_blank_or_return line.text }
 
--- The lines of the section `Timer`, headers apart, where the first of them are in it or not. Names of sections are
--- exact.
+-- The lines of the section `Timer` without headers; `inside` says whether the first lines are in the section. The name
+-- of the section must match exactly.
 unfoldable pub timer_lines : Bool → List Line → List Line
 timer_lines inside [] = []
 timer_lines inside (line ∷ lines) =
     if is_header line.text then timer_lines (bytes_eq (section_of line.text) (codes "Timer")) lines
     else (if inside then line ∷ timer_lines inside lines else timer_lines inside lines)
 
--- a key and its value, and the number of their line
+-- a key, its value, and the number of their line
 pub record Assignment : Type 0 where
   pub number : ℕ
   pub key : List ℕ
   pub value : List ℕ
 
--- the key comes before the first `=`, and the value after it; a line without one assigns nothing
+-- the key is before the first `=` and the value after it; a line without `=` is not an assignment
 unfoldable pub assignment_of : Line → Option Assignment
 assignment_of line =
     if list_any is_equals line.text

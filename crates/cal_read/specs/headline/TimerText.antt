@@ -5,13 +5,13 @@ use Rattle.std.specs.List.{after_last, list_any, starts_with}
 use Rattle.std.specs.Str.{bytes_eq}
 use Rattle.cal_read.specs.headline.Assignments.{Assignment}
 
--- the keys that empty the list of expressions by an empty value
+-- the keys whose assignments clear the list of expressions if their value is empty
 abbrev pub timer_keys : List (List ℕ)
 timer_keys =
     codes "OnActiveSec" ∷ codes "OnBootSec" ∷ codes "OnStartupSec" ∷ codes "OnUnitActiveSec"
     ∷ codes "OnUnitInactiveSec" ∷ codes "OnCalendar" ∷ []
 
--- the key of exceptions, which begins as systemd.unit(5) says of settings that it leaves to others
+-- the key of an exception; it begins with `X-`, which systemd.unit(5) leaves to other programs
 abbrev pub exception_key : List ℕ
 exception_key = codes "X-ExceptOnCalendar"
 
@@ -21,26 +21,26 @@ has_no_value a = length a.value == 0
 unfoldable pub is_reset : Assignment → Bool
 is_reset a = has_no_value a && list_any (bytes_eq a.key) timer_keys
 
--- an assignment of `OnCalendar` with a value is an expression's
+-- whether the assignment is an expression: `OnCalendar` with a value
 unfoldable pub is_expression : Assignment → Bool
 is_expression a = not (has_no_value a) && bytes_eq a.key (codes "OnCalendar")
 
--- the key of exceptions empties their list by an empty value, and with a value it is an exception's
+-- whether the assignment clears the list of exceptions, which it does if the value is empty, or is an exception
 unfoldable pub is_exception_reset : Assignment → Bool
 is_exception_reset a = has_no_value a && bytes_eq a.key exception_key
 
 unfoldable pub is_exception : Assignment → Bool
 is_exception a = not (has_no_value a) && bytes_eq a.key exception_key
 
--- the assignments that are on the list of expressions: those of expressions that follow the last reset
+-- the assignments in the list of expressions: the expressions after the last assignment that clears the list
 unfoldable pub listed : List Assignment → List Assignment
 listed assignments = filter is_expression (after_last is_reset assignments)
 
--- and those that are on the list of exceptions
+-- the assignments in the list of exceptions: the exceptions after the last assignment that clears the list
 unfoldable pub excepted : List Assignment → List Assignment
 excepted assignments = filter is_exception (after_last is_exception_reset assignments)
 
--- the most expressions on a list
+-- the maximum number of expressions in a list
 abbrev pub most_expressions : ℕ
 most_expressions = 256
 
@@ -48,6 +48,6 @@ most_expressions = 256
 abbrev pub byte_order_mark : List ℕ
 byte_order_mark = 239 ∷ 187 ∷ 191 ∷ []
 
--- without a byte order mark at the very start
+-- the text without a byte order mark at its start
 unfoldable pub without_mark : List ℕ → List ℕ
 without_mark text = if starts_with nat_eq text byte_order_mark then drop 3 text else text

@@ -1,4 +1,4 @@
-//! The civil time that the words of a timestamp write.
+//! Parsing timestamps that are written as a date and time of day, and converting them to moments.
 
 ghost use Rattle.std.specs.Prelude.{◌≡◌, ◌≤◌, pos, neg_ℤ, IfOk, IfSome};
 ghost use Rattle.std.specs.List.{list_any};
@@ -21,8 +21,8 @@ use cal_zone::{Instant, Moment, begins_with_letter};
 use jiff::civil::Weekday;
 use jiff_core::civil::Date;
 
-/// The civil time that the text writes: `[weekday] [date] [time] [zone]`, of which date or time must be there
-/// (systemd.time(7), Parsing Timestamps). The words are judged from the left.
+/// Parses a civil time, `[weekday] [date] [time] [zone]` with at least a date or a time (systemd.time(7), Parsing
+/// Timestamps). The words are checked from the left, and the first error is returned.
 pub(crate) fn read_civil<'t>(text: &str, at: &Setting<'t>) -> Result<Written<'t>, StampFault>
     ensures { written_or_fault result ≡ civil_time (setting_seen at.now) (words text.now) }
 {
@@ -35,7 +35,7 @@ pub(crate) fn read_civil<'t>(text: &str, at: &Setting<'t>) -> Result<Written<'t>
     }
 }
 
-/// What comes after the weekday: a word with a colon is the time, any other the date.
+/// Parses what follows the weekday. If the first word has a colon it is the time, otherwise it is the date.
 fn after_weekday<'t>(
     weekday: Option<Weekday>,
     text: &str,
@@ -58,7 +58,7 @@ fn after_weekday<'t>(
     after_date(weekday, day, after, at)
 }
 
-/// What comes after the date: a word that begins with a digit is the time.
+/// Parses what follows the date. If the first word begins with a digit it is the time; otherwise the time is midnight.
 fn after_date<'t>(
     weekday: Option<Weekday>,
     day: i64,
@@ -91,14 +91,12 @@ fn after_date<'t>(
     }
 }
 
-/// Whether the word has a colon.
 fn has_colon(word: &[u8]) -> bool
     ensures { result ≡ list_any is_colon word.now }
 {
     word.contains(&b':')
 }
 
-/// Whether the word begins with a digit.
 fn begins_with_digit(word: &[u8]) -> bool
     ensures { result ≡ begins_with_digit word.now }
 {
@@ -108,8 +106,9 @@ fn begins_with_digit(word: &[u8]) -> bool
     }
 }
 
-/// The moment of the civil time: a missing date is the present day in its zone. `WrongWeekday` where the weekday named
-/// isn't the day's, and then `OutOfRange` where there is no such moment.
+/// Converts a civil time to a moment. If it has no date, it is on the present day in its zone. Fails with
+/// `WrongWeekday` if the day isn't the weekday that was named, and otherwise with `OutOfRange` if the moment is not
+/// supported.
 #[tactic(auto, unfolding(crate::specs::Stamp::moment_of_written))]
 pub(crate) fn moment_of_written(now: Instant, written: Written) -> Result<Moment, StampFault>
     ensures { micros_or_fault result ≡ moment_of_written now.secs (written_seen written.entry) }
@@ -124,7 +123,7 @@ pub(crate) fn moment_of_written(now: Instant, written: Written) -> Result<Moment
     settle_on(written.zone, day, written.micros)
 }
 
-/// Whether the day has the weekday, if one is named.
+/// Returns whether the day is `weekday`, or `true` if there is none.
 fn fits_weekday(weekday: Option<Weekday>, day: i64) -> bool
     requires { IsBetween (neg_ℤ (pos 2)) (pos 84_008) day }
     ensures { result ≡ fits_weekday weekday day }

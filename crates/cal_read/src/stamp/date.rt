@@ -1,4 +1,4 @@
-//! The date of a timestamp.
+//! Parsing the date of a timestamp.
 
 ghost use Rattle.std.specs.Prelude.{◌≡◌, ◌≤◌, pos, IfOk};
 ghost use Rattle.jiff.specs.Words.{IsBetween};
@@ -9,7 +9,7 @@ use cal_spec::{first_piece, with_century};
 use cal_text::{are_digits, whole_of};
 use jiff_core::civil::Date;
 
-/// A year, a month and a day as they are written.
+/// A year, month and day as they are written. The year may be without its century, and the date may not exist.
 #[derive(Clone, Copy)]
 struct DateNumbers {
     year: u16,
@@ -17,9 +17,10 @@ struct DateNumbers {
     day: u16,
 }
 
-/// The day number, from 1970-01-01 on, of the date that the word writes: `year-month-day`, the year of one to four
-/// digits and the others of one or two (systemd.time(7), Parsing Timestamps). `BadDate` where the word is of another
-/// shape, `NoSuchDate` where this is no day from 1970-01-01 to 2199-12-31.
+/// Parses a date, `year-month-day`, and returns its day number, counted from 1970-01-01.
+///
+/// The year has one to four digits, the month and the day one or two (systemd.time(7), Parsing Timestamps). Fails with
+/// `BadDate` if `word` doesn't have this form, and with `NoSuchDate` if it isn't a day from 1970-01-01 to 2199-12-31.
 #[tactic(auto, unfolding(crate::specs::StampDate::day_written))]
 pub(crate) fn read_date(word: &[u8]) -> Result<i64, StampFault>
     ensures value { result ≡ day_written word.now }
@@ -31,7 +32,7 @@ pub(crate) fn read_date(word: &[u8]) -> Result<i64, StampFault>
     }
 }
 
-/// The numbers of the date, or `None` where the word is of another shape.
+/// Parses the three numbers of a date. Returns `None` if `word` doesn't have the form of a date.
 #[tactic(auto, unfolding(crate::specs::StampDate::date_numbers))]
 fn date_numbers(word: &[u8]) -> Option<DateNumbers>
     ensures { result ≡ date_numbers word.now }
@@ -49,7 +50,7 @@ fn date_numbers(word: &[u8]) -> Option<DateNumbers>
     }
 }
 
-/// The number that one or more digits write, at most that many, or `None` where these aren't digits.
+/// Parses a number of 1 to `most` digits. Returns `None` if `word` is anything else.
 #[tactic(auto, unfolding(crate::specs::StampDate::digits_number))]
 pub(crate) fn read_number(word: &[u8], most: usize) -> Option<u16>
     requires { most ≤ 4 }
@@ -61,7 +62,8 @@ pub(crate) fn read_number(word: &[u8], most: usize) -> Option<u16>
     Some(whole_of(word) as u16)
 }
 
-/// The day number of a day from 1970-01-01 to 2199-12-31.
+/// Returns the number of a day, counted from 1970-01-01. Fails with `NoSuchDate` if it isn't a day from 1970-01-01 to
+/// 2199-12-31.
 #[tactic(auto, unfolding(crate::specs::StampDate::day_of_date))]
 fn day_of_date(year: u16, month: u16, day: u16) -> Result<i64, StampFault>
     ensures value { result ≡ day_of_date year month day }

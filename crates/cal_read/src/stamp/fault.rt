@@ -1,40 +1,58 @@
-//! Why a text is no timestamp.
+//! The errors for timestamps.
 
 ghost use Rattle.std.specs.Prelude.{◌≡◌, ◌++◌, codes};
 ghost use Rattle.cal_span.specs.SpanFault.{words_of as span_words_of};
 
 use cal_span::SpanFault;
 
-/// Why a text is no timestamp: what is wrong with the first of its words, from the left, that is at fault, and then
-/// with all of them together (systemd.time(7), Parsing Timestamps).
+/// Why a timestamp is invalid (systemd.time(7), Parsing Timestamps).
+///
+/// If several words are invalid, the leftmost error is reported. `WrongWeekday` is reported only if all words are
+/// valid, and `OutOfRange` last of all.
+///
+/// The errors are numbered:
+///
+/// | number | error          |
+/// |--------|----------------|
+/// | 1      | `Empty`        |
+/// | 2      | `BadWeekday`   |
+/// | 3      | `BadDate`      |
+/// | 4      | `BadTime`      |
+/// | 5      | `NoSuchDate`   |
+/// | 6      | `WrongWeekday` |
+/// | 7      | `BadSpan`      |
+/// | 8      | `NoSuchZone`   |
+/// | 9      | `StrayWord`    |
+/// | 10     | `OutOfRange`   |
 #[derive(Clone, Copy, PartialEq, Eq, Debug)]
 pub enum StampFault {
-    /// There is no word at all. Its number is 1.
+    /// The timestamp is empty or blank.
     Empty,
-    /// The first word begins with a letter and is no weekday's name. Its number is 2.
+    /// The first word begins with a letter, but is not the name of a weekday.
     BadWeekday,
-    /// There is no date where one is expected. Its number is 3.
+    /// A date is expected, but the word is not a date, or there are no more words.
     BadDate,
-    /// There is no time where one is expected. Its number is 4.
+    /// Not a time where one is expected.
     BadTime,
-    /// The date is no day from 1970-01-01 to 2199-12-31. Its number is 5.
+    /// The date is not a day from 1970-01-01 to 2199-12-31.
     NoSuchDate,
-    /// The weekday named isn't the date's. Its number is 6.
+    /// The date isn't on the weekday that was named.
     WrongWeekday,
-    /// The text that has to be a time span isn't one. Its number is 7.
+    /// The time span of the timestamp is invalid.
     BadSpan(SpanFault),
-    /// Where a zone may be, a word begins with a letter and names none. Its number is 8.
+    /// A word in the position of the zone begins with a letter, but is not the name of a zone.
     NoSuchZone,
-    /// A word is left over. So is one in a zone's place that begins with `+` or `-` and is no offset. Its number is 9.
+    /// A word is left over. This is also the error if a word in the position of the zone doesn't begin with a letter
+    /// and is not an offset.
     StrayWord,
-    /// The time lies before the first moment or after the last. Its number is 10.
+    /// The time is before the first moment or after the last.
     OutOfRange,
 }
 
 impl StampFault {
     ghost use Rattle.cal_read.specs.StampFault.{words_of};
 
-    /// What is reported to a user.
+    /// Returns the message for users.
     pub fn words(&self) -> &str
         ensures { result.now ≡ words_of self.now }
     {
@@ -63,7 +81,6 @@ impl From<SpanFault> for StampFault {
     }
 }
 
-/// What is reported to a user where the time span is at fault.
 fn span_words(fault: SpanFault) -> &'static str
     ensures { result.now ≡ codes "bad time span: " ++ span_words_of fault }
 {

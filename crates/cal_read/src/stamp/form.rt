@@ -1,4 +1,4 @@
-//! The forms of a timestamp: what a text asks for.
+//! The forms of a timestamp.
 
 ghost use Rattle.std.specs.Prelude.{◌≡◌};
 ghost use Rattle.std.specs.Option.{option_map};
@@ -8,7 +8,7 @@ ghost use Rattle.cal_read.specs.StampViews.{form_seen, shift_of};
 use crate::stamp::text::{before_word, text_after_first};
 use cal_text::{first_word, trim_blanks};
 
-/// A day beside the present one, or that day itself.
+/// Yesterday, today or tomorrow.
 #[derive(Clone, Copy)]
 pub(crate) enum NearDay {
     Yesterday,
@@ -16,26 +16,26 @@ pub(crate) enum NearDay {
     Tomorrow,
 }
 
-/// What a text asks for.
+/// A timestamp, sorted by its form. The parts are still to be parsed.
 #[derive(Clone, Copy)]
 pub(crate) enum Form<'a> {
-    /// Nothing at all.
+    /// An empty timestamp.
     Nothing,
     /// The present.
     Present,
-    /// As long after the present as the span text says.
+    /// The present plus a time span.
     Later(&'a str),
-    /// As long before the present as the span text says.
+    /// The present minus a time span.
     Earlier(&'a str),
-    /// As long after 1970-01-01 00:00:00 UTC as the span text says.
+    /// 1970-01-01 00:00:00 UTC plus a time span.
     Counted(&'a str),
-    /// The midnight that begins the day, in the zone that the text after it names.
+    /// The midnight at which this day begins, and the text of its zone.
     Midnight(NearDay, &'a str),
-    /// The civil time that the text writes.
+    /// A date and time of day, as text.
     Civil(&'a str),
 }
 
-/// What the text asks for: the first form that fits (systemd.time(7), Parsing Timestamps).
+/// Returns the first form that matches a timestamp (systemd.time(7), Parsing Timestamps).
 #[tactic(auto, unfolding(crate::specs::StampForm::form_of))]
 pub(crate) fn form_of(text: &str) -> Form<'_>
     ensures { form_seen result ≡ form_of text.now }
@@ -53,7 +53,7 @@ pub(crate) fn form_of(text: &str) -> Form<'_>
     }
 }
 
-/// What a text asks for that begins with none of the signs.
+/// Returns the form of a timestamp that has no leading or trailing blanks and doesn't begin with `+`, `-` or `@`.
 #[tactic(auto, unfolding(crate::specs::StampForm::form_by_end))]
 fn form_by_end(text: &str) -> Form<'_>
     ensures { form_seen result ≡ form_by_end text.now }
@@ -73,7 +73,7 @@ fn form_by_end(text: &str) -> Form<'_>
     }
 }
 
-/// The day that the word names.
+/// Parses `today`, `yesterday` or `tomorrow`. Returns `None` for anything else.
 #[tactic(auto, unfolding(crate::specs::StampForm::day_shift))]
 fn near_day(word: &str) -> Option<NearDay>
     ensures { option_map shift_of result ≡ day_shift word.now }

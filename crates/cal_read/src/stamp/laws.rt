@@ -1,5 +1,5 @@
-//! That texts are read by the rule in its own words. Each law is a function that does nothing, and whose contract is the
-//! law.
+//! Laws which say that timestamps are parsed by the manual's rules. Each law is a function that does nothing and whose
+//! contract is the law.
 
 ghost use Rattle.std.specs.Prelude.{◌≡◌, ◌++◌, ◌↔◌, ℕ, ℤ, pos, List, Ok, Err, codes, decimal};
 ghost use Rattle.jiff.specs.Types.{TimeZone};
@@ -23,15 +23,15 @@ ghost use Rattle.cal_read.specs.StampViews.{setting};
 ghost use Rattle.cal_read.specs.declared.stamp.fault.StampFault.{StampFault};
 ghost use Rattle.cal_read.specs.declared.stamp.fault.StampFault.TheVariants.{NoSuchDate, OutOfRange, StrayWord, WrongWeekday};
 
-/// Each text has exactly one form by the rule of systemd.time(7), Parsing Timestamps: that of the first that fits the
-/// text without the blanks at its ends. It is the one by which `read_stamp` reads the text.
+/// Every text has exactly one form by the rule of systemd.time(7), Parsing Timestamps: the first that matches it
+/// without leading and trailing blanks. `read_stamp` interprets the text in this form.
 pub fn one_form()
     ensures found { (text : List ℕ) → HasForm text (form_of text) }
     ensures only { (text : List ℕ) (form : Form) → HasForm text form → form ≡ form_of text }
 {}
 
-/// Words are a civil time exactly where they are `[weekday] [date] [time] [zone]` with a date or a time (systemd.time(7),
-/// Parsing Timestamps), and it is the one by which `read_stamp` reads them.
+/// A list of words is a civil time if and only if it is `[weekday] [date] [time] [zone]` with a date or a time
+/// (systemd.time(7), Parsing Timestamps). `read_stamp` reads it as that civil time.
 pub fn one_civil_time()
     ensures found { (at : Setting) (ws : List (List ℕ)) (c : Written)
         → civil_time at ws ≡ Ok c → IsCivilTime at ws c }
@@ -39,15 +39,15 @@ pub fn one_civil_time()
         → IsCivilTime at ws c → civil_time at ws ≡ Ok c }
 {}
 
-/// Only a written date can be no date: a day that is reckoned from the present never is.
+/// The error `NoSuchDate` occurs only for a date that is written out. A day that is computed from the present always
+/// exists.
 pub fn only_written_dates_are_none()
     ensures { (now : ℤ) (at : Setting) (text : List ℕ) → moment_in now at text ≡ Err NoSuchDate
         → (ws : List (List ℕ)) × (form_of text ≡ civil ws) × HasNoSuchDate ws }
 {}
 
-/// A span text after `+` or before `left` means the moment that much after the present, and one after `-` or before `ago`
-/// the moment that much before it. One after `@` counts from 1970-01-01 00:00:00 UTC (systemd.time(7), Parsing
-/// Timestamps).
+/// A time span after `+` or before `left` is added to the present, and one after `-` or before `ago` is subtracted from
+/// it. A time span after `@` is added to 1970-01-01 00:00:00 UTC (systemd.time(7), Parsing Timestamps).
 pub fn spans_count_from_the_present()
     ensures later { (now : ℤ) (at : Setting) (text span : List ℕ) (time : ℤ) → HasForm text (later span)
         → ((moment_in now at text ≡ Ok time) ↔ (LiesAfter now span time × IsMoment time)) }
@@ -57,16 +57,17 @@ pub fn spans_count_from_the_present()
         → ((moment_in now at text ≡ Ok time) ↔ (LiesAfter (pos 0) span time × IsMoment time)) }
 {}
 
-/// `today`, `yesterday` and `tomorrow` mean the midnight that begins the day, counted from the day that the clock of the
-/// zone shows at the present (systemd.time(7), Parsing Timestamps).
+/// `today`, `yesterday` and `tomorrow` resolve to the midnight at which that day begins. Today is the day that the
+/// clock of the zone shows at present (systemd.time(7), Parsing Timestamps).
 pub fn near_days_begin_at_midnight()
     ensures { (now : ℤ) (at : Setting) (text : List ℕ) (shift : ℤ) (words : List (List ℕ)) (time : ℤ)
         → HasForm text (from_today shift words)
         → ((moment_in now at text ≡ Ok time) ↔ (IsMidnight now at shift words time × IsMoment time)) }
 {}
 
-/// A civil time means the time that the clock of its zone shows on its day, and the day is one of the weekday that is named
-/// (systemd.time(7), Parsing Timestamps). If it isn't, that is the error, even if the time is out of range.
+/// A civil time resolves to the moment at which the clock of its zone shows that time on its day, and the day must be
+/// the weekday that is named (systemd.time(7), Parsing Timestamps). If it isn't, the error is `WrongWeekday`, even if
+/// the time is also out of range.
 pub fn weekdays_are_checked()
     ensures right { (now : ℤ) (at : Setting) (text : List ℕ) (words : List (List ℕ)) (time : ℤ)
         → HasForm text (civil words)
@@ -76,16 +77,16 @@ pub fn weekdays_are_checked()
         → ((moment_in now at text ≡ Err WrongWeekday) ↔ (FallsOn c.weekday day → ⊥)) }
 {}
 
-/// The error of a civil time is that of the first word that can't be read where it stands, from the left. If all can be
-/// read, it is `WrongWeekday`, and only then `OutOfRange`, which comes last in the other forms too (systemd.time(7),
-/// Parsing Timestamps).
+/// The error of a civil time is that of the leftmost word that isn't valid in its position. If all words are valid, it
+/// is `WrongWeekday`, and only then `OutOfRange`, which is the last error to be checked in the other forms too
+/// (systemd.time(7), Parsing Timestamps).
 pub fn first_error()
     ensures { (now : ℤ) (at : Setting) (text : List ℕ) (form : Form) (fault : StampFault) → HasForm text form
         → ((moment_in now at text ≡ Err fault) ↔ HasError now at form fault) }
 {}
 
-/// A timestamp lies between the first moment and the last, and a text that means any other time is `OutOfRange`
-/// (systemd.time(7), Parsing Timestamps).
+/// A timestamp resolves to a time from the first moment to the last. If a text stands for any other time, the error is
+/// `OutOfRange` (systemd.time(7), Parsing Timestamps).
 pub fn moments_are_in_range()
     ensures inside { (now : ℤ) (at : Setting) (text : List ℕ) (time : ℤ) → moment_in now at text ≡ Ok time
         → IsMoment time }
@@ -93,12 +94,13 @@ pub fn moments_are_in_range()
         → MeansTime now at form time → (IsMoment time → ⊥) → moment_in now at text ≡ Err OutOfRange }
 {}
 
-/// An instant that is printed is read as that instant, whatever the present, the local zone and the table are, where the
-/// clock shows a year from 1970 to 2199 and is whole minutes from UTC, as UTC's own is (systemd.time(7), Parsing
-/// Timestamps).
+/// Parsing a printed instant gives the same instant, whatever the present, the local zone and the table are, if the
+/// clock shows a year from 1970 to 2199 and its UTC offset is whole minutes (systemd.time(7), Parsing Timestamps). For
+/// UTC this is always so from 1970 to 2199.
 ///
-/// A clock that isn't whole minutes from UTC prints its offset with seconds, and such a word is no zone. At the first
-/// instants a clock west of UTC shows 1969, and at the last most clocks show 2200: dates of these years are none.
+/// If the offset isn't whole minutes, it is printed with seconds, and the parser rejects it as a zone. At the first
+/// instants a clock west of UTC shows 1969, and at the last instants most clocks show 2200; dates in these years are
+/// rejected.
 pub fn printed_instants_read_back()
     ensures back { (now : ℤ) (local : TimeZone) (table : ZoneMap) (zone : Zone) (secs : ℤ) → IsInstant secs
         → ShowsYear (civil_of (zone_of zone) secs) → ShowsMinutes (civil_of (zone_of zone) secs)
@@ -113,7 +115,7 @@ pub fn printed_instants_read_back()
         → moment_in now (setting local (zone_named table)) (instant_text zone secs) ≡ Err NoSuchDate }
 {}
 
-/// `@` and the decimal digits of an instant are read as that instant, whatever the present and the zones are
+/// Parsing `@` and the decimal digits of an instant gives that instant, whatever the present and the zones are
 /// (systemd.time(7), Parsing Timestamps).
 pub fn counted_seconds_read_back()
     ensures { (now : ℤ) (at : Setting) (n : ℕ) → IsInstant (pos n)

@@ -1,4 +1,4 @@
-//! Timestamps: the moment that a text means.
+//! Parsing timestamps.
 
 ghost use Rattle.std.specs.Prelude.{◌≡◌};
 ghost use Rattle.cal_zone.specs.headline.Zone.{zone_of};
@@ -29,12 +29,21 @@ use crate::stamp::zone::read_zone;
 use cal_span::read_span;
 use cal_zone::{Instant, Moment, Zone, ZoneTable};
 
-/// The moment that a text means (systemd.time(7), Parsing Timestamps), by the first form that fits: nothing; `now`; a
-/// span text after `+`, `-` or `@`, or before `left` or `ago`; `today`, `yesterday` or `tomorrow` and a zone; or
-/// `[weekday] [date] [time] [zone]`. A zone is a name of the table, or an offset, `+hh:mm` or `-hh:mm`, with hh from 00 to
-/// 25 and mm from 00 to 59.
+/// Parses a timestamp and returns the moment that it stands for (systemd.time(7), Parsing Timestamps).
 ///
-/// The fault is that of the first word at fault, from the left; then comes `WrongWeekday`, and then `OutOfRange`.
+/// The first of these forms that matches `text` decides:
+///
+/// - nothing, or only blanks, which is the error `Empty`;
+/// - `now`;
+/// - a time span after `+`, `-` or `@`, or before `left` or `ago`;
+/// - `today`, `yesterday` or `tomorrow`, and a zone if one is given;
+/// - `[weekday] [date] [time] [zone]`, with at least a date or a time.
+///
+/// A zone is a name in `table`, or an offset, `+hh:mm` or `-hh:mm`, with hh from 00 to 25 and mm from 00 to 59. If none
+/// is given, the zone is `local`.
+///
+/// If several words are invalid, the leftmost error is reported. `WrongWeekday` is reported only if all words are
+/// valid, and `OutOfRange` last of all.
 #[tactic(auto, unfolding(crate::specs::Stamp::moment_in))]
 pub fn read_stamp(
     text: &str,

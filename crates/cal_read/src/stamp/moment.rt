@@ -1,4 +1,4 @@
-//! Moments after or before a second, and of a civil time.
+//! Computing moments: from a time span before or after a second, and from a day and a time on a zone's clock.
 
 ghost use Rattle.std.specs.Prelude.{◌≡◌, ◌≤◌, ◌<◌, ◌+ℤ◌, ◌-ℤ◌, ◌*ℤ◌, pos, neg_ℤ, Ok};
 ghost use Rattle.jiff.specs.Words.{IsBetween};
@@ -14,7 +14,7 @@ use crate::stamp::time::SECOND;
 use cal_span::Span;
 use cal_zone::{DAY, Instant, Moment, Zone, civil, settle};
 
-/// The moment of that many microseconds of Unix time, where there is one.
+/// Returns the moment at this many microseconds of Unix time. Fails with `OutOfRange` if there is none.
 #[tactic(auto, unfolding(crate::specs::Stamp::in_moments))]
 pub(crate) fn moment_of(micros: i64) -> Result<Moment, StampFault>
     ensures { micros_or_fault result ≡ in_moments micros }
@@ -22,7 +22,7 @@ pub(crate) fn moment_of(micros: i64) -> Result<Moment, StampFault>
     Moment::new(micros).ok_or(StampFault::OutOfRange)
 }
 
-/// The microseconds of a second of Unix time that lies near the instants.
+/// Converts a Unix second to microseconds. The second must be within a few days of the supported range.
 pub(crate) fn micros_of(second: i64) -> i64
     requires { IsBetween (neg_ℤ (pos 400_000)) (pos 7_259_000_000) second }
     ensures { result ≡ micros_of second }
@@ -30,7 +30,7 @@ pub(crate) fn micros_of(second: i64) -> i64
     second * SECOND as i64
 }
 
-/// The moment a span after the second of Unix time.
+/// Adds a time span to a Unix second. Fails with `OutOfRange` if the sum is not a moment.
 pub(crate) fn after_second(second: i64, span: Span) -> Result<Moment, StampFault>
     requires { IsInstant second }
     ensures { micros_or_fault result ≡ after_second second (Ok span.micros) }
@@ -41,7 +41,7 @@ pub(crate) fn after_second(second: i64, span: Span) -> Result<Moment, StampFault
     moment_of(micros_of(second) + span.micros() as i64)
 }
 
-/// The moment a span before the second of Unix time.
+/// Subtracts a time span from a Unix second. Fails with `OutOfRange` if the difference is not a moment.
 pub(crate) fn before_second(second: i64, span: Span) -> Result<Moment, StampFault>
     requires { IsInstant second }
     ensures { micros_or_fault result ≡ before_second second (Ok span.micros) }
@@ -49,7 +49,7 @@ pub(crate) fn before_second(second: i64, span: Span) -> Result<Moment, StampFaul
     moment_of(micros_of(second) - span.micros() as i64)
 }
 
-/// The number, from 1970-01-01 on, of the present day in the zone.
+/// Returns the number of the day that the zone's clock shows at `now`, counted from 1970-01-01.
 #[tactic(auto, unfolding(crate::specs::Stamp::today))]
 pub(crate) fn today(now: Instant, zone: Zone) -> i64
     ensures value { result ≡ today now.secs (zone_of zone.entry) }
@@ -58,7 +58,7 @@ pub(crate) fn today(now: Instant, zone: Zone) -> i64
     local_second(now, zone).div_euclid(DAY)
 }
 
-/// What the zone's clock shows at the instant, as a local second.
+/// Returns the local second that the zone's clock shows at `now`.
 fn local_second(now: Instant, zone: Zone) -> i64
     ensures value { result ≡ local_of (zone_of zone.entry) now.secs }
     ensures range { IsBetween (neg_ℤ (pos 93_599)) (pos 7_258_305_597) result }
@@ -66,8 +66,10 @@ fn local_second(now: Instant, zone: Zone) -> i64
     now.secs() + i64::from(civil(zone, now).offset)
 }
 
-/// The moment of that many microseconds after midnight of the day. A local time that the zone's clock skips is moved on
-/// by what is skipped, and of one that it shows twice this is the first (systemd.time(7), Parsing Timestamps).
+/// Converts a day and the microseconds after its midnight to a moment. Fails with `OutOfRange` if there is none.
+///
+/// If the zone's clock skips this local time, it is moved forward by the length of the gap; if the clock shows it
+/// twice, the first occurrence is used (systemd.time(7), Parsing Timestamps).
 #[tactic(auto, unfolding(crate::specs::Stamp::settle_on))]
 pub(crate) fn settle_on(zone: Zone, day: i64, micros: u64) -> Result<Moment, StampFault>
     requires day { IsBetween (neg_ℤ (pos 3)) (pos 84_009) day }
@@ -78,7 +80,6 @@ pub(crate) fn settle_on(zone: Zone, day: i64, micros: u64) -> Result<Moment, Sta
     moment_of(with_micros(second, micros % SECOND))
 }
 
-/// The local second that many seconds after midnight of the day.
 fn local_time(day: i64, seconds: u64) -> i64
     requires day { IsBetween (neg_ℤ (pos 3)) (pos 84_009) day }
     requires seconds { seconds ≤ 90_000 }
@@ -87,7 +88,8 @@ fn local_time(day: i64, seconds: u64) -> i64
     day * DAY + seconds as i64
 }
 
-/// The microseconds of Unix time that many after the second, which lies near the instants.
+/// Adds `micros` to a Unix second and returns microseconds. The second must be within a few days of the supported
+/// range.
 fn with_micros(second: i64, micros: u64) -> i64
     requires second { IsBetween (neg_ℤ (pos 400_000)) (pos 7_259_000_000) second }
     requires micros { micros < 1_000_000 }
@@ -96,7 +98,7 @@ fn with_micros(second: i64, micros: u64) -> i64
     micros_of(second) + micros as i64
 }
 
-/// The number of the day beside the present one, or of that day itself, in the zone.
+/// Returns the number of yesterday, today or tomorrow in the zone, counted from 1970-01-01.
 #[tactic(auto, unfolding(crate::specs::Stamp::today))]
 pub(crate) fn near_day(now: Instant, zone: Zone, day: NearDay) -> i64
     ensures value { result ≡ today now.secs (zone_of zone.entry) +ℤ shift_of day }

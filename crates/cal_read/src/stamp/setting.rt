@@ -1,8 +1,8 @@
-//! What the words of a timestamp are read by.
+//! The zones that the words of a timestamp can refer to.
 
 use cal_zone::{Zone, ZoneTable};
 
-/// The zones by which a text is read: the local one, and those that have a name.
+/// The zones for parsing a timestamp: the local zone, for timestamps without a zone, and a table of named zones.
 #[derive(Drop)]
 pub(crate) struct Setting<'t> {
     pub(crate) local: Zone<'t>,

@@ -1,4 +1,4 @@
-//! Parts of a timestamp's text.
+//! Splitting the text of a timestamp.
 
 ghost use Rattle.std.specs.Prelude.{◌≡◌, ◌<◌, drop, length, slice_index};
 ghost use Rattle.std.specs.Option.{option_copied};
@@ -6,7 +6,7 @@ ghost use Rattle.cal_read.specs.StampForm.{before_word};
 
 use cal_text::last_word;
 
-/// What comes after the first character, which is an ASCII one.
+/// Returns the text after its first character, which must be ASCII.
 pub(crate) fn text_after_first(text: &str) -> &str
     requires some { 0 < length text.now }
     requires ascii { slice_index text.now 0 < 128 }
@@ -15,7 +15,7 @@ pub(crate) fn text_after_first(text: &str) -> &str
     &text[1..]
 }
 
-/// What comes before the last blank, where this word comes after it.
+/// Returns the text before its last blank if the word after that blank is `word`.
 pub(crate) fn before_word<'a>(word: &str, text: &'a str) -> Option<&'a str>
     ensures { option_copied result ≡ before_word word.now text.now }
 {

@@ -1,4 +1,4 @@
-//! The time of day of a timestamp.
+//! Parsing the time of day of a timestamp.
 
 ghost use Rattle.std.specs.Prelude.{◌≡◌, ◌≤◌, IfSome, IfOk};
 ghost use Rattle.cal_read.specs.StampTime.{both, clock_number, fraction_in, second_written, time_by, time_numbers, time_written};
@@ -9,15 +9,15 @@ use cal_span::fraction_of;
 use cal_spec::first_piece;
 use cal_text::are_digits;
 
-/// The microseconds of a second.
+/// The number of microseconds in a second.
 pub(crate) const SECOND: u64 = 1_000_000;
 
-/// How many digits of a fraction are kept.
+/// The number of digits of a fraction that are used.
 const KEPT_DIGITS: usize = 6;
 
-/// The microseconds after midnight of the time that the word writes: `H:M`, `H:M:S` or `H:M:S.` and one or more
-/// digits, of which six are kept (systemd.time(7), Parsing Timestamps). H is 0 to 23, M and S are 0 to 59, each of one
-/// or two digits; anything else is `BadTime`.
+/// Parses a time of day and returns the microseconds after midnight: `H:M`, `H:M:S`, or `H:M:S.` followed by one or
+/// more digits, of which the first six are used (systemd.time(7), Parsing Timestamps). H is 0 to 23, M and S are 0 to
+/// 59, each with one or two digits. Fails with `BadTime` for anything else.
 #[tactic(auto, unfolding(crate::specs::StampTime::time_written))]
 pub(crate) fn read_time(word: &[u8]) -> Result<u64, StampFault>
     ensures value { result ≡ time_written word.now }
@@ -26,7 +26,7 @@ pub(crate) fn read_time(word: &[u8]) -> Result<u64, StampFault>
     time_numbers(word).ok_or(StampFault::BadTime)
 }
 
-/// The microseconds after midnight, or `None` where the word is no time.
+/// Parses a time of day and returns the microseconds after midnight, or `None` if `word` is not a time.
 #[tactic(auto, unfolding(crate::specs::StampTime::time_numbers))]
 fn time_numbers(word: &[u8]) -> Option<u64>
     ensures value { result ≡ time_numbers word.now }
@@ -44,7 +44,8 @@ fn time_numbers(word: &[u8]) -> Option<u64>
     }
 }
 
-/// The microseconds after midnight at this hour and minute, and that many microseconds after them.
+/// Returns the microseconds after midnight, from the digits of the hour and of the minute and the microseconds after
+/// the minute. Returns `None` if any of them is invalid.
 fn time_of(hour: &[u8], minute: &[u8], micros: Option<u64>) -> Option<u64>
     requires { IfSome micros (λ micros. micros ≤ 120_000_000) }
     ensures value { result ≡ time_by (clock_number 23 hour.now) (clock_number 59 minute.now) micros }
@@ -55,7 +56,7 @@ fn time_of(hour: &[u8], minute: &[u8], micros: Option<u64>) -> Option<u64>
     Some((hour * 3_600 + minute * 60) * SECOND + micros?)
 }
 
-/// The microseconds of the seconds, `S` or `S.` with digits.
+/// Parses the seconds, `S` or `S.` followed by digits, and returns microseconds.
 #[tactic(auto, unfolding(crate::specs::StampTime::second_written))]
 fn read_second(word: &[u8]) -> Option<u64>
     ensures value { result ≡ second_written word.now }
@@ -72,7 +73,6 @@ fn read_second(word: &[u8]) -> Option<u64>
     }
 }
 
-/// So many seconds and microseconds, in microseconds.
 fn both(seconds: Option<u64>, micros: Option<u64>) -> Option<u64>
     requires seconds { IfSome seconds (λ seconds. seconds ≤ 59) }
     requires micros { IfSome micros (λ micros. micros ≤ 60_000_000) }
@@ -82,7 +82,7 @@ fn both(seconds: Option<u64>, micros: Option<u64>) -> Option<u64>
     Some(seconds? * SECOND + micros?)
 }
 
-/// The number of one or two digits, up to the greatest.
+/// Parses a number of one or two digits that is at most `greatest`.
 #[tactic(auto, unfolding(crate::specs::StampTime::clock_number))]
 fn clock_number(word: &[u8], greatest: u16) -> Option<u64>
     ensures value { result ≡ clock_number greatest word.now }
@@ -95,7 +95,7 @@ fn clock_number(word: &[u8], greatest: u16) -> Option<u64>
     Some(u64::from(number))
 }
 
-/// The microseconds of one or more digits after the point: six digits are kept, the rest is dropped.
+/// Parses one or more digits of a fraction of a second and returns microseconds. Only the first six digits are used.
 #[tactic(auto, unfolding(crate::specs::StampTime::fraction_in))]
 fn read_fraction(digits: &[u8]) -> Option<u64>
     ensures value { result ≡ fraction_in digits.now }

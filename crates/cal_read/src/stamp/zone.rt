@@ -1,4 +1,4 @@
-//! The zone that the words of a timestamp name.
+//! Parsing the zone of a timestamp.
 
 ghost use Rattle.std.specs.Prelude.{◌≡◌};
 ghost use Rattle.cal_zone.specs.headline.Zone.{zone_of};
@@ -12,9 +12,11 @@ use crate::stamp::setting::Setting;
 use cal_text::first_word;
 use cal_zone::{Zone, ZoneTable, begins_with_letter, read_offset};
 
-/// The zone that the text names, or the local one where it has no word (systemd.time(7), Parsing Timestamps): a name of
-/// the table, or an offset, which is never looked up there. `StrayWord` where the word begins with no letter and is no
-/// offset, or another one comes after it; `NoSuchZone` where it is a name that has no zone.
+/// Parses the zone, which is all that may be left in `text`: a name in the table, or an offset, which is never looked
+/// up there. Returns the local zone if there are no words (systemd.time(7), Parsing Timestamps).
+///
+/// Fails with `NoSuchZone` if the word begins with a letter and is not a name in the table, and with `StrayWord` if it
+/// begins with anything else and is not an offset, or if another word follows it.
 pub(crate) fn read_zone<'t>(text: &str, at: &Setting<'t>) -> Result<Zone<'t>, StampFault>
     ensures { zone_or_fault result ≡ zone_by_words (setting_seen at.now) (words text.now) }
 {
@@ -28,9 +30,9 @@ pub(crate) fn read_zone<'t>(text: &str, at: &Setting<'t>) -> Result<Zone<'t>, St
     }
 }
 
-/// The zone that the word means: that of a name where it begins with a letter, or else one as far from UTC as the word
-/// says, `+hh:mm` or `-hh:mm`, with hh from 00 to 25 and mm from 00 to 59 (systemd.time(7), Parsing Timestamps).
-/// `NoSuchZone` where there is no zone of that name, `StrayWord` where a word that begins with no letter is no offset.
+/// Parses one word as a zone. If it begins with a letter, it must be a name in the table; otherwise it must be an
+/// offset, `+hh:mm` or `-hh:mm`, with hh from 00 to 25 and mm from 00 to 59 (systemd.time(7), Parsing Timestamps).
+/// Fails with `NoSuchZone` if the table doesn't have the name, and with `StrayWord` if the word is not an offset.
 fn zone_meant<'t>(word: &str, table: &'t ZoneTable) -> Result<Zone<'t>, StampFault>
     ensures { zone_or_fault result ≡ zone_meant (zone_named table.now) word.now }
 {

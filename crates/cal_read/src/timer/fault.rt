@@ -1,4 +1,4 @@
-//! Why a timer file is rejected.
+//! The errors for timer files.
 
 ghost use Rattle.std.specs.Prelude.{◌≡◌};
 ghost use Rattle.cal_read.specs.declared.timer.fault.TimerFault.TheVariants.{NoMemory};
@@ -6,30 +6,45 @@ ghost use Rattle.cal_read.specs.declared.timer.fault.TimerFault.TheVariants.{NoM
 use cal_spec::SpecFault;
 use std::alloc::{AllocError, AllocFailed};
 
-/// Why a timer file is rejected: the first fault, in the order in which the input, its bytes and then its lines are
-/// judged. Lines are counted from 1, and a logical line has the number of its first physical line.
+/// Why a timer file is invalid.
+///
+/// The first error is reported: the input is checked first, then its bytes, then its lines in order. Lines are numbered
+/// from 1, and a logical line has the number of its first physical line.
+///
+/// The errors are numbered:
+///
+/// | number | error         |
+/// |--------|---------------|
+/// | 1      | `ReadFailed`  |
+/// | 2      | `TooLarge`    |
+/// | 3      | `NotUtf8`     |
+/// | 4      | `BadLine`     |
+/// | 5      | `TooMany`     |
+/// | 6      | `NothingToDo` |
+/// | 7      | `NoMemory`    |
 #[derive(Clone, Copy, PartialEq, Eq, Debug)]
 pub enum TimerFault {
-    /// The reader failed. Its number is 1.
+    /// A read failed.
     ReadFailed,
-    /// The input has more than 1,048,576 bytes. Its number is 2.
+    /// The input has more than 1,048,576 bytes.
     TooLarge,
-    /// The bytes are no UTF-8; the physical line of the first of them. Its number is 3.
+    /// The bytes are not valid UTF-8. The first invalid byte is in this physical line.
     NotUtf8(u32),
-    /// The text of an expression or of an exception is rejected, in this line and for this cause. Its number is 4.
+    /// The expression or the exception in this line is invalid, for this reason.
     BadLine(u32, SpecFault),
-    /// There are more than 256 expressions, or more than 256 exceptions; the line of the one too many. Its number is 5.
+    /// There are more than 256 expressions, or more than 256 exceptions. The first over the limit is in this line.
     TooMany(u32),
-    /// There is no expression at the end, whatever the exceptions are. Its number is 6.
+    /// After the last line the list of expressions is empty, whatever the list of exceptions has.
     NothingToDo,
-    /// Memory was refused. Its number is 7.
+    /// Out of memory.
     NoMemory,
 }
 
 impl TimerFault {
     ghost use Rattle.cal_read.specs.TimerFault.{line_of, words_of};
 
-    /// What is reported to a user, for a bad line the words of its text's fault; running out of memory has no words.
+    /// Returns the message for users. For a bad line it is the message of its expression's error; for
+    /// [`TimerFault::NoMemory`] it is empty.
     pub fn words(&self) -> &str
         ensures { result.now ≡ words_of self.now }
     {
@@ -44,7 +59,7 @@ impl TimerFault {
         }
     }
 
-    /// The number of the line at fault, where there is one.
+    /// Returns the number of the line that has the error, or `None` if the error doesn't belong to a line.
     pub fn line(&self) -> Option<u32>
         ensures { result ≡ line_of self.now }
     {

@@ -1,4 +1,4 @@
-//! Timer files: reading one whole (systemd.timer(5), OnCalendar=; systemd.syntax(7)).
+//! Reading timer files (systemd.timer(5), OnCalendar=; systemd.syntax(7)).
 
 ghost use Rattle.std.specs.Prelude.{◌≡◌, ◌≢◌, ◌+◌, ◌<◌, ◌≤◌, ◌^◌, ◌↔◌, ◌==◌, ℕ, List, Ok, Err, Result, MatchResult, IsTrue, false, length, count_by};
 ghost use Rattle.std.specs.Result.{IsErrOf};
@@ -17,14 +17,19 @@ use cal_bytes::{Source, WholeFault, read_whole};
 use cal_lines::first_logical;
 use std::alloc::Global;
 
-/// Reads a timer file to its end, and gives its calendar expressions (systemd.timer(5), OnCalendar=) and its exceptions
-/// (`X-ExceptOnCalendar=`).
+/// Reads a timer file to its end, and returns its calendar expressions (systemd.timer(5), OnCalendar=) and its
+/// exceptions (`X-ExceptOnCalendar=`).
 ///
-/// The fault is the first one: [`TimerFault::ReadFailed`], exactly where the reader failed, or [`TimerFault::TooLarge`]
-/// where more than 1,048,576 bytes came; then [`TimerFault::NotUtf8`]; then, from one logical line to the next,
-/// [`TimerFault::TooMany`] and [`TimerFault::BadLine`], of an expression or of an exception; then
-/// [`TimerFault::NothingToDo`], where there is no expression.
-/// [`TimerFault::NoMemory`] comes only where memory was refused.
+/// The errors are, in the order in which they are checked:
+///
+/// - [`TimerFault::ReadFailed`] if and only if a read fails, or [`TimerFault::TooLarge`] if the input has more than
+///   1,048,576 bytes;
+/// - [`TimerFault::NotUtf8`] if the bytes are not valid UTF-8;
+/// - for each logical line in order, [`TimerFault::TooMany`] if it is one expression or exception over the limit, or
+///   else [`TimerFault::BadLine`] if its expression or exception is invalid;
+/// - [`TimerFault::NothingToDo`] if there is no expression.
+///
+/// Fails with [`TimerFault::NoMemory`] only if allocation fails.
 pub fn read_timer<R: Source>(alloc: Global, input: &mut R) -> Result<Timer, TimerFault>
     requires { R.is_failed input.old ≡ false }
     ensures failed { IsTrue (R.is_failed input.new) ↔ IsErrOf result TimerFault.ReadFailed }
@@ -45,7 +50,7 @@ pub fn read_timer<R: Source>(alloc: Global, input: &mut R) -> Result<Timer, Time
     read_bytes(alloc, bytes.as_slice())
 }
 
-/// The expressions of a file of these bytes.
+/// Parses a timer file from its bytes.
 #[tactic(auto, unfolding(crate::specs::TimerText::timer_in, crate::specs::TimerText::broken_line))]
 fn read_bytes(alloc: Global, bytes: &[u8]) -> Result<Timer, TimerFault>
     requires { length bytes.now ≤ most_file_bytes }
@@ -59,7 +64,7 @@ fn read_bytes(alloc: Global, bytes: &[u8]) -> Result<Timer, TimerFault>
     }
 }
 
-/// The number of the physical line that goes on after these bytes, the first of a file.
+/// Returns the number of the physical line that contains the byte after `bytes`, which are the beginning of a file.
 fn line_after(bytes: &[u8]) -> u32
     requires { length bytes.now ≤ most_file_bytes }
     ensures { result ≡ count_by (λ b. b == 10) bytes.now + 1 }
@@ -67,7 +72,7 @@ fn line_after(bytes: &[u8]) -> u32
     bytes.iter().filter(|byte| **byte == b'\n').count() as u32 + 1
 }
 
-/// The expressions of a file of this text.
+/// Parses a timer file from its text.
 #[tactic(auto, unfolding(crate::specs::TimerText::timer_of))]
 fn read_text(alloc: Global, text: &str) -> Result<Timer, TimerFault>
     requires { length text.now ≤ most_file_bytes }
@@ -82,7 +87,7 @@ fn read_text(alloc: Global, text: &str) -> Result<Timer, TimerFault>
     Ok(Timer::new(lists))
 }
 
-/// The text without a byte order mark at its very start.
+/// Removes a byte order mark from the start of the text, if there is one.
 #[tactic(auto, unfolding(crate::specs::headline::TimerText::without_mark))]
 fn without_mark(text: &str) -> &str
     ensures mark { result.now ≡ without_mark text.now }
@@ -91,7 +96,8 @@ fn without_mark(text: &str) -> &str
     text.strip_prefix("\u{FEFF}").unwrap_or(text)
 }
 
-/// The lists that the logical lines of a text give; no expression is no fault here.
+/// Parses the logical lines of a timer file, and returns both lists as they are after the last line. An empty list of
+/// expressions is not an error here.
 fn read_lists(alloc: Global, text: &str) -> Result<ReadLists, TimerFault>
     requires { length text.now ≤ most_file_bytes }
     ensures { MatchResult result

@@ -1,5 +1,5 @@
-//! Laws of the definitions that the contract of [`crate::read_timer`] cites. Each is a function that does nothing, and
-//! whose contract is the law.
+//! Laws of the definitions that the contract of [`crate::read_timer`] uses. Each law is a function that does nothing
+//! and whose contract is the law.
 
 ghost use Rattle.std.specs.Prelude.{◌≡◌, ◌∷◌, ◌++◌, [], ℕ, Bool, List, Result, codes, false, filter, true, if◌then◌else◌};
 ghost use Rattle.std.specs.List.{list_any};
@@ -13,7 +13,8 @@ ghost use Rattle.cal_read.specs.declared.timer.fault.TimerFault.{TimerFault};
 ghost use Rattle.cal_read.specs.TimerText.{Timer, lists_of};
 ghost use Rattle.cal_read.specs.headline.TimerText.{excepted, is_exception, is_exception_reset, is_expression, is_reset, listed};
 
-/// A line is in the section `Timer` where the last header before it opens that section; a header is in none.
+/// A line belongs to the section `Timer` if the last header before it opens that section. A header itself belongs to no
+/// section.
 pub fn one_section()
     ensures header { (inside : Bool) (front rest : List Line) (header : Line)
         → is_header header.text ≡ true → list_any (λ line. is_header line.text) rest ≡ false
@@ -23,7 +24,8 @@ pub fn one_section()
         → timer_lines inside lines ≡ (if inside then lines else []) }
 {}
 
-/// The list of expressions is those after the last reset, or all of them where there is no reset.
+/// The list of expressions has those after the last assignment that clears the list, or all of them if no assignment
+/// clears it.
 pub fn one_list()
     ensures after_reset { (front rest : List Assignment) (reset : Assignment)
         → is_reset reset ≡ true → list_any is_reset rest ≡ false
@@ -31,8 +33,8 @@ pub fn one_list()
     ensures no_reset { (all : List Assignment) → list_any is_reset all ≡ false → listed all ≡ filter is_expression all }
 {}
 
-/// The list of exceptions is those after the last empty value of their own key, or all of them where there is none. What
-/// empties the list of expressions leaves it, and the other way round.
+/// The list of exceptions has those after the last assignment that clears the list, or all of them if no assignment
+/// clears it. What clears the list of expressions doesn't affect the list of exceptions, and vice versa.
 pub fn one_list_of_exceptions()
     ensures after_reset { (front rest : List Assignment) (reset : Assignment)
         → is_exception_reset reset ≡ true → list_any is_exception_reset rest ≡ false
@@ -45,8 +47,8 @@ pub fn one_list_of_exceptions()
         → listed (before ++ reset ∷ []) ≡ listed before }
 {}
 
-/// Assignments have exactly one result: the lists, where none of them has a fault and there is an expression; the first
-/// fault; or that there is nothing to do.
+/// A list of assignments has exactly one result: both lists, if no assignment has an error and there is an expression;
+/// otherwise the first error, or `NothingToDo` if no assignment has one.
 pub fn one_judgement()
     ensures some { (read : List ℕ → Result Fields SpecFault) (all : List Assignment)
         → JudgesTimer read all (lists_of read all) }

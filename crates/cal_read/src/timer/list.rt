@@ -1,5 +1,4 @@
-//! The lists of a timer file's expressions and exceptions, from one logical line to the next (systemd.timer(5),
-//! OnCalendar=).
+//! The lists of expressions and exceptions, which are built line by line (systemd.timer(5), OnCalendar=).
 
 ghost use Rattle.std.specs.Prelude.{◌≡◌, ◌≢◌, ◌∷◌, List, Some, Ok, Err, MatchResult, map};
 ghost use Rattle.cal_spec.specs.Expr.{expr_in};
@@ -17,21 +16,21 @@ use cal_lines::trim;
 use cal_spec::{SpecFault, read_expr};
 use std::alloc::Global;
 
-/// The most expressions of a list.
+/// The maximum number of expressions in a list.
 const MOST_EXPRESSIONS: usize = 256;
 
-/// The section whose assignments are read.
+/// The name of the section whose assignments are read.
 const SECTION: &[u8] = b"Timer";
 
-/// What was read so far: the expressions and the exceptions that the lists have.
+/// The expressions and exceptions collected so far.
 #[derive(Drop)]
 pub(crate) struct ReadLists {
     pub(crate) expressions: Vec<TimerLine>,
     pub(crate) exceptions: Vec<TimerLine>,
 }
 
-/// Takes a logical line into the lists, where it is in the section `Timer` or not, and answers whether the line
-/// after it does.
+/// Applies a logical line to the lists. `inside` says whether the line is in the section `Timer`. Returns whether the
+/// next line is.
 pub(crate) fn take_line(
     alloc: Global,
     lists: &mut ReadLists,
@@ -61,7 +60,7 @@ pub(crate) fn take_line(
     Ok(true)
 }
 
-/// Does to the lists what an assignment says: adds to one, empties one, or leaves both.
+/// Applies an assignment to the lists: it can add to one of them, clear one of them, or leave both unchanged.
 fn assign(
     alloc: Global,
     lists: &mut ReadLists,
@@ -91,7 +90,7 @@ fn assign(
     )
 }
 
-/// Does to a list what an assignment says that adds to it, or else empties it.
+/// Adds the assignment to the list if `adds`, and otherwise clears the list if `empties`.
 fn change(
     alloc: Global,
     list: &mut Vec<TimerLine>,
@@ -113,7 +112,8 @@ fn change(
     Ok(())
 }
 
-/// Adds the expression of an assignment to a list.
+/// Adds the expression of an assignment to a list. Fails with `TooMany` if the list is full, before the expression is
+/// parsed.
 #[tactic(auto, unfolding(crate::specs::TimerView::with_assignment))]
 fn add_line(
     alloc: Global,
@@ -133,7 +133,7 @@ fn add_line(
     Ok(())
 }
 
-/// The expression of an assignment.
+/// Parses the expression of an assignment. Fails with `BadLine` if it is invalid.
 fn read_line(alloc: Global, assignment: Assignment<'_>) -> Result<TimerLine, TimerFault>
     ensures { MatchResult result
         (λ line. entry_of (shown_assignment assignment.entry) (expr_in assignment.entry.value.now) ≡ Some (shown line))

@@ -1,4 +1,4 @@
-//! Timers: the calendar expressions of a timer file (systemd.timer(5), OnCalendar=).
+//! The calendar expressions of a timer file (systemd.timer(5), OnCalendar=).
 
 ghost use Rattle.std.specs.Prelude.{◌≡◌, map};
 ghost use Rattle.cal_read.specs.TimerView.{shown, shown_lists};
@@ -15,15 +15,15 @@ use std::marker::Model;
 /// A calendar expression of a timer file, or an exception.
 #[derive(Debug, Drop)]
 pub struct TimerLine {
-    /// The number of its line, from 1; of a continued line that of its first physical line.
+    /// The number of its line, from 1. If the line is continued, this is the number of its first physical line.
     pub number: u32,
-    /// The text as the file has it, without the blanks at its ends.
+    /// The expression as it is written in the file, without leading and trailing blanks.
     pub text: String,
-    /// What the text reads as.
+    /// The parsed expression.
     pub expr: Expr,
 }
 
-/// The calendar expressions of a timer file, at least one, and its exceptions, each in the order of the file.
+/// The calendar expressions of a timer file, at least one, and its exceptions. Both are in the order of the file.
 #[derive(Debug, Drop)]
 pub struct Timer {
     lines: Vec<TimerLine>,
@@ -42,10 +42,9 @@ impl Model for Timer {
 }
 
 impl Timer {
-    /// The most bytes that a timer file may have.
+    /// The maximum size of a timer file, in bytes.
     pub const FILE_LIMIT: usize = 1_048_576;
 
-    /// A timer of these expressions and exceptions.
     pub(crate) fn new(lists: ReadLists) -> Timer
         ensures { result ≡ shown_lists lists }
     {
@@ -55,14 +54,15 @@ impl Timer {
         }
     }
 
-    /// The expressions, in the order of the file. Takes no memory.
+    /// Returns the expressions in the order of the file. This doesn't allocate.
     pub fn lines(&self) -> &[TimerLine]
         ensures { map shown result.now ≡ self.now.expressions }
     {
         self.lines.as_slice()
     }
 
-    /// The exceptions, in the order of the file: when one of them elapses, the timer does not. Takes no memory.
+    /// Returns the exceptions in the order of the file. When an exception elapses, the timer doesn't. This doesn't
+    /// allocate.
     pub fn exceptions(&self) -> &[TimerLine]
         ensures { map shown result.now ≡ self.now.exceptions }
     {

@@ -1,4 +1,4 @@
--- The list so far and the lines that are left decide.
+-- Going on with the remaining lines gives the result for the whole text.
 use Rattle.std.proofs.Common.{◌≡◌, ◌+◌, ◌≤◌, length, false, []}
 use denote.Shadow.{shadow}
 use denote.Text.{Utf8}
