@@ -1,7 +1,7 @@
-# Completion of calendar-analyze for bash: verbs, options with the form of their values, files where a file is expected.
+# Completion of calendar-analyze for bash: verbs, options with the form of their values, and the files that they take.
 
 _calendar_analyze_zones() {
-    # The names that a --zones before it gives to its files.
+    # Prints the names that an earlier --zones gives to its files.
     local words before='' word items item
     read -ra words <<< "$COMP_LINE"
     for word in "${words[@]}"; do
@@ -17,8 +17,9 @@ _calendar_analyze_zones() {
     done
 }
 
-# Offers what is read, each item after what comes before it in the word. Readline replaces only what comes after the last
-# `=` or `:` of the word, so what comes before that is left out. What ends in `=`, `:` or `@` has more to follow.
+# Offers the items on standard input to complete the word $1. Each item follows $2, the start of the word. Readline
+# replaces only what comes after the last `=` or `:` of the word, so everything before that is cut off. No space is
+# added after `=`, `:` and `@`, because the value continues there.
 _calendar_analyze_offer() {
     local whole=$1 head=$2 breaks cut='' i
     mapfile -t COMPREPLY
@@ -31,8 +32,8 @@ _calendar_analyze_offer() {
     done
 }
 
-# Offers the files of a text with that beginning: all, or those and the folders that a verb reads. A folder goes on with a
-# slash, and a blank in a name has a backslash before it.
+# Offers the files whose names begin with $2 to complete the word $1. With a pattern $3, offers only folders and the
+# files that match it. A slash follows a folder, and a backslash precedes a blank in a name.
 _calendar_analyze_files() {
     local whole=$1 value=$2 pattern=$3 name=${2//\\/}
     compopt -o filenames 2> /dev/null
@@ -40,7 +41,7 @@ _calendar_analyze_files() {
         < <(if [ -z "$pattern" ]; then compgen -f -- "$name"; else compgen -f -X "!$pattern" -- "$name"; compgen -d -- "$name"; fi)
 }
 
-# The values of an option; of a rule after `posix:` there is nothing to offer.
+# Offers the values of an option. After `posix:` the user types a rule, so nothing is offered.
 _calendar_analyze_values() {
     local option=$1 value=$2 whole=$3 item=${2##*,}
     local head=${whole%"$value"}
@@ -57,7 +58,7 @@ _calendar_analyze_values() {
     esac
 }
 
-# The texts and the file of a verb.
+# Offers the texts of a verb, or timer files.
 _calendar_analyze_texts() {
     local verb=$1 whole=$2 texts
     case $verb in
@@ -70,7 +71,7 @@ _calendar_analyze_texts() {
 }
 
 _calendar_analyze() {
-    # The word at the cursor and those before it, whole: bash takes them apart at `=` and `:`.
+    # Takes the word at the cursor and the words before it from the line, because bash splits words at `=` and `:`.
     local line=${COMP_LINE:0:COMP_POINT} verb=${COMP_WORDS[1]} options whole words
     line=${line#*"${COMP_WORDS[0]}"}
     [[ $line =~ ((\\.|[^[:space:]\\])*)$ ]] && whole=${BASH_REMATCH[1]}
@@ -85,7 +86,7 @@ _calendar_analyze() {
     timestamp) options='--now= --zones= --local= --help' ;;
     *) options=--help ;;
     esac
-    # After a `--` all words are texts.
+    # After `--` all words are texts.
     case " ${words[*]} ,${words[${#words[@]} - 1]},$whole" in
     *' -- '*,*) _calendar_analyze_texts "$verb" "$whole" ;;
     *,--iterations,* | *,--base-time,* | *,--now,* | *,--zones,* | *,--local,*)

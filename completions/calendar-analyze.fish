@@ -1,7 +1,8 @@
-# Completion of calendar-analyze for fish: verbs, options with the form of their values, files where a file is expected.
+# Completion of calendar-analyze for fish: verbs, options with the form of their values, and the files that they take.
 
 function __calendar_analyze_zones
-    # The zones of the rules, and the names that a --zones before it gives to its files. A rule after `posix:` has none.
+    # Prints the values of --local: UTC, `posix:`, and the names that an earlier --zones gives to its files. Prints
+    # nothing after `posix:`, because the user types a rule there.
     string match -q -- '*posix:*' (commandline -ct); and return
     string split ' ' 'UTC posix:'
     set -l before
@@ -19,17 +20,17 @@ set -l elapses 'calendar timer'
 set -l zones 'calendar timer timestamp'
 
 complete -c calendar-analyze -f
-complete -c calendar-analyze -n __fish_use_subcommand -a calendar -d 'the normal form of expressions and when they elapse next'
-complete -c calendar-analyze -n __fish_use_subcommand -a timestamp -d 'the instants that timestamps mean'
-complete -c calendar-analyze -n __fish_use_subcommand -a timespan -d 'how long time spans are'
-complete -c calendar-analyze -n __fish_use_subcommand -a timer -d 'when the expressions of a timer file elapse next'
+complete -c calendar-analyze -n __fish_use_subcommand -a calendar -d 'parse calendar expressions and show when they next elapse'
+complete -c calendar-analyze -n __fish_use_subcommand -a timestamp -d 'parse timestamps and show the instants they resolve to'
+complete -c calendar-analyze -n __fish_use_subcommand -a timespan -d 'parse time spans and show how long they are'
+complete -c calendar-analyze -n __fish_use_subcommand -a timer -d 'parse a timer file and show when its expressions next elapse'
 complete -c calendar-analyze -n __fish_use_subcommand -s V -l version -d 'print the version'
 complete -c calendar-analyze -s h -l help -d 'print help'
-complete -c calendar-analyze -n "__fish_seen_subcommand_from $elapses" -l iterations -x -d 'elapses to show, 1 to 1000000'
-complete -c calendar-analyze -n "__fish_seen_subcommand_from $elapses" -l base-time -x -d 'elapses after this timestamp'
-complete -c calendar-analyze -n "__fish_seen_subcommand_from $zones" -l now -x -a '@' -d 'the present in seconds'
-complete -c calendar-analyze -n "__fish_seen_subcommand_from $zones" -l zones -r -F -d 'NAME=FILE,.. of zone files'
-complete -c calendar-analyze -n "__fish_seen_subcommand_from $zones" -l local -x -a '(__calendar_analyze_zones)' -d 'the local zone'
+complete -c calendar-analyze -n "__fish_seen_subcommand_from $elapses" -l iterations -x -d 'show at most N elapses, 1 to 1000000'
+complete -c calendar-analyze -n "__fish_seen_subcommand_from $elapses" -l base-time -x -d 'show elapses after this timestamp'
+complete -c calendar-analyze -n "__fish_seen_subcommand_from $zones" -l now -x -a '@' -d 'present time in Unix seconds'
+complete -c calendar-analyze -n "__fish_seen_subcommand_from $zones" -l zones -r -F -d 'read zone files NAME=FILE,..'
+complete -c calendar-analyze -n "__fish_seen_subcommand_from $zones" -l local -x -a '(__calendar_analyze_zones)' -d 'local zone'
 complete -c calendar-analyze -n '__fish_seen_subcommand_from timer' -k -a '(__fish_complete_suffix .timer)'
 complete -c calendar-analyze -n '__fish_seen_subcommand_from calendar' -a 'minutely hourly daily weekly monthly quarterly semiannually yearly'
 complete -c calendar-analyze -n '__fish_seen_subcommand_from timestamp' -a 'now today yesterday tomorrow'

@@ -209,7 +209,7 @@ fn build_command<'a>(alloc: Global) -> Result<Command<'a>, AllocError>
 {
     Command::new(alloc, "calendar-analyze")
         .version("0.1.0")
-        .about("Calculates with calendar expressions, timestamps, time spans and timers")
+        .about("Analyze systemd calendar expressions, timestamps, time spans and timers")
         .after_help(STATUSES)
         .no_binary_name(true)
         .disable_help_subcommand(true)
@@ -227,7 +227,7 @@ fn build_calendar<'a>(alloc: Global) -> Result<Command<'a>, AllocError>
     ensures local { IfOk result (λ command. (fields_of command).has_globals ≡ false) }
 {
     let command = Command::new(alloc, "calendar")
-        .about("Show the normal form of expressions and when they elapse next")
+        .about("Parse calendar expressions and show when they next elapse")
         .after_help(CALENDAR_EXAMPLE);
     with_elapse_options(alloc, command)?.arg(texts_arg(
         alloc,
@@ -241,7 +241,7 @@ fn build_timestamp<'a>(alloc: Global) -> Result<Command<'a>, AllocError>
     ensures local { IfOk result (λ command. (fields_of command).has_globals ≡ false) }
 {
     let command = Command::new(alloc, "timestamp")
-        .about("Show the instants that timestamps mean")
+        .about("Parse timestamps and show the instants they resolve to")
         .after_help(TIMESTAMP_EXAMPLE);
     with_zone_options(alloc, command)?.arg(texts_arg(alloc, "Timestamp, as in systemd.time(7)"))
 }
@@ -252,7 +252,7 @@ fn build_timespan<'a>(alloc: Global) -> Result<Command<'a>, AllocError>
     ensures local { IfOk result (λ command. (fields_of command).has_globals ≡ false) }
 {
     Command::new(alloc, "timespan")
-        .about("Show how long time spans are")
+        .about("Parse time spans and show how long they are")
         .after_help(TIMESPAN_EXAMPLE)
         .arg(texts_arg(alloc, "Time span, as in systemd.time(7)"))
 }
@@ -263,7 +263,7 @@ fn build_timer<'a>(alloc: Global) -> Result<Command<'a>, AllocError>
     ensures local { IfOk result (λ command. (fields_of command).has_globals ≡ false) }
 {
     let command = Command::new(alloc, "timer")
-        .about("Show when the expressions of a timer file elapse next")
+        .about("Parse a timer file and show when its expressions next elapse")
         .after_help(TIMER_EXAMPLE);
     let file = Arg::new(alloc, "text")
         .value_name("FILE")
@@ -284,13 +284,13 @@ fn with_elapse_options<'a>(alloc: Global, command: Command<'a>) -> Result<Comman
             alloc,
             "iterations",
             "N",
-            "Elapses to show, 1 to 1000000 [default: 1]",
+            "Show at most N elapses, 1 to 1000000 [default: 1]",
         ))?
         .arg(option_arg(
             alloc,
             "base-time",
             "STAMP",
-            "Elapses after this timestamp [default: now]",
+            "Show elapses after this timestamp [default: now]",
         ))?;
     with_zone_options(alloc, command)
 }
@@ -307,13 +307,13 @@ fn with_zone_options<'a>(alloc: Global, command: Command<'a>) -> Result<Command<
             alloc,
             "zones",
             "NAME=FILE,..",
-            "Zone files to read, 1 to 64 [default: none]",
+            "Read 1 to 64 zone files [default: none]",
         ))?
         .arg(option_arg(
             alloc,
             "now",
             "@N",
-            "The present in seconds [default: the clock]",
+            "Present time in Unix seconds [default: the clock]",
         ))
 }
 
@@ -341,18 +341,19 @@ fn texts_arg<'a>(alloc: Global, help: &'a str) -> Arg<'a>
         .required(true)
 }
 
-const LOCAL_HELP: &str = "UTC, +hh:mm, -hh:mm, posix:RULE or a name of{n}--zones [default: UTC]";
+const LOCAL_HELP: &str =
+    "Local zone: UTC, +hh:mm, -hh:mm, posix:RULE or a{n}name from --zones [default: UTC]";
 
 const STATUSES: &str =
-    "Exit status:{n}  0  all was done{n}  1  a text, a file or a write was refused{n}  2  the command line, a zone or the clock was refused{n}{n}'calendar-analyze VERB --help' says more of a verb.";
+    "Exit status:{n}  0  success{n}  1  an expression, timestamp, time span, timer file or the output failed{n}  2  the command line, a zone or the clock is invalid{n}{n}See 'calendar-analyze VERB --help' for the options of a verb.";
 
 const CALENDAR_EXAMPLE: &str =
-    "A TEXT may end in its zone: UTC, +hh:mm, -hh:mm or a name of --zones.{n}Neither TZ nor the machine's zone is read: a zone is given as below.{n}A TEXT that begins with '-' goes after '--'. A value that begins with '-' is{n}joined to its option by '=', as in --base-time=-1d.{n}{n}Examples:{n}  calendar-analyze calendar --iterations=3 'Mon..Fri 09:00'{n}  calendar-analyze calendar --zones=here=/etc/localtime --local=here daily";
+    "A TEXT may end in its zone: UTC, +hh:mm, -hh:mm or a name from --zones.{n}TZ is ignored, and the machine's zone is used only if you name its file, as in{n}the last example.{n}Put '--' before a TEXT that begins with '-'. Join a value that begins with '-'{n}to its option with '=', as in --base-time=-1d.{n}{n}Examples:{n}  calendar-analyze calendar --iterations=3 'Mon..Fri 09:00'{n}  calendar-analyze calendar --zones=here=/etc/localtime --local=here daily";
 
 const TIMESTAMP_EXAMPLE: &str =
-    "A TEXT may end in its zone: UTC, +hh:mm, -hh:mm or a name of --zones.{n}Neither TZ nor the machine's zone is read: a zone is given as below.{n}A TEXT that begins with '-' goes after '--'. A value that begins with '-' is{n}joined to its option by '=', as in --local=-05:00.{n}{n}Examples:{n}  calendar-analyze timestamp --local=+01:00 'today' '@1395716396' -- -5min{n}  calendar-analyze timestamp --zones=here=/etc/localtime --local=here now";
+    "A TEXT may end in its zone: UTC, +hh:mm, -hh:mm or a name from --zones.{n}TZ is ignored, and the machine's zone is used only if you name its file, as in{n}the last example.{n}Put '--' before a TEXT that begins with '-'. Join a value that begins with '-'{n}to its option with '=', as in --local=-05:00.{n}{n}Examples:{n}  calendar-analyze timestamp --local=+01:00 'today' '@1395716396' -- -5min{n}  calendar-analyze timestamp --zones=here=/etc/localtime --local=here now";
 
 const TIMESPAN_EXAMPLE: &str = "Example:{n}  calendar-analyze timespan '1h 30min' 300s";
 
 const TIMER_EXAMPLE: &str =
-    "Neither TZ nor the machine's zone is read: a zone is given as below.{n}A FILE that begins with '-' goes after '--'. A value that begins with '-' is{n}joined to its option by '=', as in --base-time=-1d.{n}{n}Examples:{n}  calendar-analyze timer --iterations=5 backup.timer{n}  calendar-analyze timer --zones=here=/etc/localtime --local=here backup.timer";
+    "TZ is ignored, and the machine's zone is used only if you name its file, as in{n}the last example.{n}Put '--' before a FILE that begins with '-'. Join a value that begins with '-'{n}to its option with '=', as in --base-time=-1d.{n}{n}Examples:{n}  calendar-analyze timer --iterations=5 backup.timer{n}  calendar-analyze timer --zones=here=/etc/localtime --local=here backup.timer";
