@@ -1,5 +1,5 @@
 -- The law on a cut output of several texts: the output is that of the accepted ones.
-use Rattle.std.proofs.Common.{◌≡◌, ◌++◌, ◌∙◌, ℕ, ℤ, List, [], ◌∷◌, Option, None, Some, Result, Ok, Err, map, codes, refl, sym, ap}
+use Rattle.std.proofs.Common.{◌≡◌, ◌∙◌, ℕ, ℤ, List, [], ◌∷◌, Option, None, Some, Result, Ok, Err, map, codes, refl, sym, ap}
 use Rattle.std.specs.Prelude.{is_err}
 use Rattle.std.specs.List.{AllByRecursion, AllZip, filter_map, flat_map, join_by}
 use Rattle.cal_bytes.specs.declared.whole.WholeFault.{WholeFault}

@@ -1,6 +1,6 @@
 -- Lines of the reports (systemd-analyze(1), calendar and timestamp): the text as it was handed in, an instant in UTC, and
 -- how far it lies from the present.
-use Rattle.std.specs.Prelude.{ℕ, ℤ, pos, ◌-ℤ◌, ◌*ℤ◌, int_lt, unsigned_abs, List, [], ◌∷◌, if◌then◌else◌, codes}
+use Rattle.std.specs.Prelude.{ℕ, ℤ, ◌-ℤ◌, int_lt, unsigned_abs, List, [], ◌∷◌, if◌then◌else◌, codes}
 use Rattle.cal_bytes.specs.headline.Bytes.{joined}
 use Rattle.cal_zone.specs.headline.InstantText.{instant_text}
 use Rattle.cal_span.specs.headline.SpanText.{span_text}
