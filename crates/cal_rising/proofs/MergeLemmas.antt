@@ -1,5 +1,5 @@
--- The merge of rising lists: its first number is the least of their first ones, and once that is given what is left is
--- the merge of what is left of each.
+-- The merge of strictly increasing lists: its first number is the smallest of their first numbers, and what remains
+-- after that number is the merge of what remains of each list.
 use Rattle.std.proofs.Common.{◌≡◌, ◌↔◌, ◌<◌, ◌+◌, ℕ, zero, suc, List, [], ◌∷◌, length, take, drop, get_or, set, inl, inr, Option, None, Some, ℤ, ◌<ℤ◌, ◌≤ℤ◌, refl, sym, ap, ◌∙◌, arith, map, add-one, slice_get}
 use Rattle.std.proofs.lemmas.Cmp.{int_ranked}
 use Rattle.std.proofs.lemmas.Int.{ints}
@@ -18,7 +18,7 @@ use Rattle.cal_rising.specs.headline.Elements.{Has}
 use Rattle.cal_text.proofs.General.{lt_from_less, rises-drop}
 use Rattle.cal_rising.proofs.RisingLemmas.{above_first, later_members, same_rising, Has-union, rises-union}
 
--- the lesser of none and another is the other
+-- the smaller of a missing number and another one is the other one
 lesser-none : (a : Option ℤ) → lesser a None ≡ a
 lesser-none None = refl
 lesser-none (Some x) = refl
@@ -29,7 +29,7 @@ lesser-assoc (Some x) None c = refl
 lesser-assoc (Some x) (Some y) None = sym (lesser-none (lesser (Some x) (Some y)))
 lesser-assoc (Some x) (Some y) (Some z) = grind (arith, ints)
 
--- the first number of a list with one more
+-- the first number of a list after an insertion
 first_inserted : (o : Ordering) (x y : ℤ) (ys more : List ℤ) → int_cmp x y ≡ o → slice_get (match_ordering o (x ∷ y ∷ ys) (y ∷ ys) (y ∷ more)) 0 ≡ lesser (Some x) (Some y)
 first_inserted Less x y ys more e = grind (arith, ints, lt_from_less x y e)
 first_inserted Equal x y ys more e = grind (arith, ints, int_cmp-IsAntisymmetric x y e)
@@ -39,7 +39,7 @@ first-insert_key : (x : ℤ) (ys : List ℤ) → slice_get (insert_key int_cmp y
 first-insert_key x [] = refl
 first-insert_key x (y ∷ ys) = first_inserted (int_cmp x y) x y ys (insert_key int_cmp ys x) refl
 
--- the first number of a rising list is the least
+-- the first number of a strictly increasing list is the smallest
 lesser-first : (x : ℤ) (xs : List ℤ) → IsStrictlySortedBy int_cmp (x ∷ xs) → lesser (Some x) (slice_get xs 0) ≡ Some x
 lesser-first x [] h = refl
 lesser-first x (y ∷ ys) h = grind (arith, ints, above_first x y (y ∷ ys) h (inl refl))
@@ -49,7 +49,7 @@ first-with_numbers [] ys h = refl
 first-with_numbers (x ∷ xs) ys h =
     grind (arith, ints, first-insert_key, sorted_tail, lesser-assoc, lesser-first, first-with_numbers xs ys (sorted_tail int_cmp x xs h))
 
--- the first number of a union with one list more is the lesser of two
+-- the first number of a union is the smaller of the first list's first number and that of the union of the other lists
 first-union_more : (ss : List Branch) (i : ℕ) (d : Branch) → i < length ss → All HasHead ss
     → slice_get (union (map numbers (take (suc i) ss))) 0 ≡ lesser (slice_get (union (map numbers (take i ss))) 0) (get_or ss i d).head
 unfolding union
@@ -62,13 +62,13 @@ first-union_more (s ∷ ss) (suc i) d lt h =
     ∙ lesser-assoc (slice_get (numbers s) 0) (slice_get (union (map numbers (take i ss))) 0) (get_or ss i d).head
     ∙ ap (λ a. lesser a (get_or ss i d).head) (sym (first-with_numbers (numbers s) (union (map numbers (take i ss))) here.1))
 
--- the least head, once one source more is looked at
+-- the smallest number read ahead, after one more source is examined
 pub least_more : (ss ts : List Branch) (i : ℕ) (s : Branch) (least head next : Option ℤ) → ss ≡ ts → All HasHead ts → i < length ss
     → least ≡ slice_get (union (map numbers (take i ss))) 0 → s ≡ get_or ss i s → head ≡ s.head → next ≡ lesser least head
     → next ≡ slice_get (union (map numbers (take (i + 1) ss))) 0
 least_more ss ts i s least head next same heads lt so_far there its now = grind (arith, ints, add-one, first-union_more)
 
--- what is left of a rising list once its least number, or a lesser one, was given
+-- what remains of a strictly increasing list after a number at most its first was returned
 Has-passed : (m : ℤ) (xs : List ℤ) → IsStrictlySortedBy int_cmp xs → ((i : ℤ) → Has xs i → m ≤ℤ i) → (i : ℤ) → Has (passed m xs) i ↔ ((m <ℤ i) × Has xs i)
 Has-passed m [] h low i = (λ n. absurd n, λ p. p.1)
 Has-passed m (y ∷ ys) h low i = grind (arith, ints, above_first y i ys h, low y (inl refl))
@@ -79,7 +79,7 @@ HasAny-passed m [] h low i = (λ n. absurd n, λ p. p.1)
 HasAny-passed m (s ∷ ss) h low i =
     grind (arith, ints, Has-passed, All-head, All-tail, HasAny-passed m ss (All-tail HasHead s ss h) (λ j n. low j (inr n)) i)
 
--- no member of a rising list is below its first
+-- no number of a strictly increasing list is below its first
 first_is_least : (m : ℤ) (xs : List ℤ) → IsStrictlySortedBy int_cmp xs → slice_get xs 0 ≡ Some m → (i : ℤ) → Has xs i → m ≤ℤ i
 first_is_least m [] h e i n = absurd n
 first_is_least m (x ∷ xs) h e i n = grind (arith, ints, above_first x i xs h)
@@ -88,7 +88,7 @@ later_by_first : (m : ℤ) (xs : List ℤ) → IsStrictlySortedBy int_cmp xs →
 later_by_first m [] h e i = absurd (cc)
 later_by_first m (x ∷ xs) h e i = grind (arith, later_members x xs h i)
 
--- once the least number is given, what is left is the union of what is left of each
+-- after the smallest number is returned, the union of what remains of each list remains
 pub union-passed : (m : ℤ) (ss : List Branch) → All HasHead ss
     → slice_get (union (map numbers ss)) 0 ≡ Some m → union (map (passed m) (map numbers ss)) ≡ drop 1 (union (map numbers ss))
 union-passed m ss h e =
@@ -98,7 +98,7 @@ union-passed m ss h e =
     same_rising (union (map (passed m) lists)) (drop 1 (union lists)) (rises-union (map (passed m) lists)) (rises-drop (union lists) 1 rises)
     (λ i. grind (arith, HasAny-passed m ss h low i, later_by_first m (union lists) rises e i, Has-union (map (passed m) lists) i, Has-union lists i))
 
--- one source more has become what a function makes of it
+-- one more source was replaced by its image under a function
 changed_next : (f : List ℤ → List ℤ) (xs ys : List Branch) (i : ℕ) (y d : Branch) → i < length xs → i < length ys
     → map numbers (take i xs) ≡ map f (map numbers (take i ys)) → numbers y ≡ f (numbers (get_or ys i d))
     → map numbers (take (suc i) (set xs i y)) ≡ map f (map numbers (take (suc i) ys))
@@ -117,7 +117,7 @@ pub changed_more : (f : List ℤ → List ℤ) (xs ys : List Branch) (i : ℕ) (
     → map numbers (take (i + 1) (set xs i y)) ≡ map f (map numbers (take (i + 1) ys))
 changed_more f xs ys i y d lt lu so_far same now = grind (arith, ints, add-one, changed_next)
 
--- one source more has a head
+-- one more source was read ahead
 pub has_head_more : (ss : List Branch) (i : ℕ) (s : Branch) → i < length ss → HasHead s → ((k : ℕ) (d : Branch) → k < i → HasHead (get_or ss k d))
     → (k : ℕ) (d : Branch) → k < suc i → HasHead (get_or (set ss i s) k d)
 has_head_more [] i s lt h below k d le = absurd (omega arith)

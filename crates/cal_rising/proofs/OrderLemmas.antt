@@ -1,4 +1,4 @@
--- Lists in order: placing an element adds it, and there is only one such list of the same elements.
+-- Strictly sorted lists: inserting an element adds just that element, and two of them with the same elements are equal.
 use Rattle.std.proofs.Common.{◌≡◌, ◌⊎◌, ◌↔◌, ℕ, zero, suc, ◌<◌, List, [], ◌∷◌, length, get_or, refl, sym, subst, inl, inr, arith}
 use Rattle.std.specs.BTreeSet.{insert_key}
 use Rattle.std.specs.Cmp.{IsTotalOrder}
@@ -11,7 +11,7 @@ use Rattle.std.specs.declared.cmp.Ordering.{Ordering}
 use Rattle.std.specs.declared.cmp.Ordering.TheVariants.{Less, Equal, Greater}
 use Rattle.cal_rising.specs.headline.Elements.{Has}
 
--- std's word for an element
+-- membership as the standard library defines it, in both directions
 pub contains_from_has : {A : Type 0} (xs : List A) (x : A) → Has xs x → Contains xs x
 contains_from_has [] x h = absurd h
 contains_from_has (y ∷ ys) x h = elim h [
@@ -27,7 +27,7 @@ has_at (y ∷ ys) x (suc k) h e = inr (has_at ys x k (omega arith) e)
 pub has_from_contains : {A : Type 0} (xs : List A) (x : A) → Contains xs x → Has xs x
 has_from_contains xs x h = has_at xs x h.0 h.1 h.2
 
--- what holds of all holds of each
+-- a property of all elements, stated by recursion over the list, holds for each element
 pub all_at : {A : Type 0} (P : A → Type 0) (xs : List A) (x : A) → AllByRecursion P xs → Has xs x → P x
 all_at P [] x all h = absurd h
 all_at P (y ∷ ys) x all h = elim h [ inl e ↦ subst P e all.0 | inr k ↦ all_at P ys x all.1 k ]
@@ -43,7 +43,7 @@ module _ {A : Type 0} (cmp : A → A → Ordering) (exact : IsAntisymmetric cmp)
   has_inserted Equal x y z ys more e rest = grind (arith, exact x y e)
   has_inserted Greater x y z ys more e rest = grind arith
 
-  -- the elements once x is placed
+  -- the elements of a list after `x` is inserted
   pub has-insert_key : (x : A) (ys : List A) (z : A) → Has (insert_key cmp ys x) z ↔ ((x ≡ z) ⊎ Has ys z)
   has-insert_key x [] z = (λ h. h, λ h. h)
   has-insert_key x (y ∷ ys) z = has_inserted (cmp x y) x y z ys (insert_key cmp ys x) refl (has-insert_key x ys z)
@@ -55,12 +55,12 @@ module _ {A : Type 0} (cmp : A → A → Ordering) (total : IsTotalOrder cmp) wh
   same_first x y xs ys sx sy hx hy =
       grind (arith, all_at (λ z. cmp x z ≡ Less) xs y sx.0, all_at (λ z. cmp y z ≡ Less) ys x sy.0, total.trans x y x, tied_itself total x)
 
-  -- an element of the one tail is one of the other
+  -- an element of one list's tail is an element of the other's
   has_tail : (x z : A) (xs ys : List A) → IsStrictlySortedBy cmp (x ∷ xs) → Has xs z → Has (x ∷ ys) z → Has ys z
   unfolding IsStrictlySortedBy
   has_tail x z xs ys sorted h k = grind (arith, all_at (λ w. cmp x w ≡ Less) xs z sorted.0 h, tied_itself total x)
 
-  -- two such lists with the same elements are equal
+  -- two strictly sorted lists with the same elements are equal
   pub same_sorted : (xs ys : List A) → IsStrictlySortedBy cmp xs → IsStrictlySortedBy cmp ys → ((z : A) → Has xs z ↔ Has ys z) → xs ≡ ys
   unfolding IsStrictlySortedBy
   same_sorted [] [] sx sy h = refl

@@ -1,4 +1,5 @@
--- Rising lists: what is after the first is above it, and a union has the members of its lists.
+-- Strictly increasing lists: the numbers after the first are greater than the first, and a union contains the numbers
+-- of its lists.
 use Rattle.std.proofs.Common.{◌≡◌, ◌⊎◌, ◌↔◌, List, [], ◌∷◌, inl, inr, ℤ, ◌<ℤ◌, arith}
 use Rattle.std.proofs.lemmas.Cmp.{int_cmp_total}
 use Rattle.std.proofs.lemmas.Int.{ints}
@@ -15,31 +16,31 @@ use Rattle.cal_rising.specs.headline.Elements.{Has}
 use Rattle.cal_rising.proofs.OrderLemmas.{all_at, has-insert_key, same_sorted}
 use Rattle.cal_text.proofs.General.{lt_from_less}
 
--- what is in a rising list after its first is above that
+-- every number after the first of a strictly increasing list is greater than the first
 pub above_first : (x i : ℤ) (xs : List ℤ) → IsStrictlySortedBy int_cmp (x ∷ xs) → Has xs i → x <ℤ i
 above_first x i xs h m = lt_from_less x i (all_at (λ y. int_cmp x y ≡ Less) xs i (sorted_head int_cmp x xs h) m)
 
--- the later members of a rising list are those above its first
+-- the numbers after the first of a strictly increasing list are those greater than the first
 pub later_members : (x : ℤ) (xs : List ℤ) → IsStrictlySortedBy int_cmp (x ∷ xs) → (i : ℤ) → Has xs i ↔ ((x <ℤ i) × Has (x ∷ xs) i)
 later_members x xs h i = grind (arith, ints, above_first x i xs h)
 
--- two rising lists with the same members are equal
+-- two strictly increasing lists with the same numbers are equal
 pub same_rising : (xs ys : List ℤ) → IsStrictlySortedBy int_cmp xs → IsStrictlySortedBy int_cmp ys → ((i : ℤ) → Has xs i ↔ Has ys i) → xs ≡ ys
 same_rising = same_sorted int_cmp int_cmp_total
 
--- placing adds the number to the members
+-- inserting a number adds it
 pub Has-insert_key : (x : ℤ) (ys : List ℤ) (i : ℤ) → Has (insert_key int_cmp ys x) i ↔ ((x ≡ i) ⊎ Has ys i)
 Has-insert_key = has-insert_key int_cmp int_cmp-IsAntisymmetric
 
 pub rises-insert_key : (x : ℤ) (ys : List ℤ) → IsStrictlySortedBy int_cmp ys → IsStrictlySortedBy int_cmp (insert_key int_cmp ys x)
 rises-insert_key = sorted-insert_key int_cmp int_cmp_total
 
--- placing several adds them all
+-- inserting several numbers adds them all
 pub Has-with_numbers : (xs ys : List ℤ) (i : ℤ) → Has (with_numbers xs ys) i ↔ (Has xs i ⊎ Has ys i)
 Has-with_numbers [] ys i = (λ m. inr m, λ m. elim m [ inl n ↦ absurd n | inr n ↦ n ])
 Has-with_numbers (x ∷ xs) ys i = grind (arith, ints, Has-insert_key, Has-with_numbers xs ys i)
 
--- the union has the members of the lists
+-- the union contains the numbers of the lists
 pub Has-union : (xss : List (List ℤ)) (i : ℤ) → Has (union xss) i ↔ HasAny xss i
 unfolding union
 Has-union [] i = (λ m. m, λ m. m)

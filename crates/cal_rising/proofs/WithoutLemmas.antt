@@ -1,4 +1,5 @@
--- A rising list without the numbers of another: its members, and what one turn of a merge leaves of both.
+-- Lists without the numbers of exceptions: what they contain, and what one round of a merge's loop leaves of the
+-- sources and the exceptions.
 use Rattle.std.proofs.Common.{None, IfSome, ◌≡◌, ◌≢◌, ◌↔◌, ◌||◌, ◌&&◌, ◌<◌, ◌≤◌, ◌+◌, ℕ, suc, cond, Bool, true, false, not, List, [], ◌∷◌, length, drop, slice_get, get_or, get_or-set_other, set, map, zero, Option, Some, ℤ, ◌≤ℤ◌, int_eq, refl, sym, ap, ◌∙◌, arith}
 use Rattle.std.specs.List.{AllByRecursion, list_any}
 use Rattle.std.specs.List.Sorted.{IsStrictlySortedBy}
@@ -21,7 +22,7 @@ use Rattle.std.specs.Cmp.{int_eq_equiv}
 use Rattle.std.proofs.lemmas.Map.Made.{is_member-filter}
 use Rattle.cal_text.proofs.General.{lt_from_less}
 
--- whether a number is in a list
+-- `is_member` decides whether a number is in a list
 pub Has-is_member : (xs : List ℤ) (i : ℤ) → is_member int_eq xs i ≡ true → Has xs i
 Has-is_member [] i h = absurd (cc)
 Has-is_member (x ∷ xs) i h = grind (arith, ints, Has-is_member xs i)
@@ -30,7 +31,7 @@ pub is_member-Has : (xs : List ℤ) (i : ℤ) → Has xs i → is_member int_eq 
 is_member-Has [] i m = absurd m
 is_member-Has (x ∷ xs) i m = grind (arith, ints, is_member-Has xs i)
 
--- whether a number is left without exceptions
+-- a number remains exactly if it is in the list and in no exception
 pub is_member-without : (xs ys : List ℤ) (n : ℤ) → is_member int_eq (without xs ys) n ≡ (is_member int_eq xs n && not (is_member int_eq ys n))
 unfolding without
 is_member-without xs ys n =
@@ -39,7 +40,7 @@ is_member-without xs ys n =
 pub Has-without : (xs ys : List ℤ) (i : ℤ) → Has (without xs ys) i ↔ (Has xs i × (Has ys i → ⊥))
 Has-without xs ys i = grind (arith, ints, is_member-without, Has-is_member, is_member-Has)
 
--- without nothing, all is left
+-- without exceptions, everything remains
 pub without-none : (xs : List ℤ) → without xs [] ≡ xs
 unfolding without
 without-none [] = refl
@@ -75,18 +76,18 @@ member_reached None [] n first rises at = refl
 member_reached None (x ∷ xs) n first rises at = absurd (cc)
 member_reached (Some m) xs n first rises at = int_eq_equiv.symm m n ∙ sym (is_member-head (Some m) xs m n rises refl at)
 
--- A branch that was read up to a number had that number exactly if it is now the first one.
+-- A branch that was read up to a number had that number exactly if it is now the number read ahead.
 pub is_member-reached : (s was : Branch) (n : ℤ) → HasHead s → IfSome s.head (λ head. n ≤ℤ head) → IsSameFrom n (numbers s) (numbers was)
     → option_eq int_eq s.head (Some n) ≡ is_member int_eq (numbers was) n
 is_member-reached s was n h at same = member_reached s.head s.after n h.0 h.1 at ∙ same n (grind (arith, ints))
 
--- lists with the same numbers from one number on leave the same of a list above that number
+-- exceptions that agree from some number on leave the same of a list that begins above that number
 without-same : (n : ℤ) (xs ys zs : List ℤ) → AllByRecursion (λ y. int_cmp n y ≡ Less) xs → IsSameFrom n zs ys → without xs zs ≡ without xs ys
 unfolding without
 without-same n [] ys zs h same = refl
 without-same n (x ∷ xs) ys zs h same = grind (arith, ints, lt_from_less n x h.0, same x, without-same n xs ys zs h.1 same)
 
--- one turn: the first number of the sources is an exception and is passed over, or it is given
+-- one round of the loop: the first number of the sources is an exception and is skipped, or it is returned
 pub without-first : (n : ℤ) (there : Bool) (xs ys zs : List ℤ) → slice_get xs 0 ≡ Some n → IsStrictlySortedBy int_cmp xs → IsSameFrom n zs ys → is_member int_eq ys n ≡ there
     → without xs ys ≡ cond (not there) (n ∷ without (drop 1 xs) zs) (without (drop 1 xs) zs)
 unfolding without
@@ -97,11 +98,11 @@ HasAny-any : (n : ℤ) (xss : List (List ℤ)) → HasAny xss n ↔ (list_any (�
 HasAny-any n [] = grind arith
 HasAny-any n (xs ∷ xss) = grind (arith, is_member-Has xs n, Has-is_member xs n, HasAny-any n xss)
 
--- a union has a number where one of the lists has it, as they were
+-- a union contains a number exactly if one of the lists does
 pub any-union : (n number : ℤ) (has : Bool) (now xss : List (List ℤ)) → number ≡ n → has ≡ list_any (λ xs. is_member int_eq xs number) now → now ≡ xss → has ≡ is_member int_eq (union xss) n
 any-union n number has now xss same e whole = grind (arith, ints, HasAny-any, Has-union, is_member-Has, Has-is_member)
 
--- whether one of the sources has it: none of them has, or this one has
+-- a source has the number if none before this one has it, or if this one has it
 any-none : (n : ℤ) (ss : List Branch) → ((k : ℕ) → k < length ss → (d : Branch) → is_member int_eq (numbers (get_or ss k d)) n ≡ false)
     → list_any (λ xs. is_member int_eq xs n) (map numbers ss) ≡ false
 any-none n [] h = refl
@@ -114,12 +115,13 @@ any-here n [] i d lt h = absurd (omega arith)
 any-here n (s ∷ ss) zero d lt h = rw h refl
 any-here n (s ∷ ss) (suc i) d lt h = rw (any-here n ss i d (omega arith) h) (or-true (is_member int_eq (numbers s) n))
 
--- none of the sources below a place has the number, and those from there on are as they were given
+-- no source before index `at` had the number, and the sources from `at` on are unchanged
 pub record AreBehind (n : ℤ) (at : ℕ) (given now : List Branch) : Type 0 where
   pub none : (k : ℕ) → k < at → (d : Branch) → is_member int_eq (numbers (get_or given k d)) n ≡ false
   pub untouched : (k : ℕ) (d : Branch) → at ≤ k → get_or now k d ≡ get_or given k d
 
--- so it is with one more, whatever became of it
+-- this still holds for index `at` + 1 if the source at `at` doesn't have the number, even if that source was read
+-- further
 pub behind_more : (n : ℤ) (at : ℕ) (given now : List Branch) (s t : Branch) → AreBehind n at given now → at < length given
     → is_member int_eq (numbers (get_or now at s)) n ≡ false → AreBehind n (at + 1) given (set now at t)
 behind_more n at given now s t h lt lacks = record {
@@ -130,17 +132,17 @@ behind_more n at given now s t h lt lacks = record {
       get_or-set_other now at k t d other ∙ h.untouched k d (omega arith);
 }
 
--- with all of them none of the sources has it
+-- after the last source, no source has the number
 pub behind_all : (n number : ℤ) (at : ℕ) (given now ss : List Branch) → AreBehind n at given now → n ≡ number → given ≡ ss → length given ≤ at
     → false ≡ list_any (λ xs. is_member int_eq xs number) (map numbers ss)
 behind_all n number at given now ss h same whole all = grind (arith, ints, any-none)
 
--- and the one at the place may have it
+-- the source at this index decides
 pub behind_here : (n number : ℤ) (at : ℕ) (given now ss : List Branch) (s : Branch) → AreBehind n at given now → n ≡ number → given ≡ ss → at < length given
     → is_member int_eq (numbers (get_or now at s)) n ≡ true → true ≡ list_any (λ xs. is_member int_eq xs number) (map numbers ss)
 behind_here n number at given now ss s h same whole lt has = grind (arith, ints, any-here)
 
--- one source in the place of another that has it too, or lacks it too
+-- replacing one source by another changes nothing if both have the number, or if both lack it
 pub any_replaced : (n : ℤ) (ss : List Branch) (i : ℕ) (s d : Branch) → i < length ss → is_member int_eq (numbers s) n ≡ is_member int_eq (numbers (get_or ss i d)) n
     → list_any (λ xs. is_member int_eq xs n) (map numbers (set ss i s)) ≡ list_any (λ xs. is_member int_eq xs n) (map numbers ss)
 any_replaced n [] i s d lt h = absurd (omega arith)

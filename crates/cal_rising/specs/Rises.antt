@@ -1,5 +1,5 @@
--- A list in order is in order with one element more, and a union rises, whatever its lists are: what laws of rising
--- sources cite.
+-- Proofs that operations keep a list strictly increasing: inserting a number, forming a union of any lists, and leaving
+-- numbers out. The implementations of `Rising` use them.
 use Rattle.std.specs.Prelude.{◌≡◌, not, List, [], ◌∷◌, ℤ}
 use Rattle.std.specs.BTreeSet.{insert_key}
 use Rattle.std.specs.Cmp.{IsTotalOrder, int_cmp_total}
@@ -14,7 +14,7 @@ use Rattle.std.proofs.lemmas.List.Kept.{IsStrictlySortedBy-filter}
 use Rattle.cal_rising.specs.RisingList.{with_numbers, union, without}
 
 module _ {A : Type 0} (cmp : A → A → Ordering) (total : IsTotalOrder cmp) where
-  -- a list above an element is above what is below that element
+  -- if `b` is below every element of `xs`, and `a` is below `b`, then `a` is below every element of `xs`
   lower : (a b : A) (xs : List A) → cmp a b ≡ Less → AllByRecursion (λ y. cmp b y ≡ Less) xs → AllByRecursion (λ y. cmp a y ≡ Less) xs
   lower a b [] h k = tt
   lower a b (x ∷ xs) h k = (total.trans a b x h k.0, lower a b xs h k.1)

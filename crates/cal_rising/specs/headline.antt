@@ -1,2 +1,2 @@
--- The definitions that the headline rests on.
+-- The definitions that the headline theorem is built on.
 pub mod Elements

@@ -9,8 +9,8 @@ ghost use Rattle.cal_rising.specs.RisingList.{IsSameFrom};
 use crate::Rising;
 use std::marker::Model;
 
-/// How many questions a source answers before one number is read from it. Reading a number of a sparse source costs far
-/// more than a question.
+/// How often a source is only asked whether it has a number before one number is read from it. Reading a number from a
+/// sparse source costs far more than asking.
 const ASKED_FOR_A_STEP: u8 = 128;
 
 /// A source and the number read ahead from it, if there is one. A contract sees that number and the numbers after it.
@@ -18,7 +18,7 @@ const ASKED_FOR_A_STEP: u8 = 128;
 pub struct Branch<S: Rising> {
     head: Option<i64>,
     source: S,
-    /// How often the source was asked since a number was last read from it.
+    /// How many calls of `follow` have read nothing since the last one that read from the source.
     asked: u8,
 }
 
@@ -35,7 +35,7 @@ impl<S: Rising> Model for Branch<S> {
 }
 
 impl<S: Rising> Branch<S> {
-    /// Creates a branch of which no number has been read yet.
+    /// Creates a branch from which no number has been read yet.
     pub fn new(source: S) -> Self
         ensures { result ≡ record { head = None; after = S.rest source } }
     {
@@ -46,7 +46,7 @@ impl<S: Rising> Branch<S> {
         }
     }
 
-    /// Reads a number from the source unless one is waiting already. The numbers to be returned stay the same.
+    /// Reads a number from the source unless one was read ahead already. The numbers yet to be returned stay the same.
     pub fn fetch(&mut self)
         ensures same { numbers self.new ≡ numbers self.old }
         ensures taken { HasHead self.new }
@@ -56,14 +56,14 @@ impl<S: Rising> Branch<S> {
         }
     }
 
-    /// Returns the number that was read and not returned yet.
+    /// Returns the number that was read ahead and not returned yet.
     pub fn head(&self) -> Option<i64>
         ensures { result ≡ self.now.head }
     {
         self.head
     }
 
-    /// Drops the number that was read if it is not above `number`.
+    /// Drops the number read ahead if it is at most `number`.
     pub fn pass(&mut self, number: i64)
         requires { HasHead self.old }
         ensures { numbers self.new ≡ passed number (numbers self.old) }
@@ -73,8 +73,8 @@ impl<S: Rising> Branch<S> {
         }
     }
 
-    /// Returns whether `number` is still to be returned. The caller promises not to ask for a smaller number again, so a
-    /// source that cannot tell is read up to `number`.
+    /// Returns whether `number` is still to be returned. The caller promises not to ask for a smaller number again, so
+    /// a source that cannot tell is read up to `number`.
     pub fn has_onward(&mut self, number: i64) -> bool
         ensures has { result ≡ is_member int_eq (numbers self.old) number }
         ensures left { IsSameFrom number (numbers self.new) (numbers self.old) }
@@ -92,8 +92,8 @@ impl<S: Rising> Branch<S> {
         }
     }
 
-    /// Returns whether `number` is still to be returned, or `None` if the source cannot tell. The number read ahead decides
-    /// unless it is below `number`.
+    /// Returns whether `number` is still to be returned, or `None` if the source cannot tell. The source is only asked
+    /// if no number was read ahead, or if that number is below `number`.
     fn has(&mut self, number: i64) -> Option<bool>
         ensures has { IfSome result (λ has. has ≡ is_member int_eq (numbers self.old) number) }
         ensures same { numbers self.new ≡ numbers self.old }
@@ -104,7 +104,7 @@ impl<S: Rising> Branch<S> {
         }
     }
 
-    /// Reads numbers from the source until one is not below `number`.
+    /// Reads numbers from the source until the number read ahead is at least `number`, or the source ends.
     fn reach(&mut self, number: i64)
         ensures left { IsSameFrom number (numbers self.new) (numbers self.old) }
         ensures reached { IfSome self.new.head (λ head. number ≤ℤ head) }
@@ -117,7 +117,8 @@ impl<S: Rising> Branch<S> {
         }
     }
 
-    /// Replaces a number read ahead that is below `number` by the next one, but only after enough questions.
+    /// Replaces the number read ahead by the next one if it is below `number`, but only after `ASKED_FOR_A_STEP` calls
+    /// that read nothing.
     fn follow(&mut self, number: i64)
         ensures { IsSameFrom number (numbers self.new) (numbers self.old) }
     {

@@ -1,4 +1,4 @@
-//! Sources of numbers that rise, and several of them given as one.
+//! Sources of strictly increasing numbers, and the merge of several sources into one.
 #![tactic(auto)]
 
 mod branch;

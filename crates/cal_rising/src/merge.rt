@@ -1,4 +1,4 @@
-//! Several sources of rising numbers given as one, each number once, without the numbers of exceptions.
+//! The merge of several sources into one that returns each number once and skips the numbers of exceptions.
 
 ghost use Rattle.std.specs.Prelude.{◌≡◌, ◌++◌, ◌∷◌, [], true, false, IfErr, OnErr, OnOk, slice_get, drop};
 ghost use Rattle.cal_rising.specs.Merge.{merged};
@@ -8,9 +8,10 @@ use crate::{NoMemory, Rising};
 use std::alloc::Global;
 use std::marker::Model;
 
-/// Sources of rising numbers, given as one: each number that one of them has and no exception has, once.
+/// A merge of sources and exceptions: a source that returns each number of the sources once, in increasing order,
+/// unless an exception has it.
 ///
-/// It is seen as what each source and each exception has still to give, and whether a number was asked for.
+/// A contract sees the remaining numbers of each source and of each exception, and whether `next` was called.
 #[derive(Drop)]
 pub struct Merge<S: Rising> {
     sources: Sources<S>,
@@ -27,7 +28,7 @@ impl<S: Rising> Model for Merge<S> {
 }
 
 impl<S: Rising> Merge<S> {
-    /// The merge of no source and no exception, which gives nothing.
+    /// Creates a merge without sources and exceptions, which returns no numbers.
     pub fn new(alloc: Global) -> Self
         ensures { result ≡ record { started = false; lists = []; exceptions = [] } }
     {
@@ -38,9 +39,9 @@ impl<S: Rising> Merge<S> {
         }
     }
 
-    /// Adds a source, as long as no number was asked for.
+    /// Adds a source. This must happen before the first call of `next`.
     ///
-    /// A refusal of memory leaves the merge as it was and hands the source back.
+    /// If allocation fails, the merge is unchanged and the source is returned to the caller.
     pub fn add(&mut self, source: S) -> Result<(), (S, NoMemory)>
         requires { self.old.started ≡ false }
         ensures added { OnOk result
@@ -51,9 +52,10 @@ impl<S: Rising> Merge<S> {
         self.sources.add(source)
     }
 
-    /// Adds an exception, as long as no number was asked for: none of its numbers is given, whichever source has it.
+    /// Adds an exception: a source whose numbers the merge does not return, even if other sources have them. This must
+    /// happen before the first call of `next`.
     ///
-    /// A refusal of memory leaves the merge as it was and hands the exception back.
+    /// If allocation fails, the merge is unchanged and the exception is returned to the caller.
     pub fn add_except(&mut self, exception: S) -> Result<(), (S, NoMemory)>
         requires { self.old.started ≡ false }
         ensures added { OnOk result
@@ -68,7 +70,8 @@ impl<S: Rising> Merge<S> {
 impl<S: Rising> Rising for Merge<S> {
     ghost rest = { merged };
 
-    /// Gives the first number of the sources that no exception has, however many are passed over.
+    /// Removes and returns the first remaining number of the sources that no exception has, after skipping any numbers
+    /// that an exception has. Returns `None` if no number is left.
     fn next(&mut self) -> Option<i64>
         ensures given { result ≡ slice_get (merged self.old) 0 }
         ensures left { merged self.new ≡ drop 1 (merged self.old) }

@@ -10,12 +10,12 @@ pub trait Rising {
     /// The numbers that the source has yet to return.
     ghost rest: { Self → List ℤ };
 
-    /// Removes and returns the first number of the rest. Returns `None` if the rest is empty. It does not allocate.
+    /// Removes and returns the first number of the rest. Returns `None` if the rest is empty. Does not allocate.
     fn next(&mut self) -> Option<i64>
         ensures given { result ≡ slice_get (rest self.old) 0 }
         ensures left { rest self.new ≡ drop 1 (rest self.old) };
 
-    /// Returns whether the rest contains `number`, or `None` if the source cannot tell. The rest does not change. It does
+    /// Returns whether the rest contains `number`, or `None` if the source cannot tell. The rest does not change. Does
     /// not allocate.
     ///
     /// By default a source cannot tell; a [`Merge`](crate::Merge) then reads it up to the number instead.

@@ -1,4 +1,4 @@
-//! Several sources of rising numbers, given as one.
+//! The union of several sources of strictly increasing numbers.
 
 ghost use Rattle.std.specs.Prelude.{◌≡◌, ◌++◌, ◌∷◌, [], map, true, false, ℤ, ◌≤ℤ◌, IfErr, OnErr, OnOk, slice_get, drop};
 ghost use Rattle.std.specs.List.{All, list_any};
@@ -12,7 +12,7 @@ use crate::{NoMemory, Rising};
 use std::alloc::Global;
 use std::marker::Model;
 
-/// Sources of rising numbers, seen as what each of them has still to give.
+/// Several sources of strictly increasing numbers. A contract sees the remaining numbers of each source.
 #[derive(Drop)]
 pub struct Sources<S: Rising> {
     branches: Vec<Branch<S>>,
@@ -28,7 +28,7 @@ impl<S: Rising> Model for Sources<S> {
 }
 
 impl<S: Rising> Sources<S> {
-    /// No source.
+    /// Creates an empty set of sources.
     pub fn new(alloc: Global) -> Self
         ensures { result ≡ [] }
     {
@@ -37,7 +37,8 @@ impl<S: Rising> Sources<S> {
         }
     }
 
-    /// Adds a source. A refusal of memory leaves the sources as they were and hands the new one back.
+    /// Adds a source. If allocation fails, the existing sources are unchanged and the new source is returned to the
+    /// caller.
     pub fn add(&mut self, source: S) -> Result<(), (S, NoMemory)>
         ensures added { OnOk result (self.new ≡ self.old ++ S.rest source ∷ []) }
         ensures unchanged { OnErr result (self.new ≡ self.old) }
@@ -50,7 +51,8 @@ impl<S: Rising> Sources<S> {
         Ok(())
     }
 
-    /// Returns whether one of the sources has `number`. The caller promises not to ask for a smaller number again.
+    /// Returns whether `number` is among the remaining numbers of any source. The caller promises not to ask for a
+    /// smaller number again.
     pub fn has_onward(&mut self, number: i64) -> bool
         ensures has { result ≡ is_member int_eq (union self.old) number }
         ensures left { IsSameFrom number (union self.new) (union self.old) }
@@ -62,7 +64,7 @@ impl<S: Rising> Sources<S> {
 impl<S: Rising> Rising for Sources<S> {
     ghost rest = { union };
 
-    /// Takes the first number of each source that lacks it, and gives the least of them.
+    /// Removes and returns the smallest remaining number, after reading one number ahead from every source.
     fn next(&mut self) -> Option<i64>
         ensures given { result ≡ slice_get (union self.old) 0 }
         ensures left { union self.new ≡ drop 1 (union self.old) }
@@ -80,7 +82,7 @@ impl<S: Rising> Rising for Sources<S> {
     ghost rises = { rises-union };
 }
 
-/// Takes the first number of each source that lacks it.
+/// Reads one number ahead from each source that has no number read ahead.
 fn fetch_all<S: Rising>(branches: &mut Vec<Branch<S>>)
     ensures same { map numbers branches.new.items ≡ map numbers branches.old.items }
     ensures taken { All HasHead branches.new.items }
@@ -90,7 +92,7 @@ fn fetch_all<S: Rising>(branches: &mut Vec<Branch<S>>)
     }
 }
 
-/// The least of the numbers that were taken.
+/// Returns the smallest of the numbers that were read ahead.
 #[tactic(auto, unfolding(crate::specs::RisingList::union))]
 fn least_head<S: Rising>(branches: &Vec<Branch<S>>) -> Option<i64>
     requires { All HasHead branches.now.items }
@@ -103,7 +105,7 @@ fn least_head<S: Rising>(branches: &Vec<Branch<S>>) -> Option<i64>
     least
 }
 
-/// Gives the number: each source that has taken it has it no more.
+/// Drops the number read ahead from every source in which it equals `number`, the smallest of them.
 fn pass_all<S: Rising>(branches: &mut Vec<Branch<S>>, number: i64)
     requires { All HasHead branches.old.items }
     ensures { map numbers branches.new.items ≡ map (passed number) (map numbers branches.old.items) }
@@ -113,8 +115,8 @@ fn pass_all<S: Rising>(branches: &mut Vec<Branch<S>>, number: i64)
     }
 }
 
-/// Returns whether one of the sources has `number`. The caller promises not to ask for a smaller number again, so a source
-/// without `number` may be read further.
+/// Returns whether `number` is among the remaining numbers of any source. The caller promises not to ask for a smaller
+/// number again, so sources that do not have `number` may be read further.
 fn follow_all<S: Rising>(branches: &mut Vec<Branch<S>>, number: i64) -> bool
     ensures has { result ≡ list_any (λ xs. is_member int_eq xs number) (map numbers branches.old.items) }
     ensures left { (i : ℤ) → number ≤ℤ i → list_any (λ xs. is_member int_eq xs i) (map numbers branches.new.items)
@@ -128,7 +130,7 @@ fn follow_all<S: Rising>(branches: &mut Vec<Branch<S>>, number: i64) -> bool
     false
 }
 
-/// The lesser of two numbers, of which either may be missing.
+/// Returns the smaller of two numbers, or the only one if the other is `None`.
 fn lesser(one: Option<i64>, other: Option<i64>) -> Option<i64>
     ensures { result ≡ lesser one other }
 {

@@ -2,7 +2,7 @@ use Rattle.std.proofs.Common.{◌≡◌, ◌<◌, ℕ, map, slice_index_or}
 use Rattle.cal_rising.specs.Merge.{HasHead, Branch, numbers}
 use Rattle.cal_rising.proofs.sources.fetch_all.Given as goal
 
--- the sources give what they gave, and the ones gone through have a head
+-- all sources have the same remaining numbers as before, and those visited so far were read ahead
 abbrev pub invariant-loop-branch : goal.invariant-loop-branch
 invariant-loop-branch g l = record {
   same : map numbers l.branch-items ≡ map numbers l.initial.branch-items;

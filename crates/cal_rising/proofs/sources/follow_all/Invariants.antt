@@ -5,8 +5,8 @@ use Rattle.cal_rising.specs.Merge.{numbers}
 use Rattle.cal_rising.proofs.WithoutLemmas.{AreBehind}
 use Rattle.cal_rising.proofs.sources.follow_all.Given as goal
 
--- none of the sources gone through has the number, from there on all have what they had, and the others are as they
--- were
+-- no source visited so far has the number; from it upwards all sources have the same numbers as before, and the sources
+-- not visited yet are unchanged
 abbrev pub invariant-loop-branch : goal.invariant-loop-branch
 invariant-loop-branch g l = record {
   behind : AreBehind l.number l.branch-index l.initial.branch-items l.branch-items;

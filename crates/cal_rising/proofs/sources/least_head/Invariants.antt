@@ -3,6 +3,6 @@ use Rattle.cal_rising.specs.Merge.{numbers}
 use Rattle.cal_rising.specs.RisingList.{union}
 use Rattle.cal_rising.proofs.sources.least_head.Given as goal
 
--- the least of the heads of the sources gone through
+-- the smallest number read ahead from the sources visited so far
 abbrev pub invariant-loop-branch : goal.invariant-loop-branch
 invariant-loop-branch g l = l.least ≡ slice_get (union (map numbers (take l.branch-index l.branch-items))) 0

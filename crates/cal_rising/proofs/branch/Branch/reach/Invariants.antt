@@ -3,13 +3,13 @@ use Rattle.cal_rising.specs.Merge.{HasHead, numbers}
 use Rattle.cal_rising.specs.RisingList.{IsSameFrom}
 use Rattle.cal_rising.proofs.branch.Branch.reach.Given as goal
 
--- from `number` on the branch has the numbers that it had, and its first number is read
+-- from `number` upwards the branch has the same numbers as before, and its first number was read ahead
 abbrev pub invariant-steps : goal.invariant-steps
 invariant-steps g l = record {
   left : IsSameFrom l.number (numbers l.self) (numbers l.fn.self);
   taken : HasHead l.self;
 }
 
--- each turn drops one number
+-- each round drops one number
 abbrev pub decreases-steps : goal.decreases-steps
 decreases-steps g l = length (numbers l.self)
