@@ -1,4 +1,4 @@
--- The members of an expression that are among those of another, seen in the words of their masks.
+-- Comparing the values of two expressions by their masks.
 use Rattle.std.proofs.Common.{◌≡◌, ℕ, List, arith, bit_or, get_or, length}
 use Rattle.std.proofs.lemmas.Bool.{or_right}
 use Rattle.std.proofs.Math.ListN.{get_or-eq_default}
@@ -9,18 +9,18 @@ use Rattle.cal_elapse.specs.declared.masks.Masks.{Masks}
 use Rattle.cal_elapse.proofs.BitLemmas.{is_bit-none, is_bit-or}
 use Rattle.cal_text.proofs.General.{both_follow}
 
--- a word that another adds nothing to has all of the other's numbers
+-- if `others` adds no bit to `mask`, then `mask` has all bits of `others`
 pub has_all : (mask others : ℕ) → bit_or mask others ≡ mask → HasAll (is_bit mask) (is_bit others)
 has_all mask others same i other = grind (arith, is_bit-or, or_right)
 
--- four words, of which each has all numbers of the other's
+-- the same for sets in four words, word by word
 pub have_all : (words others : List ℕ) → length others ≡ 4 → HasAll (is_bit (get_or words 0 0)) (is_bit (get_or others 0 0))
     → HasAll (is_bit (get_or words 1 0)) (is_bit (get_or others 1 0)) → HasAll (is_bit (get_or words 2 0)) (is_bit (get_or others 2 0))
     → HasAll (is_bit (get_or words 3 0)) (is_bit (get_or others 3 0)) → HasAll (is_in_words words) (is_in_words others)
 unfolding is_in_words
 have_all words others four first second third fourth i = grind (arith, get_or, length, get_or-eq_default, is_bit-none)
 
--- so the sets of the one masks are among those of the other
+-- so the values of `others` are among those of `masks`, field by field
 pub among : (masks others : Masks) → HasAll (is_bit masks.weekdays) (is_bit others.weekdays) → HasAll (is_in_words masks.years) (is_in_words others.years)
     → HasAll (is_bit masks.months) (is_bit others.months) → HasAll (is_bit masks.days) (is_bit others.days) → HasAll (is_bit masks.hours) (is_bit others.hours)
     → HasAll (is_bit masks.minutes) (is_bit others.minutes) → HasAll (is_bit masks.seconds) (is_bit others.seconds) → masks.from_end ≡ others.from_end

@@ -1,4 +1,4 @@
--- The cells of a round, in words of 64 bits: which is the first that isn't empty, and what is there once one is changed.
+-- The cells of the ring, in words of 64 bits: finding the first set cell, and the effect of changing a cell.
 use Rattle.std.proofs.Common.{◌≡◌, ◌≢◌, ℕ, ◌+◌, ◌-◌, ◌*◌, ◌/◌, ◌%◌, ◌<◌, ◌≤◌, not, cond, Bool, true, false, List, Option, None, Some, length, get_or, drop, set, ltb, inl, inr, refl, sym, ap, ◌∙◌, subst, arith, get_or-set_same, get_or-set_other}
 use Rattle.std.specs.List.{position, position_or_len}
 use Rattle.std.proofs.lemmas.Bool.{cases_eq, cases_lt, eq-eqb, ne_eqb, not-true, not-false}
@@ -10,7 +10,7 @@ use Rattle.cal_elapse.specs.Scan.{is_set}
 use Rattle.cal_elapse.specs.Search.{IsFirstPassing}
 use Rattle.cal_elapse.proofs.BitLemmas.{is_bit-none}
 
--- The first word that has a bit
+-- The first word that isn't 0
 
 zero_of : (x : ℕ) → is_set x ≡ false → x ≡ 0
 zero_of x h = elim (cases_eq x 0) [ inl same ↦ same | inr other ↦ absurd (let no = ne_eqb x 0 other in cc) ]
@@ -18,7 +18,7 @@ zero_of x h = elim (cases_eq x 0) [ inl same ↦ same | inr other ↦ absurd (le
 set_of : (x : ℕ) → is_set x ≡ true → 0 < x
 set_of x h = elim (cases_eq x 0) [ inl same ↦ absurd (let no = eq-eqb x 0 same in cc) | inr other ↦ omega arith ]
 
--- the first word that has a bit, and those before it
+-- `k` is the index of the first word that isn't 0
 pub record IsFirstSet (xs : List ℕ) (k : ℕ) : Type 0 where
   pub inside : k < length xs
   pub some : 0 < get_or xs k 0
@@ -42,7 +42,7 @@ position-first xs k h = grind (arith, by_index, length, get_or, word_there, word
 pub position-all : (xs : List ℕ) → position is_set xs ≡ None → (k : ℕ) → k < length xs → get_or xs k 0 ≡ 0
 position-all xs h k lt = let long = by_none (position_or_len is_set xs) (length xs) h in word_before xs k (omega arith)
 
--- The first cell that isn't empty
+-- The first set cell
 
 pub in_word : (words : List ℕ) (t word : ℕ) → t / 64 ≡ word → is_in_words words t ≡ is_bit (get_or words word 0) (t % 64)
 unfolding is_in_words
@@ -51,7 +51,7 @@ in_word words t word same = ap (λ (w : ℕ). is_bit (get_or words w 0) (t % 64)
 in_zero : (words : List ℕ) (t word : ℕ) → t / 64 ≡ word → get_or words word 0 ≡ 0 → is_in_words words t ≡ false
 in_zero words t word same zero = in_word words t word same ∙ (ap (λ (w : ℕ). is_bit w (t % 64)) zero ∙ is_bit-none (t % 64))
 
--- in the word of the cell that was begun with
+-- if it is in the word of the cell at which the search starts
 pub found_here : (words : List ℕ) (from bit cell : ℕ) → from < 187_200 → IsFirstPassing (is_bit (get_or words (from / 64) 0)) (from % 64) 64 (Some bit)
     → cell ≡ from / 64 * 64 + bit → IsFirstPassing (is_in_words words) from 187_200 (Some cell)
 found_here words from bit cell inside found is =
@@ -65,7 +65,7 @@ found_here words from bit cell inside found is =
 pub none_here : (words : List ℕ) (from t : ℕ) → IsFirstPassing (is_bit (get_or words (from / 64) 0)) (from % 64) 64 None → from ≤ t → t / 64 ≡ from / 64 → is_in_words words t ≡ false
 none_here words from t none above same = in_word words t (from / 64) same ∙ none (t % 64) (omega arith) (omega arith)
 
--- in none of the words before a later one
+-- it isn't in any word before the first later word that isn't 0
 none_before : (words : List ℕ) (from later t : ℕ) → IsFirstPassing (is_bit (get_or words (from / 64) 0)) (from % 64) 64 None
     → ((j : ℕ) → j < later → get_or (drop (from / 64 + 1) words) j 0 ≡ 0) → from ≤ t → t / 64 < from / 64 + 1 + later → is_in_words words t ≡ false
 none_before words from later t none zeros above below =
@@ -77,7 +77,7 @@ none_before words from later t none zeros above below =
           in_zero words t (t / 64) refl (subst (λ (k : ℕ). get_or words k 0 ≡ 0) at (sym (get_or-drop (from / 64 + 1) words j 0) ∙ zeros j (omega arith)))
     ]
 
--- in a later word
+-- if it is in a later word
 pub found_later : (words : List ℕ) (from later bit cell : ℕ) → length words ≡ 2_925 → from < 187_200
     → IsFirstPassing (is_bit (get_or words (from / 64) 0)) (from % 64) 64 None → IsFirstSet (drop (from / 64 + 1) words) later → from / 64 + 1 + later < 2_925
     → IsFirstPassing (is_bit (get_or words (from / 64 + 1 + later) 0)) 0 64 (Some bit) → cell ≡ (from / 64 + 1 + later) * 64 + bit → IsFirstPassing (is_in_words words) from 187_200 (Some cell)
@@ -94,14 +94,14 @@ found_later words from later bit cell long inside none first there found is =
           ],
     )
 
--- in no word at all
+-- if no word has a set cell
 pub no_word_set : (words : List ℕ) (from : ℕ) → length words ≡ 2_925 → from < 187_200 → length (drop (from / 64 + 1) words) ≡ 2_925 - (from / 64 + 1)
     → IsFirstPassing (is_bit (get_or words (from / 64) 0)) (from % 64) 64 None → position is_set (drop (from / 64 + 1) words) ≡ None
     → IsFirstPassing (is_in_words words) from 187_200 None
 no_word_set words from long inside after none all = λ t above below.
     none_before words from (2_925 - (from / 64 + 1)) t none (λ j lt. position-all (drop (from / 64 + 1) words) all j (omega arith)) above (omega arith)
 
--- From cells to the seconds of a round
+-- From cells to the seconds of one turn
 
 held_at : (words : List ℕ) (t cell : ℕ) → t % 187_200 ≡ cell → is_held words t ≡ is_in_words words cell
 unfolding is_held
@@ -111,7 +111,7 @@ pub held_first : (words : List ℕ) (low found : ℕ) → IsFirstPassing (is_in_
     → IsFirstPassing (is_held words) low (low + 187_200) (Some (low - low % 187_200 + found))
 held_first words low found first = grind (arith, held_at)
 
--- round the end of the cells
+-- if the search wraps around at the end of the ring
 pub held_turned : (words : List ℕ) (low found : ℕ) → IsFirstPassing (is_in_words words) (low % 187_200) 187_200 None → IsFirstPassing (is_in_words words) 0 187_200 (Some found)
     → IsFirstPassing (is_held words) low (low + 187_200) (Some (low - low % 187_200 + 187_200 + found))
 held_turned words low found none first = grind (arith, held_at)
@@ -119,7 +119,7 @@ held_turned words low found none first = grind (arith, held_at)
 pub held_never : (words : List ℕ) (low : ℕ) → IsFirstPassing (is_in_words words) 0 187_200 None → IsFirstPassing (is_held words) low (low + 187_200) None
 held_never words low none = λ t above below. held_at words t (t % 187_200) refl ∙ none (t % 187_200) (omega arith) (omega arith)
 
--- A cell that is changed
+-- Changing a cell
 
 pub changed_here : (words : List ℕ) (cell word : ℕ) (b : Bool) → cell / 64 < length words → is_bit word (cell % 64) ≡ b → is_in_words (set words (cell / 64) word) cell ≡ b
 unfolding is_in_words

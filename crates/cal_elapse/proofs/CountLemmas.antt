@@ -1,4 +1,4 @@
--- How many numbers in a row pass a test.
+-- How many of several consecutive numbers pass a test.
 use Rattle.std.proofs.Common.{◌≡◌, ℕ, zero, suc, ◌+◌, ◌-◌, subst, ◌<◌, ◌≤◌, cond, Bool, true, refl, ap, ◌∙◌, arith}
 use Rattle.cal_elapse.specs.Search.{NonePasses}
 use Rattle.cal_elapse.specs.Window.{count_from}
@@ -6,18 +6,18 @@ use Rattle.cal_elapse.specs.Window.{count_from}
 one_at_most : (b : Bool) → cond b 1 0 ≤ 1
 one_at_most b = grind arith
 
--- no more than there are
+-- at most as many pass as there are
 pub count_from-most : (passes : ℕ → Bool) (a k : ℕ) → count_from passes a k ≤ k
 unfolding count_from
 count_from-most passes a zero = omega arith
 count_from-most passes a (suc k) = omega (arith, count_from-most passes a k, one_at_most (passes (a + k)))
 
--- one more that passes
+-- one more number that passes adds 1
 pub count_from-one : (passes : ℕ → Bool) (a k : ℕ) → passes (a + k) ≡ true → count_from passes a (k + 1) ≡ count_from passes a k + 1
 unfolding count_from
 count_from-one passes a k holds = grind arith
 
--- and some more that don't
+-- more numbers that don't pass add nothing
 pub count_from-none : (passes : ℕ → Bool) (a k n : ℕ) → NonePasses passes (a + k) (a + k + n) → count_from passes a (k + n) ≡ count_from passes a k
 unfolding count_from
 count_from-none passes a k zero none = ap (count_from passes a) (omega arith)
@@ -27,7 +27,7 @@ count_from-none passes a k (suc n) none =
     let before = count_from-none passes a k n (λ t low high. none t low (omega arith)) in
     rw (next, fails) (omega arith)
 
--- up to a number that passes and with it
+-- counting up to and including a number that passes
 pub count_from-with : (passes : ℕ → Bool) (start local : ℕ) → start ≤ local → passes local ≡ true → count_from passes start (local + 1 - start) ≡ count_from passes start (local - start) + 1
 count_from-with passes start local low holds =
     let k = local - start in
@@ -35,7 +35,7 @@ count_from-with passes start local low holds =
     let ends : local + 1 - start ≡ k + 1 = omega arith in
     ap (count_from passes start) ends ∙ count_from-one passes start k (subst (λ (t : ℕ). passes t ≡ true) here holds)
 
--- and on to a later number, none between
+-- counting on to a later number if none in between passes
 pub count_from-on : (passes : ℕ → Bool) (start middle bound : ℕ) → start ≤ middle → middle ≤ bound → NonePasses passes middle bound
     → count_from passes start (bound - start) ≡ count_from passes start (middle - start)
 count_from-on passes start middle bound low high none =
@@ -45,7 +45,7 @@ count_from-on passes start middle bound low high none =
     let nothing = λ (t : ℕ) (above : start + k ≤ t) (below : t < start + k + n). none t (omega arith) (omega arith) in
     ap (count_from passes start) ends ∙ count_from-none passes start k n nothing
 
--- and from a number on to the next that passes
+-- counting from a number to the next that passes
 pub count_from-to : (passes : ℕ → Bool) (start local next : ℕ) → start ≤ local → local + 1 ≤ next → passes next ≡ true → NonePasses passes (local + 1) next
     → count_from passes (start + 1) (next - start) ≡ count_from passes (start + 1) (local - start) + 1
 count_from-to passes start local next low high holds none =
@@ -57,12 +57,12 @@ count_from-to passes start local next low high holds none =
     ap (count_from passes (start + 1)) ends
     ∙ (count_from-one passes (start + 1) (k + n) (subst (λ (t : ℕ). passes t ≡ true) there holds) ∙ ap (λ (c : ℕ). c + 1) (count_from-none passes (start + 1) k n nothing))
 
--- none of no numbers
+-- no numbers, no passes
 pub count_from-nothing : (passes : ℕ → Bool) (a k : ℕ) → count_from passes a (k - k) ≡ 0
 unfolding count_from
 count_from-nothing passes a k = let none : k - k ≡ 0 = omega arith in rw none refl
 
--- those of two parts in a row
+-- the count of two adjacent ranges is the sum
 pub count_from-both : (passes : ℕ → Bool) (a k n : ℕ) → count_from passes a (k + n) ≡ count_from passes a k + count_from passes (a + k) n
 unfolding count_from
 count_from-both passes a k zero = let same : k + zero ≡ k = omega arith in rw same (omega arith)
@@ -71,7 +71,7 @@ count_from-both passes a k (suc n) =
     let place : a + (k + n) ≡ a + k + n = omega arith in
     rw (next, place) (omega (arith, count_from-both passes a k n))
 
--- and those from a number on to a later one
+-- the count of a range split after one of its numbers
 pub count_from-part : (passes : ℕ → Bool) (start local last : ℕ) → start ≤ local → local ≤ last
     → count_from passes start (last + 1 - start) ≡ count_from passes start (local + 1 - start) + count_from passes (local + 1) (last - local)
 count_from-part passes start local last low high =
@@ -90,12 +90,12 @@ count_from-then passes start local last low high =
     ∙ (count_from-both passes (start + 1) (local - start) (last - local)
     ∙ ap (λ (t : ℕ). count_from passes (start + 1) (local - start) + count_from passes t (last - local)) there)
 
--- and where none passes from the start on
+-- the count is 0 if no number passes
 pub count_from-begun : (passes : ℕ → Bool) (start bound : ℕ) → start ≤ bound → NonePasses passes start bound → count_from passes start (bound - start) ≡ 0
 unfolding count_from
 count_from-begun passes start bound low none =
     let nothing = λ (t : ℕ) (above : start + 0 ≤ t) (below : t < start + 0 + (bound - start)). none t (omega arith) (omega arith) in
     ap (count_from passes start) (omega arith) ∙ count_from-none passes start 0 (bound - start) nothing
 
--- how many there can be
+-- bounds of counts
 pub ruleset count_bounds = (count_from-begun, count_from-most)

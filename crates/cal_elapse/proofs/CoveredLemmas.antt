@@ -1,4 +1,4 @@
--- An expression that elapses only where others do, and the elapses that are left without it.
+-- Expressions whose elapses are all elapses of exceptions, and the result if they are left out.
 use Rattle.std.proofs.Common.{◌≡◌, ◌⊎◌, ◌↔◌, ◌++◌, ℕ, Bool, true, false, List, [], ◌∷◌, ℤ, pos, ◌-ℤ◌, ◌<ℤ◌, inl, inr, refl, sym, subst, ◌∙◌, arith, int_eq}
 use Rattle.std.proofs.lemmas.Bool.{false≢true}
 use Rattle.std.proofs.lemmas.Int.{ints}
@@ -16,7 +16,7 @@ use Rattle.cal_elapse.specs.headline.Elapses.{IsElapse, IsPlace, Timed}
 use Rattle.cal_elapse.specs.headline.Timed.{timed}
 use Rattle.cal_elapse.proofs.ElapsesLemmas.{AreAbove-elapses_after, AreElapses-elapses_except, AreElapses-only, first-none}
 
--- what matches sets matches those that they are among
+-- a local second that matches some sets also matches sets that contain all their values
 pub matches_among : (sets others : Sets) → AreAmong sets others → (local : ℕ) → matches sets local ≡ true → matches others local ≡ true
 unfolding matches date_in time_in
 matches_among sets others h local =
@@ -25,7 +25,7 @@ matches_among sets others h local =
     (both_follow _ _ _ _ (h.weekday _) (both_follow _ _ _ _ (h.year _) (both_follow _ _ _ _ (h.month _) (rw h.from_end (h.day _)))))
     (both_follow _ _ _ _ (h.hour _) (both_follow _ _ _ _ (h.minute _) (h.second _))))
 
--- so in one zone it elapses only where they do
+-- so an expression is covered by another one in the same zone that matches all its values
 pub place_among : (fields others : Fields) (zone : TimeZone) → AreAmong (sets_of fields) (sets_of others) → IsCovered (timed fields zone) (timed others zone ∷ [])
 unfolding timed
 place_among fields others zone among i p = grind (arith, matches_among)
@@ -33,7 +33,7 @@ place_among fields others zone among i p = grind (arith, matches_among)
 below : (i : ℤ) → (i -ℤ pos 1) <ℤ i
 below i = omega (arith, ints)
 
--- an elapse is above some base, and either one of the exceptions or left by them there
+-- if no elapse of an expression is left after removing those of exceptions, every elapse is an elapse of an exception
 not_left : (e : Timed) (exceptions : List Timed) (i : ℤ) (b : Bool) → is_member int_eq (elapses_after exceptions (i -ℤ pos 1)) i ≡ b → elapses_except (e ∷ []) exceptions (i -ℤ pos 1) ≡ []
     → IsPlace e i → IsElapse exceptions i
 not_left e exceptions i true has none p = (((AreAbove-elapses_after exceptions (i -ℤ pos 1)).members i).0 (Has-is_member (elapses_after exceptions (i -ℤ pos 1)) i has)).1
@@ -53,7 +53,7 @@ elapses_of_covered e exceptions = (
   λ none i p. not_left e exceptions i (is_member int_eq (elapses_after exceptions (i -ℤ pos 1)) i) refl (none (i -ℤ pos 1)) p,
 )
 
--- an elapse of some or of others
+-- an elapse of two lists of expressions together is an elapse of the one or of the other
 pub IsElapse-left : (es fs : List Timed) (i : ℤ) → IsElapse es i → IsElapse (es ++ fs) i
 IsElapse-left [] fs i h = absurd h
 IsElapse-left (e ∷ es) fs i (inl here) = inl here
@@ -68,7 +68,7 @@ IsElapse-either [] fs i h = inr h
 IsElapse-either (e ∷ es) fs i (inl here) = inl (inl here)
 IsElapse-either (e ∷ es) fs i (inr rest) = elim (IsElapse-either es fs i rest) [ inl h ↦ inl (inr h) | inr h ↦ inr h ]
 
--- one more is kept, or left out where it is covered
+-- one more expression is kept, or left out if it is covered
 pub kept_one : (all exceptions kept : List Timed) (e : Timed) → AreKept all exceptions kept → AreKept (all ++ e ∷ []) exceptions (kept ++ e ∷ [])
 kept_one all exceptions kept e h = record {
   within = λ i m.

@@ -1,4 +1,4 @@
--- What an expression in a zone answers of an instant, and what that says of the rest of its elapses.
+-- Testing whether an instant is an elapse, and what that says about the remaining elapses.
 use Rattle.std.proofs.Common.{◌≡◌, ◌↔◌, Bool, true, false, [], ◌∷◌, inl, inr, None, Some, ℤ, negsuc, pos, unsigned_abs, ◌<ℤ◌, ◌≤ℤ◌, arith, int_eq}
 use Rattle.std.proofs.lemmas.Bool.{false≢true}
 use Rattle.jiff.proofs.SpanFacts.{signed_arith}
@@ -24,7 +24,7 @@ use Rattle.cal_elapse.specs.declared.window.Window.{Window}
 use Rattle.cal_elapse.proofs.ElapsesLemmas.{AreAbove-elapses_after}
 use Rattle.cal_zone.proofs.LocalLemmas.{local_inside}
 
--- the one local second that can have its place there is tested
+-- an instant is an elapse exactly if the only local second that can resolve to it matches
 pub has-local : (masks : Masks) (zone : Zone) (instant local : ℤ) (b : Bool) → IsLocalSecond local → place_of (zone_of zone) local ≡ Some instant
     → b ≡ matches (sets_in masks) (unsigned_abs local) → (b ≡ true) ↔ IsPlace (timed_by masks zone) instant
 unfolding timed_by
@@ -38,7 +38,7 @@ has-none masks zone instant none = (
   λ p. absurd (let count = seconds_in_all-is in let inside = p.within in none (pos p.local) (omega (arith, signed_arith), omega (arith, signed_arith)) p.placed),
 )
 
--- above the last instant given the answer is whether the rest has the instant
+-- for an instant after the one returned last, the test says whether the remaining elapses contain it
 pub in_rest : (w : Window) (i : ℤ) (b : Bool) → w.last <ℤ i → (b ≡ true) ↔ IsPlace (timed_of w) i → b ≡ is_member int_eq (rest_of w) i
 unfolding rest_of
 in_rest w i b above h =
@@ -48,7 +48,7 @@ in_rest w i b above h =
     (λ t. is_member-Has rest i (all.1 (above, inl (h.0 t))))
     (λ t. h.1 (elim (all.0 (Has-is_member rest i t)).1 [ inl p ↦ p | inr n ↦ absurd n ]))
 
--- otherwise the rest doesn't have it
+-- otherwise the remaining elapses don't contain it
 pub not_in_rest : (w : Window) (i : ℤ) → (w.last <ℤ i → IsPlace (timed_of w) i → ⊥) → false ≡ is_member int_eq (rest_of w) i
 unfolding rest_of
 not_in_rest w i h =
@@ -61,7 +61,7 @@ not_in_rest w i h =
 pub not_above : (w : Window) (i : ℤ) → i ≤ℤ w.last → false ≡ is_member int_eq (rest_of w) i
 not_above w i low = not_in_rest w i (λ above p. absurd (omega (arith, signed_arith)))
 
--- each place that isn't below 0 is an instant
+-- every place of 0 or more is an instant
 place-instant : (masks : Masks) (zone : Zone) (i : ℤ) → pos 0 ≤ℤ i → IsPlace (timed_by masks zone) i → IsInstant i
 unfolding timed_by
 place-instant masks zone i low p =

@@ -1,4 +1,4 @@
--- The elapses are one list, and go on from any of them.
+-- The elapses form exactly one list, and it can be continued from any of its elements.
 use Rattle.std.proofs.Common.{◌≡◌, ◌⊎◌, ◌↔◌, ℕ, zero, suc, ◌+◌, ◌<◌, ◌≤◌, cond, Bool, true, List, [], ◌∷◌, ◌++◌, take, drop, inl, inr, Option, None, Some, ℤ, ◌<ℤ◌, ◌≤ℤ◌, int_lt, refl, ap, subst, arith, map}
 use Rattle.std.specs.List.{filter, filter_map, cons_option, range_with_len, slice_get}
 use Rattle.std.proofs.Math.Seq.{take-add}
@@ -17,7 +17,7 @@ use Rattle.cal_text.proofs.General.{int_lt_trans, rises-drop}
 use Rattle.cal_rising.proofs.RisingLemmas.{above_first, later_members, same_rising, Has-union, rises-union}
 use Rattle.cal_rising.proofs.WithoutLemmas.{Has-without, without-none}
 
--- a local second among n from a on that matches has its place here
+-- `i` is the instant of a matching local second among the `n` from `a` on
 record IsPlaceFrom (e : Timed) (a n : ℕ) (i : ℤ) : Type 0 where
   local : ℕ
   low : a ≤ local
@@ -25,7 +25,7 @@ record IsPlaceFrom (e : Timed) (a n : ℕ) (i : ℤ) : Type 0 where
   is_match : e.matches local ≡ true
   placed : e.place local ≡ Some i
 
--- one local second more
+-- the effect of one more local second
 Has-one : (b : Bool) (o : Option ℤ) (rest : List ℤ) (i : ℤ) → Has (cond b (cons_option o rest) rest) i ↔ (((b ≡ true) × (o ≡ Some i)) ⊎ Has rest i)
 Has-one b o rest i = grind arith
 
@@ -41,7 +41,7 @@ from_later e a n i p = record { local = p.local; low = omega arith; high = omega
 from_split : (e : Timed) (a n : ℕ) (i : ℤ) → IsPlaceFrom e a (suc n) i → ((e.matches a ≡ true) × (e.place a ≡ Some i)) ⊎ IsPlaceFrom e (a + 1) n i
 from_split e a n i p = grind arith
 
--- the places of n local seconds from a on
+-- the instants of the matching local seconds among the `n` from `a` on
 Has-from : (e : Timed) (a n : ℕ) (i : ℤ) → Has (filter_map e.place (filter e.matches (range_with_len a n))) i ↔ IsPlaceFrom e a n i
 Has-from e a zero i = (λ m. absurd m, λ p. absurd (omega arith))
 Has-from e a (suc n) i =
@@ -52,7 +52,7 @@ Has-from e a (suc n) i =
       λ p. elim (from_split e a n i p) [ inl q ↦ one.1 (inl q) | inr q ↦ one.1 (inr (rest.1 q)) ],
     )
 
--- the elapse set has exactly the places of the local seconds that match
+-- the elapse set contains exactly the instants of the local seconds that match
 pub Has-places : (e : Timed) (i : ℤ) → Has (places e) i ↔ IsPlace e i
 unfolding places
 Has-places e i =
@@ -67,7 +67,7 @@ not_above b x i ge lt e = omega (arith, ints)
 not_both : (x e i : ℤ) → x <ℤ e → e <ℤ i → x ≡ i → ⊥
 not_both x e i h k f = omega (arith, ints)
 
--- a filter keeps the members above b
+-- a filter keeps the elements after `b`
 above-one : (b x : ℤ) (keep : Bool) (rest : List ℤ) (i : ℤ) → int_lt b x ≡ keep → Has (cond keep (x ∷ rest) rest) i ↔ (((b <ℤ i) × (x ≡ i)) ⊎ Has rest i)
 above-one b x keep rest i h = grind (arith, ints, not_above)
 
@@ -80,7 +80,7 @@ Has-above b (x ∷ xs) i =
       λ p. elim p.1 [ inl e ↦ one.1 (inl (p.0, e)) | inr n ↦ one.1 (inr (rest.1 (p.0, n))) ],
     )
 
--- in one of the elapse sets, above b
+-- `i` is after `b` and in one of the elapse sets
 HasAny-elapses : (es : List Timed) (b i : ℤ) → HasAny (map (λ e. filter (int_lt b) (places e)) es) i ↔ ((b <ℤ i) × IsElapse es i)
 HasAny-elapses [] b i = (λ m. absurd m, λ p. p.1)
 HasAny-elapses (e ∷ es) b i =
@@ -91,7 +91,7 @@ HasAny-elapses (e ∷ es) b i =
       λ p. elim p.1 [ inl q ↦ inl (here.1 (p.0, set.1 q)) | inr q ↦ inr (rest.1 (p.0, q)) ],
     )
 
--- the elapses after a base are as they should be
+-- the list of elapses after a base satisfies its definition
 pub AreAbove-elapses_after : (es : List Timed) (b : ℤ) → AreAbove (IsElapse es) b (elapses_after es b)
 unfolding elapses_after
 AreAbove-elapses_after es b =
@@ -104,7 +104,7 @@ AreAbove-elapses_after es b =
       );
     }
 
--- also without those of exceptions
+-- so does the list without the elapses of exceptions
 pub AreElapses-elapses_except : (es exceptions : List Timed) (b : ℤ) → AreElapses es exceptions b (elapses_except es exceptions b)
 unfolding elapses_except
 AreElapses-elapses_except es exceptions b =
@@ -121,7 +121,7 @@ AreElapses-elapses_except es exceptions b =
       );
     }
 
--- two lists with the numbers above b of which something holds are the same
+-- two strictly increasing lists of all numbers after `b` that satisfy the same condition are equal
 pub same_above : {Holds : ℤ → Type 0} (b : ℤ) (xs ys : List ℤ) → AreAbove Holds b xs → AreAbove Holds b ys → xs ≡ ys
 same_above b xs ys h k = grind (arith, same_rising)
 
@@ -131,7 +131,7 @@ AreAbove-only es b xs h = same_above b xs (elapses_after es b) h (AreAbove-elaps
 pub AreElapses-only : (es exceptions : List Timed) (b : ℤ) (xs : List ℤ) → AreElapses es exceptions b xs → xs ≡ elapses_except es exceptions b
 AreElapses-only es exceptions b xs h = same_above b xs (elapses_except es exceptions b) h (AreElapses-elapses_except es exceptions b)
 
--- without exceptions, they are the elapses after the base
+-- without exceptions, nothing is left out
 pub elapses_except-none : (es : List Timed) (b : ℤ) → elapses_except es [] b ≡ elapses_after es b
 unfolding elapses_except elapses_after union
 elapses_except-none es b = without-none (elapses_after es b)
@@ -141,7 +141,7 @@ has_at [] k e h = absurd (cc)
 has_at (x ∷ xs) zero e h = inl (cc)
 has_at (x ∷ xs) (suc k) e h = inr (has_at xs k e h)
 
--- what comes after the k-th of a rising list is what is above the k-th
+-- the elements after the k-th of a strictly increasing list are those greater than the k-th
 Has-drop : (xs : List ℤ) (k : ℕ) (e : ℤ) → IsStrictlySortedBy int_cmp xs → slice_get xs k ≡ Some e → (i : ℤ) → Has (drop (suc k) xs) i ↔ ((e <ℤ i) × Has xs i)
 Has-drop [] k e h at i = absurd (cc)
 Has-drop (x ∷ xs) zero e h at i =
@@ -154,7 +154,7 @@ Has-drop (x ∷ xs) (suc k) e h at i =
       λ p. elim p.1 [ inl f ↦ absurd (not_both x e i up p.0 f) | inr n ↦ rest.1 (p.0, n) ],
     )
 
--- starting again at the k-th gives exactly the ones after it
+-- starting again at the k-th elapse yields exactly the elapses after it
 later_above : {Holds : ℤ → Type 0} (b e : ℤ) (xs ys : List ℤ) (k : ℕ) → AreAbove Holds b xs → AreAbove Holds e ys → slice_get xs k ≡ Some e → ys ≡ drop (suc k) xs
 later_above b e xs ys k all again at =
     let up = ((all.members e).0 (has_at xs k e at)).0 in
@@ -176,30 +176,30 @@ pub elapses_except-later : (es exceptions : List Timed) (b e : ℤ) (k : ℕ) �
 elapses_except-later es exceptions b e k at =
     later_above b e (elapses_except es exceptions b) (elapses_except es exceptions e) k (AreElapses-elapses_except es exceptions b) (AreElapses-elapses_except es exceptions e) at
 
--- so the first k + 1 and then the first m after the last of these are the first k + 1 + m
+-- so the first k + 1 elapses, followed by the first m after the last of these, are the first k + 1 + m
 pub elapses_except-parts : (es exceptions : List Timed) (b e : ℤ) (k m : ℕ) → slice_get (elapses_except es exceptions b) k ≡ Some e
     → take (suc k) (elapses_except es exceptions b) ++ take m (elapses_except es exceptions e) ≡ take (suc k + m) (elapses_except es exceptions b)
 elapses_except-parts es exceptions b e k m at = grind (arith, elapses_except-later, take-add)
 
--- the list after the first elapse
+-- starting again at the first elapse yields the list without it
 pub elapses_after-first : (es : List Timed) (b e : ℤ) → slice_get (elapses_after es b) 0 ≡ Some e → elapses_after es e ≡ drop 1 (elapses_after es b)
 elapses_after-first es b e h = elapses_after-later es b e zero h
 
 below_and_above : (x i : ℤ) → x <ℤ i → i ≤ℤ x → ⊥
 below_and_above x i h k = omega (arith, ints)
 
--- a list with no members has no first
+-- an empty list has no first element
 pub first-none : (xs : List ℤ) → ((i : ℤ) → Has xs i → ⊥) → slice_get xs 0 ≡ None
 first-none [] h = refl
 first-none (x ∷ xs) h = absurd (h x (inl refl))
 
--- the least member of a rising list is its first
+-- the smallest element of a strictly increasing list is its first
 pub first-least : (xs : List ℤ) (i : ℤ) → IsStrictlySortedBy int_cmp xs → Has xs i → ((j : ℤ) → Has xs j → i ≤ℤ j) → slice_get xs 0 ≡ Some i
 first-least [] i h m least = absurd m
 first-least (x ∷ xs) i h (inl e) least = ap Some e
 first-least (x ∷ xs) i h (inr n) least = absurd (below_and_above x i (above_first x i xs h n) (least x (inl refl)))
 
--- what is no elapse, and what is the first elapse
+-- conditions for having no elapse, and for being the first elapse
 pub first_elapse-none : (es : List Timed) (b : ℤ) → ((i : ℤ) → b <ℤ i → IsElapse es i → ⊥) → slice_get (elapses_after es b) 0 ≡ None
 first_elapse-none es b h =
     let all = AreAbove-elapses_after es b in
@@ -211,7 +211,7 @@ first_elapse-least es b i above m least =
     first-least (elapses_after es b) i all.rises ((all.members i).1 (above, m))
     (λ j n. least j ((all.members j).0 n).0 ((all.members j).0 n).1)
 
--- an elapse of several is an elapse of one of them
+-- an elapse of several expressions is an elapse of one of them
 HasAny-each : (es : List Timed) (b i : ℤ) → HasAny (map (λ e. elapses_after (e ∷ []) b) es) i ↔ ((b <ℤ i) × IsElapse es i)
 HasAny-each [] b i = (λ m. absurd m, λ p. p.1)
 HasAny-each (e ∷ es) b i =

@@ -1,4 +1,4 @@
--- Cells that are filled all at once, and the instants that are seen then.
+-- Setting several cells at once, and the elements of the ring after that.
 use Rattle.std.proofs.Common.{◌≡◌, ◌≢◌, ◌⊎◌, ◌↔◌, ◌<ℤ◌, ◌+ℤ◌, ◌≤ℤ◌, ℕ, ℤ, ◌+◌, ◌-◌, ◌*◌, ◌/◌, ◌%◌, ◌^◌, ◌<◌, ◌≤◌, ◌||◌, Bool, true, List, Option, None, Some, bit_or, length, get_or, set, pos, IsSomeAnd, inl, inr, refl, sym, ap, ◌∙◌, subst, arith, get_or-set_same, get_or-set_other, slice_get}
 use Rattle.std.proofs.Math.ListN.{length-set}
 use Rattle.std.proofs.lemmas.Bool.{cases_eq, cases_lt, or_cases, or_left, or_right}
@@ -16,7 +16,7 @@ use Rattle.cal_text.proofs.General.{below_end, lt_from_pos, or_false}
 
 -- The cells
 
--- a word with more numbers
+-- a word after more bits are set
 filled_here : (words : List ℕ) (word more i : ℕ) → word < length words → i / 64 ≡ word
     → is_in_words (set words word (bit_or (get_or words word 0) more)) i ≡ (is_in_words words i || is_bit more (i % 64))
 filled_here words word more i inside same =
@@ -29,7 +29,7 @@ filled_else words word value i other =
     in_word (set words word value) i (i / 64) refl
     ∙ (ap (λ (w : ℕ). is_bit w (i % 64)) (get_or-set_other words word (i / 64) value 0 other) ∙ sym (in_word words i (i / 64) refl))
 
--- the bits that stay in the word of the first cell, and those that go on to the next
+-- the bits that go into the word of the first cell, and those that go into the next word
 up_is : (bits cell i : ℕ) → bits < 2 ^ 64 → cell < 187_200 → i < 187_200 → i / 64 ≡ cell / 64
     → is_bit (bits * 2 ^ (cell % 64) % 2 ^ 64) (i % 64) ≡ is_bit bits (cells_behind cell i)
 up_is bits cell i fits inside there same =
@@ -49,7 +49,7 @@ far_behind : (cell i next : ℕ) → cell < 187_200 → i < 187_200 → (next �
     → i / 64 ≢ cell / 64 → i / 64 ≢ next → 64 ≤ cells_behind cell i
 far_behind cell i next inside there turn next_in other apart = elim turn [ inl on ↦ omega arith | inr round ↦ omega (arith, round.0, round.1) ]
 
--- all cells once both words are changed
+-- all cells after both words are changed
 pub filled : (words : List ℕ) (cell bits next i : ℕ) → length words ≡ 2_925 → cell < 187_200 → bits < 2 ^ 64 → (next ≡ cell / 64 + 1) ⊎ ((next ≡ 0) × (cell / 64 ≡ 2_924))
     → next < 2_925 → i < 187_200
     → let one = set words (cell / 64) (bit_or (get_or words (cell / 64) 0) (bits * 2 ^ (cell % 64) % 2 ^ 64)) in
@@ -78,7 +78,7 @@ filled words cell bits next i long inside fits turn next_in there =
 
 -- The instants
 
--- each second of a round is held if it was, or is one whose bit is set
+-- each cell is set if it was set before, or if it belongs to one of the new instants
 pub record HasAll (old new : List ℕ) (start bits : ℕ) : Type 0 where
   pub held : (i : ℕ) → i < 187_200 → is_in_words new i ≡ (is_in_words old i || is_bit bits (cells_behind (start % 187_200) i))
 
@@ -94,7 +94,7 @@ new_held old new start bits bit all set small =
     let behind : cells_behind (start % 187_200) ((start + bit) % 187_200) ≡ bit = omega arith in
     held_all old new start bits (start + bit) all ∙ or_right _ _ (ap (is_bit bits) behind ∙ set)
 
--- the round from `least` on has each of the new seconds
+-- one turn from `least` on contains all new instants
 pub record IsRoundOfAll (least start bits : ℕ) : Type 0 where
   pub behind : least < start
   pub inside : (bit : ℕ) → is_bit bits bit ≡ true → start + bit < least + 187_200
@@ -132,7 +132,7 @@ filled_back old new least start bits i all round fits (inr one) =
     let held = new_held old new start bits one.bit all one.set (small_bit bits one.bit fits one.set) in
     subst (Has (instants_in new least)) (one_at start one.bit i one.is) (member new least (start + one.bit) (omega arith) (round.inside one.bit one.set) held)
 
--- what is seen once all are put
+-- the elements after all new instants are added
 pub filled_seen : (old new : List ℕ) (least start bits : ℕ) (i : ℤ) → HasAll old new start bits → IsRoundOfAll least start bits → bits < 2 ^ 64
     → Has (instants_in new least) i ↔ (Has (instants_in old least) i ⊎ IsOneOf (pos start) bits i)
 filled_seen old new least start bits i all round fits =
@@ -143,7 +143,7 @@ one_early start bit i is early = omega (arith, ints)
 
 -- The set of instants
 
--- the round begins with its least second, below the start
+-- the ring isn't empty, and its smallest second is before `start`
 pub record IsBegun (words : List ℕ) (least : ℕ) (start : ℤ) : Type 0 where
   pub some : least ≢ no_second
   pub found : IsFirstPassing (is_held words) least (least + 187_200) (Some least)

@@ -1,4 +1,4 @@
--- The days of a month, and how many months were looked at.
+-- The matching days of a month, and the number of months examined.
 use Rattle.std.proofs.Common.{◌≡◌, ℕ, zero, suc, ◌+◌, ◌-◌, ◌*◌, ◌/◌, ◌%◌, ◌<◌, ◌≤◌, cond, Bool, true, false, Option, None, Some, ap, subst, sym, ◌∙◌, arith}
 use Rattle.std.proofs.lemmas.Bool.{true_from_ne_false}
 use Rattle.cal_zone.specs.headline.Local.{civil_date}
@@ -11,14 +11,14 @@ use Rattle.cal_elapse.proofs.CountLemmas.{count_from-most, count_from-none, coun
 use Rattle.cal_elapse.proofs.MonthLemmas.{first_day-end, length_bounds, located, month_low, month_of-is, months_none, no_day}
 use Rattle.cal_spec.specs.headline.Match.{Sets}
 
--- no day of a month whose year or number is no member
+-- no day matches in a month whose year or number the expression doesn't match
 pub none_of_month : (sets : Sets) (n first length from : ℕ) → n < 2_760 → first ≡ first_day n → length ≡ length_of n → first ≤ from → month_in sets n ≡ false
     → NonePasses (day_in sets) from (first + length)
 none_of_month sets n first length from within begins long low fails = λ t above below.
     let next = first_day-suc n in
     months_none sets n (suc n) (omega arith) (λ k a b. let same : k ≡ n = omega arith in rw same fails) t (omega arith) (omega arith)
 
--- a word that has the days of a month that match
+-- the bits of a word are the matching days of a month
 pub record HasDays (sets : Sets) (first length bits : ℕ) : Type 0 where
   pub days : (k : ℕ) → k < length → is_bit bits k ≡ day_in sets (first + k)
   pub within : (k : ℕ) → is_bit bits k ≡ true → k < length
@@ -34,7 +34,7 @@ pub none_in_month : (sets : Sets) (first length bits from : ℕ) → HasDays set
     → NonePasses (is_bit bits) (from - first) 64 → NonePasses (day_in sets) from (first + length)
 none_in_month sets first length bits from has low short none = grind (arith, day_is)
 
--- one more month that is looked at
+-- examining the next matching month adds 1 to the count
 pub count_step : (passes : ℕ → Bool) (from index next : ℕ) → from ≤ index → index ≤ next → NonePasses passes index next → passes next ≡ true
     → count_from passes from (suc next - from) ≡ count_from passes from (index - from) + 1
 count_step passes from index next low high none holds =
@@ -54,7 +54,7 @@ count_front passes a (suc k) =
     let here : a + suc k ≡ suc a + k = omega arith in
     rw here (omega (arith, before))
 
--- a month and those after it
+-- the count for a month and the months after it
 pub looks_on : (sets : Sets) (n : ℕ) (r : Option ℕ) → n < 2_760 → IsFirstPassing (day_in sets) (first_day (n + 1)) 84_006 r
     → cond (month_in sets n) 1 0 + looks_from sets (n + 1) r ≡ looks_from sets n r
 looks_on sets n None within none =
@@ -68,7 +68,7 @@ looks_on sets n (Some day) within found =
     let next : n + 1 ≡ suc n = omega arith in
     rw (ends, next) (sym (rw next at (count_front (month_in sets) n (suc m - (n + 1)))))
 
--- one month alone
+-- the count for a search that ends in its first month
 pub looks_here : (sets : Sets) (n first length day : ℕ) → n < 2_760 → first ≡ first_day n → length ≡ length_of n → first ≤ day → day < first + length
     → cond (month_in sets n) 1 0 ≡ looks_from sets n (Some day)
 unfolding count_from
@@ -80,17 +80,17 @@ looks_here sets n first length day within begins long low high =
     let here : n + 0 ≡ n = omega arith in
     rw (month, one, here) (omega arith)
 
--- a search that ends in a later month
+-- the count for a search that ends in a later month
 pub looks_some : (sets : Sets) (from index next place old new : ℕ) → from ≤ index → index ≤ next → next < 2_760 → place < length_of next
     → NonePasses (month_in sets) index next → month_in sets next ≡ true → old ≡ count_from (month_in sets) from (index - from)
     → looks_from sets from (Some (first_day next + place)) ≡ old + 1
 looks_some sets from index next place old new low high within small none holds counted = grind (arith, month_of-is, count_step)
 
--- never more months than there are
+-- no search examines more months than there are
 pub looks_most : (sets : Sets) (n from : ℕ) (r : Option ℕ) → IsFirstPassing (day_in sets) from 84_006 r → looks_from sets n r ≤ 2_760
 looks_most sets n from r none = grind (arith, count_from-most, located)
 
--- after the last month there is none
+-- no month is left to examine after the last one
 pub looks_end : (sets : Sets) → looks_from sets (month_of (civil_date 84_006)) None ≡ 0
 unfolding count_from
 looks_end sets =
@@ -100,11 +100,11 @@ looks_end sets =
     let last : month_of (civil_date 84_006) ≡ 2_760 = subst (λ (t : ℕ). month_of (civil_date t) ≡ 2_760) place month in
     rw last
 
--- a day that matches is of a month whose year and number are members
+-- if a day matches, its month matches
 month_of_match : (sets : Sets) (day : ℕ) → day < 84_006 → day_in sets day ≡ true → month_in sets (month_of (civil_date day)) ≡ true
 month_of_match sets day within holds = true_from_ne_false (month_in sets (month_of (civil_date day))) (λ fails. let none = no_day sets day within fails in cc)
 
--- a search that ends on the day of its start looks at one month
+-- a search that ends on the day on which it starts examines one month
 one_look : (sets : Sets) (day : ℕ) → day < 84_006 → day_in sets day ≡ true → looks_from sets (month_of (civil_date day)) (Some day) ≡ 1
 unfolding count_from
 one_look sets day within holds =
@@ -117,7 +117,7 @@ pub looks_today : (sets : Sets) (t second : ℕ) → t / 86_400 < 84_006 → day
     → month_looks sets (t + 1) (Some (t / 86_400 * 86_400 + second)) ≡ 1
 looks_today sets t second within holds later small = grind (arith, one_look)
 
--- the months of a search in local seconds are those of its days
+-- a search over local seconds examines the same months as the search over their days
 pub looks_of_days : (sets : Sets) (n from found second : ℕ) → n ≡ month_of (civil_date (from / 86_400)) → second < 86_400
     → looks_from sets n (Some found) ≡ month_looks sets from (Some (found * 86_400 + second))
 looks_of_days sets n from found second start small = grind arith

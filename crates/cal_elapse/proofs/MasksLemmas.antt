@@ -1,4 +1,5 @@
--- The members of a valid component lie in its field, so that the bits of the field have them all, and each has one.
+-- The values of a valid component are values of its field, so the masks represent all of them; and every valid
+-- component has a value.
 use Rattle.std.proofs.Common.{◌≡◌, ◌&&◌, ◌%◌, nat_lt, if◌then◌else◌, sym, ℕ, ◌+◌, ◌-◌, ◌<◌, ◌≤◌, Bool, true, false, nat_le, get_or, length, List, [], ◌∷◌, Option, None, Some, ◌∙◌, inl, inr, arith, le-ltb, lt-ltb}
 use Rattle.std.specs.List.{AllByRecursion, list_any}
 use Rattle.std.proofs.Math.ListN.{get_or-eq_default}
@@ -15,7 +16,7 @@ use Rattle.cal_spec.specs.declared.part.Part.{Part}
 use Rattle.cal_spec.specs.declared.slot.Slot.{Slot}
 use Rattle.cal_spec.specs.declared.slot.Slot.TheVariants.{DayFromEnd}
 
--- how far the numbers of a field go, counts from the month's end among them
+-- the largest value of a slot, for counts from the end of the month too
 abbrev pub last_of : Slot → ℕ
 last_of DayFromEnd = 31
 last_of slot = greatest slot
@@ -37,7 +38,7 @@ parts_both slot (p ∷ ps) v sound h =
       | inr rest ↦ parts_both slot ps v sound.1 rest
     ]
 
--- the members of a valid component lie in its field
+-- the values of a valid component are values of its field
 pub component_both : (slot : Slot) (c : Option (List Part)) (v : ℕ) → AreSound slot c → component_has slot c v ≡ true
     → (least slot ≤ v) × (v ≤ last_of slot)
 component_both slot c v sound h = grind (arith, parts_both)
@@ -46,15 +47,15 @@ pub day_both : (from_end : Bool) (c : Option (List Part)) (v : ℕ) → AreSound
     → (1 ≤ v) × (v < 1 + 31)
 day_both from_end c v sound h = grind (arith, component_both)
 
--- a word that is filled from its lowest bit on
+-- a word that is filled bit by bit, from the lowest on
 pub filled_none : (has : ℕ → Bool) (i : ℕ) → is_bit 0 i ≡ (nat_lt i 0 && has i)
 filled_none has i = let out = le-ltb i 0 (omega arith) in rw out (is_bit-none i)
 
--- above what was filled there is nothing
+-- no bit is set above the filled ones
 pub filled_end : (mask n : ℕ) (has : ℕ → Bool) → ((i : ℕ) → is_bit mask i ≡ (nat_lt i n && has i)) → (i : ℕ) → n ≤ i → is_bit mask i ≡ false
 filled_end mask n has filled i high = let out = le-ltb i n high in filled i ∙ rw out
 
--- a word that has a number isn't 0
+-- a word with a set bit isn't 0
 pub filled_some : (mask v : ℕ) → is_bit mask v ≡ true → 0 < mask
 filled_some mask v holds =
     elim (cases_lt 0 mask) [
@@ -65,7 +66,7 @@ filled_some mask v holds =
           let clash : true ≡ false = sym nothing ∙ is_bit-none v in absurd (cc))
     ]
 
--- what was filled with all numbers at which something holds tells just that
+-- a word that was filled with every number that satisfies a test decides the test
 pub members_are : (mask n : ℕ) (holds : ℕ → Bool) → ((i : ℕ) → is_bit mask i ≡ (nat_lt i n && holds (0 + i)))
     → ((v : ℕ) → holds v ≡ true → (0 ≤ v) × (v < n)) → (v : ℕ) → is_bit mask v ≡ holds v
 members_are mask n holds filled within v = grind (arith, false_from_ne_true)
@@ -74,14 +75,14 @@ pub numbers_are : (bit : ℕ → Bool) (first n : ℕ) (holds : ℕ → Bool) �
     → ((v : ℕ) → holds v ≡ true → (first ≤ v) × (v < first + n)) → (v : ℕ) → (nat_le first v && bit (v - first)) ≡ holds v
 numbers_are bit first n holds filled within v = grind (arith, nat_le, nat_tests, false_from_ne_true)
 
--- the days, upwards or as counts from the month's end
+-- the days, counted from the start or from the end of the month
 pub days_are : (mask : ℕ) (from_end : Bool) (holds : ℕ → Bool)
     → ((i : ℕ) → is_bit mask i ≡ (nat_lt i 31 && holds (if from_end then 31 - i else i + 1)))
     → ((v : ℕ) → holds v ≡ true → (1 ≤ v) × (v < 1 + 31)) → (v : ℕ)
     → ((nat_le 1 v && nat_le v 31) && is_bit mask (day_place from_end v)) ≡ holds v
 days_are mask from_end holds filled within v = grind (arith, nat_le, nat_tests, false_from_ne_true, nat_lt, lt-ltb)
 
--- the first week of six
+-- the first of the six weeks
 pub weekdays_are : (mask : ℕ) (days : List Bool) → length days ≡ 7 → ((i : ℕ) → is_bit mask i ≡ (nat_lt i 42 && get_or days (i % 7) false))
     → (v : ℕ) → (nat_lt v 7 && is_bit mask v) ≡ get_or days v false
 weekdays_are mask days seven filled v = grind (arith, get_or, lt-ltb, length, get_or-eq_default)
@@ -116,7 +117,7 @@ start_has slot p sound = values_at slot p.start p.end p.step sound.start_in soun
 whole : (slot : Slot) → in_field slot (least slot) ≡ true
 whole slot = grind (arith, nat_tests)
 
--- so each valid component has a member
+-- each valid component has a value
 pub component_some : (slot : Slot) (c : Option (List Part)) → AreSound slot c → (v : ℕ) × (component_has slot c v ≡ true)
 component_some slot None sound = (least slot, whole slot)
 component_some slot (Some []) sound = absurd (omega (arith, sound.0))

@@ -1,4 +1,4 @@
--- What is left of the minute and of the hour of a match, while each search takes one bit.
+-- The remaining bits of the minute and of the hour of a match, while each search removes one bit.
 use Rattle.std.proofs.Common.{IfSome, IsSome, ◌≡◌, ◌≢◌, ◌∙◌, ℕ, ◌+◌, ◌-◌, ◌*◌, ◌/◌, ◌%◌, ◌^◌, ◌<◌, ◌≤◌, Bool, true, false, ◌&&◌, Option, Some, ℤ, option_map, pos, unsigned_abs, w64, sym, subst, refl, arith, ltb-true, nat_lt}
 use Rattle.std.proofs.lemmas.Bool.{and_from, and_parts, false_from_ne_true, lt-ltb}
 use Rattle.std.specs.Int.{trailing_zeros}
@@ -22,7 +22,7 @@ use Rattle.cal_text.proofs.General.{and_regrouped, below_end}
 no_bit : (i : ℕ) → is_bit 0 i ≡ true → ⊥
 no_bit i bit = let none = is_bit-none i in cc
 
--- what matches is a local second
+-- only local seconds match
 pub match_inside : (sets : Sets) (t : ℕ) → matches sets t ≡ true → t < seconds_in_all
 unfolding matches
 match_inside sets t holds = ltb-true t seconds_in_all (and_parts _ _ holds).0
@@ -34,9 +34,10 @@ day_of_match sets t holds =
     let both = and_parts _ _ (sym (split_at (locals_split sets) (t / 86_400) t (omega arith) refl) ∙ holds) in
     (both.0, both.1)
 
--- For any unit of 60: local seconds in their minute, or minutes in their hour.
+-- Lemmas for any unit of 60: local seconds in their minute, or minutes in their hour.
 
--- A minute, counted from the start of 1970, has matches if its hour, counted likewise, and its minute in that hour do.
+-- A minute, counted from the start of 1970, has matches if its hour does, counted likewise, and if its number within
+-- the hour matches.
 hour_matches : Masks → ℕ → Bool
 hour_matches m hour = nat_lt hour 2_016_144 && (day_in (sets_in m) (hour / 24) && is_bit m.hours (hour % 24))
 
@@ -51,7 +52,7 @@ hours_split m = record {
       rw (lt-ltb (a * 60 + b) 120_968_640 (omega arith), lt-ltb a 2_016_144 low, day, minute, here) (sym (and_regrouped (day_in (sets_in m) (a / 24)) (is_bit m.hours (a % 24)) (is_bit m.minutes b)));
 }
 
--- A local second matches if its minute has matches and its second is a member.
+-- A local second matches if its minute has matches and its second matches.
 minutes_of_all : (m : Masks) → Splits (matches (sets_in m)) (minute_matches (sets_in m)) (is_bit m.seconds) 60 120_968_640
 unfolding minute_matches
 minutes_of_all m = record {
@@ -63,14 +64,15 @@ minutes_of_all m = record {
       split_at (locals_split (sets_in m)) (a / 1_440) (a * 60 + b) (omega arith) day ∙ rw (lt-ltb a 120_968_640 low, time, here) (sym (and_regrouped (day_in (sets_in m) (a / 1_440)) (minute_in (sets_in m) (a % 1_440)) (is_bit m.seconds b)));
 }
 
--- In the unit of a number that passes, the low part alone decides.
+-- Numbers in the same unit as one that passes differ only in their low part, so the low part alone decides whether they
+-- pass.
 by_low : (passes high low : ℕ → Bool) (limit found t : ℕ) → Splits passes high low 60 limit → found / 60 < limit → passes found ≡ true → t / 60 ≡ found / 60 → passes t ≡ low (t % 60)
 by_low passes high low limit found t s within holds same =
     let both = and_parts _ _ (sym (split_at s (found / 60) found within refl) ∙ holds) in
     let here : high (found / 60) ≡ true = both.0 in
     split_at s (found / 60) t within same ∙ rw here refl
 
--- the numbers that pass after `found`, in its unit, are the low parts above that of `found`
+-- the numbers in the unit of `found` that pass and are greater than it are those whose low part has a higher set bit
 left_after : (passes high : ℕ → Bool) (mask limit found : ℕ) → Splits passes high (is_bit mask) 60 limit → ((i : ℕ) → 60 ≤ i → is_bit mask i ≡ false) → found / 60 < limit
     → passes found ≡ true → IsLeft passes found (found + 1) (mask / 2 ^ (found % 60 + 1))
 left_after passes high mask limit found s last within holds = record {
@@ -84,24 +86,24 @@ left_after passes high mask limit found s last within holds = record {
       by_low passes high (is_bit mask) limit found t s within holds same ∙ rw place (sym (is_bit-shifted mask (found % 60 + 1) (t - (found + 1))));
 }
 
--- nothing is left if no later number passes
+-- no bit is left if no later number passes
 left_none : (passes : ℕ → Bool) (found : ℕ) → ((t : ℕ) → found < t → passes t ≡ false) → IsLeft passes found 0 0
 left_none passes found none = grind (arith, no_bit, is_bit-none)
 
 bit_passes : (passes : ℕ → Bool) (found from left bit : ℕ) → IsLeft passes found from left → is_bit left bit ≡ true → passes (from + bit) ≡ true
 bit_passes passes found from left bit h set = grind arith
 
--- the lowest bit is the next one that passes
+-- the lowest bit stands for the next number that passes
 next_left : (passes : ℕ → Bool) (found from left bit end : ℕ) → IsLeft passes found from left → IsFirstPassing (is_bit left) 0 64 (Some bit) → from + bit < end
     → IsFirstPassing passes (found + 1) end (Some (from + bit))
 next_left passes found from left bit end h lowest inside = grind (arith, bit_passes)
 
--- and without that bit, what is left after it
+-- after that bit is removed, the bits are those of the numbers after it
 pub left_behind : (passes : ℕ → Bool) (found from left bit more : ℕ) → IsLeft passes found from left → IsFirstPassing (is_bit left) 0 64 (Some bit) → is_bit more bit ≡ false
     → ((i : ℕ) → i ≢ bit → is_bit more i ≡ is_bit left i) → IsLeft passes (from + bit) from more
 left_behind passes found from left bit more h lowest cleared others = grind arith
 
--- What is left of a minute.
+-- The remaining bits of a minute.
 
 pub seconds_none : (m : Masks) (end : ℕ) → end ≡ seconds_in_all → IsLeft (matches (sets_in m)) end 0 0
 seconds_none m end is = left_none _ end (λ t later. grind (arith, false_from_ne_true, match_inside))
@@ -114,7 +116,7 @@ seconds_after m local holds =
 pub left_inside : (m : Masks) (found from left bit : ℕ) → IsLeft (matches (sets_in m)) found from left → IsFirstPassing (is_bit left) 0 64 (Some bit) → from + bit < seconds_in_all
 left_inside m found from left bit h lowest = match_inside (sets_in m) (from + bit) (bit_passes _ found from left bit h lowest.2)
 
--- The search that finds a later match of the same day examines one month.
+-- A search examines one month if it finds a match later on the same day.
 search_on : (m : Masks) (found next : ℕ) → next / 86_400 ≡ found / 86_400 → IsFirstPassing (matches (sets_in m)) (found + 1) seconds_in_all (Some next)
     → IsSearch (sets_in m) (found + 1) (record { local = Some (pos next); months = 1 })
 search_on m found next day first =
@@ -137,13 +139,13 @@ search_left m found from left bit h lowest =
     let same = h.unit bit lowest.2 in
     search_on m found (from + bit) (omega arith) (next_left _ found from left bit seconds_in_all h lowest (left_inside m found from left bit h lowest))
 
--- What is left of an hour.
+-- The remaining bits of an hour.
 
 minute_inside : (sets : Sets) (minute : ℕ) → minute_matches sets minute ≡ true → minute < 120_968_640
 unfolding minute_matches
 minute_inside sets minute holds = ltb-true minute 120_968_640 (and_parts _ _ holds).0
 
--- the minute of a match has matches
+-- a minute that contains a match has matches
 minute_of_match : (m : Masks) (local : ℕ) → matches (sets_in m) local ≡ true → minute_matches (sets_in m) (local / 60) ≡ true
 minute_of_match m local holds =
     let count = seconds_in_all-is in
@@ -165,7 +167,7 @@ pub minutes_inside : (m : Masks) (found from minutes bit : ℕ) → IsLeft (minu
     → from + bit < 120_968_640
 minutes_inside m found from minutes bit h lowest = minute_inside (sets_in m) (from + bit) (bit_passes _ (found / 60) from minutes bit h lowest.2)
 
--- If nothing is left of the minute, the lowest bit of the hour is the minute of the next match.
+-- If no bits of the minute are left, the lowest bit of the hour stands for the minute of the next match.
 pub next_later : (m : Masks) (found from start minutes bit first : ℕ) → IsLeft (matches (sets_in m)) found from 0
     → IsLeft (minute_matches (sets_in m)) (found / 60) start minutes → IsFirstPassing (is_bit minutes) 0 64 (Some bit) → IsFirstPassing (is_bit m.seconds) 0 64 (Some first)
     → IsFirstPassing (matches (sets_in m)) (found + 1) seconds_in_all (Some ((start + bit) * 60 + first))
@@ -181,7 +183,7 @@ next_later m found from start minutes bit first h later lowest second =
     (λ t above below. h.passing t (omega arith) (omega arith) ∙ is_bit-none (t - from)) (omega arith)
     (first_later (minutes_of_all m) (found / 60 + 1) 120_968_640 (start + bit) 64 first inside low minute second))
 
--- the search that finds that match
+-- the result of the search that finds that match
 pub search_later : (m : Masks) (found from start minutes bit first : ℕ) → IsLeft (matches (sets_in m)) found from 0
     → IsLeft (minute_matches (sets_in m)) (found / 60) start minutes → IsFirstPassing (is_bit minutes) 0 64 (Some bit) → IsFirstPassing (is_bit m.seconds) 0 64 (Some first)
     → IsSearch (sets_in m) (found + 1) (record { local = Some (pos ((start + bit) * 60 + first)); months = 1 })
@@ -190,7 +192,7 @@ search_later m found from start minutes bit first h later lowest second =
     let same = later.unit bit lowest.2 in
     search_on m found ((start + bit) * 60 + first) (omega arith) (next_later m found from start minutes bit first h later lowest second)
 
--- what is then left of its minute, and of its hour
+-- the remaining bits of that match's minute and hour
 pub seconds_later : (m : Masks) (found from start minutes bit first : ℕ) → IsLeft (matches (sets_in m)) found from 0
     → IsLeft (minute_matches (sets_in m)) (found / 60) start minutes → IsFirstPassing (is_bit minutes) 0 64 (Some bit) → IsFirstPassing (is_bit m.seconds) 0 64 (Some first)
     → IsLeft (matches (sets_in m)) ((start + bit) * 60 + first) ((start + bit) * 60 + first + 1) (m.seconds / 2 ^ (first + 1))
@@ -207,9 +209,10 @@ minutes_later m found start minutes bit first more later lowest second cleared o
     let same : ((start + bit) * 60 + first) / 60 ≡ start + bit = omega arith in
     rw same (left_behind _ (found / 60) start minutes bit more later lowest cleared others)
 
--- An hour that is searched to its end.
+-- Searching an hour to its end.
 
--- if minutes are left of a match, another match follows in its hour: the same second of the next of these minutes
+-- if bits of the hour are left after a match, there is another match in the hour: the same second of the next of these
+-- minutes
 pub more_later : (m : Masks) (found start minutes : ℕ) → IsLeft (minute_matches (sets_in m)) (found / 60) start minutes → minutes < 2 ^ 64 → 0 < minutes → matches (sets_in m) found ≡ true
     → IsMoreLater (matches (sets_in m)) found
 more_later m found start minutes h fits some holds =
@@ -228,7 +231,7 @@ more_later m found start minutes h fits some holds =
       is_match = (minutes_of_all m).split (start + bit) (found % 60) inside (omega arith) ∙ and_from _ _ (bit_passes _ (found / 60) start minutes bit h lowest.2) second;
     }
 
--- so the next match lies in that hour
+-- then the next match is in the same hour
 hour_known : (passes : ℕ → Bool) (local : ℕ) (next : Option ℕ) → ((t : ℕ) → passes t ≡ true → t < seconds_in_all) → IsMoreLater passes local
     → IsFirstPassing passes (local + 1) seconds_in_all next → IfSome next (λ next. IsNextLater passes local next) × IsSome next
 hour_known passes local next inside more none = grind arith
@@ -238,34 +241,34 @@ pub hour_found : (m : Masks) (local : ℕ) (next : Option ℤ) → IsMoreLater (
     → IfSome next (λ next. IsNextLater (matches (sets_in m)) local (unsigned_abs next)) × IsSome next
 hour_found m local next more first = grind (arith, hour_known, match_inside, first_passing)
 
--- A minute that is searched to its end
+-- Searching a minute to its end
 
--- where something is left of the match found last, another follows
+-- if bits are left after the match found last, there is another match in its minute
 pub more_left : (m : Masks) (found from left local : ℕ) → IsLeft (matches (sets_in m)) found from left → left < 2 ^ 64 → 0 < left → found ≡ local → IsMoreLeft (matches (sets_in m)) local
 more_left m found from left local h fits some same =
     let lowest = first_bit left some fits in
     subst (IsMoreLeft (matches (sets_in m))) same
     (record { match_at = from + trailing_zeros w64 left; behind = h.behind _ lowest.2; minute = h.unit _ lowest.2; is_match = bit_passes _ found from left _ h lowest.2 })
 
--- where nothing is, none does
+-- if no bits are left, there is no other match in its minute
 pub none_left : (m : Masks) (found from left local : ℕ) → IsLeft (matches (sets_in m)) found from left → left ≡ 0 → local ≡ found → NoneLeft (matches (sets_in m)) local
 none_left m found from left local h nothing same = grind (arith, is_bit-none)
 
--- the next match lies in the minute, where one follows there
+-- if another match follows in the same minute, the next match is there
 next_known : (passes : ℕ → Bool) (local : ℕ) (next : Option ℕ) → ((t : ℕ) → passes t ≡ true → t < seconds_in_all) → IsMoreLeft passes local
     → IsFirstPassing passes (local + 1) seconds_in_all next → IsNextLeft passes local next × IsSome next
 next_known passes local next inside more none = grind arith
 
--- so what a search after it found
+-- then a search finds it there
 pub next_found : (m : Masks) (local : ℕ) (next : Option ℤ) → IsMoreLeft (matches (sets_in m)) local → IsFirstLocal (matches (sets_in m)) (pos (local + 1)) next
     → IsNextLeft (matches (sets_in m)) local (option_map unsigned_abs next) × IsSome next
 next_found m local next more first = grind (arith, next_known, match_inside, first_passing)
 
--- where nothing is known to be left, the rest is empty
+-- if no bits are left, the rest of the minute is reported as empty, and the match itself as the last one
 pub rest_unknown : (passes : ℕ → Bool) (local : ℕ) → passes local ≡ true → IsRest passes local 0 local
 rest_unknown passes local holds = grind (arith, no_bit)
 
--- the rest with the next match of the minute
+-- the rest of the minute after one more match is added
 pub rest_on : (passes : ℕ → Bool) (local bits last next more place : ℕ) → IsRest passes local bits last → next / 60 ≡ last / 60 → IsFirstPassing passes (last + 1) seconds_in_all (Some next)
     → is_bit more place ≡ true → ((i : ℕ) → i ≢ place → is_bit more i ≡ is_bit bits i) → place ≡ next - local - 1 → IsRest passes local more next
 rest_on passes local bits last next more place rest same first set others at = grind (arith, false_from_ne_true)

@@ -1,4 +1,4 @@
--- The most months that one of several searches looked at.
+-- The largest number of months that one of several searches examines.
 use Rattle.std.proofs.Common.{◌≡◌, ◌∙◌, ℕ, ◌+◌, ◌<◌, ◌≤◌, Bool, true, Option, max, unwrap_or, IsSome, ◌-◌, arith, inl, inr, option_map, refl, subst, sym, unsigned_abs, ℤ}
 use Rattle.std.proofs.lemmas.Bool.{cases_lt}
 use Rattle.cal_spec.specs.headline.Match.{Sets, matches}
@@ -12,21 +12,21 @@ use Rattle.cal_elapse.proofs.CountLemmas.{count_from-nothing, count_from-to}
 use Rattle.cal_elapse.proofs.FoundLemmas.{first_passing}
 use Rattle.cal_text.proofs.General.{max_from_zero, max_is}
 
--- a search looked at its months
+-- how many months a search examined
 pub search_looked : (sets : Sets) (from : ℕ) (found : Found) → IsSearch sets from found → IsLooked sets from found.months
 search_looked sets from found search =
     record { answer = option_map unsigned_abs found.local; first = first_passing (matches sets) from found.local search.first; looked = search.counted }
 
--- after no match
+-- an empty range contains no match, so it leaves the maximum unchanged
 pub most_begun : (sets : Sets) (from before : ℕ) → IsMostAfter sets from from before before
 most_begun sets from before = record { not_below = omega arith; all = λ months one. absurd (let low = one.low in let high = one.high in omega arith); one = inl refl }
 
--- after one match
+-- a range with one match
 pub most_next : (sets : Sets) (t next before months : ℕ) → matches sets t ≡ true → IsLooked sets (t + 1) months → t < next → NonePasses (matches sets) (t + 1) next
     → IsMostAfter sets t next before (max before months)
 most_next sets t next before months holds looked later none = grind (arith, max_is)
 
--- after some matches and then some more
+-- two adjacent ranges together
 pub most_on : (sets : Sets) (a b c x y z : ℕ) → a ≤ b → b ≤ c → IsMostAfter sets a b x y → IsMostAfter sets b c y z → IsMostAfter sets a c x z
 most_on sets a b c x y z low high one two =
     record {
@@ -53,7 +53,7 @@ most_on sets a b c x y z low high one two =
 pub most_then : (sets : Sets) (a b c x y z most : ℕ) → a ≤ b → b ≤ c → IsMostAfter sets a b x y → IsMostAfter sets b c y z → most ≡ z → IsMostAfter sets a c x most
 most_then sets a b c x y z most low high one two is = subst (IsMostAfter sets a c x) (sym is) (most_on sets a b c x y z low high one two)
 
--- up to another bound that has the same matches below it
+-- a different end of the range changes nothing if the range contains the same matches
 pub most_same : (sets : Sets) (start a b most : ℕ) → ((t : ℕ) → start ≤ t → matches sets t ≡ true → (t < a → t < b) × (t < b → t < a)) → IsMost sets start a most → IsMost sets start b most
 most_same sets start a b most same h = record {
   first = h.first;
@@ -68,16 +68,16 @@ most_same sets start a b most same h = record {
   };
 }
 
--- and after more
+-- the maximum after the matches of an adjacent range are added
 pub most_more : (sets : Sets) (start a b most more : ℕ) → start ≤ a → a ≤ b → IsMost sets start a most → IsMostAfter sets a b most more → IsMost sets start b more
 most_more sets start a b most more low high h later = record { first = h.first; begun = h.begun; later = most_on sets start a b h.first most more low high h.later later }
 
--- and up to the match that it found
+-- the maximum after the first search, up to the match that it found
 pub most_start : (sets : Sets) (start bound old most months : ℕ) → IsLooked sets start months → start ≤ bound → NonePasses (matches sets) start bound → old ≡ 0
     → most ≡ max old months → IsMost sets start bound most
 most_start sets start bound old most months looked low none zero is = grind (arith, max_from_zero, most_same)
 
--- The next match of a minute or an hour.
+-- The next match in a minute or an hour.
 
 pub next_counted : (passes : ℕ → Bool) (local : ℤ) (next : Option ℤ) → IsFirstPassing passes (unsigned_abs local + 1) seconds_in_all (option_map unsigned_abs next) → IsSome next
     → count_from passes (unsigned_abs local + 1) (unsigned_abs (unwrap_or next local) - unsigned_abs local) ≡ 1

@@ -1,4 +1,4 @@
--- The numbers of a part of a component, as places in a window of its field.
+-- The values of a part of a component, as indices in a window of its field.
 use Rattle.std.proofs.Common.{◌≡◌, ◌==◌, ◌&&◌, ◌||◌, ◌+◌, ◌-◌, ◌%◌, ◌<◌, ◌≤◌, min, ℕ, Bool, true, false, nat_le, nat_lt, List, length, take, get_or, Option, None, Some, refl, ap, sym, ◌∙◌, inl, inr, arith}
 use Rattle.std.specs.List.{list_any}
 use Rattle.std.proofs.lemmas.List.Folds.{list_any_more}
@@ -16,26 +16,26 @@ use Rattle.cal_spec.specs.declared.part.Part.{Part}
 use Rattle.cal_spec.specs.declared.slot.Slot.{Slot}
 use Rattle.cal_text.proofs.General.{and_regrouped, and_shared, and_true}
 
--- the members of a field are those of its component
+-- the values that a field matches are those of its component
 pub members_by : (f : Field) (e : Fields) (v : ℕ) → members_of f (sets_of e) v ≡ component_has (slot_of f e.from_end) (component f e) v
 unfolding sets_of
 members_by f e v = grind arith
 
--- the numbers of a range that lie in a window
+-- the values of a range that are in a window
 pub lies_in_window : (a b first count i : ℕ) → (nat_le (a - first) i && nat_lt i (min (b + 1 - first) count)) ≡ (nat_lt i count && lies a b (first + i))
 lies_in_window a b first count i = grind (arith, nat_tests)
 
--- whether the repetition of a part, where it has one, has a number so far from its start
+-- whether a part has no repetition, or its repetition contains the value at this distance from its start
 abbrev pub is_stepped : Option ℕ → ℕ → Bool
 is_stepped None distance = true
 is_stepped (Some r) distance = distance % r == 0
 
--- the numbers of a part that is no count from the month's end
+-- the values of a part that doesn't count from the end of the month
 values_up : (slot : Slot) (a : ℕ) (end step : Option ℕ) (v : ℕ) → is_from_end slot ≡ false → v ≤ greatest slot
     → values slot a end step v ≡ (lies a (last_number a end step) v && is_stepped step (v - a))
 values_up slot a end step v up small = grind (arith, and_true)
 
--- where they are in a window
+-- their indices in a window
 pub part_in_window : (slot : Slot) (p : Part) (step : Option ℕ) (first count low high i : ℕ) → IsWindow slot first count → p.step ≡ step
     → low ≡ p.start - first → high ≡ min (last_number p.start p.end p.step + 1 - first) count
     → ((nat_le low i && nat_lt i high) && is_stepped step (first + i - p.start)) ≡ (nat_lt i count && part_has slot p (first + i))
@@ -63,7 +63,7 @@ pub parts_more : (has : Part → Bool) (ps : List Part) (k : ℕ) (inside before
     → (before || here) ≡ (inside && list_any has (take (k + 1) ps))
 parts_more has ps k inside before here more was now = grind (arith, list_any_more, and_shared, take, get_or)
 
--- `*` has the whole window
+-- `*` matches the whole window
 pub whole_window : (f : Field) (e : Fields) (first count i : ℕ) → IsWindow (slot_of f e.from_end) first count → None ≡ component f e
     → (nat_le 0 i && nat_lt i count) ≡ (nat_lt i count && members_of f (sets_of e) (first + i))
 whole_window f e first count i w star = grind (arith, nat_le, nat_tests, members_by, lt-ltb, le-ltb)

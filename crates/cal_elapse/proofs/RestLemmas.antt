@@ -1,4 +1,4 @@
--- What is left of the minute or the hour of a match that is placed, if it is placed at once.
+-- Converting all remaining matches of a minute or an hour at once, after a match was converted.
 use Rattle.std.proofs.Common.{◌≡◌, ◌⊎◌, ◌↔◌, ◌+◌, ◌-◌, ◌*◌, ◌/◌, ◌<◌, ◌≤◌, ◌∙◌, Bool, true, ℕ, IsSomeAnd, List, None, Option, Some, ℤ, pos, ◌+ℤ◌, ◌-ℤ◌, ◌≤ℤ◌, ◌<ℤ◌, FitsSigned, arith, ap, inl, inr, of_z, refl, subst, sym, to_z, unsigned_abs, w64, slice_get}
 use Rattle.std.proofs.lemmas.Int.{ints, to_z-of_z, to_z_pos}
 use Rattle.jiff.proofs.SpanFacts.{signed_arith}
@@ -32,19 +32,19 @@ use Rattle.cal_elapse.proofs.MinuteLemmas.{match_inside}
 use Rattle.cal_elapse.proofs.MostLemmas.{most_more}
 use Rattle.cal_elapse.proofs.WindowLemmas.{IsPlacedFrom, timed_by-near, windowed_more}
 
--- the minute of a match ends among the local seconds
+-- the last second of a local second's minute is a local second too
 pub minute_end : (local : ℕ) → local < seconds_in_all → local / 60 * 60 + 59 < seconds_in_all
 minute_end local inside = let count = seconds_in_all-is in omega arith
 
--- and so does its hour
+-- the last second of its hour is a local second too
 pub hour_end : (local : ℕ) → local < seconds_in_all → local / 3_600 * 3_600 + 3_599 < seconds_in_all
 hour_end local inside = let count = seconds_in_all-is in omega arith
 
--- the last of the rest lies in the minute
+-- the last match of the rest is in the same minute
 pub rest_inside : (passes : ℕ → Bool) (local bits last : ℕ) → IsRest passes local bits last → last ≤ local / 60 * 60 + 59
 rest_inside passes local bits last rest = let same = rest.minute in omega arith
 
--- a clock is ahead by so much at most
+-- a UTC offset is at most 93,599 seconds in either direction
 pub ahead_near : (tz : TimeZone) (from to : ℕ) (offset : ℤ) → AreAhead tz (pos from) (pos to) offset → from ≤ to → to < seconds_in_all
     → (offset ≤ℤ pos 93_599) × (pos 0 ≤ℤ (offset +ℤ pos 93_599))
 ahead_near tz from to offset ahead order inside =
@@ -52,12 +52,12 @@ ahead_near tz from to offset ahead order inside =
     let near = within tz (pos from) (pos from -ℤ offset) (ahead (pos from) (omega (arith, ints), omega (arith, ints)) (omega (arith, ints)) (omega (arith, ints))) in
     (omega (arith, signed_arith, near), omega (arith, signed_arith, near))
 
--- a local second as it is passed
+-- a local second is unchanged as an argument
 signed_word : (local : ℕ) (signed : ℤ) → local < seconds_in_all → signed ≡ pos local → to_z w64 (of_z w64 signed) ≡ pos local
 signed_word local signed inside is = ap (λ z. to_z w64 (of_z w64 z)) is ∙ to_z_pos w64 local (omega (arith, seconds_in_all-is))
 
--- how far a clock is ahead from a local second to the end of its minute or hour, and in the machine's numbers both of
--- them, that, the places of both and the second after the first place
+-- the UTC offset is constant from a local second to the end of its minute or hour; and these values fit the machine
+-- type: both local seconds, the offset, the instants of both, and the instant after the first
 pub record IsRun (tz : TimeZone) (local end : ℕ) (from to offset : ℤ) : Type 0 where
   pub ahead : AreAhead tz (pos local) (pos end) offset
   pub low : offset ≤ℤ pos 93_599
@@ -94,14 +94,14 @@ run_of tz local end from to offset order inside fits from_is to_is ahead =
       start = rw place (to_z-of_z w64 ((pos local -ℤ offset) +ℤ pos 1) (omega (arith, signed_arith)));
     }
 
--- a placed match as a whole number, and the last one as it is given
+-- the match converted last, as a natural number and as a machine integer
 pub placed_at : (v : Window) (local : ℤ) → IsPlacedTo v local → IsPlacedTo v (pos (unsigned_abs local))
 placed_at v local h = subst (IsPlacedTo v) (sym (pos_unsigned_abs local _ h.found.0.0 refl)) h
 
 pub placed_last : (v : Window) (last : ℤ) → IsLocalSecond last → FitsSigned w64 last → IsPlacedTo v (pos (unsigned_abs last)) → IsPlacedTo v (to_z w64 (of_z w64 last))
 placed_last v last inside fits h = subst (IsPlacedTo v) (pos_unsigned_abs last _ inside.0 refl ∙ sym (to_z-of_z w64 last fits)) h
 
--- the place of a local second up to that end
+-- the instant of every local second up to that end is the local second minus `offset`
 place_there : (v : Window) (local t end : ℕ) (offset : ℤ) → IsPlacedTo v (pos local) → AreAhead (zone_of v.zone) (pos local) (pos end) offset → local ≤ t → t ≤ end → end < seconds_in_all
     → (timed_of v).place t ≡ Some (pos t -ℤ offset)
 unfolding timed_by
@@ -109,8 +109,8 @@ place_there v local t end offset h ahead low high inside =
     let count = seconds_in_all-is in
     ahead (pos t) (omega (arith, ints), omega (arith, ints)) (omega (arith, ints)) (omega (arith, ints))
 
--- What is left behind a match whose place is the least pending instant or behind it, while all of its minute is to be
--- placed.
+-- The remaining matches of the minute of a match, if the match has an instant at or after the smallest pending one, and
+-- if every second of the minute has to be converted before that one can be returned.
 pub record IsBehind (v : Window) (local bits last : ℕ) (offset least : ℤ) : Type 0 where
   pub rest : IsRest (matches (sets_in v.searcher.masks)) local bits last
   pub ahead : AreAhead (zone_of v.zone) (pos local) (pos (local / 60 * 60 + 59)) offset
@@ -144,7 +144,7 @@ module _ (v : Window) (local bits last : ℕ) (offset least : ℤ) (h : IsPlaced
   least_has : Has v.pending least
   least_has = subst (λ (ys : List ℤ). Has ys least) (sym (list-first v.pending least (sym b.least_is))) (inl refl)
 
-  -- each instant of the rest is the place of one of its matches, and the other way round
+  -- the new instants are exactly the instants of the remaining matches
   one_placed : (i : ℤ) → IsOneOf ((pos local -ℤ offset) +ℤ pos 1) bits i → IsPlacedFrom (timed_of v) (local + 1) (last + 1) i
   unfolding timed_by
   one_placed i one =
@@ -204,13 +204,13 @@ no_later xs none i m = subst (λ (ys : List ℤ). Has ys i) (list-no_first xs (s
 passed_by : (t end : ℕ) (last offset i : ℤ) → Some (pos t -ℤ offset) ≡ Some i → t ≤ end → (pos end -ℤ offset) ≤ℤ last → last <ℤ i → ⊥
 passed_by t end last offset i at up early above = grind (arith, signed_arith)
 
--- the window once the rest is placed
+-- the window after the rest was converted
 module _ (v : Window) (local : ℕ) (searcher : Searcher) (last : ℕ) (h : IsPlacedTo v (pos local)) (masks : searcher.masks ≡ v.searcher.masks)
     (more : searcher.searches ≡ v.searcher.searches + count_from (matches (sets_in v.searcher.masks)) (local + 1) (last - local))
     (most : IsMostAfter (sets_in v.searcher.masks) local last v.searcher.most_months searcher.most_months)
     (later : local ≤ last) (holds : matches (sets_in v.searcher.masks) last ≡ true)
   where
-    -- with what is pending then
+    -- given the new pending instants
     rest_placed : (pending : List ℤ) → Windowed (timed_of v) (start_of v.base) (last + 1) v.last pending
         → IsPlacedTo (record v { searcher = searcher; pending = pending }) (pos last)
     unfolding timed_by
@@ -233,7 +233,7 @@ module _ (v : Window) (local : ℕ) (searcher : Searcher) (last : ℕ) (h : IsPl
               (most_more (sets_in v.searcher.masks) start local last v.searcher.most_months searcher.most_months begun later h.looked most);
         }
 
-    -- if nothing is pending, and no place up to that end is above the last instant given
+    -- if nothing is pending, and no instant up to that end is after the instant returned last
     pub rest_passed : (end : ℕ) (offset : ℤ) → last ≤ end → end < seconds_in_all → None ≡ slice_get v.pending 0 → AreAhead (zone_of v.zone) (pos local) (pos end) offset
         → (pos end -ℤ offset) ≤ℤ v.last → IsPlacedTo (record v { searcher = searcher }) (pos last)
     rest_passed end offset high end_in none ahead early =
@@ -246,7 +246,7 @@ module _ (v : Window) (local : ℕ) (searcher : Searcher) (last : ℕ) (h : IsPl
         (λ i. (λ m. inl m, λ o. elim o [ inl m ↦ m | inr p ↦ absurd (not_above i p.0 p.1) ]))
         (λ i m. absurd (no_later v.pending none i m)))
 
-    -- where it is put
+    -- if the rest is added to the pending instants
     pub rest_put : (bits : ℕ) (offset least : ℤ) (pending : List ℤ) → IsBehind v local bits last offset least → IsStrictlySortedBy int_cmp pending
         → ((i : ℤ) → Has pending i ↔ (Has v.pending i ⊎ IsOneOf ((pos local -ℤ offset) +ℤ pos 1) bits i)) → IsPlacedTo (record v { searcher = searcher; pending = pending }) (pos last)
     rest_put bits offset least pending b rises members =

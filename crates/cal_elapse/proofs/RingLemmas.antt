@@ -1,4 +1,4 @@
--- A round of cells: its members, the first of them, and what is there once one is put or taken.
+-- The ring of cells: its elements, the smallest one, and the effect of adding or removing an instant.
 use Rattle.std.proofs.Common.{◌≡◌, ◌≢◌, ◌⊎◌, ◌↔◌, ℕ, zero, suc, ◌+◌, ◌-◌, ◌%◌, ◌<◌, ◌≤◌, cond, Bool, true, false, List, [], ◌∷◌, length, min, Option, unwrap_or, ◌==◌, get_or, replicate, inl, inr, None, Some, ◌/◌, unsigned_abs, to_z, w64, ℤ, pos, ◌<ℤ◌, ◌≤ℤ◌, refl, sym, ap, ◌∙◌, subst, arith, slice_get, drop}
 use Rattle.std.proofs.lemmas.Bool.{cases_eq, cases_lt}
 use Rattle.std.proofs.lemmas.Bool.Decides.{nat_tests}
@@ -21,9 +21,9 @@ use Rattle.cal_elapse.proofs.ElapsesLemmas.{first-least, first-none}
 use Rattle.cal_text.proofs.General.{int_cmp-less, list-first, list-no_first, get_or-zeros, lt_from_pos, lt_of_pos, rises-drop}
 use Rattle.cal_rising.proofs.RisingLemmas.{Has-insert_key, rises-insert_key, later_members, same_rising}
 
--- Numbers in a row
+-- Consecutive numbers
 
--- the number is one of n in a row from `from` on, and passes
+-- `i` is one of the `n` consecutive numbers from `from` on, and passes
 record IsAmong (passes : ℕ → Bool) (from n : ℕ) (i : ℤ) : Type 0 where
   at : ℕ
   is : pos at ≡ i
@@ -79,9 +79,9 @@ rises-rising passes from zero = tt
 rises-rising passes from (suc n) =
     rising_if (passes from) (pos from) (rising_from passes (suc from) n) (above-rising passes (pos from) (suc from) n (one_above from)) (rises-rising passes (suc from) n)
 
--- Members of a round
+-- Elements of a ring
 
--- the second lies in the round from `low` on, and its cell has it
+-- the second is within one turn of the ring from `low` on, and its cell is set
 pub record IsIn (words : List ℕ) (low : ℕ) (i : ℤ) : Type 0 where
   pub at : ℕ
   pub is : pos at ≡ i
@@ -105,18 +105,18 @@ rises-instants words low = rises-rising (is_held words) low cells_in_all
 near_in : (low a b : ℕ) (i j : ℤ) → pos a ≡ i → pos b ≡ j → low ≤ a → a < low + 187_200 → low ≤ b → b < low + 187_200 → IsNear i j
 near_in low a b i j p q al ah bl bh = (omega (arith, ints), omega (arith, ints))
 
--- any two members are near to one another
+-- any two elements differ by less than one turn
 pub members_near : (words : List ℕ) (low : ℕ) (i j : ℤ) → Has (instants_in words low) i → Has (instants_in words low) j → IsNear i j
 members_near words low i j m n =
     let a = (Has-instants words low i).0 m in
     let b = (Has-instants words low j).0 n in
     near_in low a.at b.at i j a.is b.is a.above a.below b.above b.below
 
--- two seconds of one round with one cell are the same
+-- two seconds of the same turn with the same cell are equal
 pub same_second : (low i j : ℕ) → low ≤ i → i < low + 187_200 → low ≤ j → j < low + 187_200 → i % 187_200 ≡ j % 187_200 → i ≡ j
 same_second low i j il ih jl jh same = omega arith
 
--- the second of a round that has the cell of another second
+-- the second within one turn from `low` on that has the same cell as `i`
 record Turned (low i : ℕ) : Type 0 where
   at : ℕ
   above : low ≤ at
@@ -138,7 +138,7 @@ pub member : (words : List ℕ) (low at : ℕ) → low ≤ at → at < low + 187
 member words low at above below holds =
     (Has-instants words low (pos at)).1 (record { at = at; is = refl; above = above; below = below; holds = holds })
 
--- The first member
+-- The smallest element
 
 at_most : (at t : ℕ) (j : ℤ) → pos t ≡ j → at ≤ t → pos at ≤ℤ j
 at_most at t j is h = omega (arith, ints)
@@ -155,7 +155,7 @@ pub none_found : (words : List ℕ) (low : ℕ) → IsFirstPassing (is_held word
 none_found words low none =
     first-none (instants_in words low) (λ i m. let a = (Has-instants words low i).0 m in let fails = none a.at a.above a.below in let holds = a.holds in cc)
 
--- The least second as it is kept
+-- The stored smallest second
 
 pub kept_some : (least : ℕ) → least ≢ no_second → least_kept least ≡ Some least
 kept_some least some = let test : (least == no_second) ≡ false = grind (arith, nat_tests) in rw test refl
@@ -168,15 +168,15 @@ pub none_kept : (words : List ℕ) (least : ℕ) → IsFirstPassing (is_held wor
     → IsFirstPassing (is_held words) least (least + 187_200) None
 none_kept words least first none = let test : (least == no_second) ≡ true = grind (arith, nat_tests) in rw test at first
 
--- One more
+-- Adding an instant
 
--- the round from `from` on has each second of the round from `low` on that is near to this one, and this one
+-- one turn from `from` on contains the second `at`, and every second of the turn from `low` on that is near `at`
 record IsRoundWith (low at from : ℕ) : Type 0 where
   above : from ≤ at
   below : at < from + 187_200
   near : (t : ℕ) → low ≤ t → t < low + 187_200 → t ≤ at + 187_199 → at ≤ t + 187_199 → (from ≤ t) × (t < from + 187_200)
 
--- the cell of a second has it, and the others are as they were
+-- the cell of the second `at` is set, and all other cells are unchanged
 pub record HasMore (old new : List ℕ) (at : ℕ) : Type 0 where
   pub here : is_in_words new (at % 187_200) ≡ true
   pub others : (cell : ℕ) → cell ≢ at % 187_200 → is_in_words new cell ≡ is_in_words old cell
@@ -199,7 +199,7 @@ was_held : (old new : List ℕ) (at t : ℕ) → HasMore old new at → t % 187_
 unfolding is_held
 was_held old new at t more other holds = sym (more.others (t % 187_200) other) ∙ holds
 
--- a second that was held stays in the round that is turned on
+-- a second whose cell was set is still within the turn that starts at `from`
 kept_in : (old : List ℕ) (low at from t : ℕ) → IsRoundWith low at from → ((i : ℤ) → Has (instants_in old low) i → IsNear i (pos at))
     → low ≤ t → t < low + 187_200 → is_held old t ≡ true → (from ≤ t) × (t < from + 187_200)
 kept_in old low at from t round near above below holds =
@@ -231,7 +231,7 @@ put_back old new low at from i more round near (inr m) =
     let kept = kept_in old low at from a.at round near a.above a.below a.holds in
     subst (Has (instants_in new from)) a.is (member new from a.at kept.0 kept.1 (still_held old new at a.at more a.holds))
 
--- what is seen with one more is what was seen with that placed
+-- the list of elements is the old list with the new instant inserted
 put_seen : (old new : List ℕ) (low at from : ℕ) → HasMore old new at → IsRoundWith low at from → ((i : ℤ) → Has (instants_in old low) i → IsNear i (pos at))
     → instants_in new from ≡ insert_key int_cmp (instants_in old low) (pos at)
 put_seen old new low at from more round near =
@@ -252,7 +252,7 @@ put_round old new low at from more round near high whole was =
       members = λ i m. elim (put_there old new low at from i more round near ((Has-instants new from i).0 m)) [ inl e ↦ last_at at i e high | inr n ↦ was.members i n ];
     }
 
--- a round that begins with its least second goes on to begin with the least, once an instant is put that is near to it
+-- after an instant near the smallest second is added, one turn from the new smallest second on contains all elements
 with_least : (least at : ℕ) → (least ≤ at → at ≤ least + 187_199) → IsRoundWith least at (min least at)
 with_least least at near = grind (arith, min)
 
@@ -275,9 +275,9 @@ put_from old new least at more was near high whole =
           (omega arith, omega arith, put_held old new least at more was high, λ t above below. absurd (omega arith));
     }
 
--- One less
+-- Removing an instant
 
--- the cell of a second is empty, and the others are as they were
+-- the cell of the second `at` is clear, and all other cells are unchanged
 pub record HasLess (old new : List ℕ) (at : ℕ) : Type 0 where
   pub here : is_in_words new (at % 187_200) ≡ false
   pub others : (cell : ℕ) → cell ≢ at % 187_200 → is_in_words new cell ≡ is_in_words old cell
@@ -290,7 +290,7 @@ others_held : (old new : List ℕ) (at t : ℕ) → HasLess old new at → t % 1
 unfolding is_held
 others_held old new at t less other = less.others (t % 187_200) other
 
--- a second that is held from the first on is one of those that were, and not the first
+-- a second whose cell is still set was an element before, and is greater than the one removed
 left_second : (old new : List ℕ) (low at t : ℕ) → IsFirstPassing (is_held old) low (low + 187_200) (Some at) → HasLess old new at
     → at ≤ t → t < at + 187_200 → is_held new t ≡ true → (at < t) × Has (instants_in old low) (pos t)
 left_second old new low at t found less above below holds =
@@ -318,7 +318,7 @@ still_in : (old new : List ℕ) (low at : ℕ) (i : ℤ) → IsFirstPassing (is_
     → pos at <ℤ i → IsIn old low i → Has (instants_in new at) i
 still_in old new low at i found less above a = grind (arith, lt_from_pos, same_second, member, others_held)
 
--- what is seen with the first taken is what was seen after it
+-- the list of elements is the old list without its first element
 taken_seen : (old new : List ℕ) (low at : ℕ) → IsFirstPassing (is_held old) low (low + 187_200) (Some at) → HasLess old new at
     → instants_in new at ≡ drop 1 (instants_in old low)
 taken_seen old new low at found less =
@@ -348,7 +348,7 @@ taken_round old new low at found less whole was =
       members = λ i m. was.members i (left_in old new low at i found less ((Has-instants new at i).0 m)).1;
     }
 
--- the same is seen from another second on, if that round has each second that is held
+-- starting the ring at another second yields the same list if one turn from there contains every element
 seen_from : (words : List ℕ) (low from : ℕ) → ((t : ℕ) → low ≤ t → t < low + 187_200 → is_held words t ≡ true → (from ≤ t) × (t < from + 187_200))
     → instants_in words from ≡ instants_in words low
 seen_from words low from kept =
@@ -381,7 +381,7 @@ first_on words low (Some at) round found =
     let inside = found_inside words low at round found in
     subst (IsFirstPassing (is_held words) at (at + 187_200)) (sym (kept_some at (omega arith))) (omega arith, omega arith, found.2, λ t above below. absurd (omega arith))
 
--- a round whose least second is taken goes on to begin with the next
+-- after the smallest second is removed, the ring starts at the next one
 pub taken_from : (old new : List ℕ) (least : ℕ) (next : Option ℕ) → IsFirstPassing (is_held old) least (least + 187_200) (Some least) → HasLess old new least → length new ≡ 2_925
     → IsRound old least → IsFirstPassing (is_held new) least (least + 187_200) next → IsRoundFrom new (unwrap_or next no_second)
 taken_from old new least next found less whole was first =
@@ -391,7 +391,7 @@ taken_from old new least next found less whole was first =
       first = first_on new least next round first;
     }
 
--- What a set of instants answers
+-- What the operations on a set of instants return
 
 nothing_held : (words : List ℕ) (n t : ℕ) → words ≡ replicate n 0 → is_held words t ≡ false
 unfolding is_held is_in_words

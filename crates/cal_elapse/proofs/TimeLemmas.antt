@@ -1,4 +1,4 @@
--- The hour, minute and second of a time of day, as a search goes from one to the next.
+-- The parts of a time of day: hour, minute and second.
 use Rattle.std.proofs.Common.{arith}
 use Rattle.cal_elapse.specs.Bits.{is_bit}
 use Rattle.cal_elapse.specs.Masks.{sets_in}
@@ -8,12 +8,12 @@ use Rattle.cal_elapse.proofs.CarryLemmas.{Splits}
 use Rattle.cal_spec.specs.headline.Match.{time_in}
 use Rattle.cal_text.proofs.General.{and_regrouped}
 
--- a minute of the day is an hour and a minute
+-- a minute of the day matches if its hour and its minute do
 pub minutes_split : (m : Masks) → Splits (minute_in (sets_in m)) (is_bit m.hours) (is_bit m.minutes) 60 24
 unfolding sets_in minute_in
 minutes_split m = grind arith
 
--- a time of day is a minute of the day and a second
+-- a time of day matches if its minute of the day and its second do
 pub seconds_split : (m : Masks) → Splits (time_in (sets_in m)) (minute_in (sets_in m)) (is_bit m.seconds) 60 1_440
 unfolding sets_in minute_in time_in
 seconds_split m = grind (arith, and_regrouped)

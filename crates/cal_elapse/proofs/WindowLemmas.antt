@@ -1,4 +1,5 @@
--- What stays true of the pending instants as matches are placed, and what of them is the first elapse.
+-- The invariant of the pending instants as matches are converted, and why the smallest pending instant is the next
+-- elapse.
 use Rattle.std.proofs.Common.{◌≡◌, ◌⊎◌, ◌↔◌, ℕ, ◌+◌, ◌<◌, ◌≤◌, cond, Bool, true, false, List, [], ◌∷◌, inl, inr, Option, None, Some, ℤ, negsuc, pos, ◌+ℤ◌, ◌<ℤ◌, ◌≤ℤ◌, int_lt, refl, sym, ap, ◌∙◌, subst, arith, slice_get, drop}
 use Rattle.std.proofs.lemmas.Bool.{cases_lt}
 use Rattle.std.proofs.lemmas.Int.{ints}
@@ -27,7 +28,7 @@ use Rattle.cal_elapse.proofs.ElapsesLemmas.{elapses_after-first, first_elapse-le
 use Rattle.cal_text.proofs.General.{int_lt_trans, list-first, lt_from_test, none_chosen, drop_none}
 use Rattle.cal_rising.proofs.RisingLemmas.{Has-insert_key, rises-insert_key, above_first, later_members}
 
--- a place is near its local second
+-- an instant is within 93,599 seconds of its local second
 abbrev pub AreNear : Timed → Type 0
 AreNear e = (local : ℕ) (i : ℤ) → e.place local ≡ Some i → (pos local ≤ℤ (i +ℤ pos 93_599)) × (i ≤ℤ (pos local +ℤ pos 93_599))
 
@@ -37,15 +38,15 @@ timed_by-near masks zone local i placed =
     let near = within _ (pos local) i placed in
     (omega (arith, signed_arith, near), omega (arith, signed_arith, near))
 
--- a bound further on
+-- raising the bound keeps instants of local seconds below it
 placed_on : (e : Timed) (a b : ℕ) (i : ℤ) → a ≤ b → IsPlacedBelow e a i → IsPlacedBelow e b i
 placed_on e a b i h p = record { local = p.local; below = omega arith; is_match = p.is_match; placed = p.placed }
 
--- what is placed below the next bound is placed here or below this one
+-- the instant of a local second below `bound` + 1 is that of `bound`, or of a local second below `bound`
 placed_split : (e : Timed) (bound : ℕ) (i : ℤ) → IsPlacedBelow e (bound + 1) i → (e.place bound ≡ Some i) ⊎ IsPlacedBelow e bound i
 placed_split e bound i p = grind arith
 
--- the matches up to the bound are no later than a member by more than a place can be
+-- no match up to and including `bound` is more than 93,599 seconds after the instant
 reach_on : (e : Timed) (from bound : ℕ) (i : ℤ) → ((t : ℕ) → from ≤ t → t < bound → e.matches t ≡ true → pos t ≤ℤ (i +ℤ pos 93_599))
     → pos bound ≤ℤ (i +ℤ pos 93_599) → (t : ℕ) → from ≤ t → t < bound + 1 → e.matches t ≡ true → pos t ≤ℤ (i +ℤ pos 93_599)
 reach_on e from bound i before here t low high m = grind arith
@@ -93,7 +94,7 @@ put_by e from bound last xs None near w is_match at close = put_none e from boun
 put_by e from bound last xs (Some p) near w is_match at close =
     put_test e from bound last p xs (int_lt last p) refl near w is_match at close
 
--- the match at the bound is placed
+-- the match at the bound has been converted
 pub windowed_put : (e : Timed) (from bound : ℕ) (last : ℤ) (xs : List ℤ) → AreNear e → Windowed e from bound last xs → e.matches bound ≡ true
     → ((i : ℤ) → Has xs i → pos bound ≤ℤ (i +ℤ pos 93_599)) → Windowed e from (bound + 1) last (with_place (e.place bound) last xs)
 windowed_put e from bound last xs near w is_match close = put_by e from bound last xs (e.place bound) near w is_match refl close
@@ -101,11 +102,11 @@ windowed_put e from bound last xs near w is_match close = put_by e from bound la
 none_between : (e : Timed) (a b t : ℕ) → NonePasses e.matches a b → t < b → e.matches t ≡ true → t < a
 none_between e a b t none below m = grind arith
 
--- where none matches up to a later bound, nothing more is to be placed
+-- if there is no match up to a later bound, nothing more has to be converted
 pub windowed_on : (e : Timed) (from a b : ℕ) (last : ℤ) (xs : List ℤ) → a ≤ b → NonePasses e.matches a b → Windowed e from a last xs → Windowed e from b last xs
 windowed_on e from a b last xs h none w = grind (arith, placed_on, none_between)
 
--- a local second from one bound up to another matches and has its place here
+-- `i` is the instant of a matching local second from `a` up to but not including `b`
 pub record IsPlacedFrom (e : Timed) (a b : ℕ) (i : ℤ) : Type 0 where
   pub local : ℕ
   pub from : a ≤ local
@@ -113,7 +114,8 @@ pub record IsPlacedFrom (e : Timed) (a b : ℕ) (i : ℤ) : Type 0 where
   pub is_match : e.matches local ≡ true
   pub placed : e.place local ≡ Some i
 
--- the matches up to a later bound are placed, where all up to it are no later than a member by more than a place can be
+-- all matches up to a later bound have been converted, if none of them is more than 93,599 seconds after a pending
+-- instant
 pub windowed_more : (e : Timed) (from a b : ℕ) (last : ℤ) (xs ys : List ℤ) → a ≤ b → Windowed e from a last xs → IsStrictlySortedBy int_cmp ys
     → ((i : ℤ) → Has ys i ↔ (Has xs i ⊎ ((last <ℤ i) × IsPlacedFrom e a b i))) → ((i : ℤ) → Has ys i → (t : ℕ) → t < b → pos t ≤ℤ (i +ℤ pos 93_599)) → Windowed e from b last ys
 windowed_more e from a b last xs ys h w rises more near = record {
@@ -131,7 +133,7 @@ windowed_more e from a b last xs ys h w rises more near = record {
   reach = λ i m t low high k. near i m t high;
 }
 
--- the first member is given
+-- the smallest pending instant has been returned
 pub windowed_later : (e : Timed) (from bound : ℕ) (last x : ℤ) (xs : List ℤ) → Windowed e from bound last (x ∷ xs) → Windowed e from bound x xs
 windowed_later e from bound last x xs w =
     let above = ((w.members x).0 (inl refl)).0 in
@@ -147,7 +149,7 @@ windowed_later e from bound last x xs w =
 too_early : (base : ℤ) (t : ℕ) (i : ℤ) → pos 0 ≤ℤ base → t < start_of base → i ≤ℤ (pos t +ℤ pos 93_599) → base <ℤ i → ⊥
 too_early base t i low early near above = grind (arith, ints)
 
--- nothing is placed at first
+-- nothing has been converted at first
 pub windowed_start : (e : Timed) (base : ℤ) → AreNear e → pos 0 ≤ℤ base → Windowed e (start_of base) (start_of base) base []
 unfolding IsStrictlySortedBy
 windowed_start e base near low = record {
@@ -165,14 +167,15 @@ placed_of e i p = record { local = p.local; below = p.within; is_match = p.is_ma
 elapse_of : (e : Timed) (bound : ℕ) (i : ℤ) → bound ≤ seconds_in_all → IsPlacedBelow e bound i → IsPlace e i
 elapse_of e bound i h p = record { local = p.local; within = omega arith; is_match = p.is_match; placed = p.placed }
 
--- with nothing pending all is placed
+-- if nothing is pending and nothing has to be converted, no match is left
 pub all_placed : (ahead : Option ℤ) → to_place ahead None ≡ None → ahead ≡ None
 all_placed ahead h = grind arith
 
 bound_in : (e : Timed) (ahead : Option ℤ) → IsMatchAhead e ahead → bound_of ahead ≤ seconds_in_all
 bound_in e ahead h = grind (arith, local_inside)
 
--- a match that isn't placed has its place above the least member that can be given
+-- the instant of a match that was not converted yet is at or after the smallest pending instant, if that may be
+-- returned
 later_place : (ahead : Option ℤ) (x j : ℤ) (t : ℕ) → to_place ahead (Some x) ≡ None → bound_of ahead ≤ t → t < seconds_in_all → pos t ≤ℤ (j +ℤ pos 93_599) → x ≤ℤ j
 later_place None x j t full late inside near = grind arith
 later_place (Some (pos n)) x j t full late inside near = grind (arith, none_chosen, int_lt, ints)
@@ -189,7 +192,7 @@ least_place e from ahead last x j xs near w full above p =
       | inr late ↦ later_place ahead x j p.local full late p.within (near p.local j p.placed).0
     ]
 
--- the first member is the first elapse, once nothing is to be placed before it
+-- the smallest pending instant is the next elapse if nothing has to be converted before it
 pub full_first : (e : Timed) (from : ℕ) (ahead : Option ℤ) (last : ℤ) (xs : List ℤ) → AreNear e → Windowed e from (bound_of ahead) last xs → IsMatchAhead e ahead
     → to_place ahead (slice_get xs 0) ≡ None → slice_get (elapses_after (e ∷ []) last) 0 ≡ slice_get xs 0
 full_first e from ahead last [] near w found full =
@@ -204,7 +207,7 @@ full_first e from ahead last (x ∷ xs) near w found full =
     (inl (elapse_of e (bound_of ahead) x (bound_in e ahead found) here.1))
     (λ j above m. elim m [ inl p ↦ least_place e from ahead last x j xs near w full above p | inr n ↦ absurd n ])
 
--- the window after its least member is given
+-- the window after its smallest pending instant was returned
 pub taken_ready : (v : Window) (i last : ℤ) (xs : List ℤ) → IsReady v → slice_get v.pending 0 ≡ Some i → last ≡ i → xs ≡ drop 1 v.pending
     → IsReady (record v { last = last; pending = xs })
 taken_ready v i last xs h at same rest =
@@ -221,7 +224,7 @@ taken_ready v i last xs h at same rest =
       looked = h.looked;
     }
 
--- the member given is the first elapse
+-- the instant that is returned is the next elapse
 pub first_given : (v : Window) → IsReady v → to_place v.ahead (slice_get v.pending 0) ≡ None → slice_get (elapses_after (timed_of v ∷ []) v.last) 0 ≡ slice_get v.pending 0
 first_given v h full = full_first (timed_of v) (start_of v.base) v.ahead v.last v.pending (timed_by-near v.searcher.masks v.zone) h.windowed h.found full
 
@@ -233,14 +236,14 @@ pub none_given : (v : Window) → IsReady v → to_place v.ahead (slice_get v.pe
     → elapses_after (timed_of v ∷ []) v.last ≡ drop 1 (elapses_after (timed_of v ∷ []) v.last)
 none_given v h full none = drop_none (elapses_after (timed_of v ∷ []) v.last) (sym (first_given v h full ∙ none))
 
--- the place of a local second that lies no farther from a member than a place can is near to the member
+-- the instant of a local second within 93,599 seconds of a pending instant is near that pending instant
 pub put_near : (tz : TimeZone) (local place member : ℤ) → place_of tz local ≡ Some place → local ≤ℤ (member +ℤ pos 93_599)
     → member ≤ℤ (local +ℤ pos 93_599) → IsNear member place
 put_near tz local place member at low high =
     let near = within tz local place at in
     (omega (arith, signed_arith, near), omega (arith, signed_arith, near))
 
--- the place of a local second that lies above an instant is one
+-- the place of a local second is an instant if it is after one
 pub put_instant : (tz : TimeZone) (local place last : ℤ) → place_of tz local ≡ Some place → IsLocalSecond local → pos 0 ≤ℤ last → last <ℤ place → IsInstant place
 put_instant tz local place last at inside low above =
     let near = within tz local place at in
@@ -253,7 +256,7 @@ near_members : (xs : List ℤ) (local : ℤ) → IsStrictlySortedBy int_cmp xs �
 near_members [] local rises h i m = absurd m
 near_members (x ∷ xs) local rises h i m = to_place-near x i local h (at_least x i xs rises m)
 
--- a match that is to be placed is no later than a member by more than a place can be
+-- a match that has to be converted is at most 93,599 seconds after each pending instant
 pub near_ahead : (xs : List ℤ) (local : ℤ) (least : Option ℤ) (b : Bool) → IsStrictlySortedBy int_cmp xs → least ≡ slice_get xs 0 → to_place (Some local) least ≡ cond b (Some local) None → b ≡ true
     → (i : ℤ) → Has xs i → local ≤ℤ (i +ℤ pos 93_599)
 near_ahead xs local least b rises at test holds = near_members xs local rises (ap (to_place (Some local)) (sym at) ∙ (rw holds at test))

@@ -1,4 +1,4 @@
--- The years in words of 64 bits, and the months as years and numbers.
+-- The years in words of 64 bits, and months as years and month numbers.
 use Rattle.std.proofs.Common.{◌≡◌, ℕ, ◌+◌, ◌-◌, ◌*◌, ◌/◌, ◌%◌, ◌<◌, ◌≤◌, ◌&&◌, nat_le, List, get_or, Some, subst, refl, ◌∙◌, arith}
 use Rattle.std.proofs.lemmas.Bool.Decides.{nat_tests}
 use Rattle.std.proofs.lemmas.Bool.{and_right}
@@ -10,7 +10,7 @@ use Rattle.cal_elapse.specs.declared.masks.Masks.{Masks}
 use Rattle.cal_elapse.proofs.BitLemmas.{is_bit-none}
 use Rattle.cal_elapse.proofs.CarryLemmas.{Splits, split_at}
 
--- the numbers of one word
+-- the bits of one word
 pub in_word : (words : List ℕ) (a b : ℕ) → b < 64 → is_in_words words (a * 64 + b) ≡ is_bit (get_or words a 0) b
 unfolding is_in_words
 in_word words a b small = grind arith
@@ -33,7 +33,7 @@ first_in_word words a l from b parts found =
       λ t above below. in_word_at words a t (omega arith) (omega arith) ∙ found.3 (t - a * 64) (omega arith) (omega arith),
     )
 
--- a month is a year and a number
+-- a month matches if its year and its month number do
 pub months_split : (m : Masks) → Splits (month_in (sets_in m)) (is_in_words m.years) (is_bit m.months) 12 230
 unfolding sets_in month_in
 months_split m = grind (arith, nat_le, nat_tests)
@@ -41,6 +41,6 @@ months_split m = grind (arith, nat_le, nat_tests)
 pub month_is : (m : Masks) (n : ℕ) → n < 2_760 → month_in (sets_in m) n ≡ (is_in_words m.years (n / 12) && is_bit m.months (n % 12))
 month_is m n inside = split_at (months_split m) (n / 12) n (omega arith) refl
 
--- without a month number there is no month
+-- if no month number matches, no month does
 pub no_months : (m : Masks) (from : ℕ) → m.months ≡ 0 → NonePasses (month_in (sets_in m)) from 2_760
 no_months m from empty = grind (arith, is_bit-none, month_is, and_right)

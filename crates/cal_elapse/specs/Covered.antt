@@ -1,13 +1,13 @@
--- Expressions that have no elapse of their own, since exceptions have all of theirs: systemd.timer(5), OnCalendar=.
+-- Expressions whose elapses are all elapses of exceptions: systemd.timer(5), OnCalendar=.
 use Rattle.std.specs.Prelude.{◌≡◌, ◌⊎◌, ℕ, ℤ, Bool, true, List}
 use Rattle.cal_elapse.specs.headline.Elapses.{IsElapse, IsPlace, Timed}
 use Rattle.cal_spec.specs.headline.Match.{Sets}
 
--- the one set has each number of the other
+-- `has` contains every number in `inner`
 abbrev pub HasAll : (ℕ → Bool) → (ℕ → Bool) → Type 0
 HasAll has inner = (n : ℕ) → inner n ≡ true → has n ≡ true
 
--- the members of each field are among those of the others, and the days are counted from the same end of the month
+-- `others` has every value that `sets` has, field by field, and both count days from the same end of the month
 pub record AreAmong (sets others : Sets) : Type 0 where
   pub weekday : HasAll others.weekday sets.weekday
   pub year : HasAll others.year sets.year
@@ -18,11 +18,12 @@ pub record AreAmong (sets others : Sets) : Type 0 where
   pub second : HasAll others.second sets.second
   pub from_end : sets.from_end ≡ others.from_end
 
--- each elapse of the expression is one of the exceptions
+-- each elapse of `e` is an elapse of one of the exceptions
 abbrev pub IsCovered : Timed → List Timed → Type 0
 IsCovered e exceptions = (i : ℤ) → IsPlace e i → IsElapse exceptions i
 
--- of all these, some are kept, and each elapse of the others is one of the exceptions
+-- the expressions `kept` have only elapses of `all`, and every elapse of `all` that they lack is an elapse of an
+-- exception
 pub record AreKept (all exceptions kept : List Timed) : Type 0 where
   pub within : (i : ℤ) → IsElapse kept i → IsElapse all i
   pub rest : (i : ℤ) → IsElapse all i → IsElapse kept i ⊎ IsElapse exceptions i

@@ -1,4 +1,4 @@
--- The elapses of calendar expressions, as lists that are computed.
+-- The elapses of calendar expressions, as lists.
 use Rattle.std.specs.Prelude.{List, ℤ, int_lt, map, filter}
 use Rattle.std.specs.List.{filter_map, range_with_len}
 use Rattle.cal_zone.specs.headline.Local.{seconds_in_all}
@@ -9,10 +9,10 @@ use Rattle.cal_elapse.specs.headline.Elapses.{Timed}
 unfoldable pub places : Timed → List ℤ
 places e = filter_map e.place (filter e.matches (range_with_len 0 seconds_in_all))
 
--- the elapses after b: the rising list of all numbers above b in one of the elapse sets
+-- the elapses after `b`: the strictly increasing list of all instants after `b` in at least one of the elapse sets
 unfoldable pub elapses_after : List Timed → ℤ → List ℤ
 elapses_after es b = union (map (λ e. filter (int_lt b) (places e)) es)
 
--- the elapses after b of the first ones that are elapses of none of the second ones, the exceptions
+-- the elapses after `b` of the expressions `es`, without those of the exceptions
 unfoldable pub elapses_except : List Timed → List Timed → ℤ → List ℤ
 elapses_except es exceptions b = without (elapses_after es b) (elapses_after exceptions b)

@@ -1,4 +1,4 @@
--- What contracts see of the masks of a calendar expression: systemd.time(7), Calendar Events.
+-- The meaning of masks, as contracts see it: systemd.time(7), Calendar Events.
 use Rattle.std.specs.Prelude.{◌≡◌, ℕ, ◌+◌, ◌-◌, ◌≤◌, Bool, ◌&&◌, false, nat_le, nat_lt, if◌then◌else◌, Option, None, Some}
 use Rattle.cal_elapse.specs.Bits.{is_bit, is_in_words}
 use Rattle.cal_elapse.specs.declared.masks.Masks.{Masks}
@@ -10,12 +10,12 @@ use Rattle.cal_spec.specs.declared.field.Field.TheVariants as field
 use Rattle.cal_spec.specs.declared.slot.Slot.{Slot}
 use Rattle.cal_spec.specs.declared.slot.Slot.TheVariants.{Year, Month, Hour, Minute, Second}
 
--- where a day's number is among the bits: the first day lowest, and as a count from the month's end the last
--- day highest, so that each later day of a month is one higher
+-- the bit of the day `n`: days are stored in increasing order, and counts from the end of the month in decreasing
+-- order, so that a later day of a month always has a higher bit
 abbrev pub day_place : Bool → ℕ → ℕ
 day_place from_end n = if from_end then 31 - n else n - 1
 
--- the members of each field, as the masks have them
+-- the values that each field of the masks matches
 unfoldable pub sets_in : Masks → Sets
 sets_in masks = record {
   weekday = λ v. nat_lt v 7 && is_bit masks.weekdays v;
@@ -28,7 +28,7 @@ sets_in masks = record {
   from_end = masks.from_end;
 }
 
--- where a field's numbers are; the days may be counted from the month's end
+-- the slot of a field; for days it depends on whether they are counted from the end of the month
 abbrev pub slot_of : Field → Bool → Slot
 slot_of field.Year from_end = Year
 slot_of field.Month from_end = Month
@@ -37,13 +37,13 @@ slot_of field.Hour from_end = Hour
 slot_of field.Minute from_end = Minute
 slot_of field.Second from_end = Second
 
--- that many numbers from the first on, all of them numbers of the slot, which doesn't count from the month's end
+-- the `count` numbers from `first` on are all values of the slot, and the slot doesn't count from the end of the month
 pub record IsWindow (slot : Slot) (first count : ℕ) : Type 0 where
   pub upwards : is_from_end slot ≡ false
   pub from : least slot ≤ first
   pub upto : first + count ≤ greatest slot + 1
 
--- the last number that a part may have; a repetition without an end has none but its field's
+-- the largest value that a part can match; an open-ended repetition is limited only by its field
 abbrev pub last_number : ℕ → Option ℕ → Option ℕ → ℕ
 last_number a (Some b) step = b
 last_number a None None = a

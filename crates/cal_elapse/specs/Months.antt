@@ -1,22 +1,22 @@
--- The months of the years 1970 to 2199, counted from January 1970, which is month 0.
+-- The months of the years 1970 to 2199, indexed from January 1970, which is month 0.
 use Rattle.std.specs.Prelude.{◌≡◌, ℕ, zero, suc, ◌+◌, ◌-◌, ◌*◌, ◌/◌, ◌%◌, Bool, ◌&&◌, pos, unsigned_abs, refl}
 use Rattle.jiff.specs.Types.{Date}
 use Rattle.jiff_core.specs.Calendar.{days_in_month}
 use Rattle.cal_zone.specs.headline.Local.{civil_date}
 use Rattle.cal_spec.specs.headline.Match.{Sets, date_in}
 
--- the year and the number of a month
+-- the year and the month number, 1 to 12, of month `n`
 abbrev pub year_of : ℕ → ℕ
 year_of n = 1_970 + n / 12
 
 abbrev pub number_of : ℕ → ℕ
 number_of n = n % 12 + 1
 
--- how many days it has
+-- the length of month `n` in days
 unfoldable pub length_of : ℕ → ℕ
 length_of n = days_in_month (pos (year_of n)) (number_of n)
 
--- the day number of its first day, by the lengths of the months before it
+-- the day number of the first day of a month: the sum of the lengths of all earlier months
 pub first_day : ℕ → ℕ
 first_day zero = 0
 first_day (suc n) = first_day n + length_of n
@@ -29,18 +29,18 @@ pub first_day-suc : (n : ℕ) → first_day (suc n) ≡ first_day n + length_of 
 unfolding first_day
 first_day-suc n = refl
 
--- the month of a date from 1970 on
+-- the month of a date in 1970 or later
 unfoldable pub month_of : Date → ℕ
 month_of date = (unsigned_abs date.year - 1_970) * 12 + (date.month - 1)
 
--- the year and the month number are members
+-- whether the expression matches the year and the number of month `n`
 unfoldable pub month_in : Sets → ℕ → Bool
 month_in sets n = sets.year (year_of n) && sets.month (number_of n)
 
--- the date of a day is one of the expression's
+-- whether the expression matches the date with this day number
 unfoldable pub day_in : Sets → ℕ → Bool
 day_in sets day = date_in sets (civil_date day)
 
--- the hour and the minute of that many minutes after midnight are members
+-- whether the expression matches the hour and the minute of the time `m` minutes after midnight
 unfoldable pub minute_in : Sets → ℕ → Bool
 minute_in sets m = sets.hour (m / 60) && sets.minute (m % 60)

@@ -1,4 +1,4 @@
--- The rest of an expression's elapses.
+-- The remaining elapses of an expression.
 use Rattle.std.specs.Prelude.{List, [], ◌∷◌, ℤ, int_lt, filter, map}
 use Rattle.std.specs.Ordering.{int_cmp}
 use Rattle.std.specs.List.Sorted.{IsStrictlySortedBy}
@@ -7,7 +7,7 @@ use Rattle.cal_rising.specs.Rises.{rises-union}
 use Rattle.cal_elapse.specs.Window.{timed_of}
 use Rattle.cal_elapse.specs.declared.window.Window.{Window}
 
--- the elapses that are later than the last one given
+-- the elapses after the one that was returned last
 unfoldable pub rest_of : Window → List ℤ
 rest_of w = elapses_after (timed_of w ∷ []) w.last
 

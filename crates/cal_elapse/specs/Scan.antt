@@ -1,6 +1,6 @@
--- Words that have a bit.
+-- Words with a bit that is set.
 use Rattle.std.specs.Prelude.{ℕ, Bool, not, ◌==◌}
 
--- the word isn't 0
+-- whether a word isn't 0
 abbrev pub is_set : ℕ → Bool
 is_set x = not (x == 0)

@@ -1,17 +1,17 @@
--- What a search among local seconds answers.
+-- The result of a search among local seconds.
 use Rattle.std.specs.Prelude.{◌≡◌, ◌<◌, ◌≤◌, ℕ, Bool, true, false, Option, None, Some, ℤ, pos, unsigned_abs, ◌≤ℤ◌, ◌<ℤ◌}
 use Rattle.cal_zone.specs.headline.Local.{seconds_in_all}
 
--- no local second from `from` up to and without `to` passes
+-- no number from `from` up to but not including `to` passes
 abbrev pub NonePasses : (ℕ → Bool) → ℕ → ℕ → Type 0
 NonePasses passes from to = (t : ℕ) → from ≤ t → t < to → passes t ≡ false
 
--- the least local second from `from` up to and without `to` that passes, or None where there is none
+-- the result is the first number from `from` up to but not including `to` that passes, or `None` if there is none
 abbrev pub IsFirstPassing : (ℕ → Bool) → ℕ → ℕ → Option ℕ → Type 0
 IsFirstPassing passes from to None = NonePasses passes from to
 IsFirstPassing passes from to (Some s) = (from ≤ s) × (s < to) × (passes s ≡ true) × NonePasses passes from s
 
--- the least local second not below `from` that passes, or None where there is none
+-- the result is the first local second at or after `from` that passes, or `None` if there is none
 abbrev pub IsFirstLocal : (ℕ → Bool) → ℤ → Option ℤ → Type 0
 IsFirstLocal passes from None = (t : ℕ) → from ≤ℤ pos t → t < seconds_in_all → passes t ≡ false
 IsFirstLocal passes from (Some s) =

@@ -1,4 +1,4 @@
--- How often the matches of an expression were searched, and the most months that one search looked at.
+-- How many searches were made for an expression, and the largest number of months that one of them examined.
 use Rattle.std.specs.Prelude.{◌≡◌, ◌+◌, ◌-◌, ℕ, Option, None, Some, ℤ, unsigned_abs}
 use Rattle.cal_zone.specs.headline.Local.{seconds_in_all}
 use Rattle.cal_elapse.specs.headline.Elapses.{Timed}
@@ -6,18 +6,19 @@ use Rattle.cal_elapse.specs.Most.{IsMost}
 use Rattle.cal_elapse.specs.Window.{count_from, start_of}
 use Rattle.cal_spec.specs.headline.Match.{Sets}
 
--- how many local seconds from the base less 93,599 on, and below the bound, match
+-- how many matching local seconds there are from the start of the first search up to but not including `bound`
 abbrev pub matches_up_to : Timed → ℤ → ℕ → ℕ
 matches_up_to e base bound = count_from e.matches (start_of base) (bound - start_of base)
 
--- Once an elapse was given, one search more than local seconds match from the base less 93,599 to the elapse plus
--- 93,599. Once none was left, one more than all that match from there on.
+-- The number of searches after `next` returned `Some elapse`: one more than there are matching local seconds from the
+-- start of the first search, 93,599 seconds before the base, to 93,599 seconds after the elapse. After `next` returned
+-- `None`: one more than there are matching local seconds from that start on.
 abbrev pub IsSearched : Timed → ℤ → Option ℤ → ℕ → Type 0
 IsSearched e base (Some elapse) searches = searches ≡ matches_up_to e base (unsigned_abs elapse + 93_600) + 1
 IsSearched e base None searches = searches ≡ matches_up_to e base seconds_in_all + 1
 
--- The most months that one of these searches looked at: the first one, from the base less 93,599 on, or one after a
--- match up to the elapse plus 93,599. Once none was left, one after any match.
+-- The largest number of months that one of these searches examined: the first search, or a search after a match up to
+-- 93,599 seconds after the elapse. After `next` returned `None`: the first search, or a search after any match.
 abbrev pub IsMostSearched : Sets → ℤ → Option ℤ → ℕ → Type 0
 IsMostSearched sets base (Some elapse) most = IsMost sets (start_of base) (unsigned_abs elapse + 93_600) most
 IsMostSearched sets base None most = IsMost sets (start_of base) seconds_in_all most

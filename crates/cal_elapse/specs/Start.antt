@@ -1,4 +1,4 @@
--- Where a search of matches begins.
+-- The starting point of a search for matches.
 use Rattle.std.specs.Prelude.{◌≡◌, ◌+◌, ℕ, Bool, true, pos, unsigned_abs}
 use Rattle.jiff.specs.Words.{IsBetween}
 use Rattle.cal_zone.specs.Local.{IsLocalSecond}
@@ -6,12 +6,12 @@ use Rattle.cal_zone.specs.headline.Local.{seconds_in_all}
 use Rattle.cal_elapse.specs.declared.searcher.Start.{Start}
 use Rattle.cal_elapse.specs.declared.searcher.Start.TheVariants.{At, After}
 
--- the local second that the search begins at
+-- the first local second that the search tests
 abbrev pub begin_of : Start → ℕ
 begin_of (At local) = unsigned_abs local
 begin_of (After local) = unsigned_abs local + 1
 
--- a local second or their end, or a match
+-- a search can start at any local second or at their end, or after a match
 abbrev pub CanStart : (ℕ → Bool) → Start → Type 0
 CanStart passes (At local) = IsBetween (pos 0) (pos seconds_in_all) local
 CanStart passes (After local) = IsLocalSecond local × (passes (unsigned_abs local) ≡ true)

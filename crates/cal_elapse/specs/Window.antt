@@ -1,4 +1,4 @@
--- What is pending of an expression's elapses in a zone, while its matching local seconds are placed one after another.
+-- The state of the source of elapses: pending instants, and the matches that were already converted to instants.
 use Rattle.std.specs.Prelude.{◌≡◌, ◌↔◌, ◌+◌, ◌-◌, ◌<◌, ◌≤◌, cond, ℕ, true, List, Option, None, Some, ℤ, pos, negsuc, ◌+ℤ◌, ◌-ℤ◌, ◌<ℤ◌, ◌≤ℤ◌, int_lt, unsigned_abs, IfSome, unwrap_or}
 use Rattle.std.specs.Option.{option_map}
 use Rattle.std.specs.Ordering.{int_cmp}
@@ -18,52 +18,54 @@ use Rattle.cal_elapse.specs.declared.masks.Masks.{Masks}
 use Rattle.cal_elapse.specs.declared.window.Window.{Window}
 use Rattle.cal_spec.specs.headline.Match.{matches}
 
--- a local second below the bound matches and has its place here
+-- `i` is the instant of a matching local second below `bound`
 pub record IsPlacedBelow (e : Timed) (bound : ℕ) (i : ℤ) : Type 0 where
   pub local : ℕ
   pub below : local < bound
   pub is_match : e.matches local ≡ true
   pub placed : e.place local ≡ Some i
 
--- The list rises and has the places above `last` of the matching local seconds below the bound. None of those from
--- `from` on is later than a member by more than a place can lie from its local second.
+-- `xs` is strictly increasing and contains exactly the instants after `last` of the matching local seconds below
+-- `bound`. None of these local seconds from `from` on is later than an instant in `xs` by more than 93,599 seconds, the
+-- largest distance between a local second and its instant.
 pub record Windowed (e : Timed) (from bound : ℕ) (last : ℤ) (xs : List ℤ) : Type 0 where
   pub rises : IsStrictlySortedBy int_cmp xs
   pub members : (i : ℤ) → Has xs i ↔ ((last <ℤ i) × IsPlacedBelow e bound i)
   pub reach : (i : ℤ) → Has xs i → (t : ℕ) → from ≤ t → t < bound → e.matches t ≡ true → pos t ≤ℤ (i +ℤ pos 93_599)
 
--- the local second that the first search begins at: no place of an earlier one is above the base
+-- the local second at which the first search starts: no earlier local second has an instant after the base
 abbrev pub start_of : ℤ → ℕ
 start_of (pos base) = base - 93_599
 start_of (negsuc n) = 0
 
--- the first local second that is not placed: the match that was found, or none of them
+-- the first local second that was not converted yet: the match ahead, or the end of all local seconds if there is none
 abbrev pub bound_of : Option ℤ → ℕ
 bound_of ahead = unwrap_or (option_map unsigned_abs ahead) seconds_in_all
 
--- what was found is a match
+-- the match ahead, if there is one, is a local second that matches
 abbrev pub IsMatchAhead : Timed → Option ℤ → Type 0
 IsMatchAhead e ahead = IfSome ahead (λ local. IsLocalSecond local × (e.matches (unsigned_abs local) ≡ true))
 
--- the match that is to be placed before the least member can be given
+-- the match ahead, if it has to be converted before the smallest pending instant can be returned
 abbrev pub to_place : Option ℤ → Option ℤ → Option ℤ
 to_place None least = None
 to_place (Some local) None = Some local
 to_place (Some local) (Some least) = cond (int_lt least (local -ℤ pos 93_599)) None (Some local)
 
--- a place is put where it is above the last instant given
+-- the pending instants with another one added, if it exists and is after the instant returned last
 abbrev pub with_place : Option ℤ → ℤ → List ℤ → List ℤ
 with_place None last xs = xs
 with_place (Some i) last xs = cond (int_lt last i) (insert_key int_cmp xs i) xs
 
--- what masks mean in a zone: the local seconds that match, and their places
+-- the meaning of masks in a zone: the local seconds that match, and the instants to which they resolve
 unfoldable pub timed_by : Masks → Zone → Timed
 timed_by masks zone = record { matches = matches (sets_in masks); place = λ local. place_of (zone_of zone) (pos local) }
 
 abbrev pub timed_of : Window → Timed
 timed_of w = timed_by w.searcher.masks w.zone
 
--- all matching local seconds below the one ahead are placed; one search was made before, and one after each of them
+-- all matching local seconds before the match ahead were converted; one search was made at the start, and one after
+-- each of these matches
 pub record IsReady (w : Window) : Type 0 where
   pub windowed : Windowed (timed_of w) (start_of w.base) (bound_of w.ahead) w.last w.pending
   pub found : IsMatchAhead (timed_of w) w.ahead
@@ -73,7 +75,7 @@ pub record IsReady (w : Window) : Type 0 where
   pub counted : w.searcher.searches ≡ count_from (timed_of w).matches (start_of w.base) (bound_of w.ahead - start_of w.base) + 1
   pub looked : IsMost (sets_in w.searcher.masks) (start_of w.base) (bound_of w.ahead) w.searcher.most_months
 
--- all matching local seconds up to this one, which is a match, are placed, and no search was made after it yet
+-- all matching local seconds up to `local`, which is a match, were converted, and no search was made after `local` yet
 pub record IsPlacedTo (w : Window) (local : ℤ) : Type 0 where
   pub windowed : Windowed (timed_of w) (start_of w.base) (unsigned_abs local + 1) w.last w.pending
   pub found : IsMatchAhead (timed_of w) (Some local)

@@ -1,3 +1,3 @@
--- The definitions that the headline rests on.
+-- The definitions that the headline theorem is built on.
 pub mod Elapses
 pub mod Timed

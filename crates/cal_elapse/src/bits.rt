@@ -1,10 +1,10 @@
-//! Sets of numbers below 64, as the bits of a word.
+//! Sets of numbers below 64, stored as the bits of a word.
 
 ghost use Rattle.std.specs.Prelude.{◌≡◌, ◌≢◌, ◌<◌, ℕ, true, false};
 ghost use Rattle.cal_elapse.specs.Bits.{is_bit};
 ghost use Rattle.cal_elapse.specs.Search.{IsFirstPassing};
 
-/// Whether a word has a number below 64.
+/// Returns whether the set contains a number below 64.
 pub(crate) fn has_bit(mask: u64, index: u32) -> bool
     requires { index < 64 }
     ensures { result ≡ is_bit mask index }
@@ -12,7 +12,7 @@ pub(crate) fn has_bit(mask: u64, index: u32) -> bool
     mask >> index & 1 == 1
 }
 
-/// A word with a number below 64 more, which it may have already.
+/// Returns the set with a number below 64 added.
 pub(crate) fn with_bit(mask: u64, index: u32) -> u64
     requires { index < 64 }
     ensures set { is_bit result index ≡ true }
@@ -21,7 +21,7 @@ pub(crate) fn with_bit(mask: u64, index: u32) -> u64
     mask | 1 << index
 }
 
-/// A word without a number below 64.
+/// Returns the set without a number below 64.
 pub(crate) fn without_bit(mask: u64, index: u32) -> u64
     requires { index < 64 }
     ensures cleared { is_bit result index ≡ false }
@@ -30,7 +30,7 @@ pub(crate) fn without_bit(mask: u64, index: u32) -> u64
     mask & !(1 << index)
 }
 
-/// A word without its least number.
+/// Returns the set without its smallest number.
 pub(crate) fn without_lowest(mask: u64) -> u64
     requires { 0 < mask }
     ensures cleared { (lowest : ℕ) → IsFirstPassing (is_bit mask) 0 64 (Some lowest) → is_bit result lowest ≡ false }
@@ -40,7 +40,7 @@ pub(crate) fn without_lowest(mask: u64) -> u64
     mask & (mask - 1)
 }
 
-/// The least number of a word that isn't below `from`, which is below 64; `None` where there is none.
+/// Returns the smallest number of the set at or above `from`, which is below 64. Returns `None` if there is none.
 pub(crate) fn next_bit(mask: u64, from: u32) -> Option<u32>
     requires { from < 64 }
     ensures { IsFirstPassing (is_bit mask) from 64 result }
@@ -53,7 +53,7 @@ pub(crate) fn next_bit(mask: u64, from: u32) -> Option<u32>
     }
 }
 
-/// The least number of a word that has one.
+/// Returns the smallest number of a set that isn't empty.
 pub(crate) fn lowest_bit(mask: u64) -> u32
     requires { 0 < mask }
     ensures { IsFirstPassing (is_bit mask) 0 64 (Some result) }

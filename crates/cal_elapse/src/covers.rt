@@ -1,4 +1,5 @@
-//! Whether the members of one calendar expression are among those of another (systemd.time(7), Calendar Events).
+//! The test whether one calendar expression matches everything that another one matches (systemd.time(7), Calendar
+//! Events).
 
 ghost use Rattle.std.specs.Prelude.{◌≡◌, true};
 ghost use Rattle.cal_elapse.specs.Bits.{is_bit, is_in_words};
@@ -8,8 +9,9 @@ ghost use Rattle.cal_elapse.specs.Masks.{sets_in};
 use crate::masks::Masks;
 
 impl Masks {
-    /// Whether the members of each field of the others are among those of the same field here, so that each local second
-    /// that matches them matches here too. Days that are counted from the two ends of the month aren't compared.
+    /// Returns `true` if `self` has every value that `others` has, field by field. Then every local second that
+    /// `others` matches is also matched by `self`. Returns `false` if only one of them counts days from the end of the
+    /// month, because the two numberings aren't compared.
     pub fn covers(&self, others: &Masks) -> bool
         ensures { result ≡ true → AreAmong (sets_in others.now) (sets_in self.now) }
     {
@@ -24,14 +26,14 @@ impl Masks {
     }
 }
 
-/// Whether a word has all numbers of another.
+/// Returns whether `mask` has all bits of `others`.
 fn has_all(mask: u64, others: u64) -> bool
     ensures { result ≡ true → HasAll (is_bit mask) (is_bit others) }
 {
     mask | others == mask
 }
 
-/// Whether four words have all numbers of four others.
+/// Returns whether each word of `words` has all bits of the same word of `others`.
 fn have_all(words: &[u64; 4], others: &[u64; 4]) -> bool
     ensures { result ≡ true → HasAll (is_in_words words.now) (is_in_words others.now) }
 {

@@ -1,5 +1,5 @@
-//! The next day that matches, month after month, each month that is looked at counted (systemd.time(7), Calendar
-//! Events).
+//! The search for the next matching day, month by month. It counts the months that it examines (systemd.time(7),
+//! Calendar Events).
 
 ghost use Rattle.std.specs.Prelude.{◌≡◌, ◌+◌, ◌<◌, ◌≤◌, cond};
 ghost use Rattle.cal_elapse.specs.Looks.{looks_from};
@@ -12,8 +12,8 @@ use crate::month::{Month, month_at};
 use crate::month_days::MonthDays;
 use crate::month_search::{has_month, next_month};
 
-/// The first day that matches and isn't before `from`, a day of the month or the one after it; `None` where there is
-/// none. Counts the months that it looks at.
+/// Returns the first matching day at or after `from`, which is a day of `month` or the day after it. Returns `None` if
+/// no such day is left. Sets `looks`, which must be 0, to the number of months examined.
 #[tactic(auto, using(crate::proofs::LookLemmas::looks_here, crate::proofs::LookLemmas::looks_on))]
 pub(crate) fn next_day(masks: &Masks, month: Month, from: u32, looks: &mut u32) -> Option<u32>
     requires low { month.first ≤ from }
@@ -28,7 +28,7 @@ pub(crate) fn next_day(masks: &Masks, month: Month, from: u32, looks: &mut u32) 
     }
 }
 
-/// The first one in the month.
+/// Returns the first matching day of `month` at or after `from`.
 #[tactic(auto, using(crate::proofs::MonthLemmas::month_bounds))]
 fn next_in_month(masks: &Masks, month: Month, from: u32, looks: &mut u32) -> Option<u32>
     requires low { month.first ≤ from }
@@ -46,7 +46,8 @@ fn next_in_month(masks: &Masks, month: Month, from: u32, looks: &mut u32) -> Opt
     }
 }
 
-/// The first one from a month's first day on.
+/// Returns the first matching day at or after the first day of the month with index `from`. Adds the number of months
+/// examined to `looks`.
 #[tactic(auto, using(crate::proofs::MonthLemmas::month_bounds, crate::proofs::CountLemmas::count_bounds))]
 fn next_from_month(masks: &Masks, from: u32, looks: &mut u32) -> Option<u32>
     requires from_in { from ≤ 2_760 }

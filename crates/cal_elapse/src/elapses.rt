@@ -1,4 +1,4 @@
-//! The elapses of a calendar expression in a zone, one after another (systemd.time(7), Calendar Events).
+//! The elapses of a calendar expression in a zone, in increasing order (systemd.time(7), Calendar Events).
 
 use crate::NoMemory;
 use crate::window::Window;
@@ -8,11 +8,12 @@ use cal_zone::{Instant, Zone};
 use std::alloc::Global;
 use std::marker::Model;
 
-/// The elapses of an expression in a zone, later than a base: the places of all matching local seconds of the years
-/// 1970 to 2199, each once, rising.
+/// The elapses of an expression in a zone after a base: the instants to which the matching local seconds of the years
+/// 1970 to 2199 resolve, each once, in increasing order.
 ///
-/// Matches are placed in the order of the clock. Where the clock is turned back, a later match can have an earlier
-/// place, so that an instant is given only when no match that isn't placed can lie at it or before it.
+/// Matches are found in the order of local time. If the clock is turned back, a later match can resolve to an earlier
+/// instant. An instant is therefore returned only when no later match can resolve to the same instant or an earlier
+/// one.
 #[derive(Drop)]
 pub struct Elapses<'z> {
     window: Window<'z>,
@@ -40,9 +41,9 @@ impl<'z> Elapses<'z> {
     ghost use Rattle.cal_elapse.specs.Window.{start_of, timed_of};
     ghost use Rattle.cal_spec.specs.headline.Members.{sets_of};
 
-    /// The elapses of an expression in a zone that are later than the base.
+    /// Creates the source of the elapses of an expression in a zone after `base`, and searches for the first match.
     ///
-    /// All memory is taken here.
+    /// Only this call allocates. Fails with `NoMemory` if allocation fails.
     pub fn new(
         alloc: Global,
         expr: &Expr,
@@ -64,15 +65,16 @@ impl<'z> Elapses<'z> {
         })
     }
 
-    /// How many searches were made so far: one by `new`, and then one for each match that `next` placed. A search is
-    /// one call that seeks the least match from a local second on, as `next_local` does.
+    /// Returns how many searches were made: one by `new`, and one for each match that `next` has resolved to an instant
+    /// or skipped in a gap. One search is the work of one call of [`next_local`](crate::next_local): finding the first
+    /// match at or after a local second.
     pub fn searches(&self) -> u64
         ensures { result ≡ self.now.searcher.searches }
     {
         self.window.searcher.searches()
     }
 
-    /// The most months that one of the searches made so far looked at.
+    /// Returns the largest number of months that a single search examined so far.
     pub fn most_months(&self) -> u32
         ensures kept { result ≡ self.now.searcher.most_months }
         ensures few { result ≤ 2_760 }
@@ -92,11 +94,12 @@ impl Rising for Elapses<'_> {
 
     ghost rest = { rest_of };
 
-    /// Gives the next elapse; `None` where there is none.
+    /// Removes and returns the next elapse, or `None` if there are no more.
     ///
-    /// Where it gives e, one search was made so far from the base less 93,599 on, and one after each local second from
-    /// there to e plus 93,599 that matches; where it gives none, one after each from there on. `most_months` is the most
-    /// months that one of these looked at, at most 2,760.
+    /// After `next` returned e, these searches were made: the first one, which starts at the local second base - 93,599
+    /// (at 0 if that is negative), and one after each matching local second from there to e + 93,599. After it returned
+    /// `None`, they are the first one and one after every match from there on. `most_months` is the largest number of
+    /// months that one of these searches examined, at most 2,760.
     fn next(&mut self) -> Option<i64>
         ensures given { result ≡ slice_get (rest_of self.old) 0 }
         ensures left { rest_of self.new ≡ drop 1 (rest_of self.old) }

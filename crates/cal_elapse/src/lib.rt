@@ -1,4 +1,4 @@
-//! The elapses of calendar expressions under every zone (systemd.time(7), Calendar Events).
+//! The elapse times of calendar expressions in a time zone (systemd.time(7), Calendar Events).
 #![tactic(auto)]
 
 mod bits;

@@ -1,14 +1,17 @@
-//! The members of the fields of a calendar expression, as bits (systemd.time(7), Calendar Events).
+//! The values that each field of a calendar expression matches, as bits (systemd.time(7), Calendar Events).
 
 ghost use Rattle.std.specs.Prelude.{◌≡◌, ◌%◌, ◌<◌, ◌≤◌, ℕ, false};
 ghost use Rattle.cal_elapse.specs.Bits.{is_bit, is_in_words};
 
-/// The members of each field of a calendar expression: one bit for each value of the field, from its least value on,
-/// which is the lowest bit. Days that are counts from the month's end are the other way round, count 31 at bit 0, so
-/// that each later day of a month is one bit higher. Each time of day has a member.
+/// The values that each field of a calendar expression matches, one bit for each. The lowest bit stands for the
+/// smallest value of the field: 1970 for years, 1 for months and days.
+///
+/// Days counted from the end of the month are stored the other way round, with count 31 at bit 0, so that here too the
+/// later of two days has the higher bit. Hours, minutes and seconds each have at least one value.
 #[derive(Clone, Copy)]
 pub struct Masks {
-    /// The weekdays from Monday on, six weeks of them, so that a month's days find theirs in one run of bits.
+    /// The weekdays from Monday on, repeated for six weeks. Shifted to the weekday of a month's first day, they cover
+    /// the whole month.
     pub(crate) weekdays: u64,
     pub(crate) years: [u64; 4],
     pub(crate) months: u64,

@@ -1,4 +1,4 @@
-//! The bits of a calendar expression's members (systemd.time(7), Calendar Events).
+//! Conversion of a calendar expression to masks (systemd.time(7), Calendar Events).
 
 ghost use Rattle.std.specs.Prelude.{◌≡◌, ◌==◌, ◌+◌, ◌-◌, ◌%◌, ◌<◌, ◌≤◌, ◌&&◌, ◌||◌, ◌≢◌, ℕ, false, nat_le, nat_lt, slice_index_or, if◌then◌else◌};
 ghost use Rattle.std.specs.List.{list_any};
@@ -14,7 +14,7 @@ use crate::masks::Masks;
 use cal_spec::{Expr, Field, Part};
 
 impl Masks {
-    /// The masks of an expression: they have exactly its members.
+    /// Creates the masks of an expression. They have exactly the values that the expression matches.
     pub fn of(expr: &Expr) -> Masks
         ensures { sets_in result ≡ sets_of expr.now }
     {
@@ -37,7 +37,7 @@ impl Masks {
     }
 }
 
-/// The weekdays of six weeks in a row.
+/// Returns the set of weekdays, repeated for six consecutive weeks.
 fn weeks(weekdays: &[bool; 7]) -> u64
     ensures { (i : ℕ) → is_bit result i ≡ (nat_lt i 42 && slice_index_or weekdays.now (i % 7) false) }
 {
@@ -48,7 +48,8 @@ fn weeks(weekdays: &[bool; 7]) -> u64
     mask
 }
 
-/// Which of that many numbers from the first on are members of a field that has them all.
+/// Returns which of the `count` values from `first` on are matched by a field of the expression. If the field is `*`,
+/// all of them are.
 fn members(expr: &Expr, field: Field, first: u16, count: u32) -> u64
     requires few { count ≤ 64 }
     requires window { IsWindow (slot_of field expr.now.from_end) first count }
@@ -60,7 +61,7 @@ fn members(expr: &Expr, field: Field, first: u16, count: u32) -> u64
     }
 }
 
-/// Which of that many numbers from the first on one of the parts has.
+/// Returns which of the `count` values from `first` on are matched by at least one of the parts.
 fn in_parts(parts: &[Part], first: u16, count: u32) -> u64
     requires few { count ≤ 64 }
     requires within { first ≤ 2_200 }
@@ -74,7 +75,7 @@ fn in_parts(parts: &[Part], first: u16, count: u32) -> u64
     mask
 }
 
-/// Which of that many numbers from the first on the part has.
+/// Returns which of the `count` values from `first` on are matched by the part.
 fn in_part(part: Part, first: u16, count: u32) -> u64
     requires few { count ≤ 64 }
     requires within { first ≤ 2_200 }
@@ -91,7 +92,7 @@ fn in_part(part: Part, first: u16, count: u32) -> u64
     }
 }
 
-/// The last number that the part may have; a repetition without an end goes on.
+/// Returns the largest value that the part can match. An open-ended repetition has no limit of its own.
 fn last_of(part: Part) -> u16
     ensures { result ≡ last_number part.start part.end part.step }
 {
@@ -102,7 +103,7 @@ fn last_of(part: Part) -> u16
     }
 }
 
-/// The bits from one on and below another.
+/// Returns a word with the bits from `low` up to but not including `high`.
 fn bits_between(low: u32, high: u32) -> u64
     requires { high ≤ 64 }
     ensures { (i : ℕ) → is_bit result i ≡ (nat_le low i && nat_lt i high) }
@@ -114,7 +115,8 @@ fn bits_between(low: u32, high: u32) -> u64
     }
 }
 
-/// Those of them whose numbers are a multiple of the step above the start.
+/// Returns a word with those bits from `low` up to but not including `high` whose value is a multiple of `step` above
+/// `start`. Bit 0 stands for the value `first`.
 fn steps(low: u32, high: u32, first: u16, start: u16, step: u16) -> u64
     requires few { high ≤ 64 }
     requires within { first ≤ 2_200 }
@@ -128,7 +130,7 @@ fn steps(low: u32, high: u32, first: u16, start: u16, step: u16) -> u64
     mask
 }
 
-/// Which days are members, or which counts from the month's end, the greatest count first.
+/// Returns the matching days, or the matching counts from the end of the month, with count 31 at bit 0.
 fn days(expr: &Expr, from_end: bool) -> u64
     requires { from_end ≡ expr.now.from_end }
     ensures { (i : ℕ) → is_bit result i
@@ -141,7 +143,7 @@ fn days(expr: &Expr, from_end: bool) -> u64
     }
 }
 
-/// Which counts from the month's end are members, the greatest count first.
+/// Returns the matching counts from the end of the month, with count 31 at bit 0.
 fn counts_from_end(expr: &Expr) -> u64
     ensures { (i : ℕ) → is_bit result i ≡ (nat_lt i 31 && members_of Day (sets_of expr.now) (31 - i)) }
 {
@@ -152,7 +154,7 @@ fn counts_from_end(expr: &Expr) -> u64
     mask
 }
 
-/// A word with a number more where that is a member.
+/// Returns `mask` with a bit added if `member` is true.
 fn put_bit(mask: u64, index: u32, member: bool) -> u64
     requires { index < 64 }
     ensures here { is_bit result index ≡ (member || is_bit mask index) }

@@ -1,4 +1,4 @@
-//! Whether a local second matches, seen by looking at it (systemd.time(7), Calendar Events).
+//! The test whether a local second matches, without a search (systemd.time(7), Calendar Events).
 
 ghost use Rattle.std.specs.Prelude.{◌≡◌, ◌<◌, unsigned_abs};
 ghost use Rattle.cal_zone.specs.Local.{IsLocalSecond};
@@ -14,7 +14,7 @@ use crate::month_search::has_month;
 use crate::time_search::has_minute;
 use cal_zone::{day_of, second_of_day};
 
-/// Whether a local second matches. Its time of day is looked at first, as that costs the least.
+/// Returns whether a local second matches. Tests the time of day first, because that is cheapest.
 #[tactic(auto, using(cal_zone::proofs::LocalLemmas::local_arith, crate::proofs::SearchLemmas::locals_at, std::proofs::lemmas::Bool::and_right))]
 pub(crate) fn is_match(masks: &Masks, local: i64) -> bool
     requires { IsLocalSecond local }
@@ -23,7 +23,7 @@ pub(crate) fn is_match(masks: &Masks, local: i64) -> bool
     has_time(masks, second_of_day(local)) && has_day(masks, day_of(local))
 }
 
-/// Whether the hour, the minute and the second are members.
+/// Returns whether the expression matches this time of day, in seconds since midnight.
 fn has_time(masks: &Masks, second: u32) -> bool
     requires { second < 86_400 }
     ensures { result ≡ time_in (sets_in masks.now) second }
@@ -31,7 +31,7 @@ fn has_time(masks: &Masks, second: u32) -> bool
     has_minute(masks, second / 60) && has_bit(masks.seconds, second % 60)
 }
 
-/// Whether a day matches, by its number from 1970-01-01 on, which is below 84,006.
+/// Returns whether the expression matches the date with this day number.
 #[tactic(auto, using(crate::proofs::MonthLemmas::month_bounds))]
 fn has_day(masks: &Masks, day: u32) -> bool
     requires { day < 84_006 }

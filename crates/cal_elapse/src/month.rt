@@ -1,4 +1,4 @@
-//! The months of the years 1970 to 2199, counted from January 1970, and the next one that is a member.
+//! The months of the years 1970 to 2199, indexed from January 1970, which is month 0.
 
 ghost use Rattle.std.specs.Prelude.{◌≡◌, ◌+◌, ◌-◌, ◌<◌, ◌≤◌, ◌≤ℤ◌, pos, unsigned_abs};
 ghost use Rattle.std.specs.Int.{IsInRange};
@@ -9,10 +9,10 @@ ghost use Rattle.cal_elapse.specs.Months.{first_day, length_of, month_of, year_o
 
 use jiff_core::civil::{Date, days_in_month};
 
-/// How many months the years 1970 to 2199 have.
+/// The number of months in the years 1970 to 2199.
 pub(crate) const MONTHS: u32 = 2_760;
 
-/// A month: its number, the number of its first day from 1970-01-01 on, and its length in days.
+/// A month: its index, the day number of its first day, and its length in days.
 #[derive(Clone, Copy)]
 pub(crate) struct Month {
     pub(crate) index: u32,
@@ -23,7 +23,7 @@ pub(crate) struct Month {
     ghost length_is: { length ≡ length_of index },
 }
 
-/// The month with that number, which is below 2,760.
+/// Returns the month with this index, 0 to 2,759.
 pub(crate) fn month_at(index: u32) -> Month
     requires { index < 2_760 }
     ensures { result.index ≡ index }
@@ -37,7 +37,7 @@ pub(crate) fn month_at(index: u32) -> Month
     }
 }
 
-/// The month of a day of the years 1970 to 2199, by the day's number from 1970-01-01 on, which is below 84,006.
+/// Returns the month that contains the day with this number, 0 (1970-01-01) to 84,005 (2199-12-31).
 pub(crate) fn month_of_day(day: u32) -> Month
     requires { day < 84_006 }
     ensures index { result.index ≡ month_of (civil_date day) }
@@ -52,7 +52,7 @@ pub(crate) fn month_of_day(day: u32) -> Month
     }
 }
 
-/// The year of a month.
+/// Returns the year of the month with this index.
 fn year_at(index: u32) -> i16
     requires { index < 2_760 }
     ensures { result ≡ pos (year_of index) }
@@ -60,7 +60,6 @@ fn year_at(index: u32) -> i16
     1_970 + (index / 12) as i16
 }
 
-/// How many years a year is after 1970.
 fn years_since(year: i16) -> u32
     requires { IsBetween (pos 1_970) (pos 2_199) year }
     ensures { result ≡ unsigned_abs year - 1_970 }
@@ -68,7 +67,7 @@ fn years_since(year: i16) -> u32
     u32::from(year.unsigned_abs()) - 1_970
 }
 
-/// The day number of a month's first day.
+/// Returns the day number of the first day of month `number`, 1 to 12, of a year.
 fn first_of(year: i16, number: u8) -> u32
     requires year_in { IsBetween (pos 1_970) (pos 2_199) year }
     requires number_in { IsInRange 1 12 number }
@@ -78,7 +77,7 @@ fn first_of(year: i16, number: u8) -> u32
     day_number(Date::constrain(year, number, 1))
 }
 
-/// The day number of a date from 1970-01-01 on.
+/// Returns the day number of a date in 1970 or later.
 fn day_number(date: Date) -> u32
     requires { pos 0 ≤ℤ epoch_day date }
     ensures { pos result ≡ epoch_day date }
@@ -86,7 +85,7 @@ fn day_number(date: Date) -> u32
     date.to_unix_epoch_day().unsigned_abs()
 }
 
-/// The date of a day of the years 1970 to 2199.
+/// Returns the date with this day number.
 fn date_of(day: u32) -> Date
     requires { day < 84_006 }
     ensures { result ≡ civil_date day }

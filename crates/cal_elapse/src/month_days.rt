@@ -1,4 +1,5 @@
-//! The days of a month that match: the one place where they are formed, and counted (systemd.time(7), Calendar Events).
+//! The matching days of a month. All examination of months goes through here, so that it can be counted
+//! (systemd.time(7), Calendar Events).
 
 ghost use Rattle.std.specs.Prelude.{◌≡◌, ◌+◌, ◌-◌, ◌<◌, ◌≤◌, ℕ, true, nat_lt, if◌then◌else◌};
 ghost use Rattle.cal_elapse.specs.Bits.{is_bit};
@@ -10,16 +11,16 @@ use crate::Masks;
 use crate::bits::{has_bit, next_bit};
 use crate::month::Month;
 
-/// The days of a month that match, the first of the month at the lowest bit. The field is private, so that each set of
-/// days is counted.
+/// The matching days of a month, with the first of the month at the lowest bit. The field is private, so that a set
+/// can't be formed without being counted.
 #[derive(Clone, Copy)]
 pub(crate) struct MonthDays {
     bits: u64,
 }
 
 impl MonthDays {
-    /// The days of a month whose year and number are members: the mask of days, and the mask of weekdays turned so
-    /// that it begins with that of the month's first day.
+    /// Forms the set for a month whose year and number the expression matches, and adds 1 to `looks`. Shifts the mask
+    /// of days and the mask of weekdays so that both start with the first of the month.
     #[tactic(auto, using(crate::proofs::MonthLemmas::month_bounds))]
     pub(crate) fn of(masks: &Masks, month: Month, looks: &mut u32) -> MonthDays
         requires member { month_in (sets_in masks.now) month.index ≡ true }
@@ -37,7 +38,7 @@ impl MonthDays {
         }
     }
 
-    /// The first of them from the `from`th on, which is counted from 0 and at most 31.
+    /// Returns the first matching day at or after a zero-based index, at most 31.
     pub(crate) fn next(self, from: u32) -> Option<u32>
         requires { from ≤ 31 }
         ensures { IsFirstPassing (is_bit self.bits) from 64 result }
@@ -45,7 +46,7 @@ impl MonthDays {
         next_bit(self.bits, from)
     }
 
-    /// Whether the day of that index is one of them, which is counted from 0 and at most 31.
+    /// Returns whether the set contains the day with this zero-based index, at most 31.
     pub(crate) fn has(self, index: u32) -> bool
         requires { index ≤ 31 }
         ensures { result ≡ is_bit self.bits index }
@@ -54,7 +55,7 @@ impl MonthDays {
     }
 }
 
-/// Where a month's first day is in the mask of days.
+/// Returns the bit of the month's first day in the mask of days.
 fn first_day_bit(from_end: bool, length: u32) -> u32
     requires { length ≤ 31 }
     ensures { result ≡ (if from_end then 31 - length else 0) }
@@ -62,7 +63,7 @@ fn first_day_bit(from_end: bool, length: u32) -> u32
     if from_end { 31 - length } else { 0 }
 }
 
-/// As many bits as a month has days.
+/// Returns a word whose lowest `length` bits are 1.
 fn all_days(length: u32) -> u64
     requires { length ≤ 31 }
     ensures { (k : ℕ) → is_bit result k ≡ nat_lt k length }

@@ -1,4 +1,5 @@
-//! The next month whose year and month number are members, by jumps from bit to bit (systemd.time(7), Calendar Events).
+//! The search for the next month whose year and month number the expression matches. It jumps from bit to bit of the
+//! masks (systemd.time(7), Calendar Events).
 
 ghost use Rattle.std.specs.Prelude.{◌≡◌, ◌+◌, ◌*◌, ◌/◌, ◌<◌, ◌≤◌};
 ghost use Rattle.cal_elapse.specs.Bits.{is_in_words};
@@ -10,7 +11,8 @@ use crate::Masks;
 use crate::bits::{has_bit, lowest_bit, next_bit};
 use crate::month::MONTHS;
 
-/// The first month that isn't before `from`, counted from January 1970 and at most 2,760; `None` where there is none.
+/// Returns the first matching month at or after `from`, an index of at most 2,760. Returns `None` if no such month is
+/// left.
 pub(crate) fn next_month(masks: &Masks, from: u32) -> Option<u32>
     requires { from ≤ 2_760 }
     ensures { IsFirstPassing (month_in (sets_in masks.now)) from 2_760 result }
@@ -24,7 +26,7 @@ pub(crate) fn next_month(masks: &Masks, from: u32) -> Option<u32>
     }
 }
 
-/// Whether a month's year and number are members.
+/// Returns whether the expression matches the year and the number of a month.
 pub(crate) fn has_month(masks: &Masks, index: u32) -> bool
     requires { index < 2_760 }
     ensures { result ≡ month_in (sets_in masks.now) index }
@@ -32,7 +34,7 @@ pub(crate) fn has_month(masks: &Masks, index: u32) -> bool
     has_year(&masks.years, index / 12) && has_bit(masks.months, index % 12)
 }
 
-/// The first one in the same year.
+/// Returns the first matching month at or after `from` and in the same year.
 fn month_here(masks: &Masks, from: u32) -> Option<u32>
     requires { from < 2_760 }
     ensures { IsFirstPassing (month_in (sets_in masks.now)) from ((from / 12 + 1) * 12) result }
@@ -46,7 +48,7 @@ fn month_here(masks: &Masks, from: u32) -> Option<u32>
     }
 }
 
-/// The first one from a year's begin on, the years counted from 1970.
+/// Returns the first matching month at or after the start of a year, which is counted from 1970.
 fn month_later(masks: &Masks, year: u32) -> Option<u32>
     requires { year ≤ 230 }
     ensures { IsFirstPassing (month_in (sets_in masks.now)) (year * 12) 2_760 result }
@@ -60,7 +62,7 @@ fn month_later(masks: &Masks, year: u32) -> Option<u32>
     }
 }
 
-/// Whether a year is a member, counted from 1970.
+/// Returns whether `years` contains a year, which is counted from 1970.
 #[tactic(auto, unfolding(crate::specs::Bits::is_in_words))]
 fn has_year(years: &[u64; 4], year: u32) -> bool
     requires { year < 256 }
@@ -69,7 +71,7 @@ fn has_year(years: &[u64; 4], year: u32) -> bool
     has_bit(years[year as usize / 64], year % 64)
 }
 
-/// The first year that isn't before `from`.
+/// Returns the first year of `years` at or after `from`.
 fn next_year(years: &[u64; 4], from: u32) -> Option<u32>
     requires { from < 256 }
     ensures { IsFirstPassing (is_in_words years.now) from 256 result }
@@ -80,7 +82,7 @@ fn next_year(years: &[u64; 4], from: u32) -> Option<u32>
     }
 }
 
-/// The first one in the same word.
+/// Returns the first year at or after `from` whose bit is in the same word.
 fn year_here(years: &[u64; 4], from: u32) -> Option<u32>
     requires { from < 256 }
     ensures { IsFirstPassing (is_in_words years.now) from ((from / 64 + 1) * 64) result }
@@ -91,7 +93,7 @@ fn year_here(years: &[u64; 4], from: u32) -> Option<u32>
     }
 }
 
-/// The first one from a word's begin on.
+/// Returns the first year whose bit is in the word with index `first` or a later one.
 fn year_later(years: &[u64; 4], first: u32) -> Option<u32>
     requires { first ≤ 4 }
     ensures { IsFirstPassing (is_in_words years.now) (first * 64) 256 result }

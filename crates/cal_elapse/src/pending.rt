@@ -1,4 +1,4 @@
-//! The instants that were placed and not yet given.
+//! A set of instants that are waiting to be returned in order.
 
 ghost use Rattle.std.specs.Prelude.{◌≡◌, [], ℤ, IfOk, slice_get, drop};
 ghost use Rattle.std.specs.Ordering.{int_cmp};
@@ -13,19 +13,19 @@ use crate::ring::{CELLS, WORDS, clear_cell, first_held, set_cell, set_cells};
 use std::alloc::Global;
 use std::marker::Model;
 
-/// What stands for the least member where there is none: no instant is as late.
+/// The value of `least` for an empty set. It is later than every instant.
 const NONE: u64 = u64::MAX;
 
-/// A set of instants, empty at first. A contract sees them as a strictly rising list.
+/// A set of instants. A contract sees it as a strictly increasing list.
 ///
-/// Any two members differ by at most 187,199, so that a bit in a round of 187,200 cells tells each from the others.
-/// Only `new` takes memory.
+/// Any two elements differ by at most 187,199 seconds. The set is a ring of 187,200 cells, one bit each, so no two
+/// elements share a cell. Only `new` allocates.
 #[derive(Drop)]
 pub struct Pending {
     /// One bit for each cell.
     cells: Box<[u64; WORDS]>,
-    /// The least member, or `NONE`: the round begins with it. It is kept, so that it is sought once for each that is
-    /// taken.
+    /// The smallest element, or `NONE`. The ring starts at its cell. It is stored so that finding it takes one scan per
+    /// removal, and none per call of `least`.
     least: u64,
 }
 
@@ -44,7 +44,7 @@ impl Pending {
     ghost use Rattle.std.specs.Prelude.{◌⊎◌, ◌↔◌, ◌<ℤ◌, IsSomeAnd};
     ghost use Rattle.cal_elapse.specs.Ring.{IsOneOf};
 
-    /// The empty set.
+    /// Creates an empty set.
     pub fn new(alloc: Global) -> Result<Pending, NoMemory>
         ensures { IfOk result (λ pending. pending ≡ []) }
     {
@@ -54,7 +54,7 @@ impl Pending {
         })
     }
 
-    /// Adds an instant, which differs from each member by at most 187,199.
+    /// Adds an instant. It must differ from each element by at most 187,199 seconds.
     pub fn put(&mut self, instant: i64)
         requires instant { IsInstant instant }
         requires near { (member : ℤ) → Has self.old member → IsNear member instant }
@@ -65,8 +65,8 @@ impl Pending {
         self.least = self.least.min(second);
     }
 
-    /// Adds instants after the least member, each of which differs from each member by at most 187,199: those whose bits
-    /// are set, bit i for i seconds after the start.
+    /// Adds several instants: bit i of `bits` stands for the instant `start` + i. All must be later than the smallest
+    /// element, which must exist, and must differ from each element by at most 187,199 seconds.
     pub fn put_all(&mut self, start: i64, bits: u64)
         requires begun { IsSomeAnd (slice_get self.old 0) (λ least. least <ℤ start) }
         requires instants { (i : ℤ) → IsOneOf start bits i → IsInstant i }
@@ -78,7 +78,7 @@ impl Pending {
         set_cells(self.cells.as_mut_slice(), second % CELLS, bits);
     }
 
-    /// The least member; `None` where there is none.
+    /// Returns the smallest element, or `None` if the set is empty.
     pub fn least(&self) -> Option<i64>
         ensures least { result ≡ slice_get self.now 0 }
         ensures rises { IsStrictlySortedBy int_cmp self.now }
@@ -91,7 +91,7 @@ impl Pending {
         }
     }
 
-    /// Removes the least member and gives it; `None` where there is none.
+    /// Removes and returns the smallest element. Returns `None` if the set is empty.
     pub fn take_least(&mut self) -> Option<i64>
         ensures least { result ≡ slice_get self.old 0 }
         ensures left { self.new ≡ drop 1 self.old }

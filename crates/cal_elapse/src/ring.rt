@@ -1,5 +1,5 @@
-//! A round of cells, one bit each, in words of 64 bits: an instant has the cell at its number modulo the count of
-//! cells.
+//! A ring of cells, one bit each, in words of 64 bits. The cell of an instant is its number of seconds modulo the
+//! number of cells.
 
 ghost use Rattle.std.specs.Prelude.{◌≡◌, ◌≢◌, ◌+◌, ◌*◌, ◌<◌, ◌≤ℤ◌, ℕ, pos, true, false, ◌||◌, length};
 ghost use Rattle.cal_zone.specs.Instant.{last_instant};
@@ -10,13 +10,15 @@ ghost use Rattle.cal_elapse.specs.Search.{IsFirstPassing};
 use crate::bits::{lowest_bit, next_bit, with_bit, without_bit};
 use crate::scan::first_set;
 
-/// How many words there are.
+/// The number of words.
 pub const WORDS: usize = 2_925;
 
-/// How many cells there are: more than twice as many as seconds that a place can lie from its local second.
+/// The number of cells. It is more than twice 93,599, the largest distance in seconds between a local second and its
+/// instant.
 pub const CELLS: u64 = 187_200;
 
-/// The first second from `low` on whose cell has it, of the seconds of one round.
+/// Returns the first second at or after `low` whose cell is set. It searches one turn of the ring, so each cell stands
+/// for one second.
 pub fn first_held(words: &[u64], low: u64) -> Option<u64>
     requires whole { length words.now ≡ 2_925 }
     requires low { pos low ≤ℤ last_instant }
@@ -33,7 +35,7 @@ pub fn first_held(words: &[u64], low: u64) -> Option<u64>
     }
 }
 
-/// The first cell from `from` on that isn't empty.
+/// Returns the first cell at or after `from` that is set.
 fn next_cell(words: &[u64], from: u64) -> Option<u64>
     requires whole { length words.now ≡ 2_925 }
     requires inside { from < 187_200 }
@@ -50,7 +52,6 @@ fn next_cell(words: &[u64], from: u64) -> Option<u64>
     Some(cell_at(word, lowest_bit(words[word])))
 }
 
-/// The cell of a bit of a word.
 fn cell_at(word: usize, bit: u32) -> u64
     requires word { word < 2_925 }
     requires bit { bit < 64 }
@@ -59,7 +60,7 @@ fn cell_at(word: usize, bit: u32) -> u64
     word as u64 * 64 + u64::from(bit)
 }
 
-/// Fills a cell.
+/// Sets a cell.
 pub fn set_cell(words: &mut [u64], cell: u64)
     requires whole { length words.old ≡ 2_925 }
     requires inside { cell < 187_200 }
@@ -71,7 +72,8 @@ pub fn set_cell(words: &mut [u64], cell: u64)
     words[word] = with_bit(words[word], (cell % 64) as u32);
 }
 
-/// Fills the cells from one on, going on round the end, whose bits are set: bit i for the cell i after it.
+/// Sets several cells at or after `cell`: bit i of `bits` stands for the cell i places after it. Wraps around at the
+/// end of the ring.
 pub fn set_cells(words: &mut [u64], cell: u64, bits: u64)
     requires whole { length words.old ≡ 2_925 }
     requires inside { cell < 187_200 }
@@ -86,7 +88,7 @@ pub fn set_cells(words: &mut [u64], cell: u64, bits: u64)
     words[next] |= bits >> 1 >> (63 - shift);
 }
 
-/// Empties a cell.
+/// Clears a cell.
 pub fn clear_cell(words: &mut [u64], cell: u64)
     requires whole { length words.old ≡ 2_925 }
     requires inside { cell < 187_200 }

@@ -1,4 +1,4 @@
-//! The first word of a slice that isn't 0, 32 words at a time.
+//! The search for the first word of a slice that isn't 0, 32 words at a time.
 
 ghost use Rattle.std.specs.Prelude.{◌≡◌, ◌<◌, ◌≤◌, ℕ, false, not, ◌==◌, length, slice_index_or};
 ghost use Rattle.std.specs.List.{position};
@@ -6,10 +6,10 @@ ghost use Rattle.cal_elapse.specs.Scan.{is_set};
 
 use std::simd::prelude::*;
 
-/// How many words are loaded at once.
+/// The number of words that one load reads.
 const LANES: usize = 32;
 
-/// The index of the first word that isn't 0; `None` where each word is 0, or there is none.
+/// Returns the index of the first word that isn't 0, or `None` if all words are 0.
 pub fn first_set(words: &[u64]) -> Option<usize>
     ensures { result ≡ position (λ x. not (x == 0)) words.now }
 {
@@ -21,8 +21,8 @@ pub fn first_set(words: &[u64]) -> Option<usize>
     None
 }
 
-/// So many words from the first on are 0: all before the load that has the first that isn't, or before the last words that
-/// fill no load.
+/// Returns a number of words at the start of the slice that are all 0, in whole loads: up to the first load with a word
+/// that isn't 0, or up to the last words, which fill no load.
 fn zeros_in_front(words: &[u64]) -> usize
     ensures inside { result ≤ length words.now }
     ensures zeros { (k : ℕ) → k < result → is_set (slice_index_or words.now k 0) ≡ false }

@@ -1,4 +1,4 @@
-//! The search for the next matching local second: the next day that matches, and on it the next time of day.
+//! The search for the next matching local second: first the next matching day, and then the time on that day.
 ghost use Rattle.std.specs.Prelude.{◌≡◌, ◌+◌, ◌*◌, ◌≤◌, ◌<◌, true, pos, ◌≤ℤ◌, unsigned_abs};
 ghost use Rattle.std.specs.Option.{option_map};
 ghost use Rattle.cal_zone.specs.Local.{IsLocalSecond};
@@ -15,18 +15,19 @@ use crate::month::month_of_day;
 use crate::time_search::{first_second, next_second};
 use cal_zone::{DAY, LOCAL_END, day_of, second_of_day};
 
-/// What a search found.
+/// The result of a search.
 #[derive(Clone, Copy, Debug, PartialEq, Eq)]
 pub struct Found {
-    /// The least matching local second; `None` where there is none.
+    /// The first matching local second, or `None` if there is none.
     pub local: Option<i64>,
-    /// How many months the search looked at, at most 2,760: those, from the month of its start to the month of its
-    /// answer or else to the end of 2199, whose year and month number are both members.
+    /// How many months the search examined, at most 2,760. It examines only months whose year and month number the
+    /// expression matches, from the month in which it starts to the month of the result, or to the end of 2199 if there
+    /// is no result.
     pub months: u32,
 }
 
-/// The least local second of the years 1970 to 2199 that matches and isn't below `from`, which is from 0 to
-/// 7,258,118,400 (systemd.time(7), Calendar Events), with the number of months looked at.
+/// Returns the first matching local second of the years 1970 to 2199 at or after `from`, which is from 0 to
+/// 7,258,118,400 (systemd.time(7), Calendar Events), with the number of months examined.
 #[tactic(auto, using(cal_zone::proofs::LocalLemmas::local_arith, crate::proofs::LookLemmas::looks_most))]
 pub fn next_local(masks: &Masks, from: i64) -> Found
     requires low { pos 0 ≤ℤ from }
@@ -65,8 +66,8 @@ pub fn next_local(masks: &Masks, from: i64) -> Found
     }
 }
 
-/// The next match after a match. Where it lies on the same day, the one month looked at is that of the match, whose
-/// year and number are members.
+/// Returns the first match after `local`, which must itself match. If the result is on the same day, one month was
+/// examined: the month of `local`, which is known to match.
 #[tactic(auto, using(cal_zone::proofs::LocalLemmas::local_arith))]
 pub(crate) fn next_after(masks: &Masks, local: i64) -> Found
     requires inside { IsLocalSecond local }
@@ -82,7 +83,7 @@ pub(crate) fn next_after(masks: &Masks, local: i64) -> Found
     }
 }
 
-/// The local second of a day, by its number, and a time of day.
+/// Returns the local second of a day number and a time of day.
 fn local_on(day: u32, second: u32) -> i64
     requires day { day < 84_006 }
     requires second { second < 86_400 }
@@ -91,7 +92,7 @@ fn local_on(day: u32, second: u32) -> i64
     i64::from(day) * DAY + i64::from(second)
 }
 
-/// The next time of day after one; `None` where the day ends before.
+/// Returns the first matching time of day after `second`, or `None` if none is left on that day.
 fn second_after(masks: &Masks, second: u32) -> Option<u32>
     requires { second < 86_400 }
     ensures { IsFirstPassing (time_in (sets_in masks.now)) (second + 1) 86_400 result }
@@ -103,7 +104,8 @@ fn second_after(masks: &Masks, second: u32) -> Option<u32>
     }
 }
 
-/// The day from which on days are sought: the first one, unless nothing of it is left.
+/// Returns the first day that can have a result: the day of the start if a matching time is left on it, and otherwise
+/// the day after.
 fn day_to_start(day: u32, today: Option<u32>) -> u32
     requires { day < 84_006 }
     ensures { result ≡ day_to_start day today }
@@ -114,7 +116,8 @@ fn day_to_start(day: u32, today: Option<u32>) -> u32
     }
 }
 
-/// The time of day on the day that was found: on the first day what is left of it, on a later one the first of all.
+/// Returns the time of the result: the first matching time left on the day of the start, or the first matching time of
+/// any later day.
 fn second_on(found: u32, day: u32, today: Option<u32>, first: u32) -> u32
     ensures { result ≡ second_on found day today first }
 {

@@ -1,4 +1,4 @@
-//! The search of an expression's matches, whose calls are counted.
+//! The search for an expression's matches. It counts its calls.
 
 ghost use Rattle.std.specs.Prelude.{◌≡◌, ◌+◌, ◌-◌, ◌*◌, ◌/◌, ◌<◌, ◌≤◌, ◌≤ℤ◌, pos, true, false, max, None, IfSome, unsigned_abs, unwrap_or};
 ghost use Rattle.std.specs.Option.{option_map};
@@ -19,44 +19,45 @@ use crate::{Masks, matched};
 use cal_spec::Expr;
 use cal_zone::{LOCAL_END, second_of_day};
 
-/// Where a search begins.
+/// The starting point of a search.
 #[derive(Drop)]
 pub enum Start {
     /// At a local second, from 0 to 7,258,118,400.
     At(i64),
-    /// After a match. Its day matches, so that no day is sought where the next match lies on it too.
+    /// After a match. Its day is known to match, so if the next match is on the same day, no search for a day is
+    /// needed.
     After(i64),
 }
 
-/// What is left of a match's minute, once it was searched.
+/// The matches that were found after a match in its minute.
 #[derive(Drop)]
 pub struct RestOfMinute {
-    /// A bit for each match after it: bit i for the local second i + 1 after it.
+    /// One bit for each of them: bit i for the local second i + 1 seconds after the match.
     pub bits: u64,
-    /// The last of them; the match itself where there is none.
+    /// The last of them, or the match itself if there are none.
     pub last: i64,
     ghost last_in: { IsLocalSecond last },
 }
 
-/// The masks of an expression, how often they were searched, and the most months that one of these searches looked at.
-/// The fields are private, so that nothing is searched without being counted.
+/// The masks of an expression, the number of searches made with them, and the largest number of months that a single
+/// search examined. The fields are private, so that every search is counted.
 ///
-/// The matches after the last one in its minute, and the minutes after it in its hour, are kept as bits, because most
-/// searches end in the same minute or the same hour.
+/// Most searches end in the same minute or the same hour. The remaining matches in the minute of the last match, and
+/// the remaining minutes with matches in its hour, are therefore kept as bits.
 #[derive(Drop)]
 pub struct Searcher {
     masks: Masks,
     searches: u64,
     most_months: u32,
-    /// The match that was found last; before any the end of the local seconds.
+    /// The match that was found last. Before the first one, it is the end of the local seconds.
     found: i64,
-    /// The local second of the lowest bit of `left`.
+    /// The local second for which the lowest bit of `left` stands.
     from: i64,
-    /// A bit for each match after the last one, in its minute.
+    /// One bit for each match after the last one in its minute.
     left: u64,
-    /// The minute of the lowest bit of `minutes`, counted from the start of 1970.
+    /// The minute for which the lowest bit of `minutes` stands, counted from the start of 1970.
     minute: u32,
-    /// A bit for each minute with matches after that of the last match, in its hour.
+    /// One bit for each later minute with matches in the hour of the last match.
     minutes: u64,
     ghost few_months: { most_months ≤ 2_760 },
     ghost found_low: { pos 0 ≤ℤ found },
@@ -66,7 +67,7 @@ pub struct Searcher {
 }
 
 impl Searcher {
-    /// Of an expression, before any search.
+    /// Creates a searcher for an expression. It has made no searches.
     pub fn of(expr: &Expr) -> Searcher
         ensures masks { sets_in result.masks ≡ sets_of expr.now }
         ensures none { result.searches ≡ 0 }
@@ -84,14 +85,14 @@ impl Searcher {
         }
     }
 
-    /// How often they were searched: the calls of `search`.
+    /// Returns how many times `search` was called.
     pub fn searches(&self) -> u64
         ensures { result ≡ self.now.searches }
     {
         self.searches
     }
 
-    /// The most months that one of these searches looked at.
+    /// Returns the largest number of months that a single search examined.
     pub fn most_months(&self) -> u32
         ensures kept { result ≡ self.now.most_months }
         ensures few { result ≤ 2_760 }
@@ -99,8 +100,8 @@ impl Searcher {
         self.most_months
     }
 
-    /// The least matching local second from the start on, with the months looked at. Each call is one search, and it
-    /// answers what `next_local` does from there on.
+    /// Returns the first matching local second from `start` on, with the number of months examined. Each call counts as
+    /// one search. The result is the same as that of `next_local` from there.
     #[inline(always)]
     pub fn search(&mut self, start: Start) -> Found
         requires start { CanStart (matches (sets_in self.old.masks)) start }
@@ -128,7 +129,8 @@ impl Searcher {
         matched::is_match(&self.masks, local)
     }
 
-    /// Whether more is left of the minute of a match, as far as that is known.
+    /// Returns whether later matches in the minute of `local` are known. They are known only for the match that was
+    /// found last.
     pub fn has_left(&self, local: i64) -> bool
         ensures more { result ≡ true → IsMoreLeft (matches (sets_in self.now.masks)) (unsigned_abs local) }
         ensures none { result ≡ false → local ≡ self.now.found
@@ -137,8 +139,8 @@ impl Searcher {
         self.left != 0 && self.found == local
     }
 
-    /// Searches on after a match to the end of its minute, where it is known what is left of that. Each bit is what one
-    /// search found.
+    /// Searches for the matches after `local`, a match, to the end of its minute. Finds none if `local` isn't the match
+    /// that was found last. Each match in the result counts as one search.
     pub fn search_left(&mut self, local: i64) -> RestOfMinute
         requires start { CanStart (matches (sets_in self.old.masks)) (Start.After local) }
         requires few { self.old.searches ≤ unsigned_abs local + 1 }
@@ -159,7 +161,8 @@ impl Searcher {
         RestOfMinute { bits, last }
     }
 
-    /// The next match in the minute of a match, by one search; `None`, without a search, where none is known to be left.
+    /// Returns the next match in the minute of `local`, a match, found by one search. Returns `None` without a search
+    /// if no later match in the minute is known.
     #[inline(always)]
     fn next_left(&mut self, local: i64) -> Option<i64>
         requires start { CanStart (matches (sets_in self.old.masks)) (Start.After local) }
@@ -182,7 +185,8 @@ impl Searcher {
         self.search(Start::After(local)).local
     }
 
-    /// Returns whether a later minute in the hour of a match is known to have matches, too.
+    /// Returns whether a later minute with matches in the hour of `local` is known. Such minutes are known only for the
+    /// match that was found last.
     pub fn has_later(&self, local: i64) -> bool
         ensures { result ≡ true → matches (sets_in self.now.masks) (unsigned_abs local) ≡ true
             → IsMoreLater (matches (sets_in self.now.masks)) (unsigned_abs local) }
@@ -190,8 +194,8 @@ impl Searcher {
         self.minutes != 0 && self.found == local
     }
 
-    /// Searches on after a match through its hour, as far as it is known which minutes have matches. Returns the last match
-    /// that was found, which is the given one if none is known.
+    /// Searches for the matches after `local`, a match, through its hour, while the next one is known to be in that
+    /// hour. Returns the last match found, or `local` if there is none.
     pub fn search_hour(&mut self, local: i64) -> i64
         requires start { CanStart (matches (sets_in self.old.masks)) (Start.After local) }
         requires few { self.old.searches ≤ unsigned_abs local + 1 }
@@ -211,8 +215,8 @@ impl Searcher {
         last
     }
 
-    /// Returns the next match after a match, found by one search, if it is known to be in the same hour. Otherwise returns
-    /// `None` without a search.
+    /// Returns the next match after `local`, a match, found by one search, if it is known to be in the same hour.
+    /// Otherwise returns `None` without a search.
     #[inline(always)]
     fn next_later(&mut self, local: i64) -> Option<i64>
         requires start { CanStart (matches (sets_in self.old.masks)) (Start.After local) }
@@ -233,7 +237,7 @@ impl Searcher {
         self.search(Start::After(local)).local
     }
 
-    /// The least match from a local second on.
+    /// Finds the first match at or after a local second.
     fn find_at(&mut self, local: i64) -> Found
         requires low { pos 0 ≤ℤ local }
         requires high { local ≤ℤ pos seconds_in_all }
@@ -248,7 +252,8 @@ impl Searcher {
         found
     }
 
-    /// The next match after a match: the next one in its minute, if that is the match that was found last.
+    /// Finds the next match after `local`, a match. Takes it from the stored bits if `local` is the match that was
+    /// found last and another one follows in its minute or hour.
     #[inline(always)]
     fn find_after(&mut self, local: i64) -> Found
         requires inside { IsLocalSecond local }
@@ -272,7 +277,7 @@ impl Searcher {
         found
     }
 
-    /// The next match in the minute of the match that was found last. The one month looked at is that of both.
+    /// Takes the next match from the stored bits of the minute. One month was examined, the month of both matches.
     #[inline(always)]
     fn find_left(&mut self) -> Found
         requires { 0 < self.old.left }
@@ -292,8 +297,8 @@ impl Searcher {
         }
     }
 
-    /// Returns the first match of the next minute with matches, if that minute is in the same hour and nothing is left of
-    /// the minute of the last match. The search examines one month, that of both matches.
+    /// Takes the next match from the stored bits of the hour: the first match of the next minute that has any. No bits
+    /// of the current minute may be left. One month was examined, the month of both matches.
     #[inline(always)]
     fn find_later(&mut self) -> Found
         requires none { self.old.left ≡ 0 }
@@ -316,7 +321,7 @@ impl Searcher {
         }
     }
 
-    /// Stores the match that was found last, with the rest of its minute and of its hour.
+    /// Stores the match that was found last, with the remaining bits of its minute and its hour.
     #[tactic(auto, using(cal_zone::proofs::LocalLemmas::local_arith))]
     fn keep(&mut self, found: Option<i64>)
         requires { IfSome found

@@ -1,4 +1,4 @@
-//! The next time of day whose hour, minute and second are members, by jumps from bit to bit (systemd.time(7), Calendar
+//! The search for the next matching time of day. It jumps from bit to bit of the masks (systemd.time(7), Calendar
 //! Events).
 
 ghost use Rattle.std.specs.Prelude.{◌≡◌, ◌+◌, ◌*◌, ◌/◌, ◌<◌, ◌≤◌};
@@ -10,7 +10,8 @@ ghost use Rattle.cal_spec.specs.headline.Match.{time_in};
 use crate::Masks;
 use crate::bits::{has_bit, lowest_bit, next_bit};
 
-/// The first time of day that isn't before `from`, in seconds after midnight, below 86,400; `None` where there is none.
+/// Returns the first matching time of day at or after `from`, in seconds since midnight, below 86,400. Returns `None`
+/// if no such time is left.
 pub(crate) fn next_second(masks: &Masks, from: u32) -> Option<u32>
     requires { from < 86_400 }
     ensures { IsFirstPassing (time_in (sets_in masks.now)) from 86_400 result }
@@ -21,7 +22,7 @@ pub(crate) fn next_second(masks: &Masks, from: u32) -> Option<u32>
     }
 }
 
-/// The first time of day.
+/// Returns the first matching time of day, in seconds since midnight.
 pub(crate) fn first_second(masks: &Masks) -> u32
     ensures { IsFirstPassing (time_in (sets_in masks.now)) 0 86_400 (Some result) }
 {
@@ -29,7 +30,7 @@ pub(crate) fn first_second(masks: &Masks) -> u32
     minute * 60 + lowest_bit(masks.seconds)
 }
 
-/// The first one in the same minute.
+/// Returns the first matching time of day at or after `from` and in the same minute.
 fn second_here(masks: &Masks, from: u32) -> Option<u32>
     requires { from < 86_400 }
     ensures { IsFirstPassing (time_in (sets_in masks.now)) from ((from / 60 + 1) * 60) result }
@@ -43,7 +44,7 @@ fn second_here(masks: &Masks, from: u32) -> Option<u32>
     }
 }
 
-/// The first one from a minute's begin on.
+/// Returns the first matching time of day at or after the start of a minute, which is counted from midnight.
 fn second_later(masks: &Masks, minute: u32) -> Option<u32>
     requires { minute ≤ 1_440 }
     ensures { IsFirstPassing (time_in (sets_in masks.now)) (minute * 60) 86_400 result }
@@ -54,7 +55,7 @@ fn second_later(masks: &Masks, minute: u32) -> Option<u32>
     }
 }
 
-/// The first minute of the day that isn't before `from` and whose hour and minute are members.
+/// Returns the first minute of the day at or after `from` whose hour and minute the expression matches.
 fn next_minute(masks: &Masks, from: u32) -> Option<u32>
     requires { from ≤ 1_440 }
     ensures { IsFirstPassing (minute_in (sets_in masks.now)) from 1_440 result }
@@ -68,7 +69,7 @@ fn next_minute(masks: &Masks, from: u32) -> Option<u32>
     }
 }
 
-/// Whether the hour and the minute are members.
+/// Returns whether the expression matches the hour and the minute of this minute of the day.
 #[tactic(auto, unfolding(crate::specs::Months::minute_in, crate::specs::Masks::sets_in))]
 pub(crate) fn has_minute(masks: &Masks, minute: u32) -> bool
     requires { minute < 1_440 }
@@ -77,7 +78,7 @@ pub(crate) fn has_minute(masks: &Masks, minute: u32) -> bool
     has_bit(masks.hours, minute / 60) && has_bit(masks.minutes, minute % 60)
 }
 
-/// The first one in the same hour.
+/// Returns the first matching minute of the day at or after `from` and in the same hour.
 fn minute_here(masks: &Masks, from: u32) -> Option<u32>
     requires { from < 1_440 }
     ensures { IsFirstPassing (minute_in (sets_in masks.now)) from ((from / 60 + 1) * 60) result }
@@ -91,7 +92,7 @@ fn minute_here(masks: &Masks, from: u32) -> Option<u32>
     }
 }
 
-/// The first one from an hour's begin on.
+/// Returns the first matching minute of the day at or after the start of an hour.
 fn minute_later(masks: &Masks, hour: u32) -> Option<u32>
     requires { hour ≤ 24 }
     ensures { IsFirstPassing (minute_in (sets_in masks.now)) (hour * 60) 1_440 result }

@@ -1,4 +1,4 @@
-//! The matches of an expression in a zone, placed one after another.
+//! The conversion of an expression's matches to instants, in the order in which the matches are found.
 
 ghost use Rattle.std.specs.Prelude.{◌≡◌, ◌+◌, ◌*◌, ◌/◌, ◌≤◌, ℤ, pos, ◌+ℤ◌, ◌≤ℤ◌, cond, unsigned_abs};
 ghost use Rattle.cal_zone.specs.Local.{IsLocalSecond};
@@ -14,21 +14,22 @@ use cal_spec::Expr;
 use cal_zone::{Instant, Placer, Zone};
 use std::alloc::Global;
 
-/// How far a place can lie from its local second.
+/// The largest distance in seconds between a local second and its instant: the largest UTC offset, 25:59:59.
 const FARTHEST: i64 = 93_599;
 
-/// What is pending of the elapses of an expression in a zone. Every public call leaves it ready, as `IsReady` says.
+/// The state of a source of elapses: the search, the pending instants, and the instant returned last. Every public call
+/// leaves it ready, as `IsReady` says.
 #[derive(Drop)]
 pub struct Window<'z> {
     pub searcher: Searcher,
     zone: Placer<'z>,
-    /// What all elapses are later than.
+    /// The base: all elapses are later than this instant.
     base: i64,
-    /// The match that was found and isn't placed yet.
+    /// The match that was found last and not converted yet, or `None` if no match is left.
     ahead: Option<i64>,
-    /// The instant that was given last, or the base.
+    /// The instant that was returned last, or the base if none was.
     pub last: i64,
-    /// The places above `last` of the matches before the one ahead.
+    /// The instants after `last` of the matches before `ahead`.
     pending: Pending,
 }
 
@@ -45,7 +46,8 @@ impl<'z> Window<'z> {
     ghost use Rattle.cal_elapse.specs.Window.{IsPlacedTo, IsReady, timed_of, to_place};
     ghost use Rattle.cal_spec.specs.headline.Members.{sets_of};
 
-    /// Before anything is placed. The first search begins where a place can be above the base.
+    /// Creates the window and searches for the first match. The search starts at the first local second that can have
+    /// an instant after the base.
     pub fn new(
         alloc: Global,
         expr: &Expr,
@@ -75,7 +77,7 @@ impl<'z> Window<'z> {
         })
     }
 
-    /// Places matches until the least pending instant can be given.
+    /// Converts matches to instants until no later match can precede the smallest pending instant.
     #[tactic(auto, using(cal_zone::proofs::LocalLemmas::local_arith, crate::proofs::ReadyLemmas::few_searches, crate::proofs::ReadyLemmas::placed_is_match))]
     pub fn fill(&mut self)
         requires { IsReady self.old }
@@ -86,7 +88,7 @@ impl<'z> Window<'z> {
         ensures last { self.new.last ≡ self.old.last }
         ensures full { to_place self.new.ahead (slice_get self.new.pending 0) ≡ None }
     {
-        // A variable of the loop's own, so that it stays in a register from one match to the next.
+        // A variable of the loop, so that it stays in a register from one match to the next.
         let mut ahead = self.ahead;
         while let Some(local) = ahead {
             if !is_to_place(local, self.pending.least()) {
@@ -99,8 +101,10 @@ impl<'z> Window<'z> {
         self.ahead = ahead;
     }
 
-    /// Places what is left of the minute of a match that is placed, where all of that is to be placed and can be at once.
-    /// Gives the last match that is placed.
+    /// Searches for all remaining matches in the minute of `local`, a match that was converted, and converts them at
+    /// once. This is possible only if every second of the minute has to be converted now and the UTC offset is constant
+    /// to the end of the minute; if not, nothing changes. If no matches are left in the minute, calls `pass_hour`
+    /// instead. Returns the last match that was converted, which can be `local`.
     #[tactic(auto, using(cal_zone::proofs::LocalLemmas::local_arith, crate::proofs::ReadyLemmas::few_searches, crate::proofs::ReadyLemmas::placed_is_match))]
     fn place_rest(&mut self, local: i64) -> i64
         requires { IsPlacedTo self.old local }
@@ -124,9 +128,10 @@ impl<'z> Window<'z> {
         };
         let place = local - offset;
         match least {
-            // No place of what is left is above the last instant given.
+            // No instant of the rest is after the instant returned last.
             None if end - offset <= self.last => self.searcher.search_left(local).last,
-            // All that is left lies after the least pending instant, as the match lies at it or after it.
+            // All instants of the rest are after the smallest pending one, because the instant of the match isn't
+            // before it.
             Some(least) if least <= place => {
                 let rest = self.searcher.search_left(local);
                 self.pending.put_all(place + 1, rest.bits);
@@ -136,8 +141,9 @@ impl<'z> Window<'z> {
         }
     }
 
-    /// Searches on through the hour of a match that is placed, if nothing is pending and no place up to the end of that hour
-    /// is above the last instant given. Returns the last match that is placed.
+    /// Searches for all remaining matches in the hour of `local`, a match that was converted, if nothing is pending and
+    /// no instant up to the end of that hour is after the instant returned last. These matches need no conversion.
+    /// Returns the last of them, or `local` if nothing was searched.
     #[tactic(auto, using(cal_zone::proofs::LocalLemmas::local_arith, crate::proofs::ReadyLemmas::few_searches, crate::proofs::ReadyLemmas::placed_is_match))]
     fn pass_hour(&mut self, local: i64) -> i64
         requires { IsPlacedTo self.old local }
@@ -158,7 +164,7 @@ impl<'z> Window<'z> {
         }
     }
 
-    /// Gives the least pending instant.
+    /// Removes and returns the smallest pending instant. The caller must have called `fill` before.
     pub fn take(&mut self) -> Option<i64>
         requires ready { IsReady self.old }
         requires full { to_place self.old.ahead (slice_get self.old.pending 0) ≡ None }
@@ -179,8 +185,8 @@ impl<'z> Window<'z> {
         instant
     }
 
-    /// Returns whether the instant is an elapse of the expression, already returned or not. It is one if the local second
-    /// that the zone's clock shows at the instant matches and has its place there. This makes no search.
+    /// Returns whether `instant` is an elapse of the expression, already returned or not. It is one if the local second
+    /// that the zone's clock shows at the instant matches and resolves to the instant. This makes no search.
     pub fn has_elapse(&mut self, instant: Instant) -> bool
         ensures has { (result ≡ true) ↔ IsPlace (timed_of self.old) instant.secs }
         ensures same { self.new ≡ self.old }
@@ -192,7 +198,7 @@ impl<'z> Window<'z> {
     }
 }
 
-/// The local second that the first search begins at: no place of an earlier one is above the base.
+/// Returns the local second at which the first search starts. No earlier local second has an instant after the base.
 #[tactic(auto, using(cal_zone::proofs::LocalLemmas::local_arith))]
 fn first_local(base: Instant) -> i64
     ensures start { result ≡ pos (start_of base.secs) }
@@ -201,7 +207,7 @@ fn first_local(base: Instant) -> i64
     (base.secs() - FARTHEST).max(0)
 }
 
-/// The last local second of the minute of a local second.
+/// Returns the last local second of the minute of `local`.
 fn minute_end(local: i64) -> i64
     requires { IsLocalSecond local }
     ensures { result ≡ pos (unsigned_abs local / 60 * 60 + 59) }
@@ -209,7 +215,7 @@ fn minute_end(local: i64) -> i64
     local / 60 * 60 + 59
 }
 
-/// Returns the last local second of the hour of a local second.
+/// Returns the last local second of the hour of `local`.
 fn hour_end(local: i64) -> i64
     requires { IsLocalSecond local }
     ensures { result ≡ pos (unsigned_abs local / 3_600 * 3_600 + 3_599) }
@@ -217,8 +223,8 @@ fn hour_end(local: i64) -> i64
     local / 3_600 * 3_600 + 3_599
 }
 
-/// Whether a match is to be placed before the least pending instant can be given: it could be placed at that instant or
-/// before it.
+/// Returns whether this match could still yield an instant at or before `least`, the smallest pending one, and so has
+/// to be converted first. If nothing is pending, every match has to be converted.
 fn is_to_place(local: i64, least: Option<i64>) -> bool
     requires { IsLocalSecond local }
     ensures { to_place (Some local) least ≡ cond result (Some local) None }
@@ -229,7 +235,7 @@ fn is_to_place(local: i64, least: Option<i64>) -> bool
     }
 }
 
-/// Puts the place of a local second where it is above the last instant given.
+/// Adds the instant of a local second to the pending ones if it exists and is after the instant returned last.
 fn put_place(pending: &mut Pending, placer: &mut Placer<'_>, local: i64, last: i64)
     requires local_in { IsLocalSecond local }
     requires last_in { pos 0 ≤ℤ last }

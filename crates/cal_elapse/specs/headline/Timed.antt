@@ -1,4 +1,4 @@
--- What a calendar expression in a zone means: systemd.time(7), Calendar Events.
+-- The meaning of a calendar expression in a zone: systemd.time(7), Calendar Events.
 use Rattle.std.specs.Prelude.{pos}
 use Rattle.jiff.specs.Types.{TimeZone}
 use Rattle.cal_zone.specs.headline.Place.{place_of}
@@ -7,6 +7,6 @@ use Rattle.cal_spec.specs.headline.Fields.{Fields}
 use Rattle.cal_spec.specs.headline.Match.{matches}
 use Rattle.cal_spec.specs.headline.Members.{sets_of}
 
--- the local seconds that match, and their places on the zone's clock
+-- the local seconds that match, and the instants to which the zone resolves them
 unfoldable pub timed : Fields → TimeZone → Timed
 timed fields tz = record { matches = matches (sets_of fields); place = λ local. place_of tz (pos local) }

@@ -1,4 +1,4 @@
--- The parts so far decide.
+-- The mask has the values of the parts so far.
 use Rattle.std.proofs.Common.{◌≡◌, ◌&&◌, ◌+◌, ℕ, nat_lt, take}
 use Rattle.std.specs.List.{list_any}
 use Rattle.cal_elapse.specs.Bits.{is_bit}

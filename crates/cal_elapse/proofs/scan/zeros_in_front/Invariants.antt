@@ -2,6 +2,6 @@ use Rattle.std.proofs.Common.{◌≡◌, ◌*◌, ◌<◌, ℕ, false, get_or}
 use Rattle.cal_elapse.specs.Scan.{is_set}
 use Rattle.cal_elapse.proofs.scan.zeros_in_front.Given as goal
 
--- the words of the loads gone through are 0
+-- all words of the loads so far are 0
 abbrev pub invariant-loop-block : goal.invariant-loop-block
 invariant-loop-block l = (k : ℕ) → k < l.block * 32 → is_set (get_or l.words k 0) ≡ false

@@ -8,7 +8,7 @@ use Rattle.cal_elapse.specs.Near.{IsNear}
 use Rattle.cal_elapse.proofs.WindowLemmas.{put_instant, put_near}
 use Rattle.cal_elapse.proofs.window.put_place.Goals as goal
 
--- what is found for a local second as it is passed
+-- the instant of a local second, which is unchanged as an argument
 place_found : (tz : TimeZone) (local : ℤ) (found : Option ℤ) → FitsSigned w64 local → found ≡ place_of tz (to_z w64 (of_z w64 local)) → place_of tz local ≡ found
 place_found tz local found fits at = sym (at ∙ ap (place_of tz) (to_z-of_z w64 local fits))
 

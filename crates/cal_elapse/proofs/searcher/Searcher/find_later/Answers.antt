@@ -12,11 +12,11 @@ use Rattle.cal_elapse.proofs.searcher.Searcher.find_later.Goals as goal
 inside : (c : After-lowest_bit) → c.args.self.now.minute + c.lowest_bit.result < 120_968_640
 inside c = minutes_inside c.args.self.now.masks (unsigned_abs c.args.self.now.found) _ _ _ c.args.self.now.are_left c.lowest_bit.ensures
 
--- nothing is left of the minute
+-- no bits of the minute are left
 none : (c : After-lowest_bit) → IsLeft (matches (sets_in c.args.self.now.masks)) (unsigned_abs c.args.self.now.found) (unsigned_abs c.args.self.now.from) 0
 none c = rw c.requires.none at c.args.self.now.is_left
 
--- the local second, and the one behind it, as they are kept
+-- the stored local second, and the one after it
 local_is : (c : After-local_in-local) → to_z w64 (of_z w64 c.local_in-local.result) ≡ pos ((c.args.self.now.minute + c.lowest_bit.result) * 60 + c.lowest_bit-second.result)
 local_is c =
     let fits : FitsSigned w64 c.local_in-local.result = search rules in

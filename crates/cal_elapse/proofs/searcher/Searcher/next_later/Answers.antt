@@ -21,13 +21,13 @@ returns-then-not-has_later-clause-counted c =
 pub returns-clause-inside : goal.returns-clause-inside
 returns-clause-inside c = IfSome_then c.search.result.local (first_match _ _ _ (omega (arith, ints)) c.search.ensures.found.first) (λ x found. found.0)
 
--- that another match follows in the hour, and the search found it
+-- there is another match in the hour, and the search found it
 known : (c : goal.After-search) → IfSome c.search.result.local (λ next. IsNextLater (matches (sets_in c.args.self.now.masks)) (unsigned_abs c.args.local) (unsigned_abs next)) × IsSome c.search.result.local
 known c =
     let fits : FitsSigned w64 c.args.local = c.ranges.local in
     hour_found c.args.self.now.masks (unsigned_abs c.args.local) c.search.result.local (simp to_z-of_z at c.has_later.ensures c.if-not-has_later.false c.requires.start.1) (simp to_z-of_z at c.search.ensures.found).first
 
--- and it is the first one
+-- and it is the first match after `local`
 first : (c : goal.After-search) → IsFirstPassing (matches (sets_in c.args.self.now.masks)) (unsigned_abs c.args.local + 1) seconds_in_all (option_map unsigned_abs c.search.result.local)
 first c =
     let fits : FitsSigned w64 c.args.local = c.ranges.local in

@@ -9,7 +9,7 @@ use Rattle.cal_elapse.proofs.MostLemmas.{search_looked}
 use Rattle.cal_elapse.proofs.ReadyLemmas.{begun_ready, timed_by-timed}
 use Rattle.cal_elapse.proofs.window.Window.new.Goals as goal
 
--- where the first search begins
+-- the first search starts at `start_of base`
 begin_is : (first base : ℤ) → FitsSigned w64 first → first ≡ pos (start_of base) → unsigned_abs (to_z w64 (of_z w64 first)) ≡ start_of base
 begin_is first base fits is = ap unsigned_abs (to_z-of_z w64 first fits ∙ is)
 

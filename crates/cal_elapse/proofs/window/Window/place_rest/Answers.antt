@@ -10,14 +10,14 @@ use Rattle.cal_elapse.proofs.WindowLemmas.{near_ahead}
 use Rattle.cal_elapse.proofs.window.Window.place_rest.Goals.{After-search_left-rest, In-Some}
 use Rattle.cal_elapse.proofs.window.Window.place_rest.Goals as goal
 
--- how far the clock is ahead
+-- the UTC offset is constant to the end of the minute
 run_at : (c : In-Some) → IsRun (zone_of c.args.self.now.zone) (unsigned_abs c.args.local) (unsigned_abs c.args.local / 60 * 60 + 59) c.args.local c.minute_end-end.result c.in-Some.offset
 run_at c =
     let fits : FitsSigned w64 c.args.local = c.ranges.local in
     run_of _ (unsigned_abs c.args.local) _ _ _ c.in-Some.offset (omega arith) (minute_end _ (local_inside c.args.local c.requires.found.0)) (search rules) (sym (pos_unsigned_abs c.args.local _ c.requires.found.0.0 refl))
     (simp to_z-of_z at c.minute_end-end.ensures) c.in-Some.ensures
 
--- what is left behind the match
+-- the remaining matches of the minute
 behind : (c : After-search_left-rest) → IsRun (zone_of c.args.self.now.zone) (unsigned_abs c.args.local) (unsigned_abs c.args.local / 60 * 60 + 59) c.args.local c.minute_end-end.result c.in-Some.offset
     → IsBehind c.args.self.now (unsigned_abs c.args.local) c.search_left-rest.result.bits (unsigned_abs c.search_left-rest.result.last) c.in-Some.offset c.in-Some-least.least
 behind c run =
