@@ -78,10 +78,15 @@ _calendar_analyze() {
     read -ra words <<< "${line%"$whole"}"
     COMPREPLY=()
     if [ "${#words[@]}" -eq 0 ]; then
-        _calendar_analyze_offer "$whole" '' < <(compgen -W 'calendar timestamp timespan timer --help --version' -- "$whole")
+        _calendar_analyze_offer "$whole" '' < <(compgen -W 'calendar timestamp timespan timer help --help --version' -- "$whole")
         return
     fi
     case $verb in
+    help)
+        [ "${#words[@]}" -gt 1 ] ||
+            _calendar_analyze_offer "$whole" '' < <(compgen -W 'calendar timestamp timespan timer' -- "$whole")
+        return
+        ;;
     calendar | timer) options='--iterations= --base-time= --now= --zones= --local= --help' ;;
     timestamp) options='--now= --zones= --local= --help' ;;
     *) options=--help ;;

@@ -16,6 +16,12 @@ function __calendar_analyze_zones
     end
 end
 
+function __calendar_analyze_verb_is
+    # Returns whether the first argument is one of these verbs.
+    set -l words (commandline -opc)
+    set -q words[2]; and contains -- $words[2] $argv
+end
+
 set -l elapses 'calendar timer'
 set -l zones 'calendar timer timestamp'
 
@@ -24,13 +30,16 @@ complete -c calendar-analyze -n __fish_use_subcommand -a calendar -d 'parse cale
 complete -c calendar-analyze -n __fish_use_subcommand -a timestamp -d 'parse timestamps and show the instants they resolve to'
 complete -c calendar-analyze -n __fish_use_subcommand -a timespan -d 'parse time spans and show how long they are'
 complete -c calendar-analyze -n __fish_use_subcommand -a timer -d 'parse a timer file and show when its expressions next elapse'
+complete -c calendar-analyze -n __fish_use_subcommand -a help -d 'print help, or the help of a verb'
 complete -c calendar-analyze -n __fish_use_subcommand -s V -l version -d 'print the version'
-complete -c calendar-analyze -s h -l help -d 'print help'
-complete -c calendar-analyze -n "__fish_seen_subcommand_from $elapses" -l iterations -x -d 'show at most N elapses, 1 to 1000000'
-complete -c calendar-analyze -n "__fish_seen_subcommand_from $elapses" -l base-time -x -d 'show elapses after this timestamp'
-complete -c calendar-analyze -n "__fish_seen_subcommand_from $zones" -l now -x -a '@' -d 'present time in Unix seconds'
-complete -c calendar-analyze -n "__fish_seen_subcommand_from $zones" -l zones -r -F -d 'read zone files NAME=FILE,..'
-complete -c calendar-analyze -n "__fish_seen_subcommand_from $zones" -l local -x -a '(__calendar_analyze_zones)' -d 'local zone'
-complete -c calendar-analyze -n '__fish_seen_subcommand_from timer' -k -a '(__fish_complete_suffix .timer)'
-complete -c calendar-analyze -n '__fish_seen_subcommand_from calendar' -a 'minutely hourly daily weekly monthly quarterly semiannually yearly'
-complete -c calendar-analyze -n '__fish_seen_subcommand_from timestamp' -a 'now today yesterday tomorrow'
+complete -c calendar-analyze -n 'not __calendar_analyze_verb_is help' -s h -l help -d 'print help'
+complete -c calendar-analyze -n "__calendar_analyze_verb_is $elapses" -l iterations -x -d 'show at most N elapses, 1 to 1000000'
+complete -c calendar-analyze -n "__calendar_analyze_verb_is $elapses" -l base-time -x -d 'show elapses after this timestamp'
+complete -c calendar-analyze -n "__calendar_analyze_verb_is $zones" -l now -x -a '@' -d 'present time in Unix seconds'
+complete -c calendar-analyze -n "__calendar_analyze_verb_is $zones" -l zones -r -F -d 'read zone files NAME=FILE,..'
+complete -c calendar-analyze -n "__calendar_analyze_verb_is $zones" -l local -x -a '(__calendar_analyze_zones)' -d 'local zone'
+complete -c calendar-analyze -n '__calendar_analyze_verb_is timer' -k -a '(__fish_complete_suffix .timer)'
+complete -c calendar-analyze -n '__calendar_analyze_verb_is calendar' -a 'minutely hourly daily weekly monthly quarterly semiannually yearly'
+complete -c calendar-analyze -n '__calendar_analyze_verb_is timestamp' -a 'now today yesterday tomorrow'
+complete -c calendar-analyze -n '__calendar_analyze_verb_is help; and test (count (commandline -opc)) -eq 2' \
+    -a 'calendar timestamp timespan timer'

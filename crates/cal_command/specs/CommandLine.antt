@@ -43,7 +43,6 @@ command_app = record {
   top = record (new_app (codes "calendar-analyze")).top {
     is_leaf = false;
     no_binary_name = true;
-    disable_help_subcommand = true;
     has_version = true;
     subcommand_required = true;
   };

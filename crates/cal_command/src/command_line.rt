@@ -212,7 +212,6 @@ fn build_command<'a>(alloc: Global) -> Result<Command<'a>, AllocError>
         .about("Analyze systemd calendar expressions, timestamps, time spans and timers")
         .after_help(STATUSES)
         .no_binary_name(true)
-        .disable_help_subcommand(true)
         .subcommand_required(true)
         .bin_name("calendar-analyze")?
         .subcommand(build_calendar(alloc)?)?
