@@ -1,4 +1,4 @@
--- Digits, and the number that they write, which stays at the top of a `u64`.
+-- Parsing digits in a `u64` that saturates at its maximum.
 use Rattle.std.proofs.Common.{ℕ, ◌+◌, ◌-◌, ◌*◌, ◌^◌, ◌<◌, ◌≡◌, true, List, length, take, get_or, min, arith}
 use Rattle.std.specs.List.{list_all}
 use Rattle.std.specs.Char.{is_ascii_digit}
@@ -6,11 +6,11 @@ use Rattle.std.specs.Str.Parse.{digits_value}
 use Rattle.std.proofs.lemmas.Int.Digits.{digits_value_more}
 use Rattle.cal_text.proofs.General.{digit_value_at}
 
--- the top of a `u64`, where sums and products stay
+-- the greatest `u64`, at which sums and products saturate
 abbrev pub top : ℕ
 top = 2 ^ 64 - 1
 
--- one more digit of a number that stays at the top
+-- the loop's step: the saturated value stays correct after one more digit
 pub whole_more : (digits : List ℕ) (i whole : ℕ) → i < length digits → list_all is_ascii_digit digits ≡ true → whole ≡ min (digits_value 10 (take i digits)) top → min (min (whole * 10) top + (get_or digits i 0 - 48)) top ≡ min (digits_value 10 (take (i + 1) digits)) top
 whole_more digits i whole within all so_far =
     let digit = (digit_value_at digits i within all).2 in

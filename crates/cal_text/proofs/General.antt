@@ -1,4 +1,5 @@
--- Lemmas that name nothing of this project, for all crates. A step of a single proof stays beside it.
+-- General lemmas that don't mention definitions of this project. All crates share them; a lemma that only one proof
+-- needs stays next to that proof.
 use Rattle.std.proofs.Common.{Bool, List, None, Option, Some, [], ap, arith, cond, drop, false, if◌then◌else◌, int_eq, int_lt, length, nat_le, refl, replicate, slice_get, suc, sym, true, zero, ℕ, ℤ, ◌++◌, ◌+ℤ◌, ◌-ℤ◌, ◌<ℤ◌, ◌<◌, ◌∙◌, ◌∷◌, ◌≡◌, ◌≤ℤ◌, Err, FitsSigned, IfOk, IfSome, IsSome, Ok, Result, add-one, append-nil, append_assoc, ap₂, decimal, drop-cons, get_or, inl, inr, leb, length-drop, length-take, map, max, min, nat_eq, nat_lt, negsuc, not, of_z, option_map, pos, pow_pos, reverse, subst, take, to_z, unsigned_abs, unwrap_or, w64, ◌%◌, ◌&&◌, ◌*◌, ◌+◌, ◌-◌, ◌/◌, ◌==◌, ◌^◌, ◌||◌, ◌≢◌, ◌≤◌, ◌⊎◌}
 use lib.Bits.{bit_or}
 use lib.Lanes.{fold_l}
@@ -38,7 +39,7 @@ use Rattle.std.proofs.lemmas.Fmt.{decimal_digit, decimal_step}
 use Rattle.std.specs.Str.{IsCharBoundary, IsUtf8}
 use Rattle.std.specs.Io.KnownBytes.{Appends, Consumes, append_known}
 
--- Truth values
+-- Booleans
 
 pub and_true : (x : Bool) → (x && true) ≡ x
 and_true x = grind arith
@@ -64,7 +65,7 @@ or_false a b h = grind arith
 pub or_assoc : (x y z : Bool) → ((x || y) || z) ≡ (x || (y || z))
 or_assoc x y z = grind arith
 
--- lists of truth values, compared by computing
+-- equality of lists of Booleans, as a computable test
 unfoldable pub same_bool : Bool → Bool → Bool
 same_bool true b = b
 same_bool false b = not b
@@ -87,7 +88,7 @@ same_bools_is [] (c ∷ cs) h = grind arith
 same_bools_is (b ∷ bs) [] h = grind arith
 same_bools_is (b ∷ bs) (c ∷ cs) h = let parts = and_parts (same_bool b c) (same_bools bs cs) h in grind (arith, same_bool_is b c parts.0, same_bools_is bs cs parts.1)
 
--- a test of all lists of n truth values
+-- whether `f` returns `true` for all lists of n Booleans
 abbrev pub check_all : ℕ → (List Bool → Bool) → Bool
 check_all zero f = f []
 check_all (suc n) f = check_all n (λ bs. f (true ∷ bs)) && check_all n (λ bs. f (false ∷ bs))
@@ -101,7 +102,7 @@ each_checked (suc n) f (true ∷ bs) all long =
 each_checked (suc n) f (false ∷ bs) all long =
     each_checked n (λ cs. f (false ∷ cs)) bs (and_parts (check_all n (λ cs. f (true ∷ cs))) (check_all n (λ cs. f (false ∷ cs))) all).1 (omega arith)
 
--- a test of all numbers below one
+-- whether `f` returns `true` for all numbers below n
 abbrev pub all_below : ℕ → (ℕ → Bool) → Bool
 all_below zero f = true
 all_below (suc n) f = f n && all_below n f
@@ -118,7 +119,7 @@ int_eq-other a b e = grind (arith, ints)
 pub int_lt_trans : (a b c : ℤ) → a <ℤ b → b <ℤ c → a <ℤ c
 int_lt_trans a b c h k = omega (arith, ints)
 
--- order by `cmp`
+-- the result of `int_cmp` from an inequality
 pub int_cmp-less : (a b : ℤ) → a <ℤ b → int_cmp a b ≡ Less
 int_cmp-less a b h = sym (int_cmp_is a b Less h)
 
@@ -131,11 +132,11 @@ not_lt_test a b h = grind (arith, ints)
 pub none_between : (low high i : ℕ) → high ≤ low → (nat_le low i && nat_lt i high) ≡ false
 none_between low high i none = grind (arith, nat_tests)
 
--- what passes lies below a number from which on nothing does
+-- if nothing from n on passes the test, a number that passes is below n
 pub below_end : (passes : ℕ → Bool) (n s : ℕ) → ((i : ℕ) → n ≤ i → passes i ≡ false) → passes s ≡ true → s < n
 below_end passes n s none holds = grind (arith, none s)
 
--- a number between two multiples of the size
+-- t / size is a if t lies between a * size and (a + 1) * size
 pub quotient_part : (size a t : ℕ) → 0 < size → a * size ≤ t → t < (a + 1) * size → t / size ≡ a
 quotient_part size a t positive low high = omega (arith, le-div a t size positive low, div_below t size (a + 1) positive high)
 
@@ -148,11 +149,11 @@ max_is a b = grind arith
 pub max_from_zero : (old months most : ℕ) → old ≡ 0 → most ≡ max old months → most ≡ months
 max_from_zero old months most none is = omega arith
 
--- the lesser of two is no less than what neither is
+-- a lower bound of two numbers is a lower bound of their minimum
 pub min_from : (a b low : ℤ) → low ≤ℤ a → low ≤ℤ b → low ≤ℤ int_min a b
 min_from a b low p q = grind arith
 
--- the greater of two is no more than what neither is
+-- an upper bound of two numbers is an upper bound of their maximum
 pub max_to : (a b high : ℤ) → a ≤ℤ high → b ≤ℤ high → int_max a b ≤ℤ high
 max_to a b high p q = grind arith
 
@@ -165,16 +166,16 @@ lt_of_pos at t i is h = omega (arith, ints)
 pub lt_from_pos : (at t : ℕ) (i : ℤ) → pos t ≡ i → pos at <ℤ i → at < t
 lt_from_pos at t i is h = omega (arith, ints)
 
--- a number that isn't negative is its own size
+-- a number that isn't negative equals its absolute value
 pub pos_unsigned_abs : (z : ℤ) (n : ℕ) → pos 0 ≤ℤ z → n ≡ unsigned_abs z → pos n ≡ z
 pos_unsigned_abs (pos m) n low e = ap pos e
 pos_unsigned_abs (negsuc m) n low e = absurd (omega (arith, ints))
 
--- the sum of two such numbers, as a machine has it
+-- the sum of two nonnegative 64-bit integers that doesn't overflow
 pub sum_whole : (a b : ℤ) (n m : ℕ) → a ≡ pos n → b ≡ pos m → n + m < 2 ^ 63 → to_z w64 (of_z w64 (to_z w64 (of_z w64 a) +ℤ to_z w64 (of_z w64 b))) ≡ pos (n + m)
 sum_whole a b n m is_n is_m small = rw (is_n, is_m, to_z_pos w64 n (omega arith), to_z_pos w64 m (omega arith)) (to_z_pos w64 (n + m) small)
 
--- and how many lie between them
+-- how many integers lie strictly between two nonnegative 64-bit integers
 pub between_whole : (a b : ℤ) (n m : ℕ) → a ≡ pos n → b ≡ pos m → m < n → n < 2 ^ 63
     → unsigned_abs (to_z w64 (of_z w64 (to_z w64 (of_z w64 (to_z w64 (of_z w64 a) -ℤ to_z w64 (of_z w64 b))) -ℤ pos 1))) ≡ n - m - 1
 between_whole a b n m is_n is_m less small =
@@ -185,7 +186,7 @@ between_whole a b n m is_n is_m less small =
 pub lt_from_less : (a b : ℤ) → int_cmp a b ≡ Less → a <ℤ b
 lt_from_less a b e = int_ranked a b Less (sym e)
 
--- machine words are alike exactly where their numbers are
+-- if two natural numbers are equal exactly if two integers are, both equality tests return the same
 alike_tests : (m n : ℕ) (a b : ℤ) → (m ≡ n → a ≡ b) → (a ≡ b → m ≡ n) → nat_eq m n ≡ int_eq a b
 alike_tests m n a b back forth = grind (arith, ints)
 
@@ -195,7 +196,7 @@ same_word w a b f g =
 
 -- Bits
 
--- a word that is moved down, and one that is cut to 64 bits
+-- the bits of a word after a right shift, and after truncation to 64 bits
 pub bit_at-shift : (m j k : ℕ) → bit_at (m / 2 ^ j) k ≡ bit_at m (j + k)
 bit_at-shift m j k = ap (λ (x : ℕ). x % 2) (shr-shr m j k)
 
@@ -219,12 +220,12 @@ pow_next k = let next : k + 1 ≡ suc k = omega arith in rw (next, pow-suc 2 k) 
 less_one : (x y m : ℕ) → m ≡ x + y → 0 < y → m - 1 ≡ x + (y - 1)
 less_one x y m whole some = omega arith
 
--- bit k is the lowest that is set
+-- bit k is the lowest bit of m that is set
 pub record IsLowestBit (m k : ℕ) : Type 0 where
   pub one : bit_at m k ≡ 1
   pub none : (i : ℕ) → i < k → bit_at m i ≡ 0
 
--- the bits up to it are it alone
+-- of the bits up to the lowest one that is set, only this one contributes to m
 lowest_mod : (m k : ℕ) → IsLowestBit m k → m % 2 ^ (k + 1) ≡ 2 ^ k
 lowest_mod m k h =
     let next = pow_next k in
@@ -253,7 +254,7 @@ min_none x y e = omega arith
 pub min_none_right : (x y : ℕ) → y ≡ 0 → min x y ≡ 0
 min_none_right x y e = omega arith
 
--- taking one away changes no bit above it
+-- subtracting 1 changes no bit above the lowest one that is set
 pub high_bits_same : (m k i : ℕ) → IsLowestBit m k → k < i → bit_at m i ≡ bit_at (m - 1) i
 high_bits_same m k i h high =
     let next = pow_next k in
@@ -263,7 +264,7 @@ high_bits_same m k i h high =
     ∙ (bit_at_cat_high a (k + 1) (2 ^ k) i (omega arith) (omega arith)
     ∙ (sym (bit_at_cat_high a (k + 1) (2 ^ k - 1) i (omega arith) (omega arith)) ∙ ap (λ (x : ℕ). bit_at x i) (sym (less_split m k h))))
 
--- the or of several words is no less than each of them
+-- the bitwise or of several words is at least as large as each of them
 fold_least : (a : ℕ) (xs : List ℕ) → a ≤ fold_l bit_or a xs
 fold_least a [] = omega arith
 fold_least a (x ∷ xs) = omega (arith, le_or_l a x, fold_least (bit_or a x) xs)
@@ -281,7 +282,7 @@ some_by_test b s place e = grind arith
 pub some_none : {A : Type 0} (x : A) → Some x ≡ None → ⊥
 some_none x h = cc
 
--- an option that is seen as nothing is nothing
+-- if mapping an option returns `None`, the option is `None`
 pub none_by_view : {A B : Type 0} (view : A → B) (o : Option A) → None ≡ option_map view o → o ≡ None
 none_by_view view o e = grind arith
 
@@ -291,7 +292,7 @@ not_some o e = grind arith
 pub is_some-option_map : {A B : Type 0} (f : A → B) (o : Option A) → is_some (option_map f o) ≡ is_some o
 is_some-option_map f o = grind arith
 
--- pairs that are seen by their first or by both
+-- an option of pairs, in terms of the pair's first and second elements
 pub map-first : {B X Y : Type 0} (f : B → X) (g : B → Y) (o : Option B)
     → option_map f o ≡ option_map (λ (p : X × Y). p.0) (option_map (λ b. (f b, g b)) o)
 map-first f g o = grind arith
@@ -306,7 +307,7 @@ pair_some o x y h k = grind arith
 pub unwrap_or_kept : {A : Type 0} (next : Option A) (local last : A) → IsSome next → IfSome next (λ l. l ≡ last) → unwrap_or next local ≡ last
 unwrap_or_kept next local last some kept = grind arith
 
--- which of two answers a test gave
+-- which branch of a test was taken, from the option that it returned
 pub none_chosen : {A : Type 0} (b : Bool) (x : A) → ◌≡◌ {A = Option A} (cond b None (Some x)) None → b ≡ true
 none_chosen b x h = grind arith
 
@@ -325,7 +326,7 @@ pub if_ok : {T E : Type 0} (r : Result T E) (P : Type 0) → P → IfOk r (λ x.
 if_ok (Ok x) P h = h
 if_ok (Err e) P h = tt
 
--- nothing is asked of a value that isn't there
+-- `IfOk` holds trivially for an error
 pub no_ok : {T E : Type 0} (r : Result T E) (P : T → Type 0) → IsErr r → IfOk r P
 no_ok (Ok x) P h = absurd (false≢true h)
 no_ok (Err e) P h = tt
@@ -338,7 +339,7 @@ some_front xs ys h = omega (arith, length-append xs ys)
 pub list_all-both : (q : ℕ → Bool) (xs ys : List ℕ) → list_all q xs ≡ true → list_all q ys ≡ true → list_all q (xs ++ ys) ≡ true
 list_all-both q xs ys h k = list_all-append q xs ys ∙ and_from (list_all q xs) (list_all q ys) h k
 
--- a list by its first item and the rest
+-- a list is its first item followed by the remaining ones
 pub list-first : (xs : List ℤ) (x : ℤ) → slice_get xs 0 ≡ Some x → xs ≡ x ∷ drop 1 xs
 list-first [] x h = absurd (cc)
 list-first (y ∷ ys) x h = let same : y ≡ x = cc in ap (λ (z : ℤ). z ∷ ys) same
@@ -347,26 +348,26 @@ pub list-no_first : (xs : List ℤ) → slice_get xs 0 ≡ None → xs ≡ []
 list-no_first [] h = refl
 list-no_first (y ∷ ys) h = absurd (cc)
 
--- what is left of a list begins with the item at its index
+-- the mapped list from index i on begins with the item at i
 pub items_next : {A B : Type 0} (f : A → B) (xs : List A) (i : ℕ) (x : A) (y : B) → i < length xs → x ≡ get_or xs i x → y ≡ f x → map f (drop i xs) ≡ y ∷ map f (drop (i + 1) xs)
 items_next f xs i x y h is e =
     rw (add-one, drop-cons xs i x h) (ap (λ z. f z ∷ map f (drop (suc i) xs)) (sym is) ∙ ap (λ t. t ∷ map f (drop (suc i) xs)) (sym e))
 
--- nothing is left at its end
+-- the mapped list from its end on is empty
 pub items_end : {A B : Type 0} (f : A → B) (xs : List A) (i : ℕ) → length xs ≤ i → map f (drop i xs) ≡ []
 items_end f xs i h = ap (map f) (drop_all i xs h)
 
--- what was taken so far, with one item more
+-- the first i + 1 mapped items are the first i and one more
 pub items_taken : {A B : Type 0} (f : A → B) (xs : List A) (i : ℕ) (x : A) (y : B) → i < length xs → x ≡ get_or xs i x → y ≡ f x
     → map f (take (i + 1) xs) ≡ map f (take i xs) ++ y ∷ []
 items_taken f xs i x y h is e =
     rw (take_more xs i x h) (map-append f (take i xs) (get_or xs i x ∷ []) ∙ ap (λ y. map f (take i xs) ++ f y ∷ []) (sym is) ∙ ap (λ t. map f (take i xs) ++ t ∷ []) (sym e))
 
--- the same where each item gives a text
+-- from index i on, a concatenation of texts begins with the text of item i
 flat_map-drop : {A : Type 0} (f : A → List ℕ) (i : ℕ) (xs : List A) (d : A) → i < length xs → flat_map f (drop i xs) ≡ f (get_or xs i d) ++ flat_map f (drop (i + 1) xs)
 flat_map-drop f i xs d h = rw (add-one, drop-cons xs i d h) refl
 
--- or with another spelling of that text
+-- like `flat_map-drop`, with a text that equals that of item i
 pub item_first : {A : Type 0} (f : A → List ℕ) (i : ℕ) (xs : List A) (d : A) {piece : List ℕ} → i < length xs → piece ≡ f (get_or xs i d) → flat_map f (drop i xs) ≡ piece ++ flat_map f (drop (i + 1) xs)
 item_first f i xs d h is = flat_map-drop f i xs d h ∙ ap (λ first. first ++ flat_map f (drop (i + 1) xs)) (sym is)
 
@@ -379,7 +380,7 @@ get_or-zeros zero i = refl
 get_or-zeros (suc n) zero = refl
 get_or-zeros (suc n) (suc i) = get_or-zeros n i
 
--- what is left of a rising list rises
+-- every suffix of a strictly increasing list is strictly increasing
 pub rises-drop : (xs : List ℤ) (k : ℕ) → IsStrictlySortedBy int_cmp xs → IsStrictlySortedBy int_cmp (drop k xs)
 rises-drop xs zero h = h
 rises-drop [] (suc k) h = h
@@ -393,7 +394,7 @@ rises-next (x ∷ xs) (suc k) h = rises-next xs k h
 pub rises_after : (xs : List ℤ) (k : ℕ) → IsStrictlySortedBy int_cmp (drop k xs) → IsStrictlySortedBy int_cmp (drop (k + 1) xs)
 rises_after xs k h = rw (add-one k) (rises-next xs k h)
 
--- a list in the place of another as long
+-- a list that overwrites another one of the same length leaves nothing of it
 pub taken_whole : {X : Type 0} (xs ys : List X) (n : ℕ) → length xs ≡ length ys → n ≡ length ys → take n (xs ++ drop (length xs) ys) ≡ xs
 taken_whole xs ys n long e =
     let past : length ys ≤ length xs = omega arith in
@@ -405,7 +406,7 @@ slice_get-taken n xs k e at =
     slice_get_read xs (length xs) k e refl (omega (arith, within, length-take n xs))
     (sym (get_or_from_slice_get (take n xs) k e e at) ∙ get_or-take n xs k e (omega (arith, within, length-take n xs)))
 
--- the end of a list that passes, and what follows the last that does, once one more comes
+-- how `suffix_len` changes when an item is appended
 suffix_more : {X : Type 0} (p : X → Bool) (xs : List X) (x : X) → p x ≡ true → suffix_len p (xs ++ x ∷ []) ≡ 1 + suffix_len p xs
 suffix_more p xs x e = ap (prefix_len p) (reverse-append xs (x ∷ [])) ∙ rw e refl
 
@@ -431,15 +432,15 @@ pub list_any-same : {A : Type 0} (f g : A → Bool) (P : A → Type 0) (xs : Lis
 list_any-same f g P [] all same = refl
 list_any-same f g P (x ∷ xs) all same = rw (same x all.0, list_any-same f g P xs all.1 same) refl
 
--- no byte of the text passes p
+-- no byte of the text passes the test p
 abbrev pub IsClear : (ℕ → Bool) → List ℕ → Type 0
 IsClear p text = list_any p text ≡ false
 
--- no byte passes both
+-- no byte passes both tests
 abbrev pub Apart : (ℕ → Bool) → (ℕ → Bool) → Type 0
 Apart q p = (b : ℕ) → q b ≡ true → p b ≡ false
 
--- bytes of a class that has no separator
+-- a text has no separators if all its bytes belong to a class without separators
 pub clear_of : (q p : ℕ → Bool) (text : List ℕ) → Apart q p → list_all q text ≡ true → IsClear p text
 clear_of q p [] apart all = refl
 clear_of q p (b ∷ bs) apart all = grind (arith, apart b, clear_of q p bs apart)
@@ -456,7 +457,7 @@ list_all-take p xs zero h = refl
 list_all-take p [] (suc n) h = refl
 list_all-take p (x ∷ xs) (suc n) h = grind (arith, list_all-take p xs n)
 
--- what holds of each of some holds of them together, and the other way round
+-- a property holds for all items of two lists exactly if it holds for all items of their concatenation
 pub all_append : (P : ℕ → Type 0) (xs ys : List ℕ) → AllByRecursion P xs → AllByRecursion P ys → AllByRecursion P (xs ++ ys)
 all_append P [] ys h k = k
 all_append P (x ∷ xs) ys h k = (h.0, all_append P xs ys h.1 k)
@@ -465,7 +466,7 @@ pub all_reverse : (P : ℕ → Type 0) (xs : List ℕ) → AllByRecursion P xs �
 all_reverse P [] h = tt
 all_reverse P (x ∷ xs) h = subst (AllByRecursion P) (sym (reverse-append (x ∷ []) xs)) (all_append P (reverse xs) (x ∷ []) (all_reverse P xs h.1) (h.0, tt))
 
--- the front of a list by its reverse
+-- the list without its last n items, in terms of the reversed list
 pub take_front : (text : List ℕ) (n : ℕ) → n ≤ length text → take (length text - n) text ≡ reverse (drop n (reverse text))
 take_front text n h =
     let back = reverse text in
@@ -474,9 +475,9 @@ take_front text n h =
     let long : length text - n ≡ length (reverse (drop n back)) = simp (length-reverse, length-drop) (omega arith) in
     ap (take (length text - n)) parts ∙ (ap (λ k. take k (reverse (drop n back) ++ reverse (take n back))) long ∙ take-append_seam (reverse (drop n back)) (reverse (take n back)))
 
--- Pieces of a text, and the bytes between them
+-- Splitting a text at separators
 
--- there is always a first piece
+-- splitting always returns at least one piece
 some_onto : (x : ℕ) (pieces : List (List ℕ)) → (first : List ℕ) × (more : List (List ℕ)) × (onto_first x pieces ≡ first ∷ more)
 some_onto x [] = (x ∷ [], [], refl)
 some_onto x (t ∷ ts) = (x ∷ t, ts, refl)
@@ -489,17 +490,17 @@ some_piece p (x ∷ xs) =
       | false ↦ some_onto x (slice_split p xs)
     ]
 
--- a text without separators is one piece
+-- a text without separators is a single piece
 pub split_alone : (p : ℕ → Bool) (xs : List ℕ) → IsClear p xs → slice_split p xs ≡ xs ∷ []
 split_alone p [] clear = refl
 split_alone p (x ∷ xs) clear = grind (arith, split_alone p xs)
 
--- a text without separators in front of one
+-- splitting at the first separator
 pub split_at : (p : ℕ → Bool) (front : List ℕ) (c : ℕ) (rest : List ℕ) → IsClear p front → p c ≡ true → slice_split p (front ++ (c ∷ rest)) ≡ front ∷ slice_split p rest
 split_at p [] c rest clear sign = rw sign refl
 split_at p (x ∷ xs) c rest clear sign = grind (arith, split_at p xs c rest)
 
--- the separators themselves
+-- the list of separators, by the first of them
 pub filter_at : (p : ℕ → Bool) (front : List ℕ) (c : ℕ) (rest : List ℕ) → IsClear p front → p c ≡ true → filter p (front ++ (c ∷ rest)) ≡ c ∷ filter p rest
 filter_at p [] c rest clear is = rw is refl
 filter_at p (x ∷ xs) c rest clear is = grind (arith, filter_at p xs c rest)
@@ -508,13 +509,13 @@ pub filter_alone : (p : ℕ → Bool) (xs : List ℕ) → IsClear p xs → filte
 filter_alone p [] clear = refl
 filter_alone p (x ∷ xs) clear = grind (arith, filter_alone p xs)
 
--- texts joined by a separator are its pieces
+-- splitting undoes joining if none of the texts has a separator
 pub split_join_with_byte : (c : ℕ) (t : List ℕ) (ts : List (List ℕ)) → nat_eq c c ≡ true → AllByRecursion (IsClear (λ b. b == c)) (t ∷ ts) → slice_split (λ b. b == c) (join_with_byte c (t ∷ ts)) ≡ t ∷ ts
 split_join_with_byte c t [] same clear = split_alone (λ b. b == c) t clear.0
 split_join_with_byte c t (u ∷ ts) same clear =
     split_at (λ b. b == c) t c (join_with_byte c (u ∷ ts)) clear.0 same ∙ ap (λ more. t ∷ more) (split_join_with_byte c u ts same clear.1)
 
--- pieces with the separators between them
+-- the pieces interleaved with the separators
 abbrev pub woven : List ℕ → List (List ℕ) → List ℕ
 woven cs [] = []
 woven [] (t ∷ ts) = t
@@ -531,7 +532,7 @@ woven_first x cs (t ∷ ts) some = woven_onto x cs t ts
 pub some_pieces : (p : ℕ → Bool) (xs : List ℕ) → 0 < length (slice_split p xs)
 some_pieces p xs = omega (arith, length-slice_split p xs)
 
--- a text is its pieces with its separators between them
+-- interleaving the pieces with the separators returns the whole text
 pub woven_whole : (p : ℕ → Bool) (xs : List ℕ) → woven (filter p xs) (slice_split p xs) ≡ xs
 woven_whole p [] = refl
 woven_whole p (x ∷ xs) = grind (arith, woven_whole p xs, woven_first x (filter p xs) (slice_split p xs) (some_pieces p xs))
@@ -543,7 +544,7 @@ filter_kept p (x ∷ xs) = grind (arith, filter_kept p xs)
 not_found : (test : Bool) (m : ℕ) → cond test (Some m) None ≡ None → test ≡ false
 not_found test m at = grind arith
 
--- cut at the first separator
+-- splitting at the first separator, by its index
 pub split_some : (p : ℕ → Bool) (xs : List ℕ) (n : ℕ) → position p xs ≡ Some n → slice_split p xs ≡ take n xs ∷ slice_split p (drop (n + 1) xs)
 split_some p xs n at =
     let found = cond_some (nat_lt (position_or_len p xs) (length xs)) (position_or_len p xs) n at in
@@ -554,7 +555,7 @@ split_none p xs at =
     let none = ltb-false _ _ (not_found (nat_lt (position_or_len p xs) (length xs)) (position_or_len p xs) at) in
     slice_split_none p xs (λ k d within. not-true _ (prefix_len_passes (λ x. not (p x)) xs k d (omega (arith, none))))
 
--- the separators, by the first of them
+-- the list of separators, by the index of the first one
 filter_some_step : (p : ℕ → Bool) (x : ℕ) (xs : List ℕ) (test : Bool) → (position_or_len p xs < length xs → filter p xs ≡ get_or xs (position_or_len p xs) 0 ∷ filter p (drop (position_or_len p xs + 1) xs)) → cond (not test) (1 + position_or_len p xs) 0 < suc (length xs) → cond test (x ∷ filter p xs) (filter p xs) ≡ get_or (x ∷ xs) (cond (not test) (1 + position_or_len p xs) 0) 0 ∷ filter p (drop (cond (not test) (1 + position_or_len p xs) 0 + 1) (x ∷ xs))
 filter_some_step p x xs true rest within = refl
 filter_some_step p x xs false rest within =
@@ -571,7 +572,7 @@ filter_none : (p : ℕ → Bool) (xs : List ℕ) → length xs ≤ position_or_l
 filter_none p [] past = refl
 filter_none p (x ∷ xs) past = grind (arith, filter_none p xs)
 
--- cut at the first separator, with the separator itself
+-- splitting at the first separator, by its index, with the pieces and the list of separators
 pub cut_some : (p : ℕ → Bool) (xs : List ℕ) (n : ℕ) → position p xs ≡ Some n → (slice_split p xs ≡ take n xs ∷ slice_split p (drop (n + 1) xs)) × (filter p xs ≡ get_or xs n 0 ∷ filter p (drop (n + 1) xs))
 cut_some p xs n at =
     let found = cond_some (nat_lt (position_or_len p xs) (length xs)) (position_or_len p xs) n at in (
@@ -583,7 +584,7 @@ pub cut_none : (p : ℕ → Bool) (xs : List ℕ) → position p xs ≡ None →
 cut_none p xs at =
     (split_none p xs at, filter_none p xs (ltb-false _ _ (not_found (nat_lt (position_or_len p xs) (length xs)) (position_or_len p xs) at)))
 
--- the first index that passes, and the length where there is none
+-- the index of the first byte that passes, or the length if none does
 pub index_some : (p : ℕ → Bool) (xs : List ℕ) (n : ℕ) → position p xs ≡ Some n → (n ≡ position_or_len p xs) × (n ≤ length xs)
 index_some p xs n at =
     let found = cond_some (nat_lt (position_or_len p xs) (length xs)) (position_or_len p xs) n at in
@@ -602,7 +603,7 @@ pub none_above : (p : ℕ → Bool) (xs : List ℕ) → length xs ≤ position_o
 none_above p [] past = refl
 none_above p (x ∷ xs) past = grind (arith, none_above p xs)
 
--- the lines of a text, by its first line feed
+-- the lines of a text that is split at its first line feed
 lines_of_more : (part : List ℕ) (parts : List (List ℕ)) → 0 < length parts → lines_of_parts (part ∷ parts) ≡ strip_carriage_return part ∷ lines_of_parts parts
 lines_of_more part [] h = absurd (omega arith)
 lines_of_more part (next ∷ parts) h = refl
@@ -625,12 +626,12 @@ lines_last text some none =
 
 -- Digits and letters
 
--- digits pass the test of each digit, and the other way round
+-- `AllDigits` holds exactly if each byte passes the test for digits
 pub digits_all : (ds : List ℕ) → AllDigits 10 ds → list_all is_ascii_digit ds ≡ true
 digits_all [] h = refl
 digits_all (c ∷ cs) h = grind (arith, nat_tests, digit_from_value c h.0, digits_all cs h.1)
 
--- zeros in front change nothing
+-- leading zeros don't affect whether all bytes are digits
 pub zeros_all : (k : ℕ) (ds : List ℕ) → list_all is_ascii_digit (replicate k 48 ++ ds) ≡ list_all is_ascii_digit ds
 zeros_all zero ds = refl
 zeros_all (suc k) ds = zeros_all k ds
@@ -646,13 +647,13 @@ all_digits : (ds : List ℕ) → list_all is_ascii_digit ds ≡ true → AllDigi
 all_digits [] h = tt
 all_digits (d ∷ ds) h = let parts = and_parts (is_ascii_digit d) (list_all is_ascii_digit ds) h in (digit_below d parts.0, all_digits ds parts.1)
 
--- four digits write less than 10,000
+-- a number of at most four digits is below 10,000
 pub short_number : (ds : List ℕ) → list_all is_ascii_digit ds ≡ true → length ds ≤ 4 → digits_value 10 ds < 10_000
 short_number ds all short =
     let most : 10 ^ length ds ≤ 10 ^ 4 = pow-le-pow_right (omega arith) short in
     omega (arith, digits_value-lt 10 ds (all_digits ds all), most)
 
--- each byte of digits is a digit
+-- each byte of a list of digits is a digit, and its value is at most 9
 pub digit_value_at : (digits : List ℕ) (i : ℕ) → i < length digits → list_all is_ascii_digit digits ≡ true → (48 ≤ get_or digits i 0) × (get_or digits i 0 ≤ 57) × (digit_value (get_or digits i 0) + 48 ≡ get_or digits i 0)
 digit_value_at digits i within all =
     let is = and_at (list_all is_ascii_digit) is_ascii_digit refl (λ _ _. refl) digits i 0 within all in
@@ -661,7 +662,7 @@ digit_value_at digits i within all =
     let high = leb-true (get_or digits i 0) 57 range.1 in
     (low, high, digit_value_digit (get_or digits i 0) (low, high))
 
--- two digits, as they follow the 1 of a hundred more
+-- the decimal digits of 100 + n, for n below 100: a 1, then two digits of n
 pub hundred_more : (n : ℕ) → n < 100 → decimal (100 + n) ≡ 49 ∷ (48 + n / 10) ∷ (48 + n % 10) ∷ []
 hundred_more n h =
     let front : (100 + n) / 10 / 10 ≡ 1 = omega arith in
@@ -675,12 +676,12 @@ digit_no_letter b h = grind (arith, nat_tests)
 pub letter_no_digit : (b : ℕ) → is_ascii_alphabetic b ≡ true → is_ascii_digit b ≡ false
 letter_no_digit b h = grind (arith, nat_tests)
 
--- Where a text may be cut
+-- Positions at which a text may be split
 
 pub boundary_at : (text : List ℕ) (m n : ℕ) → m ≡ n → IsCharBoundary text m → IsCharBoundary text n
 boundary_at text m n e h = let P : ℕ → Type 0 = λ k. IsCharBoundary text k in subst P e h
 
--- the byte before the end that passes, and the bytes of that end
+-- the byte before the longest suffix that passes doesn't pass, and all bytes of the suffix do
 pub before_suffix : (p : ℕ → Bool) (text : List ℕ) → suffix_len p text < length text → p (get_or text (length text - suffix_len p text - 1) 0) ≡ false
 before_suffix p text within =
     let n = suffix_len p text in
@@ -697,7 +698,7 @@ in_suffix p text k d from within =
     let reversed = get_or-reverse text back d (omega arith) in
     rw (reversed, here) at seen
 
--- a text may be cut after ASCII at its start
+-- a text may be split after leading ASCII bytes
 front_boundary_at : (p : ℕ → Bool) (bs : List ℕ) (n : ℕ) → ((b : ℕ) → p b ≡ true → b < 128) → IsUtf8 bs → prefix_len p bs ≡ n → IsCharBoundary bs n
 front_boundary_at p bs zero ascii utf8 e = IsCharBoundary-start bs utf8
 front_boundary_at p bs (suc n) ascii utf8 e =
@@ -707,7 +708,7 @@ front_boundary_at p bs (suc n) ascii utf8 e =
 pub front_boundary : (p : ℕ → Bool) (bs : List ℕ) → ((b : ℕ) → p b ≡ true → b < 128) → IsUtf8 bs → IsCharBoundary bs (prefix_len p bs)
 front_boundary p bs ascii utf8 = front_boundary_at p bs (prefix_len p bs) ascii utf8 refl
 
--- and before ASCII at its end
+-- a text may be split before trailing ASCII bytes
 end_boundary_at : (p : ℕ → Bool) (bs : List ℕ) (n : ℕ) → ((b : ℕ) → p b ≡ true → b < 128) → suffix_len p bs ≡ n → IsCharBoundary bs (length bs - n)
 end_boundary_at p bs zero ascii e = subst (IsCharBoundary bs) (omega arith) (IsCharBoundary-end bs)
 end_boundary_at p bs (suc n) ascii e =
@@ -719,13 +720,13 @@ end_boundary_at p bs (suc n) ascii e =
 pub end_boundary : (p : ℕ → Bool) (bs : List ℕ) → ((b : ℕ) → p b ≡ true → b < 128) → IsCharBoundary bs (length bs - suffix_len p bs)
 end_boundary p bs ascii = end_boundary_at p bs (suffix_len p bs) ascii refl
 
--- Texts that are read and written in parts
+-- Texts that are read or written in pieces
 
--- another spelling of what was written
+-- a text that was written may be replaced by an equal one
 pub appends_respelled : (a b : Option (List ℕ)) (xs ys : List ℕ) → xs ≡ ys → Appends a b xs → Appends a b ys
 appends_respelled a b xs ys e h = subst (Appends a b) e h
 
--- two reads take both prefixes
+-- two consecutive reads consume the concatenation of what each consumes
 pub consumes-append : (a b c : Option (List ℕ)) (xs ys : List ℕ) → Consumes a b xs → Consumes b c ys → Consumes a c (xs ++ ys)
 consumes-append None b c xs ys h k = tt
 consumes-append (Some held) None c xs ys h k = absurd h
@@ -735,7 +736,7 @@ consumes-append (Some held) (Some bs) (Some cs) xs ys h k = h ∙ ap (λ rest. x
 pub length-taken : (xs ys : List ℕ) (n : ℕ) → n ≤ length ys → length (xs ++ take n ys) ≡ length xs + n
 length-taken xs ys n h = simp length-append (ap (λ m. length xs + m) (length-take-le n ys h))
 
--- a piece fits after a text and the pieces before it, where all do
+-- if all pieces fit after a text, so does the next one after those before it
 pub next_fits : {A : Type 0} (f : A → List ℕ) (xs : List A) (i cap : ℕ) (d : A) (front text : List ℕ) → text ≡ front ++ flat_map f (take i xs) → i < length xs → length front + length (flat_map f xs) ≤ cap → length text + length (f (get_or xs i d)) ≤ cap
 next_fits f xs i cap d front text is h fits = omega (arith, length-flat_map-take f xs i d h, ap length is, length-append front (flat_map f (take i xs)))
 

@@ -1,4 +1,4 @@
--- What is left of a trimmed text against the rule's own words.
+-- The trimming functions return what the relations of `TrimRule` describe.
 use Rattle.std.proofs.Common.{◌≡◌, ℕ, Bool, true, false, List, [], ◌∷◌, ◌++◌, reverse, refl, sym, subst, ap, ◌∙◌, append-nil}
 use Rattle.std.specs.List.{AllByRecursion, suffix_len}
 use Rattle.std.proofs.Math.Numerals.{one-add}
@@ -8,7 +8,7 @@ use Rattle.cal_text.specs.TrimRule.{StartsSolid, IsTrimmed, IsUnindented}
 use Rattle.cal_text.specs.headline.Trim.{trim_matches, trim_end_matches, trim_start_matches}
 use Rattle.cal_text.proofs.General.{all_append, all_reverse, take_front}
 
--- a line without the blanks at its start
+-- `trim_start_matches` removes exactly the leading blanks
 unindented_as : (p : ℕ → Bool) (blank : Bool) (b : ℕ) (bs : List ℕ) → p b ≡ blank → IsUnindented p bs (trim_start_matches p bs) → IsUnindented p (b ∷ bs) (trim_start_matches p (b ∷ bs))
 unfolding trim_start_matches
 unindented_as p true b bs e rest = rw (e, one-add) (record { indent = b ∷ rest.indent; blanks = (e, rest.blanks); whole = ap (λ xs. b ∷ xs) rest.whole; solid_start = rest.solid_start })
@@ -36,7 +36,7 @@ solid_front : (p : ℕ → Bool) (xs ys : List ℕ) → StartsSolid p (xs ++ ys)
 solid_front p [] ys h = tt
 solid_front p (x ∷ xs) ys h = h
 
--- a text without the blanks at both its ends
+-- `trim_matches` removes exactly the leading and trailing blanks
 pub trim_is : (p : ℕ → Bool) (text : List ℕ) → IsTrimmed p text (trim_matches p text)
 unfolding trim_matches
 trim_is p text =

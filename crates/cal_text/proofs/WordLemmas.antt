@@ -1,4 +1,4 @@
--- The blanks and the words of a text, and where it may be cut.
+-- Blanks and words, and the positions at which a text may be split without cutting a character.
 use Rattle.std.proofs.Common.{ℕ, ◌+◌, ◌-◌, ◌<◌, ◌≤◌, ◌≡◌, Bool, true, false, cond, not, List, [], ◌∷◌, suc, length, get_or, take, drop, refl, ◌∙◌, arith, inl, inr, add-one, add-zero, drop-cons, length-drop}
 use Rattle.std.specs.Str.{IsUtf8, IsCharBoundary}
 use Rattle.std.specs.List.{list_any, prefix_len, suffix_len, position_or_len}
@@ -13,7 +13,7 @@ use Rattle.cal_text.specs.headline.Words.{is_blank, words}
 use Rattle.cal_text.specs.headline.Trim.{trim_start_matches}
 use Rattle.cal_text.proofs.General.{before_suffix, boundary_at, in_suffix}
 
--- a blank is one byte
+-- blanks are ASCII, so each is a single byte
 pub blank_ascii : (b : ℕ) → is_blank b ≡ true → b < 128
 blank_ascii b h = grind (arith, nat_tests)
 
@@ -27,7 +27,7 @@ word_boundary text u =
           boundary_at text (length text) n (omega (arith, prefix_len-le-length (λ b. not (is_blank b)) text)) (IsCharBoundary-end text)
     ]
 
--- no blank
+-- whether a byte is not a blank
 abbrev pub is_solid : ℕ → Bool
 is_solid b = not (is_blank b)
 
@@ -55,7 +55,7 @@ no_blank text all = list_any_none is_blank text (λ k d within. not-true (is_bla
 
 -- Words
 
--- a blank in front adds no word
+-- a leading blank doesn't change the words
 pub words-blank : (b : ℕ) (text : List ℕ) → is_blank b ≡ true → words (b ∷ text) ≡ words text
 unfolding words
 words-blank b text blank = rw blank refl
@@ -76,7 +76,7 @@ pub words-nil : words [] ≡ []
 unfolding words
 words-nil = refl
 
--- the first word of a text that begins with no blank
+-- the first word of a text that doesn't begin with a blank
 then_blank : (text : List ℕ) → 0 < position_or_len is_blank text → position_or_len is_blank text < length text
     → words text ≡ take (position_or_len is_blank text) text ∷ words (drop (position_or_len is_blank text + 1) text)
 unfolding words
@@ -107,7 +107,7 @@ first_word text some =
           ∙ rw (take_all n text past, drop_all n text past, words-nil) refl
     ]
 
--- a text without blanks at its start begins with a word
+-- a nonempty text without leading blanks begins with a word
 begins_solid : (text : List ℕ) → 0 < length text → is_blank (get_or text 0 0) ≡ false → 0 < position_or_len is_blank text
 begins_solid [] some solid = absurd (omega arith)
 begins_solid (b ∷ bs) some solid = rw solid (omega arith)

@@ -1,7 +1,7 @@
--- What follows a step that can fail.
+-- Sequencing of steps that can fail.
 use Rattle.std.specs.Prelude.{Result, Ok, Err}
 
--- the next step where there was no fault
+-- runs the next step on the value, or passes the error on
 infixl 10 ◌>>=◌
 abbrev pub ◌>>=◌ : {A B E : Type 0} → Result A E → (A → Result B E) → Result B E
 (Ok x) >>= f = f x

@@ -1,20 +1,21 @@
--- What is left of a text without the blanks at its ends, in the rule's own words, whatever a blank is.
+-- Trimming as a relation between a text and its trimmed form. Each definition takes the test for blanks as its first
+-- argument.
 use Rattle.std.specs.Prelude.{◌≡◌, ℕ, Bool, true, false, List, [], ◌∷◌, ◌++◌, reverse}
 use Rattle.std.specs.List.{AllByRecursion}
 
--- it is empty, or its first character is no blank
+-- the text is empty, or its first character is not a blank
 abbrev pub StartsSolid : (ℕ → Bool) → List ℕ → Type 0
 StartsSolid is_blank [] = Unit {0}
 StartsSolid is_blank (b ∷ bs) = is_blank b ≡ false
 
--- the text of a line without the blanks at its start; those at its end stay
+-- `text` is `line` without its leading blanks; trailing blanks stay
 pub record IsUnindented (is_blank : ℕ → Bool) (line text : List ℕ) : Type 0 where
   pub indent : List ℕ
   pub blanks : AllByRecursion (λ b. is_blank b ≡ true) indent
   pub whole : line ≡ indent ++ text
   pub solid_start : StartsSolid is_blank text
 
--- the text without the blanks at both its ends
+-- `trimmed` is `text` without its leading and trailing blanks
 pub record IsTrimmed (is_blank : ℕ → Bool) (text trimmed : List ℕ) : Type 0 where
   pub front : List ℕ
   pub back : List ℕ

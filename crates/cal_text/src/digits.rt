@@ -1,18 +1,18 @@
-//! Digits and the numbers that they write.
+//! Decimal digits and their value.
 
 ghost use Rattle.std.specs.Prelude.{◌≡◌, IsTrue, min};
 ghost use Rattle.std.specs.List.{list_all};
 ghost use Rattle.std.specs.Char.{is_ascii_digit};
 ghost use Rattle.std.specs.Str.Parse.{digits_value};
 
-/// Whether each byte is a digit.
+/// Returns whether all bytes are ASCII digits. This is `true` for an empty slice.
 pub fn are_digits(bytes: &[u8]) -> bool
     ensures { result ≡ list_all is_ascii_digit bytes.now }
 {
     bytes.iter().all(|byte| byte.is_ascii_digit())
 }
 
-/// The number that the digits write, or `u64::MAX` where that is less.
+/// Returns the decimal value of `digits`, or `u64::MAX` if the value is larger.
 pub fn whole_of(digits: &[u8]) -> u64
     requires { IsTrue (list_all is_ascii_digit digits.now) }
     ensures { result ≡ min (digits_value 10 digits.now) u64.MAX }

@@ -1,4 +1,4 @@
-//! The words, the blanks and the digits of texts.
+//! Splitting text into words, trimming blanks, and parsing decimal digits.
 #![tactic(auto)]
 
 mod digits;

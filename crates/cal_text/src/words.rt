@@ -1,11 +1,11 @@
-//! The words of a text, and the text without the blanks at its ends.
+//! Words and blanks. A blank is a space or a tab, and words are separated by blanks.
 
 ghost use Rattle.std.specs.Prelude.{◌≡◌, ◌≤◌, ◌∷◌, [], MatchOption, false, length, not, true};
 ghost use Rattle.std.specs.List.{after_last, before_last, list_any, prefix_len, suffix_len, position_or_len};
 ghost use Rattle.cal_text.specs.headline.Trim.{trim_matches, trim_end_matches, trim_start_matches};
 ghost use Rattle.cal_text.specs.headline.Words.{is_blank, words};
 
-/// The first word of the text and what comes after it, or `None` where there are only blanks.
+/// Returns the first word of `text` and everything after it, or `None` if `text` has only blanks.
 pub fn first_word(text: &str) -> Option<(&str, &str)>
     ensures { MatchOption result (words text.now ≡ [])
         (λ found. words text.now ≡ found.0.now ∷ words found.1.now) }
@@ -17,7 +17,7 @@ pub fn first_word(text: &str) -> Option<(&str, &str)>
     Some(text.split_at(word_len(text.as_bytes())))
 }
 
-/// The text without the blanks at its ends.
+/// Returns `text` without leading and trailing blanks.
 #[tactic(auto, unfolding(crate::specs::headline::Trim::trim_matches))]
 pub fn trim_blanks(text: &str) -> &str
     ensures { result.now ≡ trim_matches is_blank text.now }
@@ -25,7 +25,6 @@ pub fn trim_blanks(text: &str) -> &str
     trim_blanks_end(trim_blanks_start(text))
 }
 
-/// The text without the blanks at its start.
 #[tactic(auto, unfolding(crate::specs::headline::Trim::trim_start_matches))]
 fn trim_blanks_start(text: &str) -> &str
     ensures { result.now ≡ trim_start_matches is_blank text.now }
@@ -33,7 +32,6 @@ fn trim_blanks_start(text: &str) -> &str
     &text[blanks_in_front(text.as_bytes())..]
 }
 
-/// The text without the blanks at its end.
 #[tactic(auto, unfolding(crate::specs::headline::Trim::trim_end_matches))]
 fn trim_blanks_end(text: &str) -> &str
     ensures { result.now ≡ trim_end_matches is_blank text.now }
@@ -41,7 +39,7 @@ fn trim_blanks_end(text: &str) -> &str
     &text[..text.len() - blanks_at_end(text.as_bytes())]
 }
 
-/// What comes before the last blank and after it, or `None` where there is no blank.
+/// Splits `text` at its last blank and returns the parts before and after this blank, or `None` if there is no blank.
 pub fn last_word(text: &str) -> Option<(&str, &str)>
     ensures { MatchOption result (list_any is_blank text.now ≡ false) (λ found.
         (list_any is_blank text.now ≡ true)
@@ -62,7 +60,6 @@ fn is_blank(byte: u8) -> bool
     byte == b' ' || byte == b'\t'
 }
 
-/// How many blanks are at the start.
 fn blanks_in_front(text: &[u8]) -> usize
     ensures value { result ≡ prefix_len is_blank text.now }
     ensures within { result ≤ length text.now }
@@ -70,7 +67,6 @@ fn blanks_in_front(text: &[u8]) -> usize
     text.iter().take_while(|byte| is_blank(**byte)).count()
 }
 
-/// How many blanks are at the end.
 fn blanks_at_end(text: &[u8]) -> usize
     ensures value { result ≡ suffix_len is_blank text.now }
     ensures within { result ≤ length text.now }
@@ -81,7 +77,7 @@ fn blanks_at_end(text: &[u8]) -> usize
         .count()
 }
 
-/// How many bytes come before the first blank.
+/// Returns the number of bytes before the first blank.
 fn word_len(text: &[u8]) -> usize
     ensures value { result ≡ position_or_len is_blank text.now }
     ensures within { result ≤ length text.now }
@@ -89,7 +85,7 @@ fn word_len(text: &[u8]) -> usize
     text.iter().take_while(|byte| !is_blank(**byte)).count()
 }
 
-/// How many bytes come after the last blank.
+/// Returns the number of bytes after the last blank.
 fn last_word_len(text: &[u8]) -> usize
     ensures value { result ≡ suffix_len (λ byte. not (is_blank byte)) text.now }
     ensures within { result ≤ length text.now }

@@ -1,4 +1,4 @@
--- The characters that separate what a text lists.
+-- Characters that separate the items of a list.
 use Rattle.std.specs.Prelude.{ℕ, ◌==◌, Bool}
 
 abbrev pub is_equals : ℕ → Bool

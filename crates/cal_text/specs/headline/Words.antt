@@ -1,4 +1,4 @@
--- The words of a text: systemd.time(7).
+-- Words of a text: systemd.time(7).
 use Rattle.std.specs.Prelude.{ℕ, ◌==◌, nat_lt, Bool, ◌||◌, List, length, filter}
 use Rattle.std.specs.List.{slice_split}
 
@@ -6,6 +6,6 @@ use Rattle.std.specs.List.{slice_split}
 abbrev pub is_blank : ℕ → Bool
 is_blank b = (b == 32) || (b == 9)
 
--- the pieces between blanks that aren't empty
+-- the nonempty pieces between blanks
 unfoldable pub words : List ℕ → List (List ℕ)
 words text = filter (λ word. nat_lt 0 (length word)) (slice_split is_blank text)
