@@ -1,11 +1,11 @@
--- The logical lines of a file one after the other.
+-- The loop's steps when a logical line is joined from physical ones.
 use Rattle.std.proofs.Common.{arith, ◌≡◌, ℕ, ◌+◌, Bool, true, false, List, [], ◌∷◌, ◌++◌, map, refl, sym, ap, ◌∙◌, append_assoc, append-nil}
 use Rattle.std.specs.List.{flat_map}
 use Rattle.std.specs.Str.Lines.{lines}
 use Rattle.cal_text.specs.headline.Trim.{trim_start_matches}
 use Rattle.cal_lines.specs.headline.Lines.{Group, Line, continued_by, groups, is_blank_or_return, is_comment, is_continued, joined_line, logical_lines, part_of_line, physical_lines, plain_lines}
 
--- the lines of a text after its first
+-- how the first physical line affects the lines that are not comments
 pub plain_here : (n : ℕ) (text line rest : List ℕ) → lines text ≡ line ∷ lines rest → is_comment (trim_start_matches is_blank_or_return line) ≡ false → plain_lines n text ≡ record { number = n; text = trim_start_matches is_blank_or_return line } ∷ plain_lines (n + 1) rest
 unfolding physical_lines plain_lines
 plain_here n text line rest e f = rw (e, f) refl
@@ -18,21 +18,21 @@ pub plain_none : (n : ℕ) (text : List ℕ) → lines text ≡ [] → plain_lin
 unfolding physical_lines plain_lines
 plain_none n text e = rw e refl
 
--- what a list of lines adds to a logical line
+-- what a list of lines contributes to a logical line
 abbrev pub parts_of : List Line → List ℕ
 parts_of = flat_map (λ line. part_of_line line.text)
 
--- the logical lines where the first of them begins with this text
+-- the logical lines of these groups, with `front` before the text of the first one
 abbrev pub after : ℕ → List ℕ → List Group → List Line
 after n front [] = record { number = n; text = front } ∷ []
 after n front (group ∷ rest) = record { number = n; text = front ++ parts_of (group.first ∷ group.more) } ∷ map joined_line rest
 
--- the logical lines from a text on that goes on in these lines or has ended
+-- the logical lines that begin with a partly joined one; it continues in these lines, or is complete
 abbrev pub goes_on_in : ℕ → List ℕ → Bool → List Line → List Line
 goes_on_in n front true ls = after n front (groups ls)
 goes_on_in n front false ls = record { number = n; text = front } ∷ map joined_line (groups ls)
 
--- the first line of a group
+-- prepending a continued line to a group prepends what it contributes
 pub joined_continued : (n : ℕ) (front : List ℕ) (line : Line) (gs : List Group) → after n front (continued_by line gs) ≡ after n (front ++ part_of_line line.text) gs
 joined_continued n front line [] = ap (λ text. record { number = n; text = text } ∷ []) (ap (λ xs. front ++ xs) (append-nil (part_of_line line.text)))
 joined_continued n front line (g ∷ gs) = ap (λ text. record { number = n; text = text } ∷ map joined_line gs) (sym (append_assoc front (part_of_line line.text) (parts_of (g.first ∷ g.more))))
@@ -45,18 +45,18 @@ continued_alone : (line : Line) (gs : List Group) → map joined_line (continued
 continued_alone line [] = ap (λ text. record { number = line.number; text = text } ∷ []) (append-nil (part_of_line line.text))
 continued_alone line (g ∷ gs) = refl
 
--- a logical line begins with its first line
+-- a logical line begins with what its first physical line contributes
 pub line_begins : (line : Line) (ls : List Line) → map joined_line (groups (line ∷ ls)) ≡ goes_on_in line.number (part_of_line line.text) (is_continued line.text) ls
 unfolding groups
 line_begins line ls = grind (arith, append-nil (part_of_line line.text), continued_alone line (groups ls))
 
--- and ends with the file
+-- a continued logical line ends at the end of the file
 pub line_ends : (n : ℕ) (front : List ℕ) (goes_on : Bool) → goes_on_in n front goes_on [] ≡ record { number = n; text = front } ∷ []
 unfolding groups
 line_ends n front true = refl
 line_ends n front false = refl
 
--- the logical lines of a text, as they are found one after the other
+-- the logical lines of a text, by its first line that is not a comment
 pub logical_none : (n : ℕ) (text : List ℕ) → plain_lines n text ≡ [] → logical_lines n text ≡ []
 unfolding logical_lines groups
 logical_none n text e = rw e refl

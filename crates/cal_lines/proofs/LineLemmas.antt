@@ -1,4 +1,4 @@
--- Where a text may be cut, and the lines of a file one after the other.
+-- Positions at which a line may be split, and the first line of a text.
 use Rattle.std.proofs.Common.{◌≡◌, ◌<◌, ◌≤◌, ◌-◌, ℕ, true, List, length, get_or, arith, ◌∙◌, ap, reverse, ◌==◌}
 use Rattle.std.specs.List.{suffix_len}
 use Rattle.std.specs.Str.{IsCharBoundary}
@@ -8,11 +8,11 @@ use Rattle.std.proofs.lemmas.List.Sums.{prefix_len_passes, suffix_len-le-length}
 use Rattle.std.proofs.lemmas.Str.{IsCharBoundary-before_ascii}
 use Rattle.cal_lines.specs.headline.Lines.{is_blank_or_return, is_continued}
 
--- every blank is ASCII
+-- blanks are ASCII, so each is a single byte
 pub blank_is_ascii : (b : ℕ) → is_blank_or_return b ≡ true → b < 128
 blank_is_ascii b h = grind (arith, nat_tests)
 
--- the last byte of a line that is continued is a backslash
+-- the last byte of a continued line is a backslash, and the line may be split before it
 pub last_is_backslash : (line : List ℕ) → is_continued line ≡ true → (1 ≤ length line) × IsCharBoundary line (length line - 1)
 unfolding is_continued
 last_is_backslash line h =

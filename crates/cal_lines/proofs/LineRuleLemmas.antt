@@ -1,9 +1,9 @@
--- The definition of groups of lines against the rule's own words.
+-- `groups` computes the grouping that `LineRule` describes, and there is no other.
 use Rattle.std.proofs.Common.{arith, ◌≡◌, true, false, List, [], ◌∷◌, ◌++◌, refl, ap, ◌∙◌}
 use Rattle.cal_lines.specs.LineRule.{AreGroups, IsClosed, IsOpen, lines_of}
 use Rattle.cal_lines.specs.headline.Lines.{Group, Line, continued_by, groups, is_continued}
 
--- The groups have all the lines, in their order
+-- All lines are in the groups, in order
 lines_of_continued : (line : Line) (all : List Group) → lines_of (continued_by line all) ≡ line ∷ lines_of all
 lines_of_continued line [] = refl
 lines_of_continued line (group ∷ rest) = refl
@@ -13,7 +13,7 @@ unfolding groups
 lines_of_groups [] = refl
 lines_of_groups (line ∷ lines) = grind (arith, lines_of_groups lines, lines_of_continued line (groups lines))
 
--- They are groups
+-- The groups satisfy `AreGroups`
 continued_groups : (line : Line) (all : List Group) → is_continued line.text ≡ true → AreGroups all → AreGroups (continued_by line all)
 continued_groups line [] e h = tt
 continued_groups line (group ∷ []) e h = (e, h)
@@ -28,7 +28,7 @@ unfolding groups
 are_groups [] = tt
 are_groups (line ∷ lines) = grind (arith, are_groups lines, continued_groups line (groups lines), ended_groups line (groups lines))
 
--- There are no others
+-- There is no other grouping
 closed_group : (line : Line) (more rest : List Line) → IsClosed line more → groups ((line ∷ more) ++ rest) ≡ record { first = line; more = more } ∷ groups rest
 unfolding groups
 closed_group line [] rest e = rw e refl

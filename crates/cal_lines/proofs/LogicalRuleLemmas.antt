@@ -1,4 +1,4 @@
--- The logical lines against the rule's own words.
+-- The functions of `Lines` compute what the relations of `LogicalRule` describe, and nothing else satisfies these.
 use Rattle.std.proofs.Common.{◌≡◌, ℕ, ◌+◌, ◌-◌, ◌<◌, ◌==◌, Bool, true, false, List, [], ◌∷◌, ◌++◌, length, not, filter, map, take, get_or, reverse, refl, sym, ap, ◌∙◌, inl, inr, arith}
 use Rattle.std.specs.List.{suffix_len}
 use Rattle.std.specs.Str.Lines.{lines}
@@ -13,7 +13,7 @@ use Rattle.cal_lines.specs.LogicalRule.{AreJoined, AreLogical, ArePhysical, Each
 use Rattle.cal_lines.proofs.GroupLemmas.{parts_of}
 use Rattle.cal_lines.proofs.LineRuleLemmas.{are_groups, groups_of_lines, lines_of_groups}
 
--- the physical lines
+-- `numbered_lines` returns the physical lines
 pub physical : (number : ℕ) (texts : List (List ℕ)) → ArePhysical number texts (numbered_lines number (map (trim_start_matches is_blank_or_return) texts))
 physical number [] = tt
 physical number (text ∷ texts) = (refl, unindented is_blank_or_return text, physical (number + 1) texts)
@@ -28,7 +28,7 @@ physical_only number (text ∷ texts) (line ∷ all) h =
     let first : line ≡ record { number = number; text = trim_start_matches is_blank_or_return text } = λ i. record { number = h.0 i; text = text_is i } in
     ap (λ l. l ∷ all) first ∙ ap (λ ls. record { number = number; text = trim_start_matches is_blank_or_return text } ∷ ls) rest
 
--- the last byte of a continued line
+-- the last byte of a continued line is a backslash
 last_byte : (text : List ℕ) → is_continued text ≡ true → text ≡ take (length text - 1) text ++ 92 ∷ []
 unfolding is_continued
 last_byte text h =
@@ -42,7 +42,7 @@ last_byte text h =
     sym (take-length text) ∙ (ap (λ n. take n text) (sym whole) ∙ (take_more text (length text - 1) 0 (omega arith)
     ∙ ap (λ b. take (length text - 1) text ++ b ∷ []) byte))
 
--- what a line adds
+-- `part_of_line` returns what a line contributes
 part_as : (continued : Bool) (text : List ℕ) → is_continued text ≡ continued → IsLinePart text (part_of_line text)
 unfolding part_of_line
 part_as true text e = rw e (inr (record { continued = e; front = take (length text - 1) text; line = last_byte text e; said = refl }))
@@ -61,7 +61,7 @@ unfolding part_of_line
 part_only text said (inl h) = rw h.0 h.1
 part_only text said (inr h) = rw h.continued (h.said ∙ ap (λ front. front ++ 32 ∷ []) (sym (ap (λ t. take (length t - 1) t) h.line ∙ front_of h.front)))
 
--- the parts of lines
+-- `parts_of` joins what the lines contribute
 pub joined : (all : List Line) → AreJoined all (parts_of all)
 joined [] = refl
 joined (line ∷ all) = (part_of_line line.text, parts_of all, part line.text, joined all, refl)
@@ -71,7 +71,7 @@ joined_only [] text h = h
 joined_only (line ∷ all) text h =
     h.4 ∙ (ap (λ p. p ++ h.1) (part_only line.text h.0 h.2) ∙ ap (λ rest. part_of_line line.text ++ rest) (joined_only all h.1 h.3))
 
--- the logical line of each group
+-- `joined_line` returns the logical line of each group
 pub each_logical : (all : List Group) → EachIsLogical all (map joined_line all)
 each_logical [] = tt
 each_logical (group ∷ all) = (record { number = refl; text = joined (group.first ∷ group.more) }, each_logical all)
@@ -85,7 +85,7 @@ each_only (group ∷ all) (line ∷ logical) h =
     let first : line ≡ joined_line group = λ i. record { number = h.0.number i; text = text_is i } in
     ap (λ l. l ∷ logical) first ∙ ap (λ ls. joined_line group ∷ ls) (each_only all logical h.1)
 
--- those of a text
+-- `logical_lines` returns the logical lines of a text
 pub logical_are : (number : ℕ) (text : List ℕ) → AreLogical number text (logical_lines number text)
 unfolding logical_lines plain_lines physical_lines
 logical_are number text = record {

@@ -1,10 +1,10 @@
--- Lines of a unit file without where they lie in memory.
+-- How contracts see lines of a unit file: as values, without their addresses in memory.
 use Rattle.std.specs.Prelude.{ℕ, List, string_bytes}
 use Rattle.cal_lines.specs.headline.Lines.{Line}
 use Rattle.cal_lines.specs.declared.lines.LogicalLine.{LogicalLine}
 use Rattle.cal_lines.specs.declared.lines.PlainLine.{PlainLine}
 
--- a text in the line of this number
+-- the line with this number and text
 abbrev pub line_at : ℕ → List ℕ → Line
 line_at number text = record { number = number; text = text }
 

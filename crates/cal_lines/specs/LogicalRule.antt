@@ -1,35 +1,35 @@
--- What the logical lines of a text are, in the rule's own words: systemd.syntax(7). These relations don't go by the
--- functions of `Lines` that compute the lines; they share with them what a blank, a comment and a continued line is.
+-- The logical lines of a text as a relation: systemd.syntax(7). It is stated without the functions of `Lines` that
+-- compute the lines, but shares with them the tests for blanks, comments and continued lines.
 use Rattle.std.specs.Prelude.{◌≡◌, ◌⊎◌, ◌+◌, ℕ, true, false, not, List, [], ◌∷◌, ◌++◌, filter}
 use Rattle.std.specs.Str.Lines.{lines}
 use Rattle.cal_text.specs.TrimRule.{IsUnindented}
 use Rattle.cal_lines.specs.LineRule.{AreGroups, lines_of}
 use Rattle.cal_lines.specs.headline.Lines.{Group, Line, is_blank_or_return, is_comment, is_continued}
 
--- the physical lines, counted from this number on
+-- `lines` are the physical lines with consecutive numbers from `number` on, without leading blanks
 abbrev pub ArePhysical : ℕ → List (List ℕ) → List Line → Type 0
 ArePhysical number [] [] = Unit {0}
 ArePhysical number (text ∷ texts) (line ∷ lines) = (line.number ≡ number) × IsUnindented is_blank_or_return text line.text × ArePhysical (number + 1) texts lines
 ArePhysical number [] (line ∷ lines) = ⊥
 ArePhysical number (text ∷ texts) [] = ⊥
 
--- a continued line ends in a backslash, in the place of which the part has a space
+-- the text ends in a backslash that continues it, and the part has a space in its place
 pub record IsContinuedPart (text part : List ℕ) : Type 0 where
   pub continued : is_continued text ≡ true
   pub front : List ℕ
   pub line : text ≡ front ++ 92 ∷ []
   pub said : part ≡ front ++ 32 ∷ []
 
--- what a line adds to its logical line; one that isn't continued adds itself
+-- what a physical line contributes to its logical line; a line that isn't continued contributes all of its text
 abbrev pub IsLinePart : List ℕ → List ℕ → Type 0
 IsLinePart text part = ((is_continued text ≡ false) × (part ≡ text)) ⊎ IsContinuedPart text part
 
--- the parts of these lines, one right after the other
+-- the text is the concatenation of what the lines contribute
 abbrev pub AreJoined : List Line → List ℕ → Type 0
 AreJoined [] text = text ≡ []
 AreJoined (line ∷ lines) text = (part : List ℕ) × (rest : List ℕ) × IsLinePart line.text part × AreJoined lines rest × (text ≡ part ++ rest)
 
--- the logical line of a group: its number is that of the first line
+-- the logical line of a group, with the number of the group's first line
 pub record IsLogical (group : Group) (line : Line) : Type 0 where
   pub number : line.number ≡ group.first.number
   pub text : AreJoined (group.first ∷ group.more) line.text
@@ -40,7 +40,7 @@ EachIsLogical (group ∷ groups) (line ∷ lines) = IsLogical group line × Each
 EachIsLogical [] (line ∷ lines) = ⊥
 EachIsLogical (group ∷ groups) [] = ⊥
 
--- the logical lines of a text: those of the groups of its physical lines that are no comments
+-- the logical lines of a text: its physical lines without comments, grouped by continuation and joined
 pub record AreLogical (number : ℕ) (text : List ℕ) (logical : List Line) : Type 0 where
   pub physical : List Line
   pub are_physical : ArePhysical number (lines text) physical

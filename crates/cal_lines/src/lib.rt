@@ -1,4 +1,4 @@
-//! The lines of unit files: physical lines, comments and logical lines (systemd.syntax(7)).
+//! Lines of unit files: physical lines, comments and logical lines (systemd.syntax(7)).
 #![tactic(auto)]
 
 pub mod laws;

@@ -1,4 +1,8 @@
-//! The lines of a unit file (systemd.syntax(7)): physical lines, comments, and logical lines.
+//! Lines of a unit file (systemd.syntax(7)): physical lines, comments, and logical lines.
+//!
+//! Blanks in this module are spaces, tabs and carriage returns. A physical line that ends in an odd number of
+//! backslashes is continued by the next one that isn't a comment, and the lines joined in this way are one logical
+//! line.
 
 ghost use Rattle.std.specs.Prelude.{◌≡◌, ◌==◌, ◌∷◌, [], ◌+◌, ◌++◌, ◌<◌, ◌≤◌, ◌^◌, ◌-◌, MatchOption, MatchResult, IfOk, IfSome, OnOk, length, string_bytes, take, true};
 ghost use Rattle.std.specs.List.{prefix_len, suffix_len};
@@ -9,14 +13,12 @@ ghost use Rattle.cal_lines.specs.headline.Lines.{is_blank_or_return, is_comment,
 
 use std::alloc::{AllocError, Global};
 
-/// Whether the byte is a blank, which is a space or a tab, or a carriage return.
 fn is_blank_or_return(byte: u8) -> bool
     ensures { result ≡ is_blank_or_return byte }
 {
     matches!(byte, b' ' | b'\t' | b'\r')
 }
 
-/// How many blanks are at the start.
 fn leading_blanks(text: &str) -> usize
     ensures { result ≡ prefix_len is_blank_or_return text.now }
 {
@@ -26,7 +28,6 @@ fn leading_blanks(text: &str) -> usize
         .count()
 }
 
-/// How many blanks are at the end.
 fn trailing_blanks(text: &str) -> usize
     ensures { result ≡ suffix_len is_blank_or_return text.now }
 {
@@ -37,21 +38,19 @@ fn trailing_blanks(text: &str) -> usize
         .count()
 }
 
-/// The text without the blanks at its start.
 fn trim_start(text: &str) -> &str
     ensures { result.now ≡ trim_start_matches is_blank_or_return text.now }
 {
     &text[leading_blanks(text)..]
 }
 
-/// The text without the blanks at its end.
 fn trim_end(text: &str) -> &str
     ensures { result.now ≡ trim_end_matches is_blank_or_return text.now }
 {
     &text[..text.len() - trailing_blanks(text)]
 }
 
-/// The text without the blanks at its ends.
+/// Returns `text` without leading and trailing spaces, tabs and carriage returns.
 #[tactic(auto, unfolding(cal_text::specs::headline::Trim::trim_matches))]
 pub fn trim(text: &str) -> &str
     ensures { result.now ≡ trim_matches is_blank_or_return text.now }
@@ -59,14 +58,14 @@ pub fn trim(text: &str) -> &str
     trim_end(trim_start(text))
 }
 
-/// The line without the one carriage return at its end, if it has one.
+/// Removes at most one carriage return from the end of the line.
 fn without_return(line: &str) -> &str
     ensures { result.now ≡ strip_carriage_return line.now }
 {
     line.strip_suffix('\r').unwrap_or(line)
 }
 
-/// The first physical line of a text without its end, and what comes after it.
+/// Returns the first physical line, without its line ending, and the text after it, or `None` if `text` is empty.
 fn first_line(text: &str) -> Option<(&str, &str)>
     ensures lines { MatchOption result (lines text.now ≡ [])
         (λ found. lines text.now ≡ found.0.now ∷ lines found.1.now) }
@@ -81,25 +80,24 @@ fn first_line(text: &str) -> Option<(&str, &str)>
     }
 }
 
-/// Whether the line is a comment.
 fn is_comment(line: &str) -> bool
     ensures { result ≡ is_comment line.now }
 {
     matches!(line.as_bytes(), [b'#' | b';', ..])
 }
 
-/// A physical line that is no comment.
+/// A physical line that is not a comment, without leading blanks.
 #[derive(Clone, Copy)]
 struct PlainLine<'t> {
     number: u32,
     line: &'t str,
-    /// The number of the line after it.
+    /// The number of the next physical line.
     next: u32,
-    /// What comes after it.
+    /// The text after this line.
     rest: &'t str,
 }
 
-/// The first line of a text that is no comment, where the first of all has this number.
+/// Returns the first line of `text` that is not a comment. `number` is the number of the first physical line of `text`.
 #[tactic(auto, using(crate::proofs::GroupLemmas::plain_here, crate::proofs::GroupLemmas::plain_skipped, crate::proofs::GroupLemmas::plain_none))]
 fn first_plain(number: u32, text: &str) -> Option<PlainLine<'_>>
     requires { number + length text.now < 2 ^ 32 }
@@ -126,7 +124,6 @@ fn first_plain(number: u32, text: &str) -> Option<PlainLine<'_>>
     None
 }
 
-/// How many backslashes are at the end.
 fn trailing_backslashes(line: &str) -> usize
     ensures { result ≡ suffix_len (λ b. b == 92) line.now }
 {
@@ -137,7 +134,7 @@ fn trailing_backslashes(line: &str) -> usize
         .count()
 }
 
-/// Whether the line is continued: whether it ends in an odd number of backslashes.
+/// Returns whether the line is continued by the next one, that is, whether it ends in an odd number of backslashes.
 #[tactic(auto, unfolding(crate::specs::headline::Lines::is_continued))]
 fn is_continued(line: &str) -> bool
     ensures { result ≡ is_continued line.now }
@@ -145,7 +142,7 @@ fn is_continued(line: &str) -> bool
     trailing_backslashes(line) % 2 == 1
 }
 
-/// A line that is continued, without its last backslash.
+/// Returns a continued line without its last backslash.
 fn without_backslash(line: &str) -> &str
     requires { is_continued line.now ≡ true }
     ensures { result.now ≡ take (length line.now - 1) line.now }
@@ -153,7 +150,8 @@ fn without_backslash(line: &str) -> &str
     &line[..line.len() - 1]
 }
 
-/// Adds to a logical line what a line of it says, and answers whether it is continued.
+/// Appends a physical line to a logical line, with a space in place of a backslash that continues it. Returns whether
+/// the line is continued.
 #[tactic(auto, unfolding(crate::specs::headline::Lines::part_of_line))]
 fn push_part(joined: &mut String, line: &str) -> Result<bool, AllocError>
     ensures text { OnOk result (string_bytes joined.new ≡ string_bytes joined.old ++ part_of_line line.now) }
@@ -169,20 +167,21 @@ fn push_part(joined: &mut String, line: &str) -> Result<bool, AllocError>
     Ok(goes_on)
 }
 
-/// A logical line.
+/// A logical line: one physical line, or several that are joined by continuation.
 #[derive(Drop)]
 pub struct LogicalLine<'t> {
     /// The number of its first physical line.
     pub number: u32,
-    /// Its text, blanks at its ends included.
+    /// The joined text. Trailing blanks are kept.
     pub text: String,
-    /// The number of the line after it.
+    /// The number of the next physical line.
     pub next: u32,
-    /// What comes after it.
+    /// The text after this line.
     pub rest: &'t str,
 }
 
-/// The first logical line of a text, where the first physical line has this number. Refused memory is the only error.
+/// Returns the first logical line of `text`, or `None` if `text` has only comments or is empty. `number` is the number
+/// of the first physical line of `text`. The only error is that allocation fails.
 pub fn first_logical(
     alloc: Global,
     number: u32,

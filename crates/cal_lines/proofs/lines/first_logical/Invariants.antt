@@ -1,4 +1,5 @@
--- The logical lines are the one begun, which goes on in what is left or has ended, and those after it.
+-- The logical lines of the whole text are the one being joined, which either continues in the remaining text or is
+-- complete, followed by the logical lines after it.
 use Rattle.std.proofs.Common.{◌≡◌, ◌+◌, ◌≤◌, ◌<◌, length, string_bytes}
 use denote.Shadow.{shadow}
 use denote.Text.{Utf8}

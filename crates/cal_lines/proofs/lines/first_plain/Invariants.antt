@@ -1,4 +1,5 @@
--- What is left has all the lines that are no comments, and their numbers stay below the length of the whole.
+-- The remaining text still has all lines that are not comments. Each line takes at least one byte, so the number of the
+-- next line plus the length of the remaining text never grows.
 use Rattle.std.proofs.Common.{◌≡◌, ◌+◌, ◌≤◌, length}
 use denote.Shadow.{shadow}
 use denote.Text.{Utf8}
