@@ -1,4 +1,4 @@
--- Components that were read have a meaning, and no more counted parts than are allowed.
+-- The values of a parsed component are valid, and it has no more counted parts than are allowed.
 use Rattle.std.proofs.Common.{ℕ, suc, ◌+◌, ◌-◌, ◌<◌, ◌≤◌, ◌≡◌, ◌⊎◌, inl, inr, Bool, true, false, cond, ◌&&◌, List, [], ◌∷◌, length, Option, Some, None, Ok, refl, ap, arith, leb, eqb}
 use Rattle.std.specs.List.{AllByRecursion, slice_split}
 use Rattle.std.proofs.lemmas.Bool.{and_parts, cases_Bool, leb-true, ltb-false, leb-false, eqb-false, not-false}
@@ -17,7 +17,7 @@ use Rattle.cal_spec.specs.declared.spec_fault.SpecFault.TheVariants.{OutOfField,
 use Rattle.cal_text.proofs.General.{some_piece, option_or_none}
 use Rattle.cal_spec.proofs.ReadLemmas.{bind_ok, unless_ok, cond_ok}
 
--- a part without a fault
+-- Parts that pass the checks of their values
 
 no_fault : (a b c d : Bool) → cond a (Some OutOfField) (cond b (Some BackwardRange) (cond c (Some ZeroRepeat) (cond d (Some NoRepeat) None))) ≡ None → (a ≡ false) × (b ≡ false) × (c ≡ false) × (d ≡ false)
 no_fault false false false false at = (refl, refl, refl, refl)
@@ -70,7 +70,7 @@ sound_parts slot (p ∷ ps) at =
     let none = option_or_none (fault_of slot p) (first_value_fault slot ps) at in
     (sound_part slot p none.0, sound_parts slot ps none.1)
 
--- as many parts as texts, and no more than are allowed
+-- The number of parsed parts: as many as texts, and no more than are allowed
 
 pub part_due_ok : (slot : Slot) (room : ℕ) (text : List ℕ) (p : Part) → part_due slot room text ≡ Ok p → 0 < room
 unfolding part_due
@@ -109,7 +109,7 @@ listed_ok slot room text ps at =
     let two = unless_ok (first_value_fault slot one.value) one.value ps one.next in
     record { shapes = rw two.1 at one.first; values = rw two.1 at two.0 }
 
--- some part
+-- a parsed component other than `*` has at least one part
 parts_some : (slot : Slot) (room : ℕ) (text : List ℕ) (ps : List Part) → parts_of slot room (slice_split is_comma text) ≡ Ok ps → 0 < length ps
 parts_some slot room text ps at =
     let some = some_piece is_comma text in
@@ -119,12 +119,12 @@ counted_in : (time : Bool) (n room : ℕ) → n ≤ cond time (room + 1) room �
 counted_in true n room h = omega arith
 counted_in false n room h = h
 
--- what a component that was read has
+-- what holds of a parsed component: valid values, and no more counted parts than are allowed
 pub record IsRead (slot : Slot) (room : ℕ) (c : Option (List Part)) : Type 0 where
   pub sound : AreSound slot c
   pub few : counted slot c ≤ room
 
--- a component that was read is a star, or its parts were read
+-- a parsed component is `*`, or consists of parts that were parsed
 pub component_is : (slot : Slot) (room : ℕ) (text : List ℕ) (c : Option (List Part)) → component_of slot room text ≡ Ok c
     → ((is_star text ≡ true) × (c ≡ None)) ⊎ ((is_star text ≡ false) × ((ps : List Part) × (c ≡ Some ps) × ListedRead slot room text ps))
 unfolding component_of

@@ -1,4 +1,4 @@
--- A component that was read is one by the rule, and one by the rule is read.
+-- The parser accepts exactly the components that the grammar allows.
 use Rattle.std.proofs.Common.{inl, inr, ℕ, ◌+◌, ◌-◌, ◌<◌, ◌≤◌, ◌≡◌, Bool, true, false, cond, ◌&&◌, ◌||◌, List, [], ◌∷◌, ◌++◌, length, codes, Option, Some, None, Ok, refl, sym, ap, ◌∙◌, arith, leb}
 use Rattle.std.specs.Prelude.{◌==◌}
 use Rattle.std.specs.List.{AllByRecursion, AllZip, list_all, slice_split, join_with_byte}
@@ -23,7 +23,7 @@ use Rattle.cal_spec.proofs.FaultLemmas.{part_due_is}
 use Rattle.cal_spec.proofs.PartRule.{part_found, part_only}
 use Rattle.cal_text.proofs.General.{some_piece, list_all-wider, list_all-both, IsClear, Apart, clear_of, split_join_with_byte}
 
--- A part with a meaning has no fault
+-- Parts with valid values pass the checks
 
 within_is : (slot : Slot) (n : ℕ) → IsWithin slot n → is_within slot n ≡ true
 within_is slot n h = and_from (leb (least slot) n) (leb n (greatest slot)) (le-leb (least slot) n h.0) (le-leb n (greatest slot) h.1)
@@ -56,7 +56,7 @@ pub no_first_fault : (slot : Slot) (ps : List Part) → AllByRecursion (IsSound 
 no_first_fault slot [] sound = refl
 no_first_fault slot (p ∷ ps) sound = rw (no_fault_of slot p sound.0) (no_first_fault slot ps sound.1)
 
--- What was read is a component by the rule
+-- The grammar allows each parsed component
 
 parts_found : (slot : Slot) (room : ℕ) (ts : List (List ℕ)) (ps : List Part) → parts_of slot room ts ≡ Ok ps → AllZip (IsPartOf slot) ts ps
 parts_found slot room [] ps at = let none : [] ≡ ps = cc in rw (← none) tt
@@ -84,13 +84,13 @@ component_found slot room text c at =
       | inr listed ↦ rw listed.1.1 (listed_found slot room text listed.1.0 listed.1.2)
     ]
 
--- The bytes of parts and of components
+-- The bytes of parts and components
 
--- points, slashes and digits
+-- the bytes of parts: points, slashes and digits
 abbrev pub is_part_byte : ℕ → Bool
 is_part_byte b = leb 46 b && leb b 57
 
--- these, and commas and stars
+-- the bytes of components: those of parts, commas and stars
 abbrev pub is_component_byte : ℕ → Bool
 is_component_byte b = (b == 42) || ((b == 44) || is_part_byte b)
 
@@ -136,7 +136,7 @@ pub component_bytes : (slot : Slot) (text : List ℕ) (c : Option (List Part)) �
 component_bytes slot text None is = rw is refl
 component_bytes slot text (Some ps) is = rw is.whole (joined_bytes slot is.texts ps is.parts)
 
--- What the rule writes is read
+-- Each component that the grammar allows is parsed
 
 part_due_only : (slot : Slot) (room : ℕ) (text : List ℕ) (p : Part) → IsPartOf slot text p → 0 < room → part_due slot room text ≡ Ok p
 unfolding part_due
@@ -151,7 +151,7 @@ parts_only slot room (t ∷ ts) (p ∷ ps) zip few =
     let due = part_due_only slot room t p zip.0 (omega arith) in
     rw (due, parts_only slot (room - 1) ts ps zip.1 (omega arith)) refl
 
--- parts joined by commas begin with a digit
+-- a text that begins with a number is not `*`
 begins_digit : (text : List ℕ) (n : ℕ) (rest : List ℕ) → IsNumber text n → text ++ rest ≡ codes "*" → ⊥
 begins_digit [] n rest is at = omega (arith, is.some)
 begins_digit (b ∷ bs) n rest is at =

@@ -1,4 +1,4 @@
--- A date or a time that was read is one by the rule, and one by the rule is read.
+-- The parser accepts exactly the dates and times that the grammar allows.
 use Rattle.std.proofs.Common.{ℕ, ◌-◌, ◌≤◌, ◌≡◌, inl, inr, Bool, true, false, cond, List, [], ◌∷◌, ◌++◌, codes, Option, Some, None, Ok, refl, sym, ap, ◌∙◌, arith}
 use Rattle.std.specs.Prelude.{◌==◌, filter}
 use Rattle.std.specs.List.{AllByRecursion, slice_split, join_with_byte}
@@ -20,7 +20,7 @@ use Rattle.cal_spec.proofs.ComponentRule.{is_component_byte, component_found, co
 use Rattle.cal_spec.proofs.FieldLemmas.{fields_with, date_found, time_found, counted_date, counted_time, day_no_time}
 use Rattle.cal_text.proofs.General.{filter_kept, woven, woven_whole, IsClear, Apart, clear_of, split_at, split_alone, filter_at, filter_alone}
 
--- The shape of a date
+-- The components of a date
 
 sign_by : (s : ℕ) (tilde : Bool) → is_tilde s ≡ tilde → is_date_sign s ≡ true → last_sign tilde ≡ s ∷ []
 sign_by s true is test = ap (λ b. b ∷ []) (sym (eqb-true s 126 is))
@@ -79,7 +79,7 @@ date_shape_only : (word : List ℕ) (t : DateTexts) → IsClear is_date_sign t.y
 date_shape_only word t y m d (inl whole) = ap date_texts whole ∙ three_only t.year t.month t.day t.from_end y m d
 date_shape_only word t y m d (inr shape) = ap date_texts shape.1 ∙ two_only t.month t.day t.from_end m d ∙ ap Some (with_star t shape.0)
 
--- The shape of a time
+-- The components of a time
 
 time_by_found : (ts : List (List ℕ)) (t : TimeTexts) → time_texts_by ts ≡ Some t → IsTimeShape (join_with_byte 58 ts) t
 time_by_found (a ∷ b ∷ []) t at =
@@ -119,7 +119,7 @@ component_no_colon b h = grind (arith, nat_tests)
 component_clear : (p : ℕ → Bool) (slot : Slot) (text : List ℕ) (c : Option (List Part)) → Apart is_component_byte p → IsComponent slot text c → IsClear p text
 component_clear p slot text c apart is = clear_of is_component_byte p text apart (component_bytes slot text c is)
 
--- What was read is a date or a time by the rule
+-- The grammar allows each parsed date and time
 
 pub is_date : (word : List ℕ) (weekdays : List Bool) (d : DateFields) (h : TimeFields) (name : Option ZoneSuffix) → date_in_word word ≡ Ok d → IsDate word (fields_with weekdays d h name)
 is_date word weekdays d h name at =
@@ -148,9 +148,9 @@ is_time room word weekdays d h name at =
       second = component_found Second (room - counted Hour h.hour - counted Minute h.minute) t.second h.second read.second;
     }
 
--- What the rule writes is read
+-- Each date and time that the grammar allows is parsed
 
--- the counted parts of each component
+-- each component has no more counted parts than those before it leave room for
 pub record AreFew (f : Fields) : Type 0 where
   pub year : counted Year f.year ≤ 240
   pub month : counted Month f.month ≤ 240 - counted Year f.year

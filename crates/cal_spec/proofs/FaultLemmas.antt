@@ -1,4 +1,4 @@
--- The fault of a text is the first of all judgements.
+-- The error of an invalid text is the first check that fails.
 use Rattle.std.proofs.Common.{inl, inr, ℕ, ◌+◌, ◌-◌, ◌<◌, ◌≡◌, Bool, true, false, cond, List, [], ◌∷◌, ◌++◌, length, map, Option, Some, None, Ok, Err, Result, refl, sym, ap, ◌∙◌, arith, ltb, eqb, zero-add}
 use Rattle.std.specs.Option.{option_or}
 use Rattle.std.specs.Result.{result_err}
@@ -29,12 +29,12 @@ use Rattle.cal_spec.proofs.ComponentLemmas.{component_is, component_read, parts_
 use Rattle.cal_spec.proofs.FieldLemmas.{fields_with, DateRead, date_found}
 use Rattle.cal_spec.proofs.ReadLemmas.{Follows, bind_ok, cond_ok}
 
--- the fault of two reads in a row
+-- the error of two consecutive parsers is that of the first, or else that of the second
 pub err_of_bind : {A B : Type 0} (r : Result A SpecFault) (f : A → Result B SpecFault) (u v : Option SpecFault) → result_err r ≡ u → ((a : A) → r ≡ Ok a → result_err (f a) ≡ v) → result_err (r >>= f) ≡ option_or u v
 err_of_bind (Ok x) f u v first next = next x refl ∙ ap (λ o. option_or o v) first
 err_of_bind (Err e) f u v first next = ap (λ o. option_or o v) first
 
--- a value that is only changed
+-- converting a parsed value doesn't change the error
 err_of_map : {A B : Type 0} (r : Result A SpecFault) (f : A → B) → result_err (r >>= λ x. Ok (f x)) ≡ result_err r
 err_of_map (Ok x) f = refl
 err_of_map (Err e) f = refl
@@ -58,7 +58,7 @@ unfolding part_due
 part_due_fault slot room number text sum =
     due_fault slot text (part_of slot text) (eqb room 0) ∙ ap (λ full. cond full (Some TooManyParts) (result_err (part_of slot text))) (full_is room number sum)
 
--- a part that was read had room
+-- a part is parsed only if there is room for it and its syntax is correct
 pub part_due_is : (slot : Slot) (room : ℕ) (text : List ℕ) (p : Part) → part_due slot room text ≡ Ok p → (0 < room) × Follows (part_of slot text) (λ raw. Ok (with_values slot raw)) p
 unfolding part_due
 part_due_is slot room text p at =
@@ -105,7 +105,7 @@ component_fault : (slot : Slot) (before room : ℕ) (text : List ℕ) → before
 unfolding component_of component_faults
 component_fault slot before room text sum = star_fault slot before room text (is_star text) sum
 
--- the count of a component that was read is that of its text
+-- a parsed component has as many counted parts as its text
 pub component_counted : (slot : Slot) (room : ℕ) (text : List ℕ) (c : Option (List Part)) → component_of slot room text ≡ Ok c → counted slot c ≡ numbered slot text
 component_counted slot room text c at =
     elim (component_is slot room text c at) [
@@ -113,7 +113,7 @@ component_counted slot room text c at =
       | inr listed ↦ rw (listed.1.1, listed.0) (ap (λ n. cond (is_time slot) (n - 1) n) (parts_counted slot (room_in slot room) (pieces_of text) listed.1.0 listed.1.2.shapes).0)
     ]
 
--- one component more
+-- the counted parts so far and the remaining room still add up to 240 after one more component
 left_after : (slot : Slot) (before room : ℕ) (text : List ℕ) (c : Option (List Part)) → before + room ≡ 240 → component_of slot room text ≡ Ok c → before + numbered slot text + (room - counted slot c) ≡ 240
 left_after slot before room text c sum at =
     omega (arith, component_counted slot room text c at, (component_read slot room text c at).few)
@@ -126,7 +126,7 @@ three_faults xs ys zs = option_or (first_of xs) (option_or (first_of ys) (first_
 first_of_three : (xs ys zs : List (Option SpecFault)) → three_faults xs ys zs ≡ first_of (xs ++ (ys ++ zs))
 first_of_three xs ys zs = sym (first_of-append xs (ys ++ zs) ∙ ap (option_or (first_of xs)) (first_of-append ys zs))
 
--- three components in a row
+-- the error of three consecutive components
 components_fault : {D : Type 0} (a b c : Slot) (before room : ℕ) (x y z : List ℕ) (make : Option (List Part) → Option (List Part) → Option (List Part) → D) → before + room ≡ 240 → result_err (component_of a room x >>= λ u. component_of b (room - counted a u) y >>= λ v. component_of c (room - counted a u - counted b v) z >>= λ w. Ok (make u v w)) ≡ three_faults (component_faults a before x) (component_faults b (before + numbered a x) y) (component_faults c (before + numbered a x + numbered b y) z)
 components_fault a b c before room x y z make sum =
     err_of_bind (component_of a room x) (λ u. component_of b (room - counted a u) y >>= λ v. component_of c (room - counted a u - counted b v) z >>= λ w. Ok (make u v w)) (first_of (component_faults a before x)) (option_or (first_of (component_faults b (before + numbered a x) y)) (first_of (component_faults c (before + numbered a x + numbered b y) z))) (component_fault a before room x sum) (λ u first.
@@ -146,7 +146,7 @@ time_fault before room None sum = refl
 time_fault before room (Some t) sum =
     components_fault Hour Minute Second before room t.hour t.minute t.second (λ hour minute second. record { hour = hour; minute = minute; second = second }) sum ∙ first_of_three (component_faults Hour before t.hour) (component_faults Minute (before + numbered Hour t.hour) t.minute) (component_faults Second (before + numbered Hour t.hour + numbered Minute t.minute) t.second)
 
--- what a date that was read leaves
+-- the counted parts of a parsed date and the remaining room add up to 240
 date_left : (t : DateTexts) (d : DateFields) → DateRead t d → numbered Year t.year + numbered Month t.month + numbered (day_slot t.from_end) t.day + room_after d ≡ 240
 date_left t d read =
     let one = left_after Year 0 240 t.year d.year refl read.year in

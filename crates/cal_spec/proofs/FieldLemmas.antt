@@ -1,4 +1,4 @@
--- Fields that were read are those of an expression.
+-- Parsed fields are valid.
 use Rattle.std.proofs.Common.{ℕ, ℤ, ◌-◌, ◌+◌, ◌≤◌, ◌≡◌, Bool, true, false, cond, List, [], ◌∷◌, length, map, Option, Some, None, Ok, Err, Result, refl, arith, ltb, codes, subst}
 use Rattle.std.specs.Prelude.{IfOk, is_some}
 use Rattle.std.specs.List.{list_any, slice_split}
@@ -121,7 +121,7 @@ items_of-cons t ts items at =
     let two = bind_ok (items_of ts) (λ more. Ok (one.value ∷ more)) items one.next in
     record { first = one.value; rest = two.value; is = cc; first_is = due_ok (days_of t) one.value one.first; rest_is = two.first }
 
--- a weekday that is in the set makes it one with some day
+-- a set that contains a weekday is not empty
 among_week : (f : Weekday → Bool) (day : Weekday) → f day ≡ true → list_any (λ d. d) (map f week) ≡ true
 among_week f Monday h = list_any_at (λ d. d) (map f week) 0 false (omega arith) h
 among_week f Tuesday h = list_any_at (λ d. d) (map f week) 1 false (omega arith) h
@@ -268,7 +268,7 @@ text_found text f at =
     let read = cond_ok (ltb most_text_bytes (length text)) TextTooLong (fields_due (roles_of (words text))) f at in
     text_found_by text (roles_of (words text)) f (ltb-false most_text_bytes (length text) read.0) refl read.1
 
--- how many counted parts
+-- The number of counted parts
 
 pub counted_date : (slot : Slot) (c : Option (List Part)) → is_time slot ≡ false → counted slot c ≡ parts_in c
 counted_date slot None test = refl
@@ -282,7 +282,7 @@ pub day_no_time : (from_end : Bool) → is_time (day_slot from_end) ≡ false
 day_no_time true = refl
 day_no_time false = refl
 
--- what a date and a time that were read have
+-- What holds of a parsed date and a parsed time
 
 pub record IsDateRead (d : DateFields) : Type 0 where
   pub year : IsRead Year most_counted d.year
@@ -333,7 +333,7 @@ valid_with weekdays d h name week date time zone_is = record {
   zone = zone_is;
 }
 
--- the fields of a text are those of an expression
+-- the parsed fields of a text are valid
 pub valid_fields : (text : List ℕ) (f : Fields) → fields_in text ≡ Ok f → IsValidFields f
 valid_fields text f at =
     let found = text_found text f at in
@@ -341,7 +341,7 @@ valid_fields text f at =
     let p = found.roles in
     rw read.is at (valid_with read.weekdays read.date read.time read.name (is_week p.weekdays read.weekdays read.weekdays_is) (is_date_read p.date read.date read.date_is) (is_time_read (room_after read.date) p.time read.time read.time_is) (is_zone p.rest read.name read.name_is))
 
--- what a call gives that reads a text
+-- if a call parses the fields of a text, the fields that it returns are valid
 pub gives_valid : (text : List ℕ) (r : Result declared_fields.Fields SpecFault) → GivesUnlessNoMemory fields_of r (fields_in text) → IfOk r (λ raw. IsValidFields (fields_of raw))
 gives_valid text (Ok raw) gives = valid_fields text (fields_of raw) gives
 gives_valid text (Err e) gives = tt

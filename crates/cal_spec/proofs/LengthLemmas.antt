@@ -1,4 +1,4 @@
--- How long normal texts are: fewer than 4,096 bytes.
+-- The printed normal form has fewer than 4,096 bytes.
 use Rattle.std.proofs.Common.{◌≡◌, ℕ, zero, suc, ◌+◌, ◌-◌, ◌*◌, ◌/◌, ◌^◌, ◌<◌, ◌≤◌, Bool, true, false, nat_le, List, [], ◌∷◌, ◌++◌, length, codes, Option, None, Some, refl, sym, subst, lit≤, arith, length-append}
 use Rattle.std.specs.Fmt.{decimal}
 use Rattle.std.specs.List.{AllByRecursion, flat_map}
@@ -29,7 +29,7 @@ use Rattle.cal_text.proofs.General.{check_all, each_checked}
 
 -- Numbers
 
--- a part with numbers below 10,000 and a step below 1,000
+-- an optional number is below a bound; in "small" parts, all numbers are below 10,000 and steps are below 1,000
 abbrev pub IsBelow : ℕ → Option ℕ → Type 0
 IsBelow bound None = Unit {0}
 IsBelow bound (Some n) = n < bound
@@ -84,7 +84,7 @@ small_parts : (slot : Slot) (ps : List Part) → AllByRecursion (IsSound slot) p
 small_parts slot [] sound normal = tt
 small_parts slot (p ∷ ps) sound normal = (small_part slot p sound.0 normal.0, small_parts slot ps sound.1 normal.1)
 
--- so are the parts of the normal form
+-- the parts of the normal form of a valid component are small
 pub small_component : (slot : Slot) (c : Option (List Part)) → AreSound slot c → AreSmall (normal_component c)
 small_component slot None h = tt
 small_component slot (Some ps) h =
@@ -168,7 +168,7 @@ fields_length f year month day hour minute second few =
     let lg = row_length (codes ":") 2 f.second (omega arith) second in
     omega (arith, lead_length f.from_end, length-append a (b ++ (c ++ (d ++ (e ++ (g ++ []))))), length-append b (c ++ (d ++ (e ++ (g ++ [])))), length-append c (d ++ (e ++ (g ++ []))), length-append d (e ++ (g ++ [])), length-append e (g ++ []), length-append g [])
 
--- Weekdays, by computing all sets
+-- Weekdays, by computing the text of each set
 
 short_weekdays : check_all 7 (λ days. nat_le (length (weekdays_text days)) 20) ≡ true
 unfolding weekdays_text runs_text run_text name_of
@@ -181,7 +181,7 @@ zone_length : (suffix : Option ZoneSuffix) → IsSuffixOption suffix → length 
 zone_length None h = omega arith
 zone_length (Some suffix) h = let word = suffix_word suffix h in omega (arith, word.short, length-append (suffix_text suffix) [])
 
--- a text of small parts is short
+-- if all parts are small, the printed expression has fewer than 4,096 bytes
 pub expr_length : (f : Fields) → IsValidFields f → AreSmall f.year → AreSmall f.month → AreSmall f.day → AreSmall f.hour → AreSmall f.minute → AreSmall f.second
     → length (expr_text f) < 4_096
 unfolding expr_text
@@ -194,7 +194,7 @@ expr_length f valid year month day hour minute second =
     let lc = zone_length f.zone valid.zone in
     omega (arith, length-append a (b ++ (c ++ [])), length-append b (c ++ []), length-append c [])
 
--- so a normal text is
+-- the printed normal form has fewer than 4,096 bytes
 pub normal_length : (f : Fields) → IsValidFields f → length (expr_text (normal_fields f)) < 4_096
 unfolding normal_fields
 normal_length f valid =

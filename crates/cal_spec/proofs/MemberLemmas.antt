@@ -1,4 +1,4 @@
--- A component has the same members before and after it is brought into its normal form.
+-- Bringing a component into its normal form doesn't change which values it matches.
 use Rattle.std.proofs.Common.{◌≡◌, ℕ, ◌-◌, ◌/◌, ◌%◌, ◌<◌, cond, Bool, true, false, ◌||◌, nat_eq, nat_le, unsigned_abs, List, [], ◌∷◌, map, Option, None, Some, refl, sym, ap, ◌∙◌, inl, inr, arith}
 use Rattle.std.specs.List.{AllByRecursion, list_any}
 use Rattle.std.proofs.Math.Nat.{mod-one}
@@ -26,7 +26,7 @@ use Rattle.std.specs.Cmp.{both_ways}
 use Rattle.cal_spec.proofs.ReducedLemmas.{last_lies, last_of, last_reached}
 use Rattle.cal_text.proofs.General.{list_any-map, list_any-same}
 
--- a range of one number
+-- a range from a to a contains only a
 one_number : (a v : ℕ) → nat_eq v a ≡ lies a a v
 one_number a v = grind (arith, nat_tests)
 
@@ -66,7 +66,7 @@ pub reduced_has : (slot : Slot) (p : Part) (v : ℕ) → IsPart p → part_has s
 unfolding part_has reduced
 reduced_has slot p v h = reduced_to_has slot p.start p.end p.step v h.forward h.steps
 
--- a member of some part
+-- if an element of a list passes a test, `list_any` returns `true`
 any_has : {A : Type 0} (f : A → Bool) (xs : List A) (x : A) → Has xs x → f x ≡ true → list_any f xs ≡ true
 any_has f [] x h e = absurd h
 any_has f (y ∷ ys) x h e = elim h [
@@ -94,7 +94,7 @@ parts_have slot ps v all =
     ∙ list_any-map f reduced ps
     ∙ list_any-same (λ p. f (reduced p)) f IsPart ps all (λ p h. reduced_has slot p v h)
 
--- the members stay
+-- a component matches the same values as its normal form
 pub component_stays : (slot : Slot) (c : Option (List Part)) (v : ℕ) → AreParts c → component_has slot (normal_component c) v ≡ component_has slot c v
 component_stays slot None v h = refl
 component_stays slot (Some ps) v h = parts_have slot ps v h
@@ -123,7 +123,7 @@ unfolding normal_second
 second_stays None v h = refl
 second_stays (Some ps) v h = starred_has (normal_parts ps) v ∙ parts_have Second ps v h
 
--- the day that is tested: `~*` holds every day, as `*` does
+-- `~*` matches every day, as `*` does
 every_day : (date : Date) → lies 1 31 (day_number true date) ≡ lies 1 31 (day_number false date)
 every_day date =
     let long = days_in_month_bounds date.year date.month in
@@ -155,7 +155,7 @@ time_stays f second valid =
     let seconds = second_stays f.second (second % 60) (parts_from_sound Second f.second valid.second) in
     rw (hour, minute, seconds) refl
 
--- and so do the local seconds that match
+-- an expression matches the same local seconds as its normal form
 pub matches_stay : (f : Fields) (local : ℕ) → IsValidFields f → matches (sets_of (normal_fields f)) local ≡ matches (sets_of f) local
 unfolding matches
 matches_stay f local valid = rw (date_stays f (civil_date (local / 86_400)) valid, time_stays f (local % 86_400) valid) refl

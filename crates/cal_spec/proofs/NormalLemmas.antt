@@ -1,4 +1,4 @@
--- The normal form of a list of parts, and that there is only one.
+-- A list of parts has exactly one normal form.
 use Rattle.std.proofs.Common.{◌≡◌, ◌↔◌, ℕ, true, nat_eq, List, [], ◌∷◌, map, Option, None, Some, refl, sym, ap, ◌∙◌, subst, arith}
 use Rattle.std.specs.Cmp.{IsEquivalence, IsTotalOrder, nat_cmp_total, on_total, then_total, both_tied}
 use Rattle.std.specs.Cmp.Lexicographic.{options_total}
@@ -23,7 +23,7 @@ use Rattle.cal_spec.specs.declared.part.Part.{Part}
 use Rattle.cal_spec.specs.declared.slot.Slot.{Slot}
 use Rattle.cal_spec.proofs.OrderLemmas.{has_in_order, sorted_in_order}
 
--- parts that have a meaning don't run backwards, and step on
+-- parts with valid values meet the conditions for a normal form
 pub each_part : (slot : Slot) (ps : List Part) → AllByRecursion (IsSound slot) ps → AllByRecursion IsPart ps
 each_part slot [] h = tt
 each_part slot (p ∷ ps) h = (record { forward = h.0.forward; steps = h.0.some_step }, each_part slot ps h.1)
@@ -32,7 +32,7 @@ pub parts_from_sound : (slot : Slot) (c : Option (List Part)) → AreSound slot 
 parts_from_sound slot None h = tt
 parts_from_sound slot (Some ps) h = each_part slot ps h.1
 
--- the order of parts
+-- the order of parts is total
 pub part_total : IsTotalOrder part_cmp
 unfolding part_cmp
 part_total =
@@ -56,7 +56,7 @@ same_part p q start end step =
     let same : ◌≡◌ {A = Part} (record { start = p.start; end = p.end; step = p.step }) (record { start = q.start; end = q.end; step = q.step }) = cc in
     same
 
--- parts that are tied are the same
+-- parts that compare as equal are equal
 pub part_exact : (p q : Part) → part_cmp p q ≡ Equal → p ≡ q
 unfolding part_cmp
 part_exact p q h =
@@ -84,7 +84,7 @@ part_eq_exact p q h = part_exact p q (tied (part_cmp p q) (sym (part_ties p q) �
   tied Equal e = refl
   tied o e = cc
 
--- parts once each stay the parts
+-- equality of parts is an equivalence relation, as removing duplicates requires
 part_equiv : IsEquivalence part_eq
 part_equiv =
     let same : eq_by_cmp part_cmp ≡ part_eq = λ i p q. sym (part_ties p q) i in

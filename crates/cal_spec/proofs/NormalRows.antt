@@ -1,4 +1,4 @@
--- Worked rows of the normal form and its text.
+-- Examples of the normal form and its text, checked by computation.
 use Rattle.std.proofs.Common.{◌≡◌, ℕ, true, false, [], ◌∷◌, Option, None, Some, refl, codes}
 use Rattle.std.specs.Fmt.{digits}
 use Rattle.cal_zone.specs.headline.Weekday.{name_of}

@@ -1,4 +1,4 @@
--- A list put in an order has the same elements, each once.
+-- Sorting a list without duplicates keeps its elements, each of them once.
 use Rattle.std.proofs.Common.{◌↔◌, List, [], ◌∷◌, inl, inr}
 use Rattle.std.specs.Cmp.{IsTotalOrder}
 use Rattle.std.specs.FinMap.{IsAntisymmetric}
@@ -10,7 +10,7 @@ use Rattle.cal_rising.proofs.OrderLemmas.{has-insert_key}
 use Rattle.cal_spec.specs.Order.{in_order}
 
 module _ {A : Type 0} (cmp : A → A → Ordering) where
-  -- the same elements
+  -- the sorted list has the same elements
   pub has_in_order : IsAntisymmetric cmp → (z : A) (xs : List A) → Has (in_order cmp xs) z ↔ Has xs z
   has_in_order exact z [] = (λ h. h, λ h. h)
   has_in_order exact z (x ∷ xs) =
@@ -20,7 +20,7 @@ module _ {A : Type 0} (cmp : A → A → Ordering) where
         λ h. elim h [ inl same ↦ here.1 (inl same) | inr k ↦ here.1 (inr (rest.1 k)) ],
       )
 
-  -- each element occurs once, in order
+  -- the sorted list is strictly increasing
   pub sorted_in_order : IsTotalOrder cmp → (xs : List A) → IsStrictlySortedBy cmp (in_order cmp xs)
   unfolding IsStrictlySortedBy
   sorted_in_order total [] = tt

@@ -1,4 +1,4 @@
--- A part by its symbols is a part by the rule.
+-- The parser accepts exactly the parts that the grammar allows.
 use Rattle.std.proofs.Common.{ℕ, ◌≡◌, Bool, true, false, cond, ◌&&◌, List, [], ◌∷◌, ◌++◌, codes, Option, Some, None, Ok, Err, refl, sym, ap, ◌∙◌, arith, ltb}
 use Rattle.std.specs.List.{AllByRecursion, flat_map, list_all}
 use Rattle.std.specs.Char.{is_ascii_digit}
@@ -16,7 +16,7 @@ use Rattle.cal_spec.specs.declared.spec_fault.SpecFault.TheVariants.{NumberTooLa
 use Rattle.cal_spec.proofs.ReadLemmas.{bind_ok, cond_ok}
 use Rattle.cal_spec.proofs.SymbolLemmas.{IsSymbol, begins_with, symbols_lone, symbols_number, symbols_sound}
 
--- The symbols are the text
+-- The symbols of a text determine the text
 
 abbrev pub spelled : Symbol → List ℕ
 spelled (digits ds) = ds
@@ -54,7 +54,7 @@ written-symbols (b ∷ []) = written-byte b [] (is_ascii_digit b)
 written-symbols (b ∷ c ∷ bs) =
     written-pair b c (symbols bs) (symbols (c ∷ bs)) (is_point b && is_point c) refl (written-symbols (c ∷ bs) ∙ ap (λ more. c ∷ more) (sym (written-symbols bs))) ∙ ap (λ more. b ∷ c ∷ more) (written-symbols bs)
 
--- What was read is a part by the rule
+-- The grammar allows each parsed part
 
 pub record NumberRead (ss : List Symbol) (r : Counted) : Type 0 where
   pub text : List ℕ
@@ -92,7 +92,7 @@ at_end_is : (slot : Slot) (p : Part) (ss : List Symbol) (q : Part) → part_at_e
 at_end_is slot p [] q at = (refl, cc)
 at_end_is slot p (s ∷ ss) q at = cc
 
--- what comes after a number of a part
+-- the symbols after the start and the end of part `p` spell its step, if it has one
 pub record IsBehind (ss : List Symbol) (a : ℕ) (last : Option ℕ) (p : Part) : Type 0 where
   pub step : Option ℕ
   pub back : IsNext (codes "/") (written ss) step
@@ -117,7 +117,7 @@ end_read slot a b [] p sound at = record { step = None; back = refl; is = cc }
 end_read slot a b (slash ∷ ss) p sound at = step_read slot a (Some b) ss p sound.1 at
 end_read slot a b ss p sound at = cc
 
--- what comes after the first number of a part
+-- the text after the start of part `p` spells its end and its step, if it has them
 pub record IsRest (text : List ℕ) (a : ℕ) (p : Part) : Type 0 where
   pub middle : List ℕ
   pub back : List ℕ
@@ -167,7 +167,7 @@ part_by : (text front middle back : List ℕ) (a : ℕ) (last step : Option ℕ)
 part_by text front middle back a last step p is whole start_is end_is step_is =
     rw (← is) (record { front = front; middle = middle; back = back; whole = whole; start = start_is; end = end_is; step = step_is })
 
--- the part that was read is written by the text
+-- a parsed part is the one that the grammar gives for its text
 pub part_found : (slot : Slot) (text : List ℕ) (p : Part) → part_of slot text ≡ Ok p → IsPartText text p
 unfolding part_of
 part_found slot text p at =
@@ -177,24 +177,24 @@ part_found slot text p at =
     let whole : text ≡ read.text ++ (rest.middle ++ rest.back) = sym (written-symbols text) ∙ ap written read.is ∙ ap (λ more. read.text ++ more) rest.whole in
     part_by text read.text rest.middle rest.back one.value.number rest.last rest.step p rest.is whole read.number rest.end_is rest.step_is
 
--- What the rule writes is read
+-- Each part that the grammar allows is parsed
 
 number_due_is : (slot : Slot) (ds : List ℕ) (n : ℕ) (ss : List Symbol) → IsNumber ds n → starts_with_point ss ≡ false → number_due slot (digits ds ∷ ss) ≡ Ok (record { number = n; after = ss })
 number_due_is slot ds n ss number apart =
     rw (number.value, le-ltb most n number.small, and_right (is_second slot) (starts_with_point ss) apart) refl
 
--- the symbols of a number in front of what begins with no digit
+-- the symbols of a number that is followed by no digit
 number_symbols : (ds : List ℕ) (n : ℕ) (rest : List ℕ) → IsNumber ds n → begins_with is_ascii_digit rest ≡ false → symbols (ds ++ rest) ≡ digits ds ∷ symbols rest
 number_symbols [] n rest number apart = absurd (omega (arith, number.some))
 number_symbols (d ∷ ds) n rest number apart =
     let parts = and_parts (is_ascii_digit d) (list_all is_ascii_digit ds) number.digits in
     symbols_number d ds rest parts.0 parts.1 apart
 
--- a slash is by itself
+-- a slash is a symbol of its own
 pub slash_symbols : (bs : List ℕ) → symbols (47 ∷ bs) ≡ slash ∷ symbols bs
 slash_symbols bs = symbols_lone 47 bs refl refl
 
--- after the end of a range, or after the first number
+-- a step after the end of a range or after the first number is parsed
 step_only : (slot : Slot) (a : ℕ) (last : Option ℕ) (rs : List ℕ) (r : ℕ) → IsNumber rs r → with_step slot a last (symbols rs) ≡ Ok (record { start = a; end = last; step = Some r })
 unfolding with_step
 step_only slot a last rs r number =
@@ -211,7 +211,7 @@ unfolding after_start
 start_only slot a back None none = rw none refl
 start_only slot a back (Some r) next = rw (next.1, slash_symbols next.0) (step_only slot a None next.0 r next.2)
 
--- what comes after a number begins with no digit, and with no lone point
+-- the text after a number doesn't begin with a digit or a single point
 back_no_digit : (back : List ℕ) (step : Option ℕ) → IsNext (codes "/") back step → begins_with is_ascii_digit back ≡ false
 back_no_digit back None none = rw none refl
 back_no_digit back (Some r) next = rw next.1 refl
@@ -237,7 +237,7 @@ rest_only : (slot : Slot) (a : ℕ) (middle back : List ℕ) (last step : Option
 rest_only slot a middle back None step none next = rw none (start_only slot a back step next)
 rest_only slot a middle back (Some b) step some next = rw some.1 (range_only slot a b some.0 back step some.2 next)
 
--- the text of a part is read
+-- the parser returns the part that the grammar gives for its text
 pub part_only : (slot : Slot) (text : List ℕ) (p : Part) → IsPartText text p → part_of slot text ≡ Ok p
 unfolding part_of
 part_only slot text p is =

@@ -1,4 +1,4 @@
--- The normal text of an expression is read as the expression.
+-- Parsing a printed expression returns the same expression.
 use Rattle.std.proofs.Common.{◌≡◌, ℕ, ◌<◌, Bool, true, false, ◌||◌, nat_eq, nat_lt, List, [], ◌∷◌, ◌++◌, length, codes, Option, None, Some, Ok, refl, ap, ◌∙◌, arith, append_assoc, inl}
 use Rattle.std.specs.Prelude.{filter}
 use Rattle.std.specs.Char.{is_ascii_alphabetic}
@@ -37,7 +37,7 @@ use Rattle.cal_spec.proofs.WordRule.{no_shorthand}
 use Rattle.cal_spec.proofs.WeekdayLemmas.{weekdays_text-all, weekdays_text-some}
 use Rattle.cal_spec.proofs.DateRule.{are_few, date_only, time_only}
 
--- fields that are read back: valid, with small numbers
+-- fields that can be printed and parsed again: they are valid, and their numbers are small
 pub record IsReadable (f : Fields) : Type 0 where
   pub valid : IsValidFields f
   pub year : AreSmall f.year
@@ -66,7 +66,8 @@ unfolding fields_text row_text date_word time_word
 fields_printed f =
     layout (day_lead f.from_end) (component_text 4 f.year) (component_text 2 f.month) (component_text 2 f.day) (component_text 2 f.hour) (component_text 2 f.minute) (component_text 2 f.second)
 
--- the bytes of a date, of a time, and of neither weekdays nor zones
+-- The bytes of dates and of times: those of components and separators. None of them is a letter or a blank.
+
 abbrev is_date_byte : ℕ → Bool
 is_date_byte b = is_component_byte b || (nat_eq b 45 || nat_eq b 126)
 
@@ -132,7 +133,7 @@ no_letter_first q (b ∷ bs) apart all = apart b (and_parts (q b) (list_all q bs
 component_sign : (b : ℕ) → is_component_byte b ≡ true → is_sign b ≡ false
 component_sign b h = grind (arith, nat_tests)
 
--- a component begins with no sign
+-- a component doesn't begin with a sign
 front_no_sign : (front rest : List ℕ) → 0 < length front → list_all is_component_byte front ≡ true → begins_with_sign (front ++ rest) ≡ false
 front_no_sign [] rest some all = absurd (omega arith)
 front_no_sign (b ∷ bs) rest some all = component_sign b (and_parts (is_component_byte b) (list_all is_component_byte bs) all).0
@@ -217,7 +218,7 @@ words_of_fields f h =
 roles : Option (List ℕ) → Fields → Roles
 roles weekdays f = record { weekdays = weekdays; date = date_word f; time = time_word f; rest = zone_words f.zone }
 
--- a date and a time, and a zone after them
+-- the roles of a date, a time, and the words after them
 date_roles : (weekdays : Option (List ℕ)) (date time : List ℕ) (rest : List (List ℕ)) → list_any is_colon date ≡ false → begins_zone time ≡ false
     → date_or_time weekdays date (time ∷ rest) ≡ record { weekdays = weekdays; date = date; time = time; rest = rest }
 date_roles weekdays date time rest no_time no_zone = rw (no_time, no_zone) refl
@@ -300,6 +301,6 @@ readable f valid = record {
   second = small_second f.second valid.second;
 }
 
--- the normal text of valid fields is read as their normal form
+-- parsing the printed normal form of valid fields returns this normal form
 pub normal_back : (f : Fields) → IsValidFields f → fields_in (expr_text (normal_fields f)) ≡ Ok (normal_fields f)
 normal_back f valid = readable_back (normal_fields f) (readable f valid)

@@ -1,4 +1,4 @@
--- What is printed of parts and components is as the rule writes them.
+-- The printed text of a part or component is one that the grammar allows.
 use Rattle.std.proofs.Common.{◌≡◌, ℕ, zero, suc, ◌-◌, ◌<◌, ◌≤◌, true, false, nat_lt, List, [], ◌∷◌, ◌++◌, length, map, replicate, codes, Option, None, Some, refl, sym, ap, ◌∙◌, arith}
 use Rattle.std.specs.Fmt.{decimal}
 use Rattle.std.specs.List.{AllByRecursion, AllZip, flat_map, list_all, join_with_byte}
@@ -20,7 +20,7 @@ use Rattle.cal_spec.proofs.LengthLemmas.{AreSmall, IsBelow, IsSmall, step_small}
 use Rattle.cal_spec.proofs.NormalLemmas.{same_part}
 use Rattle.cal_text.proofs.General.{digits_all, some_front, zeros_all, zeros_value}
 
--- the digits of a number in at least that many digits
+-- a number padded with zeros to at least `width` digits
 abbrev pub padded : ℕ → ℕ → List ℕ
 padded width n = zeros width n ++ decimal n
 
@@ -56,7 +56,7 @@ part_printed width p small = record {
   step = next_printed (codes "/") 0 p.step (step_small p.step small.step);
 }
 
--- the numbers of a part with a meaning are those that are meant
+-- expanding two-digit years doesn't change numbers that are valid in their slot
 pub century_stays : (n : ℕ) → 100 ≤ n → with_century n ≡ n
 century_stays n h =
     let late : nat_lt n 70 ≡ false = le-ltb n 70 (omega arith) in

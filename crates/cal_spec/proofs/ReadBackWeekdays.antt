@@ -1,4 +1,4 @@
--- The weekdays that are printed are read again, which all sets of weekdays show.
+-- Parsing printed weekdays returns the same weekdays. This is checked by computation for all sets of weekdays.
 use Rattle.std.proofs.Common.{◌≡◌, ℕ, Bool, true, false, not, ◌&&◌, ◌||◌, if◌then◌else◌, List, length, map, Option, None, Some, is_none, Result, Ok, Err, refl, sym, ap, ◌∙◌}
 use Rattle.std.specs.List.{list_all, list_any}
 use Rattle.std.proofs.lemmas.Bool.{and_parts, cond-false, cond-true, false≢true, not-true}
@@ -16,7 +16,7 @@ gives_days : Result (List Bool) SpecFault → List Bool → Bool
 gives_days (Ok ds) days = same_bools ds days
 gives_days (Err e) days = false
 
--- the word of these days is one that is read as them
+-- tests whether parsing `word` returns these days
 is_read_back : List ℕ → List Bool → Bool
 is_read_back word days =
     not (list_any is_blank word)
@@ -40,7 +40,7 @@ none_is : (o : Option Shorthand) → is_none o ≡ true → o ≡ None
 none_is None h = refl
 none_is (Some s) h = absurd (false≢true h)
 
--- a word that is read as these days
+-- parsing the word returns these days
 pub record ReadsDays (word : List ℕ) (days : List Bool) : Type 0 where
   pub clear : list_any is_blank word ≡ false
   pub letter : begins_with_letter word ≡ true
@@ -70,10 +70,10 @@ some_days days some chosen good =
     let none : not (list_any (λ d. d) days) ≡ false = ap not chosen in
     sym (ap (λ b. b || is_read_back (runs_text (runs_from 0 days)) days) none) ∙ (sym (cond-false (list_all (λ d. d) days) _ _ some) ∙ good)
 
--- all seven days are those of a missing list
+-- all seven weekdays match if there is no weekday list
 pub weekdays_all : (days : List Bool) → length days ≡ 7 → list_all (λ d. d) days ≡ true → map (λ day. true) week ≡ days
 weekdays_all days seven all = all_days days all (each_checked 7 good_days days all_good seven)
 
--- the text of any others is read as them
+-- parsing the text of any other set of weekdays returns this set
 pub weekdays_some : (days : List Bool) → length days ≡ 7 → list_all (λ d. d) days ≡ false → list_any (λ d. d) days ≡ true → ReadsDays (runs_text (runs_from 0 days)) days
 weekdays_some days seven some chosen = reads_days (runs_text (runs_from 0 days)) days (some_days days some chosen (each_checked 7 good_days days all_good seven))

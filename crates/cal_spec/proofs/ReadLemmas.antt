@@ -1,11 +1,11 @@
--- Reads in a row.
+-- Consecutive parsers, each of which may fail.
 use Rattle.std.proofs.Common.{◌≡◌, Bool, true, false, cond, Option, Some, None, Ok, Err, refl}
 use Rattle.std.specs.Prelude.{Result}
 use Rattle.cal_text.specs.AndThen.{◌>>=◌}
 use Rattle.cal_spec.specs.Reads.{unless}
 use Rattle.cal_spec.specs.declared.spec_fault.SpecFault.{SpecFault}
 
--- what a read with a value is made of
+-- the second of two consecutive parsers returns `y`, from the value that the first returned
 pub record Follows {A B E : Type 0} (r : Result A E) (f : A → Result B E) (y : B) : Type 0 where
   pub value : A
   pub first : r ≡ Ok value
@@ -23,7 +23,7 @@ pub cond_ok : {A : Type 0} (test : Bool) (e : SpecFault) (r : Result A SpecFault
 cond_ok true e r y at = cc
 cond_ok false e r y at = (refl, at)
 
--- three and four reads in a row
+-- Three and four consecutive parsers
 
 pub record Three {A B C D : Type 0} (r : Result A SpecFault) (g : A → Result B SpecFault) (h : A → B → Result C SpecFault) (k : A → B → C → D) (y : D) : Type 0 where
   pub a : A

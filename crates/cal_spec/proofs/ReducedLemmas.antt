@@ -1,4 +1,4 @@
--- Parts in their normal form: their ends are the last numbers reached, they are normal, and they have the same members.
+-- The normal form of a part: its range ends at the last number that is reached, and it matches the same values.
 use Rattle.std.proofs.Common.{◌≡◌, ℕ, ◌+◌, ◌-◌, ◌*◌, ◌/◌, ◌%◌, ◌<◌, ◌≤◌, cond, Bool, true, false, nat_eq, nat_le, Option, None, Some, refl, ap, ◌∙◌, inl, inr, arith}
 use Rattle.std.proofs.Math.Nat.{mul-le-mul_right, mul-mod_left}
 use Rattle.std.proofs.lemmas.Bool.{ne_eqb, eqb-true, eqb-false, leb-true, le-leb, and_parts, and_from, cases_lt}
@@ -12,7 +12,7 @@ use Rattle.cal_spec.specs.declared.slot.Slot.{Slot}
 use Rattle.cal_spec.proofs.NormalLemmas.{same_part}
 use Rattle.std.specs.Cmp.{both_ways}
 
--- the last number of a, a + r, .. that isn't above b
+-- the last number of a, a + r, .. that is at most b
 abbrev pub last_of : ℕ → ℕ → ℕ → ℕ
 last_of a b r = a + (b - a) / r * r
 
@@ -28,7 +28,7 @@ last_reached a b r positive forward =
       last = omega arith;
     }
 
--- and there is only one
+-- only one number is the last one reached
 pub one_last_reached : (a b r e : ℕ) → 0 < r → IsLastReached a b r e → e ≡ last_of a b r
 one_last_reached a b r e positive h =
     let whole = div-add-mod' (e - a) r in
@@ -42,7 +42,7 @@ pub step_positive : (step : Option ℕ) → IsStep step → 0 < step_of step
 step_positive None h = omega arith
 step_positive (Some r) h = h
 
--- the normal form of a part by division is the rule's, and the only one
+-- `reduced_to` computes the normal form of a part, and there is no other
 reduced_is_to : (a : ℕ) (end step : Option ℕ) → EndsAfter a end → IsStep step → IsReducedTo a end step (reduced_to a end step)
 reduced_is_to a None step forward steps = refl
 reduced_is_to a (Some b) step forward steps =
@@ -61,7 +61,7 @@ pub reduced_only : (p q : Part) → IsPart p → IsReduced p q → q ≡ reduced
 unfolding IsReduced reduced
 reduced_only p q h is = reduced_only_to p.start p.end p.step q h.steps is
 
--- it is normal
+-- the result is in normal form
 range_normal : (a e : ℕ) (step : Option ℕ) → IsStep step → a < e → (e - a) % step_of step ≡ 0 → IsNormalRange a e (range_step step)
 range_normal a e None steps lt reached = lt
 range_normal a e (Some r) steps lt reached = by_one (nat_eq r 1) refl where
@@ -93,7 +93,7 @@ pub reduced_normal : (p : Part) → IsPart p → IsNormal (reduced p)
 unfolding reduced
 reduced_normal p h = reduced_normal_to p.start p.end p.step h.forward h.steps
 
--- and what is normal stays
+-- a part in normal form is its own normal form
 range_to_stays : (a b : ℕ) (step : Option ℕ) → a < b → range_step step ≡ step → range_to a b step ≡ record { start = a; end = Some b; step = step }
 range_to_stays a b step lt same =
     let other : nat_eq b a ≡ false = ne_eqb b a (λ e. absurd (omega arith)) in
@@ -115,7 +115,7 @@ pub normal_stays : (p : Part) → IsNormal p → reduced p ≡ p
 unfolding IsNormal reduced
 normal_stays p h = normal_stays_to p.start p.end p.step h ∙ same_part _ p refl refl refl
 
--- it has a meaning where the part has one
+-- if the values of a part are valid, so are those of its normal form
 sound_by : (t : Bool) (slot : Slot) (a e : ℕ) (step : Option ℕ) → IsWithin slot a → IsWithin slot e → a ≤ e → IsStep step
     → IsSound slot (cond t (point a) (record { start = a; end = Some e; step = range_step step }))
 sound_by true slot a e step start end forward steps =
@@ -142,7 +142,7 @@ pub reduced_sound : (slot : Slot) (p : Part) → IsSound slot p → IsSound slot
 unfolding reduced
 reduced_sound slot p h = sound_to slot p.start p.end p.step h.start_in h.end_in h.forward h.some_step h.goes_on
 
--- a range up to the last number that is reached has the range's members
+-- a range and its normal form match the same values
 pub last_lies : (a b r e v : ℕ) → 0 < r → IsLastReached a b r e → lies_by a e r (v - a) v ≡ lies_by a b r (v - a) v
 last_lies a b r e v positive last = both_ways (lies_by a e r (v - a) v) (lies_by a b r (v - a) v)
     (λ h.

@@ -1,4 +1,4 @@
--- The word of a zone that is printed.
+-- Parsing a printed zone returns the same zone.
 use Rattle.std.proofs.Common.{◌≡◌, ℕ, ℤ, ◌<◌, ◌≤◌, true, false, ◌&&◌, List, [], ◌∷◌, length, Some, refl, ap, arith, leb-true}
 use Rattle.std.specs.Prelude.{nat_le}
 use Rattle.std.specs.Char.{is_ascii_alphabetic}
@@ -14,7 +14,7 @@ use Rattle.cal_spec.specs.ZoneSuffix.{IsSuffix, suffix_of}
 use Rattle.cal_spec.specs.headline.ZoneSuffix.{ZoneSuffix, ahead, of_name, suffix_text}
 use Rattle.cal_text.proofs.General.{clear_of}
 
--- what begins with a sign begins with no letter, so it is no name
+-- a sign is not a letter, so a word that begins with a sign is not a name
 sign_letter : (b : ℕ) → is_sign b ≡ true → is_ascii_alphabetic b ≡ false
 sign_letter b h = grind (arith, nat_tests)
 
@@ -26,7 +26,7 @@ pub no_name : (word : List ℕ) → begins_with_sign word ≡ true → is_zone_n
 unfolding is_zone_name
 no_name word h = rw (no_letter word h) refl
 
--- so an offset's word is the offset
+-- parsing the word of a UTC offset returns this offset
 pub offset_suffix : (word : List ℕ) (seconds : ℤ) → IsOffsetWord word seconds → suffix_of word ≡ Some (ahead seconds)
 unfolding suffix_of
 offset_suffix word seconds h = rw (no_name word (offset-bytes word seconds h).2, offset-only word seconds h) refl

@@ -1,4 +1,4 @@
--- The zone at the end of an expression, tried on worked words.
+-- Examples of the zone at the end of an expression, checked by computation.
 use Rattle.std.proofs.Common.{◌≡◌, ℕ, pos, neg_ℤ, List, [], ◌∷◌, codes, map, Option, Some, Result, Ok, Err, refl}
 use Rattle.cal_zone.specs.OffsetWord.{clock_in, offset_in, two_digits}
 use Rattle.cal_zone.specs.headline.ZoneName.{is_zone_name}

@@ -12,21 +12,21 @@ abbrev pub begins_with : (ℕ → Bool) → List ℕ → Bool
 begins_with p [] = false
 begins_with p (b ∷ bs) = p b
 
--- a digit is no point
+-- a digit is not a point
 pub digit_no_point : (b : ℕ) → is_ascii_digit b ≡ true → is_point b ≡ false
 digit_no_point b digit = ne_eqb b 46 (λ e. omega (arith, leb-true 48 b (and_parts (leb 48 b) (leb b 57) digit).0))
 
--- a digit joins the symbols after it
+-- a digit joins a run of digits after it
 pub symbols_digit : (b : ℕ) (bs : List ℕ) → is_ascii_digit b ≡ true → symbols (b ∷ bs) ≡ with_digit b (symbols bs)
 symbols_digit b [] digit = rw digit refl
 symbols_digit b (c ∷ bs) digit = rw (digit_no_point b digit, digit) refl
 
--- a byte that is neither a digit nor the first of two points is by itself
+-- a byte that is neither a digit nor the first of two points is a symbol of its own
 pub symbols_lone : (b : ℕ) (bs : List ℕ) → is_ascii_digit b ≡ false → (is_point b && begins_with is_point bs) ≡ false → symbols (b ∷ bs) ≡ lone b ∷ symbols bs
 symbols_lone b [] digit apart = rw digit refl
 symbols_lone b (c ∷ bs) digit apart = rw (apart, digit) refl
 
--- a digit in front of a lone byte
+-- a digit before a byte that is not a digit is a run of its own
 digit_before_lone : (b c : ℕ) (p s : Bool) (ss : List Symbol) → with_digit b (cond p point (cond s slash (other c)) ∷ ss) ≡ digits (b ∷ []) ∷ (cond p point (cond s slash (other c)) ∷ ss)
 digit_before_lone b c true s ss = refl
 digit_before_lone b c false true ss = refl
@@ -36,20 +36,20 @@ digit_before_pair : (b c d : ℕ) (bs : List ℕ) (pair : Bool) → is_ascii_dig
 digit_before_pair b c d bs true digit = refl
 digit_before_pair b c d bs false digit = rw digit (digit_before_lone b c (is_point c) (is_slash c) (symbols (d ∷ bs)))
 
--- a digit in front of what begins with none
+-- a digit before a text that doesn't begin with a digit is a run of its own
 pub digit_apart : (b : ℕ) (rest : List ℕ) → begins_with is_ascii_digit rest ≡ false → with_digit b (symbols rest) ≡ digits (b ∷ []) ∷ symbols rest
 digit_apart b [] apart = refl
 digit_apart b (c ∷ []) apart = rw apart (digit_before_lone b c (is_point c) (is_slash c) [])
 digit_apart b (c ∷ d ∷ bs) apart = digit_before_pair b c d bs (is_point c && is_point d) apart
 
--- digits in front of what begins with none
+-- digits before a text that doesn't begin with a digit are one run
 pub symbols_number : (b : ℕ) (ds rest : List ℕ) → is_ascii_digit b ≡ true → list_all is_ascii_digit ds ≡ true → begins_with is_ascii_digit rest ≡ false → symbols (b ∷ (ds ++ rest)) ≡ digits (b ∷ ds) ∷ symbols rest
 symbols_number b [] rest digit all apart = symbols_digit b rest digit ∙ digit_apart b rest apart
 symbols_number b (d ∷ ds) rest digit all apart =
     let parts = and_parts (is_ascii_digit d) (list_all is_ascii_digit ds) all in
     symbols_digit b (d ∷ (ds ++ rest)) digit ∙ ap (with_digit b) (symbols_number d ds rest parts.0 parts.1 apart)
 
--- the digits at the start
+-- the leading digits of a text, and the text after them
 front_digits : (bs : List ℕ) → (list_all is_ascii_digit (take (prefix_len is_ascii_digit bs) bs) ≡ true) × (begins_with is_ascii_digit (drop (prefix_len is_ascii_digit bs) bs) ≡ false)
 front_digits [] = (refl, refl)
 front_digits (b ∷ bs) =
@@ -65,7 +65,7 @@ digits_first b bs digit =
     let front = front_digits bs in
     rw (digit, e) (ap (λ cs. symbols (b ∷ cs)) (sym (take-append-drop n bs)) ∙ symbols_number b (take n bs) (drop n bs) digit front.0 front.1)
 
--- a number has digits
+-- a number consists of digits
 abbrev pub IsSymbol : Symbol → Type 0
 IsSymbol (digits ds) = (list_all is_ascii_digit ds ≡ true) × (0 < length ds)
 IsSymbol s = ⊤
@@ -88,7 +88,7 @@ pair_of_symbols : (b : ℕ) (ss ts : List Symbol) (pair : Bool) → AllByRecursi
 pair_of_symbols b ss ts true all more = (tt, all)
 pair_of_symbols b ss ts false all more = byte_of_symbols b ts (is_ascii_digit b) refl more
 
--- each number among the symbols has digits
+-- all numbers among the symbols consist of digits
 pub symbols_sound : (text : List ℕ) → AllByRecursion IsSymbol (symbols text)
 symbols_sound [] = tt
 symbols_sound (b ∷ []) = byte_of_symbols b [] (is_ascii_digit b) refl tt
@@ -97,11 +97,11 @@ symbols_sound (b ∷ c ∷ bs) = pair_of_symbols b (symbols bs) (symbols (c ∷ 
 pub sound_at : (text : List ℕ) (ss : List Symbol) → symbols text ≡ ss → AllByRecursion IsSymbol ss
 sound_at text ss at = rw at at (symbols_sound text)
 
--- a first byte that is a digit begins a number
+-- a text that begins with a digit begins with a number
 pub digits_at_front : (text : List ℕ) → 0 < length text → 48 ≤ get_or text 0 0 → get_or text 0 0 ≤ 57 → symbols text ≡ digits (take (prefix_len is_ascii_digit text) text) ∷ symbols (drop (prefix_len is_ascii_digit text) text)
 digits_at_front [] some low high = absurd (omega arith)
 digits_at_front (b ∷ bs) some low high = digits_first b bs (and_from _ _ (le-leb 48 b low) (le-leb b 57 high))
 
--- a number that is first has only digits
+-- a number at the start of a text consists of digits
 pub first_has_digits : (text : List ℕ) (ds : List ℕ) (ss : List Symbol) → symbols text ≡ digits ds ∷ ss → list_all is_ascii_digit ds ≡ true
 first_has_digits text ds ss at = (sound_at text (digits ds ∷ ss) at).0.0

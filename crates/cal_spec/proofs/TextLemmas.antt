@@ -1,4 +1,4 @@
--- The parts of a component as text.
+-- The printed text of a component's parts.
 use Rattle.std.proofs.Common.{◌≡◌, ℕ, List, [], ◌∷◌, ◌++◌, length, codes, refl, ap}
 use Rattle.std.proofs.lemmas.List.{nil_from_length}
 use Rattle.std.specs.List.{flat_map}
@@ -13,7 +13,7 @@ pub parts_text-first : (width : ℕ) (p : Part) (ps : List Part) → parts_text 
 unfolding parts_text
 parts_text-first width p ps = refl
 
--- what leads up to a part comes before it
+-- the text of a part after a comma is a comma and then the text of the part
 pub part_text-comma : (width : ℕ) (p : Part) → part_text (codes ",") width p ≡ codes "," ++ part_text [] width p
 unfolding part_text number_text
 part_text-comma width p = refl

@@ -1,4 +1,4 @@
--- Runs of weekdays: those that are found day by day.
+-- Runs of weekdays: computing them day by day returns the only list of runs of a set of weekdays.
 use Rattle.std.proofs.Common.{◌≡◌, ℕ, zero, suc, ◌+◌, ◌-◌, ◌<◌, ◌≤◌, cond, Bool, true, false, ◌||◌, nat_eq, nat_le, get_or, List, [], ◌∷◌, ◌++◌, codes, length, drop, refl, sym, ap, ◌∙◌, inl, inr, arith}
 use Rattle.std.specs.List.{flat_map, list_all, prefix_len}
 use Rattle.std.proofs.lemmas.List.{drop-drop}
@@ -14,7 +14,7 @@ use Rattle.cal_text.proofs.General.{or_assoc}
 run : ℕ → ℕ → Run
 run first last = record { first = first; last = last }
 
--- how many days at the start are chosen
+-- how many days match before the first one that doesn't
 abbrev pub front : List Bool → ℕ
 front = prefix_len (λ day. day)
 
@@ -36,30 +36,30 @@ with_day_apart : (day : ℕ) (rs : List Run) → AreApartFrom (day + 1) rs → A
 with_day_apart day [] a = (omega arith, omega arith, tt)
 with_day_apart day (r ∷ rs) a = with_day_by (nat_eq r.first (day + 1)) day r rs refl a
 
--- runs begin at the day that they are counted from, or later, and lie apart
+-- the runs begin at the first day or later, and are separated by at least one day
 pub runs_apart : (day : ℕ) (bs : List Bool) → AreApartFrom day (runs_from day bs)
 runs_apart day [] = tt
 runs_apart day (true ∷ bs) = with_day_apart day (runs_from (day + 1) bs) (runs_apart (day + 1) bs)
 runs_apart day (false ∷ bs) = lower day (day + 1) (runs_from (day + 1) bs) (omega arith) (runs_apart (day + 1) bs)
 
--- a day before runs that begin later than the next is a run of its own
+-- if the runs begin later than the next day, the day is a run of its own
 with_day-alone : (day : ℕ) (rs : List Run) → AreApartFrom (day + 2) rs → with_day day rs ≡ record { first = day; last = day } ∷ rs
 with_day-alone day [] a = refl
 with_day-alone day (r ∷ rs) a =
     let other : nat_eq r.first (day + 1) ≡ false = ne_eqb r.first (day + 1) (λ e. absurd (omega (arith, a.0))) in
     rw other
 
--- a day before a run that begins on the next goes into it
+-- if a run begins on the next day, the day joins this run
 with_day-joins : (day last : ℕ) (rs : List Run) → with_day day (record { first = day + 1; last = last } ∷ rs) ≡ record { first = day; last = last } ∷ rs
 with_day-joins day last rs = let same : nat_eq (day + 1) (day + 1) ≡ true = eq-eqb (day + 1) (day + 1) refl in rw same
 
--- no chosen day at the start
+-- a first day that doesn't match belongs to no run
 pub runs_skip : (day : ℕ) (bs : List Bool) → front bs ≡ 0 → runs_from day bs ≡ runs_from (day + 1) (drop 1 bs)
 runs_skip day [] h = refl
 runs_skip day (true ∷ bs) h = absurd (omega arith)
 runs_skip day (false ∷ bs) h = refl
 
--- the chosen days at the start are the first run
+-- the leading days that match are the first run
 pub runs_front : (n day : ℕ) (bs : List Bool) → front bs ≡ suc n
     → runs_from day bs ≡ record { first = day; last = day + n } ∷ runs_from (day + n + 2) (drop (suc (suc n)) bs)
 runs_front n day [] h = absurd (omega arith)
@@ -76,7 +76,7 @@ runs_front (suc m) day (true ∷ bs) h =
     let next : day + suc m + 2 ≡ day + suc m + 2 = refl in
     rw (inner, last) (with_day-joins day (day + suc m) (runs_from (day + suc m + 2) (drop (suc (suc m)) bs)))
 
--- the first run after what leads up to it, and the others after commas
+-- the text of the runs: `lead` before the first one, commas before the others
 abbrev pub led : List ℕ → List Run → List ℕ
 led lead [] = []
 led lead (r ∷ rs) = run_text lead r ++ flat_map (λ q. codes "," ++ run_text [] q) rs
@@ -91,7 +91,7 @@ unfolding run_text
 led-comma [] = refl
 led-comma (r ∷ rs) = refl
 
--- what is left at a day that is chosen: the run that it begins, and what follows the day after that
+-- the remaining text at a day that matches: the run that begins there, and the text after the run
 pub led-front : (lead : List ℕ) (day last next n : ℕ) (days : List Bool) → n ≡ front (drop day days) → 0 < n → last ≡ day + n - 1 → next ≡ day + (n + 1)
     → led lead (runs_from day (drop day days)) ≡ run_text lead (record { first = day; last = last }) ++ led (codes ",") (runs_from next (drop next days))
 led-front lead day last next zero days e positive at_last at_next = absurd (omega arith)
@@ -105,7 +105,7 @@ led-front lead day last next (suc m) days e positive at_last at_next =
     ∙ ap (λ t. run_text lead (record { first = day; last = day + m }) ++ t) (led-comma (runs_from (day + m + 2) (drop (suc (suc m)) bs)))
     ∙ rw (at_end, after, dropped) refl
 
--- at another day it is what follows that day
+-- the remaining text at a day that doesn't match is that of the days after it
 pub led-skip : (lead : List ℕ) (day next n : ℕ) (days : List Bool) → n ≡ front (drop day days) → n ≡ 0 → next ≡ day + (n + 1)
     → led lead (runs_from day (drop day days)) ≡ led lead (runs_from next (drop next days))
 led-skip lead day next n days e none at_next =
@@ -132,7 +132,7 @@ text_after_first-more first last h =
     let no_second : nat_eq (first + 1) last ≡ false = ne_eqb (first + 1) last (λ e. absurd (omega arith)) in
     rw (other, no_second)
 
--- a day is in the runs exactly where it is chosen
+-- the runs contain exactly the days that match
 is_in-later : (low day : ℕ) (rs : List Run) → AreApartFrom low rs → day < low → is_in day rs ≡ false
 is_in-later low day [] a h = refl
 is_in-later low day (r ∷ rs) a h =
@@ -188,7 +188,7 @@ run_past r rs day past =
 contradiction : {A : Type 0} (x y : Bool) → x ≡ true → y ≡ false → x ≡ y → A
 contradiction x y holds fails same = absurd (cc)
 
--- two lists of runs that hold the same days begin and end their first runs alike
+-- if two lists of runs contain the same days, their first runs begin and end on the same days
 first_le : (r q : Run) (rs qs : List Run) → r.first ≤ r.last → AreApartFrom q.first (q ∷ qs) → ((day : ℕ) → is_in day (r ∷ rs) ≡ is_in day (q ∷ qs))
     → q.first ≤ r.first
 first_le r q rs qs forward apart same = elim (cases_lt r.first q.first) [
@@ -213,7 +213,7 @@ rest_same r q rs qs last a b same day = elim (cases_lt day (r.last + 2)) [
   | inr late ↦ sym (run_past r rs day (omega arith)) ∙ same day ∙ run_past q qs day (omega arith)
 ]
 
--- no other runs hold the same days
+-- two lists of runs that contain the same days are equal
 same_runs : (low other : ℕ) (rs qs : List Run) → AreApartFrom low rs → AreApartFrom other qs → ((day : ℕ) → is_in day rs ≡ is_in day qs) → rs ≡ qs
 same_runs low other [] [] a b same = refl
 same_runs low other [] (q ∷ qs) a b same = contradiction _ _ (run_in q qs q.first (omega arith) b.1) refl (sym (same q.first))

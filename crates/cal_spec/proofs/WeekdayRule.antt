@@ -1,4 +1,4 @@
--- A weekday list that was read is one by the rule, and one by the rule is read.
+-- The parser accepts exactly the weekday lists that the grammar allows.
 use Rattle.std.proofs.Common.{ℕ, suc, ◌-◌, ◌<◌, ◌≡◌, ◌⊎◌, inl, inr, Bool, true, false, cond, ◌&&◌, ◌||◌, List, [], ◌∷◌, ◌++◌, length, map, take, drop, get_or, codes, Option, Some, None, Ok, refl, sym, ap, ◌∙◌, arith}
 use Rattle.std.specs.Prelude.{◌==◌, is_some, slice_index}
 use Rattle.std.specs.List.{AllByRecursion, AllZip, list_all, slice_split, join_with_byte, position_or_len, find}
@@ -45,7 +45,7 @@ name_found text day at =
       | inr short ↦ inr (same_word text (short_name_of day) short)
     ]
 
--- each weekday is found by its names, and they have only letters
+-- both names of each weekday are recognized and consist of letters only
 names_of : (day : Weekday) → (day_named (name_of day) ≡ Some day) × (day_named (short_name_of day) ≡ Some day) × (list_all is_ascii_lowercase (map to_ascii_lowercase (name_of day)) ≡ true) × (list_all is_ascii_lowercase (map to_ascii_lowercase (short_name_of day)) ≡ true)
 unfolding day_named name_of
 names_of Monday = (refl, refl, refl, refl)
@@ -71,7 +71,7 @@ pub name_letters : (text : List ℕ) (day : Weekday) → IsName text day → lis
 name_letters text day (inl is) = letters_by text (ap (list_all is_ascii_lowercase) is ∙ (names_of day).2)
 name_letters text day (inr is) = letters_by text (ap (list_all is_ascii_lowercase) is ∙ (names_of day).3)
 
--- the letters at the start
+-- The leading letters of a text
 
 front_len : (xs rest : List ℕ) → list_all is_ascii_alphabetic xs ≡ true → begins_with_letter rest ≡ false → position_or_len is_no_letter (xs ++ rest) ≡ length xs
 front_len [] [] all stop = refl
@@ -145,7 +145,7 @@ unfolding days_of
 item_found item days at =
     rw take-append-drop at (item_by (leading_letters item) (after_letters item) (day_named (leading_letters item)) days refl at)
 
--- what the rule writes is an item
+-- Each item that the grammar allows is parsed
 
 joint_passed : (joint last : List ℕ) → (joint ≡ codes "..") ⊎ (joint ≡ codes "-") → 0 < length last → (begins_with_letter (joint ++ last) ≡ false) × (after_joint (joint ++ last) ≡ Some last)
 joint_passed joint last (inl dots) some = rw dots (refl, refl)
@@ -221,7 +221,7 @@ pub weekdays_by_rule : (word : Option (List ℕ)) (days : List Bool) → weekday
 weekdays_by_rule None days at = let is : map (λ day. true) week ≡ days = cc in sym is
 weekdays_by_rule (Some word) days at = list_found word days at
 
--- letters, points and dashes
+-- the bytes of items: letters, points and dashes
 abbrev is_item_byte : ℕ → Bool
 is_item_byte b = is_ascii_alphabetic b || ((b == 45) || (b == 46))
 
@@ -251,7 +251,8 @@ items_only (t ∷ ts) (d ∷ items) zip =
     let more = items_only ts items zip.1 in
     ((clear_of is_item_byte is_comma t item_no_comma (item_bytes t d zip.0), more.0), rw (item_only t d zip.0, more.1) refl)
 
--- a text that ends in a letter loses nothing, and one comma after it is taken off
+-- Removing a trailing comma: a text that ends in a letter is unchanged, and if a comma follows the letter, only this
+-- comma is removed
 
 pub record EndsInLetter (text : List ℕ) : Type 0 where
   pub front : List ℕ
@@ -316,7 +317,7 @@ trimmed_is : (word : List ℕ) (text : List ℕ) → EndsInLetter text → (word
 trimmed_is word text ends (inl same) = ap without_comma same ∙ kept text ends
 trimmed_is word text ends (inr more) = ap without_comma more ∙ taken_by text
 
--- the word begins with a name
+-- The name of a weekday at the start of a word
 
 pub record BeginsWithName (text : List ℕ) (day : Weekday) : Type 0 where
   pub name : List ℕ

@@ -1,4 +1,4 @@
--- The fields of a text are those of the rule.
+-- The parser accepts exactly the expressions of the grammar, and returns the fields that the grammar gives.
 use Rattle.std.proofs.Common.{ℕ, ◌≡◌, ◌⊎◌, inl, inr, List, Bool, length, Option, Some, Ok, refl, sym, ap, ◌∙◌}
 use Rattle.std.proofs.lemmas.Bool.{le-ltb}
 use Rattle.cal_spec.specs.DateAndTime.{DateFields, TimeFields, room_after, date_in_word, time_in_word}
@@ -29,7 +29,7 @@ expression_with text p weekdays d h kept roles_are week date time last =
       zone = read.is;
     }
 
--- what was read is an expression by the rule
+-- each text that is parsed is an expression of the grammar, with the same fields
 pub valid_found : (text : List ℕ) (f : Fields) → fields_in text ≡ Ok f → IsValid text f
 valid_found text f at =
     let found = text_found text f at in
@@ -48,7 +48,7 @@ fields_only text f e few =
     let last : suffix_in p.rest ≡ Ok f.zone = ap suffix_in (rest_of (words text) p e.last e.roles_are) ∙ zone_only e.last f.zone e.zone in
     rw (weekdays_only p.weekdays f.weekdays e.weekdays, date_only p.date f few e.date, time_only p.time f few e.time, last) refl
 
--- an expression by the rule is read
+-- each expression of the grammar is parsed, with the same fields
 pub valid_only : (text : List ℕ) (f : Fields) → IsValid text f → fields_in text ≡ Ok f
 unfolding fields_in
 valid_only text f valid =
@@ -56,6 +56,6 @@ valid_only text f valid =
     let roles_are = roles_only (words text) e.roles e.last (zone_begins e.last f.zone e.zone) e.roles_are in
     rw (le-ltb most_text_bytes (length text) valid.short, roles_are) (fields_only text f e (are_few f valid.few))
 
--- a text is at most one expression
+-- no text is two different expressions
 pub one_expression : (text : List ℕ) (f g : Fields) → IsValid text f → IsValid text g → f ≡ g
 one_expression text f g first second = let same = sym (valid_only text f first) ∙ valid_only text g second in cc

@@ -1,4 +1,5 @@
--- The roles of words that were read are those of the rule, and those of the rule are found.
+-- The parser and the grammar agree on the roles of words: which of them are the weekdays, the date, the time and the
+-- zone.
 use Rattle.std.proofs.Common.{ℕ, ℤ, drop, ◌<◌, ◌≤◌, ◌≡◌, ◌⊎◌, inl, inr, Bool, true, false, cond, ◌&&◌, List, [], ◌∷◌, ◌++◌, length, Option, Some, None, Ok, refl, sym, ap, ◌∙◌, arith, eqb}
 use Rattle.std.specs.Prelude.{IfSome, nat_le}
 use Rattle.std.specs.List.{AllByRecursion, list_all, list_any}
@@ -83,7 +84,7 @@ time_colon room word h at =
     let found = time_found room word h at in
     true_from_ne_false (list_any is_colon word) (time_needs word found.texts found.shape)
 
--- The roles of words that were read
+-- The grammar gives words the roles that the parser finds
 
 abbrev IsWeekdaysWord : List ℕ → Type 0
 IsWeekdaysWord w = (begins_with_letter w ≡ true) × (shorthand_named w ≡ None)
@@ -98,7 +99,7 @@ signless_more : (weekdays : Option (List ℕ)) (w time : List ℕ) → AllByRecu
 signless_more None w time first next = (next, tt)
 signless_more (Some v) w time first next = (first.0, (next, tt))
 
--- what comes after the weekdays, or after none
+-- the words after the weekday list, or all words if there is no list
 module _ (weekdays last : Option (List ℕ)) (kind : IfSome weekdays IsWeekdaysWord) where
   plain_with : (date time : Option (List ℕ)) (rest : List (List ℕ)) → 0 < length (given weekdays ++ (given date ++ given time)) → IfSome date IsDateWord → IfSome time IsTimeWord → AllByRecursion IsSignless (drop 1 (given weekdays ++ (given date ++ given time))) → rest ≡ given last
       → ArePlain (given weekdays ++ (given date ++ (given time ++ rest))) (record { weekdays = weekdays; date = unwrap_or date any_date; time = unwrap_or time midnight; rest = rest }) last
@@ -169,7 +170,7 @@ roles_found (w ∷ ws) p last at rest colon =
     let is : roles_by (shorthand_named w) w ws ≡ p = cc in
     rw (← is) (found_by w ws last (shorthand_named w) refl (ap (λ (q : Roles). q.rest) is ∙ rest) (ap (λ (q : Roles). list_any is_colon q.time) is ∙ colon))
 
--- The roles of the rule are found
+-- The parser finds the roles that the grammar gives
 
 after_date_is : (weekdays : Option (List ℕ)) (date : List ℕ) (time last : Option (List ℕ)) → IfSome time IsTimeWord → AllByRecursion IsSignless (given time) → IfSome last (λ w. begins_zone w ≡ true) → roles_after_date weekdays date (given time ++ given last) ≡ record { weekdays = weekdays; date = date; time = unwrap_or time midnight; rest = given last }
 after_date_is weekdays date None None kind signless begins = refl

@@ -1,4 +1,6 @@
--- A component of a date or of a time: systemd.time(7), Calendar Events.
+-- Parsing of a component of a date or time: systemd.time(7), Calendar Events. "Counted" parts are those that count
+-- towards the limit: all parts of a date's component, all but the first of a time's. `room` is how many counted parts
+-- are still allowed.
 use Rattle.std.specs.Prelude.{ℕ, ◌+◌, ◌-◌, ◌==◌, Bool, if◌then◌else◌, List, [], ◌∷◌, length, map, codes, Option, None, Some, Result, Ok, Err}
 use Rattle.std.specs.List.{slice_split}
 use Rattle.std.specs.Str.{bytes_eq}
@@ -12,43 +14,43 @@ use Rattle.cal_spec.specs.declared.spec_fault.SpecFault.{SpecFault}
 use Rattle.cal_spec.specs.declared.spec_fault.SpecFault.TheVariants.{TooManyParts}
 use Rattle.cal_text.specs.headline.Separators.{is_comma}
 
--- `*`, for all values
+-- `*`, which matches all values
 abbrev pub is_star : List ℕ → Bool
 is_star text = bytes_eq text (codes "*")
 
--- how many counted parts are allowed in all
+-- the maximum number of counted parts in an expression
 abbrev pub most_counted : ℕ
 most_counted = 240
 
--- how many counted parts a component has: the first part of a time's component isn't counted
+-- the number of counted parts of a component
 abbrev pub counted : Slot → Option (List Part) → ℕ
 counted slot None = 0
 counted slot (Some ps) = if is_time slot then length ps - 1 else length ps
 
--- how many parts are allowed where that many counted ones are
+-- the number of parts that are allowed in a component, counted or not
 abbrev pub room_in : Slot → ℕ → ℕ
 room_in slot room = if is_time slot then room + 1 else room
 
--- the part that is expected where that many are allowed
+-- parses the next part, or fails if there is no room
 unfoldable pub part_due : Slot → ℕ → List ℕ → Result Part SpecFault
 part_due slot room text =
     if room == 0 then Err TooManyParts else (part_of slot text >>= λ p. Ok (with_values slot p))
 
--- the parts of these texts, or the first fault of a shape
+-- parses the parts, or fails with the first syntax error
 abbrev pub parts_of : Slot → ℕ → List (List ℕ) → Result (List Part) SpecFault
 parts_of slot room [] = Ok []
 parts_of slot room (t ∷ ts) =
     part_due slot room t >>= λ p. parts_of slot (room - 1) ts >>= λ ps. Ok (p ∷ ps)
 
--- the first fault of a value
+-- the first error among the values of the parts
 abbrev pub first_value_fault : Slot → List Part → Option SpecFault
 first_value_fault slot ps = first_of (map (fault_of slot) ps)
 
--- parts joined by commas: first their shapes are judged, then their values
+-- parses parts separated by commas: first the syntax of all parts is checked, then their values
 unfoldable pub parts_listed : Slot → ℕ → List ℕ → Result (List Part) SpecFault
 parts_listed slot room text =
     parts_of slot (room_in slot room) (slice_split is_comma text) >>= λ ps. unless (first_value_fault slot ps) ps
 
--- a component, where that many counted parts are allowed
+-- parses a component with at most `room` counted parts
 unfoldable pub component_of : Slot → ℕ → List ℕ → Result (Option (List Part)) SpecFault
 component_of slot room text = if is_star text then Ok None else (parts_listed slot room text >>= λ ps. Ok (Some ps))

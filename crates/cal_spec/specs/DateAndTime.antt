@@ -1,4 +1,4 @@
--- The date and the time of a calendar expression, computed from their texts: systemd.time(7), Calendar Events.
+-- Parsing of the date and the time of a calendar expression: systemd.time(7), Calendar Events.
 use Rattle.std.specs.Prelude.{ℕ, ◌-◌, ◌==◌, Bool, ◌||◌, if◌then◌else◌, List, [], ◌∷◌, filter, codes, Option, None, Some, Result, Ok, Err}
 use Rattle.std.specs.List.{slice_split}
 use Rattle.cal_spec.specs.Components.{most_counted, counted, component_of}
@@ -11,14 +11,14 @@ use Rattle.cal_spec.specs.declared.spec_fault.SpecFault.TheVariants.{BadDate, Ba
 use Rattle.cal_text.specs.headline.Separators.{is_colon}
 use Rattle.cal_spec.specs.headline.DateAndTime.{DateTexts, TimeTexts}
 
--- the components of a date
+-- the parsed components of a date
 pub record DateFields : Type 0 where
   pub year : Option (List Part)
   pub month : Option (List Part)
   pub day : Option (List Part)
   pub from_end : Bool
 
--- the components of a time
+-- the parsed components of a time
 pub record TimeFields : Type 0 where
   pub hour : Option (List Part)
   pub minute : Option (List Part)
@@ -27,11 +27,11 @@ pub record TimeFields : Type 0 where
 abbrev pub is_tilde : ℕ → Bool
 is_tilde b = b == 126
 
--- what comes between the components of a date
+-- the signs that separate the components of a date
 abbrev pub is_date_sign : ℕ → Bool
 is_date_sign b = (b == 45) || is_tilde b
 
--- two or three components; only the last sign may be `~`
+-- the components of a date, by its signs and the pieces between them; only the last sign may be `~`
 abbrev pub date_texts_by : List ℕ → List (List ℕ) → Option DateTexts
 date_texts_by (s ∷ []) (month ∷ day ∷ []) =
     Some (record { year = codes "*"; month = month; day = day; from_end = is_tilde s })
@@ -39,7 +39,7 @@ date_texts_by (s ∷ t ∷ []) (year ∷ month ∷ day ∷ []) =
     if is_tilde s then None else Some (record { year = year; month = month; day = day; from_end = is_tilde t })
 date_texts_by ss texts = None
 
--- two or three components; missing seconds are `00`
+-- the components of a time; missing seconds are `00`
 abbrev pub time_texts_by : List (List ℕ) → Option TimeTexts
 time_texts_by (hour ∷ minute ∷ []) = Some (record { hour = hour; minute = minute; second = codes "00" })
 time_texts_by (hour ∷ minute ∷ second ∷ []) = Some (record { hour = hour; minute = minute; second = second })
@@ -51,7 +51,7 @@ date_texts word = date_texts_by (filter is_date_sign word) (slice_split is_date_
 unfoldable pub time_texts : List ℕ → Option TimeTexts
 time_texts word = time_texts_by (slice_split is_colon word)
 
--- the components of a date from the left
+-- parses the components of a date from left to right
 unfoldable pub date_fields : DateTexts → Result DateFields SpecFault
 date_fields t =
     component_of Year most_counted t.year
@@ -59,12 +59,12 @@ date_fields t =
     >>= λ month. component_of (day_slot t.from_end) (most_counted - counted Year year - counted Month month) t.day
     >>= λ day. Ok (record { year = year; month = month; day = day; from_end = t.from_end })
 
--- how many counted parts are allowed after the date
+-- the number of counted parts that are still allowed after the date
 abbrev pub room_after : DateFields → ℕ
 room_after d =
     most_counted - counted Year d.year - counted Month d.month - counted (day_slot d.from_end) d.day
 
--- the components of a time from the left, where that many counted parts are allowed
+-- parses the components of a time from left to right, with at most `room` counted parts
 unfoldable pub time_fields : ℕ → TimeTexts → Result TimeFields SpecFault
 time_fields room t =
     component_of Hour room t.hour
@@ -80,10 +80,10 @@ abbrev pub time_due : ℕ → Option TimeTexts → Result TimeFields SpecFault
 time_due room None = Err BadTime
 time_due room (Some t) = time_fields room t
 
--- the date that the word writes, or its fault
+-- parses a date, or fails with its first error
 unfoldable pub date_in_word : List ℕ → Result DateFields SpecFault
 date_in_word word = date_due (date_texts word)
 
--- the time that the word writes, or its fault
+-- parses a time, or fails with its first error
 unfoldable pub time_in_word : ℕ → List ℕ → Result TimeFields SpecFault
 time_in_word room word = time_due room (time_texts word)

@@ -1,4 +1,4 @@
--- What contracts see of the date and of the time of a calendar expression.
+-- How contracts see the date and the time of a calendar expression: as values, without their addresses in memory.
 use Rattle.std.specs.Option.{option_map}
 use Rattle.cal_spec.specs.DateAndTime.{DateFields, TimeFields}
 use Rattle.cal_spec.specs.headline.DateAndTime.{DateTexts, TimeTexts}

@@ -1,4 +1,4 @@
--- What contracts see of a calendar expression: systemd.time(7), Calendar Events.
+-- How contracts see calendar expressions: systemd.time(7), Calendar Events.
 use Rattle.std.specs.Prelude.{◌≡◌, ℕ, List, Option, Result, Ok}
 use Rattle.cal_spec.specs.headline.Fields.{Fields}
 use Rattle.cal_spec.specs.Grammar.{fields_in}
@@ -10,16 +10,16 @@ use Rattle.cal_spec.specs.declared.field.Field.TheVariants as field
 use Rattle.cal_spec.specs.declared.part.Part.{Part}
 use Rattle.cal_spec.specs.declared.spec_fault.SpecFault.{SpecFault}
 
--- valid fields in their normal form
+-- valid fields in normal form
 pub record IsExpr (f : Fields) : Type 0 where
   pub valid : IsValidFields f
   pub normal : normal_fields f ≡ f
 
--- the expression that a text is, or the text's one fault
+-- parses an expression into its normal form, or fails with the text's first error
 unfoldable pub expr_in : List ℕ → Result Fields SpecFault
 expr_in text = fields_in text >>= λ f. Ok (normal_fields f)
 
--- a component of the fields
+-- the component that `Field` names
 abbrev pub component : Field → Fields → Option (List Part)
 component field.Year f = f.year
 component field.Month f = f.month

@@ -1,5 +1,5 @@
--- Every judgement of a text in the order of refusals, each on its own: systemd.time(7), Calendar Events. The fault of a
--- text is the first of them.
+-- All checks of an expression in their documented order, each independent of the others: systemd.time(7), Calendar
+-- Events. The error of an invalid text is the first check that fails.
 use Rattle.std.specs.Prelude.{ℕ, ◌+◌, ◌-◌, nat_lt, if◌then◌else◌, List, [], ◌∷◌, ◌++◌, length, map, Option, None, Some, Result, Ok, Err}
 use Rattle.std.specs.List.{slice_split}
 use Rattle.std.specs.Result.{result_err}
@@ -22,20 +22,20 @@ use Rattle.cal_spec.specs.declared.slot.Slot.TheVariants.{Year, Month, Hour, Min
 use Rattle.cal_spec.specs.declared.spec_fault.SpecFault.{SpecFault}
 use Rattle.cal_spec.specs.declared.spec_fault.SpecFault.TheVariants.{Empty, TextTooLong, BadDate, BadTime, TooManyParts}
 
--- the texts of the parts
+-- the texts of a component's parts
 abbrev pub pieces_of : List ℕ → List (List ℕ)
 pieces_of text = slice_split is_comma text
 
--- how many counted parts the text of a component has
+-- the number of counted parts of a component, from its text
 abbrev pub numbered : Slot → List ℕ → ℕ
 numbered slot text =
     if is_star text then 0 else (if is_time slot then length (pieces_of text) - 1 else length (pieces_of text))
 
--- the number of the first part, where that many counted ones come before it
+-- the number of a component's first part, after `before` counted parts of earlier components
 abbrev pub first_number : Slot → ℕ → ℕ
 first_number slot before = if is_time slot then before else before + 1
 
--- the shape of the part with this number
+-- the check of a part's syntax, by the number of the part and its text
 abbrev pub shape_fault : Slot → ℕ → List ℕ → Option SpecFault
 shape_fault slot number text = if nat_lt most_counted number then Some TooManyParts else result_err (part_of slot text)
 
@@ -43,23 +43,23 @@ abbrev pub shape_faults : Slot → ℕ → List (List ℕ) → List (Option Spec
 shape_faults slot number [] = []
 shape_faults slot number (t ∷ ts) = shape_fault slot number t ∷ shape_faults slot (number + 1) ts
 
--- the values of a part that has a shape
+-- the check of a part's values; if its syntax is wrong, there is no such check
 abbrev pub value_fault : Slot → Result Part SpecFault → Option SpecFault
 value_fault slot (Ok p) = fault_of slot (with_values slot p)
 value_fault slot (Err e) = None
 
--- first the shapes of all parts, then their values
+-- all checks of a component: first the syntax of all parts, then their values
 unfoldable pub component_faults : Slot → ℕ → List ℕ → List (Option SpecFault)
 component_faults slot before text =
     if is_star text then []
     else shape_faults slot (first_number slot before) (pieces_of text) ++ map (λ t. value_fault slot (part_of slot t)) (pieces_of text)
 
--- how many counted parts a date has
+-- the number of counted parts of a date
 abbrev pub numbered_in : Option DateTexts → ℕ
 numbered_in None = 0
 numbered_in (Some t) = numbered Year t.year + numbered Month t.month + numbered (day_slot t.from_end) t.day
 
--- the number of components, then these from the left
+-- all checks of a date: the number of its components, then the components from left to right
 abbrev pub date_faults : Option DateTexts → List (Option SpecFault)
 date_faults None = Some BadDate ∷ []
 date_faults (Some t) =
@@ -74,7 +74,7 @@ time_faults before (Some t) =
     ++ (component_faults Minute (before + numbered Hour t.hour) t.minute
     ++ component_faults Second (before + numbered Hour t.hour + numbered Minute t.minute) t.second)
 
--- the words from the left
+-- all checks of the words, from left to right
 abbrev pub faults_at : Option Roles → List (Option SpecFault)
 faults_at None = Some Empty ∷ []
 faults_at (Some p) =
@@ -83,6 +83,6 @@ faults_at (Some p) =
     ++ (time_faults (numbered_in (date_texts p.date)) (time_texts p.time)
     ++ (result_err (suffix_in p.rest) ∷ [])))
 
--- all judgements of a text
+-- all checks of a text
 unfoldable pub judgements_of : List ℕ → List (Option SpecFault)
 judgements_of text = (if nat_lt most_text_bytes (length text) then Some TextTooLong else None) ∷ faults_at (roles_of (words text))

@@ -1,10 +1,10 @@
--- What contracts see of the fields of a calendar expression: systemd.time(7), Calendar Events.
+-- How contracts see the fields of a calendar expression: systemd.time(7), Calendar Events.
 use Rattle.std.specs.Option.{option_map}
 use Rattle.cal_spec.specs.SuffixView.{shown_suffix}
 use Rattle.cal_spec.specs.declared.fields.Fields as declared_fields
 use Rattle.cal_spec.specs.headline.Fields.{Fields}
 
--- the fields without where they lie in memory
+-- the fields as values, without their addresses in memory
 unfoldable pub fields_of : declared_fields.Fields → Fields
 fields_of fields = record {
   weekdays = fields.weekdays;

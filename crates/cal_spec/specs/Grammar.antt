@@ -1,5 +1,4 @@
--- The fields of a calendar expression, or the fault of a text that is none: systemd.time(7), Calendar Events. The words
--- are judged from the left.
+-- Parsing of calendar expressions: systemd.time(7), Calendar Events. The words are parsed from left to right.
 use Rattle.std.specs.Prelude.{ℕ, nat_lt, if◌then◌else◌, List, length, Option, None, Some, Result, Ok, Err}
 use Rattle.cal_spec.specs.DateAndTime.{date_in_word, time_in_word, room_after}
 use Rattle.cal_spec.specs.headline.Fields.{Fields}
@@ -12,11 +11,11 @@ use Rattle.cal_spec.specs.ZoneSuffix.{suffix_in}
 use Rattle.cal_spec.specs.declared.spec_fault.SpecFault.{SpecFault}
 use Rattle.cal_spec.specs.declared.spec_fault.SpecFault.TheVariants.{Empty, TextTooLong}
 
--- the most bytes that a text may have
+-- the maximum length of an expression in bytes
 abbrev pub most_text_bytes : ℕ
 most_text_bytes = 4096
 
--- the fields of the texts by their roles
+-- parses the weekdays, date, time and zone, in this order
 unfoldable pub fields_at : Roles → Result Fields SpecFault
 fields_at p =
     weekdays_in p.weekdays
@@ -35,11 +34,11 @@ fields_at p =
       zone = suffix;
     })
 
--- a text without a word has no fields
+-- a text without words is not an expression
 abbrev pub fields_due : Option Roles → Result Fields SpecFault
 fields_due None = Err Empty
 fields_due (Some p) = fields_at p
 
--- the fields of a text, or its fault
+-- parses the fields of an expression, or fails with the text's first error
 unfoldable pub fields_in : List ℕ → Result Fields SpecFault
 fields_in text = if nat_lt most_text_bytes (length text) then Err TextTooLong else fields_due (roles_of (words text))

@@ -1,4 +1,4 @@
--- The normal form of a calendar expression, computed: systemd.time(7), Calendar Events.
+-- Computation of the normal form of a calendar expression: systemd.time(7), Calendar Events.
 use Rattle.std.specs.Prelude.{◌≡◌, ◌&&◌, ℕ, ◌+◌, ◌-◌, ◌*◌, ◌/◌, ◌%◌, ◌<◌, Bool, if◌then◌else◌, List, [], ◌∷◌, map, Option, None, Some, nat_eq}
 use Rattle.std.specs.List.{AllByRecursion}
 use Rattle.std.specs.List.Sorted.{IsStrictlySortedBy}
@@ -9,7 +9,7 @@ use Rattle.cal_spec.specs.headline.Sound.{EndsAfter, IsStep}
 use Rattle.cal_spec.specs.declared.part.Part.{Part}
 use Rattle.cal_spec.specs.headline.NormalForm.{each, normal_from_end, part_cmp, range_to, step_of}
 
--- what a part has to be for a normal form: it doesn't run backwards, and steps on
+-- the conditions under which a part has a normal form: its range isn't backwards, and its step isn't zero
 pub record IsPart (p : Part) : Type 0 where
   pub forward : EndsAfter p.start p.end
   pub steps : IsStep p.step
@@ -18,7 +18,7 @@ abbrev pub AreParts : Option (List Part) → Type 0
 AreParts None = Unit {0}
 AreParts (Some ps) = AllByRecursion IsPart ps
 
--- the same by division
+-- the normal form of a part; division finds the last number that a range reaches
 abbrev pub reduced_to : ℕ → Option ℕ → Option ℕ → Part
 reduced_to a None step = record { start = a; end = None; step = step }
 reduced_to a (Some b) step = range_to a (a + (b - a) / step_of step * step_of step) step
@@ -26,7 +26,7 @@ reduced_to a (Some b) step = range_to a (a + (b - a) / step_of step * step_of st
 unfoldable pub reduced : Part → Part
 reduced p = reduced_to p.start p.end p.step
 
--- the normal form's own condition on a part: a range reaches its end, has two numbers or more, and no step 1
+-- a range in normal form ends at a number that it reaches, has at least two numbers, and has no step of 1
 abbrev pub IsNormalRange : ℕ → ℕ → Option ℕ → Type 0
 IsNormalRange a b None = a < b
 IsNormalRange a b (Some r) = (a < b) × (1 < r) × ((b - a) % r ≡ 0)
@@ -38,7 +38,8 @@ IsNormalTo a (Some b) step = IsNormalRange a b step
 unfoldable pub IsNormal : Part → Type 0
 IsNormal p = IsNormalTo p.start p.end p.step
 
--- and on a list of parts: they rise, so no two are equal
+-- a list of parts in normal form: each part is in normal form, and the parts are strictly increasing, so no two are
+-- equal
 pub record AreNormal (ps : List Part) : Type 0 where
   pub each : AllByRecursion IsNormal ps
   pub rising : IsStrictlySortedBy part_cmp ps

@@ -1,9 +1,9 @@
--- A list put in an order, where each element occurs once.
+-- Sorting of a list, without duplicates.
 use Rattle.std.specs.Prelude.{List, [], ◌∷◌}
 use Rattle.std.specs.BTreeSet.{insert_key}
 use Rattle.std.specs.declared.cmp.Ordering.{Ordering}
 
--- the elements in order, equal ones once
+-- the elements in order, without duplicates
 abbrev pub in_order : {A : Type 0} → (A → A → Ordering) → List A → List A
 in_order cmp [] = []
 in_order cmp (x ∷ xs) = insert_key cmp (in_order cmp xs) x

@@ -1,5 +1,5 @@
--- One part of a component, computed: systemd.time(7), Calendar Events. The text is taken apart into signs, and these
--- are judged from the left.
+-- Parsing of one part of a component, and checks of its values: systemd.time(7), Calendar Events. The text is split
+-- into symbols, which are then parsed from left to right.
 use Rattle.std.specs.Prelude.{ℕ, ◌+◌, ◌==◌, nat_lt, nat_le, Bool, true, false, not, ◌&&◌, if◌then◌else◌, List, [], ◌∷◌, Option, None, Some, Result, Ok, Err}
 use Rattle.std.specs.Char.{is_ascii_digit}
 use Rattle.std.specs.Str.Parse.{digits_value}
@@ -15,7 +15,7 @@ use Rattle.cal_text.specs.headline.Separators.{is_point}
 
 -- Slots
 
--- whether the slot is one of a time
+-- whether the slot is that of an hour, a minute or a second
 abbrev pub is_time : Slot → Bool
 is_time Hour = true
 is_time Minute = true
@@ -30,16 +30,16 @@ abbrev pub is_from_end : Slot → Bool
 is_from_end DayFromEnd = true
 is_from_end slot = false
 
--- the fault of a shape that the slot doesn't allow
+-- the error for a malformed part of this component
 abbrev pub bad : Slot → SpecFault
 bad slot = if is_time slot then BadTime else BadDate
 
--- Signs
+-- Symbols
 
 abbrev pub is_slash : ℕ → Bool
 is_slash b = b == 47
 
--- a longest run of digits, two points, a slash, a point that is followed by none, or any other byte
+-- a maximal run of digits, two points, a slash, a single point, or any other byte
 pub data Symbol : Type 0 where
   digits : List ℕ → Symbol
   dots : Symbol
@@ -47,43 +47,43 @@ pub data Symbol : Type 0 where
   point : Symbol
   other : ℕ → Symbol
 
--- a digit in front of symbols
+-- prepends a digit to symbols; it joins a run of digits that comes first
 abbrev pub with_digit : ℕ → List Symbol → List Symbol
 with_digit b (digits ds ∷ ss) = digits (b ∷ ds) ∷ ss
 with_digit b ss = digits (b ∷ []) ∷ ss
 
--- the symbol of a byte that is by itself
+-- the symbol of a byte that is not a digit
 abbrev pub lone : ℕ → Symbol
 lone b = if is_point b then point else (if is_slash b then slash else other b)
 
 abbrev pub with_byte : ℕ → List Symbol → List Symbol
 with_byte b ss = if is_ascii_digit b then with_digit b ss else lone b ∷ ss
 
--- the symbols of a text; points are paired from the left
+-- splits a text into symbols; points are paired from left to right
 abbrev pub symbols : List ℕ → List Symbol
 symbols [] = []
 symbols (b ∷ []) = with_byte b []
 symbols (b ∷ c ∷ bs) = if is_point b && is_point c then dots ∷ symbols bs else with_byte b (symbols (c ∷ bs))
 
--- Shapes: `a`, `a/r`, `a..b` and `a..b/r`
+-- Syntax: `a`, `a/r`, `a..b` and `a..b/r`
 
 abbrev pub starts_with_point : List Symbol → Bool
 starts_with_point (point ∷ ss) = true
 starts_with_point ss = false
 
--- a number with the symbols after it
+-- a number and the symbols after it
 pub record Counted : Type 0 where
   pub number : ℕ
   pub after : List Symbol
 
--- a number is judged at its last digit, and in the seconds the point of a fraction after it
+-- checks a number; for seconds, also checks that no fraction follows
 abbrev pub after_number : Slot → ℕ → List Symbol → Result Counted SpecFault
 after_number slot n ss =
     if nat_lt most n then Err NumberTooLarge
     else (if is_second slot && starts_with_point ss then Err FractionalSecond
     else Ok (record { number = n; after = ss }))
 
--- where a number is expected
+-- parses a number at the start of the symbols
 abbrev pub number_due : Slot → List Symbol → Result Counted SpecFault
 number_due slot (digits ds ∷ ss) = after_number slot (digits_value 10 ds) ss
 number_due slot ss = Err (bad slot)
@@ -92,25 +92,25 @@ abbrev pub part_at_end : Slot → Part → List Symbol → Result Part SpecFault
 part_at_end slot p [] = Ok p
 part_at_end slot p ss = Err (bad slot)
 
--- after a slash
+-- parses what follows a slash
 unfoldable pub with_step : Slot → ℕ → Option ℕ → List Symbol → Result Part SpecFault
 with_step slot a last ss =
     number_due slot ss >>= λ r. part_at_end slot (record { start = a; end = last; step = Some r.number }) r.after
 
--- after the end of a range
+-- parses what follows the end of a range
 unfoldable pub after_end : Slot → ℕ → ℕ → List Symbol → Result Part SpecFault
 after_end slot a b [] = Ok (record { start = a; end = Some b; step = None })
 after_end slot a b (slash ∷ ss) = with_step slot a (Some b) ss
 after_end slot a b ss = Err (bad slot)
 
--- after the first number
+-- parses what follows the first number
 unfoldable pub after_start : Slot → ℕ → List Symbol → Result Part SpecFault
 after_start slot a [] = Ok (record { start = a; end = None; step = None })
 after_start slot a (dots ∷ ss) = number_due slot ss >>= λ b. after_end slot a b.number b.after
 after_start slot a (slash ∷ ss) = with_step slot a None ss
 after_start slot a ss = Err (bad slot)
 
--- the part that the text writes, or the fault of its shape
+-- parses a part, or fails with the first error of its syntax
 unfoldable pub part_of : Slot → List ℕ → Result Part SpecFault
 part_of slot text = number_due slot (symbols text) >>= λ a. after_start slot a.number a.after
 
@@ -119,12 +119,12 @@ part_of slot text = number_due slot (symbols text) >>= λ a. after_start slot a.
 abbrev pub is_within : Slot → ℕ → Bool
 is_within slot n = nat_le (least slot) n && nat_le n (greatest slot)
 
--- one of the numbers of the part is none of the slot's
+-- the start or the end of the part is out of range
 abbrev pub is_outside : Slot → ℕ → Option ℕ → Bool
 is_outside slot a None = not (is_within slot a)
 is_outside slot a (Some b) = not (is_within slot a && is_within slot b)
 
--- the end is below the start
+-- the end of the range is below its start
 abbrev pub is_backward : ℕ → Option ℕ → Bool
 is_backward a None = false
 is_backward a (Some b) = nat_lt b a
@@ -133,12 +133,12 @@ abbrev pub is_zero : Option ℕ → Bool
 is_zero None = false
 is_zero (Some r) = r == 0
 
--- a repetition without an end that reaches no second number
+-- an open-ended repetition that doesn't reach a second number
 abbrev pub is_idle : Slot → ℕ → Option ℕ → Option ℕ → Bool
 is_idle slot a None (Some r) = if is_from_end slot then nat_le a r else nat_lt (greatest slot) (a + r)
 is_idle slot a last step = false
 
--- the fault of a part's values
+-- the first error of the part's values
 unfoldable pub fault_of : Slot → Part → Option SpecFault
 fault_of slot p =
     if is_outside slot p.start p.end then Some OutOfField

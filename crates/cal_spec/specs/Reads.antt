@@ -1,25 +1,25 @@
--- What reading a text gives: a value, or the text's fault. systemd.time(7), Calendar Events.
+-- Results of parsing, which are a value or an error: systemd.time(7), Calendar Events.
 use Rattle.std.specs.Prelude.{◌≡◌, List, [], ◌∷◌, Option, None, Some, Result, Ok, Err}
 use Rattle.std.specs.Option.{option_or}
 use Rattle.cal_spec.specs.declared.spec_fault.SpecFault.{SpecFault}
 use Rattle.cal_spec.specs.declared.spec_fault.SpecFault.TheVariants.{NoMemory}
 
--- the value, unless there is a fault
+-- the value, or the error if there is one
 abbrev pub unless : {A : Type 0} → Option SpecFault → A → Result A SpecFault
 unless None x = Ok x
 unless (Some e) x = Err e
 
--- the first fault of a row of judgements
+-- the first error in a list of checks
 abbrev pub first_of : List (Option SpecFault) → Option SpecFault
 first_of [] = None
 first_of (o ∷ os) = option_or o (first_of os)
 
--- a call's result is this read
+-- the call returns `read`, with its value as contracts see it
 abbrev pub Gives : {T V : Type 0} → (T → V) → Result T SpecFault → Result V SpecFault → Type 0
 Gives view (Ok x) read = read ≡ Ok (view x)
 Gives view (Err e) read = read ≡ Err e
 
--- a call's result is this read, or tells that memory was refused
+-- like `Gives`, but the call may also fail with `NoMemory`
 abbrev pub GivesUnlessNoMemory : {T V : Type 0} → (T → V) → Result T SpecFault → Result V SpecFault → Type 0
 GivesUnlessNoMemory view (Ok x) read = read ≡ Ok (view x)
 GivesUnlessNoMemory view (Err e) read = (e ≡ NoMemory → ⊥) → read ≡ Err e

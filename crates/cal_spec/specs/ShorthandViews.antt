@@ -1,4 +1,4 @@
--- What contracts see of the meaning of a shorthand.
+-- How contracts see the meaning of a shorthand.
 use Rattle.std.specs.Option.{option_copied}
 use Rattle.cal_spec.specs.headline.Shorthand.{Meaning}
 use Rattle.cal_spec.specs.declared.shorthand.Meaning as declared

@@ -1,11 +1,11 @@
--- Which components have a meaning: systemd.time(7), Calendar Events.
+-- Components with valid values: systemd.time(7), Calendar Events.
 use Rattle.std.specs.Prelude.{◌<◌, List, length, Option, None, Some}
 use Rattle.std.specs.List.{AllByRecursion}
 use Rattle.cal_spec.specs.declared.part.Part.{Part}
 use Rattle.cal_spec.specs.declared.slot.Slot.{Slot}
 use Rattle.cal_spec.specs.headline.Sound.{IsSound}
 
--- a component that has a meaning: `*`, or one or more such parts
+-- the values of a component are valid: it is `*`, or has one or more parts, all with valid values
 abbrev pub AreSound : Slot → Option (List Part) → Type 0
 AreSound slot None = Unit {0}
 AreSound slot (Some ps) = (0 < length ps) × AllByRecursion (IsSound slot) ps

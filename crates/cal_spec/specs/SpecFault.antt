@@ -1,9 +1,9 @@
--- What is said of a text that is no calendar expression.
+-- Messages for invalid calendar expressions.
 use Rattle.std.specs.Prelude.{ℕ, List, [], codes}
 use Rattle.cal_spec.specs.declared.spec_fault.SpecFault.{SpecFault}
 use Rattle.cal_spec.specs.declared.spec_fault.SpecFault.TheVariants.{Empty, TextTooLong, BadWeekday, BadDate, BadTime, FractionalSecond, NumberTooLarge, OutOfField, BackwardRange, ZeroRepeat, NoRepeat, TooManyParts, StrayWord, UnknownShorthand, NoMemory}
 
--- the words that tell a user of the fault
+-- the message for users
 abbrev pub words_of : SpecFault → List ℕ
 words_of Empty = codes "empty expression"
 words_of TextTooLong = codes "expression longer than 4096 bytes"

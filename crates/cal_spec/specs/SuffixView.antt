@@ -1,4 +1,4 @@
--- What contracts see of the zone at the end of an expression.
+-- How contracts see the zone at the end of an expression.
 use Rattle.std.specs.Prelude.{string_bytes}
 use Rattle.cal_spec.specs.headline.ZoneSuffix.{ZoneSuffix, of_name, ahead}
 use Rattle.cal_spec.specs.declared.zone_suffix.ZoneSuffix as declared

@@ -1,4 +1,4 @@
--- What contracts see of a symbol of a part.
+-- How contracts see a symbol of a part.
 use Rattle.cal_spec.specs.Parts.{Symbol, digits, dots, slash, point, other}
 use Rattle.cal_spec.specs.declared.numbers.Symbol as declared_symbol
 use Rattle.cal_spec.specs.declared.numbers.Symbol.TheVariants.{Digits, Dots, Slash, Point, Other}

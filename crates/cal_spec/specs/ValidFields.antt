@@ -1,4 +1,4 @@
--- The fields of which expressions are made: systemd.time(7), Calendar Events.
+-- Valid fields of an expression: systemd.time(7), Calendar Events.
 use Rattle.std.specs.Prelude.{◌≡◌, ◌≤◌, true, length}
 use Rattle.std.specs.List.{list_any}
 use Rattle.cal_spec.specs.headline.Fields.{Fields, counted_parts}

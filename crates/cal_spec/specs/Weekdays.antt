@@ -1,4 +1,4 @@
--- The weekday list of a calendar expression, computed: systemd.time(7), Calendar Events.
+-- Parsing of weekday lists: systemd.time(7), Calendar Events.
 use Rattle.std.specs.Prelude.{ℕ, ◌-◌, ◌==◌, Bool, true, not, ◌&&◌, ◌||◌, if◌then◌else◌, List, [], ◌∷◌, length, map, take, drop, slice_index, Option, None, Some, is_some, Result, Ok, Err}
 use Rattle.std.specs.List.{find, list_all, position_or_len, slice_split}
 use Rattle.std.specs.Option.{ok_or, option_map}
@@ -13,7 +13,7 @@ use Rattle.cal_spec.specs.declared.spec_fault.SpecFault.{SpecFault}
 use Rattle.cal_spec.specs.declared.spec_fault.SpecFault.TheVariants.{BadWeekday, UnknownShorthand}
 use Rattle.cal_spec.specs.headline.Weekdays.{set_of}
 
--- the weekday with this name, or with a name that has these first three letters, in any case
+-- the weekday with this name, in full or shortened to three letters, ignoring case
 unfoldable pub day_named : List ℕ → Option Weekday
 day_named word =
     find (λ day. str_eq_ignore_ascii_case word (name_of day) || str_eq_ignore_ascii_case word (short_name_of day)) week
@@ -21,21 +21,21 @@ day_named word =
 abbrev pub is_no_letter : ℕ → Bool
 is_no_letter b = not (is_ascii_alphabetic b)
 
--- the letters at the start, and what comes after them
+-- the leading letters of a word, and the text after them
 abbrev pub leading_letters : List ℕ → List ℕ
 leading_letters word = take (position_or_len is_no_letter word) word
 
 abbrev pub after_letters : List ℕ → List ℕ
 after_letters word = drop (position_or_len is_no_letter word) word
 
--- what comes after `-` or `..`
+-- the text after a leading `-` or `..`
 abbrev pub after_joint : List ℕ → Option (List ℕ)
 after_joint [] = None
 after_joint (b ∷ []) = if b == 45 then Some [] else None
 after_joint (b ∷ c ∷ bs) =
     if b == 45 then Some (c ∷ bs) else (if (b == 46) && (c == 46) then Some bs else None)
 
--- the days from the first one to the one that comes after a joint
+-- the days from `first` to the weekday of this name, which is the text after the joint
 abbrev pub days_to : Weekday → Option (List ℕ) → Option Days
 days_to first None = None
 days_to first (Some name) = option_map (λ last. record { first = first; last = last }) (day_named name)
@@ -48,7 +48,7 @@ abbrev pub days_by : Option Weekday → List ℕ → Option Days
 days_by None after = None
 days_by (Some first) after = days_from first after
 
--- an item: a name, or two names joined by `..` or `-`
+-- parses an item: the name of a weekday, or two names joined by `..` or `-`
 unfoldable pub days_of : List ℕ → Option Days
 days_of item = days_by (day_named (leading_letters item)) (after_letters item)
 
@@ -56,25 +56,25 @@ abbrev pub items_of : List (List ℕ) → Result (List Days) SpecFault
 items_of [] = Ok []
 items_of (t ∷ ts) = ok_or (days_of t) BadWeekday >>= λ days. items_of ts >>= λ more. Ok (days ∷ more)
 
--- one trailing comma is allowed
+-- the word without one trailing comma
 abbrev pub without_comma : List ℕ → List ℕ
 without_comma word = if is_comma (slice_index word (length word - 1)) then take (length word - 1) word else word
 
--- items joined by commas
+-- parses items separated by commas
 unfoldable pub listed_days : List ℕ → Result (List Bool) SpecFault
 listed_days word = items_of (slice_split is_comma (without_comma word)) >>= λ items. Ok (set_of items)
 
--- what a word that begins with no weekday name was meant for
+-- whether the word consists only of letters and `-`, as shorthands do
 abbrev pub is_like_shorthand : List ℕ → Bool
 is_like_shorthand word = list_all (λ b. is_ascii_alphabetic b || (b == 45)) word
 
--- the weekdays that the word lists, or its fault
+-- parses a weekday list, or fails with its error
 unfoldable pub weekdays_of : List ℕ → Result (List Bool) SpecFault
 weekdays_of word =
     if is_some (day_named (leading_letters word)) then listed_days word
     else Err (if is_like_shorthand word then UnknownShorthand else BadWeekday)
 
--- no weekday list means all seven
+-- the weekdays that match; without a weekday list all seven match
 abbrev pub weekdays_in : Option (List ℕ) → Result (List Bool) SpecFault
 weekdays_in None = Ok (map (λ day. true) week)
 weekdays_in (Some word) = weekdays_of word

@@ -1,4 +1,4 @@
--- The zone at the end of a calendar expression, computed from its word: systemd.time(7), Calendar Events.
+-- Parsing of the zone at the end of a calendar expression: systemd.time(7), Calendar Events.
 use Rattle.std.specs.Prelude.{ℕ, ℤ, ◌≡◌, true, if◌then◌else◌, List, [], ◌∷◌, Option, None, Some, option_map, Result, Ok, Err}
 use Rattle.cal_zone.specs.OffsetWord.{AreWholeMinutes, offset_in}
 use Rattle.cal_zone.specs.headline.ZoneName.{is_zone_name}
@@ -6,7 +6,7 @@ use Rattle.cal_spec.specs.declared.spec_fault.SpecFault.{SpecFault}
 use Rattle.cal_spec.specs.declared.spec_fault.SpecFault.TheVariants.{StrayWord}
 use Rattle.cal_spec.specs.headline.ZoneSuffix.{ZoneSuffix, ahead, kept_name, of_name}
 
--- the zone that a word is, if it is one
+-- parses a word as the name of a zone or as a UTC offset
 unfoldable pub suffix_of : List ℕ → Option ZoneSuffix
 suffix_of word = if is_zone_name word then Some (of_name (kept_name word)) else option_map ahead (offset_in word)
 
@@ -14,13 +14,13 @@ abbrev pub suffix_due : Option ZoneSuffix → Result (Option ZoneSuffix) SpecFau
 suffix_due None = Err StrayWord
 suffix_due (Some suffix) = Ok (Some suffix)
 
--- the words after the time: none, or a zone
+-- parses the words after the time: there are none, or there is one, which is a zone
 abbrev pub suffix_in : List (List ℕ) → Result (Option ZoneSuffix) SpecFault
 suffix_in [] = Ok None
 suffix_in (word ∷ []) = suffix_due (suffix_of word)
 suffix_in words = Err StrayWord
 
--- a zone that a word can be
+-- the zones that a word can have
 abbrev pub IsSuffix : ZoneSuffix → Type 0
 IsSuffix (of_name name) = (is_zone_name name ≡ true) × (kept_name name ≡ name)
 IsSuffix (ahead seconds) = AreWholeMinutes seconds
@@ -29,7 +29,7 @@ abbrev pub IsSuffixOption : Option ZoneSuffix → Type 0
 IsSuffixOption None = Unit {0}
 IsSuffixOption (Some suffix) = IsSuffix suffix
 
--- the name, if it is one, and the seconds ahead of UTC, if it is an offset
+-- the name if the zone is a name, and the offset in seconds if it is a UTC offset
 abbrev pub name_in : Option ZoneSuffix → Option (List ℕ)
 name_in None = None
 name_in (Some (of_name name)) = Some name

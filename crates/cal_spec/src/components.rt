@@ -1,4 +1,7 @@
-//! The components of dates and times: `*`, or parts between commas.
+//! Parsing of one component of a date or time: `*`, or parts separated by commas.
+//!
+//! An expression may have at most 240 parts, not counting the first part of the hour, of the minute and of the second.
+//! All other parts are the *counted* parts, and `room` is how many of them are still allowed.
 
 ghost use Rattle.std.specs.Prelude.{◌≡◌, ◌≤◌};
 ghost use Rattle.std.specs.List.{slice_split};
@@ -13,8 +16,9 @@ use crate::slot::Slot;
 use crate::{Part, SpecFault};
 use std::alloc::Global;
 
-/// The component that the text writes, `None` for `*`, where that many counted parts are allowed
-/// (systemd.time(7), Calendar Events). First the shapes of all its parts are judged, then their values.
+/// Parses a component with at most `room` counted parts (systemd.time(7), Calendar Events). Returns `None` for `*`.
+///
+/// The syntax of all parts is checked before any of their values.
 #[tactic(auto, unfolding(crate::specs::Components::component_of))]
 pub(crate) fn read_component(
     alloc: Global,
@@ -33,7 +37,8 @@ pub(crate) fn read_component(
     Ok(Some(parts))
 }
 
-/// How many counted parts the component has: of a time's component all but the first.
+/// Returns how many parts of the component count towards the limit: all parts of a date's component, all but the first
+/// of a time's.
 pub(crate) fn count_parts(slot: Slot, component: &Option<Vec<Part>>) -> usize
     ensures { result ≡ counted slot (option_map (λ parts. parts.items) component.now) }
 {
@@ -44,7 +49,7 @@ pub(crate) fn count_parts(slot: Slot, component: &Option<Vec<Part>>) -> usize
     }
 }
 
-/// Parts between commas.
+/// Parses parts separated by commas.
 #[tactic(auto, unfolding(crate::specs::Components::parts_listed))]
 fn read_listed(alloc: Global, slot: Slot, room: usize, text: &[u8]) -> Result<Vec<Part>, SpecFault>
     requires { room ≤ most_counted }
@@ -59,7 +64,7 @@ fn read_listed(alloc: Global, slot: Slot, room: usize, text: &[u8]) -> Result<Ve
     }
 }
 
-/// The parts between commas, without a look at their values.
+/// Parses parts separated by commas without checking their values.
 fn read_parts(alloc: Global, slot: Slot, room: usize, text: &[u8]) -> Result<Vec<Part>, SpecFault>
     ensures { GivesUnlessNoMemory (λ parts. parts.items) result
         (parts_of slot room (slice_split is_comma text.now)) }
@@ -77,7 +82,7 @@ fn read_parts(alloc: Global, slot: Slot, room: usize, text: &[u8]) -> Result<Vec
     Ok(parts)
 }
 
-/// The part that is expected where that many are allowed.
+/// Parses the next part, or fails with `TooManyParts` if `room` is 0. Expands two-digit years.
 #[tactic(auto, unfolding(crate::specs::Components::part_due))]
 fn part_due(slot: Slot, room: usize, text: &[u8]) -> Result<Part, SpecFault>
     ensures { Gives (λ part. part) result (part_due slot room text.now) }
@@ -89,7 +94,7 @@ fn part_due(slot: Slot, room: usize, text: &[u8]) -> Result<Part, SpecFault>
     Ok(with_values(slot, part))
 }
 
-/// The first fault of a value.
+/// Returns the first error among the values of the parts.
 fn first_fault(slot: Slot, parts: &[Part]) -> Option<SpecFault>
     ensures { result ≡ first_value_fault slot parts.now }
 {

@@ -1,4 +1,4 @@
-//! The date and the time of a calendar expression.
+//! Parsing of the date and the time of a calendar expression.
 
 ghost use Rattle.std.specs.Prelude.{◌≡◌, ◌≤◌, ◌∷◌, [], MatchOption, filter};
 ghost use Rattle.std.specs.List.{position, slice_split};
@@ -15,12 +15,14 @@ use crate::pieces::first_piece;
 use crate::slot::{Slot, day_slot};
 use std::alloc::Global;
 
-/// The most counted parts in all: the first part of the hour, of the minute and of the second isn't counted.
+/// The maximum number of parts in an expression, not counting the first part of the hour, of the minute and of the
+/// second.
 const MOST_COUNTED: usize = 240;
 
-/// The date that the word writes, `year-month-day` or `month-day`, with `~` in place of the last `-` where the day is
-/// counted from the month's end (systemd.time(7), Calendar Events). First the number of components is judged, and
-/// with it the place of `~`, then the components from the left.
+/// Parses a date, `year-month-day` or `month-day`. A `~` in place of the last `-` means that the day is counted from
+/// the month's end (systemd.time(7), Calendar Events).
+///
+/// The number of components and the position of `~` are checked first, then the components from left to right.
 #[tactic(auto, unfolding(crate::specs::DateAndTime::date_in_word))]
 pub(crate) fn read_date(alloc: Global, word: &[u8]) -> Result<DateFields, SpecFault>
     ensures { GivesUnlessNoMemory date_fields_in result (date_in_word word.now) }
@@ -31,8 +33,10 @@ pub(crate) fn read_date(alloc: Global, word: &[u8]) -> Result<DateFields, SpecFa
     }
 }
 
-/// The time that the word writes, `hour:minute` or `hour:minute:second`, where that many counted parts are allowed
-/// (systemd.time(7), Calendar Events). First the number of components is judged, then these from the left.
+/// Parses a time, `hour:minute` or `hour:minute:second`, with at most `room` counted parts (systemd.time(7), Calendar
+/// Events).
+///
+/// The number of components is checked first, then the components from left to right.
 #[tactic(auto, unfolding(crate::specs::DateAndTime::time_in_word))]
 pub(crate) fn read_time(alloc: Global, room: usize, word: &[u8]) -> Result<TimeFields, SpecFault>
     requires { room ≤ most_counted }
@@ -44,7 +48,7 @@ pub(crate) fn read_time(alloc: Global, room: usize, word: &[u8]) -> Result<TimeF
     }
 }
 
-/// How many counted parts are allowed after the date.
+/// Returns how many counted parts are still allowed after the date.
 pub(crate) fn room_after(date: &DateFields) -> usize
     ensures value { result ≡ room_after (date_fields_in date.now) }
     ensures bound { result ≤ most_counted }
@@ -55,7 +59,7 @@ pub(crate) fn room_after(date: &DateFields) -> usize
         .saturating_sub(count_parts(day_slot(date.from_end), &date.day))
 }
 
-/// The texts of a date's components.
+/// The components of a date, not yet parsed.
 #[derive(Clone, Copy)]
 struct DateTexts<'a> {
     year: &'a [u8],
@@ -64,7 +68,7 @@ struct DateTexts<'a> {
     from_end: bool,
 }
 
-/// The texts of a time's components.
+/// The components of a time, not yet parsed.
 #[derive(Clone, Copy)]
 struct TimeTexts<'a> {
     hour: &'a [u8],
@@ -72,7 +76,8 @@ struct TimeTexts<'a> {
     second: &'a [u8],
 }
 
-/// The texts of the components, or `None` where these are not two or three, or `~` isn't the last sign.
+/// Splits a date into its components. Returns `None` if there are not two or three, or if `~` stands anywhere but
+/// before the day.
 #[tactic(auto, unfolding(crate::specs::DateAndTime::date_texts))]
 fn date_texts(word: &[u8]) -> Option<DateTexts<'_>>
     ensures { option_map date_texts_in result ≡ date_texts word.now }
@@ -97,7 +102,7 @@ fn date_texts(word: &[u8]) -> Option<DateTexts<'_>>
     })
 }
 
-/// What comes before the first `-` or `~`, that sign, and what comes after it.
+/// Splits `word` at its first `-` or `~`. Returns the text before it, the sign itself, and the text after it.
 fn cut_at_sign(word: &[u8]) -> Option<(&[u8], u8, &[u8])>
     ensures { MatchOption result
         ((slice_split is_date_sign word.now ≡ word.now ∷ []) × (filter is_date_sign word.now ≡ []))
@@ -108,14 +113,15 @@ fn cut_at_sign(word: &[u8]) -> Option<(&[u8], u8, &[u8])>
     Some((&word[..index], word[index], &word[index + 1..]))
 }
 
-/// The index of the first `-` or `~`.
+/// Returns the index of the first `-` or `~`.
 fn sign_index(word: &[u8]) -> Option<usize>
     ensures { result ≡ position is_date_sign word.now }
 {
     word.iter().position(|byte| *byte == b'-' || *byte == b'~')
 }
 
-/// The texts of the components, or `None` where these are not two or three. Missing seconds are `00`.
+/// Splits a time into its components. Returns `None` if there are not two or three. If the seconds are missing, they
+/// are `00`.
 #[tactic(auto, unfolding(crate::specs::DateAndTime::time_texts))]
 fn time_texts(word: &[u8]) -> Option<TimeTexts<'_>>
     ensures { option_map time_texts_in result ≡ time_texts word.now }
@@ -140,7 +146,7 @@ fn time_texts(word: &[u8]) -> Option<TimeTexts<'_>>
     }
 }
 
-/// The components of a date from the left.
+/// Parses the components of a date from left to right.
 #[tactic(auto, unfolding(crate::specs::DateAndTime::date_fields))]
 fn date_fields(alloc: Global, texts: DateTexts<'_>) -> Result<DateFields, SpecFault>
     ensures { GivesUnlessNoMemory date_fields_in result (date_fields (date_texts_in texts.entry)) }
@@ -158,7 +164,7 @@ fn date_fields(alloc: Global, texts: DateTexts<'_>) -> Result<DateFields, SpecFa
     })
 }
 
-/// The components of a time from the left, where that many counted parts are allowed.
+/// Parses the components of a time from left to right, with at most `room` counted parts.
 #[tactic(auto, unfolding(crate::specs::DateAndTime::time_fields))]
 fn time_fields(alloc: Global, room: usize, texts: TimeTexts<'_>) -> Result<TimeFields, SpecFault>
     requires { room ≤ most_counted }

@@ -1,4 +1,4 @@
-//! Calendar expressions as values (systemd.time(7), Calendar Events).
+//! Parsed calendar expressions (systemd.time(7), Calendar Events).
 
 ghost use Rattle.std.specs.Prelude.{◌≡◌, ◌<◌, unsigned_abs, option_copied, option_map, IfSome};
 ghost use Rattle.jiff.specs.Words.{IsOffsetSeconds};
@@ -14,9 +14,9 @@ use crate::zone_suffix::ZoneSuffix;
 use crate::{Field, Part};
 use std::marker::Model;
 
-/// A calendar expression (systemd.time(7), Calendar Events): valid, and in its normal form.
+/// A valid calendar expression in normal form (systemd.time(7), Calendar Events).
 ///
-/// A contract sees its fields.
+/// Contracts see its fields.
 #[derive(Debug, Drop)]
 pub struct Expr {
     fields: Fields,
@@ -46,7 +46,7 @@ impl Expr {
     ghost use Rattle.cal_spec.specs.ValidFields.{IsValidFields};
     ghost use Rattle.cal_spec.specs.ZoneSuffix.{name_in, offset_said};
 
-    /// The normal form of what a text says. Takes no memory.
+    /// Brings parsed fields into their normal form. Doesn't allocate.
     pub(crate) fn normal(fields: Fields) -> Expr
         requires { IsValidFields (fields_of fields) }
         ensures { result ≡ normal_fields (fields_of fields) }
@@ -67,8 +67,9 @@ impl Expr {
         }
     }
 
-    /// Whether the expression matches a local second of the years 1970 to 2199, counted from 1970-01-01 00:00:00 on
-    /// the clock: whether its weekday, its date and its time are the expression's.
+    /// Returns whether the weekday, date and time of `local` match the expression. The zone is ignored.
+    ///
+    /// `local` is a local second: seconds since 1970-01-01 00:00:00 on the clock, in the years 1970 to 2199.
     pub fn has(&self, local: i64) -> bool
         requires { IsLocalSecond local }
         ensures { result ≡ matches (sets_of self.now) (unsigned_abs local) }
@@ -76,8 +77,8 @@ impl Expr {
         has_local(&self.fields, local)
     }
 
-    /// Whether a number is a member of a field: of the day, whether it is a day of the month, or its count from the
-    /// month's end where the days are such counts.
+    /// Returns whether the component `field` matches `value`. For [`Field::Day`], `value` is the day of the month, or
+    /// its count from the month's end if [`Expr::from_end`] returns `true`.
     #[tactic(auto, unfolding(crate::specs::Fields::fields_of, crate::specs::headline::Members::sets_of))]
     pub fn has_member(&self, field: Field, value: u16) -> bool
         ensures { result ≡ members_of field (sets_of self.now) value }
@@ -93,7 +94,8 @@ impl Expr {
         }
     }
 
-    /// Whether each weekday is chosen, from Monday on. A caller learns that the fields are valid and in normal form.
+    /// Returns which weekdays match, from Monday to Sunday. The contract also states that the fields are valid and in
+    /// normal form.
     #[tactic(auto, unfolding(crate::specs::Fields::fields_of))]
     pub fn weekdays(&self) -> [bool; 7]
         ensures chosen { result ≡ self.now.weekdays }
@@ -102,7 +104,8 @@ impl Expr {
         self.fields.weekdays
     }
 
-    /// The parts of a component; `None` is `*`. A caller learns that the fields are valid and in their normal form.
+    /// Returns the parts of a component, or `None` for `*`. The contract also states that the fields are valid and in
+    /// normal form.
     #[tactic(auto, unfolding(crate::specs::Fields::fields_of))]
     pub fn field(&self, field: Field) -> Option<&[Part]>
         ensures parts { option_copied result ≡ component field self.now }
@@ -120,7 +123,7 @@ impl Expr {
         parts.as_deref()
     }
 
-    /// Whether the days are counts from the month's end, of which the last day is 1.
+    /// Returns whether days are counted from the month's end. The last day of a month is 1 then.
     #[tactic(auto, unfolding(crate::specs::Fields::fields_of))]
     pub fn from_end(&self) -> bool
         ensures { result ≡ self.now.from_end }
@@ -128,7 +131,8 @@ impl Expr {
         self.fields.date.from_end
     }
 
-    /// The name of the zone, where it has one. Then [`Expr::zone_offset`] is `None`.
+    /// Returns the name of the expression's zone. Returns `None` if the expression has no zone or its zone is a UTC
+    /// offset.
     pub fn zone_name(&self) -> Option<&str>
         ensures { option_copied result ≡ name_in self.now.zone }
     {
@@ -138,8 +142,8 @@ impl Expr {
         }
     }
 
-    /// How many seconds ahead of UTC the clock of the zone is, where it is an offset: whole minutes, from -93,540 to
-    /// 93,540. Then [`Expr::zone_name`] is `None`.
+    /// Returns the UTC offset of the expression in seconds: whole minutes, from -93,540 to 93,540. Returns `None` if
+    /// the expression has no zone or its zone is a name.
     pub fn zone_offset(&self) -> Option<i32>
         ensures offset { result ≡ offset_said self.now.zone }
         ensures range { IfSome result IsOffsetSeconds }
@@ -150,7 +154,8 @@ impl Expr {
         }
     }
 
-    /// The zone, where one is written. A caller learns that the fields are valid and in their normal form.
+    /// Returns the zone, if the expression has one. The contract also states that the fields are valid and in normal
+    /// form.
     #[tactic(auto, unfolding(crate::specs::Fields::fields_of))]
     pub(crate) fn zone(&self) -> Option<&ZoneSuffix>
         ensures zone { option_map shown_suffix (option_copied result) ≡ self.now.zone }

@@ -1,4 +1,4 @@
-//! Calendar expressions as text, in their normal form (systemd.time(7), Calendar Events).
+//! Printing of calendar expressions in their normal form (systemd.time(7), Calendar Events).
 
 ghost use Rattle.std.specs.Prelude.{◌≡◌, ◌≤◌, [], ◌∷◌, codes, drop, false, option_copied, option_map};
 ghost use Rattle.std.specs.List.{flat_map};
@@ -16,7 +16,8 @@ use cal_bytes::{Fill, ShortText, Sink, WriteFault, padding, put_all, put_pieces}
 use cal_zone::push_offset;
 use itoa::Buffer;
 
-/// A component, the digits of its numbers, and what leads up to it.
+/// A component to print: the text before it, the minimum number of digits of its numbers, and its parts (`None` for
+/// `*`).
 #[derive(Clone, Copy)]
 struct Row<'a> {
     lead: &'a [u8],
@@ -25,10 +26,10 @@ struct Row<'a> {
     ghost narrow: { width ≤ 4 },
 }
 
-/// Writes an expression in its normal form (systemd.time(7), Calendar Events): weekdays, date, time and zone, as
-/// `Mon,Fri 2012-01/2-01,03 *:30:45`. Takes no memory.
+/// Writes an expression in its normal form (systemd.time(7), Calendar Events): weekdays, date, time and zone, as in
+/// `Mon,Fri 2012-01/2-01,03 *:30:45`. Doesn't allocate.
 ///
-/// [`WriteFault::Failed`] comes exactly where the writer failed; it has a prefix of the text then.
+/// Fails with [`WriteFault::Failed`] exactly if the writer fails; a prefix of the text has been written then.
 #[tactic(auto, using(cal_bytes::proofs::PutLemmas::puts), unfolding(crate::specs::headline::ExprText::expr_text))]
 pub fn write_expr<W: Sink>(out: &mut W, expr: &Expr) -> Result<(), WriteFault>
     requires { W.is_failed out.old ≡ false }
@@ -39,7 +40,7 @@ pub fn write_expr<W: Sink>(out: &mut W, expr: &Expr) -> Result<(), WriteFault>
     put_zone(out, expr.zone())
 }
 
-/// The components in the order in which they are printed.
+/// Returns the components in the order in which they are printed.
 #[tactic(auto, unfolding(crate::specs::headline::ExprText::fields_text))]
 fn rows(expr: &Expr) -> [Row<'_>; 6]
     ensures { flat_map (λ row. row_text row.lead.now row.width (option_copied row.parts)) result
@@ -120,7 +121,7 @@ fn put_parts<W: Sink>(out: &mut W, width: usize, parts: &[Part]) -> Result<(), W
     Ok(())
 }
 
-/// Writes a part, with what leads up to it in front.
+/// Writes `lead` and then a part.
 #[tactic(auto, using(cal_bytes::proofs::PutLemmas::puts), unfolding(crate::specs::headline::ExprText::part_text))]
 fn put_part<W: Sink>(out: &mut W, lead: &[u8], width: usize, part: Part) -> Result<(), WriteFault>
     requires works { W.is_failed out.old ≡ false }
@@ -148,7 +149,7 @@ fn put_optional<W: Sink>(
     }
 }
 
-/// Writes a number in at least that many digits, with what leads up to it in front.
+/// Writes `lead` and then a number, padded with zeros to at least `width` digits.
 #[tactic(auto, unfolding(crate::specs::headline::ExprText::number_text))]
 fn put_number<W: Sink>(
     out: &mut W,
@@ -180,7 +181,7 @@ fn put_zone<W: Sink>(out: &mut W, zone: Option<&ZoneSuffix>) -> Result<(), Write
     }
 }
 
-/// Writes an offset after a space, as `+02:00`.
+/// Writes a space and a UTC offset, as in ` +02:00`.
 fn put_offset<W: Sink>(out: &mut W, seconds: i32) -> Result<(), WriteFault>
     requires { W.is_failed out.old ≡ false }
     ensures { Puts W.Sink out.old out.new result (joined (codes " " ∷ offset_text seconds ∷ [])) }

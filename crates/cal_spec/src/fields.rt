@@ -1,19 +1,19 @@
-//! What a calendar expression says, as it was written or in its normal form.
+//! The fields of a calendar expression, as parsed or in normal form.
 
 use crate::Part;
 use crate::zone_suffix::ZoneSuffix;
 
-/// The components of a date; `None` is `*`.
+/// The components of a date. `None` stands for `*`.
 #[derive(PartialEq, Eq, Debug, Drop)]
 pub struct DateFields {
     pub year: Option<Vec<Part>>,
     pub month: Option<Vec<Part>>,
     pub day: Option<Vec<Part>>,
-    /// Whether the day is a count from the month's end.
+    /// Whether the day is counted from the month's end.
     pub from_end: bool,
 }
 
-/// The components of a time of day; `None` is `*`.
+/// The components of a time of day. `None` stands for `*`.
 #[derive(PartialEq, Eq, Debug, Drop)]
 pub struct TimeFields {
     pub hour: Option<Vec<Part>>,
@@ -24,7 +24,7 @@ pub struct TimeFields {
 /// The fields of a calendar expression.
 #[derive(PartialEq, Eq, Debug, Drop)]
 pub struct Fields {
-    /// Whether each weekday is chosen, from Monday on.
+    /// Which weekdays match, from Monday to Sunday.
     pub weekdays: [bool; 7],
     pub date: DateFields,
     pub time: TimeFields,

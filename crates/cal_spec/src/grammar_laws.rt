@@ -1,5 +1,5 @@
-//! That the texts which are read are those of the rule in its own words. Each law is a function that does nothing, and
-//! whose contract is the law.
+//! Laws that the parser accepts exactly the expressions of the grammar. Each law is a function with an empty body,
+//! whose contract states the law.
 
 ghost use Rattle.std.specs.Prelude.{◌≡◌, ℕ, List, Ok};
 ghost use Rattle.std.specs.Result.{result_err};
@@ -11,9 +11,9 @@ ghost use Rattle.cal_spec.specs.headline.GrammarRule.{IsValid};
 ghost use Rattle.cal_spec.specs.Reads.{first_of};
 ghost use Rattle.cal_text.specs.headline.Words.{words};
 
-/// A text has fields exactly where it is an expression by the productions of systemd.time(7), Calendar Events, and
-/// these are its fields. It is at most one expression. Where it is none, its fault is the first of all judgements in
-/// the order of refusals.
+/// Parsing a text succeeds exactly if the text is an expression by the productions of systemd.time(7), Calendar Events,
+/// and it returns the fields of this expression. No text is two different expressions. If parsing fails, the error is
+/// the first one in the documented order of all checks.
 pub fn expressions_are_those_of_the_rule()
     ensures found { (text : List ℕ) (f : Fields) → fields_in text ≡ Ok f → IsValid text f }
     ensures only { (text : List ℕ) (f : Fields) → IsValid text f → fields_in text ≡ Ok f }
@@ -21,8 +21,8 @@ pub fn expressions_are_those_of_the_rule()
     ensures fault { (text : List ℕ) → result_err (fields_in text) ≡ first_of (judgements_of text) }
 {}
 
-/// The words of a text are the longest runs without a blank: no word has one, and the text is the words with blanks
-/// between them.
+/// The words of a text are its maximal runs of bytes that are not blanks: no word contains a blank, and blanks separate
+/// the words.
 pub fn words_stand_between_blanks()
     ensures found { (text : List ℕ) → AreWords text (words text) }
     ensures only { (text : List ℕ) (ws : List (List ℕ)) → AreWords text ws → words text ≡ ws }

@@ -1,5 +1,5 @@
-//! Laws of the definitions that the contracts cite. Each is a function that does nothing, and whose contract is the
-//! law.
+//! Laws of the definitions that the contracts cite. Each law is a function with an empty body, whose contract states
+//! the law.
 
 ghost use Rattle.std.specs.Prelude.{◌≡◌, ◌⊎◌, ◌<◌, ℕ, Bool, List, None, Ok, Option, length};
 ghost use Rattle.std.specs.List.{AllByRecursion};
@@ -20,7 +20,8 @@ ghost use Rattle.cal_spec.specs.declared.part.Part.{Part};
 ghost use Rattle.cal_spec.specs.declared.slot.Slot.{Slot};
 ghost use Rattle.cal_spec.specs.declared.slot.Slot.TheVariants.{Second};
 
-/// A list of parts has exactly one normal form. It is normal, and what is normal is its own normal form.
+/// A list of parts has exactly one normal form. Normalizing returns it, and leaves a list that is already normal
+/// unchanged.
 pub fn one_normal_form()
     ensures some { (raw : List Part) → AllByRecursion IsPart raw → AreNormalOf raw (normal_parts raw) }
     ensures only { (raw ps : List Part) → AllByRecursion IsPart raw → AreNormalOf raw ps → ps ≡ normal_parts raw }
@@ -28,7 +29,7 @@ pub fn one_normal_form()
     ensures stays { (ps : List Part) → AreNormal ps → normal_parts ps ≡ ps }
 {}
 
-/// A component has exactly one normal form.
+/// A component has exactly one normal form. So do the seconds, whose normal form differs: `0/1` alone becomes `*`.
 pub fn one_normal_component()
     ensures some { (raw : Option (List Part)) → AreParts raw → IsNormalOf raw (normal_component raw) }
     ensures only { (raw normal : Option (List Part)) → AreParts raw → IsNormalOf raw normal
@@ -38,7 +39,7 @@ pub fn one_normal_component()
         → normal ≡ normal_second raw }
 {}
 
-/// Valid fields have exactly one normal form. It is valid, and its own normal form.
+/// Valid fields have exactly one normal form. It is valid, and normalizing it again changes nothing.
 pub fn one_normal_form_of_fields()
     ensures some { (f : Fields) → IsValidFields f → IsNormalFieldsOf f (normal_fields f) }
     ensures only { (f g : Fields) → IsValidFields f → IsNormalFieldsOf f g → g ≡ normal_fields f }
@@ -46,7 +47,7 @@ pub fn one_normal_form_of_fields()
     ensures stays { (f : Fields) → IsValidFields f → normal_fields (normal_fields f) ≡ normal_fields f }
 {}
 
-/// A component has the same members before and after it is brought into its normal form.
+/// Bringing a component into its normal form doesn't change which values it matches.
 pub fn members_stay()
     ensures component { (slot : Slot) (raw : Option (List Part)) (v : ℕ) → AreParts raw
         → component_has slot (normal_component raw) v ≡ component_has slot raw v }
@@ -54,31 +55,31 @@ pub fn members_stay()
         → component_has Second (normal_second raw) v ≡ component_has Second raw v }
 {}
 
-/// The same local seconds match before and after.
+/// Bringing valid fields into their normal form doesn't change which local seconds they match.
 pub fn matches_stay()
     ensures { (f : Fields) (local : ℕ) → IsValidFields f
         → matches (sets_of (normal_fields f)) local ≡ matches (sets_of f) local }
 {}
 
-/// The normal text of valid fields has fewer than 4,096 bytes.
+/// The printed normal form of valid fields has fewer than 4,096 bytes.
 pub fn normal_texts_are_short()
     ensures { (f : Fields) → IsValidFields f → length (expr_text (normal_fields f)) < 4_096 }
 {}
 
-/// Weekdays have exactly one list of runs.
+/// A set of weekdays has exactly one list of runs.
 pub fn one_list_of_runs()
     ensures some { (days : List Bool) → AreWeekdayRuns days (runs_from 0 days) }
     ensures only { (days : List Bool) (rs : List Run) → AreWeekdayRuns days rs → rs ≡ runs_from 0 days }
 {}
 
-/// The normal text of valid fields is read as their normal form.
+/// Parsing the printed normal form of valid fields returns this normal form.
 pub fn normal_texts_read_back()
     ensures normal { (f : Fields) → IsValidFields f
         → fields_in (expr_text (normal_fields f)) ≡ Ok (normal_fields f) }
     ensures expression { (f : Fields) → IsExpr f → fields_in (expr_text f) ≡ Ok f }
 {}
 
-/// The zone of an expression is a name or an offset, and never both.
+/// The zone of an expression is never both a name and a UTC offset.
 pub fn zones_are_names_or_offsets()
     ensures { (suffix : Option ZoneSuffix) → (name_in suffix ≡ None) ⊎ (offset_said suffix ≡ None) }
 {}

@@ -1,4 +1,5 @@
-//! Calendar expressions: their grammar, their normal form, and what matches them (systemd.time(7), Calendar Events).
+//! Calendar expressions: parsing, normal form, printing, and matching of local times (systemd.time(7), Calendar
+//! Events).
 #![tactic(auto)]
 
 mod components;

@@ -1,4 +1,4 @@
-//! Which local seconds an expression matches (systemd.time(7), Calendar Events).
+//! Matching of local seconds (systemd.time(7), Calendar Events).
 
 ghost use Rattle.std.specs.Prelude.{◌≡◌, ◌<◌, false, unsigned_abs, slice_index_or};
 ghost use Rattle.jiff.specs.Words.{monday_zero};
@@ -13,7 +13,8 @@ use crate::slot::{Slot, day_slot};
 use cal_zone::{date_of_day, day_of, second_of_day};
 use jiff::civil::{Date, Weekday};
 
-/// Whether a local second of the years 1970 to 2199 matches: whether its weekday, date and time all do.
+/// Returns whether the weekday, date and time of a local second all match. The local second is in the years 1970 to
+/// 2199.
 #[tactic(auto, using(cal_zone::proofs::LocalLemmas::local_arith), unfolding(crate::specs::headline::Match::matches))]
 pub fn has_local(fields: &Fields, local: i64) -> bool
     requires { IsLocalSecond local }
@@ -22,7 +23,7 @@ pub fn has_local(fields: &Fields, local: i64) -> bool
     has_date(fields, date_of_day(day_of(local))) && has_time(fields, second_of_day(local))
 }
 
-/// Whether the date is one of the expression's.
+/// Returns whether the expression matches the date.
 #[tactic(auto, unfolding(crate::specs::headline::Match::date_in, crate::specs::headline::Members::sets_of, crate::specs::Fields::fields_of))]
 fn has_date(fields: &Fields, date: Date) -> bool
     ensures { result ≡ date_in (sets_of (fields_of fields.now)) date }
@@ -44,7 +45,7 @@ fn has_weekday(weekdays: &[bool; 7], weekday: Weekday) -> bool
     weekdays[usize::from(weekday.index())]
 }
 
-/// Whether that many seconds after midnight are a time of the expression's.
+/// Returns whether the expression matches the time of day that is `second` seconds after midnight.
 #[tactic(auto, unfolding(crate::specs::headline::Match::time_in, crate::specs::headline::Members::sets_of, crate::specs::Fields::fields_of))]
 fn has_time(fields: &Fields, second: u32) -> bool
     requires { second < 86_400 }
@@ -56,7 +57,8 @@ fn has_time(fields: &Fields, second: u32) -> bool
         && component_has(Slot::Second, &time.second, (second % 60) as u16)
 }
 
-/// The number that is tested for the day: the day itself, or its count from the month's end, where the last day is 1.
+/// Returns the number that is compared with the expression's days: the day of the month, or its count from the month's
+/// end (the last day is 1).
 pub fn day_number(from_end: bool, date: Date) -> u16
     ensures { result ≡ day_number from_end date }
 {

@@ -1,4 +1,4 @@
-//! The numbers that a component holds (systemd.time(7), Calendar Events).
+//! The values that a component matches (systemd.time(7), Calendar Events).
 
 ghost use Rattle.std.specs.Prelude.{◌≡◌, option_map};
 ghost use Rattle.std.specs.List.{list_any};
@@ -7,7 +7,7 @@ ghost use Rattle.cal_spec.specs.headline.Members.{component_has, in_field, lies,
 use crate::Part;
 use crate::slot::Slot;
 
-/// Whether a number is a member of a component, of which `None` is `*`.
+/// Returns whether a component matches `value`. `None` stands for `*`.
 pub fn component_has(slot: Slot, parts: &Option<Vec<Part>>, value: u16) -> bool
     ensures { result ≡ component_has slot (option_map (λ v. v.items) parts.now) value }
 {
@@ -41,7 +41,8 @@ fn part_has(slot: Slot, part: Part, value: u16) -> bool
     }
 }
 
-/// Whether a repetition without an end reaches a number: upwards, or downwards for a count from the month's end.
+/// Returns whether an open-ended repetition reaches `value`. It counts upwards from its start, or downwards if days are
+/// counted from the month's end.
 fn repeats(slot: Slot, start: u16, step: u16, value: u16) -> bool
     ensures { result ≡ repeats slot start step value }
 {
@@ -57,7 +58,8 @@ fn repeats(slot: Slot, start: u16, step: u16, value: u16) -> bool
     }
 }
 
-/// Whether a number is one of the field's. A count from the month's end goes as far as a day.
+/// Returns whether `*` matches `value` in this component. It matches every day from 1 to 31, also if days are counted
+/// from the month's end.
 fn in_field(slot: Slot, value: u16) -> bool
     ensures { result ≡ in_field slot value }
 {

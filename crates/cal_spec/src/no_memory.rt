@@ -1,4 +1,4 @@
-//! Refused memory as a fault of reading.
+//! Conversion of allocation failures to [`SpecFault::NoMemory`].
 
 ghost use Rattle.std.specs.Prelude.{◌≡◌};
 ghost use Rattle.cal_spec.specs.declared.spec_fault.SpecFault.TheVariants.{NoMemory};

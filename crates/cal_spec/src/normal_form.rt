@@ -1,5 +1,5 @@
-//! The normal form of components: ranges end at the last number that they reach, and parts are in order, equal ones
-//! once.
+//! The normal form of components: each range ends at the last number that it reaches, and the parts are sorted, without
+//! duplicates.
 
 ghost use Rattle.std.specs.Prelude.{◌≡◌, None, Some, map, option_map, if◌then◌else◌};
 ghost use Rattle.std.specs.List.{AllByRecursion};
@@ -14,7 +14,7 @@ const EACH: Part = Part {
     step: Some(1),
 };
 
-/// A component in its normal form; `*` stays.
+/// Brings a component into its normal form. `None`, which stands for `*`, is unchanged.
 pub fn normal_component(parts: Option<Vec<Part>>) -> Option<Vec<Part>>
     requires { AreParts (option_map (λ v. v.items) parts) }
     ensures { option_map (λ v. v.items) result ≡ normal_component (option_map (λ v. v.items) parts) }
@@ -25,7 +25,8 @@ pub fn normal_component(parts: Option<Vec<Part>>) -> Option<Vec<Part>>
     }
 }
 
-/// The seconds in their normal form, where the one part `0/1` becomes `*`.
+/// Brings the seconds into their normal form. If this is the single part `0/1`, the result is `None`, which stands for
+/// `*`.
 #[tactic(auto, unfolding(crate::specs::NormalForm::normal_second))]
 pub fn normal_second(parts: Option<Vec<Part>>) -> Option<Vec<Part>>
     requires { AreParts (option_map (λ v. v.items) parts) }
@@ -71,7 +72,8 @@ fn reduce_each(parts: &mut Vec<Part>)
     }
 }
 
-/// The part with its end at the last number that is reached; a point where that is the start. A step of 1 is dropped.
+/// Shortens a range to end at the last number that it reaches. If that is its start, the result is a single number.
+/// Drops a step of 1 from a range.
 #[tactic(auto, unfolding(crate::specs::NormalForm::reduced))]
 fn reduce(part: Part) -> Part
     requires { IsPart part }

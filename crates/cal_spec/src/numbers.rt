@@ -1,4 +1,4 @@
-//! The symbols of which a part of a component is made, and the value of its numbers.
+//! Splitting a part of a component into symbols, and the value of its numbers.
 
 ghost use Rattle.std.specs.Prelude.{◌≡◌, ◌≤◌, ◌∷◌, [], IsTrue, MatchOption, min, length};
 ghost use Rattle.std.specs.List.{list_all, prefix_len};
@@ -9,21 +9,21 @@ ghost use Rattle.cal_spec.specs.Symbol.{symbol_of};
 
 use cal_text::whole_of;
 
-/// What is in a part of a component.
+/// A symbol in the text of a part.
 #[derive(Clone, Copy)]
 pub(crate) enum Symbol<'a> {
-    /// As many digits as come in a row.
+    /// A maximal run of digits.
     Digits(&'a [u8]),
-    /// Two points.
+    /// Two points, `..`.
     Dots,
     Slash,
-    /// A point that is followed by none.
+    /// A single point.
     Point,
     /// Any other byte.
     Other(u8),
 }
 
-/// The first symbol of the text and what comes after it.
+/// Returns the first symbol of `text` and the text after it, or `None` if `text` is empty.
 pub(crate) fn first_symbol(text: &[u8]) -> Option<(Symbol<'_>, &[u8])>
     ensures { MatchOption result (text.now ≡ [])
         (λ found. symbols text.now ≡ symbol_of found.0 ∷ symbols found.1.now) }
@@ -41,7 +41,6 @@ pub(crate) fn first_symbol(text: &[u8]) -> Option<(Symbol<'_>, &[u8])>
     }
 }
 
-/// The number of digits at the start of the text.
 fn digits_len(text: &[u8]) -> usize
     ensures value { result ≡ prefix_len is_ascii_digit text.now }
     ensures within { result ≤ length text.now }
@@ -49,7 +48,7 @@ fn digits_len(text: &[u8]) -> usize
     text.iter().take_while(|byte| byte.is_ascii_digit()).count()
 }
 
-/// The number that the digits write, or `u16::MAX` where that is less.
+/// Returns the decimal value of `digits`, or `u16::MAX` if the value is larger.
 pub(crate) fn value_of(digits: &[u8]) -> u16
     requires { IsTrue (list_all is_ascii_digit digits.now) }
     ensures { result ≡ min (digits_value 10 digits.now) u16.MAX }

@@ -1,14 +1,14 @@
-//! One part of a component.
+//! Parts of components.
 
-/// A part of a component: a number, a range where it has an end, and a repetition where it has a step.
+/// A part of a component: a single number, a range if it has an end, and a repetition if it has a step.
 ///
-/// Parts are ordered by their start, then by their end and then by their step, where none comes first.
+/// Parts are ordered by their start, then by their end, then by their step. `None` comes before any number.
 #[derive(Clone, Copy, PartialEq, Eq, PartialOrd, Ord, Debug)]
 pub struct Part {
-    /// The first number; with a repetition of a count from the month's end, the greatest.
+    /// The first number. In an open-ended repetition of days counted from the month's end, it is the greatest.
     pub start: u16,
     /// The last number of a range.
     pub end: Option<u16>,
-    /// How far apart the numbers of a repetition are.
+    /// The distance between consecutive numbers of a repetition.
     pub step: Option<u16>,
 }

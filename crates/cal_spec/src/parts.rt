@@ -1,4 +1,4 @@
-//! One part of a component: its shape and its values.
+//! Parsing of one part of a component, and checks of its values.
 
 ghost use Rattle.std.specs.Prelude.{◌≡◌};
 ghost use Rattle.std.specs.Option.{option_map};
@@ -10,11 +10,11 @@ use crate::numbers::{Symbol, first_symbol, value_of};
 use crate::slot::Slot;
 use crate::{Part, SpecFault};
 
-/// The greatest number that may be written.
+/// The greatest number that an expression may contain.
 const MOST: u16 = 9999;
 
-/// The part that the text writes, `a`, `a/r`, `a..b` or `a..b/r`, without a look at its values
-/// (systemd.time(7), Calendar Events). The fault is that of the first character that no part allows there.
+/// Parses a part, `a`, `a/r`, `a..b` or `a..b/r`, without checking its values (systemd.time(7), Calendar Events). If
+/// the syntax is wrong, the error is that of the leftmost mistake.
 #[tactic(auto, unfolding(crate::specs::Parts::part_of))]
 pub(crate) fn read_part(slot: Slot, text: &[u8]) -> Result<Part, SpecFault>
     ensures { Gives (λ part. part) result (part_of slot text.now) }
@@ -23,7 +23,7 @@ pub(crate) fn read_part(slot: Slot, text: &[u8]) -> Result<Part, SpecFault>
     after_start(slot, start, after)
 }
 
-/// The part with the numbers that are meant: a year below 100 gets its century.
+/// Expands two-digit years if the part belongs to the year. Other parts are unchanged.
 pub(crate) fn with_values(slot: Slot, part: Part) -> Part
     ensures { result ≡ with_values slot part }
 {
@@ -37,7 +37,8 @@ pub(crate) fn with_values(slot: Slot, part: Part) -> Part
     }
 }
 
-/// The fault of the part's values: first `OutOfField`, then `BackwardRange`, `ZeroRepeat` and `NoRepeat`.
+/// Returns the first error of the part's values. They are checked in this order: `OutOfField`, `BackwardRange`,
+/// `ZeroRepeat`, `NoRepeat`.
 #[tactic(auto, unfolding(crate::specs::Parts::fault_of))]
 pub(crate) fn fault_of(slot: Slot, part: Part) -> Option<SpecFault>
     ensures { result ≡ fault_of slot part }
@@ -55,14 +56,13 @@ pub(crate) fn fault_of(slot: Slot, part: Part) -> Option<SpecFault>
     }
 }
 
-/// Whether the slot is one of a time.
 pub(crate) fn is_time(slot: Slot) -> bool
     ensures { result ≡ is_time slot }
 {
     matches!(slot, Slot::Hour | Slot::Minute | Slot::Second)
 }
 
-/// The fault of a shape that the slot doesn't allow.
+/// Returns the error for a malformed part of this component.
 fn bad_shape(slot: Slot) -> SpecFault
     ensures { result ≡ bad slot }
 {
@@ -73,7 +73,7 @@ fn bad_shape(slot: Slot) -> SpecFault
     }
 }
 
-/// The number that is expected here, and what comes after it.
+/// Parses a number at the start of `text`. Returns it and the text after it.
 fn read_number(slot: Slot, text: &[u8]) -> Result<(u16, &[u8]), SpecFault>
     ensures { Gives (λ found. record { number = found.0; after = symbols found.1.now }) result
         (number_due slot (symbols text.now)) }
@@ -91,14 +91,14 @@ fn read_number(slot: Slot, text: &[u8]) -> Result<(u16, &[u8]), SpecFault>
     Ok((number, after))
 }
 
-/// Whether the text begins with a point that is followed by none.
+/// Returns whether `text` begins with a single point, and not with `..`.
 fn begins_with_point(text: &[u8]) -> bool
     ensures { result ≡ starts_with_point (symbols text.now) }
 {
     matches!(first_symbol(text), Some((Symbol::Point, _)))
 }
 
-/// What comes after the first number.
+/// Parses what follows the first number of a part.
 #[tactic(auto, unfolding(crate::specs::Parts::after_start))]
 fn after_start(slot: Slot, start: u16, text: &[u8]) -> Result<Part, SpecFault>
     ensures { Gives (λ part. part) result (after_start slot start (symbols text.now)) }
@@ -118,7 +118,7 @@ fn after_start(slot: Slot, start: u16, text: &[u8]) -> Result<Part, SpecFault>
     }
 }
 
-/// What comes after the end of a range.
+/// Parses what follows the end of a range.
 #[tactic(auto, unfolding(crate::specs::Parts::after_end))]
 fn after_end(slot: Slot, start: u16, end: u16, text: &[u8]) -> Result<Part, SpecFault>
     ensures { Gives (λ part. part) result (after_end slot start end (symbols text.now)) }
@@ -134,7 +134,7 @@ fn after_end(slot: Slot, start: u16, end: u16, text: &[u8]) -> Result<Part, Spec
     }
 }
 
-/// What comes after a slash: the step, and nothing else.
+/// Parses what follows a slash: the step, and nothing after it.
 #[tactic(auto, unfolding(crate::specs::Parts::with_step))]
 fn with_step(slot: Slot, start: u16, end: Option<u16>, text: &[u8]) -> Result<Part, SpecFault>
     ensures { Gives (λ part. part) result (with_step slot start end (symbols text.now)) }
@@ -150,7 +150,7 @@ fn with_step(slot: Slot, start: u16, end: Option<u16>, text: &[u8]) -> Result<Pa
     })
 }
 
-/// A year below 100 is one of 2000 to 2069 or of 1970 to 1999.
+/// Expands a two-digit year: 0 to 69 become 2000 to 2069, and 70 to 99 become 1970 to 1999. Other years are unchanged.
 pub fn with_century(year: u16) -> u16
     ensures { result ≡ with_century year }
 {
@@ -161,14 +161,13 @@ pub fn with_century(year: u16) -> u16
     }
 }
 
-/// Whether the number is one of the slot's.
 fn is_within(slot: Slot, number: u16) -> bool
     ensures { result ≡ is_within slot number }
 {
     slot.least() <= number && number <= slot.greatest()
 }
 
-/// Whether one of the numbers is none of the slot's.
+/// Returns whether the start or the end of a part is out of range.
 fn is_outside(slot: Slot, start: u16, end: Option<u16>) -> bool
     ensures { result ≡ is_outside slot start end }
 {
@@ -178,7 +177,6 @@ fn is_outside(slot: Slot, start: u16, end: Option<u16>) -> bool
     }
 }
 
-/// Whether the end is below the start.
 fn is_backward(start: u16, end: Option<u16>) -> bool
     ensures { result ≡ is_backward start end }
 {
@@ -188,7 +186,7 @@ fn is_backward(start: u16, end: Option<u16>) -> bool
     }
 }
 
-/// Whether the part is a repetition without an end that reaches no second number.
+/// Returns whether the part is an open-ended repetition that doesn't reach a second number.
 fn is_idle(slot: Slot, part: Part) -> bool
     ensures { result ≡ is_idle slot part.start part.end part.step }
 {

@@ -1,18 +1,18 @@
-//! A text cut at its first separator.
+//! Splitting a text at its first separator.
 
 ghost use Rattle.std.specs.Prelude.{◌≡◌, ◌≤◌, ◌==◌, ◌∷◌, length};
 ghost use Rattle.std.specs.List.{position, slice_split};
 ghost use Rattle.std.specs.Option.{option_copied};
 ghost use Rattle.cal_bytes.specs.SplitPieces.{left, pieces_after};
 
-/// The index of the first byte that is this one.
 fn index_of(text: &[u8], separator: u8) -> Option<usize>
     ensures { result ≡ position (λ byte. byte == separator) text.now }
 {
     text.iter().position(|byte| *byte == separator)
 }
 
-/// The text before the first separator of this kind, and what comes after it.
+/// Returns the text before the first separator, and the text after it. If there is no separator, returns the whole text
+/// and `None`.
 pub fn first_piece(text: &[u8], separator: u8) -> (&[u8], Option<&[u8]>)
     ensures pieces { slice_split (λ byte. byte == separator) text.now
         ≡ result.0.now ∷ pieces_after (λ byte. byte == separator) (option_copied result.1) }

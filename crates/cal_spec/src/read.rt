@@ -1,4 +1,4 @@
-//! The fields of a calendar expression.
+//! Parsing of calendar expressions.
 
 ghost use Rattle.std.specs.Prelude.{◌≡◌, IfOk};
 ghost use Rattle.std.specs.Option.{option_copied};
@@ -18,16 +18,18 @@ use crate::zone_suffix::read_suffix;
 use crate::{Expr, SpecFault};
 use std::alloc::Global;
 
-/// The most bytes that a text may have.
+/// The maximum length of an expression in bytes.
 const MOST_TEXT_BYTES: usize = 4096;
 
-/// Reads a calendar expression, `[weekdays] [date] [time] [zone]` or `shorthand [zone]` (systemd.time(7), Calendar
-/// Events), and gives it in its normal form.
+/// Parses a calendar expression, `[weekdays] [date] [time] [zone]` or `shorthand [zone]` (systemd.time(7), Calendar
+/// Events), and returns it in its normal form.
 ///
-/// The fault is the first one: [`SpecFault::TextTooLong`] above 4,096 bytes, then [`SpecFault::Empty`] where there is
-/// no word, then that of the words from the left. [`SpecFault::NoMemory`] comes only where memory was refused; nothing
-/// is said then. The zone is a name or an offset, `+hh:mm` or `-hh:mm`; whether there is a zone of that name isn't
-/// asked here.
+/// The first error is reported: [`SpecFault::TextTooLong`] if the text has more than 4,096 bytes, then
+/// [`SpecFault::Empty`] if it has no words, then the errors of the words from left to right. Fails with
+/// [`SpecFault::NoMemory`] only if allocation fails; that says nothing about whether the text is valid.
+///
+/// The zone is a name or a UTC offset, `+hh:mm` or `-hh:mm`. Only the form of the name is checked, not whether a zone
+/// of that name exists.
 #[tactic(auto, unfolding(crate::specs::Expr::expr_in))]
 pub fn read_expr(alloc: Global, text: &str) -> Result<Expr, SpecFault>
     ensures { GivesUnlessNoMemory (λ expr. expr) result (expr_in text.now) }
@@ -36,11 +38,8 @@ pub fn read_expr(alloc: Global, text: &str) -> Result<Expr, SpecFault>
     Ok(Expr::normal(fields))
 }
 
-/// The fields of a text, `[weekdays] [date] [time] [zone]` or `shorthand [zone]`, as it writes them (systemd.time(7),
-/// Calendar Events).
-///
-/// The fault is the first one: `TextTooLong` above 4,096 bytes, then `Empty` where there is no word, then that of the
-/// words from the left. `NoMemory` comes only where memory was refused; nothing is said then.
+/// Parses the fields of a calendar expression, without bringing them into their normal form. The errors are those of
+/// [`read_expr`].
 #[tactic(auto, unfolding(crate::specs::Grammar::fields_in))]
 fn read_fields(alloc: Global, text: &str) -> Result<Fields, SpecFault>
     ensures fields { GivesUnlessNoMemory fields_of result (fields_in text.now) }
@@ -55,7 +54,7 @@ fn read_fields(alloc: Global, text: &str) -> Result<Fields, SpecFault>
     }
 }
 
-/// The fields of the texts by their roles, judged from the left.
+/// Parses the weekdays, date, time and zone, in this order.
 #[tactic(auto, unfolding(crate::specs::Grammar::fields_at, crate::specs::Fields::fields_of))]
 fn read_roles(alloc: Global, roles: Roles<'_>) -> Result<Fields, SpecFault>
     ensures { GivesUnlessNoMemory fields_of result (fields_at (shown_roles roles.entry)) }
@@ -72,7 +71,7 @@ fn read_roles(alloc: Global, roles: Roles<'_>) -> Result<Fields, SpecFault>
     })
 }
 
-/// Whether each weekday is chosen, from Monday on: without a weekday list all are.
+/// Returns which weekdays match, from Monday to Sunday. If there is no weekday list, all seven match.
 fn chosen_weekdays(alloc: Global, word: Option<&[u8]>) -> Result<[bool; 7], SpecFault>
     ensures { GivesUnlessNoMemory (λ days. days) result (weekdays_in (option_copied word.entry)) }
 {

@@ -1,9 +1,9 @@
-//! Words of which the case doesn't matter.
+//! Comparison of words without regard to case.
 
 ghost use Rattle.std.specs.Prelude.{◌≡◌};
 ghost use Rattle.std.specs.Str.{str_eq_ignore_ascii_case};
 
-/// Whether the words are the same but for the case of their ASCII letters.
+/// Returns whether the words are equal, ignoring the case of ASCII letters.
 pub(crate) fn is_same_word(word: &[u8], other: &[u8]) -> bool
     ensures { result ≡ str_eq_ignore_ascii_case word.now other.now }
 {

@@ -1,4 +1,4 @@
-//! The shorthands of calendar expressions.
+//! Shorthands for common calendar expressions.
 
 ghost use Rattle.std.specs.Prelude.{◌≡◌, map};
 ghost use Rattle.std.specs.List.{find, list_any};
@@ -8,10 +8,10 @@ ghost use Rattle.cal_spec.specs.ShorthandViews.{meaning_in};
 
 use crate::same_word::is_same_word;
 
-/// The text that stands for a missing date.
+/// The date that is used if an expression has none.
 pub(crate) const ANY_DATE: &[u8] = b"*-*-*";
 
-/// The text that stands for a missing time.
+/// The time that is used if an expression has none.
 pub(crate) const MIDNIGHT: &[u8] = b"00:00:00";
 
 /// A word that stands for a whole expression (systemd.time(7), Calendar Events).
@@ -27,7 +27,7 @@ pub(crate) enum Shorthand {
     Yearly,
 }
 
-/// The texts that a shorthand stands for.
+/// The weekdays, date and time that a shorthand stands for, not yet parsed.
 #[derive(Clone, Copy)]
 pub(crate) struct Meaning {
     pub(crate) weekdays: Option<&'static [u8]>,
@@ -36,7 +36,7 @@ pub(crate) struct Meaning {
 }
 
 impl Shorthand {
-    /// All of them.
+    /// All shorthands.
     const ALL: [Shorthand; 8] = [
         Shorthand::Minutely,
         Shorthand::Hourly,
@@ -48,7 +48,7 @@ impl Shorthand {
         Shorthand::Yearly,
     ];
 
-    /// The words that name it, in any case.
+    /// Returns the names of the shorthand, in lower case. Their case doesn't matter when a word is compared with them.
     fn names(self) -> &'static [&'static [u8]]
         ensures { map (λ name. name.now) result.now ≡ names_of self }
     {
@@ -69,7 +69,7 @@ impl Shorthand {
         }
     }
 
-    /// What it stands for.
+    /// Returns what the shorthand stands for.
     pub(crate) fn meaning(self) -> Meaning
         ensures { meaning_in result ≡ meaning_of self }
     {
@@ -90,7 +90,7 @@ impl Shorthand {
     }
 }
 
-/// The shorthand with this name, in any case.
+/// Returns the shorthand with this name, ignoring case.
 #[tactic(auto, unfolding(crate::specs::headline::Shorthand::shorthand_named))]
 pub(crate) fn find_shorthand(word: &[u8]) -> Option<Shorthand>
     ensures { result ≡ shorthand_named word.now }
@@ -98,7 +98,7 @@ pub(crate) fn find_shorthand(word: &[u8]) -> Option<Shorthand>
     find_named(&Shorthand::ALL, word)
 }
 
-/// On these dates at midnight.
+/// Returns the meaning "on these dates at midnight".
 fn dates(date: &'static [u8]) -> Meaning
     ensures { meaning_in result ≡ dates date.now }
 {
@@ -109,7 +109,7 @@ fn dates(date: &'static [u8]) -> Meaning
     }
 }
 
-/// On each date at these times.
+/// Returns the meaning "every day at these times".
 fn times(time: &'static [u8]) -> Meaning
     ensures { meaning_in result ≡ times time.now }
 {
@@ -120,7 +120,6 @@ fn times(time: &'static [u8]) -> Meaning
     }
 }
 
-/// The first of the shorthands with this name.
 fn find_named(shorthands: &[Shorthand], word: &[u8]) -> Option<Shorthand>
     ensures { result
         ≡ find (λ shorthand. list_any (str_eq_ignore_ascii_case word.now) (names_of shorthand)) shorthands.now }
@@ -131,7 +130,7 @@ fn find_named(shorthands: &[Shorthand], word: &[u8]) -> Option<Shorthand>
         .find(|shorthand| is_named(shorthand.names(), word))
 }
 
-/// Whether the word is one of the names, in any case.
+/// Returns whether `word` equals one of the names, ignoring case.
 fn is_named(names: &[&[u8]], word: &[u8]) -> bool
     ensures { result ≡ list_any (str_eq_ignore_ascii_case word.now) (map (λ name. name.now) names.now) }
 {

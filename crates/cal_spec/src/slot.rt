@@ -1,9 +1,10 @@
-//! Where a number of a calendar expression is, and the numbers that are allowed there.
+//! Slots, the positions of numbers in a calendar expression, and the numbers that each slot allows.
 
 ghost use Rattle.std.specs.Prelude.{◌≡◌, ◌≤◌};
 ghost use Rattle.cal_spec.specs.headline.Slot.{day_slot, least, greatest};
 
-/// Where a number is. A count from the month's end has bounds of its own.
+/// The component that a number belongs to. Days that are counted from the month's end have a slot of their own, since
+/// their bounds differ.
 #[derive(Clone, Copy, PartialEq, Eq, Debug)]
 pub enum Slot {
     Year,
@@ -16,7 +17,7 @@ pub enum Slot {
 }
 
 impl Slot {
-    /// The least number that is allowed here.
+    /// Returns the least number that this slot allows.
     pub fn least(self) -> u16
         ensures { result ≡ least self }
     {
@@ -27,7 +28,7 @@ impl Slot {
         }
     }
 
-    /// The greatest number that is allowed here.
+    /// Returns the greatest number that this slot allows.
     pub fn greatest(self) -> u16
         ensures { result ≡ greatest self }
     {
@@ -42,7 +43,7 @@ impl Slot {
     }
 }
 
-/// Where a day is, which may be counted from the month's end.
+/// Returns the slot of the day.
 pub fn day_slot(from_end: bool) -> Slot
     ensures { result ≡ day_slot from_end }
 {

@@ -1,56 +1,56 @@
-//! Why a text is no calendar expression.
+//! Errors that parsing a calendar expression can return.
 
 ghost use Rattle.std.specs.Prelude.{◌≡◌};
 
 use thiserror::Error;
 
-/// Why a text is no calendar expression: the first fault in the order in which texts are judged
+/// Why a text is not a valid calendar expression: the first error in the order in which texts are checked
 /// (systemd.time(7), Calendar Events).
 #[derive(Clone, Copy, PartialEq, Eq, Debug, Error)]
 pub enum SpecFault {
-    /// There is no word at all.
+    /// The text has no words.
     #[error("empty expression")]
     Empty = 1,
     /// The text has more than 4,096 bytes.
     #[error("expression longer than 4096 bytes")]
     TextTooLong = 2,
-    /// The weekdays are no list of weekday names.
+    /// The weekday list is malformed or contains an unknown weekday.
     #[error("bad weekday")]
     BadWeekday = 3,
-    /// The date is no two or three components, or one of these has no such shape.
+    /// The date doesn't have two or three components, or one of them is malformed.
     #[error("bad date")]
     BadDate = 4,
-    /// The time is no two or three components, or one of these has no such shape.
+    /// The time doesn't have two or three components, or one of them is malformed.
     #[error("bad time")]
     BadTime = 5,
-    /// A number of the seconds has a fraction.
+    /// A number of seconds has a fraction.
     #[error("fractions of a second are not supported")]
     FractionalSecond = 6,
     /// A number is above 9,999.
     #[error("number above 9999")]
     NumberTooLarge = 7,
-    /// A number is none of its component's.
+    /// A number is out of range for its component.
     #[error("value out of range")]
     OutOfField = 8,
     /// A range ends below its start.
     #[error("range runs backwards")]
     BackwardRange = 9,
-    /// A repetition steps by zero.
+    /// The step of a repetition is zero.
     #[error("repetition of zero")]
     ZeroRepeat = 10,
-    /// A repetition without an end reaches no second number.
+    /// An open-ended repetition doesn't reach a second number.
     #[error("repetition reaches no further value")]
     NoRepeat = 11,
-    /// There are more than 240 parts, the first one of the hour, the minute and the second not counted.
+    /// There are more than 240 parts, not counting the first part of the hour, of the minute and of the second.
     #[error("more than 240 parts")]
     TooManyParts = 12,
-    /// A word is where none may be.
+    /// There is an unexpected word: it comes after the zone, or it stands where a zone is expected but is not one.
     #[error("stray word")]
     StrayWord = 13,
-    /// The first word is none of the shorthands.
+    /// The first word looks like a shorthand but is not a known one.
     #[error("unknown shorthand")]
     UnknownShorthand = 14,
-    /// Memory was refused.
+    /// Out of memory.
     #[error("")]
     NoMemory = 15,
 }
@@ -58,7 +58,7 @@ pub enum SpecFault {
 impl SpecFault {
     ghost use Rattle.cal_spec.specs.SpecFault.{words_of};
 
-    /// What is reported to a user, the text of `Display` too; nothing where memory was refused.
+    /// Returns the message for users, as `Display` prints it. It is empty for [`SpecFault::NoMemory`].
     pub fn words(&self) -> &str
         ensures { result.now ≡ words_of self.now }
     {

@@ -1,4 +1,6 @@
-//! The weekdays of an expression as text: `Mon..Thu,Sat,Sun`.
+//! Printing of weekdays, as in `Mon..Thu,Sat,Sun`.
+//!
+//! A run is a maximal range of consecutive weekdays that match.
 
 ghost use Rattle.std.specs.Prelude.{◌≡◌, ◌+◌, ◌<◌, ◌≤◌, [], ◌∷◌, codes, drop, false, length};
 ghost use Rattle.std.specs.List.{list_all, prefix_len};
@@ -9,7 +11,7 @@ ghost use Rattle.cal_spec.specs.headline.WeekdayRuns.{day_name, run_text, runs_f
 use cal_bytes::{Sink, WriteFault, put_all, put_pieces};
 use cal_zone::{WEEK, short_weekday_name};
 
-/// Writes the chosen weekdays with a space after them, or nothing where all seven are chosen.
+/// Writes the weekdays that match and a space after them, or nothing if all seven match.
 #[tactic(auto, using(cal_bytes::proofs::PutLemmas::puts), unfolding(crate::specs::headline::WeekdayRuns::weekdays_text))]
 pub fn put_weekdays<W: Sink>(out: &mut W, days: &[bool; 7]) -> Result<(), WriteFault>
     requires { W.is_failed out.old ≡ false }
@@ -46,7 +48,7 @@ fn put_runs<W: Sink>(out: &mut W, days: &[bool]) -> Result<(), WriteFault>
     Ok(())
 }
 
-/// How many days at the start are chosen.
+/// Returns how many days match before the first one that doesn't.
 #[tactic(auto, using(crate::proofs::WeekdayLemmas::front_within))]
 fn front_len(days: &[bool]) -> usize
     ensures value { result ≡ prefix_len (λ day. day) days.now }
@@ -55,7 +57,7 @@ fn front_len(days: &[bool]) -> usize
     days.iter().take_while(|day| **day).count()
 }
 
-/// Writes a day alone, two as `first,second`, and more as `first..last`, with what leads up to them in front.
+/// Writes `lead` and then a run: a single day by its name, two days as `first,second`, and more days as `first..last`.
 #[tactic(auto, using(cal_bytes::proofs::PutLemmas::puts), unfolding(crate::specs::headline::WeekdayRuns::run_text))]
 fn put_run<W: Sink>(out: &mut W, lead: &[u8], first: usize, last: usize) -> Result<(), WriteFault>
     requires works { W.is_failed out.old ≡ false }

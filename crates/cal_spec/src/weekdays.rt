@@ -1,4 +1,4 @@
-//! The weekday list of a calendar expression.
+//! Parsing of weekday lists.
 
 ghost use Rattle.std.specs.Prelude.{◌≡◌, ◌≤◌, ◌||◌, length};
 ghost use Rattle.std.specs.List.{find, list_any, list_all, position, position_or_len, slice_split};
@@ -17,16 +17,18 @@ use cal_zone::{WEEK, short_weekday_name, weekday_name};
 use jiff::civil::Weekday;
 use std::alloc::Global;
 
-/// One or more weekdays in a row, past Sunday too.
+/// A range of weekdays, which may wrap around from Sunday to Monday.
 #[derive(Clone, Copy)]
 pub(crate) struct Days {
     first: Weekday,
     last: Weekday,
 }
 
-/// Whether the word lists each weekday, from Monday on (systemd.time(7), Calendar Events): items between commas, with
-/// one trailing comma allowed. The fault is `BadWeekday`, or `UnknownShorthand` where the word begins with no weekday's
-/// name and consists of letters and `-`.
+/// Parses a weekday list and returns which weekdays match, from Monday to Sunday (systemd.time(7), Calendar Events).
+/// The items are separated by commas, and one trailing comma is allowed.
+///
+/// Fails with `UnknownShorthand` if the word doesn't begin with the name of a weekday and consists of letters and `-`
+/// only, and with `BadWeekday` if it is invalid in any other way.
 #[tactic(auto, unfolding(crate::specs::Weekdays::weekdays_of, crate::specs::Weekdays::listed_days))]
 pub(crate) fn read_weekdays(alloc: Global, word: &[u8]) -> Result<[bool; 7], SpecFault>
     ensures { GivesUnlessNoMemory (λ days. days) result (weekdays_of word.now) }
@@ -43,7 +45,7 @@ pub(crate) fn read_weekdays(alloc: Global, word: &[u8]) -> Result<[bool; 7], Spe
     Ok(set_of(&items))
 }
 
-/// The items between commas.
+/// Parses items separated by commas.
 fn read_items(alloc: Global, list: &[u8]) -> Result<Vec<Days>, SpecFault>
     ensures { GivesUnlessNoMemory (λ items. items.items) result
         (items_of (slice_split is_comma list.now)) }
@@ -59,7 +61,7 @@ fn read_items(alloc: Global, list: &[u8]) -> Result<Vec<Days>, SpecFault>
     Ok(items)
 }
 
-/// The days of an item: a name, or two names joined by `..` or `-`.
+/// Parses an item: the name of a weekday, or two names joined by `..` or `-`.
 #[tactic(auto, unfolding(crate::specs::Weekdays::days_of))]
 fn read_days(item: &[u8]) -> Option<Days>
     ensures { result ≡ days_of item.now }
@@ -73,7 +75,7 @@ fn read_days(item: &[u8]) -> Option<Days>
     Some(Days { first, last })
 }
 
-/// What comes after `..` or `-`.
+/// Removes a leading `..` or `-`. Returns `None` if the text begins with neither.
 fn after_joint(text: &[u8]) -> Option<&[u8]>
     ensures { option_copied result ≡ after_joint text.now }
 {
@@ -83,7 +85,7 @@ fn after_joint(text: &[u8]) -> Option<&[u8]>
     }
 }
 
-/// The weekday with this name, or with a name of which these are the first three letters, in any case.
+/// Returns the weekday with this name, in full or shortened to three letters, ignoring case.
 #[tactic(auto, unfolding(crate::specs::Weekdays::day_named))]
 pub fn find_day(word: &[u8]) -> Option<Weekday>
     ensures { result ≡ day_named word.now }
@@ -91,7 +93,6 @@ pub fn find_day(word: &[u8]) -> Option<Weekday>
     find_named(&WEEK, word)
 }
 
-/// The first of the weekdays with this name.
 fn find_named(days: &[Weekday], word: &[u8]) -> Option<Weekday>
     ensures { result ≡ find (λ day. str_eq_ignore_ascii_case word.now (name_of day)
         || str_eq_ignore_ascii_case word.now (short_name_of day)) days.now }
@@ -101,7 +102,6 @@ fn find_named(days: &[Weekday], word: &[u8]) -> Option<Weekday>
     })
 }
 
-/// The number of letters at the start of the word.
 fn letters_len(word: &[u8]) -> usize
     ensures value { result ≡ position_or_len is_no_letter word.now }
     ensures within { result ≤ length word.now }
@@ -111,14 +111,14 @@ fn letters_len(word: &[u8]) -> usize
         .count()
 }
 
-/// The word without one trailing comma.
+/// Removes at most one trailing comma.
 fn without_comma(word: &[u8]) -> &[u8]
     ensures { result.now ≡ without_comma word.now }
 {
     word.strip_suffix(b",").unwrap_or(word)
 }
 
-/// Whether the word consists of letters and `-`.
+/// Returns whether the word consists only of letters and `-`.
 fn is_like_shorthand(word: &[u8]) -> bool
     ensures { result ≡ is_like_shorthand word.now }
 {
@@ -126,7 +126,7 @@ fn is_like_shorthand(word: &[u8]) -> bool
         .all(|byte| byte.is_ascii_alphabetic() || *byte == b'-')
 }
 
-/// Whether each weekday is chosen, from Monday on.
+/// Returns which weekdays the items cover, from Monday to Sunday.
 fn set_of(items: &[Days]) -> [bool; 7]
     ensures { result ≡ set_of items.now }
 {
@@ -141,14 +141,12 @@ fn set_of(items: &[Days]) -> [bool; 7]
     ]
 }
 
-/// Whether one of the items covers the day.
 fn is_chosen(items: &[Days], day: Weekday) -> bool
     ensures { result ≡ list_any (is_covered day) items.now }
 {
     items.iter().any(|days| is_covered(day, *days))
 }
 
-/// Whether the day is one of the days in a row.
 fn is_covered(day: Weekday, days: Days) -> bool
     ensures { result ≡ is_covered day days }
 {

@@ -1,4 +1,5 @@
-//! The words of a calendar expression, and what each stands for.
+//! Recognition of the weekdays, the date, the time and the zone among the words of an expression. What a word is
+//! depends on its position, on its first character, and on whether it contains a colon.
 
 ghost use Rattle.std.specs.Prelude.{◌≡◌};
 ghost use Rattle.std.specs.Option.{option_copied, option_map};
@@ -10,7 +11,7 @@ use crate::shorthand::{ANY_DATE, MIDNIGHT, find_shorthand};
 use cal_text::first_word;
 use cal_zone::{begins_with_letter, begins_zone};
 
-/// The texts of an expression by their roles, and the words after these.
+/// The weekdays, date and time of an expression, not yet parsed, and the text after them.
 #[derive(Clone, Copy)]
 pub(crate) struct Roles<'a> {
     /// The weekday list, if there is one.
@@ -19,12 +20,12 @@ pub(crate) struct Roles<'a> {
     pub(crate) date: &'a [u8],
     /// The time, or `00:00:00`.
     pub(crate) time: &'a [u8],
-    /// What comes after the time.
+    /// The text after the time: empty, or the zone.
     pub(crate) rest: &'a str,
 }
 
-/// The roles of the words of a text, or `None` where it has none (systemd.time(7), Calendar Events). A shorthand
-/// stands for the texts of its meaning.
+/// Determines which words of an expression are its weekdays, date and time (systemd.time(7), Calendar Events). Returns
+/// `None` if there are no words. A shorthand is replaced by what it stands for.
 #[tactic(auto, unfolding(crate::specs::Words::roles_of))]
 pub(crate) fn find_roles(text: &str) -> Option<Roles<'_>>
     ensures { option_map shown_roles result ≡ roles_of (words text.now) }
@@ -46,7 +47,7 @@ pub(crate) fn find_roles(text: &str) -> Option<Roles<'_>>
     Some(date_or_time(None, word, after))
 }
 
-/// The roles after the weekdays: a word that begins with a letter or a sign is a zone.
+/// Determines what the words after the weekdays are. If the first of them begins with a letter or a sign, it is a zone.
 fn after_weekdays<'a>(weekdays: Option<&'a [u8]>, text: &'a str) -> Roles<'a>
     ensures { shown_roles result ≡ after_weekdays (option_copied weekdays.entry) (words text.now) }
 {
@@ -63,8 +64,8 @@ fn after_weekdays<'a>(weekdays: Option<&'a [u8]>, text: &'a str) -> Roles<'a>
     }
 }
 
-/// The roles from the date on, or from the time on where there is no date: a word with a colon is the time, and any
-/// other is the date.
+/// Determines what `word` and the words after it are. If `word` contains a colon, it is the time and there is no date.
+/// Otherwise it is the date.
 fn date_or_time<'a>(weekdays: Option<&'a [u8]>, word: &'a [u8], rest: &'a str) -> Roles<'a>
     ensures { shown_roles result
         ≡ date_or_time (option_copied weekdays.entry) word.now (words rest.now) }
@@ -80,7 +81,8 @@ fn date_or_time<'a>(weekdays: Option<&'a [u8]>, word: &'a [u8], rest: &'a str) -
     after_date(weekdays, word, rest)
 }
 
-/// The roles after the date: a word that begins with a letter or a sign is a zone, and any other is the time.
+/// Determines what the words after the date are. If the first of them begins with a letter or a sign, it is a zone.
+/// Otherwise it is the time.
 fn after_date<'a>(weekdays: Option<&'a [u8]>, date: &'a [u8], text: &'a str) -> Roles<'a>
     ensures { shown_roles result
         ≡ roles_after_date (option_copied weekdays.entry) date.now (words text.now) }

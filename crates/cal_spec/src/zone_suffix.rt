@@ -14,17 +14,17 @@ use cal_text::first_word;
 use cal_zone::{is_zone_name, read_offset};
 use std::alloc::Global;
 
-/// A zone that an expression is meant in.
+/// The zone in which an expression is interpreted.
 #[derive(PartialEq, Eq, Debug, Drop)]
 pub enum ZoneSuffix {
     /// The zone of this name.
     Name(String),
-    /// The clock that many seconds ahead of UTC.
+    /// A fixed UTC offset in seconds.
     Offset(i32),
 }
 
-/// The zone, if there is one, in what comes after the time (systemd.time(7), Calendar Events): a name or an offset. Any
-/// other word there is a `StrayWord`.
+/// Parses the text after the time (systemd.time(7), Calendar Events). It is empty, or a zone: a name or a UTC offset.
+/// Fails with `StrayWord` if it is anything else.
 #[tactic(auto, unfolding(crate::specs::ZoneSuffix::suffix_of))]
 pub(crate) fn read_suffix(alloc: Global, text: &str) -> Result<Option<ZoneSuffix>, SpecFault>
     ensures { GivesUnlessNoMemory (λ suffix. option_map shown_suffix suffix) result (suffix_in (words text.now)) }
@@ -45,7 +45,7 @@ pub(crate) fn read_suffix(alloc: Global, text: &str) -> Result<Option<ZoneSuffix
     }
 }
 
-/// The name that is kept: `UTC` in any case is `UTC`.
+/// Returns the name to store. `UTC` in any case is stored as `UTC`, and other names are unchanged.
 fn name_of(word: &str) -> &str
     ensures { result.now ≡ kept_name word.now }
 {

@@ -1,7 +1,7 @@
--- The texts of the components of a calendar expression: systemd.time(7), Calendar Events.
+-- The components of a date and of a time, not yet parsed: systemd.time(7), Calendar Events.
 use Rattle.std.specs.Prelude.{ℕ, Bool, List}
 
--- the texts of a date's components, and whether its day is counted from the month's end
+-- the texts of a date's components, and whether the day is counted from the month's end
 pub record DateTexts : Type 0 where
   pub year : List ℕ
   pub month : List ℕ

@@ -1,5 +1,5 @@
--- How a calendar expression in its normal form is printed: systemd.time(7), Calendar Events. Years have four digits,
--- other numbers two, steps no padding.
+-- Printing of calendar expressions in normal form: systemd.time(7), Calendar Events. Years are padded to four digits
+-- and other numbers to two; steps aren't padded.
 use Rattle.std.specs.Prelude.{ℕ, Bool, if◌then◌else◌, List, [], ◌∷◌, Option, None, Some, codes, decimal}
 use Rattle.std.specs.List.{join_by}
 use Rattle.cal_bytes.specs.headline.Bytes.{joined}
@@ -9,7 +9,7 @@ use Rattle.cal_spec.specs.headline.WeekdayRuns.{weekdays_text}
 use Rattle.cal_spec.specs.headline.ZoneSuffix.{ZoneSuffix, suffix_text}
 use Rattle.cal_spec.specs.declared.part.Part.{Part}
 
--- a number in at least that many digits, with what leads up to it in front
+-- `lead`, then a number padded with zeros to at least `width` digits
 unfoldable pub number_text : List ℕ → ℕ → ℕ → List ℕ
 number_text lead width n = joined (lead ∷ zeros width n ∷ decimal n ∷ [])
 
@@ -17,7 +17,7 @@ abbrev pub optional_text : List ℕ → ℕ → Option ℕ → List ℕ
 optional_text lead width None = []
 optional_text lead width (Some n) = number_text lead width n
 
--- `a`, `a/r`, `a..b` or `a..b/r`, with what leads up to it in front
+-- `lead`, then a part: `a`, `a/r`, `a..b` or `a..b/r`
 unfoldable pub part_text : List ℕ → ℕ → Part → List ℕ
 part_text lead width p =
     joined (number_text lead width p.start ∷ optional_text (codes "..") width p.end ∷ optional_text (codes "/") 0 p.step ∷ [])
@@ -29,24 +29,24 @@ abbrev pub component_text : ℕ → Option (List Part) → List ℕ
 component_text width None = codes "*"
 component_text width (Some ps) = parts_text width ps
 
--- a component with what leads up to it
+-- `lead`, then a component
 unfoldable pub row_text : List ℕ → ℕ → Option (List Part) → List ℕ
 row_text lead width parts = joined (lead ∷ component_text width parts ∷ [])
 
--- the sign before the day
+-- the sign before the day, which is `~` if days are counted from the month's end
 abbrev pub day_lead : Bool → List ℕ
 day_lead from_end = if from_end then codes "~" else codes "-"
 
--- date and time: `year-month-day hour:minute:second`
+-- the date and time: `year-month-day hour:minute:second`
 unfoldable pub fields_text : Fields → List ℕ
 fields_text f =
     joined (row_text [] 4 f.year ∷ row_text (codes "-") 2 f.month ∷ row_text (day_lead f.from_end) 2 f.day ∷ row_text (codes " ") 2 f.hour ∷ row_text (codes ":") 2 f.minute ∷ row_text (codes ":") 2 f.second ∷ [])
 
--- the zone after a space
+-- a space and the zone, if there is one
 abbrev pub zone_text : Option ZoneSuffix → List ℕ
 zone_text None = []
 zone_text (Some suffix) = joined (codes " " ∷ suffix_text suffix ∷ [])
 
--- weekdays, date, time and zone
+-- the whole expression: weekdays, date, time and zone
 unfoldable pub expr_text : Fields → List ℕ
 expr_text f = joined (weekdays_text f.weekdays ∷ fields_text f ∷ zone_text f.zone ∷ [])

@@ -3,8 +3,8 @@ use Rattle.std.specs.Prelude.{ℕ, ◌+◌, ◌-◌, Bool, List, length, Option,
 use Rattle.cal_spec.specs.headline.ZoneSuffix.{ZoneSuffix}
 use Rattle.cal_spec.specs.declared.part.Part.{Part}
 
--- the weekdays from Monday on, six components of which None is `*`, whether the day is counted from the month's
--- end, and the zone
+-- which weekdays match, from Monday to Sunday; the six components, where None stands for `*`; whether the day is
+-- counted from the month's end; and the zone
 pub record Fields : Type 0 where
   pub weekdays : List Bool
   pub year : Option (List Part)
@@ -16,12 +16,12 @@ pub record Fields : Type 0 where
   pub from_end : Bool
   pub zone : Option ZoneSuffix
 
--- how many parts a component has
+-- the number of parts of a component
 abbrev pub parts_in : Option (List Part) → ℕ
 parts_in None = 0
 parts_in (Some ps) = length ps
 
--- the parts that are counted: all but the first of the hour, of the minute and of the second
+-- the number of parts that count towards the limit: all but the first of the hour, of the minute and of the second
 unfoldable pub counted_parts : Fields → ℕ
 counted_parts f =
     parts_in f.year + parts_in f.month + parts_in f.day

@@ -1,4 +1,5 @@
--- The rule of calendar expressions in its own words, as productions over whole texts: systemd.time(7), Calendar Events.
+-- The grammar of calendar expressions, as productions over whole texts: systemd.time(7), Calendar Events. It is stated
+-- independently of the parser.
 use Rattle.std.specs.Prelude.{ℕ, ℤ, ◌<◌, ◌≤◌, ◌≡◌, ◌⊎◌, Bool, true, false, List, [], ◌∷◌, ◌++◌, length, map, drop, codes, Option, None, Some, IfSome}
 use Rattle.std.specs.List.{AllByRecursion, AllZip, list_all, list_any, join_with_byte}
 use Rattle.std.specs.Option.{option_to_list, unwrap_or}
@@ -25,14 +26,14 @@ use Rattle.cal_spec.specs.declared.slot.Slot.{Slot}
 use Rattle.cal_spec.specs.declared.slot.Slot.TheVariants.{Year, Month, Hour, Minute, Second}
 use Rattle.cal_spec.specs.declared.weekdays.Days.{Days}
 
--- one or more digits
+-- one or more digits, with the value n
 pub record IsNumber (text : List ℕ) (n : ℕ) : Type 0 where
   pub some : 0 < length text
   pub digits : list_all is_ascii_digit text ≡ true
   pub value : digits_value 10 text ≡ n
   pub small : n ≤ most
 
--- nothing, or a number after a mark
+-- no text if there is no number, otherwise `mark` and the number
 abbrev pub IsNext : List ℕ → List ℕ → Option ℕ → Type 0
 IsNext mark text None = text ≡ []
 IsNext mark text (Some n) = (number : List ℕ) × (text ≡ mark ++ number) × IsNumber number n
@@ -47,11 +48,11 @@ pub record IsPartText (text : List ℕ) (p : Part) : Type 0 where
   pub end : IsNext (codes "..") middle p.end
   pub step : IsNext (codes "/") back p.step
 
--- the part with the numbers that are meant
+-- the text of a part, with two-digit years expanded
 abbrev pub IsPartOf : Slot → List ℕ → Part → Type 0
 IsPartOf slot text p = (raw : Part) × IsPartText text raw × (p ≡ with_values slot raw)
 
--- parts joined by commas, each with a meaning
+-- parts joined by commas, all with valid values
 pub record AreListed (slot : Slot) (text : List ℕ) (ps : List Part) : Type 0 where
   pub texts : List (List ℕ)
   pub some : 0 < length texts
@@ -59,17 +60,17 @@ pub record AreListed (slot : Slot) (text : List ℕ) (ps : List Part) : Type 0 w
   pub parts : AllZip (IsPartOf slot) texts ps
   pub sound : AllByRecursion (IsSound slot) ps
 
--- `*`, or such parts
+-- `*`, or parts joined by commas
 abbrev pub IsComponent : Slot → List ℕ → Option (List Part) → Type 0
 IsComponent slot text None = text ≡ codes "*"
 IsComponent slot text (Some ps) = AreListed slot text ps
 
--- what comes before the day
+-- the sign before the day, which is `~` if it is counted from the month's end
 abbrev pub last_sign : Bool → List ℕ
 last_sign true = codes "~"
 last_sign false = codes "-"
 
--- `year-month-day` or `month-day`, where `~` may be in place of the last `-`
+-- `year-month-day` or `month-day`; `~` may stand in place of the last `-`
 abbrev pub IsDateShape : List ℕ → DateTexts → Type 0
 IsDateShape word t =
     (word ≡ t.year ++ (codes "-" ++ (t.month ++ (last_sign t.from_end ++ t.day)))) ⊎ ((t.year ≡ codes "*") × (word ≡ t.month ++ (last_sign t.from_end ++ t.day)))
@@ -94,7 +95,7 @@ pub record IsTime (word : List ℕ) (f : Fields) : Type 0 where
   pub minute : IsComponent Minute texts.minute f.minute
   pub second : IsComponent Second texts.second f.second
 
--- the name of a weekday or its first three letters, in any case
+-- the name of a weekday, in full or shortened to three letters, ignoring case
 abbrev pub IsName : List ℕ → Weekday → Type 0
 IsName text day =
     (map to_ascii_lowercase text ≡ map to_ascii_lowercase (name_of day)) ⊎ (map to_ascii_lowercase text ≡ map to_ascii_lowercase (short_name_of day))
@@ -109,7 +110,7 @@ pub record IsNameRange (text : List ℕ) (days : Days) : Type 0 where
   pub joint_is : (joint ≡ codes "..") ⊎ (joint ≡ codes "-")
   pub last_name : IsName last days.last
 
--- a name, or two
+-- a name, or two names joined by `..` or `-`
 abbrev pub IsItem : List ℕ → Days → Type 0
 IsItem text days = (IsName text days.first × (days.last ≡ days.first)) ⊎ IsNameRange text days
 
@@ -122,20 +123,20 @@ pub record AreWeekdays (word : List ℕ) (days : List Bool) : Type 0 where
   pub each : AllZip IsItem texts items
   pub is : days ≡ set_of items
 
--- no weekday list means all seven
+-- the weekdays that match; without a weekday list all seven match
 abbrev pub HasWeekdays : Option (List ℕ) → List Bool → Type 0
 HasWeekdays None days = days ≡ map (λ day. true) week
 HasWeekdays (Some word) days = AreWeekdays word days
 
--- the word that is there, if any
+-- a list of the word, or an empty list if there is none
 abbrev pub given : Option (List ℕ) → List (List ℕ)
 given word = option_to_list word
 
 abbrev pub IsSignless : List ℕ → Type 0
 IsSignless word = begins_with_sign word ≡ false
 
--- `[weekdays] [date] [time] [zone]`, where one of the first three is there; what a word is shows at its first letter
--- and at a colon, and after the first word a sign begins the zone alone
+-- `[weekdays] [date] [time] [zone]`, with at least one of the first three. The first letter of a word and a colon in it
+-- show what it is. After the first word, only a zone begins with a sign.
 pub record ArePlain (ws : List (List ℕ)) (p : Roles) (last : Option (List ℕ)) : Type 0 where
   pub date : Option (List ℕ)
   pub time : Option (List ℕ)
@@ -149,7 +150,7 @@ pub record ArePlain (ws : List (List ℕ)) (p : Roles) (last : Option (List ℕ)
   pub time_is : p.time ≡ unwrap_or time midnight
   pub rest_is : p.rest ≡ given last
 
--- `shorthand [zone]`, which stands for the texts of the shorthand's meaning
+-- `shorthand [zone]`; the shorthand is replaced by what it stands for
 pub record AreShort (ws : List (List ℕ)) (p : Roles) (last : Option (List ℕ)) : Type 0 where
   pub word : List ℕ
   pub shorthand : Shorthand
@@ -160,13 +161,13 @@ pub record AreShort (ws : List (List ℕ)) (p : Roles) (last : Option (List ℕ)
   pub time_is : p.time ≡ (meaning_of shorthand).time
   pub rest_is : p.rest ≡ given last
 
--- no word, a zone's name, or an offset
+-- no word, the name of a zone, or a UTC offset
 abbrev pub IsZoneWord : Option (List ℕ) → Option ZoneSuffix → Type 0
 IsZoneWord None suffix = suffix ≡ None
 IsZoneWord (Some word) suffix =
     ((is_zone_name word ≡ true) × (suffix ≡ Some (of_name (kept_name word)))) ⊎ ((seconds : ℤ) × IsOffsetWord word seconds × (suffix ≡ Some (ahead seconds)))
 
--- a text and its fields
+-- the text is an expression with these fields
 pub record IsExpression (text : List ℕ) (f : Fields) : Type 0 where
   pub roles : Roles
   pub last : Option (List ℕ)
@@ -176,7 +177,7 @@ pub record IsExpression (text : List ℕ) (f : Fields) : Type 0 where
   pub time : IsTime roles.time f
   pub zone : IsZoneWord last f.zone
 
--- an expression that is neither too long nor has too many parts
+-- the text is an expression that is neither too long nor has too many parts
 pub record IsValid (text : List ℕ) (f : Fields) : Type 0 where
   pub short : length text ≤ 4096
   pub expression : IsExpression text f

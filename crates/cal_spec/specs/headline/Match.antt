@@ -1,11 +1,11 @@
--- When a local second matches a calendar expression: systemd.time(7), Calendar Events.
+-- Matching of local seconds: systemd.time(7), Calendar Events.
 use Rattle.std.specs.Prelude.{ℕ, ◌+◌, ◌-◌, ◌/◌, ◌%◌, Bool, ◌&&◌, nat_lt, unsigned_abs, if◌then◌else◌}
 use Rattle.jiff.specs.Types.{Date}
 use Rattle.jiff.specs.Words.{month_length, weekday_of}
 use Rattle.cal_zone.specs.headline.Local.{civil_date, hour_of, minute_of, second_of, seconds_in_all}
 
--- the members of each field; weekdays count from 0 for Monday, and the day is a count from the month's end
--- where `from_end` is set
+-- the values that each field matches; weekdays are numbered from 0 for Monday, and days are counted from the month's
+-- end if `from_end` is set
 pub record Sets : Type 0 where
   pub weekday : ℕ → Bool
   pub year : ℕ → Bool
@@ -16,22 +16,23 @@ pub record Sets : Type 0 where
   pub second : ℕ → Bool
   pub from_end : Bool
 
--- the number that is tested for the day: the day itself, or its place from the month's last day, which is 1
+-- the number that is compared with the days: the day of the month, or its count from the month's end (the last day is
+-- 1)
 abbrev pub day_number : Bool → Date → ℕ
 day_number from_end date = if from_end then month_length date - date.day + 1 else date.day
 
--- the weekday, year, month and day of the date are members
+-- the weekday, year, month and day of the date all match
 unfoldable pub date_in : Sets → Date → Bool
 date_in sets date =
     sets.weekday (weekday_of date)
     && (sets.year (unsigned_abs date.year) && (sets.month date.month && sets.day (day_number sets.from_end date)))
 
--- the hour, minute and second of that many seconds after midnight are members
+-- the time that is `second` seconds after midnight matches
 unfoldable pub time_in : Sets → ℕ → Bool
 time_in sets second =
     sets.hour (hour_of second) && (sets.minute (minute_of second) && sets.second (second_of second))
 
--- a local second of 1970 to 2199 whose date and time are members
+-- the local second is in the years 1970 to 2199, and its date and time match
 unfoldable pub matches : Sets → ℕ → Bool
 matches sets local =
     nat_lt local seconds_in_all

@@ -1,4 +1,4 @@
--- The numbers that a component of a calendar expression holds: systemd.time(7), Calendar Events.
+-- The values that a component of a calendar expression matches: systemd.time(7), Calendar Events.
 use Rattle.std.specs.Prelude.{◌==◌, ℕ, ◌-◌, ◌%◌, Bool, false, ◌&&◌, nat_le, List, Option, None, Some, slice_index_or}
 use Rattle.std.specs.List.{list_any}
 use Rattle.cal_spec.specs.headline.Fields.{Fields}
@@ -8,15 +8,16 @@ use Rattle.cal_spec.specs.declared.part.Part.{Part}
 use Rattle.cal_spec.specs.declared.slot.Slot.{Slot}
 use Rattle.cal_spec.specs.declared.slot.Slot.TheVariants.{Year, Month, Day, DayFromEnd, Hour, Minute, Second}
 
--- the numbers from a to b
+-- v is one of the numbers from a to b
 abbrev pub lies : ℕ → ℕ → ℕ → Bool
 lies a b v = nat_le a v && nat_le v b
 
--- those of them whose distance is a multiple of r
+-- v is one of the numbers from a to b, and its distance is a multiple of r
 abbrev pub lies_by : ℕ → ℕ → ℕ → ℕ → ℕ → Bool
 lies_by a b r distance v = lies a b v && (distance % r == 0)
 
--- `a/r`: a, a + r, .. up to the greatest number of the field; as counts from the month's end a, a - r, .. down to 1
+-- `a/r`: a, a + r, .. up to the greatest number of the slot; for days counted from the month's end a, a - r, .. down to
+-- 1
 abbrev pub repeats : Slot → ℕ → ℕ → ℕ → Bool
 repeats DayFromEnd a r v = lies_by 1 a r (a - v) v
 repeats slot a r v = lies_by a (greatest slot) r (v - a) v
@@ -31,17 +32,17 @@ values slot a (Some b) (Some r) v = lies_by a b r (v - a) v
 unfoldable pub part_has : Slot → Part → ℕ → Bool
 part_has slot p v = values slot p.start p.end p.step v
 
--- `*`: the whole field; a count from the month's end goes as far as a day
+-- `*`: all numbers of the slot; if days are counted from the month's end, every day from 1 to 31
 abbrev pub in_field : Slot → ℕ → Bool
 in_field DayFromEnd v = lies (least Day) (greatest Day) v
 in_field slot v = lies (least slot) (greatest slot) v
 
--- the members of a component are those of its parts together
+-- a component matches the values that its parts match
 abbrev pub component_has : Slot → Option (List Part) → ℕ → Bool
 component_has slot None v = in_field slot v
 component_has slot (Some ps) v = list_any (λ p. part_has slot p v) ps
 
--- the members of each field
+-- the values that each field matches
 unfoldable pub sets_of : Fields → Sets
 sets_of f = record {
   weekday = λ v. slice_index_or f.weekdays v false;

@@ -1,5 +1,5 @@
--- The normal form of a calendar expression: systemd.time(7), Calendar Events. Ranges end at the last number that they
--- reach, parts are in order, and equal parts occur once. Overlapping parts stay.
+-- The normal form of a calendar expression: systemd.time(7), Calendar Events. Each range ends at the last number that
+-- it reaches, and parts are sorted, without duplicates. Parts that overlap are kept.
 use Rattle.std.specs.Prelude.{◌≡◌, ◌==◌, ℕ, ◌+◌, ◌-◌, ◌%◌, ◌<◌, ◌≤◌, Bool, false, if◌then◌else◌, List, [], ◌∷◌, Option, None, Some, unwrap_or}
 use Rattle.std.specs.List.Sorted.{IsStrictlySortedBy}
 use Rattle.std.specs.Option.{option_cmp}
@@ -9,31 +9,31 @@ use Rattle.cal_spec.specs.headline.Fields.{Fields}
 use Rattle.cal_rising.specs.headline.Elements.{Has}
 use Rattle.cal_spec.specs.declared.part.Part.{Part}
 
--- e is the last number of a, a + r, .. that isn't above b
+-- e is the last number of a, a + r, .. that is at most b
 pub record IsLastReached (a b r e : ℕ) : Type 0 where
   pub from : a ≤ e
   pub reached : (e - a) % r ≡ 0
   pub within : e ≤ b
   pub last : b < e + r
 
--- how far apart the numbers of a range are
+-- the distance between consecutive numbers of a range
 abbrev pub step_of : Option ℕ → ℕ
 step_of step = unwrap_or step 1
 
--- `/1` after a range is dropped
+-- the step of a range in normal form; `/1` is dropped
 abbrev pub range_step : Option ℕ → Option ℕ
 range_step None = None
 range_step (Some r) = if r == 1 then None else Some r
 
--- one number alone
+-- a single number
 abbrev pub point : ℕ → Part
 point a = record { start = a; end = None; step = None }
 
--- a range that ends at e; the point where it is also the start
+-- a range from a to e, or a single number if both are equal
 abbrev pub range_to : ℕ → ℕ → Option ℕ → Part
 range_to a e step = if e == a then point a else record { start = a; end = Some e; step = range_step step }
 
--- q is the normal form of the part that starts at a: only a range is changed
+-- q is the normal form of the part with this start, end and step; only ranges change
 abbrev pub IsReducedTo : ℕ → Option ℕ → Option ℕ → Part → Type 0
 IsReducedTo a None step q = q ≡ record { start = a; end = None; step = step }
 IsReducedTo a (Some b) step q = (e : ℕ) × IsLastReached a b (step_of step) e × (q ≡ range_to a e step)
@@ -41,19 +41,19 @@ IsReducedTo a (Some b) step q = (e : ℕ) × IsLastReached a b (step_of step) e 
 unfoldable pub IsReduced : Part → Part → Type 0
 IsReduced p q = IsReducedTo p.start p.end p.step q
 
--- parts are ordered by start, then by end and then by step, none first
+-- the order of parts: by start, then by end, then by step; None comes before any number
 unfoldable pub part_cmp : Part → Part → Ordering
 part_cmp p q =
     ordering_then (nat_cmp p.start q.start)
     (ordering_then (option_cmp nat_cmp p.end q.end) (option_cmp nat_cmp p.step q.step))
 
--- the normal form of a list of parts: in order, once each, with exactly the normal forms of its parts
+-- the normal form of a list of parts: sorted and without duplicates, it consists of the normal forms of its parts
 pub record AreNormalOf (raw normal : List Part) : Type 0 where
   pub rising : IsStrictlySortedBy part_cmp normal
   pub from_part : (q : Part) → Has normal q → (p : Part) × Has raw p × IsReduced p q
   pub each_part : (p : Part) → Has raw p → (q : Part) × Has normal q × IsReduced p q
 
--- a component's normal form; `*` stays
+-- the normal form of a component; `*` is unchanged
 abbrev pub IsNormalOf : Option (List Part) → Option (List Part) → Type 0
 IsNormalOf None normal = normal ≡ None
 IsNormalOf (Some raw) normal = (ps : List Part) × AreNormalOf raw ps × (normal ≡ Some ps)
@@ -62,7 +62,7 @@ IsNormalOf (Some raw) normal = (ps : List Part) × AreNormalOf raw ps × (normal
 abbrev pub each : Part
 each = record { start = 0; end = None; step = Some 1 }
 
--- the seconds, where the one part `0/1` becomes `*`
+-- the last step for seconds: a single part `0/1` becomes `*`
 abbrev pub IsStarred : List Part → Option (List Part) → Type 0
 IsStarred ps None = ps ≡ each ∷ []
 IsStarred ps (Some qs) = (qs ≡ ps) × (ps ≡ each ∷ [] → ⊥)

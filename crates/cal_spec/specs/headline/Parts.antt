@@ -1,4 +1,4 @@
--- The numbers that a part of a component means: systemd.time(7), Calendar Events.
+-- The numbers that a part of a component stands for: systemd.time(7), Calendar Events.
 use Rattle.std.specs.Prelude.{ℕ, ◌+◌, nat_lt, Bool, true, false, if◌then◌else◌}
 use Rattle.std.specs.Option.{option_map}
 use Rattle.cal_spec.specs.declared.part.Part.{Part}
@@ -9,15 +9,15 @@ abbrev pub is_year : Slot → Bool
 is_year Year = true
 is_year slot = false
 
--- the greatest number that may be written
+-- the greatest number that an expression may contain
 abbrev pub most : ℕ
 most = 9999
 
--- a year below 100 is one of 2000 to 2069 or of 1970 to 1999
+-- a two-digit year: 0 to 69 become 2000 to 2069, and 70 to 99 become 1970 to 1999
 abbrev pub with_century : ℕ → ℕ
 with_century n = if nat_lt n 70 then n + 2000 else (if nat_lt n 100 then n + 1900 else n)
 
--- the part with the numbers that are meant
+-- the part with two-digit years expanded, if it is a year
 abbrev pub with_values : Slot → Part → Part
 with_values slot p =
     if is_year slot then record { start = with_century p.start; end = option_map with_century p.end; step = p.step } else p

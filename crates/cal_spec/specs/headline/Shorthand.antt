@@ -1,22 +1,22 @@
--- The shorthands: systemd.time(7), Calendar Events.
+-- Shorthands for common calendar expressions: systemd.time(7), Calendar Events.
 use Rattle.std.specs.Prelude.{ℕ, List, [], ◌∷◌, codes, Option, None, Some}
 use Rattle.std.specs.List.{find, list_any}
 use Rattle.std.specs.Str.{str_eq_ignore_ascii_case}
 use Rattle.cal_spec.specs.declared.shorthand.Shorthand.{Shorthand}
 use Rattle.cal_spec.specs.declared.shorthand.Shorthand.TheVariants.{Minutely, Hourly, Daily, Weekly, Monthly, Quarterly, Semiannually, Yearly}
 
--- the texts that stand for a missing date and for a missing time
+-- the date and the time that are used if an expression has none
 abbrev pub any_date : List ℕ
 any_date = codes "*-*-*"
 
 abbrev pub midnight : List ℕ
 midnight = codes "00:00:00"
 
--- all of them
+-- all shorthands
 abbrev pub shorthands : List Shorthand
 shorthands = Minutely ∷ Hourly ∷ Daily ∷ Weekly ∷ Monthly ∷ Quarterly ∷ Semiannually ∷ Yearly ∷ []
 
--- the words that name it
+-- the names of a shorthand
 abbrev pub names_of : Shorthand → List (List ℕ)
 names_of Minutely = codes "minutely" ∷ []
 names_of Hourly = codes "hourly" ∷ []
@@ -28,21 +28,21 @@ names_of Semiannually =
     codes "semiannually" ∷ codes "semi-annually" ∷ codes "biannually" ∷ codes "bi-annually" ∷ []
 names_of Yearly = codes "yearly" ∷ codes "annually" ∷ []
 
--- the texts of the weekdays, of the date and of the time
+-- the weekdays, date and time that a shorthand stands for, not yet parsed
 pub record Meaning : Type 0 where
   pub weekdays : Option (List ℕ)
   pub date : List ℕ
   pub time : List ℕ
 
--- on these dates at midnight
+-- the meaning "on these dates at midnight"
 abbrev pub dates : List ℕ → Meaning
 dates date = record { weekdays = None; date = date; time = midnight }
 
--- on each date at these times
+-- the meaning "every day at these times"
 abbrev pub times : List ℕ → Meaning
 times time = record { weekdays = None; date = any_date; time = time }
 
--- what it stands for
+-- what each shorthand stands for
 abbrev pub meaning_of : Shorthand → Meaning
 meaning_of Minutely = times (codes "*:*:00")
 meaning_of Hourly = times (codes "*:00:00")
@@ -53,6 +53,6 @@ meaning_of Quarterly = dates (codes "*-01,04,07,10-01")
 meaning_of Semiannually = dates (codes "*-01,07-01")
 meaning_of Yearly = dates (codes "*-01-01")
 
--- the shorthand with this name, in any case
+-- the shorthand with this name, ignoring case
 unfoldable pub shorthand_named : List ℕ → Option Shorthand
 shorthand_named word = find (λ shorthand. list_any (str_eq_ignore_ascii_case word) (names_of shorthand)) shorthands

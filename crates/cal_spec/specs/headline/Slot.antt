@@ -1,4 +1,4 @@
--- Where a number of a calendar expression is, and the numbers that are allowed there: systemd.time(7),
+-- Slots, the positions of numbers in a calendar expression, and the numbers that each slot allows: systemd.time(7),
 -- Calendar Events.
 use Rattle.std.specs.Prelude.{ℕ, Bool, true, false}
 use Rattle.cal_spec.specs.declared.slot.Slot.{Slot}
@@ -22,7 +22,7 @@ greatest Hour = 23
 greatest Minute = 59
 greatest Second = 59
 
--- where a day is, which may be counted from the month's end
+-- the slot of the day, which differs if days are counted from the month's end
 abbrev pub day_slot : Bool → Slot
 day_slot false = Day
 day_slot true = DayFromEnd

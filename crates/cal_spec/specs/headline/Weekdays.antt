@@ -1,4 +1,4 @@
--- Which weekdays a range has: systemd.time(7), Calendar Events.
+-- The weekdays that a range covers: systemd.time(7), Calendar Events.
 use Rattle.std.specs.Prelude.{ℕ, ◌+◌, ◌-◌, ◌%◌, nat_le, Bool, List, map}
 use Rattle.std.specs.List.{list_any}
 use Rattle.jiff_core.specs.declared.civil.weekday.Weekday.{Weekday}
@@ -6,13 +6,13 @@ use Rattle.jiff_core.specs.Weekday.{monday_zero}
 use Rattle.cal_zone.specs.headline.Weekday.{week}
 use Rattle.cal_spec.specs.declared.weekdays.Days.{Days}
 
--- how many days it is from one weekday to the next other
+-- the number of days from one weekday to the next occurrence of another
 abbrev pub days_until : Weekday → Weekday → ℕ
 days_until day other = (monday_zero other + 7 - monday_zero day) % 7
 
 abbrev pub is_covered : Weekday → Days → Bool
 is_covered day days = nat_le (days_until days.first day) (days_until days.first days.last)
 
--- whether each weekday is chosen, from Monday on
+-- which weekdays match, from Monday to Sunday
 abbrev pub set_of : List Days → List Bool
 set_of items = map (λ day. list_any (is_covered day) items) week

@@ -1,4 +1,4 @@
--- The writer works, and what is left to write is the parts from the index on, each after a comma.
+-- The writer hasn't failed, and the remaining text is that of the parts from the index on, each after a comma.
 use Rattle.std.proofs.Common.{[], ◌++◌, drop, codes}
 use Rattle.std.specs.List.{flat_map}
 use Rattle.cal_bytes.proofs.PutLemmas.{PutsUpTo}

@@ -1,4 +1,4 @@
--- The writer works, and what is left to write is the rows from the index on.
+-- The writer hasn't failed, and the remaining text is that of the rows from the index on.
 use Rattle.std.proofs.Common.{drop}
 use Rattle.std.specs.List.{flat_map}
 use Rattle.std.specs.Option.{option_copied}

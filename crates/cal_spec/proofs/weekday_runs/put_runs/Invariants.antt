@@ -1,4 +1,4 @@
--- The writer works, and what is left to write is the runs from a day on.
+-- The writer hasn't failed, and the remaining text is that of the runs from the day `first` on.
 use Rattle.std.proofs.Common.{◌-◌, drop, length}
 use Rattle.cal_bytes.proofs.PutLemmas.{PutsUpTo}
 use Rattle.cal_spec.specs.headline.WeekdayRuns.{runs_from, runs_text}
