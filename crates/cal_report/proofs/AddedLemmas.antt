@@ -1,4 +1,5 @@
--- Lemmas on the expressions of a timer file that an exception covers, and on the others, which are added to its merge.
+-- Lemmas on the expressions of a timer file: those that an exception covers are skipped, the others are added to the
+-- merge.
 use Rattle.std.proofs.Common.{◌≡◌, ◌++◌, ℕ, zero, suc, ◌+◌, ◌<◌, false, List, [], ◌∷◌, length, map, get_or, ℤ, inr, sym, ap, ◌∙◌, arith, take}
 use Rattle.std.proofs.lemmas.List.{append_assoc, map-append}
 use Rattle.cal_elapse.proofs.CoveredLemmas.{elapses_except-kept, kept_one, kept_without, matches_among}
@@ -21,7 +22,8 @@ use Rattle.cal_report.specs.TimerPlan.{IsAdded, IsCoveredEntry, each_of, entry_s
 use Rattle.cal_report.specs.TimerReport.{elapses_of_lists, timed_entry}
 use Rattle.cal_request.specs.headline.Request.{Request}
 
--- in the same zone, an expression whose members are among those of another elapses only where the other does
+-- if `f` is in the same zone as `e` and its fields match all values that the fields of `e` match, then every elapse
+-- time of `e` is an elapse time of `f`
 place_among : (e f : TimerLine Fields) → e.expr.zone ≡ f.expr.zone → AreAmong (entry_sets e) (entry_sets f) → (asked : Request) (i : ℤ)
     → IsPlace (timed_entry asked e) i → IsPlace (timed_entry asked f) i
 unfolding timed_entry timed
@@ -69,7 +71,7 @@ added_without asked base lines exceptions i line old new h is a covered =
       is = a.is;
     }
 
--- with the exceptions, the merge has the elapses of the lists
+-- after the exceptions are added too, the merge yields the elapse times of the timer file
 pub merge_added : (asked : Request) (base : ℤ) (lists : Timer Fields) (empty some merge : Merge) → empty ≡ record { started = false; lists = []; exceptions = [] }
     → IsAdded asked base lists.expressions lists.exceptions empty some
     → merge ≡ record { started = false; lists = some.lists; exceptions = some.exceptions ++ each_of asked base lists.exceptions }

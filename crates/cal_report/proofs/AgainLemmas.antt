@@ -1,4 +1,5 @@
--- The request that goes on after some elapses of a report: its base is read as the last of them.
+-- Lemmas on the request that continues after some elapse times of a report: its base time is parsed as the last of
+-- them.
 use Rattle.std.proofs.Common.{◌≡◌, ◌≤◌, ◌*◌, ◌/◌, ◌∙◌, inl, inr, ℕ, zero, suc, ℤ, pos, negsuc, List, [], ◌∷◌, Option, None, Some, Result, Ok, take, drop, length, length-take, refl, sym, ap, subst, arith, get_or}
 use Rattle.std.proofs.lemmas.Option.{slice_get-get_or}
 use Rattle.std.specs.List.{slice_get}
@@ -23,7 +24,7 @@ has_at [] k x at = cc
 has_at (y ∷ ys) zero x at = inl (cc)
 has_at (y ∷ ys) (suc k) x at = inr (has_at ys k x at)
 
--- `@` and the seconds of an instant are a base at that instant
+-- `@` and the seconds of an instant, parsed as a base time, resolve to that instant
 counted_base : (asked : Request) (secs : ℤ) → IsInstant secs → base_from asked (Some (base_text secs)) ≡ Ok secs
 unfolding stamp_in
 counted_base asked (pos n) h =
@@ -35,13 +36,14 @@ pub base_at : (asked : Request) (secs : ℤ) → IsInstant secs → base_in (sta
 unfolding base_in
 base_at asked secs h = counted_base (started_at asked secs) secs h
 
--- the base is sought by the present and the zones alone
+-- a base time resolves to the same instant in the continuing request, because only the present and the zones matter
 same_base : (asked : Request) (shown : List ℤ) (k : ℕ) (base : Option (List ℕ)) → base_from (begun_again asked shown k) base ≡ base_from asked base
 unfolding stamp_in
 same_base asked shown k None = refl
 same_base asked shown k (Some text) = refl
 
--- the base to go on from, as it is read
+-- the base time of the continuing request resolves to the last of the first `k` elapse times shown, or to the old base
+-- time if `k` is 0
 record IsSought (asked : Request) (base : ℤ) (shown : List ℤ) (k : ℕ) : Type 0 where
   from : ℤ
   sought : base_in (begun_again asked shown k) ≡ Ok from
@@ -65,7 +67,7 @@ instants_shown (suc n) [] h i there = absurd there
 instants_shown (suc n) (x ∷ xs) h i (inl e) = h i (inl e)
 instants_shown (suc n) (x ∷ xs) h i (inr there) = instants_shown n xs (λ j k. h j (inr k)) i there
 
--- the request is the old one begun again
+-- the request `begun_again` continues the old one
 pub is_begun_again : (asked : Request) (base : ℤ) (s : Schedule) (shown : List ℤ) (k : ℕ) → IsInstant asked.now → base_in asked ≡ Ok base
     → AreShown asked base s shown → k ≤ length shown → IsBegunAgain asked base shown k (begun_again asked shown k)
 is_begun_again asked base s shown k now sought these few =
@@ -83,7 +85,7 @@ is_begun_again asked base s shown k now sought these few =
       after = found.after;
     }
 
--- so it shows the others
+-- so it shows exactly the remaining elapse times
 pub shows_others_again : (asked : Request) (base : ℤ) (s : Schedule) (read : Result (List ℕ) WholeFault) (front : List ℕ) → IsInstant asked.now → base_in asked ≡ Ok base
     → (r : Resumes asked base s read front) → (report (begun_again asked r.shown r.number) read).out ≡ showing asked s (drop r.number r.shown)
 shows_others_again asked base s read front now sought r =

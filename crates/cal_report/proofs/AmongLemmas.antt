@@ -1,4 +1,4 @@
--- The law on a cut output of several texts: the output is that of the accepted ones.
+-- Lemmas for the theorem on cut output of several texts: the output consists of the reports of the accepted texts.
 use Rattle.std.proofs.Common.{◌≡◌, ◌∙◌, ℕ, ℤ, List, [], ◌∷◌, Option, None, Some, Result, Ok, Err, map, codes, refl, sym, ap}
 use Rattle.std.specs.Prelude.{is_err}
 use Rattle.std.specs.List.{AllByRecursion, AllZip, filter_map, flat_map, join_by}
@@ -14,7 +14,7 @@ use Rattle.cal_report.proofs.HeadlineLemmas.{HaveOneNormalForm, each_report, is_
 use Rattle.cal_request.specs.headline.Request.{Request}
 use Rattle.cal_request.specs.declared.request.Verb.TheVariants.{Calendar}
 
--- Each of them is accepted
+-- Every expression in the list is accepted
 
 all_found : (asked : Request) (texts : List (List ℕ)) (found : List (Option Expression)) → AllZip (IsReadAs asked) texts found
     → AllByRecursion (IsAccepted asked) (filter_map (λ it. it) found)
@@ -27,7 +27,7 @@ all_found asked (text ∷ texts) (Some e ∷ found) each = (each.0.1, all_found 
 pub all_accepted : (asked : Request) (texts : List (List ℕ)) (es : List Expression) → AreAcceptedAmong asked texts es → AllByRecursion (IsAccepted asked) es
 all_accepted asked texts es among = rw among.kept (all_found asked texts among.found among.each)
 
--- The output has their reports
+-- The output consists of the reports of the accepted expressions
 
 none_reported : AreNormalForms → (asked : Request) (base : ℤ) (text : List ℕ) (a : Answer) → asked.verb ≡ Calendar → IsRejected asked text
     → answer_to asked base text ≡ a → report_in a ≡ []
@@ -68,7 +68,7 @@ none_among one some asked read base verb sought among =
     let none = reports_are_among one some asked read base [] verb sought among in
     no_reports (λ e report. IsReportOf asked base (alone e) report) none.reports (report asked read).out none.each none.layout
 
--- There is one such list
+-- There is exactly one list of accepted expressions
 
 found_in : (asked : Request) (base : ℤ) (text : List ℕ) (answer : Result (List ℕ) (List ℕ)) → IsAnswerTo asked base text answer → (it : Option Expression) × IsReadAs asked text it
 found_in asked base text (Ok report) h = (Some h.0, (sym h.1, h.2))

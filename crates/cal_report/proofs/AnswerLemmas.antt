@@ -1,4 +1,4 @@
--- Lemmas on what is answered to one text, and to texts in a row.
+-- Lemmas on the answers to one text, and to several texts in order.
 use Rattle.std.proofs.Common.{◌≡◌, ℕ, ◌<◌, Bool, true, false, ◌||◌, map, List, [], ◌∷◌, ◌++◌, length, take, Option, Result, Ok, Err, refl, sym, subst, ap, ◌∙◌, arith, codes}
 use Rattle.std.specs.Prelude.{is_err, if◌then◌else◌}
 use Rattle.std.specs.List.{flat_map, join_by, list_any}
@@ -13,7 +13,8 @@ use Rattle.cal_request.specs.Status.{is_fine, status_and}
 use Rattle.cal_request.specs.declared.request.Status.{Status}
 use Rattle.cal_request.specs.declared.request.Status.TheVariants.{Fine, Refused}
 
--- reports that are left to write, after an earlier one or before the first
+-- the text of the remaining reports; the flag says whether a report was already written, which an empty line then
+-- follows
 pub left_of : Bool → List (List ℕ) → List ℕ
 left_of true reports = flat_map (λ report. codes "\n" ++ report) reports
 left_of false reports = join_by (λ report. report) (codes "\n") reports
@@ -25,7 +26,7 @@ left-next false (Ok report) reports = rw (append-nil report) refl
 left-next true (Err words) reports = refl
 left-next false (Err words) reports = refl
 
--- the reports of the texts that are left
+-- the reports of the remaining texts
 pub reports_left : Bool → (List ℕ → Answer) → List (List ℕ) → List ℕ
 reports_left is_later answer texts = left_of is_later (flat_map (λ text. report_in (answer text)) texts)
 
@@ -38,12 +39,12 @@ unfolding reports_left left_of
 reports_left-none true answer = refl
 reports_left-none false answer = refl
 
--- the first text's report in its place, if it has one, and then the later ones
+-- the remaining reports begin with the report of the first remaining text, if it has one
 pub reports_left-next : (is_later : Bool) (answer : List ℕ → Answer) (text : List ℕ) (texts : List (List ℕ)) → reports_left is_later answer (text ∷ texts) ≡ later_text is_later (answer text) ++ reports_left (is_later || is_fine (status_in (answer text))) answer texts
 unfolding reports_left
 reports_left-next is_later answer text texts = left-next is_later (answer text) (flat_map (λ t. report_in (answer t)) texts)
 
--- the refusals of the texts that are left
+-- the remaining error lines begin with the error line of the first remaining text, if it has one
 pub refusals-next : (answer : List ℕ → Answer) (text : List ℕ) (texts : List (List ℕ)) → refusals_text answer (text ∷ texts) ≡ refusal_in text (answer text) ++ refusals_text answer texts
 unfolding refusals_text
 refusals-next answer text texts = refl
@@ -52,7 +53,7 @@ pub refusals-none : (answer : List ℕ → Answer) → refusals_text answer [] �
 unfolding refusals_text
 refusals-none answer = refl
 
--- the status, from that of the texts so far and the texts that are left
+-- the final status, given the status after the texts so far and the remaining texts
 pub status_left : Status → (List ℕ → Answer) → List (List ℕ) → Status
 status_left Refused answer texts = Refused
 status_left Fine answer texts = texts_status answer texts
@@ -80,7 +81,7 @@ unfolding status_left texts_status
 status_left-none Refused answer = refl
 status_left-none Fine answer = refl
 
--- One turn of answering texts in a row
+-- One iteration of the loop over the texts
 
 pub out_next : (a b c : Option (List ℕ)) (answer : List ℕ → Answer) (is_later fine : Bool) (answered : Status) (text : List ℕ) (texts rest : List (List ℕ)) (all : List ℕ) → texts ≡ text ∷ rest → answered ≡ status_in (answer text) → fine ≡ is_fine answered → Leaves a b (reports_left is_later answer texts) all → Appends b c (later_text is_later (answer text)) → Leaves a c (reports_left (is_later || fine) answer rest) all
 out_next a b c answer is_later fine answered text texts rest all e s f l w =
@@ -102,14 +103,14 @@ pub status_next : (answer : List ℕ → Answer) (s answered whole : Status) (te
 status_next answer s answered whole text texts rest e i h =
     rw i (sym (status_left-next s answer text rest) ∙ ap (status_left s answer) (sym e) ∙ h)
 
--- a call that wrote nothing
+-- a call that wrote nothing has written the empty text, whatever it returned
 pub writes_nothing : {T E : Type 0} (a : Option (List ℕ)) (r : Result T E) → Writes a a r []
 writes_nothing a (Ok x) = Appends-nil a
 writes_nothing a (Err e) = record { front = []; rest = []; whole = refl; written = Appends-nil a }
 
--- Texts that are answered, and one more
+-- From the answered texts to one more
 
--- the reports of these texts and of any later ones are those of these, and then of the later ones after them
+-- the reports of `done` and any later texts are the reports of `done`, followed by the reports of the later texts
 abbrev pub GoesOn : (List ℕ → Answer) → Bool → List (List ℕ) → Type 0
 GoesOn answer is_later done = (rest : List (List ℕ)) → reports_text answer (done ++ rest) ≡ reports_text answer done ++ reports_left is_later answer rest
 
@@ -156,7 +157,7 @@ pub err_none : (a : Option (List ℕ)) (answer : List ℕ → Answer) → Append
 unfolding refusals_text
 err_none a answer = Appends-nil a
 
--- the answers end before the text at an index
+-- the run stopped at the text with index `i`
 pub answered_before : {A : Type 0} (bytes_of : A → List ℕ) (xs : List A) (i : ℕ) (answer : List ℕ → Answer) (a b c d e f : Option (List ℕ)) → i < length xs
     → Appends a b (reports_text answer (map bytes_of (take i xs))) → Appends d e (refusals_text answer (map bytes_of (take i xs))) → c ≡ b → f ≡ e
     → IsAnsweredBefore answer (map bytes_of xs) a c d f
@@ -169,7 +170,7 @@ answered_before bytes_of xs i answer a b c d e f h out err same_out same_err =
       err = rw same_err (subst (λ (done : List (List ℕ)). Appends d e (refusals_text answer done)) texts err);
     }
 
--- nothing is answered of one text or more
+-- if there are texts and nothing is written, the run stopped at the first text
 pub unanswered : (answer : List ℕ → Answer) (texts : List (List ℕ)) (a c d f : Option (List ℕ)) → 0 < length texts → c ≡ a → f ≡ d → IsAnsweredBefore answer texts a c d f
 unanswered answer texts a c d f h same_out same_err =
     record { count = 0; before = h; out = rw same_out (out_none a answer); err = rw same_err (err_none d answer) }

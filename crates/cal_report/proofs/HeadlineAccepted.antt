@@ -1,4 +1,4 @@
--- The headline's law: a run that ends well has accepted what was asked.
+-- Lemmas for the main theorem: if the status is `Fine`, every argument was accepted.
 use Rattle.std.proofs.Common.{◌≡◌, ◌<◌, ◌-◌, ◌++◌, ◌∙◌, ℕ, suc, ℤ, Bool, true, false, not, cond, List, [], ◌∷◌, Option, None, Some, Result, Ok, Err, map, take, drop, filter, length, refl, sym, ap, subst, arith, append_assoc}
 use Rattle.std.proofs.lemmas.List.{take-append-drop}
 use Rattle.std.specs.Prelude.{is_err, nat_le, if◌then◌else◌}
@@ -40,9 +40,10 @@ use Rattle.cal_report.proofs.HeadlineLemmas.{HaveOneNormalForm, report_of_texts,
 use Rattle.cal_report.proofs.TimerLemmas.{all_zoned, none_mapped}
 use Rattle.cal_text.proofs.General.{some_found}
 
--- What ends well was accepted
+-- If the status is `Fine`, every text was accepted
 
--- the other part of that law
+-- the second part of the theorem `one_normal_form_of_fields`, a premise below: `normal_fields` returns a normal form of
+-- valid fields (the first part is `HaveOneNormalForm`)
 abbrev pub AreNormalForms : Type 0
 AreNormalForms = (f : Fields) → IsValidFields f → IsNormalFieldsOf f (normal_fields f)
 
@@ -63,7 +64,7 @@ found_is_zone asked None tz h = let same : zone_of asked.local ≡ tz = cc in sy
 found_is_zone asked (Some (of_name name)) tz h = h
 found_is_zone asked (Some (ahead seconds)) tz h = let same : zone_ahead seconds ≡ tz = cc in sym same
 
--- a text that is accepted
+-- the text is the text of an accepted expression
 pub record IsAcceptedText (asked : Request) (text : List ℕ) : Type 0 where
   pub expression : Expression
   pub same : text ≡ expression.text
@@ -113,7 +114,7 @@ fine_texts_are_accepted some asked read base verb sought h =
     let fine = sym (ap (λ (r : Report). r.status) (report_of_texts asked read base verb sought)) ∙ h in
     texts_accepted some asked base asked.texts verb (none_by_status _ fine)
 
--- The same of a file
+-- If the status is `Fine`, the timer file was accepted
 
 spelled_unless : AreNormalForms → (number : ℕ) (text : List ℕ) (r : Result Fields SpecFault) → expr_in text ≡ r → bad_line number r ≡ None
     → (fields : Fields) × Spells text fields
@@ -133,11 +134,11 @@ joining_spelled some list a h = joining_by some list a (nat_le most_expressions 
 fine_spelled : AreNormalForms → (all : List Assignment) → AreFine expr_in all → AreSpelled all
 fine_spelled some all fine before a after split = grind (arith, joining_spelled, fault_of_expression, fault_of_exception)
 
--- the text of an assignment is one
+-- the value of an assignment is a valid expression
 abbrev IsSpelled : Assignment → Type 0
 IsSpelled a = (fields : Fields) × Spells a.value fields
 
--- of a list that a test adds to, where each assignment that it passes is one
+-- the induction step of `each_spelled`: one assignment more, which is kept if it passes the test
 kept_spelled : (adds : Assignment → Bool) (a : Assignment) (rest : List Assignment) (is : Bool) → (is ≡ true → IsSpelled a) → AllByRecursion IsSpelled (filter adds rest)
     → AllByRecursion IsSpelled (cond is (a ∷ filter adds rest) (filter adds rest))
 kept_spelled adds a rest true here later = (here refl, later)
@@ -162,7 +163,7 @@ excepted_spelled all h =
     let before = length all - suffix_len (λ a. not (is_exception_reset a)) all in
     each_spelled is_exception all (take before all) (drop before all) (sym (take-append-drop before all)) (λ front a rest split is. ((h front a rest split).1 is).1)
 
--- the expressions of assignments
+-- the accepted expressions that a list of assignments assigns
 record AreExpressionsOf (asked : Request) (list : List Assignment) : Type 0 where
   expressions : List Expression
   same : map (λ (a : Assignment). a.value) list ≡ map text_of expressions

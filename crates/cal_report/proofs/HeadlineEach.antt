@@ -1,4 +1,4 @@
--- The headline's law: what is answered to each text, whatever the others are.
+-- Lemmas for the main theorem: the answer to each text, whether or not other texts are rejected.
 use Rattle.std.proofs.Common.{◌≡◌, ◌++◌, ◌∙◌, ◌||◌, ℕ, ℤ, Bool, List, [], ◌∷◌, Option, Result, Ok, Err, map, codes, refl, rules, sym, ap, subst}
 use Rattle.std.specs.Prelude.{is_err, if◌then◌else◌}
 use Rattle.std.specs.Io.KnownBytes.{Appends}
@@ -16,7 +16,7 @@ use Rattle.cal_request.specs.declared.request.Verb.TheVariants.{Calendar}
 use Rattle.cal_report.proofs.HeadlineAccepted.{AreNormalForms, text_accepted}
 use Rattle.cal_report.proofs.HeadlineLemmas.{HaveOneNormalForm, is_answered, is_report, report_of, report_of_texts}
 
--- an answer, with the line of a refusal in the place of its words
+-- an answer, with the whole error line instead of the error message
 abbrev lined : List ℕ → Answer → Result (List ℕ) (List ℕ)
 lined text (Ok report) = Ok report
 lined text (Err words) = Err (refusal_line text words)
@@ -52,7 +52,7 @@ each_answered one some asked base [] verb = tt
 each_answered one some asked base (text ∷ texts) verb =
     (answered_so one some asked base text (answer_to asked base text) verb refl, each_answered one some asked base texts verb)
 
--- the reports, the lines and the status of these answers, one text after another
+-- by induction over the texts: the reports, the error lines and the status that these answers give
 report_more : (text : List ℕ) (a : Answer) (xs ys : List (List ℕ)) → xs ≡ ys → report_in a ++ xs ≡ cons_option (result_ok (lined text a)) ys
 report_more text (Ok report) xs ys h = ap (λ (l : List (List ℕ)). report ∷ l) h
 report_more text (Err words) xs ys h = h

@@ -1,4 +1,5 @@
--- The headline's law: what elapses are, how they go on, and what the zone's clock shows there.
+-- Lemmas for the main theorem: elapse times are instants, how they continue after one of them, and what the clock of
+-- the zone shows at them.
 use Rattle.std.proofs.Common.{◌≡◌, ◌<◌, ◌+◌, ◌++◌, ◌∙◌, ℕ, suc, ℤ, pos, ◌≤ℤ◌, ◌<ℤ◌, ◌-ℤ◌, true, List, Option, None, Some, Result, Ok, Err, map, take, drop, refl, sym, ap, subst, arith}
 use Rattle.std.proofs.Math.Seq.{take-add}
 use Rattle.std.proofs.lemmas.Int.{ints}
@@ -47,7 +48,7 @@ elapses_are_instants asked base s xs now sought h i there =
     let elapse = ((AreElapses-elapses_except (map meaning s.expressions) (map meaning s.exceptions) base).members i).1 ((h.members i).0 there) in
     IsInstant-elapse (λ (e : Expression). e.fields) (λ (e : Expression). e.tz) s.expressions (map meaning s.exceptions) base i (base_low asked base now sought) elapse
 
--- Starting again
+-- Continuing after an elapse time
 
 pub goes_on : (ts exceptions : List Timed) (base e : ℤ) (xs : List ℤ) (k : ℕ) → AreElapses ts exceptions base xs → slice_get xs k ≡ Some e → AreElapses ts exceptions e (drop (suc k) xs)
 goes_on ts exceptions base e xs k h at =
@@ -61,7 +62,7 @@ in_parts ts exceptions base e xs ys k m h at more =
     let rest : ys ≡ drop (suc k) xs = one_elapses ts exceptions e ys (drop (suc k) xs) more (goes_on ts exceptions base e xs k h at) in
     rw rest (sym (take-add (suc k) m xs))
 
--- What a zone's clock shows
+-- What the clock of a zone shows
 
 pub is_shown : (fields : Fields) (tz : TimeZone) (i : ℤ) → IsPlace (timed fields tz) i
     → (local : ℕ) × (local < 7_258_118_400) × (matches (sets_of fields) local ≡ true) × (local_of tz i ≡ pos local)
@@ -80,7 +81,7 @@ none_shown tz local (Some second) never e = absurd (never second (place_of-Some 
 pub gap_has_no_place : (tz : TimeZone) (local : ℤ) → ((second : ℤ) → local_of tz second ≡ local → ⊥) → place_of tz local ≡ None
 gap_has_no_place tz local never = none_shown tz local (place_of tz local) never refl
 
--- the second of the lesser offset is the later one
+-- a smaller offset makes a local second a later instant
 later_by : (local i before after : ℤ) → i ≡ local -ℤ before → after <ℤ before → i <ℤ (local -ℤ after)
 later_by local i before after is less = omega (arith, signed_arith)
 

@@ -1,4 +1,4 @@
--- The headline's law: what is printed of accepted expressions, and nothing else.
+-- Lemmas for the main theorem: what is printed for accepted expressions and timer files, and that nothing else can be.
 use Rattle.std.proofs.Common.{◌≡◌, ◌<◌, ◌++◌, ◌∙◌, ℕ, ℤ, Bool, true, false, List, [], ◌∷◌, Option, None, Some, Result, Ok, map, take, length, codes, refl, sym, ap, subst, arith, append-nil}
 use Rattle.std.specs.Prelude.{is_err, nat_le, if◌then◌else◌}
 use Rattle.std.specs.Io.KnownBytes.{Appends}
@@ -37,9 +37,9 @@ use Rattle.cal_request.specs.declared.request.Status.{Status}
 use Rattle.cal_request.specs.declared.request.Status.TheVariants.{Fine, Refused}
 use Rattle.cal_request.specs.declared.request.Verb.TheVariants as verb
 
--- What is accepted is read so
+-- Accepted expressions are parsed as the definitions say
 
--- the law of `cal_spec` that the lemmas below are handed: valid fields have one normal form
+-- a theorem of `cal_spec` that the lemmas below take as a premise: valid fields have only one normal form
 abbrev pub HaveOneNormalForm : Type 0
 HaveOneNormalForm = (f g : Fields) → IsValidFields f → IsNormalFieldsOf f g → g ≡ normal_fields f
 
@@ -55,7 +55,7 @@ zone_is_found asked None tz h = ap Some (sym h)
 zone_is_found asked (Some (of_name name)) tz h = h
 zone_is_found asked (Some (ahead seconds)) tz h = ap Some (sym h)
 
--- Texts
+-- Reports of expressions
 
 -- the report of an accepted expression
 abbrev pub report_of : Request → ℤ → Expression → List ℕ
@@ -69,7 +69,7 @@ is_answered one asked base e verb h =
     ∙ ap (answer_with asked base e.text) (spelled_is_read one e.text e.fields h.spelled)
     ∙ ap (answer_in asked base e.text e.fields) (zone_is_found asked e.fields.zone e.tz h.zone)
 
--- the elapses of an expression are those that have no exceptions
+-- without exceptions, the elapse times of an expression are the ones that `elapses_after` computes
 alone_elapses : (t : Timed) (base : ℤ) → AreElapses (t ∷ []) [] base (elapses_after (t ∷ []) base)
 alone_elapses t base = subst (AreElapses (t ∷ []) [] base) (elapses_except-none (t ∷ []) base) (AreElapses-elapses_except (t ∷ []) [] base)
 
@@ -109,7 +109,7 @@ none_fails one asked base [] verb all = refl
 none_fails one asked base (e ∷ es) verb all =
     rw (is_answered one asked base e verb all.0) (none_fails one asked base es verb all.1)
 
--- what is reported of texts, where the base isn't rejected
+-- the report of a request for expressions, if the base time is valid
 pub report_of_texts : (asked : Request) (read : Result (List ℕ) WholeFault) (base : ℤ) → asked.verb ≡ verb.Calendar → base_in asked ≡ Ok base
     → report asked read ≡ texts_report asked base
 unfolding report
@@ -142,7 +142,8 @@ calendar_report_is one asked read base es verb sought texts all =
 
 -- Timer files
 
--- an assignment of an expression, or of an exception, by the rule has no fault
+-- assigning a valid expression or exception isn't an error, unless the list already has the maximum number of
+-- expressions
 joins_well : HaveOneNormalForm → (list : List Assignment) (a : Assignment) → (length list < most_expressions) × ((fields : Fields) × Spells a.value fields)
     → fault_joining expr_in list a ≡ None
 unfolding fault_joining
@@ -162,7 +163,7 @@ no_fault one before a false false e f h = rw (e, f) refl
 all_fine : HaveOneNormalForm → (all : List Assignment) → AreSpelled all → AreFine expr_in all
 all_fine one all h before a after split = no_fault one before a (is_expression a) (is_exception a) refl refl (h before a after split)
 
--- the entry of an expression
+-- the entry of a list has the text and the fields of the expression `e`
 record IsEntryOf (asked : Request) (entry : TimerLine Fields) (e : Expression) : Type 0 where
   text : entry.text ≡ e.text
   expr : entry.expr ≡ e.fields
@@ -200,7 +201,7 @@ meanings_are asked (entry ∷ list) [] h = absurd h
 meanings_are asked (entry ∷ list) (e ∷ es) h =
     rw (h.0.expr, h.0.zone) (ap (λ (ts : List Timed). meaning e ∷ ts) (meanings_are asked list es h.1))
 
--- the texts of entries after a label
+-- the headings of the entries are the headings of the expressions
 shown_are : (label : List ℕ) (asked : Request) (list : List (TimerLine Fields)) (es : List Expression) → AllZip (IsEntryOf asked) list es
     → flat_map (λ (entry : TimerLine Fields). heading_text label entry.text entry.expr) list ≡ flat_map (λ (e : Expression). heading_text label e.text e.fields) es
 shown_are label asked [] [] h = refl
@@ -214,7 +215,7 @@ as_many asked [] [] h some = some
 as_many asked [] (e ∷ es) h some = absurd h
 as_many asked (entry ∷ list) es h some = omega arith
 
--- the entries of both lists are those of a schedule
+-- the entries of both lists belong to the expressions and exceptions of a schedule
 record AreEntriesOf (asked : Request) (lists : Timer Fields) (s : Schedule) : Type 0 where
   expressions : AllZip (IsEntryOf asked) lists.expressions s.expressions
   exceptions : AllZip (IsEntryOf asked) lists.exceptions s.exceptions
@@ -243,7 +244,7 @@ unfolding unzoned
 all_there asked lists s h =
     rw (none_lacks asked lists.expressions s.expressions h.expressions, none_lacks asked lists.exceptions s.exceptions h.exceptions) refl
 
--- what is reported of a file's bytes, where the base isn't rejected
+-- the report of a request for a timer file, if the base time is valid
 report_of_file : (asked : Request) (bytes : List ℕ) (base : ℤ) (text : List ℕ) → asked.verb ≡ verb.Timer → base_in asked ≡ Ok base
     → timer_answer asked base (file_name asked) (Ok bytes) ≡ Ok text → report asked (Ok bytes) ≡ record { out = text; err = []; status = Fine }
 unfolding report
@@ -286,7 +287,7 @@ timer_report_is one asked bytes base s verb sought file all =
     rw (report_of_file asked bytes base _ verb sought (file_is_answered one asked bytes (file_name asked) base s file all))
     (timer_is_report asked base (entries_in bytes) s (file_entries one asked bytes s file all), record { err = refl; status = refl })
 
--- What a run has written that ended without a fault
+-- What a run has written if it returns `Ok`
 
 pub calendar_is_written : HaveOneNormalForm → (asked : Request) (base : ℤ) (es : List Expression) (old new : Option (List ℕ)) (failed : Bool) (status : Status)
     (out_old out_new err_old err_new : Option (List ℕ)) → asked.verb ≡ verb.Calendar → base_in asked ≡ Ok base → asked.texts ≡ map (λ (e : Expression). e.text) es
@@ -305,7 +306,7 @@ timer_is_written one asked base bytes s old new failed status out_old out_new er
     = subst (λ (r : Result (List ℕ) WholeFault). IsReportOf asked base s (report asked r).out × IsFine (report asked r)) (sym read) (timer_report_is one asked bytes base s verb sought file all) in
     ((report asked run.read).out, printed.0, run.holds.out, subst (Appends err_old err_new) printed.1.err run.holds.err, run.holds.status ∙ printed.1.status)
 
--- Only one
+-- Reports and lists of elapse times are unique
 
 pub one_elapses : (ts exceptions : List Timed) (base : ℤ) (xs ys : List ℤ) → AreElapses ts exceptions base xs → AreElapses ts exceptions base ys → xs ≡ ys
 one_elapses ts exceptions base xs ys h k = AreElapses-only ts exceptions base xs h ∙ sym (AreElapses-only ts exceptions base ys k)

@@ -1,4 +1,4 @@
--- A prefix of the reports of several texts: whole ones, and a prefix of the next.
+-- Lemmas on a prefix of the reports of several texts, which consists of complete reports and a prefix of the next one.
 use Rattle.std.proofs.Common.{◌≡◌, ◌⊎◌, ◌<◌, ◌++◌, ◌∙◌, inl, inr, ℕ, ℤ, Bool, List, [], ◌∷◌, Option, None, Some, Result, Ok, map, length, codes, refl, sym, ap, subst, arith, append-nil, append_assoc, length-append, take}
 use Rattle.std.proofs.Math.Seq.{take-append_seam}
 use Rattle.std.proofs.lemmas.List.{append_cancel_left, length-map}
@@ -19,9 +19,9 @@ use Rattle.cal_request.specs.declared.request.RunFault.{RunFault}
 use Rattle.cal_request.specs.declared.request.Status.{Status}
 use Rattle.cal_request.specs.declared.request.Verb.TheVariants.{Calendar}
 
--- A prefix of lists joined by an element
+-- Prefixes of lists that are joined with a separator
 
--- a prefix of a list, an element and more: within the list, or past the element
+-- a prefix of `xs ++ (c ∷ more)` either ends within `xs`, or contains `xs` and the separator `c`
 cut_once : {A : Type 0} (xs : List A) (c : A) (more front rest : List A) → xs ++ (c ∷ more) ≡ front ++ rest
     → ((tail : List A) × (xs ≡ front ++ tail)) ⊎ ((ys : List A) × (front ≡ xs ++ (c ∷ ys)) × (more ≡ ys ++ rest))
 cut_once xs c more [] rest e = inl (xs, refl)
@@ -37,7 +37,7 @@ cut_once (x ∷ xs) c more (y ∷ front) rest e =
       | inr past ↦ inr (past.0, ap (λ z. z ∷ front) (sym one) ∙ ap (λ zs. x ∷ zs) past.1, past.2)
     ]
 
--- whole lists, each with the element after it, and a prefix of the next
+-- `front` consists of complete lists, each followed by the separator `c`, and of a prefix of the next list
 pub record CutAmong {A : Type 0} (c : A) (lists : List (List A)) (front : List A) : Type 0 where
   pub before : List (List A)
   pub list : List A
@@ -70,7 +70,7 @@ cut_among c xs (ys ∷ lists) front rest e =
           })
     ]
 
--- there is only one such cut
+-- there is only one way to divide a prefix like that
 one_cut : {A : Type 0} (c : A) (lists b d : List (List A)) (x y : List A) (a e : List (List A)) (last rest more others : List A)
     → lists ≡ b ++ (x ∷ a) → lists ≡ d ++ (y ∷ e) → x ≡ last ++ rest → y ≡ more ++ others
     → flat_map (λ xs. xs ++ (c ∷ [])) b ++ last ≡ flat_map (λ xs. xs ++ (c ∷ [])) d ++ more → (b ≡ d) × (last ≡ more)
@@ -99,7 +99,7 @@ one_cut c (v ∷ lists) (z ∷ b) (w ∷ d) x y a e last rest more others p q cu
     let later = one_cut c lists b d x y a e last rest more others left right cut cut_again parts in
     (ap (λ zs. z ∷ zs) later.0 ∙ ap (λ front. front ∷ d) heads, later.1)
 
--- what is mapped to the parts of a list
+-- the parts of `xs` that `f` maps to `before`, `y` and `after`
 record MapAmong {A B : Type 0} (f : A → B) (xs : List A) (before : List B) (y : B) (after : List B) : Type 0 where
   first : List A
   x : A
@@ -136,7 +136,7 @@ same_front : {A : Type 0} (xs b d more others : List A) → xs ≡ b ++ more →
 same_front xs b d more others p q long =
     sym (take-append_seam b more) ∙ ap (take (length b)) (sym p ∙ q) ∙ ap (λ n. take n (d ++ others)) long ∙ take-append_seam d others
 
--- One of several texts
+-- Requests for one of several texts
 
 same_base : (asked : Request) (text : List ℕ) (base : Option (List ℕ)) → base_from (for_text asked text) base ≡ base_from asked base
 unfolding stamp_in
@@ -156,7 +156,7 @@ accepted_at asked [] e after all = all.0
 accepted_at asked (d ∷ before) e after all = accepted_at asked before e after all.1
 
 module _ (one : HaveOneNormalForm) (asked : Request) (read : Result (List ℕ) WholeFault) (base : ℤ) (verb : asked.verb ≡ Calendar) (sought : base_in asked ≡ Ok base) where
-  -- the report of one of the texts is that of a request for it alone
+  -- the report of an expression equals the standard output of a request for this expression alone
   reported_alone : (e : Expression) (text : List ℕ) → IsAccepted asked e → IsReportOf asked base (alone e) text → (report (for_text asked e.text) read).out ≡ text
   reported_alone e text accepted is =
       let again = for_text asked e.text in
@@ -194,7 +194,7 @@ module _ (one : HaveOneNormalForm) (asked : Request) (read : Result (List ℕ) W
             (accepted_alone asked parts.x.text parts.x accepted) begins;
       }
 
-  -- a prefix of the reports of some expressions, which are all that the output has
+  -- a prefix of standard output resumes, if the output consists of the reports of these expressions
   reports_resume : (es : List Expression) (front rest : List ℕ) → AllByRecursion (IsAccepted asked) es → AreReportsOf asked base es (report asked read).out
       → 0 < length es → (report asked read).out ≡ front ++ rest → ResumesAmong asked base es read front
   reports_resume [] front rest all reports some cut = absurd (omega arith)
@@ -209,7 +209,7 @@ module _ (one : HaveOneNormalForm) (asked : Request) (read : Result (List ℕ) W
   texts_resume some es front rest among any cut =
       reports_resume es front rest (all_accepted asked asked.texts es among) (reports_are_among one some asked read base es verb sought among) any cut
 
--- there is only one such place
+-- there is only one place at which the prefix ends
 pub one_place : (asked : Request) (base : ℤ) (es : List Expression) (read : Result (List ℕ) WholeFault) (front : List ℕ) (p q : ResumesAmong asked base es read front)
     → (p.before ≡ q.before) × (p.last ≡ q.last)
 one_place asked base es read front p q =
@@ -220,7 +220,7 @@ one_place asked base es read front p q =
     (ap (λ (t : List ℕ). t ++ p.last) (flat_map-map line r p.before) ∙ sym p.layout ∙ q.layout ∙ ap (λ (t : List ℕ). t ++ q.last) (sym (flat_map-map line r q.before))) in
     (same_front es p.before q.before (p.e ∷ p.after) (q.e ∷ q.after) p.texts q.texts (sym (length-map p.before r) ∙ ap length cut.0 ∙ length-map q.before r), cut.1)
 
--- what a run wrote of several texts, however it ended, is such a prefix
+-- whatever a run for several texts returns, what it wrote is a prefix that resumes
 pub texts_cut : HaveOneNormalForm → AreNormalForms → (asked : Request) (base : ℤ) (es : List Expression) (result : Result Status RunFault) (old new : Option (List ℕ))
     (failed : Bool) (out_old out_new err_old err_new : Option (List ℕ)) → asked.verb ≡ Calendar → base_in asked ≡ Ok base → AreAcceptedAmong asked asked.texts es
     → 0 < length es → (run : ByReading asked old new failed (IsReported result out_old out_new err_old err_new))

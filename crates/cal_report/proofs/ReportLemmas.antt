@@ -1,4 +1,4 @@
--- Lemmas on what a whole run wrote, and how it ended.
+-- Lemmas on what a whole run wrote and what it returned.
 use Rattle.std.proofs.Common.{◌≡◌, ℕ, ℤ, Bool, true, false, ◌&&◌, List, [], Option, Result, Ok, Err, IfOk, refl, sym, codes}
 use Rattle.std.proofs.lemmas.List.{append-nil}
 use Rattle.std.proofs.KnownBytes.{Appends-nil}
@@ -18,17 +18,17 @@ use Rattle.cal_request.specs.declared.request.Status.TheVariants.{Fine, Refused}
 use Rattle.cal_report.proofs.AnswerLemmas.{writes_nothing}
 use Rattle.cal_text.proofs.General.{if_ok}
 
--- one report
+-- the run wrote one report, or a prefix of it
 pub report_reported : (r : Result Status RunFault) (a b e : Option (List ℕ)) (read : Result (List ℕ) WholeFault) (text : List ℕ) (answer : Result (List ℕ) (List ℕ))
     → answer ≡ Ok text → IfOk r (λ status. status ≡ Fine) → IsHad read → Writes a b r text → IsReported r a b e e read (whole_report answer)
 report_reported r a b e read text answer is status had out = rw is (record { status = status; had = if_ok r (IsHad read) had; out = out; err = writes_nothing e r; unread = λ h. absurd (had h) })
 
--- one refusal
+-- the run wrote one error line, or a prefix of it
 pub refusal_reported : (r : Result Status RunFault) (a d e : Option (List ℕ)) (read : Result (List ℕ) WholeFault) (line : List ℕ) (answer : Result (List ℕ) (List ℕ))
     → answer ≡ Err line → IfOk r (λ status. status ≡ Refused) → IsHad read → Writes d e r line → IsReported r a a d e read (whole_report answer)
 refusal_reported r a d e read line answer is status had err = rw is (record { status = status; had = if_ok r (IsHad read) had; out = writes_nothing a r; err = err; unread = λ h. absurd (had h) })
 
--- By what was read
+-- The contract of `run` in each of its cases
 
 nothing_had : IsHad (Ok [])
 nothing_had h = cc
@@ -37,14 +37,14 @@ unread_if : (timer : Bool) (a : Option (List ℕ)) → ReadsIf (timer && false) 
 unread_if true a = (refl, refl)
 unread_if false a = (refl, refl)
 
--- a base that is rejected
+-- an invalid base time
 pub base_refused : (asked : Request) (a b d e : Option (List ℕ)) (failed : Bool) (r : Result Status RunFault) (fault : StampFault) → base_in asked ≡ Err fault → failed ≡ false
     → IfOk r (λ status. status ≡ Refused) → Writes d e r (refusal_line (codes "--base-time") (words_of fault)) → ByReading asked a a failed (IsReported r b b d e)
 unfolding report
 base_refused asked a b d e failed r fault is works status err =
     record { read = Ok []; input = rw is (unread_if (is_timer asked.verb) a); fails = works; holds = rw is (refusal_reported r b d e (Ok []) _ _ refl status nothing_had err) }
 
--- texts
+-- arguments of a verb other than `timer`
 pub texts_reported : (asked : Request) (a b c d e : Option (List ℕ)) (failed : Bool) (r : Result Status RunFault) (base : ℤ) → base_in asked ≡ Ok base → is_timer asked.verb ≡ false
     → failed ≡ false → IfOk r (λ status. status ≡ (texts_report asked base).status) → Writes b c r (texts_report asked base).out → Writes d e r (texts_report asked base).err
     → ByReading asked a a failed (IsReported r b c d e)
@@ -57,7 +57,7 @@ texts_reported asked a b c d e failed r base is plain works status out err =
       holds = rw (is, plain) (record { status = status; had = if_ok r (IsHad (Ok [])) nothing_had; out = out; err = err; unread = λ h. absurd (nothing_had h) });
     }
 
--- nothing written is a prefix of any text, and so is the whole of it
+-- the empty text is a prefix of every text, and every text is a prefix of itself
 pub nothing_front : (a : Option (List ℕ)) (text : List ℕ) → AppendsFront a a text
 nothing_front a text = record { front = []; rest = text; whole = refl; written = Appends-nil a }
 

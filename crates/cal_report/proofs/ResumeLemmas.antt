@@ -1,4 +1,5 @@
--- The law on a cut output: how many elapses are in a prefix of a report, and what the same begun again shows.
+-- Lemmas for the theorem on cut output: how many elapse times have a complete first line in a prefix of a report, and
+-- what a request shows that continues after them.
 use Rattle.std.proofs.Common.{◌≡◌, ◌↔◌, ◌≤◌, ◌<◌, ◌+◌, ◌++◌, ◌∙◌, ℕ, zero, suc, ℤ, Bool, true, false, List, [], ◌∷◌, Option, None, Some, Result, Ok, Err, map, take, drop, length, codes, nat_le, refl, sym, ap, subst, arith, append-nil, append_assoc, length-append}
 use Rattle.std.proofs.Math.Seq.{take-append_seam}
 use Rattle.std.proofs.lemmas.Bool.Decides.{nat_tests}
@@ -26,12 +27,12 @@ use Rattle.cal_report.proofs.HeadlineElapses.{goes_on}
 use Rattle.cal_report.proofs.HeadlineLemmas.{HaveOneNormalForm, calendar_report_is, one_elapses, timer_report_is}
 use Rattle.cal_text.proofs.General.{slice_get-taken}
 
--- The first line of an elapse
+-- The first line of an elapse time
 
 abbrev first_line : Zone → ℕ → ℤ → List ℕ
 first_line local number elapse = label_text number ++ (instant_text local elapse ++ codes "\n")
 
--- what follows it of the elapse's lines
+-- the lines of an elapse time after the first one
 abbrev more_lines : Zone → ℤ → ℤ → List ℕ
 more_lines local now elapse =
     utc_line local elapse ++ (codes "       From now: " ++ (distance_text (micros_of now) (micros_of elapse) ++ (codes "\n" ++ [])))
@@ -58,9 +59,10 @@ texts_in_parts local now number (x ∷ xs) ys =
     ∙ ap (λ (n : ℕ). elapse_texts local now (number + 1) xs ++ elapse_texts local now n ys) later)
     ∙ sym (append_assoc (elapse_text local now number x) (elapse_texts local now (number + 1) xs) (elapse_texts local now (number + length (x ∷ xs)) ys))
 
--- Where first lines end
+-- Where the first lines end
 
--- the bytes up to the end of the first line of the elapse after `before`, where those before all of them are `start`
+-- the number of bytes up to the end of the first line of the elapse time after `before`; `start` bytes come before all
+-- elapse times
 abbrev line_end : Zone → ℤ → ℕ → ℕ → List ℤ → ℤ → ℕ
 line_end local now number start before elapse =
     start + (length (elapse_texts local now number before) + length (first_line local (number + length before) elapse))
@@ -80,7 +82,7 @@ end_of_later local now number start x before elapse =
     = ap (λ (n : ℕ). length (first_line local n elapse)) (omega arith) in
     omega (arith, same, length-append (elapse_text local now number x) (elapse_texts local now (number + 1) before))
 
--- no line ends before the first one
+-- no first line ends before that of the first elapse time
 end_low : (local : Zone) (now : ℤ) (number start : ℕ) (x : ℤ) (xs before : List ℤ) (elapse : ℤ) (after : List ℤ)
     → x ∷ xs ≡ before ++ (elapse ∷ after) → start + length (first_line local number x) ≤ line_end local now number start before elapse
 end_low local now number start x xs [] elapse after split =
@@ -92,7 +94,7 @@ end_low local now number start x xs (y ∷ before) elapse after split =
     let line : length (first_line local number x) ≡ length (first_line local number y) = ap (λ (e : ℤ). length (first_line local number e)) same in
     omega (arith, line, line_within local now number y, end_of_later local now number start y before elapse)
 
--- exactly the first k first lines end within that many bytes
+-- exactly the first `k` elapse times have a first line that ends within `size` bytes
 record End (local : Zone) (now : ℤ) (number start size : ℕ) (xs : List ℤ) (k : ℕ) : Type 0 where
   few : k ≤ length xs
   whole : (before : List ℤ) (elapse : ℤ) (after : List ℤ) → xs ≡ before ++ (elapse ∷ after)
@@ -153,9 +155,9 @@ ends local now number start size (x ∷ xs) =
     let later = ends local now (number + 1) (start + length (elapse_text local now number x)) size xs in
     ends_from local now number start size x xs later.0 later.1 (nat_le (start + length (first_line local number x)) size) refl
 
--- The elapses that are in a prefix
+-- The elapse times whose first line is complete in a prefix
 
--- of two prefixes of one text the shorter begins the longer
+-- if two texts are prefixes of the same text, the longer one begins with the shorter one
 longer_begins : (front rest lead more : List ℕ) → front ++ rest ≡ lead ++ more → length lead ≤ length front → Begins front lead
 longer_begins front rest lead more same within =
     let is : take (length lead) front ≡ lead
@@ -173,7 +175,7 @@ some_shown : (local : Zone) (now : ℤ) (before : List ℤ) (elapse : ℤ) (afte
 some_shown local now [] elapse after = refl
 some_shown local now (x ∷ before) elapse after = refl
 
--- what follows an elapse's first line in a report
+-- what follows the first line of an elapse time in a report
 abbrev after_line : Request → List ℤ → ℤ → List ℤ → List ℕ
 after_line asked before elapse after =
     more_lines asked.local asked.now elapse ++ elapse_texts asked.local asked.now (length before + 1 + 1) after
@@ -231,7 +233,7 @@ some_stand asked s shown front rest cut =
       },
     )
 
--- a list, split at an index
+-- a list, split at the index `k` into the elements before it, the element at it, and the elements after it
 record SplitAt (xs : List ℤ) (k : ℕ) : Type 0 where
   before : List ℤ
   elapse : ℤ
@@ -252,7 +254,8 @@ split_at (x ∷ xs) (suc k) within =
       number = ap suc later.number;
     }
 
--- the line after the fewer ones is complete by the greater number, and isn't by the lesser
+-- two different numbers of complete first lines contradict each other: the line with index `k` would be complete by
+-- `m`, but not by `k`
 not_fewer : (asked : Request) (s : Schedule) (shown : List ℤ) (front : List ℕ) (k m : ℕ)
     → Stand asked s shown front k → Stand asked s shown front m → k < m → ⊥
 not_fewer asked s shown front k m h g less =
@@ -268,9 +271,9 @@ one_stands asked s shown front k m h g =
     let at_most : m < k → ⊥ = not_fewer asked s shown front m k g h in
     omega (arith, at_least, at_most)
 
--- The same begun again
+-- The continuing request
 
--- the elapses after the base to go on from are those after the first k
+-- the elapse times after the base time of the continuing request are those after the first `k`
 elapses_from : (ts exceptions : List Timed) (base from : ℤ) (n : ℕ) (xs : List ℤ) (k : ℕ) → AreElapses ts exceptions base xs → IsBaseAfter base (take n xs) k from
     → AreElapses ts exceptions from (drop k xs)
 elapses_from ts exceptions base from n xs zero h after = subst (λ (b : ℤ). AreElapses ts exceptions b xs) (sym after) h
@@ -310,7 +313,7 @@ module _ (asked : Request) (base : ℤ) (shown : List ℤ) (k : ℕ) (again : Re
       ∙ (ap (λ (z : Zone). headings s ++ elapses_text z again.now (drop k shown)) begun.local
       ∙ ap (λ (i : ℤ). headings s ++ elapses_text asked.local i (drop k shown)) begun.now))
 
--- Reports
+-- How a prefix of a report resumes
 
 of_reports : (asked : Request) (base : ℤ) (e : Expression) (text : List ℕ) (reports : List (List ℕ))
     → AllZip (λ e report. IsReportOf asked base (alone e) report) (e ∷ []) reports
@@ -322,7 +325,7 @@ of_reports asked base e text (a ∷ (b ∷ reports)) each layout = absurd each.1
 one_report_of : (asked : Request) (base : ℤ) (e : Expression) (text : List ℕ) → AreReportsOf asked base (e ∷ []) text → IsReportOf asked base (alone e) text
 one_report_of asked base e text h = of_reports asked base e text h.reports h.each h.layout
 
--- the report of one accepted text
+-- a request for one accepted text prints the report of its expression
 pub text_report : HaveOneNormalForm → (asked : Request) (read : Result (List ℕ) WholeFault) (base : ℤ) (e : Expression)
     → asked.verb ≡ Calendar → base_in asked ≡ Ok base → asked.texts ≡ e.text ∷ [] → IsAccepted asked e
     → IsReportOf asked base (alone e) (report asked read).out
@@ -366,9 +369,9 @@ file_resumes one asked bytes base s front rest verb sought file all cut =
     (timer_report_is one again bytes begun.from s (begun.verb ∙ verb) begun.sought file
     (all_accepted_again asked base shown k again begun s all)).0)
 
--- What a run leaves, cut or whole
+-- What a run writes, complete or cut
 
--- what it wrote is a prefix of what it was to write
+-- whatever a call returns, what it wrote is a prefix of what it should have written
 pub front_written : {T E : Type 0} (result : Result T E) (old new : Option (List ℕ)) (text : List ℕ) → Writes old new result text → AppendsFront old new text
 front_written (Ok x) old new text h = record { front = text; rest = []; whole = sym (append-nil text); written = h }
 front_written (Err e) old new text h = h

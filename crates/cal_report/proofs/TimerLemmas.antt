@@ -1,4 +1,4 @@
--- Lemmas on the report of a timer file: the merge of its elapses, line by line, and the texts of its lines.
+-- Lemmas on the report of a timer file: merging the elapse times line by line, and the headings of the lines.
 use Rattle.std.proofs.Common.{◌≢◌, Result, Ok, ◌≡◌, ℕ, zero, suc, ◌+◌, ◌<◌, ◌++◌, Bool, true, false, List, [], ◌∷◌, length, map, take, drop, get_or, Option, None, Some, ℤ, pos, ◌≤ℤ◌, refl, ap, ◌∙◌, string_bytes, arith}
 use Rattle.std.specs.List.{find, flat_map}
 use Rattle.std.specs.Option.{option_map, unwrap_or}
@@ -26,11 +26,11 @@ pub none_mapped : (o : Option (TimerLine Fields)) → option_map (λ (e : TimerL
 none_mapped None h = refl
 none_mapped (Some e) h = cc
 
--- one line more
+-- the lines up to and including the index are the lines before it and the line at it
 pub shown_more : (lines : List declared_line.TimerLine) (i : ℕ) (d : declared_line.TimerLine) → i < length lines → map shown (take (i + 1) lines) ≡ map shown (take i lines) ++ shown (get_or lines i d) ∷ []
 shown_more lines i d h = rw (take_more lines i d h) (map-append shown (take i lines) (get_or lines i d ∷ []))
 
--- where the zone of a line isn't there, some line is the first
+-- if some line has a missing zone, then there is a first such line
 found_there : (p : TimerLine Fields → Bool) (e : TimerLine Fields) (es : List (TimerLine Fields)) (here : Bool) → p e ≡ here → (find p es ≢ None) → find p (e ∷ es) ≢ None
 found_there p e es true is h = rw is (λ never. cc)
 found_there p e es false is h = rw is h
@@ -46,7 +46,7 @@ pub zoned_at : (asked : Request) (lines : List declared_line.TimerLine) (i : ℕ
 zoned_at asked lines i line h is none =
     false_from_ne_true (lacks_zone asked (shown line)) (λ lacks. line_found (lacks_zone asked) lines i line h is lacks (none_mapped (find (lacks_zone asked) (map shown lines)) none))
 
--- both lists have all their zones
+-- if no line number is found in the two lists together, none is found in either list
 lesser_none : (a b : Option ℕ) → lesser_line a b ≡ None → (a ≡ None) × (b ≡ None)
 lesser_none None b h = (refl, h)
 lesser_none (Some x) None h = cc
@@ -57,23 +57,23 @@ pub all_zoned : (asked : Request) (lists : Timer Fields) → unzoned asked lists
 unfolding unzoned
 all_zoned asked lists h = lesser_none (first_unzoned asked lists.expressions) (first_unzoned asked lists.exceptions) h
 
--- the elapses of all of them
+-- the merge yields the elapse times of the timer file
 pub merge_whole : (asked : Request) (base : ℤ) (lists : Timer Fields) (merge : Merge) → IsMergeOf asked base lists merge
     → merged merge ≡ elapses_of_lists asked base lists
 merge_whole asked base lists merge m = m.is
 
--- which are instants
+-- the elapse times that the merge yields are instants
 pub merge_instants : (asked : Request) (base : ℤ) (lists : Timer Fields) (merge : Merge) → IsMergeOf asked base lists merge → pos 0 ≤ℤ base → AreInstants (merged merge)
 unfolding timed_entry elapses_of_lists
 merge_instants asked base lists merge m low i h =
     IsInstant-elapse (λ (e : TimerLine Fields). e.expr) (λ (e : TimerLine Fields). unwrap_or (zone_for asked e.expr.zone) UTC) lists.expressions
     (map (timed_entry asked) lists.exceptions) base i low (rw (merge_whole asked base lists merge m) at h)
 
--- the text of one line of a list, after that label
+-- the heading of one line of a list, with this label
 abbrev pub line_text : List ℕ → declared_line.TimerLine → List ℕ
 line_text label line = heading_text label (string_bytes line.text) line.expr
 
--- the texts of the lines from an index on begin with that of the line there
+-- the headings of the lines from an index on begin with the heading of the line at the index
 pub lines-first : (label : List ℕ) (lines : List declared_line.TimerLine) (i : ℕ) (line : declared_line.TimerLine) (text : List ℕ) → i < length lines
     → line ≡ get_or lines i line → text ≡ string_bytes line.text → flat_map (line_text label) (drop i lines) ≡ heading_text label text line.expr ++ flat_map (line_text label) (drop (i + 1) lines)
 lines-first label lines i line text h is so = item_first (line_text label) i lines line h (ap (λ bytes. heading_text label bytes line.expr) so ∙ ap (line_text label) is)
@@ -82,12 +82,12 @@ pub headings-all : (label : List ℕ) (lines : List declared_line.TimerLine) →
 unfolding headings_text
 headings-all label lines = flat_map-map (λ e. heading_text label e.text e.expr) shown lines
 
--- what was read is what the report is of
+-- the report of the parsed timer file is the answer to what was read
 pub plan_answers : (asked : Request) (base : ℤ) (read : Result (List ℕ) WholeFault) (lists : Timer Fields) (merge : Merge) → timer_text expr_in read ≡ Ok lists
     → IsMergeOf asked base lists merge → (name : List ℕ) → timer_answer asked base name read ≡ Ok (plan_text asked (record { timer = lists; merge = merge }))
 unfolding timer_answer timer_report
 plan_answers asked base read lists merge is m name = rw (is, m.found, merge_whole asked base lists merge m) refl
 
--- what was read where a list, or a fault other than out of memory, came of it
+-- if parsing returns lists, or an error other than `NoMemory`, then reading didn't run out of memory
 pub had_lists : (read : Result (List ℕ) WholeFault) (lists : Timer Fields) → timer_text expr_in read ≡ Ok lists → IsHad read
 had_lists read lists is none = let never = rw none at is in cc

@@ -1,4 +1,4 @@
--- The definitions, tried on worked local seconds and on a whole request.
+-- Examples that test the definitions, on local seconds and on whole requests.
 use Rattle.jiff.specs.Types.{UTC, Date}
 use Rattle.std.specs.FinMap.{empty}
 use Rattle.cal_zone.specs.headline.Zone.{utc, zone_of}
@@ -126,7 +126,7 @@ noon_thirty-matches_again : matches (sets_of noon_thirty) 1_704_198_600 ≡ true
 unfolding matches
 noon_thirty-matches_again = rw (inside 1_704_198_600 (omega arith), day_after-is, noon_thirty-on_again, noon_thirty-at) refl
 
--- so both are elapses in UTC
+-- every matching local second is an elapse time in UTC
 elapse_at : (local : ℕ) → local < 7_258_118_400 → matches (sets_of noon_thirty) local ≡ true → IsElapse (timed noon_thirty UTC ∷ []) (pos local)
 unfolding timed
 elapse_at local h is =
@@ -138,7 +138,7 @@ noon_thirty-elapses = elapse_at 1_704_112_200 (omega arith) noon_thirty-matches
 noon_thirty-elapses_again : IsElapse (timed noon_thirty UTC ∷ []) (pos 1_704_198_600)
 noon_thirty-elapses_again = elapse_at 1_704_198_600 (omega arith) noon_thirty-matches_again
 
--- A report with a refusal
+-- A report with an error line
 
 two_spans : Request
 two_spans = record { verb = Timespan; texts = codes "1h" ∷ codes "5x" ∷ []; iterations = 1; base = None; now = pos 0; local = utc; zones = empty }
@@ -155,7 +155,7 @@ two_spans-status : (report two_spans (Ok [])).status ≡ Refused
 unfolding two_spans report texts_report base_in texts_status timespan_answer timespan_report units_text counts_in_row span_of pairs_in words_in worth_of is_number unit_named number_worth words_for unit_name digits
 two_spans-status = refl
 
--- A request that is accepted, so that the headline speaks of it
+-- An accepted request, to which the main theorem applies
 
 -- `*:*:*`
 every_second : Fields
@@ -183,7 +183,7 @@ every_second-spelled = record {
   normal = record { weekdays = refl; year = refl; month = refl; day = refl; hour = refl; minute = refl; second = refl; from_end = refl; suffix = refl };
 }
 
--- Mon 2024-01-01 12:30:00 is the present
+-- a request for two elapse times of `*:*:*`, at 12:30:00 UTC on Mon 2024-01-01
 two_seconds : Request
 two_seconds = record { verb = Calendar; texts = codes "*:*:*" ∷ []; iterations = 2; base = None; now = pos 1_704_112_200; local = utc; zones = empty }
 
@@ -214,13 +214,13 @@ every-elapses =
 next_is_least : (j : ℤ) → pos 1_704_112_200 <ℤ j → pos 1_704_112_201 ≤ℤ j
 next_is_least j h = omega (arith, ints)
 
--- so the first elapse is a second after the present, whatever list has them
+-- so the first elapse time is a second after the present, in every list that has exactly the elapse times
 every-first : (xs : List ℤ) → AreElapsesOf (alone every) (pos 1_704_112_200) xs → slice_get xs 0 ≡ Some (pos 1_704_112_201)
 every-first xs h =
     rw (AreElapses-only (map meaning (every ∷ [])) [] (pos 1_704_112_200) xs h, elapses_except-none (map meaning (every ∷ [])) (pos 1_704_112_200))
     (first_elapse-least (map meaning (every ∷ [])) (pos 1_704_112_200) (pos 1_704_112_201) (omega (arith, ints)) every-elapses (λ j above _. next_is_least j above))
 
--- A file of this one expression
+-- A timer file with this one expression
 every_file : List ℕ
 every_file = codes "[Timer]\nOnCalendar=*:*:*\n"
 
@@ -272,7 +272,7 @@ every_file-is = record {
   some = omega arith;
 }
 
--- The same begun again after its first elapse, which is the base then
+-- The request that continues after the first elapse time, which is its base time
 
 one_second : Request
 one_second = record { verb = Calendar; texts = codes "*:*:*" ∷ []; iterations = 1; base = Some (codes "@1704112201"); now = pos 1_704_112_200; local = utc; zones = empty }

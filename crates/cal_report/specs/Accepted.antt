@@ -1,4 +1,4 @@
--- What is reported of a text that a verb accepted, and what is said of one that it rejected.
+-- The report of a valid argument, and the error message for an invalid one.
 use Rattle.std.specs.Prelude.{ℕ, List, [], codes}
 use Rattle.cal_span.specs.SpanFault.{words_of as span_words}
 use Rattle.cal_elapse.specs.Rest.{rest_of}
@@ -15,25 +15,25 @@ use Rattle.cal_report.specs.declared.accepted.Refusal.{Refusal}
 use Rattle.cal_request.specs.declared.request.Verb.{Verb}
 use Rattle.cal_report.specs.declared.accepted.Refusal.TheVariants.{Spec, NoSuchZone, Stamp, Span, NoMemory}
 
--- the verb by which it was read
+-- the verb that takes arguments of this kind
 abbrev pub verb_of : Accepted → Verb
 verb_of (Calendar expr elapses) = Verb.Calendar
 verb_of (Timestamp moment) = Verb.Timestamp
 verb_of (Timespan span) = Verb.Timespan
 
--- its elapses are instants
+-- the elapse times of a calendar expression are all instants; nothing is required of other arguments
 abbrev pub IsTimely : Accepted → Type 0
 IsTimely (Calendar expr elapses) = AreInstants (rest_of elapses)
 IsTimely (Timestamp moment) = Unit {0}
 IsTimely (Timespan span) = Unit {0}
 
--- the report of what was read from the text
+-- the report of a valid argument, with its text as the user gave it
 abbrev pub report_text : Request → List ℕ → Accepted → List ℕ
 report_text asked text (Calendar expr elapses) = report_of_elapses asked text expr (rest_of elapses)
 report_text asked text (Timestamp moment) = timestamp_report asked text moment.micros
 report_text asked text (Timespan span) = timespan_report text span.micros
 
--- the words of a refusal
+-- the error message
 abbrev pub refusal_words : Refusal → List ℕ
 refusal_words (Spec fault) = spec_words fault
 refusal_words NoSuchZone = codes "no such zone"

@@ -1,5 +1,5 @@
--- What is answered to one text, and to texts in a row: the reports on standard output, the refusals on standard error,
--- and the status.
+-- The answer to one argument, and to several in order: reports on standard output, error lines on standard error, and
+-- the status.
 use Rattle.std.specs.Prelude.{ℕ, ◌<◌, Bool, List, [], ◌∷◌, length, take, Option, Result, Ok, Err, is_err, if◌then◌else◌, codes}
 use Rattle.std.specs.Io.KnownBytes.{Appends}
 use Rattle.std.specs.List.{list_any, flat_map, join_by}
@@ -7,51 +7,52 @@ use Rattle.cal_bytes.specs.headline.Bytes.{joined}
 use Rattle.cal_request.specs.declared.request.Status.{Status}
 use Rattle.cal_request.specs.declared.request.Status.TheVariants.{Fine, Refused}
 
--- the report of a text that was accepted, or the words of its refusal
+-- the report of a valid argument, or the error message for an invalid one
 abbrev pub Answer : Type 0
 Answer = Result (List ℕ) (List ℕ)
 
--- the report, if there is one
+-- the report of an answer as a list, which is empty for an error message
 abbrev pub report_in : Answer → List (List ℕ)
 report_in (Ok report) = report ∷ []
 report_in (Err words) = []
 
--- the line of a refusal: `TEXT: WORDS`
+-- the error line: `TEXT: WORDS`
 abbrev pub refusal_line : List ℕ → List ℕ → List ℕ
 refusal_line text words = joined (text ∷ codes ": " ∷ words ∷ codes "\n" ∷ [])
 
--- this line, if the text was rejected
+-- the error line if the argument is invalid, and otherwise nothing
 abbrev pub refusal_in : List ℕ → Answer → List ℕ
 refusal_in text (Ok report) = []
 refusal_in text (Err words) = refusal_line text words
 
--- what comes before a report: an empty line, unless it is the first
+-- what comes before a report: an empty line, unless it is the first report
 abbrev pub lead_text : Bool → List ℕ
 lead_text is_later = if is_later then codes "\n" else []
 
--- the report in its place, if there is one
+-- the report with the empty line before it, or nothing if the argument is invalid
 abbrev pub later_text : Bool → Answer → List ℕ
 later_text is_later (Ok report) = joined (lead_text is_later ∷ report ∷ [])
 later_text is_later (Err words) = []
 
--- the status of one text
+-- the status after one argument
 abbrev pub status_in : Answer → Status
 status_in (Ok report) = Fine
 status_in (Err words) = Refused
 
--- The reports in the order of the texts, with one empty line between each two, which belongs to the later one.
+-- The reports in the order of the arguments, with an empty line between consecutive reports.
 unfoldable pub reports_text : (List ℕ → Answer) → List (List ℕ) → List ℕ
 reports_text answer texts = join_by (λ report. report) (codes "\n") (flat_map (λ text. report_in (answer text)) texts)
 
--- the lines of the refusals in the order of the texts
+-- the error lines in the order of the arguments
 unfoldable pub refusals_text : (List ℕ → Answer) → List (List ℕ) → List ℕ
 refusals_text answer = flat_map (λ text. refusal_in text (answer text))
 
--- rejected where some text was
+-- `Refused` if any argument is invalid, and otherwise `Fine`
 unfoldable pub texts_status : (List ℕ → Answer) → List (List ℕ) → Status
 texts_status answer texts = if list_any (λ text. is_err (answer text)) texts then Refused else Fine
 
--- Where the answers ended before a text: those to the texts before it are written whole, and nothing more is.
+-- The run stopped at one of the arguments: the answers to the arguments before it are written completely, and nothing
+-- else is written.
 pub record IsAnsweredBefore (answer : List ℕ → Answer) (texts : List (List ℕ)) (out_old out_new err_old err_new : Option (List ℕ)) : Type 0 where
   pub count : ℕ
   pub before : count < length texts

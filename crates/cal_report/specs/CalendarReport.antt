@@ -18,32 +18,33 @@ use Rattle.cal_request.specs.headline.Request.{Request}
 use Rattle.cal_report.specs.headline.CalendarReport.{heading_text}
 use Rattle.cal_report.specs.headline.ReportLines.{original_label}
 
--- the report of an expression with these elapses: the text, its normal form, and as many of the elapses as are asked
--- for, or all where there are fewer
+-- the report of an expression that has these elapse times: its heading, and its first elapse times, at most
+-- `asked.iterations` of them
 abbrev pub report_of_elapses : Request → List ℕ → Fields → List ℤ → List ℕ
 report_of_elapses asked text fields elapses =
     joined (heading_text original_label text fields ∷ elapses_text asked.local asked.now (take asked.iterations elapses) ∷ [])
 
--- the report of an expression in a zone, whose elapses are those after the base
+-- the report of an expression in a zone, with its elapse times after the base time
 unfoldable pub calendar_report : Request → ℤ → List ℕ → Fields → TimeZone → List ℕ
 calendar_report asked base text fields tz = report_of_elapses asked text fields (elapses_after (timed fields tz ∷ []) base)
 
--- the zone of an expression: the one that it names, which may not be there, the clock at the offset that it has, or else
--- the local one
+-- the zone in which an expression is evaluated: the zone that it names, if the zone table has it, the fixed zone with
+-- its UTC offset, or the local zone if it has neither
 unfoldable pub zone_for : Request → Option ZoneSuffix → Option TimeZone
 zone_for asked None = Some (zone_of asked.local)
 zone_for asked (Some (of_name name)) = zone_named asked.zones name
 zone_for asked (Some (ahead seconds)) = Some (zone_ahead seconds)
 
--- the report of an expression whose zone is there
+-- the report of an expression in its zone, or the error message if the zone is missing
 abbrev pub answer_in : Request → ℤ → List ℕ → Fields → Option TimeZone → Answer
 answer_in asked base text fields None = Err (codes "no such zone")
 answer_in asked base text fields (Some tz) = Ok (calendar_report asked base text fields tz)
 
--- the report, or the words of the refusal
+-- the report of a parsed expression, or the error message
 abbrev pub answer_with : Request → ℤ → List ℕ → Result Fields SpecFault → Answer
 answer_with asked base text (Err fault) = Err (words_of fault)
 answer_with asked base text (Ok fields) = answer_in asked base text fields (zone_for asked fields.zone)
 
+-- the report of a calendar expression, or the error message
 unfoldable pub calendar_answer : Request → ℤ → List ℕ → Answer
 calendar_answer asked base text = answer_with asked base text (expr_in text)

@@ -1,7 +1,8 @@
--- What is asked in a run, as the parts of a run hand it on.
+-- The request of a run, as contracts see it.
 use Rattle.cal_request.specs.RequestView.{asked}
 use Rattle.cal_request.specs.headline.Request.{Request}
 use Rattle.cal_report.specs.declared.context.Context.{Context}
 
+-- the request of a context, with the present and the zones of the run
 abbrev pub asked_by : Context → Request
 asked_by context = asked context.request.now context.now.secs context.local context.table.now

@@ -1,5 +1,6 @@
--- How to continue a cut output: which of the elapses shown are complete in a prefix of a report, and which request shows
--- the others (systemd-analyze(1), calendar, --iterations= and --base-time=; systemd.timer(5), OnCalendar=).
+-- How to continue a cut output: which of the elapse times shown have a complete first line in a prefix of a report, and
+-- which request shows the remaining ones (systemd-analyze(1), calendar, --iterations= and --base-time=;
+-- systemd.timer(5), OnCalendar=).
 use Rattle.std.specs.Prelude.{◌≡◌, ◌↔◌, ◌≤◌, ◌<◌, ◌+◌, ◌-◌, ◌++◌, ℕ, zero, suc, ℤ, List, [], ◌∷◌, Option, None, Some, Result, Ok, take, drop, length, slice_get, codes, option_map}
 use Rattle.std.specs.List.{AllZip, filter_map, flat_map}
 use Rattle.cal_bytes.specs.declared.whole.WholeFault.{WholeFault}
@@ -9,17 +10,19 @@ use Rattle.cal_report.specs.headline.Headline.{AreElapsesOf, Expression, IsAccep
 use Rattle.cal_report.specs.Report.{base_in, report}
 use Rattle.cal_request.specs.headline.Request.{Request}
 
--- the elapses that a report shows: the first n after the base, if n are asked for
+-- `shown` are the elapse times that a report shows: the first `asked.iterations` after the base time
 pub record AreShown (asked : Request) (base : ℤ) (s : Schedule) (shown : List ℤ) : Type 0 where
   pub elapses : List ℤ
   pub these : AreElapsesOf s base elapses
   pub first : shown ≡ take asked.iterations elapses
 
--- the report that shows these elapses: the headings, and then the elapses with labels that count from 1, or `never`
+-- the report that shows these elapse times: the headings, and then the elapse times with labels that count from 1, or
+-- `never` if there are none
 abbrev pub showing : Request → Schedule → List ℤ → List ℕ
 showing asked s shown = headings s ++ elapses_text asked.local asked.now shown
 
--- that report up to the line feed that ends the first line of `elapse`, which comes right after the elapses in `before`
+-- the report up to the end of the first line of `elapse`, including the line feed; the elapse times in `before` come
+-- before it
 abbrev pub up_to_line : Request → Schedule → List ℤ → ℤ → List ℕ
 up_to_line asked s before elapse =
     headings s ++ (elapse_texts asked.local asked.now 1 before ++ (label_text (length before + 1) ++ (instant_text asked.local elapse ++ codes "\n")))
@@ -29,18 +32,20 @@ pub record Begins (text lead : List ℕ) : Type 0 where
   pub rest : List ℕ
   pub is : text ≡ lead ++ rest
 
--- Exactly the first k of the elapses shown have a complete first line in the prefix `front`.
+-- Exactly the first `k` of the elapse times shown have a complete first line in the prefix `front`.
 pub record Stand (asked : Request) (s : Schedule) (shown : List ℤ) (front : List ℕ) (k : ℕ) : Type 0 where
   pub few : k ≤ length shown
   pub whole : (before : List ℤ) (elapse : ℤ) (after : List ℤ) → shown ≡ before ++ (elapse ∷ after)
       → Begins front (up_to_line asked s before elapse) ↔ (length before < k)
 
--- the base of the next run: the k-th of the elapses shown, or the old base if k is 0
+-- `from` is the base time of the next run: the last of the first `k` elapse times shown, or the old base time if `k` is
+-- 0
 abbrev pub IsBaseAfter : ℤ → List ℤ → ℕ → ℤ → Type 0
 IsBaseAfter base shown zero from = from ≡ base
 IsBaseAfter base shown (suc before) from = slice_get shown before ≡ Some from
 
--- `again` is the request `asked`, begun again after the first k elapses shown: from the k-th on, and for k fewer.
+-- `again` is the request that continues `asked` after the first `k` elapse times shown: its base time is the last of
+-- them, and it asks for `k` elapse times fewer.
 pub record IsBegunAgain (asked : Request) (base : ℤ) (shown : List ℤ) (k : ℕ) (again : Request) : Type 0 where
   pub verb : again.verb ≡ asked.verb
   pub texts : again.texts ≡ asked.texts
@@ -52,17 +57,18 @@ pub record IsBegunAgain (asked : Request) (base : ℤ) (shown : List ℤ) (k : �
   pub sought : base_in again ≡ Ok from
   pub after : IsBaseAfter base shown k from
 
--- the base of the next run as a user writes it: `@` and the seconds of the k-th elapse shown, or the old base if k is 0
+-- the base time of the next run as a user writes it: `@` and the seconds of the last of the first `k` elapse times
+-- shown, or the old base time if `k` is 0
 abbrev pub base_after : Option (List ℕ) → List ℤ → ℕ → Option (List ℕ)
 base_after base shown zero = base
 base_after base shown (suc before) = option_map base_text (slice_get shown before)
 
--- the request begun again after the first k elapses shown, for k fewer
+-- the request that continues `asked` after the first `k` elapse times shown, for `k` elapse times fewer
 abbrev pub begun_again : Request → List ℤ → ℕ → Request
 begun_again asked shown k = record asked { iterations = asked.iterations - k; base = base_after asked.base shown k }
 
--- How to continue a prefix `front` of the report: there is exactly one number of elapses that are complete in it, and the
--- request begun again after these elapses shows exactly the others.
+-- How to continue a prefix `front` of the report: exactly one number says how many elapse times have a complete first
+-- line in it, and a request that continues after these elapse times shows exactly the remaining ones.
 pub record Resumes (asked : Request) (base : ℤ) (s : Schedule) (read : Result (List ℕ) WholeFault) (front : List ℕ) : Type 0 where
   pub shown : List ℤ
   pub these : AreShown asked base s shown
@@ -73,28 +79,28 @@ pub record Resumes (asked : Request) (base : ℤ) (s : Schedule) (read : Result 
   pub others : (again : Request) → IsBegunAgain asked base shown number again
       → (report again read).out ≡ showing asked s (drop number shown)
 
--- the text is that of this accepted expression, or it is rejected if there is none
+-- how a text is read: as this accepted expression, or, without an expression, as a rejected text
 abbrev pub IsReadAs : Request → List ℕ → Option Expression → Type 0
 IsReadAs asked text None = IsRejected asked text
 IsReadAs asked text (Some e) = (text ≡ e.text) × IsAccepted asked e
 
--- The expressions are those of the texts that are accepted, in their order. Every other text is rejected.
+-- `es` are the expressions of the accepted texts, in order. Every other text is rejected.
 pub record AreAcceptedAmong (asked : Request) (texts : List (List ℕ)) (es : List Expression) : Type 0 where
   pub found : List (Option Expression)
   pub each : AllZip (IsReadAs asked) texts found
   pub kept : es ≡ filter_map (λ it. it) found
 
--- the same request for this text alone
+-- the same request with this text as the only argument
 abbrev pub for_text : Request → List ℕ → Request
 for_text asked text = record asked { texts = text ∷ [] }
 
--- what the same request for this expression alone prints
+-- the standard output of the same request with this expression as the only argument
 abbrev pub report_of_one : Request → Result (List ℕ) WholeFault → Expression → List ℕ
 report_of_one asked read e = (report (for_text asked e.text) read).out
 
--- How to continue a prefix `front` of the reports of several expressions: it consists of the complete reports of the first
--- expressions, each with an empty line after it, and of a prefix of the next report. That prefix continues as it does if
--- its text is asked for alone.
+-- How to continue a prefix `front` of the reports of several expressions. It consists of the complete reports of the
+-- expressions in `before`, each followed by an empty line, and of a prefix `last` of the report of `e`. To continue
+-- `last`, proceed as if `e` had been the only argument.
 pub record ResumesAmong (asked : Request) (base : ℤ) (es : List Expression) (read : Result (List ℕ) WholeFault) (front : List ℕ) : Type 0 where
   pub before : List Expression
   pub e : Expression

@@ -1,4 +1,4 @@
--- What is written of a timer file that was read, and what is said of one that was rejected.
+-- The report of a parsed timer file, and the error of an invalid one.
 use Rattle.std.specs.Prelude.{◌≡◌, ◌++◌, ℕ, ℤ, false, map, List, [], ◌∷◌, take, Option, None, Some, codes}
 use Rattle.cal_bytes.specs.headline.Bytes.{joined}
 use Rattle.cal_rising.specs.Merge.{Merge, merged}
@@ -17,46 +17,49 @@ use Rattle.cal_report.specs.declared.timer_report.TimerPlan.{TimerPlan}
 use Rattle.cal_report.specs.declared.timer_report.TimerRefusal.{TimerRefusal}
 use Rattle.cal_report.specs.declared.timer_report.TimerRefusal.TheVariants as refused
 
--- the report of what was read
+-- the report of a parsed timer file
 abbrev pub plan_text : Request → TimerPlan → List ℕ
 plan_text asked plan =
     joined (lists_text plan.timer ∷ elapses_text asked.local asked.now (take asked.iterations (merged plan.merge)) ∷ [])
 
--- the words of a refusal, and the line that it is about
+-- the error message
 abbrev pub refused_words : TimerRefusal → List ℕ
 refused_words (refused.Timer fault) = words_of fault
 refused_words (refused.NoSuchZone line) = codes "no such zone"
 refused_words refused.NoMemory = []
 
+-- the number of the invalid line, if the error concerns one line
 abbrev pub refused_line : TimerRefusal → Option ℕ
 refused_line (refused.Timer fault) = line_of fault
 refused_line (refused.NoSuchZone line) = Some line
 refused_line refused.NoMemory = None
 
--- the refusal is that of the first line whose zone isn't there
+-- the error is that the line with this number names a zone missing from the zone table; without a number, this never
+-- holds
 abbrev pub IsUnzoned : Option ℕ → TimerRefusal → Type 0
 IsUnzoned None refusal = ⊥
 IsUnzoned (Some number) refusal = refusal ≡ refused.NoSuchZone number
 
--- the elapses after a base of each expression of a list, in its zone
+-- for each expression of a list, its elapse times after the base time, in its zone
 abbrev pub each_of : Request → ℤ → List (TimerLine Fields) → List (List ℤ)
 each_of asked base list = each_after (map (timed_entry asked) list) base
 
--- the members of each field of an expression of a list
+-- for each field of the expression on this line, the values that it matches
 abbrev pub entry_sets : TimerLine Fields → Sets
 entry_sets e = sets_of e.expr
 
--- each elapse of an expression is one of the exceptions, whatever the present and the local zone are
+-- every elapse time of the expression is an elapse time of an exception, whatever the request's present and zones are
 abbrev pub IsCoveredEntry : TimerLine Fields → List (TimerLine Fields) → Type 0
 IsCoveredEntry e exceptions = (asked : Request) → IsCovered (timed_entry asked e) (map (timed_entry asked) exceptions)
 
--- to a merge the elapses of expressions are added, of those at least that have one which isn't one of the exceptions
+-- `new` is the merge `old` with the elapse times of these expressions added; expressions whose elapse times are all
+-- suppressed by the exceptions may be left out
 pub record IsAdded (asked : Request) (base : ℤ) (list exceptions : List (TimerLine Fields)) (old new : Merge) : Type 0 where
   pub kept : List Timed
   pub are_kept : AreKept (map (timed_entry asked) list) (map (timed_entry asked) exceptions) kept
   pub is : new ≡ record { started = false; lists = old.lists ++ each_after kept base; exceptions = old.exceptions }
 
--- the merge has the elapses of all expressions without those of the exceptions, whose zones are all there
+-- no zone is missing, and the merge yields the elapse times of all expressions without those of the exceptions
 pub record IsMergeOf (asked : Request) (base : ℤ) (lists : Timer Fields) (merge : Merge) : Type 0 where
   pub found : unzoned asked lists ≡ None
   pub is : merged merge ≡ elapses_of_lists asked base lists

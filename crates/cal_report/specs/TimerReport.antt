@@ -21,52 +21,52 @@ use Rattle.cal_report.specs.headline.ElapseLines.{elapses_text}
 use Rattle.cal_request.specs.headline.Request.{Request}
 use Rattle.cal_report.specs.headline.ReportLines.{except_label, original_label}
 
--- the line of a refusal: `FILE:LINE: WORDS` where the fault has a line, and else `FILE: WORDS`
+-- the error line: `FILE:LINE: WORDS` if the error concerns one line, and otherwise `FILE: WORDS`
 unfoldable pub refusal_at : List ℕ → Option ℕ → List ℕ → List ℕ
 refusal_at name None words = refusal_line name words
 refusal_at name (Some line) words = joined (name ∷ codes ":" ∷ decimal line ∷ codes ": " ∷ words ∷ codes "\n" ∷ [])
 
--- an expression whose zone isn't there
+-- the expression names a zone that isn't in the zone table
 abbrev pub lacks_zone : Request → TimerLine Fields → Bool
 lacks_zone asked e = is_none (zone_for asked e.expr.zone)
 
--- what an expression of a list means, in its zone
+-- the expression in its zone; UTC stands in for a missing zone, and `unzoned` reports those first
 unfoldable pub timed_entry : Request → TimerLine Fields → Timed
 timed_entry asked e = timed e.expr (unwrap_or (zone_for asked e.expr.zone) UTC)
 
--- the text of each line of a list, after that label, and its normal form
+-- the headings of a list: of each line, the label with the text as written in the file, and the normal form
 unfoldable pub headings_text : List ℕ → List (TimerLine Fields) → List ℕ
 headings_text label = flat_map (λ e. heading_text label e.text e.expr)
 
--- those of both lists
+-- the headings of the expressions, and after them those of the exceptions
 abbrev pub lists_text : Timer Fields → List ℕ
 lists_text lists = joined (headings_text original_label lists.expressions ∷ headings_text except_label lists.exceptions ∷ [])
 
--- the elapses after a base of the expressions that are elapses of no exception
+-- the elapse times of the expressions after the base time, without the elapse times of the exceptions
 unfoldable pub elapses_of_lists : Request → ℤ → Timer Fields → List ℤ
 elapses_of_lists asked base lists =
     elapses_except (map (timed_entry asked) lists.expressions) (map (timed_entry asked) lists.exceptions) base
 
--- the report of both lists: their texts, and as many of their elapses as are asked for
+-- the report of a timer file: its headings, and its first elapse times, at most `asked.iterations` of them
 unfoldable pub timer_report : Request → ℤ → Timer Fields → List ℕ
 timer_report asked base lists =
     joined (lists_text lists ∷ elapses_text asked.local asked.now (take asked.iterations (elapses_of_lists asked base lists)) ∷ [])
 
--- the number of the first line of a list whose zone isn't there
+-- the number of the first line of a list that names a zone missing from the zone table
 abbrev pub first_unzoned : Request → List (TimerLine Fields) → Option ℕ
 first_unzoned asked list = option_map (λ (e : TimerLine Fields). e.number) (find (lacks_zone asked) list)
 
--- the lesser of two numbers, of which either may be missing
+-- the smaller of two line numbers, or the only one if the other is missing
 abbrev pub lesser_line : Option ℕ → Option ℕ → Option ℕ
 lesser_line None b = b
 lesser_line (Some x) None = Some x
 lesser_line (Some x) (Some y) = Some (min x y)
 
--- the number of the first line of either list whose zone isn't there
+-- the number of the first line, among the expressions and the exceptions, that names a missing zone
 unfoldable pub unzoned : Request → Timer Fields → Option ℕ
 unzoned asked lists = lesser_line (first_unzoned asked lists.expressions) (first_unzoned asked lists.exceptions)
 
--- the report of lists whose zones are all there, or the line of the first whose zone isn't
+-- the report if no zone is missing, or the error line about the first line that names a missing zone
 abbrev pub answer_unless : Request → ℤ → List ℕ → Timer Fields → Option ℕ → Result (List ℕ) (List ℕ)
 answer_unless asked base name lists None = Ok (timer_report asked base lists)
 answer_unless asked base name lists (Some number) = Err (refusal_at name (Some number) (codes "no such zone"))
@@ -75,10 +75,10 @@ abbrev pub answer_of_timer : Request → ℤ → List ℕ → Result (Timer Fiel
 answer_of_timer asked base name (Ok lists) = answer_unless asked base name lists (unzoned asked lists)
 answer_of_timer asked base name (Err fault) = Err (refusal_at name (line_of fault) (words_of fault))
 
--- memory wasn't refused to the reads
+-- reading the input didn't run out of memory
 abbrev pub IsHad : Result (List ℕ) WholeFault → Type 0
 IsHad read = read ≢ Err NoMemory
 
--- the report of a file of that name, or the line of its refusal, by what the reads gave
+-- the report of the timer file `name`, or its error line; `read` is what reading the file returned
 unfoldable pub timer_answer : Request → ℤ → List ℕ → Result (List ℕ) WholeFault → Result (List ℕ) (List ℕ)
 timer_answer asked base name read = answer_of_timer asked base name (timer_text expr_in read)

@@ -7,15 +7,15 @@ use Rattle.cal_span.specs.headline.SpanText.{span_text}
 use Rattle.cal_span.specs.SpanValue.{span_of}
 use Rattle.cal_report.specs.Answer.{Answer}
 
--- the label of the microseconds, in which μ is U+03BC
+-- the label of the microseconds, `μs: `, with μ (U+03BC) as the two bytes of its UTF-8 encoding
 abbrev pub micro_label : List ℕ
 micro_label = codes "\n      " ++ (206 ∷ 188 ∷ codes "s: ")
 
--- the text as it was handed in, its microseconds, and the span as it is printed
+-- the time span as the user gave it, in microseconds, and in the form in which spans are printed
 unfoldable pub timespan_report : List ℕ → ℕ → List ℕ
 timespan_report text micros =
     joined (codes "Original: " ∷ text ∷ micro_label ∷ decimal micros ∷ codes "\n   Human: " ∷ span_text micros ∷ codes "\n" ∷ [])
 
--- the report, or the words of the refusal
+-- the report of a time span, or the error message
 unfoldable pub timespan_answer : List ℕ → Answer
 timespan_answer text = result_map_both (timespan_report text) words_of (span_of text)

@@ -1,4 +1,4 @@
--- The definitions that the headline rests on.
+-- The definitions that the statement of the main theorem, `headline`, rests on.
 pub mod CalendarReport
 pub mod ElapseLines
 pub mod Headline

@@ -1,4 +1,4 @@
-//! What each verb reads from a text, and why it rejects one.
+//! Reading one argument of the verbs `calendar`, `timestamp` and `timespan`, and writing its report.
 
 ghost use Rattle.std.specs.Prelude.{◌≡◌, [], ◌∷◌, ℤ, Ok, Err, IfOk, IfErr, IsErrOf, false, option_map};
 ghost use Rattle.cal_bytes.specs.Puts.{Puts};
@@ -27,34 +27,34 @@ use cal_spec::{Expr, SpecFault, read_expr};
 use cal_zone::{Moment, Zone};
 use std::alloc::{AllocError, Global};
 
-/// What was read from a text: one variant for each verb.
+/// A valid argument after parsing, with one variant for each verb that takes such arguments.
 #[derive(Drop)]
 pub enum Accepted<'a> {
-    /// A calendar expression, and its elapses.
+    /// A calendar expression, and the iterator over its elapse times.
     Calendar(Expr, Elapses<'a>),
-    /// A timestamp, by its moment.
+    /// The moment that a timestamp resolves to.
     Timestamp(Moment),
     /// A time span.
     Timespan(Span),
 }
 
-/// Why a text is rejected.
+/// Why an argument is rejected.
 #[derive(Clone, Copy, PartialEq, Eq, Debug)]
 pub enum Refusal {
-    /// It is no calendar expression.
+    /// Not a valid calendar expression.
     Spec(SpecFault),
-    /// It is a calendar expression in a zone that isn't there.
+    /// A valid calendar expression whose time zone isn't in the zone table.
     NoSuchZone,
-    /// It is no timestamp.
+    /// Not a valid timestamp.
     Stamp(StampFault),
-    /// It is no time span.
+    /// Not a valid time span.
     Span(SpanFault),
-    /// Memory was refused.
+    /// Allocation failed.
     NoMemory,
 }
 
 impl Refusal {
-    /// What is reported to a user; nothing where memory was refused.
+    /// Returns the message to report, which is empty for [`Refusal::NoMemory`]: the caller handles that case.
     pub fn words(&self) -> &str
         ensures { result.now ≡ refusal_words self.now }
     {
@@ -68,8 +68,10 @@ impl Refusal {
     }
 }
 
-/// Reads a text as the request's verb does. All memory that the text needs is taken here; timestamps and time spans
-/// take none.
+/// Parses `text` as an argument of the request's verb, which must not be [`Verb::Timer`].
+///
+/// Everything that the report of this argument needs is allocated here, so that writing the report cannot run out of
+/// memory. Timestamps and time spans allocate nothing.
 #[tactic(auto, unfolding(crate::specs::TimespanReport::timespan_answer, crate::specs::TimestampReport::timestamp_answer))]
 pub fn read_text<'a>(
     alloc: Global,
@@ -99,7 +101,8 @@ pub fn read_text<'a>(
     }
 }
 
-/// The moment that a text means at the present, in the local zone.
+/// Parses a timestamp. Relative timestamps count from `context.now`, and a timestamp without a zone is in the local
+/// zone.
 #[tactic(auto, unfolding(crate::specs::TimestampReport::stamp_in))]
 fn read_moment(context: Context<'_>, text: &str) -> Result<Moment, StampFault>
     ensures { micros_or_fault result ≡ stamp_in (asked_by context.entry) text.now }
@@ -107,7 +110,9 @@ fn read_moment(context: Context<'_>, text: &str) -> Result<Moment, StampFault>
     read_stamp(text, context.now, context.local, context.table)
 }
 
-/// Reads a calendar expression whose zone, if it names one, is there.
+/// Parses a calendar expression and prepares the iterator over its elapse times.
+///
+/// Fails with [`Refusal::NoSuchZone`] if the expression names a zone that isn't in the table.
 #[tactic(auto, using(crate::proofs::TimelyLemmas::elapses_are_instants), unfolding(crate::specs::CalendarReport::calendar_answer, crate::specs::CalendarReport::calendar_report))]
 fn read_calendar<'a>(
     alloc: Global,
@@ -135,8 +140,9 @@ fn read_calendar<'a>(
     }
 }
 
-/// The zone of an expression: the one that it names, which may not be there, the clock at the offset that it has, or else
-/// the local one. An offset is never looked up.
+/// Returns the zone in which an expression is evaluated: the zone that it names, a fixed zone for its UTC offset, or
+/// the local zone if it has neither. Returns `None` if the table doesn't have the named zone. An offset isn't looked
+/// up.
 #[tactic(auto, unfolding(crate::specs::CalendarReport::zone_for))]
 pub fn zone_for<'a>(context: Context<'a>, expr: &Expr) -> Option<Zone<'a>>
     ensures { option_map zone_of result ≡ zone_for (asked_by context.entry) expr.now.zone }
@@ -150,7 +156,7 @@ pub fn zone_for<'a>(context: Context<'a>, expr: &Expr) -> Option<Zone<'a>>
     }
 }
 
-/// Writes the report of an accepted text, after an empty line if another report came before it.
+/// Writes the report of a parsed argument. If it `is_later` than another report, an empty line comes first.
 #[tactic(auto, using(cal_bytes::proofs::PutLemmas::puts))]
 pub fn put_report<W: Sink>(
     out: &mut W,
@@ -174,7 +180,7 @@ pub fn put_report<W: Sink>(
     }
 }
 
-/// Writes the empty line that parts a report from the one before it.
+/// Writes the empty line that separates a report from the previous one, if there is a previous one.
 fn put_lead<W: Sink>(out: &mut W, is_later: bool) -> Result<(), WriteFault>
     requires { W.is_failed out.old ≡ false }
     ensures { Puts W.Sink out.old out.new result (lead_text is_later) }

@@ -1,5 +1,5 @@
-//! The report of one calendar expression (systemd-analyze(1), calendar): its text, its normal form, and
-//! its next elapses with the span until each.
+//! The report of one calendar expression (systemd-analyze(1), calendar): the expression as given, its normal form, and
+//! its next elapse times, each with its distance from the present.
 
 ghost use Rattle.std.specs.Prelude.{◌≡◌, [], ◌∷◌, false};
 ghost use Rattle.cal_bytes.specs.Puts.{Puts};
@@ -15,8 +15,8 @@ use cal_bytes::{Sink, WriteFault, put_all};
 use cal_elapse::Rising;
 use cal_spec::{Expr, write_expr};
 
-/// Writes the report of an expression: its text, its normal form, and as many of its elapses as are asked for, each
-/// with the span between it and the present.
+/// Writes the report of an expression: `text` as the user gave it, its normal form, and its next elapse times, at most
+/// as many as the request's `iterations`.
 #[tactic(auto, using(cal_bytes::proofs::PutLemmas::puts))]
 pub fn write_calendar<W: Sink, S: Rising>(
     out: &mut W,
@@ -40,7 +40,7 @@ pub fn write_calendar<W: Sink, S: Rising>(
     )
 }
 
-/// Writes a text as it was handed in, after its label, and its normal form.
+/// Writes two lines: `label` and the expression as the user gave it, and the expression's normal form.
 #[tactic(auto, using(cal_bytes::proofs::PutLemmas::puts), unfolding(crate::specs::headline::CalendarReport::heading_text))]
 pub fn put_heading<W: Sink>(
     out: &mut W,
@@ -55,7 +55,7 @@ pub fn put_heading<W: Sink>(
     put_normal(out, expr)
 }
 
-/// Writes the rest of the line of the normal form.
+/// Writes the normal form and a line feed. [`put_text`] has already written the label of this line.
 #[tactic(auto, using(cal_bytes::proofs::PutLemmas::puts), unfolding(crate::specs::headline::CalendarReport::normal_line))]
 fn put_normal<W: Sink>(out: &mut W, expr: &Expr) -> Result<(), WriteFault>
     requires { W.is_failed out.old ≡ false }

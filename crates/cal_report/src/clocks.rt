@@ -1,4 +1,4 @@
-//! The two clocks by which a report shows instants: that of the local zone, and that of UTC beside it.
+//! Printing instants in the local zone and in UTC.
 
 ghost use Rattle.std.specs.Prelude.{◌≡◌, ◌+◌, ◌≤◌, ◌++◌, length};
 ghost use Rattle.cal_bytes.specs.declared.short_text.TheConstants.{ROOM};
@@ -9,7 +9,8 @@ use cal_bytes::{ShortText, push};
 use cal_zone::{Clock, Instant, Zone};
 use std::marker::Model;
 
-/// The clocks of a local zone and of UTC. A contract sees only the local zone.
+/// A clock in the local zone and a clock in UTC, both kept for the whole report because a clock caches conversions.
+/// Contracts see only the local zone, since the cache doesn't affect what is printed.
 #[derive(Drop)]
 pub struct Clocks<'z> {
     local: Clock<'z>,
@@ -29,7 +30,7 @@ impl<'z> Model for Clocks<'z> {
 }
 
 impl<'z> Clocks<'z> {
-    /// The clocks of a report in this local zone.
+    /// Creates the clocks for reports in this local zone.
     pub fn new(local: Zone<'z>) -> Clocks<'z>
         ensures { result ≡ local.entry }
     {
@@ -39,7 +40,7 @@ impl<'z> Clocks<'z> {
         }
     }
 
-    /// Appends the instant in the local zone.
+    /// Appends the instant as a date and time in the local zone, at most 84 bytes.
     pub fn push_local(&mut self, text: &mut ShortText, instant: Instant)
         requires room { length text.old.items + 84 ≤ ROOM }
         ensures text { text.new.items ≡ text.old.items ++ instant_text self.old instant.secs }
@@ -49,7 +50,7 @@ impl<'z> Clocks<'z> {
         self.local.push(text, instant);
     }
 
-    /// Appends the line of the instant in UTC; nothing where the local zone is UTC itself. It takes at most 102 bytes.
+    /// Appends a labelled line with the instant in UTC, at most 102 bytes. Appends nothing if the local zone is UTC.
     #[tactic(auto, unfolding(crate::specs::headline::ReportLines::utc_line))]
     pub fn push_utc_line(&mut self, text: &mut ShortText, instant: Instant)
         requires room { length text.old.items + 102 ≤ ROOM }

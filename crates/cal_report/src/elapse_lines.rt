@@ -1,4 +1,5 @@
-//! The lines of elapses in a report, each with the span between it and the present (systemd-analyze(1), calendar).
+//! The part of a report that lists elapse times, each with its distance from the present (systemd-analyze(1),
+//! calendar).
 
 ghost use Rattle.std.specs.Prelude.{◌≡◌, ◌+◌, ◌-◌, ◌≤◌, ◌++◌, length, false, option_map, take, slice_get, drop};
 ghost use Rattle.cal_bytes.specs.Puts.{Puts};
@@ -15,7 +16,7 @@ use cal_elapse::Rising;
 use cal_zone::{Instant, Zone};
 use itoa::Buffer;
 
-/// Writes the first of the elapses that are left, as many as are asked for, or `never` where there is none.
+/// Writes the next elapse times, at most `iterations` of them, or `never` if no elapse times remain.
 pub fn put_elapses<W: Sink, S: Rising>(
     out: &mut W,
     elapses: &mut S,
@@ -39,7 +40,7 @@ pub fn put_elapses<W: Sink, S: Rising>(
     }
 }
 
-/// Writes the elapses after the first, from the second on.
+/// Writes the elapse times after the first, which is already written, with labels that count from 2.
 fn put_more<W: Sink, S: Rising>(
     out: &mut W,
     elapses: &mut S,
@@ -62,7 +63,7 @@ fn put_more<W: Sink, S: Rising>(
     Ok(())
 }
 
-/// The next elapse.
+/// Removes and returns the next elapse time, or returns `None` if no elapse times remain.
 fn next_instant<S: Rising>(elapses: &mut S) -> Option<Instant>
     requires { AreInstants (S.rest elapses.old) }
     ensures given { option_map (λ instant. instant.secs) result ≡ slice_get (S.rest elapses.old) 0 }
@@ -78,7 +79,7 @@ fn next_instant<S: Rising>(elapses: &mut S) -> Option<Instant>
     Some(instant)
 }
 
-/// Writes one elapse, and how far it lies from the present.
+/// Writes one elapse time in the local zone and in UTC, with its distance from the present.
 fn put_elapse<W: Sink>(
     out: &mut W,
     number: u32,
@@ -95,7 +96,7 @@ fn put_elapse<W: Sink>(
     put_all(out, text.as_slice())
 }
 
-/// Appends one elapse, and how far it lies from the present.
+/// Appends the lines of one elapse time, which take at most `SPAN_ROOM` and 240 bytes.
 #[tactic(auto, unfolding(crate::specs::headline::ElapseLines::elapse_text))]
 fn push_elapse(
     text: &mut ShortText,
@@ -117,7 +118,8 @@ fn push_elapse(
     push(text, b"\n");
 }
 
-/// Appends the label of the elapse with that number.
+/// Appends the label of an elapse time: `Next elapse:` for number 1, and otherwise `Iter. #` and the number, aligned on
+/// the right with the other labels.
 #[tactic(auto, unfolding(crate::specs::headline::ElapseLines::label_text))]
 fn push_label(text: &mut ShortText, number: u32)
     requires room { length text.old.items + 30 ≤ ROOM }

@@ -1,5 +1,5 @@
-//! The headline of the program, and how a cut output resumes, as laws: functions that do nothing, and whose contracts
-//! are the laws.
+//! The main theorem about the program, and the theorem on resuming a cut output. Each is the contract of a function
+//! that does nothing when it is called.
 
 ghost use Rattle.std.specs.Prelude.{◌≡◌, ◌+◌, ◌++◌, ◌∷◌, [], ℕ, ℤ, pos, ◌<ℤ◌, ◌-ℤ◌, ◌<◌, Bool, List, Ok, None, Option, Some, Result, map, suc, take, drop, length, slice_get, true};
 ghost use Rattle.std.specs.Io.KnownBytes.{Appends};
@@ -36,22 +36,22 @@ use cal_spec::laws::one_normal_form_of_fields;
 /// A matching instant is the place of a local second that matches. In a timer file it is also not an elapse of an
 /// exception.
 pub fn headline()
-    // The report of each text is its heading and the first of its elapses.
+    // If every expression is accepted, the report consists of a heading for each, followed by its first elapse times.
     ensures calendar { (asked : Request) (read : Result (List ℕ) WholeFault) (base : ℤ) (es : List Expression)
         → asked.verb ≡ Calendar → base_in asked ≡ Ok base
         → asked.texts ≡ map (λ (e : Expression). e.text) es → AllByRecursion (IsAccepted asked) es
         → AreReportsOf asked base es (report asked read).out × IsFine (report asked read) }
-    // So is that of each accepted text where another is rejected, which has a line on standard error.
+    // In general, each accepted text has its report, and each rejected text has an error line on standard error.
     ensures each { (asked : Request) (read : Result (List ℕ) WholeFault) (base : ℤ) → asked.verb ≡ Calendar
         → base_in asked ≡ Ok base → AreAnswered asked base asked.texts (report asked read) }
-    // The report of a timer file is its headings and the first of the elapses of all of its expressions
-    // that are elapses of no exception.
+    // The report of a timer file consists of its headings, followed by the first elapse times of its expressions that
+    // aren't elapse times of an exception.
     ensures timer { (asked : Request) (bytes : List ℕ) (base : ℤ) (s : Schedule)
         → asked.verb ≡ Timer → base_in asked ≡ Ok base → IsFileOf bytes s → AreAllAccepted asked s
         → IsReportOf asked base s (report asked (Ok bytes)).out × IsFine (report asked (Ok bytes)) }
 
-    // These are the bytes that a run adds which ended without a fault, so with memory and writers that took them all:
-    // the premise `ByReading` is what the contract of `run` says of it.
+    // The same three statements about the bytes that a run appends to its writers, if the run returns `Ok`: then no
+    // allocation and no write failed. The premise `ByReading` is what the contract of `run` promises.
     ensures written { (asked : Request) (base : ℤ) (es : List Expression) (old new : Option (List ℕ)) (failed : Bool)
         (status : Status) (out_old out_new err_old err_new : Option (List ℕ)) → asked.verb ≡ Calendar
         → base_in asked ≡ Ok base → asked.texts ≡ map (λ (e : Expression). e.text) es → AllByRecursion (IsAccepted asked) es
@@ -70,13 +70,14 @@ pub fn headline()
         → (text : List ℕ) × IsReportOf asked base s text × Appends out_old out_new text
         × Appends err_old err_new [] × (status ≡ Fine) }
 
-    // A run that ends well has accepted all of it.
+    // If the status is `Fine`, every text (or the timer file) was accepted.
     ensures accepted { (asked : Request) (read : Result (List ℕ) WholeFault) (base : ℤ) → asked.verb ≡ Calendar
         → base_in asked ≡ Ok base → (report asked read).status ≡ Fine → AreAccepted asked asked.texts }
     ensures accepted_file { (asked : Request) (bytes : List ℕ) (base : ℤ) → asked.verb ≡ Timer
         → base_in asked ≡ Ok base → (report asked (Ok bytes)).status ≡ Fine → IsAcceptedFile asked bytes }
 
-    // Nothing else could be printed.
+    // The statements above leave no choice: an expression has one meaning, and a report and a list of elapse times are
+    // unique.
     ensures one_meaning { (asked : Request) (e f : Expression) → IsAccepted asked e → IsAccepted asked f
         → e.text ≡ f.text → e ≡ f }
     ensures one_text { (asked : Request) (base : ℤ) (es : List Expression) (a b : List ℕ)
@@ -86,8 +87,8 @@ pub fn headline()
     ensures one_list { (ts exceptions : List Timed) (base : ℤ) (xs ys : List ℤ)
         → AreElapses ts exceptions base xs → AreElapses ts exceptions base ys → xs ≡ ys }
 
-    // Each elapse is an instant, and `@` and the seconds of an instant are a base there. From there on the rest follows,
-    // and nothing else.
+    // Each elapse time is an instant, and `@` with the seconds of an instant is a valid base time for the same instant.
+    // The elapse times after this base time are exactly the remaining ones, so a list can be printed in parts.
     ensures instants { (asked : Request) (base : ℤ) (s : Schedule) (xs : List ℤ) → IsInstant asked.now
         → base_in asked ≡ Ok base → AreElapsesOf s base xs → AreInstants xs }
     ensures based { (asked : Request) (secs : ℤ) → IsInstant secs → base_in (started_at asked secs) ≡ Ok secs }
@@ -96,13 +97,15 @@ pub fn headline()
     ensures in_parts { (ts exceptions : List Timed) (base e : ℤ) (xs ys : List ℤ) (k m : ℕ) → AreElapses ts exceptions base xs
         → slice_get xs k ≡ Some e → AreElapses ts exceptions e ys → take (suc k) xs ++ take m ys ≡ take (suc k + m) xs }
 
-    // At an elapse the zone's clock shows a local second that matches, and at no other elapse the same one.
+    // At an elapse time, the clock of the zone shows a matching local second, and it shows a different one at every
+    // other elapse time.
     ensures shown { (fields : Fields) (tz : TimeZone) (i : ℤ) → IsPlace (timed fields tz) i
         → (local : ℕ) × (local < 7_258_118_400) × (matches (sets_of fields) local ≡ true)
         × (local_of tz i ≡ pos local) }
     ensures alone { (fields : Fields) (tz : TimeZone) (i j : ℤ) → IsPlace (timed fields tz) i
         → IsPlace (timed fields tz) j → local_of tz i ≡ local_of tz j → i ≡ j }
-    // A local second that the clock never shows has no place. One that `jiff` finds shown twice has, if any, the first.
+    // A local second that the clock never shows (in a gap) has no instant. If `jiff` finds that the clock shows it
+    // twice (in a fold), then its instant, if it has one, is the first occurrence.
     ensures gap { (tz : TimeZone) (local : ℤ) → ((second : ℤ) → local_of tz second ≡ local → ⊥)
         → place_of tz local ≡ None }
     ensures fold { (tz : TimeZone) (local i : ℤ) (before after : Offset)
@@ -112,40 +115,42 @@ pub fn headline()
     one_normal_form_of_fields();
 }
 
-/// Any prefix of a report says how to get the rest: exactly one number of elapses have a complete first line in it, and
-/// the same request, started again at the last of these elapses and for that many fewer, prints exactly the others, with
-/// labels that count anew. If no elapse is complete, that is the whole report again.
+/// States how to continue a report of which only a prefix was written. Count the elapse times whose first line is
+/// complete in the prefix. The same request, with the last of these elapse times as its base time and with
+/// `iterations` reduced by their number, prints exactly the remaining ones, with labels that count from 1 again. If no
+/// line is complete, the original request has to be run again.
 pub fn cut_output_resumes()
-    // A request for one text, whose report begins so.
+    // For one calendar expression, if its report begins with `front`.
     ensures calendar { (asked : Request) (read : Result (List ℕ) WholeFault) (base : ℤ) (e : Expression)
         (front rest : List ℕ) → asked.verb ≡ Calendar → base_in asked ≡ Ok base → asked.texts ≡ e.text ∷ []
         → IsAccepted asked e → (report asked read).out ≡ front ++ rest → Resumes asked base (alone e) read front }
-    // A request for any number of texts, of which these expressions are the accepted ones. The prefix consists of the
-    // complete reports of the first expressions, and of a prefix of the next report, which resumes as if its text had
-    // been asked for alone. There is only one way to cut it like that.
+    // For any number of texts, of which `es` are the accepted expressions. The prefix consists of some complete reports
+    // and of a prefix of the next report, and this last report resumes as if its expression had been requested alone.
+    // There is only one way to divide the prefix like that.
     ensures several { (asked : Request) (read : Result (List ℕ) WholeFault) (base : ℤ) (es : List Expression)
         (front rest : List ℕ) → asked.verb ≡ Calendar → base_in asked ≡ Ok base → AreAcceptedAmong asked asked.texts es
         → 0 < length es → (report asked read).out ≡ front ++ rest → ResumesAmong asked base es read front }
     ensures one_place { (asked : Request) (base : ℤ) (es : List Expression) (read : Result (List ℕ) WholeFault)
         (front : List ℕ) (p q : ResumesAmong asked base es read front) → (p.before ≡ q.before) × (p.last ≡ q.last) }
-    // Every request has exactly one such list of expressions. If it is empty, so is standard output.
+    // Every request has exactly one list of accepted expressions. If the list is empty, standard output is empty too.
     ensures accepted { (asked : Request) → asked.verb ≡ Calendar
         → (es : List Expression) × AreAcceptedAmong asked asked.texts es }
     ensures one_list { (asked : Request) (texts : List (List ℕ)) (es fs : List Expression)
         → AreAcceptedAmong asked texts es → AreAcceptedAmong asked texts fs → es ≡ fs }
     ensures nothing { (asked : Request) (read : Result (List ℕ) WholeFault) (base : ℤ) → asked.verb ≡ Calendar
         → base_in asked ≡ Ok base → AreAcceptedAmong asked asked.texts [] → (report asked read).out ≡ [] }
-    // A request for a timer file, whose report begins so.
+    // For a timer file, if its report begins with `front`.
     ensures timer { (asked : Request) (bytes : List ℕ) (base : ℤ) (s : Schedule) (front rest : List ℕ)
         → asked.verb ≡ Timer → base_in asked ≡ Ok base → IsFileOf bytes s → AreAllAccepted asked s
         → (report asked (Ok bytes)).out ≡ front ++ rest → Resumes asked base s (Ok bytes) front }
 
-    // The next run can always be asked for: its base is `@` and the seconds of the last elapse shown.
+    // The second request can always be written down: its base time is `@` with the seconds of the last elapse time
+    // whose line is complete.
     ensures again { (asked : Request) (read : Result (List ℕ) WholeFault) (base : ℤ) (s : Schedule) (front : List ℕ)
         → IsInstant asked.now → base_in asked ≡ Ok base → (r : Resumes asked base s read front)
         → (report (begun_again asked r.shown r.number) read).out ≡ showing asked s (drop r.number r.shown) }
 
-    // What a run adds to its writer, however it ended, is such a prefix: by the contract of `run`.
+    // Whatever a run returns, the bytes that it appended to its writer are such a prefix, by the contract of `run`.
     ensures written { (asked : Request) (base : ℤ) (e : Expression) (result : Result Status RunFault)
         (old new : Option (List ℕ)) (failed : Bool) (out_old out_new err_old err_new : Option (List ℕ))
         → asked.verb ≡ Calendar → base_in asked ≡ Ok base → asked.texts ≡ e.text ∷ [] → IsAccepted asked e

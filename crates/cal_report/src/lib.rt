@@ -1,4 +1,4 @@
-//! The reports of a request.
+//! Running a request: parsing its arguments, and writing the reports and the error lines.
 #![tactic(auto)]
 
 mod accepted;

@@ -1,5 +1,5 @@
-//! The report of a whole request: the reports of its texts or of its timer file on standard output, the refusals on
-//! standard error, and the status (systemd-analyze(1)).
+//! Running a whole request: the reports of its arguments or of its timer file go to standard output, the error lines go
+//! to standard error, and the status says whether anything was rejected (systemd-analyze(1)).
 
 ghost use Rattle.std.specs.Prelude.{ℕ, List, Result, slice_index_or, map, ◌≡◌, [], ◌∷◌, false, codes, IfOk, IsErrOf};
 ghost use Rattle.std.specs.String.{string_bytes};
@@ -29,19 +29,20 @@ use cal_zone::{Instant, Zone, ZoneTable};
 use itoa::Buffer;
 use std::alloc::Global;
 
-/// Answers a request (systemd-analyze(1)): each accepted text gets a report on `out`, each refused one a line on `err`.
-/// The file of [`Verb::Timer`], whose name is the one text, gets one or the other; it is `input`, which isn't read for
-/// other verbs.
+/// Runs a request (systemd-analyze(1)). Each valid argument gets a report on `out`, and each invalid one an error line
+/// on `err`. For [`Verb::Timer`], the one argument is the name of the timer file, and `input` is its content: the file
+/// gets either a report or an error line. The other verbs don't read `input`.
 ///
-/// The elapses shown are the first `iterations` after the base, a timestamp, or after the present where none is given.
-/// A base that is rejected is one line on `err`, and nothing else is done. An expression is meant in the zone that it
-/// names, which has to be in the table, and otherwise in the local zone. Instants are printed in the local zone, and once
-/// more in UTC where that is another.
+/// The elapse times shown are the first `iterations` after the base time, which is a timestamp, or after `now` if no
+/// base time is given. If the base time is invalid, one error line is written to `err`, and nothing else is done. An
+/// expression is evaluated in the zone that it names, which has to be in `table`, or in the local zone if it doesn't
+/// name one. Instants are printed in the local zone, and also in UTC if the local zone isn't UTC.
 ///
-/// [`RunFault::OutFailed`] and [`RunFault::ErrFailed`] come exactly where that writer failed in this call, and
-/// each writer has a prefix of its whole text then. All memory that a text needs is taken before the first byte of its
-/// answer: where it is refused ([`RunFault::NoMemory`]), the texts before that one are answered whole, and nothing of it
-/// is written. Timestamps and time spans take no memory.
+/// Fails with [`RunFault::OutFailed`] or [`RunFault::ErrFailed`] if and only if that writer failed in this call; each
+/// writer then has a prefix of what it should have received. Fails with [`RunFault::NoMemory`] if allocation fails. All
+/// allocations for an argument happen before the first byte of its report is written. So if one of them fails, the
+/// arguments before this one are answered completely, and nothing is written for this one and those after it.
+/// Timestamps and time spans allocate nothing.
 #[tactic(auto, unfolding(crate::specs::Report::report))]
 pub fn run<R: Source, O: Sink, E: Sink>(
     alloc: Global,
@@ -84,7 +85,7 @@ pub fn run<R: Source, O: Sink, E: Sink>(
     }
 }
 
-/// The instant after which elapses are sought: that of the moment that the base means, or the present.
+/// Parses the base time of the request. Returns the present if the request doesn't have one.
 #[tactic(auto, unfolding(crate::specs::Report::base_in, crate::specs::TimestampReport::stamp_in))]
 fn read_base(
     request: &Request,
@@ -101,7 +102,8 @@ fn read_base(
     Ok(moment.instant())
 }
 
-/// Answers the texts in order, up to one at which memory is refused.
+/// Writes the report or the error line of each argument, in order. Stops at the first argument for which allocation or
+/// a write fails.
 fn answer_all<O: Sink, E: Sink>(
     alloc: Global,
     context: Context<'_>,
@@ -137,7 +139,8 @@ fn answer_all<O: Sink, E: Sink>(
     Ok(status)
 }
 
-/// Answers one text, by its report or by the line of its refusal.
+/// Writes the report of one argument, or its error line if it is invalid. `is_later` says whether `out` already has a
+/// report, from which this one is separated by an empty line.
 fn answer_one<O: Sink, E: Sink>(
     alloc: Global,
     context: Context<'_>,
@@ -170,7 +173,7 @@ fn answer_one<O: Sink, E: Sink>(
     }
 }
 
-/// Answers a timer file, by its report or by the line of its refusal.
+/// Writes the report of a timer file, or an error line if the file is invalid.
 fn answer_timer<R: Source, O: Sink, E: Sink>(
     alloc: Global,
     context: Context<'_>,
@@ -207,7 +210,8 @@ fn answer_timer<R: Source, O: Sink, E: Sink>(
     }
 }
 
-/// The name of the file that a timer is read from: the one text.
+/// Returns the name of the timer file, which is the only argument of [`Verb::Timer`]. Returns an empty string if there
+/// are no arguments.
 pub fn file_name(request: &Request) -> &str
     ensures { result.now ≡ slice_index_or (map string_bytes request.now.texts.items) 0 [] }
 {
@@ -217,7 +221,8 @@ pub fn file_name(request: &Request) -> &str
     }
 }
 
-/// Reports that a text is rejected, or a file, in that line where there is one.
+/// Writes an error line about `text`, an argument or the name of a file. `line` is the line of the file that is
+/// invalid, if the error concerns one line.
 fn refuse<E: Sink>(
     err: &mut E,
     text: &str,
@@ -237,7 +242,7 @@ fn refuse<E: Sink>(
     }
 }
 
-/// Writes the line of a refusal.
+/// Writes an error line: `TEXT: WORDS`, or `TEXT:LINE: WORDS` if there is a line number.
 #[tactic(auto, unfolding(crate::specs::TimerReport::refusal_at))]
 fn put_refusal<W: Sink>(
     err: &mut W,

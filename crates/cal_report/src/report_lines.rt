@@ -1,4 +1,4 @@
-//! Lines of the reports (systemd-analyze(1), calendar and timestamp).
+//! Lines and phrases that several reports share (systemd-analyze(1), calendar and timestamp).
 
 ghost use Rattle.std.specs.Prelude.{◌≡◌, ◌+◌, ◌≤◌, ◌++◌, ◌-ℤ◌, false, length, unsigned_abs};
 ghost use Rattle.cal_bytes.specs.Puts.{Puts};
@@ -11,13 +11,13 @@ use cal_bytes::{ShortText, Sink, WriteFault, push, put_pieces};
 use cal_span::{Span, push_span};
 use cal_zone::{Instant, Moment};
 
-/// The label of a text as it was handed in.
+/// The label of an expression or a timestamp as the user gave it.
 pub const ORIGINAL: &[u8] = b"  Original form: ";
 
-/// The label of an exception's text.
+/// The label of an exception of a timer file, as it is written in the file.
 pub const EXCEPT: &[u8] = b"    Except form: ";
 
-/// Writes the line of a text after its label, and the next label.
+/// Writes `label` and the text as the user gave it, and begins the next line with the label `Normalized form:`.
 pub fn put_text<W: Sink>(out: &mut W, label: &[u8], text: &str) -> Result<(), WriteFault>
     requires { W.is_failed out.old ≡ false }
     ensures { Puts W.Sink out.old out.new result (text_line label.now text.now) }
@@ -25,8 +25,8 @@ pub fn put_text<W: Sink>(out: &mut W, label: &[u8], text: &str) -> Result<(), Wr
     put_pieces(out, &[label, text.as_bytes(), b"\nNormalized form: "])
 }
 
-/// Appends the span between the present and a moment, and which of the two is later. It takes at most [`SPAN_ROOM`] and
-/// 5 bytes.
+/// Appends the time span between the present and `moment`, followed by ` left` or ` ago`. Appends at most [`SPAN_ROOM`]
+/// + 5 bytes.
 #[tactic(auto, unfolding(crate::specs::headline::ReportLines::distance_text))]
 pub fn push_distance(text: &mut ShortText, now: Instant, moment: Moment)
     requires room { length text.old.items + SPAN_ROOM + 5 ≤ ROOM }
@@ -38,7 +38,7 @@ pub fn push_distance(text: &mut ShortText, now: Instant, moment: Moment)
     push(text, direction(now, moment));
 }
 
-/// The first moment of an instant.
+/// Returns the moment at the beginning of an instant, which is a whole second.
 pub fn first_moment(instant: Instant) -> Moment
     ensures { result.micros ≡ micros_of instant.secs }
 {
@@ -48,7 +48,7 @@ pub fn first_moment(instant: Instant) -> Moment
     moment
 }
 
-/// ` left` where the moment isn't before the present, and ` ago` where it is.
+/// Returns ` ago` if `moment` is earlier than `now`, and ` left` otherwise.
 fn direction<'a>(now: Moment, moment: Moment) -> &'a [u8]
     ensures text { result.now ≡ direction_text now.micros moment.micros }
     ensures short { length result.now ≤ 5 }
@@ -60,7 +60,7 @@ fn direction<'a>(now: Moment, moment: Moment) -> &'a [u8]
     }
 }
 
-/// The span between two moments.
+/// Returns the time span between two moments, whichever is earlier.
 fn distance(now: Moment, moment: Moment) -> Span
     ensures { result.micros ≡ unsigned_abs (moment.micros -ℤ now.micros) }
 {

@@ -1,5 +1,5 @@
-//! The report of a timer file: its expressions and exceptions, and the next elapses of all of them with the span until
-//! each (systemd.timer(5), OnCalendar=).
+//! The report of a timer file: its expressions and exceptions, and the next elapse times of the timer, each with its
+//! distance from the present (systemd.timer(5), OnCalendar=).
 
 ghost use Rattle.std.specs.Prelude.{◌≡◌, ◌≢◌, ◌++◌, ℕ, List, Result, [], ◌∷◌, Ok, Err, None, Some, MatchResult, false, true, map, IfOk, OnOk, take, is_none, codes, length};
 ghost use Rattle.std.specs.List.{find, list_any};
@@ -32,7 +32,8 @@ use cal_read::{Timer, TimerFault, TimerLine, read_timer};
 use cal_spec::Expr;
 use std::alloc::{AllocError, Global};
 
-/// What was read of a timer file: its expressions and exceptions, and the elapses of all of them.
+/// A parsed timer file, together with the iterator over the elapse times of its expressions without those of its
+/// exceptions.
 #[derive(Drop)]
 pub struct TimerPlan<'a> {
     timer: Timer,
@@ -42,16 +43,16 @@ pub struct TimerPlan<'a> {
 /// Why a timer file is rejected.
 #[derive(Clone, Copy, PartialEq, Eq, Debug)]
 pub enum TimerRefusal {
-    /// Its bytes or its lines are.
+    /// Reading the file failed, or the file isn't a valid timer file.
     Timer(TimerFault),
-    /// The zone that the expression or the exception of this line names isn't there.
+    /// The expression or exception on this line names a zone that isn't in the zone table.
     NoSuchZone(u32),
-    /// Memory was refused.
+    /// Allocation failed.
     NoMemory,
 }
 
 impl TimerRefusal {
-    /// What is reported to a user; nothing where memory was refused.
+    /// Returns the message to report, which is empty for [`TimerRefusal::NoMemory`]: the caller handles that case.
     pub fn words(&self) -> &str
         ensures { result.now ≡ refused_words self.now }
     {
@@ -62,7 +63,7 @@ impl TimerRefusal {
         }
     }
 
-    /// The line at fault, where there is one.
+    /// Returns the number of the invalid line, if the error concerns one line.
     pub fn line(&self) -> Option<u32>
         ensures { result ≡ refused_line self.now }
     {
@@ -82,7 +83,8 @@ impl From<AllocError> for TimerRefusal {
     }
 }
 
-/// Reads a timer file to its end. All memory that it needs is taken here.
+/// Reads a timer file to its end and parses it. Everything that the report needs is allocated here, so that writing the
+/// report cannot run out of memory.
 #[tactic(auto, unfolding(crate::specs::TimerReport::timer_answer))]
 pub fn read_plan<'a, R: Source>(
     alloc: Global,
@@ -111,7 +113,8 @@ pub fn read_plan<'a, R: Source>(
     }
 }
 
-/// The elapses of all expressions, each in its zone, without those of the exceptions.
+/// Creates the iterator over the elapse times of all expressions without those of the exceptions. Each expression and
+/// each exception is evaluated in its own zone.
 fn merge_of<'a>(
     alloc: Global,
     context: Context<'a>,
@@ -136,7 +139,8 @@ fn merge_of<'a>(
     Ok(merge)
 }
 
-/// The number of the first line of either list whose zone isn't there.
+/// Returns the number of the first line, among the expressions and the exceptions, that names a zone missing from the
+/// zone table.
 #[tactic(auto, unfolding(crate::specs::TimerReport::unzoned))]
 fn find_unzoned(context: Context<'_>, timer: &Timer) -> Option<u32>
     ensures { result ≡ unzoned (asked_by context.entry) timer.now }
@@ -149,7 +153,7 @@ fn find_unzoned(context: Context<'_>, timer: &Timer) -> Option<u32>
     }
 }
 
-/// The number of the first line of a list whose zone isn't there.
+/// Returns the number of the first of these lines that names a zone missing from the zone table.
 fn first_unzoned(context: Context<'_>, lines: &[TimerLine]) -> Option<u32>
     ensures { result ≡ first_unzoned (asked_by context.entry) (map shown lines.now) }
 {
@@ -161,8 +165,11 @@ fn first_unzoned(context: Context<'_>, lines: &[TimerLine]) -> Option<u32>
     None
 }
 
-/// Adds the elapses of expressions, whose zones are there, to a merge from which nothing was taken, but for those that an
-/// exception covers.
+/// Adds the elapse times of expressions to a merge. The zones of all expressions must be known, and nothing may have
+/// been removed from the merge yet.
+///
+/// Skips an expression if an exception covers it completely: all its elapse times would be suppressed anyway, one by
+/// one, and that could take very long.
 fn add_expressions<'a>(
     alloc: Global,
     context: Context<'a>,
@@ -188,7 +195,6 @@ fn add_expressions<'a>(
     Ok(())
 }
 
-/// The masks of each line's expression.
 fn masks_of(alloc: Global, lines: &[TimerLine]) -> Result<Vec<Masks>, AllocError>
     ensures { IfOk result (λ masks. map sets_in masks.items ≡ map entry_sets (map shown lines.now)) }
 {
@@ -199,8 +205,11 @@ fn masks_of(alloc: Global, lines: &[TimerLine]) -> Result<Vec<Masks>, AllocError
     Ok(masks)
 }
 
-/// Whether one of the exceptions, whose masks these are, has each elapse of an expression: it is in the same zone, and
-/// its members of each field have those of the expression among them.
+/// Checks whether one exception suppresses every elapse time of an expression, because it is in the same zone and every
+/// field of the exception matches all values that the field of the expression matches.
+///
+/// `masks` are the masks of the exceptions, in the same order. Returns `false` if the expression is covered only by
+/// several exceptions together.
 fn is_covered(line: &TimerLine, exceptions: &[TimerLine], masks: &[Masks]) -> bool
     requires { map sets_in masks.now ≡ map entry_sets (map shown exceptions.now) }
     ensures { result ≡ true → IsCoveredEntry (shown line.now) (map shown exceptions.now) }
@@ -214,14 +223,15 @@ fn is_covered(line: &TimerLine, exceptions: &[TimerLine], masks: &[Masks]) -> bo
     false
 }
 
-/// Whether two expressions name the same zone, or have the same offset, or neither says its zone.
+/// Returns whether two expressions have the same zone suffix: the same name, the same UTC offset, or none at all.
 fn is_same_zone(one: &Expr, other: &Expr) -> bool
     ensures { result ≡ true → one.now.zone ≡ other.now.zone }
 {
     one.zone_offset() == other.zone_offset() && one.zone_name() == other.zone_name()
 }
 
-/// Adds the elapses of exceptions, whose zones are there, to a merge from which nothing was taken.
+/// Adds the elapse times of exceptions to a merge, which then suppresses them. The zones of all exceptions must be
+/// known, and nothing may have been removed from the merge yet.
 fn add_exceptions<'a>(
     alloc: Global,
     context: Context<'a>,
@@ -242,7 +252,7 @@ fn add_exceptions<'a>(
     Ok(())
 }
 
-/// The elapses of an expression in its zone, which is there.
+/// Creates the iterator over the elapse times of an expression in its zone, which must be known.
 #[tactic(auto, unfolding(crate::specs::TimerReport::timed_entry))]
 fn elapses_of<'a>(
     alloc: Global,
@@ -281,7 +291,7 @@ pub fn write_timer<W: Sink>(
     )
 }
 
-/// Writes the text and the normal form of each expression, and then those of each exception.
+/// Writes the headings of the expressions, and after them those of the exceptions.
 #[tactic(auto, using(cal_bytes::proofs::PutLemmas::puts))]
 fn put_lists<W: Sink>(out: &mut W, timer: &Timer) -> Result<(), WriteFault>
     requires { W.is_failed out.old ≡ false }
@@ -291,7 +301,7 @@ fn put_lists<W: Sink>(out: &mut W, timer: &Timer) -> Result<(), WriteFault>
     put_headings(out, EXCEPT, timer.exceptions())
 }
 
-/// Writes the text of each line of a list, after that label, and its normal form.
+/// Writes the heading of each line: `label` with the expression as it is written in the file, and its normal form.
 fn put_headings<W: Sink>(out: &mut W, label: &[u8], lines: &[TimerLine]) -> Result<(), WriteFault>
     requires { W.is_failed out.old ≡ false }
     ensures { Puts W.Sink out.old out.new result (headings_text label.now (map shown lines.now)) }

@@ -1,5 +1,5 @@
-//! The report of one time span (systemd-analyze(1), timespan): its text, its microseconds, and the span
-//! as it is printed.
+//! The report of one time span (systemd-analyze(1), timespan): the span as given, in microseconds, and in the form in
+//! which spans are printed.
 
 ghost use Rattle.std.specs.Prelude.{◌≡◌, false};
 ghost use Rattle.cal_bytes.specs.Puts.{Puts};
@@ -9,7 +9,7 @@ use cal_bytes::{Sink, WriteFault, put_pieces};
 use cal_span::{Span, format_span};
 use itoa::Buffer;
 
-/// Writes the report of a span that was read from the text.
+/// Writes the report of a time span. `text` is the span as the user gave it, and `span` its parsed value.
 #[tactic(auto, unfolding(crate::specs::TimespanReport::timespan_report))]
 pub fn write_timespan<W: Sink>(out: &mut W, text: &str, span: Span) -> Result<(), WriteFault>
     requires { W.is_failed out.old ≡ false }

@@ -1,5 +1,5 @@
-//! The report of one timestamp (systemd-analyze(1), timestamp): its text, its instant in the local zone and in UTC,
-//! its Unix time, and the span between it and the present.
+//! The report of one timestamp (systemd-analyze(1), timestamp): the timestamp as given, its instant in the local zone
+//! and in UTC, its Unix time, and its distance from the present.
 
 ghost use Rattle.std.specs.Prelude.{◌≡◌, ◌+◌, ◌≤◌, ◌++◌, false, length, unsigned_abs};
 ghost use Rattle.cal_bytes.specs.Puts.{Puts};
@@ -15,7 +15,7 @@ use cal_bytes::{Fill, ShortText, Sink, WriteFault, padding, push, push_all, put_
 use cal_zone::{Instant, Moment, Zone};
 use itoa::Buffer;
 
-/// Writes the report of a moment that was read from the text.
+/// Writes the report of a timestamp. `text` is the timestamp as the user gave it, and `moment` what it resolves to.
 #[tactic(auto, using(cal_bytes::proofs::PutLemmas::puts), unfolding(crate::specs::TimestampReport::timestamp_report))]
 pub fn write_timestamp<W: Sink>(
     out: &mut W,
@@ -31,7 +31,8 @@ pub fn write_timestamp<W: Sink>(
     put_moment(out, context.local, context.now, moment)
 }
 
-/// Writes what is said of a moment, after the label of its first line.
+/// Writes the lines of the report that describe the moment. The label `Normalized form:` of the first of these lines is
+/// already written.
 fn put_moment<W: Sink>(
     out: &mut W,
     local: Zone<'_>,
@@ -46,7 +47,7 @@ fn put_moment<W: Sink>(
     put_all(out, text.as_slice())
 }
 
-/// Appends what is said of a moment.
+/// Appends the lines that describe the moment, without the label of the first line.
 #[tactic(auto, unfolding(crate::specs::TimestampReport::moment_lines))]
 fn push_moment(text: &mut ShortText, clocks: &mut Clocks<'_>, now: Instant, moment: Moment)
     requires { length text.old.items + SPAN_ROOM + 276 ≤ ROOM }
@@ -62,7 +63,8 @@ fn push_moment(text: &mut ShortText, clocks: &mut Clocks<'_>, now: Instant, mome
     push(text, b"\n");
 }
 
-/// Appends `@` and the seconds since 1970-01-01 00:00:00 UTC, with six digits of microseconds where they aren't 0.
+/// Appends `@` and the Unix time in seconds, followed by a point and six digits of microseconds unless these are 0.
+/// Appends at most 48 bytes.
 #[tactic(auto, unfolding(crate::specs::TimestampReport::unix_text))]
 fn push_unix(text: &mut ShortText, moment: Moment)
     requires room { length text.old.items + 48 ≤ ROOM }

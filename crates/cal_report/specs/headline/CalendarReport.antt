@@ -5,10 +5,10 @@ use Rattle.cal_spec.specs.headline.ExprText.{expr_text}
 use Rattle.cal_spec.specs.headline.Fields.{Fields}
 use Rattle.cal_report.specs.headline.ReportLines.{text_line}
 
--- the line of the normal form, after its label
+-- the line of the normal form, without its label
 unfoldable pub normal_line : Fields → List ℕ
 normal_line fields = joined (expr_text fields ∷ codes "\n" ∷ [])
 
--- both lines, the first after that label
+-- the heading: a line with the label and the expression as given, and a line with the normal form
 unfoldable pub heading_text : List ℕ → List ℕ → Fields → List ℕ
 heading_text label text fields = joined (text_line label text ∷ normal_line fields ∷ [])

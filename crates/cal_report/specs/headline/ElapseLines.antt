@@ -1,4 +1,4 @@
--- The lines of elapses in a report (systemd-analyze(1), calendar).
+-- The part of a report that lists elapse times (systemd-analyze(1), calendar).
 use Rattle.std.specs.Prelude.{ℕ, ◌+◌, ◌-◌, ◌==◌, ℤ, List, [], ◌∷◌, ◌++◌, length, replicate, if◌then◌else◌, codes, decimal}
 use Rattle.cal_bytes.specs.headline.Bytes.{joined}
 use Rattle.cal_zone.specs.headline.InstantText.{instant_text}
@@ -6,23 +6,23 @@ use Rattle.cal_zone.specs.declared.zone.Zone.{Zone}
 use Rattle.cal_zone.specs.headline.Moment.{micros_of}
 use Rattle.cal_report.specs.headline.ReportLines.{distance_text, utc_line}
 
--- the label of the elapse with that number, from 1 on, right-aligned in 15 columns
+-- the label of an elapse time, whose number counts from 1, right-aligned in 15 columns
 unfoldable pub label_text : ℕ → List ℕ
 label_text number =
     if number == 1 then codes "    Next elapse: "
     else joined (replicate (8 - length (decimal number)) 32 ∷ codes "Iter. #" ∷ decimal number ∷ codes ": " ∷ [])
 
--- one elapse, in the local zone and in UTC, and how far it lies from the present
+-- one elapse time in the local zone and in UTC, with its distance from the present
 unfoldable pub elapse_text : Zone → ℤ → ℕ → ℤ → List ℕ
 elapse_text local now number elapse =
     joined (label_text number ∷ instant_text local elapse ∷ codes "\n" ∷ utc_line local elapse ∷ codes "       From now: " ∷ distance_text (micros_of now) (micros_of elapse) ∷ codes "\n" ∷ [])
 
--- elapses in a row, where the first of them has that number
+-- these elapse times, with labels that count from `number`
 abbrev pub elapse_texts : Zone → ℤ → ℕ → List ℤ → List ℕ
 elapse_texts local now number [] = []
 elapse_texts local now number (elapse ∷ elapses) = elapse_text local now number elapse ++ elapse_texts local now (number + 1) elapses
 
--- the elapses that are shown, or `never` where there is none
+-- these elapse times, or `never` if there are none
 abbrev pub elapses_text : Zone → ℤ → List ℤ → List ℕ
 elapses_text local now [] = codes "    Next elapse: never\n"
 elapses_text local now (elapse ∷ elapses) = elapse_texts local now 1 (elapse ∷ elapses)

@@ -1,8 +1,8 @@
--- What a run writes and how it ends.
+-- The result of a run.
 use Rattle.std.specs.Prelude.{ℕ, List}
 use Rattle.cal_request.specs.declared.request.Status.{Status}
 
--- what a run writes and how it ends
+-- the bytes that a run writes to standard output and to standard error, and its status
 pub record Report : Type 0 where
   pub out : List ℕ
   pub err : List ℕ

@@ -1,4 +1,4 @@
--- The writer works, and what is left to write is the elapses that are left, from this number on.
+-- The writer hasn't failed, and the remaining elapse times remain to be written, with labels that count from `number`.
 use Rattle.std.proofs.Common.{◌≡◌, ◌+◌, ◌-◌, take}
 use Rattle.cal_bytes.proofs.PutLemmas.{PutsUpTo}
 use Rattle.cal_report.specs.ElapseLines.{AreInstants}

@@ -1,4 +1,4 @@
--- Nothing has to be known of the exceptions that were passed.
+-- The loop needs no invariant: nothing has to be known about the exceptions that were already compared.
 use Rattle.cal_report.proofs.timer_report.is_covered.Given as goal
 
 abbrev pub invariant-loop-exception : goal.invariant-loop-exception

@@ -1,4 +1,4 @@
--- These are the masks of the lines so far.
+-- `masks` holds the masks of the lines before the index.
 use Rattle.std.proofs.Common.{◌≡◌, map, take}
 use Rattle.cal_elapse.specs.Masks.{sets_in}
 use Rattle.cal_read.specs.TimerView.{shown}
