@@ -10,7 +10,7 @@ use Rattle.cal_elapse.specs.Search.{IsFirstPassing}
 use Rattle.cal_elapse.proofs.CountLemmas.{count_from-nothing}
 use Rattle.cal_elapse.proofs.FoundLemmas.{first_match, first_passing}
 use Rattle.cal_elapse.proofs.MinuteLemmas.{hour_found}
-use Rattle.cal_elapse.proofs.MostLemmas.{most_begun, next_counted, next_most}
+use Rattle.cal_elapse.proofs.MostLemmas.{next_counted, next_most}
 use Rattle.cal_elapse.proofs.searcher.Searcher.next_later.Goals as goal
 
 pub returns-then-not-has_later-clause-counted : goal.returns-then-not-has_later-clause-counted

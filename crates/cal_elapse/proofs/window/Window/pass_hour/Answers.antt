@@ -1,4 +1,4 @@
-use Rattle.std.proofs.Common.{◌≡◌, false, None, Option, Some, ℤ, ◌+◌, ◌*◌, ◌/◌, ◌∙◌, FitsSigned, arith, pos, refl, rules, sym, to_z, unsigned_abs, w64}
+use Rattle.std.proofs.Common.{◌≡◌, false, None, Option, Some, ℤ, ◌+◌, ◌*◌, ◌/◌, ◌∙◌, FitsSigned, arith, refl, rules, sym, unsigned_abs, w64}
 use Rattle.std.proofs.lemmas.Int.{to_z-of_z}
 use Rattle.std.specs.Option.{is_some}
 use Rattle.jiff.proofs.SpanFacts.{signed_arith}

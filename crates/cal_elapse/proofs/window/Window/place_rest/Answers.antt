@@ -1,4 +1,4 @@
-use Rattle.std.proofs.Common.{◌+◌, ◌*◌, ◌/◌, ◌∙◌, FitsSigned, arith, of_z, pos, refl, rules, subst, sym, to_z, unsigned_abs, w64, ℤ}
+use Rattle.std.proofs.Common.{◌+◌, ◌*◌, ◌/◌, ◌∙◌, FitsSigned, arith, refl, rules, sym, unsigned_abs, w64}
 use Rattle.std.proofs.lemmas.Int.{to_z-of_z}
 use Rattle.jiff.proofs.SpanFacts.{signed_arith}
 use Rattle.cal_zone.specs.headline.Local.{seconds_in_all-is}
