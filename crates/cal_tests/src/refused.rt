@@ -1,12 +1,14 @@
-//! Calls that take memory, whichever of their allocations is refused: each answers as with all of it, or that memory was
-//! refused, and then leaves what it was handed as it was. What is made before the call may be refused as well; then there
-//! is nothing to see. `tests/refused` refuses the allocations in turn.
+//! Calls that allocate. `tests/refused` makes each of their allocations fail in turn.
+//!
+//! A test succeeds if every allocation did. Otherwise it fails with the call's `NoMemory` or `AllocError`, after it has
+//! checked that the call left its arguments unchanged. `tests/refused` checks which of the two has to happen.
 
 use cal_bytes::Port;
-use cal_command::{Ask, CommandFault};
+use cal_command::Ask;
 use cal_library_tests::shared::zone_file;
-use cal_work::{LoadFault, load_zone};
-use cal_zone::{ZoneFault, ZoneTable};
+use cal_work::load_zone;
+use cal_zone::ZoneTable;
+use std::test::Fail;
 
 static WORDS: [&str; 4] = [
     "calendar",
@@ -16,24 +18,19 @@ static WORDS: [&str; 4] = [
 ];
 
 #[test]
-fn a_command_line(rt: HostRuntime) {
-    match Ask::of(rt.alloc(), &WORDS) {
-        Ok(ask) => assert_eq!(rt; ask.request.iterations, 2),
-        Err(fault) => assert!(rt; matches!(fault, CommandFault::NoMemory)),
-    }
+fn a_command_line(rt: HostRuntime) -> Result<(), Fail> {
+    let ask = Ask::of(rt.alloc(), &WORDS)?;
+    assert_eq!(rt; ask.request.iterations, 2);
+    Ok(())
 }
 
-/// Where memory is refused, the table is as it was.
+/// If allocation fails, the table is unchanged.
 #[test]
-fn a_loaded_zone(rt: HostRuntime) {
-    let Ok(bytes) = zone_file(rt.alloc()) else {
-        return;
-    };
+fn a_loaded_zone(rt: HostRuntime) -> Result<(), Fail> {
+    let bytes = zone_file(rt.alloc())?;
     let mut table = ZoneTable::new(rt.alloc());
     let mut from = Port::new(bytes.as_slice());
     let loaded = load_zone(rt.alloc(), &mut table, "Test/Fixed", &mut from);
     assert!(rt; loaded.is_ok() == table.find("Test/Fixed").is_some());
-    if let Err(fault) = loaded {
-        assert_eq!(rt; fault, LoadFault::Zone(ZoneFault::NoMemory));
-    }
+    Ok(loaded?)
 }
