@@ -28,10 +28,10 @@ ghost use Rattle.cal_request.specs.declared.request.Verb.TheVariants.{Calendar, 
 
 use cal_spec::laws::one_normal_form_of_fields;
 
-/// For every list of accepted expressions, base instant and zones, the elapses printed are exactly the matching instants
-/// after the base through 2199, each once, rising; a local time in a gap gives none, in a fold its first instant alone; an
-/// iteration count n gives the first n, and starting again at any printed instant gives exactly the rest; want of memory
-/// aside.
+/// For every list of accepted expressions, base instant and zones, the elapses printed are exactly the matching
+/// instants after the base through 2199, each once, rising; a local time in a gap gives none, in a fold its first
+/// instant alone; an iteration count n gives the first n, and starting again at any printed instant gives exactly the
+/// rest; want of memory aside.
 ///
 /// A matching instant is the place of a local second that matches. In a timer file it is also not an elapse of an
 /// exception.
