@@ -158,7 +158,7 @@ fn push_instants<'t>(instants: &mut Vec<&'t str>, text: &'t str) -> Result<(), A
     Ok(())
 }
 
-/// Puts the instants that are complete in a prefix of a report, and those that a second run gives, at the end of a list.
+/// Appends the instants of the complete elapses in a prefix of a report, and those that a second run prints.
 fn push_resumed(
     instants: &mut Vec<&'static str>,
     front: &'static str,
@@ -194,8 +194,8 @@ fn each_cut_is_resumed(rt: HostRuntime) -> Result<(), Fail> {
     expect_resumed(&rt, EXCEPT_TIMER.out, &EXCEPT_TIMER_RESUMED)
 }
 
-/// A writer of refusals that fails once it has this prefix of them has exactly that, and the run says that it failed. All
-/// of the reports were written.
+/// Checks a run whose writer of error lines fails after a prefix of them: the writer has exactly that prefix, the run
+/// reports that it failed, and all reports are written.
 fn check_cut_err(
     rt: &(impl Abort + AllocGlobal),
     row: Row<'_>,
