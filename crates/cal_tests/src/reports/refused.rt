@@ -1,81 +1,72 @@
-//! Reports where memory is refused. `tests/refused` refuses the allocations in turn.
+//! Reports, with each allocation refused in turn by `tests/refused`. It checks that a test fails with `NoMemory` or
+//! `AllocError` exactly if an allocation failed.
 
 use super::calendar::LEAP_DAYS;
 use super::timers::{CONTINUED_TIMER, EXCEPT_TIMER};
 use super::times::{SPAN_LIST, STAMP_LIST};
 use super::{KnownZones, Row, Written, expect_texts, request, run_request};
 use cal_bytes::Port;
-use cal_library_tests::shared::SUMMER_TIME;
-use cal_request::{Request, RunFault};
-use cal_zone::{Instant, Rules, ZoneTable};
+use cal_library_tests::shared::{SUMMER_TIME, instant};
+use cal_request::RunFault;
+use cal_zone::{Rules, ZoneTable};
 use std::process::Abort;
+use std::test::Fail;
 
-/// The row writes its texts, over writers that have their room; or it has one text, takes memory for it, and writes
-/// nothing where memory is refused. Where it is refused before the run there is nothing to see.
-fn check_refused(rt: &(impl Abort + AllocGlobal), row: Row<'_>) {
-    let (Ok(request), Some(now)) = (request(rt, row), Instant::new(row.now)) else {
-        return;
-    };
-    let Ok(summer) = Rules::posix(rt.alloc(), SUMMER_TIME) else {
-        return;
-    };
+/// Runs the row over writers that have their room beforehand.
+fn check_refused(rt: &(impl Abort + AllocGlobal), row: Row<'_>) -> Result<(), Fail> {
+    let request = request(rt, row)?;
+    let now = instant(row.now)?;
+    let summer = Rules::posix(rt.alloc(), SUMMER_TIME)?;
     let table = ZoneTable::new(rt.alloc());
-    check_request(rt, row, &request, now, &KnownZones { summer, table });
-}
-
-/// So does a request that was made of the row.
-fn check_request(
-    rt: &(impl Abort + AllocGlobal),
-    row: Row<'_>,
-    request: &Request,
-    now: Instant,
-    zones: &KnownZones,
-) {
-    let (Ok(out), Ok(err)) = (
-        Vec::with_capacity(rt.alloc(), 4_096),
-        Vec::with_capacity(rt.alloc(), 4_096),
-    ) else {
-        return;
-    };
-    let (mut out, mut err) = (Port::new(out), Port::new(err));
+    let zones = KnownZones { summer, table };
+    let mut out = Port::new(Vec::with_capacity(rt.alloc(), 4_096)?);
+    let mut err = Port::new(Vec::with_capacity(rt.alloc(), 4_096)?);
     let mut input = Port::new(row.input);
-    let ended = run_request(rt, row, request, now, zones, &mut input, &mut out, &mut err);
+    let ended = run_request(
+        rt, row, &request, now, &zones, &mut input, &mut out, &mut err,
+    );
     let (out, err) = (out.into_inner(), err.into_inner());
-    expect_texts_or_none(rt, row, (out.as_slice(), err.as_slice(), ended));
+    expect_texts_or_none(rt, row, (out.as_slice(), err.as_slice(), ended))?;
+    Ok(())
 }
 
-/// The row's texts were written; or memory was refused to a verb that takes it, and nothing was written.
-fn expect_texts_or_none(rt: &impl Abort, row: Row<'_>, written: Written<'_>) {
+/// The row's texts were written; or a verb that allocates ran out of memory, and nothing was written.
+fn expect_texts_or_none(
+    rt: &impl Abort,
+    row: Row<'_>,
+    written: Written<'_>,
+) -> Result<(), RunFault> {
     let (out, err, ended) = written;
     if ended == Err(RunFault::NoMemory) && row.verb.seeks_elapses() {
         assert!(rt; out.is_empty() && err.is_empty(), "at {}", row.about);
-    } else {
-        expect_texts(rt, row, written);
+        return Err(RunFault::NoMemory);
     }
+    expect_texts(rt, row, written);
+    Ok(())
 }
 
 #[test]
-fn a_calendar(rt: HostRuntime) {
-    check_refused(&rt, LEAP_DAYS);
+fn a_calendar(rt: HostRuntime) -> Result<(), Fail> {
+    check_refused(&rt, LEAP_DAYS)
 }
 
 #[test]
-fn a_timer(rt: HostRuntime) {
-    check_refused(&rt, CONTINUED_TIMER);
+fn a_timer(rt: HostRuntime) -> Result<(), Fail> {
+    check_refused(&rt, CONTINUED_TIMER)
 }
 
 #[test]
-fn a_timer_with_an_exception(rt: HostRuntime) {
-    check_refused(&rt, EXCEPT_TIMER);
+fn a_timer_with_an_exception(rt: HostRuntime) -> Result<(), Fail> {
+    check_refused(&rt, EXCEPT_TIMER)
 }
 
-/// Time spans and timestamps take no memory.
+/// Time spans and timestamps don't allocate: only what comes before the run can fail.
 #[test]
-fn time_spans(rt: HostRuntime) {
-    check_refused(&rt, SPAN_LIST);
+fn time_spans(rt: HostRuntime) -> Result<(), Fail> {
+    check_refused(&rt, SPAN_LIST)
 }
 
 #[test]
-fn timestamps(rt: HostRuntime) {
-    check_refused(&rt, STAMP_LIST);
+fn timestamps(rt: HostRuntime) -> Result<(), Fail> {
+    check_refused(&rt, STAMP_LIST)
 }
