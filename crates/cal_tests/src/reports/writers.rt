@@ -3,7 +3,9 @@
 use super::timers::{CONTINUED_TIMER, EXCEPT_TIMER};
 use super::times::{SPAN_LIST, STAMP_LIST};
 use super::zones::{EVERY_SECOND, FROM_THE_FIRST};
-use super::{CALENDAR, KnownZones, NOON_THIRTY, Row, check, expect_texts, known_zones, run_row};
+use super::{
+    CALENDAR, KnownZones, NOON_THIRTY, Row, check, expect_texts, known_zones, run_row, status,
+};
 use cal_bytes::{Faulty, Port, Then};
 use cal_request::{RunFault, Status};
 use std::alloc::AllocError;
@@ -60,7 +62,13 @@ fn expect_cut(rt: &impl Abort, row: Row<'_>, cut: Cut<'_>, wanted: Cut<'_>) {
     assert_eq!(rt; cut, wanted, "at {}", row.about);
 }
 
-/// A writer of reports that fails once it has this prefix of them has exactly that, and the run says that it failed.
+/// How a run ends whose writer fails once it has all that it takes: well, if that is the whole text.
+fn end_of_cut(row: Row<'_>, is_cut: bool, fault: RunFault) -> Result<Status, RunFault> {
+    if is_cut { Err(fault) } else { Ok(status(row)) }
+}
+
+/// A writer of reports that fails once it has this prefix of them has exactly that, and the run says that it failed,
+/// unless nothing is missing.
 fn check_cut_out(
     rt: &(impl Abort + AllocGlobal),
     row: Row<'_>,
@@ -74,16 +82,18 @@ fn check_cut_out(
     let ended = run_row(rt, row, zones, &mut input, &mut out, &mut err)?;
     let failed = (out.failed(), err.failed());
     let out = out.into_inner();
-    let wanted = (front, Err(RunFault::OutFailed), (true, false));
+    let is_cut = front.len() < row.out.len();
+    let ends = end_of_cut(row, is_cut, RunFault::OutFailed);
+    let wanted = (front, ends, (is_cut, false));
     expect_cut(rt, row, (out.bytes(), ended, failed), wanted);
     Ok(())
 }
 
-/// The reports of a row, cut after each of their bytes.
+/// The reports of a row, cut after each of their bytes, and at last after none.
 fn check_cuts_out(rt: &(impl Abort + AllocGlobal), row: Row<'_>, then: Then) -> Result<(), Fail> {
     let text = row.out.as_bytes();
     let zones = known_zones(rt.alloc())?;
-    for limit in 0..text.len() {
+    for limit in 0..=text.len() {
         check_cut_out(rt, row, &zones, &text[..limit], then)?;
     }
     Ok(())
@@ -195,7 +205,7 @@ fn each_cut_is_resumed(rt: HostRuntime) -> Result<(), Fail> {
 }
 
 /// Checks a run whose writer of error lines fails after a prefix of them: the writer has exactly that prefix, the run
-/// reports that it failed, and all reports are written.
+/// reports that it failed unless nothing is missing, and all reports are written.
 fn check_cut_err(
     rt: &(impl Abort + AllocGlobal),
     row: Row<'_>,
@@ -209,10 +219,16 @@ fn check_cut_err(
     let ended = run_row(rt, row, zones, &mut input, &mut out, &mut err)?;
     let failed = (out.failed(), err.failed());
     let (out, err) = (out.into_inner(), err.into_inner());
-    let wanted = (front, Err(RunFault::ErrFailed), (false, true));
-    expect_cut(rt, row, (err.bytes(), ended, failed), wanted);
+    let is_cut = front.len() < row.err.len();
+    let ends = end_of_cut(row, is_cut, RunFault::ErrFailed);
+    expect_cut(
+        rt,
+        row,
+        (err.bytes(), ended, failed),
+        (front, ends, (false, is_cut)),
+    );
     // Nothing was offered after the failure.
-    let is_last = err.calls() == front.len() as u64 + 1;
+    let is_last = err.calls() == front.len() as u64 + u64::from(is_cut);
     assert!(rt;
         is_last && out.as_slice() == row.out.as_bytes(),
         "at {}",
@@ -221,11 +237,11 @@ fn check_cut_err(
     Ok(())
 }
 
-/// The refusals of a row, cut after each of their bytes.
+/// The refusals of a row, cut after each of their bytes, and at last after none.
 fn check_cuts_err(rt: &(impl Abort + AllocGlobal), row: Row<'_>, then: Then) -> Result<(), Fail> {
     let text = row.err.as_bytes();
     let zones = known_zones(rt.alloc())?;
-    for limit in 0..text.len() {
+    for limit in 0..=text.len() {
         check_cut_err(rt, row, &zones, &text[..limit], then)?;
     }
     Ok(())
@@ -261,8 +277,11 @@ fn before<'t>(text: &'t str, words: &str) -> Result<&'t str, Fail> {
 }
 
 /// The reports of the stamp list that are written before this byte of its refusals: one before the first of them, and
-/// another before the fourth.
+/// another before the fourth. After the last byte all are written.
 fn reports_until(stamps: Row<'static>, limit: usize) -> Result<&'static str, Fail> {
+    if limit == stamps.err.len() {
+        return Ok(stamps.out);
+    }
     let first_three = before(stamps.err, "foo")?;
     let next = if limit < first_three.len() {
         "\n  Original form: today"
@@ -272,7 +291,7 @@ fn reports_until(stamps: Row<'static>, limit: usize) -> Result<&'static str, Fai
     before(stamps.out, next)
 }
 
-/// The refusals of the stamp list, cut after each of their bytes.
+/// The refusals of the stamp list, cut after each of their bytes, and at last after none.
 fn check_cuts_of_stamps(
     rt: &(impl Abort + AllocGlobal),
     stamps: Row<'static>,
@@ -280,7 +299,7 @@ fn check_cuts_of_stamps(
 ) -> Result<(), Fail> {
     let zones = known_zones(rt.alloc())?;
     let text = stamps.err.as_bytes();
-    for limit in 0..text.len() {
+    for limit in 0..=text.len() {
         let out = reports_until(stamps, limit)?;
         let row = Row { out, ..stamps };
         check_cut_err(rt, row, &zones, &text[..limit], then)?;
