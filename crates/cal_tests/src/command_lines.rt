@@ -159,6 +159,8 @@ calendar|--help -> help
 timestamp|-h -> help
 timespan|a|--help -> help
 timer|--help|--nope -> help
+help -> help
+help|timer -> help
 calendar|--|--help -> calendar 1|--help
 ";
 
@@ -171,7 +173,7 @@ fn other_lines(rt: HostRuntime) -> Result<(), Fail> {
 const NO_COMMANDS: &str = "\
 frobnicate|a
 
-help
+help|frobnicate
 --
 calendar|--
 timer|a|--|b
