@@ -1,9 +1,7 @@
 pub use Rattle.cal_bytes.specs.Bytes
 pub use Rattle.cal_bytes.specs.Fill
-pub use Rattle.cal_bytes.specs.Output
 pub use Rattle.cal_bytes.specs.Puts
 pub use Rattle.cal_bytes.specs.SplitPieces
-pub use Rattle.cal_bytes.specs.Whole
 pub use Rattle.cal_span.specs.Scale
 pub use Rattle.cal_span.specs.Span
 pub use Rattle.cal_span.specs.SpanFault
@@ -11,6 +9,8 @@ pub use Rattle.cal_span.specs.SpanRule
 pub use Rattle.cal_span.specs.SpanText
 pub use Rattle.cal_span.specs.SpanValue
 pub use Rattle.cal_span.specs.SpanWord
+pub use Rattle.cal_streams.specs.Output
+pub use Rattle.cal_streams.specs.Whole
 pub use Rattle.cal_text.specs.AndThen
 pub use Rattle.cal_text.specs.TrimRule
 pub use Rattle.cal_zone.specs.Civil

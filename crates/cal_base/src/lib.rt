@@ -2,13 +2,15 @@
 #![tactic(auto)]
 
 pub use cal_bytes::{
-    Faulty, Fill, Output, Port, ROOM, ShortText, Sink, Source, Then, WholeFault, WriteFault,
-    is_among, padding, push, push_all, put_all, put_pieces, read_whole,
+    Fill, ROOM, ShortText, Sink, Source, WriteFault, is_among, padding, push, push_all, put_all,
+    put_pieces,
 };
+pub use cal_faulty::{Faulty, Then};
 pub use cal_span::{
     SPAN_ROOM, Scale, Span, SpanFault, format_span, fraction_of, one_text, one_value, push_span,
     read_span, text_reads_back, write_span,
 };
+pub use cal_streams::{Output, Port, WholeFault, read_whole};
 pub use cal_text::{are_digits, first_word, last_word, trim_blanks, whole_of};
 pub use cal_zone::{
     Civil, Clock, DAY, Instant, LOCAL_END, Moment, Placer, Rules, WEEK, Zone, ZoneFault, ZoneTable,

@@ -4,7 +4,7 @@ use Rattle.std.specs.Prelude.{is_err, if◌then◌else◌}
 use Rattle.std.specs.Io.KnownBytes.{Appends}
 use Rattle.std.specs.List.{AllZip, cons_option, filter_map, flat_map, join_by, list_any}
 use Rattle.std.specs.Result.{result_err, result_ok}
-use Rattle.cal_bytes.specs.declared.whole.WholeFault.{WholeFault}
+use Rattle.cal_streams.specs.declared.whole.WholeFault.{WholeFault}
 use Rattle.cal_report.specs.Answer.{Answer, refusal_in, refusal_line, refusals_text, report_in, reports_text, texts_status}
 use Rattle.cal_report.specs.headline.Headline.{AreAnswered, IsAnswerTo, IsReportOf, alone}
 use Rattle.cal_report.specs.Report.{ByReading, IsReported, answer_to, base_in, report, texts_report}

@@ -11,7 +11,7 @@ use Rattle.cal_elapse.proofs.InstantLemmas.{IsInstant-elapse}
 use Rattle.cal_read.specs.TimerText.{TimerLine, Timer, timer_text}
 use Rattle.cal_read.specs.TimerView.{shown}
 use Rattle.cal_read.specs.declared.timer.TimerLine as declared_line
-use Rattle.cal_bytes.specs.declared.whole.WholeFault.{WholeFault}
+use Rattle.cal_streams.specs.declared.whole.WholeFault.{WholeFault}
 use Rattle.cal_spec.specs.Expr.{expr_in}
 use Rattle.cal_spec.specs.headline.Fields.{Fields}
 use Rattle.cal_report.specs.ElapseLines.{AreInstants}

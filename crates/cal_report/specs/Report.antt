@@ -2,9 +2,9 @@
 use Rattle.std.specs.Prelude.{◌≡◌, ℕ, ℤ, Bool, true, false, ◌&&◌, List, [], Option, None, Some, Result, Ok, Err, IfOk, is_ok, slice_index_or, if◌then◌else◌, codes}
 use Rattle.std.specs.Result.{result_map_both}
 use Rattle.cal_bytes.specs.Bytes.{Writes}
-use Rattle.cal_bytes.specs.Whole.{is_read_failed}
-use Rattle.cal_bytes.specs.declared.whole.WholeFault.{WholeFault}
-use Rattle.cal_bytes.specs.declared.whole.WholeFault.TheVariants.{NoMemory}
+use Rattle.cal_streams.specs.Whole.{is_read_failed}
+use Rattle.cal_streams.specs.declared.whole.WholeFault.{WholeFault}
+use Rattle.cal_streams.specs.declared.whole.WholeFault.TheVariants.{NoMemory}
 use Rattle.cal_zone.specs.declared.instant.Instant.{Instant}
 use Rattle.cal_read.specs.TimerText.{ReadsWhole, most_file_bytes}
 use Rattle.cal_read.specs.StampFault.{words_of}

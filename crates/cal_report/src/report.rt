@@ -3,8 +3,8 @@
 
 ghost use Rattle.std.specs.Prelude.{ℕ, List, Result, slice_index_or, map, ◌≡◌, [], ◌∷◌, false, codes, IfOk, IsErrOf};
 ghost use Rattle.std.specs.String.{string_bytes};
-ghost use Rattle.cal_bytes.specs.Whole.{is_read_failed};
-ghost use Rattle.cal_bytes.specs.declared.whole.WholeFault.{WholeFault};
+ghost use Rattle.cal_streams.specs.Whole.{is_read_failed};
+ghost use Rattle.cal_streams.specs.declared.whole.WholeFault.{WholeFault};
 ghost use Rattle.cal_read.specs.TimerText.{ReadsWhole, most_file_bytes};
 ghost use Rattle.cal_bytes.specs.Bytes.{Writes};
 ghost use Rattle.cal_bytes.specs.Puts.{Puts};

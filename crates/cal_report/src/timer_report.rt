@@ -5,9 +5,9 @@ ghost use Rattle.std.specs.Prelude.{◌≡◌, ◌≢◌, ◌++◌, ℕ, List, R
 ghost use Rattle.std.specs.List.{find, list_any};
 ghost use Rattle.cal_bytes.specs.Puts.{Puts};
 ghost use Rattle.cal_bytes.specs.headline.Bytes.{joined};
-ghost use Rattle.cal_bytes.specs.Whole.{is_read_failed};
+ghost use Rattle.cal_streams.specs.Whole.{is_read_failed};
 ghost use Rattle.cal_zone.specs.headline.Zone.{zone_of};
-ghost use Rattle.cal_bytes.specs.declared.whole.WholeFault.{WholeFault};
+ghost use Rattle.cal_streams.specs.declared.whole.WholeFault.{WholeFault};
 ghost use Rattle.cal_elapse.specs.Elapses.{elapses_after};
 ghost use Rattle.cal_elapse.specs.Masks.{sets_in};
 ghost use Rattle.cal_rising.specs.Merge.{merged};

@@ -3,7 +3,7 @@
 //! A test succeeds if every allocation did. Otherwise it fails with the call's `NoMemory` or `AllocError`, after it has
 //! checked that the call left its arguments unchanged. `tests/refused` checks which of the two has to happen.
 
-use cal_bytes::Port;
+use cal_streams::Port;
 use cal_command::Ask;
 use cal_library_tests::shared::zone_file;
 use cal_work::load_zone;

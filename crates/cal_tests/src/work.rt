@@ -3,7 +3,7 @@
 mod disk;
 mod memory;
 
-use cal_bytes::Port;
+use cal_streams::Port;
 use cal_work::{System, work};
 use std::alloc::Global;
 use std::io::BufWriter;

@@ -1,6 +1,6 @@
 //! The real system, with its files and its clock. Nothing is proved of what they return.
 
-use cal_bytes::Port;
+use cal_streams::Port;
 use cal_work::System;
 use std::fs;
 use std::rt::Files;

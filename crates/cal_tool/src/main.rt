@@ -7,7 +7,8 @@ ghost use Rattle.std.specs.Prelude.{◌≡◌, false};
 pub mod machine;
 
 use crate::machine::Machine;
-use cal_bytes::{Port, Sink};
+use cal_bytes::Sink;
+use cal_streams::Port;
 pub use cal_command::{Ask, CommandFault, LocalZone, ZoneItem};
 pub use cal_report::{laws, run};
 pub use cal_request::{Request, RunFault, Status, Verb};

@@ -9,8 +9,8 @@ use Rattle.cal_zone.specs.headline.ZoneMap.{ZoneMap}
 use Rattle.cal_zone.specs.headline.ZoneName.{is_zone_name}
 use Rattle.cal_zone.specs.ZoneTable.{is_taken}
 use Rattle.cal_zone.specs.headline.ZoneTable.{zone_named}
-use Rattle.cal_bytes.specs.declared.whole.WholeFault.{WholeFault}
-use Rattle.cal_bytes.specs.declared.whole.WholeFault.TheVariants as whole
+use Rattle.cal_streams.specs.declared.whole.WholeFault.{WholeFault}
+use Rattle.cal_streams.specs.declared.whole.WholeFault.TheVariants as whole
 use Rattle.cal_zone.specs.declared.zone.Zone.{Zone as ClockZone}
 use Rattle.cal_zone.specs.declared.zone_fault.ZoneFault.TheVariants.{BadName, BadFile, TooLarge, NoMemory, NameTaken}
 use Rattle.cal_command.specs.Ask.{Ask, LocalZone, in_utc, ahead, by_rule, of_name, ZoneItem, CommandFault}

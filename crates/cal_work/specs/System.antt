@@ -1,8 +1,8 @@
 -- What is known about a system's files and its clock, and what the program sees of them.
 use Rattle.std.specs.Prelude.{◌≡◌, ℕ, ℤ, ◌<◌, ◌≤◌, Bool, true, false, List, length, Option, None, Some, Result, Ok, Err, IfSome}
-use Rattle.cal_bytes.specs.Whole.{is_read_failed}
-use Rattle.cal_bytes.specs.declared.whole.WholeFault.{WholeFault}
-use Rattle.cal_bytes.specs.declared.whole.WholeFault.TheVariants.{ReadFailed, TooLarge, NoMemory}
+use Rattle.cal_streams.specs.Whole.{is_read_failed}
+use Rattle.cal_streams.specs.declared.whole.WholeFault.{WholeFault}
+use Rattle.cal_streams.specs.declared.whole.WholeFault.TheVariants.{ReadFailed, TooLarge, NoMemory}
 
 -- What is known about a system; `None` stands for "nothing". For each path: the bytes of the file, or that it can't be
 -- opened, and whether reading it may fail. For the clock: its seconds of Unix time, or that it has none.

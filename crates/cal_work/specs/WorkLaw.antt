@@ -2,8 +2,8 @@
 -- It depends on the system, on what `clap` makes of the arguments, and on the zones that `jiff` reads from the files.
 use Rattle.std.specs.Prelude.{◌≡◌, ◌⊎◌, ℕ, ℤ, Bool, true, false, List, [], ◌∷◌, length, nat_le, Option, None, Some, IsSome, Result, Ok, Err, slice_index_or}
 use Rattle.cal_zone.specs.ZoneFile.{file_limit}
-use Rattle.cal_bytes.specs.declared.whole.WholeFault.{WholeFault}
-use Rattle.cal_bytes.specs.declared.whole.WholeFault.TheVariants.{TooLarge}
+use Rattle.cal_streams.specs.declared.whole.WholeFault.{WholeFault}
+use Rattle.cal_streams.specs.declared.whole.WholeFault.TheVariants.{TooLarge}
 use Rattle.cal_read.specs.TimerText.{most_file_bytes}
 use Rattle.cal_command.specs.Ask.{Ask, CommandFault, ZoneItem}
 use Rattle.cal_work.specs.Outcome.{World, ZoneFound, outcome}

@@ -4,7 +4,8 @@ ghost use Rattle.std.specs.Prelude.{◌≡◌, true, false, MatchResult, OnErr};
 ghost use Rattle.cal_zone.specs.headline.ZoneName.{is_zone_name};
 ghost use Rattle.cal_work.specs.LoadZone.{is_load_unread, IsLoaded, IsLoadFault};
 
-use cal_bytes::{Source, WholeFault, read_whole};
+use cal_bytes::Source;
+use cal_streams::{WholeFault, read_whole};
 use cal_zone::{Rules, ZoneFault, ZoneTable, is_zone_name};
 use std::alloc::Global;
 

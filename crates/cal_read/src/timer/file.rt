@@ -2,8 +2,8 @@
 
 ghost use Rattle.std.specs.Prelude.{◌≡◌, ◌≢◌, ◌+◌, ◌<◌, ◌≤◌, ◌^◌, ◌↔◌, ◌==◌, ℕ, List, Ok, Err, Result, MatchResult, IsTrue, false, length, count_by};
 ghost use Rattle.std.specs.Result.{IsErrOf};
-ghost use Rattle.cal_bytes.specs.Whole.{is_read_failed};
-ghost use Rattle.cal_bytes.specs.declared.whole.WholeFault.{WholeFault};
+ghost use Rattle.cal_streams.specs.Whole.{is_read_failed};
+ghost use Rattle.cal_streams.specs.declared.whole.WholeFault.{WholeFault};
 ghost use Rattle.cal_spec.specs.Expr.{expr_in};
 ghost use Rattle.cal_read.specs.headline.Assignments.{assignments_in};
 ghost use Rattle.cal_lines.specs.headline.Lines.{logical_lines};
@@ -13,7 +13,8 @@ ghost use Rattle.cal_read.specs.TimerView.{shown_lists};
 
 use crate::timer::list::{ReadLists, take_line};
 use crate::{Timer, TimerFault};
-use cal_bytes::{Source, WholeFault, read_whole};
+use cal_bytes::Source;
+use cal_streams::{WholeFault, read_whole};
 use cal_lines::first_logical;
 use std::alloc::Global;
 

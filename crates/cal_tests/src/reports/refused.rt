@@ -5,7 +5,7 @@ use super::calendar::LEAP_DAYS;
 use super::timers::{CONTINUED_TIMER, EXCEPT_TIMER};
 use super::times::{SPAN_LIST, STAMP_LIST};
 use super::{KnownZones, Row, Written, expect_texts, request, run_request};
-use cal_bytes::Port;
+use cal_streams::Port;
 use cal_library_tests::shared::{SUMMER_TIME, instant};
 use cal_request::RunFault;
 use cal_zone::{Rules, ZoneTable};

@@ -1,7 +1,8 @@
 //! Reports on timer files.
 
 use super::{CALENDAR, KnownZones, Local, Row, check, check_input, known_zones};
-use cal_bytes::{Faulty, Port, Then};
+use cal_faulty::{Faulty, Then};
+use cal_streams::Port;
 use cal_library_tests::shared::{EXCEPT_FILE, NEW_YEAR, TIMER_FILE};
 use cal_request::Verb;
 use std::alloc::{AllocError, Global};

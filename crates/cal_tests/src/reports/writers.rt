@@ -6,7 +6,8 @@ use super::zones::{EVERY_SECOND, FROM_THE_FIRST};
 use super::{
     CALENDAR, KnownZones, NOON_THIRTY, Row, check, expect_texts, known_zones, run_row, status,
 };
-use cal_bytes::{Faulty, Port, Then};
+use cal_faulty::{Faulty, Then};
+use cal_streams::Port;
 use cal_request::{RunFault, Status};
 use std::alloc::AllocError;
 use std::process::Abort;

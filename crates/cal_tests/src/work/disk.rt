@@ -1,7 +1,8 @@
 //! Files that fail or never end, and outputs that fail. The system says nothing about its file in advance.
 
 use super::{check, perform};
-use cal_bytes::{Faulty, Port, Then};
+use cal_faulty::{Faulty, Then};
+use cal_streams::Port;
 use cal_library_tests::shared::{NEW_YEAR, zone_file};
 use cal_request::RunFault;
 use cal_work::{Ended, System, work};

@@ -1,5 +1,5 @@
 use Rattle.std.proofs.Common.{◌++◌, take, arith}
-use Rattle.cal_bytes.proofs.whole.read_whole.Goals as goal
+use Rattle.cal_streams.proofs.whole.read_whole.Goals as goal
 use Rattle.cal_text.proofs.General.{consumes-append, length-taken}
 
 pub returns-then-count-limit-clause-bytes : goal.returns-then-count-limit-clause-bytes

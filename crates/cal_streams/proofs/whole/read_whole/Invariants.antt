@@ -1,7 +1,7 @@
 -- No read has failed, and `bytes` is what was read so far, within the limit.
 use Rattle.std.proofs.Common.{◌≡◌, ◌-◌, ◌≤◌, false, length}
 use Rattle.std.specs.Io.KnownBytes.{Consumes}
-use Rattle.cal_bytes.proofs.whole.read_whole.Given as goal
+use Rattle.cal_streams.proofs.whole.read_whole.Given as goal
 
 abbrev pub invariant-loop-count : goal.invariant-loop-count
 invariant-loop-count g l =

@@ -1,10 +1,11 @@
 //! Buffered output.
 
-ghost use Rattle.cal_bytes.specs.Output.{Flushes};
+ghost use Rattle.cal_streams.specs.Output.{Flushes};
 ghost use Rattle.std.specs.Io.Buffered.{writer_inner};
 ghost use Rattle.std.specs.Prelude.{◌≡◌, ℕ, List, Option, None, not, true};
 
-use crate::{Port, Sink};
+use crate::Port;
+use cal_bytes::Sink;
 use std::io::{BufWriter, Write};
 
 /// A [`Sink`] that may keep bytes in a buffer until it is flushed.

@@ -1,9 +1,9 @@
 //! Reading a source to its end.
 
 ghost use Rattle.std.specs.Prelude.{◌≡◌, false, MatchResult};
-ghost use Rattle.cal_bytes.specs.Whole.{is_read_failed, GivesAll, IsWholeFault};
+ghost use Rattle.cal_streams.specs.Whole.{is_read_failed, GivesAll, IsWholeFault};
 
-use crate::Source;
+use cal_bytes::Source;
 use std::alloc::Global;
 
 /// Why reading a source to its end failed.

@@ -2,7 +2,7 @@
 
 ghost use Rattle.std.specs.Prelude.{◌≡◌, true, false, None};
 
-use crate::bytes::{Sink, Source};
+use cal_bytes::{Sink, Source};
 use std::io::{Read, Write};
 
 /// A [`Sink`] over any std `Write`, and a [`Source`] over any std `Read`, which remembers whether a call has failed.

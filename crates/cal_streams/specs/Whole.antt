@@ -1,8 +1,8 @@
 -- What a call that reads a source to its end does to the source. The limit on the size is this project's own.
 use Rattle.std.specs.Prelude.{ℕ, ◌<◌, ◌≤◌, Bool, true, false, List, length, Option, Result, Ok, Err}
 use Rattle.std.specs.Io.KnownBytes.{Consumes, IsAtEnd}
-use Rattle.cal_bytes.specs.declared.whole.WholeFault.{WholeFault}
-use Rattle.cal_bytes.specs.declared.whole.WholeFault.TheVariants.{ReadFailed, TooLarge, NoMemory}
+use Rattle.cal_streams.specs.declared.whole.WholeFault.{WholeFault}
+use Rattle.cal_streams.specs.declared.whole.WholeFault.TheVariants.{ReadFailed, TooLarge, NoMemory}
 
 -- The bytes are all that the source still had, the source is at its end, and they are within the limit.
 pub record GivesAll (old new : Option (List ℕ)) (limit : ℕ) (bytes : List ℕ) : Type 0 where
