@@ -1,6 +1,9 @@
 pub use Rattle.cal_bytes.proofs.Pieces
 pub use Rattle.cal_bytes.proofs.PutLemmas
 pub use Rattle.cal_bytes.proofs.ShortText
+pub use Rattle.cal_civil.proofs.DayLemmas
+pub use Rattle.cal_civil.proofs.LocalLemmas
+pub use Rattle.cal_civil.proofs.OffsetWordLemmas
 pub use Rattle.cal_span.proofs.SpanCounts
 pub use Rattle.cal_span.proofs.SpanDigits
 pub use Rattle.cal_span.proofs.SpanNumbers
@@ -17,11 +20,8 @@ pub use Rattle.cal_text.proofs.TrimLemmas
 pub use Rattle.cal_text.proofs.WordLemmas
 pub use Rattle.cal_zone.proofs.AlikeLemmas
 pub use Rattle.cal_zone.proofs.CivilLemmas
-pub use Rattle.cal_zone.proofs.DayLemmas
 pub use Rattle.cal_zone.proofs.LocalAtLemmas
-pub use Rattle.cal_zone.proofs.LocalLemmas
 pub use Rattle.cal_zone.proofs.OffsetLemmas
-pub use Rattle.cal_zone.proofs.OffsetWordLemmas
 pub use Rattle.cal_zone.proofs.PeriodLemmas
 pub use Rattle.cal_zone.proofs.PlaceLemmas
 pub use Rattle.cal_zone.proofs.PlacerLemmas

@@ -2,6 +2,8 @@ pub use Rattle.cal_bytes.specs.Bytes
 pub use Rattle.cal_bytes.specs.Fill
 pub use Rattle.cal_bytes.specs.Puts
 pub use Rattle.cal_bytes.specs.SplitPieces
+pub use Rattle.cal_civil.specs.Local
+pub use Rattle.cal_civil.specs.OffsetWord
 pub use Rattle.cal_span.specs.Scale
 pub use Rattle.cal_span.specs.Span
 pub use Rattle.cal_span.specs.SpanFault
@@ -16,9 +18,7 @@ pub use Rattle.cal_text.specs.TrimRule
 pub use Rattle.cal_zone.specs.Civil
 pub use Rattle.cal_zone.specs.Instant
 pub use Rattle.cal_zone.specs.InstantText
-pub use Rattle.cal_zone.specs.Local
 pub use Rattle.cal_zone.specs.LocalAt
-pub use Rattle.cal_zone.specs.OffsetWord
 pub use Rattle.cal_zone.specs.Period
 pub use Rattle.cal_zone.specs.Place
 pub use Rattle.cal_zone.specs.Rules
@@ -29,6 +29,7 @@ pub use Rattle.cal_zone.specs.ZoneFile
 pub use Rattle.cal_zone.specs.ZoneMap
 pub use Rattle.cal_zone.specs.ZoneTable
 pub use Rattle.cal_bytes.specs.headline as BytesHeadline
+pub use Rattle.cal_civil.specs.headline as CivilHeadline
 pub use Rattle.cal_span.specs.headline as SpanHeadline
 pub use Rattle.cal_text.specs.headline as TextHeadline
 pub use Rattle.cal_zone.specs.headline as ZoneHeadline

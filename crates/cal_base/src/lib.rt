@@ -5,6 +5,10 @@ pub use cal_bytes::{
     Fill, ROOM, ShortText, Sink, Source, WriteFault, is_among, padding, push, push_all, put_all,
     put_pieces,
 };
+pub use cal_civil::{
+    DAY, LOCAL_END, WEEK, begins_with_letter, begins_zone, date_of_day, day_of, is_zone_name,
+    push_offset, read_offset, second_of_day, short_weekday_name, weekday_name,
+};
 pub use cal_faulty::{Faulty, Then};
 pub use cal_span::{
     SPAN_ROOM, Scale, Span, SpanFault, format_span, fraction_of, one_text, one_value, push_span,
@@ -13,8 +17,6 @@ pub use cal_span::{
 pub use cal_streams::{Output, Port, WholeFault, read_whole};
 pub use cal_text::{are_digits, first_word, last_word, trim_blanks, whole_of};
 pub use cal_zone::{
-    Civil, Clock, DAY, Instant, LOCAL_END, Moment, Placer, Rules, WEEK, Zone, ZoneFault, ZoneTable,
-    begins_with_letter, begins_zone, civil, date_of_day, day_of, is_zone_name, laws, place,
-    push_instant, push_offset, read_offset, second_of_day, settle, short_weekday_name,
-    weekday_name, write_instant,
+    Civil, Clock, Instant, Moment, Placer, Rules, Zone, ZoneFault, ZoneTable, civil, laws, place,
+    push_instant, settle, write_instant,
 };

@@ -4,7 +4,7 @@ use Rattle.clap.proofs.OnLiterals.{clap_on_literals}
 use Rattle.cal_command.specs.Ask.{bad_iterations, help, usage}
 use Rattle.cal_command.specs.CommandLine.{IsAskOf, asked_in, faults_in, given_in, parsed_in, read_options, takes_arguments}
 use Rattle.cal_command.specs.OptionValues.{count_in, local_in, number_between, present_in, zone_item_in, zone_items_in, zones_in}
-use Rattle.cal_zone.specs.headline.ZoneName.{is_zone_name}
+use Rattle.cal_civil.specs.headline.ZoneName.{is_zone_name}
 use Rattle.cal_command.specs.WorkedArguments.{daily_given, daily_ask, daily_arguments, help_arguments, none_arguments, options_ask, options_arguments, stray_arguments}
 
 pub daily_taken : takes_arguments daily_arguments ≡ true

@@ -12,10 +12,11 @@ ghost use Rattle.cal_command.specs.LocalZone.{IsLocalOffset};
 ghost use Rattle.cal_text.specs.headline.Separators.{is_comma};
 ghost use Rattle.cal_command.specs.OptionValues.{count_in, local_in, number_between, parts_at, present_in, zone_item_in, zones_in};
 ghost use Rattle.cal_request.specs.Request.{IsCount};
-ghost use Rattle.cal_zone.specs.headline.ZoneName.{is_zone_name};
+ghost use Rattle.cal_civil.specs.headline.ZoneName.{is_zone_name};
 
 use crate::ask::{LocalZone, ZoneItem};
-use cal_zone::{Instant, is_zone_name, read_offset};
+use cal_civil::{is_zone_name, read_offset};
+use cal_zone::Instant;
 use std::alloc::{AllocError, Global};
 
 /// The maximum of `--iterations`.

@@ -4,8 +4,8 @@ use Rattle.std.proofs.lemmas.Bool.{false≢true}
 use Rattle.jiff.proofs.SpanFacts.{signed_arith}
 use Rattle.std.specs.Set.{is_member}
 use Rattle.cal_zone.specs.Instant.{IsInstant}
-use Rattle.cal_zone.specs.Local.{IsLocalSecond}
-use Rattle.cal_zone.specs.headline.Local.{seconds_in_all-is}
+use Rattle.cal_civil.specs.Local.{IsLocalSecond}
+use Rattle.cal_civil.specs.headline.Local.{seconds_in_all-is}
 use Rattle.cal_zone.specs.LocalAt.{IsLocalAt}
 use Rattle.cal_zone.specs.headline.Place.{place_of}
 use Rattle.cal_zone.specs.headline.Zone.{zone_of}
@@ -22,7 +22,7 @@ use Rattle.cal_elapse.specs.Window.{timed_by, timed_of}
 use Rattle.cal_elapse.specs.declared.masks.Masks.{Masks}
 use Rattle.cal_elapse.specs.declared.window.Window.{Window}
 use Rattle.cal_elapse.proofs.ElapsesLemmas.{AreAbove-elapses_after}
-use Rattle.cal_zone.proofs.LocalLemmas.{local_inside}
+use Rattle.cal_civil.proofs.LocalLemmas.{local_inside}
 
 -- an instant is an elapse exactly if the only local second that can resolve to it matches
 pub has-local : (masks : Masks) (zone : Zone) (instant local : ℤ) (b : Bool) → IsLocalSecond local → place_of (zone_of zone) local ≡ Some instant

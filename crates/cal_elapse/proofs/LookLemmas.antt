@@ -1,7 +1,7 @@
 -- The matching days of a month, and the number of months examined.
 use Rattle.std.proofs.Common.{◌≡◌, ℕ, zero, suc, ◌+◌, ◌-◌, ◌*◌, ◌/◌, ◌%◌, ◌<◌, ◌≤◌, cond, Bool, true, false, Option, None, Some, ap, subst, sym, ◌∙◌, arith}
 use Rattle.std.proofs.lemmas.Bool.{true_from_ne_false}
-use Rattle.cal_zone.specs.headline.Local.{civil_date}
+use Rattle.cal_civil.specs.headline.Local.{civil_date}
 use Rattle.cal_elapse.specs.Bits.{is_bit}
 use Rattle.cal_elapse.specs.Count.{count_from}
 use Rattle.cal_elapse.specs.Looks.{looks_from, month_looks}

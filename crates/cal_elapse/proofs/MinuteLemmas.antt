@@ -2,7 +2,7 @@
 use Rattle.std.proofs.Common.{IfSome, IsSome, ◌≡◌, ◌≢◌, ◌∙◌, ℕ, ◌+◌, ◌-◌, ◌*◌, ◌/◌, ◌%◌, ◌^◌, ◌<◌, ◌≤◌, Bool, true, false, ◌&&◌, Option, Some, ℤ, option_map, pos, unsigned_abs, w64, sym, subst, refl, arith, ltb-true, nat_lt}
 use Rattle.std.proofs.lemmas.Bool.{and_from, and_parts, false_from_ne_true, lt-ltb}
 use Rattle.std.specs.Int.{trailing_zeros}
-use Rattle.cal_zone.specs.headline.Local.{seconds_in_all, seconds_in_all-is}
+use Rattle.cal_civil.specs.headline.Local.{seconds_in_all, seconds_in_all-is}
 use Rattle.cal_spec.specs.headline.Match.{Sets, matches, time_in}
 use Rattle.cal_elapse.specs.Bits.{is_bit}
 use Rattle.cal_elapse.specs.Left.{IsLeft, IsMoreLater, IsMoreLeft, IsNextLater, IsNextLeft, IsRest, NoneLeft, minute_matches}

@@ -5,7 +5,7 @@ use Rattle.cal_spec.specs.headline.Match.{Sets, matches}
 use Rattle.cal_elapse.specs.Count.{count_from}
 use Rattle.cal_elapse.specs.Looks.{IsSearch}
 use Rattle.cal_elapse.specs.Most.{IsLooked, IsMost, IsMostAfter}
-use Rattle.cal_zone.specs.headline.Local.{seconds_in_all}
+use Rattle.cal_civil.specs.headline.Local.{seconds_in_all}
 use Rattle.cal_elapse.specs.Search.{IsFirstPassing, NonePasses}
 use Rattle.cal_elapse.specs.declared.search.Found.{Found}
 use Rattle.cal_elapse.proofs.CountLemmas.{count_from-nothing, count_from-to}

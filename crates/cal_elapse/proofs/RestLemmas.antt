@@ -9,11 +9,11 @@ use Rattle.cal_text.proofs.General.{list-first, list-no_first, pos_unsigned_abs}
 use Rattle.cal_rising.specs.headline.Elements.{Has}
 use Rattle.cal_spec.specs.headline.Match.{matches}
 use Rattle.cal_zone.proofs.PlaceLemmas.{within}
-use Rattle.cal_zone.specs.headline.Local.{seconds_in_all, seconds_in_all-is}
+use Rattle.cal_civil.specs.headline.Local.{seconds_in_all, seconds_in_all-is}
 use Rattle.cal_zone.specs.Steady.{AreAhead}
 use Rattle.cal_zone.specs.headline.Zone.{zone_of}
 use Rattle.cal_zone.specs.Instant.{IsInstant}
-use Rattle.cal_zone.specs.Local.{IsLocalSecond}
+use Rattle.cal_civil.specs.Local.{IsLocalSecond}
 use Rattle.cal_elapse.specs.Bits.{is_bit}
 use Rattle.cal_elapse.specs.Near.{IsNear}
 use Rattle.cal_elapse.specs.Ring.{IsOneOf}
@@ -26,7 +26,7 @@ use Rattle.cal_elapse.specs.Window.{IsMatchAhead, IsPlacedTo, Windowed, start_of
 use Rattle.cal_elapse.specs.declared.masks.Masks.{Masks}
 use Rattle.cal_elapse.specs.declared.searcher.Searcher.{Searcher}
 use Rattle.cal_elapse.specs.declared.window.Window.{Window}
-use Rattle.cal_zone.proofs.LocalLemmas.{local_inside, local_inside-pos}
+use Rattle.cal_civil.proofs.LocalLemmas.{local_inside, local_inside-pos}
 use Rattle.cal_elapse.proofs.CountLemmas.{count_from-part}
 use Rattle.cal_elapse.proofs.MinuteLemmas.{match_inside}
 use Rattle.cal_elapse.proofs.MostLemmas.{most_more}

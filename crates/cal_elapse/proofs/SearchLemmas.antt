@@ -3,7 +3,7 @@ use Rattle.std.proofs.Common.{◌≡◌, ℕ, ◌+◌, ◌*◌, ◌/◌, ◌%◌
 use Rattle.std.proofs.lemmas.Bool.{and_parts, cases_lt}
 use Rattle.std.proofs.lemmas.Bool.Decides.{nat_tests}
 use Rattle.std.proofs.lemmas.Int.{ints}
-use Rattle.cal_zone.specs.headline.Local.{civil_date, seconds_in_all, seconds_in_all-is}
+use Rattle.cal_civil.specs.headline.Local.{civil_date, seconds_in_all, seconds_in_all-is}
 use Rattle.cal_spec.specs.headline.Match.{Sets, date_in, time_in, matches}
 use Rattle.cal_elapse.proofs.CarryLemmas.{Splits, first_here, first_later, first_then, first_within, none_by_high, none_by_low, none_later, split_at}
 use Rattle.cal_elapse.proofs.FoundLemmas.{first_local}

@@ -2,7 +2,7 @@
 use Rattle.std.proofs.Common.{◌≡◌, ℕ, ◌+◌, ◌-◌, ◌<◌, ◌≤◌, nat_lt, true, false, Option, None, Some, ℤ, negsuc, pos, ◌<ℤ◌, ◌≤ℤ◌, ◌+ℤ◌, int_lt, unsigned_abs, sym, subst, arith, inl, inr, slice_get}
 use Rattle.std.proofs.lemmas.Bool.{and_left, cases_lt, false_from_ne_true}
 use Rattle.std.proofs.lemmas.Int.{ints}
-use Rattle.cal_zone.specs.headline.Local.{seconds_in_all}
+use Rattle.cal_civil.specs.headline.Local.{seconds_in_all}
 use Rattle.cal_zone.specs.declared.zone.Zone.{Zone}
 use Rattle.cal_rising.specs.headline.Elements.{Has}
 use Rattle.cal_elapse.specs.Masks.{sets_in}

@@ -9,12 +9,12 @@ use Rattle.std.specs.Ordering.{int_cmp}
 use Rattle.std.specs.List.Sorted.{IsStrictlySortedBy}
 use Rattle.std.specs.BTreeSet.{insert_key}
 use Rattle.cal_zone.specs.Instant.{IsInstant}
-use Rattle.cal_zone.specs.Local.{IsLocalSecond}
-use Rattle.cal_zone.specs.headline.Local.{seconds_in_all}
+use Rattle.cal_civil.specs.Local.{IsLocalSecond}
+use Rattle.cal_civil.specs.headline.Local.{seconds_in_all}
 use Rattle.cal_zone.specs.declared.zone.Zone.{Zone}
 use Rattle.cal_zone.specs.headline.Place.{place_of}
 use Rattle.jiff.specs.Types.{TimeZone}
-use Rattle.cal_zone.proofs.LocalLemmas.{local_inside}
+use Rattle.cal_civil.proofs.LocalLemmas.{local_inside}
 use Rattle.cal_elapse.specs.Near.{IsNear}
 use Rattle.cal_zone.proofs.PlaceLemmas.{within}
 use Rattle.cal_elapse.specs.declared.masks.Masks.{Masks}

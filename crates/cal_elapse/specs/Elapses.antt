@@ -1,7 +1,7 @@
 -- The elapses of calendar expressions, as lists.
 use Rattle.std.specs.Prelude.{List, ℤ, int_lt, map, filter}
 use Rattle.std.specs.List.{filter_map, range_with_len}
-use Rattle.cal_zone.specs.headline.Local.{seconds_in_all}
+use Rattle.cal_civil.specs.headline.Local.{seconds_in_all}
 use Rattle.cal_rising.specs.RisingList.{union, without}
 use Rattle.cal_elapse.specs.headline.Elapses.{Timed}
 

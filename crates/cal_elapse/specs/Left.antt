@@ -1,6 +1,6 @@
 -- The remaining matches in the minute and in the hour of a match, as bits.
 use Rattle.std.specs.Prelude.{◌≡◌, ◌+◌, ◌-◌, ◌*◌, ◌/◌, ◌%◌, ◌<◌, ◌≤◌, ◌&&◌, nat_lt, ℕ, Bool, true, Option, None, Some}
-use Rattle.cal_zone.specs.headline.Local.{seconds_in_all}
+use Rattle.cal_civil.specs.headline.Local.{seconds_in_all}
 use Rattle.cal_elapse.specs.Bits.{is_bit}
 use Rattle.cal_elapse.specs.Months.{day_in, minute_in}
 use Rattle.cal_elapse.specs.Search.{IsFirstPassing, NonePasses}

@@ -3,7 +3,7 @@
 -- is no result.
 use Rattle.std.specs.Prelude.{◌≡◌, ◌≤◌, ℕ, suc, ◌-◌, ◌/◌, Option, None, Some, pos, unsigned_abs}
 use Rattle.std.specs.Option.{option_map}
-use Rattle.cal_zone.specs.headline.Local.{civil_date}
+use Rattle.cal_civil.specs.headline.Local.{civil_date}
 use Rattle.cal_spec.specs.headline.Match.{Sets, matches}
 use Rattle.cal_elapse.specs.Count.{count_from}
 use Rattle.cal_elapse.specs.Months.{month_in, month_of}

@@ -2,7 +2,7 @@
 use Rattle.std.specs.Prelude.{◌≡◌, ℕ, zero, suc, ◌+◌, ◌-◌, ◌*◌, ◌/◌, ◌%◌, Bool, ◌&&◌, pos, unsigned_abs, refl}
 use Rattle.jiff.specs.Types.{Date}
 use Rattle.jiff_core.specs.Calendar.{days_in_month}
-use Rattle.cal_zone.specs.headline.Local.{civil_date}
+use Rattle.cal_civil.specs.headline.Local.{civil_date}
 use Rattle.cal_spec.specs.headline.Match.{Sets, date_in}
 
 -- the year and the month number, 1 to 12, of month `n`

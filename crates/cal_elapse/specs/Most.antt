@@ -1,6 +1,6 @@
 -- The largest number of months that one of several searches examines: a first search, and one after each match.
 use Rattle.std.specs.Prelude.{◌≡◌, ◌⊎◌, ◌+◌, ◌<◌, ◌≤◌, ℕ, true, Option}
-use Rattle.cal_zone.specs.headline.Local.{seconds_in_all}
+use Rattle.cal_civil.specs.headline.Local.{seconds_in_all}
 use Rattle.cal_elapse.specs.Looks.{month_looks}
 use Rattle.cal_elapse.specs.Search.{IsFirstPassing}
 use Rattle.cal_spec.specs.headline.Match.{Sets, matches}

@@ -1,6 +1,6 @@
 -- The result of a search among local seconds.
 use Rattle.std.specs.Prelude.{◌≡◌, ◌<◌, ◌≤◌, ℕ, Bool, true, false, Option, None, Some, ℤ, pos, unsigned_abs, ◌≤ℤ◌, ◌<ℤ◌}
-use Rattle.cal_zone.specs.headline.Local.{seconds_in_all}
+use Rattle.cal_civil.specs.headline.Local.{seconds_in_all}
 
 -- no number from `from` up to but not including `to` passes
 abbrev pub NonePasses : (ℕ → Bool) → ℕ → ℕ → Type 0

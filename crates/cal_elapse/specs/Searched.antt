@@ -1,6 +1,6 @@
 -- How many searches were made for an expression, and the largest number of months that one of them examined.
 use Rattle.std.specs.Prelude.{◌≡◌, ◌+◌, ◌-◌, ℕ, Option, None, Some, ℤ, unsigned_abs}
-use Rattle.cal_zone.specs.headline.Local.{seconds_in_all}
+use Rattle.cal_civil.specs.headline.Local.{seconds_in_all}
 use Rattle.cal_elapse.specs.headline.Elapses.{Timed}
 use Rattle.cal_elapse.specs.Most.{IsMost}
 use Rattle.cal_elapse.specs.Window.{count_from, start_of}

@@ -1,8 +1,8 @@
 -- The starting point of a search for matches.
 use Rattle.std.specs.Prelude.{◌≡◌, ◌+◌, ℕ, Bool, true, pos, unsigned_abs}
 use Rattle.jiff.specs.Words.{IsBetween}
-use Rattle.cal_zone.specs.Local.{IsLocalSecond}
-use Rattle.cal_zone.specs.headline.Local.{seconds_in_all}
+use Rattle.cal_civil.specs.Local.{IsLocalSecond}
+use Rattle.cal_civil.specs.headline.Local.{seconds_in_all}
 use Rattle.cal_elapse.specs.declared.searcher.Start.{Start}
 use Rattle.cal_elapse.specs.declared.searcher.Start.TheVariants.{At, After}
 

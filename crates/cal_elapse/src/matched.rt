@@ -1,7 +1,7 @@
 //! The test whether a local second matches, without a search (systemd.time(7), Calendar Events).
 
 ghost use Rattle.std.specs.Prelude.{◌≡◌, ◌<◌, unsigned_abs};
-ghost use Rattle.cal_zone.specs.Local.{IsLocalSecond};
+ghost use Rattle.cal_civil.specs.Local.{IsLocalSecond};
 ghost use Rattle.cal_elapse.specs.Masks.{sets_in};
 ghost use Rattle.cal_elapse.specs.Months.{day_in};
 ghost use Rattle.cal_spec.specs.headline.Match.{matches, time_in};
@@ -12,10 +12,10 @@ use crate::month::month_of_day;
 use crate::month_days::MonthDays;
 use crate::month_search::has_month;
 use crate::time_search::has_minute;
-use cal_zone::{day_of, second_of_day};
+use cal_civil::{day_of, second_of_day};
 
 /// Returns whether a local second matches. Tests the time of day first, because that is cheapest.
-#[tactic(auto, using(cal_zone::proofs::LocalLemmas::local_arith, crate::proofs::SearchLemmas::locals_at, std::proofs::lemmas::Bool::and_right))]
+#[tactic(auto, using(cal_civil::proofs::LocalLemmas::local_arith, crate::proofs::SearchLemmas::locals_at, std::proofs::lemmas::Bool::and_right))]
 pub(crate) fn is_match(masks: &Masks, local: i64) -> bool
     requires { IsLocalSecond local }
     ensures { result ≡ matches (sets_in masks.now) (unsigned_abs local) }

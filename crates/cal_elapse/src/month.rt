@@ -4,7 +4,7 @@ ghost use Rattle.std.specs.Prelude.{◌≡◌, ◌+◌, ◌-◌, ◌<◌, ◌≤
 ghost use Rattle.std.specs.Int.{IsInRange};
 ghost use Rattle.jiff_core.specs.Calendar.{days_from_civil, IsBetween};
 ghost use Rattle.jiff_core.specs.Date.{epoch_day};
-ghost use Rattle.cal_zone.specs.headline.Local.{civil_date};
+ghost use Rattle.cal_civil.specs.headline.Local.{civil_date};
 ghost use Rattle.cal_elapse.specs.Months.{first_day, length_of, month_of, year_of};
 
 use jiff_core::civil::{Date, days_in_month};

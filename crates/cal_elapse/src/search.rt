@@ -1,8 +1,8 @@
 //! The search for the next matching local second: first the next matching day, and then the time on that day.
 ghost use Rattle.std.specs.Prelude.{◌≡◌, ◌+◌, ◌*◌, ◌≤◌, ◌<◌, true, pos, ◌≤ℤ◌, unsigned_abs};
 ghost use Rattle.std.specs.Option.{option_map};
-ghost use Rattle.cal_zone.specs.Local.{IsLocalSecond};
-ghost use Rattle.cal_zone.specs.headline.Local.{seconds_in_all};
+ghost use Rattle.cal_civil.specs.Local.{IsLocalSecond};
+ghost use Rattle.cal_civil.specs.headline.Local.{seconds_in_all};
 ghost use Rattle.cal_elapse.specs.Looks.{IsSearch, month_looks};
 ghost use Rattle.cal_elapse.specs.Masks.{sets_in};
 ghost use Rattle.cal_elapse.specs.Search.{IsFirstLocal, IsFirstPassing};
@@ -13,7 +13,7 @@ use crate::Masks;
 use crate::day_search::next_day;
 use crate::month::month_of_day;
 use crate::time_search::{first_second, next_second};
-use cal_zone::{DAY, LOCAL_END, day_of, second_of_day};
+use cal_civil::{DAY, LOCAL_END, day_of, second_of_day};
 
 /// The result of a search.
 #[derive(Clone, Copy, Debug, PartialEq, Eq)]
@@ -28,7 +28,7 @@ pub struct Found {
 
 /// Returns the first matching local second of the years 1970 to 2199 at or after `from`, which is from 0 to
 /// 7,258,118,400 (systemd.time(7), Calendar Events), with the number of months examined.
-#[tactic(auto, using(cal_zone::proofs::LocalLemmas::local_arith, crate::proofs::LookLemmas::looks_most))]
+#[tactic(auto, using(cal_civil::proofs::LocalLemmas::local_arith, crate::proofs::LookLemmas::looks_most))]
 pub fn next_local(masks: &Masks, from: i64) -> Found
     requires low { pos 0 ≤ℤ from }
     requires high { from ≤ℤ pos seconds_in_all }
@@ -68,7 +68,7 @@ pub fn next_local(masks: &Masks, from: i64) -> Found
 
 /// Returns the first match after `local`, which must itself match. If the result is on the same day, one month was
 /// examined: the month of `local`, which is known to match.
-#[tactic(auto, using(cal_zone::proofs::LocalLemmas::local_arith))]
+#[tactic(auto, using(cal_civil::proofs::LocalLemmas::local_arith))]
 pub(crate) fn next_after(masks: &Masks, local: i64) -> Found
     requires inside { IsLocalSecond local }
     requires is_match { matches (sets_in masks.now) (unsigned_abs local) ≡ true }

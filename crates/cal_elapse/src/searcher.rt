@@ -2,8 +2,8 @@
 
 ghost use Rattle.std.specs.Prelude.{◌≡◌, ◌+◌, ◌-◌, ◌*◌, ◌/◌, ◌<◌, ◌≤◌, ◌≤ℤ◌, pos, true, false, max, None, IfSome, unsigned_abs, unwrap_or};
 ghost use Rattle.std.specs.Option.{option_map};
-ghost use Rattle.cal_zone.specs.Local.{IsLocalSecond};
-ghost use Rattle.cal_zone.specs.headline.Local.{seconds_in_all};
+ghost use Rattle.cal_civil.specs.Local.{IsLocalSecond};
+ghost use Rattle.cal_civil.specs.headline.Local.{seconds_in_all};
 ghost use Rattle.cal_elapse.specs.Count.{count_from};
 ghost use Rattle.cal_elapse.specs.Left.{IsLeft, IsMoreLater, IsMoreLeft, IsNextLater, IsNextLeft, IsRest, NoneLeft, minute_matches};
 ghost use Rattle.cal_elapse.specs.Looks.{IsSearch};
@@ -16,8 +16,8 @@ ghost use Rattle.cal_spec.specs.headline.Members.{sets_of};
 use crate::bits::{lowest_bit, with_bit, without_lowest};
 use crate::search::{Found, next_after, next_local};
 use crate::{Masks, matched};
+use cal_civil::{LOCAL_END, second_of_day};
 use cal_spec::Expr;
-use cal_zone::{LOCAL_END, second_of_day};
 
 /// The starting point of a search.
 #[derive(Drop)]
@@ -322,7 +322,7 @@ impl Searcher {
     }
 
     /// Stores the match that was found last, with the remaining bits of its minute and its hour.
-    #[tactic(auto, using(cal_zone::proofs::LocalLemmas::local_arith))]
+    #[tactic(auto, using(cal_civil::proofs::LocalLemmas::local_arith))]
     fn keep(&mut self, found: Option<i64>)
         requires { IfSome found
             (λ local. IsLocalSecond local × (matches (sets_in self.old.masks) (unsigned_abs local) ≡ true)) }
@@ -344,7 +344,7 @@ impl Searcher {
 }
 
 /// Returns the minute of a local second, counted from the start of 1970.
-#[tactic(auto, using(cal_zone::proofs::LocalLemmas::local_arith))]
+#[tactic(auto, using(cal_civil::proofs::LocalLemmas::local_arith))]
 fn minute_of(local: i64) -> u32
     requires { IsLocalSecond local }
     ensures { result ≡ unsigned_abs local / 60 }

@@ -1,8 +1,8 @@
 //! The conversion of an expression's matches to instants, in the order in which the matches are found.
 
 ghost use Rattle.std.specs.Prelude.{◌≡◌, ◌+◌, ◌*◌, ◌/◌, ◌≤◌, ℤ, pos, ◌+ℤ◌, ◌≤ℤ◌, cond, unsigned_abs};
-ghost use Rattle.cal_zone.specs.Local.{IsLocalSecond};
-ghost use Rattle.cal_zone.specs.headline.Local.{seconds_in_all};
+ghost use Rattle.cal_civil.specs.Local.{IsLocalSecond};
+ghost use Rattle.cal_civil.specs.headline.Local.{seconds_in_all};
 ghost use Rattle.cal_zone.specs.headline.Place.{place_of};
 ghost use Rattle.cal_zone.specs.headline.Zone.{zone_of};
 ghost use Rattle.cal_rising.specs.headline.Elements.{Has};
@@ -78,7 +78,7 @@ impl<'z> Window<'z> {
     }
 
     /// Converts matches to instants until no later match can precede the smallest pending instant.
-    #[tactic(auto, using(cal_zone::proofs::LocalLemmas::local_arith, crate::proofs::ReadyLemmas::few_searches, crate::proofs::ReadyLemmas::placed_is_match))]
+    #[tactic(auto, using(cal_civil::proofs::LocalLemmas::local_arith, crate::proofs::ReadyLemmas::few_searches, crate::proofs::ReadyLemmas::placed_is_match))]
     pub fn fill(&mut self)
         requires { IsReady self.old }
         ensures ready { IsReady self.new }
@@ -105,7 +105,7 @@ impl<'z> Window<'z> {
     /// once. This is possible only if every second of the minute has to be converted now and the UTC offset is constant
     /// to the end of the minute; if not, nothing changes. If no matches are left in the minute, calls `pass_hour`
     /// instead. Returns the last match that was converted, which can be `local`.
-    #[tactic(auto, using(cal_zone::proofs::LocalLemmas::local_arith, crate::proofs::ReadyLemmas::few_searches, crate::proofs::ReadyLemmas::placed_is_match))]
+    #[tactic(auto, using(cal_civil::proofs::LocalLemmas::local_arith, crate::proofs::ReadyLemmas::few_searches, crate::proofs::ReadyLemmas::placed_is_match))]
     fn place_rest(&mut self, local: i64) -> i64
         requires { IsPlacedTo self.old local }
         ensures placed { IsPlacedTo self.new result }
@@ -144,7 +144,7 @@ impl<'z> Window<'z> {
     /// Searches for all remaining matches in the hour of `local`, a match that was converted, if nothing is pending and
     /// no instant up to the end of that hour is after the instant returned last. These matches need no conversion.
     /// Returns the last of them, or `local` if nothing was searched.
-    #[tactic(auto, using(cal_zone::proofs::LocalLemmas::local_arith, crate::proofs::ReadyLemmas::few_searches, crate::proofs::ReadyLemmas::placed_is_match))]
+    #[tactic(auto, using(cal_civil::proofs::LocalLemmas::local_arith, crate::proofs::ReadyLemmas::few_searches, crate::proofs::ReadyLemmas::placed_is_match))]
     fn pass_hour(&mut self, local: i64) -> i64
         requires { IsPlacedTo self.old local }
         ensures placed { IsPlacedTo self.new result }
@@ -199,7 +199,7 @@ impl<'z> Window<'z> {
 }
 
 /// Returns the local second at which the first search starts. No earlier local second has an instant after the base.
-#[tactic(auto, using(cal_zone::proofs::LocalLemmas::local_arith))]
+#[tactic(auto, using(cal_civil::proofs::LocalLemmas::local_arith))]
 fn first_local(base: Instant) -> i64
     ensures start { result ≡ pos (start_of base.secs) }
     ensures inside { result ≤ℤ pos seconds_in_all }

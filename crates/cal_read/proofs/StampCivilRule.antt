@@ -9,11 +9,11 @@ use Rattle.std.proofs.lemmas.Bool.Decides.{nat_tests}
 use Rattle.std.proofs.lemmas.List.Folds.{list_any-append}
 use Rattle.std.proofs.lemmas.List.Splits.{join_with_byte-slice_split}
 use Rattle.jiff.specs.Types.{TimeZone, Weekday}
-use Rattle.cal_zone.proofs.OffsetWordLemmas.{offset-found, offset-only}
-use Rattle.cal_zone.specs.OffsetWord.{offset_in}
-use Rattle.cal_zone.specs.headline.OffsetWord.{IsOffsetWord}
+use Rattle.cal_civil.proofs.OffsetWordLemmas.{offset-found, offset-only}
+use Rattle.cal_civil.specs.OffsetWord.{offset_in}
+use Rattle.cal_civil.specs.headline.OffsetWord.{IsOffsetWord}
 use Rattle.cal_zone.specs.headline.ZoneAhead.{zone_ahead}
-use Rattle.cal_zone.specs.headline.ZoneName.{begins_with_letter}
+use Rattle.cal_civil.specs.headline.ZoneName.{begins_with_letter}
 use Rattle.cal_text.specs.headline.Separators.{is_colon}
 use Rattle.cal_spec.specs.Weekdays.{day_named}
 use Rattle.cal_read.specs.Stamp.{Setting, Written, begins_with_digit, name_found, offset_found, zone_meant, zone_alone, zone_by_words, written_in, after_date, after_weekday, weekday_found, civil_time}

@@ -5,10 +5,10 @@ use Rattle.std.specs.List.{list_any}
 use Rattle.std.specs.Option.{option_to_list}
 use Rattle.std.proofs.lemmas.Bool.{cases_Bool}
 use Rattle.jiff.specs.Types.{TimeZone, Weekday}
-use Rattle.cal_zone.proofs.OffsetWordLemmas.{offset-found, offset-only}
-use Rattle.cal_zone.specs.OffsetWord.{offset_in}
-use Rattle.cal_zone.specs.headline.OffsetWord.{IsOffsetWord}
-use Rattle.cal_zone.specs.headline.ZoneName.{begins_with_letter}
+use Rattle.cal_civil.proofs.OffsetWordLemmas.{offset-found, offset-only}
+use Rattle.cal_civil.specs.OffsetWord.{offset_in}
+use Rattle.cal_civil.specs.headline.OffsetWord.{IsOffsetWord}
+use Rattle.cal_civil.specs.headline.ZoneName.{begins_with_letter}
 use Rattle.cal_text.specs.AndThen.{◌>>=◌}
 use Rattle.cal_text.specs.headline.Separators.{is_colon}
 use Rattle.cal_spec.specs.Weekdays.{day_named}

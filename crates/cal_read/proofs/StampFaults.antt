@@ -6,8 +6,8 @@ use Rattle.std.proofs.lemmas.Bool.{cases_Bool}
 use Rattle.jiff.specs.Types.{TimeZone, Weekday}
 use Rattle.cal_span.specs.declared.span.fault.SpanFault.{SpanFault}
 use Rattle.cal_span.specs.SpanValue.{span_of}
-use Rattle.cal_zone.specs.OffsetWord.{offset_in}
-use Rattle.cal_zone.specs.headline.ZoneName.{begins_with_letter}
+use Rattle.cal_civil.specs.OffsetWord.{offset_in}
+use Rattle.cal_civil.specs.headline.ZoneName.{begins_with_letter}
 use Rattle.cal_text.specs.headline.Separators.{is_colon}
 use Rattle.cal_spec.specs.Weekdays.{day_named}
 use Rattle.cal_text.specs.AndThen.{◌>>=◌}

@@ -12,7 +12,7 @@ use Rattle.jiff_core.specs.Weekday.{monday_zero}
 use Rattle.cal_span.specs.declared.span.fault.SpanFault.{SpanFault}
 use Rattle.cal_span.specs.SpanValue.{span_of}
 use Rattle.cal_zone.specs.Instant.{IsMoment, last_moment}
-use Rattle.cal_zone.specs.headline.Local.{day_of}
+use Rattle.cal_civil.specs.headline.Local.{day_of}
 use Rattle.cal_zone.specs.headline.Moment.{micros_of}
 use Rattle.cal_zone.specs.headline.Zone.{local_of}
 use Rattle.cal_spec.proofs.ReadLemmas.{bind_ok}

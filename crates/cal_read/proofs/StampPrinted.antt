@@ -13,17 +13,18 @@ use Rattle.jiff.specs.Words.{epoch_day, monday_zero, nanos_of_seconds, weekday_o
 use Rattle.jiff_core.proofs.CalendarLemmas.{weekday_number_bound}
 use Rattle.jiff_core.specs.Calendar.{weekday_number}
 use Rattle.jiff_core.specs.declared.civil.weekday.Weekday.TheVariants.{Sunday}
-use Rattle.cal_zone.proofs.DayLemmas.{epoch_day-date_of}
+use Rattle.cal_civil.proofs.DayLemmas.{epoch_day-date_of}
 use Rattle.cal_zone.proofs.YearLemmas.{year-from_1969, year-from_1970, year-to_2199}
 use Rattle.cal_zone.proofs.ZoneLemmas.{offset_at-in_range}
 use Rattle.cal_zone.specs.headline.Civil.{civil_of, shown_fields}
-use Rattle.cal_zone.specs.headline.Days.{date_of}
+use Rattle.cal_civil.specs.headline.Days.{date_of}
 use Rattle.cal_zone.specs.Instant.{IsInstant}
-use Rattle.cal_zone.specs.headline.InstantText.{date_text, instant_text, shown_text, time_text, weekday_name, zeros}
-use Rattle.cal_zone.specs.Local.{IsLocalSecond}
-use Rattle.cal_zone.specs.headline.Local.{day_of, hour_of, minute_of, second_of, second_of_day}
+use Rattle.cal_civil.specs.headline.OffsetText.{zeros}
+use Rattle.cal_zone.specs.headline.InstantText.{date_text, instant_text, shown_text, time_text, weekday_name}
+use Rattle.cal_civil.specs.Local.{IsLocalSecond}
+use Rattle.cal_civil.specs.headline.Local.{day_of, hour_of, minute_of, second_of, second_of_day}
 use Rattle.cal_zone.specs.headline.Place.{settle_of}
-use Rattle.cal_zone.specs.headline.Weekday.{short_name_of, week}
+use Rattle.cal_civil.specs.headline.Weekday.{short_name_of, week}
 use Rattle.cal_zone.specs.headline.Zone.{local_of, utc, zone_of}
 use Rattle.cal_zone.specs.headline.ZoneMap.{ZoneMap}
 use Rattle.cal_zone.specs.headline.ZoneTable.{zone_named}

@@ -12,9 +12,9 @@ use Rattle.jiff.specs.Words.{epoch_day, monday_zero, month_length, IsBetween, Is
 use Rattle.jiff_core.proofs.CalendarLemmas.{days_in_month_bounds}
 use Rattle.jiff_core.specs.declared.civil.weekday.Weekday.TheVariants.{Monday, Sunday}
 use Rattle.cal_text.specs.headline.Separators.{is_point, is_colon}
-use Rattle.cal_zone.specs.headline.InstantText.{zeros}
-use Rattle.cal_zone.specs.headline.Weekday.{name_of, short_name_of, week}
-use Rattle.cal_zone.specs.headline.ZoneName.{begins_with_letter}
+use Rattle.cal_civil.specs.headline.OffsetText.{zeros}
+use Rattle.cal_civil.specs.headline.Weekday.{name_of, short_name_of, week}
+use Rattle.cal_civil.specs.headline.ZoneName.{begins_with_letter}
 use Rattle.cal_spec.specs.Weekdays.{day_named}
 use Rattle.cal_text.specs.headline.Words.{is_blank}
 use Rattle.cal_text.proofs.General.{below_all, some_front, IsClear, Apart, clear_append, clear_of, split_alone, split_at}

@@ -10,17 +10,19 @@ use Rattle.jiff.specs.Types.{TimeZone, UTC}
 use Rattle.jiff.specs.Words.{nanos_of_seconds, offset_at, IsOffsetSeconds}
 use Rattle.cal_bytes.specs.headline.Bytes.{joined}
 use Rattle.cal_text.proofs.General.{list_all-both, clear_of, list_all-wider}
-use Rattle.cal_zone.proofs.OffsetWordLemmas.{nearest, offset-back, offset-found, two_printed, two}
+use Rattle.cal_civil.proofs.OffsetWordLemmas.{offset-back, offset-found, two_printed, two}
+use Rattle.cal_zone.proofs.OffsetLemmas.{nearest}
 use Rattle.cal_zone.proofs.PlaceLemmas.{settle_of-UTC, settle_of-fixed_zone, local_of-UTC}
 use Rattle.cal_zone.proofs.ZoneLemmas.{offset_at-in_range}
-use Rattle.cal_zone.specs.headline.InstantText.{offset_text, sign_text, zeros, zone_word}
-use Rattle.cal_zone.specs.OffsetWord.{AreWholeMinutes, offset_in}
-use Rattle.cal_zone.specs.headline.OffsetWord.{IsOffsetWord}
+use Rattle.cal_civil.specs.headline.OffsetText.{offset_text, sign_text, zeros}
+use Rattle.cal_zone.specs.headline.InstantText.{zone_word}
+use Rattle.cal_civil.specs.OffsetWord.{AreWholeMinutes, offset_in}
+use Rattle.cal_civil.specs.headline.OffsetWord.{IsOffsetWord}
 use Rattle.cal_zone.specs.headline.Place.{settle_of}
 use Rattle.cal_zone.specs.headline.Zone.{is_utc, is_utc_kind, local_of, zone_of, zone_of_kind}
 use Rattle.cal_zone.specs.headline.ZoneAhead.{offset_of_seconds, zone_ahead}
 use Rattle.cal_zone.specs.headline.ZoneMap.{ZoneMap}
-use Rattle.cal_zone.specs.headline.ZoneName.{begins_with_letter, is_utc_name}
+use Rattle.cal_civil.specs.headline.ZoneName.{begins_with_letter, is_utc_name}
 use Rattle.cal_zone.specs.headline.ZoneTable.{zone_named}
 use Rattle.cal_zone.specs.declared.zone.Zone.{Zone}
 use Rattle.cal_zone.specs.declared.zone.ZoneKind.{ZoneKind}

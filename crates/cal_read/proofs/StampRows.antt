@@ -8,14 +8,14 @@ use Rattle.jiff_core.proofs.CalendarLemmas.{days_from_civil-day_count}
 use Rattle.jiff_core.proofs.MarchLemmas.{day_count-late}
 use Rattle.jiff_core.specs.Calendar.{days_from_civil, weekday_number}
 use Rattle.cal_span.specs.declared.span.fault.SpanFault.TheVariants.{BadNumber, UnknownUnit, Empty as NoPair}
-use Rattle.cal_zone.specs.OffsetWord.{clock_in, offset_in, two_digits}
+use Rattle.cal_civil.specs.OffsetWord.{clock_in, offset_in, two_digits}
 use Rattle.cal_zone.specs.headline.Place.{datetime_of, settle_of}
 use Rattle.cal_span.specs.Scale.{words_for}
 use Rattle.cal_span.specs.SpanValue.{span_of, pairs_in, words_in, worth_of, is_number, number_worth, unit_named}
-use Rattle.cal_zone.specs.headline.Weekday.{name_of}
+use Rattle.cal_civil.specs.headline.Weekday.{name_of}
 use Rattle.cal_zone.specs.headline.Zone.{local_of}
 use Rattle.cal_zone.specs.headline.ZoneAhead.{offset_of_seconds, zone_ahead}
-use Rattle.cal_zone.specs.headline.ZoneName.{is_utc_name}
+use Rattle.cal_civil.specs.headline.ZoneName.{is_utc_name}
 use Rattle.cal_spec.specs.Weekdays.{day_named}
 use Rattle.cal_text.specs.headline.Trim.{trim_matches, trim_end_matches, trim_start_matches}
 use Rattle.cal_text.specs.headline.Words.{words}

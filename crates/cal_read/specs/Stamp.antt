@@ -8,13 +8,13 @@ use Rattle.jiff_core.specs.Calendar.{weekday_number}
 use Rattle.jiff_core.specs.Weekday.{monday_zero}
 use Rattle.cal_span.specs.declared.span.fault.SpanFault.{SpanFault}
 use Rattle.cal_zone.specs.Instant.{last_moment}
-use Rattle.cal_zone.specs.headline.Local.{day_of}
-use Rattle.cal_zone.specs.OffsetWord.{offset_in}
+use Rattle.cal_civil.specs.headline.Local.{day_of}
+use Rattle.cal_civil.specs.OffsetWord.{offset_in}
 use Rattle.cal_zone.specs.headline.Place.{settle_of}
 use Rattle.cal_span.specs.SpanValue.{span_of}
 use Rattle.cal_zone.specs.headline.Zone.{local_of}
 use Rattle.cal_zone.specs.headline.ZoneAhead.{zone_ahead}
-use Rattle.cal_zone.specs.headline.ZoneName.{begins_with_letter}
+use Rattle.cal_civil.specs.headline.ZoneName.{begins_with_letter}
 use Rattle.cal_text.specs.headline.Separators.{is_colon}
 use Rattle.cal_spec.specs.Weekdays.{day_named}
 use Rattle.cal_read.specs.StampForm.{Form, nothing, present, later, earlier, counted, from_today, civil, form_of}

@@ -8,7 +8,7 @@ use Rattle.jiff.proofs.SpanFacts.{signed_arith}
 use Rattle.jiff.specs.Types.{Fold, Offset, TimeZone}
 use Rattle.jiff.specs.Words.{ambiguous_at}
 use Rattle.cal_zone.specs.Instant.{IsInstant}
-use Rattle.cal_zone.specs.headline.Local.{seconds_in_all-is}
+use Rattle.cal_civil.specs.headline.Local.{seconds_in_all-is}
 use Rattle.cal_zone.specs.headline.Place.{datetime_of, place_of, settle_of}
 use Rattle.cal_zone.specs.headline.Zone.{local_of}
 use Rattle.cal_zone.proofs.PlaceLemmas.{place_of-Some}

@@ -9,9 +9,9 @@ use Rattle.jiff_core.proofs.CalendarLemmas.{days_from_civil-day_count}
 use Rattle.jiff_core.proofs.MarchLemmas.{day_count-early}
 use Rattle.jiff.proofs.SpanFacts.{signed_arith}
 use Rattle.jiff_core.specs.Calendar.{weekday_number}
-use Rattle.cal_zone.specs.headline.Days.{date_of}
-use Rattle.cal_zone.proofs.DayLemmas.{date_of-epoch_day}
-use Rattle.cal_zone.specs.headline.Local.{civil_date, seconds_in_all-is}
+use Rattle.cal_civil.specs.headline.Days.{date_of}
+use Rattle.cal_civil.proofs.DayLemmas.{date_of-epoch_day}
+use Rattle.cal_civil.specs.headline.Local.{civil_date, seconds_in_all-is}
 use Rattle.cal_read.specs.Stamp.{in_moments, moment_in}
 use Rattle.cal_read.specs.StampForm.{day_shift, form_by_end, form_of}
 use Rattle.cal_report.specs.Resume.{AreShown, IsBegunAgain}
@@ -39,8 +39,8 @@ use Rattle.cal_lines.specs.headline.Lines.{groups, is_continued, logical_lines, 
 use Rattle.cal_read.specs.headline.Assignments.{Assignment, assignment_of, assignments_in, timer_lines}
 use Rattle.cal_read.specs.headline.TimerText.{excepted, is_exception, is_exception_reset, is_expression, is_reset, listed as listed_in, most_expressions, without_mark}
 use Rattle.std.specs.Prelude.{ℤ, ◌<ℤ◌, ◌≤ℤ◌, List, length, map, slice_get, take}
-use Rattle.cal_zone.specs.headline.Weekday as weekday
-use Rattle.cal_zone.specs.headline.ZoneName.{is_zone_name}
+use Rattle.cal_civil.specs.headline.Weekday as weekday
+use Rattle.cal_civil.specs.headline.ZoneName.{is_zone_name}
 use Rattle.cal_spec.specs.Components.{part_due, parts_listed, component_of}
 use Rattle.cal_spec.specs.DateAndTime.{date_texts, time_texts, date_fields, time_fields, date_in_word, time_in_word}
 use Rattle.cal_spec.specs.Grammar.{fields_in, fields_at}

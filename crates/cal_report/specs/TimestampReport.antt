@@ -2,7 +2,8 @@
 use Rattle.std.specs.Prelude.{ℕ, ◌/◌, ◌%◌, ◌==◌, ℤ, pos, unsigned_abs, List, [], ◌∷◌, Result, if◌then◌else◌, codes, decimal}
 use Rattle.std.specs.Result.{result_map_both}
 use Rattle.cal_bytes.specs.headline.Bytes.{joined}
-use Rattle.cal_zone.specs.headline.InstantText.{instant_text, zeros}
+use Rattle.cal_civil.specs.headline.OffsetText.{zeros}
+use Rattle.cal_zone.specs.headline.InstantText.{instant_text}
 use Rattle.cal_zone.specs.headline.Zone.{zone_of}
 use Rattle.cal_zone.specs.headline.ZoneTable.{zone_named}
 use Rattle.cal_zone.specs.declared.zone.Zone.{Zone}

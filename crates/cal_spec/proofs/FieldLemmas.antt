@@ -9,7 +9,7 @@ use Rattle.std.proofs.lemmas.List.Folds.{list_any_at}
 use Rattle.jiff_core.specs.declared.civil.weekday.Weekday.{Weekday}
 use Rattle.jiff_core.specs.declared.civil.weekday.Weekday.TheVariants.{Monday, Tuesday, Wednesday, Thursday, Friday, Saturday, Sunday}
 use Rattle.jiff_core.specs.Weekday.{monday_zero}
-use Rattle.cal_zone.specs.headline.Weekday.{week}
+use Rattle.cal_civil.specs.headline.Weekday.{week}
 use Rattle.cal_text.specs.headline.Separators.{is_comma}
 use Rattle.cal_spec.specs.Components.{most_counted, counted, component_of}
 use Rattle.cal_spec.specs.DateAndTime.{DateFields, TimeFields, date_texts, time_texts, date_fields, time_fields, date_due, time_due, room_after, date_in_word, time_in_word}
@@ -28,9 +28,9 @@ use Rattle.cal_spec.specs.headline.Weekdays.{days_until, is_covered, set_of}
 use Rattle.cal_spec.specs.Words.{roles_of}
 use Rattle.cal_text.specs.headline.Words.{words}
 use Rattle.cal_spec.specs.headline.Words.{Roles}
-use Rattle.cal_zone.specs.headline.ZoneName.{is_zone_name}
-use Rattle.cal_zone.specs.OffsetWord.{offset_in}
-use Rattle.cal_zone.proofs.OffsetWordLemmas.{offset-minutes}
+use Rattle.cal_civil.specs.headline.ZoneName.{is_zone_name}
+use Rattle.cal_civil.specs.OffsetWord.{offset_in}
+use Rattle.cal_civil.proofs.OffsetWordLemmas.{offset-minutes}
 use Rattle.cal_spec.specs.ZoneSuffix.{IsSuffixOption, suffix_due, suffix_in, suffix_of}
 use Rattle.cal_spec.specs.headline.ZoneSuffix.{ZoneSuffix, ahead, kept_name, of_name}
 use Rattle.cal_spec.specs.declared.part.Part.{Part}

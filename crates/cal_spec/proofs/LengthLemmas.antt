@@ -6,8 +6,8 @@ use Rattle.std.proofs.lemmas.Bool.{leb-true}
 use Rattle.std.proofs.lemmas.Fmt.{length-decimal-le}
 use Rattle.std.proofs.lemmas.List.{length-replicate}
 use Rattle.std.proofs.lemmas.Nat.{div-add-mod'}
-use Rattle.cal_zone.specs.headline.InstantText.{zeros}
-use Rattle.cal_zone.specs.headline.Weekday.{name_of}
+use Rattle.cal_civil.specs.headline.OffsetText.{zeros}
+use Rattle.cal_civil.specs.headline.Weekday.{name_of}
 use Rattle.cal_spec.specs.headline.ExprText.{component_text, day_lead, expr_text, fields_text, number_text, optional_text, part_text, parts_text, row_text, zone_text}
 use Rattle.cal_spec.specs.headline.Fields.{Fields, counted_parts, parts_in}
 use Rattle.cal_spec.specs.NormalForm.{IsNormal, IsNormalTo, normal_component, normal_fields, normal_parts, normal_second, starred}

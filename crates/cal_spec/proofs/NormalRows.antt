@@ -1,7 +1,7 @@
 -- Examples of the normal form and its text, checked by computation.
 use Rattle.std.proofs.Common.{◌≡◌, ℕ, true, false, [], ◌∷◌, Option, None, Some, refl, codes}
 use Rattle.std.specs.Fmt.{digits}
-use Rattle.cal_zone.specs.headline.Weekday.{name_of}
+use Rattle.cal_civil.specs.headline.Weekday.{name_of}
 use Rattle.cal_spec.specs.headline.ZoneSuffix.{of_name}
 use Rattle.cal_spec.specs.declared.part.Part.{Part}
 use Rattle.cal_spec.specs.headline.ExprText.{expr_text, fields_text, row_text, parts_text, part_text, number_text}

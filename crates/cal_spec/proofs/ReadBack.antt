@@ -19,9 +19,9 @@ use Rattle.cal_spec.specs.Weekdays.{weekdays_in}
 use Rattle.cal_spec.specs.Words.{after_weekdays, date_or_time, roles_of}
 use Rattle.cal_text.specs.headline.Words.{is_blank, words}
 use Rattle.cal_spec.specs.headline.Words.{Roles}
-use Rattle.cal_zone.specs.headline.ZoneName.{begins_with_letter}
-use Rattle.cal_zone.specs.OffsetWord.{begins_zone}
-use Rattle.cal_zone.specs.headline.OffsetWord.{begins_with_sign, is_sign}
+use Rattle.cal_civil.specs.headline.ZoneName.{begins_with_letter}
+use Rattle.cal_civil.specs.OffsetWord.{begins_zone}
+use Rattle.cal_civil.specs.headline.OffsetWord.{begins_with_sign, is_sign}
 use Rattle.cal_spec.specs.ZoneSuffix.{IsSuffixOption, suffix_due, suffix_in}
 use Rattle.cal_spec.specs.headline.ZoneSuffix.{ZoneSuffix, suffix_text}
 use Rattle.cal_spec.proofs.SuffixLemmas.{suffix_word, letter_some}

@@ -6,7 +6,7 @@ use Rattle.std.specs.Option.{option_map}
 use Rattle.std.proofs.lemmas.Bool.{le-ltb}
 use Rattle.std.proofs.lemmas.Fmt.{decimal_is_IsNumeral}
 use Rattle.std.proofs.lemmas.List.{append-nil}
-use Rattle.cal_zone.specs.headline.InstantText.{zeros}
+use Rattle.cal_civil.specs.headline.OffsetText.{zeros}
 use Rattle.cal_spec.specs.headline.ExprText.{component_text, number_text, optional_text, part_text, parts_text}
 use Rattle.cal_spec.specs.headline.GrammarRule.{IsNumber, IsNext, IsPartText, IsPartOf, IsComponent}
 use Rattle.cal_spec.specs.headline.Parts.{with_century, with_values}

@@ -2,12 +2,12 @@
 use Rattle.std.proofs.Common.{◌≡◌, ℕ, Bool, true, false, not, ◌&&◌, ◌||◌, if◌then◌else◌, List, length, map, Option, None, Some, is_none, Result, Ok, Err, refl, sym, ap, ◌∙◌}
 use Rattle.std.specs.List.{list_all, list_any}
 use Rattle.std.proofs.lemmas.Bool.{and_parts, cond-false, cond-true, false≢true, not-true}
-use Rattle.cal_zone.specs.headline.Weekday.{name_of, week}
+use Rattle.cal_civil.specs.headline.Weekday.{name_of, week}
 use Rattle.cal_spec.specs.headline.Shorthand.{shorthand_named}
 use Rattle.cal_spec.specs.headline.WeekdayRuns.{run_text, runs_from, runs_text}
 use Rattle.cal_spec.specs.Weekdays.{day_named, days_of, listed_days, weekdays_of}
 use Rattle.cal_text.specs.headline.Words.{is_blank}
-use Rattle.cal_zone.specs.headline.ZoneName.{begins_with_letter}
+use Rattle.cal_civil.specs.headline.ZoneName.{begins_with_letter}
 use Rattle.cal_spec.specs.declared.shorthand.Shorthand.{Shorthand}
 use Rattle.cal_spec.specs.declared.spec_fault.SpecFault.{SpecFault}
 use Rattle.cal_text.proofs.General.{check_all, each_checked, same_bool, same_bools, same_bools_is}

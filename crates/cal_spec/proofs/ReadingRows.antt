@@ -8,11 +8,11 @@ use Rattle.cal_spec.specs.Weekdays.{day_named, days_of, listed_days, weekdays_of
 use Rattle.cal_spec.specs.DateAndTime.{date_texts, time_texts, date_fields, time_fields, date_in_word, time_in_word}
 use Rattle.cal_spec.specs.Components.{part_due, parts_listed, component_of}
 use Rattle.cal_spec.specs.Parts.{with_step, after_end, after_start, part_of, fault_of}
-use Rattle.cal_zone.specs.OffsetWord.{clock_in, offset_in, two_digits}
-use Rattle.cal_zone.specs.headline.ZoneName.{is_zone_name}
+use Rattle.cal_civil.specs.OffsetWord.{clock_in, offset_in, two_digits}
+use Rattle.cal_civil.specs.headline.ZoneName.{is_zone_name}
 use Rattle.cal_spec.specs.ZoneSuffix.{suffix_of}
 use Rattle.cal_spec.specs.declared.spec_fault.SpecFault.{SpecFault}
-use Rattle.cal_zone.specs.headline.Weekday.{name_of}
+use Rattle.cal_civil.specs.headline.Weekday.{name_of}
 use Rattle.cal_spec.specs.declared.spec_fault.SpecFault.TheVariants.{Empty, BadWeekday, BadDate, BadTime, FractionalSecond, NumberTooLarge, OutOfField, BackwardRange, ZeroRepeat, NoRepeat, TooManyParts, StrayWord, UnknownShorthand}
 
 -- a text and its error

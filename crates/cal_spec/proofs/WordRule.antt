@@ -15,10 +15,10 @@ use Rattle.cal_spec.specs.headline.GrammarRule.{given, ArePlain, AreShort, IsSig
 use Rattle.cal_spec.specs.headline.Shorthand.{any_date, midnight, meaning_of, shorthand_named}
 use Rattle.cal_spec.specs.Words.{roles_after_date, after_weekdays, date_or_time, roles_by, roles_in, roles_of}
 use Rattle.cal_spec.specs.headline.Words.{Roles}
-use Rattle.cal_zone.specs.headline.ZoneName.{begins_with_letter, is_zone_byte, is_zone_name}
-use Rattle.cal_zone.specs.OffsetWord.{begins_zone, offset_in}
-use Rattle.cal_zone.specs.headline.OffsetWord.{begins_with_sign}
-use Rattle.cal_zone.proofs.OffsetWordLemmas.{offset-bytes, offset-found}
+use Rattle.cal_civil.specs.headline.ZoneName.{begins_with_letter, is_zone_byte, is_zone_name}
+use Rattle.cal_civil.specs.OffsetWord.{begins_zone, offset_in}
+use Rattle.cal_civil.specs.headline.OffsetWord.{begins_with_sign}
+use Rattle.cal_civil.proofs.OffsetWordLemmas.{offset-bytes, offset-found}
 use Rattle.cal_spec.specs.ZoneSuffix.{suffix_due, suffix_in, suffix_of}
 use Rattle.cal_spec.specs.headline.ZoneSuffix.{ZoneSuffix, ahead, kept_name, of_name}
 use Rattle.cal_spec.proofs.SuffixLemmas.{no_letter, offset_suffix}

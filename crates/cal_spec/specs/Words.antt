@@ -4,8 +4,8 @@ use Rattle.std.specs.Prelude.{ℕ, if◌then◌else◌, List, [], ◌∷◌, Opt
 use Rattle.std.specs.List.{list_any}
 use Rattle.cal_text.specs.headline.Separators.{is_colon}
 use Rattle.cal_spec.specs.headline.Shorthand.{any_date, midnight, shorthand_named, meaning_of}
-use Rattle.cal_zone.specs.OffsetWord.{begins_zone}
-use Rattle.cal_zone.specs.headline.ZoneName.{begins_with_letter}
+use Rattle.cal_civil.specs.OffsetWord.{begins_zone}
+use Rattle.cal_civil.specs.headline.ZoneName.{begins_with_letter}
 use Rattle.cal_spec.specs.declared.shorthand.Shorthand.{Shorthand}
 use Rattle.cal_spec.specs.headline.Words.{Roles}
 

@@ -1,7 +1,7 @@
 //! Parsed calendar expressions (systemd.time(7), Calendar Events).
 
 ghost use Rattle.std.specs.Prelude.{◌≡◌, ◌<◌, unsigned_abs, option_copied, option_map, IfSome};
-ghost use Rattle.jiff.specs.Words.{IsOffsetSeconds};
+ghost use Rattle.jiff_core.specs.Timestamp.{IsOffsetSeconds};
 ghost use Rattle.cal_spec.specs.NormalForm.{AreParts, normal_component, normal_second};
 ghost use Rattle.cal_spec.specs.headline.NormalForm.{normal_from_end};
 
@@ -35,7 +35,7 @@ impl Model for Expr {
 }
 
 impl Expr {
-    ghost use Rattle.cal_zone.specs.Local.{IsLocalSecond};
+    ghost use Rattle.cal_civil.specs.Local.{IsLocalSecond};
     ghost use Rattle.cal_spec.specs.Expr.{IsExpr, component};
     ghost use Rattle.cal_spec.specs.Fields.{fields_of};
     ghost use Rattle.cal_spec.specs.headline.Match.{matches};

@@ -4,7 +4,7 @@ ghost use Rattle.std.specs.Prelude.{◌≡◌, ◌≤◌, [], ◌∷◌, codes, 
 ghost use Rattle.std.specs.List.{flat_map};
 ghost use Rattle.cal_bytes.specs.Puts.{Puts};
 ghost use Rattle.cal_bytes.specs.headline.Bytes.{joined};
-ghost use Rattle.cal_zone.specs.headline.InstantText.{offset_text};
+ghost use Rattle.cal_civil.specs.headline.OffsetText.{offset_text};
 ghost use Rattle.cal_spec.specs.Expr.{component};
 ghost use Rattle.cal_spec.specs.SuffixView.{shown_suffix};
 ghost use Rattle.cal_spec.specs.headline.ExprText.{component_text, day_lead, expr_text, fields_text, number_text, optional_text, part_text, parts_text, row_text, zone_text};
@@ -13,7 +13,7 @@ use crate::weekday_runs::put_weekdays;
 use crate::zone_suffix::ZoneSuffix;
 use crate::{Expr, Field, Part};
 use cal_bytes::{Fill, ShortText, Sink, WriteFault, padding, put_all, put_pieces};
-use cal_zone::push_offset;
+use cal_civil::push_offset;
 use itoa::Buffer;
 
 /// A component to print: the text before it, the minimum number of digits of its numbers, and its parts (`None` for

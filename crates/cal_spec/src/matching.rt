@@ -1,8 +1,8 @@
 //! Matching of local seconds (systemd.time(7), Calendar Events).
 
 ghost use Rattle.std.specs.Prelude.{◌≡◌, ◌<◌, false, unsigned_abs, slice_index_or};
-ghost use Rattle.jiff.specs.Words.{monday_zero};
-ghost use Rattle.cal_zone.specs.Local.{IsLocalSecond};
+ghost use Rattle.jiff_core.specs.Weekday.{monday_zero};
+ghost use Rattle.cal_civil.specs.Local.{IsLocalSecond};
 ghost use Rattle.cal_spec.specs.Fields.{fields_of};
 ghost use Rattle.cal_spec.specs.headline.Match.{date_in, day_number, matches, time_in};
 ghost use Rattle.cal_spec.specs.headline.Members.{sets_of};
@@ -10,12 +10,12 @@ ghost use Rattle.cal_spec.specs.headline.Members.{sets_of};
 use crate::fields::{Fields, TimeFields};
 use crate::members::component_has;
 use crate::slot::{Slot, day_slot};
-use cal_zone::{date_of_day, day_of, second_of_day};
-use jiff::civil::{Date, Weekday};
+use cal_civil::{date_of_day, day_of, second_of_day};
+use jiff_core::civil::{Date, Weekday, days_in_month};
 
 /// Returns whether the weekday, date and time of a local second all match. The local second is in the years 1970 to
 /// 2199.
-#[tactic(auto, using(cal_zone::proofs::LocalLemmas::local_arith), unfolding(crate::specs::headline::Match::matches))]
+#[tactic(auto, using(cal_civil::proofs::LocalLemmas::local_arith), unfolding(crate::specs::headline::Match::matches))]
 pub fn has_local(fields: &Fields, local: i64) -> bool
     requires { IsLocalSecond local }
     ensures { result ≡ matches (sets_of (fields_of fields.now)) (unsigned_abs local) }
@@ -30,12 +30,8 @@ fn has_date(fields: &Fields, date: Date) -> bool
 {
     let day = day_number(fields.date.from_end, date);
     has_weekday(&fields.weekdays, date.weekday())
-        && component_has(Slot::Year, &fields.date.year, date.year().unsigned_abs())
-        && component_has(
-            Slot::Month,
-            &fields.date.month,
-            date.month().unsigned_abs().into(),
-        )
+        && component_has(Slot::Year, &fields.date.year, date.year.unsigned_abs())
+        && component_has(Slot::Month, &fields.date.month, date.month.into())
         && component_has(day_slot(fields.date.from_end), &fields.date.day, day)
 }
 
@@ -63,9 +59,9 @@ pub fn day_number(from_end: bool, date: Date) -> u16
     ensures { result ≡ day_number from_end date }
 {
     let day = if from_end {
-        date.days_in_month() - date.day() + 1
+        days_in_month(date.year, date.month) - date.day + 1
     } else {
-        date.day()
+        date.day
     };
-    day.unsigned_abs().into()
+    day.into()
 }

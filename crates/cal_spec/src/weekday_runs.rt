@@ -9,7 +9,7 @@ ghost use Rattle.cal_bytes.specs.headline.Bytes.{joined};
 ghost use Rattle.cal_spec.specs.headline.WeekdayRuns.{day_name, run_text, runs_from, runs_text, weekdays_text};
 
 use cal_bytes::{Sink, WriteFault, put_all, put_pieces};
-use cal_zone::{WEEK, short_weekday_name};
+use cal_civil::{WEEK, short_weekday_name};
 
 /// Writes the weekdays that match and a space after them, or nothing if all seven match.
 #[tactic(auto, using(cal_bytes::proofs::PutLemmas::puts), unfolding(crate::specs::headline::WeekdayRuns::weekdays_text))]

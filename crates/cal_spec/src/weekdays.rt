@@ -4,7 +4,7 @@ ghost use Rattle.std.specs.Prelude.{◌≡◌, ◌≤◌, ◌||◌, length};
 ghost use Rattle.std.specs.List.{find, list_any, list_all, position, position_or_len, slice_split};
 ghost use Rattle.std.specs.Option.{option_copied};
 ghost use Rattle.std.specs.Str.{str_eq_ignore_ascii_case};
-ghost use Rattle.cal_zone.specs.headline.Weekday.{name_of, short_name_of};
+ghost use Rattle.cal_civil.specs.headline.Weekday.{name_of, short_name_of};
 ghost use Rattle.cal_text.specs.headline.Separators.{is_comma};
 ghost use Rattle.cal_spec.specs.Reads.{Gives, GivesUnlessNoMemory};
 ghost use Rattle.cal_spec.specs.Weekdays.{after_joint, day_named, days_of, is_like_shorthand, is_no_letter, items_of, weekdays_of, without_comma};
@@ -13,8 +13,8 @@ ghost use Rattle.cal_spec.specs.headline.Weekdays.{is_covered, set_of};
 use crate::SpecFault;
 use crate::pieces::first_piece;
 use crate::same_word::is_same_word;
-use cal_zone::{WEEK, short_weekday_name, weekday_name};
-use jiff::civil::Weekday;
+use cal_civil::{WEEK, short_weekday_name, weekday_name};
+use jiff_core::civil::Weekday;
 use std::alloc::Global;
 
 /// A range of weekdays, which may wrap around from Sunday to Monday.

@@ -8,8 +8,8 @@ ghost use Rattle.cal_spec.specs.Words.{roles_after_date, after_weekdays, date_or
 ghost use Rattle.cal_text.specs.headline.Words.{words};
 
 use crate::shorthand::{ANY_DATE, MIDNIGHT, find_shorthand};
+use cal_civil::{begins_with_letter, begins_zone};
 use cal_text::first_word;
-use cal_zone::{begins_with_letter, begins_zone};
 
 /// The weekdays, date and time of an expression, not yet parsed, and the text after them.
 #[derive(Clone, Copy)]

@@ -10,8 +10,8 @@ ghost use Rattle.cal_spec.specs.headline.ZoneSuffix.{kept_name};
 
 use crate::SpecFault;
 use crate::same_word::is_same_word;
+use cal_civil::{is_zone_name, read_offset};
 use cal_text::first_word;
-use cal_zone::{is_zone_name, read_offset};
 use std::alloc::Global;
 
 /// The zone in which an expression is interpreted.

@@ -3,9 +3,9 @@
 //! A test succeeds if every allocation did. Otherwise it fails with the call's `NoMemory` or `AllocError`, after it has
 //! checked that the call left its arguments unchanged. `tests/refused` checks which of the two has to happen.
 
-use cal_streams::Port;
 use cal_command::Ask;
 use cal_library_tests::shared::zone_file;
+use cal_streams::Port;
 use cal_work::load_zone;
 use cal_zone::ZoneTable;
 use std::test::Fail;

@@ -10,10 +10,10 @@ mod writers;
 mod zones;
 
 use cal_bytes::{Sink, Source};
-use cal_streams::Port;
 use cal_library_tests::shared::{NEW_YEAR, SUMMER_TIME, instant, posix, zone_file};
 use cal_report::{file_name, run};
 use cal_request::{Request, RunFault, Status, Verb};
+use cal_streams::Port;
 use cal_zone::{Instant, Rules, Zone, ZoneTable};
 use std::alloc::{AllocError, Global};
 use std::process::Abort;

@@ -1,8 +1,8 @@
 //! Loading zone files into the table of zones, and rejecting invalid ones.
 
 use cal_faulty::{Faulty, Then};
-use cal_streams::Port;
 use cal_library_tests::shared::zone_file;
+use cal_streams::Port;
 use cal_work::LoadFault::{self, Zone};
 use cal_work::load_zone;
 use cal_zone::ZoneFault::{self, BadFile, BadName, NameTaken, TooLarge};

@@ -5,7 +5,7 @@ use Rattle.jiff.specs.Types.{TimeZone}
 use Rattle.cal_streams.specs.Whole.{CameBeyond, CameWithin, GivesAll}
 use Rattle.cal_zone.specs.ZoneFile.{file_limit, IsFileFault, IsFileZone}
 use Rattle.cal_zone.specs.headline.ZoneMap.{ZoneMap}
-use Rattle.cal_zone.specs.headline.ZoneName.{is_zone_name}
+use Rattle.cal_civil.specs.headline.ZoneName.{is_zone_name}
 use Rattle.cal_zone.specs.ZoneTable.{IsAddable, IsAddFault}
 use Rattle.cal_zone.specs.declared.zone_fault.ZoneFault.{ZoneFault}
 use Rattle.cal_zone.specs.declared.zone_fault.ZoneFault.TheVariants.{BadName, BadRule, BadFile, TooLarge, NoMemory, NameTaken}

@@ -6,7 +6,7 @@ use Rattle.jiff.specs.Words.{read_whole as rule_read}
 use Rattle.cal_zone.specs.Instant.{last_instant}
 use Rattle.cal_zone.specs.headline.Zone.{utc}
 use Rattle.cal_zone.specs.headline.ZoneMap.{ZoneMap}
-use Rattle.cal_zone.specs.headline.ZoneName.{is_zone_name}
+use Rattle.cal_civil.specs.headline.ZoneName.{is_zone_name}
 use Rattle.cal_zone.specs.ZoneTable.{is_taken}
 use Rattle.cal_zone.specs.headline.ZoneTable.{zone_named}
 use Rattle.cal_streams.specs.declared.whole.WholeFault.{WholeFault}

@@ -10,7 +10,7 @@ use Rattle.cal_bytes.specs.Bytes.{AppendsFront, Writes}
 use Rattle.cal_zone.specs.headline.Zone.{is_utc, utc, zone_of}
 use Rattle.cal_zone.specs.ZoneFile.{file_limit, IsFileFault, IsFileZone}
 use Rattle.cal_zone.specs.headline.ZoneMap.{ZoneMap}
-use Rattle.cal_zone.specs.headline.ZoneName.{is_utc_name, is_zone_name}
+use Rattle.cal_civil.specs.headline.ZoneName.{is_utc_name, is_zone_name}
 use Rattle.cal_zone.specs.headline.ZoneTable.{zone_named}
 use Rattle.cal_zone.specs.declared.zone.Zone.{Zone as ClockZone}
 use Rattle.cal_zone.specs.declared.zone_fault.ZoneFault.TheVariants.{BadFile}

@@ -1,12 +1,13 @@
 //! Loads zone files into the table of zones.
 
 ghost use Rattle.std.specs.Prelude.{◌≡◌, true, false, MatchResult, OnErr};
-ghost use Rattle.cal_zone.specs.headline.ZoneName.{is_zone_name};
+ghost use Rattle.cal_civil.specs.headline.ZoneName.{is_zone_name};
 ghost use Rattle.cal_work.specs.LoadZone.{is_load_unread, IsLoaded, IsLoadFault};
 
 use cal_bytes::Source;
+use cal_civil::is_zone_name;
 use cal_streams::{WholeFault, read_whole};
-use cal_zone::{Rules, ZoneFault, ZoneTable, is_zone_name};
+use cal_zone::{Rules, ZoneFault, ZoneTable};
 use std::alloc::Global;
 
 /// Why a zone file can't be loaded.

@@ -1,5 +1,5 @@
 -- Civil times and the local seconds that they stand for.
-use Rattle.std.proofs.Common.{◌≡◌, ◌*◌, ℕ, ℤ, pos, sym, ap, ◌∙◌, arith}
+use Rattle.std.proofs.Common.{◌≡◌, ℤ, arith}
 use Rattle.jiff.specs.Types.{DateTime, Offset, TimeZone}
 use Rattle.jiff.specs.Words.{civil_nanos, epoch_day, nanos_of_seconds, offset_at}
 use Rattle.jiff_core.specs.Time.{time_seconds}
@@ -7,9 +7,8 @@ use Rattle.jiff_core.proofs.CalendarLemmas.{days_in_month_bounds, weekday_number
 use Rattle.jiff.proofs.SpanFacts.{signed_arith}
 use Rattle.cal_zone.specs.Civil.{shown_at, IsCivil}
 use Rattle.cal_zone.specs.headline.Civil.{civil_of}
-use Rattle.cal_zone.specs.headline.Days.{date_of}
-use Rattle.cal_zone.proofs.DayLemmas.{date_of-epoch_day}
-use Rattle.cal_zone.specs.headline.Local.{civil_date, day_of, second_of_day}
+use Rattle.cal_civil.proofs.DayLemmas.{date_of-epoch_day}
+use Rattle.cal_civil.specs.headline.Local.{day_of, second_of_day}
 use Rattle.cal_zone.specs.Instant.{IsInstant}
 use Rattle.cal_zone.specs.headline.Zone.{local_of}
 use Rattle.cal_zone.proofs.YearLemmas.{year-from_1969, year-to_2200}
@@ -49,10 +48,3 @@ IsCivil-shown_at tz dt secs offset e h =
       second = omega (arith, dt.time.second_in);
       offset = offset.in_range;
     }
-
--- the date of a day number is what UTC shows at the first second of that day
-pub date_of_midnight : (shown : DateTime) (day : ℕ) → civil_nanos shown ≡ nanos_of_seconds (pos (day * 86_400)) → shown.date ≡ civil_date day
-unfolding civil_date
-date_of_midnight shown day h =
-    let number : epoch_day shown.date ≡ pos day = omega (arith, signed_arith, epoch_day-whole shown (pos (day * 86_400)) h) in
-    sym (date_of-epoch_day shown.date) ∙ ap date_of number

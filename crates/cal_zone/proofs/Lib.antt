@@ -1,11 +1,8 @@
 pub mod AlikeLemmas
 pub mod CivilLemmas
-pub mod DayLemmas
 pub mod DigitLemmas
 pub mod LocalAtLemmas
-pub mod LocalLemmas
 pub mod OffsetLemmas
-pub mod OffsetWordLemmas
 pub mod PeriodLemmas
 pub mod PlaceLemmas
 pub mod PlacerLemmas

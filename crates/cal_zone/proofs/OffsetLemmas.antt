@@ -1,9 +1,11 @@
 -- UTC offsets of `jiff`.
-use Rattle.std.proofs.Common.{◌≡◌}
+use Rattle.std.proofs.Common.{◌≡◌, suc, ℤ, pos, negsuc, neg_ℤ, min, ap, arith}
 use Rattle.std.proofs.Props.{props}
 use mathlib.Core.HLevel.{is_prop→PathP}
+use Rattle.jiff.proofs.SpanFacts.{signed_arith}
 use Rattle.jiff.specs.Types.{Offset}
 use Rattle.jiff.specs.Words.{IsOffsetSeconds}
+use Rattle.cal_zone.specs.headline.ZoneAhead.{offset_of_seconds}
 
 -- offsets with the same number of seconds are equal
 pub same_offset : (a b : Offset) → a.seconds ≡ b.seconds → a ≡ b
@@ -12,3 +14,9 @@ same_offset a b e =
       seconds = e i;
       in_range = is_prop→PathP (λ j. IsOffsetSeconds (e j)) (λ j. hlevel props) a.in_range b.in_range i;
     }
+
+-- in `jiff`'s range, the offset of `seconds` has exactly that many seconds
+pub nearest : (seconds : ℤ) → IsOffsetSeconds seconds → (offset_of_seconds seconds).seconds ≡ seconds
+unfolding offset_of_seconds
+nearest (pos n) h = let least : min n 93_599 ≡ n = omega (arith, signed_arith, h.1) in ap pos least
+nearest (negsuc n) h = let least : min (suc n) 93_599 ≡ suc n = omega (arith, signed_arith, h.0) in ap (λ k. neg_ℤ (pos k)) least

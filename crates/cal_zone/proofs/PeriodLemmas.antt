@@ -21,13 +21,13 @@ use Rattle.jiff_tz.specs.PosixRule as ByPosix
 use Rattle.jiff_tz.specs.Tzif as OfTable
 use Rattle.jiff_tz.specs.Tzif.{count_at, rule_after, transition_at, type_after}
 use Rattle.jiff_tz.proofs.TzifLemmas.{le_no, le_yes}
-use Rattle.cal_zone.specs.headline.Days.{date_of}
-use Rattle.cal_zone.specs.headline.Local.{day_of}
+use Rattle.cal_civil.specs.headline.Days.{date_of}
+use Rattle.cal_civil.specs.headline.Local.{day_of}
 use Rattle.cal_zone.specs.Period.{IsPeriodAt, IsUnchanged}
 use Rattle.cal_zone.specs.headline.Place.{datetime_of}
 use Rattle.cal_zone.specs.Steady.{IsEvenUntil, year_end}
 use Rattle.cal_zone.specs.declared.period.Period.{Period}
-use Rattle.cal_zone.proofs.DayLemmas.{epoch_day-date_of}
+use Rattle.cal_civil.proofs.DayLemmas.{epoch_day-date_of}
 use Rattle.cal_zone.proofs.PlacerLemmas.{floor_second-whole, offset_between, offset_behind, offset_standard, rule_behind}
 use Rattle.cal_text.proofs.General.{lt_test, not_lt_test}
 use Rattle.cal_zone.proofs.RuleLemmas.{IsApart, IsBeside, clamped, in_its_year, moment_on, next_behind, offset_in, ordered_apart, ordered_rises, utc_year, window_apart, window_beside, window_of}

@@ -6,11 +6,11 @@ use Rattle.jiff.specs.Types.{AmbiguousOffset, DateTime, Fixed, Offset, TimeZone,
 use Rattle.jiff.specs.Words.{ambiguous_at, compatible_offset, civil_nanos, fixed_zone, instant_of, nanos_of_seconds, offset_at, picked_instant, IsEpochDay, IsOffsetSeconds}
 use Rattle.jiff.proofs.SpanFacts.{signed_arith}
 use Rattle.jiff.proofs.ZoneFacts.{offset_at-fixed_zone}
-use Rattle.cal_zone.specs.headline.Local.{day_of}
+use Rattle.cal_civil.specs.headline.Local.{day_of}
 use Rattle.cal_zone.specs.Place.{place_at}
 use Rattle.cal_zone.specs.headline.Place.{datetime_of, place_of, settle_of, time_of}
 use Rattle.cal_zone.specs.headline.Zone.{local_of}
-use Rattle.cal_zone.proofs.DayLemmas.{epoch_day-date_of}
+use Rattle.cal_civil.proofs.DayLemmas.{epoch_day-date_of}
 use Rattle.cal_zone.proofs.ZoneLemmas.{offset_at-in_range}
 use Rattle.cal_text.proofs.General.{some_by_test, int_eq-other}
 

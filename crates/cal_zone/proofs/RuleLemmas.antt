@@ -13,15 +13,15 @@ use Rattle.jiff_core.proofs.CalendarLemmas.{day_count-last_of_year, day_count-ye
 use Rattle.jiff_core.proofs.DateLemmas.{civil}
 use Rattle.jiff_tz.specs.Year.{year_of_nanos}
 use Rattle.jiff_tz.proofs.YearLemmas.{year_of_nanos-civil}
-use Rattle.cal_zone.specs.headline.Days.{date_of}
-use Rattle.cal_zone.specs.headline.Local.{day_of}
+use Rattle.cal_civil.specs.headline.Days.{date_of}
+use Rattle.cal_civil.specs.headline.Local.{day_of}
 use Rattle.cal_zone.specs.headline.Place.{datetime_of}
 use Rattle.cal_zone.specs.Steady.{year_end}
 use Rattle.cal_zone.proofs.PlacerLemmas.{count_behind, floor_second-whole}
 use Rattle.jiff_tz.specs.declared.tzif.Tzif.{Tzif as Table}
 use Rattle.jiff_tz.specs.Tzif as OfTable
 use Rattle.jiff_tz.specs.Tzif.{count_at}
-use Rattle.cal_zone.proofs.DayLemmas.{epoch_day-date_of}
+use Rattle.cal_civil.proofs.DayLemmas.{epoch_day-date_of}
 use Rattle.cal_zone.proofs.PlaceLemmas.{civil_nanos-datetime_of}
 use Rattle.jiff.proofs.SpanFacts.{signed_arith}
 use Rattle.jiff_tz.specs.declared.info.OffsetInfo.{OffsetInfo}

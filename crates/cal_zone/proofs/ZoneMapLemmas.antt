@@ -16,7 +16,7 @@ use Rattle.std.proofs.lemmas.Map.Text.{btree_map_updates_text, is_eq-slice_cmp}
 use Rattle.jiff.specs.Types.{TimeZone, UTC}
 use Rattle.cal_zone.specs.ZoneMap.{zone_map_in}
 use Rattle.cal_zone.specs.headline.ZoneMap.{ZoneMap}
-use Rattle.cal_zone.specs.headline.ZoneName.{is_utc_name}
+use Rattle.cal_civil.specs.headline.ZoneName.{is_utc_name}
 use Rattle.cal_zone.specs.headline.ZoneTable.{zone_named}
 
 find-lookup : (q : List ℕ) (es : List (String Global × TimeZone))

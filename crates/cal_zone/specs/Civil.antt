@@ -4,7 +4,7 @@ use Rattle.std.specs.Int.{IsInRange}
 use Rattle.jiff.specs.Types.{DateTime}
 use Rattle.jiff.specs.Words.{weekday_of, IsBetween, IsOffsetSeconds}
 use Rattle.cal_zone.specs.declared.civil_fields.Civil.{Civil}
-use Rattle.cal_zone.specs.headline.Local.{hour_of, minute_of, second_of}
+use Rattle.cal_civil.specs.headline.Local.{hour_of, minute_of, second_of}
 
 -- a date and time of day with a UTC offset
 abbrev pub shown_at : ℤ → DateTime → Civil

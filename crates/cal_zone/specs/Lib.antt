@@ -1,9 +1,7 @@
 pub mod Civil
 pub mod Instant
 pub mod InstantText
-pub mod Local
 pub mod LocalAt
-pub mod OffsetWord
 pub mod Period
 pub mod Place
 pub mod Rules

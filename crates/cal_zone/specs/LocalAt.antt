@@ -1,7 +1,7 @@
 -- The local second whose place is a given instant: systemd.time(7), Calendar Events.
 use Rattle.std.specs.Prelude.{◌≡◌, Option, None, Some, ℤ}
 use Rattle.jiff.specs.Types.{TimeZone}
-use Rattle.cal_zone.specs.Local.{IsLocalSecond}
+use Rattle.cal_civil.specs.Local.{IsLocalSecond}
 use Rattle.cal_zone.specs.headline.Place.{place_of}
 
 -- `Some local` if `local` is a local second of the years 1970 to 2199 whose place is `instant`, and `None` if there is

@@ -3,7 +3,7 @@ use Rattle.std.specs.Prelude.{◌≡◌, ℕ, ℤ, pos, ◌-ℤ◌, ◌≤ℤ◌
 use Rattle.jiff.specs.Words.{IsBetween}
 use Rattle.cal_bytes.specs.headline.Bytes.{joined}
 use Rattle.cal_zone.specs.headline.InstantText.{instant_text, time_text}
-use Rattle.cal_zone.specs.headline.Local.{hour_of, minute_of, second_of}
+use Rattle.cal_civil.specs.headline.Local.{hour_of, minute_of, second_of}
 use Rattle.cal_zone.specs.declared.shown_day.ShownDay.{ShownDay}
 use Rattle.cal_zone.specs.declared.zone.Zone.{Zone}
 

@@ -3,7 +3,7 @@ use Rattle.std.specs.Prelude.{◌≡◌, ◌⊎◌, ◌<◌, ◌≤◌, ℕ, tru
 use Rattle.jiff.specs.Types.{TimeZone, UTC, Unknown, Fixed, Posix, Tzif}
 use Rattle.jiff_tz.specs.Tzif.{tzif_view, HasBadRule, RuleAgrees}
 use Rattle.jiff_tz.specs.TzifReader.{read_tzif}
-use Rattle.cal_zone.specs.headline.ZoneName.{is_zone_name}
+use Rattle.cal_civil.specs.headline.ZoneName.{is_zone_name}
 use Rattle.cal_zone.specs.declared.zone_fault.ZoneFault.{ZoneFault}
 use Rattle.cal_zone.specs.declared.zone_fault.ZoneFault.TheVariants.{BadName, BadRule, BadFile, TooLarge, NoMemory, NameTaken}
 

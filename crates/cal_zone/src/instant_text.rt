@@ -1,17 +1,19 @@
-//! The text of instants and of UTC offsets.
+//! The text of instants.
 
 ghost use Rattle.std.specs.Prelude.{◌≡◌, ◌+◌, ◌<◌, ◌≤◌, decimal, ◌++◌, false, length};
 ghost use Rattle.std.specs.Int.{IsInRange};
 ghost use Rattle.cal_bytes.specs.Puts.{Puts};
 ghost use Rattle.cal_zone.specs.Civil.{IsCivil};
 ghost use Rattle.cal_zone.specs.InstantText.{day_text};
-ghost use Rattle.cal_zone.specs.headline.InstantText.{weekday_name, instant_text, offset_text, shown_text, sign_text, time_text, zeros, zone_word};
+ghost use Rattle.cal_civil.specs.headline.OffsetText.{zeros};
+ghost use Rattle.cal_zone.specs.headline.InstantText.{weekday_name, instant_text, shown_text, time_text, zone_word};
 ghost use Rattle.cal_bytes.specs.declared.short_text.TheConstants.{ROOM};
 
-use crate::{Civil, Instant, Zone, civil, short_weekday_name};
+use crate::{Civil, Instant, Zone, civil};
 use cal_bytes::{Fill, ShortText, Sink, WriteFault, padding, push, push_all, put_all};
+use cal_civil::{push_offset, short_weekday_name};
 use itoa::Buffer;
-use jiff::civil::Weekday;
+use jiff_core::civil::Weekday;
 
 /// Appends the instant as clocks in the zone show it (systemd.time(7), Displaying Timestamps): weekday, date, time, and
 /// then `UTC` for [`Zone::utc`] or the UTC offset for every other zone, even if that offset is 0.
@@ -124,43 +126,6 @@ pub(crate) fn push_zone(text: &mut ShortText, is_utc: bool, offset: i32)
     } else {
         push_offset(text, offset);
     }
-}
-
-/// Appends a UTC offset in seconds as `+02:00`, or as `+00:53:28` if it isn't a whole number of minutes.
-#[tactic(auto, unfolding(crate::specs::headline::InstantText::offset_text))]
-pub fn push_offset(text: &mut ShortText, offset: i32)
-    requires room { length text.old.items + 40 ≤ ROOM }
-    ensures text { text.new.items ≡ text.old.items ++ offset_text offset }
-    ensures short { length text.new.items ≤ length text.old.items + 40 }
-{
-    let ahead = offset.unsigned_abs();
-    let (mut hours, mut minutes, mut seconds) = (Buffer::new(), Buffer::new(), Buffer::new());
-    let hour = hours.format(ahead / 3_600);
-    let minute = minutes.format(ahead / 60 % 60);
-    push_all(
-        text,
-        &[
-            sign(offset),
-            padding(hour, 2, Fill::Zero),
-            hour.as_bytes(),
-            b":",
-            padding(minute, 2, Fill::Zero),
-            minute.as_bytes(),
-        ],
-    );
-    if ahead % 60 != 0 {
-        let second = seconds.format(ahead % 60);
-        push_all(
-            text,
-            &[b":", padding(second, 2, Fill::Zero), second.as_bytes()],
-        );
-    }
-}
-
-fn sign<'a>(offset: i32) -> &'a [u8]
-    ensures { result.now ≡ sign_text offset }
-{
-    if offset < 0 { b"-" } else { b"+" }
 }
 
 /// Returns the short English name of a weekday, 1 (Monday) to 7 (Sunday).

@@ -6,16 +6,16 @@ ghost use Rattle.std.specs.Prelude.{◌≡◌, ℕ, ◌/◌, ◌<◌, ℤ, pos, 
 ghost use Rattle.std.specs.FinMap.{insert};
 ghost use Rattle.jiff.specs.Types.{Date, Fold, Gap, Offset, TimeZone, UTC, Unambiguous};
 ghost use Rattle.jiff.specs.Words.{ambiguous_at, civil_nanos, epoch_day, fixed_zone, nanos_of_seconds, offset_at, picked_instant, IsBetween, IsEpochDay, IsOffsetSeconds};
-ghost use Rattle.cal_zone.specs.headline.Days.{date_of};
-ghost use Rattle.cal_zone.specs.headline.InstantText.{offset_text};
-ghost use Rattle.cal_zone.specs.headline.Local.{civil_date, day_of, seconds_in_all};
-ghost use Rattle.cal_zone.specs.OffsetWord.{AreWholeMinutes, offset_in};
-ghost use Rattle.cal_zone.specs.headline.OffsetWord.{IsOffsetWord};
+ghost use Rattle.cal_civil.specs.headline.Days.{date_of};
+ghost use Rattle.cal_civil.specs.headline.OffsetText.{offset_text};
+ghost use Rattle.cal_civil.specs.headline.Local.{civil_date, day_of, seconds_in_all};
+ghost use Rattle.cal_civil.specs.OffsetWord.{AreWholeMinutes, offset_in};
+ghost use Rattle.cal_civil.specs.headline.OffsetWord.{IsOffsetWord};
 ghost use Rattle.cal_zone.specs.Place.{place_at};
 ghost use Rattle.cal_zone.specs.headline.Place.{datetime_of, place_of, settle_of};
 ghost use Rattle.cal_zone.specs.headline.Zone.{local_of};
 ghost use Rattle.cal_zone.specs.headline.ZoneMap.{ZoneMap};
-ghost use Rattle.cal_zone.specs.headline.ZoneName.{is_utc_name};
+ghost use Rattle.cal_civil.specs.headline.ZoneName.{is_utc_name};
 ghost use Rattle.cal_zone.specs.headline.ZoneTable.{zone_named};
 
 /// Every day number in the range of `jiff`'s calendar has a date, and no other date has that day number.

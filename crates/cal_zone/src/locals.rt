@@ -5,7 +5,8 @@ ghost use Rattle.cal_zone.specs.LocalAt.{IsLocalAt};
 ghost use Rattle.cal_zone.specs.headline.Zone.{local_of, zone_of};
 
 use crate::civil_time::offset_in;
-use crate::{Instant, LOCAL_END, Zone, place};
+use crate::{Instant, Zone, place};
+use cal_civil::LOCAL_END;
 use jiff::Timestamp;
 
 /// Returns the local second of the years 1970 to 2199 whose place is `instant`, or `None` if there is none.

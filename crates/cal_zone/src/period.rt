@@ -5,7 +5,7 @@
 
 ghost use Rattle.std.specs.Prelude.{◌≡◌, option_map, pos};
 ghost use Rattle.jiff_tz.specs.PosixRule.{transition_view};
-ghost use Rattle.cal_zone.specs.Local.{CanSettle};
+ghost use Rattle.cal_civil.specs.Local.{CanSettle};
 ghost use Rattle.cal_zone.specs.Period.{IsPeriodAt, IsUnchangedUntil};
 ghost use Rattle.cal_zone.specs.Steady.{IsEvenUntil};
 ghost use Rattle.cal_zone.specs.headline.Zone.{zone_of};

@@ -1,7 +1,7 @@
 //! Conversion of many local seconds of one zone to instants, with a cached range in which it is one subtraction.
 
 ghost use Rattle.std.specs.Prelude.{◌≡◌, IfSome};
-ghost use Rattle.cal_zone.specs.Local.{IsLocalSecond};
+ghost use Rattle.cal_civil.specs.Local.{IsLocalSecond};
 ghost use Rattle.cal_zone.specs.LocalAt.{IsLocalAt};
 ghost use Rattle.cal_zone.specs.headline.Place.{place_of};
 ghost use Rattle.cal_zone.specs.headline.Zone.{zone_of};
@@ -9,7 +9,8 @@ ghost use Rattle.cal_zone.specs.headline.Zone.{zone_of};
 use crate::locals::local_at;
 use crate::stretch::{Stretch, stretch_of};
 use crate::zone::ZoneKind;
-use crate::{Instant, LOCAL_END, Zone, place};
+use crate::{Instant, Zone, place};
+use cal_civil::LOCAL_END;
 use std::marker::Model;
 
 /// How far `seek_from` moves ahead after a search that found no range: up to there, local seconds are converted one by

@@ -4,16 +4,17 @@ ghost use Rattle.std.specs.Prelude.{◌≡◌, ◌↔◌, true, ℤ, IsOk, IsSom
 ghost use Rattle.jiff.specs.Placed.{IsPosixZone};
 ghost use Rattle.jiff.specs.Types.{DateTime};
 ghost use Rattle.jiff.specs.Words.{ambiguous_at, next_at, offset_at, plain_zone, read_whole};
-ghost use Rattle.cal_zone.specs.Local.{IsLocalSecond};
+ghost use Rattle.cal_civil.specs.Local.{IsLocalSecond};
 ghost use Rattle.cal_zone.specs.Steady.{IsAlikeUntil, IsSteadyAt};
 ghost use Rattle.cal_zone.specs.ZoneFile.{IsFileFault, IsFileZone};
-ghost use Rattle.cal_zone.specs.headline.ZoneName.{is_zone_name};
+ghost use Rattle.cal_civil.specs.headline.ZoneName.{is_zone_name};
 ghost use Rattle.cal_zone.specs.declared.zone_fault.ZoneFault.TheVariants.{BadRule};
 
 use crate::period::even_until;
 use crate::places::place_by;
 use crate::stretch::{FAR, Stretch, alike_behind, alike_in_zone, stretch_of_table};
-use crate::{Instant, ZoneFault, is_zone_name};
+use crate::{Instant, ZoneFault};
+use cal_civil::is_zone_name;
 use jiff::tz::{Offset, TimeZone, Tzif};
 use jiff::{Error, Timestamp};
 use std::alloc::Global;

@@ -10,8 +10,9 @@ ghost use Rattle.cal_zone.specs.headline.Zone.{zone_of};
 use crate::civil_time::civil_at;
 use crate::instant_text::{push_day, push_time, push_zone};
 use crate::period::Period;
-use crate::{Civil, DAY, Instant, Zone};
+use crate::{Civil, Instant, Zone};
 use cal_bytes::{ShortText, push};
+use cal_civil::DAY;
 
 /// The instants `from..to`, all on one day of a zone's clock and at one UTC offset.
 ///

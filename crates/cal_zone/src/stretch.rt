@@ -8,7 +8,7 @@ ghost use Rattle.jiff.specs.Types.{Posix as ByRule};
 ghost use Rattle.jiff.specs.Words.{nanos_of_seconds, IsWithin};
 ghost use Rattle.jiff_tz.specs.Tzif.{count_at, type_after};
 ghost use Rattle.jiff_tz.specs.PosixRule.{transition_view};
-ghost use Rattle.cal_zone.specs.Local.{CanSettle, IsLocalSecond, IsNearSettled};
+ghost use Rattle.cal_civil.specs.Local.{CanSettle, IsLocalSecond, IsNearSettled};
 ghost use Rattle.cal_zone.specs.headline.Place.{datetime_of};
 ghost use Rattle.cal_zone.specs.Rules.{zone_of_table};
 ghost use Rattle.cal_zone.specs.Steady.{IsAlikeUntil, IsEvenUntil, IsQuietUntil, IsSecondOfRow, IsSteadyAt, year_end};
@@ -16,7 +16,8 @@ ghost use Rattle.cal_zone.specs.headline.Zone.{zone_of};
 
 use crate::places::datetime;
 use crate::zone::ZoneKind;
-use crate::{DAY, Instant, LOCAL_END, Zone};
+use crate::{Instant, Zone};
+use cal_civil::{DAY, LOCAL_END};
 use jiff::tz::Tzif;
 use jiff_core::Timestamp;
 use jiff_tz::{TimeZone, Transition, posix, tzif};

@@ -2,9 +2,10 @@
 
 ghost use Rattle.std.specs.Prelude.{◌≡◌, true, option_map, IfSome, IfErr, OnErr, MatchResult};
 ghost use Rattle.std.specs.FinMap as map;
+ghost use Rattle.cal_civil.specs.headline.ZoneName.{is_utc_name};
 
-use crate::zone_name::is_utc_name;
-use crate::{Rules, Zone, ZoneFault, is_zone_name};
+use crate::{Rules, Zone, ZoneFault};
+use cal_civil::is_zone_name;
 use std::alloc::Global;
 use std::collections::BTreeMap;
 use std::marker::Model;
@@ -34,7 +35,7 @@ impl Model for ZoneTable {
 
 impl ZoneTable {
     ghost use Rattle.cal_zone.specs.headline.Zone.{is_utc, zone_of};
-    ghost use Rattle.cal_zone.specs.headline.ZoneName.{is_utc_name, is_zone_name};
+    ghost use Rattle.cal_civil.specs.headline.ZoneName.{is_utc_name, is_zone_name};
     ghost use Rattle.cal_zone.specs.ZoneTable.{IsAddable, IsAddFault};
     ghost use Rattle.cal_zone.specs.headline.ZoneTable.{zone_named};
 
@@ -106,4 +107,11 @@ impl ZoneTable {
             None => None,
         }
     }
+}
+
+/// Returns whether `text` is `UTC`, in any case.
+fn is_utc_name(text: &str) -> bool
+    ensures { result ≡ is_utc_name text.now }
+{
+    text.eq_ignore_ascii_case("utc")
 }

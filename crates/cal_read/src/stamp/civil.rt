@@ -15,9 +15,10 @@ use crate::stamp::setting::Setting;
 use crate::stamp::time::read_time;
 use crate::stamp::written::Written;
 use crate::stamp::zone::read_zone;
+use cal_civil::begins_with_letter;
 use cal_spec::find_day;
 use cal_text::first_word;
-use cal_zone::{Instant, Moment, begins_with_letter};
+use cal_zone::{Instant, Moment};
 use jiff::civil::Weekday;
 use jiff_core::civil::Date;
 

@@ -6,7 +6,7 @@ ghost use Rattle.jiff.specs.Types.{TimeZone};
 ghost use Rattle.cal_zone.specs.headline.Civil.{civil_of};
 ghost use Rattle.cal_zone.specs.Instant.{IsInstant, IsMoment};
 ghost use Rattle.cal_zone.specs.headline.InstantText.{instant_text};
-ghost use Rattle.cal_zone.specs.Local.{IsLocalSecond};
+ghost use Rattle.cal_civil.specs.Local.{IsLocalSecond};
 ghost use Rattle.cal_zone.specs.headline.Zone.{utc, zone_of};
 ghost use Rattle.cal_zone.specs.headline.ZoneMap.{ZoneMap};
 ghost use Rattle.cal_zone.specs.headline.ZoneTable.{zone_named};

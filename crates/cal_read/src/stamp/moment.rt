@@ -11,8 +11,9 @@ ghost use Rattle.cal_read.specs.StampViews.{shift_of, micros_or_fault};
 use crate::StampFault;
 use crate::stamp::form::NearDay;
 use crate::stamp::time::SECOND;
+use cal_civil::DAY;
 use cal_span::Span;
-use cal_zone::{DAY, Instant, Moment, Zone, civil, settle};
+use cal_zone::{Instant, Moment, Zone, civil, settle};
 
 /// Returns the moment at this many microseconds of Unix time. Fails with `OutOfRange` if there is none.
 #[tactic(auto, unfolding(crate::specs::Stamp::in_moments))]

@@ -9,8 +9,9 @@ ghost use Rattle.cal_read.specs.StampViews.{setting_seen, zone_or_fault};
 
 use crate::StampFault;
 use crate::stamp::setting::Setting;
+use cal_civil::{begins_with_letter, read_offset};
 use cal_text::first_word;
-use cal_zone::{Zone, ZoneTable, begins_with_letter, read_offset};
+use cal_zone::{Zone, ZoneTable};
 
 /// Parses the zone, which is all that may be left in `text`: a name in the table, or an offset, which is never looked
 /// up there. Returns the local zone if there are no words (systemd.time(7), Parsing Timestamps).

@@ -14,8 +14,8 @@ ghost use Rattle.cal_read.specs.TimerView.{shown_lists};
 use crate::timer::list::{ReadLists, take_line};
 use crate::{Timer, TimerFault};
 use cal_bytes::Source;
-use cal_streams::{WholeFault, read_whole};
 use cal_lines::first_logical;
+use cal_streams::{WholeFault, read_whole};
 use std::alloc::Global;
 
 /// Reads a timer file to its end, and returns its calendar expressions (systemd.timer(5), OnCalendar=) and its

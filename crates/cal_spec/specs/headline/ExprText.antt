@@ -3,7 +3,7 @@
 use Rattle.std.specs.Prelude.{ℕ, Bool, if◌then◌else◌, List, [], ◌∷◌, Option, None, Some, codes, decimal}
 use Rattle.std.specs.List.{join_by}
 use Rattle.cal_bytes.specs.headline.Bytes.{joined}
-use Rattle.cal_zone.specs.headline.InstantText.{zeros}
+use Rattle.cal_civil.specs.headline.OffsetText.{zeros}
 use Rattle.cal_spec.specs.headline.Fields.{Fields}
 use Rattle.cal_spec.specs.headline.WeekdayRuns.{weekdays_text}
 use Rattle.cal_spec.specs.headline.ZoneSuffix.{ZoneSuffix, suffix_text}

@@ -6,7 +6,7 @@ use Rattle.std.specs.Option.{option_to_list, unwrap_or}
 use Rattle.std.specs.Char.{is_ascii_digit, to_ascii_lowercase}
 use Rattle.std.specs.Str.Parse.{digits_value}
 use Rattle.jiff_core.specs.declared.civil.weekday.Weekday.{Weekday}
-use Rattle.cal_zone.specs.headline.Weekday.{week, name_of, short_name_of}
+use Rattle.cal_civil.specs.headline.Weekday.{week, name_of, short_name_of}
 use Rattle.cal_text.specs.headline.Separators.{is_colon}
 use Rattle.cal_spec.specs.headline.DateAndTime.{DateTexts, TimeTexts}
 use Rattle.cal_spec.specs.headline.Fields.{Fields, counted_parts}
@@ -17,8 +17,8 @@ use Rattle.cal_spec.specs.headline.Sound.{IsSound}
 use Rattle.cal_spec.specs.headline.Weekdays.{set_of}
 use Rattle.cal_text.specs.headline.Words.{words}
 use Rattle.cal_spec.specs.headline.Words.{Roles}
-use Rattle.cal_zone.specs.headline.OffsetWord.{IsOffsetWord, begins_with_sign}
-use Rattle.cal_zone.specs.headline.ZoneName.{begins_with_letter, is_zone_name}
+use Rattle.cal_civil.specs.headline.OffsetWord.{IsOffsetWord, begins_with_sign}
+use Rattle.cal_civil.specs.headline.ZoneName.{begins_with_letter, is_zone_name}
 use Rattle.cal_spec.specs.headline.ZoneSuffix.{ZoneSuffix, of_name, ahead, kept_name}
 use Rattle.cal_spec.specs.declared.part.Part.{Part}
 use Rattle.cal_spec.specs.declared.shorthand.Shorthand.{Shorthand}

@@ -1,8 +1,8 @@
 -- Matching of local seconds: systemd.time(7), Calendar Events.
 use Rattle.std.specs.Prelude.{ℕ, ◌+◌, ◌-◌, ◌/◌, ◌%◌, Bool, ◌&&◌, nat_lt, unsigned_abs, if◌then◌else◌}
-use Rattle.jiff.specs.Types.{Date}
-use Rattle.jiff.specs.Words.{month_length, weekday_of}
-use Rattle.cal_zone.specs.headline.Local.{civil_date, hour_of, minute_of, second_of, seconds_in_all}
+use Rattle.jiff_core.specs.declared.civil.date.Date.{Date}
+use Rattle.jiff_core.specs.Date.{month_length, weekday_of}
+use Rattle.cal_civil.specs.headline.Local.{civil_date, hour_of, minute_of, second_of, seconds_in_all}
 
 -- the values that each field matches; weekdays are numbered from 0 for Monday, and days are counted from the month's
 -- end if `from_end` is set

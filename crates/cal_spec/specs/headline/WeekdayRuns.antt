@@ -3,7 +3,7 @@ use Rattle.std.specs.Prelude.{◌==◌, ℕ, ◌+◌, Bool, if◌then◌else◌,
 use Rattle.std.specs.List.{join_by, list_all}
 use Rattle.jiff_core.specs.declared.civil.weekday.Weekday.TheVariants.{Monday}
 use Rattle.cal_bytes.specs.headline.Bytes.{joined}
-use Rattle.cal_zone.specs.headline.Weekday.{week, short_name_of}
+use Rattle.cal_civil.specs.headline.Weekday.{week, short_name_of}
 
 -- a run: a maximal range of consecutive weekdays that match
 pub record Run : Type 0 where

@@ -3,7 +3,7 @@ use Rattle.std.specs.Prelude.{ℕ, ◌+◌, ◌-◌, ◌%◌, nat_le, Bool, List
 use Rattle.std.specs.List.{list_any}
 use Rattle.jiff_core.specs.declared.civil.weekday.Weekday.{Weekday}
 use Rattle.jiff_core.specs.Weekday.{monday_zero}
-use Rattle.cal_zone.specs.headline.Weekday.{week}
+use Rattle.cal_civil.specs.headline.Weekday.{week}
 use Rattle.cal_spec.specs.declared.weekdays.Days.{Days}
 
 -- the number of days from one weekday to the next occurrence of another

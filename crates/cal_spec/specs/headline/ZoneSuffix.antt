@@ -1,7 +1,7 @@
 -- The zone at the end of a calendar expression, which is a name or a UTC offset: systemd.time(7), Calendar Events.
 use Rattle.std.specs.Prelude.{ℕ, ℤ, if◌then◌else◌, List, codes}
 use Rattle.std.specs.Str.{str_eq_ignore_ascii_case}
-use Rattle.cal_zone.specs.headline.InstantText.{offset_text}
+use Rattle.cal_civil.specs.headline.OffsetText.{offset_text}
 
 -- the name of a zone, or a UTC offset in seconds
 pub data ZoneSuffix : Type 0 where

@@ -2,9 +2,9 @@
 
 use super::{CALENDAR, KnownZones, Local, Row, check, check_input, known_zones};
 use cal_faulty::{Faulty, Then};
-use cal_streams::Port;
 use cal_library_tests::shared::{EXCEPT_FILE, NEW_YEAR, TIMER_FILE};
 use cal_request::Verb;
+use cal_streams::Port;
 use std::alloc::{AllocError, Global};
 use std::process::Abort;
 use std::test::Fail;

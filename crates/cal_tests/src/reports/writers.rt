@@ -7,8 +7,8 @@ use super::{
     CALENDAR, KnownZones, NOON_THIRTY, Row, check, expect_texts, known_zones, run_row, status,
 };
 use cal_faulty::{Faulty, Then};
-use cal_streams::Port;
 use cal_request::{RunFault, Status};
+use cal_streams::Port;
 use std::alloc::AllocError;
 use std::process::Abort;
 use std::test::Fail;

@@ -3,8 +3,8 @@ use Rattle.std.specs.Prelude.{ℕ, ◌+◌, ℤ}
 use Rattle.jiff.specs.Types.{Date, TimeZone}
 use Rattle.jiff.specs.Words.{nanos_of_seconds, offset_at, weekday_of}
 use Rattle.cal_zone.specs.declared.civil_fields.Civil.{Civil}
-use Rattle.cal_zone.specs.headline.Days.{date_of}
-use Rattle.cal_zone.specs.headline.Local.{day_of, second_of_day, hour_of, minute_of, second_of}
+use Rattle.cal_civil.specs.headline.Days.{date_of}
+use Rattle.cal_civil.specs.headline.Local.{day_of, second_of_day, hour_of, minute_of, second_of}
 use Rattle.cal_zone.specs.headline.Zone.{local_of}
 
 -- a date, a time in seconds since midnight and a UTC offset, field by field; weekday 1 is Monday

@@ -1,16 +1,13 @@
 -- How an instant is printed: `Sat 2020-02-29 00:00:00 UTC`, as systemd.time(7) shows timestamps.
-use Rattle.std.specs.Prelude.{ℕ, ◌-◌, ◌/◌, ◌%◌, ◌==◌, if◌then◌else◌, Bool, ℤ, pos, int_lt, unsigned_abs, List, [], ◌∷◌, ◌++◌, length, codes, decimal, replicate, slice_index_or}
+use Rattle.std.specs.Prelude.{ℕ, ◌-◌, if◌then◌else◌, Bool, ℤ, unsigned_abs, List, [], ◌∷◌, ◌++◌, codes, decimal, slice_index_or}
 use Rattle.jiff_core.specs.declared.civil.weekday.Weekday.TheVariants.{Sunday}
 use Rattle.cal_bytes.specs.headline.Bytes.{joined}
+use Rattle.cal_civil.specs.headline.OffsetText.{offset_text, zeros}
 use Rattle.cal_zone.specs.headline.Civil.{civil_of}
-use Rattle.cal_zone.specs.headline.Weekday.{week, short_name_of}
+use Rattle.cal_civil.specs.headline.Weekday.{week, short_name_of}
 use Rattle.cal_zone.specs.headline.Zone.{is_utc, zone_of}
 use Rattle.cal_zone.specs.declared.civil_fields.Civil.{Civil}
 use Rattle.cal_zone.specs.declared.zone.Zone.{Zone}
-
--- the zeros before `n` if it is printed with at least `width` digits
-abbrev pub zeros : ℕ → ℕ → List ℕ
-zeros width n = replicate (width - length (decimal n)) 48
 
 -- the short English name of weekday `n`, where 1 is Monday
 unfoldable pub weekday_name : ℕ → List ℕ
@@ -26,23 +23,6 @@ date_text c =
 unfoldable pub time_text : ℕ → ℕ → ℕ → List ℕ
 time_text hour minute second =
     joined (zeros 2 hour ∷ decimal hour ∷ codes ":" ∷ zeros 2 minute ∷ decimal minute ∷ codes ":" ∷ zeros 2 second ∷ decimal second ∷ [])
-
--- `-` for a clock that is behind UTC, and otherwise `+`
-abbrev pub sign_text : ℤ → List ℕ
-sign_text offset = if int_lt offset (pos 0) then codes "-" else codes "+"
-
--- `+02:00`: sign, hours and minutes
-abbrev pub minutes_pieces : ℤ → List (List ℕ)
-minutes_pieces offset =
-    let ahead = unsigned_abs offset in
-    sign_text offset ∷ zeros 2 (ahead / 3_600) ∷ decimal (ahead / 3_600) ∷ codes ":" ∷ zeros 2 (ahead / 60 % 60) ∷ decimal (ahead / 60 % 60) ∷ []
-
--- a UTC offset in seconds: `+02:00`, or `+00:53:28` if it isn't a whole number of minutes
-unfoldable pub offset_text : ℤ → List ℕ
-offset_text offset =
-    let second = unsigned_abs offset % 60 in
-    if second == 0 then joined (minutes_pieces offset)
-    else joined (minutes_pieces offset ++ (codes ":" ∷ zeros 2 second ∷ decimal second ∷ []))
 
 -- the zone after a time: `UTC` for UTC itself, and otherwise the UTC offset
 unfoldable pub zone_word : Bool → ℤ → List ℕ

@@ -5,8 +5,8 @@ use Rattle.std.proofs.Common.{arith}
 use Rattle.jiff.proofs.SpanFacts.{signed_arith}
 use Rattle.jiff.specs.Types.{DateTime, Time, TimeZone}
 use Rattle.jiff.specs.Words.{ambiguous_at, compatible_offset}
-use Rattle.cal_zone.specs.headline.Days.{date_of}
-use Rattle.cal_zone.specs.headline.Local.{day_of, second_of_day, hour_of, minute_of, second_of}
+use Rattle.cal_civil.specs.headline.Days.{date_of}
+use Rattle.cal_civil.specs.headline.Local.{day_of, second_of_day, hour_of, minute_of, second_of}
 use Rattle.cal_zone.specs.headline.Zone.{local_of}
 
 -- the time of day `second` seconds after midnight

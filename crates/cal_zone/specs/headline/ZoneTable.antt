@@ -4,7 +4,7 @@ use Rattle.std.specs.Prelude.{ℕ, List, Option, Some, if◌then◌else◌}
 use Rattle.std.specs.FinMap.{get}
 use Rattle.jiff.specs.Types.{TimeZone, UTC}
 use Rattle.cal_zone.specs.headline.ZoneMap.{ZoneMap}
-use Rattle.cal_zone.specs.headline.ZoneName.{is_utc_name}
+use Rattle.cal_civil.specs.headline.ZoneName.{is_utc_name}
 
 -- the zone named `name`: UTC for `UTC` in any case, and otherwise the zone that the table has under exactly this name
 unfoldable pub zone_named : ZoneMap → List ℕ → Option TimeZone

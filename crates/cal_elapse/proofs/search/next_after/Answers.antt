@@ -3,7 +3,7 @@ use Rattle.std.proofs.lemmas.Int.{to_z-of_z}
 use Rattle.cal_elapse.specs.Masks.{sets_in}
 use Rattle.cal_elapse.specs.Search.{IsFirstPassing}
 use Rattle.cal_spec.specs.headline.Match.{time_in}
-use Rattle.cal_zone.proofs.LocalLemmas.{local_inside}
+use Rattle.cal_civil.proofs.LocalLemmas.{local_inside}
 use Rattle.cal_elapse.proofs.SearchLemmas.{search_today}
 use Rattle.cal_elapse.proofs.search.next_after.Goals as goal
 

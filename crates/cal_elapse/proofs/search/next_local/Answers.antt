@@ -1,7 +1,7 @@
 use Rattle.std.proofs.Common.{◌≡◌, ◌+◌, ◌*◌, ◌/◌, ◌%◌, ◌≤ℤ◌, ◌∙◌, ℕ, ℤ, FitsSigned, Some, ap, arith, pos, rules, subst, sym, unsigned_abs, w64}
 use Rattle.std.proofs.lemmas.Int.{ints, to_z-of_z}
 use Rattle.jiff.proofs.SpanFacts.{signed_arith}
-use Rattle.cal_zone.specs.headline.Local.{seconds_in_all-is}
+use Rattle.cal_civil.specs.headline.Local.{seconds_in_all-is}
 use Rattle.cal_elapse.specs.Masks.{sets_in}
 use Rattle.cal_elapse.specs.Months.{day_in}
 use Rattle.cal_elapse.specs.Search.{IsFirstPassing, NonePasses}

@@ -1,5 +1,5 @@
 use Rattle.std.proofs.Common.{arith}
-use Rattle.cal_zone.proofs.LocalLemmas.{local_arith}
+use Rattle.cal_civil.proofs.LocalLemmas.{local_arith}
 use Rattle.cal_spec.specs.headline.Match.{matches}
 use Rattle.cal_spec.proofs.matching.has_local.Goals as goal
 

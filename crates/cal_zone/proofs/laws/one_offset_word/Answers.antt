@@ -1,4 +1,4 @@
-use Rattle.cal_zone.proofs.OffsetWordLemmas.{offset-found, offset-only, offset-minutes, offset-back}
+use Rattle.cal_civil.proofs.OffsetWordLemmas.{offset-found, offset-only, offset-minutes, offset-back}
 use Rattle.cal_zone.proofs.laws.one_offset_word.Goals as goal
 
 pub returns-clause-found : goal.returns-clause-found

@@ -2,7 +2,7 @@ use Rattle.std.proofs.Common.{arith}
 use Rattle.jiff.specs.Words.{IsEpochDay}
 use Rattle.jiff.proofs.Family.{same_datetime}
 use Rattle.jiff.proofs.SpanFacts.{signed_arith}
-use Rattle.cal_zone.specs.headline.Local.{day_of}
+use Rattle.cal_civil.specs.headline.Local.{day_of}
 use Rattle.cal_zone.proofs.PlaceLemmas.{civil_nanos-datetime_of}
 use Rattle.cal_zone.specs.headline.Place.{datetime_of}
 use Rattle.cal_zone.proofs.places.datetime.Goals as goal

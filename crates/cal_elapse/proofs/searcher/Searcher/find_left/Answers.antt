@@ -1,7 +1,7 @@
 use Rattle.std.proofs.Common.{◌≡◌, ◌+◌, ◌<◌, ◌+ℤ◌, ◌≤ℤ◌, ℕ, ℤ, arith, of_z, pos, refl, rules, subst, sym, to_z, unsigned_abs, w64}
 use Rattle.std.proofs.lemmas.Int.{to_z-of_z}
 use Rattle.jiff.proofs.SpanFacts.{signed_arith}
-use Rattle.cal_zone.specs.headline.Local.{seconds_in_all, seconds_in_all-is}
+use Rattle.cal_civil.specs.headline.Local.{seconds_in_all, seconds_in_all-is}
 use Rattle.cal_text.proofs.General.{pos_unsigned_abs, sum_whole}
 use Rattle.cal_elapse.specs.Left.{IsLeft, minute_matches}
 use Rattle.cal_elapse.specs.Masks.{sets_in}

@@ -1,8 +1,8 @@
 use Rattle.std.proofs.Common.{◌≡◌, ◌+◌, ◌/◌, ◌%◌, ◌+ℤ◌, FitsSigned, arith, rules, of_z, pos, refl, sym, to_z, unsigned_abs, w64}
 use Rattle.std.proofs.lemmas.Int.{to_z-of_z}
-use Rattle.cal_zone.specs.headline.Local.{seconds_in_all-is}
+use Rattle.cal_civil.specs.headline.Local.{seconds_in_all-is}
 use Rattle.cal_text.proofs.General.{pos_unsigned_abs, sum_whole}
-use Rattle.cal_zone.proofs.LocalLemmas.{local_inside}
+use Rattle.cal_civil.proofs.LocalLemmas.{local_inside}
 use Rattle.cal_elapse.proofs.MinuteLemmas.{minutes_after, seconds_after}
 use Rattle.cal_elapse.proofs.searcher.Searcher.keep.Goals.{In-Some}
 use Rattle.cal_elapse.proofs.searcher.Searcher.keep.Goals as goal

@@ -2,7 +2,7 @@ use Rattle.std.proofs.Common.{◌+◌, FitsSigned, IfSome, IsSome, arith, option
 use Rattle.std.proofs.lemmas.Int.{ints, to_z-of_z}
 use Rattle.std.proofs.lemmas.Option.{IfSome_then}
 use Rattle.cal_spec.specs.headline.Match.{matches}
-use Rattle.cal_zone.specs.headline.Local.{seconds_in_all}
+use Rattle.cal_civil.specs.headline.Local.{seconds_in_all}
 use Rattle.cal_elapse.specs.Left.{IsNextLater}
 use Rattle.cal_elapse.specs.Masks.{sets_in}
 use Rattle.cal_elapse.specs.Most.{IsMostAfter}

@@ -2,7 +2,7 @@ use Rattle.std.proofs.Common.{◌+◌, FitsSigned, IsSome, arith, option_map, su
 use Rattle.std.proofs.lemmas.Int.{ints, to_z-of_z}
 use Rattle.std.proofs.lemmas.Option.{IfSome_then}
 use Rattle.cal_spec.specs.headline.Match.{matches}
-use Rattle.cal_zone.specs.headline.Local.{seconds_in_all}
+use Rattle.cal_civil.specs.headline.Local.{seconds_in_all}
 use Rattle.cal_elapse.specs.Left.{IsNextLeft}
 use Rattle.cal_elapse.specs.Search.{IsFirstPassing}
 use Rattle.cal_elapse.specs.Masks.{sets_in}

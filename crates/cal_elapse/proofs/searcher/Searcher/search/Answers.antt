@@ -1,6 +1,6 @@
 use Rattle.std.proofs.Common.{FitsSigned, arith, rules, w64}
 use Rattle.std.proofs.lemmas.Int.{to_z-of_z}
-use Rattle.cal_zone.specs.headline.Local.{seconds_in_all-is}
+use Rattle.cal_civil.specs.headline.Local.{seconds_in_all-is}
 use Rattle.cal_elapse.proofs.searcher.Searcher.search.Goals as goal
 use Rattle.cal_elapse.proofs.searcher.Searcher.search.Goals.{in-At, in-After}
 

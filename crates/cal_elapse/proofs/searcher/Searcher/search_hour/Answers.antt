@@ -7,7 +7,7 @@ use Rattle.cal_elapse.specs.Masks.{sets_in}
 use Rattle.cal_elapse.specs.Most.{IsMostAfter}
 use Rattle.cal_elapse.specs.declared.masks.Masks.{Masks}
 use Rattle.cal_elapse.proofs.CountLemmas.{count_from-most, count_from-nothing, count_from-then}
-use Rattle.cal_zone.proofs.LocalLemmas.{local_inside}
+use Rattle.cal_civil.proofs.LocalLemmas.{local_inside}
 use Rattle.cal_elapse.proofs.MostLemmas.{most_begun, most_on, most_then}
 use Rattle.cal_elapse.proofs.searcher.Searcher.search_hour.Goals as goal
 

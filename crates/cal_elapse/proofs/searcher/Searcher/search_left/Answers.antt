@@ -1,6 +1,6 @@
 use Rattle.std.proofs.Common.{◌≡◌, ◌∙◌, ◌+◌, ◌-◌, FitsSigned, Some, arith, of_z, refl, rules, subst, sym, to_z, unsigned_abs, w64, ℕ, ℤ}
 use Rattle.std.proofs.lemmas.Int.{to_z-of_z}
-use Rattle.cal_zone.specs.headline.Local.{seconds_in_all-is}
+use Rattle.cal_civil.specs.headline.Local.{seconds_in_all-is}
 use Rattle.cal_spec.specs.headline.Match.{matches}
 use Rattle.cal_elapse.specs.Count.{count_from}
 use Rattle.cal_elapse.specs.Left.{IsNextLeft, NoneLeft}
@@ -9,7 +9,7 @@ use Rattle.cal_elapse.specs.Most.{IsMostAfter}
 use Rattle.cal_elapse.specs.declared.masks.Masks.{Masks}
 use Rattle.cal_elapse.proofs.CountLemmas.{count_from-most, count_from-nothing, count_from-then}
 use Rattle.cal_text.proofs.General.{between_whole, pos_unsigned_abs}
-use Rattle.cal_zone.proofs.LocalLemmas.{local_inside}
+use Rattle.cal_civil.proofs.LocalLemmas.{local_inside}
 use Rattle.cal_elapse.proofs.MinuteLemmas.{rest_on, rest_unknown}
 use Rattle.cal_elapse.proofs.MostLemmas.{most_begun, most_on, most_then}
 use Rattle.cal_elapse.proofs.searcher.Searcher.search_left.Goals as goal

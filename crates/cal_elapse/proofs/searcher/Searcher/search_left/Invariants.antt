@@ -1,6 +1,6 @@
 use Rattle.std.proofs.Common.{◌≡◌, ◌+◌, ◌-◌, unsigned_abs}
-use Rattle.cal_zone.specs.Local.{IsLocalSecond}
-use Rattle.cal_zone.specs.headline.Local.{seconds_in_all}
+use Rattle.cal_civil.specs.Local.{IsLocalSecond}
+use Rattle.cal_civil.specs.headline.Local.{seconds_in_all}
 use Rattle.cal_spec.specs.headline.Match.{matches}
 use Rattle.cal_elapse.specs.Count.{count_from}
 use Rattle.cal_elapse.specs.Left.{IsRest}

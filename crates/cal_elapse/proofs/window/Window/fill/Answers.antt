@@ -1,8 +1,8 @@
 use Rattle.std.proofs.Common.{◌-◌, ◌<◌, ◌≤◌, ◌≤ℤ◌, pos, ℕ, ℤ, ◌+◌, unsigned_abs, ◌∙◌, FitsSigned, arith, ap, rules, w64}
 use Rattle.std.proofs.lemmas.Int.{ints, to_z-of_z}
-use Rattle.cal_zone.specs.headline.Local.{seconds_in_all}
+use Rattle.cal_civil.specs.headline.Local.{seconds_in_all}
 use Rattle.cal_elapse.specs.Window.{timed_by}
-use Rattle.cal_zone.proofs.LocalLemmas.{local_inside}
+use Rattle.cal_civil.proofs.LocalLemmas.{local_inside}
 use Rattle.cal_elapse.proofs.ReadyLemmas.{is_next, next_ready, placed_before, placed_to}
 use Rattle.cal_elapse.proofs.WindowLemmas.{near_ahead}
 use Rattle.cal_elapse.proofs.window.Window.fill.Goals as goal

@@ -2,10 +2,10 @@ use Rattle.std.proofs.Common.{◌≡◌, false, None, Option, Some, ℤ, ◌+◌
 use Rattle.std.proofs.lemmas.Int.{to_z-of_z}
 use Rattle.std.specs.Option.{is_some}
 use Rattle.jiff.proofs.SpanFacts.{signed_arith}
-use Rattle.cal_zone.specs.headline.Local.{seconds_in_all-is}
+use Rattle.cal_civil.specs.headline.Local.{seconds_in_all-is}
 use Rattle.cal_zone.specs.headline.Zone.{zone_of}
 use Rattle.cal_text.proofs.General.{pos_unsigned_abs}
-use Rattle.cal_zone.proofs.LocalLemmas.{local_inside}
+use Rattle.cal_civil.proofs.LocalLemmas.{local_inside}
 use Rattle.cal_elapse.proofs.RestLemmas.{IsRun, hour_end, placed_at, placed_last, rest_passed, run_of}
 use Rattle.cal_elapse.proofs.window.Window.pass_hour.Goals.{In-Some}
 use Rattle.cal_elapse.proofs.window.Window.pass_hour.Goals as goal

@@ -1,6 +1,6 @@
 use Rattle.std.proofs.Common.{arith}
 use Rattle.cal_zone.specs.headline.ZoneAhead.{zone_ahead}
-use Rattle.cal_zone.proofs.OffsetWordLemmas.{nearest}
+use Rattle.cal_zone.proofs.OffsetLemmas.{nearest}
 use Rattle.cal_zone.proofs.ZoneLemmas.{zone_of-ahead}
 use Rattle.cal_zone.proofs.zone.Zone.offset.Goals as goal
 use Rattle.jiff.proofs.SpanFacts.{signed_arith}

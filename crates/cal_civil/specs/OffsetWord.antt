@@ -2,8 +2,8 @@
 use Rattle.std.specs.Prelude.{ℕ, ℤ, ◌+◌, ◌*◌, ◌≤◌, ◌%◌, ◌≡◌, ◌||◌, ◌&&◌, ◌==◌, Bool, pos, neg_ℤ, unsigned_abs, nat_le, if◌then◌else◌, List, [], ◌∷◌, Option, None, Some, option_map}
 use Rattle.std.specs.Char.{is_ascii_digit}
 use Rattle.std.specs.Str.Parse.{digits_value}
-use Rattle.cal_zone.specs.headline.ZoneName.{begins_with_letter}
-use Rattle.cal_zone.specs.headline.OffsetWord.{begins_with_sign}
+use Rattle.cal_civil.specs.headline.ZoneName.{begins_with_letter}
+use Rattle.cal_civil.specs.headline.OffsetWord.{begins_with_sign}
 
 -- whether a word in a zone's position is read as a zone: it begins with a letter or a sign
 abbrev pub begins_zone : List ℕ → Bool

@@ -4,12 +4,10 @@
 //! counts the days from 1970-01-01, which is day 0.
 
 ghost use Rattle.std.specs.Prelude.{◌≡◌, ◌<◌, ◌/◌, ◌%◌, ◌≤ℤ◌, pos, unsigned_abs};
-ghost use Rattle.cal_zone.specs.Local.{IsLocalSecond};
-ghost use Rattle.cal_zone.specs.headline.Local.{civil_date};
+ghost use Rattle.cal_civil.specs.Local.{IsLocalSecond};
+ghost use Rattle.cal_civil.specs.headline.Local.{civil_date};
 
-use jiff::Timestamp;
-use jiff::civil::Date;
-use jiff::tz::Offset;
+use jiff_core::civil::Date;
 
 /// The number of seconds in a day.
 pub const DAY: i64 = 86_400;
@@ -39,8 +37,8 @@ pub fn date_of_day(day: u32) -> Date
     requires { day < 84_006 }
     ensures { result ≡ civil_date day }
 {
-    let Ok(timestamp) = Timestamp::from_second(i64::from(day) * DAY) else {
+    let Ok(date) = Date::from_unix_epoch_day(i64::from(day)) else {
         unreachable!()
     };
-    Offset::UTC.to_datetime(timestamp).date()
+    date
 }

@@ -1,8 +1,8 @@
 //! Fixed UTC offsets, such as `+02:00`, that can be written instead of a zone's name.
 
 ghost use Rattle.std.specs.Prelude.{◌≡◌, ◌≤◌, IfSome};
-ghost use Rattle.jiff.specs.Words.{IsOffsetSeconds};
-ghost use Rattle.cal_zone.specs.OffsetWord.{begins_zone, clock_in, offset_in, two_digits};
+ghost use Rattle.jiff_core.specs.Timestamp.{IsOffsetSeconds};
+ghost use Rattle.cal_civil.specs.OffsetWord.{begins_zone, clock_in, offset_in, two_digits};
 
 use crate::begins_with_letter;
 

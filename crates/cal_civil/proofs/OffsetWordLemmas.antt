@@ -1,5 +1,5 @@
--- Words for fixed UTC offsets, and zones with a fixed offset.
-use Rattle.std.proofs.Common.{◌≡◌, ◌⊎◌, inl, inr, ℕ, zero, suc, ℤ, pos, negsuc, neg_ℤ, int_lt, if◌then◌else◌, append-nil, append_assoc, length-append, ◌+◌, ◌*◌, ◌/◌, ◌%◌, ◌<◌, ◌≤◌, Bool, true, false, ◌&&◌, ◌||◌, ◌==◌, cond, min, List, [], ◌∷◌, ◌++◌, length, codes, decimal, unsigned_abs, Option, None, Some, option_map, refl, ap, arith, le-leb, leb-true}
+-- Words for fixed UTC offsets.
+use Rattle.std.proofs.Common.{◌≡◌, ◌⊎◌, inl, inr, ℕ, zero, suc, ℤ, pos, negsuc, neg_ℤ, int_lt, if◌then◌else◌, append-nil, append_assoc, length-append, ◌+◌, ◌*◌, ◌/◌, ◌%◌, ◌<◌, ◌≤◌, Bool, true, false, ◌&&◌, ◌||◌, ◌==◌, cond, List, [], ◌∷◌, ◌++◌, length, codes, decimal, unsigned_abs, Option, None, Some, option_map, refl, arith, le-leb, leb-true}
 use Rattle.std.specs.Char.{is_ascii_digit}
 use Rattle.std.specs.Fmt.{digits}
 use Rattle.std.specs.List.{list_all}
@@ -7,13 +7,11 @@ use Rattle.std.specs.Str.Parse.{digits_value}
 use Rattle.std.proofs.lemmas.Bool.{and_parts, eqb-true, le-ltb}
 use Rattle.std.proofs.lemmas.Bool.Decides.{nat_tests}
 use Rattle.std.proofs.lemmas.Option.{cond_some}
-use Rattle.jiff.proofs.SpanFacts.{signed_arith}
-use Rattle.jiff.specs.Words.{IsOffsetSeconds}
+use Rattle.jiff_core.proofs.SignedLemmas.{signed_arith}
 use Rattle.cal_bytes.specs.headline.Bytes.{joined}
-use Rattle.cal_zone.specs.headline.InstantText.{offset_text, zeros}
-use Rattle.cal_zone.specs.OffsetWord.{AreWholeMinutes, clock_seconds, clock_in, offset_in, two_digits}
-use Rattle.cal_zone.specs.headline.OffsetWord.{AreTwoDigits, IsClock, IsOffsetWord, begins_with_sign, is_sign}
-use Rattle.cal_zone.specs.headline.ZoneAhead.{offset_of_seconds}
+use Rattle.cal_civil.specs.headline.OffsetText.{offset_text, zeros}
+use Rattle.cal_civil.specs.OffsetWord.{AreWholeMinutes, clock_seconds, clock_in, offset_in, two_digits}
+use Rattle.cal_civil.specs.headline.OffsetWord.{AreTwoDigits, IsClock, IsOffsetWord, begins_with_sign, is_sign}
 use Rattle.cal_text.proofs.General.{list_all-both, all_below, below_all}
 
 -- Two digits
@@ -205,10 +203,3 @@ printed-word (negsuc n) h =
 
 pub offset-back : (seconds : ℤ) → AreWholeMinutes seconds → offset_in (offset_text seconds) ≡ Some seconds
 offset-back seconds h = offset-only (offset_text seconds) seconds (printed-word seconds h)
-
--- Zones with a fixed offset
-
-pub nearest : (seconds : ℤ) → IsOffsetSeconds seconds → (offset_of_seconds seconds).seconds ≡ seconds
-unfolding offset_of_seconds
-nearest (pos n) h = let least : min n 93_599 ≡ n = omega (arith, signed_arith, h.1) in ap pos least
-nearest (negsuc n) h = let least : min (suc n) 93_599 ≡ suc n = omega (arith, signed_arith, h.0) in ap (λ k. neg_ℤ (pos k)) least

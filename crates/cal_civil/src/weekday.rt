@@ -1,9 +1,9 @@
 //! The English names of the weekdays, for parsing and printing.
 
 ghost use Rattle.std.specs.Prelude.{◌≡◌, ◌≤◌, length};
-ghost use Rattle.cal_zone.specs.headline.Weekday.{name_of, short_name_of};
+ghost use Rattle.cal_civil.specs.headline.Weekday.{name_of, short_name_of};
 
-use jiff::civil::Weekday;
+use jiff_core::civil::Weekday;
 
 /// The weekdays in order, from Monday to Sunday.
 pub const WEEK: [Weekday; 7] = [

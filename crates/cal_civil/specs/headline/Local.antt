@@ -1,8 +1,8 @@
 -- Local seconds: the seconds of a civil clock, counted from 1970-01-01 00:00:00 on that clock.
 use Rattle.std.specs.Prelude.{◌≡◌, ℕ, ◌/◌, ◌%◌, ℤ, pos, unsigned_abs, refl}
 use Rattle.std.specs.Int.{int_div_euclid, int_rem_euclid}
-use Rattle.jiff.specs.Types.{Date}
-use Rattle.cal_zone.specs.headline.Days.{date_of}
+use Rattle.jiff_core.specs.declared.civil.date.Date.{Date}
+use Rattle.cal_civil.specs.headline.Days.{date_of}
 
 -- the number of local seconds in the years 1970 to 2199; its value is stated by the law below and isn't unfolded
 -- otherwise, so that no proof builds a list of this length

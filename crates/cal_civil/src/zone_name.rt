@@ -2,7 +2,7 @@
 
 ghost use Rattle.std.specs.Prelude.{◌≡◌};
 ghost use Rattle.std.specs.List.{list_all};
-ghost use Rattle.cal_zone.specs.headline.ZoneName.{begins_with_letter, is_utc_name, is_zone_byte, is_zone_name};
+ghost use Rattle.cal_civil.specs.headline.ZoneName.{begins_with_letter, is_zone_byte, is_zone_name};
 
 /// The maximum length of a zone's name, in bytes.
 const MOST_NAME_BYTES: usize = 255;
@@ -37,11 +37,4 @@ fn is_zone_byte(byte: u8) -> bool
     ensures { result ≡ is_zone_byte byte }
 {
     byte.is_ascii_alphanumeric() || b"/_+-".contains(&byte)
-}
-
-/// Returns whether `text` is `UTC`, in any case.
-pub(crate) fn is_utc_name(text: &str) -> bool
-    ensures { result ≡ is_utc_name text.now }
-{
-    text.eq_ignore_ascii_case("utc")
 }

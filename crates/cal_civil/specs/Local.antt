@@ -1,6 +1,6 @@
 -- The ranges of local seconds, and of the instants that they are converted to.
 use Rattle.std.specs.Prelude.{ℤ, pos, neg_ℤ}
-use Rattle.jiff.specs.Words.{IsBetween}
+use Rattle.jiff_core.specs.Calendar.{IsBetween}
 
 -- a local second of the years 1970 to 2199
 abbrev pub IsLocalSecond : ℤ → Type 0

@@ -1,0 +1,44 @@
+-- The date of a day number has that number, and is the only one that has it.
+use Rattle.std.specs.Prelude.{◌≡◌, ℕ, ℤ, pos, negsuc, ◌≤ℤ◌}
+use Rattle.std.proofs.Common.{ap, arith, sym, ◌∙◌}
+use Rattle.std.proofs.Props.{props}
+use Rattle.std.specs.Int.{IsInRange}
+use mathlib.Core.HLevel.{is_prop→PathP}
+use Rattle.jiff_core.specs.declared.civil.date.Date.{Date}
+use Rattle.jiff_core.specs.Calendar.{days_in_month, IsEpochDay, IsYear}
+use Rattle.jiff_core.specs.Date.{epoch_day}
+use Rattle.jiff_core.proofs.DateLemmas.{epoch_day_injective, epoch_day_range}
+use Rattle.jiff_core.proofs.SignedLemmas.{signed_arith}
+use Rattle.cal_civil.specs.headline.DayAfter.{place_among}
+use Rattle.cal_civil.specs.headline.Days.{date_of}
+use Rattle.cal_civil.specs.headline.Local.{civil_date}
+
+place_among-within : (z : ℤ) → pos 0 ≤ℤ z → z ≤ℤ pos 7_304_483 → pos (place_among z) ≡ z
+unfolding place_among
+place_among-within (pos n) low high = grind (arith, signed_arith)
+place_among-within (negsuc n) low high = absurd (omega (arith, signed_arith))
+
+pub epoch_day-date_of : (day : ℤ) → IsEpochDay day → epoch_day (date_of day) ≡ day
+unfolding date_of
+epoch_day-date_of day h = grind (arith, signed_arith, place_among-within)
+
+-- dates with the same day number are equal
+same_date : (a b : Date) → epoch_day a ≡ epoch_day b → a ≡ b
+same_date a b e =
+    let p = epoch_day_injective a b e in
+    λ i. record {
+      year = p.0 i;
+      month = p.1 i;
+      day = p.2 i;
+      year_in = is_prop→PathP (λ j. IsYear (p.0 j)) (λ j. hlevel props) a.year_in b.year_in i;
+      month_in = is_prop→PathP (λ j. IsInRange 1 12 (p.1 j)) (λ j. hlevel props) a.month_in b.month_in i;
+      day_in = is_prop→PathP (λ j. IsInRange 1 (days_in_month (p.0 j) (p.1 j)) (p.2 j)) (λ j. hlevel props) a.day_in b.day_in i;
+    }
+
+pub date_of-epoch_day : (d : Date) → date_of (epoch_day d) ≡ d
+date_of-epoch_day d = same_date (date_of (epoch_day d)) d (epoch_day-date_of (epoch_day d) (epoch_day_range d))
+
+-- the date with a day number that counts from 1970 is that of `civil_date`
+pub date_numbered : (d : Date) (day : ℕ) → epoch_day d ≡ pos day → d ≡ civil_date day
+unfolding civil_date
+date_numbered d day number = sym (date_of-epoch_day d) ∙ ap date_of number

@@ -1,0 +1,3 @@
+pub mod DayLemmas
+pub mod LocalLemmas
+pub mod OffsetWordLemmas

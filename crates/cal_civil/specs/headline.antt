@@ -1,0 +1,8 @@
+-- The definitions that the law `headline` of cal_report depends on.
+pub mod DayAfter
+pub mod Days
+pub mod Local
+pub mod OffsetText
+pub mod OffsetWord
+pub mod Weekday
+pub mod ZoneName

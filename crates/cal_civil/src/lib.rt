@@ -1,0 +1,14 @@
+//! Days, weekdays, and the words for zones: the part of civil time that needs no zone.
+#![tactic(auto)]
+
+mod days;
+mod offset_text;
+mod offset_word;
+mod weekday;
+mod zone_name;
+
+pub use days::{DAY, LOCAL_END, date_of_day, day_of, second_of_day};
+pub use offset_text::push_offset;
+pub use offset_word::{begins_zone, read_offset};
+pub use weekday::{WEEK, short_weekday_name, weekday_name};
+pub use zone_name::{begins_with_letter, is_zone_name};
