@@ -8,9 +8,9 @@ ghost use Rattle.cal_zone.specs.headline.Zone.{offset_of, zone_of};
 
 use crate::zone::{Ahead, ZoneKind};
 use crate::{Civil, Instant, Zone};
-use jiff::Timestamp;
-use jiff::civil::DateTime;
-use jiff::tz::Offset;
+use jiff::{Timestamp, tz};
+use jiff_core::Offset;
+use jiff_core::civil::DateTime;
 
 /// Returns the civil date and time that clocks in the zone show at `instant`.
 pub fn civil(zone: Zone, instant: Instant) -> Civil
@@ -20,7 +20,7 @@ pub fn civil(zone: Zone, instant: Instant) -> Civil
     let Ok(timestamp) = Timestamp::from_second(instant.secs()) else {
         unreachable!()
     };
-    civil_at(offset_in(zone, timestamp), instant)
+    civil_at(offset_in(zone, timestamp).to_plain(), instant)
 }
 
 /// Returns what a clock with the given UTC offset shows at `instant`.
@@ -32,25 +32,25 @@ pub(crate) fn civil_at(offset: Offset, instant: Instant) -> Civil
     let Ok(timestamp) = Timestamp::from_second(instant.secs()) else {
         unreachable!()
     };
-    fields(offset.to_datetime(timestamp), offset)
+    fields(offset.to_datetime(timestamp.to_plain()), offset)
 }
 
 /// Returns the UTC offset of the zone at `timestamp`.
-pub(crate) fn offset_in(zone: Zone, timestamp: Timestamp) -> Offset
+pub(crate) fn offset_in(zone: Zone, timestamp: Timestamp) -> tz::Offset
     ensures { result.seconds ≡ offset_at (zone_of zone.entry) timestamp.nanosecond }
 {
     match zone.kind {
-        ZoneKind::Utc => Offset::UTC,
+        ZoneKind::Utc => tz::Offset::UTC,
         ZoneKind::Offset(ahead) => fixed_offset(ahead),
         ZoneKind::Rules(rules) => rules.offset(timestamp),
     }
 }
 
 /// Converts a fixed offset to the `Offset` type of `jiff`.
-pub(crate) fn fixed_offset(ahead: Ahead) -> Offset
+pub(crate) fn fixed_offset(ahead: Ahead) -> tz::Offset
     ensures { result ≡ offset_of ahead }
 {
-    let Ok(offset) = Offset::from_seconds(ahead.seconds) else {
+    let Ok(offset) = tz::Offset::from_seconds(ahead.seconds) else {
         unreachable!()
     };
     offset
@@ -60,13 +60,13 @@ fn fields(shown: DateTime, offset: Offset) -> Civil
     ensures { result ≡ shown_at offset.seconds shown }
 {
     Civil {
-        year: shown.year(),
-        month: shown.month() as u8,
-        day: shown.day() as u8,
-        weekday: shown.weekday().to_monday_one_offset() as u8,
-        hour: shown.hour() as u8,
-        minute: shown.minute() as u8,
-        second: shown.second() as u8,
-        offset: offset.seconds(),
+        year: shown.date.year,
+        month: shown.date.month,
+        day: shown.date.day,
+        weekday: shown.date.weekday().index() + 1,
+        hour: shown.time.hour,
+        minute: shown.time.minute,
+        second: shown.time.second,
+        offset: offset.seconds,
     }
 }

@@ -13,7 +13,7 @@ use crate::period::{Period, period_of};
 use crate::shown_day::ShownDay;
 use crate::{Civil, Instant, Zone};
 use cal_bytes::ShortText;
-use jiff::tz::Offset;
+use jiff_core::Offset;
 use std::marker::Model;
 
 /// A converter from instants to civil time and text in one zone, fast for instants close together.

@@ -15,7 +15,7 @@ use crate::stretch::year_after;
 use crate::zone::ZoneKind;
 use crate::{Instant, Rules, Zone};
 use jiff::Timestamp;
-use jiff::tz::Offset;
+use jiff_core::Offset;
 use jiff_tz::Transition;
 
 /// The instants `from..to`, all at the same UTC offset.
@@ -32,7 +32,7 @@ pub(crate) fn period_of(zone: Zone, instant: Instant) -> Period
 {
     match zone.kind {
         ZoneKind::Utc => whole(Offset::UTC),
-        ZoneKind::Offset(ahead) => whole(fixed_offset(ahead)),
+        ZoneKind::Offset(ahead) => whole(fixed_offset(ahead).to_plain()),
         ZoneKind::Rules(rules) => period_by(rules, instant),
     }
 }
@@ -64,7 +64,7 @@ fn period_by(rules: &Rules, instant: Instant) -> Period
     Period {
         from: second,
         to: unchanged_until(next, second).max(second + 1),
-        offset: zone.to_offset(timestamp),
+        offset: zone.to_offset(timestamp).to_plain(),
     }
 }
 
@@ -81,7 +81,7 @@ pub(crate) fn even_until(rules: &Rules, from: Instant) -> Instant
     };
     let after = period_by(rules, turn);
     match Instant::new(after.to) {
-        Some(end) if after.offset.seconds() == before.offset.seconds() => end,
+        Some(end) if after.offset.seconds == before.offset.seconds => end,
         _ => turn,
     }
 }

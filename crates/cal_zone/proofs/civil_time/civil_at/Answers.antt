@@ -11,7 +11,7 @@ use Rattle.cal_zone.proofs.civil_time.civil_at.Goals as goal
 shown : (c : goal.After-fields) (tz : TimeZone) → offset_at tz (nanos_of_seconds c.args.instant.secs) ≡ c.args.offset.seconds
     → civil_nanos c.to_datetime.result ≡ nanos_of_seconds (local_of tz c.args.instant.secs)
 unfolding local_of
-shown c tz here = omega (arith, signed_arith, c.to_datetime.ensures, c.in-Ok.ensures.value)
+shown c tz here = omega (arith, signed_arith, c.to_datetime.ensures, ap (λ t. t.nanosecond) c.to_plain.ensures, c.in-Ok.ensures.value)
 
 -- a zone with this fixed offset has it at the instant
 fixed : (c : goal.After-fields) → offset_at (Fixed c.args.offset) (nanos_of_seconds c.args.instant.secs) ≡ c.args.offset.seconds

@@ -11,7 +11,7 @@ returns-in-Some-new c =
     let turn : c.in-Some.turn.secs ≡ c.period_by-before.result.to = c.in-Some.ensures.value ∙ to_z-of_z w64 c.period_by-before.result.to before_fits in
     let end : c.in-Some-new.end.secs ≡ c.period_by-after.result.to = c.in-Some-new.ensures.value ∙ to_z-of_z w64 c.period_by-after.result.to after_fits in
     let same : c.period_by-after.result.offset.seconds ≡ c.period_by-before.result.offset.seconds
-    = omega (arith, signed_arith, ap (to_z w32) c.if-seconds.true, c.seconds.ensures, c.seconds-in-Some-new-2.ensures) in
+    = omega (arith, signed_arith, ap (to_z w32) c.if-after-before.true) in
     even_over c.args.rules.now c.args.from.secs c.in-Some.turn.secs c.in-Some-new.end.secs c.period_by-before.result c.period_by-after.result
     c.period_by-before.ensures turn c.period_by-after.ensures (omega (arith, signed_arith)) same
 

@@ -19,7 +19,7 @@ returns c =
     let same : to_z w64 (of_z w64 c.secs-second.result) ≡ instant = omega (arith, signed_arith, c.secs-second.ensures.value) in
     let after : to_z w64 (of_z w64 (to_z w64 (of_z w64 c.secs-second.result) +ℤ pos 1)) ≡ (instant +ℤ pos 1) = omega (arith, signed_arith) in
     let now : c.in-Ok.timestamp.nanosecond ≡ nanos_of_seconds instant = omega (arith, signed_arith, c.in-Ok.ensures.value, c.secs-second.ensures.value) in
-    let ahead : c.to_offset.result.seconds ≡ offset_at tz (nanos_of_seconds instant) = c.to_offset.ensures ∙ c.time_zone-zone.ensures.at _ ∙ ap (offset_at tz) now in
+    let ahead : c.to_plain-3.result.seconds ≡ offset_at tz (nanos_of_seconds instant) = ap (λ o. o.seconds) c.to_plain-3.ensures ∙ c.to_offset.ensures ∙ c.time_zone-zone.ensures.at _ ∙ ap (offset_at tz) now in
     let next = c.next_transition-next.ensures ∙ ap (λ zone. next_at zone c.to_plain-2.result.nanosecond) c.to_plain.ensures ∙ c.time_zone-zone.ensures.next _ ∙ ap (next_at tz) (ap (λ t. t.nanosecond) c.to_plain-2.ensures ∙ now) in
     record {
       begun = omega (arith, signed_arith);

@@ -18,7 +18,7 @@ returns-in-Offset c =
       within = omega (arith, signed_arith);
       even = λ second from before.
           ap (λ tz. offset_at tz (nanos_of_seconds second)) (zone_of-offset c.args.zone c.in-Offset.ahead c.in-Offset.is) ∙ offset_at-fixed_zone (offset_of c.in-Offset.ahead) (nanos_of_seconds second)
-          ∙ sym (ap (λ offset. offset.seconds) (of.offset ∙ c.fixed_offset.ensures));
+          ∙ sym (ap (λ offset. offset.seconds) (of.offset ∙ c.to_plain.ensures ∙ c.fixed_offset.ensures));
     }
 
 pub returns-in-Rules : goal.returns-in-Rules
