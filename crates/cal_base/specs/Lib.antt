@@ -4,7 +4,7 @@ pub use Rattle.cal_bytes.specs.Puts
 pub use Rattle.cal_bytes.specs.SplitPieces
 pub use Rattle.cal_civil.specs.Local
 pub use Rattle.cal_civil.specs.OffsetWord
-pub use Rattle.cal_span.specs.Scale
+pub use Rattle.cal_span.specs.UnitSpellings
 pub use Rattle.cal_span.specs.Span
 pub use Rattle.cal_span.specs.SpanFault
 pub use Rattle.cal_span.specs.SpanRule
@@ -19,11 +19,11 @@ pub use Rattle.cal_zone.specs.Civil
 pub use Rattle.cal_zone.specs.Instant
 pub use Rattle.cal_zone.specs.InstantText
 pub use Rattle.cal_zone.specs.LocalAt
-pub use Rattle.cal_zone.specs.Period
+pub use Rattle.cal_zone.specs.InstantOffsetRange
 pub use Rattle.cal_zone.specs.Place
 pub use Rattle.cal_zone.specs.Rules
-pub use Rattle.cal_zone.specs.ShownDay
-pub use Rattle.cal_zone.specs.Steady
+pub use Rattle.cal_zone.specs.FormattedDay
+pub use Rattle.cal_zone.specs.LocalOffsetRange
 pub use Rattle.cal_zone.specs.ZoneFault
 pub use Rattle.cal_zone.specs.ZoneFile
 pub use Rattle.cal_zone.specs.ZoneMap

@@ -9,4 +9,4 @@ mod short_text;
 pub use bytes::{Sink, Source};
 pub use names::is_among;
 pub use put::{WriteFault, put_all, put_pieces};
-pub use short_text::{Fill, ROOM, ShortText, padding, push, push_all};
+pub use short_text::{Fill, SHORT_TEXT_ROOM, ShortText, padding, push, push_all};

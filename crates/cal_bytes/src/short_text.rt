@@ -3,7 +3,7 @@
 ghost use Rattle.std.specs.Prelude.{◌≡◌, ◌+◌, ◌-◌, ◌≤◌, ◌++◌, length, replicate};
 ghost use Rattle.std.specs.List.{flat_map};
 ghost use Rattle.cal_bytes.specs.Fill.{byte_of};
-ghost use Rattle.cal_bytes.specs.declared.short_text.TheConstants.{ROOM};
+ghost use Rattle.cal_bytes.specs.declared.short_text.TheConstants.{SHORT_TEXT_ROOM};
 
 use arrayvec::ArrayVec;
 
@@ -17,14 +17,14 @@ pub enum Fill {
 }
 
 /// The maximum length of a short text, in bytes.
-pub const ROOM: usize = 512;
+pub const SHORT_TEXT_ROOM: usize = 512;
 
-/// A text of at most [`ROOM`] bytes, on the stack.
+/// A text of at most [`SHORT_TEXT_ROOM`] bytes, on the stack.
 pub type ShortText = ArrayVec<u8, 512>;
 
 /// Appends the pieces in order. The caller guarantees that they fit.
 pub fn push_all(text: &mut ShortText, pieces: &[&[u8]])
-    requires { length text.old.items + length (flat_map (λ piece. piece.now) pieces.now) ≤ ROOM }
+    requires { length text.old.items + length (flat_map (λ piece. piece.now) pieces.now) ≤ SHORT_TEXT_ROOM }
     ensures { text.new.items ≡ text.old.items ++ flat_map (λ piece. piece.now) pieces.now }
 {
     for piece in pieces {
@@ -34,7 +34,7 @@ pub fn push_all(text: &mut ShortText, pieces: &[&[u8]])
 
 /// Appends a piece. The caller guarantees that it fits.
 pub fn push(text: &mut ShortText, piece: &[u8])
-    requires { length text.old.items + length piece.now ≤ ROOM }
+    requires { length text.old.items + length piece.now ≤ SHORT_TEXT_ROOM }
     ensures { text.new.items ≡ text.old.items ++ piece.now }
 {
     if text.try_extend_from_slice(piece).is_err() {

@@ -10,8 +10,8 @@ use Rattle.std.proofs.lemmas.Option.{cond_some}
 use Rattle.jiff_core.proofs.SignedLemmas.{signed_arith}
 use Rattle.cal_bytes.specs.headline.Bytes.{joined}
 use Rattle.cal_civil.specs.headline.OffsetText.{offset_text, zeros}
-use Rattle.cal_civil.specs.OffsetWord.{AreWholeMinutes, clock_seconds, clock_in, offset_in, two_digits}
-use Rattle.cal_civil.specs.headline.OffsetWord.{AreTwoDigits, IsClock, IsOffsetWord, begins_with_sign, is_sign}
+use Rattle.cal_civil.specs.OffsetWord.{AreWholeMinutes, hour_minute_seconds, hour_minute_in, offset_in, two_digits}
+use Rattle.cal_civil.specs.headline.OffsetWord.{AreTwoDigits, IsHourMinute, IsOffsetWord, begins_with_sign, is_sign}
 use Rattle.cal_text.proofs.General.{list_all-both, all_below, below_all}
 
 -- Two digits
@@ -35,7 +35,7 @@ two-only greatest n (a ∷ b ∷ c ∷ text) h most = absurd (omega (arith, h.tw
 
 -- Hours and minutes
 
-clock-parts : (hours minutes : Option ℕ) (n : ℕ) → clock_seconds hours minutes ≡ Some n
+clock-parts : (hours minutes : Option ℕ) (n : ℕ) → hour_minute_seconds hours minutes ≡ Some n
     → (h : ℕ) × (m : ℕ) × (hours ≡ Some h) × (minutes ≡ Some m) × (n ≡ h * 3_600 + m * 60)
 clock-parts None minutes n is = absurd (cc)
 clock-parts (Some h) None n is = absurd (cc)
@@ -45,8 +45,8 @@ guard-clock : (t : Bool) (o : Option ℕ) (n : ℕ) → cond t o None ≡ Some n
 guard-clock true o n h = (refl, h)
 guard-clock false o n h = absurd (cc)
 
-clock-found : (text : List ℕ) (n : ℕ) → clock_in text ≡ Some n → IsClock text n
-unfolding clock_in
+clock-found : (text : List ℕ) (n : ℕ) → hour_minute_in text ≡ Some n → IsHourMinute text n
+unfolding hour_minute_in
 clock-found [] n is = absurd (cc)
 clock-found (a ∷ []) n is = absurd (cc)
 clock-found (a ∷ b ∷ []) n is = absurd (cc)
@@ -72,8 +72,8 @@ clock-found (a ∷ b ∷ c ∷ d ∷ e ∷ []) n is =
     }
 clock-found (a ∷ b ∷ c ∷ d ∷ e ∷ f ∷ text) n is = absurd (cc)
 
-clock-only : (text : List ℕ) (n : ℕ) → IsClock text n → clock_in text ≡ Some n
-unfolding clock_in
+clock-only : (text : List ℕ) (n : ℕ) → IsHourMinute text n → hour_minute_in text ≡ Some n
+unfolding hour_minute_in
 clock-only text n h =
     let hour = two-only 25 h.hours h.hour h.hour_is h.hours_in in
     let minute = two-only 59 h.minutes h.minute h.minute_is h.minutes_in in
@@ -86,14 +86,14 @@ mapped-some f None x h = absurd (cc)
 mapped-some f (Some n) x h = (n, refl, cc)
 
 offset-by : (sign : ℕ) (clock : List ℕ) (seconds : ℤ) (t u : Bool) → (sign == 43) ≡ t → (sign == 45) ≡ u
-    → cond t (option_map pos (clock_in clock)) (cond u (option_map (λ n. neg_ℤ (pos n)) (clock_in clock)) None) ≡ Some seconds
+    → cond t (option_map pos (hour_minute_in clock)) (cond u (option_map (λ n. neg_ℤ (pos n)) (hour_minute_in clock)) None) ≡ Some seconds
     → IsOffsetWord (sign ∷ clock) seconds
 offset-by sign clock seconds true u plus minus is =
-    let found = mapped-some pos (clock_in clock) seconds is in
+    let found = mapped-some pos (hour_minute_in clock) seconds is in
     let at : sign ≡ 43 = grind (arith, nat_tests, plus) in
     record { clock = clock; distance = found.0; clock_is = clock-found clock found.0 found.1; signed = inl (rw at refl, found.2) }
 offset-by sign clock seconds false true plus minus is =
-    let found = mapped-some (λ n. neg_ℤ (pos n)) (clock_in clock) seconds is in
+    let found = mapped-some (λ n. neg_ℤ (pos n)) (hour_minute_in clock) seconds is in
     let at : sign ≡ 45 = grind (arith, nat_tests, minus) in
     record { clock = clock; distance = found.0; clock_is = clock-found clock found.0 found.1; signed = inr (rw at refl, found.2) }
 offset-by sign clock seconds false false plus minus is = absurd (cc)
@@ -103,7 +103,7 @@ unfolding offset_in
 offset-found [] seconds is = absurd (cc)
 offset-found (sign ∷ clock) seconds is = offset-by sign clock seconds (sign == 43) (sign == 45) refl refl is
 
-signed-only : (word clock : List ℕ) (distance : ℕ) (seconds : ℤ) → clock_in clock ≡ Some distance
+signed-only : (word clock : List ℕ) (distance : ℕ) (seconds : ℤ) → hour_minute_in clock ≡ Some distance
     → ((word ≡ codes "+" ++ clock) × (seconds ≡ pos distance)) ⊎ ((word ≡ codes "-" ++ clock) × (seconds ≡ neg_ℤ (pos distance)))
     → offset_in word ≡ Some seconds
 unfolding offset_in
@@ -122,7 +122,7 @@ digit_bytes : (bs : List ℕ) → list_all is_ascii_digit bs ≡ true → list_a
 digit_bytes [] h = refl
 digit_bytes (b ∷ bs) h = let parts = and_parts (is_ascii_digit b) (list_all is_ascii_digit bs) h in rw (parts.0, digit_bytes bs parts.1) refl
 
-clock-bytes : (text : List ℕ) (n : ℕ) → IsClock text n → (list_all is_offset_byte text ≡ true) × (length text ≡ 5)
+clock-bytes : (text : List ℕ) (n : ℕ) → IsHourMinute text n → (list_all is_offset_byte text ≡ true) × (length text ≡ 5)
 clock-bytes text n h = grind (arith, signed_arith, digit_bytes, length-append, list_all-both)
 
 bytes-by : (word clock : List ℕ) (distance : ℕ) (seconds : ℤ) → (list_all is_offset_byte clock ≡ true) × (length clock ≡ 5)
@@ -174,7 +174,7 @@ two_printed n small =
     let value : (digits_value 10 (two n) == n) ≡ true = more.1 in
     record { two = eqb-true _ _ long; digits = more.0; value = eqb-true _ _ value }
 
-printed-clock : (n : ℕ) → n ≤ 93_540 → n % 60 ≡ 0 → IsClock (two (n / 3_600) ++ (codes ":" ++ two (n / 60 % 60))) n
+printed-clock : (n : ℕ) → n ≤ 93_540 → n % 60 ≡ 0 → IsHourMinute (two (n / 3_600) ++ (codes ":" ++ two (n / 60 % 60))) n
 printed-clock n near whole = grind (arith, signed_arith, two_printed)
 
 pieces-joined : (sign a b c d : List ℕ) → joined (sign ∷ a ∷ b ∷ codes ":" ∷ c ∷ d ∷ []) ≡ sign ++ ((a ++ b) ++ (codes ":" ++ (c ++ d)))

@@ -16,21 +16,21 @@ two_digits greatest tens ones =
     if is_ascii_digit tens && is_ascii_digit ones && nat_le number greatest then Some number else None
 
 -- hours and minutes in seconds
-abbrev pub clock_seconds : Option ℕ → Option ℕ → Option ℕ
-clock_seconds (Some hours) (Some minutes) = Some (hours * 3_600 + minutes * 60)
-clock_seconds hours minutes = None
+abbrev pub hour_minute_seconds : Option ℕ → Option ℕ → Option ℕ
+hour_minute_seconds (Some hours) (Some minutes) = Some (hours * 3_600 + minutes * 60)
+hour_minute_seconds hours minutes = None
 
 -- `hh:mm` in seconds
-unfoldable pub clock_in : List ℕ → Option ℕ
-clock_in (a ∷ b ∷ c ∷ d ∷ e ∷ []) = if c == 58 then clock_seconds (two_digits 25 a b) (two_digits 59 d e) else None
-clock_in text = None
+unfoldable pub hour_minute_in : List ℕ → Option ℕ
+hour_minute_in (a ∷ b ∷ c ∷ d ∷ e ∷ []) = if c == 58 then hour_minute_seconds (two_digits 25 a b) (two_digits 59 d e) else None
+hour_minute_in text = None
 
 -- the UTC offset in seconds that a word stands for
 unfoldable pub offset_in : List ℕ → Option ℤ
 offset_in [] = None
 offset_in (sign ∷ clock) =
-    if sign == 43 then option_map pos (clock_in clock)
-    else (if sign == 45 then option_map (λ seconds. neg_ℤ (pos seconds)) (clock_in clock) else None)
+    if sign == 43 then option_map pos (hour_minute_in clock)
+    else (if sign == 45 then option_map (λ seconds. neg_ℤ (pos seconds)) (hour_minute_in clock) else None)
 
 -- The values of such words
 

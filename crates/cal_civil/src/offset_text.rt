@@ -1,7 +1,7 @@
 //! The text of UTC offsets.
 
 ghost use Rattle.std.specs.Prelude.{◌≡◌, ◌+◌, ◌≤◌, ◌++◌, length};
-ghost use Rattle.cal_bytes.specs.declared.short_text.TheConstants.{ROOM};
+ghost use Rattle.cal_bytes.specs.declared.short_text.TheConstants.{SHORT_TEXT_ROOM};
 ghost use Rattle.cal_civil.specs.headline.OffsetText.{offset_text, sign_text};
 
 use cal_bytes::{Fill, ShortText, padding, push_all};
@@ -10,7 +10,7 @@ use itoa::Buffer;
 /// Appends a UTC offset in seconds as `+02:00`, or as `+00:53:28` if it isn't a whole number of minutes.
 #[tactic(auto, unfolding(crate::specs::headline::OffsetText::offset_text))]
 pub fn push_offset(text: &mut ShortText, offset: i32)
-    requires room { length text.old.items + 40 ≤ ROOM }
+    requires room { length text.old.items + 40 ≤ SHORT_TEXT_ROOM }
     ensures text { text.new.items ≡ text.old.items ++ offset_text offset }
     ensures short { length text.new.items ≤ length text.old.items + 40 }
 {

@@ -2,7 +2,7 @@
 
 ghost use Rattle.std.specs.Prelude.{◌≡◌, ◌≤◌, IfSome};
 ghost use Rattle.jiff_core.specs.Timestamp.{IsOffsetSeconds};
-ghost use Rattle.cal_civil.specs.OffsetWord.{begins_zone, clock_in, offset_in, two_digits};
+ghost use Rattle.cal_civil.specs.OffsetWord.{begins_zone, hour_minute_in, offset_in, two_digits};
 
 use crate::begins_with_letter;
 
@@ -23,16 +23,16 @@ pub fn read_offset(word: &[u8]) -> Option<i32>
     ensures range { IfSome result IsOffsetSeconds }
 {
     match word {
-        [b'+', clock @ ..] => Some(read_clock(clock)? as i32),
-        [b'-', clock @ ..] => Some(-(read_clock(clock)? as i32)),
+        [b'+', clock @ ..] => Some(read_hour_minute(clock)? as i32),
+        [b'-', clock @ ..] => Some(-(read_hour_minute(clock)? as i32)),
         _ => None,
     }
 }
 
 /// Parses `hh:mm`, up to 25:59, as a number of seconds.
-#[tactic(auto, unfolding(crate::specs::OffsetWord::clock_in))]
-fn read_clock(text: &[u8]) -> Option<u32>
-    ensures value { result ≡ clock_in text.now }
+#[tactic(auto, unfolding(crate::specs::OffsetWord::hour_minute_in))]
+fn read_hour_minute(text: &[u8]) -> Option<u32>
+    ensures value { result ≡ hour_minute_in text.now }
     ensures range { IfSome result (λ seconds. seconds ≤ 93_540) }
 {
     match text {

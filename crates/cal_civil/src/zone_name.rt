@@ -5,7 +5,7 @@ ghost use Rattle.std.specs.List.{list_all};
 ghost use Rattle.cal_civil.specs.headline.ZoneName.{begins_with_letter, is_zone_byte, is_zone_name};
 
 /// The maximum length of a zone's name, in bytes.
-const MOST_NAME_BYTES: usize = 255;
+const MAX_NAME_BYTES: usize = 255;
 
 /// Returns whether `text` has the form of a zone's name (systemd.time(7), Calendar Events): a letter followed by
 /// letters, digits, `/`, `_`, `+` and `-`, at most 255 bytes in all. This says nothing about whether there is such a
@@ -14,7 +14,7 @@ const MOST_NAME_BYTES: usize = 255;
 pub fn is_zone_name(text: &[u8]) -> bool
     ensures { result ≡ is_zone_name text.now }
 {
-    begins_with_letter(text) && are_zone_bytes(text) && text.len() <= MOST_NAME_BYTES
+    begins_with_letter(text) && are_zone_bytes(text) && text.len() <= MAX_NAME_BYTES
 }
 
 /// Returns whether `text` begins with an ASCII letter.

@@ -5,11 +5,11 @@ use Rattle.cal_command.specs.declared.command_fault.CommandFault.{CommandFault}
 use Rattle.cal_command.specs.declared.command_fault.CommandFault.TheVariants.{Usage, Help, BadIterations, BadNow, BadZones, BadLocal, NoMemory}
 
 -- the message of an error: for usage and help the text of `clap`, and empty if memory ran out
-abbrev pub words_of : CommandFault → List ℕ
-words_of (Usage text) = string_bytes text
-words_of (Help text) = string_bytes text
-words_of BadIterations = codes "bad iterations"
-words_of BadNow = codes "bad now"
-words_of BadZones = codes "bad zones"
-words_of BadLocal = codes "bad local zone"
-words_of NoMemory = []
+abbrev pub message_of : CommandFault → List ℕ
+message_of (Usage text) = string_bytes text
+message_of (Help text) = string_bytes text
+message_of BadIterations = codes "bad iterations"
+message_of BadNow = codes "bad now"
+message_of BadZones = codes "bad zones"
+message_of BadLocal = codes "bad local zone"
+message_of NoMemory = []

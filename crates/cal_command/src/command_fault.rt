@@ -37,12 +37,12 @@ pub enum CommandFault {
 }
 
 impl CommandFault {
-    ghost use Rattle.cal_command.specs.CommandFault.{words_of};
+    ghost use Rattle.cal_command.specs.CommandFault.{message_of};
 
     /// Returns the message for users: for usage and help the text of `clap`, up to and including its last line feed.
     /// The message of [`CommandFault::NoMemory`] is empty.
     pub fn words(&self) -> &str
-        ensures { result.now ≡ words_of self.now }
+        ensures { result.now ≡ message_of self.now }
     {
         match self {
             CommandFault::Usage(text) | CommandFault::Help(text) => text.as_str(),

@@ -10,8 +10,8 @@ use Rattle.cal_elapse.specs.Masks.{day_place}
 use Rattle.cal_elapse.proofs.BitLemmas.{is_bit-none}
 use Rattle.cal_spec.specs.headline.Members.{component_has, in_field, part_has, values}
 use Rattle.cal_spec.specs.headline.Slot.{least, greatest, day_slot}
-use Rattle.cal_spec.specs.Sound.{AreSound}
-use Rattle.cal_spec.specs.headline.Sound.{EndsAfter, IsSound, IsEndWithin, IsStep, IsWithin}
+use Rattle.cal_spec.specs.ValidComponents.{IsValidComponent}
+use Rattle.cal_spec.specs.headline.ValidParts.{EndsAfter, IsValidPart, IsEndWithin, IsStep, IsWithin}
 use Rattle.cal_spec.specs.declared.part.Part.{Part}
 use Rattle.cal_spec.specs.declared.slot.Slot.{Slot}
 use Rattle.cal_spec.specs.declared.slot.Slot.TheVariants.{DayFromEnd}
@@ -25,11 +25,11 @@ values_both : (slot : Slot) (a : ℕ) (end step : Option ℕ) (v : ℕ) → IsWi
     → values slot a end step v ≡ true → (least slot ≤ v) × (v ≤ greatest slot)
 values_both slot a end step v w e h = grind (arith, eqb-true)
 
-part_both : (slot : Slot) (p : Part) (v : ℕ) → IsSound slot p → part_has slot p v ≡ true → (least slot ≤ v) × (v ≤ greatest slot)
+part_both : (slot : Slot) (p : Part) (v : ℕ) → IsValidPart slot p → part_has slot p v ≡ true → (least slot ≤ v) × (v ≤ greatest slot)
 unfolding part_has
 part_both slot p v sound h = values_both slot p.start p.end p.step v sound.start_in sound.end_in h
 
-parts_both : (slot : Slot) (ps : List Part) (v : ℕ) → AllByRecursion (IsSound slot) ps → list_any (λ p. part_has slot p v) ps ≡ true
+parts_both : (slot : Slot) (ps : List Part) (v : ℕ) → AllByRecursion (IsValidPart slot) ps → list_any (λ p. part_has slot p v) ps ≡ true
     → (least slot ≤ v) × (v ≤ greatest slot)
 parts_both slot [] v sound h = absurd (cc)
 parts_both slot (p ∷ ps) v sound h =
@@ -39,11 +39,11 @@ parts_both slot (p ∷ ps) v sound h =
     ]
 
 -- the values of a valid component are values of its field
-pub component_both : (slot : Slot) (c : Option (List Part)) (v : ℕ) → AreSound slot c → component_has slot c v ≡ true
+pub component_both : (slot : Slot) (c : Option (List Part)) (v : ℕ) → IsValidComponent slot c → component_has slot c v ≡ true
     → (least slot ≤ v) × (v ≤ last_of slot)
 component_both slot c v sound h = grind (arith, parts_both)
 
-pub day_both : (from_end : Bool) (c : Option (List Part)) (v : ℕ) → AreSound (day_slot from_end) c → component_has (day_slot from_end) c v ≡ true
+pub day_both : (from_end : Bool) (c : Option (List Part)) (v : ℕ) → IsValidComponent (day_slot from_end) c → component_has (day_slot from_end) c v ≡ true
     → (1 ≤ v) × (v < 1 + 31)
 day_both from_end c v sound h = grind (arith, component_both)
 
@@ -110,7 +110,7 @@ years_end words holds filled i high = let out = le-ltb i 230 high in filled i �
 values_at : (slot : Slot) (a : ℕ) (end step : Option ℕ) → IsWithin slot a → EndsAfter a end → IsStep step → values slot a end step a ≡ true
 values_at slot a end step w e s = grind (arith, nat_tests)
 
-start_has : (slot : Slot) (p : Part) → IsSound slot p → part_has slot p p.start ≡ true
+start_has : (slot : Slot) (p : Part) → IsValidPart slot p → part_has slot p p.start ≡ true
 unfolding part_has
 start_has slot p sound = values_at slot p.start p.end p.step sound.start_in sound.forward sound.some_step
 
@@ -118,7 +118,7 @@ whole : (slot : Slot) → in_field slot (least slot) ≡ true
 whole slot = grind (arith, nat_tests)
 
 -- each valid component has a value
-pub component_some : (slot : Slot) (c : Option (List Part)) → AreSound slot c → (v : ℕ) × (component_has slot c v ≡ true)
+pub component_some : (slot : Slot) (c : Option (List Part)) → IsValidComponent slot c → (v : ℕ) × (component_has slot c v ≡ true)
 component_some slot None sound = (least slot, whole slot)
 component_some slot (Some []) sound = absurd (omega (arith, sound.0))
 component_some slot (Some (p ∷ ps)) sound = (p.start, (let begins = start_has slot p sound.1.0 in rw begins))

@@ -8,7 +8,7 @@ use Rattle.cal_elapse.specs.Masks.{IsWindow, last_number, slot_of}
 use Rattle.cal_spec.specs.Expr.{component}
 use Rattle.cal_spec.specs.headline.Fields.{Fields}
 use Rattle.cal_spec.specs.Members.{members_of}
-use Rattle.cal_spec.specs.headline.Members.{component_has, lies, part_has, sets_of, values}
+use Rattle.cal_spec.specs.headline.Members.{component_has, is_between, part_has, sets_of, values}
 use Rattle.cal_spec.specs.Parts.{is_from_end}
 use Rattle.cal_spec.specs.headline.Slot.{greatest}
 use Rattle.cal_spec.specs.declared.field.Field.{Field}
@@ -22,8 +22,8 @@ unfolding sets_of
 members_by f e v = grind arith
 
 -- the values of a range that are in a window
-pub lies_in_window : (a b first count i : ℕ) → (nat_le (a - first) i && nat_lt i (min (b + 1 - first) count)) ≡ (nat_lt i count && lies a b (first + i))
-lies_in_window a b first count i = grind (arith, nat_tests)
+pub between_in_window : (a b first count i : ℕ) → (nat_le (a - first) i && nat_lt i (min (b + 1 - first) count)) ≡ (nat_lt i count && is_between a b (first + i))
+between_in_window a b first count i = grind (arith, nat_tests)
 
 -- whether a part has no repetition, or its repetition contains the value at this distance from its start
 abbrev pub is_stepped : Option ℕ → ℕ → Bool
@@ -32,7 +32,7 @@ is_stepped (Some r) distance = distance % r == 0
 
 -- the values of a part that doesn't count from the end of the month
 values_up : (slot : Slot) (a : ℕ) (end step : Option ℕ) (v : ℕ) → is_from_end slot ≡ false → v ≤ greatest slot
-    → values slot a end step v ≡ (lies a (last_number a end step) v && is_stepped step (v - a))
+    → values slot a end step v ≡ (is_between a (last_number a end step) v && is_stepped step (v - a))
 values_up slot a end step v up small = grind (arith, and_true)
 
 -- their indices in a window
@@ -50,8 +50,8 @@ part_in_window slot p step first count low high i w same_step same_low same_high
       | inl inside ↦
           (let upto = w.upto in
           let numbers = values_up slot p.start p.end p.step (first + i) w.upwards (omega arith) in
-          ap (λ (b : Bool). b && moved) (lies_in_window p.start last first count i)
-          ∙ (and_regrouped (nat_lt i count) (lies p.start last (first + i)) moved ∙ ap (λ (b : Bool). nat_lt i count && b) (sym numbers)))
+          ap (λ (b : Bool). b && moved) (between_in_window p.start last first count i)
+          ∙ (and_regrouped (nat_lt i count) (is_between p.start last (first + i)) moved ∙ ap (λ (b : Bool). nat_lt i count && b) (sym numbers)))
       | inr past ↦
           (let out : nat_lt i count ≡ false = grind (arith, nat_tests) in
           let none : (nat_le (p.start - first) i && nat_lt i (min (last + 1 - first) count)) ≡ false = grind (arith, nat_tests) in

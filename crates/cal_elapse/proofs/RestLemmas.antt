@@ -10,7 +10,7 @@ use Rattle.cal_rising.specs.headline.Elements.{Has}
 use Rattle.cal_spec.specs.headline.Match.{matches}
 use Rattle.cal_zone.proofs.PlaceLemmas.{within}
 use Rattle.cal_civil.specs.headline.Local.{seconds_in_all, seconds_in_all-is}
-use Rattle.cal_zone.specs.Steady.{AreAhead}
+use Rattle.cal_zone.specs.LocalOffsetRange.{AreAtOffset}
 use Rattle.cal_zone.specs.headline.Zone.{zone_of}
 use Rattle.cal_zone.specs.Instant.{IsInstant}
 use Rattle.cal_civil.specs.Local.{IsLocalSecond}
@@ -45,7 +45,7 @@ pub rest_inside : (passes : ℕ → Bool) (local bits last : ℕ) → IsRest pas
 rest_inside passes local bits last rest = let same = rest.minute in omega arith
 
 -- a UTC offset is at most 93,599 seconds in either direction
-pub ahead_near : (tz : TimeZone) (from to : ℕ) (offset : ℤ) → AreAhead tz (pos from) (pos to) offset → from ≤ to → to < seconds_in_all
+pub ahead_near : (tz : TimeZone) (from to : ℕ) (offset : ℤ) → AreAtOffset tz (pos from) (pos to) offset → from ≤ to → to < seconds_in_all
     → (offset ≤ℤ pos 93_599) × (pos 0 ≤ℤ (offset +ℤ pos 93_599))
 ahead_near tz from to offset ahead order inside =
     let count = seconds_in_all-is in
@@ -59,7 +59,7 @@ signed_word local signed inside is = ap (λ z. to_z w64 (of_z w64 z)) is ∙ to_
 -- the UTC offset is constant from a local second to the end of its minute or hour; and these values fit the machine
 -- type: both local seconds, the offset, the instants of both, and the instant after the first
 pub record IsRun (tz : TimeZone) (local end : ℕ) (from to offset : ℤ) : Type 0 where
-  pub ahead : AreAhead tz (pos local) (pos end) offset
+  pub ahead : AreAtOffset tz (pos local) (pos end) offset
   pub low : offset ≤ℤ pos 93_599
   pub high : pos 0 ≤ℤ (offset +ℤ pos 93_599)
   pub from_is : to_z w64 (of_z w64 from) ≡ pos local
@@ -70,12 +70,12 @@ pub record IsRun (tz : TimeZone) (local end : ℕ) (from to offset : ℤ) : Type
   pub start : to_z w64 (of_z w64 (to_z w64 (of_z w64 (to_z w64 (of_z w64 from) -ℤ to_z w64 (of_z w64 offset))) +ℤ pos 1)) ≡ ((pos local -ℤ offset) +ℤ pos 1)
 
 pub run_of : (tz : TimeZone) (local end : ℕ) (from to offset : ℤ) → local ≤ end → end < seconds_in_all → FitsSigned w64 offset → from ≡ pos local → to ≡ pos end
-    → AreAhead tz (to_z w64 (of_z w64 from)) (to_z w64 (of_z w64 to)) offset → IsRun tz local end from to offset
+    → AreAtOffset tz (to_z w64 (of_z w64 from)) (to_z w64 (of_z w64 to)) offset → IsRun tz local end from to offset
 run_of tz local end from to offset order inside fits from_is to_is ahead =
     let count = seconds_in_all-is in
     let first = signed_word local from (omega arith) from_is in
     let last = signed_word end to inside to_is in
-    let there : AreAhead tz (pos local) (pos end) offset = rw (first, last) at ahead in
+    let there : AreAtOffset tz (pos local) (pos end) offset = rw (first, last) at ahead in
     let near = ahead_near tz local end offset there order inside in
     let shift = to_z-of_z w64 offset fits in
     let low = near.0 in
@@ -102,7 +102,7 @@ pub placed_last : (v : Window) (last : ℤ) → IsLocalSecond last → FitsSigne
 placed_last v last inside fits h = subst (IsPlacedTo v) (pos_unsigned_abs last _ inside.0 refl ∙ sym (to_z-of_z w64 last fits)) h
 
 -- the instant of every local second up to that end is the local second minus `offset`
-place_there : (v : Window) (local t end : ℕ) (offset : ℤ) → IsPlacedTo v (pos local) → AreAhead (zone_of v.zone) (pos local) (pos end) offset → local ≤ t → t ≤ end → end < seconds_in_all
+place_there : (v : Window) (local t end : ℕ) (offset : ℤ) → IsPlacedTo v (pos local) → AreAtOffset (zone_of v.zone) (pos local) (pos end) offset → local ≤ t → t ≤ end → end < seconds_in_all
     → (timed_of v).place t ≡ Some (pos t -ℤ offset)
 unfolding timed_by
 place_there v local t end offset h ahead low high inside =
@@ -113,7 +113,7 @@ place_there v local t end offset h ahead low high inside =
 -- if every second of the minute has to be converted before that one can be returned.
 pub record IsBehind (v : Window) (local bits last : ℕ) (offset least : ℤ) : Type 0 where
   pub rest : IsRest (matches (sets_in v.searcher.masks)) local bits last
-  pub ahead : AreAhead (zone_of v.zone) (pos local) (pos (local / 60 * 60 + 59)) offset
+  pub ahead : AreAtOffset (zone_of v.zone) (pos local) (pos (local / 60 * 60 + 59)) offset
   pub least_is : Some least ≡ slice_get v.pending 0
   pub behind : least ≤ℤ (pos local -ℤ offset)
   pub near : (i : ℤ) → Has v.pending i → pos (local / 60 * 60 + 59) ≤ℤ (i +ℤ pos 93_599)
@@ -234,7 +234,7 @@ module _ (v : Window) (local : ℕ) (searcher : Searcher) (last : ℕ) (h : IsPl
         }
 
     -- if nothing is pending, and no instant up to that end is after the instant returned last
-    pub rest_passed : (end : ℕ) (offset : ℤ) → last ≤ end → end < seconds_in_all → None ≡ slice_get v.pending 0 → AreAhead (zone_of v.zone) (pos local) (pos end) offset
+    pub rest_passed : (end : ℕ) (offset : ℤ) → last ≤ end → end < seconds_in_all → None ≡ slice_get v.pending 0 → AreAtOffset (zone_of v.zone) (pos local) (pos end) offset
         → (pos end -ℤ offset) ≤ℤ v.last → IsPlacedTo (record v { searcher = searcher }) (pos last)
     rest_passed end offset high end_in none ahead early =
         let not_above = λ (i : ℤ) (above : v.last <ℤ i) (p : IsPlacedFrom (timed_of v) (local + 1) (last + 1) i).

@@ -11,7 +11,7 @@ ghost use Rattle.cal_elapse.specs.Window.{start_of, to_place, with_place};
 use crate::searcher::{Searcher, Start};
 use crate::{NoMemory, Pending};
 use cal_spec::Expr;
-use cal_zone::{Instant, Placer, Zone};
+use cal_zone::{Instant, PlaceCache, Zone};
 use std::alloc::Global;
 
 /// The largest distance in seconds between a local second and its instant: the largest UTC offset, 25:59:59.
@@ -22,7 +22,7 @@ const FARTHEST: i64 = 93_599;
 #[derive(Drop)]
 pub struct Window<'z> {
     pub searcher: Searcher,
-    zone: Placer<'z>,
+    zone: PlaceCache<'z>,
     /// The base: all elapses are later than this instant.
     base: i64,
     /// The match that was found last and not converted yet, or `None` if no match is left.
@@ -69,7 +69,7 @@ impl<'z> Window<'z> {
         let base = base.secs();
         Ok(Window {
             searcher,
-            zone: Placer::new(zone),
+            zone: PlaceCache::new(zone),
             base,
             ahead,
             last: base,
@@ -236,15 +236,15 @@ fn is_to_place(local: i64, least: Option<i64>) -> bool
 }
 
 /// Adds the instant of a local second to the pending ones if it exists and is after the instant returned last.
-fn put_place(pending: &mut Pending, placer: &mut Placer<'_>, local: i64, last: i64)
+fn put_place(pending: &mut Pending, place_cache: &mut PlaceCache<'_>, local: i64, last: i64)
     requires local_in { IsLocalSecond local }
     requires last_in { pos 0 ≤ℤ last }
     requires before { (i : ℤ) → Has pending.old i → i ≤ℤ (local +ℤ pos 93_599) }
     requires near { (i : ℤ) → Has pending.old i → local ≤ℤ (i +ℤ pos 93_599) }
-    ensures put { pending.new ≡ with_place (place_of (zone_of placer.old) local) last pending.old }
-    ensures zone { placer.new ≡ placer.old }
+    ensures put { pending.new ≡ with_place (place_of (zone_of place_cache.old) local) last pending.old }
+    ensures zone { place_cache.new ≡ place_cache.old }
 {
-    let Some(instant) = placer.place(local) else {
+    let Some(instant) = place_cache.place(local) else {
         return;
     };
     if instant <= last {

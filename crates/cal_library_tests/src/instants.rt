@@ -1,7 +1,7 @@
 //! Instants: the local time that a clock shows, and how instants are printed.
 
 use crate::shared::{SUMMER_TIME, instant, posix, zone_file_of_2024};
-use cal_base::{Clock, Instant, Port, Rules, ShortText, Zone, civil, write_instant};
+use cal_base::{InstantFormatter, Instant, Port, Rules, ShortText, Zone, civil, write_instant};
 use std::alloc::Global;
 use std::process::Abort;
 use std::test::Fail;
@@ -13,20 +13,20 @@ fn text_of(alloc: Global, zone: Zone, instant: Instant) -> Option<Vec<u8>> {
     Some(out.into_inner())
 }
 
-/// Expects each instant to be printed with the text next to it, by `write_instant` and by one `Clock` that shows them
+/// Expects each instant to be printed with the text next to it, by `write_instant` and by one `InstantFormatter` that shows them
 /// all one after another.
 fn expect_texts(
     rt: &(impl Abort + AllocGlobal),
     zone: Zone,
     rows: &[(i64, &str)],
 ) -> Result<(), Fail> {
-    let mut clock = Clock::new(zone);
+    let mut formatter = InstantFormatter::new(zone);
     for (secs, text) in rows {
         let (at, mut shown) = (instant(*secs)?, ShortText::new());
-        clock.push(&mut shown, at);
+        formatter.push(&mut shown, at);
         let written = text_of(rt.alloc(), zone, at).ok_or("not written")?;
         let texts = (written.as_slice(), shown.as_slice());
-        let holds = clock.civil(at) == civil(zone, at);
+        let holds = formatter.civil(at) == civil(zone, at);
         assert!(rt;
             holds && texts == (text.as_bytes(), text.as_bytes()),
             "at {secs}"

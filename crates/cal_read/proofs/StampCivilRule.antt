@@ -12,7 +12,7 @@ use Rattle.jiff.specs.Types.{TimeZone, Weekday}
 use Rattle.cal_civil.proofs.OffsetWordLemmas.{offset-found, offset-only}
 use Rattle.cal_civil.specs.OffsetWord.{offset_in}
 use Rattle.cal_civil.specs.headline.OffsetWord.{IsOffsetWord}
-use Rattle.cal_zone.specs.headline.ZoneAhead.{zone_ahead}
+use Rattle.cal_zone.specs.headline.FixedOffsetZone.{fixed_offset_zone}
 use Rattle.cal_civil.specs.headline.ZoneName.{begins_with_letter}
 use Rattle.cal_text.specs.headline.Separators.{is_colon}
 use Rattle.cal_spec.specs.Weekdays.{day_named}
@@ -195,7 +195,7 @@ means_name : (found : Option TimeZone) (zone : TimeZone) → name_found found �
 means_name None zone h = cc
 means_name (Some z) zone h = cc
 
-means_offset : (word : List ℕ) (zone : TimeZone) (offset : Option ℤ) → offset_in word ≡ offset → offset_found offset ≡ Ok zone → (seconds : ℤ) × IsOffsetWord word seconds × (zone ≡ zone_ahead seconds)
+means_offset : (word : List ℕ) (zone : TimeZone) (offset : Option ℤ) → offset_in word ≡ offset → offset_found offset ≡ Ok zone → (seconds : ℤ) × IsOffsetWord word seconds × (zone ≡ fixed_offset_zone seconds)
 means_offset word zone None e h = cc
 means_offset word zone (Some seconds) e h = (seconds, offset-found word seconds e, cc)
 

@@ -11,7 +11,7 @@ use Rattle.cal_zone.specs.Instant.{last_moment}
 use Rattle.cal_zone.specs.headline.Civil.{civil_of}
 use Rattle.cal_text.specs.headline.Separators.{is_point, is_colon}
 use Rattle.cal_span.specs.SpanValue.{fraction_worth}
-use Rattle.cal_zone.specs.headline.Zone.{local_of}
+use Rattle.cal_zone.specs.headline.Zone.{local_shown_at}
 use Rattle.cal_text.proofs.General.{some_piece, digit_below}
 use Rattle.cal_read.specs.Stamp.{in_moments}
 use Rattle.cal_read.specs.StampDate.{is_hyphen, date_numbers}
@@ -56,6 +56,6 @@ unfolding in_moments
 too_late micros late = grind (arith, ints)
 
 -- local time is UTC plus the offset that the clock shows
-pub local_of-civil : (zone : TimeZone) (second : ℤ) (shown : Civil) → shown ≡ civil_of zone second → local_of zone second ≡ second +ℤ shown.offset
-unfolding local_of civil_of
-local_of-civil zone second shown e = ap (λ o. second +ℤ o) (sym (ap (λ (s : Civil). s.offset) e))
+pub local_shown_at-civil : (zone : TimeZone) (second : ℤ) (shown : Civil) → shown ≡ civil_of zone second → local_shown_at zone second ≡ second +ℤ shown.offset
+unfolding local_shown_at civil_of
+local_shown_at-civil zone second shown e = ap (λ o. second +ℤ o) (sym (ap (λ (s : Civil). s.offset) e))

@@ -14,7 +14,7 @@ use Rattle.cal_span.specs.SpanValue.{span_of}
 use Rattle.cal_zone.specs.Instant.{IsMoment, last_moment}
 use Rattle.cal_civil.specs.headline.Local.{day_of}
 use Rattle.cal_zone.specs.headline.Moment.{micros_of}
-use Rattle.cal_zone.specs.headline.Zone.{local_of}
+use Rattle.cal_zone.specs.headline.Zone.{local_shown_at}
 use Rattle.cal_spec.proofs.ReadLemmas.{bind_ok}
 use Rattle.cal_read.specs.Stamp.{Setting, Written, in_moments, after_second, before_second, today, settle_on, zone_by_words, civil_time, fits_weekday, moment_of_written, moment_of_form, moment_in}
 use Rattle.cal_read.specs.StampCivilRule.{IsCivilTime}
@@ -84,13 +84,13 @@ one_day (negsuc n) day begun lasts = omega (arith, signed_arith)
 is_today : (now : ℤ) (zone : TimeZone) → IsPresentDay now zone (today now zone)
 unfolding today
 is_today now zone =
-    let shown = around (local_of zone now) in
+    let shown = around (local_shown_at zone now) in
     record { begun = omega (arith, signed_arith, shown.0); lasts = omega (arith, signed_arith, shown.1) }
 
 only_today : (now : ℤ) (zone : TimeZone) (day : ℤ) → IsPresentDay now zone day → day ≡ today now zone
 unfolding today
 only_today now zone day h =
-    let same = one_day (local_of zone now) day h.begun h.lasts in omega (arith, signed_arith, same)
+    let same = one_day (local_shown_at zone now) day h.begun h.lasts in omega (arith, signed_arith, same)
 
 is_day : (now : ℤ) (zone : TimeZone) (written : Option ℤ) → IsDay now zone written (unwrap_or written (today now zone))
 is_day now zone None = is_today now zone

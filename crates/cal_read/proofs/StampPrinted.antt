@@ -25,7 +25,7 @@ use Rattle.cal_civil.specs.Local.{IsLocalSecond}
 use Rattle.cal_civil.specs.headline.Local.{day_of, hour_of, minute_of, second_of, second_of_day}
 use Rattle.cal_zone.specs.headline.Place.{settle_of}
 use Rattle.cal_civil.specs.headline.Weekday.{short_name_of, week}
-use Rattle.cal_zone.specs.headline.Zone.{local_of, utc, zone_of}
+use Rattle.cal_zone.specs.headline.Zone.{local_shown_at, utc, zone_of}
 use Rattle.cal_zone.specs.headline.ZoneMap.{ZoneMap}
 use Rattle.cal_zone.specs.headline.ZoneTable.{zone_named}
 use Rattle.cal_zone.specs.declared.civil_fields.Civil.{Civil}
@@ -36,7 +36,7 @@ use Rattle.cal_spec.specs.GrammarRule.{IsWord}
 use Rattle.cal_text.specs.TrimRule.{StartsSolid, IsTrimmed}
 use Rattle.cal_text.specs.headline.Words.{is_blank, words}
 use Rattle.cal_read.proofs.StampPrintedTexts.{IsClock, IsDayName, date_back, date_no_colon, date_solid, date_some, date_word, in_week, other_date_back, short_names, time_back, time_digit, time_solid, time_some, time_word, year_of}
-use Rattle.cal_zone.proofs.PlaceLemmas.{local_of-UTC}
+use Rattle.cal_zone.proofs.PlaceLemmas.{local_shown_at-UTC}
 use Rattle.cal_read.proofs.StampPrintedZones.{IsLastWord, last_byte, shown_last, shown_offset, shown_read, shown_unread, shown_word, utc_minutes}
 use Rattle.cal_read.proofs.StampRule.{only}
 use Rattle.cal_text.specs.AndThen.{◌>>=◌}
@@ -235,7 +235,7 @@ fields_printed date second offset zone =
 
 -- what the zone's clock shows at an instant
 abbrev local_in : Zone → ℤ → ℤ
-local_in zone secs = local_of (zone_of zone) secs
+local_in zone secs = local_shown_at (zone_of zone) secs
 
 abbrev shown_date : Zone → ℤ → Date
 shown_date zone secs = date_of (day_of (local_in zone secs))
@@ -252,7 +252,7 @@ second_below secs = omega (arith, signed_arith)
 
 -- the day that a clock shows at an instant is in 1969 or later, and jiff's calendar has it
 local_within : (zone : Zone) (secs : ℤ) → IsInstant secs → IsBetween (neg_ℤ (pos 93_599)) (pos 7_258_305_597) (local_in zone secs)
-unfolding local_of
+unfolding local_shown_at
 local_within zone secs h =
     let offset = offset_at-in_range (zone_of zone) (nanos_of_seconds secs) in
     (omega (arith, signed_arith, h.0, offset.0), omega (arith, signed_arith, h.1, offset.1))
@@ -367,9 +367,9 @@ reads_as_none now local table zone secs h none =
 utc_shows : (secs : ℤ) → IsLocalSecond secs → ShowsYear (civil_of (zone_of utc) secs)
 unfolding civil_of zone_of
 utc_shows secs h =
-    let same = local_of-UTC secs in
-    let day = epoch_day-date_of (day_of (local_of UTC secs)) (omega (arith, signed_arith, same, h.0), omega (arith, signed_arith, same, h.1)) in
-    (year-from_1970 (date_of (day_of (local_of UTC secs))) (omega (arith, signed_arith, same, day, h.0)), year-to_2199 (date_of (day_of (local_of UTC secs))) (omega (arith, signed_arith, same, day, h.1)))
+    let same = local_shown_at-UTC secs in
+    let day = epoch_day-date_of (day_of (local_shown_at UTC secs)) (omega (arith, signed_arith, same, h.0), omega (arith, signed_arith, same, h.1)) in
+    (year-from_1970 (date_of (day_of (local_shown_at UTC secs))) (omega (arith, signed_arith, same, day, h.0)), year-to_2199 (date_of (day_of (local_shown_at UTC secs))) (omega (arith, signed_arith, same, day, h.1)))
 
 utc_minute : (secs : ℤ) → ShowsMinutes (civil_of (zone_of utc) secs)
 unfolding civil_of zone_of

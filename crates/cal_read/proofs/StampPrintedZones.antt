@@ -12,15 +12,15 @@ use Rattle.cal_bytes.specs.headline.Bytes.{joined}
 use Rattle.cal_text.proofs.General.{list_all-both, clear_of, list_all-wider}
 use Rattle.cal_civil.proofs.OffsetWordLemmas.{offset-back, offset-found, two_printed, two}
 use Rattle.cal_zone.proofs.OffsetLemmas.{nearest}
-use Rattle.cal_zone.proofs.PlaceLemmas.{settle_of-UTC, settle_of-fixed_zone, local_of-UTC}
+use Rattle.cal_zone.proofs.PlaceLemmas.{settle_of-UTC, settle_of-fixed_zone, local_shown_at-UTC}
 use Rattle.cal_zone.proofs.ZoneLemmas.{offset_at-in_range}
 use Rattle.cal_civil.specs.headline.OffsetText.{offset_text, sign_text, zeros}
 use Rattle.cal_zone.specs.headline.InstantText.{zone_word}
 use Rattle.cal_civil.specs.OffsetWord.{AreWholeMinutes, offset_in}
 use Rattle.cal_civil.specs.headline.OffsetWord.{IsOffsetWord}
 use Rattle.cal_zone.specs.headline.Place.{settle_of}
-use Rattle.cal_zone.specs.headline.Zone.{is_utc, is_utc_kind, local_of, zone_of, zone_of_kind}
-use Rattle.cal_zone.specs.headline.ZoneAhead.{offset_of_seconds, zone_ahead}
+use Rattle.cal_zone.specs.headline.Zone.{is_utc, is_utc_kind, local_shown_at, zone_of, zone_of_kind}
+use Rattle.cal_zone.specs.headline.FixedOffsetZone.{offset_of_seconds, fixed_offset_zone}
 use Rattle.cal_zone.specs.headline.ZoneMap.{ZoneMap}
 use Rattle.cal_civil.specs.headline.ZoneName.{begins_with_letter, is_utc_name}
 use Rattle.cal_zone.specs.headline.ZoneTable.{zone_named}
@@ -162,7 +162,7 @@ whole_minutes : (offset : ℤ) → IsOffsetSeconds offset → unsigned_abs offse
 whole_minutes offset h whole =
     let most = abs_within offset h in record { near = omega (arith, most, whole); whole = whole }
 
-minutes_read : (find : List ℕ → Option TimeZone) (offset : ℤ) → IsOffsetSeconds offset → unsigned_abs offset % 60 ≡ 0 → zone_meant find (offset_text offset) ≡ Ok (zone_ahead offset)
+minutes_read : (find : List ℕ → Option TimeZone) (offset : ℤ) → IsOffsetSeconds offset → unsigned_abs offset % 60 ≡ 0 → zone_meant find (offset_text offset) ≡ Ok (fixed_offset_zone offset)
 minutes_read find offset h whole =
     rw (signed_no_letter (offset_text offset) (offset_signed offset h), offset-back offset (whole_minutes offset h whole)) refl
 
@@ -201,8 +201,8 @@ seconds_unread find offset h e =
 
 -- The word for a zone
 
-settle_of-ahead : (offset local : ℤ) → IsOffsetSeconds offset → settle_of (zone_ahead offset) local ≡ local -ℤ offset
-unfolding zone_ahead
+settle_of-ahead : (offset local : ℤ) → IsOffsetSeconds offset → settle_of (fixed_offset_zone offset) local ≡ local -ℤ offset
+unfolding fixed_offset_zone
 settle_of-ahead offset local h =
     settle_of-fixed_zone (offset_of_seconds offset) local ∙ ap (λ seconds. local -ℤ seconds) (nearest offset h)
 
@@ -241,24 +241,24 @@ pub record IsReadAs (find : List ℕ → Option TimeZone) (word : List ℕ) (loc
   pub back : settle_of zone local ≡ secs
 
 read_by : (table : ZoneMap) (tz : TimeZone) (utc : Bool) (secs : ℤ) → (utc ≡ true → tz ≡ UTC) → unsigned_abs (offset_at tz (nanos_of_seconds secs)) % 60 ≡ 0
-    → IsReadAs (zone_named table) (zone_word utc (offset_at tz (nanos_of_seconds secs))) (local_of tz secs) secs
-unfolding zone_word local_of
+    → IsReadAs (zone_named table) (zone_word utc (offset_at tz (nanos_of_seconds secs))) (local_shown_at tz secs) secs
+unfolding zone_word local_shown_at
 read_by table tz true secs is h = record {
   zone = UTC;
   meant = utc_meant table;
-  back = settle_of-UTC (local_of tz secs) ∙ ap (λ z. local_of z secs) (is refl) ∙ local_of-UTC secs;
+  back = settle_of-UTC (local_shown_at tz secs) ∙ ap (λ z. local_shown_at z secs) (is refl) ∙ local_shown_at-UTC secs;
 }
 read_by table tz false secs is h =
     let offset = offset_at tz (nanos_of_seconds secs) in
     let within = offset_at-in_range tz (nanos_of_seconds secs) in
     record {
-      zone = zone_ahead offset;
+      zone = fixed_offset_zone offset;
       meant = minutes_read (zone_named table) offset within h;
-      back = settle_of-ahead offset (local_of tz secs) within ∙ omega (arith, signed_arith);
+      back = settle_of-ahead offset (local_shown_at tz secs) within ∙ omega (arith, signed_arith);
     }
 
 pub shown_read : (table : ZoneMap) (zone : Zone) (secs : ℤ) → unsigned_abs (shown_offset zone secs) % 60 ≡ 0
-    → IsReadAs (zone_named table) (shown_word zone secs) (local_of (zone_of zone) secs) secs
+    → IsReadAs (zone_named table) (shown_word zone secs) (local_shown_at (zone_of zone) secs) secs
 shown_read table zone secs h = read_by table (zone_of zone) (is_utc zone) secs (utc_zone zone) h
 
 pub utc_minutes : (secs : ℤ) → unsigned_abs (offset_at UTC (nanos_of_seconds secs)) % 60 ≡ 0

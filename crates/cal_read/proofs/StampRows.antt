@@ -8,13 +8,13 @@ use Rattle.jiff_core.proofs.CalendarLemmas.{days_from_civil-day_count}
 use Rattle.jiff_core.proofs.MarchLemmas.{day_count-late}
 use Rattle.jiff_core.specs.Calendar.{days_from_civil, weekday_number}
 use Rattle.cal_span.specs.declared.span.fault.SpanFault.TheVariants.{BadNumber, UnknownUnit, Empty as NoPair}
-use Rattle.cal_civil.specs.OffsetWord.{clock_in, offset_in, two_digits}
+use Rattle.cal_civil.specs.OffsetWord.{hour_minute_in, offset_in, two_digits}
 use Rattle.cal_zone.specs.headline.Place.{datetime_of, settle_of}
-use Rattle.cal_span.specs.Scale.{words_for}
+use Rattle.cal_span.specs.UnitSpellings.{spellings_of}
 use Rattle.cal_span.specs.SpanValue.{span_of, pairs_in, words_in, worth_of, is_number, number_worth, unit_named}
 use Rattle.cal_civil.specs.headline.Weekday.{name_of}
-use Rattle.cal_zone.specs.headline.Zone.{local_of}
-use Rattle.cal_zone.specs.headline.ZoneAhead.{offset_of_seconds, zone_ahead}
+use Rattle.cal_zone.specs.headline.Zone.{local_shown_at}
+use Rattle.cal_zone.specs.headline.FixedOffsetZone.{offset_of_seconds, fixed_offset_zone}
 use Rattle.cal_civil.specs.headline.ZoneName.{is_utc_name}
 use Rattle.cal_spec.specs.Weekdays.{day_named}
 use Rattle.cal_text.specs.headline.Trim.{trim_matches, trim_end_matches, trim_start_matches}
@@ -83,7 +83,7 @@ in_november day first =
     omega (arith, signed_arith, days_from_civil-day_count (pos 2_012) 11 day, day_count-late (pos 2_012) 12_012 11 day refl (omega arith) (omega arith) first)
 
 rows_meant : map (λ (row : Row). moment_in (pos 1_353_665_722) in_utc row.0) rows ≡ map (λ (row : Row). row.1) rows
-unfolding moment_in form_of trim_matches trim_end_matches trim_start_matches form_by_end day_shift words in_moments today settle_on moment_of_written day_written date_numbers digits_number day_of_date time_written time_numbers clock_number second_written fraction_in day_named name_of span_of pairs_in words_in worth_of is_number number_worth unit_named words_for local_of offset_at settle_of ambiguous_at datetime_of weekday_number is_utc_name offset_in clock_in two_digits zone_ahead offset_of_seconds
+unfolding moment_in form_of trim_matches trim_end_matches trim_start_matches form_by_end day_shift words in_moments today settle_on moment_of_written day_written date_numbers digits_number day_of_date time_written time_numbers clock_number second_written fraction_in day_named name_of span_of pairs_in words_in worth_of is_number number_worth unit_named spellings_of local_shown_at offset_at settle_of ambiguous_at datetime_of weekday_number is_utc_name offset_in hour_minute_in two_digits fixed_offset_zone offset_of_seconds
 rows_meant = rw (in_november 23 (omega arith), in_november 22 (omega arith), days_from_civil-1970) refl
 
 -- the words for a zone, and the zone that they stand for or their error
@@ -93,9 +93,9 @@ ZoneRow = List (List ℕ) × Result TimeZone StampFault
 abbrev zone_rows : List ZoneRow
 zone_rows =
     ([], Ok UTC)
-    ∷ (codes "+08:00" ∷ [], Ok (zone_ahead (pos 28_800)))
-    ∷ (codes "-25:59" ∷ [], Ok (zone_ahead (neg_ℤ (pos 93_540))))
-    ∷ (codes "-00:00" ∷ [], Ok (zone_ahead (pos 0)))
+    ∷ (codes "+08:00" ∷ [], Ok (fixed_offset_zone (pos 28_800)))
+    ∷ (codes "-25:59" ∷ [], Ok (fixed_offset_zone (neg_ℤ (pos 93_540))))
+    ∷ (codes "-00:00" ∷ [], Ok (fixed_offset_zone (pos 0)))
     ∷ (codes "utc" ∷ [], Ok UTC)
     ∷ (codes "Mars/One" ∷ [], Err NoSuchZone)
     ∷ (codes "+8" ∷ [], Err StrayWord)
@@ -111,5 +111,5 @@ zone_rows =
     ∷ []
 
 zone_rows_meant : map (λ (row : ZoneRow). zone_by_words in_utc row.0) zone_rows ≡ map (λ (row : ZoneRow). row.1) zone_rows
-unfolding offset_in clock_in two_digits is_utc_name
+unfolding offset_in hour_minute_in two_digits is_utc_name
 zone_rows_meant = refl

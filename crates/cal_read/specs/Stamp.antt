@@ -12,8 +12,8 @@ use Rattle.cal_civil.specs.headline.Local.{day_of}
 use Rattle.cal_civil.specs.OffsetWord.{offset_in}
 use Rattle.cal_zone.specs.headline.Place.{settle_of}
 use Rattle.cal_span.specs.SpanValue.{span_of}
-use Rattle.cal_zone.specs.headline.Zone.{local_of}
-use Rattle.cal_zone.specs.headline.ZoneAhead.{zone_ahead}
+use Rattle.cal_zone.specs.headline.Zone.{local_shown_at}
+use Rattle.cal_zone.specs.headline.FixedOffsetZone.{fixed_offset_zone}
 use Rattle.cal_civil.specs.headline.ZoneName.{begins_with_letter}
 use Rattle.cal_text.specs.headline.Separators.{is_colon}
 use Rattle.cal_spec.specs.Weekdays.{day_named}
@@ -50,7 +50,7 @@ before_second second (Err fault) = Err (BadSpan fault)
 
 -- the day that the zone's clock shows at present, as a day number
 unfoldable pub today : ℤ → TimeZone → ℤ
-today now zone = day_of (local_of zone now)
+today now zone = day_of (local_shown_at zone now)
 
 -- the moment that is this many microseconds after midnight of the day; a local time in a gap is moved forward by the
 -- length of the gap, and of a local time in a fold the first occurrence is used
@@ -68,7 +68,7 @@ name_found (Some zone) = Ok zone
 -- the zone of an offset, or the error if the word is not an offset
 abbrev pub offset_found : Option ℤ → Result TimeZone StampFault
 offset_found None = Err StrayWord
-offset_found (Some seconds) = Ok (zone_ahead seconds)
+offset_found (Some seconds) = Ok (fixed_offset_zone seconds)
 
 -- the zone of a word: if the word begins with a letter it must be the name of a zone, otherwise it must be an offset,
 -- `+hh:mm` or `-hh:mm`

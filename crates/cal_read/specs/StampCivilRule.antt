@@ -4,7 +4,7 @@ use Rattle.std.specs.Prelude.{ℕ, ◌≡◌, ◌⊎◌, ◌||◌, true, ℤ, Li
 use Rattle.std.specs.Option.{option_to_list}
 use Rattle.jiff.specs.Types.{TimeZone, Weekday}
 use Rattle.cal_civil.specs.headline.OffsetWord.{IsOffsetWord}
-use Rattle.cal_zone.specs.headline.ZoneAhead.{zone_ahead}
+use Rattle.cal_zone.specs.headline.FixedOffsetZone.{fixed_offset_zone}
 use Rattle.cal_civil.specs.headline.ZoneName.{begins_with_letter}
 use Rattle.cal_spec.specs.Weekdays.{day_named}
 use Rattle.cal_read.specs.Stamp.{Setting, Written}
@@ -32,7 +32,7 @@ WritesTime (Some word) micros = time_written word ≡ Ok micros
 abbrev pub MeansZone : (List ℕ → Option TimeZone) → List ℕ → TimeZone → Type 0
 MeansZone find word zone =
     ((begins_with_letter word ≡ true) × (find word ≡ Some zone))
-    ⊎ ((seconds : ℤ) × IsOffsetWord word seconds × (zone ≡ zone_ahead seconds))
+    ⊎ ((seconds : ℤ) × IsOffsetWord word seconds × (zone ≡ fixed_offset_zone seconds))
 
 -- the word stands for the zone, or there is no word and the zone is the local one
 abbrev pub NamesZone : Setting → Option (List ℕ) → TimeZone → Type 0

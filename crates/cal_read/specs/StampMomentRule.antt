@@ -7,7 +7,7 @@ use Rattle.jiff_core.specs.Weekday.{monday_zero}
 use Rattle.cal_span.specs.SpanValue.{span_of}
 use Rattle.cal_zone.specs.headline.Moment.{micros_of}
 use Rattle.cal_zone.specs.headline.Place.{settle_of}
-use Rattle.cal_zone.specs.headline.Zone.{local_of}
+use Rattle.cal_zone.specs.headline.Zone.{local_shown_at}
 use Rattle.cal_read.specs.Stamp.{Setting, Written}
 use Rattle.cal_read.specs.StampCivilRule.{IsCivilTime, NamesZone}
 use Rattle.cal_read.specs.StampForm.{Form, nothing, present, later, earlier, counted, from_today, civil}
@@ -26,8 +26,8 @@ LiesBefore second span time = (micros : ℕ) × (span_of span ≡ Ok micros) × 
 
 -- the zone's clock at present shows a time on this day: at its midnight, or less than 86,400 seconds later
 pub record IsPresentDay (now : ℤ) (zone : TimeZone) (day : ℤ) : Type 0 where
-  pub begun : (day *ℤ pos 86_400) ≤ℤ local_of zone now
-  pub lasts : local_of zone now <ℤ (day *ℤ pos 86_400 +ℤ pos 86_400)
+  pub begun : (day *ℤ pos 86_400) ≤ℤ local_shown_at zone now
+  pub lasts : local_shown_at zone now <ℤ (day *ℤ pos 86_400 +ℤ pos 86_400)
 
 -- the day of the date, or the present day in the zone if there is no date
 abbrev pub IsDay : ℤ → TimeZone → Option ℤ → ℤ → Type 0

@@ -5,14 +5,14 @@ use Rattle.cal_read.specs.declared.timer.fault.TimerFault.{TimerFault}
 use Rattle.cal_read.specs.declared.timer.fault.TimerFault.TheVariants.{ReadFailed, TooLarge, NotUtf8, BadLine, TooMany, NothingToDo, NoMemory}
 
 -- the message of an error
-abbrev pub words_of : TimerFault → List ℕ
-words_of ReadFailed = codes "cannot be read"
-words_of TooLarge = codes "larger than 1048576 bytes"
-words_of (NotUtf8 line) = codes "not UTF-8"
-words_of (BadLine line fault) = spec_fault.words_of fault
-words_of (TooMany line) = codes "more than 256 expressions"
-words_of NothingToDo = codes "no calendar expression"
-words_of NoMemory = []
+abbrev pub message_of : TimerFault → List ℕ
+message_of ReadFailed = codes "cannot be read"
+message_of TooLarge = codes "larger than 1048576 bytes"
+message_of (NotUtf8 line) = codes "not UTF-8"
+message_of (BadLine line fault) = spec_fault.message_of fault
+message_of (TooMany line) = codes "more than 256 expressions"
+message_of NothingToDo = codes "no calendar expression"
+message_of NoMemory = []
 
 -- the number of the line that has the error
 abbrev pub line_of : TimerFault → Option ℕ

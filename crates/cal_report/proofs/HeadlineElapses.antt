@@ -10,7 +10,7 @@ use Rattle.jiff.specs.Words.{ambiguous_at}
 use Rattle.cal_zone.specs.Instant.{IsInstant}
 use Rattle.cal_civil.specs.headline.Local.{seconds_in_all-is}
 use Rattle.cal_zone.specs.headline.Place.{datetime_of, place_of, settle_of}
-use Rattle.cal_zone.specs.headline.Zone.{local_of}
+use Rattle.cal_zone.specs.headline.Zone.{local_shown_at}
 use Rattle.cal_zone.proofs.PlaceLemmas.{place_of-Some}
 use Rattle.cal_spec.specs.headline.Fields.{Fields}
 use Rattle.cal_spec.specs.headline.Match.{matches}
@@ -65,20 +65,20 @@ in_parts ts exceptions base e xs ys k m h at more =
 -- What the clock of a zone shows
 
 pub is_shown : (fields : Fields) (tz : TimeZone) (i : ℤ) → IsPlace (timed fields tz) i
-    → (local : ℕ) × (local < 7_258_118_400) × (matches (sets_of fields) local ≡ true) × (local_of tz i ≡ pos local)
+    → (local : ℕ) × (local < 7_258_118_400) × (matches (sets_of fields) local ≡ true) × (local_shown_at tz i ≡ pos local)
 unfolding timed
 is_shown fields tz i h =
     (h.local, omega (arith, seconds_in_all-is, h.within), h.is_match, (place_of-Some tz (pos h.local) i h.placed).1)
 
-pub is_alone : (fields : Fields) (tz : TimeZone) (i j : ℤ) → IsPlace (timed fields tz) i → IsPlace (timed fields tz) j → local_of tz i ≡ local_of tz j → i ≡ j
+pub is_alone : (fields : Fields) (tz : TimeZone) (i j : ℤ) → IsPlace (timed fields tz) i → IsPlace (timed fields tz) j → local_shown_at tz i ≡ local_shown_at tz j → i ≡ j
 unfolding timed
 is_alone fields tz i j h k same = grind (arith, ints, signed_arith, place_of-Some)
 
-none_shown : (tz : TimeZone) (local : ℤ) (o : Option ℤ) → ((second : ℤ) → local_of tz second ≡ local → ⊥) → place_of tz local ≡ o → o ≡ None
+none_shown : (tz : TimeZone) (local : ℤ) (o : Option ℤ) → ((second : ℤ) → local_shown_at tz second ≡ local → ⊥) → place_of tz local ≡ o → o ≡ None
 none_shown tz local None never e = refl
 none_shown tz local (Some second) never e = absurd (never second (place_of-Some tz local second e).1)
 
-pub gap_has_no_place : (tz : TimeZone) (local : ℤ) → ((second : ℤ) → local_of tz second ≡ local → ⊥) → place_of tz local ≡ None
+pub gap_has_no_place : (tz : TimeZone) (local : ℤ) → ((second : ℤ) → local_shown_at tz second ≡ local → ⊥) → place_of tz local ≡ None
 gap_has_no_place tz local never = none_shown tz local (place_of tz local) never refl
 
 -- a smaller offset makes a local second a later instant

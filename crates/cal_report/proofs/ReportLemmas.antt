@@ -3,7 +3,7 @@ use Rattle.std.proofs.Common.{◌≡◌, ℕ, ℤ, Bool, true, false, ◌&&◌, 
 use Rattle.std.proofs.lemmas.List.{append-nil}
 use Rattle.std.proofs.KnownBytes.{Appends-nil}
 use Rattle.std.specs.Io.KnownBytes.{Appends}
-use Rattle.cal_read.specs.StampFault.{words_of}
+use Rattle.cal_read.specs.StampFault.{message_of}
 use Rattle.cal_read.specs.declared.stamp.fault.StampFault.{StampFault}
 use Rattle.cal_report.specs.Answer.{refusal_line}
 use Rattle.cal_streams.specs.declared.whole.WholeFault.{WholeFault}
@@ -39,7 +39,7 @@ unread_if false a = (refl, refl)
 
 -- an invalid base time
 pub base_refused : (asked : Request) (a b d e : Option (List ℕ)) (failed : Bool) (r : Result Status RunFault) (fault : StampFault) → base_in asked ≡ Err fault → failed ≡ false
-    → IfOk r (λ status. status ≡ Refused) → Writes d e r (refusal_line (codes "--base-time") (words_of fault)) → ByReading asked a a failed (IsReported r b b d e)
+    → IfOk r (λ status. status ≡ Refused) → Writes d e r (refusal_line (codes "--base-time") (message_of fault)) → ByReading asked a a failed (IsReported r b b d e)
 unfolding report
 base_refused asked a b d e failed r fault is works status err =
     record { read = Ok []; input = rw is (unread_if (is_timer asked.verb) a); fails = works; holds = rw is (refusal_reported r b d e (Ok []) _ _ refl status nothing_had err) }

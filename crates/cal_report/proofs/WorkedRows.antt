@@ -16,8 +16,8 @@ use Rattle.cal_read.specs.Stamp.{in_moments, moment_in}
 use Rattle.cal_read.specs.StampForm.{day_shift, form_by_end, form_of}
 use Rattle.cal_report.specs.Resume.{AreShown, IsBegunAgain}
 use Rattle.cal_report.specs.TimestampReport.{stamp_in}
-use Rattle.cal_span.specs.Scale.{words_for}
-use Rattle.cal_span.specs.headline.Scale.{unit_name}
+use Rattle.cal_span.specs.UnitSpellings.{spellings_of}
+use Rattle.cal_span.specs.headline.TimeUnit.{unit_name}
 use Rattle.cal_span.specs.headline.SpanText.{units_text, counts_in_row}
 use Rattle.cal_span.specs.SpanValue.{words_in, pairs_in, is_number, unit_named, number_worth, worth_of, span_of}
 use Rattle.cal_spec.specs.headline.Fields.{Fields}
@@ -144,15 +144,15 @@ two_spans : Request
 two_spans = record { verb = Timespan; texts = codes "1h" ∷ codes "5x" ∷ []; iterations = 1; base = None; now = pos 0; local = utc; zones = empty }
 
 two_spans-out : (report two_spans (Ok [])).out ≡ codes "Original: 1h\n" ++ (codes "      " ++ (206 ∷ 188 ∷ codes "s: 3600000000\n   Human: 1h\n"))
-unfolding two_spans report texts_report base_in reports_text timespan_answer timespan_report units_text counts_in_row span_of pairs_in words_in worth_of is_number unit_named number_worth words_for unit_name digits
+unfolding two_spans report texts_report base_in reports_text timespan_answer timespan_report units_text counts_in_row span_of pairs_in words_in worth_of is_number unit_named number_worth spellings_of unit_name digits
 two_spans-out = refl
 
 two_spans-err : (report two_spans (Ok [])).err ≡ codes "5x: unknown unit\n"
-unfolding two_spans report texts_report base_in refusals_text timespan_answer timespan_report units_text counts_in_row span_of pairs_in words_in worth_of is_number unit_named number_worth words_for unit_name digits
+unfolding two_spans report texts_report base_in refusals_text timespan_answer timespan_report units_text counts_in_row span_of pairs_in words_in worth_of is_number unit_named number_worth spellings_of unit_name digits
 two_spans-err = refl
 
 two_spans-status : (report two_spans (Ok [])).status ≡ Refused
-unfolding two_spans report texts_report base_in texts_status timespan_answer timespan_report units_text counts_in_row span_of pairs_in words_in worth_of is_number unit_named number_worth words_for unit_name digits
+unfolding two_spans report texts_report base_in texts_status timespan_answer timespan_report units_text counts_in_row span_of pairs_in words_in worth_of is_number unit_named number_worth spellings_of unit_name digits
 two_spans-status = refl
 
 -- An accepted request, to which the main theorem applies
@@ -278,7 +278,7 @@ one_second : Request
 one_second = record { verb = Calendar; texts = codes "*:*:*" ∷ []; iterations = 1; base = Some (codes "@1704112201"); now = pos 1_704_112_200; local = utc; zones = empty }
 
 one_second-sought : base_in one_second ≡ Ok (pos 1_704_112_201)
-unfolding one_second base_in stamp_in moment_in form_of trim_matches trim_end_matches trim_start_matches form_by_end day_shift words in_moments span_of pairs_in words_in worth_of is_number number_worth unit_named words_for
+unfolding one_second base_in stamp_in moment_in form_of trim_matches trim_end_matches trim_start_matches form_by_end day_shift words in_moments span_of pairs_in words_in worth_of is_number number_worth unit_named spellings_of
 one_second-sought = refl
 
 first_is : (xs : List ℤ) (x : ℤ) → slice_get xs 0 ≡ Some x → slice_get (take 2 xs) 0 ≡ Some x

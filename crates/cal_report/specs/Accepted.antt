@@ -1,9 +1,9 @@
 -- The report of a valid argument, and the error message for an invalid one.
 use Rattle.std.specs.Prelude.{ℕ, List, [], codes}
-use Rattle.cal_span.specs.SpanFault.{words_of as span_words}
+use Rattle.cal_span.specs.SpanFault.{message_of as span_message}
 use Rattle.cal_elapse.specs.Rest.{rest_of}
-use Rattle.cal_read.specs.StampFault.{words_of as stamp_words}
-use Rattle.cal_spec.specs.SpecFault.{words_of as spec_words}
+use Rattle.cal_read.specs.StampFault.{message_of as stamp_message}
+use Rattle.cal_spec.specs.SpecFault.{message_of as spec_message}
 use Rattle.cal_report.specs.CalendarReport.{report_of_elapses}
 use Rattle.cal_report.specs.ElapseLines.{AreInstants}
 use Rattle.cal_request.specs.headline.Request.{Request}
@@ -35,8 +35,8 @@ report_text asked text (Timespan span) = timespan_report text span.micros
 
 -- the error message
 abbrev pub refusal_words : Refusal → List ℕ
-refusal_words (Spec fault) = spec_words fault
+refusal_words (Spec fault) = spec_message fault
 refusal_words NoSuchZone = codes "no such zone"
-refusal_words (Stamp fault) = stamp_words fault
-refusal_words (Span fault) = span_words fault
+refusal_words (Stamp fault) = stamp_message fault
+refusal_words (Span fault) = span_message fault
 refusal_words NoMemory = []

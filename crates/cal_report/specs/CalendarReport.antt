@@ -3,13 +3,13 @@ use Rattle.std.specs.Prelude.{ℕ, ℤ, List, [], ◌∷◌, take, Option, None,
 use Rattle.jiff.specs.Types.{TimeZone}
 use Rattle.cal_bytes.specs.headline.Bytes.{joined}
 use Rattle.cal_zone.specs.headline.Zone.{zone_of}
-use Rattle.cal_zone.specs.headline.ZoneAhead.{zone_ahead}
+use Rattle.cal_zone.specs.headline.FixedOffsetZone.{fixed_offset_zone}
 use Rattle.cal_zone.specs.headline.ZoneTable.{zone_named}
 use Rattle.cal_elapse.specs.Elapses.{elapses_after}
 use Rattle.cal_elapse.specs.headline.Timed.{timed}
 use Rattle.cal_spec.specs.Expr.{expr_in}
 use Rattle.cal_spec.specs.headline.Fields.{Fields}
-use Rattle.cal_spec.specs.SpecFault.{words_of}
+use Rattle.cal_spec.specs.SpecFault.{message_of}
 use Rattle.cal_spec.specs.headline.ZoneSuffix.{ZoneSuffix, of_name, ahead}
 use Rattle.cal_spec.specs.declared.spec_fault.SpecFault.{SpecFault}
 use Rattle.cal_report.specs.Answer.{Answer}
@@ -33,7 +33,7 @@ calendar_report asked base text fields tz = report_of_elapses asked text fields 
 unfoldable pub zone_for : Request → Option ZoneSuffix → Option TimeZone
 zone_for asked None = Some (zone_of asked.local)
 zone_for asked (Some (of_name name)) = zone_named asked.zones name
-zone_for asked (Some (ahead seconds)) = Some (zone_ahead seconds)
+zone_for asked (Some (ahead seconds)) = Some (fixed_offset_zone seconds)
 
 -- the report of an expression in its zone, or the error message if the zone is missing
 abbrev pub answer_in : Request → ℤ → List ℕ → Fields → Option TimeZone → Answer
@@ -42,7 +42,7 @@ answer_in asked base text fields (Some tz) = Ok (calendar_report asked base text
 
 -- the report of a parsed expression, or the error message
 abbrev pub answer_with : Request → ℤ → List ℕ → Result Fields SpecFault → Answer
-answer_with asked base text (Err fault) = Err (words_of fault)
+answer_with asked base text (Err fault) = Err (message_of fault)
 answer_with asked base text (Ok fields) = answer_in asked base text fields (zone_for asked fields.zone)
 
 -- the report of a calendar expression, or the error message

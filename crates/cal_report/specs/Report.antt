@@ -7,7 +7,7 @@ use Rattle.cal_streams.specs.declared.whole.WholeFault.{WholeFault}
 use Rattle.cal_streams.specs.declared.whole.WholeFault.TheVariants.{NoMemory}
 use Rattle.cal_zone.specs.declared.instant.Instant.{Instant}
 use Rattle.cal_read.specs.TimerText.{ReadsWhole, most_file_bytes}
-use Rattle.cal_read.specs.StampFault.{words_of}
+use Rattle.cal_read.specs.StampFault.{message_of}
 use Rattle.cal_read.specs.declared.stamp.fault.StampFault.{StampFault}
 use Rattle.cal_report.specs.Answer.{Answer, IsAnsweredBefore, refusal_line, reports_text, refusals_text, texts_status}
 use Rattle.cal_report.specs.CalendarReport.{calendar_answer}
@@ -76,7 +76,7 @@ report_after asked base read =
 
 -- the report, which is one error line if the base time is invalid
 abbrev pub report_from : Request → Result (List ℕ) WholeFault → Result ℤ StampFault → Report
-report_from asked read (Err fault) = whole_report (Err (refusal_line (codes "--base-time") (words_of fault)))
+report_from asked read (Err fault) = whole_report (Err (refusal_line (codes "--base-time") (message_of fault)))
 report_from asked read (Ok base) = report_after asked base read
 
 -- the report of a request; `read` is what reading the input returned

@@ -5,7 +5,7 @@ use Rattle.cal_rising.specs.Merge.{Merge, merged}
 use Rattle.cal_elapse.specs.Covered.{AreKept, IsCovered}
 use Rattle.cal_elapse.specs.headline.Elapses.{Timed}
 use Rattle.cal_elapse.specs.Merged.{each_after}
-use Rattle.cal_read.specs.TimerFault.{line_of, words_of}
+use Rattle.cal_read.specs.TimerFault.{line_of, message_of}
 use Rattle.cal_read.specs.TimerText.{TimerLine, Timer}
 use Rattle.cal_spec.specs.headline.Fields.{Fields}
 use Rattle.cal_spec.specs.headline.Match.{Sets}
@@ -24,7 +24,7 @@ plan_text asked plan =
 
 -- the error message
 abbrev pub refused_words : TimerRefusal → List ℕ
-refused_words (refused.Timer fault) = words_of fault
+refused_words (refused.Timer fault) = message_of fault
 refused_words (refused.NoSuchZone line) = codes "no such zone"
 refused_words refused.NoMemory = []
 

@@ -9,7 +9,7 @@ use Rattle.cal_streams.specs.declared.whole.WholeFault.TheVariants.{NoMemory}
 use Rattle.cal_elapse.specs.Elapses.{elapses_except}
 use Rattle.cal_elapse.specs.headline.Elapses.{Timed}
 use Rattle.cal_elapse.specs.headline.Timed.{timed}
-use Rattle.cal_read.specs.TimerFault.{line_of, words_of}
+use Rattle.cal_read.specs.TimerFault.{line_of, message_of}
 use Rattle.cal_read.specs.TimerText.{TimerLine, Timer, timer_text}
 use Rattle.cal_read.specs.declared.timer.fault.TimerFault.{TimerFault}
 use Rattle.cal_spec.specs.Expr.{expr_in}
@@ -73,7 +73,7 @@ answer_unless asked base name lists (Some number) = Err (refusal_at name (Some n
 
 abbrev pub answer_of_timer : Request → ℤ → List ℕ → Result (Timer Fields) TimerFault → Result (List ℕ) (List ℕ)
 answer_of_timer asked base name (Ok lists) = answer_unless asked base name lists (unzoned asked lists)
-answer_of_timer asked base name (Err fault) = Err (refusal_at name (line_of fault) (words_of fault))
+answer_of_timer asked base name (Err fault) = Err (refusal_at name (line_of fault) (message_of fault))
 
 -- reading the input didn't run out of memory
 abbrev pub IsHad : Result (List ℕ) WholeFault → Type 0

@@ -2,7 +2,7 @@
 use Rattle.std.specs.Prelude.{ℕ, List, [], ◌∷◌, ◌++◌, codes, decimal}
 use Rattle.std.specs.Result.{result_map_both}
 use Rattle.cal_bytes.specs.headline.Bytes.{joined}
-use Rattle.cal_span.specs.SpanFault.{words_of}
+use Rattle.cal_span.specs.SpanFault.{message_of}
 use Rattle.cal_span.specs.headline.SpanText.{span_text}
 use Rattle.cal_span.specs.SpanValue.{span_of}
 use Rattle.cal_report.specs.Answer.{Answer}
@@ -18,4 +18,4 @@ timespan_report text micros =
 
 -- the report of a time span, or the error message
 unfoldable pub timespan_answer : List ℕ → Answer
-timespan_answer text = result_map_both (timespan_report text) words_of (span_of text)
+timespan_answer text = result_map_both (timespan_report text) message_of (span_of text)

@@ -8,7 +8,7 @@ use Rattle.cal_zone.specs.headline.Zone.{zone_of}
 use Rattle.cal_zone.specs.headline.ZoneTable.{zone_named}
 use Rattle.cal_zone.specs.declared.zone.Zone.{Zone}
 use Rattle.cal_read.specs.Stamp.{moment_in}
-use Rattle.cal_read.specs.StampFault.{words_of}
+use Rattle.cal_read.specs.StampFault.{message_of}
 use Rattle.cal_read.specs.StampViews.{setting}
 use Rattle.cal_read.specs.declared.stamp.fault.StampFault.{StampFault}
 use Rattle.cal_report.specs.Answer.{Answer}
@@ -43,4 +43,4 @@ stamp_in asked text = moment_in asked.now (setting (zone_of asked.local) (zone_n
 
 -- the report of a timestamp, or the error message
 unfoldable pub timestamp_answer : Request → List ℕ → Answer
-timestamp_answer asked text = result_map_both (timestamp_report asked text) words_of (stamp_in asked text)
+timestamp_answer asked text = result_map_both (timestamp_report asked text) message_of (stamp_in asked text)

@@ -3,7 +3,7 @@
 
 ghost use Rattle.std.specs.Prelude.{◌≡◌, ◌+◌, ◌-◌, ◌≤◌, ◌++◌, length, false, option_map, take, slice_get, drop};
 ghost use Rattle.cal_bytes.specs.Puts.{Puts};
-ghost use Rattle.cal_bytes.specs.declared.short_text.TheConstants.{ROOM};
+ghost use Rattle.cal_bytes.specs.declared.short_text.TheConstants.{SHORT_TEXT_ROOM};
 ghost use Rattle.cal_span.specs.declared.span.text.TheConstants.{SPAN_ROOM};
 ghost use Rattle.cal_report.specs.ElapseLines.{AreInstants};
 ghost use Rattle.cal_report.specs.headline.ElapseLines.{label_text, elapse_text, elapse_texts, elapses_text};
@@ -105,7 +105,7 @@ fn push_elapse(
     clocks: &mut Clocks<'_>,
     now: Instant,
 )
-    requires { length text.old.items + SPAN_ROOM + 240 ≤ ROOM }
+    requires { length text.old.items + SPAN_ROOM + 240 ≤ SHORT_TEXT_ROOM }
     ensures text { text.new.items ≡ text.old.items ++ elapse_text clocks.old now.secs number elapse.secs }
     ensures local { clocks.new ≡ clocks.old }
 {
@@ -122,7 +122,7 @@ fn push_elapse(
 /// the right with the other labels.
 #[tactic(auto, unfolding(crate::specs::headline::ElapseLines::label_text))]
 fn push_label(text: &mut ShortText, number: u32)
-    requires room { length text.old.items + 30 ≤ ROOM }
+    requires room { length text.old.items + 30 ≤ SHORT_TEXT_ROOM }
     ensures text { text.new.items ≡ text.old.items ++ label_text number }
     ensures short { length text.new.items ≤ length text.old.items + 30 }
 {

@@ -9,7 +9,7 @@ ghost use Rattle.jiff.specs.Words.{ambiguous_at};
 ghost use Rattle.cal_streams.specs.declared.whole.WholeFault.{WholeFault};
 ghost use Rattle.cal_zone.specs.Instant.{IsInstant};
 ghost use Rattle.cal_zone.specs.headline.Place.{datetime_of, place_of};
-ghost use Rattle.cal_zone.specs.headline.Zone.{local_of};
+ghost use Rattle.cal_zone.specs.headline.Zone.{local_shown_at};
 ghost use Rattle.cal_spec.specs.headline.Fields.{Fields};
 ghost use Rattle.cal_spec.specs.headline.Match.{matches};
 ghost use Rattle.cal_spec.specs.headline.Members.{sets_of};
@@ -101,12 +101,12 @@ pub fn headline()
     // other elapse time.
     ensures shown { (fields : Fields) (tz : TimeZone) (i : ℤ) → IsPlace (timed fields tz) i
         → (local : ℕ) × (local < 7_258_118_400) × (matches (sets_of fields) local ≡ true)
-        × (local_of tz i ≡ pos local) }
+        × (local_shown_at tz i ≡ pos local) }
     ensures alone { (fields : Fields) (tz : TimeZone) (i j : ℤ) → IsPlace (timed fields tz) i
-        → IsPlace (timed fields tz) j → local_of tz i ≡ local_of tz j → i ≡ j }
+        → IsPlace (timed fields tz) j → local_shown_at tz i ≡ local_shown_at tz j → i ≡ j }
     // A local second that the clock never shows (in a gap) has no instant. If `jiff` finds that the clock shows it
     // twice (in a fold), then its instant, if it has one, is the first occurrence.
-    ensures gap { (tz : TimeZone) (local : ℤ) → ((second : ℤ) → local_of tz second ≡ local → ⊥)
+    ensures gap { (tz : TimeZone) (local : ℤ) → ((second : ℤ) → local_shown_at tz second ≡ local → ⊥)
         → place_of tz local ≡ None }
     ensures fold { (tz : TimeZone) (local i : ℤ) (before after : Offset)
         → ambiguous_at tz (datetime_of local) ≡ Fold before after → place_of tz local ≡ Some i

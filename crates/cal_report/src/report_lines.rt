@@ -2,7 +2,7 @@
 
 ghost use Rattle.std.specs.Prelude.{◌≡◌, ◌+◌, ◌≤◌, ◌++◌, ◌-ℤ◌, false, length, unsigned_abs};
 ghost use Rattle.cal_bytes.specs.Puts.{Puts};
-ghost use Rattle.cal_bytes.specs.declared.short_text.TheConstants.{ROOM};
+ghost use Rattle.cal_bytes.specs.declared.short_text.TheConstants.{SHORT_TEXT_ROOM};
 ghost use Rattle.cal_span.specs.declared.span.text.TheConstants.{SPAN_ROOM};
 ghost use Rattle.cal_zone.specs.headline.Moment.{micros_of};
 ghost use Rattle.cal_report.specs.headline.ReportLines.{direction_text, distance_text, text_line};
@@ -29,7 +29,7 @@ pub fn put_text<W: Sink>(out: &mut W, label: &[u8], text: &str) -> Result<(), Wr
 /// + 5 bytes.
 #[tactic(auto, unfolding(crate::specs::headline::ReportLines::distance_text))]
 pub fn push_distance(text: &mut ShortText, now: Instant, moment: Moment)
-    requires room { length text.old.items + SPAN_ROOM + 5 ≤ ROOM }
+    requires room { length text.old.items + SPAN_ROOM + 5 ≤ SHORT_TEXT_ROOM }
     ensures text { text.new.items ≡ text.old.items ++ distance_text (micros_of now.secs) moment.micros }
     ensures short { length text.new.items ≤ length text.old.items + SPAN_ROOM + 5 }
 {

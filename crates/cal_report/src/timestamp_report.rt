@@ -3,7 +3,7 @@
 
 ghost use Rattle.std.specs.Prelude.{◌≡◌, ◌+◌, ◌≤◌, ◌++◌, false, length, unsigned_abs};
 ghost use Rattle.cal_bytes.specs.Puts.{Puts};
-ghost use Rattle.cal_bytes.specs.declared.short_text.TheConstants.{ROOM};
+ghost use Rattle.cal_bytes.specs.declared.short_text.TheConstants.{SHORT_TEXT_ROOM};
 ghost use Rattle.cal_span.specs.declared.span.text.TheConstants.{SPAN_ROOM};
 ghost use Rattle.cal_report.specs.Context.{asked_by};
 ghost use Rattle.cal_report.specs.TimestampReport.{moment_lines, timestamp_report, unix_text};
@@ -50,7 +50,7 @@ fn put_moment<W: Sink>(
 /// Appends the lines that describe the moment, without the label of the first line.
 #[tactic(auto, unfolding(crate::specs::TimestampReport::moment_lines))]
 fn push_moment(text: &mut ShortText, clocks: &mut Clocks<'_>, now: Instant, moment: Moment)
-    requires { length text.old.items + SPAN_ROOM + 276 ≤ ROOM }
+    requires { length text.old.items + SPAN_ROOM + 276 ≤ SHORT_TEXT_ROOM }
     ensures { text.new.items ≡ text.old.items ++ moment_lines clocks.old now.secs moment.micros }
 {
     clocks.push_local(text, moment.instant());
@@ -67,7 +67,7 @@ fn push_moment(text: &mut ShortText, clocks: &mut Clocks<'_>, now: Instant, mome
 /// Appends at most 48 bytes.
 #[tactic(auto, unfolding(crate::specs::TimestampReport::unix_text))]
 fn push_unix(text: &mut ShortText, moment: Moment)
-    requires room { length text.old.items + 48 ≤ ROOM }
+    requires room { length text.old.items + 48 ≤ SHORT_TEXT_ROOM }
     ensures text { text.new.items ≡ text.old.items ++ unix_text (unsigned_abs moment.micros) }
     ensures short { length text.new.items ≤ length text.old.items + 48 }
 {

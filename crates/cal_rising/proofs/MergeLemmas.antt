@@ -12,7 +12,7 @@ use Rattle.std.specs.List.Sorted.{IsStrictlySortedBy}
 use Rattle.std.specs.Ordering.{int_cmp, match_ordering}
 use Rattle.std.specs.declared.cmp.Ordering.{Ordering}
 use Rattle.std.specs.declared.cmp.Ordering.TheVariants.{Less, Equal, Greater}
-use Rattle.cal_rising.specs.Merge.{HasHead, Branch, lesser, numbers, passed}
+use Rattle.cal_rising.specs.Merge.{HasHead, Peeked, lesser, numbers, advanced}
 use Rattle.cal_rising.specs.RisingList.{HasAny, with_numbers, union}
 use Rattle.cal_rising.specs.headline.Elements.{Has}
 use Rattle.cal_text.proofs.General.{lt_from_less, rises-drop}
@@ -50,7 +50,7 @@ first-with_numbers (x ∷ xs) ys h =
     grind (arith, ints, first-insert_key, sorted_tail, lesser-assoc, lesser-first, first-with_numbers xs ys (sorted_tail int_cmp x xs h))
 
 -- the first number of a union is the smaller of the first list's first number and that of the union of the other lists
-first-union_more : (ss : List Branch) (i : ℕ) (d : Branch) → i < length ss → All HasHead ss
+first-union_more : (ss : List Peeked) (i : ℕ) (d : Peeked) → i < length ss → All HasHead ss
     → slice_get (union (map numbers (take (suc i) ss))) 0 ≡ lesser (slice_get (union (map numbers (take i ss))) 0) (get_or ss i d).head
 unfolding union
 first-union_more [] i d lt h = absurd (omega arith)
@@ -63,21 +63,21 @@ first-union_more (s ∷ ss) (suc i) d lt h =
     ∙ ap (λ a. lesser a (get_or ss i d).head) (sym (first-with_numbers (numbers s) (union (map numbers (take i ss))) here.1))
 
 -- the smallest number read ahead, after one more source is examined
-pub least_more : (ss ts : List Branch) (i : ℕ) (s : Branch) (least head next : Option ℤ) → ss ≡ ts → All HasHead ts → i < length ss
+pub least_more : (ss ts : List Peeked) (i : ℕ) (s : Peeked) (least head next : Option ℤ) → ss ≡ ts → All HasHead ts → i < length ss
     → least ≡ slice_get (union (map numbers (take i ss))) 0 → s ≡ get_or ss i s → head ≡ s.head → next ≡ lesser least head
     → next ≡ slice_get (union (map numbers (take (i + 1) ss))) 0
 least_more ss ts i s least head next same heads lt so_far there its now = grind (arith, ints, add-one, first-union_more)
 
 -- what remains of a strictly increasing list after a number at most its first was returned
-Has-passed : (m : ℤ) (xs : List ℤ) → IsStrictlySortedBy int_cmp xs → ((i : ℤ) → Has xs i → m ≤ℤ i) → (i : ℤ) → Has (passed m xs) i ↔ ((m <ℤ i) × Has xs i)
-Has-passed m [] h low i = (λ n. absurd n, λ p. p.1)
-Has-passed m (y ∷ ys) h low i = grind (arith, ints, above_first y i ys h, low y (inl refl))
+Has-advanced : (m : ℤ) (xs : List ℤ) → IsStrictlySortedBy int_cmp xs → ((i : ℤ) → Has xs i → m ≤ℤ i) → (i : ℤ) → Has (advanced m xs) i ↔ ((m <ℤ i) × Has xs i)
+Has-advanced m [] h low i = (λ n. absurd n, λ p. p.1)
+Has-advanced m (y ∷ ys) h low i = grind (arith, ints, above_first y i ys h, low y (inl refl))
 
-HasAny-passed : (m : ℤ) (ss : List Branch) → All HasHead ss → ((i : ℤ) → HasAny (map numbers ss) i → m ≤ℤ i)
-    → (i : ℤ) → HasAny (map (passed m) (map numbers ss)) i ↔ ((m <ℤ i) × HasAny (map numbers ss) i)
-HasAny-passed m [] h low i = (λ n. absurd n, λ p. p.1)
-HasAny-passed m (s ∷ ss) h low i =
-    grind (arith, ints, Has-passed, All-head, All-tail, HasAny-passed m ss (All-tail HasHead s ss h) (λ j n. low j (inr n)) i)
+HasAny-advanced : (m : ℤ) (ss : List Peeked) → All HasHead ss → ((i : ℤ) → HasAny (map numbers ss) i → m ≤ℤ i)
+    → (i : ℤ) → HasAny (map (advanced m) (map numbers ss)) i ↔ ((m <ℤ i) × HasAny (map numbers ss) i)
+HasAny-advanced m [] h low i = (λ n. absurd n, λ p. p.1)
+HasAny-advanced m (s ∷ ss) h low i =
+    grind (arith, ints, Has-advanced, All-head, All-tail, HasAny-advanced m ss (All-tail HasHead s ss h) (λ j n. low j (inr n)) i)
 
 -- no number of a strictly increasing list is below its first
 first_is_least : (m : ℤ) (xs : List ℤ) → IsStrictlySortedBy int_cmp xs → slice_get xs 0 ≡ Some m → (i : ℤ) → Has xs i → m ≤ℤ i
@@ -89,17 +89,17 @@ later_by_first m [] h e i = absurd (cc)
 later_by_first m (x ∷ xs) h e i = grind (arith, later_members x xs h i)
 
 -- after the smallest number is returned, the union of what remains of each list remains
-pub union-passed : (m : ℤ) (ss : List Branch) → All HasHead ss
-    → slice_get (union (map numbers ss)) 0 ≡ Some m → union (map (passed m) (map numbers ss)) ≡ drop 1 (union (map numbers ss))
-union-passed m ss h e =
+pub union-advanced : (m : ℤ) (ss : List Peeked) → All HasHead ss
+    → slice_get (union (map numbers ss)) 0 ≡ Some m → union (map (advanced m) (map numbers ss)) ≡ drop 1 (union (map numbers ss))
+union-advanced m ss h e =
     let lists = map numbers ss in
     let rises = rises-union lists in
     let low = λ (i : ℤ) (n : HasAny lists i). first_is_least m (union lists) rises e i ((Has-union lists i).1 n) in
-    same_rising (union (map (passed m) lists)) (drop 1 (union lists)) (rises-union (map (passed m) lists)) (rises-drop (union lists) 1 rises)
-    (λ i. grind (arith, HasAny-passed m ss h low i, later_by_first m (union lists) rises e i, Has-union (map (passed m) lists) i, Has-union lists i))
+    same_rising (union (map (advanced m) lists)) (drop 1 (union lists)) (rises-union (map (advanced m) lists)) (rises-drop (union lists) 1 rises)
+    (λ i. grind (arith, HasAny-advanced m ss h low i, later_by_first m (union lists) rises e i, Has-union (map (advanced m) lists) i, Has-union lists i))
 
 -- one more source was replaced by its image under a function
-changed_next : (f : List ℤ → List ℤ) (xs ys : List Branch) (i : ℕ) (y d : Branch) → i < length xs → i < length ys
+changed_next : (f : List ℤ → List ℤ) (xs ys : List Peeked) (i : ℕ) (y d : Peeked) → i < length xs → i < length ys
     → map numbers (take i xs) ≡ map f (map numbers (take i ys)) → numbers y ≡ f (numbers (get_or ys i d))
     → map numbers (take (suc i) (set xs i y)) ≡ map f (map numbers (take (suc i) ys))
 changed_next f [] ys i y d lt lu h e = absurd (omega arith)
@@ -111,18 +111,18 @@ changed_next f (x ∷ xs) (z ∷ ys) (suc i) y d lt lu h e =
     let more = changed_next f xs ys i y d (omega arith) (omega arith) tail e in
     cc
 
-pub changed_more : (f : List ℤ → List ℤ) (xs ys : List Branch) (i : ℕ) (y d : Branch) → i < length xs → i < length ys
+pub changed_more : (f : List ℤ → List ℤ) (xs ys : List Peeked) (i : ℕ) (y d : Peeked) → i < length xs → i < length ys
     → map numbers (take i xs) ≡ map f (map numbers (take i ys)) → get_or xs i d ≡ get_or ys i d
     → numbers y ≡ f (numbers (get_or xs i d))
     → map numbers (take (i + 1) (set xs i y)) ≡ map f (map numbers (take (i + 1) ys))
 changed_more f xs ys i y d lt lu so_far same now = grind (arith, ints, add-one, changed_next)
 
 -- one more source was read ahead
-pub has_head_more : (ss : List Branch) (i : ℕ) (s : Branch) → i < length ss → HasHead s → ((k : ℕ) (d : Branch) → k < i → HasHead (get_or ss k d))
-    → (k : ℕ) (d : Branch) → k < suc i → HasHead (get_or (set ss i s) k d)
+pub has_head_more : (ss : List Peeked) (i : ℕ) (s : Peeked) → i < length ss → HasHead s → ((k : ℕ) (d : Peeked) → k < i → HasHead (get_or ss k d))
+    → (k : ℕ) (d : Peeked) → k < suc i → HasHead (get_or (set ss i s) k d)
 has_head_more [] i s lt h below k d le = absurd (omega arith)
 has_head_more (x ∷ ss) zero s lt h below zero d le = h
 has_head_more (x ∷ ss) zero s lt h below (suc k) d le = absurd (omega arith)
 has_head_more (x ∷ ss) (suc i) s lt h below zero d le = below zero d (omega arith)
 has_head_more (x ∷ ss) (suc i) s lt h below (suc k) d le =
-    grind (arith, ints, has_head_more ss i s (omega arith) h (λ (j : ℕ) (e : Branch) (l : j < i). below (suc j) e (omega arith)) k d (omega arith))
+    grind (arith, ints, has_head_more ss i s (omega arith) h (λ (j : ℕ) (e : Peeked) (l : j < i). below (suc j) e (omega arith)) k d (omega arith))

@@ -13,7 +13,7 @@ use Rattle.std.proofs.lemmas.Bool.Decides.{Decides-int_eq}
 use Rattle.std.proofs.lemmas.Int.{ints}
 use Rattle.std.proofs.lemmas.List.{get_or_default}
 use borrow.Author.Count.{below_more}
-use Rattle.cal_rising.specs.Merge.{Branch, HasHead, numbers, numbers_by}
+use Rattle.cal_rising.specs.Merge.{Peeked, HasHead, numbers, numbers_by}
 use Rattle.cal_rising.specs.Rises.{rises-union, rises-without}
 use Rattle.cal_rising.specs.RisingList.{HasAny, IsSameFrom, IsUnionWithout, union, without}
 use Rattle.cal_rising.specs.headline.Elements.{Has}
@@ -76,8 +76,8 @@ member_reached None [] n first rises at = refl
 member_reached None (x ∷ xs) n first rises at = absurd (cc)
 member_reached (Some m) xs n first rises at = int_eq_equiv.symm m n ∙ sym (is_member-head (Some m) xs m n rises refl at)
 
--- A branch that was read up to a number had that number exactly if it is now the number read ahead.
-pub is_member-reached : (s was : Branch) (n : ℤ) → HasHead s → IfSome s.head (λ head. n ≤ℤ head) → IsSameFrom n (numbers s) (numbers was)
+-- A source that was read up to a number had that number exactly if it is now the number read ahead.
+pub is_member-reached : (s was : Peeked) (n : ℤ) → HasHead s → IfSome s.head (λ head. n ≤ℤ head) → IsSameFrom n (numbers s) (numbers was)
     → option_eq int_eq s.head (Some n) ≡ is_member int_eq (numbers was) n
 is_member-reached s was n h at same = member_reached s.head s.after n h.0 h.1 at ∙ same n (grind (arith, ints))
 
@@ -103,47 +103,47 @@ pub any-union : (n number : ℤ) (has : Bool) (now xss : List (List ℤ)) → nu
 any-union n number has now xss same e whole = grind (arith, ints, HasAny-any, Has-union, is_member-Has, Has-is_member)
 
 -- a source has the number if none before this one has it, or if this one has it
-any-none : (n : ℤ) (ss : List Branch) → ((k : ℕ) → k < length ss → (d : Branch) → is_member int_eq (numbers (get_or ss k d)) n ≡ false)
+any-none : (n : ℤ) (ss : List Peeked) → ((k : ℕ) → k < length ss → (d : Peeked) → is_member int_eq (numbers (get_or ss k d)) n ≡ false)
     → list_any (λ xs. is_member int_eq xs n) (map numbers ss) ≡ false
 any-none n [] h = refl
 any-none n (s ∷ ss) h =
-    rw (h zero (omega arith) s) (any-none n ss (λ (k : ℕ) (lt : k < length ss) (d : Branch). h (suc k) (omega arith) d))
+    rw (h zero (omega arith) s) (any-none n ss (λ (k : ℕ) (lt : k < length ss) (d : Peeked). h (suc k) (omega arith) d))
 
-any-here : (n : ℤ) (ss : List Branch) (i : ℕ) (d : Branch) → i < length ss → is_member int_eq (numbers (get_or ss i d)) n ≡ true
+any-here : (n : ℤ) (ss : List Peeked) (i : ℕ) (d : Peeked) → i < length ss → is_member int_eq (numbers (get_or ss i d)) n ≡ true
     → list_any (λ xs. is_member int_eq xs n) (map numbers ss) ≡ true
 any-here n [] i d lt h = absurd (omega arith)
 any-here n (s ∷ ss) zero d lt h = rw h refl
 any-here n (s ∷ ss) (suc i) d lt h = rw (any-here n ss i d (omega arith) h) (or-true (is_member int_eq (numbers s) n))
 
 -- no source before index `at` had the number, and the sources from `at` on are unchanged
-pub record AreBehind (n : ℤ) (at : ℕ) (given now : List Branch) : Type 0 where
-  pub none : (k : ℕ) → k < at → (d : Branch) → is_member int_eq (numbers (get_or given k d)) n ≡ false
-  pub untouched : (k : ℕ) (d : Branch) → at ≤ k → get_or now k d ≡ get_or given k d
+pub record AreBehind (n : ℤ) (at : ℕ) (given now : List Peeked) : Type 0 where
+  pub none : (k : ℕ) → k < at → (d : Peeked) → is_member int_eq (numbers (get_or given k d)) n ≡ false
+  pub untouched : (k : ℕ) (d : Peeked) → at ≤ k → get_or now k d ≡ get_or given k d
 
 -- this still holds for index `at` + 1 if the source at `at` doesn't have the number, even if that source was read
 -- further
-pub behind_more : (n : ℤ) (at : ℕ) (given now : List Branch) (s t : Branch) → AreBehind n at given now → at < length given
+pub behind_more : (n : ℤ) (at : ℕ) (given now : List Peeked) (s t : Peeked) → AreBehind n at given now → at < length given
     → is_member int_eq (numbers (get_or now at s)) n ≡ false → AreBehind n (at + 1) given (set now at t)
 behind_more n at given now s t h lt lacks = record {
-  none = below_more (λ k. (d : Branch) → is_member int_eq (numbers (get_or given k d)) n ≡ false) at h.none (λ d.
-      ap (λ (s : Branch). is_member int_eq (numbers s) n) (get_or_default given at d s lt ∙ sym (h.untouched at s (omega arith))) ∙ lacks);
+  none = below_more (λ k. (d : Peeked) → is_member int_eq (numbers (get_or given k d)) n ≡ false) at h.none (λ d.
+      ap (λ (s : Peeked). is_member int_eq (numbers s) n) (get_or_default given at d s lt ∙ sym (h.untouched at s (omega arith))) ∙ lacks);
   untouched = λ k d above.
       let other : k ≢ at = omega arith in
       get_or-set_other now at k t d other ∙ h.untouched k d (omega arith);
 }
 
 -- after the last source, no source has the number
-pub behind_all : (n number : ℤ) (at : ℕ) (given now ss : List Branch) → AreBehind n at given now → n ≡ number → given ≡ ss → length given ≤ at
+pub behind_all : (n number : ℤ) (at : ℕ) (given now ss : List Peeked) → AreBehind n at given now → n ≡ number → given ≡ ss → length given ≤ at
     → false ≡ list_any (λ xs. is_member int_eq xs number) (map numbers ss)
 behind_all n number at given now ss h same whole all = grind (arith, ints, any-none)
 
 -- the source at this index decides
-pub behind_here : (n number : ℤ) (at : ℕ) (given now ss : List Branch) (s : Branch) → AreBehind n at given now → n ≡ number → given ≡ ss → at < length given
+pub behind_here : (n number : ℤ) (at : ℕ) (given now ss : List Peeked) (s : Peeked) → AreBehind n at given now → n ≡ number → given ≡ ss → at < length given
     → is_member int_eq (numbers (get_or now at s)) n ≡ true → true ≡ list_any (λ xs. is_member int_eq xs number) (map numbers ss)
 behind_here n number at given now ss s h same whole lt has = grind (arith, ints, any-here)
 
 -- replacing one source by another changes nothing if both have the number, or if both lack it
-pub any_replaced : (n : ℤ) (ss : List Branch) (i : ℕ) (s d : Branch) → i < length ss → is_member int_eq (numbers s) n ≡ is_member int_eq (numbers (get_or ss i d)) n
+pub any_replaced : (n : ℤ) (ss : List Peeked) (i : ℕ) (s d : Peeked) → i < length ss → is_member int_eq (numbers s) n ≡ is_member int_eq (numbers (get_or ss i d)) n
     → list_any (λ xs. is_member int_eq xs n) (map numbers (set ss i s)) ≡ list_any (λ xs. is_member int_eq xs n) (map numbers ss)
 any_replaced n [] i s d lt h = absurd (omega arith)
 any_replaced n (x ∷ ss) zero s d lt h = ap (λ (b : Bool). b || list_any (λ xs. is_member int_eq xs n) (map numbers ss)) h

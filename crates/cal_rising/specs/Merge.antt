@@ -17,7 +17,7 @@ abbrev pub merged : Merge → List ℤ
 merged m = without (union m.lists) (union m.exceptions)
 
 -- one source of a merge: the number read ahead and not returned yet, if any, and the numbers after it
-pub record Branch : Type 0 where
+pub record Peeked : Type 0 where
   pub head : Option ℤ
   pub after : List ℤ
 
@@ -26,17 +26,17 @@ abbrev pub numbers_by : Option ℤ → List ℤ → List ℤ
 numbers_by None xs = xs
 numbers_by (Some x) xs = x ∷ xs
 
-abbrev pub numbers : Branch → List ℤ
+abbrev pub numbers : Peeked → List ℤ
 numbers s = numbers_by s.head s.after
 
 -- the first remaining number was read ahead, unless none is left
-abbrev pub HasHead : Branch → Type 0
+abbrev pub HasHead : Peeked → Type 0
 HasHead s = (s.head ≡ slice_get (numbers s) 0) × IsStrictlySortedBy int_cmp (numbers s)
 
 -- what remains of a strictly increasing list after `x`, which is at most its first number, was returned
-abbrev pub passed : ℤ → List ℤ → List ℤ
-passed x [] = []
-passed x (y ∷ ys) = cond (int_lt x y) (y ∷ ys) ys
+abbrev pub advanced : ℤ → List ℤ → List ℤ
+advanced x [] = []
+advanced x (y ∷ ys) = cond (int_lt x y) (y ∷ ys) ys
 
 -- the smaller of two numbers, or the only one if the other is missing
 abbrev pub lesser : Option ℤ → Option ℤ → Option ℤ

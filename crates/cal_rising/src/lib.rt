@@ -1,7 +1,7 @@
 //! Sources of strictly increasing numbers, and the merge of several sources into one.
 #![tactic(auto)]
 
-mod branch;
+mod peeked;
 pub mod laws;
 mod listed;
 mod merge;

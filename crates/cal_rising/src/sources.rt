@@ -4,10 +4,10 @@ ghost use Rattle.std.specs.Prelude.{◌≡◌, ◌++◌, ◌∷◌, [], map, tru
 ghost use Rattle.std.specs.List.{All, list_any};
 ghost use Rattle.std.specs.Set.{is_member};
 ghost use Rattle.std.specs.Ordering.{int_eq};
-ghost use Rattle.cal_rising.specs.Merge.{HasHead, lesser, numbers, passed};
+ghost use Rattle.cal_rising.specs.Merge.{HasHead, lesser, numbers, advanced};
 ghost use Rattle.cal_rising.specs.RisingList.{IsSameFrom, union};
 
-use crate::branch::Branch;
+use crate::peeked::Peeked;
 use crate::{NoMemory, Rising};
 use std::alloc::Global;
 use std::marker::Model;
@@ -15,7 +15,7 @@ use std::marker::Model;
 /// Several sources of strictly increasing numbers. A contract sees the remaining numbers of each source.
 #[derive(Drop)]
 pub struct Sources<S: Rising> {
-    branches: Vec<Branch<S>>,
+    sources: Vec<Peeked<S>>,
 }
 
 impl<S: Rising> Model for Sources<S> {
@@ -24,7 +24,7 @@ impl<S: Rising> Model for Sources<S> {
 
     ghost Value = { List (List ℤ) };
 
-    ghost view = { λ sources. map numbers sources.branches.items };
+    ghost view = { λ sources. map numbers sources.sources.items };
 }
 
 impl<S: Rising> Sources<S> {
@@ -33,7 +33,7 @@ impl<S: Rising> Sources<S> {
         ensures { result ≡ [] }
     {
         Sources {
-            branches: Vec::new(alloc),
+            sources: Vec::new(alloc),
         }
     }
 
@@ -44,10 +44,10 @@ impl<S: Rising> Sources<S> {
         ensures unchanged { OnErr result (self.new ≡ self.old) }
         ensures handed_back { IfErr result (λ refused. refused.0 ≡ source) }
     {
-        if let Err(refused) = self.branches.reserve(1) {
+        if let Err(refused) = self.sources.reserve(1) {
             return Err((source, refused));
         }
-        self.branches.push_reserved(Branch::new(source));
+        self.sources.push_reserved(Peeked::new(source));
         Ok(())
     }
 
@@ -57,7 +57,7 @@ impl<S: Rising> Sources<S> {
         ensures has { result ≡ is_member int_eq (union self.old) number }
         ensures left { IsSameFrom number (union self.new) (union self.old) }
     {
-        follow_all(&mut self.branches, number)
+        has_onward_in_any(&mut self.sources, number)
     }
 }
 
@@ -69,10 +69,10 @@ impl<S: Rising> Rising for Sources<S> {
         ensures given { result ≡ slice_get (union self.old) 0 }
         ensures left { union self.new ≡ drop 1 (union self.old) }
     {
-        fetch_all(&mut self.branches);
-        let least = least_head(&self.branches);
+        peek_all(&mut self.sources);
+        let least = least_head(&self.sources);
         if let Some(number) = least {
-            pass_all(&mut self.branches, number);
+            advance_all_past(&mut self.sources, number);
         }
         least
     }
@@ -83,47 +83,47 @@ impl<S: Rising> Rising for Sources<S> {
 }
 
 /// Reads one number ahead from each source that has no number read ahead.
-fn fetch_all<S: Rising>(branches: &mut Vec<Branch<S>>)
-    ensures same { map numbers branches.new.items ≡ map numbers branches.old.items }
-    ensures taken { All HasHead branches.new.items }
+fn peek_all<S: Rising>(sources: &mut Vec<Peeked<S>>)
+    ensures same { map numbers sources.new.items ≡ map numbers sources.old.items }
+    ensures taken { All HasHead sources.new.items }
 {
-    for branch in branches.iter_mut() {
-        branch.fetch();
+    for peeked in sources.iter_mut() {
+        peeked.peek();
     }
 }
 
 /// Returns the smallest of the numbers that were read ahead.
 #[tactic(auto, unfolding(crate::specs::RisingList::union))]
-fn least_head<S: Rising>(branches: &Vec<Branch<S>>) -> Option<i64>
-    requires { All HasHead branches.now.items }
-    ensures { result ≡ slice_get (union (map numbers branches.now.items)) 0 }
+fn least_head<S: Rising>(sources: &Vec<Peeked<S>>) -> Option<i64>
+    requires { All HasHead sources.now.items }
+    ensures { result ≡ slice_get (union (map numbers sources.now.items)) 0 }
 {
     let mut least = None;
-    for branch in branches {
-        least = lesser(least, branch.head());
+    for peeked in sources {
+        least = lesser(least, peeked.head());
     }
     least
 }
 
 /// Drops the number read ahead from every source in which it equals `number`, the smallest of them.
-fn pass_all<S: Rising>(branches: &mut Vec<Branch<S>>, number: i64)
-    requires { All HasHead branches.old.items }
-    ensures { map numbers branches.new.items ≡ map (passed number) (map numbers branches.old.items) }
+fn advance_all_past<S: Rising>(sources: &mut Vec<Peeked<S>>, number: i64)
+    requires { All HasHead sources.old.items }
+    ensures { map numbers sources.new.items ≡ map (advanced number) (map numbers sources.old.items) }
 {
-    for branch in branches.iter_mut() {
-        branch.pass(number);
+    for peeked in sources.iter_mut() {
+        peeked.advance_past(number);
     }
 }
 
 /// Returns whether `number` is among the remaining numbers of any source. The caller promises not to ask for a smaller
 /// number again, so sources that do not have `number` may be read further.
-fn follow_all<S: Rising>(branches: &mut Vec<Branch<S>>, number: i64) -> bool
-    ensures has { result ≡ list_any (λ xs. is_member int_eq xs number) (map numbers branches.old.items) }
-    ensures left { (i : ℤ) → number ≤ℤ i → list_any (λ xs. is_member int_eq xs i) (map numbers branches.new.items)
-        ≡ list_any (λ xs. is_member int_eq xs i) (map numbers branches.old.items) }
+fn has_onward_in_any<S: Rising>(sources: &mut Vec<Peeked<S>>, number: i64) -> bool
+    ensures has { result ≡ list_any (λ xs. is_member int_eq xs number) (map numbers sources.old.items) }
+    ensures left { (i : ℤ) → number ≤ℤ i → list_any (λ xs. is_member int_eq xs i) (map numbers sources.new.items)
+        ≡ list_any (λ xs. is_member int_eq xs i) (map numbers sources.old.items) }
 {
-    for branch in branches.iter_mut() {
-        if branch.has_onward(number) {
+    for peeked in sources.iter_mut() {
+        if peeked.has_onward(number) {
             return true;
         }
     }

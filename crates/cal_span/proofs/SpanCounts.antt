@@ -6,16 +6,16 @@ use Rattle.std.proofs.lemmas.List.{append_assoc, at_drop_more}
 use Rattle.std.proofs.lemmas.Nat.{div-mul-add, mod-mul-add, div-add-mod', mod_below, le-div}
 use Rattle.std.specs.Prelude.{decimal}
 use Rattle.std.specs.List.{flat_map}
-use Rattle.cal_span.specs.declared.scale.Scale.{Scale}
-use Rattle.cal_span.specs.declared.scale.Scale.TheVariants.{Year, Month, Week, Day, Hour, Minute, Second, Millisecond, Microsecond}
+use Rattle.cal_span.specs.declared.time_unit.TimeUnit.{TimeUnit}
+use Rattle.cal_span.specs.declared.time_unit.TimeUnit.TheVariants.{Year, Month, Week, Day, Hour, Minute, Second, Millisecond, Microsecond}
 use Rattle.cal_bytes.specs.headline.Bytes.{joined}
-use Rattle.cal_span.specs.headline.Scale.{size_of, scales, unit_name}
+use Rattle.cal_span.specs.headline.TimeUnit.{size_of, all_units, unit_name}
 use Rattle.cal_span.specs.SpanText.{weight, AreReduced, AreCounts, IsSpanText}
 use Rattle.cal_span.specs.headline.SpanText.{Count, count_text, counts_in_row, counts_text, positive, counts_of, units_text, span_text}
 use Rattle.std.proofs.lemmas.Bool.Decides.{nat_tests}
 
 -- every unit is longer than zero
-pub size_of_positive : (unit : Scale) → 0 < size_of unit
+pub size_of_positive : (unit : TimeUnit) → 0 < size_of unit
 size_of_positive Year = lit< tt
 size_of_positive Month = lit< tt
 size_of_positive Week = lit< tt
@@ -27,32 +27,32 @@ size_of_positive Millisecond = lit< tt
 size_of_positive Microsecond = lit< tt
 
 -- what remains after division by all units
-abbrev remainder : List Scale → ℕ → ℕ
+abbrev remainder : List TimeUnit → ℕ → ℕ
 remainder [] n = n
 remainder (unit ∷ units) n = remainder units (n % size_of unit)
 
 -- the counts and the remainder add up to the whole
-weight-counts_of-remainder : (units : List Scale) (n : ℕ) → weight (counts_of units n) + remainder units n ≡ n
+weight-counts_of-remainder : (units : List TimeUnit) (n : ℕ) → weight (counts_of units n) + remainder units n ≡ n
 weight-counts_of-remainder [] n = omega arith
 weight-counts_of-remainder (unit ∷ units) n =
     omega (arith, weight-counts_of-remainder units (n % size_of unit), div-add-mod' n (size_of unit))
 
 -- the counts after a unit are less than one of the unit, since they come from the remainder
-reduced-counts_of : (units : List Scale) (n : ℕ) → AreReduced units (counts_of units n)
+reduced-counts_of : (units : List TimeUnit) (n : ℕ) → AreReduced units (counts_of units n)
 reduced-counts_of [] n = tt
 reduced-counts_of (unit ∷ units) n =
     grind (arith, nat_tests, weight-counts_of-remainder, mod_below, size_of_positive, reduced-counts_of units (n % size_of unit))
 
 -- nothing remains after the microseconds
-remainder-scales : (n : ℕ) → remainder scales n ≡ 0
-remainder-scales n = omega arith
+remainder-all_units : (n : ℕ) → remainder all_units n ≡ 0
+remainder-all_units n = omega arith
 
 -- division finds the counts of a span
-pub are_counts_of : (n : ℕ) → AreCounts n (counts_of scales n)
-are_counts_of n = grind (arith, nat_tests, weight-counts_of-remainder, remainder-scales, reduced-counts_of)
+pub are_counts_of : (n : ℕ) → AreCounts n (counts_of all_units n)
+are_counts_of n = grind (arith, nat_tests, weight-counts_of-remainder, remainder-all_units, reduced-counts_of)
 
 -- counts that satisfy `AreReduced` are those that division finds
-pub counts_of-weight : (units : List Scale) (cs : List Count) → AreReduced units cs → cs ≡ counts_of units (weight cs)
+pub counts_of-weight : (units : List TimeUnit) (cs : List Count) → AreReduced units cs → cs ≡ counts_of units (weight cs)
 counts_of-weight [] [] h = refl
 counts_of-weight [] (c ∷ cs) h = absurd h
 counts_of-weight (unit ∷ units) [] h = absurd h
@@ -61,18 +61,18 @@ counts_of-weight (unit ∷ units) (c ∷ cs) h = grind (arith, nat_tests, div-mu
 -- `span_text` is a text of the span, and the only one
 pub is_span_text : (n : ℕ) → IsSpanText n (span_text n)
 unfolding units_text
-is_span_text n = (counts_of scales n, are_counts_of n, refl)
+is_span_text n = (counts_of all_units n, are_counts_of n, refl)
 
 pub span_text_only : (n : ℕ) (text : List ℕ) → IsSpanText n text → text ≡ span_text n
 unfolding units_text
 span_text_only n text h =
-    h.2 ∙ ap (λ (cs : List Count). counts_text (positive cs)) (counts_of-weight scales h.0 h.1.reduced ∙ ap (counts_of scales) h.1.sum)
+    h.2 ∙ ap (λ (cs : List Count). counts_text (positive cs)) (counts_of-weight all_units h.0 h.1.reduced ∙ ap (counts_of all_units) h.1.sum)
 
 -- a unit that fits has a count that isn't zero, and a unit that doesn't fit has none
-positive_taken : (unit : Scale) (units : List Scale) (n : ℕ) → size_of unit ≤ n → positive (counts_of (unit ∷ units) n) ≡ record { number = n / size_of unit; unit = unit } ∷ positive (counts_of units (n % size_of unit))
+positive_taken : (unit : TimeUnit) (units : List TimeUnit) (n : ℕ) → size_of unit ≤ n → positive (counts_of (unit ∷ units) n) ≡ record { number = n / size_of unit; unit = unit } ∷ positive (counts_of units (n % size_of unit))
 positive_taken unit units n fits = grind (arith, nat_tests, lt-ltb, le-div, size_of_positive)
 
-positive_skipped : (unit : Scale) (units : List Scale) (n : ℕ) → n < size_of unit → positive (counts_of (unit ∷ units) n) ≡ positive (counts_of units (n % size_of unit))
+positive_skipped : (unit : TimeUnit) (units : List TimeUnit) (n : ℕ) → n < size_of unit → positive (counts_of (unit ∷ units) n) ≡ positive (counts_of units (n % size_of unit))
 positive_skipped unit units n below = grind (arith, nat_tests, le-ltb, div-eq_of_lt)
 
 -- the counts as they are printed in a loop: `lead` before the first and a space before each other one
@@ -94,17 +94,17 @@ counts_in_row-led [] = refl
 counts_in_row-led (c ∷ cs) = refl
 
 -- what is left at the unit of index i: its count, if the unit fits, and then what is left after it
-pub led_taken : (lead : List ℕ) (units : List Scale) (i : ℕ) (d : Scale) (size n : ℕ) → i < length units → size ≡ size_of (get_or units i d) → size ≤ n → led lead (positive (counts_of (drop i units) n)) ≡ joined (lead ∷ decimal (n / size) ∷ unit_name (get_or units i d) ∷ []) ++ led (codes " ") (positive (counts_of (drop (i + 1) units) (n % size)))
+pub led_taken : (lead : List ℕ) (units : List TimeUnit) (i : ℕ) (d : TimeUnit) (size n : ℕ) → i < length units → size ≡ size_of (get_or units i d) → size ≤ n → led lead (positive (counts_of (drop i units) n)) ≡ joined (lead ∷ decimal (n / size) ∷ unit_name (get_or units i d) ∷ []) ++ led (codes " ") (positive (counts_of (drop (i + 1) units) (n % size)))
 led_taken lead units i d size n within e fits =
     rw e
-    (at_drop_more (λ (us : List Scale). led lead (positive (counts_of us n))) units i d within
+    (at_drop_more (λ (us : List TimeUnit). led lead (positive (counts_of us n))) units i d within
     ∙ ap (led lead) (positive_taken (get_or units i d) (drop (i + 1) units) n (omega (arith, e)))
     ∙ led_first lead (record { number = n / size_of (get_or units i d); unit = get_or units i d }) (positive (counts_of (drop (i + 1) units) (n % size_of (get_or units i d)))))
 
-pub led_skipped : (lead : List ℕ) (units : List Scale) (i : ℕ) (d : Scale) (size n : ℕ) → i < length units → size ≡ size_of (get_or units i d) → n < size → led lead (positive (counts_of (drop i units) n)) ≡ led lead (positive (counts_of (drop (i + 1) units) n))
+pub led_skipped : (lead : List ℕ) (units : List TimeUnit) (i : ℕ) (d : TimeUnit) (size n : ℕ) → i < length units → size ≡ size_of (get_or units i d) → n < size → led lead (positive (counts_of (drop i units) n)) ≡ led lead (positive (counts_of (drop (i + 1) units) n))
 led_skipped lead units i d size n within e below =
     let small : n < size_of (get_or units i d) = omega (arith, e) in
-    at_drop_more (λ (us : List Scale). led lead (positive (counts_of us n))) units i d within
+    at_drop_more (λ (us : List TimeUnit). led lead (positive (counts_of us n))) units i d within
     ∙ ap (led lead) (positive_skipped (get_or units i d) (drop (i + 1) units) n small)
     ∙ ap (λ left. led lead (positive (counts_of (drop (i + 1) units) left))) (mod-eq_of_lt small)
 
@@ -119,19 +119,19 @@ weight-positive [] = refl
 weight-positive (c ∷ cs) = weight-kept c (positive cs) (weight cs) (weight-positive cs) (nat_lt 0 c.number) refl
 
 -- the text of the empty span is `0`, and that of any other span is its counts
-positive-counts_of_zero : (units : List Scale) → positive (counts_of units 0) ≡ []
+positive-counts_of_zero : (units : List TimeUnit) → positive (counts_of units 0) ≡ []
 positive-counts_of_zero [] = refl
 positive-counts_of_zero (unit ∷ units) =
     grind (arith, nat_tests, positive_skipped, size_of_positive, mod-eq_of_lt, positive-counts_of_zero units)
 
 pub span_text_zero : span_text 0 ≡ codes "0"
 unfolding units_text
-span_text_zero = ap counts_text (positive-counts_of_zero scales)
+span_text_zero = ap counts_text (positive-counts_of_zero all_units)
 
 counts_text-row : (cs : List Count) → 0 < weight cs → counts_text cs ≡ counts_in_row cs
 counts_text-row [] some = absurd (omega arith)
 counts_text-row (c ∷ cs) some = refl
 
-pub span_text_row : (n : ℕ) → 0 < n → counts_in_row (positive (counts_of scales n)) ≡ span_text n
+pub span_text_row : (n : ℕ) → 0 < n → counts_in_row (positive (counts_of all_units n)) ≡ span_text n
 unfolding units_text
 span_text_row n some = grind (arith, nat_tests, counts_text-row, weight-positive, are_counts_of)

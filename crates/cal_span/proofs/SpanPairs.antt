@@ -2,13 +2,13 @@
 use Rattle.std.proofs.Common.{ℕ, ◌+◌, ◌<◌, ◌≤◌, ◌≡◌, true, false, min, List, [], ◌∷◌, Option, Some, None, Result, Ok, Err, MatchOption, MatchResult, refl, sym, ap, ◌∙◌, arith}
 use Rattle.std.specs.Option.{ok_or}
 use Rattle.std.proofs.lemmas.Bool.{false_from_ne_true, le-leb, lt-leb}
-use Rattle.cal_span.specs.declared.scale.Scale.{Scale}
+use Rattle.cal_span.specs.declared.time_unit.TimeUnit.{TimeUnit}
 use Rattle.cal_span.specs.declared.span.Span.{Span}
 use Rattle.cal_span.specs.declared.span.fault.SpanFault.{SpanFault}
 use Rattle.cal_span.specs.declared.span.fault.SpanFault.TheVariants.{BadNumber, UnknownUnit, TooLarge}
 use Rattle.cal_span.specs.declared.span.word.CharKind.{CharKind}
 use Rattle.cal_span.specs.declared.span.word.CharKind.TheVariants.{Numeric, Letter}
-use Rattle.cal_span.specs.headline.Scale.{size_of}
+use Rattle.cal_span.specs.headline.TimeUnit.{size_of}
 use Rattle.cal_span.specs.Span.{limit}
 use Rattle.cal_span.specs.SpanValue.{Piece, Pair, is_kind, words_in, pairs_of, pairs_in, is_number, unit_in, number_worth, worth_of, sum_with}
 use Rattle.cal_span.proofs.SpanWords.{same_from_is_kind}
@@ -54,7 +54,7 @@ pub worth_unknown_unit : (p : Pair) → is_number p.number ≡ true → unit_in 
 unfolding worth_of
 worth_unknown_unit p good none = rw (good, none) refl
 
-pub worth_good : (p : Pair) (unit : Scale) → is_number p.number ≡ true → unit_in p.unit ≡ Some unit → worth_of p ≡ Ok (number_worth p.number (size_of unit))
+pub worth_good : (p : Pair) (unit : TimeUnit) → is_number p.number ≡ true → unit_in p.unit ≡ Some unit → worth_of p ≡ Ok (number_worth p.number (size_of unit))
 unfolding worth_of
 worth_good p unit good some = rw (good, some) refl
 

@@ -8,12 +8,12 @@ use Rattle.std.proofs.lemmas.Bool.Decides.{nat_tests}
 use Rattle.std.proofs.Math.Nat.{le-mul_of_pos_right}
 use Rattle.std.specs.List.{flat_map}
 use Rattle.std.specs.Prelude.{decimal, not, filter}
-use Rattle.cal_span.specs.declared.scale.Scale.{Scale}
-use Rattle.cal_span.specs.declared.scale.Scale.TheVariants.{Year, Month, Week, Day, Hour, Minute, Second, Millisecond, Microsecond}
+use Rattle.cal_span.specs.declared.time_unit.TimeUnit.{TimeUnit}
+use Rattle.cal_span.specs.declared.time_unit.TimeUnit.TheVariants.{Year, Month, Week, Day, Hour, Minute, Second, Millisecond, Microsecond}
 use Rattle.cal_span.specs.declared.span.word.CharKind.{CharKind}
 use Rattle.cal_span.specs.declared.span.word.CharKind.TheVariants.{Blank, Numeric, Letter}
-use Rattle.cal_span.specs.Scale.{words_for}
-use Rattle.cal_span.specs.headline.Scale.{size_of, scales, unit_name}
+use Rattle.cal_span.specs.UnitSpellings.{spellings_of}
+use Rattle.cal_span.specs.headline.TimeUnit.{size_of, all_units, unit_name}
 use Rattle.cal_span.specs.Span.{limit}
 use Rattle.cal_span.specs.SpanText.{weight}
 use Rattle.cal_span.specs.headline.SpanText.{Count, count_text, counts_in_row, positive, counts_of, span_text}
@@ -56,7 +56,7 @@ numeric_digits : (ds : List ℕ) → AreDigits ds → AllOfKind Numeric ds
 numeric_digits [] h = tt
 numeric_digits (c ∷ cs) h = (h.0.ascii, kind_of_digit c h.0, numeric_digits cs h.1)
 
-letters-unit_name : (unit : Scale) → AllOfKind Letter (unit_name unit)
+letters-unit_name : (unit : TimeUnit) → AllOfKind Letter (unit_name unit)
 unfolding unit_name
 letters-unit_name Year = (lit< tt, refl, tt)
 letters-unit_name Month = (lit< tt, refl, (lit< tt, refl, (lit< tt, refl, (lit< tt, refl, (lit< tt, refl, tt)))))
@@ -68,7 +68,7 @@ letters-unit_name Second = (lit< tt, refl, tt)
 letters-unit_name Millisecond = (lit< tt, refl, (lit< tt, refl, tt))
 letters-unit_name Microsecond = (lit< tt, refl, (lit< tt, refl, tt))
 
-name_of_nonempty : (unit : Scale) → 0 < length (unit_name unit)
+name_of_nonempty : (unit : TimeUnit) → 0 < length (unit_name unit)
 unfolding unit_name
 name_of_nonempty Year = lit< tt
 name_of_nonempty Month = lit< tt
@@ -142,8 +142,8 @@ pairs-count_words : (cs : List Count) → pairs_of (count_words cs) ≡ map pair
 pairs-count_words [] = refl
 pairs-count_words (c ∷ cs) = ap (λ (ps : List Pair). pair_of c ∷ ps) (pairs-count_words cs)
 
-unit_named-unit_name : (unit : Scale) → unit_named (unit_name unit) ≡ Some unit
-unfolding unit_named words_for unit_name
+unit_named-unit_name : (unit : TimeUnit) → unit_named (unit_name unit) ≡ Some unit
+unfolding unit_named spellings_of unit_name
 unit_named-unit_name Year = refl
 unit_named-unit_name Month = refl
 unit_named-unit_name Week = refl
@@ -196,7 +196,7 @@ span_of-decimal n within =
 pub span_of-span_text : (n : ℕ) → n ≤ limit → span_of (span_text n) ≡ Ok n
 span_of-span_text zero within = ap span_of span_text_zero ∙ span_of_zero
 span_of-span_text (suc m) within =
-    let whole : weight (positive (counts_of scales (suc m))) ≡ suc m = weight-positive (counts_of scales (suc m)) ∙ (are_counts_of (suc m)).sum in
+    let whole : weight (positive (counts_of all_units (suc m))) ≡ suc m = weight-positive (counts_of all_units (suc m)) ∙ (are_counts_of (suc m)).sum in
     ap span_of (sym (span_text_row (suc m) (omega arith)))
-    ∙ span_of-row (positive (counts_of scales (suc m))) (omega (arith, whole)) (omega (arith, whole))
+    ∙ span_of-row (positive (counts_of all_units (suc m))) (omega (arith, whole)) (omega (arith, whole))
     ∙ ap Ok whole

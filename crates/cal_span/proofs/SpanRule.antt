@@ -2,11 +2,11 @@
 use Rattle.std.proofs.Common.{ℕ, ◌+◌, ◌≤◌, ◌≡◌, Bool, true, false, cond, List, [], ◌∷◌, ◌++◌, Option, Some, None, Result, Ok, Err, refl, sym, ap, ◌∙◌, subst, arith, add-zero, zero-add, ◌⊎◌, inl, inr, ⊎_elim}
 use Rattle.std.specs.Prelude.{nat_le}
 use Rattle.std.proofs.lemmas.Bool.{leb-true, leb-false, le-leb, lt-leb}
-use Rattle.cal_span.specs.declared.scale.Scale.{Scale}
+use Rattle.cal_span.specs.declared.time_unit.TimeUnit.{TimeUnit}
 use Rattle.cal_span.specs.declared.span.fault.SpanFault.{SpanFault}
 use Rattle.cal_span.specs.declared.span.fault.SpanFault.TheVariants.{Empty, BadNumber, UnknownUnit, TooLarge}
-use Rattle.cal_span.specs.declared.scale.Scale.TheVariants.{Year, Month, Week, Day, Hour, Minute, Second, Millisecond, Microsecond}
-use Rattle.cal_span.specs.Scale.{words_for}
+use Rattle.cal_span.specs.declared.time_unit.TimeUnit.TheVariants.{Year, Month, Week, Day, Hour, Minute, Second, Millisecond, Microsecond}
+use Rattle.cal_span.specs.UnitSpellings.{spellings_of}
 use Rattle.cal_span.specs.Span.{limit}
 use Rattle.std.specs.List.{AllByRecursion}
 use Rattle.cal_text.specs.AndThen.{◌>>=◌}
@@ -15,9 +15,9 @@ use Rattle.cal_span.specs.SpanRule.{AreWorth, IsFaultAfter, IsFirstFault, Judges
 use Rattle.std.proofs.lemmas.Bool.Decides.{nat_tests}
 
 -- a pair by itself can only be invalid because of its number or its unit
-worth_fault_by : (number : List ℕ) (good : Bool) (unit : Option Scale) (f : SpanFault) → cond good (worth_in number unit) (Err BadNumber) ≡ Err f → (f ≡ BadNumber) ⊎ (f ≡ UnknownUnit)
+worth_fault_by : (number : List ℕ) (good : Bool) (unit : Option TimeUnit) (f : SpanFault) → cond good (worth_in number unit) (Err BadNumber) ≡ Err f → (f ≡ BadNumber) ⊎ (f ≡ UnknownUnit)
 worth_fault_by number true None f e = inr (cc)
-worth_fault_by number true (Some scale) f e = cc
+worth_fault_by number true (Some unit) f e = cc
 worth_fault_by number false unit f e = inl (cc)
 
 worth_fault : (p : Pair) (f : SpanFault) → worth_of p ≡ Err f → (f ≡ BadNumber) ⊎ (f ≡ UnknownUnit)
@@ -117,8 +117,8 @@ pub one_judgement : (ps : List Pair) (a b : Result ℕ SpanFault) → Judges ps 
 one_judgement ps a b by_a by_b = sym (only_value ps a by_a) ∙ only_value ps b by_b
 
 -- no spelling belongs to two units
-pub spelled_once : (unit : Scale) → AllByRecursion (λ (word : List ℕ). unit_named word ≡ Some unit) (words_for unit)
-unfolding unit_named words_for
+pub spelled_once : (unit : TimeUnit) → AllByRecursion (λ (word : List ℕ). unit_named word ≡ Some unit) (spellings_of unit)
+unfolding unit_named spellings_of
 spelled_once Year = (refl, (refl, (refl, tt)))
 spelled_once Month = (refl, (refl, (refl, tt)))
 spelled_once Week = (refl, (refl, (refl, tt)))

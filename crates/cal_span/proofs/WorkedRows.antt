@@ -1,22 +1,22 @@
 -- Examples that check the definitions of time spans.
 use Rattle.std.proofs.Common.{◌≡◌, [], Ok, Err, codes, refl}
 use Rattle.std.specs.Fmt.{digits}
-use Rattle.cal_span.specs.Scale.{words_for}
-use Rattle.cal_span.specs.headline.Scale.{unit_name}
+use Rattle.cal_span.specs.UnitSpellings.{spellings_of}
+use Rattle.cal_span.specs.headline.TimeUnit.{unit_name}
 use Rattle.cal_span.specs.headline.SpanText.{units_text, counts_in_row, span_text}
 use Rattle.cal_span.specs.SpanValue.{words_in, pairs_in, is_number, unit_named, number_worth, worth_of, span_of}
 use Rattle.cal_span.specs.declared.span.fault.SpanFault.TheVariants.{Empty, BadNumber, UnknownUnit, TooLarge}
 
 one_and_a_half : span_of (codes "1.5h") ≡ Ok 5_400_000_000
-unfolding span_of pairs_in words_in worth_of is_number unit_named number_worth words_for
+unfolding span_of pairs_in words_in worth_of is_number unit_named number_worth spellings_of
 one_and_a_half = refl
 
 several : span_of (codes " 300ms20s\t5day") ≡ Ok 432_020_300_000
-unfolding span_of pairs_in words_in worth_of is_number unit_named number_worth words_for
+unfolding span_of pairs_in words_in worth_of is_number unit_named number_worth spellings_of
 several = refl
 
 rounded_down : span_of (codes "0.0000019s") ≡ Ok 1
-unfolding span_of pairs_in words_in worth_of is_number unit_named number_worth words_for
+unfolding span_of pairs_in words_in worth_of is_number unit_named number_worth spellings_of
 rounded_down = refl
 
 nothing : span_of [] ≡ Err Empty
@@ -24,15 +24,15 @@ unfolding span_of pairs_in words_in
 nothing = refl
 
 two_points : span_of (codes "1..5") ≡ Err BadNumber
-unfolding span_of pairs_in words_in worth_of is_number unit_named number_worth words_for
+unfolding span_of pairs_in words_in worth_of is_number unit_named number_worth spellings_of
 two_points = refl
 
 no_unit : span_of (codes "5x") ≡ Err UnknownUnit
-unfolding span_of pairs_in words_in worth_of is_number unit_named number_worth words_for
+unfolding span_of pairs_in words_in worth_of is_number unit_named number_worth spellings_of
 no_unit = refl
 
 above_the_limit : span_of (codes "9223372036854775808us") ≡ Err TooLarge
-unfolding span_of pairs_in words_in worth_of is_number unit_named number_worth words_for
+unfolding span_of pairs_in words_in worth_of is_number unit_named number_worth spellings_of
 above_the_limit = refl
 
 printed : span_text 5_400_000_000 ≡ codes "1h 30min"

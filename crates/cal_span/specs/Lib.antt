@@ -1,4 +1,4 @@
-pub mod Scale
+pub mod UnitSpellings
 pub mod Span
 pub mod SpanFault
 pub mod SpanRule

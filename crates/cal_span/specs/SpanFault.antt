@@ -4,8 +4,8 @@ use Rattle.cal_span.specs.declared.span.fault.SpanFault.{SpanFault}
 use Rattle.cal_span.specs.declared.span.fault.SpanFault.TheVariants.{Empty, BadNumber, UnknownUnit, TooLarge}
 
 -- the message of an error
-abbrev pub words_of : SpanFault → List ℕ
-words_of Empty = codes "empty time span"
-words_of BadNumber = codes "bad number"
-words_of UnknownUnit = codes "unknown unit"
-words_of TooLarge = codes "time span too large"
+abbrev pub message_of : SpanFault → List ℕ
+message_of Empty = codes "empty time span"
+message_of BadNumber = codes "bad number"
+message_of UnknownUnit = codes "unknown unit"
+message_of TooLarge = codes "time span too large"

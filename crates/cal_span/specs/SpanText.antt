@@ -1,7 +1,7 @@
 -- What the text of a printed span is, stated without computing its counts (systemd.time(7), Parsing Time Spans).
 use Rattle.std.specs.Prelude.{◌≡◌, ℕ, ◌+◌, ◌*◌, ◌<◌, List, [], ◌∷◌}
-use Rattle.cal_span.specs.headline.Scale.{size_of, scales}
-use Rattle.cal_span.specs.declared.scale.Scale.{Scale}
+use Rattle.cal_span.specs.headline.TimeUnit.{size_of, all_units}
+use Rattle.cal_span.specs.declared.time_unit.TimeUnit.{TimeUnit}
 use Rattle.cal_span.specs.headline.SpanText.{Count, counts_text, positive}
 
 -- the sum of the counts, in microseconds
@@ -11,7 +11,7 @@ weight (c ∷ cs) = c.number * size_of c.unit + weight cs
 
 -- There is one count for each unit, in the order of the units, and all counts after it together are less than one of
 -- its unit.
-abbrev pub AreReduced : List Scale → List Count → Type 0
+abbrev pub AreReduced : List TimeUnit → List Count → Type 0
 AreReduced [] [] = Unit {0}
 AreReduced [] (c ∷ cs) = ⊥
 AreReduced (unit ∷ units) [] = ⊥
@@ -20,7 +20,7 @@ AreReduced (unit ∷ units) (c ∷ cs) = (c.unit ≡ unit) × (weight cs < size_
 -- the counts of a span of n microseconds
 pub record AreCounts (n : ℕ) (cs : List Count) : Type 0 where
   pub sum : weight cs ≡ n
-  pub reduced : AreReduced scales cs
+  pub reduced : AreReduced all_units cs
 
 -- A text is the printed span of n microseconds if it is the text of its counts that aren't zero.
 abbrev pub IsSpanText : ℕ → List ℕ → Type 0

@@ -6,14 +6,14 @@ use Rattle.std.specs.Str.{bytes_eq}
 use Rattle.std.specs.Char.{digit_value, is_ascii_digit, is_ascii_alphabetic}
 use Rattle.std.specs.Str.Parse.{digits_value}
 use Rattle.cal_text.specs.headline.Words.{is_blank}
-use Rattle.cal_span.specs.declared.scale.Scale.{Scale}
-use Rattle.cal_span.specs.declared.scale.Scale.TheVariants.{Second}
+use Rattle.cal_span.specs.declared.time_unit.TimeUnit.{TimeUnit}
+use Rattle.cal_span.specs.declared.time_unit.TimeUnit.TheVariants.{Second}
 use Rattle.cal_span.specs.declared.span.fault.SpanFault.{SpanFault}
 use Rattle.cal_span.specs.declared.span.fault.SpanFault.TheVariants.{Empty, BadNumber, UnknownUnit, TooLarge}
 use Rattle.cal_span.specs.declared.span.word.CharKind.{CharKind}
 use Rattle.cal_span.specs.declared.span.word.CharKind.TheVariants.{Blank, Numeric, Letter, Other}
-use Rattle.cal_span.specs.Scale.{words_for}
-use Rattle.cal_span.specs.headline.Scale.{size_of, scales}
+use Rattle.cal_span.specs.UnitSpellings.{spellings_of}
+use Rattle.cal_span.specs.headline.TimeUnit.{size_of, all_units}
 use Rattle.cal_span.specs.Span.{limit}
 use Rattle.cal_text.specs.headline.Separators.{is_point}
 use Rattle.cal_text.specs.AndThen.{◌>>=◌}
@@ -108,11 +108,11 @@ is_number number =
     list_all (λ b. is_ascii_digit b || is_point b) number && nat_le (count_by is_point number) 1 && list_any is_ascii_digit number
 
 -- the unit with this spelling
-unfoldable pub unit_named : List ℕ → Option Scale
-unit_named word = find (λ scale. list_any (bytes_eq word) (words_for scale)) scales
+unfoldable pub unit_named : List ℕ → Option TimeUnit
+unit_named word = find (λ unit. list_any (bytes_eq word) (spellings_of unit)) all_units
 
 -- the unit of a pair, which is `Second` if none is given
-abbrev pub unit_in : Option (List ℕ) → Option Scale
+abbrev pub unit_in : Option (List ℕ) → Option TimeUnit
 unit_in None = Some Second
 unit_in (Some word) = unit_named word
 
@@ -133,9 +133,9 @@ number_worth number size =
     digits_worth (before_first is_point number) (after_first is_point number) size
 
 -- the value of a number in this unit, or the error if there is no such unit
-abbrev pub worth_in : List ℕ → Option Scale → Result ℕ SpanFault
+abbrev pub worth_in : List ℕ → Option TimeUnit → Result ℕ SpanFault
 worth_in number None = Err UnknownUnit
-worth_in number (Some scale) = Ok (number_worth number (size_of scale))
+worth_in number (Some unit) = Ok (number_worth number (size_of unit))
 
 -- the value of a pair in microseconds, or its error; the number is checked before the unit
 unfoldable pub worth_of : Pair → Result ℕ SpanFault

@@ -1,11 +1,11 @@
 //! Time spans: parsing and printing them.
 #![tactic(auto)]
 
-mod scale;
+mod time_unit;
 mod span;
 
-pub use cal_text::{are_digits, whole_of};
-pub use scale::Scale;
+pub use cal_text::{are_digits, decimal_value};
+pub use time_unit::TimeUnit;
 pub use span::Span;
 pub use span::fault::SpanFault;
 pub use span::number::fraction_of;

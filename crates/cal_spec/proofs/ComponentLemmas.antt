@@ -4,12 +4,12 @@ use Rattle.std.specs.List.{AllByRecursion, slice_split}
 use Rattle.std.proofs.lemmas.Bool.{and_parts, cases_Bool, leb-true, ltb-false, leb-false, eqb-false, not-false}
 use Rattle.cal_text.specs.headline.Separators.{is_comma}
 use Rattle.cal_spec.specs.Components.{is_star, counted, room_in, part_due, parts_of, first_value_fault, parts_listed, component_of}
-use Rattle.cal_spec.specs.Parts.{is_time, is_within, is_outside, is_backward, is_zero, is_idle, fault_of}
+use Rattle.cal_spec.specs.Parts.{is_time, is_within, is_outside, is_backward, is_zero, reaches_no_further_value, fault_of}
 use Rattle.cal_text.specs.AndThen.{◌>>=◌}
 use Rattle.cal_spec.specs.Reads.{unless}
 use Rattle.cal_spec.specs.headline.Slot.{least, greatest}
-use Rattle.cal_spec.specs.Sound.{AreSound}
-use Rattle.cal_spec.specs.headline.Sound.{IsWithin, IsEndWithin, EndsAfter, IsStep, GoesOn, IsSound}
+use Rattle.cal_spec.specs.ValidComponents.{IsValidComponent}
+use Rattle.cal_spec.specs.headline.ValidParts.{IsWithin, IsEndWithin, EndsAfter, IsStep, GoesOn, IsValidPart}
 use Rattle.cal_spec.specs.declared.part.Part.{Part}
 use Rattle.cal_spec.specs.declared.slot.Slot.{Slot}
 use Rattle.cal_spec.specs.declared.slot.Slot.TheVariants.{DayFromEnd}
@@ -46,16 +46,16 @@ is_step : (step : Option ℕ) → is_zero step ≡ false → IsStep step
 is_step None test = tt
 is_step (Some r) test = let some = eqb-false r 0 test in grind (arith, some)
 
-goes_on : (slot : Slot) (a : ℕ) (end step : Option ℕ) → is_idle slot a end step ≡ false → GoesOn slot a end step
+goes_on : (slot : Slot) (a : ℕ) (end step : Option ℕ) → reaches_no_further_value slot a end step ≡ false → GoesOn slot a end step
 goes_on slot a (Some b) step test = tt
 goes_on slot a None None test = tt
 goes_on DayFromEnd a None (Some r) test = leb-false _ _ test
 goes_on slot a None (Some r) test = ltb-false _ _ test
 
-pub sound_part : (slot : Slot) (p : Part) → fault_of slot p ≡ None → IsSound slot p
+pub sound_part : (slot : Slot) (p : Part) → fault_of slot p ≡ None → IsValidPart slot p
 unfolding fault_of
 sound_part slot p at =
-    let none = no_fault (is_outside slot p.start p.end) (is_backward p.start p.end) (is_zero p.step) (is_idle slot p.start p.end p.step) at in
+    let none = no_fault (is_outside slot p.start p.end) (is_backward p.start p.end) (is_zero p.step) (reaches_no_further_value slot p.start p.end p.step) at in
     record {
       start_in = start_within slot p.start p.end none.0;
       end_in = end_within slot p.start p.end none.0;
@@ -64,7 +64,7 @@ sound_part slot p at =
       goes_on = goes_on slot p.start p.end p.step none.3;
     }
 
-pub sound_parts : (slot : Slot) (ps : List Part) → first_value_fault slot ps ≡ None → AllByRecursion (IsSound slot) ps
+pub sound_parts : (slot : Slot) (ps : List Part) → first_value_fault slot ps ≡ None → AllByRecursion (IsValidPart slot) ps
 sound_parts slot [] at = tt
 sound_parts slot (p ∷ ps) at =
     let none = option_or_none (fault_of slot p) (first_value_fault slot ps) at in
@@ -121,7 +121,7 @@ counted_in false n room h = h
 
 -- what holds of a parsed component: valid values, and no more counted parts than are allowed
 pub record IsRead (slot : Slot) (room : ℕ) (c : Option (List Part)) : Type 0 where
-  pub sound : AreSound slot c
+  pub sound : IsValidComponent slot c
   pub few : counted slot c ≤ room
 
 -- a parsed component is `*`, or consists of parts that were parsed

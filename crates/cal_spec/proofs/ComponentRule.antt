@@ -11,10 +11,10 @@ use Rattle.std.proofs.lemmas.Slice.Eq.{bytes_eq-Decides}
 use Rattle.cal_text.specs.headline.Separators.{is_comma}
 use Rattle.cal_spec.specs.Components.{is_star, counted, room_in, part_due, parts_of, first_value_fault, parts_listed, component_of}
 use Rattle.cal_spec.specs.headline.GrammarRule.{IsNumber, IsNext, IsPartText, IsPartOf, AreListed, IsComponent}
-use Rattle.cal_spec.specs.Parts.{is_time, is_within, is_outside, is_backward, is_zero, is_idle, fault_of}
+use Rattle.cal_spec.specs.Parts.{is_time, is_within, is_outside, is_backward, is_zero, reaches_no_further_value, fault_of}
 use Rattle.cal_spec.specs.headline.Parts.{with_values}
 use Rattle.cal_spec.specs.headline.Slot.{least, greatest}
-use Rattle.cal_spec.specs.headline.Sound.{IsWithin, IsEndWithin, EndsAfter, IsStep, GoesOn, IsSound}
+use Rattle.cal_spec.specs.headline.ValidParts.{IsWithin, IsEndWithin, EndsAfter, IsStep, GoesOn, IsValidPart}
 use Rattle.cal_spec.specs.declared.part.Part.{Part}
 use Rattle.cal_spec.specs.declared.slot.Slot.{Slot}
 use Rattle.cal_spec.specs.declared.slot.Slot.TheVariants.{DayFromEnd}
@@ -41,18 +41,18 @@ not_zero : (step : Option ℕ) → IsStep step → is_zero step ≡ false
 not_zero None h = refl
 not_zero (Some r) h = ne_eqb r 0 (λ e. omega (arith, h, e))
 
-not_idle : (slot : Slot) (a : ℕ) (end step : Option ℕ) → GoesOn slot a end step → is_idle slot a end step ≡ false
-not_idle slot a (Some b) step h = refl
-not_idle slot a None None h = refl
-not_idle DayFromEnd a None (Some r) h = lt-leb a r h
-not_idle slot a None (Some r) h = le-ltb _ _ h
+reaches_further_value : (slot : Slot) (a : ℕ) (end step : Option ℕ) → GoesOn slot a end step → reaches_no_further_value slot a end step ≡ false
+reaches_further_value slot a (Some b) step h = refl
+reaches_further_value slot a None None h = refl
+reaches_further_value DayFromEnd a None (Some r) h = lt-leb a r h
+reaches_further_value slot a None (Some r) h = le-ltb _ _ h
 
-no_fault_of : (slot : Slot) (p : Part) → IsSound slot p → fault_of slot p ≡ None
+no_fault_of : (slot : Slot) (p : Part) → IsValidPart slot p → fault_of slot p ≡ None
 unfolding fault_of
 no_fault_of slot p sound =
-    rw (not_outside slot p.start p.end sound.start_in sound.end_in, not_backward p.start p.end sound.forward, not_zero p.step sound.some_step, not_idle slot p.start p.end p.step sound.goes_on) refl
+    rw (not_outside slot p.start p.end sound.start_in sound.end_in, not_backward p.start p.end sound.forward, not_zero p.step sound.some_step, reaches_further_value slot p.start p.end p.step sound.goes_on) refl
 
-pub no_first_fault : (slot : Slot) (ps : List Part) → AllByRecursion (IsSound slot) ps → first_value_fault slot ps ≡ None
+pub no_first_fault : (slot : Slot) (ps : List Part) → AllByRecursion (IsValidPart slot) ps → first_value_fault slot ps ≡ None
 no_first_fault slot [] sound = refl
 no_first_fault slot (p ∷ ps) sound = rw (no_fault_of slot p sound.0) (no_first_fault slot ps sound.1)
 

@@ -8,7 +8,7 @@ use Rattle.cal_spec.specs.Components.{most_counted, is_star, counted, room_in, p
 use Rattle.cal_spec.specs.DateAndTime.{DateFields, date_texts, time_texts, date_fields, time_fields, date_due, time_due, room_after, date_in_word, time_in_word}
 use Rattle.cal_spec.specs.headline.DateAndTime.{DateTexts, TimeTexts}
 use Rattle.cal_spec.specs.Faults.{pieces_of, numbered, first_number, shape_fault, shape_faults, value_fault, component_faults, numbered_in, date_faults, time_faults, faults_at, judgements_of}
-use Rattle.cal_spec.specs.Grammar.{most_text_bytes, fields_at, fields_due, fields_in}
+use Rattle.cal_spec.specs.Grammar.{max_text_bytes, fields_at, fields_due, fields_in}
 use Rattle.cal_spec.specs.Parts.{is_time, part_of}
 use Rattle.cal_spec.specs.headline.Parts.{with_values}
 use Rattle.cal_text.specs.AndThen.{◌>>=◌}
@@ -17,7 +17,7 @@ use Rattle.cal_spec.specs.headline.Slot.{day_slot}
 use Rattle.cal_spec.specs.Weekdays.{weekdays_in}
 use Rattle.cal_spec.specs.Words.{roles_of}
 use Rattle.cal_text.specs.headline.Words.{words}
-use Rattle.cal_spec.specs.headline.Words.{Roles}
+use Rattle.cal_spec.specs.headline.Words.{WordRoles}
 use Rattle.cal_spec.specs.ZoneSuffix.{suffix_in}
 use Rattle.cal_spec.specs.headline.ZoneSuffix.{ZoneSuffix}
 use Rattle.cal_spec.specs.declared.part.Part.{Part}
@@ -171,7 +171,7 @@ zone_fault : {A : Type 0} (r : Result (Option ZoneSuffix) SpecFault) (make : Opt
 zone_fault (Ok x) make = refl
 zone_fault (Err e) make = refl
 
-fields_fault : (p : Roles) → result_err (fields_at p) ≡ first_of (faults_at (Some p))
+fields_fault : (p : WordRoles) → result_err (fields_at p) ≡ first_of (faults_at (Some p))
 unfolding fields_at
 fields_fault p =
     let dates = date_faults (date_texts p.date) in
@@ -182,14 +182,14 @@ fields_fault p =
     err_of_bind (time_in_word (room_after date) p.time) (λ time. suffix_in p.rest >>= λ name. Ok (fields_with weekdays date time name)) (first_of times) (first_of zones) (time_of_fault (numbered_in (date_texts p.date)) (room_after date) p.time (date_room p.date date at)) (λ time _.
     zone_fault (suffix_in p.rest) (λ name. fields_with weekdays date time name)))) ∙ ap (option_or (result_err (weekdays_in p.weekdays))) (first_of_three dates times zones)
 
-due_faults : (o : Option Roles) → result_err (fields_due o) ≡ first_of (faults_at o)
+due_faults : (o : Option WordRoles) → result_err (fields_due o) ≡ first_of (faults_at o)
 due_faults None = refl
 due_faults (Some p) = fields_fault p
 
-long_fault : (long : Bool) (o : Option Roles) → result_err (cond long (Err TextTooLong) (fields_due o)) ≡ first_of (cond long (Some TextTooLong) None ∷ faults_at o)
+long_fault : (long : Bool) (o : Option WordRoles) → result_err (cond long (Err TextTooLong) (fields_due o)) ≡ first_of (cond long (Some TextTooLong) None ∷ faults_at o)
 long_fault true o = refl
 long_fault false o = due_faults o
 
 pub first_fault_of_text : (text : List ℕ) → result_err (fields_in text) ≡ first_of (judgements_of text)
 unfolding fields_in judgements_of
-first_fault_of_text text = long_fault (ltb most_text_bytes (length text)) (roles_of (words text))
+first_fault_of_text text = long_fault (ltb max_text_bytes (length text)) (roles_of (words text))

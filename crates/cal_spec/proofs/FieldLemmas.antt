@@ -17,17 +17,17 @@ use Rattle.cal_spec.specs.headline.DateAndTime.{DateTexts, TimeTexts}
 use Rattle.cal_spec.specs.Fields.{fields_of}
 use Rattle.cal_spec.specs.headline.Fields.{Fields, parts_in, counted_parts}
 use Rattle.cal_spec.specs.Parts.{is_time}
-use Rattle.cal_spec.specs.Grammar.{most_text_bytes, fields_at, fields_due, fields_in}
+use Rattle.cal_spec.specs.Grammar.{max_text_bytes, fields_at, fields_due, fields_in}
 use Rattle.cal_text.specs.AndThen.{◌>>=◌}
 use Rattle.cal_spec.specs.Reads.{GivesUnlessNoMemory}
 use Rattle.cal_spec.specs.declared.fields.Fields as declared_fields
 use Rattle.cal_spec.specs.headline.Slot.{day_slot}
 use Rattle.cal_spec.specs.ValidFields.{IsValidFields}
 use Rattle.cal_spec.specs.Weekdays.{day_named, leading_letters, days_of, items_of, without_comma, listed_days, is_like_shorthand, weekdays_of, weekdays_in}
-use Rattle.cal_spec.specs.headline.Weekdays.{days_until, is_covered, set_of}
+use Rattle.cal_spec.specs.headline.Weekdays.{days_until, is_in_weekday_range, set_of}
 use Rattle.cal_spec.specs.Words.{roles_of}
 use Rattle.cal_text.specs.headline.Words.{words}
-use Rattle.cal_spec.specs.headline.Words.{Roles}
+use Rattle.cal_spec.specs.headline.Words.{WordRoles}
 use Rattle.cal_civil.specs.headline.ZoneName.{is_zone_name}
 use Rattle.cal_civil.specs.OffsetWord.{offset_in}
 use Rattle.cal_civil.proofs.OffsetWordLemmas.{offset-minutes}
@@ -38,7 +38,7 @@ use Rattle.cal_spec.specs.declared.slot.Slot.{Slot}
 use Rattle.cal_spec.specs.declared.slot.Slot.TheVariants.{Year, Month, Hour, Minute, Second}
 use Rattle.cal_spec.specs.declared.spec_fault.SpecFault.{SpecFault}
 use Rattle.cal_spec.specs.declared.spec_fault.SpecFault.TheVariants.{TextTooLong, BadWeekday, UnknownShorthand}
-use Rattle.cal_spec.specs.declared.weekdays.Days.{Days}
+use Rattle.cal_spec.specs.declared.weekdays.WeekdayRange.{WeekdayRange}
 use Rattle.cal_spec.proofs.ComponentLemmas.{IsRead, component_read}
 use Rattle.cal_text.proofs.General.{some_piece}
 use Rattle.cal_spec.proofs.ReadLemmas.{bind_ok, cond_ok, three_ok, four_ok}
@@ -104,18 +104,18 @@ time_found room word h at = time_found_by room word (time_texts word) h refl at
 
 -- Weekdays
 
-pub record ItemsRead (t : List ℕ) (ts : List (List ℕ)) (items : List Days) : Type 0 where
-  pub first : Days
-  pub rest : List Days
+pub record ItemsRead (t : List ℕ) (ts : List (List ℕ)) (items : List WeekdayRange) : Type 0 where
+  pub first : WeekdayRange
+  pub rest : List WeekdayRange
   pub is : items ≡ first ∷ rest
   pub first_is : days_of t ≡ Some first
   pub rest_is : items_of ts ≡ Ok rest
 
-due_ok : (o : Option Days) (days : Days) → ok_or o BadWeekday ≡ Ok days → o ≡ Some days
+due_ok : (o : Option WeekdayRange) (days : WeekdayRange) → ok_or o BadWeekday ≡ Ok days → o ≡ Some days
 due_ok None days at = cc
 due_ok (Some d) days at = cc
 
-pub items_of-cons : (t : List ℕ) (ts : List (List ℕ)) (items : List Days) → items_of (t ∷ ts) ≡ Ok items → ItemsRead t ts items
+pub items_of-cons : (t : List ℕ) (ts : List (List ℕ)) (items : List WeekdayRange) → items_of (t ∷ ts) ≡ Ok items → ItemsRead t ts items
 items_of-cons t ts items at =
     let one = bind_ok (ok_or (days_of t) BadWeekday) (λ days. items_of ts >>= λ more. Ok (days ∷ more)) items at in
     let two = bind_ok (items_of ts) (λ more. Ok (one.value ∷ more)) items one.next in
@@ -134,15 +134,15 @@ among_week f Sunday h = list_any_at (λ d. d) (map f week) 6 false (omega arith)
 none_until : (day : Weekday) → days_until day day ≡ 0
 none_until day = let week : monday_zero day + 7 - monday_zero day ≡ 7 = omega arith in rw week refl
 
-covers_first : (days : Days) → is_covered days.first days ≡ true
+covers_first : (days : WeekdayRange) → is_in_weekday_range days.first days ≡ true
 covers_first days = rw (none_until days.first) (le-leb 0 (days_until days.first days.last) (omega arith))
 
-set_some : (first : Days) (rest : List Days) → list_any (λ d. d) (set_of (first ∷ rest)) ≡ true
+set_some : (first : WeekdayRange) (rest : List WeekdayRange) → list_any (λ d. d) (set_of (first ∷ rest)) ≡ true
 set_some first rest =
-    among_week (λ day. list_any (is_covered day) (first ∷ rest)) first.first (or_left _ _ (covers_first first))
+    among_week (λ day. list_any (is_in_weekday_range day) (first ∷ rest)) first.first (or_left _ _ (covers_first first))
 
 pub record WeekdaysFound (word : List ℕ) (days : List Bool) : Type 0 where
-  pub items : List Days
+  pub items : List WeekdayRange
   pub named : is_some (day_named (leading_letters word)) ≡ true
   pub read : items_of (slice_split is_comma (without_comma word)) ≡ Ok items
   pub is : set_of items ≡ days
@@ -166,7 +166,7 @@ pub record IsWeek (days : List Bool) : Type 0 where
   pub seven : length days ≡ 7
   pub chosen : list_any (λ d. d) days ≡ true
 
-week_of_items : (list : List ℕ) (items : List Days) → items_of (slice_split is_comma list) ≡ Ok items → IsWeek (set_of items)
+week_of_items : (list : List ℕ) (items : List WeekdayRange) → items_of (slice_split is_comma list) ≡ Ok items → IsWeek (set_of items)
 week_of_items list items at =
     let some = some_piece is_comma list in
     let read = items_of-cons some.0 some.1 items (rw some.2 at at) in
@@ -224,7 +224,7 @@ fields_with weekdays date time name = record {
   zone = name;
 }
 
-pub record FieldsFound (p : Roles) (f : Fields) : Type 0 where
+pub record FieldsFound (p : WordRoles) (f : Fields) : Type 0 where
   pub weekdays : List Bool
   pub date : DateFields
   pub time : TimeFields
@@ -235,7 +235,7 @@ pub record FieldsFound (p : Roles) (f : Fields) : Type 0 where
   pub name_is : suffix_in p.rest ≡ Ok name
   pub is : fields_with weekdays date time name ≡ f
 
-pub fields_found : (p : Roles) (f : Fields) → fields_at p ≡ Ok f → FieldsFound p f
+pub fields_found : (p : WordRoles) (f : Fields) → fields_at p ≡ Ok f → FieldsFound p f
 unfolding fields_at
 fields_found p f at =
     let read = four_ok (weekdays_in p.weekdays) (date_in_word p.date) (λ date. time_in_word (room_after date) p.time) (suffix_in p.rest) fields_with f at in
@@ -252,12 +252,12 @@ fields_found p f at =
     }
 
 pub record TextFound (text : List ℕ) (f : Fields) : Type 0 where
-  pub short : length text ≤ most_text_bytes
-  pub roles : Roles
+  pub short : length text ≤ max_text_bytes
+  pub roles : WordRoles
   pub roles_are : roles_of (words text) ≡ Some roles
   pub fields : FieldsFound roles f
 
-text_found_by : (text : List ℕ) (o : Option Roles) (f : Fields) → length text ≤ most_text_bytes → roles_of (words text) ≡ o → fields_due o ≡ Ok f → TextFound text f
+text_found_by : (text : List ℕ) (o : Option WordRoles) (f : Fields) → length text ≤ max_text_bytes → roles_of (words text) ≡ o → fields_due o ≡ Ok f → TextFound text f
 text_found_by text None f short is at = cc
 text_found_by text (Some p) f short is at =
     record { short = short; roles = p; roles_are = is; fields = fields_found p f at }
@@ -265,8 +265,8 @@ text_found_by text (Some p) f short is at =
 pub text_found : (text : List ℕ) (f : Fields) → fields_in text ≡ Ok f → TextFound text f
 unfolding fields_in
 text_found text f at =
-    let read = cond_ok (ltb most_text_bytes (length text)) TextTooLong (fields_due (roles_of (words text))) f at in
-    text_found_by text (roles_of (words text)) f (ltb-false most_text_bytes (length text) read.0) refl read.1
+    let read = cond_ok (ltb max_text_bytes (length text)) TextTooLong (fields_due (roles_of (words text))) f at in
+    text_found_by text (roles_of (words text)) f (ltb-false max_text_bytes (length text) read.0) refl read.1
 
 -- The number of counted parts
 

@@ -13,8 +13,8 @@ use Rattle.cal_spec.specs.headline.Fields.{Fields, counted_parts, parts_in}
 use Rattle.cal_spec.specs.NormalForm.{IsNormal, IsNormalTo, normal_component, normal_fields, normal_parts, normal_second, starred}
 use Rattle.cal_spec.specs.headline.NormalForm.{IsStarred}
 use Rattle.cal_spec.specs.headline.Slot.{least, greatest, day_slot}
-use Rattle.cal_spec.specs.Sound.{AreSound}
-use Rattle.cal_spec.specs.headline.Sound.{GoesOn, IsEndWithin, IsSecondWithin, IsSound, IsWithin}
+use Rattle.cal_spec.specs.ValidComponents.{IsValidComponent}
+use Rattle.cal_spec.specs.headline.ValidParts.{GoesOn, IsEndWithin, IsSecondWithin, IsValidPart, IsWithin}
 use Rattle.cal_spec.specs.ValidFields.{IsValidFields}
 use Rattle.cal_spec.specs.headline.WeekdayRuns.{run_text, runs_text, weekdays_text}
 use Rattle.cal_spec.specs.ZoneSuffix.{IsSuffixOption}
@@ -70,7 +70,7 @@ end_below : (slot : Slot) (end : Option ℕ) → IsEndWithin slot end → IsBelo
 end_below slot None h = tt
 end_below slot (Some b) h = let bounds = slot_bounds slot in omega (arith, h.1, bounds.0)
 
-small_part : (slot : Slot) (p : Part) → IsSound slot p → IsNormal p → IsSmall p
+small_part : (slot : Slot) (p : Part) → IsValidPart slot p → IsNormal p → IsSmall p
 unfolding IsNormal
 small_part slot p sound normal =
     let bounds = slot_bounds slot in
@@ -80,12 +80,12 @@ small_part slot p sound normal =
       step = step_below slot p.start p.end p.step sound.start_in sound.end_in sound.goes_on normal;
     }
 
-small_parts : (slot : Slot) (ps : List Part) → AllByRecursion (IsSound slot) ps → AllByRecursion IsNormal ps → AllByRecursion IsSmall ps
+small_parts : (slot : Slot) (ps : List Part) → AllByRecursion (IsValidPart slot) ps → AllByRecursion IsNormal ps → AllByRecursion IsSmall ps
 small_parts slot [] sound normal = tt
 small_parts slot (p ∷ ps) sound normal = (small_part slot p sound.0 normal.0, small_parts slot ps sound.1 normal.1)
 
 -- the parts of the normal form of a valid component are small
-pub small_component : (slot : Slot) (c : Option (List Part)) → AreSound slot c → AreSmall (normal_component c)
+pub small_component : (slot : Slot) (c : Option (List Part)) → IsValidComponent slot c → AreSmall (normal_component c)
 small_component slot None h = tt
 small_component slot (Some ps) h =
     small_parts slot (normal_parts ps) (component_sound slot (Some ps) h).1 (are_normal ps (each_part slot ps h.1)).each
@@ -94,7 +94,7 @@ small_starred : (ps : List Part) (normal : Option (List Part)) → IsStarred ps 
 small_starred ps None is all = tt
 small_starred ps (Some qs) is all = subst (AllByRecursion IsSmall) (sym is.0) all
 
-pub small_second : (c : Option (List Part)) → AreSound Second c → AreSmall (normal_second c)
+pub small_second : (c : Option (List Part)) → IsValidComponent Second c → AreSmall (normal_second c)
 unfolding normal_second
 small_second None h = tt
 small_second (Some ps) h = small_starred (normal_parts ps) (starred (normal_parts ps)) (starred_is (normal_parts ps)) (small_component Second (Some ps) h)

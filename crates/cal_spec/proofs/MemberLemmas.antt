@@ -8,14 +8,14 @@ use Rattle.jiff_core.specs.declared.civil.date.Date.{Date}
 use Rattle.jiff_core.proofs.CalendarLemmas.{days_in_month_bounds}
 use Rattle.cal_civil.specs.headline.Local.{civil_date}
 use Rattle.cal_spec.specs.headline.Fields.{Fields}
-use Rattle.cal_spec.specs.headline.Match.{date_in, day_number, matches, time_in}
-use Rattle.cal_spec.specs.headline.Members.{component_has, lies, lies_by, part_has, sets_of, values}
+use Rattle.cal_spec.specs.headline.Match.{date_in, day_value, matches, time_in}
+use Rattle.cal_spec.specs.headline.Members.{component_has, is_between, is_step_between, part_has, sets_of, values}
 use Rattle.cal_spec.specs.NormalForm.{AreParts, IsPart, normal_component, normal_fields, normal_parts, normal_second, part_eq, reduced, reduced_to, starred}
 use Rattle.cal_spec.specs.headline.NormalForm.{each, normal_from_end, part_cmp, point, range_step}
 use Rattle.cal_spec.specs.Order.{in_order}
 use Rattle.cal_rising.specs.headline.Elements.{Has}
 use Rattle.cal_spec.specs.headline.Slot.{day_slot}
-use Rattle.cal_spec.specs.headline.Sound.{EndsAfter, IsStep}
+use Rattle.cal_spec.specs.headline.ValidParts.{EndsAfter, IsStep}
 use Rattle.cal_spec.specs.ValidFields.{IsValidFields}
 use Rattle.cal_spec.specs.declared.part.Part.{Part}
 use Rattle.cal_spec.specs.declared.slot.Slot.{Slot}
@@ -23,32 +23,32 @@ use Rattle.cal_spec.specs.declared.slot.Slot.TheVariants.{Year, Month, Hour, Min
 use Rattle.cal_spec.proofs.NormalLemmas.{part_eq_exact, part_exact, parts_from_sound}
 use Rattle.cal_spec.proofs.OrderLemmas.{has_in_order}
 use Rattle.std.specs.Cmp.{both_ways}
-use Rattle.cal_spec.proofs.ReducedLemmas.{last_lies, last_of, last_reached}
+use Rattle.cal_spec.proofs.ReducedLemmas.{last_between, last_of, last_reached}
 use Rattle.cal_text.proofs.General.{list_any-map, list_any-same}
 
 -- a range from a to a contains only a
-one_number : (a v : ℕ) → nat_eq v a ≡ lies a a v
+one_number : (a v : ℕ) → nat_eq v a ≡ is_between a a v
 one_number a v = grind (arith, nat_tests)
 
-one_number_by : (a r v : ℕ) → 0 < r → nat_eq v a ≡ lies_by a a r (v - a) v
+one_number_by : (a r v : ℕ) → 0 < r → nat_eq v a ≡ is_step_between a a r (v - a) v
 one_number_by a r v positive = grind (arith, nat_tests)
 
-every_number : (a b v : ℕ) → lies a b v ≡ lies_by a b 1 (v - a) v
+every_number : (a b v : ℕ) → is_between a b v ≡ is_step_between a b 1 (v - a) v
 every_number a b v = let none : (v - a) % 1 ≡ 0 = mod-one (v - a) in grind (arith, nat_tests)
 
 plain_range : (t : Bool) (slot : Slot) (a b e v : ℕ) → nat_eq e a ≡ t → e ≡ b
-    → part_has slot (cond t (point a) (record { start = a; end = Some e; step = None })) v ≡ lies a b v
+    → part_has slot (cond t (point a) (record { start = a; end = Some e; step = None })) v ≡ is_between a b v
 unfolding part_has
 plain_range true slot a b e v is last = let same : b ≡ a = sym last ∙ eqb-true e a is in rw same (one_number a v)
-plain_range false slot a b e v is last = ap (λ n. lies a n v) last
+plain_range false slot a b e v is last = ap (λ n. is_between a n v) last
 
 stepped_by : (u : Bool) (slot : Slot) (a e r v : ℕ) → nat_eq r 1 ≡ u
-    → values slot a (Some e) (cond u None (Some r)) v ≡ lies_by a e r (v - a) v
-stepped_by true slot a e r v is = every_number a e v ∙ ap (λ k. lies_by a e k (v - a) v) (sym (eqb-true r 1 is))
+    → values slot a (Some e) (cond u None (Some r)) v ≡ is_step_between a e r (v - a) v
+stepped_by true slot a e r v is = every_number a e v ∙ ap (λ k. is_step_between a e k (v - a) v) (sym (eqb-true r 1 is))
 stepped_by false slot a e r v is = refl
 
 stepped_range : (t : Bool) (slot : Slot) (a e r v : ℕ) → nat_eq e a ≡ t → 0 < r
-    → part_has slot (cond t (point a) (record { start = a; end = Some e; step = range_step (Some r) })) v ≡ lies_by a e r (v - a) v
+    → part_has slot (cond t (point a) (record { start = a; end = Some e; step = range_step (Some r) })) v ≡ is_step_between a e r (v - a) v
 unfolding part_has
 stepped_range true slot a e r v is positive = rw (eqb-true e a is) (one_number_by a r v positive)
 stepped_range false slot a e r v is positive = stepped_by (nat_eq r 1) slot a e r v refl
@@ -60,7 +60,7 @@ reduced_to_has slot a (Some b) None v forward steps =
     plain_range (nat_eq (last_of a b 1) a) slot a b (last_of a b 1) v refl (omega arith)
 reduced_to_has slot a (Some b) (Some r) v forward steps =
     stepped_range (nat_eq (last_of a b r) a) slot a (last_of a b r) r v refl steps
-    ∙ last_lies a b r (last_of a b r) v steps (last_reached a b r steps forward)
+    ∙ last_between a b r (last_of a b r) v steps (last_reached a b r steps forward)
 
 pub reduced_has : (slot : Slot) (p : Part) (v : ℕ) → IsPart p → part_has slot (reduced p) v ≡ part_has slot p v
 unfolding part_has reduced
@@ -99,13 +99,13 @@ pub component_stays : (slot : Slot) (c : Option (List Part)) (v : ℕ) → ArePa
 component_stays slot None v h = refl
 component_stays slot (Some ps) v h = parts_have slot ps v h
 
-every_second : (v : ℕ) → part_has Second each v ≡ lies 0 59 v
+every_second : (v : ℕ) → part_has Second each v ≡ is_between 0 59 v
 unfolding part_has
 every_second v = sym (every_number 0 59 v)
 
 starred_by : (t : Bool) (p : Part) (v : ℕ) → part_eq p each ≡ t → component_has Second (cond t None (Some (p ∷ []))) v ≡ component_has Second (Some (p ∷ [])) v
 starred_by true p v is =
-    let here : part_has Second p v ≡ lies 0 59 v = ap (λ q. part_has Second q v) (part_eq_exact p each is) ∙ every_second v in
+    let here : part_has Second p v ≡ is_between 0 59 v = ap (λ q. part_has Second q v) (part_eq_exact p each is) ∙ every_second v in
     sym (option_or_none (part_has Second p v) ∙ here)
   where
     option_or_none : (b : Bool) → (b || false) ≡ b
@@ -124,20 +124,20 @@ second_stays None v h = refl
 second_stays (Some ps) v h = starred_has (normal_parts ps) v ∙ parts_have Second ps v h
 
 -- `~*` matches every day, as `*` does
-every_day : (date : Date) → lies 1 31 (day_number true date) ≡ lies 1 31 (day_number false date)
+every_day : (date : Date) → is_between 1 31 (day_value true date) ≡ is_between 1 31 (day_value false date)
 every_day date =
     let long = days_in_month_bounds date.year date.month in
     let first = date.day_in.0 in
     let last = date.day_in.1 in
-    and_from (nat_le 1 (day_number true date)) (nat_le (day_number true date) 31) (le-leb 1 (day_number true date) (omega arith)) (le-leb (day_number true date) 31 (omega arith))
-    ∙ sym (and_from (nat_le 1 (day_number false date)) (nat_le (day_number false date) 31) (le-leb 1 (day_number false date) (omega arith)) (le-leb (day_number false date) 31 (omega arith)))
+    and_from (nat_le 1 (day_value true date)) (nat_le (day_value true date) 31) (le-leb 1 (day_value true date) (omega arith)) (le-leb (day_value true date) 31 (omega arith))
+    ∙ sym (and_from (nat_le 1 (day_value false date)) (nat_le (day_value false date) 31) (le-leb 1 (day_value false date) (omega arith)) (le-leb (day_value false date) 31 (omega arith)))
 
 day_stays : (from_end : Bool) (c : Option (List Part)) (date : Date) → AreParts c
-    → component_has (day_slot (normal_from_end from_end c)) (normal_component c) (day_number (normal_from_end from_end c) date)
-    ≡ component_has (day_slot from_end) c (day_number from_end date)
+    → component_has (day_slot (normal_from_end from_end c)) (normal_component c) (day_value (normal_from_end from_end c) date)
+    ≡ component_has (day_slot from_end) c (day_value from_end date)
 day_stays true None date h = sym (every_day date)
 day_stays false None date h = refl
-day_stays from_end (Some ps) date h = parts_have (day_slot from_end) ps (day_number from_end date) h
+day_stays from_end (Some ps) date h = parts_have (day_slot from_end) ps (day_value from_end date) h
 
 date_stays : (f : Fields) (date : Date) → IsValidFields f → date_in (sets_of (normal_fields f)) date ≡ date_in (sets_of f) date
 unfolding date_in sets_of normal_fields

@@ -14,8 +14,8 @@ use Rattle.cal_spec.specs.headline.NormalForm.{AreNormalOf, IsNormalFieldsOf, Is
 use Rattle.cal_spec.specs.Order.{in_order}
 use Rattle.cal_rising.specs.headline.Elements.{Has}
 use Rattle.cal_spec.specs.headline.Slot.{day_slot}
-use Rattle.cal_spec.specs.Sound.{AreSound}
-use Rattle.cal_spec.specs.headline.Sound.{IsSound}
+use Rattle.cal_spec.specs.ValidComponents.{IsValidComponent}
+use Rattle.cal_spec.specs.headline.ValidParts.{IsValidPart}
 use Rattle.cal_spec.specs.ValidFields.{IsValidFields}
 use Rattle.cal_spec.specs.declared.part.Part.{Part}
 use Rattle.cal_spec.specs.declared.slot.Slot.{Slot}
@@ -118,12 +118,12 @@ some_normal [] h = absurd (omega arith)
 some_normal (p ∷ ps) h = (length-insert_key (reduced p) (in_order part_cmp (map reduced ps))).0
 
 -- the normal form of a valid component is valid
-sound_parts : (slot : Slot) (ps : List Part) → AllByRecursion (IsSound slot) ps → AllByRecursion (IsSound slot) (normal_parts ps)
-sound_parts slot ps all = all_from (IsSound slot) (normal_parts ps) (λ z h.
+sound_parts : (slot : Slot) (ps : List Part) → AllByRecursion (IsValidPart slot) ps → AllByRecursion (IsValidPart slot) (normal_parts ps)
+sound_parts slot ps all = all_from (IsValidPart slot) (normal_parts ps) (λ z h.
     let found = map_has reduced ps z ((has_normal ps z).0 h) in
-    subst (IsSound slot) found.2 (reduced_sound slot found.0 (all_at (IsSound slot) ps found.0 all found.1)))
+    subst (IsValidPart slot) found.2 (reduced_sound slot found.0 (all_at (IsValidPart slot) ps found.0 all found.1)))
 
-pub component_sound : (slot : Slot) (c : Option (List Part)) → AreSound slot c → AreSound slot (normal_component c)
+pub component_sound : (slot : Slot) (c : Option (List Part)) → IsValidComponent slot c → IsValidComponent slot (normal_component c)
 component_sound slot None h = tt
 component_sound slot (Some ps) h = (some_normal ps h.0, sound_parts slot ps h.1)
 
@@ -170,11 +170,11 @@ second_only (Some ps) normal h is =
     starred_one (normal_parts ps) normal (starred (normal_parts ps))
     (subst (λ qs. IsStarred qs normal) (normal_only ps is.0 h is.1) is.2) (starred_is (normal_parts ps))
 
-starred_sound : (slot : Slot) (ps : List Part) (normal : Option (List Part)) → IsStarred ps normal → AreSound slot (Some ps) → AreSound slot normal
+starred_sound : (slot : Slot) (ps : List Part) (normal : Option (List Part)) → IsStarred ps normal → IsValidComponent slot (Some ps) → IsValidComponent slot normal
 starred_sound slot ps None is h = tt
-starred_sound slot ps (Some qs) is h = subst (λ xs. AreSound slot (Some xs)) (sym is.0) h
+starred_sound slot ps (Some qs) is h = subst (λ xs. IsValidComponent slot (Some xs)) (sym is.0) h
 
-second_sound : (c : Option (List Part)) → AreSound Second c → AreSound Second (normal_second c)
+second_sound : (c : Option (List Part)) → IsValidComponent Second c → IsValidComponent Second (normal_second c)
 unfolding normal_second
 second_sound None h = tt
 second_sound (Some ps) h = starred_sound Second (normal_parts ps) (starred (normal_parts ps)) (starred_is (normal_parts ps)) (component_sound Second (Some ps) h)
@@ -216,7 +216,7 @@ few_normal f h =
     let second = second_few f.second in
     omega arith
 
-day_sound : (from_end : Bool) (c : Option (List Part)) → AreSound (day_slot from_end) c → AreSound (day_slot (normal_from_end from_end c)) (normal_component c)
+day_sound : (from_end : Bool) (c : Option (List Part)) → IsValidComponent (day_slot from_end) c → IsValidComponent (day_slot (normal_from_end from_end c)) (normal_component c)
 day_sound from_end None h = tt
 day_sound from_end (Some ps) h = component_sound (day_slot from_end) (Some ps) h
 

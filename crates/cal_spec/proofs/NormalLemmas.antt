@@ -17,18 +17,18 @@ use Rattle.cal_spec.specs.NormalForm.{part_eq, normal_parts, reduced, IsPart, Ar
 use Rattle.cal_spec.specs.headline.NormalForm.{part_cmp}
 use Rattle.cal_spec.specs.Order.{in_order}
 use Rattle.cal_rising.specs.headline.Elements.{Has}
-use Rattle.cal_spec.specs.Sound.{AreSound}
-use Rattle.cal_spec.specs.headline.Sound.{IsSound}
+use Rattle.cal_spec.specs.ValidComponents.{IsValidComponent}
+use Rattle.cal_spec.specs.headline.ValidParts.{IsValidPart}
 use Rattle.cal_spec.specs.declared.part.Part.{Part}
 use Rattle.cal_spec.specs.declared.slot.Slot.{Slot}
 use Rattle.cal_spec.proofs.OrderLemmas.{has_in_order, sorted_in_order}
 
 -- parts with valid values meet the conditions for a normal form
-pub each_part : (slot : Slot) (ps : List Part) → AllByRecursion (IsSound slot) ps → AllByRecursion IsPart ps
+pub each_part : (slot : Slot) (ps : List Part) → AllByRecursion (IsValidPart slot) ps → AllByRecursion IsPart ps
 each_part slot [] h = tt
 each_part slot (p ∷ ps) h = (record { forward = h.0.forward; steps = h.0.some_step }, each_part slot ps h.1)
 
-pub parts_from_sound : (slot : Slot) (c : Option (List Part)) → AreSound slot c → AreParts c
+pub parts_from_sound : (slot : Slot) (c : Option (List Part)) → IsValidComponent slot c → AreParts c
 parts_from_sound slot None h = tt
 parts_from_sound slot (Some ps) h = each_part slot ps h.1
 

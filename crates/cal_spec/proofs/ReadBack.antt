@@ -18,7 +18,7 @@ use Rattle.cal_spec.specs.headline.WeekdayRuns.{runs_from, runs_text}
 use Rattle.cal_spec.specs.Weekdays.{weekdays_in}
 use Rattle.cal_spec.specs.Words.{after_weekdays, date_or_time, roles_of}
 use Rattle.cal_text.specs.headline.Words.{is_blank, words}
-use Rattle.cal_spec.specs.headline.Words.{Roles}
+use Rattle.cal_spec.specs.headline.Words.{WordRoles}
 use Rattle.cal_civil.specs.headline.ZoneName.{begins_with_letter}
 use Rattle.cal_civil.specs.OffsetWord.{begins_zone}
 use Rattle.cal_civil.specs.headline.OffsetWord.{begins_with_sign, is_sign}
@@ -213,9 +213,9 @@ words_of_fields f h =
     ∙ word_first (date_word f) (time_word f ++ after) (clear_of is_date_byte is_blank (date_word f) date_no_blank (date_bytes f h)) (date_some f h)
     ∙ ap (λ ws. date_word f ∷ ws) (words_to_zone (time_word f) f.zone (clear_of is_time_byte is_blank (time_word f) time_no_blank (time_bytes f h)) (time_some f h) h.valid.zone)
 
--- Roles
+-- Roles of words
 
-roles : Option (List ℕ) → Fields → Roles
+roles : Option (List ℕ) → Fields → WordRoles
 roles weekdays f = record { weekdays = weekdays; date = date_word f; time = time_word f; rest = zone_words f.zone }
 
 -- the roles of a date, a time, and the words after them
@@ -255,7 +255,7 @@ roles_back f weekdays h days =
 
 -- The whole text
 
-back_by : (f : Fields) (ws : List (List ℕ)) (p : Roles) → length (expr_text f) < 4_096 → words (expr_text f) ≡ ws → roles_of ws ≡ Some p → fields_at p ≡ Ok f → fields_in (expr_text f) ≡ Ok f
+back_by : (f : Fields) (ws : List (List ℕ)) (p : WordRoles) → length (expr_text f) < 4_096 → words (expr_text f) ≡ ws → roles_of ws ≡ Some p → fields_at p ≡ Ok f → fields_in (expr_text f) ≡ Ok f
 unfolding fields_in
 back_by f ws p short split roles_are read =
     let fits : nat_lt 4_096 (length (expr_text f)) ≡ false = le-ltb 4_096 (length (expr_text f)) (omega arith) in

@@ -10,8 +10,8 @@ use Rattle.cal_civil.specs.headline.OffsetText.{zeros}
 use Rattle.cal_spec.specs.headline.ExprText.{component_text, number_text, optional_text, part_text, parts_text}
 use Rattle.cal_spec.specs.headline.GrammarRule.{IsNumber, IsNext, IsPartText, IsPartOf, IsComponent}
 use Rattle.cal_spec.specs.headline.Parts.{with_century, with_values}
-use Rattle.cal_spec.specs.Sound.{AreSound}
-use Rattle.cal_spec.specs.headline.Sound.{IsEndWithin, IsSound}
+use Rattle.cal_spec.specs.ValidComponents.{IsValidComponent}
+use Rattle.cal_spec.specs.headline.ValidParts.{IsEndWithin, IsValidPart}
 use Rattle.cal_spec.specs.declared.part.Part.{Part}
 use Rattle.cal_spec.specs.declared.slot.Slot.{Slot}
 use Rattle.cal_spec.specs.declared.slot.Slot.TheVariants.{Year}
@@ -67,12 +67,12 @@ centuries_stay : (end : Option ℕ) → IsEndWithin Year end → option_map with
 centuries_stay None h = refl
 centuries_stay (Some b) h = ap Some (century_stays b (omega (arith, h.0)))
 
-values_stay : (slot : Slot) (p : Part) → IsSound slot p → with_values slot p ≡ p
+values_stay : (slot : Slot) (p : Part) → IsValidPart slot p → with_values slot p ≡ p
 values_stay Year p h = same_part _ p (century_stays p.start (omega (arith, h.start_in.0))) (centuries_stay p.end h.end_in) refl
 values_stay slot p h = refl
 
 -- parts joined by commas
-parts_printed : (slot : Slot) (width : ℕ) (ps : List Part) → AllByRecursion (IsSound slot) ps → AllByRecursion IsSmall ps → AllZip (IsPartOf slot) (map (part_text [] width) ps) ps
+parts_printed : (slot : Slot) (width : ℕ) (ps : List Part) → AllByRecursion (IsValidPart slot) ps → AllByRecursion IsSmall ps → AllZip (IsPartOf slot) (map (part_text [] width) ps) ps
 parts_printed slot width [] sound small = tt
 parts_printed slot width (p ∷ ps) sound small = ((p, part_printed width p small.0, sym (values_stay slot p sound.0)), parts_printed slot width ps sound.1 small.1)
 
@@ -80,7 +80,7 @@ parts_joined : (width : ℕ) (p : Part) (ps : List Part) → part_text [] width 
 parts_joined width p [] = append-nil (part_text [] width p)
 parts_joined width p (q ∷ qs) = ap (λ rest. part_text [] width p ++ (44 ∷ rest)) (parts_joined width q qs)
 
-pub component_printed : (slot : Slot) (width : ℕ) (c : Option (List Part)) → AreSound slot c → AreSmall c → IsComponent slot (component_text width c) c
+pub component_printed : (slot : Slot) (width : ℕ) (c : Option (List Part)) → IsValidComponent slot c → AreSmall c → IsComponent slot (component_text width c) c
 unfolding parts_text
 component_printed slot width None sound small = refl
 component_printed slot width (Some []) sound small = absurd (omega (arith, sound.0))
@@ -92,10 +92,10 @@ component_printed slot width (Some (p ∷ ps)) sound small = record {
   sound = sound.1;
 }
 
-pub printed_bytes : (slot : Slot) (width : ℕ) (c : Option (List Part)) → AreSound slot c → AreSmall c → list_all is_component_byte (component_text width c) ≡ true
+pub printed_bytes : (slot : Slot) (width : ℕ) (c : Option (List Part)) → IsValidComponent slot c → AreSmall c → list_all is_component_byte (component_text width c) ≡ true
 printed_bytes slot width c sound small = component_bytes slot (component_text width c) c (component_printed slot width c sound small)
 
-pub printed_some : (slot : Slot) (width : ℕ) (c : Option (List Part)) → AreSound slot c → AreSmall c → 0 < length (component_text width c)
+pub printed_some : (slot : Slot) (width : ℕ) (c : Option (List Part)) → IsValidComponent slot c → AreSmall c → 0 < length (component_text width c)
 unfolding parts_text
 printed_some slot width None sound small = omega arith
 printed_some slot width (Some []) sound small = absurd (omega (arith, sound.0))

@@ -8,7 +8,7 @@ use Rattle.cal_spec.specs.Weekdays.{day_named, days_of, listed_days, weekdays_of
 use Rattle.cal_spec.specs.DateAndTime.{date_texts, time_texts, date_fields, time_fields, date_in_word, time_in_word}
 use Rattle.cal_spec.specs.Components.{part_due, parts_listed, component_of}
 use Rattle.cal_spec.specs.Parts.{with_step, after_end, after_start, part_of, fault_of}
-use Rattle.cal_civil.specs.OffsetWord.{clock_in, offset_in, two_digits}
+use Rattle.cal_civil.specs.OffsetWord.{hour_minute_in, offset_in, two_digits}
 use Rattle.cal_civil.specs.headline.ZoneName.{is_zone_name}
 use Rattle.cal_spec.specs.ZoneSuffix.{suffix_of}
 use Rattle.cal_spec.specs.declared.spec_fault.SpecFault.{SpecFault}
@@ -58,5 +58,5 @@ rows =
     ∷ []
 
 rows_at_fault : map (λ (row : Row). fields_in row.0) rows ≡ map (λ (row : Row). Err row.1) rows
-unfolding fields_in fields_at words roles_of shorthand_named day_named days_of listed_days weekdays_of date_texts time_texts date_fields time_fields date_in_word time_in_word part_due parts_listed component_of with_step after_end after_start part_of fault_of is_zone_name suffix_of offset_in clock_in two_digits name_of
+unfolding fields_in fields_at words roles_of shorthand_named day_named days_of listed_days weekdays_of date_texts time_texts date_fields time_fields date_in_word time_in_word part_due parts_listed component_of with_step after_end after_start part_of fault_of is_zone_name suffix_of offset_in hour_minute_in two_digits name_of
 rows_at_fault = refl

@@ -3,10 +3,10 @@ use Rattle.std.proofs.Common.{◌≡◌, ℕ, ◌+◌, ◌-◌, ◌*◌, ◌/◌
 use Rattle.std.proofs.Math.Nat.{mul-le-mul_right, mul-mod_left}
 use Rattle.std.proofs.lemmas.Bool.{ne_eqb, eqb-true, eqb-false, leb-true, le-leb, and_parts, and_from, cases_lt}
 use Rattle.std.proofs.lemmas.Nat.{div-mul-add, div-add-mod', mod_below}
-use Rattle.cal_spec.specs.headline.Members.{lies, lies_by}
+use Rattle.cal_spec.specs.headline.Members.{is_between, is_step_between}
 use Rattle.cal_spec.specs.NormalForm.{IsPart, IsNormal, IsNormalTo, IsNormalRange, reduced_to, reduced}
 use Rattle.cal_spec.specs.headline.NormalForm.{IsLastReached, IsReducedTo, IsReduced, range_to, range_step, step_of, point}
-use Rattle.cal_spec.specs.headline.Sound.{EndsAfter, GoesOn, IsEndWithin, IsSound, IsStep, IsWithin}
+use Rattle.cal_spec.specs.headline.ValidParts.{EndsAfter, GoesOn, IsEndWithin, IsValidPart, IsStep, IsWithin}
 use Rattle.cal_spec.specs.declared.part.Part.{Part}
 use Rattle.cal_spec.specs.declared.slot.Slot.{Slot}
 use Rattle.cal_spec.proofs.NormalLemmas.{same_part}
@@ -117,7 +117,7 @@ normal_stays p h = normal_stays_to p.start p.end p.step h ∙ same_part _ p refl
 
 -- if the values of a part are valid, so are those of its normal form
 sound_by : (t : Bool) (slot : Slot) (a e : ℕ) (step : Option ℕ) → IsWithin slot a → IsWithin slot e → a ≤ e → IsStep step
-    → IsSound slot (cond t (point a) (record { start = a; end = Some e; step = range_step step }))
+    → IsValidPart slot (cond t (point a) (record { start = a; end = Some e; step = range_step step }))
 sound_by true slot a e step start end forward steps =
     record { start_in = start; end_in = tt; forward = tt; some_step = tt; goes_on = tt }
 sound_by false slot a e step start end forward steps =
@@ -130,7 +130,7 @@ sound_by false slot a e step start end forward steps =
         by_one false = h
 
 sound_to : (slot : Slot) (a : ℕ) (end step : Option ℕ) → IsWithin slot a → IsEndWithin slot end → EndsAfter a end → IsStep step → GoesOn slot a end step
-    → IsSound slot (reduced_to a end step)
+    → IsValidPart slot (reduced_to a end step)
 sound_to slot a None step start end forward steps goes =
     record { start_in = start; end_in = tt; forward = tt; some_step = steps; goes_on = goes }
 sound_to slot a (Some b) step start end forward steps goes =
@@ -138,27 +138,27 @@ sound_to slot a (Some b) step start end forward steps goes =
     let last = last_reached a b (step_of step) (step_positive step steps) forward in
     sound_by (nat_eq e a) slot a e step start (omega (arith, start.0, last.from), omega (arith, end.1, last.within)) last.from steps
 
-pub reduced_sound : (slot : Slot) (p : Part) → IsSound slot p → IsSound slot (reduced p)
+pub reduced_sound : (slot : Slot) (p : Part) → IsValidPart slot p → IsValidPart slot (reduced p)
 unfolding reduced
 reduced_sound slot p h = sound_to slot p.start p.end p.step h.start_in h.end_in h.forward h.some_step h.goes_on
 
 -- a range and its normal form match the same values
-pub last_lies : (a b r e v : ℕ) → 0 < r → IsLastReached a b r e → lies_by a e r (v - a) v ≡ lies_by a b r (v - a) v
-last_lies a b r e v positive last = both_ways (lies_by a e r (v - a) v) (lies_by a b r (v - a) v)
+pub last_between : (a b r e v : ℕ) → 0 < r → IsLastReached a b r e → is_step_between a e r (v - a) v ≡ is_step_between a b r (v - a) v
+last_between a b r e v positive last = both_ways (is_step_between a e r (v - a) v) (is_step_between a b r (v - a) v)
     (λ h.
-    let both = and_parts (lies a e v) (nat_eq ((v - a) % r) 0) h in
+    let both = and_parts (is_between a e v) (nat_eq ((v - a) % r) 0) h in
     let ends = and_parts (nat_le a v) (nat_le v e) both.0 in
     let low = leb-true a v ends.0 in
     let high = leb-true v e ends.1 in
     let within = last.within in
-    and_from (lies a b v) (nat_eq ((v - a) % r) 0) (and_from (nat_le a v) (nat_le v b) ends.0 (le-leb v b (omega arith))) both.1)
+    and_from (is_between a b v) (nat_eq ((v - a) % r) 0) (and_from (nat_le a v) (nat_le v b) ends.0 (le-leb v b (omega arith))) both.1)
     (λ h.
-    let both = and_parts (lies a b v) (nat_eq ((v - a) % r) 0) h in
+    let both = and_parts (is_between a b v) (nat_eq ((v - a) % r) 0) h in
     let ends = and_parts (nat_le a v) (nat_le v b) both.0 in
     let low = leb-true a v ends.0 in
     let high = leb-true v b ends.1 in
     let reached = eqb-true ((v - a) % r) 0 both.1 in
-    and_from (lies a e v) (nat_eq ((v - a) % r) 0) (and_from (nat_le a v) (nat_le v e) ends.0 (le-leb v e (no_further a b r e v positive last low high reached))) both.1)
+    and_from (is_between a e v) (nat_eq ((v - a) % r) 0) (and_from (nat_le a v) (nat_le v e) ends.0 (le-leb v e (no_further a b r e v positive last low high reached))) both.1)
   where
     no_further : (a b r e v : ℕ) → 0 < r → IsLastReached a b r e → a ≤ v → v ≤ b → (v - a) % r ≡ 0 → v ≤ e
     no_further a b r e v positive last low high reached =

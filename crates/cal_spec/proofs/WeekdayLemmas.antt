@@ -4,7 +4,7 @@ use Rattle.std.specs.List.{flat_map, list_all, prefix_len}
 use Rattle.std.proofs.lemmas.List.{drop-drop}
 use Rattle.std.proofs.lemmas.Bool.{eq-eqb, ne_eqb, eqb-true, eqb-false, le-leb, lt-leb, and_from, and_right, or_left, cases_lt}
 use Rattle.std.proofs.lemmas.Bool.Decides.{nat_tests}
-use Rattle.cal_spec.specs.headline.Members.{lies}
+use Rattle.cal_spec.specs.headline.Members.{is_between}
 use Rattle.std.proofs.lemmas.List.Sums.{prefix_len-le-length}
 use Rattle.cal_bytes.specs.headline.Bytes.{joined}
 use Rattle.cal_spec.specs.WeekdayRuns.{AreApartFrom, AreWeekdayRuns, is_in}
@@ -136,22 +136,22 @@ text_after_first-more first last h =
 is_in-later : (low day : ℕ) (rs : List Run) → AreApartFrom low rs → day < low → is_in day rs ≡ false
 is_in-later low day [] a h = refl
 is_in-later low day (r ∷ rs) a h =
-    let before : lies r.first r.last day ≡ false = (let first : nat_le r.first day ≡ false = lt-leb r.first day (omega (arith, a.0)) in rw first refl) in
+    let before : is_between r.first r.last day ≡ false = (let first : nat_le r.first day ≡ false = lt-leb r.first day (omega (arith, a.0)) in rw first refl) in
     rw before (is_in-later (r.last + 2) day rs a.2 (omega (arith, a.0, a.1)))
 
 with_day_in_by : (t : Bool) (day k : ℕ) (r : Run) (rs : List Run) → nat_eq r.first (day + 1) ≡ t → r.first ≤ r.last
     → is_in k (cond t (record { first = day; last = r.last } ∷ rs) (record { first = day; last = day } ∷ r ∷ rs)) ≡ (nat_eq k day || is_in k (r ∷ rs))
 with_day_in_by true day k r rs e forward =
     let same = eqb-true r.first (day + 1) e in
-    let joined_up : lies day r.last k ≡ (nat_eq k day || lies r.first r.last k) = grind (arith, nat_tests) in
-    ap (λ b. b || is_in k rs) joined_up ∙ or_assoc (nat_eq k day) (lies r.first r.last k) (is_in k rs)
+    let joined_up : is_between day r.last k ≡ (nat_eq k day || is_between r.first r.last k) = grind (arith, nat_tests) in
+    ap (λ b. b || is_in k rs) joined_up ∙ or_assoc (nat_eq k day) (is_between r.first r.last k) (is_in k rs)
 with_day_in_by false day k r rs e forward =
-    let alone : lies day day k ≡ nat_eq k day = grind (arith, nat_tests) in
+    let alone : is_between day day k ≡ nat_eq k day = grind (arith, nat_tests) in
     ap (λ b. b || is_in k (r ∷ rs)) alone
 
 with_day_in : (day k : ℕ) (rs : List Run) → AreApartFrom (day + 1) rs → is_in k (with_day day rs) ≡ (nat_eq k day || is_in k rs)
 with_day_in day k [] a =
-    let alone : lies day day k ≡ nat_eq k day = grind (arith, nat_tests) in
+    let alone : is_between day day k ≡ nat_eq k day = grind (arith, nat_tests) in
     ap (λ b. b || false) alone
 with_day_in day k (r ∷ rs) a = with_day_in_by (nat_eq r.first (day + 1)) day k r rs refl a.1
 
@@ -178,11 +178,11 @@ are_runs days = record {
 
 run_in : (r : Run) (rs : List Run) (day : ℕ) → r.first ≤ day → day ≤ r.last → is_in day (r ∷ rs) ≡ true
 run_in r rs day low high =
-    or_left (lies r.first r.last day) (is_in day rs) (and_from (nat_le r.first day) (nat_le day r.last) (le-leb r.first day low) (le-leb day r.last high))
+    or_left (is_between r.first r.last day) (is_in day rs) (and_from (nat_le r.first day) (nat_le day r.last) (le-leb r.first day low) (le-leb day r.last high))
 
 run_past : (r : Run) (rs : List Run) (day : ℕ) → r.last < day → is_in day (r ∷ rs) ≡ is_in day rs
 run_past r rs day past =
-    let outside : lies r.first r.last day ≡ false = and_right (nat_le r.first day) (nat_le day r.last) (lt-leb day r.last past) in
+    let outside : is_between r.first r.last day ≡ false = and_right (nat_le r.first day) (nat_le day r.last) (lt-leb day r.last past) in
     rw outside refl
 
 contradiction : {A : Type 0} (x y : Bool) → x ≡ true → y ≡ false → x ≡ y → A

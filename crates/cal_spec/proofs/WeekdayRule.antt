@@ -19,7 +19,7 @@ use Rattle.cal_spec.specs.headline.GrammarRule.{IsName, IsItem, AreWeekdays, Has
 use Rattle.cal_spec.specs.Weekdays.{day_named, is_no_letter, leading_letters, after_letters, after_joint, days_to, days_from, days_by, days_of, items_of, without_comma, listed_days, weekdays_of, weekdays_in}
 use Rattle.cal_spec.specs.headline.Weekdays.{set_of}
 use Rattle.cal_civil.specs.headline.ZoneName.{begins_with_letter}
-use Rattle.cal_spec.specs.declared.weekdays.Days.{Days}
+use Rattle.cal_spec.specs.declared.weekdays.WeekdayRange.{WeekdayRange}
 use Rattle.cal_spec.proofs.FieldLemmas.{items_of-cons, weekdays_found}
 use Rattle.cal_text.proofs.General.{list_all-both, some_none, some_pieces, list_all-wider, IsClear, Apart, clear_of, split_join_with_byte}
 
@@ -114,7 +114,7 @@ joint_read [] name at = cc
 joint_read (b ∷ []) name at = one_joint b name (b == 45) refl at
 joint_read (b ∷ c ∷ bs) name at = two_joint b c bs name (b == 45) ((b == 46) && (c == 46)) refl refl at
 
-last_read : (first : Weekday) (letters text name : List ℕ) (o : Option Weekday) (days : Days) → IsName letters first → JointRead text name → day_named name ≡ o → option_map (λ last. record { first = first; last = last }) o ≡ Some days → IsItem (letters ++ text) days
+last_read : (first : Weekday) (letters text name : List ℕ) (o : Option Weekday) (days : WeekdayRange) → IsName letters first → JointRead text name → day_named name ≡ o → option_map (λ last. record { first = first; last = last }) o ≡ Some days → IsItem (letters ++ text) days
 last_read first letters text name None days named read is at = cc
 last_read first letters text name (Some last) days named read is at =
     let same : record { first = first; last = last } ≡ days = cc in
@@ -128,19 +128,19 @@ last_read first letters text name (Some last) days named read is at =
       last_name = name_found name last is;
     }))
 
-to_read : (first : Weekday) (letters text : List ℕ) (o : Option (List ℕ)) (days : Days) → IsName letters first → after_joint text ≡ o → days_to first o ≡ Some days → IsItem (letters ++ text) days
+to_read : (first : Weekday) (letters text : List ℕ) (o : Option (List ℕ)) (days : WeekdayRange) → IsName letters first → after_joint text ≡ o → days_to first o ≡ Some days → IsItem (letters ++ text) days
 to_read first letters text None days named is at = cc
 to_read first letters text (Some name) days named is at =
     last_read first letters text name (day_named name) days named (joint_read text name is) refl at
 
-item_by : (letters after : List ℕ) (o : Option Weekday) (days : Days) → day_named letters ≡ o → days_by o after ≡ Some days → IsItem (letters ++ after) days
+item_by : (letters after : List ℕ) (o : Option Weekday) (days : WeekdayRange) → day_named letters ≡ o → days_by o after ≡ Some days → IsItem (letters ++ after) days
 item_by letters after None days is at = cc
 item_by letters [] (Some first) days is at =
     let same : record { first = first; last = first } ≡ days = cc in
     rw (← same, append-nil letters) (inl (name_found letters first is, refl))
 item_by letters (b ∷ bs) (Some first) days is at = to_read first letters (b ∷ bs) (after_joint (b ∷ bs)) days (name_found letters first is) refl at
 
-pub item_found : (item : List ℕ) (days : Days) → days_of item ≡ Some days → IsItem item days
+pub item_found : (item : List ℕ) (days : WeekdayRange) → days_of item ≡ Some days → IsItem item days
 unfolding days_of
 item_found item days at =
     rw take-append-drop at (item_by (leading_letters item) (after_letters item) (day_named (leading_letters item)) days refl at)
@@ -156,14 +156,14 @@ days_joined : (first : Weekday) (text name : List ℕ) → after_joint text ≡ 
 days_joined first [] name at = cc
 days_joined first (b ∷ bs) name at = ap (days_to first) at
 
-single_only : (text : List ℕ) (days : Days) → IsName text days.first → days.last ≡ days.first → days_of text ≡ Some days
+single_only : (text : List ℕ) (days : WeekdayRange) → IsName text days.first → days.last ≡ days.first → days_of text ≡ Some days
 unfolding days_of
 single_only text days named same =
     let letters : (leading_letters text ≡ text) × (after_letters text ≡ []) = rw append-nil at (letters_at text [] (name_letters text days.first named) refl) in
     let made : record { first = days.first; last = days.first } ≡ days = ap (λ (d : Weekday). record { first = days.first; last = d }) (sym same) in
     rw (letters.0, letters.1, name_only text days.first named) (ap Some made)
 
-pub item_only : (text : List ℕ) (days : Days) → IsItem text days → days_of text ≡ Some days
+pub item_only : (text : List ℕ) (days : WeekdayRange) → IsItem text days → days_of text ≡ Some days
 unfolding days_of
 item_only text days (inl one) = single_only text days one.0 one.1
 item_only text days (inr two) =
@@ -173,7 +173,7 @@ item_only text days (inr two) =
 
 -- The list
 
-items_found : (ts : List (List ℕ)) (items : List Days) → items_of ts ≡ Ok items → AllZip IsItem ts items
+items_found : (ts : List (List ℕ)) (items : List WeekdayRange) → items_of ts ≡ Ok items → AllZip IsItem ts items
 items_found [] items at = let none : [] ≡ items = cc in rw (← none) tt
 items_found (t ∷ ts) items at =
     let read = items_of-cons t ts items at in
@@ -238,12 +238,12 @@ joint_bytes : (joint : List ℕ) → (joint ≡ codes "..") ⊎ (joint ≡ codes
 joint_bytes joint (inl is) = rw is refl
 joint_bytes joint (inr is) = rw is refl
 
-item_bytes : (text : List ℕ) (days : Days) → IsItem text days → list_all is_item_byte text ≡ true
+item_bytes : (text : List ℕ) (days : WeekdayRange) → IsItem text days → list_all is_item_byte text ≡ true
 item_bytes text days (inl one) = name_bytes text days.first one.0
 item_bytes text days (inr two) =
     rw two.whole (list_all-both is_item_byte two.first (two.joint ++ two.last) (name_bytes two.first days.first two.first_name) (list_all-both is_item_byte two.joint two.last (joint_bytes two.joint two.joint_is) (name_bytes two.last days.last two.last_name)))
 
-items_only : (ts : List (List ℕ)) (items : List Days) → AllZip IsItem ts items → AllByRecursion (IsClear is_comma) ts × (items_of ts ≡ Ok items)
+items_only : (ts : List (List ℕ)) (items : List WeekdayRange) → AllZip IsItem ts items → AllByRecursion (IsClear is_comma) ts × (items_of ts ≡ Ok items)
 items_only [] [] zip = (tt, refl)
 items_only [] (d ∷ items) zip = absurd zip
 items_only (t ∷ ts) [] zip = absurd zip
@@ -283,12 +283,12 @@ some_end (b ∷ bs) some all =
 name_ends : (text : List ℕ) (day : Weekday) → IsName text day → EndsInLetter text
 name_ends text day is = some_end text (some_name text day is) (name_letters text day is)
 
-item_ends : (text : List ℕ) (days : Days) → IsItem text days → EndsInLetter text
+item_ends : (text : List ℕ) (days : WeekdayRange) → IsItem text days → EndsInLetter text
 item_ends text days (inl one) = name_ends text days.first one.0
 item_ends text days (inr two) =
     rw two.whole (after_ends two.first (two.joint ++ two.last) (after_ends two.joint two.last (name_ends two.last days.last two.last_name)))
 
-joined_ends : (t : List ℕ) (ts : List (List ℕ)) (items : List Days) → AllZip IsItem (t ∷ ts) items → EndsInLetter (join_with_byte 44 (t ∷ ts))
+joined_ends : (t : List ℕ) (ts : List (List ℕ)) (items : List WeekdayRange) → AllZip IsItem (t ∷ ts) items → EndsInLetter (join_with_byte 44 (t ∷ ts))
 joined_ends t ts [] zip = absurd zip
 joined_ends t [] (d ∷ items) zip = item_ends t d zip.0
 joined_ends t (u ∷ ts) (d ∷ items) zip =
@@ -326,7 +326,7 @@ pub record BeginsWithName (text : List ℕ) (day : Weekday) : Type 0 where
   pub named : IsName name day
   pub stop : begins_with_letter rest ≡ false
 
-item_begins : (text : List ℕ) (days : Days) → IsItem text days → BeginsWithName text days.first
+item_begins : (text : List ℕ) (days : WeekdayRange) → IsItem text days → BeginsWithName text days.first
 item_begins text days (inl one) = record { name = text; rest = []; whole = sym (append-nil text); named = one.0; stop = refl }
 item_begins text days (inr two) = record {
   name = two.first;
@@ -349,7 +349,7 @@ begins_more text more day stop begins = record {
   stop = stops_more begins.rest more begins.stop stop;
 }
 
-joined_begins : (t : List ℕ) (ts : List (List ℕ)) (d : Days) → IsItem t d → BeginsWithName (join_with_byte 44 (t ∷ ts)) d.first
+joined_begins : (t : List ℕ) (ts : List (List ℕ)) (d : WeekdayRange) → IsItem t d → BeginsWithName (join_with_byte 44 (t ∷ ts)) d.first
 joined_begins t [] d is = item_begins t d is
 joined_begins t (u ∷ ts) d is = begins_more t (44 ∷ join_with_byte 44 (u ∷ ts)) d.first refl (item_begins t d is)
 
@@ -361,14 +361,14 @@ begins_named : (word : List ℕ) (day : Weekday) → BeginsWithName word day →
 begins_named word day begins =
     rw (begins.whole, (letters_at begins.name begins.rest (name_letters begins.name day begins.named) begins.stop).0, name_only begins.name day begins.named) refl
 
-listed_only : (word t : List ℕ) (ts : List (List ℕ)) (items : List Days) → AllZip IsItem (t ∷ ts) items → (word ≡ join_with_byte 44 (t ∷ ts)) ⊎ (word ≡ join_with_byte 44 (t ∷ ts) ++ codes ",") → listed_days word ≡ Ok (set_of items)
+listed_only : (word t : List ℕ) (ts : List (List ℕ)) (items : List WeekdayRange) → AllZip IsItem (t ∷ ts) items → (word ≡ join_with_byte 44 (t ∷ ts)) ⊎ (word ≡ join_with_byte 44 (t ∷ ts) ++ codes ",") → listed_days word ≡ Ok (set_of items)
 unfolding listed_days
 listed_only word t ts items zip whole =
     let list = trimmed_is word (join_with_byte 44 (t ∷ ts)) (joined_ends t ts items zip) whole in
     let all = items_only (t ∷ ts) items zip in
     rw (list, split_join_with_byte 44 t ts refl all.0, all.1) refl
 
-list_by : (word : List ℕ) (ts : List (List ℕ)) (items : List Days) → 0 < length ts → AllZip IsItem ts items → (word ≡ join_with_byte 44 ts) ⊎ (word ≡ join_with_byte 44 ts ++ codes ",") → weekdays_of word ≡ Ok (set_of items)
+list_by : (word : List ℕ) (ts : List (List ℕ)) (items : List WeekdayRange) → 0 < length ts → AllZip IsItem ts items → (word ≡ join_with_byte 44 ts) ⊎ (word ≡ join_with_byte 44 ts ++ codes ",") → weekdays_of word ≡ Ok (set_of items)
 unfolding weekdays_of
 list_by word [] items some zip whole = absurd (omega arith)
 list_by word (t ∷ ts) [] some zip whole = absurd zip

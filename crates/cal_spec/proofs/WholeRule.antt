@@ -3,12 +3,12 @@ use Rattle.std.proofs.Common.{ℕ, ◌≡◌, ◌⊎◌, inl, inr, List, Bool, l
 use Rattle.std.proofs.lemmas.Bool.{le-ltb}
 use Rattle.cal_spec.specs.DateAndTime.{DateFields, TimeFields, room_after, date_in_word, time_in_word}
 use Rattle.cal_spec.specs.headline.Fields.{Fields}
-use Rattle.cal_spec.specs.Grammar.{most_text_bytes, fields_at, fields_in}
+use Rattle.cal_spec.specs.Grammar.{max_text_bytes, fields_at, fields_in}
 use Rattle.cal_spec.specs.headline.GrammarRule.{given, ArePlain, AreShort, IsExpression, IsValid}
 use Rattle.cal_spec.specs.Weekdays.{weekdays_in}
 use Rattle.cal_spec.specs.Words.{roles_of}
 use Rattle.cal_text.specs.headline.Words.{words}
-use Rattle.cal_spec.specs.headline.Words.{Roles}
+use Rattle.cal_spec.specs.headline.Words.{WordRoles}
 use Rattle.cal_spec.specs.ZoneSuffix.{suffix_in}
 use Rattle.cal_spec.specs.headline.ZoneSuffix.{ZoneSuffix}
 use Rattle.cal_spec.proofs.DateRule.{is_date, is_time, AreFew, are_few, date_only, time_only}
@@ -16,7 +16,7 @@ use Rattle.cal_spec.proofs.FieldLemmas.{fields_with, text_found, valid_fields}
 use Rattle.cal_spec.proofs.WeekdayRule.{weekdays_by_rule, weekdays_only}
 use Rattle.cal_spec.proofs.WordRule.{zone_read, zone_only, zone_begins, time_colon, roles_found, roles_only}
 
-expression_with : (text : List ℕ) (p : Roles) (weekdays : List Bool) (d : DateFields) (h : TimeFields) (kept : Option ZoneSuffix) → roles_of (words text) ≡ Some p → weekdays_in p.weekdays ≡ Ok weekdays → date_in_word p.date ≡ Ok d → time_in_word (room_after d) p.time ≡ Ok h → suffix_in p.rest ≡ Ok kept → IsExpression text (fields_with weekdays d h kept)
+expression_with : (text : List ℕ) (p : WordRoles) (weekdays : List Bool) (d : DateFields) (h : TimeFields) (kept : Option ZoneSuffix) → roles_of (words text) ≡ Some p → weekdays_in p.weekdays ≡ Ok weekdays → date_in_word p.date ≡ Ok d → time_in_word (room_after d) p.time ≡ Ok h → suffix_in p.rest ≡ Ok kept → IsExpression text (fields_with weekdays d h kept)
 expression_with text p weekdays d h kept roles_are week date time last =
     let read = zone_read p.rest kept last in
     record {
@@ -37,7 +37,7 @@ valid_found text f at =
     let expression : IsExpression text f = rw read.is at (expression_with text found.roles read.weekdays read.date read.time read.name found.roles_are read.weekdays_is read.date_is read.time_is read.name_is) in
     record { short = found.short; expression = expression; few = (valid_fields text f at).few }
 
-rest_of : (ws : List (List ℕ)) (p : Roles) (last : Option (List ℕ)) → ArePlain ws p last ⊎ AreShort ws p last → p.rest ≡ given last
+rest_of : (ws : List (List ℕ)) (p : WordRoles) (last : Option (List ℕ)) → ArePlain ws p last ⊎ AreShort ws p last → p.rest ≡ given last
 rest_of ws p last (inl plain) = plain.rest_is
 rest_of ws p last (inr short) = short.rest_is
 
@@ -54,7 +54,7 @@ unfolding fields_in
 valid_only text f valid =
     let e = valid.expression in
     let roles_are = roles_only (words text) e.roles e.last (zone_begins e.last f.zone e.zone) e.roles_are in
-    rw (le-ltb most_text_bytes (length text) valid.short, roles_are) (fields_only text f e (are_few f valid.few))
+    rw (le-ltb max_text_bytes (length text) valid.short, roles_are) (fields_only text f e (are_few f valid.few))
 
 -- no text is two different expressions
 pub one_expression : (text : List ℕ) (f g : Fields) → IsValid text f → IsValid text g → f ≡ g

@@ -12,9 +12,9 @@ use Rattle.cal_spec.specs.DateAndTime.{TimeFields, time_texts, time_in_word}
 use Rattle.cal_text.specs.headline.Separators.{is_colon}
 use Rattle.cal_spec.specs.headline.DateAndTime.{TimeTexts}
 use Rattle.cal_spec.specs.headline.GrammarRule.{given, ArePlain, AreShort, IsSignless, IsZoneWord}
-use Rattle.cal_spec.specs.headline.Shorthand.{any_date, midnight, meaning_of, shorthand_named}
+use Rattle.cal_spec.specs.headline.Shorthand.{any_date, midnight, expansion_of, shorthand_named}
 use Rattle.cal_spec.specs.Words.{roles_after_date, after_weekdays, date_or_time, roles_by, roles_in, roles_of}
-use Rattle.cal_spec.specs.headline.Words.{Roles}
+use Rattle.cal_spec.specs.headline.Words.{WordRoles}
 use Rattle.cal_civil.specs.headline.ZoneName.{begins_with_letter, is_zone_byte, is_zone_name}
 use Rattle.cal_civil.specs.OffsetWord.{begins_zone, offset_in}
 use Rattle.cal_civil.specs.headline.OffsetWord.{begins_with_sign}
@@ -163,12 +163,12 @@ found_by w ws last (Some shorthand) is rest colon = inr (record {
   rest_is = rest;
 })
 
-pub roles_found : (ws : List (List ℕ)) (p : Roles) (last : Option (List ℕ)) → roles_of ws ≡ Some p → p.rest ≡ given last → list_any is_colon p.time ≡ true → ArePlain ws p last ⊎ AreShort ws p last
+pub roles_found : (ws : List (List ℕ)) (p : WordRoles) (last : Option (List ℕ)) → roles_of ws ≡ Some p → p.rest ≡ given last → list_any is_colon p.time ≡ true → ArePlain ws p last ⊎ AreShort ws p last
 unfolding roles_of
 roles_found [] p last at rest colon = cc
 roles_found (w ∷ ws) p last at rest colon =
     let is : roles_by (shorthand_named w) w ws ≡ p = cc in
-    rw (← is) (found_by w ws last (shorthand_named w) refl (ap (λ (q : Roles). q.rest) is ∙ rest) (ap (λ (q : Roles). list_any is_colon q.time) is ∙ colon))
+    rw (← is) (found_by w ws last (shorthand_named w) refl (ap (λ (q : WordRoles). q.rest) is ∙ rest) (ap (λ (q : WordRoles). list_any is_colon q.time) is ∙ colon))
 
 -- The parser finds the roles that the grammar gives
 
@@ -204,14 +204,14 @@ plain_is None None (Some t) last some kind date_kind time_kind signless begins =
     rw (no_shorthand t time_kind.0, time_kind.0, time_kind.1) refl
 plain_is None None None last some kind date_kind time_kind signless begins = absurd (omega arith)
 
-same_roles : (p : Roles) (weekdays : Option (List ℕ)) (date time : List ℕ) (rest : List (List ℕ)) → p.weekdays ≡ weekdays → p.date ≡ date → p.time ≡ time → p.rest ≡ rest → record { weekdays = weekdays; date = date; time = time; rest = rest } ≡ p
+same_roles : (p : WordRoles) (weekdays : Option (List ℕ)) (date time : List ℕ) (rest : List (List ℕ)) → p.weekdays ≡ weekdays → p.date ≡ date → p.time ≡ time → p.rest ≡ rest → record { weekdays = weekdays; date = date; time = time; rest = rest } ≡ p
 same_roles p weekdays date time rest a b c d =
     let made : record { weekdays = weekdays; date = date; time = time; rest = rest } ≡ record { weekdays = p.weekdays; date = p.date; time = p.time; rest = p.rest } = cc in made
 
-pub roles_only : (ws : List (List ℕ)) (p : Roles) (last : Option (List ℕ)) → IfSome last (λ w. begins_zone w ≡ true) → ArePlain ws p last ⊎ AreShort ws p last → roles_of ws ≡ Some p
+pub roles_only : (ws : List (List ℕ)) (p : WordRoles) (last : Option (List ℕ)) → IfSome last (λ w. begins_zone w ≡ true) → ArePlain ws p last ⊎ AreShort ws p last → roles_of ws ≡ Some p
 unfolding roles_of
 roles_only ws p last begins (inl plain) =
     ap roles_of plain.whole ∙ plain_is p.weekdays plain.date plain.time last plain.some plain.weekdays_kind plain.date_kind plain.time_kind plain.signless begins ∙ ap Some (same_roles p p.weekdays (unwrap_or plain.date any_date) (unwrap_or plain.time midnight) (given last) refl plain.date_is plain.time_is plain.rest_is)
 roles_only ws p last begins (inr short) =
-    let meaning = meaning_of short.shorthand in
-    rw (short.whole, short.named) (ap Some (same_roles p meaning.weekdays meaning.date meaning.time (given last) short.weekdays_is short.date_is short.time_is short.rest_is))
+    let expansion = expansion_of short.shorthand in
+    rw (short.whole, short.named) (ap Some (same_roles p expansion.weekdays expansion.date expansion.time (given last) short.weekdays_is short.date_is short.time_is short.rest_is))

@@ -7,14 +7,14 @@ use Rattle.cal_text.specs.headline.Separators.{is_comma}
 use Rattle.cal_spec.specs.Components.{most_counted, is_star}
 use Rattle.cal_spec.specs.DateAndTime.{date_texts, time_texts}
 use Rattle.cal_spec.specs.headline.DateAndTime.{DateTexts, TimeTexts}
-use Rattle.cal_spec.specs.Grammar.{most_text_bytes}
+use Rattle.cal_spec.specs.Grammar.{max_text_bytes}
 use Rattle.cal_spec.specs.Parts.{is_time, part_of, fault_of}
 use Rattle.cal_spec.specs.headline.Parts.{with_values}
 use Rattle.cal_spec.specs.headline.Slot.{day_slot}
 use Rattle.cal_spec.specs.Weekdays.{weekdays_in}
 use Rattle.cal_spec.specs.Words.{roles_of}
 use Rattle.cal_text.specs.headline.Words.{words}
-use Rattle.cal_spec.specs.headline.Words.{Roles}
+use Rattle.cal_spec.specs.headline.Words.{WordRoles}
 use Rattle.cal_spec.specs.ZoneSuffix.{suffix_in}
 use Rattle.cal_spec.specs.declared.part.Part.{Part}
 use Rattle.cal_spec.specs.declared.slot.Slot.{Slot}
@@ -75,7 +75,7 @@ time_faults before (Some t) =
     ++ component_faults Second (before + numbered Hour t.hour + numbered Minute t.minute) t.second)
 
 -- all checks of the words, from left to right
-abbrev pub faults_at : Option Roles → List (Option SpecFault)
+abbrev pub faults_at : Option WordRoles → List (Option SpecFault)
 faults_at None = Some Empty ∷ []
 faults_at (Some p) =
     result_err (weekdays_in p.weekdays)
@@ -85,4 +85,4 @@ faults_at (Some p) =
 
 -- all checks of a text
 unfoldable pub judgements_of : List ℕ → List (Option SpecFault)
-judgements_of text = (if nat_lt most_text_bytes (length text) then Some TextTooLong else None) ∷ faults_at (roles_of (words text))
+judgements_of text = (if nat_lt max_text_bytes (length text) then Some TextTooLong else None) ∷ faults_at (roles_of (words text))

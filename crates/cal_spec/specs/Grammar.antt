@@ -6,17 +6,17 @@ use Rattle.cal_text.specs.AndThen.{◌>>=◌}
 use Rattle.cal_spec.specs.Weekdays.{weekdays_in}
 use Rattle.cal_spec.specs.Words.{roles_of}
 use Rattle.cal_text.specs.headline.Words.{words}
-use Rattle.cal_spec.specs.headline.Words.{Roles}
+use Rattle.cal_spec.specs.headline.Words.{WordRoles}
 use Rattle.cal_spec.specs.ZoneSuffix.{suffix_in}
 use Rattle.cal_spec.specs.declared.spec_fault.SpecFault.{SpecFault}
 use Rattle.cal_spec.specs.declared.spec_fault.SpecFault.TheVariants.{Empty, TextTooLong}
 
 -- the maximum length of an expression in bytes
-abbrev pub most_text_bytes : ℕ
-most_text_bytes = 4096
+abbrev pub max_text_bytes : ℕ
+max_text_bytes = 4096
 
 -- parses the weekdays, date, time and zone, in this order
-unfoldable pub fields_at : Roles → Result Fields SpecFault
+unfoldable pub fields_at : WordRoles → Result Fields SpecFault
 fields_at p =
     weekdays_in p.weekdays
     >>= λ weekdays. date_in_word p.date
@@ -35,10 +35,10 @@ fields_at p =
     })
 
 -- a text without words is not an expression
-abbrev pub fields_due : Option Roles → Result Fields SpecFault
+abbrev pub fields_due : Option WordRoles → Result Fields SpecFault
 fields_due None = Err Empty
 fields_due (Some p) = fields_at p
 
 -- parses the fields of an expression, or fails with the text's first error
 unfoldable pub fields_in : List ℕ → Result Fields SpecFault
-fields_in text = if nat_lt most_text_bytes (length text) then Err TextTooLong else fields_due (roles_of (words text))
+fields_in text = if nat_lt max_text_bytes (length text) then Err TextTooLong else fields_due (roles_of (words text))

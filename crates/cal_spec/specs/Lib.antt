@@ -11,9 +11,9 @@ pub mod NormalForm
 pub mod Order
 pub mod Parts
 pub mod Reads
-pub mod RolesView
+pub mod WordRolesView
 pub mod ShorthandViews
-pub mod Sound
+pub mod ValidComponents
 pub mod SpecFault
 pub mod SuffixView
 pub mod Symbol

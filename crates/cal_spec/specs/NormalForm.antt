@@ -5,7 +5,7 @@ use Rattle.std.specs.List.Sorted.{IsStrictlySortedBy}
 use Rattle.std.specs.Option.{option_map, option_and_then, option_eq}
 use Rattle.cal_spec.specs.headline.Fields.{Fields}
 use Rattle.cal_spec.specs.Order.{in_order}
-use Rattle.cal_spec.specs.headline.Sound.{EndsAfter, IsStep}
+use Rattle.cal_spec.specs.headline.ValidParts.{EndsAfter, IsStep}
 use Rattle.cal_spec.specs.declared.part.Part.{Part}
 use Rattle.cal_spec.specs.headline.NormalForm.{each, normal_from_end, part_cmp, range_to, step_of}
 

@@ -134,9 +134,9 @@ is_zero None = false
 is_zero (Some r) = r == 0
 
 -- an open-ended repetition that doesn't reach a second number
-abbrev pub is_idle : Slot → ℕ → Option ℕ → Option ℕ → Bool
-is_idle slot a None (Some r) = if is_from_end slot then nat_le a r else nat_lt (greatest slot) (a + r)
-is_idle slot a last step = false
+abbrev pub reaches_no_further_value : Slot → ℕ → Option ℕ → Option ℕ → Bool
+reaches_no_further_value slot a None (Some r) = if is_from_end slot then nat_le a r else nat_lt (greatest slot) (a + r)
+reaches_no_further_value slot a last step = false
 
 -- the first error of the part's values
 unfoldable pub fault_of : Slot → Part → Option SpecFault
@@ -144,4 +144,4 @@ fault_of slot p =
     if is_outside slot p.start p.end then Some OutOfField
     else (if is_backward p.start p.end then Some BackwardRange
     else (if is_zero p.step then Some ZeroRepeat
-    else (if is_idle slot p.start p.end p.step then Some NoRepeat else None)))
+    else (if reaches_no_further_value slot p.start p.end p.step then Some NoRepeat else None)))

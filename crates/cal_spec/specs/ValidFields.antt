@@ -3,18 +3,18 @@ use Rattle.std.specs.Prelude.{◌≡◌, ◌≤◌, true, length}
 use Rattle.std.specs.List.{list_any}
 use Rattle.cal_spec.specs.headline.Fields.{Fields, counted_parts}
 use Rattle.cal_spec.specs.headline.Slot.{day_slot}
-use Rattle.cal_spec.specs.Sound.{AreSound}
+use Rattle.cal_spec.specs.ValidComponents.{IsValidComponent}
 use Rattle.cal_spec.specs.ZoneSuffix.{IsSuffixOption}
 use Rattle.cal_spec.specs.declared.slot.Slot.TheVariants.{Year, Month, Hour, Minute, Second}
 
 pub record IsValidFields (f : Fields) : Type 0 where
   pub seven : length f.weekdays ≡ 7
   pub chosen : list_any (λ d. d) f.weekdays ≡ true
-  pub year : AreSound Year f.year
-  pub month : AreSound Month f.month
-  pub day : AreSound (day_slot f.from_end) f.day
-  pub hour : AreSound Hour f.hour
-  pub minute : AreSound Minute f.minute
-  pub second : AreSound Second f.second
+  pub year : IsValidComponent Year f.year
+  pub month : IsValidComponent Month f.month
+  pub day : IsValidComponent (day_slot f.from_end) f.day
+  pub hour : IsValidComponent Hour f.hour
+  pub minute : IsValidComponent Minute f.minute
+  pub second : IsValidComponent Second f.second
   pub few : counted_parts f ≤ 240
   pub zone : IsSuffixOption f.zone

@@ -8,7 +8,7 @@ use Rattle.jiff_core.specs.declared.civil.weekday.Weekday.{Weekday}
 use Rattle.cal_civil.specs.headline.Weekday.{week, name_of, short_name_of}
 use Rattle.cal_text.specs.headline.Separators.{is_comma}
 use Rattle.cal_text.specs.AndThen.{◌>>=◌}
-use Rattle.cal_spec.specs.declared.weekdays.Days.{Days}
+use Rattle.cal_spec.specs.declared.weekdays.WeekdayRange.{WeekdayRange}
 use Rattle.cal_spec.specs.declared.spec_fault.SpecFault.{SpecFault}
 use Rattle.cal_spec.specs.declared.spec_fault.SpecFault.TheVariants.{BadWeekday, UnknownShorthand}
 use Rattle.cal_spec.specs.headline.Weekdays.{set_of}
@@ -36,23 +36,23 @@ after_joint (b ∷ c ∷ bs) =
     if b == 45 then Some (c ∷ bs) else (if (b == 46) && (c == 46) then Some bs else None)
 
 -- the days from `first` to the weekday of this name, which is the text after the joint
-abbrev pub days_to : Weekday → Option (List ℕ) → Option Days
+abbrev pub days_to : Weekday → Option (List ℕ) → Option WeekdayRange
 days_to first None = None
 days_to first (Some name) = option_map (λ last. record { first = first; last = last }) (day_named name)
 
-abbrev pub days_from : Weekday → List ℕ → Option Days
+abbrev pub days_from : Weekday → List ℕ → Option WeekdayRange
 days_from first [] = Some (record { first = first; last = first })
 days_from first (b ∷ bs) = days_to first (after_joint (b ∷ bs))
 
-abbrev pub days_by : Option Weekday → List ℕ → Option Days
+abbrev pub days_by : Option Weekday → List ℕ → Option WeekdayRange
 days_by None after = None
 days_by (Some first) after = days_from first after
 
 -- parses an item: the name of a weekday, or two names joined by `..` or `-`
-unfoldable pub days_of : List ℕ → Option Days
+unfoldable pub days_of : List ℕ → Option WeekdayRange
 days_of item = days_by (day_named (leading_letters item)) (after_letters item)
 
-abbrev pub items_of : List (List ℕ) → Result (List Days) SpecFault
+abbrev pub items_of : List (List ℕ) → Result (List WeekdayRange) SpecFault
 items_of [] = Ok []
 items_of (t ∷ ts) = ok_or (days_of t) BadWeekday >>= λ days. items_of ts >>= λ more. Ok (days ∷ more)
 

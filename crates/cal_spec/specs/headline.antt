@@ -9,7 +9,7 @@ pub mod NormalForm
 pub mod Parts
 pub mod Shorthand
 pub mod Slot
-pub mod Sound
+pub mod ValidParts
 pub mod WeekdayRuns
 pub mod Weekdays
 pub mod Words

@@ -17,7 +17,7 @@ use std::alloc::Global;
 
 /// The maximum number of parts in an expression, not counting the first part of the hour, of the minute and of the
 /// second.
-const MOST_COUNTED: usize = 240;
+const MAX_COUNTED_PARTS: usize = 240;
 
 /// Parses a date, `year-month-day` or `month-day`. A `~` in place of the last `-` means that the day is counted from
 /// the month's end (systemd.time(7), Calendar Events).
@@ -53,7 +53,7 @@ pub(crate) fn room_after(date: &DateFields) -> usize
     ensures value { result ≡ room_after (date_fields_in date.now) }
     ensures bound { result ≤ most_counted }
 {
-    MOST_COUNTED
+    MAX_COUNTED_PARTS
         .saturating_sub(count_parts(Slot::Year, &date.year))
         .saturating_sub(count_parts(Slot::Month, &date.month))
         .saturating_sub(count_parts(day_slot(date.from_end), &date.day))
@@ -151,8 +151,8 @@ fn time_texts(word: &[u8]) -> Option<TimeTexts<'_>>
 fn date_fields(alloc: Global, texts: DateTexts<'_>) -> Result<DateFields, SpecFault>
     ensures { GivesUnlessNoMemory date_fields_in result (date_fields (date_texts_in texts.entry)) }
 {
-    let year = read_component(alloc, Slot::Year, MOST_COUNTED, texts.year)?;
-    let room = MOST_COUNTED.saturating_sub(count_parts(Slot::Year, &year));
+    let year = read_component(alloc, Slot::Year, MAX_COUNTED_PARTS, texts.year)?;
+    let room = MAX_COUNTED_PARTS.saturating_sub(count_parts(Slot::Year, &year));
     let month = read_component(alloc, Slot::Month, room, texts.month)?;
     let room = room.saturating_sub(count_parts(Slot::Month, &month));
     let day = read_component(alloc, day_slot(texts.from_end), room, texts.day)?;

@@ -31,7 +31,7 @@ mod zone_suffix;
 pub use expr::Expr;
 pub use expr_text::write_expr;
 pub use field::Field;
-pub use matching::day_number;
+pub use matching::day_value;
 pub use part::Part;
 pub use parts::with_century;
 pub use pieces::first_piece;

@@ -4,7 +4,7 @@ ghost use Rattle.std.specs.Prelude.{◌≡◌, ◌<◌, false, unsigned_abs, sli
 ghost use Rattle.jiff_core.specs.Weekday.{monday_zero};
 ghost use Rattle.cal_civil.specs.Local.{IsLocalSecond};
 ghost use Rattle.cal_spec.specs.Fields.{fields_of};
-ghost use Rattle.cal_spec.specs.headline.Match.{date_in, day_number, matches, time_in};
+ghost use Rattle.cal_spec.specs.headline.Match.{date_in, day_value, matches, time_in};
 ghost use Rattle.cal_spec.specs.headline.Members.{sets_of};
 
 use crate::fields::{Fields, TimeFields};
@@ -28,7 +28,7 @@ pub fn has_local(fields: &Fields, local: i64) -> bool
 fn has_date(fields: &Fields, date: Date) -> bool
     ensures { result ≡ date_in (sets_of (fields_of fields.now)) date }
 {
-    let day = day_number(fields.date.from_end, date);
+    let day = day_value(fields.date.from_end, date);
     has_weekday(&fields.weekdays, date.weekday())
         && component_has(Slot::Year, &fields.date.year, date.year.unsigned_abs())
         && component_has(Slot::Month, &fields.date.month, date.month.into())
@@ -55,8 +55,8 @@ fn has_time(fields: &Fields, second: u32) -> bool
 
 /// Returns the number that is compared with the expression's days: the day of the month, or its count from the month's
 /// end (the last day is 1).
-pub fn day_number(from_end: bool, date: Date) -> u16
-    ensures { result ≡ day_number from_end date }
+pub fn day_value(from_end: bool, date: Date) -> u16
+    ensures { result ≡ day_value from_end date }
 {
     let day = if from_end {
         days_in_month(date.year, date.month) - date.day + 1

@@ -2,7 +2,7 @@
 
 ghost use Rattle.std.specs.Prelude.{◌≡◌, option_map};
 ghost use Rattle.std.specs.List.{list_any};
-ghost use Rattle.cal_spec.specs.headline.Members.{component_has, in_field, lies, lies_by, part_has, repeats};
+ghost use Rattle.cal_spec.specs.headline.Members.{component_has, in_field, is_between, is_step_between, part_has, repeats};
 
 use crate::Part;
 use crate::slot::Slot;
@@ -30,8 +30,8 @@ fn part_has(slot: Slot, part: Part, value: u16) -> bool
     match (part.end, part.step) {
         (None, None) => value == part.start,
         (None, Some(step)) => repeats(slot, part.start, step, value),
-        (Some(end), None) => lies(part.start, end, value),
-        (Some(end), Some(step)) => lies_by(
+        (Some(end), None) => is_between(part.start, end, value),
+        (Some(end), Some(step)) => is_step_between(
             part.start,
             end,
             step,
@@ -47,8 +47,8 @@ fn repeats(slot: Slot, start: u16, step: u16, value: u16) -> bool
     ensures { result ≡ repeats slot start step value }
 {
     match slot {
-        Slot::DayFromEnd => lies_by(1, start, step, start.saturating_sub(value), value),
-        _ => lies_by(
+        Slot::DayFromEnd => is_step_between(1, start, step, start.saturating_sub(value), value),
+        _ => is_step_between(
             start,
             slot.greatest(),
             step,
@@ -68,17 +68,17 @@ fn in_field(slot: Slot, value: u16) -> bool
     } else {
         slot
     };
-    lies(slot.least(), slot.greatest(), value)
+    is_between(slot.least(), slot.greatest(), value)
 }
 
-fn lies_by(start: u16, end: u16, step: u16, distance: u16, value: u16) -> bool
-    ensures { result ≡ lies_by start end step distance value }
+fn is_step_between(start: u16, end: u16, step: u16, distance: u16, value: u16) -> bool
+    ensures { result ≡ is_step_between start end step distance value }
 {
-    lies(start, end, value) && distance.is_multiple_of(step)
+    is_between(start, end, value) && distance.is_multiple_of(step)
 }
 
-fn lies(start: u16, end: u16, value: u16) -> bool
-    ensures { result ≡ lies start end value }
+fn is_between(start: u16, end: u16, value: u16) -> bool
+    ensures { result ≡ is_between start end value }
 {
     start <= value && value <= end
 }

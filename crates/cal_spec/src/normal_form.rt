@@ -8,7 +8,7 @@ ghost use Rattle.cal_spec.specs.NormalForm.{AreParts, IsPart, normal_component, 
 use crate::Part;
 
 /// The part `0/1`.
-const EACH: Part = Part {
+const EVERY_SECOND_PART: Part = Part {
     start: 0,
     end: None,
     step: Some(1),
@@ -48,7 +48,7 @@ fn is_every_number(parts: &[Part]) -> bool
     ensures { starred parts.now ≡ (if result then None else Some parts.now) }
 {
     match parts {
-        [part] => *part == EACH,
+        [part] => *part == EVERY_SECOND_PART,
         _ => false,
     }
 }

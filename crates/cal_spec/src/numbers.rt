@@ -7,7 +7,7 @@ ghost use Rattle.std.specs.Str.Parse.{digits_value};
 ghost use Rattle.cal_spec.specs.Parts.{symbols};
 ghost use Rattle.cal_spec.specs.Symbol.{symbol_of};
 
-use cal_text::whole_of;
+use cal_text::decimal_value;
 
 /// A symbol in the text of a part.
 #[derive(Clone, Copy)]
@@ -53,5 +53,5 @@ pub(crate) fn value_of(digits: &[u8]) -> u16
     requires { IsTrue (list_all is_ascii_digit digits.now) }
     ensures { result ≡ min (digits_value 10 digits.now) u16.MAX }
 {
-    whole_of(digits).min(u64::from(u16::MAX)) as u16
+    decimal_value(digits).min(u64::from(u16::MAX)) as u16
 }

@@ -2,7 +2,7 @@
 
 ghost use Rattle.std.specs.Prelude.{◌≡◌};
 ghost use Rattle.std.specs.Option.{option_map};
-ghost use Rattle.cal_spec.specs.Parts.{symbols, starts_with_point, bad, is_time, number_due, with_step, after_end, after_start, part_of, is_within, is_outside, is_backward, is_zero, is_idle, fault_of};
+ghost use Rattle.cal_spec.specs.Parts.{symbols, starts_with_point, bad, is_time, number_due, with_step, after_end, after_start, part_of, is_within, is_outside, is_backward, is_zero, reaches_no_further_value, fault_of};
 ghost use Rattle.cal_spec.specs.headline.Parts.{with_century, with_values};
 ghost use Rattle.cal_spec.specs.Reads.{Gives};
 
@@ -11,7 +11,7 @@ use crate::slot::Slot;
 use crate::{Part, SpecFault};
 
 /// The greatest number that an expression may contain.
-const MOST: u16 = 9999;
+const MAX_NUMBER: u16 = 9999;
 
 /// Parses a part, `a`, `a/r`, `a..b` or `a..b/r`, without checking its values (systemd.time(7), Calendar Events). If
 /// the syntax is wrong, the error is that of the leftmost mistake.
@@ -49,7 +49,7 @@ pub(crate) fn fault_of(slot: Slot, part: Part) -> Option<SpecFault>
         Some(SpecFault::BackwardRange)
     } else if part.step == Some(0) {
         Some(SpecFault::ZeroRepeat)
-    } else if is_idle(slot, part) {
+    } else if reaches_no_further_value(slot, part) {
         Some(SpecFault::NoRepeat)
     } else {
         None
@@ -82,7 +82,7 @@ fn read_number(slot: Slot, text: &[u8]) -> Result<(u16, &[u8]), SpecFault>
         return Err(bad_shape(slot));
     };
     let number = value_of(digits);
-    if number > MOST {
+    if number > MAX_NUMBER {
         return Err(SpecFault::NumberTooLarge);
     }
     if slot == Slot::Second && begins_with_point(after) {
@@ -187,8 +187,8 @@ fn is_backward(start: u16, end: Option<u16>) -> bool
 }
 
 /// Returns whether the part is an open-ended repetition that doesn't reach a second number.
-fn is_idle(slot: Slot, part: Part) -> bool
-    ensures { result ≡ is_idle slot part.start part.end part.step }
+fn reaches_no_further_value(slot: Slot, part: Part) -> bool
+    ensures { result ≡ reaches_no_further_value slot part.start part.end part.step }
 {
     let (None, Some(step)) = (part.end, part.step) else {
         return false;

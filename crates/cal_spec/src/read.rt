@@ -5,7 +5,7 @@ ghost use Rattle.std.specs.Option.{option_copied};
 ghost use Rattle.cal_spec.specs.Expr.{expr_in};
 ghost use Rattle.cal_spec.specs.Fields.{fields_of};
 ghost use Rattle.cal_spec.specs.Grammar.{fields_at, fields_in};
-ghost use Rattle.cal_spec.specs.RolesView.{shown_roles};
+ghost use Rattle.cal_spec.specs.WordRolesView.{shown_word_roles};
 ghost use Rattle.cal_spec.specs.Reads.{GivesUnlessNoMemory};
 ghost use Rattle.cal_spec.specs.ValidFields.{IsValidFields};
 ghost use Rattle.cal_spec.specs.Weekdays.{weekdays_in};
@@ -13,13 +13,13 @@ ghost use Rattle.cal_spec.specs.Weekdays.{weekdays_in};
 use crate::date_and_time::{read_date, read_time, room_after};
 use crate::fields::Fields;
 use crate::weekdays::read_weekdays;
-use crate::words::{Roles, find_roles};
+use crate::words::{WordRoles, find_word_roles};
 use crate::zone_suffix::read_suffix;
 use crate::{Expr, SpecFault};
 use std::alloc::Global;
 
 /// The maximum length of an expression in bytes.
-const MOST_TEXT_BYTES: usize = 4096;
+const MAX_TEXT_BYTES: usize = 4096;
 
 /// Parses a calendar expression, `[weekdays] [date] [time] [zone]` or `shorthand [zone]` (systemd.time(7), Calendar
 /// Events), and returns it in its normal form.
@@ -45,10 +45,10 @@ fn read_fields(alloc: Global, text: &str) -> Result<Fields, SpecFault>
     ensures fields { GivesUnlessNoMemory fields_of result (fields_in text.now) }
     ensures valid { IfOk result (λ fields. IsValidFields (fields_of fields)) }
 {
-    if text.len() > MOST_TEXT_BYTES {
+    if text.len() > MAX_TEXT_BYTES {
         return Err(SpecFault::TextTooLong);
     }
-    match find_roles(text) {
+    match find_word_roles(text) {
         Some(roles) => read_roles(alloc, roles),
         None => Err(SpecFault::Empty),
     }
@@ -56,8 +56,8 @@ fn read_fields(alloc: Global, text: &str) -> Result<Fields, SpecFault>
 
 /// Parses the weekdays, date, time and zone, in this order.
 #[tactic(auto, unfolding(crate::specs::Grammar::fields_at, crate::specs::Fields::fields_of))]
-fn read_roles(alloc: Global, roles: Roles<'_>) -> Result<Fields, SpecFault>
-    ensures { GivesUnlessNoMemory fields_of result (fields_at (shown_roles roles.entry)) }
+fn read_roles(alloc: Global, roles: WordRoles<'_>) -> Result<Fields, SpecFault>
+    ensures { GivesUnlessNoMemory fields_of result (fields_at (shown_word_roles roles.entry)) }
 {
     let weekdays = chosen_weekdays(alloc, roles.weekdays)?;
     let date = read_date(alloc, roles.date)?;

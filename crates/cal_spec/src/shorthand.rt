@@ -3,8 +3,8 @@
 ghost use Rattle.std.specs.Prelude.{◌≡◌, map};
 ghost use Rattle.std.specs.List.{find, list_any};
 ghost use Rattle.std.specs.Str.{str_eq_ignore_ascii_case};
-ghost use Rattle.cal_spec.specs.headline.Shorthand.{dates, times, names_of, meaning_of, shorthand_named};
-ghost use Rattle.cal_spec.specs.ShorthandViews.{meaning_in};
+ghost use Rattle.cal_spec.specs.headline.Shorthand.{dates, times, names_of, expansion_of, shorthand_named};
+ghost use Rattle.cal_spec.specs.ShorthandViews.{shown_expansion};
 
 use crate::same_word::is_same_word;
 
@@ -29,7 +29,7 @@ pub(crate) enum Shorthand {
 
 /// The weekdays, date and time that a shorthand stands for, not yet parsed.
 #[derive(Clone, Copy)]
-pub(crate) struct Meaning {
+pub(crate) struct ShorthandExpansion {
     pub(crate) weekdays: Option<&'static [u8]>,
     pub(crate) date: &'static [u8],
     pub(crate) time: &'static [u8],
@@ -70,14 +70,14 @@ impl Shorthand {
     }
 
     /// Returns what the shorthand stands for.
-    pub(crate) fn meaning(self) -> Meaning
-        ensures { meaning_in result ≡ meaning_of self }
+    pub(crate) fn expansion(self) -> ShorthandExpansion
+        ensures { shown_expansion result ≡ expansion_of self }
     {
         match self {
             Shorthand::Minutely => times(b"*:*:00"),
             Shorthand::Hourly => times(b"*:00:00"),
             Shorthand::Daily => dates(ANY_DATE),
-            Shorthand::Weekly => Meaning {
+            Shorthand::Weekly => ShorthandExpansion {
                 weekdays: Some(b"Mon"),
                 date: ANY_DATE,
                 time: MIDNIGHT,
@@ -98,22 +98,22 @@ pub(crate) fn find_shorthand(word: &[u8]) -> Option<Shorthand>
     find_named(&Shorthand::ALL, word)
 }
 
-/// Returns the meaning "on these dates at midnight".
-fn dates(date: &'static [u8]) -> Meaning
-    ensures { meaning_in result ≡ dates date.now }
+/// Returns the expansion "on these dates at midnight".
+fn dates(date: &'static [u8]) -> ShorthandExpansion
+    ensures { shown_expansion result ≡ dates date.now }
 {
-    Meaning {
+    ShorthandExpansion {
         weekdays: None,
         date,
         time: MIDNIGHT,
     }
 }
 
-/// Returns the meaning "every day at these times".
-fn times(time: &'static [u8]) -> Meaning
-    ensures { meaning_in result ≡ times time.now }
+/// Returns the expansion "every day at these times".
+fn times(time: &'static [u8]) -> ShorthandExpansion
+    ensures { shown_expansion result ≡ times time.now }
 {
-    Meaning {
+    ShorthandExpansion {
         weekdays: None,
         date: ANY_DATE,
         time,

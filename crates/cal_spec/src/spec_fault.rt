@@ -56,11 +56,11 @@ pub enum SpecFault {
 }
 
 impl SpecFault {
-    ghost use Rattle.cal_spec.specs.SpecFault.{words_of};
+    ghost use Rattle.cal_spec.specs.SpecFault.{message_of};
 
     /// Returns the message for users, as `Display` prints it. It is empty for [`SpecFault::NoMemory`].
     pub fn words(&self) -> &str
-        ensures { result.now ≡ words_of self.now }
+        ensures { result.now ≡ message_of self.now }
     {
         match self {
             SpecFault::Empty => "empty expression",

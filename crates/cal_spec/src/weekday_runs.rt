@@ -38,7 +38,7 @@ fn put_runs<W: Sink>(out: &mut W, days: &[bool]) -> Result<(), WriteFault>
     let mut lead: &[u8] = b"";
     let mut first = 0;
     while first < days.len() {
-        let len = front_len(&days[first..]);
+        let len = leading_days(&days[first..]);
         if len > 0 {
             put_run(out, lead, first, first + len - 1)?;
             lead = b",";
@@ -50,7 +50,7 @@ fn put_runs<W: Sink>(out: &mut W, days: &[bool]) -> Result<(), WriteFault>
 
 /// Returns how many days match before the first one that doesn't.
 #[tactic(auto, using(crate::proofs::WeekdayLemmas::front_within))]
-fn front_len(days: &[bool]) -> usize
+fn leading_days(days: &[bool]) -> usize
     ensures value { result ≡ prefix_len (λ day. day) days.now }
     ensures within { result ≤ length days.now }
 {

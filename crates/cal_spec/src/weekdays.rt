@@ -8,7 +8,7 @@ ghost use Rattle.cal_civil.specs.headline.Weekday.{name_of, short_name_of};
 ghost use Rattle.cal_text.specs.headline.Separators.{is_comma};
 ghost use Rattle.cal_spec.specs.Reads.{Gives, GivesUnlessNoMemory};
 ghost use Rattle.cal_spec.specs.Weekdays.{after_joint, day_named, days_of, is_like_shorthand, is_no_letter, items_of, weekdays_of, without_comma};
-ghost use Rattle.cal_spec.specs.headline.Weekdays.{is_covered, set_of};
+ghost use Rattle.cal_spec.specs.headline.Weekdays.{is_in_weekday_range, set_of};
 
 use crate::SpecFault;
 use crate::pieces::first_piece;
@@ -19,7 +19,7 @@ use std::alloc::Global;
 
 /// A range of weekdays, which may wrap around from Sunday to Monday.
 #[derive(Clone, Copy)]
-pub(crate) struct Days {
+pub(crate) struct WeekdayRange {
     first: Weekday,
     last: Weekday,
 }
@@ -46,7 +46,7 @@ pub(crate) fn read_weekdays(alloc: Global, word: &[u8]) -> Result<[bool; 7], Spe
 }
 
 /// Parses items separated by commas.
-fn read_items(alloc: Global, list: &[u8]) -> Result<Vec<Days>, SpecFault>
+fn read_items(alloc: Global, list: &[u8]) -> Result<Vec<WeekdayRange>, SpecFault>
     ensures { GivesUnlessNoMemory (λ items. items.items) result
         (items_of (slice_split is_comma list.now)) }
 {
@@ -63,16 +63,16 @@ fn read_items(alloc: Global, list: &[u8]) -> Result<Vec<Days>, SpecFault>
 
 /// Parses an item: the name of a weekday, or two names joined by `..` or `-`.
 #[tactic(auto, unfolding(crate::specs::Weekdays::days_of))]
-fn read_days(item: &[u8]) -> Option<Days>
+fn read_days(item: &[u8]) -> Option<WeekdayRange>
     ensures { result ≡ days_of item.now }
 {
     let (letters, after) = item.split_at(letters_len(item));
     let first = find_day(letters)?;
     if after.is_empty() {
-        return Some(Days { first, last: first });
+        return Some(WeekdayRange { first, last: first });
     }
     let last = find_day(after_joint(after)?)?;
-    Some(Days { first, last })
+    Some(WeekdayRange { first, last })
 }
 
 /// Removes a leading `..` or `-`. Returns `None` if the text begins with neither.
@@ -127,7 +127,7 @@ fn is_like_shorthand(word: &[u8]) -> bool
 }
 
 /// Returns which weekdays the items cover, from Monday to Sunday.
-fn set_of(items: &[Days]) -> [bool; 7]
+fn set_of(items: &[WeekdayRange]) -> [bool; 7]
     ensures { result ≡ set_of items.now }
 {
     [
@@ -141,14 +141,14 @@ fn set_of(items: &[Days]) -> [bool; 7]
     ]
 }
 
-fn is_chosen(items: &[Days], day: Weekday) -> bool
-    ensures { result ≡ list_any (is_covered day) items.now }
+fn is_chosen(items: &[WeekdayRange], day: Weekday) -> bool
+    ensures { result ≡ list_any (is_in_weekday_range day) items.now }
 {
-    items.iter().any(|days| is_covered(day, *days))
+    items.iter().any(|days| is_in_weekday_range(day, *days))
 }
 
-fn is_covered(day: Weekday, days: Days) -> bool
-    ensures { result ≡ is_covered day days }
+fn is_in_weekday_range(day: Weekday, days: WeekdayRange) -> bool
+    ensures { result ≡ is_in_weekday_range day days }
 {
     days.first.until(day) <= days.first.until(days.last)
 }

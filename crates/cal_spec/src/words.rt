@@ -3,7 +3,7 @@
 
 ghost use Rattle.std.specs.Prelude.{◌≡◌};
 ghost use Rattle.std.specs.Option.{option_copied, option_map};
-ghost use Rattle.cal_spec.specs.RolesView.{shown_roles};
+ghost use Rattle.cal_spec.specs.WordRolesView.{shown_word_roles};
 ghost use Rattle.cal_spec.specs.Words.{roles_after_date, after_weekdays, date_or_time, roles_of};
 ghost use Rattle.cal_text.specs.headline.Words.{words};
 
@@ -13,7 +13,7 @@ use cal_text::first_word;
 
 /// The weekdays, date and time of an expression, not yet parsed, and the text after them.
 #[derive(Clone, Copy)]
-pub(crate) struct Roles<'a> {
+pub(crate) struct WordRoles<'a> {
     /// The weekday list, if there is one.
     pub(crate) weekdays: Option<&'a [u8]>,
     /// The date, or `*-*-*`.
@@ -27,17 +27,17 @@ pub(crate) struct Roles<'a> {
 /// Determines which words of an expression are its weekdays, date and time (systemd.time(7), Calendar Events). Returns
 /// `None` if there are no words. A shorthand is replaced by what it stands for.
 #[tactic(auto, unfolding(crate::specs::Words::roles_of))]
-pub(crate) fn find_roles(text: &str) -> Option<Roles<'_>>
-    ensures { option_map shown_roles result ≡ roles_of (words text.now) }
+pub(crate) fn find_word_roles(text: &str) -> Option<WordRoles<'_>>
+    ensures { option_map shown_word_roles result ≡ roles_of (words text.now) }
 {
     let (word, after) = first_word(text)?;
     let word = word.as_bytes();
     if let Some(shorthand) = find_shorthand(word) {
-        let meaning = shorthand.meaning();
-        return Some(Roles {
-            weekdays: meaning.weekdays,
-            date: meaning.date,
-            time: meaning.time,
+        let expansion = shorthand.expansion();
+        return Some(WordRoles {
+            weekdays: expansion.weekdays,
+            date: expansion.date,
+            time: expansion.time,
             rest: after,
         });
     }
@@ -48,14 +48,14 @@ pub(crate) fn find_roles(text: &str) -> Option<Roles<'_>>
 }
 
 /// Determines what the words after the weekdays are. If the first of them begins with a letter or a sign, it is a zone.
-fn after_weekdays<'a>(weekdays: Option<&'a [u8]>, text: &'a str) -> Roles<'a>
-    ensures { shown_roles result ≡ after_weekdays (option_copied weekdays.entry) (words text.now) }
+fn after_weekdays<'a>(weekdays: Option<&'a [u8]>, text: &'a str) -> WordRoles<'a>
+    ensures { shown_word_roles result ≡ after_weekdays (option_copied weekdays.entry) (words text.now) }
 {
     match first_word(text) {
         Some((word, rest)) if !begins_zone(word.as_bytes()) => {
             date_or_time(weekdays, word.as_bytes(), rest)
         }
-        _ => Roles {
+        _ => WordRoles {
             weekdays,
             date: ANY_DATE,
             time: MIDNIGHT,
@@ -66,12 +66,12 @@ fn after_weekdays<'a>(weekdays: Option<&'a [u8]>, text: &'a str) -> Roles<'a>
 
 /// Determines what `word` and the words after it are. If `word` contains a colon, it is the time and there is no date.
 /// Otherwise it is the date.
-fn date_or_time<'a>(weekdays: Option<&'a [u8]>, word: &'a [u8], rest: &'a str) -> Roles<'a>
-    ensures { shown_roles result
+fn date_or_time<'a>(weekdays: Option<&'a [u8]>, word: &'a [u8], rest: &'a str) -> WordRoles<'a>
+    ensures { shown_word_roles result
         ≡ date_or_time (option_copied weekdays.entry) word.now (words rest.now) }
 {
     if word.contains(&b':') {
-        return Roles {
+        return WordRoles {
             weekdays,
             date: ANY_DATE,
             time: word,
@@ -83,18 +83,18 @@ fn date_or_time<'a>(weekdays: Option<&'a [u8]>, word: &'a [u8], rest: &'a str) -
 
 /// Determines what the words after the date are. If the first of them begins with a letter or a sign, it is a zone.
 /// Otherwise it is the time.
-fn after_date<'a>(weekdays: Option<&'a [u8]>, date: &'a [u8], text: &'a str) -> Roles<'a>
-    ensures { shown_roles result
+fn after_date<'a>(weekdays: Option<&'a [u8]>, date: &'a [u8], text: &'a str) -> WordRoles<'a>
+    ensures { shown_word_roles result
         ≡ roles_after_date (option_copied weekdays.entry) date.now (words text.now) }
 {
     match first_word(text) {
-        Some((time, rest)) if !begins_zone(time.as_bytes()) => Roles {
+        Some((time, rest)) if !begins_zone(time.as_bytes()) => WordRoles {
             weekdays,
             date,
             time: time.as_bytes(),
             rest,
         },
-        _ => Roles {
+        _ => WordRoles {
             weekdays,
             date,
             time: MIDNIGHT,

@@ -13,7 +13,7 @@ pub fn are_digits(bytes: &[u8]) -> bool
 }
 
 /// Returns the decimal value of `digits`, or `u64::MAX` if the value is larger.
-pub fn whole_of(digits: &[u8]) -> u64
+pub fn decimal_value(digits: &[u8]) -> u64
     requires { IsTrue (list_all is_ascii_digit digits.now) }
     ensures { result ≡ min (digits_value 10 digits.now) u64.MAX }
 {

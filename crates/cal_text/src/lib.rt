@@ -4,5 +4,5 @@
 mod digits;
 mod words;
 
-pub use digits::{are_digits, whole_of};
+pub use digits::{are_digits, decimal_value};
 pub use words::{first_word, last_word, trim_blanks};

@@ -4,7 +4,7 @@ use Rattle.cal_bytes.specs.headline.Bytes.{joined}
 use Rattle.cal_zone.specs.declared.zone_fault.ZoneFault.{ZoneFault}
 use Rattle.cal_zone.specs.declared.zone_fault.ZoneFault.TheVariants as zone
 use Rattle.cal_command.specs.Ask.{CommandFault, usage, help, bad_iterations, bad_now, bad_zones, bad_local, no_memory, shown_fault}
-use Rattle.cal_work.specs.LoadFault.{words_of}
+use Rattle.cal_work.specs.LoadFault.{message_of}
 use Rattle.cal_command.specs.declared.command_fault.CommandFault as declared_fault
 use Rattle.cal_command.specs.declared.command_fault.CommandFault.TheVariants as command
 use Rattle.cal_work.specs.declared.zone_files.LoadFault.{LoadFault}
@@ -57,10 +57,10 @@ command_stop no_memory = memory_stop
 -- a zone file can't be loaded
 abbrev pub zone_stop : List ℕ → ZoneFault → Stop
 zone_stop name zone.NoMemory = memory_stop
-zone_stop name fault = with_line (zones_line name (words_of (Zone fault))) 2
+zone_stop name fault = with_line (zones_line name (message_of (Zone fault))) 2
 
 abbrev pub load_stop : List ℕ → LoadFault → Stop
-load_stop name ReadFailed = with_line (zones_line name (words_of ReadFailed)) 2
+load_stop name ReadFailed = with_line (zones_line name (message_of ReadFailed)) 2
 load_stop name (Zone fault) = zone_stop name fault
 
 -- the local zone or the present instant can't be determined

@@ -25,11 +25,11 @@ pub enum LoadFault {
 }
 
 impl LoadFault {
-    ghost use Rattle.cal_work.specs.LoadFault.{words_of};
+    ghost use Rattle.cal_work.specs.LoadFault.{message_of};
 
     /// Returns the message for the user. For `Zone` it is the message of the error inside.
     pub fn words(&self) -> &str
-        ensures { result.now ≡ words_of self.now }
+        ensures { result.now ≡ message_of self.now }
     {
         match self {
             LoadFault::ReadFailed => "cannot be read",

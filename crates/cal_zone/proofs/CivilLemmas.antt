@@ -5,12 +5,12 @@ use Rattle.jiff.specs.Words.{civil_nanos, epoch_day, nanos_of_seconds, offset_at
 use Rattle.jiff_core.specs.Time.{time_seconds}
 use Rattle.jiff_core.proofs.CalendarLemmas.{days_in_month_bounds, weekday_number_bound}
 use Rattle.jiff.proofs.SpanFacts.{signed_arith}
-use Rattle.cal_zone.specs.Civil.{shown_at, IsCivil}
+use Rattle.cal_zone.specs.Civil.{civil_at_offset, IsCivil}
 use Rattle.cal_zone.specs.headline.Civil.{civil_of}
 use Rattle.cal_civil.proofs.DayLemmas.{date_of-epoch_day}
 use Rattle.cal_civil.specs.headline.Local.{day_of, second_of_day}
 use Rattle.cal_zone.specs.Instant.{IsInstant}
-use Rattle.cal_zone.specs.headline.Zone.{local_of}
+use Rattle.cal_zone.specs.headline.Zone.{local_shown_at}
 use Rattle.cal_zone.proofs.YearLemmas.{year-from_1969, year-to_2200}
 use Rattle.cal_zone.proofs.ZoneLemmas.{offset_at-in_range}
 
@@ -25,16 +25,16 @@ unfolding civil_nanos
 time_seconds-whole dt local e = omega (arith, signed_arith, dt.time.hour_in, dt.time.minute_in, dt.time.second_in, dt.time.subsec_in)
 
 -- the fields of `jiff`'s civil time are those of `civil_of`
-pub shown_at-civil_of : (tz : TimeZone) (second : ℤ) (dt : DateTime) → civil_nanos dt ≡ nanos_of_seconds (local_of tz second)
-    → shown_at (offset_at tz (nanos_of_seconds second)) dt ≡ civil_of tz second
+pub civil_at_offset-civil_of : (tz : TimeZone) (second : ℤ) (dt : DateTime) → civil_nanos dt ≡ nanos_of_seconds (local_shown_at tz second)
+    → civil_at_offset (offset_at tz (nanos_of_seconds second)) dt ≡ civil_of tz second
 unfolding civil_of
-shown_at-civil_of tz second dt e = grind (arith, signed_arith, epoch_day-whole, date_of-epoch_day, time_seconds-whole)
+civil_at_offset-civil_of tz second dt e = grind (arith, signed_arith, epoch_day-whole, date_of-epoch_day, time_seconds-whole)
 
 -- the fields of the civil time at an instant are in their ranges
-pub IsCivil-shown_at : (tz : TimeZone) (dt : DateTime) (secs : ℤ) (offset : Offset) → civil_nanos dt ≡ nanos_of_seconds (local_of tz secs) → IsInstant secs → IsCivil (shown_at offset.seconds dt)
-unfolding local_of
-IsCivil-shown_at tz dt secs offset e h =
-    let day = epoch_day-whole dt (local_of tz secs) e in
+pub IsCivil-civil_at_offset : (tz : TimeZone) (dt : DateTime) (secs : ℤ) (offset : Offset) → civil_nanos dt ≡ nanos_of_seconds (local_shown_at tz secs) → IsInstant secs → IsCivil (civil_at_offset offset.seconds dt)
+unfolding local_shown_at
+IsCivil-civil_at_offset tz dt secs offset e h =
+    let day = epoch_day-whole dt (local_shown_at tz secs) e in
     let ahead = offset_at-in_range tz (nanos_of_seconds secs) in
     let long = days_in_month_bounds dt.date.year dt.date.month in
     let bound = weekday_number_bound (epoch_day dt.date) in

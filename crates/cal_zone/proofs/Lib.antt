@@ -1,13 +1,13 @@
-pub mod AlikeLemmas
+pub mod SameOffsetLemmas
 pub mod CivilLemmas
 pub mod DigitLemmas
 pub mod LocalAtLemmas
 pub mod OffsetLemmas
-pub mod PeriodLemmas
+pub mod InstantOffsetRangeLemmas
 pub mod PlaceLemmas
-pub mod PlacerLemmas
+pub mod LocalOffsetRangeLemmas
 pub mod RuleLemmas
-pub mod ShownDayLemmas
+pub mod FormattedDayLemmas
 pub mod WeekdayLemmas
 pub mod YearLemmas
 pub mod ZoneLemmas

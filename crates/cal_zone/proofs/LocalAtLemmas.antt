@@ -4,15 +4,15 @@ use Rattle.jiff.proofs.SpanFacts.{signed_arith}
 use Rattle.jiff.specs.Types.{TimeZone}
 use Rattle.cal_zone.specs.LocalAt.{IsLocalAt}
 use Rattle.cal_zone.specs.headline.Place.{place_of}
-use Rattle.cal_zone.specs.headline.Zone.{local_of}
+use Rattle.cal_zone.specs.headline.Zone.{local_shown_at}
 use Rattle.cal_zone.proofs.PlaceLemmas.{place_of-Some}
 
 -- there is none if the clock shows a time outside the years 1970 to 2199
-pub local_at-outside : (tz : TimeZone) (instant shown : ℤ) → shown ≡ local_of tz instant → (pos 0 ≤ℤ shown → pos 7_258_118_400 ≤ℤ shown) → IsLocalAt tz instant None
+pub local_at-outside : (tz : TimeZone) (instant shown : ℤ) → shown ≡ local_shown_at tz instant → (pos 0 ≤ℤ shown → pos 7_258_118_400 ≤ℤ shown) → IsLocalAt tz instant None
 local_at-outside tz instant shown at outside = grind (arith, signed_arith, place_of-Some)
 
 -- there is none if the local second that the clock shows has another place, or none
-pub local_at-elsewhere : (tz : TimeZone) (instant shown : ℤ) → shown ≡ local_of tz instant → (place_of tz shown ≡ Some instant → ⊥) → IsLocalAt tz instant None
+pub local_at-elsewhere : (tz : TimeZone) (instant shown : ℤ) → shown ≡ local_shown_at tz instant → (place_of tz shown ≡ Some instant → ⊥) → IsLocalAt tz instant None
 local_at-elsewhere tz instant shown at elsewhere = grind (arith, signed_arith, place_of-Some)
 
 -- the local second that the clock shows is the one, if the instant is its place

@@ -9,7 +9,7 @@ use Rattle.jiff.proofs.ZoneFacts.{offset_at-fixed_zone}
 use Rattle.cal_civil.specs.headline.Local.{day_of}
 use Rattle.cal_zone.specs.Place.{place_at}
 use Rattle.cal_zone.specs.headline.Place.{datetime_of, place_of, settle_of, time_of}
-use Rattle.cal_zone.specs.headline.Zone.{local_of}
+use Rattle.cal_zone.specs.headline.Zone.{local_shown_at}
 use Rattle.cal_civil.proofs.DayLemmas.{epoch_day-date_of}
 use Rattle.cal_zone.proofs.ZoneLemmas.{offset_at-in_range}
 use Rattle.cal_text.proofs.General.{some_by_test, int_eq-other}
@@ -23,14 +23,14 @@ pub settle_of-UTC : (local : ℤ) → settle_of UTC local ≡ local
 unfolding settle_of ambiguous_at
 settle_of-UTC local = omega (arith, ints)
 
-pub local_of-UTC : (second : ℤ) → local_of UTC second ≡ second
-unfolding local_of offset_at
-local_of-UTC second = omega (arith, ints)
+pub local_shown_at-UTC : (second : ℤ) → local_shown_at UTC second ≡ second
+unfolding local_shown_at offset_at
+local_shown_at-UTC second = omega (arith, ints)
 
 -- in UTC, every local second is its own place
 pub place_of-UTC : (local : ℤ) → place_of UTC local ≡ Some local
 unfolding place_of
-place_of-UTC local = rw (settle_of-UTC local, local_of-UTC local, (Decides-int_eq local local).1 refl)
+place_of-UTC local = rw (settle_of-UTC local, local_shown_at-UTC local, (Decides-int_eq local local).1 refl)
 
 -- `settle_of` returns the instant that `jiff` picks
 pub picked_instant-settle_of : (tz : TimeZone) (local : ℤ) → IsEpochDay (day_of local) → picked_instant tz (datetime_of local) ≡ nanos_of_seconds (settle_of tz local)
@@ -49,14 +49,14 @@ pub settle_of-fixed_zone : (o : Offset) (local : ℤ) → settle_of (fixed_zone 
 unfolding settle_of
 settle_of-fixed_zone o local = ap (λ s. local -ℤ s) (picked_by o (datetime_of local) _ refl)
 
-local_of-fixed_zone : (o : Offset) (local : ℤ) → local_of (fixed_zone o) (local -ℤ o.seconds) ≡ local
-unfolding local_of
-local_of-fixed_zone o local = omega (arith, signed_arith, offset_at-fixed_zone o (nanos_of_seconds (local -ℤ o.seconds)))
+local_shown_at-fixed_zone : (o : Offset) (local : ℤ) → local_shown_at (fixed_zone o) (local -ℤ o.seconds) ≡ local
+unfolding local_shown_at
+local_shown_at-fixed_zone o local = omega (arith, signed_arith, offset_at-fixed_zone o (nanos_of_seconds (local -ℤ o.seconds)))
 
 -- in such a zone, the place of a local second is the local second minus the offset
 pub place_of-fixed_zone : (o : Offset) (local : ℤ) → place_of (fixed_zone o) local ≡ Some (local -ℤ o.seconds)
 unfolding place_of
-place_of-fixed_zone o local = rw (settle_of-fixed_zone o local, local_of-fixed_zone o local, (Decides-int_eq local local).1 refl)
+place_of-fixed_zone o local = rw (settle_of-fixed_zone o local, local_shown_at-fixed_zone o local, (Decides-int_eq local local).1 refl)
 
 -- the instant that `jiff` picks for the civil time of a local second is `settle_of` of that local second
 pub instant_of-settled : (tz : TimeZone) (offsets : AmbiguousOffset) (shown : DateTime) (local : ℤ) → IsEpochDay (day_of local)
@@ -73,21 +73,21 @@ unfolding settle_of
 settle_of-near tz local = grind (arith, signed_arith)
 
 -- if the clock shows the local second at the instant that it is converted to, this is its place
-pub place_of-shown : (tz : TimeZone) (local second : ℤ) → second ≡ settle_of tz local → local_of tz second ≡ local → place_of tz local ≡ Some second
+pub place_of-shown : (tz : TimeZone) (local second : ℤ) → second ≡ settle_of tz local → local_shown_at tz second ≡ local → place_of tz local ≡ Some second
 unfolding place_of
 place_of-shown tz local second settled shown = grind (arith, signed_arith, Decides-int_eq)
 
-pub place_of-skipped : (tz : TimeZone) (local second : ℤ) → second ≡ settle_of tz local → (local_of tz second ≡ local → ⊥) → place_of tz local ≡ None
+pub place_of-skipped : (tz : TimeZone) (local second : ℤ) → second ≡ settle_of tz local → (local_shown_at tz second ≡ local → ⊥) → place_of tz local ≡ None
 unfolding place_of
 place_of-skipped tz local second settled skipped = grind (arith, signed_arith, int_eq-other)
 
 -- if a local second has a place, it is converted to this place, and the clock shows it there
-pub place_of-Some : (tz : TimeZone) (local place : ℤ) → place_of tz local ≡ Some place → (settle_of tz local ≡ place) × (local_of tz place ≡ local)
+pub place_of-Some : (tz : TimeZone) (local place : ℤ) → place_of tz local ≡ Some place → (settle_of tz local ≡ place) × (local_shown_at tz place ≡ local)
 unfolding place_of
 place_of-Some tz local place e = grind (arith, signed_arith, some_by_test, Decides-int_eq)
 
 pub by_the_offset : (tz : TimeZone) (local place : ℤ) → place_of tz local ≡ Some place → local -ℤ place ≡ offset_at tz (nanos_of_seconds place)
-unfolding local_of
+unfolding local_shown_at
 by_the_offset tz local place e = grind (arith, signed_arith, place_of-Some)
 
 pub within : (tz : TimeZone) (local place : ℤ) → place_of tz local ≡ Some place → IsOffsetSeconds (local -ℤ place)
@@ -102,7 +102,7 @@ same_where a b c d to from = grind (arith, ints)
 -- the place of a local second follows from the one offset that `jiff`'s compatible conversion tries
 pub place_of-tried : (tz : TimeZone) (local : ℤ) (offsets : AmbiguousOffset) → ambiguous_at tz (datetime_of local) ≡ offsets
     → place_of tz local ≡ place_at tz local (compatible_offset offsets)
-unfolding place_of place_at settle_of local_of
+unfolding place_of place_at settle_of local_shown_at
 place_of-tried tz local offsets e = grind (arith, signed_arith, same_where)
 
 pub place_at-there : (tz : TimeZone) (local : ℤ) (offset : Offset) → offset_at tz (nanos_of_seconds (local -ℤ offset.seconds)) ≡ offset.seconds

@@ -16,8 +16,8 @@ use Rattle.jiff_tz.proofs.YearLemmas.{year_of_nanos-civil}
 use Rattle.cal_civil.specs.headline.Days.{date_of}
 use Rattle.cal_civil.specs.headline.Local.{day_of}
 use Rattle.cal_zone.specs.headline.Place.{datetime_of}
-use Rattle.cal_zone.specs.Steady.{year_end}
-use Rattle.cal_zone.proofs.PlacerLemmas.{count_behind, floor_second-whole}
+use Rattle.cal_zone.specs.LocalOffsetRange.{year_end}
+use Rattle.cal_zone.proofs.LocalOffsetRangeLemmas.{count_after_table, floor_second-whole}
 use Rattle.jiff_tz.specs.declared.tzif.Tzif.{Tzif as Table}
 use Rattle.jiff_tz.specs.Tzif as OfTable
 use Rattle.jiff_tz.specs.Tzif.{count_at}
@@ -316,8 +316,8 @@ next_found rule None n change e = absurd (cc)
 next_found rule (Some d) n change e = (d, refl, e)
 
 -- after the last transition of a table, the next transition is that of its POSIX rule
-pub next_behind : (z : Table) (past : ℤ) → vec_len z.transitions ≤ count_at z past → OfTable.next_at z (nanos_of_seconds past) ≡ match_some z.posix_tz None (λ rule. ByPosix.next_at rule (nanos_of_seconds past))
-next_behind z past all = grind (arith, signed_arith, vec_len, floor_second-whole, count_behind)
+pub next_after_table : (z : Table) (past : ℤ) → vec_len z.transitions ≤ count_at z past → OfTable.next_at z (nanos_of_seconds past) ≡ match_some z.posix_tz None (λ rule. ByPosix.next_at rule (nanos_of_seconds past))
+next_after_table z past all = grind (arith, signed_arith, vec_len, floor_second-whole, count_after_table)
 
 -- a year ends with 31 December
 december : (d : Date) (y : ℤ) → d.year ≡ y → pos d.month ≡ pos 12 → pos d.day ≡ pos 31 → epoch_day d ≡ days_from_civil y 12 31

@@ -7,7 +7,7 @@ use Rattle.jiff_tz.specs.PosixRule as PosixRule
 use Rattle.jiff_tz.specs.Tzif as Table
 use Rattle.jiff_tz.specs.Zone.{zero_in_range}
 use Rattle.cal_zone.specs.declared.rules.Rules.{Rules}
-use Rattle.cal_zone.specs.declared.zone.Ahead.{Ahead}
+use Rattle.cal_zone.specs.declared.zone.FixedOffset.{FixedOffset}
 use Rattle.cal_zone.specs.declared.zone.ZoneKind.TheVariants.{Utc, Offset as AtOffset, Rules as ByRules}
 use Rattle.cal_zone.specs.declared.zone.Zone.{Zone}
 use Rattle.cal_zone.specs.headline.Zone.{offset_of, zone_of, zone_of_kind}
@@ -17,11 +17,11 @@ pub zone_of-utc : (zone : Zone) → zone.kind ≡ Utc → zone_of zone ≡ UTC
 unfolding zone_of
 zone_of-utc zone e = ap zone_of_kind e
 
-pub zone_of-offset : (zone : Zone) (ahead : Ahead) → zone.kind ≡ AtOffset ahead → zone_of zone ≡ fixed_zone (offset_of ahead)
+pub zone_of-offset : (zone : Zone) (ahead : FixedOffset) → zone.kind ≡ AtOffset ahead → zone_of zone ≡ fixed_zone (offset_of ahead)
 unfolding zone_of
 zone_of-offset zone ahead e = ap zone_of_kind e
 
-pub zone_of-ahead : (ahead : Ahead) (offset : Offset) → ahead.seconds ≡ offset.seconds → zone_of (record { kind = AtOffset ahead }) ≡ fixed_zone offset
+pub zone_of-ahead : (ahead : FixedOffset) (offset : Offset) → ahead.seconds ≡ offset.seconds → zone_of (record { kind = AtOffset ahead }) ≡ fixed_zone offset
 unfolding zone_of
 zone_of-ahead ahead offset e = ap fixed_zone (same_offset (offset_of ahead) offset e)
 

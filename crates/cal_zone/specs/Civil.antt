@@ -7,8 +7,8 @@ use Rattle.cal_zone.specs.declared.civil_fields.Civil.{Civil}
 use Rattle.cal_civil.specs.headline.Local.{hour_of, minute_of, second_of}
 
 -- a date and time of day with a UTC offset
-abbrev pub shown_at : ℤ → DateTime → Civil
-shown_at offset shown = record {
+abbrev pub civil_at_offset : ℤ → DateTime → Civil
+civil_at_offset offset shown = record {
   year = shown.date.year;
   month = shown.date.month;
   day = shown.date.day;

@@ -2,11 +2,11 @@ pub mod Civil
 pub mod Instant
 pub mod InstantText
 pub mod LocalAt
-pub mod Period
+pub mod InstantOffsetRange
 pub mod Place
 pub mod Rules
-pub mod ShownDay
-pub mod Steady
+pub mod FormattedDay
+pub mod LocalOffsetRange
 pub mod ZoneFault
 pub mod ZoneFile
 pub mod ZoneMap

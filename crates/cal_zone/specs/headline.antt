@@ -4,6 +4,6 @@ pub mod InstantText
 pub mod Moment
 pub mod Place
 pub mod Zone
-pub mod ZoneAhead
+pub mod FixedOffsetZone
 pub mod ZoneMap
 pub mod ZoneTable

@@ -2,11 +2,11 @@
 ghost use Rattle.std.specs.Prelude.{◌≡◌};
 ghost use Rattle.jiff.specs.Types.{TimeZone};
 ghost use Rattle.jiff.specs.Words.{nanos_of_seconds, offset_at};
-ghost use Rattle.cal_zone.specs.Civil.{shown_at, IsCivil};
+ghost use Rattle.cal_zone.specs.Civil.{civil_at_offset, IsCivil};
 ghost use Rattle.cal_zone.specs.headline.Civil.{civil_of};
 ghost use Rattle.cal_zone.specs.headline.Zone.{offset_of, zone_of};
 
-use crate::zone::{Ahead, ZoneKind};
+use crate::zone::{FixedOffset, ZoneKind};
 use crate::{Civil, Instant, Zone};
 use jiff::{Timestamp, tz};
 use jiff_core::Offset;
@@ -47,7 +47,7 @@ pub(crate) fn offset_in(zone: Zone, timestamp: Timestamp) -> tz::Offset
 }
 
 /// Converts a fixed offset to the `Offset` type of `jiff`.
-pub(crate) fn fixed_offset(ahead: Ahead) -> tz::Offset
+pub(crate) fn fixed_offset(ahead: FixedOffset) -> tz::Offset
     ensures { result ≡ offset_of ahead }
 {
     let Ok(offset) = tz::Offset::from_seconds(ahead.seconds) else {
@@ -57,7 +57,7 @@ pub(crate) fn fixed_offset(ahead: Ahead) -> tz::Offset
 }
 
 fn fields(shown: DateTime, offset: Offset) -> Civil
-    ensures { result ≡ shown_at offset.seconds shown }
+    ensures { result ≡ civil_at_offset offset.seconds shown }
 {
     Civil {
         year: shown.date.year,

@@ -7,7 +7,7 @@ ghost use Rattle.cal_zone.specs.Civil.{IsCivil};
 ghost use Rattle.cal_zone.specs.InstantText.{day_text};
 ghost use Rattle.cal_civil.specs.headline.OffsetText.{zeros};
 ghost use Rattle.cal_zone.specs.headline.InstantText.{weekday_name, instant_text, shown_text, time_text, zone_word};
-ghost use Rattle.cal_bytes.specs.declared.short_text.TheConstants.{ROOM};
+ghost use Rattle.cal_bytes.specs.declared.short_text.TheConstants.{SHORT_TEXT_ROOM};
 
 use crate::{Civil, Instant, Zone, civil};
 use cal_bytes::{Fill, ShortText, Sink, WriteFault, padding, push, push_all, put_all};
@@ -22,7 +22,7 @@ use jiff_core::civil::Weekday;
 /// number of minutes. At most 84 bytes are appended.
 #[tactic(auto, unfolding(crate::specs::headline::InstantText::instant_text))]
 pub fn push_instant(text: &mut ShortText, zone: Zone, instant: Instant)
-    requires room { length text.old.items + 84 ≤ ROOM }
+    requires room { length text.old.items + 84 ≤ SHORT_TEXT_ROOM }
     ensures text { text.new.items ≡ text.old.items ++ instant_text zone.entry instant.secs }
     ensures short { length text.new.items ≤ length text.old.items + 84 }
 {
@@ -45,7 +45,7 @@ pub fn write_instant<W: Sink>(out: &mut W, zone: Zone, instant: Instant) -> Resu
 #[tactic(auto, unfolding(crate::specs::headline::InstantText::shown_text, crate::specs::InstantText::day_text))]
 fn push_civil(text: &mut ShortText, shown: &Civil)
     requires ranges { IsCivil shown.now }
-    requires room { length text.old.items + 44 ≤ ROOM }
+    requires room { length text.old.items + 44 ≤ SHORT_TEXT_ROOM }
     ensures text { text.new.items ≡ text.old.items ++ shown_text shown.now }
     ensures short { length text.new.items ≤ length text.old.items + 44 }
 {
@@ -58,7 +58,7 @@ fn push_civil(text: &mut ShortText, shown: &Civil)
 #[tactic(auto, unfolding(crate::specs::InstantText::day_text, crate::specs::headline::InstantText::date_text))]
 pub(crate) fn push_day(text: &mut ShortText, shown: &Civil)
     requires ranges { IsCivil shown.now }
-    requires room { length text.old.items + 26 ≤ ROOM }
+    requires room { length text.old.items + 26 ≤ SHORT_TEXT_ROOM }
     ensures text { text.new.items ≡ text.old.items ++ day_text shown.now }
     ensures short { length text.new.items ≤ length text.old.items + 26 }
 {
@@ -90,7 +90,7 @@ pub(crate) fn push_time(text: &mut ShortText, hour: u8, minute: u8, second: u8)
     requires hour { hour < 100 }
     requires minute { minute < 100 }
     requires second { second < 100 }
-    requires room { length text.old.items + 8 ≤ ROOM }
+    requires room { length text.old.items + 8 ≤ SHORT_TEXT_ROOM }
     ensures text { text.new.items ≡ text.old.items ++ time_text hour minute second }
     ensures short { length text.new.items ≤ length text.old.items + 8 }
 {
@@ -117,7 +117,7 @@ fn two_digits(number: u8) -> [u8; 2]
 /// Appends the zone of a printed time: `UTC` if `is_utc`, and otherwise the UTC offset.
 #[tactic(auto, unfolding(crate::specs::headline::InstantText::zone_word))]
 pub(crate) fn push_zone(text: &mut ShortText, is_utc: bool, offset: i32)
-    requires room { length text.old.items + 40 ≤ ROOM }
+    requires room { length text.old.items + 40 ≤ SHORT_TEXT_ROOM }
     ensures text { text.new.items ≡ text.old.items ++ zone_word is_utc offset }
     ensures short { length text.new.items ≤ length text.old.items + 40 }
 {

@@ -13,7 +13,7 @@ ghost use Rattle.cal_civil.specs.OffsetWord.{AreWholeMinutes, offset_in};
 ghost use Rattle.cal_civil.specs.headline.OffsetWord.{IsOffsetWord};
 ghost use Rattle.cal_zone.specs.Place.{place_at};
 ghost use Rattle.cal_zone.specs.headline.Place.{datetime_of, place_of, settle_of};
-ghost use Rattle.cal_zone.specs.headline.Zone.{local_of};
+ghost use Rattle.cal_zone.specs.headline.Zone.{local_shown_at};
 ghost use Rattle.cal_zone.specs.headline.ZoneMap.{ZoneMap};
 ghost use Rattle.cal_civil.specs.headline.ZoneName.{is_utc_name};
 ghost use Rattle.cal_zone.specs.headline.ZoneTable.{zone_named};
@@ -47,7 +47,7 @@ pub fn places_are_those_of_jiff()
 
 /// At the place of a local second, the zone's clock shows that local second.
 pub fn places_show_their_local_time()
-    ensures { (tz : TimeZone) (local place : ℤ) → place_of tz local ≡ Some place → local_of tz place ≡ local }
+    ensures { (tz : TimeZone) (local place : ℤ) → place_of tz local ≡ Some place → local_shown_at tz place ≡ local }
 {}
 
 /// A local second and its place differ by the zone's UTC offset at the place, and so by at most 93,599 seconds,

@@ -6,29 +6,29 @@
 
 mod civil_fields;
 mod civil_time;
-mod clock;
+mod instant_formatter;
 mod instant;
 mod instant_text;
 pub mod laws;
 mod locals;
 mod moment;
-mod period;
-mod placer;
+mod instant_offset_range;
+mod place_cache;
 mod places;
 mod rules;
-mod shown_day;
-mod stretch;
+mod formatted_day;
+mod local_offset_range;
 mod zone;
 mod zone_fault;
 mod zone_table;
 
 pub use civil_fields::Civil;
 pub use civil_time::civil;
-pub use clock::Clock;
+pub use instant_formatter::InstantFormatter;
 pub use instant::Instant;
 pub use instant_text::{push_instant, write_instant};
 pub use moment::Moment;
-pub use placer::Placer;
+pub use place_cache::PlaceCache;
 pub use places::{place, settle};
 pub use rules::Rules;
 pub use zone::Zone;

@@ -2,7 +2,7 @@
 
 ghost use Rattle.std.specs.Prelude.{◌≡◌};
 ghost use Rattle.cal_zone.specs.LocalAt.{IsLocalAt};
-ghost use Rattle.cal_zone.specs.headline.Zone.{local_of, zone_of};
+ghost use Rattle.cal_zone.specs.headline.Zone.{local_shown_at, zone_of};
 
 use crate::civil_time::offset_in;
 use crate::{Instant, Zone, place};
@@ -16,7 +16,7 @@ use jiff::Timestamp;
 pub(crate) fn local_at(zone: Zone, instant: Instant) -> Option<i64>
     ensures { IsLocalAt (zone_of zone.entry) instant.secs result }
 {
-    let local = shown_at(zone, instant);
+    let local = local_shown_at(zone, instant);
     if local < 0 || LOCAL_END <= local {
         return None;
     }
@@ -27,8 +27,8 @@ pub(crate) fn local_at(zone: Zone, instant: Instant) -> Option<i64>
 }
 
 /// Returns the local second that the zone's clock shows at `instant`, even if this is its second occurrence.
-fn shown_at(zone: Zone, instant: Instant) -> i64
-    ensures { result ≡ local_of (zone_of zone.entry) instant.secs }
+fn local_shown_at(zone: Zone, instant: Instant) -> i64
+    ensures { result ≡ local_shown_at (zone_of zone.entry) instant.secs }
 {
     let Ok(timestamp) = Timestamp::from_second(instant.secs()) else {
         unreachable!()

@@ -4,9 +4,9 @@ ghost use Rattle.std.specs.Prelude.{◌≡◌, ◌-ℤ◌};
 ghost use Rattle.jiff.specs.Words.{IsOffsetSeconds};
 ghost use Rattle.cal_civil.specs.Local.{CanSettle, IsLocalSecond, IsNearSettled};
 ghost use Rattle.cal_zone.specs.headline.Place.{datetime_of, place_of, settle_of};
-ghost use Rattle.cal_zone.specs.headline.Zone.{local_of, zone_of};
+ghost use Rattle.cal_zone.specs.headline.Zone.{local_shown_at, zone_of};
 
-use crate::zone::{Ahead, ZoneKind};
+use crate::zone::{FixedOffset, ZoneKind};
 use crate::{Rules, Zone};
 use jiff::Timestamp;
 use jiff::civil::DateTime;
@@ -45,7 +45,7 @@ pub fn settle(zone: Zone, local: i64) -> i64
 }
 
 /// Converts a local second at a fixed offset to Unix time.
-fn unix_second(ahead: Ahead, local: i64) -> i64
+fn unix_second(ahead: FixedOffset, local: i64) -> i64
     requires { CanSettle local }
     ensures { result ≡ local -ℤ ahead.seconds }
 {
@@ -58,7 +58,7 @@ pub(crate) fn place_by(rules: &Rules, local: i64) -> Option<i64>
     ensures { result ≡ place_of rules.now local }
 {
     let second = settle_by(rules, local);
-    if shown_by(rules, second) == local {
+    if local_shown_by(rules, second) == local {
         Some(second)
     } else {
         None
@@ -80,9 +80,9 @@ fn settle_by(rules: &Rules, local: i64) -> i64
 
 /// Returns the local second that the clock shows at a second of Unix time. The second must be in the range of the
 /// results of [`settle`].
-fn shown_by(rules: &Rules, second: i64) -> i64
+fn local_shown_by(rules: &Rules, second: i64) -> i64
     requires { IsNearSettled second }
-    ensures { result ≡ local_of rules.now second }
+    ensures { result ≡ local_shown_at rules.now second }
 {
     let Ok(timestamp) = Timestamp::from_second(second) else {
         unreachable!()

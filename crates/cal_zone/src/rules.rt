@@ -5,14 +5,14 @@ ghost use Rattle.jiff.specs.Placed.{IsPosixZone};
 ghost use Rattle.jiff.specs.Types.{DateTime};
 ghost use Rattle.jiff.specs.Words.{ambiguous_at, next_at, offset_at, plain_zone, read_whole};
 ghost use Rattle.cal_civil.specs.Local.{IsLocalSecond};
-ghost use Rattle.cal_zone.specs.Steady.{IsAlikeUntil, IsSteadyAt};
+ghost use Rattle.cal_zone.specs.LocalOffsetRange.{HaveSameOffsetsUntil, IsLocalOffsetRangeAt};
 ghost use Rattle.cal_zone.specs.ZoneFile.{IsFileFault, IsFileZone};
 ghost use Rattle.cal_civil.specs.headline.ZoneName.{is_zone_name};
 ghost use Rattle.cal_zone.specs.declared.zone_fault.ZoneFault.TheVariants.{BadRule};
 
-use crate::period::even_until;
+use crate::instant_offset_range::constant_offset_until;
 use crate::places::place_by;
-use crate::stretch::{FAR, Stretch, alike_behind, alike_in_zone, stretch_of_table};
+use crate::local_offset_range::{TRANSITION_MARGIN, LocalOffsetRange, range_end_after_table, range_end_in_zone, local_range_in_table};
 use crate::{Instant, ZoneFault};
 use cal_civil::is_zone_name;
 use jiff::tz::{Offset, TimeZone, Tzif};
@@ -124,43 +124,43 @@ impl Rules {
     }
     /// Returns a range with a constant UTC offset that starts at `local`, if one is found: from the table of a zone
     /// file, and otherwise from the POSIX rule.
-    pub(crate) fn stretch(&self, local: i64) -> Option<Stretch>
+    pub(crate) fn local_range(&self, local: i64) -> Option<LocalOffsetRange>
         requires { IsLocalSecond local }
-        ensures { IfSome result (IsSteadyAt self.now local) }
+        ensures { IfSome result (IsLocalOffsetRangeAt self.now local) }
     {
         if let RulesKind::File(table) = &self.kind {
-            if let Some(stretch) = stretch_of_table(table, local) {
-                return Some(stretch);
+            if let Some(range) = local_range_in_table(table, local) {
+                return Some(range);
             }
         }
-        self.stretch_by_rule(local)
+        self.local_range_by_rule(local)
     }
 
     /// Returns a range with a constant UTC offset that starts at `local`, if a POSIX rule decides the offset there. In
     /// a zone file, that is the rule after the last transition of the table.
-    fn stretch_by_rule(&self, local: i64) -> Option<Stretch>
+    fn local_range_by_rule(&self, local: i64) -> Option<LocalOffsetRange>
         requires { IsLocalSecond local }
-        ensures { IfSome result (IsSteadyAt self.now local) }
+        ensures { IfSome result (IsLocalOffsetRangeAt self.now local) }
     {
-        let even = even_until(self, Instant::new(local - FAR)?);
+        let constant_until = constant_offset_until(self, Instant::new(local - TRANSITION_MARGIN)?);
         match &self.kind {
-            RulesKind::Posix(zone) => self.stretch_until(local, alike_in_zone(*zone, local, even)),
-            RulesKind::File(table) => self.stretch_until(local, alike_behind(table, local, even)),
+            RulesKind::Posix(zone) => self.local_range_until(local, range_end_in_zone(*zone, local, constant_until)),
+            RulesKind::File(table) => self.local_range_until(local, range_end_after_table(table, local, constant_until)),
         }
     }
 
     /// Returns the range `local..to`, for which the caller has shown that the clock doesn't change in it. Returns
     /// `None` if this range is empty or if the clock skips `local`.
-    fn stretch_until(&self, local: i64, to: i64) -> Option<Stretch>
+    fn local_range_until(&self, local: i64, to: i64) -> Option<LocalOffsetRange>
         requires local_in { IsLocalSecond local }
-        requires alike { IsAlikeUntil self.now local to }
-        ensures { IfSome result (IsSteadyAt self.now local) }
+        requires same_offsets { HaveSameOffsetsUntil self.now local to }
+        ensures { IfSome result (IsLocalOffsetRangeAt self.now local) }
     {
         if to <= local {
             return None;
         }
         let place = place_by(self, local)?;
-        Some(Stretch {
+        Some(LocalOffsetRange {
             from: local,
             to,
             offset: local - place,

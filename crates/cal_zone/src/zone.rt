@@ -15,20 +15,20 @@ pub struct Zone<'t> {
 #[derive(Clone, Copy)]
 pub(crate) enum ZoneKind<'t> {
     Utc,
-    Offset(Ahead),
+    Offset(FixedOffset),
     Rules(&'t Rules),
 }
 
 /// A fixed UTC offset in seconds, in the range that `jiff` accepts.
 #[derive(Clone, Copy)]
-pub(crate) struct Ahead {
+pub(crate) struct FixedOffset {
     pub(crate) seconds: i32,
     ghost in_range: { IsOffsetSeconds seconds },
 }
 
 impl<'t> Zone<'t> {
     ghost use Rattle.cal_zone.specs.headline.Zone.{is_utc, utc, zone_of};
-    ghost use Rattle.cal_zone.specs.headline.ZoneAhead.{zone_ahead};
+    ghost use Rattle.cal_zone.specs.headline.FixedOffsetZone.{fixed_offset_zone};
 
     /// Returns UTC, whose civil clock counts Unix time.
     pub fn utc() -> Zone<'static>
@@ -44,11 +44,11 @@ impl<'t> Zone<'t> {
     pub fn offset(seconds: i32) -> Zone<'static>
         requires { IsOffsetSeconds seconds }
         ensures zone { (offset : Offset) → offset.seconds ≡ seconds → zone_of result ≡ fixed_zone offset }
-        ensures ahead { zone_of result ≡ zone_ahead seconds }
+        ensures ahead { zone_of result ≡ fixed_offset_zone seconds }
         ensures distinct { is_utc result ≡ false }
     {
         Zone {
-            kind: ZoneKind::Offset(Ahead { seconds }),
+            kind: ZoneKind::Offset(FixedOffset { seconds }),
         }
     }
 

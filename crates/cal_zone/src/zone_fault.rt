@@ -20,11 +20,11 @@ pub enum ZoneFault {
 }
 
 impl ZoneFault {
-    ghost use Rattle.cal_zone.specs.ZoneFault.{words_of};
+    ghost use Rattle.cal_zone.specs.ZoneFault.{message_of};
 
     /// Returns the message for users, which is empty for [`ZoneFault::NoMemory`].
     pub fn words(&self) -> &str
-        ensures { result.now ≡ words_of self.now }
+        ensures { result.now ≡ message_of self.now }
     {
         match self {
             ZoneFault::BadName => "bad zone name",

@@ -20,7 +20,7 @@ pub record AreTwoDigits (text : List ℕ) (n : ℕ) : Type 0 where
   pub value : digits_value 10 text ≡ n
 
 -- `text` is hours from 00 to 25, a colon, and minutes from 00 to 59, together `seconds` seconds
-pub record IsClock (text : List ℕ) (seconds : ℕ) : Type 0 where
+pub record IsHourMinute (text : List ℕ) (seconds : ℕ) : Type 0 where
   pub hour : List ℕ
   pub minute : List ℕ
   pub hours : ℕ
@@ -36,6 +36,6 @@ pub record IsClock (text : List ℕ) (seconds : ℕ) : Type 0 where
 pub record IsOffsetWord (word : List ℕ) (seconds : ℤ) : Type 0 where
   pub clock : List ℕ
   pub distance : ℕ
-  pub clock_is : IsClock clock distance
+  pub clock_is : IsHourMinute clock distance
   pub signed :
       ((word ≡ codes "+" ++ clock) × (seconds ≡ pos distance)) ⊎ ((word ≡ codes "-" ++ clock) × (seconds ≡ neg_ℤ (pos distance)))

@@ -1,19 +1,19 @@
 //! Converting local seconds to Unix time, around transitions and at fixed offsets.
 
 use crate::shared::{SUMMER_TIME, posix};
-use cal_base::{Placer, Zone, place, settle};
+use cal_base::{PlaceCache, Zone, place, settle};
 use std::process::Abort;
 use std::test::Fail;
 
-/// Expects each local second to have this instant, or none, both from `place` and from one `Placer` for all.
+/// Expects each local second to have this instant, or none, both from `place` and from one `PlaceCache` for all.
 fn expect_places(rt: &impl Abort, zone: Zone, rows: &[(i64, Option<i64>)]) {
-    let mut placer = Placer::new(zone);
+    let mut place_cache = PlaceCache::new(zone);
     for (local, instant) in rows {
         assert!(rt; *local >= 0 && *local <= 7_258_118_399);
         assert_eq!(rt; place(zone, *local), *instant, "at {local}");
-        assert_eq!(rt; placer.place(*local), *instant, "by a placer at {local}");
-        // The placer may now know a range with a constant offset, and then answers from that range.
-        assert_eq!(rt; placer.place(*local), *instant, "once more at {local}");
+        assert_eq!(rt; place_cache.place(*local), *instant, "by the cache at {local}");
+        // The cache may now know a range with a constant offset, and then answers from that range.
+        assert_eq!(rt; place_cache.place(*local), *instant, "once more at {local}");
     }
 }
 

@@ -6,7 +6,7 @@ ghost use Rattle.cal_read.specs.StampDate.{date_numbers, day_of_date, day_writte
 
 use crate::StampFault;
 use cal_spec::{first_piece, with_century};
-use cal_text::{are_digits, whole_of};
+use cal_text::{are_digits, decimal_value};
 use jiff_core::civil::Date;
 
 /// A year, month and day as they are written. The year may be without its century, and the date may not exist.
@@ -59,7 +59,7 @@ pub(crate) fn read_number(word: &[u8], most: usize) -> Option<u16>
     if word.is_empty() || word.len() > most || !are_digits(word) {
         return None;
     }
-    Some(whole_of(word) as u16)
+    Some(decimal_value(word) as u16)
 }
 
 /// Returns the number of a day, counted from 1970-01-01. Fails with `NoSuchDate` if it isn't a day from 1970-01-01 to

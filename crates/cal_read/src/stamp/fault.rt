@@ -1,7 +1,7 @@
 //! The errors for timestamps.
 
 ghost use Rattle.std.specs.Prelude.{◌≡◌, ◌++◌, codes};
-ghost use Rattle.cal_span.specs.SpanFault.{words_of as span_words_of};
+ghost use Rattle.cal_span.specs.SpanFault.{message_of as span_message_of};
 
 use cal_span::SpanFault;
 
@@ -50,11 +50,11 @@ pub enum StampFault {
 }
 
 impl StampFault {
-    ghost use Rattle.cal_read.specs.StampFault.{words_of};
+    ghost use Rattle.cal_read.specs.StampFault.{message_of};
 
     /// Returns the message for users.
     pub fn words(&self) -> &str
-        ensures { result.now ≡ words_of self.now }
+        ensures { result.now ≡ message_of self.now }
     {
         match self {
             StampFault::Empty => "empty timestamp",
@@ -63,7 +63,7 @@ impl StampFault {
             StampFault::BadTime => "bad time",
             StampFault::NoSuchDate => "no such date",
             StampFault::WrongWeekday => "weekday does not fit the date",
-            StampFault::BadSpan(fault) => span_words(*fault),
+            StampFault::BadSpan(fault) => span_message(*fault),
             StampFault::NoSuchZone => "no such zone",
             StampFault::StrayWord => "stray word",
             StampFault::OutOfRange => "timestamp out of range",
@@ -81,8 +81,8 @@ impl From<SpanFault> for StampFault {
     }
 }
 
-fn span_words(fault: SpanFault) -> &'static str
-    ensures { result.now ≡ codes "bad time span: " ++ span_words_of fault }
+fn span_message(fault: SpanFault) -> &'static str
+    ensures { result.now ≡ codes "bad time span: " ++ span_message_of fault }
 {
     match fault {
         SpanFault::Empty => "bad time span: empty time span",

@@ -3,7 +3,7 @@
 ghost use Rattle.std.specs.Prelude.{◌≡◌, ◌≤◌, ◌<◌, ◌+ℤ◌, ◌-ℤ◌, ◌*ℤ◌, pos, neg_ℤ, Ok};
 ghost use Rattle.jiff.specs.Words.{IsBetween};
 ghost use Rattle.cal_zone.specs.Instant.{IsInstant};
-ghost use Rattle.cal_zone.specs.headline.Zone.{local_of, zone_of};
+ghost use Rattle.cal_zone.specs.headline.Zone.{local_shown_at, zone_of};
 ghost use Rattle.cal_zone.specs.headline.Moment.{micros_of};
 ghost use Rattle.cal_read.specs.Stamp.{before_second, after_second, in_moments, settle_on, today};
 ghost use Rattle.cal_read.specs.StampViews.{shift_of, micros_or_fault};
@@ -61,7 +61,7 @@ pub(crate) fn today(now: Instant, zone: Zone) -> i64
 
 /// Returns the local second that the zone's clock shows at `now`.
 fn local_second(now: Instant, zone: Zone) -> i64
-    ensures value { result ≡ local_of (zone_of zone.entry) now.secs }
+    ensures value { result ≡ local_shown_at (zone_of zone.entry) now.secs }
     ensures range { IsBetween (neg_ℤ (pos 93_599)) (pos 7_258_305_597) result }
 {
     now.secs() + i64::from(civil(zone, now).offset)

@@ -41,12 +41,12 @@ pub enum TimerFault {
 }
 
 impl TimerFault {
-    ghost use Rattle.cal_read.specs.TimerFault.{line_of, words_of};
+    ghost use Rattle.cal_read.specs.TimerFault.{line_of, message_of};
 
     /// Returns the message for users. For a bad line it is the message of its expression's error; for
     /// [`TimerFault::NoMemory`] it is empty.
     pub fn words(&self) -> &str
-        ensures { result.now ≡ words_of self.now }
+        ensures { result.now ≡ message_of self.now }
     {
         match self {
             TimerFault::ReadFailed => "cannot be read",

@@ -6,7 +6,7 @@ use Rattle.std.specs.Result.{result_err, result_ok}
 use Rattle.std.specs.Str.{is_utf8}
 use Rattle.jiff.specs.Types.{TimeZone}
 use Rattle.cal_zone.specs.headline.Zone.{zone_of}
-use Rattle.cal_zone.specs.headline.ZoneAhead.{zone_ahead}
+use Rattle.cal_zone.specs.headline.FixedOffsetZone.{fixed_offset_zone}
 use Rattle.cal_zone.specs.headline.ZoneTable.{zone_named}
 use Rattle.cal_lines.specs.headline.Lines.{logical_lines}
 use Rattle.cal_spec.specs.headline.Fields.{Fields}
@@ -39,7 +39,7 @@ meaning e = timed e.fields e.tz
 abbrev pub IsZoneFor : Request → Option ZoneSuffix → TimeZone → Type 0
 IsZoneFor asked None tz = tz ≡ zone_of asked.local
 IsZoneFor asked (Some (of_name name)) tz = zone_named asked.zones name ≡ Some tz
-IsZoneFor asked (Some (ahead seconds)) tz = tz ≡ zone_ahead seconds
+IsZoneFor asked (Some (ahead seconds)) tz = tz ≡ fixed_offset_zone seconds
 
 -- the text is an expression according to the grammar, and `fields` is the normal form of what the grammar assigns to it
 pub record Spells (text : List ℕ) (fields : Fields) : Type 0 where

@@ -3,13 +3,13 @@
 use Rattle.std.specs.Prelude.{ℕ, ◌/◌, ◌%◌, List, [], ◌∷◌, codes, decimal, filter, nat_lt}
 use Rattle.std.specs.List.{join_by}
 use Rattle.cal_bytes.specs.headline.Bytes.{joined}
-use Rattle.cal_span.specs.headline.Scale.{size_of, scales, unit_name}
-use Rattle.cal_span.specs.declared.scale.Scale.{Scale}
+use Rattle.cal_span.specs.headline.TimeUnit.{size_of, all_units, unit_name}
+use Rattle.cal_span.specs.declared.time_unit.TimeUnit.{TimeUnit}
 
 -- a number of one unit
 pub record Count : Type 0 where
   pub number : ℕ
-  pub unit : Scale
+  pub unit : TimeUnit
 
 -- the counts that aren't zero
 abbrev pub positive : List Count → List Count
@@ -29,14 +29,14 @@ counts_text [] = codes "0"
 counts_text (c ∷ cs) = counts_in_row (c ∷ cs)
 
 -- the counts of n microseconds in these units, by division with remainder
-abbrev pub counts_of : List Scale → ℕ → List Count
+abbrev pub counts_of : List TimeUnit → ℕ → List Count
 counts_of [] n = []
 counts_of (unit ∷ units) n = record { number = n / size_of unit; unit = unit } ∷ counts_of units (n % size_of unit)
 
 -- the text of n microseconds in these units
-unfoldable pub units_text : List Scale → ℕ → List ℕ
+unfoldable pub units_text : List TimeUnit → ℕ → List ℕ
 units_text units n = counts_text (positive (counts_of units n))
 
 -- the printed span of n microseconds
 abbrev pub span_text : ℕ → List ℕ
-span_text = units_text scales
+span_text = units_text all_units

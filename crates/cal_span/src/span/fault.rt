@@ -25,11 +25,11 @@ pub enum SpanFault {
 }
 
 impl SpanFault {
-    ghost use Rattle.cal_span.specs.SpanFault.{words_of};
+    ghost use Rattle.cal_span.specs.SpanFault.{message_of};
 
     /// Returns the message for users. `Display` prints the same.
     pub fn words(&self) -> &str
-        ensures { result.now ≡ words_of self.now }
+        ensures { result.now ≡ message_of self.now }
     {
         match self {
             SpanFault::Empty => "empty time span",

@@ -5,12 +5,12 @@
 ghost use Rattle.std.specs.Prelude.{◌≡◌, ◌≤◌, IsTrue, MatchOption, min, false, true};
 ghost use Rattle.std.specs.List.{list_all, position, before_first, after_first};
 ghost use Rattle.std.specs.Char.{is_ascii_digit};
-ghost use Rattle.cal_span.specs.headline.Scale.{size_of};
+ghost use Rattle.cal_span.specs.headline.TimeUnit.{size_of};
 ghost use Rattle.cal_text.specs.headline.Separators.{is_point};
 ghost use Rattle.cal_span.specs.SpanValue.{is_number, fraction_worth, digits_worth};
 
-use crate::Scale;
-use cal_text::{are_digits, whole_of};
+use crate::TimeUnit;
+use cal_text::{are_digits, decimal_value};
 
 /// A number: its digits before the decimal point and those after it.
 #[derive(Clone, Copy)]
@@ -41,12 +41,12 @@ impl<'a> Number<'a> {
     }
 
     /// Returns the length of this many of `unit` in microseconds, or `u64::MAX` if it is more than that.
-    pub(crate) fn worth(self, unit: Scale) -> u64
+    pub(crate) fn worth(self, unit: TimeUnit) -> u64
         ensures { result
             ≡ min (digits_worth self.entry.whole.now self.entry.fraction.now (size_of unit)) u64.MAX }
     {
         let size = unit.micros();
-        whole_of(self.whole)
+        decimal_value(self.whole)
             .saturating_mul(size)
             .saturating_add(fraction_of(self.fraction, size))
     }
@@ -74,7 +74,7 @@ fn point_index(word: &[u8]) -> Option<usize>
 /// than that.
 pub fn fraction_of(digits: &[u8], size: u64) -> u64
     requires digits { IsTrue (list_all is_ascii_digit digits.now) }
-    requires size { size ≤ size_of Scale.Year }
+    requires size { size ≤ size_of TimeUnit.Year }
     ensures { result ≡ min (fraction_worth size 1 digits.now) u64.MAX }
 {
     let mut sum = 0_u64;

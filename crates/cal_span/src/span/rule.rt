@@ -2,9 +2,9 @@
 
 ghost use Rattle.std.specs.Prelude.{◌≡◌, ℕ, List, Result, Some};
 ghost use Rattle.std.specs.List.{AllByRecursion};
-ghost use Rattle.cal_span.specs.declared.scale.Scale.{Scale};
+ghost use Rattle.cal_span.specs.declared.time_unit.TimeUnit.{TimeUnit};
 ghost use Rattle.cal_span.specs.declared.span.fault.SpanFault.{SpanFault};
-ghost use Rattle.cal_span.specs.Scale.{words_for};
+ghost use Rattle.cal_span.specs.UnitSpellings.{spellings_of};
 ghost use Rattle.cal_span.specs.SpanRule.{AreRuns, AreApart, ArePairs, Judges};
 ghost use Rattle.cal_span.specs.SpanValue.{Piece, Pair, characters, runs, pairs_of, unit_named, pairs_in, span_of};
 
@@ -23,8 +23,8 @@ pub fn one_value()
         → ArePairs words pairs → pairs ≡ pairs_of words }
 
     // No spelling belongs to two units.
-    ensures spelled { (unit : Scale)
-        → AllByRecursion (λ word. unit_named word ≡ Some unit) (words_for unit) }
+    ensures spelled { (unit : TimeUnit)
+        → AllByRecursion (λ word. unit_named word ≡ Some unit) (spellings_of unit) }
 
     // The value is the sum of the pairs, unless one of them is invalid; then the error is that of the leftmost.
     ensures found { (text : List ℕ) → Judges (pairs_in text) (span_of text) }

@@ -6,13 +6,13 @@ ghost use Rattle.cal_span.specs.Span.{limit};
 ghost use Rattle.cal_span.specs.SpanValue.{span_of};
 ghost use Rattle.cal_bytes.specs.Puts.{Puts};
 ghost use Rattle.cal_bytes.specs.headline.Bytes.{joined};
-ghost use Rattle.cal_span.specs.headline.Scale.{unit_name};
-ghost use Rattle.cal_bytes.specs.declared.short_text.TheConstants.{ROOM};
+ghost use Rattle.cal_span.specs.headline.TimeUnit.{unit_name};
+ghost use Rattle.cal_bytes.specs.declared.short_text.TheConstants.{SHORT_TEXT_ROOM};
 ghost use Rattle.cal_span.specs.declared.span.text.TheConstants.{SPAN_ROOM};
 ghost use Rattle.cal_span.specs.SpanText.{IsSpanText};
 ghost use Rattle.cal_span.specs.headline.SpanText.{span_text, counts_in_row, positive, counts_of};
 
-use crate::scale::Scale;
+use crate::time_unit::TimeUnit;
 use crate::span::Span;
 use cal_bytes::{ShortText, Sink, WriteFault, push, put_all};
 use itoa::Buffer;
@@ -25,13 +25,13 @@ pub const SPAN_ROOM: usize = 234;
 /// in `1h 30min`, or `0` for the empty span (systemd.time(7), Parsing Time Spans). This is at most [`SPAN_ROOM`] bytes,
 /// and the caller guarantees that `text` has room for that many.
 pub fn push_span(text: &mut ShortText, span: Span)
-    requires room { length text.old.items + SPAN_ROOM ≤ ROOM }
+    requires room { length text.old.items + SPAN_ROOM ≤ SHORT_TEXT_ROOM }
     ensures text { text.new.items ≡ text.old.items ++ span_text span.micros }
     ensures short { length text.new.items ≤ length text.old.items + SPAN_ROOM }
 {
     match span.micros() {
         0 => push(text, b"0"),
-        micros => push_counts(text, &Scale::ALL, micros),
+        micros => push_counts(text, &TimeUnit::ALL, micros),
     }
 }
 
@@ -67,18 +67,18 @@ pub fn text_reads_back()
 {}
 
 /// Appends the units that don't count zero, with a space between them.
-fn push_counts(text: &mut ShortText, scales: &[Scale], micros: u64)
-    requires few { length scales.now ≤ 9 }
-    requires room { length text.old.items + SPAN_ROOM ≤ ROOM }
-    ensures text { text.new.items ≡ text.old.items ++ counts_in_row (positive (counts_of scales.now micros)) }
+fn push_counts(text: &mut ShortText, units: &[TimeUnit], micros: u64)
+    requires few { length units.now ≤ 9 }
+    requires room { length text.old.items + SPAN_ROOM ≤ SHORT_TEXT_ROOM }
+    ensures text { text.new.items ≡ text.old.items ++ counts_in_row (positive (counts_of units.now micros)) }
     ensures short { length text.new.items ≤ length text.old.items + SPAN_ROOM }
 {
     let mut lead: &[u8] = b"";
     let mut rest = micros;
-    for scale in scales {
-        let size = scale.micros();
+    for unit in units {
+        let size = unit.micros();
         if rest >= size {
-            push_count(text, lead, rest / size, *scale);
+            push_count(text, lead, rest / size, *unit);
             lead = b" ";
             rest %= size;
         }
@@ -86,9 +86,9 @@ fn push_counts(text: &mut ShortText, scales: &[Scale], micros: u64)
 }
 
 /// Appends `lead`, then one count and its unit.
-fn push_count(text: &mut ShortText, lead: &[u8], count: u64, unit: Scale)
+fn push_count(text: &mut ShortText, lead: &[u8], count: u64, unit: TimeUnit)
     requires lead { length lead.now ≤ 1 }
-    requires room { length text.old.items + 26 ≤ ROOM }
+    requires room { length text.old.items + 26 ≤ SHORT_TEXT_ROOM }
     ensures text { text.new.items ≡ text.old.items ++ joined (lead.now ∷ decimal count ∷ unit_name unit ∷ []) }
     ensures short { length text.new.items ≤ length text.old.items + 26 }
 {

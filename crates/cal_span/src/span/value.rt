@@ -4,12 +4,12 @@ ghost use Rattle.std.specs.Prelude.{◌≡◌, ◌<◌, ◌∷◌, [], MatchOpti
 ghost use Rattle.std.specs.Option.{option_copied};
 ghost use Rattle.std.specs.List.{find, list_any};
 ghost use Rattle.std.specs.Str.{bytes_eq};
-ghost use Rattle.cal_span.specs.Scale.{words_for};
+ghost use Rattle.cal_span.specs.UnitSpellings.{spellings_of};
 ghost use Rattle.cal_span.specs.SpanValue.{pairs_in, unit_in, unit_named, worth_of, sum_with, span_of};
 
 use crate::span::number::Number;
-use crate::span::word::{CharKind, first_word};
-use crate::{Scale, Span, SpanFault};
+use crate::span::word::{CharKind, first_span_word};
+use crate::{TimeUnit, Span, SpanFault};
 use cal_bytes::is_among;
 
 /// Parses a time span: one or more numbers, each with an optional unit. Blanks may come before, between and after all
@@ -53,7 +53,7 @@ fn first_pair(bytes: &[u8]) -> Option<(Pair<'_>, &[u8])>
         ∷ pairs_in found.1.now)
         × (length found.1.now < length bytes.now)) }
 {
-    let (word, rest) = first_word(bytes)?;
+    let (word, rest) = first_span_word(bytes)?;
     if word.kind != CharKind::Numeric {
         let stray = Pair {
             number: &[],
@@ -65,7 +65,7 @@ fn first_pair(bytes: &[u8]) -> Option<(Pair<'_>, &[u8])>
         number: word.text,
         unit: None,
     };
-    match first_word(rest) {
+    match first_span_word(rest) {
         Some((unit, after)) if unit.kind == CharKind::Letter => {
             pair.unit = Some(unit.text);
             Some((pair, after))
@@ -94,41 +94,41 @@ fn add_pair(sum: Span, pair: Pair<'_>) -> Result<Span, SpanFault>
 }
 
 /// Returns the unit that is spelled `word`, or seconds if there is no word.
-fn unit_of(word: Option<&[u8]>) -> Option<Scale>
+fn unit_of(word: Option<&[u8]>) -> Option<TimeUnit>
     ensures { result ≡ unit_in (option_copied word.entry) }
 {
     match word {
         Some(word) => find_unit(units_by_initial(word), word),
-        None => Some(Scale::Second),
+        None => Some(TimeUnit::Second),
     }
 }
 
 /// Returns the units that have a spelling with the same first byte as `word`, from the largest to the smallest, so that
 /// most units need not be compared.
-#[tactic(auto, unfolding(crate::specs::SpanValue::unit_named, crate::specs::Scale::words_for))]
-fn units_by_initial(word: &[u8]) -> &'static [Scale]
-    ensures { find (λ unit. list_any (bytes_eq word.now) (words_for unit)) result.now ≡ unit_named word.now }
+#[tactic(auto, unfolding(crate::specs::SpanValue::unit_named, crate::specs::UnitSpellings::spellings_of))]
+fn units_by_initial(word: &[u8]) -> &'static [TimeUnit]
+    ensures { find (λ unit. list_any (bytes_eq word.now) (spellings_of unit)) result.now ≡ unit_named word.now }
 {
     match word {
-        [b'y', ..] => &[Scale::Year],
-        [b'M', ..] => &[Scale::Month],
-        [b'm', ..] => &[Scale::Month, Scale::Minute, Scale::Millisecond],
-        [b'w', ..] => &[Scale::Week],
-        [b'd', ..] => &[Scale::Day],
-        [b'h', ..] => &[Scale::Hour],
-        [b's', ..] => &[Scale::Second],
+        [b'y', ..] => &[TimeUnit::Year],
+        [b'M', ..] => &[TimeUnit::Month],
+        [b'm', ..] => &[TimeUnit::Month, TimeUnit::Minute, TimeUnit::Millisecond],
+        [b'w', ..] => &[TimeUnit::Week],
+        [b'd', ..] => &[TimeUnit::Day],
+        [b'h', ..] => &[TimeUnit::Hour],
+        [b's', ..] => &[TimeUnit::Second],
         // The first bytes of the micro sign and of the Greek letter mu.
-        [b'u' | 0xc2 | 0xce, ..] => &[Scale::Microsecond],
+        [b'u' | 0xc2 | 0xce, ..] => &[TimeUnit::Microsecond],
         _ => &[],
     }
 }
 
 /// Returns the first of `units` that can be spelled `word`.
-fn find_unit(units: &[Scale], word: &[u8]) -> Option<Scale>
-    ensures { result ≡ find (λ unit. list_any (bytes_eq word.now) (words_for unit)) units.now }
+fn find_unit(units: &[TimeUnit], word: &[u8]) -> Option<TimeUnit>
+    ensures { result ≡ find (λ unit. list_any (bytes_eq word.now) (spellings_of unit)) units.now }
 {
     for unit in units {
-        if is_among(unit.words(), word) {
+        if is_among(unit.spellings(), word) {
             return Some(*unit);
         }
     }

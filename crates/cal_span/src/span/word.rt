@@ -26,7 +26,7 @@ pub(crate) struct Word<'a> {
 }
 
 /// Returns the first word in `bytes` and the bytes after it, or `None` if there are only blanks.
-pub(crate) fn first_word(bytes: &[u8]) -> Option<(Word<'_>, &[u8])>
+pub(crate) fn first_span_word(bytes: &[u8]) -> Option<(Word<'_>, &[u8])>
     ensures { MatchOption result (words_in bytes.now ≡ []) (λ found.
         (words_in bytes.now
         ≡ record { kind = found.0.kind; text = found.0.text.now } ∷ words_in found.1.now)

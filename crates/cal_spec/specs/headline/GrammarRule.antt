@@ -11,12 +11,12 @@ use Rattle.cal_text.specs.headline.Separators.{is_colon}
 use Rattle.cal_spec.specs.headline.DateAndTime.{DateTexts, TimeTexts}
 use Rattle.cal_spec.specs.headline.Fields.{Fields, counted_parts}
 use Rattle.cal_spec.specs.headline.Parts.{most, with_values}
-use Rattle.cal_spec.specs.headline.Shorthand.{any_date, midnight, shorthand_named, meaning_of}
+use Rattle.cal_spec.specs.headline.Shorthand.{any_date, midnight, shorthand_named, expansion_of}
 use Rattle.cal_spec.specs.headline.Slot.{day_slot}
-use Rattle.cal_spec.specs.headline.Sound.{IsSound}
+use Rattle.cal_spec.specs.headline.ValidParts.{IsValidPart}
 use Rattle.cal_spec.specs.headline.Weekdays.{set_of}
 use Rattle.cal_text.specs.headline.Words.{words}
-use Rattle.cal_spec.specs.headline.Words.{Roles}
+use Rattle.cal_spec.specs.headline.Words.{WordRoles}
 use Rattle.cal_civil.specs.headline.OffsetWord.{IsOffsetWord, begins_with_sign}
 use Rattle.cal_civil.specs.headline.ZoneName.{begins_with_letter, is_zone_name}
 use Rattle.cal_spec.specs.headline.ZoneSuffix.{ZoneSuffix, of_name, ahead, kept_name}
@@ -24,7 +24,7 @@ use Rattle.cal_spec.specs.declared.part.Part.{Part}
 use Rattle.cal_spec.specs.declared.shorthand.Shorthand.{Shorthand}
 use Rattle.cal_spec.specs.declared.slot.Slot.{Slot}
 use Rattle.cal_spec.specs.declared.slot.Slot.TheVariants.{Year, Month, Hour, Minute, Second}
-use Rattle.cal_spec.specs.declared.weekdays.Days.{Days}
+use Rattle.cal_spec.specs.declared.weekdays.WeekdayRange.{WeekdayRange}
 
 -- one or more digits, with the value n
 pub record IsNumber (text : List ℕ) (n : ℕ) : Type 0 where
@@ -58,7 +58,7 @@ pub record AreListed (slot : Slot) (text : List ℕ) (ps : List Part) : Type 0 w
   pub some : 0 < length texts
   pub whole : text ≡ join_with_byte 44 texts
   pub parts : AllZip (IsPartOf slot) texts ps
-  pub sound : AllByRecursion (IsSound slot) ps
+  pub sound : AllByRecursion (IsValidPart slot) ps
 
 -- `*`, or parts joined by commas
 abbrev pub IsComponent : Slot → List ℕ → Option (List Part) → Type 0
@@ -101,7 +101,7 @@ IsName text day =
     (map to_ascii_lowercase text ≡ map to_ascii_lowercase (name_of day)) ⊎ (map to_ascii_lowercase text ≡ map to_ascii_lowercase (short_name_of day))
 
 -- two names joined by `..` or `-`
-pub record IsNameRange (text : List ℕ) (days : Days) : Type 0 where
+pub record IsNameRange (text : List ℕ) (days : WeekdayRange) : Type 0 where
   pub first : List ℕ
   pub joint : List ℕ
   pub last : List ℕ
@@ -111,13 +111,13 @@ pub record IsNameRange (text : List ℕ) (days : Days) : Type 0 where
   pub last_name : IsName last days.last
 
 -- a name, or two names joined by `..` or `-`
-abbrev pub IsItem : List ℕ → Days → Type 0
+abbrev pub IsItem : List ℕ → WeekdayRange → Type 0
 IsItem text days = (IsName text days.first × (days.last ≡ days.first)) ⊎ IsNameRange text days
 
 -- items joined by commas, with one trailing comma allowed
 pub record AreWeekdays (word : List ℕ) (days : List Bool) : Type 0 where
   pub texts : List (List ℕ)
-  pub items : List Days
+  pub items : List WeekdayRange
   pub some : 0 < length texts
   pub whole : (word ≡ join_with_byte 44 texts) ⊎ (word ≡ join_with_byte 44 texts ++ codes ",")
   pub each : AllZip IsItem texts items
@@ -137,7 +137,7 @@ IsSignless word = begins_with_sign word ≡ false
 
 -- `[weekdays] [date] [time] [zone]`, with at least one of the first three. The first letter of a word and a colon in it
 -- show what it is. After the first word, only a zone begins with a sign.
-pub record ArePlain (ws : List (List ℕ)) (p : Roles) (last : Option (List ℕ)) : Type 0 where
+pub record ArePlain (ws : List (List ℕ)) (p : WordRoles) (last : Option (List ℕ)) : Type 0 where
   pub date : Option (List ℕ)
   pub time : Option (List ℕ)
   pub whole : ws ≡ given p.weekdays ++ (given date ++ (given time ++ given last))
@@ -151,14 +151,14 @@ pub record ArePlain (ws : List (List ℕ)) (p : Roles) (last : Option (List ℕ)
   pub rest_is : p.rest ≡ given last
 
 -- `shorthand [zone]`; the shorthand is replaced by what it stands for
-pub record AreShort (ws : List (List ℕ)) (p : Roles) (last : Option (List ℕ)) : Type 0 where
+pub record AreShort (ws : List (List ℕ)) (p : WordRoles) (last : Option (List ℕ)) : Type 0 where
   pub word : List ℕ
   pub shorthand : Shorthand
   pub whole : ws ≡ word ∷ given last
   pub named : shorthand_named word ≡ Some shorthand
-  pub weekdays_is : p.weekdays ≡ (meaning_of shorthand).weekdays
-  pub date_is : p.date ≡ (meaning_of shorthand).date
-  pub time_is : p.time ≡ (meaning_of shorthand).time
+  pub weekdays_is : p.weekdays ≡ (expansion_of shorthand).weekdays
+  pub date_is : p.date ≡ (expansion_of shorthand).date
+  pub time_is : p.time ≡ (expansion_of shorthand).time
   pub rest_is : p.rest ≡ given last
 
 -- no word, the name of a zone, or a UTC offset
@@ -169,7 +169,7 @@ IsZoneWord (Some word) suffix =
 
 -- the text is an expression with these fields
 pub record IsExpression (text : List ℕ) (f : Fields) : Type 0 where
-  pub roles : Roles
+  pub roles : WordRoles
   pub last : Option (List ℕ)
   pub roles_are : ArePlain (words text) roles last ⊎ AreShort (words text) roles last
   pub weekdays : HasWeekdays roles.weekdays f.weekdays

@@ -18,14 +18,14 @@ pub record Sets : Type 0 where
 
 -- the number that is compared with the days: the day of the month, or its count from the month's end (the last day is
 -- 1)
-abbrev pub day_number : Bool → Date → ℕ
-day_number from_end date = if from_end then month_length date - date.day + 1 else date.day
+abbrev pub day_value : Bool → Date → ℕ
+day_value from_end date = if from_end then month_length date - date.day + 1 else date.day
 
 -- the weekday, year, month and day of the date all match
 unfoldable pub date_in : Sets → Date → Bool
 date_in sets date =
     sets.weekday (weekday_of date)
-    && (sets.year (unsigned_abs date.year) && (sets.month date.month && sets.day (day_number sets.from_end date)))
+    && (sets.year (unsigned_abs date.year) && (sets.month date.month && sets.day (day_value sets.from_end date)))
 
 -- the time that is `second` seconds after midnight matches
 unfoldable pub time_in : Sets → ℕ → Bool

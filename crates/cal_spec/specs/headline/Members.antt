@@ -9,33 +9,33 @@ use Rattle.cal_spec.specs.declared.slot.Slot.{Slot}
 use Rattle.cal_spec.specs.declared.slot.Slot.TheVariants.{Year, Month, Day, DayFromEnd, Hour, Minute, Second}
 
 -- v is one of the numbers from a to b
-abbrev pub lies : ℕ → ℕ → ℕ → Bool
-lies a b v = nat_le a v && nat_le v b
+abbrev pub is_between : ℕ → ℕ → ℕ → Bool
+is_between a b v = nat_le a v && nat_le v b
 
 -- v is one of the numbers from a to b, and its distance is a multiple of r
-abbrev pub lies_by : ℕ → ℕ → ℕ → ℕ → ℕ → Bool
-lies_by a b r distance v = lies a b v && (distance % r == 0)
+abbrev pub is_step_between : ℕ → ℕ → ℕ → ℕ → ℕ → Bool
+is_step_between a b r distance v = is_between a b v && (distance % r == 0)
 
 -- `a/r`: a, a + r, .. up to the greatest number of the slot; for days counted from the month's end a, a - r, .. down to
 -- 1
 abbrev pub repeats : Slot → ℕ → ℕ → ℕ → Bool
-repeats DayFromEnd a r v = lies_by 1 a r (a - v) v
-repeats slot a r v = lies_by a (greatest slot) r (v - a) v
+repeats DayFromEnd a r v = is_step_between 1 a r (a - v) v
+repeats slot a r v = is_step_between a (greatest slot) r (v - a) v
 
 -- `a`, `a/r`, `a..b` and `a..b/r`
 abbrev pub values : Slot → ℕ → Option ℕ → Option ℕ → ℕ → Bool
 values slot a None None v = v == a
 values slot a None (Some r) v = repeats slot a r v
-values slot a (Some b) None v = lies a b v
-values slot a (Some b) (Some r) v = lies_by a b r (v - a) v
+values slot a (Some b) None v = is_between a b v
+values slot a (Some b) (Some r) v = is_step_between a b r (v - a) v
 
 unfoldable pub part_has : Slot → Part → ℕ → Bool
 part_has slot p v = values slot p.start p.end p.step v
 
 -- `*`: all numbers of the slot; if days are counted from the month's end, every day from 1 to 31
 abbrev pub in_field : Slot → ℕ → Bool
-in_field DayFromEnd v = lies (least Day) (greatest Day) v
-in_field slot v = lies (least slot) (greatest slot) v
+in_field DayFromEnd v = is_between (least Day) (greatest Day) v
+in_field slot v = is_between (least slot) (greatest slot) v
 
 -- a component matches the values that its parts match
 abbrev pub component_has : Slot → Option (List Part) → ℕ → Bool

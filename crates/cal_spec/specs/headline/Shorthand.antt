@@ -29,29 +29,29 @@ names_of Semiannually =
 names_of Yearly = codes "yearly" ∷ codes "annually" ∷ []
 
 -- the weekdays, date and time that a shorthand stands for, not yet parsed
-pub record Meaning : Type 0 where
+pub record ShorthandExpansion : Type 0 where
   pub weekdays : Option (List ℕ)
   pub date : List ℕ
   pub time : List ℕ
 
--- the meaning "on these dates at midnight"
-abbrev pub dates : List ℕ → Meaning
+-- the expansion "on these dates at midnight"
+abbrev pub dates : List ℕ → ShorthandExpansion
 dates date = record { weekdays = None; date = date; time = midnight }
 
--- the meaning "every day at these times"
-abbrev pub times : List ℕ → Meaning
+-- the expansion "every day at these times"
+abbrev pub times : List ℕ → ShorthandExpansion
 times time = record { weekdays = None; date = any_date; time = time }
 
 -- what each shorthand stands for
-abbrev pub meaning_of : Shorthand → Meaning
-meaning_of Minutely = times (codes "*:*:00")
-meaning_of Hourly = times (codes "*:00:00")
-meaning_of Daily = dates any_date
-meaning_of Weekly = record { weekdays = Some (codes "Mon"); date = any_date; time = midnight }
-meaning_of Monthly = dates (codes "*-*-01")
-meaning_of Quarterly = dates (codes "*-01,04,07,10-01")
-meaning_of Semiannually = dates (codes "*-01,07-01")
-meaning_of Yearly = dates (codes "*-01-01")
+abbrev pub expansion_of : Shorthand → ShorthandExpansion
+expansion_of Minutely = times (codes "*:*:00")
+expansion_of Hourly = times (codes "*:00:00")
+expansion_of Daily = dates any_date
+expansion_of Weekly = record { weekdays = Some (codes "Mon"); date = any_date; time = midnight }
+expansion_of Monthly = dates (codes "*-*-01")
+expansion_of Quarterly = dates (codes "*-01,04,07,10-01")
+expansion_of Semiannually = dates (codes "*-01,07-01")
+expansion_of Yearly = dates (codes "*-01-01")
 
 -- the shorthand with this name, ignoring case
 unfoldable pub shorthand_named : List ℕ → Option Shorthand

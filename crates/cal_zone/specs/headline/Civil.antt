@@ -5,7 +5,7 @@ use Rattle.jiff.specs.Words.{nanos_of_seconds, offset_at, weekday_of}
 use Rattle.cal_zone.specs.declared.civil_fields.Civil.{Civil}
 use Rattle.cal_civil.specs.headline.Days.{date_of}
 use Rattle.cal_civil.specs.headline.Local.{day_of, second_of_day, hour_of, minute_of, second_of}
-use Rattle.cal_zone.specs.headline.Zone.{local_of}
+use Rattle.cal_zone.specs.headline.Zone.{local_shown_at}
 
 -- a date, a time in seconds since midnight and a UTC offset, field by field; weekday 1 is Monday
 abbrev pub shown_fields : Date → ℕ → ℤ → Civil
@@ -23,5 +23,5 @@ shown_fields date second offset = record {
 -- the civil time in a zone at a second of Unix time
 unfoldable pub civil_of : TimeZone → ℤ → Civil
 civil_of tz second =
-    let local = local_of tz second in
+    let local = local_shown_at tz second in
     shown_fields (date_of (day_of local)) (second_of_day local) (offset_at tz (nanos_of_seconds second))

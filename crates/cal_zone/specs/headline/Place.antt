@@ -7,7 +7,7 @@ use Rattle.jiff.specs.Types.{DateTime, Time, TimeZone}
 use Rattle.jiff.specs.Words.{ambiguous_at, compatible_offset}
 use Rattle.cal_civil.specs.headline.Days.{date_of}
 use Rattle.cal_civil.specs.headline.Local.{day_of, second_of_day, hour_of, minute_of, second_of}
-use Rattle.cal_zone.specs.headline.Zone.{local_of}
+use Rattle.cal_zone.specs.headline.Zone.{local_shown_at}
 
 -- the time of day `second` seconds after midnight
 unfoldable pub time_of : (second : ℕ) → second < 86_400 → Time
@@ -34,4 +34,4 @@ settle_of tz local = local -ℤ (compatible_offset (ambiguous_at tz (datetime_of
 -- the place of a local second: the second that it is converted to, if the zone's clock shows the local second then; so
 -- a local second that the clock skips has no place, and one that it shows twice has its first occurrence
 unfoldable pub place_of : TimeZone → ℤ → Option ℤ
-place_of tz local = if int_eq (local_of tz (settle_of tz local)) local then Some (settle_of tz local) else None
+place_of tz local = if int_eq (local_shown_at tz (settle_of tz local)) local then Some (settle_of tz local) else None

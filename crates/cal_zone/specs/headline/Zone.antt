@@ -2,7 +2,7 @@
 use Rattle.std.specs.Prelude.{Bool, true, false, ℤ, ◌+ℤ◌}
 use Rattle.jiff.specs.Types.{Offset, TimeZone, UTC}
 use Rattle.jiff.specs.Words.{fixed_zone, nanos_of_seconds, offset_at}
-use Rattle.cal_zone.specs.declared.zone.Ahead.{Ahead}
+use Rattle.cal_zone.specs.declared.zone.FixedOffset.{FixedOffset}
 use Rattle.cal_zone.specs.declared.zone.ZoneKind.{ZoneKind}
 use Rattle.cal_zone.specs.declared.zone.ZoneKind.TheVariants.{Utc, Offset as Fixed, Rules}
 use Rattle.cal_zone.specs.declared.zone.Zone.{Zone}
@@ -21,7 +21,7 @@ abbrev pub is_utc : Zone → Bool
 is_utc zone = is_utc_kind zone.kind
 
 -- a fixed offset as an `Offset` of `jiff`
-abbrev pub offset_of : Ahead → Offset
+abbrev pub offset_of : FixedOffset → Offset
 offset_of ahead = record { seconds = ahead.seconds; in_range = ahead.in_range }
 
 abbrev pub zone_of_kind : ZoneKind → TimeZone
@@ -34,5 +34,5 @@ unfoldable pub zone_of : Zone → TimeZone
 zone_of zone = zone_of_kind zone.kind
 
 -- the local second that clocks in the zone show at a second of Unix time
-unfoldable pub local_of : TimeZone → ℤ → ℤ
-local_of tz second = second +ℤ offset_at tz (nanos_of_seconds second)
+unfoldable pub local_shown_at : TimeZone → ℤ → ℤ
+local_shown_at tz second = second +ℤ offset_at tz (nanos_of_seconds second)

@@ -16,12 +16,12 @@ pub put-requires-clause-instant : goal.put-requires-clause-instant
 put-requires-clause-instant c =
     let fits : FitsSigned w64 c.in-Some.instant = search rules in
     subst IsInstant (sym (to_z-of_z w64 c.in-Some.instant fits))
-    (put_instant (zone_of c.args.placer.now) c.args.local c.in-Some.instant c.args.last (place_found (zone_of c.args.placer.now) c.args.local c.place.result c.ranges.local c.place.ensures.value ∙ c.in-Some.is)
+    (put_instant (zone_of c.args.place_cache.now) c.args.local c.in-Some.instant c.args.last (place_found (zone_of c.args.place_cache.now) c.args.local c.place.result c.ranges.local c.place.ensures.value ∙ c.in-Some.is)
     c.requires.local_in c.requires.last_in (search rules))
 
 pub put-requires-clause-near : goal.put-requires-clause-near
 put-requires-clause-near c = λ member has.
     let fits : FitsSigned w64 c.in-Some.instant = search rules in
     subst (IsNear member) (sym (to_z-of_z w64 c.in-Some.instant fits))
-    (put_near (zone_of c.args.placer.now) c.args.local c.in-Some.instant member (place_found (zone_of c.args.placer.now) c.args.local c.place.result c.ranges.local c.place.ensures.value ∙ c.in-Some.is)
+    (put_near (zone_of c.args.place_cache.now) c.args.local c.in-Some.instant member (place_found (zone_of c.args.place_cache.now) c.args.local c.place.result c.ranges.local c.place.ensures.value ∙ c.in-Some.is)
     (c.requires.near member has) (c.requires.before member has))

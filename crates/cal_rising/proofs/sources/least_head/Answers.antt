@@ -1,7 +1,7 @@
 use Rattle.cal_rising.proofs.MergeLemmas.{least_more}
 use Rattle.cal_rising.proofs.sources.least_head.Goals as goal
 
-pub loop-branch-preserved : goal.loop-branch-preserved
-loop-branch-preserved g c =
-    least_more _ _ _ _ _ _ _ c.deref-branch-items.ensures.value c.requires c.loop-branch-test.true c.loop-branch.invariant c.branch-item.is
+pub loop-peeked-preserved : goal.loop-peeked-preserved
+loop-peeked-preserved g c =
+    least_more _ _ _ _ _ _ _ c.deref-peeked-items.ensures.value c.requires c.loop-peeked-test.true c.loop-peeked.invariant c.peeked-item.is
     c.head.ensures c.lesser-least.ensures

@@ -4,5 +4,5 @@ use Rattle.cal_rising.specs.RisingList.{union}
 use Rattle.cal_rising.proofs.sources.least_head.Given as goal
 
 -- the smallest number read ahead from the sources visited so far
-abbrev pub invariant-loop-branch : goal.invariant-loop-branch
-invariant-loop-branch g l = l.least ≡ slice_get (union (map numbers (take l.branch-index l.branch-items))) 0
+abbrev pub invariant-loop-peeked : goal.invariant-loop-peeked
+invariant-loop-peeked g l = l.least ≡ slice_get (union (map numbers (take l.peeked-index l.peeked-items))) 0

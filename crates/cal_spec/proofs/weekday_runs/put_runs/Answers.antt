@@ -11,14 +11,14 @@ loop-first-init g c = left_respelled (put_none c.requires.works) (runs_text-led 
 
 pub returns-in_err-put_run : goal.returns-in_err-put_run
 returns-in_err-put_run g c =
-    let len = c.front_len-len in
+    let len = c.leading_days-len in
     let first = c.loop-first.first in
     let run = led-front c.loop-first.lead.now first (first + len.result - 1) (first + (len.result + 1)) len.result c.args.days.now (rw take_rest at len.ensures.value) (omega arith) refl refl in
     put_cut _ run c.from_residual.ensures.0 c.loop-first.invariant c.in_err-put_run.ensures
 
 pub loop-first-preserved : goal.loop-first-preserved
 loop-first-preserved g c =
-    let len = c.front_len-len in
+    let len = c.leading_days-len in
     let first = c.loop-first.first in
     elim c.if-len-gt0.branch [
       | then-len-gt0+in_ok-put_run w ↦

@@ -8,8 +8,8 @@ use Rattle.cal_zone.proofs.locals.local_at.Goals.{then-local-lt0-via-then-local-
 
 pub returns-then-local-lt0 : goal.returns-then-local-lt0
 returns-then-local-lt0 c =
-    let fits : FitsSigned w64 c.shown_at-local.result = search rules in
-    local_at-outside (zone_of c.args.zone) c.args.instant.secs c.shown_at-local.result c.shown_at-local.ensures
+    let fits : FitsSigned w64 c.local_shown_at-local.result = search rules in
+    local_at-outside (zone_of c.args.zone) c.args.instant.secs c.local_shown_at-local.result c.local_shown_at-local.ensures
     (λ low. elim c.then-local-lt0.branch [
       | then-local-lt0-via-then-local-lt0 w ↦ absurd (omega (arith, signed_arith))
       | then-local-lt0-via-else-local-lt0+then-local-ge-LOCAL_END w ↦ omega (arith, signed_arith)
@@ -20,9 +20,9 @@ returns-in-Some c = grind (arith, signed_arith, to_z-of_z, local_at-here, c.plac
 
 pub returns-in_default : goal.returns-in_default
 returns-in_default c =
-    let shown = c.shown_at-local.result in
+    let shown = c.local_shown_at-local.result in
     let fits : FitsSigned w64 shown = search rules in
-    local_at-elsewhere (zone_of c.args.zone) c.args.instant.secs shown c.shown_at-local.ensures
+    local_at-elsewhere (zone_of c.args.zone) c.args.instant.secs shown c.local_shown_at-local.ensures
     (λ placed.
     let there : Some c.in-Some.place ≡ Some c.args.instant.secs = sym c.in-Some.is ∙ (rw (to_z-of_z w64 shown fits) at c.place.ensures) ∙ placed in
     let same : c.in-Some.place ≡ c.secs.result = cc (c.secs.ensures.value) in
@@ -30,9 +30,9 @@ returns-in_default c =
 
 pub returns-in_default-2 : goal.returns-in_default-2
 returns-in_default-2 c =
-    let shown = c.shown_at-local.result in
+    let shown = c.local_shown_at-local.result in
     let fits : FitsSigned w64 shown = search rules in
-    local_at-elsewhere (zone_of c.args.zone) c.args.instant.secs shown c.shown_at-local.ensures
+    local_at-elsewhere (zone_of c.args.zone) c.args.instant.secs shown c.local_shown_at-local.ensures
     (λ placed.
     let there : None ≡ Some c.args.instant.secs = sym c.in_default.is ∙ (rw (to_z-of_z w64 shown fits) at c.place.ensures) ∙ placed in
     absurd (cc))

@@ -11,12 +11,12 @@ pub overflow_cast-result : goal.overflow_cast-result
 overflow_cast-result c =
     let all : list_all is_ascii_digit c.args.word.now ≡ true = sym c.are_digits.ensures ∙ c.if-not-are_digits.false in
     let small = short_number c.args.word.now all (omega arith) in
-    omega (arith, c.whole_of.ensures)
+    omega (arith, c.decimal_value.ensures)
 
 pub returns : goal.returns
 unfolding digits_number
 returns c =
     let all : list_all is_ascii_digit c.args.word.now ≡ true = sym c.are_digits.ensures ∙ c.if-not-are_digits.false in
     let small = short_number c.args.word.now all (omega arith) in
-    let value : c.whole_of.result ≡ digits_value 10 c.args.word.now = omega (arith, c.whole_of.ensures) in
+    let value : c.decimal_value.result ≡ digits_value 10 c.args.word.now = omega (arith, c.decimal_value.ensures) in
     grind (arith, nat_tests, c.if-is_empty.ensures)

@@ -4,10 +4,10 @@ use Rattle.cal_span.specs.headline.SpanText.{counts_in_row, positive, counts_of}
 use Rattle.cal_span.proofs.SpanCounts.{led}
 use Rattle.cal_span.proofs.span.text.push_counts.Given as goal
 
-abbrev pub invariant-loop-scale : goal.invariant-loop-scale
-invariant-loop-scale l =
+abbrev pub invariant-loop-unit : goal.invariant-loop-unit
+invariant-loop-unit l =
     record {
       lead : length l.lead ≤ 1;
-      short : length l.text.items ≤ length l.fn.text.items + 26 * l.scale-index;
-      whole : l.text.items ++ led l.lead (positive (counts_of (drop l.scale-index l.scales) l.rest)) ≡ l.fn.text.items ++ counts_in_row (positive (counts_of l.fn.scales l.fn.micros));
+      short : length l.text.items ≤ length l.fn.text.items + 26 * l.unit-index;
+      whole : l.text.items ++ led l.lead (positive (counts_of (drop l.unit-index l.units) l.rest)) ≡ l.fn.text.items ++ counts_in_row (positive (counts_of l.fn.units l.fn.micros));
     }

@@ -1,7 +1,7 @@
 use Rattle.std.proofs.Common.{◌≡◌, ◌+◌, ap, ◌∙◌, sym, min, rules}
 use Rattle.std.specs.List.{before_first}
 use Rattle.std.specs.Option.{option_copied}
-use Rattle.cal_span.specs.headline.Scale.{size_of}
+use Rattle.cal_span.specs.headline.TimeUnit.{size_of}
 use Rattle.cal_text.specs.headline.Separators.{is_point}
 use Rattle.cal_span.specs.SpanValue.{Pair, sum_with, number_worth, digits_worth}
 use Rattle.cal_text.proofs.DigitLemmas.{top}

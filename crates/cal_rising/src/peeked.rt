@@ -1,0 +1,136 @@
+//! One source of a merge, with the number that was read from it and not returned yet.
+
+ghost use Rattle.std.specs.Prelude.{◌≡◌, ◌≤ℤ◌, None, IfSome};
+ghost use Rattle.std.specs.Set.{is_member};
+ghost use Rattle.std.specs.Ordering.{int_eq};
+ghost use Rattle.cal_rising.specs.Merge.{HasHead, numbers, advanced};
+ghost use Rattle.cal_rising.specs.RisingList.{IsSameFrom};
+
+use crate::Rising;
+use std::marker::Model;
+
+/// How often a source is only asked whether it has a number before one number is read from it. Reading a number from a
+/// sparse source costs far more than asking.
+const MISSES_BEFORE_STEP: u8 = 128;
+
+/// A source and the number read ahead from it, if there is one. A contract sees that number and the numbers after it.
+#[derive(Drop)]
+pub struct Peeked<S: Rising> {
+    head: Option<i64>,
+    source: S,
+    /// How many calls of `step_toward` have read nothing since the last one that read from the source.
+    misses: u8,
+}
+
+impl<S: Rising> Model for Peeked<S> {
+    ghost use Rattle.std.specs.List.Sorted.{IsStrictlySortedBy};
+    ghost use Rattle.std.specs.Ordering.{int_cmp};
+    ghost use Rattle.cal_rising.specs.Merge.{Peeked, numbers_by};
+
+    ghost Value = { Peeked };
+
+    ghost view = { λ peeked. record { head = peeked.head; after = S.rest peeked.source } };
+
+    ghost invariant = { λ peeked. IsStrictlySortedBy int_cmp (numbers_by peeked.head (S.rest peeked.source)) };
+}
+
+impl<S: Rising> Peeked<S> {
+    /// Wraps a source from which no number has been read ahead yet.
+    pub fn new(source: S) -> Self
+        ensures { result ≡ record { head = None; after = S.rest source } }
+    {
+        Peeked {
+            head: None,
+            source,
+            misses: 0,
+        }
+    }
+
+    /// Reads a number from the source unless one was read ahead already. The numbers yet to be returned stay the same.
+    pub fn peek(&mut self)
+        ensures same { numbers self.new ≡ numbers self.old }
+        ensures taken { HasHead self.new }
+    {
+        if self.head.is_none() {
+            self.head = self.source.next();
+        }
+    }
+
+    /// Returns the number that was read ahead and not returned yet.
+    pub fn head(&self) -> Option<i64>
+        ensures { result ≡ self.now.head }
+    {
+        self.head
+    }
+
+    /// Drops the number read ahead if it is at most `number`.
+    pub fn advance_past(&mut self, number: i64)
+        requires { HasHead self.old }
+        ensures { numbers self.new ≡ advanced number (numbers self.old) }
+    {
+        if self.head.is_some_and(|head| head <= number) {
+            self.head = None;
+        }
+    }
+
+    /// Returns whether `number` is still to be returned. The caller promises not to ask for a smaller number again, so
+    /// a source that cannot tell is read up to `number`.
+    pub fn has_onward(&mut self, number: i64) -> bool
+        ensures has { result ≡ is_member int_eq (numbers self.old) number }
+        ensures left { IsSameFrom number (numbers self.new) (numbers self.old) }
+    {
+        match self.has(number) {
+            Some(true) => true,
+            Some(false) => {
+                self.step_toward(number);
+                false
+            }
+            None => {
+                self.skip_to(number);
+                self.head == Some(number)
+            }
+        }
+    }
+
+    /// Returns whether `number` is still to be returned, or `None` if the source cannot tell. The source is only asked
+    /// if no number was read ahead, or if that number is below `number`.
+    fn has(&mut self, number: i64) -> Option<bool>
+        ensures has { IfSome result (λ has. has ≡ is_member int_eq (numbers self.old) number) }
+        ensures same { numbers self.new ≡ numbers self.old }
+    {
+        match self.head {
+            Some(head) if number <= head => Some(head == number),
+            _ => self.source.has(number),
+        }
+    }
+
+    /// Reads numbers from the source until the number read ahead is at least `number`, or the source ends.
+    fn skip_to(&mut self, number: i64)
+        ensures left { IsSameFrom number (numbers self.new) (numbers self.old) }
+        ensures reached { IfSome self.new.head (λ head. number ≤ℤ head) }
+        ensures taken { HasHead self.new }
+    {
+        self.peek();
+        'steps: while self.head.is_some_and(|head| head < number) {
+            self.head = None;
+            self.peek();
+        }
+    }
+
+    /// Replaces the number read ahead by the next one if it is below `number`, but only after `MISSES_BEFORE_STEP` calls
+    /// that read nothing.
+    fn step_toward(&mut self, number: i64)
+        ensures { IsSameFrom number (numbers self.new) (numbers self.old) }
+    {
+        if self.head.is_some_and(|head| head >= number) {
+            return;
+        }
+        if self.misses < MISSES_BEFORE_STEP {
+            self.misses += 1;
+            return;
+        }
+        self.misses = 0;
+        self.head = None;
+        self.peek();
+    }
+}

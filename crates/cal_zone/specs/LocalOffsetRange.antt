@@ -1,0 +1,64 @@
+-- Ranges of local seconds with a constant UTC offset.
+use Rattle.std.specs.Prelude.{◌≡◌, ◌⊎◌, ◌<◌, ℕ, ℤ, pos, ◌+ℤ◌, ◌-ℤ◌, ◌*ℤ◌, ◌≤ℤ◌, ◌<ℤ◌, Option, Some, vec_len}
+use Rattle.jiff.specs.Types.{Offset, TimeZone}
+use Rattle.jiff.specs.Words.{ambiguous_at, nanos_of_seconds, offset_at}
+use Rattle.jiff_core.specs.Calendar.{days_in_year}
+use Rattle.jiff_tz.specs.PosixRule.{first_day}
+use Rattle.jiff_tz.specs.declared.info.OffsetInfo.{OffsetInfo}
+use Rattle.jiff_tz.specs.Tzif.{transition_at}
+use Rattle.jiff_tz.specs.declared.tzif.Tzif.{Tzif as Table}
+use Rattle.cal_civil.specs.Local.{IsLocalSecond}
+use Rattle.cal_zone.specs.headline.Place.{datetime_of, place_of}
+use Rattle.cal_zone.specs.declared.local_offset_range.LocalOffsetRange.{LocalOffsetRange}
+
+-- in this range, the place of every local second is the local second minus the offset
+abbrev pub IsLocalOffsetRange : TimeZone → LocalOffsetRange → Type 0
+IsLocalOffsetRange tz range =
+    (local : ℤ) → IsLocalSecond local → range.from ≤ℤ local → local <ℤ range.to
+    → place_of tz local ≡ Some (local -ℤ range.offset)
+
+-- from `from` to `to` inclusive, the place of every local second is the local second minus the offset
+abbrev pub AreAtOffset : TimeZone → ℤ → ℤ → ℤ → Type 0
+AreAtOffset tz from to offset =
+    (local : ℤ) → IsLocalSecond local → from ≤ℤ local → local ≤ℤ to → place_of tz local ≡ Some (local -ℤ offset)
+
+-- the range has a constant UTC offset and contains the local second
+pub record IsLocalOffsetRangeAt (tz : TimeZone) (local : ℤ) (range : LocalOffsetRange) : Type 0 where
+  pub begun : range.from ≤ℤ local
+  pub within : local <ℤ range.to
+  pub constant_offset : IsLocalOffsetRange tz range
+
+-- the table has a transition with this index, and it is at this second
+abbrev pub IsTransitionSecond : Table → ℕ → ℤ → Type 0
+IsTransitionSecond table index second = (index < vec_len table.transitions) × (second ≡ (transition_at table index).second)
+
+-- the clock behaves the same around both local seconds: their civil times are both unambiguous, both in a gap or both
+-- in a fold, with the same offsets; and instants equally far from them have the same UTC offset
+pub record HaveSameOffsets (tz : TimeZone) (local other : ℤ) : Type 0 where
+  pub civil : ambiguous_at tz (datetime_of local) ≡ ambiguous_at tz (datetime_of other)
+  pub instants : (offset : Offset) → offset_at tz (nanos_of_seconds (local -ℤ offset.seconds)) ≡ offset_at tz (nanos_of_seconds (other -ℤ offset.seconds))
+
+-- the clock behaves the same from the local second `from` on, before `to`
+abbrev pub HaveSameOffsetsUntil : TimeZone → ℤ → ℤ → Type 0
+HaveSameOffsetsUntil tz from to = (local : ℤ) → IsLocalSecond local → from ≤ℤ local → local <ℤ to → HaveSameOffsets tz local from
+
+-- the first second of the next year, in UTC
+abbrev pub year_end : ℤ → ℤ
+year_end year = (first_day year +ℤ pos (days_in_year year)) *ℤ pos 86_400
+
+-- the UTC offset is constant from `from` on, before `to`
+abbrev pub HasConstantOffset : TimeZone → ℤ → ℤ → Type 0
+HasConstantOffset tz from to =
+    (second : ℤ) → from ≤ℤ second → second <ℤ to → offset_at tz (nanos_of_seconds second) ≡ offset_at tz (nanos_of_seconds from)
+
+-- the first transition after the instant `past` is at least 374,397 seconds (four times the largest UTC offset, and one
+-- second) after `local`; and `local` is in the year of `past`, or 374,397 seconds after `past` that year is over
+pub record IsClearOfTransition (next : Option (ℤ × OffsetInfo)) (past local : ℤ) : Type 0 where
+  pub change : ℤ × OffsetInfo
+  pub is : next ≡ Some change
+  pub begun : pos 0 ≤ℤ past
+  pub before_change : nanos_of_seconds (local +ℤ pos 374_397) ≤ℤ change.0
+  pub one_year : (local <ℤ year_end (datetime_of past).date.year) ⊎ (year_end (datetime_of past).date.year ≤ℤ (past +ℤ pos 374_397))
+
+abbrev pub IsClearOfTransitionUntil : Option (ℤ × OffsetInfo) → ℤ → ℤ → Type 0
+IsClearOfTransitionUntil next past to = (local : ℤ) → past <ℤ local → local <ℤ to → IsClearOfTransition next past local
