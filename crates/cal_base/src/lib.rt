@@ -2,8 +2,8 @@
 #![tactic(auto)]
 
 pub use cal_bytes::{
-    Fill, SHORT_TEXT_ROOM, ShortText, Sink, Source, WriteFault, is_among, padding, push, push_all, put_all,
-    put_pieces,
+    Fill, SHORT_TEXT_ROOM, ShortText, Sink, Source, WriteFault, is_among, padding, push, push_all,
+    put_all, put_pieces,
 };
 pub use cal_civil::{
     DAY, LOCAL_END, WEEK, begins_with_letter, begins_zone, date_of_day, day_of, is_zone_name,
@@ -11,12 +11,12 @@ pub use cal_civil::{
 };
 pub use cal_faulty::{Faulty, Then};
 pub use cal_span::{
-    SPAN_ROOM, TimeUnit, Span, SpanFault, format_span, fraction_of, one_text, one_value, push_span,
+    SPAN_ROOM, Span, SpanFault, TimeUnit, format_span, fraction_of, one_text, one_value, push_span,
     read_span, text_reads_back, write_span,
 };
 pub use cal_streams::{Output, Port, WholeFault, read_whole};
-pub use cal_text::{are_digits, first_word, last_word, trim_blanks, decimal_value};
+pub use cal_text::{are_digits, decimal_value, first_word, last_word, trim_blanks};
 pub use cal_zone::{
-    Civil, InstantFormatter, Instant, Moment, PlaceCache, Rules, Zone, ZoneFault, ZoneTable, civil, laws, place,
-    push_instant, settle, write_instant,
+    Civil, Instant, InstantFormatter, Moment, PlaceCache, Rules, Zone, ZoneFault, ZoneTable, civil,
+    laws, place, push_instant, settle, write_instant,
 };

@@ -1,7 +1,7 @@
 //! Instants: the local time that a clock shows, and how instants are printed.
 
 use crate::shared::{SUMMER_TIME, instant, posix, zone_file_of_2024};
-use cal_base::{InstantFormatter, Instant, Port, Rules, ShortText, Zone, civil, write_instant};
+use cal_base::{Instant, InstantFormatter, Port, Rules, ShortText, Zone, civil, write_instant};
 use std::alloc::Global;
 use std::process::Abort;
 use std::test::Fail;
@@ -13,8 +13,8 @@ fn text_of(alloc: Global, zone: Zone, instant: Instant) -> Option<Vec<u8>> {
     Some(out.into_inner())
 }
 
-/// Expects each instant to be printed with the text next to it, by `write_instant` and by one `InstantFormatter` that shows them
-/// all one after another.
+/// Expects each instant to be printed with the text next to it, by `write_instant` and by one `InstantFormatter` that
+/// prints them all one after another.
 fn expect_texts(
     rt: &(impl Abort + AllocGlobal),
     zone: Zone,

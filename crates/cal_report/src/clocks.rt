@@ -6,7 +6,7 @@ ghost use Rattle.cal_zone.specs.headline.InstantText.{instant_text};
 ghost use Rattle.cal_report.specs.headline.ReportLines.{utc_line};
 
 use cal_bytes::{ShortText, push};
-use cal_zone::{InstantFormatter, Instant, Zone};
+use cal_zone::{Instant, InstantFormatter, Zone};
 use std::marker::Model;
 
 /// A formatter for the local zone and one for UTC, both kept for the whole report because each caches conversions.

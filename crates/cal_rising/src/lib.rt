@@ -1,10 +1,10 @@
 //! Sources of strictly increasing numbers, and the merge of several sources into one.
 #![tactic(auto)]
 
-mod peeked;
 pub mod laws;
 mod listed;
 mod merge;
+mod peeked;
 mod rising;
 mod sources;
 

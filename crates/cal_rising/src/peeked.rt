@@ -9,11 +9,12 @@ ghost use Rattle.cal_rising.specs.RisingList.{IsSameFrom};
 use crate::Rising;
 use std::marker::Model;
 
-/// How often a source is only asked whether it has a number before one number is read from it. Reading a number from a
-/// sparse source costs far more than asking.
+/// How many numbers a source has to lack before the next number is read from it. Reading a number from a sparse source
+/// costs far more than asking whether it has one.
 const MISSES_BEFORE_STEP: u8 = 128;
 
-/// A source and the number read ahead from it, if there is one. A contract sees that number and the numbers after it.
+/// A source whose next number may have been read ahead ("peeked"). A contract sees that number, if there is one, and
+/// the numbers after it.
 #[derive(Drop)]
 pub struct Peeked<S: Rising> {
     head: Option<i64>,
@@ -117,8 +118,8 @@ impl<S: Rising> Peeked<S> {
         }
     }
 
-    /// Replaces the number read ahead by the next one if it is below `number`, but only after `MISSES_BEFORE_STEP` calls
-    /// that read nothing.
+    /// Replaces the number read ahead by the next one if it is below `number`, but only after [`MISSES_BEFORE_STEP`]
+    /// calls that read nothing.
     fn step_toward(&mut self, number: i64)
         ensures { IsSameFrom number (numbers self.new) (numbers self.old) }
     {

@@ -11,15 +11,15 @@ pub mod NormalForm
 pub mod Order
 pub mod Parts
 pub mod Reads
-pub mod WordRolesView
 pub mod ShorthandViews
-pub mod ValidComponents
 pub mod SpecFault
 pub mod SuffixView
 pub mod Symbol
+pub mod ValidComponents
 pub mod ValidFields
 pub mod WeekdayRuns
 pub mod Weekdays
+pub mod WordRolesView
 pub mod Words
 pub mod ZoneSuffix
 pub mod headline

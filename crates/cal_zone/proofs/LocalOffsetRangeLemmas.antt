@@ -219,8 +219,8 @@ offset_after_table z from second all begun = grind (arith, signed_arith, floor_s
 pub rule_after_table : (z : Table) → rule_after z (vec_len z.transitions) ≡ z.posix_tz
 rule_after_table z = grind (arith, signed_arith, vec_len)
 
--- if all transitions are more than one UTC offset before `other`, and the clock behaves the same around both local seconds
--- according to the rule, it does so according to the table
+-- if all transitions are more than one UTC offset before `other`, and the clock behaves the same around both local
+-- seconds according to the rule, it does so according to the table
 pub same_offsets_after_table : (z : Table) (local other : ℤ) → IsLocalSecond local → IsLocalSecond other → vec_len z.transitions ≤ count_at z (other -ℤ pos 93_599) → other ≤ℤ local
     → HaveSameOffsetsBy z.posix_tz local other → HaveSameOffsets (zone_of_table z) local other
 unfolding offset_at ambiguous_at

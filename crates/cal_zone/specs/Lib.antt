@@ -1,12 +1,12 @@
 pub mod Civil
+pub mod FormattedDay
 pub mod Instant
+pub mod InstantOffsetRange
 pub mod InstantText
 pub mod LocalAt
-pub mod InstantOffsetRange
+pub mod LocalOffsetRange
 pub mod Place
 pub mod Rules
-pub mod FormattedDay
-pub mod LocalOffsetRange
 pub mod ZoneFault
 pub mod ZoneFile
 pub mod ZoneMap

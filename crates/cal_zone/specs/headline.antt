@@ -1,9 +1,9 @@
 -- The definitions that the law `headline` of cal_report depends on.
 pub mod Civil
+pub mod FixedOffsetZone
 pub mod InstantText
 pub mod Moment
 pub mod Place
 pub mod Zone
-pub mod FixedOffsetZone
 pub mod ZoneMap
 pub mod ZoneTable

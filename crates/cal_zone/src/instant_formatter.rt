@@ -9,8 +9,8 @@ ghost use Rattle.cal_zone.specs.InstantOffsetRange.{IsInstantOffsetRangeAt};
 ghost use Rattle.cal_zone.specs.headline.Zone.{zone_of};
 
 use crate::civil_time::civil_at;
-use crate::instant_offset_range::{InstantOffsetRange, instant_range_at};
 use crate::formatted_day::FormattedDay;
+use crate::instant_offset_range::{InstantOffsetRange, instant_range_at};
 use crate::{Civil, Instant, Zone};
 use cal_bytes::ShortText;
 use jiff_core::Offset;
@@ -103,8 +103,8 @@ impl<'z> InstantFormatter<'z> {
         self.day = day;
     }
 
-    /// Returns a range that contains `instant`. This is the cached range if possible, and otherwise a new one, which
-    /// replaces it.
+    /// Returns a range with a constant UTC offset that contains `instant`. This is the cached range if possible, and
+    /// otherwise a new one, which replaces it.
     fn range_at(&mut self, instant: Instant) -> InstantOffsetRange
         ensures range { IsInstantOffsetRangeAt (zone_of self.old) instant.secs result }
         ensures zone { self.new ≡ self.old }

@@ -1,7 +1,7 @@
 //! Ranges of instants at which a zone has a constant UTC offset.
 //!
-//! Inside such a range, converting an instant to civil time needs no look-up of the zone's rules. [`InstantFormatter`](crate::InstantFormatter)
-//! caches one.
+//! Inside such a range, converting an instant to civil time needs no look-up of the zone's rules.
+//! [`InstantFormatter`](crate::InstantFormatter) caches one range.
 
 ghost use Rattle.std.specs.Prelude.{◌≡◌, option_map, pos};
 ghost use Rattle.jiff_tz.specs.PosixRule.{transition_view};
@@ -26,7 +26,7 @@ pub(crate) struct InstantOffsetRange {
     pub(crate) offset: Offset,
 }
 
-/// Returns a range of the zone that contains `instant`.
+/// Returns a range with a constant UTC offset that contains `instant`.
 pub(crate) fn instant_range_at(zone: Zone, instant: Instant) -> InstantOffsetRange
     ensures { IsInstantOffsetRangeAt (zone_of zone.entry) instant.secs result }
 {
@@ -50,8 +50,8 @@ fn all_instants(offset: Offset) -> InstantOffsetRange
     }
 }
 
-/// Returns the range that starts at `instant`. It ends at the next transition, and at the latest with the year, in
-/// UTC.
+/// Returns the range with a constant UTC offset that starts at `instant`. It ends at the next transition, and at the
+/// latest with the year, in UTC.
 fn instant_range_by_rules(rules: &Rules, instant: Instant) -> InstantOffsetRange
     ensures { IsInstantOffsetRangeAt rules.now instant.secs result }
 {
@@ -70,8 +70,9 @@ fn instant_range_by_rules(rules: &Rules, instant: Instant) -> InstantOffsetRange
 
 /// Returns an instant before which the UTC offset stays what it is at `from`.
 ///
-/// A range ends with the year even if there is no transition. So if the next range has the same offset, the result is
-/// the end of that one. Returns `from` itself, for an empty range, near the end of the supported instants.
+/// A range by the rules ends with the year even if there is no transition. So if the next range has the same offset,
+/// the result is the end of that one. Returns `from` itself, for an empty range, near the end of the supported
+/// instants.
 pub(crate) fn constant_offset_until(rules: &Rules, from: Instant) -> Instant
     ensures { HasConstantOffset rules.now from.secs result.secs }
 {

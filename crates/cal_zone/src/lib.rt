@@ -6,26 +6,26 @@
 
 mod civil_fields;
 mod civil_time;
-mod instant_formatter;
+mod formatted_day;
 mod instant;
+mod instant_formatter;
+mod instant_offset_range;
 mod instant_text;
 pub mod laws;
+mod local_offset_range;
 mod locals;
 mod moment;
-mod instant_offset_range;
 mod place_cache;
 mod places;
 mod rules;
-mod formatted_day;
-mod local_offset_range;
 mod zone;
 mod zone_fault;
 mod zone_table;
 
 pub use civil_fields::Civil;
 pub use civil_time::civil;
-pub use instant_formatter::InstantFormatter;
 pub use instant::Instant;
+pub use instant_formatter::InstantFormatter;
 pub use instant_text::{push_instant, write_instant};
 pub use moment::Moment;
 pub use place_cache::PlaceCache;

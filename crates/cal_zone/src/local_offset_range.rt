@@ -88,8 +88,8 @@ pub(crate) fn local_range_in_table(table: &Tzif, local: i64) -> Option<LocalOffs
 /// the table is at least [`TRANSITION_MARGIN`] before `local`. Returns `local`, for an empty range, if it isn't.
 ///
 /// After the last transition the table's POSIX rule decides. If there is no such rule, or it has no daylight saving
-/// time, the range extends to [`LOCAL_END`]. The caller guarantees a constant UTC offset from [`TRANSITION_MARGIN`] before `local`
-/// until `constant_until`.
+/// time, the range extends to [`LOCAL_END`]. The caller guarantees a constant UTC offset from [`TRANSITION_MARGIN`]
+/// before `local` until `constant_until`.
 pub(crate) fn range_end_after_table(table: &Tzif, local: i64, constant_until: Instant) -> i64
     requires local_in { IsLocalSecond local }
     requires constant { HasConstantOffset (zone_of_table table.now) (local -ℤ pos 374_397) constant_until.secs }
@@ -101,7 +101,9 @@ pub(crate) fn range_end_after_table(table: &Tzif, local: i64, constant_until: In
     }
     match table.posix_tz() {
         Some(rule) if rule.dst.is_some() => {
-            range_end_before_transition(table.next_transition(timestamp_at(past)), past).min(constant_until.secs() - MAX_OFFSET)
+            range_end_before_transition(table.next_transition(timestamp_at(past)), past).min(
+                constant_until.secs() - MAX_OFFSET,
+            )
         }
         _ => LOCAL_END,
     }
@@ -130,7 +132,9 @@ fn range_end_by_rule(rule: posix::TimeZone, local: i64, constant_until: Instant)
 {
     if rule.dst.is_some() {
         let past = local - TRANSITION_MARGIN;
-        return range_end_before_transition(rule.next_transition(timestamp_at(past)), past).min(constant_until.secs() - MAX_OFFSET);
+        return range_end_before_transition(rule.next_transition(timestamp_at(past)), past).min(
+            constant_until.secs() - MAX_OFFSET,
+        );
     }
     LOCAL_END
 }
@@ -138,9 +142,9 @@ fn range_end_by_rule(rule: posix::TimeZone, local: i64, constant_until: Instant)
 /// Returns the end of a range of local seconds without a gap or a fold, given the first transition of a POSIX rule
 /// after `past`.
 ///
-/// The range starts [`TRANSITION_MARGIN`] after `past` and ends [`TRANSITION_MARGIN`] before the transition. It also ends with the year of `past`,
-/// unless it starts after that year: a POSIX rule is evaluated year by year. Returns `past`, for an empty range, if
-/// there is no transition or if `past` is before 1970.
+/// The range starts [`TRANSITION_MARGIN`] after `past` and ends [`TRANSITION_MARGIN`] before the transition. It also
+/// ends with the year of `past`, unless it starts after that year: a POSIX rule is evaluated year by year. Returns
+/// `past`, for an empty range, if there is no transition or if `past` is before 1970.
 fn range_end_before_transition(next: Option<Transition>, past: i64) -> i64
     requires { past ≤ℤ pos 7_258_500_000 }
     ensures { IsClearOfTransitionUntil (option_map transition_view next) past result }

@@ -6,8 +6,8 @@ ghost use Rattle.cal_zone.specs.LocalAt.{IsLocalAt};
 ghost use Rattle.cal_zone.specs.headline.Place.{place_of};
 ghost use Rattle.cal_zone.specs.headline.Zone.{zone_of};
 
-use crate::locals::local_at;
 use crate::local_offset_range::{LocalOffsetRange, local_range_at};
+use crate::locals::local_at;
 use crate::zone::ZoneKind;
 use crate::{Instant, Zone, place};
 use cal_civil::LOCAL_END;
@@ -112,8 +112,8 @@ impl<'z> PlaceCache<'z> {
         self.local_outside(instant)
     }
 
-    /// Computes [`PlaceCache::local_at`] for an instant outside the cached range, by the zone's rules. Then caches a range
-    /// that contains the result, if one is found, for the calls that follow.
+    /// Computes [`PlaceCache::local_at`] for an instant outside the cached range, by the zone's rules. Then caches a
+    /// range that contains the result, if one is found, for the calls that follow.
     #[cold]
     #[inline(never)]
     fn local_outside(&mut self, instant: Instant) -> Option<i64>
@@ -127,8 +127,8 @@ impl<'z> PlaceCache<'z> {
         Some(local)
     }
 
-    /// Computes [`PlaceCache::place`] for a local second outside the cached range, by the zone's rules. Caches a range that
-    /// contains it, if one is found, for the calls that follow.
+    /// Computes [`PlaceCache::place`] for a local second outside the cached range, by the zone's rules. Caches a range
+    /// that contains it, if one is found, for the calls that follow.
     #[cold]
     #[inline(never)]
     fn place_outside(&mut self, local: i64) -> Option<i64>

@@ -11,8 +11,12 @@ ghost use Rattle.cal_civil.specs.headline.ZoneName.{is_zone_name};
 ghost use Rattle.cal_zone.specs.declared.zone_fault.ZoneFault.TheVariants.{BadRule};
 
 use crate::instant_offset_range::constant_offset_until;
+use crate::local_offset_range::{
+    LocalOffsetRange, LocalOffsetRange, TRANSITION_MARGIN, TRANSITION_MARGIN, local_range_in_table,
+    local_range_in_table, range_end_after_table, range_end_after_table, range_end_in_zone,
+    range_end_in_zone,
+};
 use crate::places::place_by;
-use crate::local_offset_range::{TRANSITION_MARGIN, LocalOffsetRange, range_end_after_table, range_end_in_zone, local_range_in_table};
 use crate::{Instant, ZoneFault};
 use cal_civil::is_zone_name;
 use jiff::tz::{Offset, TimeZone, Tzif};
@@ -144,8 +148,14 @@ impl Rules {
     {
         let constant_until = constant_offset_until(self, Instant::new(local - TRANSITION_MARGIN)?);
         match &self.kind {
-            RulesKind::Posix(zone) => self.local_range_until(local, range_end_in_zone(*zone, local, constant_until)),
-            RulesKind::File(table) => self.local_range_until(local, range_end_after_table(table, local, constant_until)),
+            RulesKind::Posix(zone) => self.local_range_until(
+                local,
+                range_end_in_zone(*zone, local, constant_until),
+            ),
+            RulesKind::File(table) => self.local_range_until(
+                local,
+                range_end_after_table(table, local, constant_until),
+            ),
         }
     }
 

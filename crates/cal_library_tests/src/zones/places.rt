@@ -11,7 +11,11 @@ fn expect_places(rt: &impl Abort, zone: Zone, rows: &[(i64, Option<i64>)]) {
     for (local, instant) in rows {
         assert!(rt; *local >= 0 && *local <= 7_258_118_399);
         assert_eq!(rt; place(zone, *local), *instant, "at {local}");
-        assert_eq!(rt; place_cache.place(*local), *instant, "by the cache at {local}");
+        assert_eq!(rt;
+            place_cache.place(*local),
+            *instant,
+            "by the cache at {local}"
+        );
         // The cache may now know a range with a constant offset, and then answers from that range.
         assert_eq!(rt; place_cache.place(*local), *instant, "once more at {local}");
     }

@@ -12,8 +12,8 @@ ghost use Rattle.cal_span.specs.declared.span.text.TheConstants.{SPAN_ROOM};
 ghost use Rattle.cal_span.specs.SpanText.{IsSpanText};
 ghost use Rattle.cal_span.specs.headline.SpanText.{span_text, counts_in_row, positive, counts_of};
 
-use crate::time_unit::TimeUnit;
 use crate::span::Span;
+use crate::time_unit::TimeUnit;
 use cal_bytes::{ShortText, Sink, WriteFault, push, put_all};
 use itoa::Buffer;
 

@@ -9,7 +9,7 @@ ghost use Rattle.cal_span.specs.SpanValue.{pairs_in, unit_in, unit_named, worth_
 
 use crate::span::number::Number;
 use crate::span::word::{CharKind, first_span_word};
-use crate::{TimeUnit, Span, SpanFault};
+use crate::{Span, SpanFault, TimeUnit};
 use cal_bytes::is_among;
 
 /// Parses a time span: one or more numbers, each with an optional unit. Blanks may come before, between and after all
