@@ -14,9 +14,9 @@ def libraries():
     named, ordered = {}, {}
     with open(f"{ROOT}/crates.txt") as file:
         for line in file:
-            name, colon, words = line.split("#")[0].partition(":")
+            name, colon, listed = line.split("#")[0].partition(":")
             if colon:
-                named[name.strip()] = words.split()
+                named[name.strip()] = listed.split()
 
     def visit(name):
         if name in named and name not in ordered:

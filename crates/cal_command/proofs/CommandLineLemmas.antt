@@ -8,8 +8,8 @@ use Rattle.clap.specs.declared.error.kind.ErrorKind.{ErrorKind}
 use Rattle.clap.specs.declared.error.kind.ErrorKind.TheVariants.{OutOfMemory}
 use Rattle.clap.proofs.OnLiterals.{clap_on_literals}
 use Rattle.cal_command.specs.Ask.{CommandFault, usage, help, bad_iterations, bad_now, bad_zones, bad_local, no_memory, Ask}
-use Rattle.cal_command.specs.GivenView.{IsReadAs}
-use Rattle.cal_command.specs.CommandLine.{Given, parsed_in, read_options, IsAskOf, IsFaultOf, IsReportedOf, asked_in, command_app, faults_in, is_of_help, takes_arguments, with_rules}
+use Rattle.cal_command.specs.OptionTextsView.{IsOrNoMemory}
+use Rattle.cal_command.specs.CommandLine.{OptionTexts, parsed_in, read_options, IsAskOf, IsFaultOf, IsReportedOf, asked_in, command_app, faults_in, is_of_help, takes_arguments, with_rules}
 
 pub with_three : (app : App) (a b d : Rule) → with_rule (with_rule (with_rule app a) b) d ≡ with_rules app (a ∷ b ∷ d ∷ [])
 with_three app a b d = ap (λ rules. record app { top = record app.top { rules = rules } })
@@ -33,8 +33,8 @@ among p kind (k ∷ ks) (inl same) holds = grind (arith, ap p same)
 among p kind (k ∷ ks) (inr later) holds = grind (arith, among p kind ks later holds)
 
 -- the error that is reported for an error of `clap` is right for the arguments
-pub reported_fault : (arguments : List Text) (kind : ErrorKind) (said : CommandFault) → (takes_arguments arguments ≡ true → kind ≡ OutOfMemory)
-    → (kind ≡ OutOfMemory) ⊎ IsAmong kind (faults_in arguments) → IsReportedOf kind said → IsFaultOf arguments said
+pub reported_fault : (arguments : List Text) (kind : ErrorKind) (fault : CommandFault) → (takes_arguments arguments ≡ true → kind ≡ OutOfMemory)
+    → (kind ≡ OutOfMemory) ⊎ IsAmong kind (faults_in arguments) → IsReportedOf kind fault → IsFaultOf arguments fault
 reported_fault arguments kind (usage text) passes kinds reported =
     grind (arith, among (λ k. not (is_of_help k)) kind (faults_in arguments))
 reported_fault arguments kind (help text) passes kinds reported = grind (arith, among is_of_help kind (faults_in arguments))
@@ -45,21 +45,21 @@ reported_fault arguments kind bad_zones passes kinds reported = absurd reported
 reported_fault arguments kind bad_local passes kinds reported = absurd reported
 
 -- the result of checking the values that `clap` parsed is right for the arguments
-pub read_said : (arguments : List Text) (given : Given) (said : Result Ask CommandFault) → faults_in arguments ≡ [] → Some given ≡ parsed_in arguments
-    → IsReadAs said (read_options given) → IsAskOf arguments said
+pub read_answer : (arguments : List Text) (option_texts : OptionTexts) (answer : Result Ask CommandFault) → faults_in arguments ≡ [] → Some option_texts ≡ parsed_in arguments
+    → IsOrNoMemory answer (read_options option_texts) → IsAskOf arguments answer
 unfolding asked_in
-read_said arguments given (Ok ask) none parsed is = (none, rw (← parsed) (sym is))
-read_said arguments given (Err (usage text)) none parsed is = absurd is
-read_said arguments given (Err (help text)) none parsed is = absurd is
-read_said arguments given (Err bad_iterations) none parsed is = (none, rw (← parsed) (sym is))
-read_said arguments given (Err bad_now) none parsed is = (none, rw (← parsed) (sym is))
-read_said arguments given (Err bad_zones) none parsed is = (none, rw (← parsed) (sym is))
-read_said arguments given (Err bad_local) none parsed is = (none, rw (← parsed) (sym is))
-read_said arguments given (Err no_memory) none parsed is = tt
+read_answer arguments option_texts (Ok ask) none parsed is = (none, rw (← parsed) (sym is))
+read_answer arguments option_texts (Err (usage text)) none parsed is = absurd is
+read_answer arguments option_texts (Err (help text)) none parsed is = absurd is
+read_answer arguments option_texts (Err bad_iterations) none parsed is = (none, rw (← parsed) (sym is))
+read_answer arguments option_texts (Err bad_now) none parsed is = (none, rw (← parsed) (sym is))
+read_answer arguments option_texts (Err bad_zones) none parsed is = (none, rw (← parsed) (sym is))
+read_answer arguments option_texts (Err bad_local) none parsed is = (none, rw (← parsed) (sym is))
+read_answer arguments option_texts (Err no_memory) none parsed is = tt
 
 -- if `clap` accepts the arguments, the result is what they ask for, or that memory ran out
-pub taken_arguments : (arguments : List Text) (said : Result Ask CommandFault) → IsAskOf arguments said → takes_arguments arguments ≡ true
-    → (said ≡ Err no_memory) ⊎ (said ≡ asked_in arguments)
+pub taken_arguments : (arguments : List Text) (answer : Result Ask CommandFault) → IsAskOf arguments answer → takes_arguments arguments ≡ true
+    → (answer ≡ Err no_memory) ⊎ (answer ≡ asked_in arguments)
 taken_arguments arguments (Ok ask) is takes = inr (sym is.1)
 taken_arguments arguments (Err (usage text)) is takes = let bad : true ≡ false = sym takes ∙ is.0 in absurd (cc)
 taken_arguments arguments (Err (help text)) is takes = let bad : true ≡ false = sym takes ∙ is.0 in absurd (cc)

@@ -14,7 +14,7 @@ use Rattle.cal_request.specs.declared.request.Verb.{Verb}
 
 -- the bytes of each argument
 abbrev pub texts_of : List (Bor (List ℕ)) → List (List ℕ)
-texts_of = map (λ word. word.now)
+texts_of = map (λ argument. argument.now)
 
 -- the local zone as it is given: UTC itself, a UTC offset in seconds, a POSIX rule, or a name
 pub data LocalZone : Type 0 where

@@ -8,7 +8,7 @@ use Rattle.clap.specs.declared.builder.ArgAction.TheVariants.{Append, Set}
 use Rattle.clap.specs.declared.error.kind.ErrorKind.{ErrorKind}
 use Rattle.clap.specs.declared.error.kind.ErrorKind.TheVariants.{DisplayHelp, DisplayVersion, OutOfMemory}
 use Rattle.cal_command.specs.Ask.{CommandFault, usage, help, bad_iterations, bad_now, bad_zones, bad_local, no_memory, Ask, in_utc}
-use Rattle.cal_command.specs.OptionValues.{count_in, local_in, present_in, zones_in}
+use Rattle.cal_command.specs.OptionValues.{count_in, local_zone_in, present_in, zones_in}
 use Rattle.cal_request.specs.Request.{has_zones, is_timer, seeks_elapses}
 use Rattle.cal_request.specs.declared.request.Verb.{Verb}
 use Rattle.cal_request.specs.declared.request.Verb.TheVariants.{Calendar, Timer, Timestamp, Timespan}
@@ -68,7 +68,7 @@ verb_named name =
     else if bytes_eq name (codes "timer") then Some Timer else None
 
 -- the verb and the values that were given
-pub record Given : Type 0 where
+pub record OptionTexts : Type 0 where
   pub verb : Verb
   pub texts : List Text
   pub iterations : Option Text
@@ -78,37 +78,37 @@ pub record Given : Type 0 where
   pub zones : Option Text
 
 -- the value of an option, if the verb has this option and it is given
-abbrev pub value_given : Bool → Text → List Row → Option Text
-value_given has name rows = if has then first_of name rows else None
+abbrev pub option_text : Bool → Text → List Row → Option Text
+option_text has name rows = if has then first_of name rows else None
 
 -- the texts, of which `timer` has only one
 abbrev pub texts_kept : Verb → List Text → List Text
 texts_kept verb texts = if is_timer verb then take 1 texts else texts
 
-abbrev pub texts_given : Verb → List Row → Option (List Text)
-texts_given verb rows = option_map (texts_kept verb) (all_of (codes "text") rows)
+abbrev pub texts_for : Verb → List Row → Option (List Text)
+texts_for verb rows = option_map (texts_kept verb) (all_of (codes "text") rows)
 
-abbrev pub given_with : Verb → List Row → List Text → Given
-given_with verb rows texts = record {
+abbrev pub option_texts_with : Verb → List Row → List Text → OptionTexts
+option_texts_with verb rows texts = record {
   verb = verb;
   texts = texts;
-  iterations = value_given (seeks_elapses verb) (codes "iterations") rows;
-  base = value_given (seeks_elapses verb) (codes "base-time") rows;
-  now = value_given (has_zones verb) (codes "now") rows;
-  local = value_given (has_zones verb) (codes "local") rows;
-  zones = value_given (has_zones verb) (codes "zones") rows;
+  iterations = option_text (seeks_elapses verb) (codes "iterations") rows;
+  base = option_text (seeks_elapses verb) (codes "base-time") rows;
+  now = option_text (has_zones verb) (codes "now") rows;
+  local = option_text (has_zones verb) (codes "local") rows;
+  zones = option_text (has_zones verb) (codes "zones") rows;
 }
 
-abbrev pub given_by : Verb → List Row → Option Given
-given_by verb rows = option_map (given_with verb rows) (texts_given verb rows)
+abbrev pub option_texts_for : Verb → List Row → Option OptionTexts
+option_texts_for verb rows = option_map (option_texts_with verb rows) (texts_for verb rows)
 
 -- the verb with the name that was found, and the values found for it
-unfoldable pub given_in : Option (Text × List Row) → Option Given
-given_in = option_and_then (λ found. option_and_then (λ verb. given_by verb found.1) (verb_named found.0))
+unfoldable pub option_texts_in : Option (Text × List Row) → Option OptionTexts
+option_texts_in = option_and_then (λ found. option_and_then (λ verb. option_texts_for verb found.1) (verb_named found.0))
 
 -- the verb and the values that `clap` finds in the arguments
-unfoldable pub parsed_in : List Text → Option Given
-parsed_in arguments = given_in (subcommand_of command_app arguments)
+unfoldable pub parsed_in : List Text → Option OptionTexts
+parsed_in arguments = option_texts_in (subcommand_of command_app arguments)
 
 -- fails with `fault` if the value is invalid, and goes on with the value otherwise
 abbrev pub unless_bad : {A : Type 0} → CommandFault → Option A → (A → Result Ask CommandFault) → Result Ask CommandFault
@@ -117,16 +117,16 @@ unless_bad fault (Some value) next = next value
 
 -- what the values ask for, or the error for the first invalid one; the defaults are one elapse, the present of the
 -- system's clock, UTC and no zone files
-unfoldable pub read_options : Given → Result Ask CommandFault
-read_options given =
-    unless_bad bad_iterations (option_map_or count_in given.iterations (Some 1)) (λ iterations.
-    unless_bad bad_now (option_map_or (λ text. option_map Some (present_in text)) given.now (Some None)) (λ now.
-    unless_bad bad_zones (option_map_or zones_in given.zones (Some [])) (λ zones.
-    unless_bad bad_local (option_map_or local_in given.local (Some in_utc)) (λ local. Ok (record {
-      verb = given.verb;
-      texts = given.texts;
+unfoldable pub read_options : OptionTexts → Result Ask CommandFault
+read_options option_texts =
+    unless_bad bad_iterations (option_map_or count_in option_texts.iterations (Some 1)) (λ iterations.
+    unless_bad bad_now (option_map_or (λ text. option_map Some (present_in text)) option_texts.now (Some None)) (λ now.
+    unless_bad bad_zones (option_map_or zones_in option_texts.zones (Some [])) (λ zones.
+    unless_bad bad_local (option_map_or local_zone_in option_texts.local (Some in_utc)) (λ local. Ok (record {
+      verb = option_texts.verb;
+      texts = option_texts.texts;
       iterations = iterations;
-      base = given.base;
+      base = option_texts.base;
       now = now;
       local = local;
       zones = zones;
@@ -144,9 +144,9 @@ is_of_help DisplayHelp = true
 is_of_help DisplayVersion = true
 is_of_help _ = false
 
--- `clap` parses the arguments, and `said` is what they ask for
+-- `clap` parses the arguments, and `answer` is what they ask for
 abbrev pub HasRead : List Text → Result Ask CommandFault → Type 0
-HasRead arguments said = (faults_in arguments ≡ []) × (asked_in arguments ≡ said)
+HasRead arguments answer = (faults_in arguments ≡ []) × (asked_in arguments ≡ answer)
 
 -- `clap` doesn't accept the arguments, and may report an error of this kind for them
 abbrev pub HasRefused : List Text → (ErrorKind → Bool) → Type 0
@@ -161,7 +161,7 @@ IsFaultOf arguments bad_zones = HasRead arguments (Err bad_zones)
 IsFaultOf arguments bad_local = HasRead arguments (Err bad_local)
 IsFaultOf arguments no_memory = ⊤
 
--- `said` is right for the arguments: what they ask for if `clap` parses them, usage or help if it doesn't, or that
+-- `answer` is right for the arguments: what they ask for if `clap` parses them, usage or help if it doesn't, or that
 -- memory ran out, which is always possible
 abbrev pub IsAskOf : List Text → Result Ask CommandFault → Type 0
 IsAskOf arguments (Ok ask) = HasRead arguments (Ok ask)

@@ -8,7 +8,7 @@ use Rattle.cal_zone.specs.Instant.{last_instant}
 use Rattle.cal_civil.specs.OffsetWord.{offset_in}
 use Rattle.cal_civil.specs.headline.ZoneName.{is_zone_name}
 use Rattle.cal_command.specs.Ask.{LocalZone, in_utc, ahead, by_rule, of_name, ZoneItem}
-use Rattle.cal_request.specs.Request.{most_iterations}
+use Rattle.cal_request.specs.Request.{max_iterations}
 use Rattle.cal_text.specs.headline.Separators.{is_equals, is_comma}
 
 -- the number that a text of digits stands for, if it is from `least` to `most`
@@ -20,7 +20,7 @@ number_between least most text =
 
 -- `--iterations`: a number of elapses
 unfoldable pub count_in : List ℕ → Option ℕ
-count_in = number_between 1 most_iterations
+count_in = number_between 1 max_iterations
 
 -- `--now`: an instant, written as `@` and its seconds
 unfoldable pub present_in : List ℕ → Option ℤ
@@ -48,17 +48,17 @@ zone_items_in (item ∷ items) =
     option_and_then (λ zone. option_map (λ zones. zone ∷ zones) (zone_items_in items)) (zone_item_in item)
 
 -- the maximum number of items of `--zones`
-abbrev pub most_zones : ℕ
-most_zones = 64
+abbrev pub max_zones : ℕ
+max_zones = 64
 
 -- `--zones`: items that are separated by commas, up to the maximum number
 unfoldable pub zones_in : List ℕ → Option (List ZoneItem)
 zones_in text =
-    let items = slice_split is_comma text in if nat_le (length items) most_zones then zone_items_in items else None
+    let items = slice_split is_comma text in if nat_le (length items) max_zones then zone_items_in items else None
 
 -- `--local`: `UTC` in any case, `posix:` and a rule, a name that has the form of a zone's name, or an offset
-unfoldable pub local_in : List ℕ → Option LocalZone
-local_in text =
+unfoldable pub local_zone_in : List ℕ → Option LocalZone
+local_zone_in text =
     if str_eq_ignore_ascii_case text (codes "UTC") then Some in_utc
     else if starts_with nat_eq text (codes "posix:") then Some (by_rule (drop 6 text))
     else if is_zone_name text then Some (of_name text)

@@ -1,7 +1,7 @@
 -- Examples of arguments, with what `clap` finds in them and what they ask for: systemd-analyze(1).
 use Rattle.std.specs.Prelude.{ℕ, List, [], ◌∷◌, None, Some, codes, pos}
 use Rattle.cal_command.specs.Ask.{Ask, in_utc, of_name}
-use Rattle.cal_command.specs.CommandLine.{Given}
+use Rattle.cal_command.specs.CommandLine.{OptionTexts}
 use Rattle.cal_request.specs.declared.request.Verb.TheVariants.{Calendar}
 
 -- `calendar daily`
@@ -9,8 +9,8 @@ abbrev pub daily_arguments : List (List ℕ)
 daily_arguments = codes "calendar" ∷ codes "daily" ∷ []
 
 -- what `clap` finds in `calendar daily`: the verb, one text and no options
-abbrev pub daily_given : Given
-daily_given = record { verb = Calendar; texts = codes "daily" ∷ []; iterations = None; base = None; now = None; local = None; zones = None }
+abbrev pub daily_option_texts : OptionTexts
+daily_option_texts = record { verb = Calendar; texts = codes "daily" ∷ []; iterations = None; base = None; now = None; local = None; zones = None }
 
 -- what `calendar daily` asks for: one elapse after the present of the system's clock, in UTC and with no zone files
 abbrev pub daily_ask : Ask

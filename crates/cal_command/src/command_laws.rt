@@ -5,21 +5,21 @@
 ghost use Rattle.std.specs.Prelude.{◌≡◌, ◌⊎◌, ℕ, true, List, Some, Result, Ok, Err};
 ghost use Rattle.cal_command.specs.Ask.{CommandFault, Ask, bad_iterations, help, no_memory, usage};
 ghost use Rattle.cal_command.specs.CommandLine.{IsAskOf, asked_in, parsed_in, takes_arguments};
-ghost use Rattle.cal_command.specs.WorkedArguments.{daily_given, daily_ask, daily_arguments, help_arguments};
+ghost use Rattle.cal_command.specs.WorkedArguments.{daily_option_texts, daily_ask, daily_arguments, help_arguments};
 ghost use Rattle.cal_command.specs.WorkedArguments.{none_arguments, options_ask, options_arguments, stray_arguments};
 
 /// If `clap` accepts the arguments, the result is what they ask for, unless allocation fails. It is neither usage nor
 /// help.
 pub fn taken_arguments_are_answered()
-    ensures { (arguments : List (List ℕ)) (said : Result Ask CommandFault) → IsAskOf arguments said → takes_arguments arguments ≡ true
-        → (said ≡ Err no_memory) ⊎ (said ≡ asked_in arguments) }
+    ensures { (arguments : List (List ℕ)) (answer : Result Ask CommandFault) → IsAskOf arguments answer → takes_arguments arguments ≡ true
+        → (answer ≡ Err no_memory) ⊎ (answer ≡ asked_in arguments) }
 {}
 
 /// `clap` accepts `calendar daily`, and an example with every option. The requests that they result in are written out
 /// in the definitions.
 pub fn worked_arguments_are_taken()
     ensures daily_taken { takes_arguments daily_arguments ≡ true }
-    ensures daily_found { parsed_in daily_arguments ≡ Some daily_given }
+    ensures daily_found { parsed_in daily_arguments ≡ Some daily_option_texts }
     ensures daily_asked { IsAskOf daily_arguments (Ok daily_ask) }
     ensures options_taken { takes_arguments options_arguments ≡ true }
     ensures options_asked { IsAskOf options_arguments (Ok options_ask) }

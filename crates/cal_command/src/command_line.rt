@@ -6,14 +6,14 @@ ghost use Rattle.std.specs.Option.{option_copied};
 ghost use Rattle.clap.specs.Words.{app_of, found_of, kind_of, rows_of, rule_of, shape_of, subcommand_rows_of};
 ghost use Rattle.clap.specs.declared.builder.command.Command.TheViews.{out-Command as fields_of};
 ghost use Rattle.cal_command.specs.Ask.{shown_answer, shown_fault, texts_of};
-ghost use Rattle.cal_command.specs.CommandLine.{IsAskOf, IsFaultOf, IsReportedOf, command_app, elapse_rules, faults_in, file_rule, given_by, given_in, is_of_help, option_rule, parsed_in, read_options, texts_given, texts_kept, texts_rule, value_given, verb_named, verb_shape, with_rules, zone_rules};
-ghost use Rattle.cal_command.specs.GivenView.{IsReadAs, values_of};
+ghost use Rattle.cal_command.specs.CommandLine.{IsAskOf, IsFaultOf, IsReportedOf, command_app, elapse_rules, faults_in, file_rule, option_texts_for, option_texts_in, is_of_help, option_rule, parsed_in, read_options, texts_for, texts_kept, texts_rule, option_text, verb_named, verb_shape, with_rules, zone_rules};
+ghost use Rattle.cal_command.specs.OptionTextsView.{IsOrNoMemory, shown_option_texts};
 ghost use Rattle.cal_request.specs.Request.{is_timer};
 
 use crate::ask::Ask;
 use crate::command_fault::CommandFault;
-use crate::given::Given;
-use crate::option_values::{base_of, iterations_of, local_of, now_of, to_owned, zones_of};
+use crate::option_texts::OptionTexts;
+use crate::option_values::{base_of, iterations_of, local_zone_of, now_of, to_owned, zones_of};
 use cal_request::{Request, Verb};
 use clap::error::ErrorKind;
 use clap::{Arg, ArgAction, ArgMatches, Command, Error};
@@ -50,39 +50,39 @@ impl Ask {
         ensures exact { IsAskOf (map S.text arguments.now) (shown_answer result) }
     {
         let matches = parse(alloc, arguments)?;
-        let Some(given) = find_values(&matches) else {
+        let Some(option_texts) = option_texts_in(&matches) else {
             return Err(CommandFault::NoMemory);
         };
-        if given.texts.is_empty() {
+        if option_texts.texts.is_empty() {
             return Err(CommandFault::NoMemory);
         }
-        read_options(alloc, given)
+        read_options(alloc, option_texts)
     }
 }
 
 /// Checks the values of the options and builds the request.
 #[tactic(auto, unfolding(crate::specs::CommandLine::read_options))]
-fn read_options(alloc: Global, given: Given) -> Result<Ask, CommandFault>
-    requires { 0 < length given.texts.now }
-    ensures { IsReadAs (shown_answer result) (read_options (values_of given.entry)) }
+fn read_options(alloc: Global, option_texts: OptionTexts) -> Result<Ask, CommandFault>
+    requires { 0 < length option_texts.texts.now }
+    ensures { IsOrNoMemory (shown_answer result) (read_options (shown_option_texts option_texts.entry)) }
 {
-    let Some(iterations) = iterations_of(given.iterations) else {
+    let Some(iterations) = iterations_of(option_texts.iterations) else {
         return Err(CommandFault::BadIterations);
     };
-    let Some(now) = now_of(given.now) else {
+    let Some(now) = now_of(option_texts.now) else {
         return Err(CommandFault::BadNow);
     };
-    let Some(zones) = zones_of(alloc, given.zones)? else {
+    let Some(zones) = zones_of(alloc, option_texts.zones)? else {
         return Err(CommandFault::BadZones);
     };
-    let Some(local) = local_of(alloc, given.local)? else {
+    let Some(local) = local_zone_of(alloc, option_texts.local)? else {
         return Err(CommandFault::BadLocal);
     };
     let request = Request {
-        verb: given.verb,
-        texts: to_owned(alloc, given.texts)?,
+        verb: option_texts.verb,
+        texts: to_owned(alloc, option_texts.texts)?,
         iterations,
-        base: base_of(alloc, given.base)?,
+        base: base_of(alloc, option_texts.base)?,
     };
     Ok(Ask {
         request,
@@ -93,33 +93,33 @@ fn read_options(alloc: Global, given: Given) -> Result<Ask, CommandFault>
 }
 
 /// Returns the verb and the values that `clap` found, or `None` if it found no verb or no texts.
-fn find_values<'b, 'a>(matches: &'b ArgMatches<'a>) -> Option<Given<'b, 'a>>
-    ensures { option_map values_of result ≡ given_in (subcommand_rows_of matches.now) }
+fn option_texts_in<'b, 'a>(matches: &'b ArgMatches<'a>) -> Option<OptionTexts<'b, 'a>>
+    ensures { option_map shown_option_texts result ≡ option_texts_in (subcommand_rows_of matches.now) }
 {
     let (name, values) = matches.subcommand()?;
-    values_for(verb_named(name)?, values)
+    option_texts_for(verb_named(name)?, values)
 }
 
 /// Returns the values that `clap` found for the verb, or `None` if it found no texts.
-fn values_for<'b, 'a>(verb: Verb, values: &'b ArgMatches<'a>) -> Option<Given<'b, 'a>>
-    ensures { option_map values_of result ≡ given_by verb (rows_of (found_of values.now)) }
+fn option_texts_for<'b, 'a>(verb: Verb, values: &'b ArgMatches<'a>) -> Option<OptionTexts<'b, 'a>>
+    ensures { option_map shown_option_texts result ≡ option_texts_for verb (rows_of (found_of values.now)) }
 {
     let texts = texts_for(verb, values)?;
-    Some(Given {
+    Some(OptionTexts {
         verb,
         texts,
-        iterations: value_of(values, verb.seeks_elapses(), "iterations"),
-        base: value_of(values, verb.seeks_elapses(), "base-time"),
-        now: value_of(values, verb.has_zones(), "now"),
-        local: value_of(values, verb.has_zones(), "local"),
-        zones: value_of(values, verb.has_zones(), "zones"),
+        iterations: option_text(values, verb.seeks_elapses(), "iterations"),
+        base: option_text(values, verb.seeks_elapses(), "base-time"),
+        now: option_text(values, verb.has_zones(), "now"),
+        local: option_text(values, verb.has_zones(), "local"),
+        zones: option_text(values, verb.has_zones(), "zones"),
     })
 }
 
 /// Returns the texts that `clap` found. For `timer` there is at most one.
 fn texts_for<'b, 'a>(verb: Verb, values: &'b ArgMatches<'a>) -> Option<&'b [&'a str]>
     ensures file { IfSome result (λ texts. is_timer verb ≡ true → length texts.now ≤ 1) }
-    ensures value { option_map (λ texts. texts_of texts.now) result ≡ texts_given verb (rows_of (found_of values.now)) }
+    ensures value { option_map (λ texts. texts_of texts.now) result ≡ texts_for verb (rows_of (found_of values.now)) }
 {
     let texts = values.get_strs("text")?;
     Some(texts_kept(verb, texts))
@@ -138,8 +138,8 @@ fn texts_kept<'b, 'a>(verb: Verb, texts: &'b [&'a str]) -> &'b [&'a str]
 }
 
 /// Returns the value of an option, if the verb has this option and it was given.
-fn value_of<'a>(values: &ArgMatches<'a>, has: bool, name: &str) -> Option<&'a str>
-    ensures { option_copied result ≡ value_given has name.now (rows_of (found_of values.now)) }
+fn option_text<'a>(values: &ArgMatches<'a>, has: bool, name: &str) -> Option<&'a str>
+    ensures { option_copied result ≡ option_text has name.now (rows_of (found_of values.now)) }
 {
     if has { values.get_str(name) } else { None }
 }
@@ -159,7 +159,7 @@ fn verb_named(name: &str) -> Option<Verb>
 /// Parses the arguments with `clap`.
 fn parse<'a, S: AsStr>(alloc: Global, arguments: &'a [S]) -> Result<ArgMatches<'a>, CommandFault>
     ensures faults { IfOk result (λ _. faults_in (map S.text arguments.now) ≡ []) }
-    ensures found { IfOk result (λ matches. given_in (subcommand_rows_of matches) ≡ parsed_in (map S.text arguments.now)) }
+    ensures found { IfOk result (λ matches. option_texts_in (subcommand_rows_of matches) ≡ parsed_in (map S.text arguments.now)) }
     ensures fault { IfErr result (λ fault. IsFaultOf (map S.text arguments.now) (shown_fault fault)) }
 {
     match build_command(alloc)?.try_get_matches_from(arguments) {
@@ -175,7 +175,7 @@ fn convert_error(alloc: Global, error: &Error) -> CommandFault
     if error.kind() == ErrorKind::OutOfMemory {
         return CommandFault::NoMemory;
     }
-    let Some(text) = text_of(alloc, error) else {
+    let Some(text) = error_text(alloc, error) else {
         return CommandFault::NoMemory;
     };
     if is_of_help(error.kind()) {
@@ -187,7 +187,7 @@ fn convert_error(alloc: Global, error: &Error) -> CommandFault
 
 /// Returns the text of an error of `clap`. It always ends in a line feed, which is added for the version, whose text
 /// has none. Returns `None` if allocation fails.
-fn text_of(alloc: Global, error: &Error) -> Option<String> {
+fn error_text(alloc: Global, error: &Error) -> Option<String> {
     let Ok(mut text) = error.to_string(alloc) else {
         return None;
     };

@@ -5,7 +5,7 @@ mod ask;
 mod command_fault;
 pub mod command_laws;
 mod command_line;
-mod given;
+mod option_texts;
 mod option_values;
 
 pub use ask::{Ask, LocalZone, ZoneItem};

@@ -10,7 +10,7 @@ ghost use Rattle.cal_bytes.specs.SplitPieces.{left, pieces_after};
 ghost use Rattle.cal_command.specs.Ask.{in_utc, shown_local, texts_of, shown_item};
 ghost use Rattle.cal_command.specs.LocalZone.{IsLocalOffset};
 ghost use Rattle.cal_text.specs.headline.Separators.{is_comma};
-ghost use Rattle.cal_command.specs.OptionValues.{count_in, local_in, number_between, parts_at, present_in, zone_item_in, zones_in};
+ghost use Rattle.cal_command.specs.OptionValues.{count_in, local_zone_in, number_between, parts_at, present_in, zone_item_in, zones_in};
 ghost use Rattle.cal_request.specs.Request.{IsCount};
 ghost use Rattle.cal_civil.specs.headline.ZoneName.{is_zone_name};
 
@@ -20,10 +20,10 @@ use cal_zone::Instant;
 use std::alloc::{AllocError, Global};
 
 /// The maximum of `--iterations`.
-const MOST_ITERATIONS: u64 = 1_000_000;
+const MAX_ITERATIONS: u64 = 1_000_000;
 
 /// The maximum number of items of `--zones`.
-const MOST_ZONES: usize = 64;
+const MAX_ZONES: usize = 64;
 
 /// Parses `--iterations`, 1 by default.
 pub(crate) fn iterations_of(text: Option<&str>) -> Option<u32>
@@ -73,23 +73,23 @@ pub(crate) fn zones_of(
 }
 
 /// Parses `--local`, UTC by default.
-pub(crate) fn local_of(alloc: Global, text: Option<&str>) -> Result<Option<LocalZone>, AllocError>
+pub(crate) fn local_zone_of(alloc: Global, text: Option<&str>) -> Result<Option<LocalZone>, AllocError>
     ensures value { IfOk result (λ local. option_map shown_local local
-        ≡ option_map_or local_in (option_copied text.entry) (Some in_utc)) }
+        ≡ option_map_or local_zone_in (option_copied text.entry) (Some in_utc)) }
     ensures offset { IfOk result (λ local. IfSome local IsLocalOffset) }
 {
     match text {
-        Some(text) => local_in(alloc, text),
+        Some(text) => local_zone_in(alloc, text),
         None => Ok(Some(LocalZone::Utc)),
     }
 }
 
-/// Parses a number of elapses: digits for 1 to [`MOST_ITERATIONS`].
+/// Parses a number of elapses: digits for 1 to [`MAX_ITERATIONS`].
 pub(crate) fn count_in(value: &str) -> Option<u32>
     ensures value { result ≡ count_in value.now }
     ensures range { IfSome result IsCount }
 {
-    let number = number_between(value, 1, MOST_ITERATIONS)?;
+    let number = number_between(value, 1, MAX_ITERATIONS)?;
     Some(number as u32)
 }
 
@@ -125,7 +125,7 @@ fn zones_in(alloc: Global, text: &str) -> Result<Option<Vec<ZoneItem>>, AllocErr
         let Some((name, path)) = zone_item_in(first) else {
             return Ok(None);
         };
-        if items.len() == MOST_ZONES {
+        if items.len() == MAX_ZONES {
             return Ok(None);
         }
         items.push(zone_item(alloc, name, path)?)?;
@@ -179,9 +179,9 @@ fn parts_at(text: &str, separator: char) -> Option<(&str, &str)>
 }
 
 /// Parses a local zone. An offset is never mistaken for a name, since names begin with a letter.
-#[tactic(auto, unfolding(crate::specs::OptionValues::local_in))]
-fn local_in(alloc: Global, text: &str) -> Result<Option<LocalZone>, AllocError>
-    ensures value { IfOk result (λ local. option_map shown_local local ≡ local_in text.now) }
+#[tactic(auto, unfolding(crate::specs::OptionValues::local_zone_in))]
+fn local_zone_in(alloc: Global, text: &str) -> Result<Option<LocalZone>, AllocError>
+    ensures value { IfOk result (λ local. option_map shown_local local ≡ local_zone_in text.now) }
     ensures offset { IfOk result (λ local. IfSome local IsLocalOffset) }
 {
     if text.eq_ignore_ascii_case("UTC") {

@@ -2,7 +2,7 @@
 use Rattle.std.proofs.Common.{◌≡◌, ℕ, List, arith, bit_or, get_or, length}
 use Rattle.std.proofs.lemmas.Bool.{or_right}
 use Rattle.std.proofs.Math.ListN.{get_or-eq_default}
-use Rattle.cal_elapse.specs.Bits.{is_bit, is_in_words}
+use Rattle.cal_elapse.specs.Bits.{is_bit, is_bit_in}
 use Rattle.cal_elapse.specs.Covered.{AreAmong, HasAll}
 use Rattle.cal_elapse.specs.Masks.{sets_in}
 use Rattle.cal_elapse.specs.declared.masks.Masks.{Masks}
@@ -14,14 +14,14 @@ pub has_all : (mask others : ℕ) → bit_or mask others ≡ mask → HasAll (is
 has_all mask others same i other = grind (arith, is_bit-or, or_right)
 
 -- the same for sets in four words, word by word
-pub have_all : (words others : List ℕ) → length others ≡ 4 → HasAll (is_bit (get_or words 0 0)) (is_bit (get_or others 0 0))
-    → HasAll (is_bit (get_or words 1 0)) (is_bit (get_or others 1 0)) → HasAll (is_bit (get_or words 2 0)) (is_bit (get_or others 2 0))
-    → HasAll (is_bit (get_or words 3 0)) (is_bit (get_or others 3 0)) → HasAll (is_in_words words) (is_in_words others)
-unfolding is_in_words
-have_all words others four first second third fourth i = grind (arith, get_or, length, get_or-eq_default, is_bit-none)
+pub have_all : (masks others : List ℕ) → length others ≡ 4 → HasAll (is_bit (get_or masks 0 0)) (is_bit (get_or others 0 0))
+    → HasAll (is_bit (get_or masks 1 0)) (is_bit (get_or others 1 0)) → HasAll (is_bit (get_or masks 2 0)) (is_bit (get_or others 2 0))
+    → HasAll (is_bit (get_or masks 3 0)) (is_bit (get_or others 3 0)) → HasAll (is_bit_in masks) (is_bit_in others)
+unfolding is_bit_in
+have_all masks others four first second third fourth i = grind (arith, get_or, length, get_or-eq_default, is_bit-none)
 
 -- so the values of `others` are among those of `masks`, field by field
-pub among : (masks others : Masks) → HasAll (is_bit masks.weekdays) (is_bit others.weekdays) → HasAll (is_in_words masks.years) (is_in_words others.years)
+pub among : (masks others : Masks) → HasAll (is_bit masks.weekdays) (is_bit others.weekdays) → HasAll (is_bit_in masks.years) (is_bit_in others.years)
     → HasAll (is_bit masks.months) (is_bit others.months) → HasAll (is_bit masks.days) (is_bit others.days) → HasAll (is_bit masks.hours) (is_bit others.hours)
     → HasAll (is_bit masks.minutes) (is_bit others.minutes) → HasAll (is_bit masks.seconds) (is_bit others.seconds) → masks.from_end ≡ others.from_end
     → AreAmong (sets_in others) (sets_in masks)

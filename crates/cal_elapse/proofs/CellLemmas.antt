@@ -4,7 +4,7 @@ use Rattle.std.specs.List.{position, position_or_len}
 use Rattle.std.proofs.lemmas.Bool.{cases_eq, cases_lt, eq-eqb, ne_eqb, not-true, not-false}
 use Rattle.std.proofs.lemmas.List.{get_or-drop}
 use Rattle.std.proofs.lemmas.List.Sums.{prefix_len_passes, prefix_len_stops}
-use Rattle.cal_elapse.specs.Bits.{is_bit, is_in_words}
+use Rattle.cal_elapse.specs.Bits.{is_bit, is_bit_in}
 use Rattle.cal_elapse.specs.Ring.{is_held}
 use Rattle.cal_elapse.specs.Scan.{is_set}
 use Rattle.cal_elapse.specs.Search.{IsFirstPassing}
@@ -44,99 +44,99 @@ position-all xs h k lt = let long = by_none (position_or_len is_set xs) (length 
 
 -- The first set cell
 
-pub in_word : (words : List ℕ) (t word : ℕ) → t / 64 ≡ word → is_in_words words t ≡ is_bit (get_or words word 0) (t % 64)
-unfolding is_in_words
-in_word words t word same = ap (λ (w : ℕ). is_bit (get_or words w 0) (t % 64)) same
+pub in_word : (cells : List ℕ) (t word : ℕ) → t / 64 ≡ word → is_bit_in cells t ≡ is_bit (get_or cells word 0) (t % 64)
+unfolding is_bit_in
+in_word cells t word same = ap (λ (w : ℕ). is_bit (get_or cells w 0) (t % 64)) same
 
-in_zero : (words : List ℕ) (t word : ℕ) → t / 64 ≡ word → get_or words word 0 ≡ 0 → is_in_words words t ≡ false
-in_zero words t word same zero = in_word words t word same ∙ (ap (λ (w : ℕ). is_bit w (t % 64)) zero ∙ is_bit-none (t % 64))
+in_zero : (cells : List ℕ) (t word : ℕ) → t / 64 ≡ word → get_or cells word 0 ≡ 0 → is_bit_in cells t ≡ false
+in_zero cells t word same zero = in_word cells t word same ∙ (ap (λ (w : ℕ). is_bit w (t % 64)) zero ∙ is_bit-none (t % 64))
 
 -- if it is in the word of the cell at which the search starts
-pub found_here : (words : List ℕ) (from bit cell : ℕ) → from < 187_200 → IsFirstPassing (is_bit (get_or words (from / 64) 0)) (from % 64) 64 (Some bit)
-    → cell ≡ from / 64 * 64 + bit → IsFirstPassing (is_in_words words) from 187_200 (Some cell)
-found_here words from bit cell inside found is =
+pub found_here : (cells : List ℕ) (from bit cell : ℕ) → from < 187_200 → IsFirstPassing (is_bit (get_or cells (from / 64) 0)) (from % 64) 64 (Some bit)
+    → cell ≡ from / 64 * 64 + bit → IsFirstPassing (is_bit_in cells) from 187_200 (Some cell)
+found_here cells from bit cell inside found is =
     let place : cell % 64 ≡ bit = omega arith in (
       omega arith,
       omega arith,
-      in_word words cell (from / 64) (omega arith) ∙ (ap (is_bit (get_or words (from / 64) 0)) place ∙ found.2),
-      λ t above below. in_word words t (from / 64) (omega arith) ∙ found.3 (t % 64) (omega arith) (omega arith),
+      in_word cells cell (from / 64) (omega arith) ∙ (ap (is_bit (get_or cells (from / 64) 0)) place ∙ found.2),
+      λ t above below. in_word cells t (from / 64) (omega arith) ∙ found.3 (t % 64) (omega arith) (omega arith),
     )
 
-pub none_here : (words : List ℕ) (from t : ℕ) → IsFirstPassing (is_bit (get_or words (from / 64) 0)) (from % 64) 64 None → from ≤ t → t / 64 ≡ from / 64 → is_in_words words t ≡ false
-none_here words from t none above same = in_word words t (from / 64) same ∙ none (t % 64) (omega arith) (omega arith)
+pub none_here : (cells : List ℕ) (from t : ℕ) → IsFirstPassing (is_bit (get_or cells (from / 64) 0)) (from % 64) 64 None → from ≤ t → t / 64 ≡ from / 64 → is_bit_in cells t ≡ false
+none_here cells from t none above same = in_word cells t (from / 64) same ∙ none (t % 64) (omega arith) (omega arith)
 
 -- it isn't in any word before the first later word that isn't 0
-none_before : (words : List ℕ) (from later t : ℕ) → IsFirstPassing (is_bit (get_or words (from / 64) 0)) (from % 64) 64 None
-    → ((j : ℕ) → j < later → get_or (drop (from / 64 + 1) words) j 0 ≡ 0) → from ≤ t → t / 64 < from / 64 + 1 + later → is_in_words words t ≡ false
-none_before words from later t none zeros above below =
+none_before : (cells : List ℕ) (from later t : ℕ) → IsFirstPassing (is_bit (get_or cells (from / 64) 0)) (from % 64) 64 None
+    → ((j : ℕ) → j < later → get_or (drop (from / 64 + 1) cells) j 0 ≡ 0) → from ≤ t → t / 64 < from / 64 + 1 + later → is_bit_in cells t ≡ false
+none_before cells from later t none zeros above below =
     elim (cases_eq (t / 64) (from / 64)) [
-      | inl same ↦ none_here words from t none above same
+      | inl same ↦ none_here cells from t none above same
       | inr other ↦
           let j = t / 64 - (from / 64 + 1) in
           let at : from / 64 + 1 + j ≡ t / 64 = omega arith in
-          in_zero words t (t / 64) refl (subst (λ (k : ℕ). get_or words k 0 ≡ 0) at (sym (get_or-drop (from / 64 + 1) words j 0) ∙ zeros j (omega arith)))
+          in_zero cells t (t / 64) refl (subst (λ (k : ℕ). get_or cells k 0 ≡ 0) at (sym (get_or-drop (from / 64 + 1) cells j 0) ∙ zeros j (omega arith)))
     ]
 
 -- if it is in a later word
-pub found_later : (words : List ℕ) (from later bit cell : ℕ) → length words ≡ 2_925 → from < 187_200
-    → IsFirstPassing (is_bit (get_or words (from / 64) 0)) (from % 64) 64 None → IsFirstSet (drop (from / 64 + 1) words) later → from / 64 + 1 + later < 2_925
-    → IsFirstPassing (is_bit (get_or words (from / 64 + 1 + later) 0)) 0 64 (Some bit) → cell ≡ (from / 64 + 1 + later) * 64 + bit → IsFirstPassing (is_in_words words) from 187_200 (Some cell)
-found_later words from later bit cell long inside none first there found is =
+pub found_later : (cells : List ℕ) (from later bit cell : ℕ) → length cells ≡ 2_925 → from < 187_200
+    → IsFirstPassing (is_bit (get_or cells (from / 64) 0)) (from % 64) 64 None → IsFirstSet (drop (from / 64 + 1) cells) later → from / 64 + 1 + later < 2_925
+    → IsFirstPassing (is_bit (get_or cells (from / 64 + 1 + later) 0)) 0 64 (Some bit) → cell ≡ (from / 64 + 1 + later) * 64 + bit → IsFirstPassing (is_bit_in cells) from 187_200 (Some cell)
+found_later cells from later bit cell long inside none first there found is =
     let place : cell % 64 ≡ bit = omega arith in
     let word : cell / 64 ≡ from / 64 + 1 + later = omega arith in (
       omega arith,
       omega arith,
-      in_word words cell (from / 64 + 1 + later) word ∙ (ap (is_bit (get_or words (from / 64 + 1 + later) 0)) place ∙ found.2),
+      in_word cells cell (from / 64 + 1 + later) word ∙ (ap (is_bit (get_or cells (from / 64 + 1 + later) 0)) place ∙ found.2),
       λ t above below.
           elim (cases_lt (t / 64) (from / 64 + 1 + later)) [
-            | inl early ↦ none_before words from later t none first.zeros above early
-            | inr late ↦ in_word words t (from / 64 + 1 + later) (omega arith) ∙ found.3 (t % 64) (omega arith) (omega arith)
+            | inl early ↦ none_before cells from later t none first.zeros above early
+            | inr late ↦ in_word cells t (from / 64 + 1 + later) (omega arith) ∙ found.3 (t % 64) (omega arith) (omega arith)
           ],
     )
 
 -- if no word has a set cell
-pub no_word_set : (words : List ℕ) (from : ℕ) → length words ≡ 2_925 → from < 187_200 → length (drop (from / 64 + 1) words) ≡ 2_925 - (from / 64 + 1)
-    → IsFirstPassing (is_bit (get_or words (from / 64) 0)) (from % 64) 64 None → position is_set (drop (from / 64 + 1) words) ≡ None
-    → IsFirstPassing (is_in_words words) from 187_200 None
-no_word_set words from long inside after none all = λ t above below.
-    none_before words from (2_925 - (from / 64 + 1)) t none (λ j lt. position-all (drop (from / 64 + 1) words) all j (omega arith)) above (omega arith)
+pub no_word_set : (cells : List ℕ) (from : ℕ) → length cells ≡ 2_925 → from < 187_200 → length (drop (from / 64 + 1) cells) ≡ 2_925 - (from / 64 + 1)
+    → IsFirstPassing (is_bit (get_or cells (from / 64) 0)) (from % 64) 64 None → position is_set (drop (from / 64 + 1) cells) ≡ None
+    → IsFirstPassing (is_bit_in cells) from 187_200 None
+no_word_set cells from long inside after none all = λ t above below.
+    none_before cells from (2_925 - (from / 64 + 1)) t none (λ j lt. position-all (drop (from / 64 + 1) cells) all j (omega arith)) above (omega arith)
 
 -- From cells to the seconds of one turn
 
-held_at : (words : List ℕ) (t cell : ℕ) → t % 187_200 ≡ cell → is_held words t ≡ is_in_words words cell
+held_at : (cells : List ℕ) (t cell : ℕ) → t % 187_200 ≡ cell → is_held cells t ≡ is_bit_in cells cell
 unfolding is_held
-held_at words t cell same = ap (is_in_words words) same
+held_at cells t cell same = ap (is_bit_in cells) same
 
-pub held_first : (words : List ℕ) (low found : ℕ) → IsFirstPassing (is_in_words words) (low % 187_200) 187_200 (Some found)
-    → IsFirstPassing (is_held words) low (low + 187_200) (Some (low - low % 187_200 + found))
-held_first words low found first = grind (arith, held_at)
+pub held_first : (cells : List ℕ) (low found : ℕ) → IsFirstPassing (is_bit_in cells) (low % 187_200) 187_200 (Some found)
+    → IsFirstPassing (is_held cells) low (low + 187_200) (Some (low - low % 187_200 + found))
+held_first cells low found first = grind (arith, held_at)
 
 -- if the search wraps around at the end of the ring
-pub held_turned : (words : List ℕ) (low found : ℕ) → IsFirstPassing (is_in_words words) (low % 187_200) 187_200 None → IsFirstPassing (is_in_words words) 0 187_200 (Some found)
-    → IsFirstPassing (is_held words) low (low + 187_200) (Some (low - low % 187_200 + 187_200 + found))
-held_turned words low found none first = grind (arith, held_at)
+pub held_turned : (cells : List ℕ) (low found : ℕ) → IsFirstPassing (is_bit_in cells) (low % 187_200) 187_200 None → IsFirstPassing (is_bit_in cells) 0 187_200 (Some found)
+    → IsFirstPassing (is_held cells) low (low + 187_200) (Some (low - low % 187_200 + 187_200 + found))
+held_turned cells low found none first = grind (arith, held_at)
 
-pub held_never : (words : List ℕ) (low : ℕ) → IsFirstPassing (is_in_words words) 0 187_200 None → IsFirstPassing (is_held words) low (low + 187_200) None
-held_never words low none = λ t above below. held_at words t (t % 187_200) refl ∙ none (t % 187_200) (omega arith) (omega arith)
+pub held_never : (cells : List ℕ) (low : ℕ) → IsFirstPassing (is_bit_in cells) 0 187_200 None → IsFirstPassing (is_held cells) low (low + 187_200) None
+held_never cells low none = λ t above below. held_at cells t (t % 187_200) refl ∙ none (t % 187_200) (omega arith) (omega arith)
 
 -- Changing a cell
 
-pub changed_here : (words : List ℕ) (cell word : ℕ) (b : Bool) → cell / 64 < length words → is_bit word (cell % 64) ≡ b → is_in_words (set words (cell / 64) word) cell ≡ b
-unfolding is_in_words
-changed_here words cell word b inside is = rw (get_or-set_same words (cell / 64) word 0 inside) is
+pub changed_here : (cells : List ℕ) (cell word : ℕ) (b : Bool) → cell / 64 < length cells → is_bit word (cell % 64) ≡ b → is_bit_in (set cells (cell / 64) word) cell ≡ b
+unfolding is_bit_in
+changed_here cells cell word b inside is = rw (get_or-set_same cells (cell / 64) word 0 inside) is
 
-changed_word : (words : List ℕ) (cell word i : ℕ) → cell / 64 < length words → i / 64 ≡ cell / 64 → is_in_words (set words (cell / 64) word) i ≡ is_bit word (i % 64)
-changed_word words cell word i inside same =
-    in_word (set words (cell / 64) word) i (cell / 64) same ∙ ap (λ (w : ℕ). is_bit w (i % 64)) (get_or-set_same words (cell / 64) word 0 inside)
+changed_word : (cells : List ℕ) (cell word i : ℕ) → cell / 64 < length cells → i / 64 ≡ cell / 64 → is_bit_in (set cells (cell / 64) word) i ≡ is_bit word (i % 64)
+changed_word cells cell word i inside same =
+    in_word (set cells (cell / 64) word) i (cell / 64) same ∙ ap (λ (w : ℕ). is_bit w (i % 64)) (get_or-set_same cells (cell / 64) word 0 inside)
 
-pub changed_others : (words : List ℕ) (cell word : ℕ) → cell / 64 < length words → ((j : ℕ) → j < 64 → j ≢ cell % 64 → is_bit word j ≡ is_bit (get_or words (cell / 64) 0) j)
-    → (i : ℕ) → i ≢ cell → is_in_words (set words (cell / 64) word) i ≡ is_in_words words i
-changed_others words cell word inside others i other =
+pub changed_others : (cells : List ℕ) (cell word : ℕ) → cell / 64 < length cells → ((j : ℕ) → j < 64 → j ≢ cell % 64 → is_bit word j ≡ is_bit (get_or cells (cell / 64) 0) j)
+    → (i : ℕ) → i ≢ cell → is_bit_in (set cells (cell / 64) word) i ≡ is_bit_in cells i
+changed_others cells cell word inside others i other =
     elim (cases_eq (i / 64) (cell / 64)) [
       | inl same ↦
           let apart : i % 64 ≢ cell % 64 = λ e. other (omega arith) in
-          changed_word words cell word i inside same ∙ (others (i % 64) (omega arith) apart ∙ sym (in_word words i (cell / 64) same))
+          changed_word cells cell word i inside same ∙ (others (i % 64) (omega arith) apart ∙ sym (in_word cells i (cell / 64) same))
       | inr else_where ↦
-          in_word (set words (cell / 64) word) i (i / 64) refl
-          ∙ (ap (λ (w : ℕ). is_bit w (i % 64)) (get_or-set_other words (cell / 64) (i / 64) word 0 else_where) ∙ sym (in_word words i (i / 64) refl))
+          in_word (set cells (cell / 64) word) i (i / 64) refl
+          ∙ (ap (λ (w : ℕ). is_bit w (i % 64)) (get_or-set_other cells (cell / 64) (i / 64) word 0 else_where) ∙ sym (in_word cells i (i / 64) refl))
     ]

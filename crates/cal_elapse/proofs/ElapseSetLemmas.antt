@@ -17,7 +17,7 @@ use Rattle.cal_rising.proofs.WithoutLemmas.{Has-is_member, is_member-Has}
 use Rattle.cal_elapse.specs.Elapses.{elapses_after}
 use Rattle.cal_elapse.specs.headline.Elapses.{IsPlace}
 use Rattle.cal_elapse.specs.Masks.{sets_in}
-use Rattle.cal_elapse.specs.Rest.{rest_of}
+use Rattle.cal_elapse.specs.RemainingElapses.{remaining_elapses}
 use Rattle.cal_elapse.specs.Window.{timed_by, timed_of}
 use Rattle.cal_elapse.specs.declared.masks.Masks.{Masks}
 use Rattle.cal_elapse.specs.declared.window.Window.{Window}
@@ -39,8 +39,8 @@ has-none masks zone instant none = (
 )
 
 -- for an instant after the one returned last, the test says whether the remaining elapses contain it
-pub in_rest : (w : Window) (i : ℤ) (b : Bool) → w.last <ℤ i → (b ≡ true) ↔ IsPlace (timed_of w) i → b ≡ is_member int_eq (rest_of w) i
-unfolding rest_of
+pub in_rest : (w : Window) (i : ℤ) (b : Bool) → w.last <ℤ i → (b ≡ true) ↔ IsPlace (timed_of w) i → b ≡ is_member int_eq (remaining_elapses w) i
+unfolding remaining_elapses
 in_rest w i b above h =
     let rest = elapses_after (timed_of w ∷ []) w.last in
     let all = (AreAbove-elapses_after (timed_of w ∷ []) w.last).members i in
@@ -49,8 +49,8 @@ in_rest w i b above h =
     (λ t. h.1 (elim (all.0 (Has-is_member rest i t)).1 [ inl p ↦ p | inr n ↦ absurd n ]))
 
 -- otherwise the remaining elapses don't contain it
-pub not_in_rest : (w : Window) (i : ℤ) → (w.last <ℤ i → IsPlace (timed_of w) i → ⊥) → false ≡ is_member int_eq (rest_of w) i
-unfolding rest_of
+pub not_in_rest : (w : Window) (i : ℤ) → (w.last <ℤ i → IsPlace (timed_of w) i → ⊥) → false ≡ is_member int_eq (remaining_elapses w) i
+unfolding remaining_elapses
 not_in_rest w i h =
     let rest = elapses_after (timed_of w ∷ []) w.last in
     let all = (AreAbove-elapses_after (timed_of w ∷ []) w.last).members i in
@@ -58,7 +58,7 @@ not_in_rest w i h =
     (λ t. absurd (false≢true t))
     (λ t. absurd (let p = all.0 (Has-is_member rest i t) in h p.0 (elim p.1 [ inl q ↦ q | inr n ↦ absurd n ])))
 
-pub not_above : (w : Window) (i : ℤ) → i ≤ℤ w.last → false ≡ is_member int_eq (rest_of w) i
+pub not_above : (w : Window) (i : ℤ) → i ≤ℤ w.last → false ≡ is_member int_eq (remaining_elapses w) i
 not_above w i low = not_in_rest w i (λ above p. absurd (omega (arith, signed_arith)))
 
 -- every place of 0 or more is an instant
@@ -69,5 +69,5 @@ place-instant masks zone i low p =
     let near = within (zone_of zone) (pos p.local) i p.placed in
     (omega (arith, signed_arith), omega (arith, signed_arith, near))
 
-pub not_instant : (w : Window) (i : ℤ) → pos 0 ≤ℤ w.last → (IsInstant i → ⊥) → false ≡ is_member int_eq (rest_of w) i
+pub not_instant : (w : Window) (i : ℤ) → pos 0 ≤ℤ w.last → (IsInstant i → ⊥) → false ≡ is_member int_eq (remaining_elapses w) i
 not_instant w i low outside = grind (arith, not_in_rest, place-instant, signed_arith)

@@ -5,8 +5,8 @@ use Rattle.std.proofs.lemmas.Bool.{cases_eq, cases_lt, or_cases, or_left, or_rig
 use Rattle.std.proofs.lemmas.Int.{ints}
 use Rattle.cal_zone.specs.Instant.{IsInstant}
 use Rattle.cal_rising.specs.headline.Elements.{Has}
-use Rattle.cal_elapse.specs.Bits.{is_bit, is_in_words}
-use Rattle.cal_elapse.specs.Near.{IsNear}
+use Rattle.cal_elapse.specs.Bits.{is_bit, is_bit_in}
+use Rattle.cal_elapse.specs.PendingInstants.{IsNear}
 use Rattle.cal_elapse.specs.Ring.{IsOneOf, IsRoundFrom, cells_behind, instants_in, is_held, no_second}
 use Rattle.cal_elapse.specs.Search.{IsFirstPassing}
 use Rattle.cal_elapse.proofs.BitLemmas.{is_bit-above, is_bit-or, is_bit-shifted, is_bit-up, is_bit-up_none}
@@ -17,17 +17,17 @@ use Rattle.cal_text.proofs.General.{below_end, lt_from_pos, or_false}
 -- The cells
 
 -- a word after more bits are set
-filled_here : (words : List ℕ) (word more i : ℕ) → word < length words → i / 64 ≡ word
-    → is_in_words (set words word (bit_or (get_or words word 0) more)) i ≡ (is_in_words words i || is_bit more (i % 64))
-filled_here words word more i inside same =
-    in_word (set words word (bit_or (get_or words word 0) more)) i word same
-    ∙ (ap (λ (w : ℕ). is_bit w (i % 64)) (get_or-set_same words word (bit_or (get_or words word 0) more) 0 inside)
-    ∙ (is_bit-or (get_or words word 0) more (i % 64) ∙ ap (λ (b : Bool). b || is_bit more (i % 64)) (sym (in_word words i word same))))
+filled_here : (cells : List ℕ) (word more i : ℕ) → word < length cells → i / 64 ≡ word
+    → is_bit_in (set cells word (bit_or (get_or cells word 0) more)) i ≡ (is_bit_in cells i || is_bit more (i % 64))
+filled_here cells word more i inside same =
+    in_word (set cells word (bit_or (get_or cells word 0) more)) i word same
+    ∙ (ap (λ (w : ℕ). is_bit w (i % 64)) (get_or-set_same cells word (bit_or (get_or cells word 0) more) 0 inside)
+    ∙ (is_bit-or (get_or cells word 0) more (i % 64) ∙ ap (λ (b : Bool). b || is_bit more (i % 64)) (sym (in_word cells i word same))))
 
-filled_else : (words : List ℕ) (word value i : ℕ) → i / 64 ≢ word → is_in_words (set words word value) i ≡ is_in_words words i
-filled_else words word value i other =
-    in_word (set words word value) i (i / 64) refl
-    ∙ (ap (λ (w : ℕ). is_bit w (i % 64)) (get_or-set_other words word (i / 64) value 0 other) ∙ sym (in_word words i (i / 64) refl))
+filled_else : (cells : List ℕ) (word value i : ℕ) → i / 64 ≢ word → is_bit_in (set cells word value) i ≡ is_bit_in cells i
+filled_else cells word value i other =
+    in_word (set cells word value) i (i / 64) refl
+    ∙ (ap (λ (w : ℕ). is_bit w (i % 64)) (get_or-set_other cells word (i / 64) value 0 other) ∙ sym (in_word cells i (i / 64) refl))
 
 -- the bits that go into the word of the first cell, and those that go into the next word
 up_is : (bits cell i : ℕ) → bits < 2 ^ 64 → cell < 187_200 → i < 187_200 → i / 64 ≡ cell / 64
@@ -50,46 +50,46 @@ far_behind : (cell i next : ℕ) → cell < 187_200 → i < 187_200 → (next �
 far_behind cell i next inside there turn next_in other apart = elim turn [ inl on ↦ omega arith | inr round ↦ omega (arith, round.0, round.1) ]
 
 -- all cells after both words are changed
-pub filled : (words : List ℕ) (cell bits next i : ℕ) → length words ≡ 2_925 → cell < 187_200 → bits < 2 ^ 64 → (next ≡ cell / 64 + 1) ⊎ ((next ≡ 0) × (cell / 64 ≡ 2_924))
+pub filled : (cells : List ℕ) (cell bits next i : ℕ) → length cells ≡ 2_925 → cell < 187_200 → bits < 2 ^ 64 → (next ≡ cell / 64 + 1) ⊎ ((next ≡ 0) × (cell / 64 ≡ 2_924))
     → next < 2_925 → i < 187_200
-    → let one = set words (cell / 64) (bit_or (get_or words (cell / 64) 0) (bits * 2 ^ (cell % 64) % 2 ^ 64)) in
-    is_in_words (set one next (bit_or (get_or one next 0) (bits / 2 ^ 1 / 2 ^ (63 - cell % 64)))) i ≡ (is_in_words words i || is_bit bits (cells_behind cell i))
-filled words cell bits next i long inside fits turn next_in there =
+    → let one = set cells (cell / 64) (bit_or (get_or cells (cell / 64) 0) (bits * 2 ^ (cell % 64) % 2 ^ 64)) in
+    is_bit_in (set one next (bit_or (get_or one next 0) (bits / 2 ^ 1 / 2 ^ (63 - cell % 64)))) i ≡ (is_bit_in cells i || is_bit bits (cells_behind cell i))
+filled cells cell bits next i long inside fits turn next_in there =
     let up = bits * 2 ^ (cell % 64) % 2 ^ 64 in
     let down = bits / 2 ^ 1 / 2 ^ (63 - cell % 64) in
-    let one = set words (cell / 64) (bit_or (get_or words (cell / 64) 0) up) in
-    let same_length : length one ≡ length words = simp length-set in
+    let one = set cells (cell / 64) (bit_or (get_or cells (cell / 64) 0) up) in
+    let same_length : length one ≡ length cells = simp length-set in
     elim (cases_eq (i / 64) next) [
       | inl same ↦
           let apart : i / 64 ≢ cell / 64 = λ e. elim turn [ inl on ↦ omega arith | inr round ↦ omega (arith, round.0, round.1) ] in
           filled_here one next down i (omega arith) same
-          ∙ (ap (λ (b : Bool). b || is_bit down (i % 64)) (filled_else words (cell / 64) (bit_or (get_or words (cell / 64) 0) up) i apart)
-          ∙ ap (λ (b : Bool). is_in_words words i || b) (down_is bits cell i next inside there turn same))
+          ∙ (ap (λ (b : Bool). b || is_bit down (i % 64)) (filled_else cells (cell / 64) (bit_or (get_or cells (cell / 64) 0) up) i apart)
+          ∙ ap (λ (b : Bool). is_bit_in cells i || b) (down_is bits cell i next inside there turn same))
       | inr other ↦
           filled_else one next (bit_or (get_or one next 0) down) i other
           ∙ elim (cases_eq (i / 64) (cell / 64)) [
             | inl here ↦
-                filled_here words (cell / 64) up i (omega arith) here ∙ ap (λ (b : Bool). is_in_words words i || b) (up_is bits cell i fits inside there here)
+                filled_here cells (cell / 64) up i (omega arith) here ∙ ap (λ (b : Bool). is_bit_in cells i || b) (up_is bits cell i fits inside there here)
             | inr apart ↦
-                filled_else words (cell / 64) (bit_or (get_or words (cell / 64) 0) up) i apart
-                ∙ or_false (is_in_words words i) (is_bit bits (cells_behind cell i)) (is_bit-above bits 64 (cells_behind cell i) fits (far_behind cell i next inside there turn next_in apart other))
+                filled_else cells (cell / 64) (bit_or (get_or cells (cell / 64) 0) up) i apart
+                ∙ or_false (is_bit_in cells i) (is_bit bits (cells_behind cell i)) (is_bit-above bits 64 (cells_behind cell i) fits (far_behind cell i next inside there turn next_in apart other))
           ]
     ]
 
 -- The instants
 
 -- each cell is set if it was set before, or if it belongs to one of the new instants
-pub record HasAll (old new : List ℕ) (start bits : ℕ) : Type 0 where
-  pub held : (i : ℕ) → i < 187_200 → is_in_words new i ≡ (is_in_words old i || is_bit bits (cells_behind (start % 187_200) i))
+pub record AreFilled (old new : List ℕ) (start bits : ℕ) : Type 0 where
+  pub held : (i : ℕ) → i < 187_200 → is_bit_in new i ≡ (is_bit_in old i || is_bit bits (cells_behind (start % 187_200) i))
 
-held_all : (old new : List ℕ) (start bits t : ℕ) → HasAll old new start bits → is_held new t ≡ (is_held old t || is_bit bits (cells_behind (start % 187_200) (t % 187_200)))
+held_all : (old new : List ℕ) (start bits t : ℕ) → AreFilled old new start bits → is_held new t ≡ (is_held old t || is_bit bits (cells_behind (start % 187_200) (t % 187_200)))
 unfolding is_held
 held_all old new start bits t all = all.held (t % 187_200) (omega arith)
 
-still_held : (old new : List ℕ) (start bits t : ℕ) → HasAll old new start bits → is_held old t ≡ true → is_held new t ≡ true
+still_held : (old new : List ℕ) (start bits t : ℕ) → AreFilled old new start bits → is_held old t ≡ true → is_held new t ≡ true
 still_held old new start bits t all holds = held_all old new start bits t all ∙ or_left _ _ holds
 
-new_held : (old new : List ℕ) (start bits bit : ℕ) → HasAll old new start bits → is_bit bits bit ≡ true → bit < 64 → is_held new (start + bit) ≡ true
+new_held : (old new : List ℕ) (start bits bit : ℕ) → AreFilled old new start bits → is_bit bits bit ≡ true → bit < 64 → is_held new (start + bit) ≡ true
 new_held old new start bits bit all set small =
     let behind : cells_behind (start % 187_200) ((start + bit) % 187_200) ≡ bit = omega arith in
     held_all old new start bits (start + bit) all ∙ or_right _ _ (ap (is_bit bits) behind ∙ set)
@@ -109,7 +109,7 @@ one_there start t bits bit i is at set = record { bit = bit; set = set; is = ome
 small_bit : (bits bit : ℕ) → bits < 2 ^ 64 → is_bit bits bit ≡ true → bit < 64
 small_bit bits bit fits set = below_end (is_bit bits) 64 bit (λ j high. is_bit-above bits 64 j fits high) set
 
-filled_there : (old new : List ℕ) (least start bits : ℕ) (i : ℤ) → HasAll old new start bits → IsRoundOfAll least start bits → bits < 2 ^ 64 → IsIn new least i
+filled_there : (old new : List ℕ) (least start bits : ℕ) (i : ℤ) → AreFilled old new start bits → IsRoundOfAll least start bits → bits < 2 ^ 64 → IsIn new least i
     → Has (instants_in old least) i ⊎ IsOneOf (pos start) bits i
 filled_there old new least start bits i all round fits a =
     let above = a.above in
@@ -123,7 +123,7 @@ filled_there old new least start bits i all round fits a =
           inr (one_there start a.at bits bit i a.is (same_second least a.at (start + bit) above below (omega arith) inside (omega arith)) set)
     ]
 
-filled_back : (old new : List ℕ) (least start bits : ℕ) (i : ℤ) → HasAll old new start bits → IsRoundOfAll least start bits → bits < 2 ^ 64
+filled_back : (old new : List ℕ) (least start bits : ℕ) (i : ℤ) → AreFilled old new start bits → IsRoundOfAll least start bits → bits < 2 ^ 64
     → Has (instants_in old least) i ⊎ IsOneOf (pos start) bits i → Has (instants_in new least) i
 filled_back old new least start bits i all round fits (inl m) =
     let a = (Has-instants old least i).0 m in
@@ -133,7 +133,7 @@ filled_back old new least start bits i all round fits (inr one) =
     subst (Has (instants_in new least)) (one_at start one.bit i one.is) (member new least (start + one.bit) (omega arith) (round.inside one.bit one.set) held)
 
 -- the elements after all new instants are added
-pub filled_seen : (old new : List ℕ) (least start bits : ℕ) (i : ℤ) → HasAll old new start bits → IsRoundOfAll least start bits → bits < 2 ^ 64
+pub filled_seen : (old new : List ℕ) (least start bits : ℕ) (i : ℤ) → AreFilled old new start bits → IsRoundOfAll least start bits → bits < 2 ^ 64
     → Has (instants_in new least) i ↔ (Has (instants_in old least) i ⊎ IsOneOf (pos start) bits i)
 filled_seen old new least start bits i all round fits =
     (λ m. filled_there old new least start bits i all round fits ((Has-instants new least i).0 m), λ o. filled_back old new least start bits i all round fits o)
@@ -144,9 +144,9 @@ one_early start bit i is early = omega (arith, ints)
 -- The set of instants
 
 -- the ring isn't empty, and its smallest second is before `start`
-pub record IsBegun (words : List ℕ) (least : ℕ) (start : ℤ) : Type 0 where
+pub record IsBegun (cells : List ℕ) (least : ℕ) (start : ℤ) : Type 0 where
   pub some : least ≢ no_second
-  pub found : IsFirstPassing (is_held words) least (least + 187_200) (Some least)
+  pub found : IsFirstPassing (is_held cells) least (least + 187_200) (Some least)
   pub below : pos least <ℤ start
 
 begun_by : (o : Option ℤ) (least : ℕ) (start : ℤ) → o ≡ Some (pos least) → IsSomeAnd o (λ x. x <ℤ start) → pos least <ℤ start
@@ -155,14 +155,14 @@ begun_by o least start is begun = subst (λ (p : Option ℤ). IsSomeAnd p (λ x.
 none_begun : (o : Option ℤ) (start : ℤ) → o ≡ None → IsSomeAnd o (λ x. x <ℤ start) → ⊥
 none_begun o start is begun = subst (λ (p : Option ℤ). IsSomeAnd p (λ x. x <ℤ start)) is begun
 
-pub begun_least : (words : List ℕ) (least : ℕ) (start : ℤ) (members : List ℤ) → instants_in words least ≡ members → IsRoundFrom words least
-    → IsSomeAnd (slice_get members 0) (λ x. x <ℤ start) → IsBegun words least start
-begun_least words least start members view was begun =
+pub begun_least : (cells : List ℕ) (least : ℕ) (start : ℤ) (members : List ℤ) → instants_in cells least ≡ members → IsRoundFrom cells least
+    → IsSomeAnd (slice_get members 0) (λ x. x <ℤ start) → IsBegun cells least start
+begun_least cells least start members view was begun =
     elim (cases_eq least no_second) [
-      | inl same ↦ absurd (none_begun (slice_get members 0) start (ap (λ (xs : List ℤ). slice_get xs 0) (sym view) ∙ none_found words least (none_kept words least was.first same)) begun)
+      | inl same ↦ absurd (none_begun (slice_get members 0) start (ap (λ (xs : List ℤ). slice_get xs 0) (sym view) ∙ none_found cells least (none_kept cells least was.first same)) begun)
       | inr some ↦
-          let found = found_kept words least was.first some in
-          record { some = some; found = found; below = begun_by (slice_get members 0) least start (ap (λ (xs : List ℤ). slice_get xs 0) (sym view) ∙ first_found words least least found) begun }
+          let found = found_kept cells least was.first some in
+          record { some = some; found = found; below = begun_by (slice_get members 0) least start (ap (λ (xs : List ℤ). slice_get xs 0) (sym view) ∙ first_found cells least least found) begun }
     ]
 
 within_round : (least second bit : ℕ) (i : ℤ) → IsNear (pos least) i → (pos second +ℤ pos bit) ≡ i → second + bit < least + 187_200
@@ -174,18 +174,18 @@ early_enough second bit i instant is = let high = instant.1 in omega (arith, int
 one_of : (start : ℤ) (second bits bit : ℕ) → pos second ≡ start → is_bit bits bit ≡ true → IsOneOf start bits (start +ℤ pos bit)
 one_of start second bits bit is set = record { bit = bit; set = set; is = refl }
 
-pub round_of_all : (words : List ℕ) (least second bits : ℕ) (start : ℤ) (members : List ℤ) → instants_in words least ≡ members → IsBegun words least start → pos second ≡ start
+pub round_of_all : (cells : List ℕ) (least second bits : ℕ) (start : ℤ) (members : List ℤ) → instants_in cells least ≡ members → IsBegun cells least start → pos second ≡ start
     → ((i : ℤ) → IsOneOf start bits i → IsInstant i) → ((one i : ℤ) → Has members one → IsOneOf start bits i → IsNear one i) → IsRoundOfAll least second bits
-round_of_all words least second bits start members view begun is instants near =
+round_of_all cells least second bits start members view begun is instants near =
     let found = begun.found in
-    let there : Has members (pos least) = subst (λ (xs : List ℤ). Has xs (pos least)) view (member words least least found.0 found.1 found.2) in
+    let there : Has members (pos least) = subst (λ (xs : List ℤ). Has xs (pos least)) view (member cells least least found.0 found.1 found.2) in
     record {
       behind = lt_from_pos least second start is begun.below;
       inside = λ bit set. within_round least second bit (start +ℤ pos bit) (near (pos least) (start +ℤ pos bit) there (one_of start second bits bit is set)) (ap (λ (z : ℤ). z +ℤ pos bit) is);
       early = λ bit set. early_enough second bit (start +ℤ pos bit) (instants (start +ℤ pos bit) (one_of start second bits bit is set)) (ap (λ (z : ℤ). z +ℤ pos bit) is);
     }
 
-pub filled_from : (old new : List ℕ) (least start bits : ℕ) (at : ℤ) → HasAll old new start bits → IsRoundOfAll least start bits → bits < 2 ^ 64 → length new ≡ 2_925
+pub filled_from : (old new : List ℕ) (least start bits : ℕ) (at : ℤ) → AreFilled old new start bits → IsRoundOfAll least start bits → bits < 2 ^ 64 → length new ≡ 2_925
     → IsBegun old least at → IsRoundFrom old least → IsRoundFrom new least
 filled_from old new least start bits at all round fits whole begun was =
     let first : IsFirstPassing (is_held new) least (least + 187_200) (Some least)
@@ -198,7 +198,7 @@ filled_from old new least start bits at all round fits whole begun was =
       first = subst (IsFirstPassing (is_held new) least (least + 187_200)) (sym (kept_some least begun.some)) first;
     }
 
-pub filled_answer : (old new : List ℕ) (least second bits : ℕ) (start : ℤ) (members : List ℤ) → HasAll old new second bits → IsRoundOfAll least second bits → bits < 2 ^ 64
+pub filled_answer : (old new : List ℕ) (least second bits : ℕ) (start : ℤ) (members : List ℤ) → AreFilled old new second bits → IsRoundOfAll least second bits → bits < 2 ^ 64
     → instants_in old least ≡ members → pos second ≡ start → (i : ℤ) → Has (instants_in new least) i ↔ (Has members i ⊎ IsOneOf start bits i)
 filled_answer old new least second bits start members all round fits view is i =
     let seen = filled_seen old new least second bits i all round fits in (

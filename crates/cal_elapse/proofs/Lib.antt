@@ -10,14 +10,14 @@ pub mod ElapsesLemmas
 pub mod FillLemmas
 pub mod FoundLemmas
 pub mod InstantLemmas
-pub mod LookLemmas
+pub mod ExaminedMonthLemmas
 pub mod MasksLemmas
 pub mod MinuteLemmas
 pub mod MonthLemmas
-pub mod MostLemmas
+pub mod MostMonthsLemmas
 pub mod PartLemmas
 pub mod ReadyLemmas
-pub mod RestLemmas
+pub mod RemainingMatchLemmas
 pub mod RingLemmas
 pub mod ScanLemmas
 pub mod SearchLemmas

@@ -5,7 +5,7 @@ use Rattle.std.specs.List.{AllByRecursion, list_any}
 use Rattle.std.proofs.Math.ListN.{get_or-eq_default}
 use Rattle.std.proofs.lemmas.Bool.{cases_lt, eqb-true, or_cases, false_from_ne_true}
 use Rattle.std.proofs.lemmas.Bool.Decides.{nat_tests}
-use Rattle.cal_elapse.specs.Bits.{is_bit, is_in_words}
+use Rattle.cal_elapse.specs.Bits.{is_bit, is_bit_in}
 use Rattle.cal_elapse.specs.Masks.{day_place}
 use Rattle.cal_elapse.proofs.BitLemmas.{is_bit-none}
 use Rattle.cal_spec.specs.headline.Members.{component_has, in_field, part_has, values}
@@ -99,13 +99,13 @@ year_word word first n i j holds filled same low inside = grind (arith, lt-ltb)
 pub years_filled : (a b c d : ℕ) (holds : ℕ → Bool) → ((p : ℕ) → is_bit a p ≡ (nat_lt p 64 && holds (1_970 + p)))
     → ((p : ℕ) → is_bit b p ≡ (nat_lt p 64 && holds (2_034 + p))) → ((p : ℕ) → is_bit c p ≡ (nat_lt p 64 && holds (2_098 + p)))
     → ((p : ℕ) → is_bit d p ≡ (nat_lt p 38 && holds (2_162 + p))) → (i : ℕ)
-    → is_in_words (a ∷ b ∷ c ∷ d ∷ []) i ≡ (nat_lt i 230 && holds (1_970 + i))
-unfolding is_in_words
+    → is_bit_in (a ∷ b ∷ c ∷ d ∷ []) i ≡ (nat_lt i 230 && holds (1_970 + i))
+unfolding is_bit_in
 years_filled a b c d holds first second third fourth i = grind (arith, year_word, get_or, get_or-eq_default, le-ltb, is_bit-none)
 
-pub years_end : (words : List ℕ) (holds : ℕ → Bool) → ((i : ℕ) → is_in_words words i ≡ (nat_lt i 230 && holds (1_970 + i)))
-    → (i : ℕ) → 230 ≤ i → is_in_words words i ≡ false
-years_end words holds filled i high = let out = le-ltb i 230 high in filled i ∙ rw out
+pub years_end : (masks : List ℕ) (holds : ℕ → Bool) → ((i : ℕ) → is_bit_in masks i ≡ (nat_lt i 230 && holds (1_970 + i)))
+    → (i : ℕ) → 230 ≤ i → is_bit_in masks i ≡ false
+years_end masks holds filled i high = let out = le-ltb i 230 high in filled i ∙ rw out
 
 values_at : (slot : Slot) (a : ℕ) (end step : Option ℕ) → IsWithin slot a → EndsAfter a end → IsStep step → values slot a end step a ≡ true
 values_at slot a end step w e s = grind (arith, nat_tests)

@@ -5,8 +5,8 @@ use Rattle.std.specs.Int.{trailing_zeros}
 use Rattle.cal_civil.specs.headline.Local.{seconds_in_all, seconds_in_all-is}
 use Rattle.cal_spec.specs.headline.Match.{Sets, matches, time_in}
 use Rattle.cal_elapse.specs.Bits.{is_bit}
-use Rattle.cal_elapse.specs.Left.{IsLeft, IsMoreLater, IsMoreLeft, IsNextLater, IsNextLeft, IsRest, NoneLeft, minute_matches}
-use Rattle.cal_elapse.specs.Looks.{IsSearch}
+use Rattle.cal_elapse.specs.RemainingMatches.{AreRemaining, HasMoreInHour, HasMoreInMinute, IsNextInHour, IsNextInMinute, IsRestOfMinute, NoneLeftInMinute, minute_matches}
+use Rattle.cal_elapse.specs.ExaminedMonths.{IsSearch}
 use Rattle.cal_elapse.specs.Masks.{sets_in}
 use Rattle.cal_elapse.specs.Months.{day_in, minute_in}
 use Rattle.cal_elapse.specs.Search.{IsFirstLocal, IsFirstPassing}
@@ -14,7 +14,7 @@ use Rattle.cal_elapse.specs.declared.masks.Masks.{Masks}
 use Rattle.cal_elapse.proofs.BitLemmas.{first_bit, is_bit-none, is_bit-shifted}
 use Rattle.cal_elapse.proofs.CarryLemmas.{Splits, first_later, first_then, split_at}
 use Rattle.cal_elapse.proofs.FoundLemmas.{first_local, first_passing}
-use Rattle.cal_elapse.proofs.LookLemmas.{looks_today}
+use Rattle.cal_elapse.proofs.ExaminedMonthLemmas.{examined_today}
 use Rattle.cal_elapse.proofs.SearchLemmas.{locals_split}
 use Rattle.cal_elapse.proofs.TimeLemmas.{minutes_split, seconds_split}
 use Rattle.cal_text.proofs.General.{and_regrouped, below_end}
@@ -74,7 +74,7 @@ by_low passes high low limit found t s within holds same =
 
 -- the numbers in the unit of `found` that pass and are greater than it are those whose low part has a higher set bit
 left_after : (passes high : ℕ → Bool) (mask limit found : ℕ) → Splits passes high (is_bit mask) 60 limit → ((i : ℕ) → 60 ≤ i → is_bit mask i ≡ false) → found / 60 < limit
-    → passes found ≡ true → IsLeft passes found (found + 1) (mask / 2 ^ (found % 60 + 1))
+    → passes found ≡ true → AreRemaining passes found (found + 1) (mask / 2 ^ (found % 60 + 1))
 left_after passes high mask limit found s last within holds = record {
   begun = omega arith;
   behind = λ i set. omega arith;
@@ -87,33 +87,33 @@ left_after passes high mask limit found s last within holds = record {
 }
 
 -- no bit is left if no later number passes
-left_none : (passes : ℕ → Bool) (found : ℕ) → ((t : ℕ) → found < t → passes t ≡ false) → IsLeft passes found 0 0
+left_none : (passes : ℕ → Bool) (found : ℕ) → ((t : ℕ) → found < t → passes t ≡ false) → AreRemaining passes found 0 0
 left_none passes found none = grind (arith, no_bit, is_bit-none)
 
-bit_passes : (passes : ℕ → Bool) (found from left bit : ℕ) → IsLeft passes found from left → is_bit left bit ≡ true → passes (from + bit) ≡ true
+bit_passes : (passes : ℕ → Bool) (found from left bit : ℕ) → AreRemaining passes found from left → is_bit left bit ≡ true → passes (from + bit) ≡ true
 bit_passes passes found from left bit h set = grind arith
 
 -- the lowest bit stands for the next number that passes
-next_left : (passes : ℕ → Bool) (found from left bit end : ℕ) → IsLeft passes found from left → IsFirstPassing (is_bit left) 0 64 (Some bit) → from + bit < end
+next_in_minute : (passes : ℕ → Bool) (found from left bit end : ℕ) → AreRemaining passes found from left → IsFirstPassing (is_bit left) 0 64 (Some bit) → from + bit < end
     → IsFirstPassing passes (found + 1) end (Some (from + bit))
-next_left passes found from left bit end h lowest inside = grind (arith, bit_passes)
+next_in_minute passes found from left bit end h lowest inside = grind (arith, bit_passes)
 
 -- after that bit is removed, the bits are those of the numbers after it
-pub left_behind : (passes : ℕ → Bool) (found from left bit more : ℕ) → IsLeft passes found from left → IsFirstPassing (is_bit left) 0 64 (Some bit) → is_bit more bit ≡ false
-    → ((i : ℕ) → i ≢ bit → is_bit more i ≡ is_bit left i) → IsLeft passes (from + bit) from more
+pub left_behind : (passes : ℕ → Bool) (found from left bit more : ℕ) → AreRemaining passes found from left → IsFirstPassing (is_bit left) 0 64 (Some bit) → is_bit more bit ≡ false
+    → ((i : ℕ) → i ≢ bit → is_bit more i ≡ is_bit left i) → AreRemaining passes (from + bit) from more
 left_behind passes found from left bit more h lowest cleared others = grind arith
 
 -- The remaining bits of a minute.
 
-pub seconds_none : (m : Masks) (end : ℕ) → end ≡ seconds_in_all → IsLeft (matches (sets_in m)) end 0 0
+pub seconds_none : (m : Masks) (end : ℕ) → end ≡ seconds_in_all → AreRemaining (matches (sets_in m)) end 0 0
 seconds_none m end is = left_none _ end (λ t later. grind (arith, false_from_ne_true, match_inside))
 
-pub seconds_after : (m : Masks) (local : ℕ) → matches (sets_in m) local ≡ true → IsLeft (matches (sets_in m)) local (local + 1) (m.seconds / 2 ^ (local % 60 + 1))
+pub seconds_after : (m : Masks) (local : ℕ) → matches (sets_in m) local ≡ true → AreRemaining (matches (sets_in m)) local (local + 1) (m.seconds / 2 ^ (local % 60 + 1))
 seconds_after m local holds =
     let count = seconds_in_all-is in
     left_after _ _ m.seconds 120_968_640 local (minutes_of_all m) m.last_second (omega (arith, match_inside (sets_in m) local holds)) holds
 
-pub left_inside : (m : Masks) (found from left bit : ℕ) → IsLeft (matches (sets_in m)) found from left → IsFirstPassing (is_bit left) 0 64 (Some bit) → from + bit < seconds_in_all
+pub left_inside : (m : Masks) (found from left bit : ℕ) → AreRemaining (matches (sets_in m)) found from left → IsFirstPassing (is_bit left) 0 64 (Some bit) → from + bit < seconds_in_all
 left_inside m found from left bit h lowest = match_inside (sets_in m) (from + bit) (bit_passes _ found from left bit h lowest.2)
 
 -- A search examines one month if it finds a match later on the same day.
@@ -126,18 +126,18 @@ search_on m found next day first =
     let within = first.1 in
     let parts : found / 86_400 * 86_400 + next % 86_400 ≡ next = omega arith in
     let here : day_in sets (found / 86_400) ≡ true = subst (λ (d : ℕ). day_in sets d ≡ true) day (day_of_match sets next first.2).0 in
-    let looks = looks_today sets found (next % 86_400) (omega arith) here (omega arith) (omega arith) in
+    let examined = examined_today sets found (next % 86_400) (omega arith) here (omega arith) (omega arith) in
     record {
       first = first_local (matches sets) (found + 1) next first;
-      counted = sym (rw parts at looks);
+      counted = sym (rw parts at examined);
       few = omega arith;
     }
 
-pub search_left : (m : Masks) (found from left bit : ℕ) → IsLeft (matches (sets_in m)) found from left → IsFirstPassing (is_bit left) 0 64 (Some bit)
+pub search_minute : (m : Masks) (found from left bit : ℕ) → AreRemaining (matches (sets_in m)) found from left → IsFirstPassing (is_bit left) 0 64 (Some bit)
     → IsSearch (sets_in m) (found + 1) (record { local = Some (pos (from + bit)); months = 1 })
-search_left m found from left bit h lowest =
+search_minute m found from left bit h lowest =
     let same = h.unit bit lowest.2 in
-    search_on m found (from + bit) (omega arith) (next_left _ found from left bit seconds_in_all h lowest (left_inside m found from left bit h lowest))
+    search_on m found (from + bit) (omega arith) (next_in_minute _ found from left bit seconds_in_all h lowest (left_inside m found from left bit h lowest))
 
 -- The remaining bits of an hour.
 
@@ -152,31 +152,31 @@ minute_of_match m local holds =
     let within = match_inside (sets_in m) local holds in
     (and_parts _ _ (sym (split_at (minutes_of_all m) (local / 60) local (omega arith) refl) ∙ holds)).0
 
-pub minutes_none : (m : Masks) (end : ℕ) → end ≡ seconds_in_all → IsLeft (minute_matches (sets_in m)) (end / 60) 0 0
+pub minutes_none : (m : Masks) (end : ℕ) → end ≡ seconds_in_all → AreRemaining (minute_matches (sets_in m)) (end / 60) 0 0
 minutes_none m end is =
     let count = seconds_in_all-is in
     left_none _ (end / 60) (λ t later. false_from_ne_true _ (λ holds. let within = minute_inside (sets_in m) t holds in omega arith))
 
 pub minutes_after : (m : Masks) (local : ℕ) → matches (sets_in m) local ≡ true
-    → IsLeft (minute_matches (sets_in m)) (local / 60) (local / 60 + 1) (m.minutes / 2 ^ (local / 60 % 60 + 1))
+    → AreRemaining (minute_matches (sets_in m)) (local / 60) (local / 60 + 1) (m.minutes / 2 ^ (local / 60 % 60 + 1))
 minutes_after m local holds =
     let count = seconds_in_all-is in
     left_after _ _ m.minutes 2_016_144 (local / 60) (hours_split m) m.last_minute (omega (arith, match_inside (sets_in m) local holds)) (minute_of_match m local holds)
 
-pub minutes_inside : (m : Masks) (found from minutes bit : ℕ) → IsLeft (minute_matches (sets_in m)) (found / 60) from minutes → IsFirstPassing (is_bit minutes) 0 64 (Some bit)
+pub minutes_inside : (m : Masks) (found from minutes bit : ℕ) → AreRemaining (minute_matches (sets_in m)) (found / 60) from minutes → IsFirstPassing (is_bit minutes) 0 64 (Some bit)
     → from + bit < 120_968_640
 minutes_inside m found from minutes bit h lowest = minute_inside (sets_in m) (from + bit) (bit_passes _ (found / 60) from minutes bit h lowest.2)
 
 -- If no bits of the minute are left, the lowest bit of the hour stands for the minute of the next match.
-pub next_later : (m : Masks) (found from start minutes bit first : ℕ) → IsLeft (matches (sets_in m)) found from 0
-    → IsLeft (minute_matches (sets_in m)) (found / 60) start minutes → IsFirstPassing (is_bit minutes) 0 64 (Some bit) → IsFirstPassing (is_bit m.seconds) 0 64 (Some first)
+pub next_in_hour : (m : Masks) (found from start minutes bit first : ℕ) → AreRemaining (matches (sets_in m)) found from 0
+    → AreRemaining (minute_matches (sets_in m)) (found / 60) start minutes → IsFirstPassing (is_bit minutes) 0 64 (Some bit) → IsFirstPassing (is_bit m.seconds) 0 64 (Some first)
     → IsFirstPassing (matches (sets_in m)) (found + 1) seconds_in_all (Some ((start + bit) * 60 + first))
-next_later m found from start minutes bit first h later lowest second =
+next_in_hour m found from start minutes bit first h later lowest second =
     let count = seconds_in_all-is in
     let passes = matches (sets_in m) in
     let low = below_end (is_bit m.seconds) 60 first m.last_second second.2 in
     let inside = minutes_inside m found start minutes bit later lowest in
-    let minute = next_left _ (found / 60) start minutes bit 120_968_640 later lowest inside in
+    let minute = next_in_minute _ (found / 60) start minutes bit 120_968_640 later lowest inside in
     let all : 120_968_640 * 60 ≡ seconds_in_all = omega arith in
     rw (← all)
     (first_then passes (found + 1) ((found / 60 + 1) * 60) (120_968_640 * 60) (Some ((start + bit) * 60 + first))
@@ -184,26 +184,26 @@ next_later m found from start minutes bit first h later lowest second =
     (first_later (minutes_of_all m) (found / 60 + 1) 120_968_640 (start + bit) 64 first inside low minute second))
 
 -- the result of the search that finds that match
-pub search_later : (m : Masks) (found from start minutes bit first : ℕ) → IsLeft (matches (sets_in m)) found from 0
-    → IsLeft (minute_matches (sets_in m)) (found / 60) start minutes → IsFirstPassing (is_bit minutes) 0 64 (Some bit) → IsFirstPassing (is_bit m.seconds) 0 64 (Some first)
+pub search_later : (m : Masks) (found from start minutes bit first : ℕ) → AreRemaining (matches (sets_in m)) found from 0
+    → AreRemaining (minute_matches (sets_in m)) (found / 60) start minutes → IsFirstPassing (is_bit minutes) 0 64 (Some bit) → IsFirstPassing (is_bit m.seconds) 0 64 (Some first)
     → IsSearch (sets_in m) (found + 1) (record { local = Some (pos ((start + bit) * 60 + first)); months = 1 })
 search_later m found from start minutes bit first h later lowest second =
     let low = below_end (is_bit m.seconds) 60 first m.last_second second.2 in
     let same = later.unit bit lowest.2 in
-    search_on m found ((start + bit) * 60 + first) (omega arith) (next_later m found from start minutes bit first h later lowest second)
+    search_on m found ((start + bit) * 60 + first) (omega arith) (next_in_hour m found from start minutes bit first h later lowest second)
 
 -- the remaining bits of that match's minute and hour
-pub seconds_later : (m : Masks) (found from start minutes bit first : ℕ) → IsLeft (matches (sets_in m)) found from 0
-    → IsLeft (minute_matches (sets_in m)) (found / 60) start minutes → IsFirstPassing (is_bit minutes) 0 64 (Some bit) → IsFirstPassing (is_bit m.seconds) 0 64 (Some first)
-    → IsLeft (matches (sets_in m)) ((start + bit) * 60 + first) ((start + bit) * 60 + first + 1) (m.seconds / 2 ^ (first + 1))
+pub seconds_later : (m : Masks) (found from start minutes bit first : ℕ) → AreRemaining (matches (sets_in m)) found from 0
+    → AreRemaining (minute_matches (sets_in m)) (found / 60) start minutes → IsFirstPassing (is_bit minutes) 0 64 (Some bit) → IsFirstPassing (is_bit m.seconds) 0 64 (Some first)
+    → AreRemaining (matches (sets_in m)) ((start + bit) * 60 + first) ((start + bit) * 60 + first + 1) (m.seconds / 2 ^ (first + 1))
 seconds_later m found from start minutes bit first h later lowest second =
     let low = below_end (is_bit m.seconds) 60 first m.last_second second.2 in
     let same : ((start + bit) * 60 + first) % 60 ≡ first = omega arith in
-    rw same at (seconds_after m ((start + bit) * 60 + first) (next_later m found from start minutes bit first h later lowest second).2)
+    rw same at (seconds_after m ((start + bit) * 60 + first) (next_in_hour m found from start minutes bit first h later lowest second).2)
 
-pub minutes_later : (m : Masks) (found start minutes bit first more : ℕ) → IsLeft (minute_matches (sets_in m)) (found / 60) start minutes → IsFirstPassing (is_bit minutes) 0 64 (Some bit)
+pub minutes_later : (m : Masks) (found start minutes bit first more : ℕ) → AreRemaining (minute_matches (sets_in m)) (found / 60) start minutes → IsFirstPassing (is_bit minutes) 0 64 (Some bit)
     → IsFirstPassing (is_bit m.seconds) 0 64 (Some first) → is_bit more bit ≡ false → ((i : ℕ) → i ≢ bit → is_bit more i ≡ is_bit minutes i)
-    → IsLeft (minute_matches (sets_in m)) (((start + bit) * 60 + first) / 60) start more
+    → AreRemaining (minute_matches (sets_in m)) (((start + bit) * 60 + first) / 60) start more
 minutes_later m found start minutes bit first more later lowest second cleared others =
     let low = below_end (is_bit m.seconds) 60 first m.last_second second.2 in
     let same : ((start + bit) * 60 + first) / 60 ≡ start + bit = omega arith in
@@ -213,8 +213,8 @@ minutes_later m found start minutes bit first more later lowest second cleared o
 
 -- if bits of the hour are left after a match, there is another match in the hour: the same second of the next of these
 -- minutes
-pub more_later : (m : Masks) (found start minutes : ℕ) → IsLeft (minute_matches (sets_in m)) (found / 60) start minutes → minutes < 2 ^ 64 → 0 < minutes → matches (sets_in m) found ≡ true
-    → IsMoreLater (matches (sets_in m)) found
+pub more_later : (m : Masks) (found start minutes : ℕ) → AreRemaining (minute_matches (sets_in m)) (found / 60) start minutes → minutes < 2 ^ 64 → 0 < minutes → matches (sets_in m) found ≡ true
+    → HasMoreInHour (matches (sets_in m)) found
 more_later m found start minutes h fits some holds =
     let count = seconds_in_all-is in
     let bit : ℕ = trailing_zeros w64 minutes in
@@ -232,43 +232,43 @@ more_later m found start minutes h fits some holds =
     }
 
 -- then the next match is in the same hour
-hour_known : (passes : ℕ → Bool) (local : ℕ) (next : Option ℕ) → ((t : ℕ) → passes t ≡ true → t < seconds_in_all) → IsMoreLater passes local
-    → IsFirstPassing passes (local + 1) seconds_in_all next → IfSome next (λ next. IsNextLater passes local next) × IsSome next
+hour_known : (passes : ℕ → Bool) (local : ℕ) (next : Option ℕ) → ((t : ℕ) → passes t ≡ true → t < seconds_in_all) → HasMoreInHour passes local
+    → IsFirstPassing passes (local + 1) seconds_in_all next → IfSome next (λ next. IsNextInHour passes local next) × IsSome next
 hour_known passes local next inside more none = grind arith
 
 -- and a search finds it
-pub hour_found : (m : Masks) (local : ℕ) (next : Option ℤ) → IsMoreLater (matches (sets_in m)) local → IsFirstLocal (matches (sets_in m)) (pos (local + 1)) next
-    → IfSome next (λ next. IsNextLater (matches (sets_in m)) local (unsigned_abs next)) × IsSome next
+pub hour_found : (m : Masks) (local : ℕ) (next : Option ℤ) → HasMoreInHour (matches (sets_in m)) local → IsFirstLocal (matches (sets_in m)) (pos (local + 1)) next
+    → IfSome next (λ next. IsNextInHour (matches (sets_in m)) local (unsigned_abs next)) × IsSome next
 hour_found m local next more first = grind (arith, hour_known, match_inside, first_passing)
 
 -- Searching a minute to its end
 
 -- if bits are left after the match found last, there is another match in its minute
-pub more_left : (m : Masks) (found from left local : ℕ) → IsLeft (matches (sets_in m)) found from left → left < 2 ^ 64 → 0 < left → found ≡ local → IsMoreLeft (matches (sets_in m)) local
+pub more_left : (m : Masks) (found from left local : ℕ) → AreRemaining (matches (sets_in m)) found from left → left < 2 ^ 64 → 0 < left → found ≡ local → HasMoreInMinute (matches (sets_in m)) local
 more_left m found from left local h fits some same =
     let lowest = first_bit left some fits in
-    subst (IsMoreLeft (matches (sets_in m))) same
+    subst (HasMoreInMinute (matches (sets_in m))) same
     (record { match_at = from + trailing_zeros w64 left; behind = h.behind _ lowest.2; minute = h.unit _ lowest.2; is_match = bit_passes _ found from left _ h lowest.2 })
 
 -- if no bits are left, there is no other match in its minute
-pub none_left : (m : Masks) (found from left local : ℕ) → IsLeft (matches (sets_in m)) found from left → left ≡ 0 → local ≡ found → NoneLeft (matches (sets_in m)) local
+pub none_left : (m : Masks) (found from left local : ℕ) → AreRemaining (matches (sets_in m)) found from left → left ≡ 0 → local ≡ found → NoneLeftInMinute (matches (sets_in m)) local
 none_left m found from left local h nothing same = grind (arith, is_bit-none)
 
 -- if another match follows in the same minute, the next match is there
-next_known : (passes : ℕ → Bool) (local : ℕ) (next : Option ℕ) → ((t : ℕ) → passes t ≡ true → t < seconds_in_all) → IsMoreLeft passes local
-    → IsFirstPassing passes (local + 1) seconds_in_all next → IsNextLeft passes local next × IsSome next
+next_known : (passes : ℕ → Bool) (local : ℕ) (next : Option ℕ) → ((t : ℕ) → passes t ≡ true → t < seconds_in_all) → HasMoreInMinute passes local
+    → IsFirstPassing passes (local + 1) seconds_in_all next → IsNextInMinute passes local next × IsSome next
 next_known passes local next inside more none = grind arith
 
 -- then a search finds it there
-pub next_found : (m : Masks) (local : ℕ) (next : Option ℤ) → IsMoreLeft (matches (sets_in m)) local → IsFirstLocal (matches (sets_in m)) (pos (local + 1)) next
-    → IsNextLeft (matches (sets_in m)) local (option_map unsigned_abs next) × IsSome next
+pub next_found : (m : Masks) (local : ℕ) (next : Option ℤ) → HasMoreInMinute (matches (sets_in m)) local → IsFirstLocal (matches (sets_in m)) (pos (local + 1)) next
+    → IsNextInMinute (matches (sets_in m)) local (option_map unsigned_abs next) × IsSome next
 next_found m local next more first = grind (arith, next_known, match_inside, first_passing)
 
 -- if no bits are left, the rest of the minute is reported as empty, and the match itself as the last one
-pub rest_unknown : (passes : ℕ → Bool) (local : ℕ) → passes local ≡ true → IsRest passes local 0 local
+pub rest_unknown : (passes : ℕ → Bool) (local : ℕ) → passes local ≡ true → IsRestOfMinute passes local 0 local
 rest_unknown passes local holds = grind (arith, no_bit)
 
 -- the rest of the minute after one more match is added
-pub rest_on : (passes : ℕ → Bool) (local bits last next more place : ℕ) → IsRest passes local bits last → next / 60 ≡ last / 60 → IsFirstPassing passes (last + 1) seconds_in_all (Some next)
-    → is_bit more place ≡ true → ((i : ℕ) → i ≢ place → is_bit more i ≡ is_bit bits i) → place ≡ next - local - 1 → IsRest passes local more next
+pub rest_on : (passes : ℕ → Bool) (local bits last next more place : ℕ) → IsRestOfMinute passes local bits last → next / 60 ≡ last / 60 → IsFirstPassing passes (last + 1) seconds_in_all (Some next)
+    → is_bit more place ≡ true → ((i : ℕ) → i ≢ place → is_bit more i ≡ is_bit bits i) → place ≡ next - local - 1 → IsRestOfMinute passes local more next
 rest_on passes local bits last next more place rest same first set others at = grind (arith, false_from_ne_true)

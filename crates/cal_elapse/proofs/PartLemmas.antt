@@ -4,7 +4,7 @@ use Rattle.std.specs.List.{list_any}
 use Rattle.std.proofs.lemmas.List.Folds.{list_any_more}
 use Rattle.std.proofs.lemmas.Bool.{cases_lt, le-ltb, lt-ltb}
 use Rattle.std.proofs.lemmas.Bool.Decides.{nat_tests}
-use Rattle.cal_elapse.specs.Masks.{IsWindow, last_number, slot_of}
+use Rattle.cal_elapse.specs.Masks.{AreSlotValues, last_number, slot_of}
 use Rattle.cal_spec.specs.Expr.{component}
 use Rattle.cal_spec.specs.headline.Fields.{Fields}
 use Rattle.cal_spec.specs.Members.{members_of}
@@ -36,11 +36,11 @@ values_up : (slot : Slot) (a : ℕ) (end step : Option ℕ) (v : ℕ) → is_fro
 values_up slot a end step v up small = grind (arith, and_true)
 
 -- their indices in a window
-pub part_in_window : (slot : Slot) (p : Part) (step : Option ℕ) (first count low high i : ℕ) → IsWindow slot first count → p.step ≡ step
+pub part_in_slot_values : (slot : Slot) (p : Part) (step : Option ℕ) (first count low high i : ℕ) → AreSlotValues slot first count → p.step ≡ step
     → low ≡ p.start - first → high ≡ min (last_number p.start p.end p.step + 1 - first) count
     → ((nat_le low i && nat_lt i high) && is_stepped step (first + i - p.start)) ≡ (nat_lt i count && part_has slot p (first + i))
 unfolding part_has
-part_in_window slot p step first count low high i w same_step same_low same_high =
+part_in_slot_values slot p step first count low high i w same_step same_low same_high =
     let last = last_number p.start p.end p.step in
     let moved = is_stepped p.step (first + i - p.start) in
     let places : ((nat_le low i && nat_lt i high) && is_stepped step (first + i - p.start))
@@ -64,6 +64,6 @@ pub parts_more : (has : Part → Bool) (ps : List Part) (k : ℕ) (inside before
 parts_more has ps k inside before here more was now = grind (arith, list_any_more, and_shared, take, get_or)
 
 -- `*` matches the whole window
-pub whole_window : (f : Field) (e : Fields) (first count i : ℕ) → IsWindow (slot_of f e.from_end) first count → None ≡ component f e
+pub whole_slot_values : (f : Field) (e : Fields) (first count i : ℕ) → AreSlotValues (slot_of f e.from_end) first count → None ≡ component f e
     → (nat_le 0 i && nat_lt i count) ≡ (nat_lt i count && members_of f (sets_of e) (first + i))
-whole_window f e first count i w star = grind (arith, nat_le, nat_tests, members_by, lt-ltb, le-ltb)
+whole_slot_values f e first count i w star = grind (arith, nat_le, nat_tests, members_by, lt-ltb, le-ltb)

@@ -12,21 +12,21 @@ use Rattle.cal_zone.specs.headline.Place.{place_of}
 use Rattle.cal_zone.specs.headline.Zone.{zone_of}
 use Rattle.cal_zone.specs.declared.zone.Zone.{Zone}
 use Rattle.cal_elapse.specs.headline.Elapses.{Timed}
-use Rattle.cal_elapse.specs.Looks.{IsSearch}
+use Rattle.cal_elapse.specs.ExaminedMonths.{IsSearch}
 use Rattle.cal_elapse.specs.Masks.{sets_in}
-use Rattle.cal_elapse.specs.Most.{IsMost}
-use Rattle.cal_elapse.specs.Rest.{rest_of}
+use Rattle.cal_elapse.specs.MostMonths.{IsMost}
+use Rattle.cal_elapse.specs.RemainingElapses.{remaining_elapses}
 use Rattle.cal_rising.specs.headline.Elements.{Has}
 use Rattle.cal_elapse.specs.Search.{IsFirstLocal, NonePasses}
 use Rattle.cal_elapse.specs.Window.{IsMatchAhead, IsPlacedTo, IsReady, Windowed, bound_of, count_from, start_of, timed_by, timed_of, with_place}
 use Rattle.cal_elapse.specs.declared.masks.Masks.{Masks}
 use Rattle.cal_elapse.specs.declared.search.Found.{Found}
-use Rattle.cal_elapse.specs.declared.searcher.Searcher.{Searcher}
+use Rattle.cal_elapse.specs.declared.search.searcher.Searcher.{Searcher}
 use Rattle.cal_elapse.specs.declared.window.Window.{Window}
 use Rattle.cal_elapse.proofs.CountLemmas.{count_from-begun, count_from-most, count_from-on, count_from-with}
 use Rattle.cal_civil.proofs.LocalLemmas.{local_inside}
 use Rattle.cal_elapse.proofs.FoundLemmas.{first_match, first_passing}
-use Rattle.cal_elapse.proofs.MostLemmas.{most_more, most_next, most_start, search_looked}
+use Rattle.cal_elapse.proofs.MostMonthsLemmas.{most_more, most_next, most_start, search_examined}
 use Rattle.cal_elapse.proofs.WindowLemmas.{timed_by-near, windowed_on, windowed_put, windowed_start}
 use Rattle.cal_spec.specs.headline.Match.{matches}
 
@@ -56,7 +56,7 @@ pub ready_after : (v : Window) (searcher : Searcher) (ahead : Option ℤ) (pendi
     → searcher.searches ≡ count_from (timed_of v).matches (start_of v.base) (bound_of ahead - start_of v.base) + 1
     → IsMost (sets_in v.searcher.masks) (start_of v.base) (bound_of ahead) searcher.most_months
     → IsReady (record v { searcher = searcher; ahead = ahead; pending = pending })
-ready_after v searcher ahead pending masks low above windowed found begun counted looked = grind arith
+ready_after v searcher ahead pending masks low above windowed found begun counted examined = grind arith
 
 put_at : (masks : Masks) (zone : Zone) (from bound : ℕ) (last : ℤ) (xs : List ℤ) → Windowed (timed_by masks zone) from bound last xs → (timed_by masks zone).matches bound ≡ true
     → ((i : ℤ) → Has xs i → pos bound ≤ℤ (i +ℤ pos 93_599)) → Windowed (timed_by masks zone) from (bound + 1) last (with_place (place_of (zone_of zone) (pos bound)) last xs)
@@ -83,7 +83,7 @@ placed_to v (pos local) ahead pending h at near put =
       above = h.above;
       begun = begun;
       counted = omega (arith, count_from-with e.matches start local begun match_here.1);
-      looked = subst (λ (o : Option ℤ). IsMost (sets_in v.searcher.masks) start (bound_of o) v.searcher.most_months) at h.looked;
+      examined = subst (λ (o : Option ℤ). IsMost (sets_in v.searcher.masks) start (bound_of o) v.searcher.most_months) at h.examined;
     }
 
 -- the local second converted last is a match
@@ -109,11 +109,11 @@ next_ready v (pos local) searcher found h masks more most search =
     let on = windowed_on e start (local + 1) (bound_of ahead) v.last v.pending next.low next.none h.windowed in
     let count = count_from-on e.matches start (local + 1) (bound_of ahead) (omega arith) next.low next.none in
     let none = none_before (matches (sets_in v.searcher.masks)) (local + 1) ahead (omega arith) first in
-    let looked = most_more (sets_in v.searcher.masks) start local (bound_of ahead) v.searcher.most_months (max v.searcher.most_months found.months) begun (omega arith) h.looked
+    let examined = most_more (sets_in v.searcher.masks) start local (bound_of ahead) v.searcher.most_months (max v.searcher.most_months found.months) begun (omega arith) h.examined
     (most_next (sets_in v.searcher.masks) local (bound_of ahead) v.searcher.most_months found.months (placed_is_match v (pos local) h).1
-    (search_looked (sets_in v.searcher.masks) (local + 1) found search) (omega arith) none.1) in
+    (search_examined (sets_in v.searcher.masks) (local + 1) found search) (omega arith) none.1) in
     ready_after v searcher ahead v.pending masks h.low h.above on next.found (omega arith) (omega arith)
-    (subst (IsMost (sets_in v.searcher.masks) start (bound_of ahead)) (sym most) looked)
+    (subst (IsMost (sets_in v.searcher.masks) start (bound_of ahead)) (sym most) examined)
 
 -- there were at most as many searches as local seconds so far, so the counter can't overflow
 pub few_searches : (v : Window) (local : ℤ) → IsPlacedTo v local → v.searcher.searches ≤ unsigned_abs local + 1
@@ -139,7 +139,7 @@ pub begun_ready : (searcher after : Searcher) (zone : Zone) (base : ℤ) (pendin
     → searcher.most_months ≡ 0 → after.masks ≡ searcher.masks → after.searches ≡ searcher.searches + 1 → after.most_months ≡ max searcher.most_months found.months
     → IsSearch (sets_in searcher.masks) (start_of base) found → pending ≡ []
     → IsReady (record { searcher = after; zone = zone; base = base; ahead = found.local; last = base; pending = pending })
-begun_ready searcher after zone base pending found instant zero unlooked masks more most search none =
+begun_ready searcher after zone base pending found instant zero unexamined masks more most search none =
     let ahead = found.local in
     let first = search.first in
     let v : Window = record { searcher = searcher; zone = zone; base = base; ahead = ahead; last = base; pending = pending } in
@@ -150,8 +150,8 @@ begun_ready searcher after zone base pending found instant zero unlooked masks m
     let on = windowed_on e start start (bound_of ahead) base [] next.low next.none empty in
     let count = count_from-begun e.matches start (bound_of ahead) next.low next.none in
     ready_after v after ahead pending masks instant.0 (omega (arith, ints)) (subst (Windowed e start (bound_of ahead) base) (sym none) on) next.found next.low (omega arith)
-    (most_start (sets_in searcher.masks) start (bound_of ahead) searcher.most_months after.most_months found.months (search_looked (sets_in searcher.masks) start found search) next.low
-    (none_before (matches (sets_in searcher.masks)) start ahead (start_inside base instant) first).1 unlooked most)
+    (most_start (sets_in searcher.masks) start (bound_of ahead) searcher.most_months after.most_months found.months (search_examined (sets_in searcher.masks) start found search) next.low
+    (none_before (matches (sets_in searcher.masks)) start ahead (start_inside base instant) first).1 unexamined most)
 
 -- in a zone, the masks of an expression have the same meaning as the expression
 pub timed_by-timed : (masks : Masks) (zone : Zone) (fields : Fields) → sets_in masks ≡ sets_of fields → timed_by masks zone ≡ timed fields (zone_of zone)
@@ -159,6 +159,6 @@ unfolding timed_by timed
 timed_by-timed masks zone fields same = λ i. record { matches = matches (same i); place = λ local. place_of (zone_of zone) (pos local) }
 
 -- the remaining elapses depend only on the expression, the zone and the instant returned last
-pub rest_of-same : (v w : Window) → timed_of v ≡ timed_of w → v.last ≡ w.last → rest_of v ≡ rest_of w
-unfolding rest_of
-rest_of-same v w timed last = rw (timed, last)
+pub remaining_elapses-same : (v w : Window) → timed_of v ≡ timed_of w → v.last ≡ w.last → remaining_elapses v ≡ remaining_elapses w
+unfolding remaining_elapses
+remaining_elapses-same v w timed last = rw (timed, last)

@@ -11,9 +11,9 @@ use Rattle.std.specs.BTreeSet.{insert_key}
 use Rattle.std.specs.List.{AllByRecursion}
 use Rattle.std.specs.declared.cmp.Ordering.TheVariants.{Less}
 use Rattle.cal_zone.specs.Instant.{IsInstant}
-use Rattle.cal_elapse.specs.Bits.{is_bit, is_in_words}
+use Rattle.cal_elapse.specs.Bits.{is_bit, is_bit_in}
 use Rattle.cal_elapse.proofs.BitLemmas.{is_bit-zero}
-use Rattle.cal_elapse.specs.Near.{IsNear}
+use Rattle.cal_elapse.specs.PendingInstants.{IsNear}
 use Rattle.cal_elapse.specs.Ring.{cells_in_all, cells_in_all-is, instants_in, is_held, least_kept, no_second, rising_from, IsRound, IsRoundFrom}
 use Rattle.cal_rising.specs.headline.Elements.{Has}
 use Rattle.cal_elapse.specs.Search.{IsFirstPassing}
@@ -82,34 +82,34 @@ rises-rising passes from (suc n) =
 -- Elements of a ring
 
 -- the second is within one turn of the ring from `low` on, and its cell is set
-pub record IsIn (words : List ℕ) (low : ℕ) (i : ℤ) : Type 0 where
+pub record IsIn (cells : List ℕ) (low : ℕ) (i : ℤ) : Type 0 where
   pub at : ℕ
   pub is : pos at ≡ i
   pub above : low ≤ at
   pub below : at < low + 187_200
-  pub holds : is_held words at ≡ true
+  pub holds : is_held cells at ≡ true
 
-pub Has-instants : (words : List ℕ) (low : ℕ) (i : ℤ) → Has (instants_in words low) i ↔ IsIn words low i
+pub Has-instants : (cells : List ℕ) (low : ℕ) (i : ℤ) → Has (instants_in cells low) i ↔ IsIn cells low i
 unfolding instants_in
-Has-instants words low i =
+Has-instants cells low i =
     let count = cells_in_all-is in
-    let all = Has-rising (is_held words) low cells_in_all i in (
+    let all = Has-rising (is_held cells) low cells_in_all i in (
       λ m. let a = all.0 m in record { at = a.at; is = a.is; above = a.above; below = omega (arith, a.below); holds = a.holds },
       λ a. all.1 (record { at = a.at; is = a.is; above = a.above; below = omega (arith, a.below); holds = a.holds }),
     )
 
-pub rises-instants : (words : List ℕ) (low : ℕ) → IsStrictlySortedBy int_cmp (instants_in words low)
+pub rises-instants : (cells : List ℕ) (low : ℕ) → IsStrictlySortedBy int_cmp (instants_in cells low)
 unfolding instants_in
-rises-instants words low = rises-rising (is_held words) low cells_in_all
+rises-instants cells low = rises-rising (is_held cells) low cells_in_all
 
 near_in : (low a b : ℕ) (i j : ℤ) → pos a ≡ i → pos b ≡ j → low ≤ a → a < low + 187_200 → low ≤ b → b < low + 187_200 → IsNear i j
 near_in low a b i j p q al ah bl bh = (omega (arith, ints), omega (arith, ints))
 
 -- any two elements differ by less than one turn
-pub members_near : (words : List ℕ) (low : ℕ) (i j : ℤ) → Has (instants_in words low) i → Has (instants_in words low) j → IsNear i j
-members_near words low i j m n =
-    let a = (Has-instants words low i).0 m in
-    let b = (Has-instants words low j).0 n in
+pub members_near : (cells : List ℕ) (low : ℕ) (i j : ℤ) → Has (instants_in cells low) i → Has (instants_in cells low) j → IsNear i j
+members_near cells low i j m n =
+    let a = (Has-instants cells low i).0 m in
+    let b = (Has-instants cells low j).0 n in
     near_in low a.at b.at i j a.is b.is a.above a.below b.above b.below
 
 -- two seconds of the same turn with the same cell are equal
@@ -130,43 +130,43 @@ turned low i =
       | inr late ↦ record { at = low - low % 187_200 + i % 187_200; above = omega arith; below = omega arith; same = omega arith }
     ]
 
-held_by : (words : List ℕ) (i j : ℕ) → i % 187_200 ≡ j % 187_200 → is_held words i ≡ is_held words j
+held_by : (cells : List ℕ) (i j : ℕ) → i % 187_200 ≡ j % 187_200 → is_held cells i ≡ is_held cells j
 unfolding is_held
-held_by words i j same = ap (is_in_words words) same
+held_by cells i j same = ap (is_bit_in cells) same
 
-pub member : (words : List ℕ) (low at : ℕ) → low ≤ at → at < low + 187_200 → is_held words at ≡ true → Has (instants_in words low) (pos at)
-member words low at above below holds =
-    (Has-instants words low (pos at)).1 (record { at = at; is = refl; above = above; below = below; holds = holds })
+pub member : (cells : List ℕ) (low at : ℕ) → low ≤ at → at < low + 187_200 → is_held cells at ≡ true → Has (instants_in cells low) (pos at)
+member cells low at above below holds =
+    (Has-instants cells low (pos at)).1 (record { at = at; is = refl; above = above; below = below; holds = holds })
 
 -- The smallest element
 
 at_most : (at t : ℕ) (j : ℤ) → pos t ≡ j → at ≤ t → pos at ≤ℤ j
 at_most at t j is h = omega (arith, ints)
 
-not_before : (words : List ℕ) (low at t : ℕ) → IsFirstPassing (is_held words) low (low + 187_200) (Some at) → low ≤ t → is_held words t ≡ true → at ≤ t
-not_before words low at t found above holds = grind arith
+not_before : (cells : List ℕ) (low at t : ℕ) → IsFirstPassing (is_held cells) low (low + 187_200) (Some at) → low ≤ t → is_held cells t ≡ true → at ≤ t
+not_before cells low at t found above holds = grind arith
 
-pub first_found : (words : List ℕ) (low at : ℕ) → IsFirstPassing (is_held words) low (low + 187_200) (Some at) → slice_get (instants_in words low) 0 ≡ Some (pos at)
-first_found words low at found =
-    first-least (instants_in words low) (pos at) (rises-instants words low) (member words low at found.0 found.1 found.2)
-    (λ j m. let a = (Has-instants words low j).0 m in at_most at a.at j a.is (not_before words low at a.at found a.above a.holds))
+pub first_found : (cells : List ℕ) (low at : ℕ) → IsFirstPassing (is_held cells) low (low + 187_200) (Some at) → slice_get (instants_in cells low) 0 ≡ Some (pos at)
+first_found cells low at found =
+    first-least (instants_in cells low) (pos at) (rises-instants cells low) (member cells low at found.0 found.1 found.2)
+    (λ j m. let a = (Has-instants cells low j).0 m in at_most at a.at j a.is (not_before cells low at a.at found a.above a.holds))
 
-pub none_found : (words : List ℕ) (low : ℕ) → IsFirstPassing (is_held words) low (low + 187_200) None → slice_get (instants_in words low) 0 ≡ None
-none_found words low none =
-    first-none (instants_in words low) (λ i m. let a = (Has-instants words low i).0 m in let fails = none a.at a.above a.below in let holds = a.holds in cc)
+pub none_found : (cells : List ℕ) (low : ℕ) → IsFirstPassing (is_held cells) low (low + 187_200) None → slice_get (instants_in cells low) 0 ≡ None
+none_found cells low none =
+    first-none (instants_in cells low) (λ i m. let a = (Has-instants cells low i).0 m in let fails = none a.at a.above a.below in let holds = a.holds in cc)
 
 -- The stored smallest second
 
 pub kept_some : (least : ℕ) → least ≢ no_second → least_kept least ≡ Some least
 kept_some least some = let test : (least == no_second) ≡ false = grind (arith, nat_tests) in rw test refl
 
-pub found_kept : (words : List ℕ) (least : ℕ) → IsFirstPassing (is_held words) least (least + 187_200) (least_kept least) → least ≢ no_second
-    → IsFirstPassing (is_held words) least (least + 187_200) (Some least)
-found_kept words least first some = subst (IsFirstPassing (is_held words) least (least + 187_200)) (kept_some least some) first
+pub found_kept : (cells : List ℕ) (least : ℕ) → IsFirstPassing (is_held cells) least (least + 187_200) (least_kept least) → least ≢ no_second
+    → IsFirstPassing (is_held cells) least (least + 187_200) (Some least)
+found_kept cells least first some = subst (IsFirstPassing (is_held cells) least (least + 187_200)) (kept_some least some) first
 
-pub none_kept : (words : List ℕ) (least : ℕ) → IsFirstPassing (is_held words) least (least + 187_200) (least_kept least) → least ≡ no_second
-    → IsFirstPassing (is_held words) least (least + 187_200) None
-none_kept words least first none = let test : (least == no_second) ≡ true = grind (arith, nat_tests) in rw test at first
+pub none_kept : (cells : List ℕ) (least : ℕ) → IsFirstPassing (is_held cells) least (least + 187_200) (least_kept least) → least ≡ no_second
+    → IsFirstPassing (is_held cells) least (least + 187_200) None
+none_kept cells least first none = let test : (least == no_second) ≡ true = grind (arith, nat_tests) in rw test at first
 
 -- Adding an instant
 
@@ -178,8 +178,8 @@ record IsRoundWith (low at from : ℕ) : Type 0 where
 
 -- the cell of the second `at` is set, and all other cells are unchanged
 pub record HasMore (old new : List ℕ) (at : ℕ) : Type 0 where
-  pub here : is_in_words new (at % 187_200) ≡ true
-  pub others : (cell : ℕ) → cell ≢ at % 187_200 → is_in_words new cell ≡ is_in_words old cell
+  pub here : is_bit_in new (at % 187_200) ≡ true
+  pub others : (cell : ℕ) → cell ≢ at % 187_200 → is_bit_in new cell ≡ is_bit_in old cell
 
 near_low : (i : ℤ) (t at : ℕ) → pos t ≡ i → IsNear i (pos at) → t ≤ at + 187_199
 near_low i t at is near = let low = near.0 in omega (arith, ints)
@@ -279,12 +279,12 @@ put_from old new least at more was near high whole =
 
 -- the cell of the second `at` is clear, and all other cells are unchanged
 pub record HasLess (old new : List ℕ) (at : ℕ) : Type 0 where
-  pub here : is_in_words new (at % 187_200) ≡ false
-  pub others : (cell : ℕ) → cell ≢ at % 187_200 → is_in_words new cell ≡ is_in_words old cell
+  pub here : is_bit_in new (at % 187_200) ≡ false
+  pub others : (cell : ℕ) → cell ≢ at % 187_200 → is_bit_in new cell ≡ is_bit_in old cell
 
 gone : (old new : List ℕ) (at t : ℕ) → HasLess old new at → t % 187_200 ≡ at % 187_200 → is_held new t ≡ false
 unfolding is_held
-gone old new at t less same = ap (is_in_words new) same ∙ less.here
+gone old new at t less same = ap (is_bit_in new) same ∙ less.here
 
 others_held : (old new : List ℕ) (at t : ℕ) → HasLess old new at → t % 187_200 ≢ at % 187_200 → is_held new t ≡ is_held old t
 unfolding is_held
@@ -338,8 +338,8 @@ taken_seen old new low at found less =
 below_last : (at : ℕ) → pos at ≤ℤ pos 7_258_211_998 → at ≤ 7_258_211_998
 below_last at h = omega (arith, ints)
 
-pub found_inside : (words : List ℕ) (low at : ℕ) → IsRound words low → IsFirstPassing (is_held words) low (low + 187_200) (Some at) → at ≤ 7_258_211_998
-found_inside words low at was found = below_last at (was.members (pos at) (member words low at found.0 found.1 found.2))
+pub found_inside : (cells : List ℕ) (low at : ℕ) → IsRound cells low → IsFirstPassing (is_held cells) low (low + 187_200) (Some at) → at ≤ 7_258_211_998
+found_inside cells low at was found = below_last at (was.members (pos at) (member cells low at found.0 found.1 found.2))
 
 taken_round : (old new : List ℕ) (low at : ℕ) → IsFirstPassing (is_held old) low (low + 187_200) (Some at) → HasLess old new at → length new ≡ 2_925 → IsRound old low → IsRound new at
 taken_round old new low at found less whole was =
@@ -349,37 +349,37 @@ taken_round old new low at found less whole was =
     }
 
 -- starting the ring at another second yields the same list if one turn from there contains every element
-seen_from : (words : List ℕ) (low from : ℕ) → ((t : ℕ) → low ≤ t → t < low + 187_200 → is_held words t ≡ true → (from ≤ t) × (t < from + 187_200))
-    → instants_in words from ≡ instants_in words low
-seen_from words low from kept =
-    same_rising (instants_in words from) (instants_in words low) (rises-instants words from) (rises-instants words low)
+seen_from : (cells : List ℕ) (low from : ℕ) → ((t : ℕ) → low ≤ t → t < low + 187_200 → is_held cells t ≡ true → (from ≤ t) × (t < from + 187_200))
+    → instants_in cells from ≡ instants_in cells low
+seen_from cells low from kept =
+    same_rising (instants_in cells from) (instants_in cells low) (rises-instants cells from) (rises-instants cells low)
     (λ i. (
       λ m.
-          let a = (Has-instants words from i).0 m in
+          let a = (Has-instants cells from i).0 m in
           let j = turned low a.at in
-          let held = held_by words j.at a.at j.same ∙ a.holds in
+          let held = held_by cells j.at a.at j.same ∙ a.holds in
           let inside = kept j.at j.above j.below held in
           let same = same_second from j.at a.at inside.0 inside.1 a.above a.below j.same in
-          subst (Has (instants_in words low)) a.is (subst (λ (s : ℕ). Has (instants_in words low) (pos s)) same (member words low j.at j.above j.below held)),
+          subst (Has (instants_in cells low)) a.is (subst (λ (s : ℕ). Has (instants_in cells low) (pos s)) same (member cells low j.at j.above j.below held)),
       λ m.
-          let a = (Has-instants words low i).0 m in
+          let a = (Has-instants cells low i).0 m in
           let inside = kept a.at a.above a.below a.holds in
-          subst (Has (instants_in words from)) a.is (member words from a.at inside.0 inside.1 a.holds),
+          subst (Has (instants_in cells from)) a.is (member cells from a.at inside.0 inside.1 a.holds),
     ))
 
-seen_on : (words : List ℕ) (low : ℕ) (next : Option ℕ) → IsFirstPassing (is_held words) low (low + 187_200) next
-    → instants_in words (unwrap_or next no_second) ≡ instants_in words low
-seen_on words low next none = grind (arith, seen_from, not_before)
+seen_on : (cells : List ℕ) (low : ℕ) (next : Option ℕ) → IsFirstPassing (is_held cells) low (low + 187_200) next
+    → instants_in cells (unwrap_or next no_second) ≡ instants_in cells low
+seen_on cells low next none = grind (arith, seen_from, not_before)
 
-none_anywhere : (words : List ℕ) (low t : ℕ) → IsFirstPassing (is_held words) low (low + 187_200) None → is_held words t ≡ false
-none_anywhere words low t none = let j = turned low t in sym (held_by words j.at t j.same) ∙ none j.at j.above j.below
+none_anywhere : (cells : List ℕ) (low t : ℕ) → IsFirstPassing (is_held cells) low (low + 187_200) None → is_held cells t ≡ false
+none_anywhere cells low t none = let j = turned low t in sym (held_by cells j.at t j.same) ∙ none j.at j.above j.below
 
-first_on : (words : List ℕ) (low : ℕ) (next : Option ℕ) → IsRound words low → IsFirstPassing (is_held words) low (low + 187_200) next
-    → let least = unwrap_or next no_second in IsFirstPassing (is_held words) least (least + 187_200) (least_kept least)
-first_on words low None round none = λ t above below. none_anywhere words low t none
-first_on words low (Some at) round found =
-    let inside = found_inside words low at round found in
-    subst (IsFirstPassing (is_held words) at (at + 187_200)) (sym (kept_some at (omega arith))) (omega arith, omega arith, found.2, λ t above below. absurd (omega arith))
+first_on : (cells : List ℕ) (low : ℕ) (next : Option ℕ) → IsRound cells low → IsFirstPassing (is_held cells) low (low + 187_200) next
+    → let least = unwrap_or next no_second in IsFirstPassing (is_held cells) least (least + 187_200) (least_kept least)
+first_on cells low None round none = λ t above below. none_anywhere cells low t none
+first_on cells low (Some at) round found =
+    let inside = found_inside cells low at round found in
+    subst (IsFirstPassing (is_held cells) at (at + 187_200)) (sym (kept_some at (omega arith))) (omega arith, omega arith, found.2, λ t above below. absurd (omega arith))
 
 -- after the smallest second is removed, the ring starts at the next one
 pub taken_from : (old new : List ℕ) (least : ℕ) (next : Option ℕ) → IsFirstPassing (is_held old) least (least + 187_200) (Some least) → HasLess old new least → length new ≡ 2_925
@@ -393,15 +393,15 @@ taken_from old new least next found less whole was first =
 
 -- What the operations on a set of instants return
 
-nothing_held : (words : List ℕ) (n t : ℕ) → words ≡ replicate n 0 → is_held words t ≡ false
-unfolding is_held is_in_words
-nothing_held words n t empty = ap (λ (w : ℕ). is_bit w (t % 187_200 % 64)) (ap (λ (ws : List ℕ). get_or ws (t % 187_200 / 64) 0) empty ∙ get_or-zeros n (t % 187_200 / 64)) ∙ is_bit-zero 0 (t % 187_200 % 64) (bit_at-zero (t % 187_200 % 64))
+nothing_held : (cells : List ℕ) (n t : ℕ) → cells ≡ replicate n 0 → is_held cells t ≡ false
+unfolding is_held is_bit_in
+nothing_held cells n t empty = ap (λ (w : ℕ). is_bit w (t % 187_200 % 64)) (ap (λ (ws : List ℕ). get_or ws (t % 187_200 / 64) 0) empty ∙ get_or-zeros n (t % 187_200 / 64)) ∙ is_bit-zero 0 (t % 187_200 % 64) (bit_at-zero (t % 187_200 % 64))
 
-pub nothing_seen : (words : List ℕ) (n low : ℕ) → words ≡ replicate n 0 → instants_in words low ≡ []
-nothing_seen words n low empty = list-no_first (instants_in words low) (none_found words low (λ t above below. nothing_held words n t empty))
+pub nothing_seen : (cells : List ℕ) (n low : ℕ) → cells ≡ replicate n 0 → instants_in cells low ≡ []
+nothing_seen cells n low empty = list-no_first (instants_in cells low) (none_found cells low (λ t above below. nothing_held cells n t empty))
 
-pub empty_from : (words : List ℕ) (n : ℕ) → n ≡ 2_925 → words ≡ replicate n 0 → IsRoundFrom words no_second
-empty_from words n count empty = grind (arith, length, length-replicate, nothing_seen, nothing_held)
+pub empty_from : (cells : List ℕ) (n : ℕ) → n ≡ 2_925 → cells ≡ replicate n 0 → IsRoundFrom cells no_second
+empty_from cells n count empty = grind (arith, length, length-replicate, nothing_seen, nothing_held)
 
 pub second_is : (instant : ℤ) (second : ℕ) → IsInstant instant → second ≡ unsigned_abs instant → pos second ≡ instant
 second_is instant second h e = grind (arith, ints)
@@ -423,17 +423,17 @@ pub taken_answer : (old new : List ℕ) (least : ℕ) (next : Option ℕ) (membe
     → IsFirstPassing (is_held new) least (least + 187_200) next → instants_in old least ≡ members → instants_in new (unwrap_or next no_second) ≡ drop 1 members
 taken_answer old new least next members found less first view = seen_on new least next first ∙ (taken_seen old new least least found less ∙ ap (drop 1) view)
 
-pub least_answer : (words : List ℕ) (low at : ℕ) (members : List ℤ) → instants_in words low ≡ members → IsRound words low
-    → IsFirstPassing (is_held words) low (low + 187_200) (Some at) → Some (to_z w64 at) ≡ slice_get members 0
-least_answer words low at members view was found =
-    let same : to_z w64 at ≡ pos at = to_z_pos w64 at (omega (arith, found_inside words low at was found)) in
-    ap Some same ∙ (sym (first_found words low at found) ∙ ap (λ (xs : List ℤ). slice_get xs 0) view)
+pub least_answer : (cells : List ℕ) (low at : ℕ) (members : List ℤ) → instants_in cells low ≡ members → IsRound cells low
+    → IsFirstPassing (is_held cells) low (low + 187_200) (Some at) → Some (to_z w64 at) ≡ slice_get members 0
+least_answer cells low at members view was found =
+    let same : to_z w64 at ≡ pos at = to_z_pos w64 at (omega (arith, found_inside cells low at was found)) in
+    ap Some same ∙ (sym (first_found cells low at found) ∙ ap (λ (xs : List ℤ). slice_get xs 0) view)
 
-pub none_answer : (words : List ℕ) (low : ℕ) (members : List ℤ) → instants_in words low ≡ members → IsFirstPassing (is_held words) low (low + 187_200) None → None ≡ slice_get members 0
-none_answer words low members view none = sym (none_found words low none) ∙ ap (λ (xs : List ℤ). slice_get xs 0) view
+pub none_answer : (cells : List ℕ) (low : ℕ) (members : List ℤ) → instants_in cells low ≡ members → IsFirstPassing (is_held cells) low (low + 187_200) None → None ≡ slice_get members 0
+none_answer cells low members view none = sym (none_found cells low none) ∙ ap (λ (xs : List ℤ). slice_get xs 0) view
 
-pub rises_answer : (words : List ℕ) (low : ℕ) (members : List ℤ) → instants_in words low ≡ members → IsStrictlySortedBy int_cmp members
-rises_answer words low members view = subst (IsStrictlySortedBy int_cmp) view (rises-instants words low)
+pub rises_answer : (cells : List ℕ) (low : ℕ) (members : List ℤ) → instants_in cells low ≡ members → IsStrictlySortedBy int_cmp members
+rises_answer cells low members view = subst (IsStrictlySortedBy int_cmp) view (rises-instants cells low)
 
-pub near_answer : (words : List ℕ) (low : ℕ) (members : List ℤ) → instants_in words low ≡ members → (one other : ℤ) → Has members one → Has members other → IsNear one other
-near_answer words low members view one other m n = grind (arith, members_near)
+pub near_answer : (cells : List ℕ) (low : ℕ) (members : List ℤ) → instants_in cells low ≡ members → (one other : ℤ) → Has members one → Has members other → IsNear one other
+near_answer cells low members view one other m n = grind (arith, members_near)

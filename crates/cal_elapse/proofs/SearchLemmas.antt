@@ -7,10 +7,10 @@ use Rattle.cal_civil.specs.headline.Local.{civil_date, seconds_in_all, seconds_i
 use Rattle.cal_spec.specs.headline.Match.{Sets, date_in, time_in, matches}
 use Rattle.cal_elapse.proofs.CarryLemmas.{Splits, first_here, first_later, first_then, first_within, none_by_high, none_by_low, none_later, split_at}
 use Rattle.cal_elapse.proofs.FoundLemmas.{first_local}
-use Rattle.cal_elapse.proofs.LookLemmas.{looks_today}
-use Rattle.cal_elapse.specs.Looks.{IsSearch}
+use Rattle.cal_elapse.proofs.ExaminedMonthLemmas.{examined_today}
+use Rattle.cal_elapse.specs.ExaminedMonths.{IsSearch}
 use Rattle.cal_elapse.specs.Months.{day_in}
-use Rattle.cal_elapse.specs.Steps.{day_to_start, second_on}
+use Rattle.cal_elapse.specs.SearchSteps.{day_to_start, second_on}
 use Rattle.cal_elapse.specs.Search.{IsFirstLocal, IsFirstPassing, NonePasses}
 
 pub inside : (t : ℕ) → t < 7_258_118_400 → nat_lt t seconds_in_all ≡ true
@@ -111,6 +111,6 @@ search_today sets t second found below holds time same =
     let small = time.1 in
     record {
       first = rw same (first_local (matches sets) (t + 1) (t / 86_400 * 86_400 + second) (later_today sets t second below holds time));
-      counted = rw same (sym (looks_today sets t second day (and_parts _ _ both).0 time.0 small));
+      counted = rw same (sym (examined_today sets t second day (and_parts _ _ both).0 time.0 small));
       few = omega arith;
     }

@@ -12,7 +12,7 @@ use Rattle.cal_elapse.specs.declared.masks.Masks.{Masks}
 use Rattle.cal_elapse.specs.declared.window.Window.{Window}
 use Rattle.cal_elapse.proofs.CountLemmas.{count_from-on}
 use Rattle.cal_elapse.proofs.MinuteLemmas.{match_inside}
-use Rattle.cal_elapse.proofs.MostLemmas.{most_same}
+use Rattle.cal_elapse.proofs.MostMonthsLemmas.{most_same}
 use Rattle.cal_text.proofs.General.{lt_from_test, none_chosen}
 use Rattle.cal_spec.specs.headline.Match.{matches}
 use Rattle.cal_elapse.proofs.InstantLemmas.{first_has}
@@ -76,12 +76,12 @@ same_below v i top h m full is begun t above holds = (
       ],
 )
 
-pub looked_some : (v : Window) (i : ℤ) → IsReady v → to_place v.ahead (slice_get v.pending 0) ≡ None → slice_get v.pending 0 ≡ Some i
+pub most_searched_some : (v : Window) (i : ℤ) → IsReady v → to_place v.ahead (slice_get v.pending 0) ≡ None → slice_get v.pending 0 ≡ Some i
     → IsMostSearched (sets_in v.searcher.masks) v.base (Some i) v.searcher.most_months
-looked_some v i h full at =
+most_searched_some v i h full at =
     let m = first_has v.pending i at in
     let above = ((h.windowed.members i).0 m).0 in
     let top = start_below v.base v.last i h.low h.above above in
     let there = subst (λ (o : Option ℤ). to_place v.ahead o ≡ None) at full in
     most_same (sets_in v.searcher.masks) (start_of v.base) (bound_of v.ahead) (unsigned_abs i + 93_600) v.searcher.most_months
-    (same_below v i (unsigned_abs i + 93_600) h m there top.0 top.1) h.looked
+    (same_below v i (unsigned_abs i + 93_600) h m there top.0 top.1) h.examined

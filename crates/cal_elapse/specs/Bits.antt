@@ -7,5 +7,5 @@ unfoldable pub is_bit : ℕ → ℕ → Bool
 is_bit mask i = bit_at mask i == 1
 
 -- whether the set in several words of 64 bits contains i
-unfoldable pub is_in_words : List ℕ → ℕ → Bool
-is_in_words words i = is_bit (slice_index_or words (i / 64) 0) (i % 64)
+unfoldable pub is_bit_in : List ℕ → ℕ → Bool
+is_bit_in masks i = is_bit (slice_index_or masks (i / 64) 0) (i % 64)

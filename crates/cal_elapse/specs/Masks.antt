@@ -1,6 +1,6 @@
 -- The meaning of masks, as contracts see it: systemd.time(7), Calendar Events.
 use Rattle.std.specs.Prelude.{◌≡◌, ℕ, ◌+◌, ◌-◌, ◌≤◌, Bool, ◌&&◌, false, nat_le, nat_lt, if◌then◌else◌, Option, None, Some}
-use Rattle.cal_elapse.specs.Bits.{is_bit, is_in_words}
+use Rattle.cal_elapse.specs.Bits.{is_bit, is_bit_in}
 use Rattle.cal_elapse.specs.declared.masks.Masks.{Masks}
 use Rattle.cal_spec.specs.headline.Match.{Sets}
 use Rattle.cal_spec.specs.Parts.{is_from_end}
@@ -19,7 +19,7 @@ day_place from_end n = if from_end then 31 - n else n - 1
 unfoldable pub sets_in : Masks → Sets
 sets_in masks = record {
   weekday = λ v. nat_lt v 7 && is_bit masks.weekdays v;
-  year = λ v. nat_le 1_970 v && is_in_words masks.years (v - 1_970);
+  year = λ v. nat_le 1_970 v && is_bit_in masks.years (v - 1_970);
   month = λ v. nat_le 1 v && is_bit masks.months (v - 1);
   day = λ v. (nat_le 1 v && nat_le v 31) && is_bit masks.days (day_place masks.from_end v);
   hour = is_bit masks.hours;
@@ -38,7 +38,7 @@ slot_of field.Minute from_end = Minute
 slot_of field.Second from_end = Second
 
 -- the `count` numbers from `first` on are all values of the slot, and the slot doesn't count from the end of the month
-pub record IsWindow (slot : Slot) (first count : ℕ) : Type 0 where
+pub record AreSlotValues (slot : Slot) (first count : ℕ) : Type 0 where
   pub upwards : is_from_end slot ≡ false
   pub from : least slot ≤ first
   pub upto : first + count ≤ greatest slot + 1

@@ -2,7 +2,7 @@
 -- 187,200 consecutive seconds, one turn of the ring, no two have the same cell.
 use Rattle.std.specs.Prelude.{◌≡◌, ◌+◌, ◌-◌, ◌%◌, ◌+ℤ◌, true, cond, if◌then◌else◌, ◌==◌, ℕ, zero, suc, Bool, List, [], ◌∷◌, length, Option, None, Some, ℤ, pos, ◌≤ℤ◌, refl}
 use Rattle.cal_zone.specs.Instant.{last_instant}
-use Rattle.cal_elapse.specs.Bits.{is_bit, is_in_words}
+use Rattle.cal_elapse.specs.Bits.{is_bit, is_bit_in}
 use Rattle.cal_rising.specs.headline.Elements.{Has}
 use Rattle.cal_elapse.specs.Search.{IsFirstPassing}
 
@@ -16,7 +16,7 @@ cells_in_all-is = refl
 
 -- whether the cell of a second is set
 unfoldable pub is_held : List ℕ → ℕ → Bool
-is_held words second = is_in_words words (second % 187_200)
+is_held cells second = is_bit_in cells (second % 187_200)
 
 -- how many cells `i` is after `cell`, counting around the end of the ring
 abbrev pub cells_behind : ℕ → ℕ → ℕ
@@ -35,12 +35,12 @@ rising_from passes from (suc n) = cond (passes from) (pos from ∷ rising_from p
 
 -- the instants in a ring that starts at the second `low`
 unfoldable pub instants_in : List ℕ → ℕ → List ℤ
-instants_in words low = rising_from (is_held words) low cells_in_all
+instants_in cells low = rising_from (is_held cells) low cells_in_all
 
 -- the ring has one bit for each cell, and each of its elements is an instant
-pub record IsRound (words : List ℕ) (low : ℕ) : Type 0 where
-  pub whole : length words ≡ 2_925
-  pub members : (i : ℤ) → Has (instants_in words low) i → i ≤ℤ last_instant
+pub record IsRound (cells : List ℕ) (low : ℕ) : Type 0 where
+  pub whole : length cells ≡ 2_925
+  pub members : (i : ℤ) → Has (instants_in cells low) i → i ≤ℤ last_instant
 
 -- the stored smallest second of an empty ring, later than every instant
 abbrev pub no_second : ℕ
@@ -51,6 +51,6 @@ abbrev pub least_kept : ℕ → Option ℕ
 least_kept least = if least == no_second then None else Some least
 
 -- a ring that starts at its smallest second, unless it is empty
-pub record IsRoundFrom (words : List ℕ) (least : ℕ) : Type 0 where
-  pub round : IsRound words least
-  pub first : IsFirstPassing (is_held words) least (least + 187_200) (least_kept least)
+pub record IsRoundFrom (cells : List ℕ) (least : ℕ) : Type 0 where
+  pub round : IsRound cells least
+  pub first : IsFirstPassing (is_held cells) least (least + 187_200) (least_kept least)

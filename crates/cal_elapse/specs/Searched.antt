@@ -2,7 +2,7 @@
 use Rattle.std.specs.Prelude.{◌≡◌, ◌+◌, ◌-◌, ℕ, Option, None, Some, ℤ, unsigned_abs}
 use Rattle.cal_civil.specs.headline.Local.{seconds_in_all}
 use Rattle.cal_elapse.specs.headline.Elapses.{Timed}
-use Rattle.cal_elapse.specs.Most.{IsMost}
+use Rattle.cal_elapse.specs.MostMonths.{IsMost}
 use Rattle.cal_elapse.specs.Window.{count_from, start_of}
 use Rattle.cal_spec.specs.headline.Match.{Sets}
 

@@ -12,7 +12,7 @@ use Rattle.cal_zone.specs.declared.zone.Zone.{Zone}
 unfoldable pub use Rattle.cal_elapse.specs.Count.{count_from}
 use Rattle.cal_elapse.specs.headline.Elapses.{Timed}
 use Rattle.cal_elapse.specs.Masks.{sets_in}
-use Rattle.cal_elapse.specs.Most.{IsMost}
+use Rattle.cal_elapse.specs.MostMonths.{IsMost}
 use Rattle.cal_rising.specs.headline.Elements.{Has}
 use Rattle.cal_elapse.specs.declared.masks.Masks.{Masks}
 use Rattle.cal_elapse.specs.declared.window.Window.{Window}
@@ -73,7 +73,7 @@ pub record IsReady (w : Window) : Type 0 where
   pub above : w.base ≤ℤ w.last
   pub begun : start_of w.base ≤ bound_of w.ahead
   pub counted : w.searcher.searches ≡ count_from (timed_of w).matches (start_of w.base) (bound_of w.ahead - start_of w.base) + 1
-  pub looked : IsMost (sets_in w.searcher.masks) (start_of w.base) (bound_of w.ahead) w.searcher.most_months
+  pub examined : IsMost (sets_in w.searcher.masks) (start_of w.base) (bound_of w.ahead) w.searcher.most_months
 
 -- all matching local seconds up to `local`, which is a match, were converted, and no search was made after `local` yet
 pub record IsPlacedTo (w : Window) (local : ℤ) : Type 0 where
@@ -83,4 +83,4 @@ pub record IsPlacedTo (w : Window) (local : ℤ) : Type 0 where
   pub above : w.base ≤ℤ w.last
   pub begun : start_of w.base ≤ unsigned_abs local
   pub counted : w.searcher.searches ≡ count_from (timed_of w).matches (start_of w.base) (unsigned_abs local + 1 - start_of w.base)
-  pub looked : IsMost (sets_in w.searcher.masks) (start_of w.base) (unsigned_abs local) w.searcher.most_months
+  pub examined : IsMost (sets_in w.searcher.masks) (start_of w.base) (unsigned_abs local) w.searcher.most_months

@@ -2,7 +2,7 @@
 //! Events).
 
 ghost use Rattle.std.specs.Prelude.{◌≡◌, true};
-ghost use Rattle.cal_elapse.specs.Bits.{is_bit, is_in_words};
+ghost use Rattle.cal_elapse.specs.Bits.{is_bit, is_bit_in};
 ghost use Rattle.cal_elapse.specs.Covered.{AreAmong, HasAll};
 ghost use Rattle.cal_elapse.specs.Masks.{sets_in};
 
@@ -33,12 +33,12 @@ fn has_all(mask: u64, others: u64) -> bool
     mask | others == mask
 }
 
-/// Returns whether each word of `words` has all bits of the same word of `others`.
-fn have_all(words: &[u64; 4], others: &[u64; 4]) -> bool
-    ensures { result ≡ true → HasAll (is_in_words words.now) (is_in_words others.now) }
+/// Returns whether each word of `masks` has all bits of the same word of `others`.
+fn have_all(masks: &[u64; 4], others: &[u64; 4]) -> bool
+    ensures { result ≡ true → HasAll (is_bit_in masks.now) (is_bit_in others.now) }
 {
-    has_all(words[0], others[0])
-        & has_all(words[1], others[1])
-        & has_all(words[2], others[2])
-        & has_all(words[3], others[3])
+    has_all(masks[0], others[0])
+        & has_all(masks[1], others[1])
+        & has_all(masks[2], others[2])
+        & has_all(masks[3], others[3])
 }

@@ -35,8 +35,8 @@ impl<'z> Elapses<'z> {
     ghost use Rattle.cal_zone.specs.headline.Zone.{zone_of};
     ghost use Rattle.cal_elapse.specs.Elapses.{elapses_after};
     ghost use Rattle.cal_elapse.specs.Masks.{sets_in};
-    ghost use Rattle.cal_elapse.specs.Most.{IsLooked};
-    ghost use Rattle.cal_elapse.specs.Rest.{rest_of};
+    ghost use Rattle.cal_elapse.specs.MostMonths.{IsExamined};
+    ghost use Rattle.cal_elapse.specs.RemainingElapses.{remaining_elapses};
     ghost use Rattle.cal_elapse.specs.headline.Timed.{timed};
     ghost use Rattle.cal_elapse.specs.Window.{start_of, timed_of};
     ghost use Rattle.cal_spec.specs.headline.Members.{sets_of};
@@ -50,14 +50,14 @@ impl<'z> Elapses<'z> {
         zone: Zone<'z>,
         base: Instant,
     ) -> Result<Elapses<'z>, NoMemory>
-        ensures rest { IfOk result (λ elapses. rest_of elapses
+        ensures rest { IfOk result (λ elapses. remaining_elapses elapses
             ≡ elapses_after (timed expr.now (zone_of zone.entry) ∷ []) base.secs) }
         ensures timed { IfOk result (λ elapses. timed_of elapses ≡ timed expr.now (zone_of zone.entry)) }
         ensures base { IfOk result (λ elapses. elapses.base ≡ base.secs) }
         ensures searched { IfOk result (λ elapses. elapses.searcher.searches ≡ 1) }
         ensures masks { IfOk result (λ elapses. sets_in elapses.searcher.masks ≡ sets_of expr.now) }
-        ensures looked { IfOk result
-            (λ elapses. IsLooked (sets_of expr.now) (start_of base.secs) elapses.searcher.most_months) }
+        ensures examined { IfOk result
+            (λ elapses. IsExamined (sets_of expr.now) (start_of base.secs) elapses.searcher.most_months) }
         ensures few { IfOk result (λ elapses. elapses.searcher.most_months ≤ 2_760) }
     {
         Ok(Elapses {
@@ -87,12 +87,12 @@ impl Rising for Elapses<'_> {
     ghost use Rattle.std.specs.Prelude.{◌≡◌, ◌≤◌, IfSome, IsSome, drop, slice_get};
     ghost use Rattle.std.specs.Ordering.{int_eq};
     ghost use Rattle.std.specs.Set.{is_member};
-    ghost use Rattle.cal_elapse.specs.Rest.{rest_of, rises-rest_of};
+    ghost use Rattle.cal_elapse.specs.RemainingElapses.{remaining_elapses, rises-remaining_elapses};
     ghost use Rattle.cal_elapse.specs.Masks.{sets_in};
     ghost use Rattle.cal_elapse.specs.Searched.{IsMostSearched, IsSearched};
     ghost use Rattle.cal_elapse.specs.Window.{timed_of};
 
-    ghost rest = { rest_of };
+    ghost rest = { remaining_elapses };
 
     /// Removes and returns the next elapse, or `None` if there are no more.
     ///
@@ -101,13 +101,13 @@ impl Rising for Elapses<'_> {
     /// `None`, they are the first one and one after every match from there on. `most_months` is the largest number of
     /// months that one of these searches examined, at most 2,760.
     fn next(&mut self) -> Option<i64>
-        ensures given { result ≡ slice_get (rest_of self.old) 0 }
-        ensures left { rest_of self.new ≡ drop 1 (rest_of self.old) }
+        ensures given { result ≡ slice_get (remaining_elapses self.old) 0 }
+        ensures left { remaining_elapses self.new ≡ drop 1 (remaining_elapses self.old) }
         ensures masks { self.new.searcher.masks ≡ self.old.searcher.masks }
         ensures timed { timed_of self.new ≡ timed_of self.old }
         ensures base { self.new.base ≡ self.old.base }
         ensures searched { IsSearched (timed_of self.old) self.old.base result self.new.searcher.searches }
-        ensures looked { IsMostSearched (sets_in self.old.searcher.masks) self.old.base result self.new.searcher.most_months }
+        ensures examined { IsMostSearched (sets_in self.old.searcher.masks) self.old.base result self.new.searcher.most_months }
         ensures few { self.new.searcher.most_months ≤ 2_760 }
     {
         self.window.fill();
@@ -116,9 +116,9 @@ impl Rising for Elapses<'_> {
 
     /// Returns whether `number` is an elapse that was not returned yet. It makes no search, and it can always tell.
     fn has(&mut self, number: i64) -> Option<bool>
-        ensures has { IfSome result (λ has. has ≡ is_member int_eq (rest_of self.old) number) }
+        ensures has { IfSome result (λ has. has ≡ is_member int_eq (remaining_elapses self.old) number) }
         ensures says { IsSome result }
-        ensures same { rest_of self.new ≡ rest_of self.old }
+        ensures same { remaining_elapses self.new ≡ remaining_elapses self.old }
         ensures window { self.new ≡ self.old }
     {
         match Instant::new(number) {
@@ -127,5 +127,5 @@ impl Rising for Elapses<'_> {
         }
     }
 
-    ghost rises = { rises-rest_of };
+    ghost rises = { rises-remaining_elapses };
 }

@@ -3,21 +3,21 @@
 
 mod bits;
 mod covers;
-mod day_search;
+
 mod elapses;
 pub mod laws;
 mod masks;
 mod masks_of;
-mod matched;
+mod match_test;
 mod month;
 mod month_days;
-mod month_search;
+
 mod pending;
 mod ring;
 mod scan;
 mod search;
-mod searcher;
-mod time_search;
+
+
 mod window;
 
 pub use cal_rising::{Listed, Merge, NoMemory, Rising};

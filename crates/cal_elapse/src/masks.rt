@@ -1,7 +1,7 @@
 //! The values that each field of a calendar expression matches, as bits (systemd.time(7), Calendar Events).
 
 ghost use Rattle.std.specs.Prelude.{◌≡◌, ◌%◌, ◌<◌, ◌≤◌, ℕ, false};
-ghost use Rattle.cal_elapse.specs.Bits.{is_bit, is_in_words};
+ghost use Rattle.cal_elapse.specs.Bits.{is_bit, is_bit_in};
 
 /// The values that each field of a calendar expression matches, one bit for each. The lowest bit stands for the
 /// smallest value of the field: 1970 for years, 1 for months and days.
@@ -21,7 +21,7 @@ pub struct Masks {
     pub(crate) seconds: u64,
     pub(crate) from_end: bool,
     ghost weeks: { (i : ℕ) → i < 42 → is_bit weekdays i ≡ is_bit weekdays (i % 7) },
-    ghost last_year: { (i : ℕ) → 230 ≤ i → is_in_words years i ≡ false },
+    ghost last_year: { (i : ℕ) → 230 ≤ i → is_bit_in years i ≡ false },
     ghost last_month: { (i : ℕ) → 12 ≤ i → is_bit months i ≡ false },
     ghost last_hour: { (i : ℕ) → 24 ≤ i → is_bit hours i ≡ false },
     ghost last_minute: { (i : ℕ) → 60 ≤ i → is_bit minutes i ≡ false },

@@ -3,7 +3,7 @@
 ghost use Rattle.std.specs.Prelude.{◌≡◌, ◌==◌, ◌+◌, ◌-◌, ◌%◌, ◌<◌, ◌≤◌, ◌&&◌, ◌||◌, ◌≢◌, ℕ, false, nat_le, nat_lt, slice_index_or, if◌then◌else◌};
 ghost use Rattle.std.specs.List.{list_any};
 ghost use Rattle.cal_elapse.specs.Bits.{is_bit};
-ghost use Rattle.cal_elapse.specs.Masks.{IsWindow, last_number, sets_in, slot_of};
+ghost use Rattle.cal_elapse.specs.Masks.{AreSlotValues, last_number, sets_in, slot_of};
 ghost use Rattle.cal_spec.specs.Members.{members_of};
 ghost use Rattle.cal_spec.specs.headline.Members.{part_has, sets_of};
 ghost use Rattle.cal_spec.specs.declared.field.Field.TheVariants.{Day};
@@ -52,7 +52,7 @@ fn weeks(weekdays: &[bool; 7]) -> u64
 /// all of them are.
 fn members(expr: &Expr, field: Field, first: u16, count: u32) -> u64
     requires few { count ≤ 64 }
-    requires window { IsWindow (slot_of field expr.now.from_end) first count }
+    requires values { AreSlotValues (slot_of field expr.now.from_end) first count }
     ensures { (i : ℕ) → is_bit result i ≡ (nat_lt i count && members_of field (sets_of expr.now) (first + i)) }
 {
     match expr.field(field) {
@@ -65,7 +65,7 @@ fn members(expr: &Expr, field: Field, first: u16, count: u32) -> u64
 fn in_parts(parts: &[Part], first: u16, count: u32) -> u64
     requires few { count ≤ 64 }
     requires within { first ≤ 2_200 }
-    ensures { (slot : Slot) → IsWindow slot first count → (i : ℕ)
+    ensures { (slot : Slot) → AreSlotValues slot first count → (i : ℕ)
         → is_bit result i ≡ (nat_lt i count && list_any (λ part. part_has slot part (first + i)) parts.now) }
 {
     let mut mask = 0;
@@ -79,7 +79,7 @@ fn in_parts(parts: &[Part], first: u16, count: u32) -> u64
 fn in_part(part: Part, first: u16, count: u32) -> u64
     requires few { count ≤ 64 }
     requires within { first ≤ 2_200 }
-    ensures { (slot : Slot) → IsWindow slot first count → (i : ℕ)
+    ensures { (slot : Slot) → AreSlotValues slot first count → (i : ℕ)
         → is_bit result i ≡ (nat_lt i count && part_has slot part (first + i)) }
 {
     let low = u32::from(part.start.saturating_sub(first));

@@ -74,11 +74,11 @@ fn first_of(year: i16, number: u8) -> u32
     requires later { pos 0 ≤ℤ days_from_civil year number 1 }
     ensures { pos result ≡ days_from_civil year number 1 }
 {
-    day_number(Date::constrain(year, number, 1))
+    epoch_day(Date::constrain(year, number, 1))
 }
 
 /// Returns the day number of a date in 1970 or later.
-fn day_number(date: Date) -> u32
+fn epoch_day(date: Date) -> u32
     requires { pos 0 ≤ℤ epoch_day date }
     ensures { pos result ≡ epoch_day date }
 {

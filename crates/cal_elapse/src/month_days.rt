@@ -19,18 +19,18 @@ pub(crate) struct MonthDays {
 }
 
 impl MonthDays {
-    /// Forms the set for a month whose year and number the expression matches, and adds 1 to `looks`. Shifts the mask
+    /// Forms the set for a month whose year and number the expression matches, and adds 1 to `examined`. Shifts the mask
     /// of days and the mask of weekdays so that both start with the first of the month.
     #[tactic(auto, using(crate::proofs::MonthLemmas::month_bounds))]
-    pub(crate) fn of(masks: &Masks, month: Month, looks: &mut u32) -> MonthDays
+    pub(crate) fn of(masks: &Masks, month: Month, examined: &mut u32) -> MonthDays
         requires member { month_in (sets_in masks.now) month.index ≡ true }
-        requires few { looks.old < 2_760 }
-        ensures counted { looks.new ≡ looks.old + 1 }
+        requires few { examined.old < 2_760 }
+        ensures counted { examined.new ≡ examined.old + 1 }
         ensures days { (k : ℕ) → k < month.length
             → is_bit result.bits k ≡ day_in (sets_in masks.now) (month.first + k) }
         ensures within { (k : ℕ) → is_bit result.bits k ≡ true → k < month.length }
     {
-        *looks += 1;
+        *examined += 1;
         let days = masks.days >> first_day_bit(masks.from_end, month.length);
         let weekdays = masks.weekdays >> ((month.first + 3) % 7);
         MonthDays {

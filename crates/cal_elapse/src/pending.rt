@@ -5,16 +5,16 @@ ghost use Rattle.std.specs.Ordering.{int_cmp};
 ghost use Rattle.std.specs.List.Sorted.{IsStrictlySortedBy};
 ghost use Rattle.std.specs.BTreeSet.{insert_key};
 ghost use Rattle.cal_zone.specs.Instant.{IsInstant};
-ghost use Rattle.cal_elapse.specs.Near.{IsNear};
+ghost use Rattle.cal_elapse.specs.PendingInstants.{IsNear};
 ghost use Rattle.cal_rising.specs.headline.Elements.{Has};
 
 use crate::NoMemory;
-use crate::ring::{CELLS, WORDS, clear_cell, first_held, set_cell, set_cells};
+use crate::ring::{CELLS, CELL_WORDS, clear_cell, first_held, set_cell, set_cells};
 use std::alloc::Global;
 use std::marker::Model;
 
 /// The value of `least` for an empty set. It is later than every instant.
-const NONE: u64 = u64::MAX;
+const NO_SECOND: u64 = u64::MAX;
 
 /// A set of instants. A contract sees it as a strictly increasing list.
 ///
@@ -23,8 +23,8 @@ const NONE: u64 = u64::MAX;
 #[derive(Drop)]
 pub struct Pending {
     /// One bit for each cell.
-    cells: Box<[u64; WORDS]>,
-    /// The smallest element, or `NONE`. The ring starts at its cell. It is stored so that finding it takes one scan per
+    cells: Box<[u64; CELL_WORDS]>,
+    /// The smallest element, or `NO_SECOND`. The ring starts at its cell. It is stored so that finding it takes one scan per
     /// removal, and none per call of `least`.
     least: u64,
 }
@@ -49,8 +49,8 @@ impl Pending {
         ensures { IfOk result (λ pending. pending ≡ []) }
     {
         Ok(Pending {
-            cells: Box::new(alloc, [0; WORDS])?,
-            least: NONE,
+            cells: Box::new(alloc, [0; CELL_WORDS])?,
+            least: NO_SECOND,
         })
     }
 
@@ -67,7 +67,7 @@ impl Pending {
 
     /// Adds several instants: bit i of `bits` stands for the instant `start` + i. All must be later than the smallest
     /// element, which must exist, and must differ from each element by at most 187,199 seconds.
-    pub fn put_all(&mut self, start: i64, bits: u64)
+    pub fn put_bits(&mut self, start: i64, bits: u64)
         requires begun { IsSomeAnd (slice_get self.old 0) (λ least. least <ℤ start) }
         requires instants { (i : ℤ) → IsOneOf start bits i → IsInstant i }
         requires near { (member i : ℤ) → Has self.old member → IsOneOf start bits i → IsNear member i }
@@ -84,7 +84,7 @@ impl Pending {
         ensures rises { IsStrictlySortedBy int_cmp self.now }
         ensures near { (one other : ℤ) → Has self.now one → Has self.now other → IsNear one other }
     {
-        if self.least == NONE {
+        if self.least == NO_SECOND {
             None
         } else {
             Some(self.least as i64)
@@ -97,11 +97,11 @@ impl Pending {
         ensures left { self.new ≡ drop 1 self.old }
     {
         let second = self.least;
-        if second == NONE {
+        if second == NO_SECOND {
             return None;
         }
         clear_cell(self.cells.as_mut_slice(), second % CELLS);
-        self.least = first_held(self.cells.as_slice(), second).unwrap_or(NONE);
+        self.least = first_held(self.cells.as_slice(), second).unwrap_or(NO_SECOND);
         Some(second as i64)
     }
 }

@@ -3,7 +3,7 @@
 
 ghost use Rattle.std.specs.Prelude.{◌≡◌, ◌≢◌, ◌+◌, ◌*◌, ◌<◌, ◌≤ℤ◌, ℕ, pos, true, false, ◌||◌, length};
 ghost use Rattle.cal_zone.specs.Instant.{last_instant};
-ghost use Rattle.cal_elapse.specs.Bits.{is_bit, is_in_words};
+ghost use Rattle.cal_elapse.specs.Bits.{is_bit, is_bit_in};
 ghost use Rattle.cal_elapse.specs.Ring.{cells_behind, is_held};
 ghost use Rattle.cal_elapse.specs.Search.{IsFirstPassing};
 
@@ -11,7 +11,7 @@ use crate::bits::{lowest_bit, next_bit, with_bit, without_bit};
 use crate::scan::first_set;
 
 /// The number of words.
-pub const WORDS: usize = 2_925;
+pub const CELL_WORDS: usize = 2_925;
 
 /// The number of cells. It is more than twice 93,599, the largest distance in seconds between a local second and its
 /// instant.
@@ -19,37 +19,37 @@ pub const CELLS: u64 = 187_200;
 
 /// Returns the first second at or after `low` whose cell is set. It searches one turn of the ring, so each cell stands
 /// for one second.
-pub fn first_held(words: &[u64], low: u64) -> Option<u64>
-    requires whole { length words.now ≡ 2_925 }
+pub fn first_held(cells: &[u64], low: u64) -> Option<u64>
+    requires whole { length cells.now ≡ 2_925 }
     requires low { pos low ≤ℤ last_instant }
-    ensures { IsFirstPassing (is_held words.now) low (low + 187_200) result }
+    ensures { IsFirstPassing (is_held cells.now) low (low + 187_200) result }
 {
     let cell = low % CELLS;
     let start = low - cell;
-    if let Some(found) = next_cell(words, cell) {
+    if let Some(found) = next_cell(cells, cell) {
         return Some(start + found);
     }
-    match next_cell(words, 0) {
+    match next_cell(cells, 0) {
         Some(found) => Some(start + CELLS + found),
         None => None,
     }
 }
 
 /// Returns the first cell at or after `from` that is set.
-fn next_cell(words: &[u64], from: u64) -> Option<u64>
-    requires whole { length words.now ≡ 2_925 }
+fn next_cell(cells: &[u64], from: u64) -> Option<u64>
+    requires whole { length cells.now ≡ 2_925 }
     requires inside { from < 187_200 }
-    ensures { IsFirstPassing (is_in_words words.now) from 187_200 result }
+    ensures { IsFirstPassing (is_bit_in cells.now) from 187_200 result }
 {
     let word = (from / 64) as usize;
-    if let Some(bit) = next_bit(words[word], (from % 64) as u32) {
+    if let Some(bit) = next_bit(cells[word], (from % 64) as u32) {
         return Some(cell_at(word, bit));
     }
-    let Some(later) = first_set(words.split_at(word + 1).1) else {
+    let Some(later) = first_set(cells.split_at(word + 1).1) else {
         return None;
     };
     let word = word + 1 + later;
-    Some(cell_at(word, lowest_bit(words[word])))
+    Some(cell_at(word, lowest_bit(cells[word])))
 }
 
 fn cell_at(word: usize, bit: u32) -> u64
@@ -61,41 +61,41 @@ fn cell_at(word: usize, bit: u32) -> u64
 }
 
 /// Sets a cell.
-pub fn set_cell(words: &mut [u64], cell: u64)
-    requires whole { length words.old ≡ 2_925 }
+pub fn set_cell(cells: &mut [u64], cell: u64)
+    requires whole { length cells.old ≡ 2_925 }
     requires inside { cell < 187_200 }
-    ensures whole { length words.new ≡ 2_925 }
-    ensures set { is_in_words words.new cell ≡ true }
-    ensures others { (i : ℕ) → i ≢ cell → is_in_words words.new i ≡ is_in_words words.old i }
+    ensures whole { length cells.new ≡ 2_925 }
+    ensures set { is_bit_in cells.new cell ≡ true }
+    ensures others { (i : ℕ) → i ≢ cell → is_bit_in cells.new i ≡ is_bit_in cells.old i }
 {
     let word = (cell / 64) as usize;
-    words[word] = with_bit(words[word], (cell % 64) as u32);
+    cells[word] = with_bit(cells[word], (cell % 64) as u32);
 }
 
 /// Sets several cells at or after `cell`: bit i of `bits` stands for the cell i places after it. Wraps around at the
 /// end of the ring.
-pub fn set_cells(words: &mut [u64], cell: u64, bits: u64)
-    requires whole { length words.old ≡ 2_925 }
+pub fn set_cells(cells: &mut [u64], cell: u64, bits: u64)
+    requires whole { length cells.old ≡ 2_925 }
     requires inside { cell < 187_200 }
-    ensures whole { length words.new ≡ 2_925 }
+    ensures whole { length cells.new ≡ 2_925 }
     ensures set { (i : ℕ) → i < 187_200
-        → is_in_words words.new i ≡ (is_in_words words.old i || is_bit bits (cells_behind cell i)) }
+        → is_bit_in cells.new i ≡ (is_bit_in cells.old i || is_bit bits (cells_behind cell i)) }
 {
     let word = (cell / 64) as usize;
     let shift = (cell % 64) as u32;
-    words[word] |= bits << shift;
-    let next = if word + 1 == WORDS { 0 } else { word + 1 };
-    words[next] |= bits >> 1 >> (63 - shift);
+    cells[word] |= bits << shift;
+    let next = if word + 1 == CELL_WORDS { 0 } else { word + 1 };
+    cells[next] |= bits >> 1 >> (63 - shift);
 }
 
 /// Clears a cell.
-pub fn clear_cell(words: &mut [u64], cell: u64)
-    requires whole { length words.old ≡ 2_925 }
+pub fn clear_cell(cells: &mut [u64], cell: u64)
+    requires whole { length cells.old ≡ 2_925 }
     requires inside { cell < 187_200 }
-    ensures whole { length words.new ≡ 2_925 }
-    ensures cleared { is_in_words words.new cell ≡ false }
-    ensures others { (i : ℕ) → i ≢ cell → is_in_words words.new i ≡ is_in_words words.old i }
+    ensures whole { length cells.new ≡ 2_925 }
+    ensures cleared { is_bit_in cells.new cell ≡ false }
+    ensures others { (i : ℕ) → i ≢ cell → is_bit_in cells.new i ≡ is_bit_in cells.old i }
 {
     let word = (cell / 64) as usize;
-    words[word] = without_bit(words[word], (cell % 64) as u32);
+    cells[word] = without_bit(cells[word], (cell % 64) as u32);
 }

@@ -10,11 +10,11 @@ use std::simd::prelude::*;
 const LANES: usize = 32;
 
 /// Returns the index of the first word that isn't 0, or `None` if all words are 0.
-pub fn first_set(words: &[u64]) -> Option<usize>
-    ensures { result ≡ position (λ x. not (x == 0)) words.now }
+pub fn first_set(cells: &[u64]) -> Option<usize>
+    ensures { result ≡ position (λ x. not (x == 0)) cells.now }
 {
-    for at in zeros_in_front(words)..words.len() {
-        if words[at] != 0 {
+    for at in zeros_in_front(cells)..cells.len() {
+        if cells[at] != 0 {
             return Some(at);
         }
     }
@@ -23,15 +23,15 @@ pub fn first_set(words: &[u64]) -> Option<usize>
 
 /// Returns a number of words at the start of the slice that are all 0, in whole loads: up to the first load with a word
 /// that isn't 0, or up to the last words, which fill no load.
-fn zeros_in_front(words: &[u64]) -> usize
-    ensures inside { result ≤ length words.now }
-    ensures zeros { (k : ℕ) → k < result → is_set (slice_index_or words.now k 0) ≡ false }
+fn zeros_in_front(cells: &[u64]) -> usize
+    ensures inside { result ≤ length cells.now }
+    ensures zeros { (k : ℕ) → k < result → is_set (slice_index_or cells.now k 0) ≡ false }
 {
-    for block in 0..words.len() / LANES {
+    for block in 0..cells.len() / LANES {
         let at = block * LANES;
-        if u64x32::from_slice(&words[at..]).reduce_or() != 0 {
+        if u64x32::from_slice(&cells[at..]).reduce_or() != 0 {
             return at;
         }
     }
-    words.len() / LANES * LANES
+    cells.len() / LANES * LANES
 }

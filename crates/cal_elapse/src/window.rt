@@ -8,14 +8,14 @@ ghost use Rattle.cal_zone.specs.headline.Zone.{zone_of};
 ghost use Rattle.cal_rising.specs.headline.Elements.{Has};
 ghost use Rattle.cal_elapse.specs.Window.{start_of, to_place, with_place};
 
-use crate::searcher::{Searcher, Start};
+use crate::search::searcher::{Searcher, SearchStart};
 use crate::{NoMemory, Pending};
 use cal_spec::Expr;
 use cal_zone::{Instant, PlaceCache, Zone};
 use std::alloc::Global;
 
 /// The largest distance in seconds between a local second and its instant: the largest UTC offset, 25:59:59.
-const FARTHEST: i64 = 93_599;
+const MAX_OFFSET: i64 = 93_599;
 
 /// The state of a source of elapses: the search, the pending instants, and the instant returned last. Every public call
 /// leaves it ready, as `IsReady` says.
@@ -39,7 +39,7 @@ impl<'z> Window<'z> {
     ghost use Rattle.cal_elapse.specs.Elapses.{elapses_after};
     ghost use Rattle.cal_rising.specs.headline.Elements.{Has};
     ghost use Rattle.cal_elapse.specs.Masks.{sets_in};
-    ghost use Rattle.cal_elapse.specs.Most.{IsLooked};
+    ghost use Rattle.cal_elapse.specs.MostMonths.{IsExamined};
     ghost use Rattle.cal_elapse.specs.Searched.{IsMostSearched, IsSearched};
     ghost use Rattle.cal_elapse.specs.headline.Elapses.{IsPlace};
     ghost use Rattle.cal_elapse.specs.headline.Timed.{timed};
@@ -60,12 +60,12 @@ impl<'z> Window<'z> {
         ensures base { IfOk result (λ window. window.base ≡ base.secs) }
         ensures searched { IfOk result (λ window. window.searcher.searches ≡ 1) }
         ensures masks { IfOk result (λ window. sets_in window.searcher.masks ≡ sets_of expr.now) }
-        ensures looked { IfOk result
-            (λ window. IsLooked (sets_of expr.now) (start_of base.secs) window.searcher.most_months) }
+        ensures examined { IfOk result
+            (λ window. IsExamined (sets_of expr.now) (start_of base.secs) window.searcher.most_months) }
     {
         let pending = Pending::new(alloc)?;
         let mut searcher = Searcher::of(expr);
-        let ahead = searcher.search(Start::At(first_local(base))).local;
+        let ahead = searcher.search(SearchStart::At(first_local(base))).local;
         let base = base.secs();
         Ok(Window {
             searcher,
@@ -95,18 +95,18 @@ impl<'z> Window<'z> {
                 break;
             }
             put_place(&mut self.pending, &mut self.zone, local, self.last);
-            let placed = self.place_rest(local);
-            ahead = self.searcher.search(Start::After(placed)).local;
+            let placed = self.convert_minute(local);
+            ahead = self.searcher.search(SearchStart::After(placed)).local;
         }
         self.ahead = ahead;
     }
 
     /// Searches for all remaining matches in the minute of `local`, a match that was converted, and converts them at
     /// once. This is possible only if every second of the minute has to be converted now and the UTC offset is constant
-    /// to the end of the minute; if not, nothing changes. If no matches are left in the minute, calls `pass_hour`
+    /// to the end of the minute; if not, nothing changes. If no matches are left in the minute, calls `skip_hour`
     /// instead. Returns the last match that was converted, which can be `local`.
     #[tactic(auto, using(cal_civil::proofs::LocalLemmas::local_arith, crate::proofs::ReadyLemmas::few_searches, crate::proofs::ReadyLemmas::placed_is_match))]
-    fn place_rest(&mut self, local: i64) -> i64
+    fn convert_minute(&mut self, local: i64) -> i64
         requires { IsPlacedTo self.old local }
         ensures placed { IsPlacedTo self.new result }
         ensures on { local ≤ℤ result }
@@ -115,8 +115,8 @@ impl<'z> Window<'z> {
         ensures base { self.new.base ≡ self.old.base }
         ensures last { self.new.last ≡ self.old.last }
     {
-        if !self.searcher.has_left(local) {
-            return self.pass_hour(local);
+        if !self.searcher.has_more_in_minute(local) {
+            return self.skip_hour(local);
         }
         let end = minute_end(local);
         let least = self.pending.least();
@@ -129,12 +129,12 @@ impl<'z> Window<'z> {
         let place = local - offset;
         match least {
             // No instant of the rest is after the instant returned last.
-            None if end - offset <= self.last => self.searcher.search_left(local).last,
+            None if end - offset <= self.last => self.searcher.search_minute(local).last,
             // All instants of the rest are after the smallest pending one, because the instant of the match isn't
             // before it.
             Some(least) if least <= place => {
-                let rest = self.searcher.search_left(local);
-                self.pending.put_all(place + 1, rest.bits);
+                let rest = self.searcher.search_minute(local);
+                self.pending.put_bits(place + 1, rest.bits);
                 rest.last
             }
             _ => local,
@@ -145,7 +145,7 @@ impl<'z> Window<'z> {
     /// no instant up to the end of that hour is after the instant returned last. These matches need no conversion.
     /// Returns the last of them, or `local` if nothing was searched.
     #[tactic(auto, using(cal_civil::proofs::LocalLemmas::local_arith, crate::proofs::ReadyLemmas::few_searches, crate::proofs::ReadyLemmas::placed_is_match))]
-    fn pass_hour(&mut self, local: i64) -> i64
+    fn skip_hour(&mut self, local: i64) -> i64
         requires { IsPlacedTo self.old local }
         ensures placed { IsPlacedTo self.new result }
         ensures on { local ≤ℤ result }
@@ -154,7 +154,7 @@ impl<'z> Window<'z> {
         ensures base { self.new.base ≡ self.old.base }
         ensures last { self.new.last ≡ self.old.last }
     {
-        if self.pending.least().is_some() || !self.searcher.has_later(local) {
+        if self.pending.least().is_some() || !self.searcher.has_more_in_hour(local) {
             return local;
         }
         let end = hour_end(local);
@@ -173,7 +173,7 @@ impl<'z> Window<'z> {
         ensures timed { timed_of self.new ≡ timed_of self.old }
         ensures base { self.new.base ≡ self.old.base }
         ensures searched { IsSearched (timed_of self.old) self.old.base result self.new.searcher.searches }
-        ensures looked { IsMostSearched (sets_in self.old.searcher.masks) self.old.base result self.new.searcher.most_months }
+        ensures examined { IsMostSearched (sets_in self.old.searcher.masks) self.old.base result self.new.searcher.most_months }
         ensures given { result ≡ slice_get (elapses_after (timed_of self.old ∷ []) self.old.last) 0 }
         ensures left { elapses_after (timed_of self.new ∷ []) self.new.last
             ≡ drop 1 (elapses_after (timed_of self.old ∷ []) self.old.last) }
@@ -204,7 +204,7 @@ fn first_local(base: Instant) -> i64
     ensures start { result ≡ pos (start_of base.secs) }
     ensures inside { result ≤ℤ pos seconds_in_all }
 {
-    (base.secs() - FARTHEST).max(0)
+    (base.secs() - MAX_OFFSET).max(0)
 }
 
 /// Returns the last local second of the minute of `local`.
@@ -230,7 +230,7 @@ fn is_to_place(local: i64, least: Option<i64>) -> bool
     ensures { to_place (Some local) least ≡ cond result (Some local) None }
 {
     match least {
-        Some(instant) => local - FARTHEST <= instant,
+        Some(instant) => local - MAX_OFFSET <= instant,
         None => true,
     }
 }

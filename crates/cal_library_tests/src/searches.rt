@@ -91,11 +91,11 @@ fn each_once_rising(rt: HostRuntime) -> Result<(), AllocError> {
 
 /// No words at all, and as many words as the set of pending instants has: first all 0, then only the last one not 0.
 #[test]
-fn first_word(rt: HostRuntime) {
-    let mut words = [0; 2_925];
-    assert_eq!(rt; (first_set(&[]), first_set(&words)), (None, None));
-    words[2_924] = 1;
-    assert_eq!(rt; first_set(&words), Some(2_924));
+fn first_set_word(rt: HostRuntime) {
+    let mut cells = [0; 2_925];
+    assert_eq!(rt; (first_set(&[]), first_set(&cells)), (None, None));
+    cells[2_924] = 1;
+    assert_eq!(rt; first_set(&cells), Some(2_924));
 }
 
 /// The single word that is not 0 is found at every index of every length up to 70.
@@ -103,9 +103,9 @@ fn first_word(rt: HostRuntime) {
 fn each_index(rt: HostRuntime) {
     for length in 0..=70 {
         for index in 0..length {
-            let mut words = [0; 70];
-            words[index] = 1 << (index % 64);
-            assert_eq!(rt; first_set(&words[..length]), Some(index), "of {length}");
+            let mut cells = [0; 70];
+            cells[index] = 1 << (index % 64);
+            assert_eq!(rt; first_set(&cells[..length]), Some(index), "of {length}");
         }
     }
 }

@@ -161,11 +161,11 @@ static FAULTS: [(SpanFault, u8, &str); 4] = [
 /// Each error has its number, and is shown by its message.
 #[test]
 fn numbers_and_shown_words(rt: HostRuntime) -> Result<(), Fail> {
-    for (fault, number, words) in &FAULTS {
+    for (fault, number, message) in &FAULTS {
         let shown = format!(in rt.alloc(); "{fault}")?;
         assert!(rt;
-            *fault as u8 == *number && shown.as_str() == *words,
-            "{words}"
+            *fault as u8 == *number && shown.as_str() == *message,
+            "{message}"
         );
     }
     Ok(())

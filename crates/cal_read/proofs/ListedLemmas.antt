@@ -12,7 +12,7 @@ use Rattle.std.specs.List.{list_any}
 use Rattle.std.specs.Option.{option_or}
 use Rattle.std.proofs.lemmas.Bool.{and_right, and_parts, false_from_ne_true}
 use Rattle.cal_read.specs.TimerText.{TimerLine, Timer, bad_line, entries, entries_of, entry_of, fault_following, fault_joining, first_fault, lists_of, some_entries, unless_fault}
-use Rattle.cal_read.specs.headline.TimerText.{excepted, exception_key, has_no_value, is_exception, is_exception_reset, is_expression, is_reset, listed, most_expressions, timer_keys}
+use Rattle.cal_read.specs.headline.TimerText.{excepted, exception_key, has_no_value, is_exception, is_exception_reset, is_expression, is_reset, listed, max_expressions, timer_keys}
 use Rattle.cal_read.specs.TimerView.{changed, with_assignment, resumed, with_list}
 use Rattle.cal_read.specs.declared.timer.fault.TimerFault.{TimerFault}
 use Rattle.cal_read.specs.declared.timer.fault.TimerFault.TheVariants.{BadLine}
@@ -117,19 +117,19 @@ entries_more read list a entry good =
 
 -- An assignment is added to a list in which all are valid: either it has an error, or its entry is added.
 joins_by : {E : Type 0} (read : List ℕ → Result E SpecFault) (list : List Assignment) (a : Assignment) (many : Bool) (r : Result E SpecFault)
-    → nat_le most_expressions (length list) ≡ many → read a.value ≡ r → AreAll read list
+    → nat_le max_expressions (length list) ≡ many → read a.value ≡ r → AreAll read list
     → (with_assignment read (entries_of read list) a ≡ unless_fault (fault_joining read list a) (Ok (entries_of read (list ++ a ∷ []))))
     × (fault_joining read list a ≡ None → AreAll read (list ++ a ∷ []))
 unfolding fault_joining
 joins_by read list a true r m v all =
-    let enough : most_expressions ≤ length (entries_of read list) = grind (arith, nat_tests) in
+    let enough : max_expressions ≤ length (entries_of read list) = grind (arith, nat_tests) in
     rw m (joined_many read (entries_of read list) a enough, λ h. cc)
 joins_by read list a false (Err fault) m v all =
-    let few : length (entries_of read list) < most_expressions = grind (arith, nat_tests) in
+    let few : length (entries_of read list) < max_expressions = grind (arith, nat_tests) in
     let bad : bad_line a.number (read a.value) ≡ Some (BadLine a.number fault) = rw v refl in
     rw (m, bad) (joined_bad read (entries_of read list) a (BadLine a.number fault) few bad, λ h. cc)
 joins_by {E} read list a false (Ok expr) m v all =
-    let few : length (entries_of read list) < most_expressions = grind (arith, nat_tests) in
+    let few : length (entries_of read list) < max_expressions = grind (arith, nat_tests) in
     let entry : TimerLine E = record { number = a.number; text = a.value; expr = expr } in
     let good : entry_of a (read a.value) ≡ Some entry = rw v refl in
     let none : bad_line a.number (read a.value) ≡ None = rw v refl in
@@ -168,7 +168,7 @@ all_with read list now e all = subst (λ (l : List Assignment). AreAll read l) (
 joins : {E : Type 0} (read : List ℕ → Result E SpecFault) (list : List Assignment) (a : Assignment) → AreAll read list
     → (with_assignment read (entries_of read list) a ≡ unless_fault (fault_joining read list a) (Ok (entries_of read (list ++ a ∷ []))))
     × (fault_joining read list a ≡ None → AreAll read (list ++ a ∷ []))
-joins read list a all = joins_by read list a (nat_le most_expressions (length list)) (read a.value) refl refl all
+joins read list a all = joins_by read list a (nat_le max_expressions (length list)) (read a.value) refl refl all
 
 pub fault_of_expression : {E : Type 0} (read : List ℕ → Result E SpecFault) (before : List Assignment) (a : Assignment) → is_expression a ≡ true → fault_following read before a ≡ fault_joining read (listed before) a
 unfolding fault_following

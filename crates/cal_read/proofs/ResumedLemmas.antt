@@ -8,7 +8,7 @@ use Rattle.cal_read.specs.headline.Assignments.{Assignment, assignment_of, assig
 use Rattle.cal_text.specs.headline.Trim.{trim_matches}
 use Rattle.cal_lines.specs.headline.Lines.{Line, is_blank_or_return}
 use Rattle.cal_read.specs.TimerText.{TimerLine, Timer, bad_line, entry_of, some_entries}
-use Rattle.cal_read.specs.headline.TimerText.{is_exception, is_exception_reset, is_expression, is_reset, most_expressions}
+use Rattle.cal_read.specs.headline.TimerText.{is_exception, is_exception_reset, is_expression, is_reset, max_expressions}
 use Rattle.cal_read.specs.TimerView.{changed, with_assignment, resumed, with_list, with_read}
 use Rattle.cal_read.specs.declared.timer.fault.TimerFault.{TimerFault}
 use Rattle.cal_read.specs.declared.timer.fault.TimerFault.TheVariants.{TooMany}
@@ -26,9 +26,9 @@ unfolding resumed
 resumed_fault read lists a after fault e = rw e refl
 
 -- nothing can be added to a full list
-pub joined_many : {E : Type 0} (read : List ℕ → Result E SpecFault) (es : List (TimerLine E)) (a : Assignment) → most_expressions ≤ length es → with_assignment read es a ≡ Err (TooMany a.number)
+pub joined_many : {E : Type 0} (read : List ℕ → Result E SpecFault) (es : List (TimerLine E)) (a : Assignment) → max_expressions ≤ length es → with_assignment read es a ≡ Err (TooMany a.number)
 unfolding with_assignment
-joined_many read es a many = let is_many : nat_le most_expressions (length es) ≡ true = grind (arith, nat_tests) in rw is_many refl
+joined_many read es a many = let is_many : nat_le max_expressions (length es) ≡ true = grind (arith, nat_tests) in rw is_many refl
 
 -- what is added to a list that has room, by whether the expression is valid
 read_bad : {E : Type 0} (es : List (TimerLine E)) (a : Assignment) (r : Result E SpecFault) (fault : TimerFault) → bad_line a.number r ≡ Some fault → with_read es a r ≡ Err fault
@@ -39,13 +39,13 @@ read_good : {E : Type 0} (es : List (TimerLine E)) (a : Assignment) (r : Result 
 read_good es a (Ok expr) entry e = cc
 read_good es a (Err f) entry e = cc
 
-pub joined_bad : {E : Type 0} (read : List ℕ → Result E SpecFault) (es : List (TimerLine E)) (a : Assignment) (fault : TimerFault) → length es < most_expressions → bad_line a.number (read a.value) ≡ Some fault → with_assignment read es a ≡ Err fault
+pub joined_bad : {E : Type 0} (read : List ℕ → Result E SpecFault) (es : List (TimerLine E)) (a : Assignment) (fault : TimerFault) → length es < max_expressions → bad_line a.number (read a.value) ≡ Some fault → with_assignment read es a ≡ Err fault
 unfolding with_assignment
-joined_bad read es a fault few bad = let is_few : nat_le most_expressions (length es) ≡ false = grind (arith, nat_tests) in rw is_few (read_bad es a (read a.value) fault bad)
+joined_bad read es a fault few bad = let is_few : nat_le max_expressions (length es) ≡ false = grind (arith, nat_tests) in rw is_few (read_bad es a (read a.value) fault bad)
 
-pub joined_read : {E : Type 0} (read : List ℕ → Result E SpecFault) (es : List (TimerLine E)) (a : Assignment) (entry : TimerLine E) → length es < most_expressions → entry_of a (read a.value) ≡ Some entry → with_assignment read es a ≡ Ok (es ++ entry ∷ [])
+pub joined_read : {E : Type 0} (read : List ℕ → Result E SpecFault) (es : List (TimerLine E)) (a : Assignment) (entry : TimerLine E) → length es < max_expressions → entry_of a (read a.value) ≡ Some entry → with_assignment read es a ≡ Ok (es ++ entry ∷ [])
 unfolding with_assignment
-joined_read read es a entry few good = let is_few : nat_le most_expressions (length es) ≡ false = grind (arith, nat_tests) in rw is_few (read_good es a (read a.value) entry good)
+joined_read read es a entry few good = let is_few : nat_le max_expressions (length es) ≡ false = grind (arith, nat_tests) in rw is_few (read_good es a (read a.value) entry good)
 
 -- a header opens a section
 pub header_here : (inside : Bool) (line : Line) (after : List Line) → is_header (trim_matches is_blank_or_return line.text) ≡ true → assignments_in inside (line ∷ after) ≡ assignments_in (bytes_eq (section_of (trim_matches is_blank_or_return line.text)) (codes "Timer")) after

@@ -16,7 +16,7 @@ use Rattle.cal_zone.specs.headline.FixedOffsetZone.{fixed_offset_zone}
 use Rattle.cal_civil.specs.headline.ZoneName.{begins_with_letter}
 use Rattle.cal_text.specs.headline.Separators.{is_colon}
 use Rattle.cal_spec.specs.Weekdays.{day_named}
-use Rattle.cal_read.specs.Stamp.{Setting, Written, begins_with_digit, name_found, offset_found, zone_meant, zone_alone, zone_by_words, written_in, after_date, after_weekday, weekday_found, civil_time}
+use Rattle.cal_read.specs.Stamp.{Setting, CivilStamp, begins_with_digit, name_found, offset_found, zone_of_word, zone_alone, zone_by_words, civil_stamp_in, after_date, after_weekday, weekday_found, civil_time}
 use Rattle.cal_read.specs.StampCivilRule.{IsCivilTime, MeansZone, NamesWeekday, WritesDate, WritesTime, NamesZone}
 use Rattle.cal_read.specs.declared.stamp.date.DateNumbers.{DateNumbers}
 use Rattle.cal_read.specs.StampDate.{is_hyphen, digits_number, date_by, date_of_pieces, date_numbers, day_due, day_written}
@@ -145,7 +145,7 @@ time_begins word micros h =
 
 -- Words that satisfy the rule are parsed as it says
 
-pub means_from : (find : List ℕ → Option TimeZone) (word : List ℕ) (zone : TimeZone) → MeansZone find word zone → zone_meant find word ≡ Ok zone
+pub means_from : (find : List ℕ → Option TimeZone) (word : List ℕ) (zone : TimeZone) → MeansZone find word zone → zone_of_word find word ≡ Ok zone
 means_from find word zone (inl name) = rw (name.0, name.1) refl
 means_from find word zone (inr offset) =
     rw ((offset_begins word offset.0 offset.1).0, offset-only word offset.0 offset.1, offset.2) refl
@@ -155,7 +155,7 @@ zone_from at None zone h = ap Ok (sym h)
 zone_from at (Some word) zone h = rw (means_from at.find word zone h) refl
 
 written_from : (at : Setting) (weekday : Option Weekday) (day : Option ℤ) (micros : ℕ) (name : Option (List ℕ)) (zone : TimeZone) → NamesZone at name zone
-    → written_in at weekday day micros (option_to_list name) ≡ Ok (record { weekday = weekday; day = day; micros = micros; zone = zone })
+    → civil_stamp_in at weekday day micros (option_to_list name) ≡ Ok (record { weekday = weekday; day = day; micros = micros; zone = zone })
 written_from at weekday day micros name zone h = rw (zone_from at name zone h) refl
 
 after_date_from : (at : Setting) (weekday : Option Weekday) (day : ℤ) (time name : Option (List ℕ)) (micros : ℕ) (zone : TimeZone) → WritesTime time micros → NamesZone at name zone
@@ -185,7 +185,7 @@ civil_from at None None (Some word) name weekday day micros zone some w d t z =
     rw (no_letter_first word (time_begins word micros t), w) (after_weekday_from at None None (Some word) name day micros zone some d t z)
 civil_from at None None None name weekday day micros zone some w d t z = cc
 
-pub only : (at : Setting) (ws : List (List ℕ)) (c : Written) → IsCivilTime at ws c → civil_time at ws ≡ Ok c
+pub only : (at : Setting) (ws : List (List ℕ)) (c : CivilStamp) → IsCivilTime at ws c → civil_time at ws ≡ Ok c
 only at ws c h =
     ap (civil_time at) h.whole ∙ civil_from at h.weekday h.date h.time h.zone c.weekday c.day c.micros c.zone h.some h.has_weekday h.has_date h.has_time h.has_zone
 
@@ -199,7 +199,7 @@ means_offset : (word : List ℕ) (zone : TimeZone) (offset : Option ℤ) → off
 means_offset word zone None e h = cc
 means_offset word zone (Some seconds) e h = (seconds, offset-found word seconds e, cc)
 
-pub means : (find : List ℕ → Option TimeZone) (word : List ℕ) (zone : TimeZone) → zone_meant find word ≡ Ok zone → MeansZone find word zone
+pub means : (find : List ℕ → Option TimeZone) (word : List ℕ) (zone : TimeZone) → zone_of_word find word ≡ Ok zone → MeansZone find word zone
 means find word zone h =
     elim (cases_Bool (begins_with_letter word)) [
       | inl letter ↦ inl (letter, means_name (find word) zone (rw letter at h))
@@ -209,19 +209,19 @@ means find word zone h =
 pub zone_of_words : (at : Setting) (ws : List (List ℕ)) (zone : TimeZone) → zone_by_words at ws ≡ Ok zone → (name : Option (List ℕ)) × (ws ≡ option_to_list name) × NamesZone at name zone
 zone_of_words at [] zone h = (None, refl, cc)
 zone_of_words at (w ∷ []) zone h =
-    let meant = bind_ok (zone_meant at.find w) (λ z. zone_alone z []) zone h in
+    let meant = bind_ok (zone_of_word at.find w) (λ z. zone_alone z []) zone h in
     (Some w, refl, means at.find w zone (meant.first ∙ meant.next))
 zone_of_words at (w ∷ v ∷ vs) zone h =
-    let none = (bind_ok (zone_meant at.find w) (λ z. zone_alone z (v ∷ vs)) zone h).next in cc
+    let none = (bind_ok (zone_of_word at.find w) (λ z. zone_alone z (v ∷ vs)) zone h).next in cc
 
 -- the words after the weekday, if there is one
-module _ (at : Setting) (first : Option (List ℕ)) (weekday : Option Weekday) (c : Written) (names : NamesWeekday first weekday) where
-  written : (date time : Option (List ℕ)) (day : Option ℤ) (micros : ℕ) (ws : List (List ℕ)) → (is_some date || is_some time) ≡ true → WritesDate date day → WritesTime time micros → written_in at weekday day micros ws ≡ Ok c
+module _ (at : Setting) (first : Option (List ℕ)) (weekday : Option Weekday) (c : CivilStamp) (names : NamesWeekday first weekday) where
+  written : (date time : Option (List ℕ)) (day : Option ℤ) (micros : ℕ) (ws : List (List ℕ)) → (is_some date || is_some time) ≡ true → WritesDate date day → WritesTime time micros → civil_stamp_in at weekday day micros ws ≡ Ok c
       → IsCivilTime at (option_to_list first ++ (option_to_list date ++ (option_to_list time ++ ws))) c
   written date time day micros ws some d t h =
       let read = bind_ok (zone_by_words at ws) (λ zone. Ok (record { weekday = weekday; day = day; micros = micros; zone = zone })) c h in
       let last = zone_of_words at ws read.value read.first in
-      let same : ◌≡◌ {A = Written} (record { weekday = weekday; day = day; micros = micros; zone = read.value }) c = (let e = read.next in cc) in
+      let same : ◌≡◌ {A = CivilStamp} (record { weekday = weekday; day = day; micros = micros; zone = read.value }) c = (let e = read.next in cc) in
       rw (← same) (record {
         weekday = first;
         date = date;
@@ -239,7 +239,7 @@ module _ (at : Setting) (first : Option (List ℕ)) (weekday : Option Weekday) (
   after_day d day [] e h = written (Some d) None (Some day) 0 [] refl (day, e, refl) refl h
   after_day d day (w ∷ ws) e h =
       elim (cases_Bool (begins_with_digit w)) [
-        | inl digit ↦ (let time = bind_ok (time_written w) (λ micros. written_in at weekday (Some day) micros ws) c (rw digit at h) in written (Some d) (Some w) (Some day) time.value ws refl (day, e, refl) time.first time.next)
+        | inl digit ↦ (let time = bind_ok (time_written w) (λ micros. civil_stamp_in at weekday (Some day) micros ws) c (rw digit at h) in written (Some d) (Some w) (Some day) time.value ws refl (day, e, refl) time.first time.next)
         | inr other ↦ written (Some d) None (Some day) 0 (w ∷ ws) refl (day, e, refl) refl (rw other at h)
       ]
 
@@ -247,15 +247,15 @@ module _ (at : Setting) (first : Option (List ℕ)) (weekday : Option Weekday) (
   body [] h = cc
   body (w ∷ ws) h =
       elim (cases_Bool (list_any is_colon w)) [
-        | inl colon ↦ (let time = bind_ok (time_written w) (λ micros. written_in at weekday None micros ws) c (rw colon at h) in written None (Some w) None time.value ws refl refl time.first time.next)
+        | inl colon ↦ (let time = bind_ok (time_written w) (λ micros. civil_stamp_in at weekday None micros ws) c (rw colon at h) in written None (Some w) None time.value ws refl refl time.first time.next)
         | inr none ↦ (let day = bind_ok (day_written w) (λ day. after_date at weekday day ws) c (rw none at h) in after_day w day.value ws day.first day.next)
       ]
 
-named : (at : Setting) (w : List ℕ) (ws : List (List ℕ)) (c : Written) (weekday : Option Weekday) → begins_with_letter w ≡ true → day_named w ≡ weekday → weekday_found at weekday ws ≡ Ok c → IsCivilTime at (w ∷ ws) c
+named : (at : Setting) (w : List ℕ) (ws : List (List ℕ)) (c : CivilStamp) (weekday : Option Weekday) → begins_with_letter w ≡ true → day_named w ≡ weekday → weekday_found at weekday ws ≡ Ok c → IsCivilTime at (w ∷ ws) c
 named at w ws c None letter e h = cc
 named at w ws c (Some day) letter e h = body at (Some w) (Some day) c (day, letter, e, refl) ws h
 
-pub found : (at : Setting) (ws : List (List ℕ)) (c : Written) → civil_time at ws ≡ Ok c → IsCivilTime at ws c
+pub found : (at : Setting) (ws : List (List ℕ)) (c : CivilStamp) → civil_time at ws ≡ Ok c → IsCivilTime at ws c
 found at [] c h = cc
 found at (w ∷ ws) c h =
     elim (cases_Bool (begins_with_letter w)) [

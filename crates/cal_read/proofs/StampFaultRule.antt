@@ -12,7 +12,7 @@ use Rattle.cal_civil.specs.headline.ZoneName.{begins_with_letter}
 use Rattle.cal_text.specs.AndThen.{◌>>=◌}
 use Rattle.cal_text.specs.headline.Separators.{is_colon}
 use Rattle.cal_spec.specs.Weekdays.{day_named}
-use Rattle.cal_read.specs.Stamp.{Setting, begins_with_digit, name_found, offset_found, zone_meant, zone_alone, zone_by_words, written_in, after_date, after_weekday, weekday_found, civil_time}
+use Rattle.cal_read.specs.Stamp.{Setting, begins_with_digit, name_found, offset_found, zone_of_word, zone_alone, zone_by_words, civil_stamp_in, after_date, after_weekday, weekday_found, civil_time}
 use Rattle.cal_read.specs.StampCivilRule.{NamesWeekday, WritesDate, WritesTime, NamesZone}
 use Rattle.cal_read.specs.StampDate.{day_written}
 use Rattle.cal_read.specs.StampTime.{time_written}
@@ -32,16 +32,16 @@ no_offset_by : (word : List ℕ) (found : Option ℤ) → offset_in word ≡ fou
 no_offset_by word None e none = e
 no_offset_by word (Some seconds) e none = absurd (none seconds (offset-found word seconds e))
 
-no_zone-only : (find : List ℕ → Option TimeZone) (word : List ℕ) (fault : StampFault) → IsNoZone find word fault → zone_meant find word ≡ Err fault
+no_zone-only : (find : List ℕ → Option TimeZone) (word : List ℕ) (fault : StampFault) → IsNoZone find word fault → zone_of_word find word ≡ Err fault
 no_zone-only find word fault (inl name) = rw (name.0, name.1, name.2) refl
 no_zone-only find word fault (inr other) = rw (other.0, no_offset_by word _ refl other.1, other.2) refl
 
 written_only : (at : Setting) (weekday : Option Weekday) (day : Option ℤ) (micros : ℕ) (word : List ℕ) (after : List (List ℕ)) (fault : StampFault) → IsNoZone at.find word fault
-    → written_in at weekday day micros (word ∷ after) ≡ Err fault
+    → civil_stamp_in at weekday day micros (word ∷ after) ≡ Err fault
 written_only at weekday day micros word after fault h = rw (no_zone-only at.find word fault h) refl
 
 stray_only : (at : Setting) (weekday : Option Weekday) (day : Option ℤ) (micros : ℕ) (name word : List ℕ) (after : List (List ℕ)) (zone : TimeZone) (fault : StampFault) → NamesZone at (Some name) zone → fault ≡ StrayWord
-    → written_in at weekday day micros (name ∷ word ∷ after) ≡ Err fault
+    → civil_stamp_in at weekday day micros (name ∷ word ∷ after) ≡ Err fault
 stray_only at weekday day micros name word after zone fault z h = rw (means_from at.find name zone z, h) refl
 
 after_date_only : (at : Setting) (first : Option (List ℕ)) (weekday : Option Weekday) (d : List ℕ) (day : ℤ) (time name : Option (List ℕ)) (micros : ℕ) (zone : TimeZone) (word : List ℕ) (after : List (List ℕ)) (fault : StampFault)
@@ -122,7 +122,7 @@ offset_missing (Some seconds) fault h = cc
 no_offset : (word : List ℕ) → offset_in word ≡ None → (seconds : ℤ) → IsOffsetWord word seconds → ⊥
 no_offset word none seconds h = let some = offset-only word seconds h in cc
 
-no_zone : (find : List ℕ → Option TimeZone) (word : List ℕ) (fault : StampFault) → zone_meant find word ≡ Err fault → IsNoZone find word fault
+no_zone : (find : List ℕ → Option TimeZone) (word : List ℕ) (fault : StampFault) → zone_of_word find word ≡ Err fault → IsNoZone find word fault
 no_zone find word fault h =
     elim (cases_Bool (begins_with_letter word)) [
       | inl letter ↦ (let lost = name_missing (find word) fault (rw letter at h) in inl (letter, lost.0, lost.1))
@@ -158,13 +158,13 @@ module _ (at : Setting) (first : Option (List ℕ)) (weekday : Option Weekday) (
       → (IsNoZone at.find w fault → IsAtFault at first date time None w fault) → zone_by_words at (w ∷ ws) ≡ Err fault
       → HasFirstError at (option_to_list first ++ (option_to_list date ++ (option_to_list time ++ (w ∷ ws)))) fault
   zone_words date time day micros w ws some d t place h =
-      elim (err_of (zone_meant at.find w) (λ zone. zone_alone zone ws) fault h) [
+      elim (err_of (zone_of_word at.find w) (λ zone. zone_alone zone ws) fault h) [
         | inl lost ↦ at_word date time None day micros at.local w ws d t refl (λ named. let e : false ≡ true = named in cc) (place (no_zone at.find w fault lost))
         | inr more ↦ second_zone date time day micros w more.0 ws some d t (means at.find w more.0 more.1) more.2
       ]
 
   written_words : (date time : Option (List ℕ)) (day : Option ℤ) (micros : ℕ) (w : List ℕ) (ws : List (List ℕ)) → (is_some date || is_some time) ≡ true → WritesDate date day → WritesTime time micros
-      → (IsNoZone at.find w fault → IsAtFault at first date time None w fault) → written_in at weekday day micros (w ∷ ws) ≡ Err fault
+      → (IsNoZone at.find w fault → IsAtFault at first date time None w fault) → civil_stamp_in at weekday day micros (w ∷ ws) ≡ Err fault
       → HasFirstError at (option_to_list first ++ (option_to_list date ++ (option_to_list time ++ (w ∷ ws)))) fault
   written_words date time day micros w ws some d t place h =
       elim (err_of (zone_by_words at (w ∷ ws)) (λ zone. Ok (record { weekday = weekday; day = day; micros = micros; zone = zone })) fault h) [
@@ -173,7 +173,7 @@ module _ (at : Setting) (first : Option (List ℕ)) (weekday : Option Weekday) (
       ]
 
   -- the words after the time
-  last_words : (date : Option (List ℕ)) (time : List ℕ) (day : Option ℤ) (micros : ℕ) (ws : List (List ℕ)) → WritesDate date day → time_written time ≡ Ok micros → written_in at weekday day micros ws ≡ Err fault
+  last_words : (date : Option (List ℕ)) (time : List ℕ) (day : Option ℤ) (micros : ℕ) (ws : List (List ℕ)) → WritesDate date day → time_written time ≡ Ok micros → civil_stamp_in at weekday day micros ws ≡ Err fault
       → HasFirstError at (option_to_list first ++ (option_to_list date ++ (time ∷ ws))) fault
   last_words date time day micros [] d t h = cc
   last_words None time day micros (w ∷ ws) d t h = written_words None (Some time) day micros w ws refl d t (λ no. no) h
@@ -184,7 +184,7 @@ module _ (at : Setting) (first : Option (List ℕ)) (weekday : Option Weekday) (
   day_words d day [] e h = cc
   day_words d day (w ∷ ws) e h =
       elim (cases_Bool (begins_with_digit w)) [
-        | inl digit ↦ elim (err_of (time_written w) (λ micros. written_in at weekday (Some day) micros ws) fault (rw digit at h)) [
+        | inl digit ↦ elim (err_of (time_written w) (λ micros. civil_stamp_in at weekday (Some day) micros ws) fault (rw digit at h)) [
           | inl bad ↦ at_word (Some d) None None (Some day) 0 at.local w ws (day, e, refl) refl refl (λ named. refl) (inl (digit, bad))
           | inr more ↦ last_words (Some d) w (Some day) more.0 ws (day, e, refl) more.1 more.2
         ]
@@ -194,7 +194,7 @@ module _ (at : Setting) (first : Option (List ℕ)) (weekday : Option Weekday) (
   body : (w : List ℕ) (ws : List (List ℕ)) → (IsNoDateOrTime w fault → IsAtFault at first None None None w fault) → after_weekday at weekday (w ∷ ws) ≡ Err fault → HasFirstError at (option_to_list first ++ (w ∷ ws)) fault
   body w ws place h =
       elim (cases_Bool (list_any is_colon w)) [
-        | inl colon ↦ elim (err_of (time_written w) (λ micros. written_in at weekday None micros ws) fault (rw colon at h)) [
+        | inl colon ↦ elim (err_of (time_written w) (λ micros. civil_stamp_in at weekday None micros ws) fault (rw colon at h)) [
           | inl bad ↦ at_word None None None None 0 at.local w ws refl refl refl (λ named. let e : false ≡ true = named in cc) (place (inl (colon, bad)))
           | inr more ↦ last_words None w None more.0 ws refl more.1 more.2
         ]
@@ -247,7 +247,7 @@ second_word at w (v ∷ vs) zone fault z h =
 pub zone-found : (at : Setting) (ws : List (List ℕ)) (fault : StampFault) → zone_by_words at ws ≡ Err fault → HasZoneError at ws fault
 zone-found at [] fault h = cc
 zone-found at (w ∷ ws) fault h =
-    elim (err_of (zone_meant at.find w) (λ zone. zone_alone zone ws) fault h) [
+    elim (err_of (zone_of_word at.find w) (λ zone. zone_alone zone ws) fault h) [
       | inl lost ↦ record { name = None; word = w; after = ws; zone = at.local; whole = refl; has_zone = refl; is_at_fault = no_zone at.find w fault lost }
       | inr more ↦ second_word at w ws more.0 fault (means at.find w more.0 more.1) more.2
     ]

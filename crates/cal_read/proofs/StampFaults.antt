@@ -11,7 +11,7 @@ use Rattle.cal_civil.specs.headline.ZoneName.{begins_with_letter}
 use Rattle.cal_text.specs.headline.Separators.{is_colon}
 use Rattle.cal_spec.specs.Weekdays.{day_named}
 use Rattle.cal_text.specs.AndThen.{◌>>=◌}
-use Rattle.cal_read.specs.Stamp.{Setting, Written, in_moments, after_second, before_second, settle_on, today, name_found, offset_found, zone_meant, zone_alone, zone_by_words, written_in, begins_with_digit, after_date, after_weekday, weekday_found, civil_time, moment_of_written, moment_of_form, moment_in}
+use Rattle.cal_read.specs.Stamp.{Setting, CivilStamp, in_moments, after_second, before_second, settle_on, today, name_found, offset_found, zone_of_word, zone_alone, zone_by_words, civil_stamp_in, begins_with_digit, after_date, after_weekday, weekday_found, civil_time, moment_of_civil_stamp, moment_of_form, moment_in}
 use Rattle.cal_read.specs.StampCivilRule.{HasNoSuchDate}
 use Rattle.cal_read.specs.StampDate.{day_written}
 use Rattle.cal_read.specs.StampForm.{Form, nothing, present, later, earlier, counted, from_today, civil, form_of}
@@ -68,30 +68,30 @@ no_offset : (offset : Option ℤ) → offset_found offset ≡ Err NoSuchDate →
 no_offset None h = cc
 no_offset (Some seconds) h = cc
 
-no_meant : (find : List ℕ → Option TimeZone) (w : List ℕ) → Never (zone_meant find w)
-no_meant find w = never_if (begins_with_letter w) (name_found (find w)) (offset_found (offset_in w)) (no_name (find w)) (no_offset (offset_in w))
+no_zone_of_word : (find : List ℕ → Option TimeZone) (w : List ℕ) → Never (zone_of_word find w)
+no_zone_of_word find w = never_if (begins_with_letter w) (name_found (find w)) (offset_found (offset_in w)) (no_name (find w)) (no_offset (offset_in w))
 
 no_zone : (at : Setting) (ws : List (List ℕ)) → Never (zone_by_words at ws)
 no_zone at [] h = cc
-no_zone at (w ∷ []) h = never_then (zone_meant at.find w) (λ zone. zone_alone zone []) (no_meant at.find w) (λ zone e. cc) h
-no_zone at (w ∷ v ∷ ws) h = never_then (zone_meant at.find w) (λ zone. zone_alone zone (v ∷ ws)) (no_meant at.find w) (λ zone e. cc) h
+no_zone at (w ∷ []) h = never_then (zone_of_word at.find w) (λ zone. zone_alone zone []) (no_zone_of_word at.find w) (λ zone e. cc) h
+no_zone at (w ∷ v ∷ ws) h = never_then (zone_of_word at.find w) (λ zone. zone_alone zone (v ∷ ws)) (no_zone_of_word at.find w) (λ zone e. cc) h
 
-no_written : (at : Setting) (weekday : Option Weekday) (day : Option ℤ) (micros : ℕ) (ws : List (List ℕ)) → Never (written_in at weekday day micros ws)
+no_written : (at : Setting) (weekday : Option Weekday) (day : Option ℤ) (micros : ℕ) (ws : List (List ℕ)) → Never (civil_stamp_in at weekday day micros ws)
 no_written at weekday day micros ws =
     never_then (zone_by_words at ws) (λ zone. Ok (record { weekday = weekday; day = day; micros = micros; zone = zone })) (no_zone at ws) (λ zone h. cc)
 
-no_time_then : (at : Setting) (weekday : Option Weekday) (day : Option ℤ) (w : List ℕ) (ws : List (List ℕ)) → Never (time_written w >>= λ micros. written_in at weekday day micros ws)
+no_time_then : (at : Setting) (weekday : Option Weekday) (day : Option ℤ) (w : List ℕ) (ws : List (List ℕ)) → Never (time_written w >>= λ micros. civil_stamp_in at weekday day micros ws)
 no_time_then at weekday day w ws =
-    never_then (time_written w) (λ micros. written_in at weekday day micros ws) (no_time_written w) (λ micros. no_written at weekday day micros ws)
+    never_then (time_written w) (λ micros. civil_stamp_in at weekday day micros ws) (no_time_written w) (λ micros. no_written at weekday day micros ws)
 
 no_after_date : (at : Setting) (weekday : Option Weekday) (day : ℤ) (ws : List (List ℕ)) → Never (after_date at weekday day ws)
 no_after_date at weekday day [] = no_written at weekday (Some day) 0 []
 no_after_date at weekday day (w ∷ ws) =
     never_if (begins_with_digit w) _ _ (no_time_then at weekday (Some day) w ws) (no_written at weekday (Some day) 0 (w ∷ ws))
 
-no_moment_of_written : (now : ℤ) (c : Written) → moment_of_written now c ≡ Err NoSuchDate → ⊥
-unfolding moment_of_written
-no_moment_of_written now c = never_if _ _ (Err WrongWeekday) (no_settle_on c.zone _ c.micros) (λ h. cc)
+no_moment_of_civil_stamp : (now : ℤ) (c : CivilStamp) → moment_of_civil_stamp now c ≡ Err NoSuchDate → ⊥
+unfolding moment_of_civil_stamp
+no_moment_of_civil_stamp now c = never_if _ _ (Err WrongWeekday) (no_settle_on c.zone _ c.micros) (λ h. cc)
 
 -- What can have this error
 
@@ -122,7 +122,7 @@ by_form now at (later span) h = absurd (no_after now (span_of span) h)
 by_form now at (earlier span) h = absurd (no_before now (span_of span) h)
 by_form now at (counted span) h = absurd (no_after (pos 0) (span_of span) h)
 by_form now at (from_today shift ws) h = absurd (never_then (zone_by_words at ws) (λ zone. settle_on zone (today now zone +ℤ shift) 0) (no_zone at ws) (λ zone. no_settle_on zone (today now zone +ℤ shift) 0) h)
-by_form now at (civil ws) h = (ws, refl, in_civil at ws (fault_first (civil_time at ws) (moment_of_written now) (no_moment_of_written now) h))
+by_form now at (civil ws) h = (ws, refl, in_civil at ws (fault_first (civil_time at ws) (moment_of_civil_stamp now) (no_moment_of_civil_stamp now) h))
 
 pub written_date : (now : ℤ) (at : Setting) (text : List ℕ) → moment_in now at text ≡ Err NoSuchDate → (ws : List (List ℕ)) × (form_of text ≡ civil ws) × HasNoSuchDate ws
 unfolding moment_in

@@ -16,7 +16,7 @@ use Rattle.cal_civil.specs.headline.Local.{day_of}
 use Rattle.cal_zone.specs.headline.Moment.{micros_of}
 use Rattle.cal_zone.specs.headline.Zone.{local_shown_at}
 use Rattle.cal_spec.proofs.ReadLemmas.{bind_ok}
-use Rattle.cal_read.specs.Stamp.{Setting, Written, in_moments, after_second, before_second, today, settle_on, zone_by_words, civil_time, fits_weekday, moment_of_written, moment_of_form, moment_in}
+use Rattle.cal_read.specs.Stamp.{Setting, CivilStamp, in_moments, after_second, before_second, today, settle_on, zone_by_words, civil_time, fits_weekday, moment_of_civil_stamp, moment_of_form, moment_in}
 use Rattle.cal_read.specs.StampCivilRule.{IsCivilTime}
 use Rattle.cal_read.specs.StampFaultRule.{HasError, IsBadSpan, IsWrong}
 use Rattle.cal_read.specs.StampForm.{Form, nothing, present, later, earlier, counted, from_today, civil, form_of}
@@ -183,29 +183,29 @@ is_midnight : (now : ℤ) (at : Setting) (shift : ℤ) (ws : List (List ℕ)) (t
 is_midnight now at shift ws time h =
     rw (h.alone, civil_rule.zone_from at h.name h.zone h.has_zone, sym (only_today now h.zone h.today h.has_today)) (settles h.zone (h.today +ℤ shift) 0 time h.is_midnight)
 
-of_written : (now : ℤ) (at : Setting) (ws : List (List ℕ)) (c : Written) (time : ℤ) (test : Bool) → IsCivilTime at ws c → fits_weekday c.weekday (unwrap_or c.day (today now c.zone)) ≡ test
+of_civil_stamp : (now : ℤ) (at : Setting) (ws : List (List ℕ)) (c : CivilStamp) (time : ℤ) (test : Bool) → IsCivilTime at ws c → fits_weekday c.weekday (unwrap_or c.day (today now c.zone)) ≡ test
     → (if test then settle_on c.zone (unwrap_or c.day (today now c.zone)) c.micros else Err WrongWeekday) ≡ Ok time → IsCivilMoment now at ws time × IsMoment time
-of_written now at ws c time true is e h =
+of_civil_stamp now at ws c time true is e h =
     let at_time = is_time c.zone (unwrap_or c.day (today now c.zone)) c.micros time h in
-    (record { written = c; day = unwrap_or c.day (today now c.zone); is_written = is; has_day = is_day now c.zone c.day; falls = falls c.weekday _ e; is_time = at_time.0 }, at_time.1)
-of_written now at ws c time false is e h = cc
+    (record { stamp = c; day = unwrap_or c.day (today now c.zone); is_civil = is; has_day = is_day now c.zone c.day; falls = falls c.weekday _ e; is_time = at_time.0 }, at_time.1)
+of_civil_stamp now at ws c time false is e h = cc
 
 civil_moment : (now : ℤ) (at : Setting) (ws : List (List ℕ)) (time : ℤ) → moment_of_form now at (civil ws) ≡ Ok time → IsCivilMoment now at ws time × IsMoment time
-unfolding moment_of_written
+unfolding moment_of_civil_stamp
 civil_moment now at ws time h =
-    let read = bind_ok (civil_time at ws) (moment_of_written now) time h in
-    of_written now at ws read.value time _ (civil_rule.found at ws read.value read.first) refl read.next
+    let read = bind_ok (civil_time at ws) (moment_of_civil_stamp now) time h in
+    of_civil_stamp now at ws read.value time _ (civil_rule.found at ws read.value read.first) refl read.next
 
-right_weekday : (now : ℤ) (at : Setting) (ws : List (List ℕ)) (c : Written) (day : ℤ) → IsCivilTime at ws c → IsDay now c.zone c.day day → FallsOn c.weekday day → moment_of_form now at (civil ws) ≡ settle_on c.zone day c.micros
-unfolding moment_of_written
+right_weekday : (now : ℤ) (at : Setting) (ws : List (List ℕ)) (c : CivilStamp) (day : ℤ) → IsCivilTime at ws c → IsDay now c.zone c.day day → FallsOn c.weekday day → moment_of_form now at (civil ws) ≡ settle_on c.zone day c.micros
+unfolding moment_of_civil_stamp
 right_weekday now at ws c day is has on =
     let same = sym (only_day now c.zone c.day day has) in
     rw (civil_rule.only at ws c is, same, fits c.weekday day on) refl
 
 is_civil_moment : (now : ℤ) (at : Setting) (ws : List (List ℕ)) (time : ℤ) → IsCivilMoment now at ws time → moment_of_form now at (civil ws) ≡ in_moments time
 is_civil_moment now at ws time h =
-    let c = h.written in
-    right_weekday now at ws c h.day h.is_written h.has_day h.falls ∙ settles c.zone h.day c.micros time h.is_time
+    let c = h.stamp in
+    right_weekday now at ws c h.day h.is_civil h.has_day h.falls ∙ settles c.zone h.day c.micros time h.is_time
 
 means : (now : ℤ) (at : Setting) (form : Form) (time : ℤ) → moment_of_form now at form ≡ Ok time → MeansTime now at form time × IsMoment time
 means now at nothing time h = cc
@@ -242,8 +242,8 @@ beyond now at text form time has h out = by_form now at text form has ∙ meant 
 
 -- The error of a civil time
 
-wrong_weekday : (now : ℤ) (at : Setting) (ws : List (List ℕ)) (c : Written) (day : ℤ) → IsCivilTime at ws c → IsDay now c.zone c.day day → (FallsOn c.weekday day → ⊥) → moment_of_form now at (civil ws) ≡ Err WrongWeekday
-unfolding moment_of_written
+wrong_weekday : (now : ℤ) (at : Setting) (ws : List (List ℕ)) (c : CivilStamp) (day : ℤ) → IsCivilTime at ws c → IsDay now c.zone c.day day → (FallsOn c.weekday day → ⊥) → moment_of_form now at (civil ws) ≡ Err WrongWeekday
+unfolding moment_of_civil_stamp
 wrong_weekday now at ws c day is has elsewhere =
     let same = sym (only_day now c.zone c.day day has) in
     elim (cases_Bool (fits_weekday c.weekday day)) [
@@ -254,18 +254,18 @@ wrong_weekday now at ws c day is has elsewhere =
 not_on : (weekday : Option Weekday) (day : ℤ) → fits_weekday weekday day ≡ false → FallsOn weekday day → ⊥
 not_on weekday day wrong h = false≢true (sym wrong ∙ fits weekday day h)
 
-late_error : (now : ℤ) (at : Setting) (ws : List (List ℕ)) (c : Written) (fault : StampFault) (test : Bool) → IsCivilTime at ws c → fits_weekday c.weekday (unwrap_or c.day (today now c.zone)) ≡ test
+late_error : (now : ℤ) (at : Setting) (ws : List (List ℕ)) (c : CivilStamp) (fault : StampFault) (test : Bool) → IsCivilTime at ws c → fits_weekday c.weekday (unwrap_or c.day (today now c.zone)) ≡ test
     → (if test then settle_on c.zone (unwrap_or c.day (today now c.zone)) c.micros else Err WrongWeekday) ≡ Err fault → HasError now at (civil ws) fault
 late_error now at ws c fault true is e h =
     let out = settles_outside c.zone (unwrap_or c.day (today now c.zone)) c.micros fault h in
-    inr ((out.1, record { written = c; day = unwrap_or c.day (today now c.zone); is_written = is; has_day = is_day now c.zone c.day; falls = falls c.weekday _ e; is_time = out.2 }, out.3), out.0)
+    inr ((out.1, record { stamp = c; day = unwrap_or c.day (today now c.zone); is_civil = is; has_day = is_day now c.zone c.day; falls = falls c.weekday _ e; is_time = out.2 }, out.3), out.0)
 late_error now at ws c fault false is e h =
-    inl (inr (record { written = c; day = unwrap_or c.day (today now c.zone); is_written = is; has_day = is_day now c.zone c.day; falls_elsewhere = not_on c.weekday _ e }, (cc)))
+    inl (inr (record { stamp = c; day = unwrap_or c.day (today now c.zone); is_civil = is; has_day = is_day now c.zone c.day; falls_elsewhere = not_on c.weekday _ e }, (cc)))
 
 civil_error : (now : ℤ) (at : Setting) (ws : List (List ℕ)) (fault : StampFault) → moment_of_form now at (civil ws) ≡ Err fault → HasError now at (civil ws) fault
-unfolding moment_of_written
+unfolding moment_of_civil_stamp
 civil_error now at ws fault h =
-    elim (err_of (civil_time at ws) (moment_of_written now) fault h) [
+    elim (err_of (civil_time at ws) (moment_of_civil_stamp now) fault h) [
       | inl bad ↦ inl (inl (first-found at ws fault bad))
       | inr read ↦ late_error now at ws read.0 fault _ (civil_rule.found at ws read.0 read.1) refl read.2
     ]
@@ -321,7 +321,7 @@ wrong now at (counted span) fault h = rw (h.1, h.2) refl
 wrong now at (from_today shift ws) fault h = rw (zone-only at ws fault h) refl
 wrong now at (civil ws) fault (inl first) = rw (first-only at ws fault first) refl
 wrong now at (civil ws) fault (inr late) =
-    let h = late.0 in wrong_weekday now at ws h.written h.day h.is_written h.has_day h.falls_elsewhere ∙ ap Err (sym late.1)
+    let h = late.0 in wrong_weekday now at ws h.stamp h.day h.is_civil h.has_day h.falls_elsewhere ∙ ap Err (sym late.1)
 
 is_error : (now : ℤ) (at : Setting) (form : Form) (fault : StampFault) → HasError now at form fault → moment_of_form now at form ≡ Err fault
 is_error now at form fault (inl h) = wrong now at form fault h
@@ -333,7 +333,7 @@ has_error now at text form fault has = (
   λ h. by_form now at text form has ∙ is_error now at form fault h,
 )
 
-pub has_wrong_weekday : (now : ℤ) (at : Setting) (text : List ℕ) (ws : List (List ℕ)) (c : Written) (day : ℤ) → HasForm text (civil ws) → IsCivilTime at ws c → IsDay now c.zone c.day day
+pub has_wrong_weekday : (now : ℤ) (at : Setting) (text : List ℕ) (ws : List (List ℕ)) (c : CivilStamp) (day : ℤ) → HasForm text (civil ws) → IsCivilTime at ws c → IsDay now c.zone c.day day
     → (moment_in now at text ≡ Err WrongWeekday) ↔ (FallsOn c.weekday day → ⊥)
 has_wrong_weekday now at text ws c day has is has_day = (
   λ h on.

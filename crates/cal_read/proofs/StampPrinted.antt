@@ -41,11 +41,11 @@ use Rattle.cal_read.proofs.StampPrintedZones.{IsLastWord, last_byte, shown_last,
 use Rattle.cal_read.proofs.StampRule.{only}
 use Rattle.cal_text.specs.AndThen.{◌>>=◌}
 use Rattle.cal_zone.specs.headline.Moment.{micros_of}
-use Rattle.cal_read.specs.Stamp.{Setting, after_date, begins_with_digit, civil_time, fits_weekday, in_moments, moment_in, moment_of_form, moment_of_written, settle_on, written_in, zone_meant}
+use Rattle.cal_read.specs.Stamp.{Setting, after_date, begins_with_digit, civil_time, fits_weekday, in_moments, moment_in, moment_of_form, moment_of_civil_stamp, settle_on, civil_stamp_in, zone_of_word}
 use Rattle.cal_read.specs.StampDate.{day_written}
 use Rattle.cal_read.specs.StampForm.{Form, civil, counted, earlier, later}
 use Rattle.cal_read.specs.StampPrinted.{ShowsMinutes, ShowsYear}
-use Rattle.cal_read.specs.StampRule.{FitsByEnd, FitsBySign, FitsByWords, HasForm, IsBehindSign, IsBeforeWord, IsNearDay}
+use Rattle.cal_read.specs.StampRule.{FitsByEnd, FitsBySign, FitsByWords, HasForm, IsBehindSign, IsBeforeWord, IsRelativeDay}
 use Rattle.cal_read.specs.StampTime.{time_written}
 use Rattle.cal_read.specs.StampViews.{setting}
 use Rattle.cal_read.specs.declared.stamp.fault.StampFault.TheVariants.{NoSuchDate, StrayWord}
@@ -87,8 +87,8 @@ no_word core word means last apart other p =
     let same : last_byte core ≡ last_byte (p.1 ∷ word) = ap last_byte p.3 ∙ last_of p.0 (p.1 ∷ word) (omega arith) in
     apart p.1 (omega (arith, same, last))
 
-no_near_day : (core name word : List ℕ) (rest : List (List ℕ)) (shift : ℤ) → words core ≡ name ∷ rest → length name ≡ 3 → 3 < length word → (other : Form) → IsNearDay word shift core other → ⊥
-no_near_day core name word rest shift are short long other p =
+no_relative_day : (core name word : List ℕ) (rest : List (List ℕ)) (shift : ℤ) → words core ≡ name ∷ rest → length name ≡ 3 → 3 < length word → (other : Form) → IsRelativeDay word shift core other → ⊥
+no_relative_day core name word rest shift are short long other p =
     let same : name ∷ rest ≡ word ∷ p.0 = sym are ∙ p.1 in
     let first : name ≡ word = cc in
     absurd (omega (arith, short, long, ap length first))
@@ -143,7 +143,7 @@ module _ (day : Weekday) (name date time zone : List ℕ) (is : IsLine day name 
   fits_words =
       let rest = date ∷ time ∷ zone ∷ [] in
       let core = line name date time zone in
-      inr (no_near_day core name (codes "today") rest (pos 0) line_read is.named.long (omega arith), inr (no_near_day core name (codes "yesterday") rest (neg_ℤ (pos 1)) line_read is.named.long (omega arith), inr (no_near_day core name (codes "tomorrow") rest (pos 1) line_read is.named.long (omega arith), ap civil (sym line_read))))
+      inr (no_relative_day core name (codes "today") rest (pos 0) line_read is.named.long (omega arith), inr (no_relative_day core name (codes "yesterday") rest (neg_ℤ (pos 1)) line_read is.named.long (omega arith), inr (no_relative_day core name (codes "tomorrow") rest (pos 1) line_read is.named.long (omega arith), ap civil (sym line_read))))
 
   fits_end : FitsByEnd (line name date time zone) (civil (line_words name date time zone))
   fits_end =
@@ -170,14 +170,14 @@ date_first : (at : Setting) (day : Weekday) (name date time zone : List ℕ) →
 date_first at day name date time zone h colon = rw (h.letter, h.named, colon) refl
 
 then_time : (at : Setting) (day : Weekday) (number : ℤ) (time zone : List ℕ) (micros : ℕ) → begins_with_digit time ≡ true → time_written time ≡ Ok micros
-    → after_date at (Some day) number (time ∷ zone ∷ []) ≡ written_in at (Some day) (Some number) micros (zone ∷ [])
+    → after_date at (Some day) number (time ∷ zone ∷ []) ≡ civil_stamp_in at (Some day) (Some number) micros (zone ∷ [])
 then_time at day number time zone micros digit read = rw (digit, read) refl
 
-then_zone : (at : Setting) (day : Option Weekday) (number : Option ℤ) (micros : ℕ) (word : List ℕ) (zone : TimeZone) → zone_meant at.find word ≡ Ok zone
-    → written_in at day number micros (word ∷ []) ≡ Ok (record { weekday = day; day = number; micros = micros; zone = zone })
+then_zone : (at : Setting) (day : Option Weekday) (number : Option ℤ) (micros : ℕ) (word : List ℕ) (zone : TimeZone) → zone_of_word at.find word ≡ Ok zone
+    → civil_stamp_in at day number micros (word ∷ []) ≡ Ok (record { weekday = day; day = number; micros = micros; zone = zone })
 then_zone at day number micros word zone meant = rw meant refl
 
-no_zone : (at : Setting) (day : Option Weekday) (number : Option ℤ) (micros : ℕ) (word : List ℕ) → zone_meant at.find word ≡ Err StrayWord → written_in at day number micros (word ∷ []) ≡ Err StrayWord
+no_zone : (at : Setting) (day : Option Weekday) (number : Option ℤ) (micros : ℕ) (word : List ℕ) → zone_of_word at.find word ≡ Err StrayWord → civil_stamp_in at day number micros (word ∷ []) ≡ Err StrayWord
 no_zone at day number micros word meant = rw meant refl
 
 -- The line with this date, this second of the day and this word for the zone
@@ -270,13 +270,13 @@ shown_since zone secs h =
 -- parsing a line comes down to parsing its date, its time and its zone
 words_read : (now : ℤ) (at : Setting) (date : Date) (second : ℕ) (zone : List ℕ) → second < 86_400 → IsLastWord zone
     → moment_in now at (line_of date second zone)
-    ≡ ((day_written (date_in date) >>= λ number. after_date at (Some (day_in date)) number (time_in second ∷ zone ∷ [])) >>= λ written. moment_of_written now written)
+    ≡ ((day_written (date_in date) >>= λ number. after_date at (Some (day_in date)) number (time_in second ∷ zone ∷ [])) >>= λ stamp. moment_of_civil_stamp now stamp)
 unfolding moment_in
 words_read now at date second zone h last =
     let name = short_name_of (day_in date) in
     let is = is_line date second zone h last in
     ap (moment_of_form now at) (sym (only (line_of date second zone) (civil (line_words name (date_in date) (time_in second) zone)) (line_form (day_in date) name (date_in date) (time_in second) zone is)))
-    ∙ ap (λ read. read >>= λ written. moment_of_written now written) (date_first at (day_in date) name (date_in date) (time_in second) zone is.named (date_no_colon date))
+    ∙ ap (λ read. read >>= λ stamp. moment_of_civil_stamp now stamp) (date_first at (day_in date) name (date_in date) (time_in second) zone is.named (date_no_colon date))
 
 -- the microseconds after midnight
 abbrev micros_in : ℕ → ℕ
@@ -306,8 +306,8 @@ fits date number e =
     eq-eqb (weekday_number number) (monday_zero (day_in date)) same
 
 moment_back : (now local secs : ℤ) (zone : TimeZone) (date : Date) → IsInstant secs → settle_of zone local ≡ secs → epoch_day date ≡ day_of local
-    → moment_of_written now (record { weekday = Some (day_in date); day = Some (day_of local); micros = micros_in (second_of_day local); zone = zone }) ≡ Ok (micros_of secs)
-unfolding moment_of_written
+    → moment_of_civil_stamp now (record { weekday = Some (day_in date); day = Some (day_of local); micros = micros_in (second_of_day local); zone = zone }) ≡ Ok (micros_of secs)
+unfolding moment_of_civil_stamp
 moment_back now local secs zone date h back e =
     rw (fits date (day_of local) e) (settle_on_back zone local secs h back)
 
@@ -316,7 +316,7 @@ moment_back now local secs zone date h back e =
 -- if the year is one that a date can have, only the zone can still be invalid
 zone_judged : (now local : ℤ) (at : Setting) (date : Date) (zone : List ℕ) → IsLastWord zone → IsBetween (pos 1_970) (pos 2_199) date.year → epoch_day date ≡ day_of local
     → moment_in now at (line_of date (second_of_day local) zone)
-    ≡ (written_in at (Some (day_in date)) (Some (day_of local)) (micros_in (second_of_day local)) (zone ∷ []) >>= λ written. moment_of_written now written)
+    ≡ (civil_stamp_in at (Some (day_in date)) (Some (day_of local)) (micros_in (second_of_day local)) (zone ∷ []) >>= λ stamp. moment_of_civil_stamp now stamp)
 zone_judged now local at date zone last years e =
     let second = second_of_day local in
     let below = second_below local in
@@ -338,7 +338,7 @@ reads_back now local table zone secs h years minutes =
     let written = then_zone at (Some (day_in date)) (Some (day_of shows)) (micros_in (second_of_day shows)) (shown_word zone secs) read.zone read.meant in
     ap (moment_in now at) (printed_line zone secs)
     ∙ zone_judged now shows at date (shown_word zone secs) (shown_last zone secs) years day
-    ∙ ap (λ read. read >>= λ written. moment_of_written now written) written
+    ∙ ap (λ read. read >>= λ stamp. moment_of_civil_stamp now stamp) written
     ∙ moment_back now shows secs read.zone date h read.back day
 
 pub seconds_are_unread : (now : ℤ) (local : TimeZone) (table : ZoneMap) (zone : Zone) (secs : ℤ) → IsInstant secs → ShowsYear (civil_of (zone_of zone) secs) → (ShowsMinutes (civil_of (zone_of zone) secs) → ⊥)
@@ -351,7 +351,7 @@ seconds_are_unread now local table zone secs h years none =
     let stray = no_zone at (Some (day_in date)) (Some (day_of shows)) (micros_in (second_of_day shows)) (shown_word zone secs) (shown_unread (zone_named table) zone secs none) in
     ap (moment_in now at) (printed_line zone secs)
     ∙ zone_judged now shows at date (shown_word zone secs) (shown_last zone secs) years (shown_day zone secs h)
-    ∙ ap (λ read. read >>= λ written. moment_of_written now written) stray
+    ∙ ap (λ read. read >>= λ stamp. moment_of_civil_stamp now stamp) stray
 
 pub reads_as_none : (now : ℤ) (local : TimeZone) (table : ZoneMap) (zone : Zone) (secs : ℤ) → IsInstant secs → (ShowsYear (civil_of (zone_of zone) secs) → ⊥)
     → moment_in now (setting local (zone_named table)) (instant_text zone secs) ≡ Err NoSuchDate

@@ -29,7 +29,7 @@ use Rattle.cal_zone.specs.declared.zone.ZoneKind.{ZoneKind}
 use Rattle.cal_zone.specs.declared.zone.ZoneKind.TheVariants.{Utc}
 use Rattle.cal_spec.specs.GrammarRule.{IsWord}
 use Rattle.cal_text.specs.headline.Words.{is_blank}
-use Rattle.cal_read.specs.Stamp.{zone_meant}
+use Rattle.cal_read.specs.Stamp.{zone_of_word}
 use Rattle.cal_read.specs.declared.stamp.fault.StampFault.TheVariants.{StrayWord}
 
 abbrev pub last_byte : List ℕ → ℕ
@@ -162,7 +162,7 @@ whole_minutes : (offset : ℤ) → IsOffsetSeconds offset → unsigned_abs offse
 whole_minutes offset h whole =
     let most = abs_within offset h in record { near = omega (arith, most, whole); whole = whole }
 
-minutes_read : (find : List ℕ → Option TimeZone) (offset : ℤ) → IsOffsetSeconds offset → unsigned_abs offset % 60 ≡ 0 → zone_meant find (offset_text offset) ≡ Ok (fixed_offset_zone offset)
+minutes_read : (find : List ℕ → Option TimeZone) (offset : ℤ) → IsOffsetSeconds offset → unsigned_abs offset % 60 ≡ 0 → zone_of_word find (offset_text offset) ≡ Ok (fixed_offset_zone offset)
 minutes_read find offset h whole =
     rw (signed_no_letter (offset_text offset) (offset_signed offset h), offset-back offset (whole_minutes offset h whole)) refl
 
@@ -195,7 +195,7 @@ long_none : (word : List ℕ) (found : Option ℤ) → length word ≡ 9 → off
 long_none word None long e = refl
 long_none word (Some seconds) long e = absurd (omega (arith, long, word_long word seconds (offset-found word seconds e)))
 
-seconds_unread : (find : List ℕ → Option TimeZone) (offset : ℤ) → IsOffsetSeconds offset → (unsigned_abs offset % 60 == 0) ≡ false → zone_meant find (offset_text offset) ≡ Err StrayWord
+seconds_unread : (find : List ℕ → Option TimeZone) (offset : ℤ) → IsOffsetSeconds offset → (unsigned_abs offset % 60 == 0) ≡ false → zone_of_word find (offset_text offset) ≡ Err StrayWord
 seconds_unread find offset h e =
     rw (signed_no_letter (offset_text offset) (offset_signed offset h), long_none (offset_text offset) _ (seconds_long offset h e) refl) refl
 
@@ -214,9 +214,9 @@ utc_zone : (zone : Zone) → is_utc zone ≡ true → zone_of zone ≡ UTC
 unfolding zone_of
 utc_zone zone h = utc_kind zone.kind h
 
-utc_meant : (table : ZoneMap) → zone_meant (zone_named table) (codes "UTC") ≡ Ok UTC
+utc_of_word : (table : ZoneMap) → zone_of_word (zone_named table) (codes "UTC") ≡ Ok UTC
 unfolding zone_named is_utc_name
-utc_meant table = refl
+utc_of_word table = refl
 
 -- the UTC offset of a zone at a second
 abbrev pub shown_offset : Zone → ℤ → ℤ
@@ -235,17 +235,17 @@ pub shown_last : (zone : Zone) (secs : ℤ) → IsLastWord (shown_word zone secs
 shown_last zone secs = last_by (is_utc zone) (shown_offset zone secs) (offset_at-in_range (zone_of zone) (nanos_of_seconds secs))
 
 -- a word for a zone that converts the local second back to the instant
-pub record IsReadAs (find : List ℕ → Option TimeZone) (word : List ℕ) (local secs : ℤ) : Type 0 where
+pub record ConvertsBack (find : List ℕ → Option TimeZone) (word : List ℕ) (local secs : ℤ) : Type 0 where
   pub zone : TimeZone
-  pub meant : zone_meant find word ≡ Ok zone
+  pub meant : zone_of_word find word ≡ Ok zone
   pub back : settle_of zone local ≡ secs
 
 read_by : (table : ZoneMap) (tz : TimeZone) (utc : Bool) (secs : ℤ) → (utc ≡ true → tz ≡ UTC) → unsigned_abs (offset_at tz (nanos_of_seconds secs)) % 60 ≡ 0
-    → IsReadAs (zone_named table) (zone_word utc (offset_at tz (nanos_of_seconds secs))) (local_shown_at tz secs) secs
+    → ConvertsBack (zone_named table) (zone_word utc (offset_at tz (nanos_of_seconds secs))) (local_shown_at tz secs) secs
 unfolding zone_word local_shown_at
 read_by table tz true secs is h = record {
   zone = UTC;
-  meant = utc_meant table;
+  meant = utc_of_word table;
   back = settle_of-UTC (local_shown_at tz secs) ∙ ap (λ z. local_shown_at z secs) (is refl) ∙ local_shown_at-UTC secs;
 }
 read_by table tz false secs is h =
@@ -258,7 +258,7 @@ read_by table tz false secs is h =
     }
 
 pub shown_read : (table : ZoneMap) (zone : Zone) (secs : ℤ) → unsigned_abs (shown_offset zone secs) % 60 ≡ 0
-    → IsReadAs (zone_named table) (shown_word zone secs) (local_shown_at (zone_of zone) secs) secs
+    → ConvertsBack (zone_named table) (shown_word zone secs) (local_shown_at (zone_of zone) secs) secs
 shown_read table zone secs h = read_by table (zone_of zone) (is_utc zone) secs (utc_zone zone) h
 
 pub utc_minutes : (secs : ℤ) → unsigned_abs (offset_at UTC (nanos_of_seconds secs)) % 60 ≡ 0
@@ -266,7 +266,7 @@ unfolding offset_at
 utc_minutes secs = refl
 
 unread_by : (find : List ℕ → Option TimeZone) (tz : TimeZone) (utc : Bool) (secs : ℤ) → (utc ≡ true → tz ≡ UTC) → (unsigned_abs (offset_at tz (nanos_of_seconds secs)) % 60 ≡ 0 → ⊥)
-    → zone_meant find (zone_word utc (offset_at tz (nanos_of_seconds secs))) ≡ Err StrayWord
+    → zone_of_word find (zone_word utc (offset_at tz (nanos_of_seconds secs))) ≡ Err StrayWord
 unfolding zone_word
 unread_by find tz true secs is none =
     absurd (none (ap (λ z. unsigned_abs (offset_at z (nanos_of_seconds secs)) % 60) (is refl) ∙ utc_minutes secs))
@@ -274,5 +274,5 @@ unread_by find tz false secs is none =
     let offset = offset_at tz (nanos_of_seconds secs) in
     seconds_unread find offset (offset_at-in_range tz (nanos_of_seconds secs)) (ne_eqb (unsigned_abs offset % 60) 0 none)
 
-pub shown_unread : (find : List ℕ → Option TimeZone) (zone : Zone) (secs : ℤ) → (unsigned_abs (shown_offset zone secs) % 60 ≡ 0 → ⊥) → zone_meant find (shown_word zone secs) ≡ Err StrayWord
+pub shown_unread : (find : List ℕ → Option TimeZone) (zone : Zone) (secs : ℤ) → (unsigned_abs (shown_offset zone secs) % 60 ≡ 0 → ⊥) → zone_of_word find (shown_word zone secs) ≡ Err StrayWord
 shown_unread find zone secs none = unread_by find (zone_of zone) (is_utc zone) secs (utc_zone zone) none

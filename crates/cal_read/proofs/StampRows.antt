@@ -19,7 +19,7 @@ use Rattle.cal_civil.specs.headline.ZoneName.{is_utc_name}
 use Rattle.cal_spec.specs.Weekdays.{day_named}
 use Rattle.cal_text.specs.headline.Trim.{trim_matches, trim_end_matches, trim_start_matches}
 use Rattle.cal_text.specs.headline.Words.{words}
-use Rattle.cal_read.specs.Stamp.{Setting, moment_in, in_moments, today, settle_on, moment_of_written, zone_by_words}
+use Rattle.cal_read.specs.Stamp.{Setting, moment_in, in_moments, today, settle_on, moment_of_civil_stamp, zone_by_words}
 use Rattle.cal_read.specs.StampDate.{digits_number, date_numbers, day_of_date, day_written}
 use Rattle.cal_read.specs.StampForm.{form_of, form_by_end, day_shift}
 use Rattle.cal_read.specs.StampTime.{clock_number, fraction_in, second_written, time_numbers, time_written}
@@ -83,7 +83,7 @@ in_november day first =
     omega (arith, signed_arith, days_from_civil-day_count (pos 2_012) 11 day, day_count-late (pos 2_012) 12_012 11 day refl (omega arith) (omega arith) first)
 
 rows_meant : map (λ (row : Row). moment_in (pos 1_353_665_722) in_utc row.0) rows ≡ map (λ (row : Row). row.1) rows
-unfolding moment_in form_of trim_matches trim_end_matches trim_start_matches form_by_end day_shift words in_moments today settle_on moment_of_written day_written date_numbers digits_number day_of_date time_written time_numbers clock_number second_written fraction_in day_named name_of span_of pairs_in words_in worth_of is_number number_worth unit_named spellings_of local_shown_at offset_at settle_of ambiguous_at datetime_of weekday_number is_utc_name offset_in hour_minute_in two_digits fixed_offset_zone offset_of_seconds
+unfolding moment_in form_of trim_matches trim_end_matches trim_start_matches form_by_end day_shift words in_moments today settle_on moment_of_civil_stamp day_written date_numbers digits_number day_of_date time_written time_numbers clock_number second_written fraction_in day_named name_of span_of pairs_in words_in worth_of is_number number_worth unit_named spellings_of local_shown_at offset_at settle_of ambiguous_at datetime_of weekday_number is_utc_name offset_in hour_minute_in two_digits fixed_offset_zone offset_of_seconds
 rows_meant = rw (in_november 23 (omega arith), in_november 22 (omega arith), days_from_civil-1970) refl
 
 -- the words for a zone, and the zone that they stand for or their error

@@ -14,7 +14,7 @@ use Rattle.cal_text.proofs.WordLemmas.{is_solid, last_blank, no_blank}
 use Rattle.cal_text.specs.headline.Trim.{trim_matches}
 use Rattle.cal_text.specs.headline.Words.{is_blank, words}
 use Rattle.cal_read.specs.StampForm.{Form, present, later, earlier, counted, from_today, civil, day_shift, form_of, form_by_end, form_of_solid, form_of_words, form_by_day, form_by_ago, form_by_left}
-use Rattle.cal_read.specs.StampRule.{IsNothing, IsPresent, IsBehindSign, IsBeforeWord, IsNearDay, IsCivilForm, OrElse, FitsByWords, FitsByEnd, FitsBySign, FitsFirst, HasForm}
+use Rattle.cal_read.specs.StampRule.{IsNothing, IsPresent, IsBehindSign, IsBeforeWord, IsRelativeDay, IsCivilForm, OrElse, FitsByWords, FitsByEnd, FitsBySign, FitsFirst, HasForm}
 
 -- There is at most one form
 
@@ -46,8 +46,8 @@ one_before_word : (word : List ℕ) (means : List ℕ → Form) → IsOne (IsBef
 one_before_word word means core f g p q =
     p.4 ∙ ap means (same_front word p.0 q.0 p.1 q.1 (sym p.3 ∙ q.3)) ∙ sym q.4
 
-one_near_day : (word : List ℕ) (shift : ℤ) → IsOne (IsNearDay word shift)
-one_near_day word shift core f g p q =
+one_relative_day : (word : List ℕ) (shift : ℤ) → IsOne (IsRelativeDay word shift)
+one_relative_day word shift core f g p q =
     let same : word ∷ p.0 ≡ word ∷ q.0 = sym p.1 ∙ q.1 in
     let rest : p.0 ≡ q.0 = cc in
     p.2 ∙ ap (from_today shift) rest ∙ sym q.2
@@ -57,9 +57,9 @@ one_civil core f g p q = p ∙ sym q
 
 one_by_words : IsOne FitsByWords
 one_by_words =
-    or_else _ (OrElse (IsNearDay (codes "yesterday") (neg_ℤ (pos 1))) (OrElse (IsNearDay (codes "tomorrow") (pos 1)) IsCivilForm)) (one_near_day (codes "today") (pos 0))
-    (or_else _ (OrElse (IsNearDay (codes "tomorrow") (pos 1)) IsCivilForm) (one_near_day (codes "yesterday") (neg_ℤ (pos 1)))
-    (or_else _ IsCivilForm (one_near_day (codes "tomorrow") (pos 1)) one_civil))
+    or_else _ (OrElse (IsRelativeDay (codes "yesterday") (neg_ℤ (pos 1))) (OrElse (IsRelativeDay (codes "tomorrow") (pos 1)) IsCivilForm)) (one_relative_day (codes "today") (pos 0))
+    (or_else _ (OrElse (IsRelativeDay (codes "tomorrow") (pos 1)) IsCivilForm) (one_relative_day (codes "yesterday") (neg_ℤ (pos 1)))
+    (or_else _ IsCivilForm (one_relative_day (codes "tomorrow") (pos 1)) one_civil))
 
 one_by_end : IsOne FitsByEnd
 one_by_end =
@@ -90,7 +90,7 @@ by_sign Q means sign b bs rest false e h =
     )
 
 by_day : (Q : List ℕ → Form → Type 0) (name : List ℕ) (shift : ℤ) (core w : List ℕ) (ws : List (List ℕ)) (rest : Option ℤ) (test : Bool) → bytes_eq w name ≡ test → words core ≡ w ∷ ws → Q core (form_by_day rest w ws)
-    → OrElse (IsNearDay name shift) Q core (form_by_day (if test then Some shift else rest) w ws)
+    → OrElse (IsRelativeDay name shift) Q core (form_by_day (if test then Some shift else rest) w ws)
 by_day Q name shift core w ws rest true e are h =
     inl (ws, are ∙ ap (λ v. v ∷ ws) ((bytes_eq-Decides w name).0 e), refl)
 by_day Q name shift core w ws rest false e are h =
@@ -102,7 +102,7 @@ by_day Q name shift core w ws rest false e are h =
       h,
     )
 
-no_day : (name : List ℕ) (shift : ℤ) (core : List ℕ) (other : Form) → words core ≡ [] → IsNearDay name shift core other → ⊥
+no_day : (name : List ℕ) (shift : ℤ) (core : List ℕ) (other : Form) → words core ≡ [] → IsRelativeDay name shift core other → ⊥
 no_day name shift core other none p =
     let front : [] ≡ name ∷ p.0 = sym none ∙ p.1 in cc
 
@@ -111,8 +111,8 @@ unfolding day_shift
 by_words core [] are =
     inr (λ o p. no_day (codes "today") (pos 0) core o are p, inr (λ o p. no_day (codes "yesterday") (neg_ℤ (pos 1)) core o are p, inr (λ o p. no_day (codes "tomorrow") (pos 1) core o are p, ap civil (sym are))))
 by_words core (w ∷ ws) are =
-    by_day (OrElse (IsNearDay (codes "yesterday") (neg_ℤ (pos 1))) (OrElse (IsNearDay (codes "tomorrow") (pos 1)) IsCivilForm)) (codes "today") (pos 0) core w ws _ _ refl are
-    (by_day (OrElse (IsNearDay (codes "tomorrow") (pos 1)) IsCivilForm) (codes "yesterday") (neg_ℤ (pos 1)) core w ws _ _ refl are
+    by_day (OrElse (IsRelativeDay (codes "yesterday") (neg_ℤ (pos 1))) (OrElse (IsRelativeDay (codes "tomorrow") (pos 1)) IsCivilForm)) (codes "today") (pos 0) core w ws _ _ refl are
+    (by_day (OrElse (IsRelativeDay (codes "tomorrow") (pos 1)) IsCivilForm) (codes "yesterday") (neg_ℤ (pos 1)) core w ws _ _ refl are
     (by_day IsCivilForm (codes "tomorrow") (pos 1) core w ws None _ refl are (ap civil (sym are))))
 
 -- what it means that a text ends with a blank and a word

@@ -9,7 +9,7 @@ use Rattle.cal_spec.specs.declared.spec_fault.SpecFault.{SpecFault}
 use Rattle.cal_read.specs.headline.Assignments.{Assignment, assignments_in}
 use Rattle.cal_lines.specs.headline.Lines.{logical_lines}
 use Rattle.cal_read.specs.TimerText.{TimerLine, bad_line, broken_line, fault_following, fault_joining, first_fault, lists_of, some_expressions, timer_in, timer_of, unless_fault}
-use Rattle.cal_read.specs.headline.TimerText.{excepted, is_exception, is_expression, listed, most_expressions, without_mark}
+use Rattle.cal_read.specs.headline.TimerText.{excepted, is_exception, is_expression, listed, max_expressions, without_mark}
 use Rattle.cal_read.specs.declared.timer.fault.TimerFault.{TimerFault}
 use Rattle.cal_read.specs.declared.timer.fault.TimerFault.TheVariants.{BadLine, NotUtf8, ReadFailed, TooMany}
 
@@ -23,15 +23,15 @@ text_is_of_line : {E : Type 0} (number : ℕ) (r : Result E SpecFault) (fault : 
 text_is_of_line number (Ok expr) fault e = cc
 text_is_of_line number (Err f) fault e = let same : BadLine number f ≡ fault = cc in rw (← same) refl
 
-joining_is_of_line : {E : Type 0} (read : List ℕ → Result E SpecFault) (list : List Assignment) (a : Assignment) (fault : TimerFault) (many : Bool) → nat_le most_expressions (length list) ≡ many → fault_joining read list a ≡ Some fault → is_of_line fault ≡ true
+joining_is_of_line : {E : Type 0} (read : List ℕ → Result E SpecFault) (list : List Assignment) (a : Assignment) (fault : TimerFault) (many : Bool) → nat_le max_expressions (length list) ≡ many → fault_joining read list a ≡ Some fault → is_of_line fault ≡ true
 unfolding fault_joining
 joining_is_of_line read list a fault true e = rw e (λ h. let same : TooMany a.number ≡ fault = cc in rw (← same) refl)
 joining_is_of_line read list a fault false e = rw e (text_is_of_line a.number (read a.value) fault)
 
 one_is_of_line : {E : Type 0} (read : List ℕ → Result E SpecFault) (before : List Assignment) (a : Assignment) (fault : TimerFault) (expresses excepts : Bool) → is_expression a ≡ expresses → is_exception a ≡ excepts → fault_following read before a ≡ Some fault → is_of_line fault ≡ true
 unfolding fault_following
-one_is_of_line read before a fault true excepts e f = rw e (joining_is_of_line read (listed before) a fault (nat_le most_expressions (length (listed before))) refl)
-one_is_of_line read before a fault false true e f = rw (e, f) (joining_is_of_line read (excepted before) a fault (nat_le most_expressions (length (excepted before))) refl)
+one_is_of_line read before a fault true excepts e f = rw e (joining_is_of_line read (listed before) a fault (nat_le max_expressions (length (listed before))) refl)
+one_is_of_line read before a fault false true e f = rw (e, f) (joining_is_of_line read (excepted before) a fault (nat_le max_expressions (length (excepted before))) refl)
 one_is_of_line read before a fault false false e f = rw (e, f) (λ h. cc)
 
 either_is_of_line : (o p : Option TimerFault) (fault : TimerFault) → (o ≡ Some fault → is_of_line fault ≡ true) → (p ≡ Some fault → is_of_line fault ≡ true) → option_or o p ≡ Some fault → is_of_line fault ≡ true

@@ -72,8 +72,8 @@ offset_found (Some seconds) = Ok (fixed_offset_zone seconds)
 
 -- the zone of a word: if the word begins with a letter it must be the name of a zone, otherwise it must be an offset,
 -- `+hh:mm` or `-hh:mm`
-abbrev pub zone_meant : (List ℕ → Option TimeZone) → List ℕ → Result TimeZone StampFault
-zone_meant find w = if begins_with_letter w then name_found (find w) else offset_found (offset_in w)
+abbrev pub zone_of_word : (List ℕ → Option TimeZone) → List ℕ → Result TimeZone StampFault
+zone_of_word find w = if begins_with_letter w then name_found (find w) else offset_found (offset_in w)
 
 -- no word may come after the zone
 abbrev pub zone_alone : TimeZone → List (List ℕ) → Result TimeZone StampFault
@@ -83,18 +83,18 @@ zone_alone zone (w ∷ ws) = Err StrayWord
 -- the zone of the remaining words: the local zone if there are none, and otherwise the zone of the only word
 abbrev pub zone_by_words : Setting → List (List ℕ) → Result TimeZone StampFault
 zone_by_words at [] = Ok at.local
-zone_by_words at (w ∷ ws) = zone_meant at.find w >>= λ zone. zone_alone zone ws
+zone_by_words at (w ∷ ws) = zone_of_word at.find w >>= λ zone. zone_alone zone ws
 
 -- a parsed civil time
-pub record Written : Type 0 where
+pub record CivilStamp : Type 0 where
   pub weekday : Option Weekday
   pub day : Option ℤ
   pub micros : ℕ
   pub zone : TimeZone
 
 -- the civil time with these parts, in the zone of the remaining words
-abbrev pub written_in : Setting → Option Weekday → Option ℤ → ℕ → List (List ℕ) → Result Written StampFault
-written_in at weekday day micros ws =
+abbrev pub civil_stamp_in : Setting → Option Weekday → Option ℤ → ℕ → List (List ℕ) → Result CivilStamp StampFault
+civil_stamp_in at weekday day micros ws =
     zone_by_words at ws >>= λ zone. Ok (record { weekday = weekday; day = day; micros = micros; zone = zone })
 
 abbrev pub begins_with_digit : List ℕ → Bool
@@ -102,25 +102,25 @@ begins_with_digit [] = false
 begins_with_digit (b ∷ bs) = is_ascii_digit b
 
 -- the civil time from the words after its date: if the first begins with a digit, it is the time
-abbrev pub after_date : Setting → Option Weekday → ℤ → List (List ℕ) → Result Written StampFault
-after_date at weekday day [] = written_in at weekday (Some day) 0 []
+abbrev pub after_date : Setting → Option Weekday → ℤ → List (List ℕ) → Result CivilStamp StampFault
+after_date at weekday day [] = civil_stamp_in at weekday (Some day) 0 []
 after_date at weekday day (w ∷ ws) =
-    if begins_with_digit w then (time_written w >>= λ micros. written_in at weekday (Some day) micros ws)
-    else written_in at weekday (Some day) 0 (w ∷ ws)
+    if begins_with_digit w then (time_written w >>= λ micros. civil_stamp_in at weekday (Some day) micros ws)
+    else civil_stamp_in at weekday (Some day) 0 (w ∷ ws)
 
 -- the civil time from the words after its weekday: if the first has a colon it is the time, otherwise it is the date
-abbrev pub after_weekday : Setting → Option Weekday → List (List ℕ) → Result Written StampFault
+abbrev pub after_weekday : Setting → Option Weekday → List (List ℕ) → Result CivilStamp StampFault
 after_weekday at weekday [] = Err BadDate
 after_weekday at weekday (w ∷ ws) =
-    if list_any is_colon w then (time_written w >>= λ micros. written_in at weekday None micros ws)
+    if list_any is_colon w then (time_written w >>= λ micros. civil_stamp_in at weekday None micros ws)
     else (day_written w >>= λ day. after_date at weekday day ws)
 
-abbrev pub weekday_found : Setting → Option Weekday → List (List ℕ) → Result Written StampFault
+abbrev pub weekday_found : Setting → Option Weekday → List (List ℕ) → Result CivilStamp StampFault
 weekday_found at None ws = Err BadWeekday
 weekday_found at (Some weekday) ws = after_weekday at (Some weekday) ws
 
 -- the civil time of these words: if the first begins with a letter, it is the weekday
-abbrev pub civil_time : Setting → List (List ℕ) → Result Written StampFault
+abbrev pub civil_time : Setting → List (List ℕ) → Result CivilStamp StampFault
 civil_time at [] = Err BadDate
 civil_time at (w ∷ ws) =
     if begins_with_letter w then weekday_found at (day_named w) ws else after_weekday at None (w ∷ ws)
@@ -131,8 +131,8 @@ fits_weekday None day = true
 fits_weekday (Some weekday) day = weekday_number day == monday_zero weekday
 
 -- the moment of a civil time; if it has no date, it is on the present day in its zone
-unfoldable pub moment_of_written : ℤ → Written → Result ℤ StampFault
-moment_of_written now c =
+unfoldable pub moment_of_civil_stamp : ℤ → CivilStamp → Result ℤ StampFault
+moment_of_civil_stamp now c =
     let day = unwrap_or c.day (today now c.zone) in
     if fits_weekday c.weekday day then settle_on c.zone day c.micros else Err WrongWeekday
 
@@ -145,7 +145,7 @@ moment_of_form now at (later span) = after_second now (span_of span)
 moment_of_form now at (earlier span) = before_second now (span_of span)
 moment_of_form now at (counted span) = after_second (pos 0) (span_of span)
 moment_of_form now at (from_today shift ws) = zone_by_words at ws >>= λ zone. settle_on zone (today now zone +ℤ shift) 0
-moment_of_form now at (civil ws) = civil_time at ws >>= λ written. moment_of_written now written
+moment_of_form now at (civil ws) = civil_time at ws >>= λ stamp. moment_of_civil_stamp now stamp
 
 -- the moment of a timestamp in microseconds, or its error, given the present second and the zones
 unfoldable pub moment_in : ℤ → Setting → List ℕ → Result ℤ StampFault

@@ -7,7 +7,7 @@ use Rattle.cal_civil.specs.headline.OffsetWord.{IsOffsetWord}
 use Rattle.cal_zone.specs.headline.FixedOffsetZone.{fixed_offset_zone}
 use Rattle.cal_civil.specs.headline.ZoneName.{begins_with_letter}
 use Rattle.cal_spec.specs.Weekdays.{day_named}
-use Rattle.cal_read.specs.Stamp.{Setting, Written}
+use Rattle.cal_read.specs.Stamp.{Setting, CivilStamp}
 use Rattle.cal_read.specs.StampDate.{day_written}
 use Rattle.cal_read.specs.StampTime.{time_written}
 use Rattle.cal_read.specs.declared.stamp.fault.StampFault.TheVariants.{NoSuchDate}
@@ -40,7 +40,7 @@ NamesZone at None zone = zone ≡ at.local
 NamesZone at (Some word) zone = MeansZone at.find word zone
 
 -- the words are `[weekday] [date] [time] [zone]`, with at least a date or a time
-pub record IsCivilTime (at : Setting) (words : List (List ℕ)) (c : Written) : Type 0 where
+pub record IsCivilTime (at : Setting) (words : List (List ℕ)) (c : CivilStamp) : Type 0 where
   pub weekday : Option (List ℕ)
   pub date : Option (List ℕ)
   pub time : Option (List ℕ)

@@ -13,7 +13,7 @@ use Rattle.cal_civil.specs.headline.OffsetWord.{IsOffsetWord}
 use Rattle.cal_civil.specs.headline.ZoneName.{begins_with_letter}
 use Rattle.cal_text.specs.headline.Separators.{is_colon}
 use Rattle.cal_spec.specs.Weekdays.{day_named}
-use Rattle.cal_read.specs.Stamp.{Setting, Written, begins_with_digit}
+use Rattle.cal_read.specs.Stamp.{Setting, CivilStamp, begins_with_digit}
 use Rattle.cal_read.specs.StampCivilRule.{IsCivilTime, NamesWeekday, NamesZone, WritesDate, WritesTime}
 use Rattle.cal_read.specs.StampDate.{day_written}
 use Rattle.cal_read.specs.StampForm.{Form, nothing, present, later, earlier, counted, from_today, civil}
@@ -89,11 +89,11 @@ HasFirstError at words fault = HasWordAtFault at words fault ⊎ EndsTooSoon at 
 
 -- the words are a civil time, but its day isn't the weekday that is named
 pub record HasWrongWeekday (now : ℤ) (at : Setting) (words : List (List ℕ)) : Type 0 where
-  pub written : Written
+  pub stamp : CivilStamp
   pub day : ℤ
-  pub is_written : IsCivilTime at words written
-  pub has_day : IsDay now written.zone written.day day
-  pub falls_elsewhere : FallsOn written.weekday day → ⊥
+  pub is_civil : IsCivilTime at words stamp
+  pub has_day : IsDay now stamp.zone stamp.day day
+  pub falls_elsewhere : FallsOn stamp.weekday day → ⊥
 
 -- Errors of all forms
 

@@ -8,7 +8,7 @@ use Rattle.cal_span.specs.SpanValue.{span_of}
 use Rattle.cal_zone.specs.headline.Moment.{micros_of}
 use Rattle.cal_zone.specs.headline.Place.{settle_of}
 use Rattle.cal_zone.specs.headline.Zone.{local_shown_at}
-use Rattle.cal_read.specs.Stamp.{Setting, Written}
+use Rattle.cal_read.specs.Stamp.{Setting, CivilStamp}
 use Rattle.cal_read.specs.StampCivilRule.{IsCivilTime, NamesZone}
 use Rattle.cal_read.specs.StampForm.{Form, nothing, present, later, earlier, counted, from_today, civil}
 
@@ -61,12 +61,12 @@ pub record IsMidnight (now : ℤ) (at : Setting) (shift : ℤ) (words : List (Li
 
 -- the time is that of the civil time that the words stand for, whose day is the weekday that is named
 pub record IsCivilMoment (now : ℤ) (at : Setting) (words : List (List ℕ)) (time : ℤ) : Type 0 where
-  pub written : Written
+  pub stamp : CivilStamp
   pub day : ℤ
-  pub is_written : IsCivilTime at words written
-  pub has_day : IsDay now written.zone written.day day
-  pub falls : FallsOn written.weekday day
-  pub is_time : IsTimeOfDay written.zone day written.micros time
+  pub is_civil : IsCivilTime at words stamp
+  pub has_day : IsDay now stamp.zone stamp.day day
+  pub falls : FallsOn stamp.weekday day
+  pub is_time : IsTimeOfDay stamp.zone day stamp.micros time
 
 -- the form stands for this time in microseconds of Unix time, whether or not that is in the supported range
 abbrev pub MeansTime : ℤ → Setting → Form → ℤ → Type 0

@@ -24,8 +24,8 @@ IsBeforeWord word means core form =
     (span : List ℕ) × (blank : ℕ) × (is_blank blank ≡ true) × (core ≡ span ++ (blank ∷ word)) × (form ≡ means span)
 
 -- 6: the word for a day, followed by the words of a zone
-abbrev pub IsNearDay : List ℕ → ℤ → List ℕ → Form → Type 0
-IsNearDay word shift core form =
+abbrev pub IsRelativeDay : List ℕ → ℤ → List ℕ → Form → Type 0
+IsRelativeDay word shift core form =
     (after : List (List ℕ)) × (words core ≡ word ∷ after) × (form ≡ from_today shift after)
 
 -- 7: any words
@@ -39,9 +39,9 @@ OrElse P Q core form = P core form ⊎ (((other : Form) → P core other → ⊥
 -- 6 or 7
 abbrev pub FitsByWords : List ℕ → Form → Type 0
 FitsByWords =
-    OrElse (IsNearDay (codes "today") (pos 0))
-    (OrElse (IsNearDay (codes "yesterday") (neg_ℤ (pos 1)))
-    (OrElse (IsNearDay (codes "tomorrow") (pos 1)) IsCivilForm))
+    OrElse (IsRelativeDay (codes "today") (pos 0))
+    (OrElse (IsRelativeDay (codes "yesterday") (neg_ℤ (pos 1)))
+    (OrElse (IsRelativeDay (codes "tomorrow") (pos 1)) IsCivilForm))
 
 -- 5 to 7
 abbrev pub FitsByEnd : List ℕ → Form → Type 0

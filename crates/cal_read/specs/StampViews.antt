@@ -12,10 +12,10 @@ use Rattle.cal_read.specs.StampForm as forms
 use Rattle.cal_read.specs.declared.stamp.fault.StampFault.{StampFault}
 use Rattle.cal_read.specs.declared.stamp.form.Form as declared
 use Rattle.cal_read.specs.declared.stamp.form.Form.TheVariants.{Nothing, Present, Later, Earlier, Counted, Midnight, Civil}
-use Rattle.cal_read.specs.declared.stamp.form.NearDay.{NearDay}
-use Rattle.cal_read.specs.declared.stamp.form.NearDay.TheVariants.{Yesterday, Today, Tomorrow}
+use Rattle.cal_read.specs.declared.stamp.form.RelativeDay.{RelativeDay}
+use Rattle.cal_read.specs.declared.stamp.form.RelativeDay.TheVariants.{Yesterday, Today, Tomorrow}
 use Rattle.cal_read.specs.declared.stamp.setting.Setting as zones
-use Rattle.cal_read.specs.declared.stamp.written.Written as written
+use Rattle.cal_read.specs.declared.stamp.civil_stamp.CivilStamp as civil_stamp
 
 -- a result, with its moment as microseconds of Unix time
 abbrev pub micros_or_fault : Result Moment StampFault → Result ℤ StampFault
@@ -24,14 +24,14 @@ micros_or_fault = result_map_both (λ moment. moment.micros) (λ fault. fault)
 abbrev pub zone_or_fault : Result Zone StampFault → Result TimeZone StampFault
 zone_or_fault = result_map_both zone_of (λ fault. fault)
 
-abbrev pub written_seen : written.Written → meaning.Written
-written_seen w = record { weekday = w.weekday; day = w.day; micros = w.micros; zone = zone_of w.zone }
+abbrev pub civil_stamp_seen : civil_stamp.CivilStamp → meaning.CivilStamp
+civil_stamp_seen w = record { weekday = w.weekday; day = w.day; micros = w.micros; zone = zone_of w.zone }
 
-abbrev pub written_or_fault : Result written.Written StampFault → Result meaning.Written StampFault
-written_or_fault = result_map_both written_seen (λ fault. fault)
+abbrev pub civil_stamp_or_fault : Result civil_stamp.CivilStamp StampFault → Result meaning.CivilStamp StampFault
+civil_stamp_or_fault = result_map_both civil_stamp_seen (λ fault. fault)
 
 -- how many days after the present day this day is
-abbrev pub shift_of : NearDay → ℤ
+abbrev pub shift_of : RelativeDay → ℤ
 shift_of Yesterday = neg_ℤ (pos 1)
 shift_of Today = pos 0
 shift_of Tomorrow = pos 1
@@ -42,7 +42,7 @@ form_seen Present = forms.present
 form_seen (Later span) = forms.later span.now
 form_seen (Earlier span) = forms.earlier span.now
 form_seen (Counted span) = forms.counted span.now
-form_seen (Midnight near after) = forms.from_today (shift_of near) (words after.now)
+form_seen (Midnight day after) = forms.from_today (shift_of day) (words after.now)
 form_seen (Civil text) = forms.civil (words text.now)
 
 -- the zones that a timestamp can refer to

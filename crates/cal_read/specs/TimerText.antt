@@ -13,7 +13,7 @@ use Rattle.cal_streams.specs.declared.whole.WholeFault.TheVariants as whole
 use Rattle.cal_spec.specs.declared.spec_fault.SpecFault.{SpecFault}
 use Rattle.cal_read.specs.declared.timer.fault.TimerFault.{TimerFault}
 use Rattle.cal_read.specs.declared.timer.fault.TimerFault.TheVariants.{ReadFailed, TooLarge, NotUtf8, BadLine, TooMany, NothingToDo, NoMemory}
-use Rattle.cal_read.specs.headline.TimerText.{excepted, is_exception, is_expression, listed, most_expressions, without_mark}
+use Rattle.cal_read.specs.headline.TimerText.{excepted, is_exception, is_expression, listed, max_expressions, without_mark}
 
 -- an entry of a list: the number of its line, its text, and the parsed expression
 pub record TimerLine (E : Type 0) : Type 0 where
@@ -30,7 +30,7 @@ bad_line number (Err fault) = Some (BadLine number fault)
 -- Otherwise it is parsed, even if a later assignment clears the list.
 unfoldable pub fault_joining : {E : Type 0} → (List ℕ → Result E SpecFault) → List Assignment → Assignment → Option TimerFault
 fault_joining read list a =
-    if nat_le most_expressions (length list) then Some (TooMany a.number) else bad_line a.number (read a.value)
+    if nat_le max_expressions (length list) then Some (TooMany a.number) else bad_line a.number (read a.value)
 
 -- the error of an assignment that comes after these others; each list is counted since it was last cleared
 unfoldable pub fault_following : {E : Type 0} → (List ℕ → Result E SpecFault) → List Assignment → Assignment → Option TimerFault
@@ -104,8 +104,8 @@ timer_text read (Ok bytes) = timer_in read bytes
 timer_text read (Err fault) = Err (input_fault fault)
 
 -- the maximum size of a timer file, in bytes
-abbrev pub most_file_bytes : ℕ
-most_file_bytes = 1_048_576
+abbrev pub timer_file_limit : ℕ
+timer_file_limit = 1_048_576
 
 -- the result of reading an input to its end: all its bytes, or the error
 abbrev pub ReadsWhole : Option (List ℕ) → Option (List ℕ) → ℕ → Result (List ℕ) WholeFault → Type 0

@@ -5,7 +5,7 @@ use Rattle.cal_spec.specs.headline.Fields.{Fields}
 use Rattle.cal_spec.specs.declared.spec_fault.SpecFault.{SpecFault}
 use Rattle.cal_read.specs.headline.Assignments.{Assignment}
 use Rattle.cal_read.specs.TimerText.{TimerLine, Timer, some_entries}
-use Rattle.cal_read.specs.headline.TimerText.{is_exception, is_exception_reset, is_expression, is_reset, most_expressions}
+use Rattle.cal_read.specs.headline.TimerText.{is_exception, is_exception_reset, is_expression, is_reset, max_expressions}
 use Rattle.cal_read.specs.declared.timer.TimerLine as declared_line
 use Rattle.cal_read.specs.declared.timer.list.ReadLists.{ReadLists}
 use Rattle.cal_read.specs.declared.timer.fault.TimerFault.{TimerFault}
@@ -26,7 +26,7 @@ with_read es a (Err fault) = Err (BadLine a.number fault)
 
 -- a list with the entry of an assignment, or the error
 unfoldable pub with_assignment : {E : Type 0} → (List ℕ → Result E SpecFault) → List (TimerLine E) → Assignment → Result (List (TimerLine E)) TimerFault
-with_assignment read es a = if nat_le most_expressions (length es) then Err (TooMany a.number) else with_read es a (read a.value)
+with_assignment read es a = if nat_le max_expressions (length es) then Err (TooMany a.number) else with_read es a (read a.value)
 
 -- a list after an assignment: with one more entry if it `adds`, or else empty if it `empties`
 abbrev pub changed : {E : Type 0} → (List ℕ → Result E SpecFault) → (adds empties : Bool) → List (TimerLine E) → Assignment → Result (List (TimerLine E)) TimerFault

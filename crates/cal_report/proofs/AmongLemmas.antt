@@ -34,7 +34,7 @@ none_reported : AreNormalForms → (asked : Request) (base : ℤ) (text : List �
 none_reported some asked base text (Ok report) verb rejected is =
     let it = text_accepted some asked base text verb (ap is_err is) in
     absurd (rejected it.expression (sym it.same) it.accepted)
-none_reported some asked base text (Err words) verb rejected is = refl
+none_reported some asked base text (Err message) verb rejected is = refl
 
 reports_found : HaveOneNormalForm → AreNormalForms → (asked : Request) (base : ℤ) (texts : List (List ℕ)) (found : List (Option Expression)) → asked.verb ≡ Calendar
     → AllZip (IsReadAs asked) texts found → flat_map (λ text. report_in (answer_to asked base text)) texts ≡ map (report_of asked base) (filter_map (λ it. it) found)

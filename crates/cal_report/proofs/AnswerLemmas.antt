@@ -8,7 +8,7 @@ use Rattle.std.specs.Io.KnownBytes.{Appends}
 use Rattle.cal_bytes.specs.Bytes.{Leaves, AppendsFront, Writes}
 use Rattle.std.proofs.KnownBytes.{Appends-nil, Appends-trans}
 use Rattle.cal_bytes.proofs.Pieces.{step, stop, respell}
-use Rattle.cal_report.specs.Answer.{Answer, IsAnsweredBefore, report_in, refusal_in, later_text, status_in, reports_text, refusals_text, texts_status}
+use Rattle.cal_report.specs.Answer.{Answer, IsAnsweredBefore, report_in, error_line_in, later_text, status_in, reports_text, error_lines, texts_status}
 use Rattle.cal_request.specs.Status.{is_fine, status_and}
 use Rattle.cal_request.specs.declared.request.Status.{Status}
 use Rattle.cal_request.specs.declared.request.Status.TheVariants.{Fine, Refused}
@@ -23,8 +23,8 @@ left-next : (is_later : Bool) (a : Answer) (reports : List (List ℕ)) → left_
 unfolding left_of
 left-next true (Ok report) reports = rw (append-nil report) refl
 left-next false (Ok report) reports = rw (append-nil report) refl
-left-next true (Err words) reports = refl
-left-next false (Err words) reports = refl
+left-next true (Err message) reports = refl
+left-next false (Err message) reports = refl
 
 -- the reports of the remaining texts
 pub reports_left : Bool → (List ℕ → Answer) → List (List ℕ) → List ℕ
@@ -45,12 +45,12 @@ unfolding reports_left
 reports_left-next is_later answer text texts = left-next is_later (answer text) (flat_map (λ t. report_in (answer t)) texts)
 
 -- the remaining error lines begin with the error line of the first remaining text, if it has one
-pub refusals-next : (answer : List ℕ → Answer) (text : List ℕ) (texts : List (List ℕ)) → refusals_text answer (text ∷ texts) ≡ refusal_in text (answer text) ++ refusals_text answer texts
-unfolding refusals_text
+pub refusals-next : (answer : List ℕ → Answer) (text : List ℕ) (texts : List (List ℕ)) → error_lines answer (text ∷ texts) ≡ error_line_in text (answer text) ++ error_lines answer texts
+unfolding error_lines
 refusals-next answer text texts = refl
 
-pub refusals-none : (answer : List ℕ → Answer) → refusals_text answer [] ≡ []
-unfolding refusals_text
+pub refusals-none : (answer : List ℕ → Answer) → error_lines answer [] ≡ []
+unfolding error_lines
 refusals-none answer = refl
 
 -- the final status, given the status after the texts so far and the remaining texts
@@ -60,7 +60,7 @@ status_left Fine answer texts = texts_status answer texts
 
 status-next : (a : Answer) (later : Bool) → (if is_err a || later then Refused else Fine) ≡ (if is_fine (status_in a) then (if later then Refused else Fine) else Refused)
 status-next (Ok report) later = refl
-status-next (Err words) later = refl
+status-next (Err message) later = refl
 
 status_left-by : (s : Status) (answer : List ℕ → Answer) (texts : List (List ℕ)) → (if is_fine s then texts_status answer texts else Refused) ≡ status_left s answer texts
 unfolding status_left
@@ -91,13 +91,13 @@ pub out_stops : (a b c : Option (List ℕ)) (answer : List ℕ → Answer) (is_l
 out_stops a b c answer is_later text texts rest all e l w =
     stop a b c (later_text is_later (answer text)) _ all (respell a b _ _ all l (ap (reports_left is_later answer) e ∙ reports_left-next is_later answer text rest)) w
 
-pub err_next : (a b c : Option (List ℕ)) (answer : List ℕ → Answer) (text : List ℕ) (texts rest : List (List ℕ)) (all : List ℕ) → texts ≡ text ∷ rest → Leaves a b (refusals_text answer texts) all → Appends b c (refusal_in text (answer text)) → Leaves a c (refusals_text answer rest) all
+pub err_next : (a b c : Option (List ℕ)) (answer : List ℕ → Answer) (text : List ℕ) (texts rest : List (List ℕ)) (all : List ℕ) → texts ≡ text ∷ rest → Leaves a b (error_lines answer texts) all → Appends b c (error_line_in text (answer text)) → Leaves a c (error_lines answer rest) all
 err_next a b c answer text texts rest all e l w =
-    step a b c (refusal_in text (answer text)) _ all (respell a b _ _ all l (ap (refusals_text answer) e ∙ refusals-next answer text rest)) w
+    step a b c (error_line_in text (answer text)) _ all (respell a b _ _ all l (ap (error_lines answer) e ∙ refusals-next answer text rest)) w
 
-pub err_stops : (a b c : Option (List ℕ)) (answer : List ℕ → Answer) (text : List ℕ) (texts rest : List (List ℕ)) (all : List ℕ) → texts ≡ text ∷ rest → Leaves a b (refusals_text answer texts) all → AppendsFront b c (refusal_in text (answer text)) → AppendsFront a c all
+pub err_stops : (a b c : Option (List ℕ)) (answer : List ℕ → Answer) (text : List ℕ) (texts rest : List (List ℕ)) (all : List ℕ) → texts ≡ text ∷ rest → Leaves a b (error_lines answer texts) all → AppendsFront b c (error_line_in text (answer text)) → AppendsFront a c all
 err_stops a b c answer text texts rest all e l w =
-    stop a b c (refusal_in text (answer text)) _ all (respell a b _ _ all l (ap (refusals_text answer) e ∙ refusals-next answer text rest)) w
+    stop a b c (error_line_in text (answer text)) _ all (respell a b _ _ all l (ap (error_lines answer) e ∙ refusals-next answer text rest)) w
 
 pub status_next : (answer : List ℕ → Answer) (s answered whole : Status) (text : List ℕ) (texts rest : List (List ℕ)) → texts ≡ text ∷ rest → answered ≡ status_in (answer text) → status_left s answer texts ≡ whole → status_left (status_and s answered) answer rest ≡ whole
 status_next answer s answered whole text texts rest e i h =
@@ -140,26 +140,26 @@ pub out_more : (a b c : Option (List ℕ)) (answer : List ℕ → Answer) (is_la
 out_more a b c answer is_later done next text is on before here =
     subst (Appends a c) (sym (ap (reports_text answer) is ∙ reports_one answer is_later done text on)) (Appends-trans a b c _ _ before here)
 
-refusals_one : (answer : List ℕ → Answer) (done : List (List ℕ)) (text : List ℕ) → refusals_text answer (done ++ text ∷ []) ≡ refusals_text answer done ++ refusal_in text (answer text)
-unfolding refusals_text
-refusals_one answer done text = flat_map-append (λ t. refusal_in t (answer t)) done (text ∷ []) ∙ ap (λ (t : List ℕ). flat_map (λ t. refusal_in t (answer t)) done ++ t) (append-nil (refusal_in text (answer text)))
+refusals_one : (answer : List ℕ → Answer) (done : List (List ℕ)) (text : List ℕ) → error_lines answer (done ++ text ∷ []) ≡ error_lines answer done ++ error_line_in text (answer text)
+unfolding error_lines
+refusals_one answer done text = flat_map-append (λ t. error_line_in t (answer t)) done (text ∷ []) ∙ ap (λ (t : List ℕ). flat_map (λ t. error_line_in t (answer t)) done ++ t) (append-nil (error_line_in text (answer text)))
 
 pub err_more : (a b c : Option (List ℕ)) (answer : List ℕ → Answer) (done next : List (List ℕ)) (text : List ℕ) → next ≡ done ++ text ∷ []
-    → Appends a b (refusals_text answer done) → Appends b c (refusal_in text (answer text)) → Appends a c (refusals_text answer next)
+    → Appends a b (error_lines answer done) → Appends b c (error_line_in text (answer text)) → Appends a c (error_lines answer next)
 err_more a b c answer done next text is before here =
-    subst (Appends a c) (sym (ap (refusals_text answer) is ∙ refusals_one answer done text)) (Appends-trans a b c _ _ before here)
+    subst (Appends a c) (sym (ap (error_lines answer) is ∙ refusals_one answer done text)) (Appends-trans a b c _ _ before here)
 
 pub out_none : (a : Option (List ℕ)) (answer : List ℕ → Answer) → Appends a a (reports_text answer [])
 unfolding reports_text
 out_none a answer = Appends-nil a
 
-pub err_none : (a : Option (List ℕ)) (answer : List ℕ → Answer) → Appends a a (refusals_text answer [])
-unfolding refusals_text
+pub err_none : (a : Option (List ℕ)) (answer : List ℕ → Answer) → Appends a a (error_lines answer [])
+unfolding error_lines
 err_none a answer = Appends-nil a
 
 -- the run stopped at the text with index `i`
 pub answered_before : {A : Type 0} (bytes_of : A → List ℕ) (xs : List A) (i : ℕ) (answer : List ℕ → Answer) (a b c d e f : Option (List ℕ)) → i < length xs
-    → Appends a b (reports_text answer (map bytes_of (take i xs))) → Appends d e (refusals_text answer (map bytes_of (take i xs))) → c ≡ b → f ≡ e
+    → Appends a b (reports_text answer (map bytes_of (take i xs))) → Appends d e (error_lines answer (map bytes_of (take i xs))) → c ≡ b → f ≡ e
     → IsAnsweredBefore answer (map bytes_of xs) a c d f
 answered_before bytes_of xs i answer a b c d e f h out err same_out same_err =
     let texts = sym (take-map bytes_of i xs) in
@@ -167,7 +167,7 @@ answered_before bytes_of xs i answer a b c d e f h out err same_out same_err =
       count = i;
       before = omega (arith, length-map xs bytes_of);
       out = rw same_out (subst (λ (done : List (List ℕ)). Appends a b (reports_text answer done)) texts out);
-      err = rw same_err (subst (λ (done : List (List ℕ)). Appends d e (refusals_text answer done)) texts err);
+      err = rw same_err (subst (λ (done : List (List ℕ)). Appends d e (error_lines answer done)) texts err);
     }
 
 -- if there are texts and nothing is written, the run stopped at the first text

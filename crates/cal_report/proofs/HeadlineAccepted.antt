@@ -23,7 +23,7 @@ use Rattle.cal_spec.proofs.WholeRule.{valid_found}
 use Rattle.cal_read.specs.headline.Assignments.{Assignment}
 use Rattle.cal_read.specs.TimerRule.{AreFine, JudgesTimer}
 use Rattle.cal_read.specs.TimerText.{TimerLine, Timer, bad_line, entries, entry_of, fault_joining, timer_in, timer_of}
-use Rattle.cal_read.specs.headline.TimerText.{excepted, is_exception, is_exception_reset, is_expression, is_reset, listed, most_expressions}
+use Rattle.cal_read.specs.headline.TimerText.{excepted, is_exception, is_exception_reset, is_expression, is_reset, listed, max_expressions}
 use Rattle.cal_read.specs.declared.timer.fault.TimerFault.{TimerFault}
 use Rattle.cal_read.proofs.ListedLemmas.{fault_of_exception, fault_of_expression}
 use Rattle.cal_read.proofs.TimerRuleLemmas.{judged}
@@ -121,15 +121,15 @@ spelled_unless : AreNormalForms → (number : ℕ) (text : List ℕ) (r : Result
 spelled_unless some number text (Ok fields) read h = (fields, read_is_spelled some text fields read)
 spelled_unless some number text (Err fault) read h = cc
 
-joining_by : AreNormalForms → (list : List Assignment) (a : Assignment) (many : Bool) → nat_le most_expressions (length list) ≡ many
-    → fault_joining expr_in list a ≡ None → (length list < most_expressions) × ((fields : Fields) × Spells a.value fields)
+joining_by : AreNormalForms → (list : List Assignment) (a : Assignment) (many : Bool) → nat_le max_expressions (length list) ≡ many
+    → fault_joining expr_in list a ≡ None → (length list < max_expressions) × ((fields : Fields) × Spells a.value fields)
 unfolding fault_joining
 joining_by some list a true few = rw few (λ h. cc)
 joining_by some list a false few = rw few (λ h. (grind (arith, few), spelled_unless some a.number a.value (expr_in a.value) refl h))
 
 joining_spelled : AreNormalForms → (list : List Assignment) (a : Assignment) → fault_joining expr_in list a ≡ None
-    → (length list < most_expressions) × ((fields : Fields) × Spells a.value fields)
-joining_spelled some list a h = joining_by some list a (nat_le most_expressions (length list)) refl h
+    → (length list < max_expressions) × ((fields : Fields) × Spells a.value fields)
+joining_spelled some list a h = joining_by some list a (nat_le max_expressions (length list)) refl h
 
 fine_spelled : AreNormalForms → (all : List Assignment) → AreFine expr_in all → AreSpelled all
 fine_spelled some all fine before a after split = grind (arith, joining_spelled, fault_of_expression, fault_of_exception)

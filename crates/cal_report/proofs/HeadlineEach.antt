@@ -5,7 +5,7 @@ use Rattle.std.specs.Io.KnownBytes.{Appends}
 use Rattle.std.specs.List.{AllZip, cons_option, filter_map, flat_map, join_by, list_any}
 use Rattle.std.specs.Result.{result_err, result_ok}
 use Rattle.cal_streams.specs.declared.whole.WholeFault.{WholeFault}
-use Rattle.cal_report.specs.Answer.{Answer, refusal_in, refusal_line, refusals_text, report_in, reports_text, texts_status}
+use Rattle.cal_report.specs.Answer.{Answer, error_line_in, error_line, error_lines, report_in, reports_text, texts_status}
 use Rattle.cal_report.specs.headline.Headline.{AreAnswered, IsAnswerTo, IsReportOf, alone}
 use Rattle.cal_report.specs.Report.{ByReading, IsReported, answer_to, base_in, report, texts_report}
 use Rattle.cal_report.specs.headline.Report.{Report}
@@ -19,7 +19,7 @@ use Rattle.cal_report.proofs.HeadlineLemmas.{HaveOneNormalForm, is_answered, is_
 -- an answer, with the whole error line instead of the error message
 abbrev lined : List ℕ → Answer → Result (List ℕ) (List ℕ)
 lined text (Ok report) = Ok report
-lined text (Err words) = Err (refusal_line text words)
+lined text (Err message) = Err (error_line text message)
 
 abbrev lined_by : (List ℕ → Answer) → List ℕ → Result (List ℕ) (List ℕ)
 lined_by answer text = lined text (answer text)
@@ -27,8 +27,8 @@ lined_by answer text = lined text (answer text)
 same_report : (a b : List ℕ) → ◌≡◌ {A = Answer} (Ok a) (Ok b) → b ≡ a
 same_report a b h = cc
 
-never_both : (words report : List ℕ) → ◌≡◌ {A = Answer} (Err words) (Ok report) → ⊥
-never_both words report h = cc
+never_both : (message report : List ℕ) → ◌≡◌ {A = Answer} (Err message) (Ok report) → ⊥
+never_both message report h = cc
 
 answered_so : HaveOneNormalForm → AreNormalForms → (asked : Request) (base : ℤ) (text : List ℕ) (a : Answer) → asked.verb ≡ Calendar
     → answer_to asked base text ≡ a → IsAnswerTo asked base text (lined text a)
@@ -41,9 +41,9 @@ answered_so one some asked base text (Ok report) verb is =
       it.accepted,
       subst (IsReportOf asked base (alone it.expression)) same (is_report asked base it.expression),
     )
-answered_so one some asked base text (Err words) verb is = (
-  λ e same accepted. never_both words (report_of asked base e) (sym is ∙ (ap (answer_to asked base) (sym same) ∙ is_answered one asked base e verb accepted)),
-  (words, search rules),
+answered_so one some asked base text (Err message) verb is = (
+  λ e same accepted. never_both message (report_of asked base e) (sym is ∙ (ap (answer_to asked base) (sym same) ∙ is_answered one asked base e verb accepted)),
+  (message, search rules),
 )
 
 pub each_answered : HaveOneNormalForm → AreNormalForms → (asked : Request) (base : ℤ) (texts : List (List ℕ)) → asked.verb ≡ Calendar
@@ -55,7 +55,7 @@ each_answered one some asked base (text ∷ texts) verb =
 -- by induction over the texts: the reports, the error lines and the status that these answers give
 report_more : (text : List ℕ) (a : Answer) (xs ys : List (List ℕ)) → xs ≡ ys → report_in a ++ xs ≡ cons_option (result_ok (lined text a)) ys
 report_more text (Ok report) xs ys h = ap (λ (l : List (List ℕ)). report ∷ l) h
-report_more text (Err words) xs ys h = h
+report_more text (Err message) xs ys h = h
 
 reports_are : (answer : List ℕ → Answer) (texts : List (List ℕ))
     → flat_map (λ text. report_in (answer text)) texts ≡ filter_map result_ok (map (lined_by answer) texts)
@@ -63,18 +63,18 @@ reports_are answer [] = refl
 reports_are answer (text ∷ texts) = report_more text (answer text) _ _ (reports_are answer texts)
 
 line_more : (text : List ℕ) (a : Answer) (xs : List ℕ) (ys : List (List ℕ)) → xs ≡ flat_map (λ line. line) ys
-    → refusal_in text a ++ xs ≡ flat_map (λ line. line) (cons_option (result_err (lined text a)) ys)
+    → error_line_in text a ++ xs ≡ flat_map (λ line. line) (cons_option (result_err (lined text a)) ys)
 line_more text (Ok report) xs ys h = h
-line_more text (Err words) xs ys h = ap (λ (l : List ℕ). refusal_line text words ++ l) h
+line_more text (Err message) xs ys h = ap (λ (l : List ℕ). error_line text message ++ l) h
 
 lines_are : (answer : List ℕ → Answer) (texts : List (List ℕ))
-    → flat_map (λ text. refusal_in text (answer text)) texts ≡ flat_map (λ line. line) (filter_map result_err (map (lined_by answer) texts))
+    → flat_map (λ text. error_line_in text (answer text)) texts ≡ flat_map (λ line. line) (filter_map result_err (map (lined_by answer) texts))
 lines_are answer [] = refl
 lines_are answer (text ∷ texts) = line_more text (answer text) _ _ (lines_are answer texts)
 
 fails_so : (text : List ℕ) (a : Answer) → is_err a ≡ is_err (lined text a)
 fails_so text (Ok report) = refl
-fails_so text (Err words) = refl
+fails_so text (Err message) = refl
 
 some_fails : (answer : List ℕ → Answer) (texts : List (List ℕ))
     → list_any (λ text. is_err (answer text)) texts ≡ list_any is_err (map (lined_by answer) texts)
@@ -83,7 +83,7 @@ some_fails answer (text ∷ texts) =
     ap (λ b. b || list_any (λ text. is_err (answer text)) texts) (fails_so text (answer text)) ∙ ap (λ b. is_err (lined_by answer text) || b) (some_fails answer texts)
 
 texts_answered : HaveOneNormalForm → AreNormalForms → (asked : Request) (base : ℤ) → asked.verb ≡ Calendar → AreAnswered asked base asked.texts (texts_report asked base)
-unfolding texts_report reports_text refusals_text texts_status
+unfolding texts_report reports_text error_lines texts_status
 texts_answered one some asked base verb =
     let answer = answer_to asked base in
     record {

@@ -20,9 +20,9 @@ use Rattle.cal_elapse.proofs.ElapsesLemmas.{AreElapses-elapses_except, AreElapse
 use Rattle.cal_read.specs.headline.Assignments.{Assignment}
 use Rattle.cal_read.specs.TimerRule.{AreFine}
 use Rattle.cal_read.specs.TimerText.{TimerLine, Timer, entries, entry_of, fault_following, fault_joining, timer_in, timer_of}
-use Rattle.cal_read.specs.headline.TimerText.{excepted, is_exception, is_expression, listed, most_expressions}
+use Rattle.cal_read.specs.headline.TimerText.{excepted, is_exception, is_expression, listed, max_expressions}
 use Rattle.cal_read.proofs.TimerRuleLemmas.{only_judged}
-use Rattle.cal_report.specs.Answer.{refusals_text, report_in, reports_text, texts_status}
+use Rattle.cal_report.specs.Answer.{error_lines, report_in, reports_text, texts_status}
 use Rattle.cal_spec.specs.headline.ZoneSuffix.{ZoneSuffix, of_name, ahead}
 use Rattle.cal_report.specs.CalendarReport.{answer_in, answer_with, calendar_answer, calendar_report, zone_for}
 use Rattle.cal_report.specs.headline.CalendarReport.{heading_text}
@@ -97,8 +97,8 @@ reports_are one asked base (e ∷ es) verb all =
     rw (is_answered one asked base e verb all.0) (ap (λ (rs : List (List ℕ)). report_of asked base e ∷ rs) (reports_are one asked base es verb all.1))
 
 none_refused : HaveOneNormalForm → (asked : Request) (base : ℤ) (es : List Expression) → asked.verb ≡ verb.Calendar → AllByRecursion (IsAccepted asked) es
-    → refusals_text (answer_to asked base) (map text_of es) ≡ []
-unfolding refusals_text
+    → error_lines (answer_to asked base) (map text_of es) ≡ []
+unfolding error_lines
 none_refused one asked base [] verb all = refl
 none_refused one asked base (e ∷ es) verb all =
     rw (is_answered one asked base e verb all.0) (none_refused one asked base es verb all.1)
@@ -129,7 +129,7 @@ texts_report_is one asked base es verb texts all =
         layout = ap (reports_text answer) texts ∙ ap (join_by (λ report. report) (codes "\n")) (reports_are one asked base es verb all);
       },
       record {
-        err = ap (refusals_text answer) texts ∙ none_refused one asked base es verb all;
+        err = ap (error_lines answer) texts ∙ none_refused one asked base es verb all;
         status = ap (texts_status answer) texts ∙ ap (λ b. if b then Refused else Fine) (none_fails one asked base es verb all);
       },
     )
@@ -144,16 +144,16 @@ calendar_report_is one asked read base es verb sought texts all =
 
 -- assigning a valid expression or exception isn't an error, unless the list already has the maximum number of
 -- expressions
-joins_well : HaveOneNormalForm → (list : List Assignment) (a : Assignment) → (length list < most_expressions) × ((fields : Fields) × Spells a.value fields)
+joins_well : HaveOneNormalForm → (list : List Assignment) (a : Assignment) → (length list < max_expressions) × ((fields : Fields) × Spells a.value fields)
     → fault_joining expr_in list a ≡ None
 unfolding fault_joining
 joins_well one list a spelled =
-    let few : nat_le most_expressions (length list) ≡ false = grind (arith, spelled.0) in
+    let few : nat_le max_expressions (length list) ≡ false = grind (arith, spelled.0) in
     rw (few, spelled_is_read one a.value spelled.1.0 spelled.1.1) refl
 
 no_fault : HaveOneNormalForm → (before : List Assignment) (a : Assignment) (expresses excepts : Bool) → is_expression a ≡ expresses → is_exception a ≡ excepts
-    → (is_expression a ≡ true → (length (listed before) < most_expressions) × ((fields : Fields) × Spells a.value fields))
-    × (is_exception a ≡ true → (length (excepted before) < most_expressions) × ((fields : Fields) × Spells a.value fields))
+    → (is_expression a ≡ true → (length (listed before) < max_expressions) × ((fields : Fields) × Spells a.value fields))
+    × (is_exception a ≡ true → (length (excepted before) < max_expressions) × ((fields : Fields) × Spells a.value fields))
     → fault_following expr_in before a ≡ None
 unfolding fault_following
 no_fault one before a true excepts e f h = rw e (joins_well one (listed before) a (h.0 e))

@@ -10,6 +10,6 @@ pub mod HeadlineLemmas
 pub mod ManyLemmas
 pub mod ReportLemmas
 pub mod ResumeLemmas
-pub mod TimelyLemmas
+pub mod ElapseInstants
 pub mod TimerLemmas
 pub mod WorkedRows

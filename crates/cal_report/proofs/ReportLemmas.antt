@@ -5,9 +5,9 @@ use Rattle.std.proofs.KnownBytes.{Appends-nil}
 use Rattle.std.specs.Io.KnownBytes.{Appends}
 use Rattle.cal_read.specs.StampFault.{message_of}
 use Rattle.cal_read.specs.declared.stamp.fault.StampFault.{StampFault}
-use Rattle.cal_report.specs.Answer.{refusal_line}
+use Rattle.cal_report.specs.Answer.{error_line}
 use Rattle.cal_streams.specs.declared.whole.WholeFault.{WholeFault}
-use Rattle.cal_report.specs.TimerReport.{IsHad}
+use Rattle.cal_report.specs.TimerReport.{HadMemory}
 use Rattle.cal_request.specs.Request.{is_timer}
 use Rattle.cal_request.specs.headline.Request.{Request}
 use Rattle.cal_bytes.specs.Bytes.{AppendsFront, Writes}
@@ -20,17 +20,17 @@ use Rattle.cal_text.proofs.General.{if_ok}
 
 -- the run wrote one report, or a prefix of it
 pub report_reported : (r : Result Status RunFault) (a b e : Option (List ℕ)) (read : Result (List ℕ) WholeFault) (text : List ℕ) (answer : Result (List ℕ) (List ℕ))
-    → answer ≡ Ok text → IfOk r (λ status. status ≡ Fine) → IsHad read → Writes a b r text → IsReported r a b e e read (whole_report answer)
-report_reported r a b e read text answer is status had out = rw is (record { status = status; had = if_ok r (IsHad read) had; out = out; err = writes_nothing e r; unread = λ h. absurd (had h) })
+    → answer ≡ Ok text → IfOk r (λ status. status ≡ Fine) → HadMemory read → Writes a b r text → IsReported r a b e e read (whole_report answer)
+report_reported r a b e read text answer is status had out = rw is (record { status = status; had = if_ok r (HadMemory read) had; out = out; err = writes_nothing e r; unread = λ h. absurd (had h) })
 
 -- the run wrote one error line, or a prefix of it
-pub refusal_reported : (r : Result Status RunFault) (a d e : Option (List ℕ)) (read : Result (List ℕ) WholeFault) (line : List ℕ) (answer : Result (List ℕ) (List ℕ))
-    → answer ≡ Err line → IfOk r (λ status. status ≡ Refused) → IsHad read → Writes d e r line → IsReported r a a d e read (whole_report answer)
-refusal_reported r a d e read line answer is status had err = rw is (record { status = status; had = if_ok r (IsHad read) had; out = writes_nothing a r; err = err; unread = λ h. absurd (had h) })
+pub error_reported : (r : Result Status RunFault) (a d e : Option (List ℕ)) (read : Result (List ℕ) WholeFault) (line : List ℕ) (answer : Result (List ℕ) (List ℕ))
+    → answer ≡ Err line → IfOk r (λ status. status ≡ Refused) → HadMemory read → Writes d e r line → IsReported r a a d e read (whole_report answer)
+error_reported r a d e read line answer is status had err = rw is (record { status = status; had = if_ok r (HadMemory read) had; out = writes_nothing a r; err = err; unread = λ h. absurd (had h) })
 
 -- The contract of `run` in each of its cases
 
-nothing_had : IsHad (Ok [])
+nothing_had : HadMemory (Ok [])
 nothing_had h = cc
 
 unread_if : (timer : Bool) (a : Option (List ℕ)) → ReadsIf (timer && false) a a (Ok [])
@@ -39,10 +39,10 @@ unread_if false a = (refl, refl)
 
 -- an invalid base time
 pub base_refused : (asked : Request) (a b d e : Option (List ℕ)) (failed : Bool) (r : Result Status RunFault) (fault : StampFault) → base_in asked ≡ Err fault → failed ≡ false
-    → IfOk r (λ status. status ≡ Refused) → Writes d e r (refusal_line (codes "--base-time") (message_of fault)) → ByReading asked a a failed (IsReported r b b d e)
+    → IfOk r (λ status. status ≡ Refused) → Writes d e r (error_line (codes "--base-time") (message_of fault)) → ByReading asked a a failed (IsReported r b b d e)
 unfolding report
 base_refused asked a b d e failed r fault is works status err =
-    record { read = Ok []; input = rw is (unread_if (is_timer asked.verb) a); fails = works; holds = rw is (refusal_reported r b d e (Ok []) _ _ refl status nothing_had err) }
+    record { read = Ok []; input = rw is (unread_if (is_timer asked.verb) a); fails = works; holds = rw is (error_reported r b d e (Ok []) _ _ refl status nothing_had err) }
 
 -- arguments of a verb other than `timer`
 pub texts_reported : (asked : Request) (a b c d e : Option (List ℕ)) (failed : Bool) (r : Result Status RunFault) (base : ℤ) → base_in asked ≡ Ok base → is_timer asked.verb ≡ false
@@ -54,7 +54,7 @@ texts_reported asked a b c d e failed r base is plain works status out err =
       read = Ok [];
       input = rw plain (refl, refl);
       fails = works;
-      holds = rw (is, plain) (record { status = status; had = if_ok r (IsHad (Ok [])) nothing_had; out = out; err = err; unread = λ h. absurd (nothing_had h) });
+      holds = rw (is, plain) (record { status = status; had = if_ok r (HadMemory (Ok [])) nothing_had; out = out; err = err; unread = λ h. absurd (nothing_had h) });
     }
 
 -- the empty text is a prefix of every text, and every text is a prefix of itself

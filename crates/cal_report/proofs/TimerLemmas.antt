@@ -17,7 +17,7 @@ use Rattle.cal_spec.specs.headline.Fields.{Fields}
 use Rattle.cal_report.specs.ElapseLines.{AreInstants}
 use Rattle.cal_request.specs.headline.Request.{Request}
 use Rattle.cal_report.specs.TimerPlan.{IsMergeOf, plan_text}
-use Rattle.cal_report.specs.TimerReport.{IsHad, elapses_of_lists, first_unzoned, headings_text, lacks_zone, lesser_line, timed_entry, timer_answer, timer_report, unzoned}
+use Rattle.cal_report.specs.TimerReport.{HadMemory, elapses_of_lists, first_unzoned, headings_text, lacks_zone, lesser_line, timed_entry, timer_answer, timer_report, unzoned}
 use Rattle.cal_report.specs.CalendarReport.{zone_for}
 use Rattle.cal_report.specs.headline.CalendarReport.{heading_text}
 use Rattle.cal_text.proofs.General.{item_first}
@@ -89,5 +89,5 @@ unfolding timer_answer timer_report
 plan_answers asked base read lists merge is m name = rw (is, m.found, merge_whole asked base lists merge m) refl
 
 -- if parsing returns lists, or an error other than `NoMemory`, then reading didn't run out of memory
-pub had_lists : (read : Result (List ℕ) WholeFault) (lists : Timer Fields) → timer_text expr_in read ≡ Ok lists → IsHad read
+pub had_lists : (read : Result (List ℕ) WholeFault) (lists : Timer Fields) → timer_text expr_in read ≡ Ok lists → HadMemory read
 had_lists read lists is none = let never = rw none at is in cc

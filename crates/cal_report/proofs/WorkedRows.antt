@@ -23,7 +23,7 @@ use Rattle.cal_span.specs.SpanValue.{words_in, pairs_in, is_number, unit_named, 
 use Rattle.cal_spec.specs.headline.Fields.{Fields}
 use Rattle.cal_spec.specs.headline.Match.{matches, date_in, time_in}
 use Rattle.cal_spec.specs.headline.Members.{sets_of, part_has}
-use Rattle.cal_report.specs.Answer.{reports_text, refusals_text, texts_status}
+use Rattle.cal_report.specs.Answer.{reports_text, error_lines, texts_status}
 use Rattle.cal_elapse.specs.headline.Elapses.{IsElapse}
 use Rattle.cal_report.specs.Report.{base_in, report, texts_report}
 use Rattle.cal_request.specs.headline.Request.{Request}
@@ -37,7 +37,7 @@ use lib.Utf8.{encode}
 use Rattle.std.specs.Str.{chars, is_utf8}
 use Rattle.cal_lines.specs.headline.Lines.{groups, is_continued, logical_lines, part_of_line, physical_lines, plain_lines}
 use Rattle.cal_read.specs.headline.Assignments.{Assignment, assignment_of, assignments_in, timer_lines}
-use Rattle.cal_read.specs.headline.TimerText.{excepted, is_exception, is_exception_reset, is_expression, is_reset, listed as listed_in, most_expressions, without_mark}
+use Rattle.cal_read.specs.headline.TimerText.{excepted, is_exception, is_exception_reset, is_expression, is_reset, listed as listed_in, max_expressions, without_mark}
 use Rattle.std.specs.Prelude.{ℤ, ◌<ℤ◌, ◌≤ℤ◌, List, length, map, slice_get, take}
 use Rattle.cal_civil.specs.headline.Weekday as weekday
 use Rattle.cal_civil.specs.headline.ZoneName.{is_zone_name}
@@ -148,7 +148,7 @@ unfolding two_spans report texts_report base_in reports_text timespan_answer tim
 two_spans-out = refl
 
 two_spans-err : (report two_spans (Ok [])).err ≡ codes "5x: unknown unit\n"
-unfolding two_spans report texts_report base_in refusals_text timespan_answer timespan_report units_text counts_in_row span_of pairs_in words_in worth_of is_number unit_named number_worth spellings_of unit_name digits
+unfolding two_spans report texts_report base_in error_lines timespan_answer timespan_report units_text counts_in_row span_of pairs_in words_in worth_of is_number unit_named number_worth spellings_of unit_name digits
 two_spans-err = refl
 
 two_spans-status : (report two_spans (Ok [])).status ≡ Refused
@@ -241,7 +241,7 @@ only_split x (b ∷ before) a after split =
     let rest : [] ≡ before ++ (a ∷ after) = cc in
     absurd (no_split before a after rest)
 
-none_listed : length (listed_in []) < most_expressions
+none_listed : length (listed_in []) < max_expressions
 unfolding listed_in
 none_listed = omega arith
 

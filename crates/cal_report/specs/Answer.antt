@@ -14,16 +14,16 @@ Answer = Result (List ℕ) (List ℕ)
 -- the report of an answer as a list, which is empty for an error message
 abbrev pub report_in : Answer → List (List ℕ)
 report_in (Ok report) = report ∷ []
-report_in (Err words) = []
+report_in (Err message) = []
 
--- the error line: `TEXT: WORDS`
-abbrev pub refusal_line : List ℕ → List ℕ → List ℕ
-refusal_line text words = joined (text ∷ codes ": " ∷ words ∷ codes "\n" ∷ [])
+-- the error line: `TEXT: MESSAGE`
+abbrev pub error_line : List ℕ → List ℕ → List ℕ
+error_line text message = joined (text ∷ codes ": " ∷ message ∷ codes "\n" ∷ [])
 
 -- the error line if the argument is invalid, and otherwise nothing
-abbrev pub refusal_in : List ℕ → Answer → List ℕ
-refusal_in text (Ok report) = []
-refusal_in text (Err words) = refusal_line text words
+abbrev pub error_line_in : List ℕ → Answer → List ℕ
+error_line_in text (Ok report) = []
+error_line_in text (Err message) = error_line text message
 
 -- what comes before a report: an empty line, unless it is the first report
 abbrev pub lead_text : Bool → List ℕ
@@ -32,20 +32,20 @@ lead_text is_later = if is_later then codes "\n" else []
 -- the report with the empty line before it, or nothing if the argument is invalid
 abbrev pub later_text : Bool → Answer → List ℕ
 later_text is_later (Ok report) = joined (lead_text is_later ∷ report ∷ [])
-later_text is_later (Err words) = []
+later_text is_later (Err message) = []
 
 -- the status after one argument
 abbrev pub status_in : Answer → Status
 status_in (Ok report) = Fine
-status_in (Err words) = Refused
+status_in (Err message) = Refused
 
 -- The reports in the order of the arguments, with an empty line between consecutive reports.
 unfoldable pub reports_text : (List ℕ → Answer) → List (List ℕ) → List ℕ
 reports_text answer texts = join_by (λ report. report) (codes "\n") (flat_map (λ text. report_in (answer text)) texts)
 
 -- the error lines in the order of the arguments
-unfoldable pub refusals_text : (List ℕ → Answer) → List (List ℕ) → List ℕ
-refusals_text answer = flat_map (λ text. refusal_in text (answer text))
+unfoldable pub error_lines : (List ℕ → Answer) → List (List ℕ) → List ℕ
+error_lines answer = flat_map (λ text. error_line_in text (answer text))
 
 -- `Refused` if any argument is invalid, and otherwise `Fine`
 unfoldable pub texts_status : (List ℕ → Answer) → List (List ℕ) → Status
@@ -57,4 +57,4 @@ pub record IsAnsweredBefore (answer : List ℕ → Answer) (texts : List (List �
   pub count : ℕ
   pub before : count < length texts
   pub out : Appends out_old out_new (reports_text answer (take count texts))
-  pub err : Appends err_old err_new (refusals_text answer (take count texts))
+  pub err : Appends err_old err_new (error_lines answer (take count texts))

@@ -1,4 +1,4 @@
-pub mod Accepted
+pub mod Parsed
 pub mod Answer
 pub mod CalendarReport
 pub mod Context

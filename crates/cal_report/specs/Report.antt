@@ -6,14 +6,14 @@ use Rattle.cal_streams.specs.Whole.{is_read_failed}
 use Rattle.cal_streams.specs.declared.whole.WholeFault.{WholeFault}
 use Rattle.cal_streams.specs.declared.whole.WholeFault.TheVariants.{NoMemory}
 use Rattle.cal_zone.specs.declared.instant.Instant.{Instant}
-use Rattle.cal_read.specs.TimerText.{ReadsWhole, most_file_bytes}
+use Rattle.cal_read.specs.TimerText.{ReadsWhole, timer_file_limit}
 use Rattle.cal_read.specs.StampFault.{message_of}
 use Rattle.cal_read.specs.declared.stamp.fault.StampFault.{StampFault}
-use Rattle.cal_report.specs.Answer.{Answer, IsAnsweredBefore, refusal_line, reports_text, refusals_text, texts_status}
+use Rattle.cal_report.specs.Answer.{Answer, IsAnsweredBefore, error_line, reports_text, error_lines, texts_status}
 use Rattle.cal_report.specs.CalendarReport.{calendar_answer}
 use Rattle.cal_request.specs.Request.{is_timer}
 use Rattle.cal_request.specs.headline.Request.{Request}
-use Rattle.cal_report.specs.TimerReport.{IsHad, timer_answer}
+use Rattle.cal_report.specs.TimerReport.{HadMemory, timer_answer}
 use Rattle.cal_report.specs.TimespanReport.{timespan_answer}
 use Rattle.cal_report.specs.TimestampReport.{second_at, stamp_in, timestamp_answer}
 use Rattle.cal_request.specs.declared.request.RunFault.{RunFault}
@@ -56,7 +56,7 @@ base_in asked = base_from asked asked.base
 unfoldable pub texts_report : Request → ℤ → Report
 texts_report asked base = record {
   out = reports_text (answer_to asked base) asked.texts;
-  err = refusals_text (answer_to asked base) asked.texts;
+  err = error_lines (answer_to asked base) asked.texts;
   status = texts_status (answer_to asked base) asked.texts;
 }
 
@@ -76,7 +76,7 @@ report_after asked base read =
 
 -- the report, which is one error line if the base time is invalid
 abbrev pub report_from : Request → Result (List ℕ) WholeFault → Result ℤ StampFault → Report
-report_from asked read (Err fault) = whole_report (Err (refusal_line (codes "--base-time") (message_of fault)))
+report_from asked read (Err fault) = whole_report (Err (error_line (codes "--base-time") (message_of fault)))
 report_from asked read (Ok base) = report_after asked base read
 
 -- the report of a request; `read` is what reading the input returned
@@ -89,7 +89,7 @@ reads_input asked = is_timer asked.verb && is_ok (base_in asked)
 
 -- what reading the input returns: all of its bytes, or why reading them failed; if the input isn't read, no bytes
 abbrev pub ReadsIf : Bool → Option (List ℕ) → Option (List ℕ) → Result (List ℕ) WholeFault → Type 0
-ReadsIf true old new read = ReadsWhole old new most_file_bytes read
+ReadsIf true old new read = ReadsWhole old new timer_file_limit read
 ReadsIf false old new read = (new ≡ old) × (read ≡ Ok [])
 
 -- How the bytes that a run wrote and its result agree with a report. If the run returns `Ok`, it wrote the whole report
@@ -97,7 +97,7 @@ ReadsIf false old new read = (new ≡ old) × (read ≡ Ok [])
 -- prefix of the report, and nothing at all if reading the input ran out of memory.
 pub record IsReported (result : Result Status RunFault) (out_old out_new err_old err_new : Option (List ℕ)) (read : Result (List ℕ) WholeFault) (report : Report) : Type 0 where
   pub status : IfOk result (λ status. status ≡ report.status)
-  pub had : IfOk result (λ status. IsHad read)
+  pub had : IfOk result (λ status. HadMemory read)
   pub out : Writes out_old out_new result report.out
   pub err : Writes err_old err_new result report.err
   pub unread : read ≡ Err NoMemory → (out_new ≡ out_old) × (err_new ≡ err_old)

@@ -14,8 +14,8 @@ use Rattle.cal_report.specs.headline.ElapseLines.{elapses_text}
 use Rattle.cal_request.specs.headline.Request.{Request}
 use Rattle.cal_report.specs.TimerReport.{elapses_of_lists, lists_text, timed_entry, unzoned}
 use Rattle.cal_report.specs.declared.timer_report.TimerPlan.{TimerPlan}
-use Rattle.cal_report.specs.declared.timer_report.TimerRefusal.{TimerRefusal}
-use Rattle.cal_report.specs.declared.timer_report.TimerRefusal.TheVariants as refused
+use Rattle.cal_report.specs.declared.timer_report.TimerError.{TimerError}
+use Rattle.cal_report.specs.declared.timer_report.TimerError.TheVariants as errors
 
 -- the report of a parsed timer file
 abbrev pub plan_text : Request → TimerPlan → List ℕ
@@ -23,22 +23,22 @@ plan_text asked plan =
     joined (lists_text plan.timer ∷ elapses_text asked.local asked.now (take asked.iterations (merged plan.merge)) ∷ [])
 
 -- the error message
-abbrev pub refused_words : TimerRefusal → List ℕ
-refused_words (refused.Timer fault) = message_of fault
-refused_words (refused.NoSuchZone line) = codes "no such zone"
-refused_words refused.NoMemory = []
+abbrev pub timer_error_message : TimerError → List ℕ
+timer_error_message (errors.Timer fault) = message_of fault
+timer_error_message (errors.NoSuchZone line) = codes "no such zone"
+timer_error_message errors.NoMemory = []
 
 -- the number of the invalid line, if the error concerns one line
-abbrev pub refused_line : TimerRefusal → Option ℕ
-refused_line (refused.Timer fault) = line_of fault
-refused_line (refused.NoSuchZone line) = Some line
-refused_line refused.NoMemory = None
+abbrev pub timer_error_line : TimerError → Option ℕ
+timer_error_line (errors.Timer fault) = line_of fault
+timer_error_line (errors.NoSuchZone line) = Some line
+timer_error_line errors.NoMemory = None
 
 -- the error is that the line with this number names a zone missing from the zone table; without a number, this never
 -- holds
-abbrev pub IsUnzoned : Option ℕ → TimerRefusal → Type 0
-IsUnzoned None refusal = ⊥
-IsUnzoned (Some number) refusal = refusal ≡ refused.NoSuchZone number
+abbrev pub IsUnzoned : Option ℕ → TimerError → Type 0
+IsUnzoned None error = ⊥
+IsUnzoned (Some number) error = error ≡ errors.NoSuchZone number
 
 -- for each expression of a list, its elapse times after the base time, in its zone
 abbrev pub each_of : Request → ℤ → List (TimerLine Fields) → List (List ℤ)

@@ -14,17 +14,17 @@ use Rattle.cal_read.specs.TimerText.{TimerLine, Timer, timer_text}
 use Rattle.cal_read.specs.declared.timer.fault.TimerFault.{TimerFault}
 use Rattle.cal_spec.specs.Expr.{expr_in}
 use Rattle.cal_spec.specs.headline.Fields.{Fields}
-use Rattle.cal_report.specs.Answer.{refusal_line}
+use Rattle.cal_report.specs.Answer.{error_line}
 use Rattle.cal_report.specs.CalendarReport.{zone_for}
 use Rattle.cal_report.specs.headline.CalendarReport.{heading_text}
 use Rattle.cal_report.specs.headline.ElapseLines.{elapses_text}
 use Rattle.cal_request.specs.headline.Request.{Request}
 use Rattle.cal_report.specs.headline.ReportLines.{except_label, original_label}
 
--- the error line: `FILE:LINE: WORDS` if the error concerns one line, and otherwise `FILE: WORDS`
-unfoldable pub refusal_at : List ℕ → Option ℕ → List ℕ → List ℕ
-refusal_at name None words = refusal_line name words
-refusal_at name (Some line) words = joined (name ∷ codes ":" ∷ decimal line ∷ codes ": " ∷ words ∷ codes "\n" ∷ [])
+-- the error line: `FILE:LINE: MESSAGE` if the error concerns one line, and otherwise `FILE: MESSAGE`
+unfoldable pub error_line_at : List ℕ → Option ℕ → List ℕ → List ℕ
+error_line_at name None message = error_line name message
+error_line_at name (Some line) message = joined (name ∷ codes ":" ∷ decimal line ∷ codes ": " ∷ message ∷ codes "\n" ∷ [])
 
 -- the expression names a zone that isn't in the zone table
 abbrev pub lacks_zone : Request → TimerLine Fields → Bool
@@ -69,15 +69,15 @@ unzoned asked lists = lesser_line (first_unzoned asked lists.expressions) (first
 -- the report if no zone is missing, or the error line about the first line that names a missing zone
 abbrev pub answer_unless : Request → ℤ → List ℕ → Timer Fields → Option ℕ → Result (List ℕ) (List ℕ)
 answer_unless asked base name lists None = Ok (timer_report asked base lists)
-answer_unless asked base name lists (Some number) = Err (refusal_at name (Some number) (codes "no such zone"))
+answer_unless asked base name lists (Some number) = Err (error_line_at name (Some number) (codes "no such zone"))
 
 abbrev pub answer_of_timer : Request → ℤ → List ℕ → Result (Timer Fields) TimerFault → Result (List ℕ) (List ℕ)
 answer_of_timer asked base name (Ok lists) = answer_unless asked base name lists (unzoned asked lists)
-answer_of_timer asked base name (Err fault) = Err (refusal_at name (line_of fault) (message_of fault))
+answer_of_timer asked base name (Err fault) = Err (error_line_at name (line_of fault) (message_of fault))
 
 -- reading the input didn't run out of memory
-abbrev pub IsHad : Result (List ℕ) WholeFault → Type 0
-IsHad read = read ≢ Err NoMemory
+abbrev pub HadMemory : Result (List ℕ) WholeFault → Type 0
+HadMemory read = read ≢ Err NoMemory
 
 -- the report of the timer file `name`, or its error line; `read` is what reading the file returned
 unfoldable pub timer_answer : Request → ℤ → List ℕ → Result (List ℕ) WholeFault → Result (List ℕ) (List ℕ)

@@ -10,7 +10,7 @@ ghost use Rattle.cal_report.specs.ElapseLines.{AreInstants};
 
 use crate::context::Context;
 use crate::elapse_lines::put_elapses;
-use crate::report_lines::{ORIGINAL, put_text};
+use crate::report_lines::{ORIGINAL_LABEL, put_text};
 use cal_bytes::{Sink, WriteFault, put_all};
 use cal_elapse::Rising;
 use cal_spec::{Expr, write_expr};
@@ -30,7 +30,7 @@ pub fn write_calendar<W: Sink, S: Rising>(
     ensures { Puts W.Sink out.old out.new result
         (report_of_elapses (asked_by context.entry) text.now expr.now (S.rest elapses.old)) }
 {
-    put_heading(out, ORIGINAL, text, expr)?;
+    put_heading(out, ORIGINAL_LABEL, text, expr)?;
     put_elapses(
         out,
         elapses,

@@ -9,7 +9,7 @@ ghost use Rattle.cal_report.specs.ElapseLines.{AreInstants};
 ghost use Rattle.cal_report.specs.headline.ElapseLines.{label_text, elapse_text, elapse_texts, elapses_text};
 ghost use Rattle.cal_request.specs.Request.{IsCount};
 
-use crate::clocks::Clocks;
+use crate::local_and_utc::LocalAndUtc;
 use crate::report_lines::{first_moment, push_distance};
 use cal_bytes::{Fill, ShortText, Sink, WriteFault, padding, push, push_all, put_all};
 use cal_elapse::Rising;
@@ -33,9 +33,9 @@ pub fn put_elapses<W: Sink, S: Rising>(
     match next_instant(elapses) {
         None => put_all(out, b"    Next elapse: never\n"),
         Some(first) => {
-            let mut clocks = Clocks::new(local);
-            put_elapse(out, 1, first, &mut clocks, now)?;
-            put_more(out, elapses, iterations, &mut clocks, now)
+            let mut formatter = LocalAndUtc::new(local);
+            put_elapse(out, 1, first, &mut formatter, now)?;
+            put_more(out, elapses, iterations, &mut formatter, now)
         }
     }
 }
@@ -45,20 +45,20 @@ fn put_more<W: Sink, S: Rising>(
     out: &mut W,
     elapses: &mut S,
     iterations: u32,
-    clocks: &mut Clocks<'_>,
+    formatter: &mut LocalAndUtc<'_>,
     now: Instant,
 ) -> Result<(), WriteFault>
     requires iterations { IsCount iterations }
     requires instants { AreInstants (S.rest elapses.old) }
     requires out { W.is_failed out.old ≡ false }
     ensures { Puts W.Sink out.old out.new result
-        (elapse_texts clocks.old now.secs 2 (take (iterations - 1) (S.rest elapses.old))) }
+        (elapse_texts formatter.old now.secs 2 (take (iterations - 1) (S.rest elapses.old))) }
 {
     for number in 2..iterations + 1 {
         let Some(elapse) = next_instant(elapses) else {
             return Ok(());
         };
-        put_elapse(out, number, elapse, clocks, now)?;
+        put_elapse(out, number, elapse, formatter, now)?;
     }
     Ok(())
 }
@@ -84,15 +84,15 @@ fn put_elapse<W: Sink>(
     out: &mut W,
     number: u32,
     elapse: Instant,
-    clocks: &mut Clocks<'_>,
+    formatter: &mut LocalAndUtc<'_>,
     now: Instant,
 ) -> Result<(), WriteFault>
     requires { W.is_failed out.old ≡ false }
-    ensures text { Puts W.Sink out.old out.new result (elapse_text clocks.old now.secs number elapse.secs) }
-    ensures local { clocks.new ≡ clocks.old }
+    ensures text { Puts W.Sink out.old out.new result (elapse_text formatter.old now.secs number elapse.secs) }
+    ensures local { formatter.new ≡ formatter.old }
 {
     let mut text = ShortText::new();
-    push_elapse(&mut text, number, elapse, clocks, now);
+    push_elapse(&mut text, number, elapse, formatter, now);
     put_all(out, text.as_slice())
 }
 
@@ -102,17 +102,17 @@ fn push_elapse(
     text: &mut ShortText,
     number: u32,
     elapse: Instant,
-    clocks: &mut Clocks<'_>,
+    formatter: &mut LocalAndUtc<'_>,
     now: Instant,
 )
     requires { length text.old.items + SPAN_ROOM + 240 ≤ SHORT_TEXT_ROOM }
-    ensures text { text.new.items ≡ text.old.items ++ elapse_text clocks.old now.secs number elapse.secs }
-    ensures local { clocks.new ≡ clocks.old }
+    ensures text { text.new.items ≡ text.old.items ++ elapse_text formatter.old now.secs number elapse.secs }
+    ensures local { formatter.new ≡ formatter.old }
 {
     push_label(text, number);
-    clocks.push_local(text, elapse);
+    formatter.push_local(text, elapse);
     push(text, b"\n");
-    clocks.push_utc_line(text, elapse);
+    formatter.push_utc_line(text, elapse);
     push(text, b"       From now: ");
     push_distance(text, now, first_moment(elapse));
     push(text, b"\n");

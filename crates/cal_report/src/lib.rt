@@ -1,9 +1,9 @@
 //! Running a request: parsing its arguments, and writing the reports and the error lines.
 #![tactic(auto)]
 
-mod accepted;
+mod parsed;
 mod calendar_report;
-mod clocks;
+mod local_and_utc;
 mod context;
 mod elapse_lines;
 pub mod laws;

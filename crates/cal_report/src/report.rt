@@ -5,23 +5,23 @@ ghost use Rattle.std.specs.Prelude.{ℕ, List, Result, slice_index_or, map, ◌�
 ghost use Rattle.std.specs.String.{string_bytes};
 ghost use Rattle.cal_streams.specs.Whole.{is_read_failed};
 ghost use Rattle.cal_streams.specs.declared.whole.WholeFault.{WholeFault};
-ghost use Rattle.cal_read.specs.TimerText.{ReadsWhole, most_file_bytes};
+ghost use Rattle.cal_read.specs.TimerText.{ReadsWhole, timer_file_limit};
 ghost use Rattle.cal_bytes.specs.Bytes.{Writes};
 ghost use Rattle.cal_bytes.specs.Puts.{Puts};
 ghost use Rattle.cal_bytes.specs.headline.Bytes.{joined};
-ghost use Rattle.cal_report.specs.Answer.{IsAnsweredBefore, refusal_in, refusal_line, later_text, status_in, reports_text, refusals_text, texts_status};
+ghost use Rattle.cal_report.specs.Answer.{IsAnsweredBefore, error_line_in, error_line, later_text, status_in, reports_text, error_lines, texts_status};
 ghost use Rattle.cal_report.specs.Context.{asked_by};
 ghost use Rattle.cal_report.specs.Report.{ByReading, IsCut, IsReported, answer_to, base_in, file_name, secs_or_fault, whole_report};
 ghost use Rattle.cal_request.specs.Request.{is_timer, seeks_elapses};
 ghost use Rattle.cal_request.specs.RequestView.{asked};
-ghost use Rattle.cal_report.specs.TimerReport.{refusal_at, timer_answer};
+ghost use Rattle.cal_report.specs.TimerReport.{error_line_at, timer_answer};
 ghost use Rattle.cal_request.specs.RunFault.{is_out_failed, is_err_failed};
 ghost use Rattle.cal_request.specs.declared.request.RunFault.TheVariants.{NoMemory};
 ghost use Rattle.cal_request.specs.declared.request.Status.TheVariants.{Refused};
 
-use crate::accepted::{Refusal, put_report, read_text};
+use crate::parsed::{TextError, put_report, read_text};
 use crate::context::Context;
-use crate::timer_report::{TimerRefusal, read_plan, write_timer};
+use crate::timer_report::{TimerError, read_plan, write_timer};
 use cal_bytes::{Sink, Source, WriteFault, put_pieces};
 use cal_read::{StampFault, read_stamp};
 use cal_request::{Request, RunFault, Status, Verb};
@@ -70,7 +70,7 @@ pub fn run<R: Source, O: Sink, E: Sink>(
 {
     let base = match read_base(request, now, local, table) {
         Ok(base) => base,
-        Err(fault) => return refuse(err, "--base-time", None, fault.words()),
+        Err(fault) => return report_error(err, "--base-time", None, fault.words()),
     };
     let context = Context {
         request,
@@ -118,7 +118,7 @@ fn answer_all<O: Sink, E: Sink>(
     ensures out { let asked = asked_by context.entry in
         Writes (O.written out.old) (O.written out.new) result (reports_text (answer_to asked context.entry.base.secs) asked.texts) }
     ensures err { let asked = asked_by context.entry in
-        Writes (E.written err.old) (E.written err.new) result (refusals_text (answer_to asked context.entry.base.secs) asked.texts) }
+        Writes (E.written err.old) (E.written err.new) result (error_lines (answer_to asked context.entry.base.secs) asked.texts) }
     ensures out_failed { O.is_failed out.new ≡ is_out_failed result }
     ensures err_failed { E.is_failed err.new ≡ is_err_failed result }
     ensures memory { seeks_elapses context.entry.request.now.verb ≡ false → IsErrOf result NoMemory → ⊥ }
@@ -156,7 +156,7 @@ fn answer_one<O: Sink, E: Sink>(
     ensures out { Writes (O.written out.old) (O.written out.new) result
         (later_text is_later (answer_to (asked_by context.entry) context.entry.base.secs text.now)) }
     ensures err { Writes (E.written err.old) (E.written err.new) result
-        (refusal_in text.now (answer_to (asked_by context.entry) context.entry.base.secs text.now)) }
+        (error_line_in text.now (answer_to (asked_by context.entry) context.entry.base.secs text.now)) }
     ensures out_failed { O.is_failed out.new ≡ is_out_failed result }
     ensures err_failed { E.is_failed err.new ≡ is_err_failed result }
     ensures memory { seeks_elapses context.entry.request.now.verb ≡ false → IsErrOf result NoMemory → ⊥ }
@@ -164,12 +164,12 @@ fn answer_one<O: Sink, E: Sink>(
         → (O.written out.new ≡ O.written out.old) × (E.written err.new ≡ E.written err.old) }
 {
     match read_text(alloc, context, text) {
-        Ok(accepted) => match put_report(out, is_later, context, text, accepted) {
+        Ok(parsed) => match put_report(out, is_later, context, text, parsed) {
             Ok(()) => Ok(Status::Fine),
             Err(WriteFault::Failed) => Err(RunFault::OutFailed),
         },
-        Err(Refusal::NoMemory) => Err(RunFault::NoMemory),
-        Err(refusal) => refuse(err, text, None, refusal.words()),
+        Err(TextError::NoMemory) => Err(RunFault::NoMemory),
+        Err(error) => report_error(err, text, None, error.words()),
     }
 }
 
@@ -185,7 +185,7 @@ fn answer_timer<R: Source, O: Sink, E: Sink>(
     requires out { O.is_failed out.old ≡ false }
     requires err { E.is_failed err.old ≡ false }
     ensures reported { (read : Result (List ℕ) WholeFault)
-        × ReadsWhole (R.remaining input.old) (R.remaining input.new) most_file_bytes read
+        × ReadsWhole (R.remaining input.old) (R.remaining input.new) timer_file_limit read
         × (R.is_failed input.new ≡ is_read_failed read)
         × IsReported result (O.written out.old) (O.written out.new) (E.written err.old) (E.written err.new) read
         (whole_report (timer_answer (asked_by context.entry) context.entry.base.secs (file_name (asked_by context.entry)) read)) }
@@ -200,12 +200,12 @@ fn answer_timer<R: Source, O: Sink, E: Sink>(
             Ok(()) => Ok(Status::Fine),
             Err(WriteFault::Failed) => Err(RunFault::OutFailed),
         },
-        Err(TimerRefusal::NoMemory) => Err(RunFault::NoMemory),
-        Err(refusal) => refuse(
+        Err(TimerError::NoMemory) => Err(RunFault::NoMemory),
+        Err(error) => report_error(
             err,
             file_name(context.request),
-            refusal.line(),
-            refusal.words(),
+            error.line(),
+            error.words(),
         ),
     }
 }
@@ -223,38 +223,38 @@ pub fn file_name(request: &Request) -> &str
 
 /// Writes an error line about `text`, an argument or the name of a file. `line` is the line of the file that is
 /// invalid, if the error concerns one line.
-fn refuse<E: Sink>(
+fn report_error<E: Sink>(
     err: &mut E,
     text: &str,
     line: Option<u32>,
-    words: &str,
+    message: &str,
 ) -> Result<Status, RunFault>
     requires { E.is_failed err.old ≡ false }
     ensures status { IfOk result (λ status. status ≡ Refused) }
-    ensures err { Writes (E.written err.old) (E.written err.new) result (refusal_at text.now line words.now) }
+    ensures err { Writes (E.written err.old) (E.written err.new) result (error_line_at text.now line message.now) }
     ensures err_failed { E.is_failed err.new ≡ is_err_failed result }
     ensures out_failed { is_out_failed result ≡ false }
     ensures memory { IsErrOf result NoMemory → ⊥ }
 {
-    match put_refusal(err, text, line, words) {
+    match put_error_line(err, text, line, message) {
         Ok(()) => Ok(Status::Refused),
         Err(WriteFault::Failed) => Err(RunFault::ErrFailed),
     }
 }
 
-/// Writes an error line: `TEXT: WORDS`, or `TEXT:LINE: WORDS` if there is a line number.
-#[tactic(auto, unfolding(crate::specs::TimerReport::refusal_at))]
-fn put_refusal<W: Sink>(
+/// Writes an error line: `TEXT: MESSAGE`, or `TEXT:LINE: MESSAGE` if there is a line number.
+#[tactic(auto, unfolding(crate::specs::TimerReport::error_line_at))]
+fn put_error_line<W: Sink>(
     err: &mut W,
     text: &str,
     line: Option<u32>,
-    words: &str,
+    message: &str,
 ) -> Result<(), WriteFault>
     requires { W.is_failed err.old ≡ false }
-    ensures { Puts W.Sink err.old err.new result (refusal_at text.now line words.now) }
+    ensures { Puts W.Sink err.old err.new result (error_line_at text.now line message.now) }
 {
     let Some(line) = line else {
-        return put_pieces(err, &[text.as_bytes(), b": ", words.as_bytes(), b"\n"]);
+        return put_pieces(err, &[text.as_bytes(), b": ", message.as_bytes(), b"\n"]);
     };
     let mut buffer = Buffer::new();
     let number = buffer.format(line);
@@ -265,7 +265,7 @@ fn put_refusal<W: Sink>(
             b":",
             number.as_bytes(),
             b": ",
-            words.as_bytes(),
+            message.as_bytes(),
             b"\n",
         ],
     )

@@ -12,10 +12,10 @@ use cal_span::{Span, push_span};
 use cal_zone::{Instant, Moment};
 
 /// The label of an expression or a timestamp as the user gave it.
-pub const ORIGINAL: &[u8] = b"  Original form: ";
+pub const ORIGINAL_LABEL: &[u8] = b"  Original form: ";
 
 /// The label of an exception of a timer file, as it is written in the file.
-pub const EXCEPT: &[u8] = b"    Except form: ";
+pub const EXCEPT_LABEL: &[u8] = b"    Except form: ";
 
 /// Writes `label` and the text as the user gave it, and begins the next line with the label `Normalized form:`.
 pub fn put_text<W: Sink>(out: &mut W, label: &[u8], text: &str) -> Result<(), WriteFault>

@@ -11,21 +11,21 @@ ghost use Rattle.cal_streams.specs.declared.whole.WholeFault.{WholeFault};
 ghost use Rattle.cal_elapse.specs.Elapses.{elapses_after};
 ghost use Rattle.cal_elapse.specs.Masks.{sets_in};
 ghost use Rattle.cal_rising.specs.Merge.{merged};
-ghost use Rattle.cal_elapse.specs.Rest.{rest_of};
-ghost use Rattle.cal_read.specs.TimerText.{ReadsWhole, most_file_bytes};
+ghost use Rattle.cal_elapse.specs.RemainingElapses.{remaining_elapses};
+ghost use Rattle.cal_read.specs.TimerText.{ReadsWhole, timer_file_limit};
 ghost use Rattle.cal_read.specs.TimerView.{shown};
 ghost use Rattle.cal_report.specs.Context.{asked_by};
 ghost use Rattle.cal_report.specs.ElapseLines.{AreInstants};
 ghost use Rattle.cal_report.specs.headline.ElapseLines.{elapses_text};
-ghost use Rattle.cal_report.specs.TimerReport.{IsHad, first_unzoned, headings_text, lacks_zone, lists_text, refusal_at, timed_entry, timer_answer, timer_report, unzoned};
-ghost use Rattle.cal_report.specs.TimerPlan.{IsAdded, IsCoveredEntry, IsMergeOf, IsUnzoned, each_of, entry_sets, plan_text, refused_line, refused_words};
-ghost use Rattle.cal_report.specs.declared.timer_report.TimerRefusal.TheVariants.{NoMemory};
+ghost use Rattle.cal_report.specs.TimerReport.{HadMemory, first_unzoned, headings_text, lacks_zone, lists_text, error_line_at, timed_entry, timer_answer, timer_report, unzoned};
+ghost use Rattle.cal_report.specs.TimerPlan.{IsAdded, IsCoveredEntry, IsMergeOf, IsUnzoned, each_of, entry_sets, plan_text, timer_error_line, timer_error_message};
+ghost use Rattle.cal_report.specs.declared.timer_report.TimerError.TheVariants.{NoMemory};
 
-use crate::accepted::zone_for;
+use crate::parsed::zone_for;
 use crate::calendar_report::put_heading;
 use crate::context::Context;
 use crate::elapse_lines::put_elapses;
-use crate::report_lines::{EXCEPT, ORIGINAL};
+use crate::report_lines::{EXCEPT_LABEL, ORIGINAL_LABEL};
 use cal_bytes::{Sink, Source, WriteFault, put_pieces};
 use cal_elapse::{Elapses, Masks, Merge};
 use cal_read::{Timer, TimerFault, TimerLine, read_timer};
@@ -42,7 +42,7 @@ pub struct TimerPlan<'a> {
 
 /// Why a timer file is rejected.
 #[derive(Clone, Copy, PartialEq, Eq, Debug)]
-pub enum TimerRefusal {
+pub enum TimerError {
     /// Reading the file failed, or the file isn't a valid timer file.
     Timer(TimerFault),
     /// The expression or exception on this line names a zone that isn't in the zone table.
@@ -51,35 +51,35 @@ pub enum TimerRefusal {
     NoMemory,
 }
 
-impl TimerRefusal {
-    /// Returns the message to report, which is empty for [`TimerRefusal::NoMemory`]: the caller handles that case.
+impl TimerError {
+    /// Returns the message to report, which is empty for [`TimerError::NoMemory`]: the caller handles that case.
     pub fn words(&self) -> &str
-        ensures { result.now ≡ refused_words self.now }
+        ensures { result.now ≡ timer_error_message self.now }
     {
         match self {
-            TimerRefusal::Timer(fault) => fault.words(),
-            TimerRefusal::NoSuchZone(_) => "no such zone",
-            TimerRefusal::NoMemory => "",
+            TimerError::Timer(fault) => fault.words(),
+            TimerError::NoSuchZone(_) => "no such zone",
+            TimerError::NoMemory => "",
         }
     }
 
     /// Returns the number of the invalid line, if the error concerns one line.
     pub fn line(&self) -> Option<u32>
-        ensures { result ≡ refused_line self.now }
+        ensures { result ≡ timer_error_line self.now }
     {
         match self {
-            TimerRefusal::Timer(fault) => fault.line(),
-            TimerRefusal::NoSuchZone(line) => Some(*line),
-            TimerRefusal::NoMemory => None,
+            TimerError::Timer(fault) => fault.line(),
+            TimerError::NoSuchZone(line) => Some(*line),
+            TimerError::NoMemory => None,
         }
     }
 }
 
-impl From<AllocError> for TimerRefusal {
-    ghost from_gives = { λ _ refusal. refusal ≡ NoMemory };
+impl From<AllocError> for TimerError {
+    ghost from_gives = { λ _ error. error ≡ NoMemory };
 
-    fn from(_refused: AllocError) -> TimerRefusal {
-        TimerRefusal::NoMemory
+    fn from(_refused: AllocError) -> TimerError {
+        TimerError::NoMemory
     }
 }
 
@@ -90,26 +90,26 @@ pub fn read_plan<'a, R: Source>(
     alloc: Global,
     context: Context<'a>,
     input: &mut R,
-) -> Result<TimerPlan<'a>, TimerRefusal>
+) -> Result<TimerPlan<'a>, TimerError>
     requires { R.is_failed input.old ≡ false }
     ensures sure { R.may_fail input.old ≡ false → R.is_failed input.new ≡ false }
     ensures plan { (read : Result (List ℕ) WholeFault)
-        × ReadsWhole (R.remaining input.old) (R.remaining input.new) most_file_bytes read
+        × ReadsWhole (R.remaining input.old) (R.remaining input.new) timer_file_limit read
         × (R.is_failed input.new ≡ is_read_failed read)
         × MatchResult result
-        (λ plan. IsHad read × AreInstants (merged plan.merge) × ((name : List ℕ)
+        (λ plan. HadMemory read × AreInstants (merged plan.merge) × ((name : List ℕ)
         → timer_answer (asked_by context.entry) context.entry.base.secs name read ≡ Ok (plan_text (asked_by context.entry) plan)))
-        (λ refusal. refusal ≢ NoMemory → IsHad read × ((name : List ℕ)
-        → timer_answer (asked_by context.entry) context.entry.base.secs name read ≡ Err (refusal_at name (refused_line refusal) (refused_words refusal)))) }
+        (λ error. error ≢ NoMemory → HadMemory read × ((name : List ℕ)
+        → timer_answer (asked_by context.entry) context.entry.base.secs name read ≡ Err (error_line_at name (timer_error_line error) (timer_error_message error)))) }
 {
     let timer = match read_timer(alloc, input) {
         Ok(timer) => timer,
-        Err(TimerFault::NoMemory) => return Err(TimerRefusal::NoMemory),
-        Err(fault) => return Err(TimerRefusal::Timer(fault)),
+        Err(TimerFault::NoMemory) => return Err(TimerError::NoMemory),
+        Err(fault) => return Err(TimerError::Timer(fault)),
     };
     match merge_of(alloc, context, &timer) {
         Ok(merge) => Ok(TimerPlan { timer, merge }),
-        Err(refusal) => Err(refusal),
+        Err(error) => Err(error),
     }
 }
 
@@ -119,13 +119,13 @@ fn merge_of<'a>(
     alloc: Global,
     context: Context<'a>,
     timer: &Timer,
-) -> Result<Merge<Elapses<'a>>, TimerRefusal>
+) -> Result<Merge<Elapses<'a>>, TimerError>
     ensures { MatchResult result
         (IsMergeOf (asked_by context.entry) context.entry.base.secs timer.now)
-        (λ refusal. refusal ≢ NoMemory → IsUnzoned (unzoned (asked_by context.entry) timer.now) refusal) }
+        (λ error. error ≢ NoMemory → IsUnzoned (unzoned (asked_by context.entry) timer.now) error) }
 {
     if let Some(number) = find_unzoned(context, timer) {
-        return Err(TimerRefusal::NoSuchZone(number));
+        return Err(TimerError::NoSuchZone(number));
     }
     let mut merge = Merge::new(alloc);
     add_expressions(
@@ -182,9 +182,9 @@ fn add_expressions<'a>(
     ensures { OnOk result
         (IsAdded (asked_by context.entry) context.entry.base.secs (map shown lines.now) (map shown exceptions.now) merge.old merge.new) }
 {
-    let masks = masks_of(alloc, exceptions)?;
+    let masks = masks_of_lines(alloc, exceptions)?;
     for line in lines {
-        if is_covered(line, exceptions, &masks) {
+        if has_covering_exception(line, exceptions, &masks) {
             continue;
         }
         let elapses = elapses_of(alloc, context, line)?;
@@ -195,7 +195,7 @@ fn add_expressions<'a>(
     Ok(())
 }
 
-fn masks_of(alloc: Global, lines: &[TimerLine]) -> Result<Vec<Masks>, AllocError>
+fn masks_of_lines(alloc: Global, lines: &[TimerLine]) -> Result<Vec<Masks>, AllocError>
     ensures { IfOk result (λ masks. map sets_in masks.items ≡ map entry_sets (map shown lines.now)) }
 {
     let mut masks = Vec::new(alloc);
@@ -210,7 +210,7 @@ fn masks_of(alloc: Global, lines: &[TimerLine]) -> Result<Vec<Masks>, AllocError
 ///
 /// `masks` are the masks of the exceptions, in the same order. Returns `false` if the expression is covered only by
 /// several exceptions together.
-fn is_covered(line: &TimerLine, exceptions: &[TimerLine], masks: &[Masks]) -> bool
+fn has_covering_exception(line: &TimerLine, exceptions: &[TimerLine], masks: &[Masks]) -> bool
     requires { map sets_in masks.now ≡ map entry_sets (map shown exceptions.now) }
     ensures { result ≡ true → IsCoveredEntry (shown line.now) (map shown exceptions.now) }
 {
@@ -260,7 +260,7 @@ fn elapses_of<'a>(
     line: &TimerLine,
 ) -> Result<Elapses<'a>, AllocError>
     requires { lacks_zone (asked_by context) (shown line.now) ≡ false }
-    ensures { IfOk result (λ elapses. rest_of elapses
+    ensures { IfOk result (λ elapses. remaining_elapses elapses
         ≡ elapses_after (timed_entry (asked_by context.entry) (shown line.now) ∷ []) context.entry.base.secs) }
 {
     let Some(zone) = zone_for(context, &line.expr) else {
@@ -297,8 +297,8 @@ fn put_lists<W: Sink>(out: &mut W, timer: &Timer) -> Result<(), WriteFault>
     requires { W.is_failed out.old ≡ false }
     ensures { Puts W.Sink out.old out.new result (lists_text timer.now) }
 {
-    put_headings(out, ORIGINAL, timer.lines())?;
-    put_headings(out, EXCEPT, timer.exceptions())
+    put_headings(out, ORIGINAL_LABEL, timer.lines())?;
+    put_headings(out, EXCEPT_LABEL, timer.exceptions())
 }
 
 /// Writes the heading of each line: `label` with the expression as it is written in the file, and its normal form.

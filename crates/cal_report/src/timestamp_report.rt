@@ -8,9 +8,9 @@ ghost use Rattle.cal_span.specs.declared.span.text.TheConstants.{SPAN_ROOM};
 ghost use Rattle.cal_report.specs.Context.{asked_by};
 ghost use Rattle.cal_report.specs.TimestampReport.{moment_lines, timestamp_report, unix_text};
 
-use crate::clocks::Clocks;
+use crate::local_and_utc::LocalAndUtc;
 use crate::context::Context;
-use crate::report_lines::{ORIGINAL, push_distance, put_text};
+use crate::report_lines::{ORIGINAL_LABEL, push_distance, put_text};
 use cal_bytes::{Fill, ShortText, Sink, WriteFault, padding, push, push_all, put_all};
 use cal_zone::{Instant, Moment, Zone};
 use itoa::Buffer;
@@ -27,7 +27,7 @@ pub fn write_timestamp<W: Sink>(
     ensures { Puts W.Sink out.old out.new result
         (timestamp_report (asked_by context.entry) text.now moment.micros) }
 {
-    put_text(out, ORIGINAL, text)?;
+    put_text(out, ORIGINAL_LABEL, text)?;
     put_moment(out, context.local, context.now, moment)
 }
 
@@ -43,19 +43,19 @@ fn put_moment<W: Sink>(
     ensures { Puts W.Sink out.old out.new result (moment_lines local.entry now.secs moment.micros) }
 {
     let mut text = ShortText::new();
-    push_moment(&mut text, &mut Clocks::new(local), now, moment);
+    push_moment(&mut text, &mut LocalAndUtc::new(local), now, moment);
     put_all(out, text.as_slice())
 }
 
 /// Appends the lines that describe the moment, without the label of the first line.
 #[tactic(auto, unfolding(crate::specs::TimestampReport::moment_lines))]
-fn push_moment(text: &mut ShortText, clocks: &mut Clocks<'_>, now: Instant, moment: Moment)
+fn push_moment(text: &mut ShortText, formatter: &mut LocalAndUtc<'_>, now: Instant, moment: Moment)
     requires { length text.old.items + SPAN_ROOM + 276 ≤ SHORT_TEXT_ROOM }
-    ensures { text.new.items ≡ text.old.items ++ moment_lines clocks.old now.secs moment.micros }
+    ensures { text.new.items ≡ text.old.items ++ moment_lines formatter.old now.secs moment.micros }
 {
-    clocks.push_local(text, moment.instant());
+    formatter.push_local(text, moment.instant());
     push(text, b"\n");
-    clocks.push_utc_line(text, moment.instant());
+    formatter.push_utc_line(text, moment.instant());
     push(text, b"   UNIX seconds: ");
     push_unix(text, moment);
     push(text, b"\n       From now: ");

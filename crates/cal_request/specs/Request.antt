@@ -4,12 +4,12 @@ use Rattle.cal_request.specs.declared.request.Verb.{Verb}
 use Rattle.cal_request.specs.declared.request.Verb.TheVariants.{Calendar, Timer, Timestamp, Timespan}
 
 -- the maximum number of elapses that a request can ask for
-abbrev pub most_iterations : ℕ
-most_iterations = 1_000_000
+abbrev pub max_iterations : ℕ
+max_iterations = 1_000_000
 
 -- a number of elapses that a request can ask for
 abbrev pub IsCount : ℕ → Type 0
-IsCount n = (1 ≤ n) × (n ≤ most_iterations)
+IsCount n = (1 ≤ n) × (n ≤ max_iterations)
 
 -- whether a verb computes elapses: only these verbs have a base time and allocate
 abbrev pub seeks_elapses : Verb → Bool

@@ -271,7 +271,7 @@ fn at_most_sixty_four_zone_files(rt: HostRuntime) -> Result<(), Fail> {
 }
 
 /// Arguments that print a text of help or usage.
-const TOLD: &str = "\
+const HELP_OR_USAGE: &str = "\
 --help
 --version
 calendar|--help
@@ -298,7 +298,7 @@ fn is_narrow(text: &str) -> bool {
 /// Texts of help and usage end with exactly one line feed and fit into 80 columns.
 #[test]
 fn texts_fit_a_terminal(rt: HostRuntime) -> Result<(), Fail> {
-    for line in TOLD.lines() {
+    for line in HELP_OR_USAGE.lines() {
         let fault = read(rt.alloc(), line)?.err().ok_or("no fault")?;
         let text = fault.words();
         let fits = ends_once(text) && is_narrow(text);

@@ -10,7 +10,7 @@ use cal_work::load_zone;
 use cal_zone::ZoneTable;
 use std::test::Fail;
 
-static WORDS: [&str; 4] = [
+static ARGUMENTS: [&str; 4] = [
     "calendar",
     "--iterations=2",
     "--now=@1704067200",
@@ -19,7 +19,7 @@ static WORDS: [&str; 4] = [
 
 #[test]
 fn a_command_line(rt: HostRuntime) -> Result<(), Fail> {
-    let ask = Ask::of(rt.alloc(), &WORDS)?;
+    let ask = Ask::of(rt.alloc(), &ARGUMENTS)?;
     assert_eq!(rt; ask.request.iterations, 2);
     Ok(())
 }

@@ -126,15 +126,15 @@ fn check_input<R: Source>(
 }
 
 /// What a run wrote to both outputs, and its result.
-type Written<'a> = (&'a [u8], &'a [u8], Result<Status, RunFault>);
+type RunOutput<'a> = (&'a [u8], &'a [u8], Result<Status, RunFault>);
 
 /// Expects a run to have written the texts of the row, and to have succeeded.
-fn expect_texts(rt: &impl Abort, row: Row<'_>, written: Written<'_>) {
+fn expect_texts(rt: &impl Abort, row: Row<'_>, written: RunOutput<'_>) {
     let wanted = (row.out.as_bytes(), row.err.as_bytes(), Ok(status(row)));
     expect_written(rt, row.about, written, wanted);
 }
 
-fn expect_written(rt: &impl Abort, about: &str, written: Written<'_>, wanted: Written<'_>) {
+fn expect_written(rt: &impl Abort, about: &str, written: RunOutput<'_>, wanted: RunOutput<'_>) {
     assert_eq!(rt; written, wanted, "at {about}");
 }
 

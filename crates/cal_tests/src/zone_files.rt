@@ -76,7 +76,7 @@ fn row_of(bytes: &[u8]) -> Row<'_> {
     Row {
         name: "Test/Fixed",
         bytes,
-        limit: WHOLE,
+        limit: AMPLE_LIMIT,
         then: Then::Error,
         want: Ok(()),
         midnights: [IN_UTC, HOUR_AHEAD, None, None],
@@ -96,21 +96,21 @@ fn one_name_more(rt: HostRuntime) -> Result<(), Fail> {
 }
 
 /// Limits for the source of a zone file: one that cuts the file short, and one that leaves it whole.
-const CUT: usize = 9;
+const CUTTING_LIMIT: usize = 9;
 
-const WHOLE: usize = 999;
+const AMPLE_LIMIT: usize = 999;
 
 /// A name, the source's limit, what the source does after that, and the expected error. Of several errors, an invalid
 /// name comes first, then errors while reading, then invalid contents, and a name that is taken comes last.
 static REFUSALS: [(&str, usize, Then, LoadFault); 8] = [
-    ("1x", CUT, Then::Error, Zone(BadName)),
-    ("1x", CUT, Then::Endless, Zone(BadName)),
-    ("Test/A", CUT, Then::Error, LoadFault::ReadFailed),
-    ("utc", CUT, Then::Interrupted, LoadFault::ReadFailed),
-    ("utc", CUT, Then::Endless, Zone(TooLarge)),
-    ("utc", CUT, Then::Zero, Zone(BadFile)),
-    ("utc", WHOLE, Then::Error, Zone(NameTaken)),
-    ("Test/Fixed", WHOLE, Then::Error, Zone(NameTaken)),
+    ("1x", CUTTING_LIMIT, Then::Error, Zone(BadName)),
+    ("1x", CUTTING_LIMIT, Then::Endless, Zone(BadName)),
+    ("Test/A", CUTTING_LIMIT, Then::Error, LoadFault::ReadFailed),
+    ("utc", CUTTING_LIMIT, Then::Interrupted, LoadFault::ReadFailed),
+    ("utc", CUTTING_LIMIT, Then::Endless, Zone(TooLarge)),
+    ("utc", CUTTING_LIMIT, Then::Zero, Zone(BadFile)),
+    ("utc", AMPLE_LIMIT, Then::Error, Zone(NameTaken)),
+    ("Test/Fixed", AMPLE_LIMIT, Then::Error, Zone(NameTaken)),
 ];
 
 /// A file that can't be loaded leaves the table unchanged.

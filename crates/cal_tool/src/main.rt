@@ -26,20 +26,20 @@ For more information, try '--help'.
 ";
 
 /// The size of the output buffer, in bytes.
-const BUFFER: usize = 8192;
+const BUFFER_BYTES: usize = 8192;
 
 fn main(rt: HostRuntime) -> ExitCode {
     let mut err = Port::new(rt.stderr());
     let out = rt.stdout();
     // On a terminal, output isn't buffered, so that an error line appears between the reports, in the order of the
     // texts.
-    let capacity = if out.is_terminal() { 0 } else { BUFFER };
+    let capacity = if out.is_terminal() { 0 } else { BUFFER_BYTES };
     let arguments = match given_arguments(&rt) {
         Ok(arguments) => arguments,
-        Err(error) => return refuse(&mut err, &stop_of(rt.alloc(), &error)),
+        Err(error) => return exit_with(&mut err, &stop_of(rt.alloc(), &error)),
     };
     let Ok(buffer) = BufWriter::with_capacity(rt.alloc(), capacity, out) else {
-        return refuse(&mut err, &Stop::Run(RunFault::NoMemory));
+        return exit_with(&mut err, &Stop::Run(RunFault::NoMemory));
     };
     let mut out = Port::new(buffer);
     let machine = Machine { rt: &rt };
@@ -70,7 +70,7 @@ fn stop_of(alloc: Global, error: &io::Error) -> Stop {
 }
 
 /// Writes the error line for a stop before any work was done, and returns the exit status.
-fn refuse<E: Sink>(err: &mut E, stop: &Stop) -> ExitCode
+fn exit_with<E: Sink>(err: &mut E, stop: &Stop) -> ExitCode
     requires { E.is_failed err.old ≡ false }
 {
     // If the line can't be written, the exit status still reports the failure.

@@ -9,7 +9,7 @@ use Rattle.cal_zone.specs.headline.ZoneMap.{ZoneMap}
 use Rattle.cal_civil.specs.headline.ZoneName.{is_zone_name}
 use Rattle.cal_streams.specs.declared.whole.WholeFault.{WholeFault}
 use Rattle.cal_streams.specs.declared.whole.WholeFault.TheVariants as whole
-use Rattle.cal_read.specs.TimerText.{most_file_bytes}
+use Rattle.cal_read.specs.TimerText.{timer_file_limit}
 use Rattle.cal_command.specs.Ask.{Ask, CommandFault, ZoneItem}
 use Rattle.cal_command.specs.CommandLine.{asked_in, takes_arguments}
 use Rattle.cal_work.specs.Outcome.{World, ZoneFound, and_then, loaded, or_load_stop, table_by, local_by, present_by, run_by, asked_at, outcome, outcome_of}
@@ -57,7 +57,7 @@ known_open limit (Some (Some all)) came some h = (taken_of (nat_le (length all) 
 
 and_then_or : {A B : Type 0} (next other : A → Result B Stop) (r s : Result A Stop) → IsOr r s → ((x : A) → r ≡ Ok x → IsOr (next x) (other x)) → IsOr (and_then next r) (and_then other s)
 and_then_or next other (Ok x) s (inl e) h = rw (sym e) (h x refl)
-and_then_or next other (Err said) s (inl e) h = rw (sym e) (inl refl)
+and_then_or next other (Err stop) s (inl e) h = rw (sym e) (inl refl)
 and_then_or next other r s (inr e) h = rw e (inr refl)
 
 -- Zone files
@@ -98,11 +98,11 @@ present_known None clock None some h = absurd (false≢true some)
 present_known None clock (Some t) some h = rw h refl
 
 run_known : (known : Known) (asked : Request) (seen : Seen) (t : Bool) → is_timer asked.verb ≡ t → TellsAll known → SeesIf t known (file_name asked) seen
-    → IsOr (run_by asked seen) (run_by asked (known_seen most_file_bytes (known.file (file_name asked))))
+    → IsOr (run_by asked seen) (run_by asked (known_seen timer_file_limit (known.file (file_name asked))))
 unfolding run_by
 run_known known asked seen false is all h = rw is (inl refl)
 run_known known asked seen true is all h =
-    elim (seen_known most_file_bytes (known.file (file_name asked)) seen (all.files (file_name asked)) h.bytes (h.sure (all.sure (file_name asked)))) [
+    elim (seen_known timer_file_limit (known.file (file_name asked)) seen (all.files (file_name asked)) h.bytes (h.sure (all.sure (file_name asked)))) [
       | inl e ↦ rw e (inl refl)
       | inr e ↦ rw (e, is) (inr refl)
     ]
@@ -119,15 +119,15 @@ ask_known known ask world all fits =
     and_then_or _ _ (present_by ask.now world.clock) (present_by ask.now (known_time known.time)) (inl (present_known ask.now world.clock known.time all.time later.1)) (λ now is_now.
     run_known known (asked_at ask table local now) world.file (is_timer ask.verb) refl all (rw is_now at later.2))))
 
-said_known : (known : Known) (world : World) (said : Result Ask CommandFault) → TellsAll known → world.said ≡ said → IfOk said (λ ask. Fits known ask world) → IsOr (outcome world) (known_outcome known said world)
+parsed_known : (known : Known) (world : World) (parsed : Result Ask CommandFault) → TellsAll known → world.parsed ≡ parsed → IfOk parsed (λ ask. Fits known ask world) → IsOr (outcome world) (known_outcome known parsed world)
 unfolding outcome outcome_of known_world
-said_known known world (Ok ask) all is fits = rw is (ask_known known ask world all fits)
-said_known known world (Err said) all is fits = rw is (inl refl)
+parsed_known known world (Ok ask) all is fits = rw is (ask_known known ask world all fits)
+parsed_known known world (Err fault) all is fits = rw is (inl refl)
 
 pub known_decides : (known : Known) (arguments : List (List ℕ)) (world : World) → TellsAll known → takes_arguments arguments ≡ true → FitsArguments known arguments world → IsOr (outcome world) (known_outcome known (asked_in arguments) world)
 unfolding outcome
 known_decides known arguments world all takes fits =
-    elim (taken_arguments arguments world.said fits.said takes) [
+    elim (taken_arguments arguments world.parsed fits.parsed takes) [
       | inl e ↦ rw e (inr refl)
-      | inr e ↦ rw (sym e) (said_known known world world.said all refl fits.fits)
+      | inr e ↦ rw (sym e) (parsed_known known world world.parsed all refl fits.fits)
     ]

@@ -7,7 +7,7 @@ use Rattle.cal_bytes.specs.Bytes.{AppendsFront, Writes}
 use Rattle.cal_streams.specs.Output.{Flushes}
 use Rattle.cal_work.specs.Outcome.{outcome, out_text, err_text, ended_status}
 use Rattle.cal_report.specs.headline.Report.{Report}
-use Rattle.cal_work.specs.Stop.{Stop, fault_stop, outlet_of, shown_stop, text_of}
+use Rattle.cal_work.specs.Stop.{Stop, fault_stop, outlet_of, shown_stop, stop_text}
 use Rattle.cal_work.specs.System.{Known}
 use Rattle.cal_work.specs.WorkSteps.{StopsAs, StopEnds, EndsAs, AnsweredArguments, IsFlushed, TellsOn, TellsStop, status_by, WritesOf}
 use Rattle.cal_work.specs.Works.{Reaches, TellsFault, Works}
@@ -29,19 +29,19 @@ use Rattle.cal_text.proofs.General.{append_known-nil}
 -- What was written for a stop
 
 -- what was written if an output or an allocation failed during the run
-fault_written : (fault : RunFault) (come : Result Report Stop) (out out' err err' : Option (List ℕ)) → ended_status {T = Unit} (Err fault) come ≡ 1 → AppendsFront out out' (out_text come) → AppendsFront err err' (err_text come)
-    → WritesOf {T = Unit} (Err fault) (fault_stop fault).status come out out' err err'
-fault_written OutFailed come out out' err err' status o e = record { by_status = refl; out_bytes = o; err_bytes = e }
-fault_written ErrFailed come out out' err err' status o e = record { by_status = status; out_bytes = o; err_bytes = e }
-fault_written NoMemory come out out' err err' status o e = record { by_status = refl; out_bytes = o; err_bytes = e }
+fault_written : (fault : RunFault) (expected : Result Report Stop) (out out' err err' : Option (List ℕ)) → ended_status {T = Unit} (Err fault) expected ≡ 1 → AppendsFront out out' (out_text expected) → AppendsFront err err' (err_text expected)
+    → WritesOf {T = Unit} (Err fault) (fault_stop fault).status expected out out' err err'
+fault_written OutFailed expected out out' err err' status o e = record { by_status = refl; out_bytes = o; err_bytes = e }
+fault_written ErrFailed expected out out' err err' status o e = record { by_status = status; out_bytes = o; err_bytes = e }
+fault_written NoMemory expected out out' err err' status o e = record { by_status = refl; out_bytes = o; err_bytes = e }
 
-same_status : (r : Result Unit RunFault) (said : Stop) → ended_status r (Err said) ≡ status_by r said.status
-same_status r said = grind arith
+same_status : (r : Result Unit RunFault) (shown : Stop) → ended_status r (Err shown) ≡ status_by r shown.status
+same_status r shown = grind arith
 
 -- the text written for a stop is all that the stop reports, and goes to the output that it belongs on
 TextsFit : Outlet → declared_stop.Stop → Type 0
-TextsFit OnOut stop = ((shown_stop stop).out ≡ text_of stop) × ((shown_stop stop).err ≡ [])
-TextsFit OnErr stop = ((shown_stop stop).out ≡ []) × ((shown_stop stop).err ≡ text_of stop)
+TextsFit OnOut stop = ((shown_stop stop).out ≡ stop_text stop) × ((shown_stop stop).err ≡ [])
+TextsFit OnErr stop = ((shown_stop stop).out ≡ []) × ((shown_stop stop).err ≡ stop_text stop)
 TextsFit (Later fault) stop = Unit {0}
 
 command_fits : (fault : CommandFault) → TextsFit (outlet_of (Command fault)) (Command fault)
@@ -70,19 +70,19 @@ texts_fit Clock = (refl, refl)
 texts_fit (Open path) = (refl, refl)
 texts_fit (Run fault) = tt
 
-module _ (stop : declared_stop.Stop) (r : Result Unit RunFault) (come : Result Report Stop) (out out1 out' err err1 err' : Option (List ℕ)) (s : StopsAs stop come) (at_out : out1 ≡ out) (at_err : err1 ≡ err) where
+module _ (stop : declared_stop.Stop) (r : Result Unit RunFault) (expected : Result Report Stop) (out out1 out' err err1 err' : Option (List ℕ)) (s : StopsAs stop expected) (at_out : out1 ≡ out) (at_err : err1 ≡ err) where
   -- what was written for a stop before any run, for each output that it can be reported on
-  early_written : (outlet : Outlet) → outlet_of stop ≡ outlet → TextsFit outlet stop → TellsOn outlet (text_of stop) r out1 out' err1 err' → WritesOf r (shown_stop stop).status come out out' err err'
+  early_written : (outlet : Outlet) → outlet_of stop ≡ outlet → TextsFit outlet stop → TellsOn outlet (stop_text stop) r out1 out' err1 err' → WritesOf r (shown_stop stop).status expected out out' err err'
   unfolding TextsFit
   early_written OnOut is fits (w, same) =
-      let stopped : come ≡ Err (shown_stop stop) = s.said (rw is refl) in
+      let stopped : expected ≡ Err (shown_stop stop) = s.same (rw is refl) in
       rw stopped (record {
         by_status = same_status r (shown_stop stop);
         out_bytes = rw fits.0 (rw at_out at w);
         err_bytes = rw (fits.1, same ∙ at_err) (writes_nothing err r);
       })
   early_written OnErr is fits (w, same) =
-      let stopped : come ≡ Err (shown_stop stop) = s.said (rw is refl) in
+      let stopped : expected ≡ Err (shown_stop stop) = s.same (rw is refl) in
       rw stopped (record {
         by_status = same_status r (shown_stop stop);
         out_bytes = rw (fits.0, same ∙ at_out) (writes_nothing out r);
@@ -93,20 +93,20 @@ module _ (stop : declared_stop.Stop) (r : Result Unit RunFault) (come : Result R
   early_written (Later NoMemory) is fits (none, same_out, same_err) =
       rw none (record {
         by_status = refl;
-        out_bytes = rw (same_out ∙ at_out) (nothing_front out (out_text come));
-        err_bytes = rw (same_err ∙ at_err) (nothing_front err (err_text come));
+        out_bytes = rw (same_out ∙ at_out) (nothing_front out (out_text expected));
+        err_bytes = rw (same_err ∙ at_err) (nothing_front err (err_text expected));
       })
 
-pub tells_stop : (stop : declared_stop.Stop) (r : Result Unit RunFault) (out1 out' err1 err' : Option (List ℕ)) → TellsStop stop r out1 out' err1 err' → (come : Result Report Stop) (out err : Option (List ℕ)) → StopEnds stop come out out1 err err1
-    → WritesOf r (shown_stop stop).status come out out' err err'
-tells_stop (Run fault) r out1 out' err1 err' t come out err s =
-    rw (t.0, t.1, t.2) (fault_written fault come out out1 err err1 s.0 s.1 s.2)
-tells_stop (Command fault) r out1 out' err1 err' t come out err s = early_written (Command fault) r come out out1 out' err err1 err' s.0 s.1 s.2 (outlet_of (Command fault)) refl (texts_fit (Command fault)) t
-tells_stop (Zones name fault) r out1 out' err1 err' t come out err s = early_written (Zones name fault) r come out out1 out' err err1 err' s.0 s.1 s.2 (outlet_of (Zones name fault)) refl (texts_fit (Zones name fault)) t
-tells_stop LocalRule r out1 out' err1 err' t come out err s = early_written LocalRule r come out out1 out' err err1 err' s.0 s.1 s.2 OnErr refl (texts_fit LocalRule) t
-tells_stop LocalName r out1 out' err1 err' t come out err s = early_written LocalName r come out out1 out' err err1 err' s.0 s.1 s.2 OnErr refl (texts_fit LocalName) t
-tells_stop Clock r out1 out' err1 err' t come out err s = early_written Clock r come out out1 out' err err1 err' s.0 s.1 s.2 OnErr refl (texts_fit Clock) t
-tells_stop (Open path) r out1 out' err1 err' t come out err s = early_written (Open path) r come out out1 out' err err1 err' s.0 s.1 s.2 OnErr refl (texts_fit (Open path)) t
+pub tells_stop : (stop : declared_stop.Stop) (r : Result Unit RunFault) (out1 out' err1 err' : Option (List ℕ)) → TellsStop stop r out1 out' err1 err' → (expected : Result Report Stop) (out err : Option (List ℕ)) → StopEnds stop expected out out1 err err1
+    → WritesOf r (shown_stop stop).status expected out out' err err'
+tells_stop (Run fault) r out1 out' err1 err' t expected out err s =
+    rw (t.0, t.1, t.2) (fault_written fault expected out out1 err err1 s.0 s.1 s.2)
+tells_stop (Command fault) r out1 out' err1 err' t expected out err s = early_written (Command fault) r expected out out1 out' err err1 err' s.0 s.1 s.2 (outlet_of (Command fault)) refl (texts_fit (Command fault)) t
+tells_stop (Zones name fault) r out1 out' err1 err' t expected out err s = early_written (Zones name fault) r expected out out1 out' err err1 err' s.0 s.1 s.2 (outlet_of (Zones name fault)) refl (texts_fit (Zones name fault)) t
+tells_stop LocalRule r out1 out' err1 err' t expected out err s = early_written LocalRule r expected out out1 out' err err1 err' s.0 s.1 s.2 OnErr refl (texts_fit LocalRule) t
+tells_stop LocalName r out1 out' err1 err' t expected out err s = early_written LocalName r expected out out1 out' err err1 err' s.0 s.1 s.2 OnErr refl (texts_fit LocalName) t
+tells_stop Clock r out1 out' err1 err' t expected out err s = early_written Clock r expected out out1 out' err err1 err' s.0 s.1 s.2 OnErr refl (texts_fit Clock) t
+tells_stop (Open path) r out1 out' err1 err' t expected out err s = early_written (Open path) r expected out out1 out' err err1 err' s.0 s.1 s.2 OnErr refl (texts_fit (Open path)) t
 
 -- The buffer
 
@@ -133,12 +133,12 @@ reaches_unflushed before written reached text w s = reaches_front before written
 err_before : (r flushed : Result Unit RunFault) (a b : Option (List ℕ)) (text : List ℕ) → IsFlushed r flushed → Writes a b r text → Writes a b flushed text
 err_before r flushed a b text is w = grind (arith, whole_front a b text)
 
-flushed_status : (r flushed : Result Unit RunFault) (status : ℕ) (come : Result Report Stop) → IsFlushed r flushed → ended_status r come ≡ status_by r status → status_by flushed status ≡ ended_status flushed come
-flushed_status r flushed status come is same = grind arith
+flushed_status : (r flushed : Result Unit RunFault) (status : ℕ) (expected : Result Report Stop) → IsFlushed r flushed → ended_status r expected ≡ status_by r status → status_by flushed status ≡ ended_status flushed expected
+flushed_status r flushed status expected is same = grind arith
 
 pub works : (known : Known) (arguments : List (List ℕ)) (answered : Result Status declared_stop.Stop) (out out1 out2 reached err err1 err2 err3 : Option (List ℕ)) (failed : Bool) (written flushed : Result Unit RunFault) (status last : ℕ)
     → AnsweredArguments known arguments answered out out1 err err1
-    → ((come : Result Report Stop) (a b : Option (List ℕ)) → EndsAs answered come a out1 b err1 → WritesOf written status come a out2 b err2)
+    → ((expected : Result Report Stop) (a b : Option (List ℕ)) → EndsAs answered expected a out1 b err1 → WritesOf written status expected a out2 b err2)
     → ((before : Option (List ℕ)) (text : List ℕ) → Writes before out2 written text → Reaches before reached flushed text)
     → IsFlushed written flushed → TellsFault err2 err3 failed flushed → last ≡ status_by flushed status
     → Works known arguments out reached err err3 failed (record { status = last; written = flushed })

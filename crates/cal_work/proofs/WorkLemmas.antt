@@ -20,19 +20,19 @@ use Rattle.cal_streams.specs.declared.whole.WholeFault.{WholeFault}
 use Rattle.cal_streams.specs.declared.whole.WholeFault.TheVariants as whole
 use Rattle.cal_zone.specs.declared.zone.Zone.{Zone as ClockZone}
 use Rattle.cal_zone.specs.declared.zone_fault.ZoneFault.TheVariants as zone
-use Rattle.cal_read.specs.TimerText.{most_file_bytes}
+use Rattle.cal_read.specs.TimerText.{timer_file_limit}
 use Rattle.cal_read.specs.declared.stamp.fault.StampFault.{StampFault}
 use Rattle.cal_command.specs.Ask.{Ask, LocalZone, in_utc, ahead, by_rule, of_name, ZoneItem, shown_fault, bad_iterations, bad_now, bad_zones, bad_local, no_memory}
 use Rattle.cal_command.specs.CommandLine.{IsAskOf}
-use Rattle.cal_work.specs.LoadZone.{IsLoaded, IsLoadFault, is_load_unread}
+use Rattle.cal_work.specs.LoadZone.{IsLoaded, IsLoadFault, is_load_read_failed}
 use Rattle.cal_work.specs.Outcome.{ZoneFound, and_then, loaded, table_by, local_by, present_by, input_if, run_by, asked_at, outcome, outcome_of, out_text, err_text}
 use Rattle.cal_report.specs.Report.{ByReading, IsReported, ReadsIf, base_in, file_name, reads_input, report, report_from}
 use Rattle.cal_report.specs.headline.Report.{Report}
 use Rattle.cal_request.specs.Request.{is_timer}
 use Rattle.cal_request.specs.headline.Request.{Request}
-use Rattle.cal_work.specs.Stop.{Stop, command_stop, exit_status, load_stop, name_stop, rule_stop, shown_stop, unread_stop, memory_stop, is_out_stop, is_err_stop}
+use Rattle.cal_work.specs.Stop.{Stop, command_stop, exit_status, load_stop, name_stop, rule_stop, shown_stop, unopened_stop, memory_stop, is_out_stop, is_err_stop}
 use Rattle.cal_work.specs.System.{Known, Opens, GivesTime, Comes, SeesBytes}
-use Rattle.cal_work.specs.WorkSteps.{StopsAs, Loads, ReadsZones, FindsLocal, IsUnread, EndsAs, Runs, Answered, AnsweredArguments, ran}
+use Rattle.cal_work.specs.WorkSteps.{StopsAs, Loads, ReadsZones, FindsLocal, IsBadRule, EndsAs, Runs, Answered, AnsweredArguments, ran}
 use Rattle.cal_work.specs.Works.{SeesZones, ReadsZone}
 use Rattle.cal_command.specs.declared.command_fault.CommandFault as declared_fault
 use Rattle.cal_command.specs.declared.command_fault.CommandFault.TheVariants as command
@@ -50,20 +50,20 @@ use Rattle.cal_text.proofs.General.{no_ok, some_none}
 -- Stops
 
 -- a stop with a known report that doesn't stand for a failed output
-pub is_stop : {X : Type 0} (stop : declared_stop.Stop) (said : Stop) → is_out_stop stop ≡ false → is_err_stop stop ≡ false → shown_stop stop ≡ said → StopsAs {X = X} stop (Err said)
-is_stop stop said out err is = record { before_out = out; before_err = err; stopped = refl; said = λ h. ap (λ s. Err s) (sym is) }
+pub is_stop : {X : Type 0} (stop : declared_stop.Stop) (shown : Stop) → is_out_stop stop ≡ false → is_err_stop stop ≡ false → shown_stop stop ≡ shown → StopsAs {X = X} stop (Err shown)
+is_stop stop shown out err is = record { before_out = out; before_err = err; stopped = refl; same = λ h. ap (λ s. Err s) (sym is) }
 
 -- if a step stopped, all the steps after it stop with the same report
-pub stops : {A B : Type 0} (stop : declared_stop.Stop) (next : A → Result B Stop) (come : Result A Stop) → StopsAs stop come → StopsAs stop (and_then next come)
+pub stops : {A B : Type 0} (stop : declared_stop.Stop) (next : A → Result B Stop) (expected : Result A Stop) → StopsAs stop expected → StopsAs stop (and_then next expected)
 stops stop next (Ok value) s = absurd (false≢true s.stopped)
-stops stop next (Err said) s = record { before_out = s.before_out; before_err = s.before_err; stopped = refl; said = λ h. ap (λ r. and_then next r) (s.said h) }
+stops stop next (Err shown) s = record { before_out = s.before_out; before_err = s.before_err; stopped = refl; same = λ h. ap (λ r. and_then next r) (s.same h) }
 
-said_inside : {A : Type 0} (x y : Result A Stop) (a b : Stop) → x ≡ Err a → y ≡ Err b → x ≡ y → a ≡ b
-said_inside x y a b p q h = cc
+stop_inside : {A : Type 0} (x y : Result A Stop) (a b : Stop) → x ≡ Err a → y ≡ Err b → x ≡ y → a ≡ b
+stop_inside x y a b p q h = cc
 
 -- the same stop, for a step with another type of result
-pub stops_other : {A B : Type 0} (stop : declared_stop.Stop) (said : Stop) → StopsAs {X = A} stop (Err said) → StopsAs {X = B} stop (Err said)
-stops_other {A = A} stop said s = record { before_out = s.before_out; before_err = s.before_err; stopped = refl; said = λ h. ap (λ x. Err x) (said_inside {A = A} (Err said) (Err (shown_stop stop)) said (shown_stop stop) refl refl (s.said h)) }
+pub stops_other : {A B : Type 0} (stop : declared_stop.Stop) (shown : Stop) → StopsAs {X = A} stop (Err shown) → StopsAs {X = B} stop (Err shown)
+stops_other {A = A} stop shown s = record { before_out = s.before_out; before_err = s.before_err; stopped = refl; same = λ h. ap (λ x. Err x) (stop_inside {A = A} (Err shown) (Err (shown_stop stop)) shown (shown_stop stop) refl refl (s.same h)) }
 
 -- What the program sees of a file
 
@@ -122,7 +122,7 @@ reads_unnamed name (Err fault) h = tt
 
 -- a zone file that was opened, and then loaded or rejected
 pub loads : (known : Known) (before after : ZoneMap) (item : ZoneItem) (r : Result Unit LoadFault) (old new : Option (List ℕ)) (may failed : Bool) → Opens (known.file item.path) (Some old) → may ≡ known.may_fail item.path
-    → failed ≡ is_load_unread r → MatchResult r (λ done. IsLoaded old new before after item.name) (IsLoadFault old new before item.name) → (may ≡ false → failed ≡ false) → Loads known before after item r
+    → failed ≡ is_load_read_failed r → MatchResult r (λ done. IsLoaded old new before after item.name) (IsLoadFault old new before item.name) → (may ≡ false → failed ≡ false) → Loads known before after item r
 unfolding loaded
 loads known before after item (Ok done) old new may failed opens mays fails h sure = record {
   found = record { seen = Some (Ok h.bytes); zone = Some h.zone };
@@ -256,7 +256,7 @@ unread_rule rule table true is h = absurd (h is)
 unread_rule rule table false is h = rw is refl
 
 -- a POSIX rule that `jiff` can't parse
-pub local_refused : (said : LocalZone) (table : ZoneMap) → IsUnread said → local_by said table utc ≡ Err rule_stop
+pub local_refused : (local : LocalZone) (table : ZoneMap) → IsBadRule local → local_by local table utc ≡ Err rule_stop
 local_refused in_utc table h = absurd h
 local_refused (ahead seconds) table h = absurd h
 local_refused (by_rule rule) table h = unread_rule rule table (is_some (rule_read rule)) refl h
@@ -265,16 +265,16 @@ local_refused (of_name name) table h = absurd h
 -- How the work ended
 
 -- a stop before any run
-pub early : (stop : declared_stop.Stop) (come : Result Report Stop) (out err : Option (List ℕ)) → StopsAs stop come → EndsAs (Err stop) come out out err err
-early (Command fault) come out err s = (s, refl, refl)
-early (Zones name fault) come out err s = (s, refl, refl)
-early LocalRule come out err s = (s, refl, refl)
-early LocalName come out err s = (s, refl, refl)
-early Clock come out err s = (s, refl, refl)
-early (Open path) come out err s = (s, refl, refl)
-early (Run OutFailed) come out err s = absurd (false≢true (sym s.before_out))
-early (Run ErrFailed) come out err s = absurd (false≢true (sym s.before_err))
-early (Run NoMemory) come out err s = (refl, nothing_front out (out_text come), nothing_front err (err_text come))
+pub early : (stop : declared_stop.Stop) (expected : Result Report Stop) (out err : Option (List ℕ)) → StopsAs stop expected → EndsAs (Err stop) expected out out err err
+early (Command fault) expected out err s = (s, refl, refl)
+early (Zones name fault) expected out err s = (s, refl, refl)
+early LocalRule expected out err s = (s, refl, refl)
+early LocalName expected out err s = (s, refl, refl)
+early Clock expected out err s = (s, refl, refl)
+early (Open path) expected out err s = (s, refl, refl)
+early (Run OutFailed) expected out err s = absurd (false≢true (sym s.before_out))
+early (Run ErrFailed) expected out err s = absurd (false≢true (sym s.before_err))
+early (Run NoMemory) expected out err s = (refl, nothing_front out (out_text expected), nothing_front err (err_text expected))
 
 -- the end of a run
 run_ends : (r : Result Status RunFault) (read : Result (List ℕ) WholeFault) (report : Report) (out out' err err' : Option (List ℕ)) → IsReported r out out' err err' read report → EndsAs (ran r) (Ok report) out out' err err'
@@ -340,9 +340,9 @@ timer_by known asked r old new may failed out out' err err' (Err whole.NoMemory)
   ends = rw timer (unread_ends r _ out out' err err' t);
 }
 timer_by known asked r old new may failed out out' err err' read false reads timer opens mays sure fails input t = record {
-  seen = Some (came_of old most_file_bytes);
-  sees = rw timer (record { bytes = sees_opened _ _ old (came_of old most_file_bytes) opens (came_fits old most_file_bytes); sure = λ e. came_uncut old most_file_bytes });
-  ends = rw (report_had asked old most_file_bytes reads timer) (run_ends r (Ok []) _ out out' err err' (rw input.1 at t));
+  seen = Some (came_of old timer_file_limit);
+  sees = rw timer (record { bytes = sees_opened _ _ old (came_of old timer_file_limit) opens (came_fits old timer_file_limit); sure = λ e. came_uncut old timer_file_limit });
+  ends = rw (report_had asked old timer_file_limit reads timer) (run_ends r (Ok []) _ out out' err err' (rw input.1 at t));
 }
 
 pub timer_runs : (known : Known) (asked : Request) (r : Result Status RunFault) (old new : Option (List ℕ)) (may failed : Bool) (out out' err err' : Option (List ℕ))
@@ -360,13 +360,13 @@ texts_run known asked r old new failed out out' err err' plain by =
     record { seen = None; sees = rw plain tt; ends = rw plain (rw (sym same) (run_ends r by.read _ out out' err err' by.holds)) }
 
 -- the timer file can't be opened
-pub file_stops : (known : Known) (asked : Request) (stop : declared_stop.Stop) (out err : Option (List ℕ)) → is_timer asked.verb ≡ true → Opens (known.file (file_name asked)) None → StopsAs {X = Unit} stop (Err (unread_stop (file_name asked)))
+pub file_stops : (known : Known) (asked : Request) (stop : declared_stop.Stop) (out err : Option (List ℕ)) → is_timer asked.verb ≡ true → Opens (known.file (file_name asked)) None → StopsAs {X = Unit} stop (Err (unopened_stop (file_name asked)))
     → Runs known asked (Err stop) out out err err
 unfolding run_by
 file_stops known asked stop out err timer opens s = record {
   seen = None;
   sees = rw timer (record { bytes = sees_none _ _ opens; sure = λ e. refl });
-  ends = rw timer (early stop (Err (unread_stop (file_name asked))) out err (stops_other stop (unread_stop (file_name asked)) s));
+  ends = rw timer (early stop (Err (unopened_stop (file_name asked))) out err (stops_other stop (unopened_stop (file_name asked)) s));
 }
 
 -- The whole work, by the step that it reached
@@ -375,7 +375,7 @@ module _ (known : Known) (ask : Ask) (stop : declared_stop.Stop) (out err : Opti
   pub zones_stop : ReadsZones (λ table. table) known ask.zones (Err stop) → Answered known ask (Err stop) out out err err
   unfolding outcome_of
   zones_stop z = record {
-    world = record { said = Ok ask; zones = z.found; local = utc; clock = None; file = None };
+    world = record { parsed = Ok ask; zones = z.found; local = utc; clock = None; file = None };
     fits = record { zones = z.sees; after = no_ok (table_by empty ask.zones z.found) _ z.answers.stopped };
     ends = early stop _ out err (stops stop _ (table_by empty ask.zones z.found) z.answers);
   }
@@ -383,7 +383,7 @@ module _ (known : Known) (ask : Ask) (stop : declared_stop.Stop) (out err : Opti
   pub local_stops : (table : ZoneMap) (zone : ClockZone) → ReadsZones (λ table. table) known ask.zones (Ok table) → StopsAs stop (local_by ask.local table zone) → Answered known ask (Err stop) out out err err
   unfolding outcome_of
   local_stops table zone z s = record {
-    world = record { said = Ok ask; zones = z.found; local = zone; clock = None; file = None };
+    world = record { parsed = Ok ask; zones = z.found; local = zone; clock = None; file = None };
     fits = record { zones = z.sees; after = rw z.answers (no_ok (local_by ask.local table zone) _ s.stopped) };
     ends = early stop _ out err (rw z.answers (stops stop _ (local_by ask.local table zone) s));
   }
@@ -394,7 +394,7 @@ module _ (known : Known) (ask : Ask) (stop : declared_stop.Stop) (out err : Opti
   clock_stops table local z l clock is_time s =
       let found = rw l.answers at l.is_local in
       record {
-        world = record { said = Ok ask; zones = z.found; local = l.zone; clock = clock; file = None };
+        world = record { parsed = Ok ask; zones = z.found; local = l.zone; clock = clock; file = None };
         fits = record { zones = z.sees; after = rw (z.answers, l.answers) (found, is_time, no_ok (present_by ask.now clock) _ s.stopped) };
         ends = early stop _ out err (rw (z.answers, l.answers) (stops stop _ (present_by ask.now clock) s));
       }
@@ -407,7 +407,7 @@ unfolding outcome_of
 ran_whole known ask result out out' err err' table local now z l clock is_time is_now r =
     let found = rw l.answers at l.is_local in
     record {
-      world = record { said = Ok ask; zones = z.found; local = l.zone; clock = clock; file = r.seen };
+      world = record { parsed = Ok ask; zones = z.found; local = l.zone; clock = clock; file = r.seen };
       fits = record { zones = z.sees; after = rw (z.answers, l.answers) (found, is_time, rw is_now r.sees) };
       ends = rw (z.answers, l.answers, is_now) r.ends;
     }
@@ -416,8 +416,8 @@ ran_whole known ask result out out' err err' table local now z l clock is_time i
 pub arguments_answered : (known : Known) (arguments : List (List ℕ)) (ask : Ask) (result : Result Status declared_stop.Stop) (out out' err err' : Option (List ℕ)) → IsAskOf arguments (Ok ask) → Answered known ask result out out' err err' → AnsweredArguments known arguments result out out' err err'
 unfolding outcome outcome_of
 arguments_answered known arguments ask result out out' err err' asks a = record {
-  world = record { said = Ok ask; zones = a.world.zones; local = a.world.local; clock = a.world.clock; file = a.world.file };
-  fits = record { said = asks; fits = record { zones = a.fits.zones; after = a.fits.after } };
+  world = record { parsed = Ok ask; zones = a.world.zones; local = a.world.local; clock = a.world.clock; file = a.world.file };
+  fits = record { parsed = asks; fits = record { zones = a.fits.zones; after = a.fits.after } };
   ends = a.ends;
 }
 
@@ -434,7 +434,7 @@ command_stops command.NoMemory = is_stop (Command command.NoMemory) (command_sto
 pub arguments_refused : (known : Known) (arguments : List (List ℕ)) (fault : declared_fault.CommandFault) (out err : Option (List ℕ)) → IsAskOf arguments (Err (shown_fault fault)) → AnsweredArguments known arguments (Err (Command fault)) out out err err
 unfolding outcome
 arguments_refused known arguments fault out err asks = record {
-  world = record { said = Err (shown_fault fault); zones = []; local = utc; clock = None; file = None };
-  fits = record { said = asks; fits = tt };
+  world = record { parsed = Err (shown_fault fault); zones = []; local = utc; clock = None; file = None };
+  fits = record { parsed = asks; fits = tt };
   ends = (command_stops fault, refl, refl);
 }

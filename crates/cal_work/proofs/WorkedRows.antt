@@ -12,4 +12,4 @@ bare_tells = record { files = λ path. refl; sure = λ path. refl; time = refl }
 
 pub bare_fits : FitsArguments bare_system daily_arguments daily_world
 unfolding instant_in local_by present_by table_by
-bare_fits = record { said = daily_asked; fits = record { zones = tt; after = (refl, refl, tt) } }
+bare_fits = record { parsed = daily_asked; fits = record { zones = tt; after = (refl, refl, tt) } }

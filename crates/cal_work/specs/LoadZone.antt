@@ -54,6 +54,6 @@ abbrev pub is_reader_fault : LoadFault → Bool
 is_reader_fault ReadFailed = true
 is_reader_fault (Zone fault) = false
 
-abbrev pub is_load_unread : {T : Type 0} → Result T LoadFault → Bool
-is_load_unread (Ok x) = false
-is_load_unread (Err fault) = is_reader_fault fault
+abbrev pub is_load_read_failed : {T : Type 0} → Result T LoadFault → Bool
+is_load_read_failed (Ok x) = false
+is_load_read_failed (Err fault) = is_reader_fault fault

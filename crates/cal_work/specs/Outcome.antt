@@ -18,7 +18,7 @@ use Rattle.cal_report.specs.Report.{file_name, report}
 use Rattle.cal_report.specs.headline.Report.{Report}
 use Rattle.cal_request.specs.Request.{is_timer}
 use Rattle.cal_request.specs.headline.Request.{Request}
-use Rattle.cal_work.specs.Stop.{Stop, command_stop, load_stop, rule_stop, name_stop, clock_stop, unread_stop, memory_stop, exit_status}
+use Rattle.cal_work.specs.Stop.{Stop, command_stop, load_stop, rule_stop, name_stop, clock_stop, unopened_stop, memory_stop, exit_status}
 use Rattle.cal_work.specs.System.{Seen}
 use Rattle.cal_work.specs.declared.zone_files.LoadFault.{LoadFault}
 use Rattle.cal_work.specs.declared.zone_files.LoadFault.TheVariants.{ReadFailed, Zone}
@@ -33,7 +33,7 @@ pub record ZoneFound : Type 0 where
 -- Everything that the outcome depends on: the parsed arguments, what is found of each zone file in order, the local
 -- zone, the clock's seconds, and what is seen of the timer file.
 pub record World : Type 0 where
-  pub said : Result Ask CommandFault
+  pub parsed : Result Ask CommandFault
   pub zones : List ZoneFound
   pub local : ClockZone
   pub clock : Option ℤ
@@ -107,7 +107,7 @@ present_by None clock = clock_by clock
 
 -- what is read from the timer file
 abbrev pub input_by : List ℕ → Seen → Result (Result (List ℕ) WholeFault) Stop
-input_by path None = Err (unread_stop path)
+input_by path None = Err (unopened_stop path)
 input_by path (Some (Ok bytes)) = Ok (Ok bytes)
 input_by path (Some (Err whole.ReadFailed)) = Ok (Err whole.ReadFailed)
 input_by path (Some (Err whole.TooLarge)) = Ok (Err whole.TooLarge)
@@ -144,31 +144,31 @@ outcome_of ask world =
     (local_by ask.local table world.local))
     (table_by empty ask.zones world.zones)
 
-abbrev pub outcome_said : Result Ask CommandFault → World → Result Report Stop
-outcome_said (Ok ask) world = outcome_of ask world
-outcome_said (Err said) world = Err (command_stop said)
+abbrev pub outcome_of_parsed : Result Ask CommandFault → World → Result Report Stop
+outcome_of_parsed (Ok ask) world = outcome_of ask world
+outcome_of_parsed (Err fault) world = Err (command_stop fault)
 
 unfoldable pub outcome : World → Result Report Stop
-outcome world = outcome_said world.said world
+outcome world = outcome_of_parsed world.parsed world
 
 -- What an outcome writes, and its status
 
 abbrev pub out_text : Result Report Stop → List ℕ
 out_text (Ok report) = report.out
-out_text (Err said) = said.out
+out_text (Err stop) = stop.out
 
 abbrev pub err_text : Result Report Stop → List ℕ
 err_text (Ok report) = report.err
-err_text (Err said) = said.err
+err_text (Err stop) = stop.err
 
 abbrev pub outcome_status : Result Report Stop → ℕ
 outcome_status (Ok report) = exit_status report.status
-outcome_status (Err said) = said.status
+outcome_status (Err stop) = stop.status
 
 -- The status if standard error failed: 1 for a report, while a stop keeps its own status.
 abbrev pub cut_status : Result Report Stop → ℕ
 cut_status (Ok report) = 1
-cut_status (Err said) = said.status
+cut_status (Err stop) = stop.status
 
 -- the status, depending on which output or allocation failed, if any did
 abbrev pub ended_status : {T : Type 0} → Result T RunFault → Result Report Stop → ℕ

@@ -30,15 +30,15 @@ with_line line status = record { out = []; err = line; status = status }
 
 -- an error line that begins with the program's name
 unfoldable pub own_line : List ℕ → List ℕ
-own_line words = joined (codes "calendar-analyze: " ∷ words ∷ codes "\n" ∷ [])
+own_line message = joined (codes "calendar-analyze: " ∷ message ∷ codes "\n" ∷ [])
 
 -- the error line for a zone file
 unfoldable pub zones_line : List ℕ → List ℕ → List ℕ
-zones_line name words = joined (codes "calendar-analyze: --zones: " ∷ name ∷ codes ": " ∷ words ∷ codes "\n" ∷ [])
+zones_line name message = joined (codes "calendar-analyze: --zones: " ∷ name ∷ codes ": " ∷ message ∷ codes "\n" ∷ [])
 
 -- the error line for a timer file that can't be opened
-unfoldable pub unread_line : List ℕ → List ℕ
-unread_line path = joined (path ∷ codes ": cannot be read\n" ∷ [])
+unfoldable pub unopened_line : List ℕ → List ℕ
+unopened_line path = joined (path ∷ codes ": cannot be read\n" ∷ [])
 
 -- Out of memory. The report is the same whatever the memory was for.
 abbrev pub memory_stop : Stop
@@ -74,8 +74,8 @@ abbrev pub clock_stop : Stop
 clock_stop = with_line (own_line (codes "clock out of range")) 2
 
 -- the timer file can't be opened
-abbrev pub unread_stop : List ℕ → Stop
-unread_stop path = with_line (unread_line path) 1
+abbrev pub unopened_stop : List ℕ → Stop
+unopened_stop path = with_line (unopened_line path) 1
 
 -- A run ended early. If standard error itself failed, nothing more is reported.
 abbrev pub fault_stop : RunFault → Stop
@@ -90,7 +90,7 @@ shown_stop (Zones name fault) = load_stop (string_bytes name) fault
 shown_stop LocalRule = rule_stop
 shown_stop LocalName = name_stop
 shown_stop Clock = clock_stop
-shown_stop (Open path) = unread_stop (string_bytes path)
+shown_stop (Open path) = unopened_stop (string_bytes path)
 shown_stop (Run fault) = fault_stop fault
 
 -- the text that is written for a stop, whichever output it goes to
@@ -98,9 +98,9 @@ abbrev pub command_text : declared_fault.CommandFault → List ℕ
 command_text (command.Help text) = string_bytes text
 command_text fault = (command_stop (shown_fault fault)).err
 
-abbrev pub text_of : declared_stop.Stop → List ℕ
-text_of (Command fault) = command_text fault
-text_of stop = (shown_stop stop).err
+abbrev pub stop_text : declared_stop.Stop → List ℕ
+stop_text (Command fault) = command_text fault
+stop_text stop = (shown_stop stop).err
 
 -- Where each stop is reported: help on standard output, other stops on standard error. A failed output and running out
 -- of memory are reported only after the output is flushed.

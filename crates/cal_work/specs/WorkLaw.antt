@@ -4,7 +4,7 @@ use Rattle.std.specs.Prelude.{◌≡◌, ◌⊎◌, ℕ, ℤ, Bool, true, false,
 use Rattle.cal_zone.specs.ZoneFile.{file_limit}
 use Rattle.cal_streams.specs.declared.whole.WholeFault.{WholeFault}
 use Rattle.cal_streams.specs.declared.whole.WholeFault.TheVariants.{TooLarge}
-use Rattle.cal_read.specs.TimerText.{most_file_bytes}
+use Rattle.cal_read.specs.TimerText.{timer_file_limit}
 use Rattle.cal_command.specs.Ask.{Ask, CommandFault, ZoneItem}
 use Rattle.cal_work.specs.Outcome.{World, ZoneFound, outcome}
 use Rattle.cal_report.specs.headline.Report.{Report}
@@ -42,17 +42,17 @@ known_zones known (item ∷ items) (f ∷ found) =
 -- of another world.
 unfoldable pub known_world : Known → Ask → World → World
 known_world known ask world = record {
-  said = Ok ask;
+  parsed = Ok ask;
   zones = known_zones known ask.zones world.zones;
   local = world.local;
   clock = known_time known.time;
-  file = known_seen most_file_bytes (known.file (slice_index_or ask.texts 0 []));
+  file = known_seen timer_file_limit (known.file (slice_index_or ask.texts 0 []));
 }
 
 abbrev pub known_outcome : Known → Result Ask CommandFault → World → Result Report Stop
 known_outcome known (Ok ask) world = outcome (known_world known ask world)
-known_outcome known (Err said) world = Err (command_stop said)
+known_outcome known (Err fault) world = Err (command_stop fault)
 
 -- the known outcome, or running out of memory
 abbrev pub IsOr : {T : Type 0} → Result T Stop → Result T Stop → Type 0
-IsOr come known = (come ≡ known) ⊎ (come ≡ Err memory_stop)
+IsOr expected known = (expected ≡ known) ⊎ (expected ≡ Err memory_stop)

@@ -12,7 +12,7 @@ use Rattle.cal_command.specs.Ask.{Ask, LocalZone, in_utc, ahead, by_rule, of_nam
 use Rattle.cal_work.specs.Outcome.{World, ZoneFound, loaded, table_by, local_by, clock_by, present_by, outcome, outcome_of, run_by, out_text, err_text, outcome_status, ended_status}
 use Rattle.cal_report.specs.headline.Report.{Report}
 use Rattle.cal_request.specs.headline.Request.{Request}
-use Rattle.cal_work.specs.Stop.{Stop, exit_status, is_for_memory, is_out_stop, is_err_stop, outlet_of, shown_stop, text_of}
+use Rattle.cal_work.specs.Stop.{Stop, exit_status, is_for_memory, is_out_stop, is_err_stop, outlet_of, shown_stop, stop_text}
 use Rattle.cal_work.specs.System.{Known, Seen, GivesTime}
 use Rattle.cal_work.specs.Works.{Fits, FitsArguments, IsLocal, SeesFile, SeesZone, SeesZones}
 use Rattle.cal_work.specs.declared.zone_files.LoadFault.{LoadFault}
@@ -34,23 +34,23 @@ is_err_cut (Ok x) = false
 is_err_cut (Err stop) = is_err_stop stop
 
 -- A stop before any run is the one that the definitions have, unless it stands for running out of memory.
-pub record StopsAs {X : Type 0} (stop : declared_stop.Stop) (come : Result X Stop) : Type 0 where
+pub record StopsAs {X : Type 0} (stop : declared_stop.Stop) (expected : Result X Stop) : Type 0 where
   pub before_out : is_out_stop stop ≡ false
   pub before_err : is_err_stop stop ≡ false
-  pub stopped : IsErr come
-  pub said : is_for_memory stop ≡ false → come ≡ Err (shown_stop stop)
+  pub stopped : IsErr expected
+  pub same : is_for_memory stop ≡ false → expected ≡ Err (shown_stop stop)
 
 -- the result of a step is the one that the definitions have; `view` maps the code's value to theirs
 abbrev pub Answers : {A B : Type 0} → (A → B) → Result A declared_stop.Stop → Result B Stop → Type 0
-Answers view (Ok value) come = come ≡ Ok (view value)
-Answers view (Err stop) come = StopsAs stop come
+Answers view (Ok value) expected = expected ≡ Ok (view value)
+Answers view (Err stop) expected = StopsAs stop expected
 
 -- The steps
 
 -- one zone file
 abbrev pub LoadsAs : Result Unit LoadFault → ZoneMap → Result ZoneMap LoadFault → Type 0
-LoadsAs (Ok done) table come = come ≡ Ok table
-LoadsAs (Err fault) table come = come ≡ Err fault
+LoadsAs (Ok done) table expected = expected ≡ Ok table
+LoadsAs (Err fault) table expected = expected ≡ Err fault
 
 pub record Loads (known : Known) (before after : ZoneMap) (item : ZoneItem) (result : Result Unit LoadFault) : Type 0 where
   pub found : ZoneFound
@@ -72,17 +72,17 @@ HasRules (by_rule rule) (Some zone) = IsSome (rule_read rule) × IsPosixZone rul
 HasRules (of_name name) rules = Unit {0}
 
 -- the local zone is given as a POSIX rule that `jiff` can't parse
-abbrev pub IsUnread : LocalZone → Type 0
-IsUnread in_utc = ⊥
-IsUnread (ahead seconds) = ⊥
-IsUnread (by_rule rule) = IsSome (rule_read rule) → ⊥
-IsUnread (of_name name) = ⊥
+abbrev pub IsBadRule : LocalZone → Type 0
+IsBadRule in_utc = ⊥
+IsBadRule (ahead seconds) = ⊥
+IsBadRule (by_rule rule) = IsSome (rule_read rule) → ⊥
+IsBadRule (of_name name) = ⊥
 
 -- the local zone
-pub record FindsLocal {T : Type 0} (view : T → ClockZone) (said : LocalZone) (table : ZoneMap) (result : Result T declared_stop.Stop) : Type 0 where
+pub record FindsLocal {T : Type 0} (view : T → ClockZone) (local : LocalZone) (table : ZoneMap) (result : Result T declared_stop.Stop) : Type 0 where
   pub zone : ClockZone
-  pub is_local : IfOk (local_by said table zone) (IsLocal said table)
-  pub answers : Answers view result (local_by said table zone)
+  pub is_local : IfOk (local_by local table zone) (IsLocal local table)
+  pub answers : Answers view result (local_by local table zone)
 
 -- the clock
 pub record Reads {T : Type 0} (view : T → ℤ) (known : Known) (result : Result T declared_stop.Stop) : Type 0 where
@@ -105,14 +105,14 @@ ran (Err fault) = Err (Run fault)
 
 -- a run that ended early, or a stop before any run
 abbrev pub StopEnds : declared_stop.Stop → Result Report Stop → Option (List ℕ) → Option (List ℕ) → Option (List ℕ) → Option (List ℕ) → Type 0
-StopEnds (Run fault) come out out' err err' =
-    (ended_status {T = Unit} (Err fault) come ≡ 1) × AppendsFront out out' (out_text come) × AppendsFront err err' (err_text come)
-StopEnds stop come out out' err err' = StopsAs stop come × (out' ≡ out) × (err' ≡ err)
+StopEnds (Run fault) expected out out' err err' =
+    (ended_status {T = Unit} (Err fault) expected ≡ 1) × AppendsFront out out' (out_text expected) × AppendsFront err err' (err_text expected)
+StopEnds stop expected out out' err err' = StopsAs stop expected × (out' ≡ out) × (err' ≡ err)
 
 abbrev pub EndsAs : Result Status declared_stop.Stop → Result Report Stop → Option (List ℕ) → Option (List ℕ) → Option (List ℕ) → Option (List ℕ) → Type 0
-EndsAs (Ok status) come out out' err err' =
-    (outcome_status come ≡ exit_status status) × Appends out out' (out_text come) × Appends err err' (err_text come)
-EndsAs (Err stop) come out out' err err' = StopEnds stop come out out' err err'
+EndsAs (Ok status) expected out out' err err' =
+    (outcome_status expected ≡ exit_status status) × Appends out out' (out_text expected) × Appends err err' (err_text expected)
+EndsAs (Err stop) expected out out' err err' = StopEnds stop expected out out' err err'
 
 -- the run of a request, with what was seen of the timer file
 pub record Runs (known : Known) (asked : Request) (result : Result Status declared_stop.Stop) (out out' err err' : Option (List ℕ)) : Type 0 where
@@ -139,10 +139,10 @@ status_by (Err OutFailed) status = 1
 status_by (Err ErrFailed) status = status
 status_by (Err NoMemory) status = 1
 
-pub record WritesOf {T : Type 0} (written : Result T RunFault) (status : ℕ) (come : Result Report Stop) (out out' err err' : Option (List ℕ)) : Type 0 where
-  pub by_status : ended_status written come ≡ status_by written status
-  pub out_bytes : Writes out out' written (out_text come)
-  pub err_bytes : Writes err err' written (err_text come)
+pub record WritesOf {T : Type 0} (written : Result T RunFault) (status : ℕ) (expected : Result Report Stop) (out out' err err' : Option (List ℕ)) : Type 0 where
+  pub by_status : ended_status written expected ≡ status_by written status
+  pub out_bytes : Writes out out' written (out_text expected)
+  pub err_bytes : Writes err err' written (err_text expected)
 
 -- a flush can fail, which matters only if nothing failed before
 abbrev pub IsFlushed : {T : Type 0} → Result T RunFault → Result T RunFault → Type 0
@@ -157,4 +157,4 @@ TellsOn OnErr text result out out' err err' = Writes err err' result text × (ou
 TellsOn (Later fault) text result out out' err err' = (result ≡ Err fault) × (out' ≡ out) × (err' ≡ err)
 
 abbrev pub TellsStop : declared_stop.Stop → Result Unit RunFault → Option (List ℕ) → Option (List ℕ) → Option (List ℕ) → Option (List ℕ) → Type 0
-TellsStop stop result out out' err err' = TellsOn (outlet_of stop) (text_of stop) result out out' err err'
+TellsStop stop result out out' err err' = TellsOn (outlet_of stop) (stop_text stop) result out out' err err'

@@ -10,4 +10,4 @@ bare_system = record { file = λ path. Some None; may_fail = λ path. false; tim
 
 -- the world that the program finds in this system
 abbrev pub daily_world : World
-daily_world = record { said = Ok daily_ask; zones = []; local = utc; clock = Some (pos 0); file = None }
+daily_world = record { parsed = Ok daily_ask; zones = []; local = utc; clock = Some (pos 0); file = None }

@@ -14,7 +14,7 @@ use Rattle.cal_civil.specs.headline.ZoneName.{is_utc_name, is_zone_name}
 use Rattle.cal_zone.specs.headline.ZoneTable.{zone_named}
 use Rattle.cal_zone.specs.declared.zone.Zone.{Zone as ClockZone}
 use Rattle.cal_zone.specs.declared.zone_fault.ZoneFault.TheVariants.{BadFile}
-use Rattle.cal_read.specs.TimerText.{most_file_bytes}
+use Rattle.cal_read.specs.TimerText.{timer_file_limit}
 use Rattle.cal_command.specs.Ask.{Ask, LocalZone, in_utc, ahead, by_rule, of_name, ZoneItem}
 use Rattle.cal_command.specs.CommandLine.{IsAskOf}
 use Rattle.cal_work.specs.Outcome.{World, ZoneFound, loaded, table_by, local_by, present_by, asked_at, outcome, out_text, err_text, ended_status}
@@ -59,7 +59,7 @@ IsLocal (of_name name) table zone = (is_utc zone ≡ is_utc_name name) × (zone_
 
 -- what is seen of the timer file
 abbrev pub SeesIf : Bool → Known → List ℕ → Seen → Type 0
-SeesIf true known path seen = Sees known most_file_bytes path seen
+SeesIf true known path seen = Sees known timer_file_limit path seen
 SeesIf false known path seen = Unit {0}
 
 abbrev pub SeesFile : Known → Request → Seen → Type 0
@@ -77,8 +77,8 @@ pub record Fits (known : Known) (ask : Ask) (world : World) : Type 0 where
 
 -- the arguments parse as the world says, and the rest of the world fits what they ask for
 pub record FitsArguments (known : Known) (arguments : List (List ℕ)) (world : World) : Type 0 where
-  pub said : IsAskOf arguments world.said
-  pub fits : IfOk world.said (λ ask. Fits known ask world)
+  pub parsed : IsAskOf arguments world.parsed
+  pub fits : IfOk world.parsed (λ ask. Fits known ask world)
 
 -- What is written
 

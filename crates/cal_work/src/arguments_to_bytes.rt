@@ -12,9 +12,9 @@ ghost use Rattle.cal_report.specs.headline.Report.{Report};
 ghost use Rattle.cal_request.specs.RequestView.{asked};
 ghost use Rattle.cal_request.specs.RunFault.{is_out_failed, is_err_failed};
 ghost use Rattle.cal_work.specs.Stop as stops;
-ghost use Rattle.cal_work.specs.Stop.{is_out_stop, is_err_stop, load_stop, rule_stop, unread_stop};
+ghost use Rattle.cal_work.specs.Stop.{is_out_stop, is_err_stop, load_stop, rule_stop, unopened_stop};
 ghost use Rattle.cal_work.specs.System.{Opens};
-ghost use Rattle.cal_work.specs.WorkSteps.{is_out_cut, is_err_cut, ran, status_by, Answered, AnsweredArguments, EndsAs, FindsLocal, HasRules, IsFlushed, IsUnread, Loads, Presents, Reads, ReadsZones, Runs, StopsAs, TellsStop, WritesOf};
+ghost use Rattle.cal_work.specs.WorkSteps.{is_out_cut, is_err_cut, ran, status_by, Answered, AnsweredArguments, EndsAs, FindsLocal, HasRules, IsFlushed, IsBadRule, Loads, Presents, Reads, ReadsZones, Runs, StopsAs, TellsStop, WritesOf};
 ghost use Rattle.cal_work.specs.Works.{Reaches, TellsFault, Works};
 
 use crate::stop::{Outlet, Stop, exit_status, write_stop};
@@ -185,7 +185,7 @@ fn zone_stop(alloc: Global, name: &str, fault: LoadFault) -> Stop
 /// Parses the local zone if it is given as a POSIX rule. Returns `None` if it is given in another way.
 fn read_rules(alloc: Global, local: &LocalZone) -> Result<Option<Rules>, Stop>
     ensures rules { IfOk result (HasRules (shown_local local.now)) }
-    ensures refused { IfErr result (λ stop. StopsAs {X = Unit} stop (Err rule_stop) × IsUnread (shown_local local.now)) }
+    ensures refused { IfErr result (λ stop. StopsAs {X = Unit} stop (Err rule_stop) × IsBadRule (shown_local local.now)) }
 {
     let LocalZone::Posix(rule) = local else {
         return Ok(None);
@@ -226,12 +226,12 @@ fn find_present<S: System>(system: &S, given: Option<Instant>) -> Result<Instant
 {
     match given {
         Some(now) => Ok(now),
-        None => read_clock(system),
+        None => read_system_clock(system),
     }
 }
 
 /// Reads the clock. Fails with `Stop::Clock` if it has no time or one outside the supported range.
-fn read_clock<S: System>(system: &S) -> Result<Instant, Stop>
+fn read_system_clock<S: System>(system: &S) -> Result<Instant, Stop>
     ensures { Reads (λ now. now.secs) (S.tells system.now) result }
 {
     let Some(secs) = system.clock() else {
@@ -296,7 +296,7 @@ fn open_file<S: System>(alloc: Global, system: &S, path: &str) -> Result<S::File
     ensures opened { IfOk result (λ file. Opens ((S.tells system.now).file path.now) (Some (S.File.remaining file))) }
     ensures sure { IfOk result (λ file. S.File.may_fail file ≡ (S.tells system.now).may_fail path.now) }
     ensures works { IfOk result (λ file. S.File.is_failed file ≡ false) }
-    ensures refused { IfErr result (λ stop. StopsAs {X = Unit} stop (Err (unread_stop path.now))
+    ensures refused { IfErr result (λ stop. StopsAs {X = Unit} stop (Err (unopened_stop path.now))
         × Opens ((S.tells system.now).file path.now) None) }
 {
     match system.open(path) {
@@ -315,9 +315,9 @@ fn open_file<S: System>(alloc: Global, system: &S, path: &str) -> Result<S::File
 fn tell<O: Sink, E: Sink>(answered: &Result<Status, Stop>, out: &mut O, err: &mut E) -> Ended
     requires out { O.is_failed out.old ≡ is_out_cut answered.now }
     requires err { E.is_failed err.old ≡ is_err_cut answered.now }
-    ensures reported { (come : Result Report stops.Stop) (before_out before_err : Option (List ℕ))
-        → EndsAs answered.now come before_out (O.written out.old) before_err (E.written err.old)
-        → WritesOf result.written result.status come before_out (O.written out.new) before_err (E.written err.new) }
+    ensures reported { (expected : Result Report stops.Stop) (before_out before_err : Option (List ℕ))
+        → EndsAs answered.now expected before_out (O.written out.old) before_err (E.written err.old)
+        → WritesOf result.written result.status expected before_out (O.written out.new) before_err (E.written err.new) }
     ensures out_failed { O.is_failed out.new ≡ is_out_failed result.written }
     ensures err_failed { E.is_failed err.new ≡ is_err_failed result.written }
 {

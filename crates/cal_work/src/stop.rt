@@ -3,7 +3,7 @@
 ghost use Rattle.std.specs.Prelude.{◌≡◌, [], false};
 ghost use Rattle.cal_bytes.specs.Puts.{Puts};
 ghost use Rattle.cal_command.specs.Ask.{shown_fault};
-ghost use Rattle.cal_work.specs.Stop.{command_outlet, command_stop, command_text, exit_status, fault_stop, load_outlet, load_stop, outlet_of, own_line, shown_stop, text_of, unread_line, zones_line};
+ghost use Rattle.cal_work.specs.Stop.{command_outlet, command_stop, command_text, exit_status, fault_stop, load_outlet, load_stop, outlet_of, own_line, shown_stop, stop_text, unopened_line, zones_line};
 
 use crate::zone_files::LoadFault;
 use cal_bytes::{Sink, WriteFault, put_all, put_pieces};
@@ -132,7 +132,7 @@ fn fault_status(fault: RunFault) -> u8
 /// Writes the report of a stop: its error line or the text of help. Writes nothing if standard error is what failed.
 pub fn write_stop<W: Sink>(out: &mut W, stop: &Stop) -> Result<(), WriteFault>
     requires { W.is_failed out.old ≡ false }
-    ensures { Puts W.Sink out.old out.new result (text_of stop.now) }
+    ensures { Puts W.Sink out.old out.new result (stop_text stop.now) }
 {
     match stop {
         Stop::Command(fault) => write_command(out, fault),
@@ -140,7 +140,7 @@ pub fn write_stop<W: Sink>(out: &mut W, stop: &Stop) -> Result<(), WriteFault>
         Stop::LocalRule => write_own(out, "--local: bad rule"),
         Stop::LocalName => write_own(out, "--local: no such zone"),
         Stop::Clock => write_own(out, "clock out of range"),
-        Stop::Open(path) => write_unread(out, path.as_str()),
+        Stop::Open(path) => write_unopened(out, path.as_str()),
         Stop::Run(RunFault::OutFailed) => write_own(out, "output failed"),
         Stop::Run(RunFault::ErrFailed) => Ok(()),
         Stop::Run(RunFault::NoMemory) => write_own(out, "out of memory"),
@@ -174,9 +174,9 @@ fn write_load<W: Sink>(out: &mut W, name: &str, fault: LoadFault) -> Result<(), 
 }
 
 /// Writes an error line about a zone file, with its name and the message.
-fn write_zones<W: Sink>(out: &mut W, name: &str, words: &str) -> Result<(), WriteFault>
+fn write_zones<W: Sink>(out: &mut W, name: &str, message: &str) -> Result<(), WriteFault>
     requires { W.is_failed out.old ≡ false }
-    ensures { Puts W.Sink out.old out.new result (zones_line name.now words.now) }
+    ensures { Puts W.Sink out.old out.new result (zones_line name.now message.now) }
 {
     put_pieces(
         out,
@@ -184,27 +184,27 @@ fn write_zones<W: Sink>(out: &mut W, name: &str, words: &str) -> Result<(), Writ
             b"calendar-analyze: --zones: ",
             name.as_bytes(),
             b": ",
-            words.as_bytes(),
+            message.as_bytes(),
             b"\n",
         ],
     )
 }
 
 /// Writes the error line for a timer file that can't be opened.
-fn write_unread<W: Sink>(out: &mut W, path: &str) -> Result<(), WriteFault>
+fn write_unopened<W: Sink>(out: &mut W, path: &str) -> Result<(), WriteFault>
     requires { W.is_failed out.old ≡ false }
-    ensures { Puts W.Sink out.old out.new result (unread_line path.now) }
+    ensures { Puts W.Sink out.old out.new result (unopened_line path.now) }
 {
     put_pieces(out, &[path.as_bytes(), b": cannot be read\n"])
 }
 
 /// Writes an error line that begins with the program's name.
 #[tactic(auto, unfolding(crate::specs::Stop::own_line))]
-fn write_own<W: Sink>(out: &mut W, words: &str) -> Result<(), WriteFault>
+fn write_own<W: Sink>(out: &mut W, message: &str) -> Result<(), WriteFault>
     requires { W.is_failed out.old ≡ false }
-    ensures { Puts W.Sink out.old out.new result (own_line words.now) }
+    ensures { Puts W.Sink out.old out.new result (own_line message.now) }
 {
-    put_pieces(out, &[b"calendar-analyze: ", words.as_bytes(), b"\n"])
+    put_pieces(out, &[b"calendar-analyze: ", message.as_bytes(), b"\n"])
 }
 
 /// Returns the exit status of a run that could write everything: 0, or 1 if any input was rejected.

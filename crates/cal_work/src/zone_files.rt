@@ -2,7 +2,7 @@
 
 ghost use Rattle.std.specs.Prelude.{◌≡◌, true, false, MatchResult, OnErr};
 ghost use Rattle.cal_civil.specs.headline.ZoneName.{is_zone_name};
-ghost use Rattle.cal_work.specs.LoadZone.{is_load_unread, IsLoaded, IsLoadFault};
+ghost use Rattle.cal_work.specs.LoadZone.{is_load_read_failed, IsLoaded, IsLoadFault};
 
 use cal_bytes::Source;
 use cal_civil::is_zone_name;
@@ -55,7 +55,7 @@ pub fn load_zone<R: Source>(
     from: &mut R,
 ) -> Result<(), LoadFault>
     requires { R.is_failed from.old ≡ false }
-    ensures failed { R.is_failed from.new ≡ is_load_unread result }
+    ensures failed { R.is_failed from.new ≡ is_load_read_failed result }
     ensures loaded { MatchResult result
         (λ _. IsLoaded (R.remaining from.old) (R.remaining from.new) table.old table.new name.now)
         (IsLoadFault (R.remaining from.old) (R.remaining from.new) table.old name.now) }
@@ -78,7 +78,7 @@ pub(crate) fn load_named<R: Source>(
 ) -> Result<(), LoadFault>
     requires named { is_zone_name name.now ≡ true }
     requires works { R.is_failed from.old ≡ false }
-    ensures failed { R.is_failed from.new ≡ is_load_unread result }
+    ensures failed { R.is_failed from.new ≡ is_load_read_failed result }
     ensures loaded { MatchResult result
         (λ _. IsLoaded (R.remaining from.old) (R.remaining from.new) table.old table.new name.now)
         (IsLoadFault (R.remaining from.old) (R.remaining from.new) table.old name.now) }

@@ -14,10 +14,10 @@ use std::test::Fail;
 /// The range of instants in which elapses are compared, after `base` and up to `limit`, and the largest UTC offset of
 /// the zone in seconds.
 #[derive(Clone, Copy)]
-struct Stretch {
+struct TestedRange {
     base: i64,
     limit: i64,
-    farthest: i64,
+    max_offset: i64,
 }
 
 /// Appends the instants in the range that have a matching local second. Every local second that could have an instant
@@ -27,17 +27,17 @@ fn push_places(
     instants: &mut Vec<i64>,
     expr: &Expr,
     zone: Zone<'_>,
-    stretch: Stretch,
+    range: TestedRange,
 ) -> Result<(), AllocError> {
-    let first = stretch.base.saturating_sub(stretch.farthest).max(0);
-    let last = stretch.limit.saturating_add(stretch.farthest);
+    let first = range.base.saturating_sub(range.max_offset).max(0);
+    let last = range.limit.saturating_add(range.max_offset);
     for local in first..=last.min(7_258_118_399) {
         assert!(rt; local >= 0 && local <= 7_258_118_399);
         if !has_local(expr, local) {
             continue;
         }
         match place(zone, local) {
-            Some(instant) if instant > stretch.base && instant <= stretch.limit => {
+            Some(instant) if instant > range.base && instant <= range.limit => {
                 instants.push(instant)?;
             }
             _ => {}
@@ -52,10 +52,10 @@ fn push_places_of(
     instants: &mut Vec<i64>,
     text: &str,
     zone: Zone<'_>,
-    stretch: Stretch,
+    range: TestedRange,
 ) -> Result<(), Fail> {
     let expr = expr(rt.alloc(), text)?;
-    Ok(push_places(rt, instants, &expr, zone, stretch)?)
+    Ok(push_places(rt, instants, &expr, zone, range)?)
 }
 
 /// Returns the instants in the range at which any of the expressions elapses: sorted, and each instant once.
@@ -63,11 +63,11 @@ fn by_filter(
     rt: &(impl Abort + AllocGlobal),
     texts: &[&str],
     zone: Zone<'_>,
-    stretch: Stretch,
+    range: TestedRange,
 ) -> Result<Vec<i64>, Fail> {
     let mut instants = Vec::new(rt.alloc());
     for text in texts {
-        push_places_of(rt, &mut instants, text, zone, stretch)?;
+        push_places_of(rt, &mut instants, text, zone, range)?;
     }
     instants.sort_unstable();
     instants.dedup();
@@ -81,19 +81,19 @@ fn expect_all<S: Rising>(rt: &impl Abort, source: &mut S, instants: &[i64], limi
 }
 
 /// Three days around the clock changes of `FORWARD_AND_BACK`, which goes forward an hour and back ten minutes later.
-const FORWARD_AND_SOON_BACK: Stretch = Stretch {
+const FORWARD_AND_SOON_BACK: TestedRange = TestedRange {
     base: 1_711_756_800,
     limit: 1_712_016_000,
-    farthest: 93_599,
+    max_offset: 93_599,
 };
 
 /// Expects the merged elapses of the expressions to be those that the filter finds.
 fn agree(rt: &(impl Abort + AllocGlobal), texts: &[&str]) -> Result<(), Fail> {
     let rules = posix(rt.alloc(), FORWARD_AND_BACK)?;
-    let (zone, stretch) = (Zone::rules(&rules), FORWARD_AND_SOON_BACK);
-    let instants = by_filter(rt, texts, zone, stretch)?;
-    let mut merge = merge_elapses(rt.alloc(), texts, zone, stretch.base)?;
-    expect_all(rt, &mut merge, &instants, stretch.limit);
+    let (zone, range) = (Zone::rules(&rules), FORWARD_AND_SOON_BACK);
+    let instants = by_filter(rt, texts, zone, range)?;
+    let mut merge = merge_elapses(rt.alloc(), texts, zone, range.base)?;
+    expect_all(rt, &mut merge, &instants, range.limit);
     Ok(())
 }
 

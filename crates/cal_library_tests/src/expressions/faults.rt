@@ -36,11 +36,11 @@ static FAULTS: [(SpecFault, u8, &str); 15] = [
 
 #[test]
 fn numbers_and_shown_words(rt: HostRuntime) -> Result<(), Fail> {
-    for (fault, number, words) in &FAULTS {
+    for (fault, number, message) in &FAULTS {
         let shown = format!(in rt.alloc(); "{fault}")?;
         assert!(rt;
-            *fault as u8 == *number && shown.as_str() == *words,
-            "{words}"
+            *fault as u8 == *number && shown.as_str() == *message,
+            "{message}"
         );
     }
     Ok(())

@@ -7,7 +7,7 @@ use cal_read::StampFault::*;
 use std::test::Fail;
 
 /// The days next to the present one, in UTC and at +14:00, where the next day has already begun.
-static NEAR_DAYS: [Setting; 2] = [
+static RELATIVE_DAYS: [Setting; 2] = [
     Setting {
         now: PRESENT,
         east: 0,
@@ -118,8 +118,8 @@ today -> 7258125599000000|yesterday -> 7258039199000000|23:59:59.999999 -> 72582
 ];
 
 #[test]
-fn near_days(rt: HostRuntime) -> Result<(), Fail> {
-    expect_settings(&rt, rt.alloc(), &NEAR_DAYS)
+fn relative_days(rt: HostRuntime) -> Result<(), Fail> {
+    expect_settings(&rt, rt.alloc(), &RELATIVE_DAYS)
 }
 
 #[test]

@@ -41,8 +41,8 @@ unfoldable pub excepted : List Assignment → List Assignment
 excepted assignments = filter is_exception (after_last is_exception_reset assignments)
 
 -- the maximum number of expressions in a list
-abbrev pub most_expressions : ℕ
-most_expressions = 256
+abbrev pub max_expressions : ℕ
+max_expressions = 256
 
 -- the bytes of the byte order mark, U+FEFF
 abbrev pub byte_order_mark : List ℕ

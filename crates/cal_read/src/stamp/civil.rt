@@ -5,15 +5,15 @@ ghost use Rattle.std.specs.List.{list_any};
 ghost use Rattle.jiff.specs.Words.{IsBetween};
 ghost use Rattle.cal_text.specs.headline.Separators.{is_colon};
 ghost use Rattle.cal_text.specs.headline.Words.{words};
-ghost use Rattle.cal_read.specs.Stamp.{begins_with_digit, after_date, after_weekday, civil_time, fits_weekday, moment_of_written, written_in};
-ghost use Rattle.cal_read.specs.StampViews.{micros_or_fault, setting_seen, written_seen, written_or_fault};
+ghost use Rattle.cal_read.specs.Stamp.{begins_with_digit, after_date, after_weekday, civil_time, fits_weekday, moment_of_civil_stamp, civil_stamp_in};
+ghost use Rattle.cal_read.specs.StampViews.{micros_or_fault, setting_seen, civil_stamp_seen, civil_stamp_or_fault};
 
 use crate::StampFault;
 use crate::stamp::date::read_date;
 use crate::stamp::moment::{settle_on, today};
 use crate::stamp::setting::Setting;
 use crate::stamp::time::read_time;
-use crate::stamp::written::Written;
+use crate::stamp::civil_stamp::CivilStamp;
 use crate::stamp::zone::read_zone;
 use cal_civil::begins_with_letter;
 use cal_spec::find_day;
@@ -24,8 +24,8 @@ use jiff_core::civil::Date;
 
 /// Parses a civil time, `[weekday] [date] [time] [zone]` with at least a date or a time (systemd.time(7), Parsing
 /// Timestamps). The words are checked from the left, and the first error is returned.
-pub(crate) fn read_civil<'t>(text: &str, at: &Setting<'t>) -> Result<Written<'t>, StampFault>
-    ensures { written_or_fault result ≡ civil_time (setting_seen at.now) (words text.now) }
+pub(crate) fn read_civil<'t>(text: &str, at: &Setting<'t>) -> Result<CivilStamp<'t>, StampFault>
+    ensures { civil_stamp_or_fault result ≡ civil_time (setting_seen at.now) (words text.now) }
 {
     match first_word(text) {
         Some((word, after)) if begins_with_letter(word.as_bytes()) => {
@@ -41,14 +41,14 @@ fn after_weekday<'t>(
     weekday: Option<Weekday>,
     text: &str,
     at: &Setting<'t>,
-) -> Result<Written<'t>, StampFault>
-    ensures { written_or_fault result ≡ after_weekday (setting_seen at.now) weekday (words text.now) }
+) -> Result<CivilStamp<'t>, StampFault>
+    ensures { civil_stamp_or_fault result ≡ after_weekday (setting_seen at.now) weekday (words text.now) }
 {
     let (word, after) = first_word(text).ok_or(StampFault::BadDate)?;
     if has_colon(word.as_bytes()) {
         let micros = read_time(word.as_bytes())?;
         let zone = read_zone(after, at)?;
-        return Ok(Written {
+        return Ok(CivilStamp {
             weekday,
             day: None,
             micros,
@@ -65,15 +65,15 @@ fn after_date<'t>(
     day: i64,
     text: &str,
     at: &Setting<'t>,
-) -> Result<Written<'t>, StampFault>
+) -> Result<CivilStamp<'t>, StampFault>
     requires { IsBetween (pos 0) (pos 84_005) day }
-    ensures { written_or_fault result ≡ after_date (setting_seen at.now) weekday day (words text.now) }
+    ensures { civil_stamp_or_fault result ≡ after_date (setting_seen at.now) weekday day (words text.now) }
 {
     match first_word(text) {
         Some((word, after)) if begins_with_digit(word.as_bytes()) => {
             let micros = read_time(word.as_bytes())?;
             let zone = read_zone(after, at)?;
-            Ok(Written {
+            Ok(CivilStamp {
                 weekday,
                 day: Some(day),
                 micros,
@@ -82,7 +82,7 @@ fn after_date<'t>(
         }
         _ => {
             let zone = read_zone(text, at)?;
-            Ok(Written {
+            Ok(CivilStamp {
                 weekday,
                 day: Some(day),
                 micros: 0,
@@ -110,18 +110,18 @@ fn begins_with_digit(word: &[u8]) -> bool
 /// Converts a civil time to a moment. If it has no date, it is on the present day in its zone. Fails with
 /// `WrongWeekday` if the day isn't the weekday that was named, and otherwise with `OutOfRange` if the moment is not
 /// supported.
-#[tactic(auto, unfolding(crate::specs::Stamp::moment_of_written))]
-pub(crate) fn moment_of_written(now: Instant, written: Written) -> Result<Moment, StampFault>
-    ensures { micros_or_fault result ≡ moment_of_written now.secs (written_seen written.entry) }
+#[tactic(auto, unfolding(crate::specs::Stamp::moment_of_civil_stamp))]
+pub(crate) fn moment_of_civil_stamp(now: Instant, stamp: CivilStamp) -> Result<Moment, StampFault>
+    ensures { micros_or_fault result ≡ moment_of_civil_stamp now.secs (civil_stamp_seen stamp.entry) }
 {
-    let day = match written.day {
+    let day = match stamp.day {
         Some(day) => day,
-        None => today(now, written.zone),
+        None => today(now, stamp.zone),
     };
-    if !fits_weekday(written.weekday, day) {
+    if !fits_weekday(stamp.weekday, day) {
         return Err(StampFault::WrongWeekday);
     }
-    settle_on(written.zone, day, written.micros)
+    settle_on(stamp.zone, day, stamp.micros)
 }
 
 /// Returns whether the day is `weekday`, or `true` if there is none.

@@ -10,7 +10,7 @@ use cal_text::{first_word, trim_blanks};
 
 /// Yesterday, today or tomorrow.
 #[derive(Clone, Copy)]
-pub(crate) enum NearDay {
+pub(crate) enum RelativeDay {
     Yesterday,
     Today,
     Tomorrow,
@@ -30,7 +30,7 @@ pub(crate) enum Form<'a> {
     /// 1970-01-01 00:00:00 UTC plus a time span.
     Counted(&'a str),
     /// The midnight at which this day begins, and the text of its zone.
-    Midnight(NearDay, &'a str),
+    Midnight(RelativeDay, &'a str),
     /// A date and time of day, as text.
     Civil(&'a str),
 }
@@ -67,7 +67,7 @@ fn form_by_end(text: &str) -> Form<'_>
     let Some((word, after)) = first_word(text) else {
         return Form::Civil(text);
     };
-    match near_day(word) {
+    match read_relative_day(word) {
         Some(day) => Form::Midnight(day, after),
         None => Form::Civil(text),
     }
@@ -75,13 +75,13 @@ fn form_by_end(text: &str) -> Form<'_>
 
 /// Parses `today`, `yesterday` or `tomorrow`. Returns `None` for anything else.
 #[tactic(auto, unfolding(crate::specs::StampForm::day_shift))]
-fn near_day(word: &str) -> Option<NearDay>
+fn read_relative_day(word: &str) -> Option<RelativeDay>
     ensures { option_map shift_of result ≡ day_shift word.now }
 {
     match word {
-        "today" => Some(NearDay::Today),
-        "yesterday" => Some(NearDay::Yesterday),
-        "tomorrow" => Some(NearDay::Tomorrow),
+        "today" => Some(RelativeDay::Today),
+        "yesterday" => Some(RelativeDay::Yesterday),
+        "tomorrow" => Some(RelativeDay::Tomorrow),
         _ => None,
     }
 }

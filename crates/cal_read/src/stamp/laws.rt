@@ -12,7 +12,7 @@ ghost use Rattle.cal_zone.specs.headline.ZoneMap.{ZoneMap};
 ghost use Rattle.cal_zone.specs.headline.ZoneTable.{zone_named};
 ghost use Rattle.cal_zone.specs.declared.zone.Zone.{Zone};
 ghost use Rattle.cal_zone.specs.headline.Moment.{micros_of};
-ghost use Rattle.cal_read.specs.Stamp.{Setting, Written, civil_time, moment_in};
+ghost use Rattle.cal_read.specs.Stamp.{Setting, CivilStamp, civil_time, moment_in};
 ghost use Rattle.cal_read.specs.StampCivilRule.{HasNoSuchDate, IsCivilTime};
 ghost use Rattle.cal_read.specs.StampFaultRule.{HasError};
 ghost use Rattle.cal_read.specs.StampForm.{Form, civil, counted, earlier, form_of, from_today, later};
@@ -33,9 +33,9 @@ pub fn one_form()
 /// A list of words is a civil time if and only if it is `[weekday] [date] [time] [zone]` with a date or a time
 /// (systemd.time(7), Parsing Timestamps). `read_stamp` reads it as that civil time.
 pub fn one_civil_time()
-    ensures found { (at : Setting) (ws : List (List ℕ)) (c : Written)
+    ensures found { (at : Setting) (ws : List (List ℕ)) (c : CivilStamp)
         → civil_time at ws ≡ Ok c → IsCivilTime at ws c }
-    ensures only { (at : Setting) (ws : List (List ℕ)) (c : Written)
+    ensures only { (at : Setting) (ws : List (List ℕ)) (c : CivilStamp)
         → IsCivilTime at ws c → civil_time at ws ≡ Ok c }
 {}
 
@@ -59,7 +59,7 @@ pub fn spans_count_from_the_present()
 
 /// `today`, `yesterday` and `tomorrow` resolve to the midnight at which that day begins. Today is the day that the
 /// clock of the zone shows at present (systemd.time(7), Parsing Timestamps).
-pub fn near_days_begin_at_midnight()
+pub fn relative_days_begin_at_midnight()
     ensures { (now : ℤ) (at : Setting) (text : List ℕ) (shift : ℤ) (words : List (List ℕ)) (time : ℤ)
         → HasForm text (from_today shift words)
         → ((moment_in now at text ≡ Ok time) ↔ (IsMidnight now at shift words time × IsMoment time)) }
@@ -72,7 +72,7 @@ pub fn weekdays_are_checked()
     ensures right { (now : ℤ) (at : Setting) (text : List ℕ) (words : List (List ℕ)) (time : ℤ)
         → HasForm text (civil words)
         → ((moment_in now at text ≡ Ok time) ↔ (IsCivilMoment now at words time × IsMoment time)) }
-    ensures wrong { (now : ℤ) (at : Setting) (text : List ℕ) (words : List (List ℕ)) (c : Written) (day : ℤ)
+    ensures wrong { (now : ℤ) (at : Setting) (text : List ℕ) (words : List (List ℕ)) (c : CivilStamp) (day : ℤ)
         → HasForm text (civil words) → IsCivilTime at words c → IsDay now c.zone c.day day
         → ((moment_in now at text ≡ Err WrongWeekday) ↔ (FallsOn c.weekday day → ⊥)) }
 {}

@@ -15,14 +15,14 @@ pub(crate) mod moment;
 pub(crate) mod setting;
 pub(crate) mod text;
 pub(crate) mod time;
-pub(crate) mod written;
+pub(crate) mod civil_stamp;
 pub(crate) mod zone;
 
 use crate::StampFault;
-use crate::stamp::civil::{moment_of_written, read_civil};
+use crate::stamp::civil::{moment_of_civil_stamp, read_civil};
 use crate::stamp::form::{Form, form_of};
 use crate::stamp::moment::{
-    after_second, before_second, micros_of, moment_of, near_day, settle_on,
+    after_second, before_second, micros_of, moment_of, relative_day_number, settle_on,
 };
 use crate::stamp::setting::Setting;
 use crate::stamp::zone::read_zone;
@@ -63,11 +63,11 @@ pub fn read_stamp(
         Form::Counted(span) => after_second(0, read_span(span)?),
         Form::Midnight(day, after) => {
             let zone = read_zone(after, &at)?;
-            settle_on(zone, near_day(now, zone, day), 0)
+            settle_on(zone, relative_day_number(now, zone, day), 0)
         }
         Form::Civil(text) => {
-            let written = read_civil(text, &at)?;
-            moment_of_written(now, written)
+            let stamp = read_civil(text, &at)?;
+            moment_of_civil_stamp(now, stamp)
         }
     }
 }

@@ -9,8 +9,8 @@ ghost use Rattle.cal_read.specs.Stamp.{before_second, after_second, in_moments, 
 ghost use Rattle.cal_read.specs.StampViews.{shift_of, micros_or_fault};
 
 use crate::StampFault;
-use crate::stamp::form::NearDay;
-use crate::stamp::time::SECOND;
+use crate::stamp::form::RelativeDay;
+use crate::stamp::time::MICROS_PER_SECOND;
 use cal_civil::DAY;
 use cal_span::Span;
 use cal_zone::{Instant, Moment, Zone, civil, settle};
@@ -28,7 +28,7 @@ pub(crate) fn micros_of(second: i64) -> i64
     requires { IsBetween (neg_ℤ (pos 400_000)) (pos 7_259_000_000) second }
     ensures { result ≡ micros_of second }
 {
-    second * SECOND as i64
+    second * MICROS_PER_SECOND as i64
 }
 
 /// Adds a time span to a Unix second. Fails with `OutOfRange` if the sum is not a moment.
@@ -77,8 +77,8 @@ pub(crate) fn settle_on(zone: Zone, day: i64, micros: u64) -> Result<Moment, Sta
     requires micros { micros ≤ 90_000_000_000 }
     ensures { micros_or_fault result ≡ settle_on (zone_of zone.entry) day micros }
 {
-    let second = settle(zone, local_time(day, micros / SECOND));
-    moment_of(with_micros(second, micros % SECOND))
+    let second = settle(zone, local_time(day, micros / MICROS_PER_SECOND));
+    moment_of(with_micros(second, micros % MICROS_PER_SECOND))
 }
 
 fn local_time(day: i64, seconds: u64) -> i64
@@ -101,14 +101,14 @@ fn with_micros(second: i64, micros: u64) -> i64
 
 /// Returns the number of yesterday, today or tomorrow in the zone, counted from 1970-01-01.
 #[tactic(auto, unfolding(crate::specs::Stamp::today))]
-pub(crate) fn near_day(now: Instant, zone: Zone, day: NearDay) -> i64
+pub(crate) fn relative_day_number(now: Instant, zone: Zone, day: RelativeDay) -> i64
     ensures value { result ≡ today now.secs (zone_of zone.entry) +ℤ shift_of day }
     ensures range { IsBetween (neg_ℤ (pos 3)) (pos 84_009) result }
 {
     let today = today(now, zone);
     match day {
-        NearDay::Yesterday => today - 1,
-        NearDay::Today => today,
-        NearDay::Tomorrow => today + 1,
+        RelativeDay::Yesterday => today - 1,
+        RelativeDay::Today => today,
+        RelativeDay::Tomorrow => today + 1,
     }
 }

@@ -10,7 +10,7 @@ use cal_spec::first_piece;
 use cal_text::are_digits;
 
 /// The number of microseconds in a second.
-pub(crate) const SECOND: u64 = 1_000_000;
+pub(crate) const MICROS_PER_SECOND: u64 = 1_000_000;
 
 /// The number of digits of a fraction that are used.
 const KEPT_DIGITS: usize = 6;
@@ -53,7 +53,7 @@ fn time_of(hour: &[u8], minute: &[u8], micros: Option<u64>) -> Option<u64>
 {
     let hour = clock_number(hour, 23)?;
     let minute = clock_number(minute, 59)?;
-    Some((hour * 3_600 + minute * 60) * SECOND + micros?)
+    Some((hour * 3_600 + minute * 60) * MICROS_PER_SECOND + micros?)
 }
 
 /// Parses the seconds, `S` or `S.` followed by digits, and returns microseconds.
@@ -79,7 +79,7 @@ fn both(seconds: Option<u64>, micros: Option<u64>) -> Option<u64>
     ensures value { result ≡ both seconds micros }
     ensures bound { IfSome result (λ micros. micros ≤ 120_000_000) }
 {
-    Some(seconds? * SECOND + micros?)
+    Some(seconds? * MICROS_PER_SECOND + micros?)
 }
 
 /// Parses a number of one or two digits that is at most `greatest`.
@@ -105,5 +105,5 @@ fn read_fraction(digits: &[u8]) -> Option<u64>
         return None;
     }
     let kept = &digits[..digits.len().min(KEPT_DIGITS)];
-    Some(fraction_of(kept, SECOND))
+    Some(fraction_of(kept, MICROS_PER_SECOND))
 }

@@ -4,7 +4,7 @@ ghost use Rattle.std.specs.Prelude.{◌≡◌};
 ghost use Rattle.cal_zone.specs.headline.Zone.{zone_of};
 ghost use Rattle.cal_zone.specs.headline.ZoneTable.{zone_named};
 ghost use Rattle.cal_text.specs.headline.Words.{words};
-ghost use Rattle.cal_read.specs.Stamp.{zone_by_words, zone_meant};
+ghost use Rattle.cal_read.specs.Stamp.{zone_by_words, zone_of_word};
 ghost use Rattle.cal_read.specs.StampViews.{setting_seen, zone_or_fault};
 
 use crate::StampFault;
@@ -24,7 +24,7 @@ pub(crate) fn read_zone<'t>(text: &str, at: &Setting<'t>) -> Result<Zone<'t>, St
     let Some((word, after)) = first_word(text) else {
         return Ok(at.local);
     };
-    let zone = zone_meant(word, at.table)?;
+    let zone = zone_of_word(word, at.table)?;
     match first_word(after) {
         None => Ok(zone),
         Some(_) => Err(StampFault::StrayWord),
@@ -34,8 +34,8 @@ pub(crate) fn read_zone<'t>(text: &str, at: &Setting<'t>) -> Result<Zone<'t>, St
 /// Parses one word as a zone. If it begins with a letter, it must be a name in the table; otherwise it must be an
 /// offset, `+hh:mm` or `-hh:mm`, with hh from 00 to 25 and mm from 00 to 59 (systemd.time(7), Parsing Timestamps).
 /// Fails with `NoSuchZone` if the table doesn't have the name, and with `StrayWord` if the word is not an offset.
-fn zone_meant<'t>(word: &str, table: &'t ZoneTable) -> Result<Zone<'t>, StampFault>
-    ensures { zone_or_fault result ≡ zone_meant (zone_named table.now) word.now }
+fn zone_of_word<'t>(word: &str, table: &'t ZoneTable) -> Result<Zone<'t>, StampFault>
+    ensures { zone_or_fault result ≡ zone_of_word (zone_named table.now) word.now }
 {
     if begins_with_letter(word.as_bytes()) {
         return table.find(word).ok_or(StampFault::NoSuchZone);

@@ -7,7 +7,7 @@ ghost use Rattle.cal_streams.specs.declared.whole.WholeFault.{WholeFault};
 ghost use Rattle.cal_spec.specs.Expr.{expr_in};
 ghost use Rattle.cal_read.specs.headline.Assignments.{assignments_in};
 ghost use Rattle.cal_lines.specs.headline.Lines.{logical_lines};
-ghost use Rattle.cal_read.specs.TimerText.{lists_of, most_file_bytes, some_entries, timer_in, timer_of, timer_text, ReadsWhole};
+ghost use Rattle.cal_read.specs.TimerText.{lists_of, timer_file_limit, some_entries, timer_in, timer_of, timer_text, ReadsWhole};
 ghost use Rattle.cal_read.specs.headline.TimerText.{without_mark};
 ghost use Rattle.cal_read.specs.TimerView.{shown_lists};
 
@@ -36,7 +36,7 @@ pub fn read_timer<R: Source>(alloc: Global, input: &mut R) -> Result<Timer, Time
     ensures failed { IsTrue (R.is_failed input.new) ↔ IsErrOf result TimerFault.ReadFailed }
     ensures sure { R.may_fail input.old ≡ false → R.is_failed input.new ≡ false }
     ensures list { (read : Result (List ℕ) WholeFault)
-        × ReadsWhole (R.remaining input.old) (R.remaining input.new) most_file_bytes read
+        × ReadsWhole (R.remaining input.old) (R.remaining input.new) timer_file_limit read
         × (R.is_failed input.new ≡ is_read_failed read)
         × MatchResult result
         (λ timer. timer_text expr_in read ≡ Ok timer)
@@ -54,20 +54,20 @@ pub fn read_timer<R: Source>(alloc: Global, input: &mut R) -> Result<Timer, Time
 /// Parses a timer file from its bytes.
 #[tactic(auto, unfolding(crate::specs::TimerText::timer_in, crate::specs::TimerText::broken_line))]
 fn read_bytes(alloc: Global, bytes: &[u8]) -> Result<Timer, TimerFault>
-    requires { length bytes.now ≤ most_file_bytes }
+    requires { length bytes.now ≤ timer_file_limit }
     ensures { MatchResult result
         (λ timer. timer_in expr_in bytes.now ≡ Ok timer)
         (λ fault. fault ≢ TimerFault.NoMemory → timer_in expr_in bytes.now ≡ Err fault) }
 {
     match str::from_utf8(bytes) {
-        Ok(text) => read_text(alloc, text),
+        Ok(text) => read_utf8(alloc, text),
         Err(error) => Err(TimerFault::NotUtf8(line_after(&bytes[..error.valid_up_to()]))),
     }
 }
 
 /// Returns the number of the physical line that contains the byte after `bytes`, which are the beginning of a file.
 fn line_after(bytes: &[u8]) -> u32
-    requires { length bytes.now ≤ most_file_bytes }
+    requires { length bytes.now ≤ timer_file_limit }
     ensures { result ≡ count_by (λ b. b == 10) bytes.now + 1 }
 {
     bytes.iter().filter(|byte| **byte == b'\n').count() as u32 + 1
@@ -75,8 +75,8 @@ fn line_after(bytes: &[u8]) -> u32
 
 /// Parses a timer file from its text.
 #[tactic(auto, unfolding(crate::specs::TimerText::timer_of))]
-fn read_text(alloc: Global, text: &str) -> Result<Timer, TimerFault>
-    requires { length text.now ≤ most_file_bytes }
+fn read_utf8(alloc: Global, text: &str) -> Result<Timer, TimerFault>
+    requires { length text.now ≤ timer_file_limit }
     ensures { MatchResult result
         (λ timer. timer_of expr_in text.now ≡ Ok timer)
         (λ fault. fault ≢ TimerFault.NoMemory → timer_of expr_in text.now ≡ Err fault) }
@@ -100,7 +100,7 @@ fn without_mark(text: &str) -> &str
 /// Parses the logical lines of a timer file, and returns both lists as they are after the last line. An empty list of
 /// expressions is not an error here.
 fn read_lists(alloc: Global, text: &str) -> Result<ReadLists, TimerFault>
-    requires { length text.now ≤ most_file_bytes }
+    requires { length text.now ≤ timer_file_limit }
     ensures { MatchResult result
         (λ lists. lists_of expr_in (assignments_in false (logical_lines 1 text.now)) ≡ some_entries (shown_lists lists))
         (λ fault. fault ≢ TimerFault.NoMemory

@@ -17,10 +17,10 @@ use cal_spec::{SpecFault, read_expr};
 use std::alloc::Global;
 
 /// The maximum number of expressions in a list.
-const MOST_EXPRESSIONS: usize = 256;
+const MAX_EXPRESSIONS: usize = 256;
 
 /// The name of the section whose assignments are read.
-const SECTION: &[u8] = b"Timer";
+const TIMER_SECTION: &[u8] = b"Timer";
 
 /// The expressions and exceptions collected so far.
 #[derive(Drop)]
@@ -48,7 +48,7 @@ pub(crate) fn take_line(
 {
     let line = trim(line);
     if let Some(name) = section(line) {
-        return Ok(name == SECTION);
+        return Ok(name == TIMER_SECTION);
     }
     if !inside {
         return Ok(false);
@@ -125,7 +125,7 @@ fn add_line(
         (λ fault. fault ≢ TimerFault.NoMemory
         → with_assignment expr_in (map shown list.old.items) (shown_assignment assignment.entry) ≡ Err fault) }
 {
-    if list.len() >= MOST_EXPRESSIONS {
+    if list.len() >= MAX_EXPRESSIONS {
         return Err(TimerFault::TooMany(assignment.number));
     }
     let line = read_line(alloc, assignment)?;

@@ -16,7 +16,7 @@ use Rattle.cal_spec.specs.headline.NormalForm.{IsNormalFieldsOf}
 use Rattle.cal_elapse.specs.headline.Elapses.{AreElapses, Timed}
 use Rattle.cal_elapse.specs.headline.Timed.{timed}
 use Rattle.cal_read.specs.headline.Assignments.{Assignment, assignments_in}
-use Rattle.cal_read.specs.headline.TimerText.{excepted, is_exception, is_expression, listed, most_expressions, without_mark}
+use Rattle.cal_read.specs.headline.TimerText.{excepted, is_exception, is_expression, listed, max_expressions, without_mark}
 use Rattle.cal_report.specs.headline.CalendarReport.{heading_text}
 use Rattle.cal_report.specs.headline.ElapseLines.{elapses_text}
 use Rattle.cal_report.specs.headline.Report.{Report}
@@ -100,7 +100,7 @@ abbrev pub IsAnswerTo : Request → ℤ → List ℕ → Result (List ℕ) (List
 IsAnswerTo asked base text (Ok report) =
     (e : Expression) × (e.text ≡ text) × IsAccepted asked e × IsReportOf asked base (alone e) report
 IsAnswerTo asked base text (Err line) =
-    IsRejected asked text × ((words : List ℕ) × (line ≡ text ++ (codes ": " ++ (words ++ codes "\n"))))
+    IsRejected asked text × ((message : List ℕ) × (line ≡ text ++ (codes ": " ++ (message ++ codes "\n"))))
 
 -- The report answers each text, whether or not other texts are rejected. Standard output has the reports in the order
 -- of the texts, with an empty line between consecutive reports. Standard error has the error lines, and the status is
@@ -129,13 +129,13 @@ pub record IsFine (report : Report) : Type 0 where
 abbrev pub assigned_in : List ℕ → List Assignment
 assigned_in bytes = assignments_in false (logical_lines 1 (without_mark bytes))
 
--- every assigned expression and exception is valid according to the grammar, and fewer than `most_expressions` of the
+-- every assigned expression and exception is valid according to the grammar, and fewer than `max_expressions` of the
 -- same kind precede it
 abbrev pub AreSpelled : List Assignment → Type 0
 AreSpelled all =
     (before : List Assignment) (a : Assignment) (after : List Assignment) → all ≡ before ++ (a ∷ after)
-    → (is_expression a ≡ true → (length (listed before) < most_expressions) × ((fields : Fields) × Spells a.value fields))
-    × (is_exception a ≡ true → (length (excepted before) < most_expressions) × ((fields : Fields) × Spells a.value fields))
+    → (is_expression a ≡ true → (length (listed before) < max_expressions) × ((fields : Fields) × Spells a.value fields))
+    × (is_exception a ≡ true → (length (excepted before) < max_expressions) × ((fields : Fields) × Spells a.value fields))
 
 -- the assigned values are the texts of these expressions, in order
 abbrev pub HaveTexts : List Assignment → List Expression → Type 0

@@ -4,7 +4,7 @@
 use super::calendar::LEAP_DAYS;
 use super::timers::{CONTINUED_TIMER, EXCEPT_TIMER};
 use super::times::{SPAN_LIST, STAMP_LIST};
-use super::{KnownZones, Row, Written, expect_texts, request, run_request};
+use super::{KnownZones, Row, RunOutput, expect_texts, request, run_request};
 use cal_library_tests::shared::{SUMMER_TIME, instant};
 use cal_request::RunFault;
 use cal_streams::Port;
@@ -34,7 +34,7 @@ fn check_refused(rt: &(impl Abort + AllocGlobal), row: Row<'_>) -> Result<(), Fa
 fn expect_texts_or_none(
     rt: &impl Abort,
     row: Row<'_>,
-    written: Written<'_>,
+    written: RunOutput<'_>,
 ) -> Result<(), RunFault> {
     let (out, err, ended) = written;
     if ended == Err(RunFault::NoMemory) && row.verb.seeks_elapses() {

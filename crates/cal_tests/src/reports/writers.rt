@@ -272,8 +272,8 @@ fn refusals_that_are_cut(rt: HostRuntime) -> Result<(), Fail> {
 }
 
 /// What is in a text before these words.
-fn before<'t>(text: &'t str, words: &str) -> Result<&'t str, Fail> {
-    let end = text.find(words).ok_or("the words are missing")?;
+fn before<'t>(text: &'t str, part: &str) -> Result<&'t str, Fail> {
+    let end = text.find(part).ok_or("the part is missing")?;
     Ok(text.get(..end).unwrap_or(""))
 }
 

@@ -1,6 +1,6 @@
 use Rattle.std.proofs.Common.{◌∙◌, rules, sym}
 use Rattle.cal_command.specs.OptionValues.{count_in}
-use Rattle.cal_request.specs.Request.{most_iterations}
+use Rattle.cal_request.specs.Request.{max_iterations}
 use Rattle.cal_command.proofs.OptionLemmas.{number_between-range}
 use Rattle.cal_command.proofs.option_values.count_in.Goals as goal
 
@@ -10,7 +10,7 @@ returns-in_err-number-clause-value c = search rules
 
 pub overflow_cast-result : goal.overflow_cast-result
 overflow_cast-result c =
-    let range = number_between-range 1 most_iterations c.in_ok-number.number c.args.value.now (sym c.in_ok-number.was ∙ c.number_between.ensures) in
+    let range = number_between-range 1 max_iterations c.in_ok-number.number c.args.value.now (sym c.in_ok-number.was ∙ c.number_between.ensures) in
     search (rules, range)
 
 pub returns-clause-value : goal.returns-clause-value
@@ -18,4 +18,4 @@ unfolding count_in
 returns-clause-value c = search rules
 
 pub returns-clause-range : goal.returns-clause-range
-returns-clause-range c = number_between-range 1 most_iterations c.in_ok-number.number c.args.value.now (sym c.in_ok-number.was ∙ c.number_between.ensures)
+returns-clause-range c = number_between-range 1 max_iterations c.in_ok-number.number c.args.value.now (sym c.in_ok-number.was ∙ c.number_between.ensures)

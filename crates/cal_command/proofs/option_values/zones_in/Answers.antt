@@ -10,8 +10,8 @@ returns-in_default-zone_item_in c =
     zones-bad c.args.text.now _ _ _ _ _ c.loop-rest.invariant (ap (λ r. pieces_after is_comma (option_copied r)) c.in-Some.is ∙ c.first_item.ensures.items)
     (rw c.in_default-zone_item_in.is at c.zone_item_in.ensures.value)
 
-pub returns-then-len-eq-MOST_ZONES : goal.returns-then-len-eq-MOST_ZONES
-returns-then-len-eq-MOST_ZONES c =
+pub returns-then-len-eq-MAX_ZONES : goal.returns-then-len-eq-MAX_ZONES
+returns-then-len-eq-MAX_ZONES c =
     zones-full c.args.text.now _ _ _ _ _ c.loop-rest.invariant (ap (λ r. pieces_after is_comma (option_copied r)) c.in-Some.is ∙ c.first_item.ensures.items)
     (search rules)
 

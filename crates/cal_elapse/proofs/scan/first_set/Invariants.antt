@@ -4,4 +4,4 @@ use Rattle.cal_elapse.proofs.scan.first_set.Given as goal
 
 -- all words so far are 0
 abbrev pub invariant-loop-at : goal.invariant-loop-at
-invariant-loop-at l = (k : ℕ) → k < l.at → is_set (get_or l.words k 0) ≡ false
+invariant-loop-at l = (k : ℕ) → k < l.at → is_set (get_or l.cells k 0) ≡ false

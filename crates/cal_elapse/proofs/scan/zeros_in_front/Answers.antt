@@ -4,4 +4,4 @@ use Rattle.cal_elapse.proofs.scan.zeros_in_front.Goals as goal
 
 pub loop-block-preserved : goal.loop-block-preserved
 loop-block-preserved c = λ k lt.
-    zeros_more c.args.words.now (c.loop-block.block * 32) 32 (omega arith) c.if-words-at-ne0.false c.loop-block.invariant k (omega arith)
+    zeros_more c.args.cells.now (c.loop-block.block * 32) 32 (omega arith) c.if-cells-at-ne0.false c.loop-block.invariant k (omega arith)

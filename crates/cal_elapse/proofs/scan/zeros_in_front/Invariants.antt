@@ -4,4 +4,4 @@ use Rattle.cal_elapse.proofs.scan.zeros_in_front.Given as goal
 
 -- all words of the loads so far are 0
 abbrev pub invariant-loop-block : goal.invariant-loop-block
-invariant-loop-block l = (k : ℕ) → k < l.block * 32 → is_set (get_or l.words k 0) ≡ false
+invariant-loop-block l = (k : ℕ) → k < l.block * 32 → is_set (get_or l.cells k 0) ≡ false

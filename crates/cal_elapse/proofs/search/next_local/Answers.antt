@@ -5,7 +5,7 @@ use Rattle.cal_civil.specs.headline.Local.{seconds_in_all-is}
 use Rattle.cal_elapse.specs.Masks.{sets_in}
 use Rattle.cal_elapse.specs.Months.{day_in}
 use Rattle.cal_elapse.specs.Search.{IsFirstPassing, NonePasses}
-use Rattle.cal_elapse.proofs.LookLemmas.{looks_end}
+use Rattle.cal_elapse.proofs.ExaminedMonthLemmas.{examined_end}
 use Rattle.cal_elapse.proofs.SearchLemmas.{first_found, none_found}
 use Rattle.cal_elapse.proofs.search.next_local.Goals as goal
 
@@ -15,7 +15,7 @@ returns-then-from-eq-LOCAL_END-clause-first c = λ t above below. absurd (omega 
 pub returns-then-from-eq-LOCAL_END-clause-counted : goal.returns-then-from-eq-LOCAL_END-clause-counted
 returns-then-from-eq-LOCAL_END-clause-counted c =
     let day : unsigned_abs c.args.from / 86_400 ≡ 84_006 = grind (arith, signed_arith) in
-    rw day (sym (looks_end (sets_in c.args.masks.now)))
+    rw day (sym (examined_end (sets_in c.args.masks.now)))
 
 -- the start of the search consists of a day and a time of day
 parts : (from : ℤ) (day second : ℕ) → pos 0 ≤ℤ from → day ≡ unsigned_abs from / 86_400 → second ≡ unsigned_abs from % 86_400 → pos (day * 86_400 + second) ≡ from

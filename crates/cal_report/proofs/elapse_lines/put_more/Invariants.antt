@@ -9,9 +9,9 @@ abbrev pub invariant-loop-number : goal.invariant-loop-number
 invariant-loop-number g l =
     let rest = g.S.Rising.rest in
     record {
-      local : l.clocks ≡ l.fn.clocks;
+      local : l.formatter ≡ l.fn.formatter;
       instants : AreInstants (rest l.elapses);
       puts : PutsUpTo g.W.Sink l.fn.out l.out
-          (elapse_texts l.fn.clocks l.now.secs l.number (take (l.iterations + 1 - l.number) (rest l.elapses)))
-          (elapse_texts l.fn.clocks l.now.secs 2 (take (l.iterations - 1) (rest l.fn.elapses)));
+          (elapse_texts l.fn.formatter l.now.secs l.number (take (l.iterations + 1 - l.number) (rest l.elapses)))
+          (elapse_texts l.fn.formatter l.now.secs 2 (take (l.iterations - 1) (rest l.fn.elapses)));
     }

@@ -2,7 +2,7 @@ use Rattle.std.proofs.Common.{sym, ◌∙◌, ap, arith}
 use Rattle.std.specs.String.{string_bytes}
 use Rattle.cal_bytes.proofs.Pieces.{start, done, respell}
 use Rattle.cal_report.proofs.AnswerLemmas.{answered_before, err_more, err_none, goes_on-more, goes_on-none, out_more, out_none, reports_left, reports_left-all, reports_left-none, refusals-none, status_left, status_left-all, status_left-none, out_next, out_stops, err_next, err_stops, status_next}
-use Rattle.cal_report.specs.Answer.{refusals_text}
+use Rattle.cal_report.specs.Answer.{error_lines}
 use Rattle.cal_report.proofs.report.answer_all.Goals as goal
 use Rattle.cal_text.proofs.General.{items_end, items_next, items_taken}
 
@@ -63,4 +63,4 @@ returns-clause-out g c =
 pub returns-clause-err : goal.returns-clause-err
 returns-clause-err g c =
     let end = items_end string_bytes c.args.context.request.now.texts.items c.loop-text.text-index (omega arith) in
-    done _ _ _ (respell _ _ _ _ _ c.loop-text.invariant.err (ap (refusals_text _) end ∙ refusals-none _))
+    done _ _ _ (respell _ _ _ _ _ c.loop-text.invariant.err (ap (error_lines _) end ∙ refusals-none _))

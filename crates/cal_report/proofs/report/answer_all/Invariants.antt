@@ -4,7 +4,7 @@ use Rattle.std.proofs.Common.{◌≡◌, false, drop, map, take}
 use Rattle.std.specs.String.{string_bytes}
 use Rattle.std.specs.Io.KnownBytes.{Appends}
 use Rattle.cal_bytes.specs.Bytes.{Leaves}
-use Rattle.cal_report.specs.Answer.{reports_text, refusals_text, texts_status}
+use Rattle.cal_report.specs.Answer.{reports_text, error_lines, texts_status}
 use Rattle.cal_report.specs.Report.{answer_to}
 use Rattle.cal_report.specs.Context.{asked_by}
 use Rattle.cal_report.proofs.AnswerLemmas.{GoesOn, reports_left, status_left}
@@ -20,9 +20,9 @@ invariant-loop-text g l =
       out_works : g.O.Sink.is_failed l.out ≡ false;
       err_works : g.E.Sink.is_failed l.err ≡ false;
       out : Leaves (g.O.Sink.written l.fn.out) (g.O.Sink.written l.out) (reports_left l.is_later answer rest) (reports_text answer all);
-      err : Leaves (g.E.Sink.written l.fn.err) (g.E.Sink.written l.err) (refusals_text answer rest) (refusals_text answer all);
+      err : Leaves (g.E.Sink.written l.fn.err) (g.E.Sink.written l.err) (error_lines answer rest) (error_lines answer all);
       status : status_left l.status answer rest ≡ texts_status answer all;
       goes_on : GoesOn answer l.is_later done;
       out_done : Appends (g.O.Sink.written l.fn.out) (g.O.Sink.written l.out) (reports_text answer done);
-      err_done : Appends (g.E.Sink.written l.fn.err) (g.E.Sink.written l.err) (refusals_text answer done);
+      err_done : Appends (g.E.Sink.written l.fn.err) (g.E.Sink.written l.err) (error_lines answer done);
     }

@@ -1,26 +1,26 @@
 use Rattle.std.proofs.Common.{◌≡◌, ◌∙◌, Err, sym, rules}
 use Rattle.std.proofs.KnownBytes.{Appends-nil}
-use Rattle.cal_report.specs.Accepted.{refusal_words}
+use Rattle.cal_report.specs.Parsed.{text_error_message}
 use Rattle.cal_report.specs.Context.{asked_by}
 use Rattle.cal_report.specs.Report.{answer_to}
-use Rattle.cal_report.specs.TimerReport.{refusal_at}
+use Rattle.cal_report.specs.TimerReport.{error_line_at}
 use Rattle.cal_report.proofs.AnswerLemmas.{writes_nothing}
 use Rattle.cal_report.proofs.report.answer_one.Goals as goal
 
 pub returns-in-Ok-put_report-clause-err : goal.returns-in-Ok-put_report-clause-err
-returns-in-Ok-put_report-clause-err g c = rw c.in-Ok.ensures.accepted (Appends-nil _)
+returns-in-Ok-put_report-clause-err g c = rw c.in-Ok.ensures.parsed (Appends-nil _)
 
 pub returns-in-Err : goal.returns-in-Err
-unfolding refusal_at
+unfolding error_line_at
 returns-in-Err g c =
-    let words : answer_to (asked_by c.args.context) c.args.context.base.secs c.args.text.now ≡ Err (refusal_words c.in-Err.refusal) = c.in-Err.ensures.refused (search rules) in
-    let line = rw c.words.ensures at c.refuse.ensures.err in
-    rw words (record {
-      status = c.refuse.ensures.status;
+    let message : answer_to (asked_by c.args.context) c.args.context.base.secs c.args.text.now ≡ Err (text_error_message c.in-Err.error) = c.in-Err.ensures.refused (search rules) in
+    let line = rw c.words.ensures at c.report_error.ensures.err in
+    rw message (record {
+      status = c.report_error.ensures.status;
       out = writes_nothing _ _;
       err = line;
-      out_failed = c.requires.out ∙ sym c.refuse.ensures.out_failed;
-      err_failed = c.refuse.ensures.err_failed;
-      memory = λ _ refused. c.refuse.ensures.memory refused;
-      unwritten = λ refused. absurd (c.refuse.ensures.memory refused);
+      out_failed = c.requires.out ∙ sym c.report_error.ensures.out_failed;
+      err_failed = c.report_error.ensures.err_failed;
+      memory = λ _ refused. c.report_error.ensures.memory refused;
+      unwritten = λ refused. absurd (c.report_error.ensures.memory refused);
     })

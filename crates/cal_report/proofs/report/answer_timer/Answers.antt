@@ -1,8 +1,8 @@
 use Rattle.std.proofs.Common.{◌≢◌, ◌∙◌, sym, rules}
 use Rattle.cal_report.specs.Context.{asked_by}
 use Rattle.cal_report.specs.Report.{file_name}
-use Rattle.cal_report.specs.declared.timer_report.TimerRefusal.TheVariants.{NoMemory}
-use Rattle.cal_report.proofs.ReportLemmas.{refusal_reported, report_reported}
+use Rattle.cal_report.specs.declared.timer_report.TimerError.TheVariants.{NoMemory}
+use Rattle.cal_report.proofs.ReportLemmas.{error_reported, report_reported}
 use Rattle.cal_report.proofs.report.answer_timer.Goals as goal
 
 pub returns-in-Err-Failed-clause-reported : goal.returns-in-Err-Failed-clause-reported
@@ -13,12 +13,12 @@ returns-in-Err-Failed-clause-reported g c =
 pub returns-in-Err : goal.returns-in-Err
 returns-in-Err g c =
     let read = c.in-Err.ensures.plan in
-    let other : c.in-Err.refusal ≢ NoMemory = search rules in
-    let line = rw (c.file_name.ensures, c.line.ensures, c.words.ensures) at c.refuse.ensures.err in
+    let other : c.in-Err.error ≢ NoMemory = search rules in
+    let line = rw (c.file_name.ensures, c.line.ensures, c.words.ensures) at c.report_error.ensures.err in
     record {
-      reported = (read.0, read.1, read.2, refusal_reported _ _ _ _ _ _ _ ((read.3 other).1 (file_name (asked_by c.args.context))) c.refuse.ensures.status (read.3 other).0 line);
-      out_failed = c.requires.out ∙ sym c.refuse.ensures.out_failed;
-      err_failed = c.refuse.ensures.err_failed;
+      reported = (read.0, read.1, read.2, error_reported _ _ _ _ _ _ _ ((read.3 other).1 (file_name (asked_by c.args.context))) c.report_error.ensures.status (read.3 other).0 line);
+      out_failed = c.requires.out ∙ sym c.report_error.ensures.out_failed;
+      err_failed = c.report_error.ensures.err_failed;
       sure = c.in-Err.ensures.sure;
-      unwritten = λ refused. absurd (c.refuse.ensures.memory refused);
+      unwritten = λ refused. absurd (c.report_error.ensures.memory refused);
     }

@@ -2,7 +2,7 @@ use Rattle.std.proofs.Common.{◌≡◌, Err, Ok, arith, false, refl, sym, true,
 use Rattle.cal_report.specs.Report.{base_in, texts_report}
 use Rattle.cal_request.specs.Request.{is_timer}
 use Rattle.cal_request.specs.RequestView.{asked}
-use Rattle.cal_report.specs.TimerReport.{refusal_at}
+use Rattle.cal_report.specs.TimerReport.{error_line_at}
 use Rattle.std.proofs.lemmas.List.{length-map}
 use Rattle.std.specs.String.{string_bytes}
 use Rattle.cal_report.proofs.AnswerLemmas.{unanswered}
@@ -10,11 +10,11 @@ use Rattle.cal_report.proofs.ReportLemmas.{base_refused, texts_reported}
 use Rattle.cal_report.proofs.report.run.Goals as goal
 
 pub returns-in-Err-clause-reported : goal.returns-in-Err-clause-reported
-unfolding refusal_at
+unfolding error_line_at
 returns-in-Err-clause-reported g c =
     let refused : base_in (asked c.args.request.now c.args.now.secs c.args.local c.args.table.now) ≡ Err c.in-Err.fault = sym c.in-Err.ensures in
-    let line = rw c.words.ensures at c.refuse.ensures.err in
-    base_refused _ _ _ _ _ _ _ c.in-Err.fault refused c.requires.input c.refuse.ensures.status line
+    let line = rw c.words.ensures at c.report_error.ensures.err in
+    base_refused _ _ _ _ _ _ _ c.in-Err.fault refused c.requires.input c.report_error.ensures.status line
 
 pub returns-in_default : goal.returns-in_default
 unfolding texts_report
@@ -33,7 +33,7 @@ returns-in_default g c =
     }
 
 pub returns-in-Err-clause-cut : goal.returns-in-Err-clause-cut
-returns-in-Err-clause-cut g c = λ refused. absurd (c.refuse.ensures.memory refused)
+returns-in-Err-clause-cut g c = λ refused. absurd (c.report_error.ensures.memory refused)
 
 pub returns-in-Timer-clause-cut : goal.returns-in-Timer-clause-cut
 returns-in-Timer-clause-cut g c = λ refused.

@@ -6,10 +6,10 @@ use Rattle.cal_report.proofs.timer_report.add_expressions.Goals as goal
 pub elapses_of-requires : goal.elapses_of-requires
 elapses_of-requires c = zoned_at _ c.args.lines.now c.loop-line.line-index c.line-item.result (omega arith) c.line-item.is c.requires.zones
 
-pub loop-line-preserved-then-is_covered : goal.loop-line-preserved-then-is_covered
-loop-line-preserved-then-is_covered c =
+pub loop-line-preserved-then-has_covering_exception : goal.loop-line-preserved-then-has_covering_exception
+loop-line-preserved-then-has_covering_exception c =
     added_without _ _ c.args.lines.now _ c.loop-line.line-index c.line-item.result _ _ (omega arith) c.line-item.is c.loop-line.invariant
-    (c.is_covered.ensures c.if-is_covered.true)
+    (c.has_covering_exception.ensures c.if-has_covering_exception.true)
 
 pub loop-line-preserved : goal.loop-line-preserved
 loop-line-preserved c =

@@ -10,7 +10,7 @@ pub returns : goal.returns
 unfolding moment_lines
 returns c =
     let front = c.args.text.now.items in
-    let local = c.args.clocks.now in
+    let local = c.args.formatter.now in
     let micros = c.args.moment.micros in
     let instant = pushed_first front _ (instant_text local (second_at micros)) (rw c.instant.ensures at c.push_local.ensures.text) in
     let ended = pushed_more front _ _ (codes "\n") _ instant c.push.ensures in

@@ -4,7 +4,7 @@ use Rattle.std.proofs.lemmas.Int.{to_z-of_z}
 use Rattle.jiff.proofs.SpanFacts.{signed_arith}
 use Rattle.std.specs.Set.{is_member}
 use Rattle.cal_elapse.specs.headline.Elapses.{IsPlace}
-use Rattle.cal_elapse.specs.Rest.{rest_of}
+use Rattle.cal_elapse.specs.RemainingElapses.{remaining_elapses}
 use Rattle.cal_elapse.specs.Window.{timed_of}
 use Rattle.cal_elapse.specs.declared.window.Window.{Window}
 use Rattle.cal_elapse.proofs.ElapseSetLemmas.{in_rest, not_above, not_instant}
@@ -19,7 +19,7 @@ returns-in-Some-clause-has c =
     let above : w.last <ℤ number = omega (arith, signed_arith) in
     let at : c.in-Some.instant.secs ≡ number = c.in-Some.ensures.value ∙ to_z-of_z w64 number fits in
     in_rest w number c.has_elapse.result above (subst (λ (i : ℤ). (c.has_elapse.result ≡ true) ↔ IsPlace (timed_of w) i) at c.has_elapse.ensures.has)
-    ∙ ap (λ (v : Window). is_member int_eq (rest_of v) number) c.self.view_is
+    ∙ ap (λ (v : Window). is_member int_eq (remaining_elapses v) number) c.self.view_is
 
 pub returns-in_default-clause-has : goal.returns-in_default-clause-has
 returns-in_default-clause-has c = grind (arith, w64, signed_arith, not_above, int_eq)

@@ -2,10 +2,10 @@ use Rattle.std.proofs.Common.{◌≡◌, ◌∙◌, FitsSigned, ap, of_z, rules,
 use Rattle.std.proofs.lemmas.Int.{to_z-of_z}
 use Rattle.cal_text.proofs.General.{max_from_zero}
 use Rattle.cal_zone.specs.Instant.{IsInstant}
-use Rattle.cal_elapse.specs.Looks.{IsSearch}
+use Rattle.cal_elapse.specs.ExaminedMonths.{IsSearch}
 use Rattle.cal_elapse.specs.Masks.{sets_in}
 use Rattle.cal_elapse.specs.Window.{start_of, timed_by}
-use Rattle.cal_elapse.proofs.MostLemmas.{search_looked}
+use Rattle.cal_elapse.proofs.MostMonthsLemmas.{search_examined}
 use Rattle.cal_elapse.proofs.ReadyLemmas.{begun_ready, timed_by-timed}
 use Rattle.cal_elapse.proofs.window.Window.new.Goals as goal
 
@@ -20,7 +20,7 @@ returns-clause-ready c =
     let first_fits : FitsSigned w64 c.first_local.result = search rules in
     let begin = begin_is c.first_local.result c.args.base.secs first_fits c.first_local.ensures.start ∙ ap start_of base in
     begun_ready c.of-searcher.result c.search-ahead.new.self c.new-2.result _ c.in_ok-pending.pending c.search-ahead.result (subst IsInstant base c.args.base.in_range) c.of-searcher.ensures.none
-    c.of-searcher.ensures.looked c.search-ahead.ensures.masks c.search-ahead.ensures.counted c.search-ahead.ensures.most
+    c.of-searcher.ensures.examined c.search-ahead.ensures.masks c.search-ahead.ensures.counted c.search-ahead.ensures.most
     (subst (λ (from : ℕ). IsSearch (sets_in c.of-searcher.result.masks) from c.search-ahead.result) begin c.search-ahead.ensures.found) c.in_ok-pending.ensures
 
 pub returns-clause-timed : goal.returns-clause-timed
@@ -28,9 +28,9 @@ returns-clause-timed c =
     ap (timed_by c.search-ahead.new.self.masks) c.new-2.ensures
     ∙ timed_by-timed c.search-ahead.new.self.masks c.args.zone c.args.expr.now (ap sets_in c.search-ahead.ensures.masks ∙ c.of-searcher.ensures.masks)
 
-pub returns-clause-looked : goal.returns-clause-looked
-returns-clause-looked c =
+pub returns-clause-examined : goal.returns-clause-examined
+returns-clause-examined c =
     let first_fits : FitsSigned w64 c.first_local.result = search rules in
     let begin = begin_is c.first_local.result c.args.base.secs first_fits c.first_local.ensures.start in
-    let most = max_from_zero c.of-searcher.result.most_months c.search-ahead.result.months _ c.of-searcher.ensures.looked c.search-ahead.ensures.most in
-    rw (most, ← c.of-searcher.ensures.masks, ← begin) (search_looked (sets_in c.of-searcher.result.masks) _ c.search-ahead.result c.search-ahead.ensures.found)
+    let most = max_from_zero c.of-searcher.result.most_months c.search-ahead.result.months _ c.of-searcher.ensures.examined c.search-ahead.ensures.most in
+    rw (most, ← c.of-searcher.ensures.masks, ← begin) (search_examined (sets_in c.of-searcher.result.masks) _ c.search-ahead.result c.search-ahead.ensures.found)

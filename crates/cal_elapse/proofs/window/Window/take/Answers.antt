@@ -1,7 +1,7 @@
 use Rattle.std.proofs.Common.{◌∙◌, FitsSigned, rules, sym, w64}
 use Rattle.std.proofs.lemmas.Int.{to_z-of_z}
 use Rattle.cal_elapse.proofs.WindowLemmas.{first_given, later_given, none_given, taken_ready}
-use Rattle.cal_elapse.proofs.SearchedLemmas.{looked_some, searched_some}
+use Rattle.cal_elapse.proofs.SearchedLemmas.{most_searched_some, searched_some}
 use Rattle.cal_elapse.proofs.window.Window.take.Goals as goal
 
 pub returns-in-Some-clause-ready : goal.returns-in-Some-clause-ready
@@ -30,6 +30,6 @@ pub returns-in-Some-clause-searched : goal.returns-in-Some-clause-searched
 returns-in-Some-clause-searched c =
     searched_some c.args.self.now c.in-Some.instant c.requires.ready c.requires.full (sym c.take_least-instant.ensures.least ∙ c.in-Some.is)
 
-pub returns-in-Some-clause-looked : goal.returns-in-Some-clause-looked
-returns-in-Some-clause-looked c =
-    looked_some c.args.self.now c.in-Some.instant c.requires.ready c.requires.full (sym c.take_least-instant.ensures.least ∙ c.in-Some.is)
+pub returns-in-Some-clause-examined : goal.returns-in-Some-clause-examined
+returns-in-Some-clause-examined c =
+    most_searched_some c.args.self.now c.in-Some.instant c.requires.ready c.requires.full (sym c.take_least-instant.ensures.least ∙ c.in-Some.is)

@@ -11,7 +11,7 @@ unfolding timer_in
 returns-in-Ok c =
     let text = rw c.in-Ok.is at c.from_utf8.ensures.cases in
     let is_text : is_utf8 c.args.bytes.now ≡ true = is_utf8-from_IsUtf8 c.args.bytes.now text.1 in
-    rw is_text (rw text.0 at c.read_text.ensures)
+    rw is_text (rw text.0 at c.read_utf8.ensures)
 
 pub returns-in-Err : goal.returns-in-Err
 unfolding broken_line

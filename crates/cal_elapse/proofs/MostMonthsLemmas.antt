@@ -1,0 +1,91 @@
+-- The largest number of months that one of several searches examines.
+use Rattle.std.proofs.Common.{◌≡◌, ◌∙◌, ℕ, ◌+◌, ◌<◌, ◌≤◌, Bool, true, Option, max, unwrap_or, IsSome, ◌-◌, arith, inl, inr, option_map, refl, subst, sym, unsigned_abs, ℤ}
+use Rattle.std.proofs.lemmas.Bool.{cases_lt}
+use Rattle.cal_spec.specs.headline.Match.{Sets, matches}
+use Rattle.cal_elapse.specs.Count.{count_from}
+use Rattle.cal_elapse.specs.ExaminedMonths.{IsSearch}
+use Rattle.cal_elapse.specs.MostMonths.{IsExamined, IsMost, IsMostAfter}
+use Rattle.cal_civil.specs.headline.Local.{seconds_in_all}
+use Rattle.cal_elapse.specs.Search.{IsFirstPassing, NonePasses}
+use Rattle.cal_elapse.specs.declared.search.Found.{Found}
+use Rattle.cal_elapse.proofs.CountLemmas.{count_from-nothing, count_from-to}
+use Rattle.cal_elapse.proofs.FoundLemmas.{first_passing}
+use Rattle.cal_text.proofs.General.{max_from_zero, max_is}
+
+-- how many months a search examined
+pub search_examined : (sets : Sets) (from : ℕ) (found : Found) → IsSearch sets from found → IsExamined sets from found.months
+search_examined sets from found search =
+    record { answer = option_map unsigned_abs found.local; first = first_passing (matches sets) from found.local search.first; examined = search.counted }
+
+-- an empty range contains no match, so it leaves the maximum unchanged
+pub most_begun : (sets : Sets) (from before : ℕ) → IsMostAfter sets from from before before
+most_begun sets from before = record { not_below = omega arith; all = λ months one. absurd (let low = one.low in let high = one.high in omega arith); one = inl refl }
+
+-- a range with one match
+pub most_next : (sets : Sets) (t next before months : ℕ) → matches sets t ≡ true → IsExamined sets (t + 1) months → t < next → NonePasses (matches sets) (t + 1) next
+    → IsMostAfter sets t next before (max before months)
+most_next sets t next before months holds examined later none = grind (arith, max_is)
+
+-- two adjacent ranges together
+pub most_on : (sets : Sets) (a b c x y z : ℕ) → a ≤ b → b ≤ c → IsMostAfter sets a b x y → IsMostAfter sets b c y z → IsMostAfter sets a c x z
+most_on sets a b c x y z low high one two =
+    record {
+      not_below = omega arith;
+      all = λ months l. elim (cases_lt l.local b) [
+        | inl early ↦ (let few = one.all months (record { local = l.local; low = l.low; high = early; is_match = l.is_match; examined = l.examined }) in omega arith)
+        | inr late ↦ two.all months (record { local = l.local; low = late; high = l.high; is_match = l.is_match; examined = l.examined })
+      ];
+      one = elim two.one [
+        | inl same ↦ elim one.one [
+          | inl first ↦ inl (same ∙ first)
+          | inr l ↦ inr (record { local = l.local; low = l.low; high = early l.local l.high; is_match = l.is_match; examined = subst (IsExamined sets (l.local + 1)) (sym same) l.examined })
+        ]
+        | inr l ↦ inr (record { local = l.local; low = late l.local l.low; high = l.high; is_match = l.is_match; examined = l.examined })
+      ];
+    }
+  where
+    early : (t : ℕ) → t < b → t < c
+    early t below = omega arith
+
+    late : (t : ℕ) → b ≤ t → a ≤ t
+    late t above = omega arith
+
+pub most_then : (sets : Sets) (a b c x y z most : ℕ) → a ≤ b → b ≤ c → IsMostAfter sets a b x y → IsMostAfter sets b c y z → most ≡ z → IsMostAfter sets a c x most
+most_then sets a b c x y z most low high one two is = subst (IsMostAfter sets a c x) (sym is) (most_on sets a b c x y z low high one two)
+
+-- a different end of the range changes nothing if the range contains the same matches
+pub most_same : (sets : Sets) (start a b most : ℕ) → ((t : ℕ) → start ≤ t → matches sets t ≡ true → (t < a → t < b) × (t < b → t < a)) → IsMost sets start a most → IsMost sets start b most
+most_same sets start a b most same h = record {
+  first = h.first;
+  begun = h.begun;
+  later = record {
+    not_below = h.later.not_below;
+    all = λ months l. h.later.all months (record { local = l.local; low = l.low; high = (same l.local l.low l.is_match).1 l.high; is_match = l.is_match; examined = l.examined });
+    one = elim h.later.one [
+      | inl first ↦ inl first
+      | inr l ↦ inr (record { local = l.local; low = l.low; high = (same l.local l.low l.is_match).0 l.high; is_match = l.is_match; examined = l.examined })
+    ];
+  };
+}
+
+-- the maximum after the matches of an adjacent range are added
+pub most_more : (sets : Sets) (start a b most more : ℕ) → start ≤ a → a ≤ b → IsMost sets start a most → IsMostAfter sets a b most more → IsMost sets start b more
+most_more sets start a b most more low high h later = record { first = h.first; begun = h.begun; later = most_on sets start a b h.first most more low high h.later later }
+
+-- the maximum after the first search, up to the match that it found
+pub most_start : (sets : Sets) (start bound old most months : ℕ) → IsExamined sets start months → start ≤ bound → NonePasses (matches sets) start bound → old ≡ 0
+    → most ≡ max old months → IsMost sets start bound most
+most_start sets start bound old most months examined low none zero is = grind (arith, max_from_zero, most_same)
+
+-- The next match in a minute or an hour.
+
+pub next_counted : (passes : ℕ → Bool) (local : ℤ) (next : Option ℤ) → IsFirstPassing passes (unsigned_abs local + 1) seconds_in_all (option_map unsigned_abs next) → IsSome next
+    → count_from passes (unsigned_abs local + 1) (unsigned_abs (unwrap_or next local) - unsigned_abs local) ≡ 1
+next_counted passes local next first some = grind (arith, count_from-nothing, count_from-to)
+
+pub next_most : (sets : Sets) (local : ℤ) (before : ℕ) (found : Found) (next : Option ℤ) → matches sets (unsigned_abs local) ≡ true → IsSearch sets (unsigned_abs local + 1) found
+    → IsFirstPassing (matches sets) (unsigned_abs local + 1) seconds_in_all (option_map unsigned_abs next) → IsSome next
+    → IsMostAfter sets (unsigned_abs local) (unsigned_abs (unwrap_or next local)) before (max before found.months)
+next_most sets local before found next holds search first some =
+    let examined = search_examined sets (unsigned_abs local + 1) found search in
+    grind (arith, most_next)

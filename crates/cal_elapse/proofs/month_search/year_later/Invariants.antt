@@ -1,7 +1,0 @@
-use Rattle.std.proofs.Common.{◌*◌}
-use Rattle.cal_elapse.specs.Bits.{is_in_words}
-use Rattle.cal_elapse.specs.Search.{NonePasses}
-use Rattle.cal_elapse.proofs.month_search.year_later.Given as goal
-
-abbrev pub invariant-loop-word : goal.invariant-loop-word
-invariant-loop-word l = NonePasses (is_in_words l.years) (l.fn.first * 64) (l.word * 64)

@@ -1,0 +1,47 @@
+use Rattle.std.proofs.Common.{◌+◌, FitsSigned, IfSome, IsSome, arith, option_map, subst, sym, unsigned_abs, unwrap_or, w64}
+use Rattle.std.proofs.lemmas.Int.{ints, to_z-of_z}
+use Rattle.std.proofs.lemmas.Option.{IfSome_then}
+use Rattle.cal_spec.specs.headline.Match.{matches}
+use Rattle.cal_civil.specs.headline.Local.{seconds_in_all}
+use Rattle.cal_elapse.specs.RemainingMatches.{IsNextInHour}
+use Rattle.cal_elapse.specs.Masks.{sets_in}
+use Rattle.cal_elapse.specs.MostMonths.{IsMostAfter}
+use Rattle.cal_elapse.specs.Search.{IsFirstPassing}
+use Rattle.cal_elapse.proofs.CountLemmas.{count_from-nothing}
+use Rattle.cal_elapse.proofs.FoundLemmas.{first_match, first_passing}
+use Rattle.cal_elapse.proofs.MinuteLemmas.{hour_found}
+use Rattle.cal_elapse.proofs.MostMonthsLemmas.{next_counted, next_most}
+use Rattle.cal_elapse.proofs.search.searcher.Searcher.next_in_hour.Goals as goal
+
+pub returns-then-not-has_more_in_hour-clause-counted : goal.returns-then-not-has_more_in_hour-clause-counted
+returns-then-not-has_more_in_hour-clause-counted c =
+    let nothing = count_from-nothing (matches (sets_in c.args.self.now.masks)) (unsigned_abs c.args.local + 1) (unsigned_abs c.args.local) in
+    omega arith
+
+pub returns-clause-inside : goal.returns-clause-inside
+returns-clause-inside c = IfSome_then c.search.result.local (first_match _ _ _ (omega (arith, ints)) c.search.ensures.found.first) (λ x found. found.0)
+
+-- there is another match in the hour, and the search found it
+known : (c : goal.After-search) → IfSome c.search.result.local (λ next. IsNextInHour (matches (sets_in c.args.self.now.masks)) (unsigned_abs c.args.local) (unsigned_abs next)) × IsSome c.search.result.local
+known c =
+    let fits : FitsSigned w64 c.args.local = c.ranges.local in
+    hour_found c.args.self.now.masks (unsigned_abs c.args.local) c.search.result.local (simp to_z-of_z at c.has_more_in_hour.ensures c.if-not-has_more_in_hour.false c.requires.start.1) (simp to_z-of_z at c.search.ensures.found).first
+
+-- and it is the first match after `local`
+first : (c : goal.After-search) → IsFirstPassing (matches (sets_in c.args.self.now.masks)) (unsigned_abs c.args.local + 1) seconds_in_all (option_map unsigned_abs c.search.result.local)
+first c =
+    let fits : FitsSigned w64 c.args.local = c.ranges.local in
+    first_passing _ (unsigned_abs c.args.local + 1) c.search.result.local (simp to_z-of_z at c.search.ensures.found).first
+
+pub returns-clause-next : goal.returns-clause-next
+returns-clause-next c = (known c).0
+
+pub returns-clause-counted : goal.returns-clause-counted
+returns-clause-counted c = let one = next_counted _ c.args.local c.search.result.local (first c) (known c).1 in omega arith
+
+pub returns-clause-most : goal.returns-clause-most
+returns-clause-most c =
+    let now = c.args.self.now in
+    let fits : FitsSigned w64 c.args.local = c.ranges.local in
+    subst (IsMostAfter (sets_in now.masks) (unsigned_abs c.args.local) (unsigned_abs (unwrap_or c.search.result.local c.args.local)) now.most_months) (sym c.search.ensures.most)
+    (next_most (sets_in now.masks) c.args.local now.most_months c.search.result c.search.result.local c.requires.start.1 (simp to_z-of_z at c.search.ensures.found) (first c) (known c).1)

@@ -1,0 +1,23 @@
+use Rattle.std.proofs.Common.{◌≡◌, ◌+◌, ◌-◌, ◌/◌, ◌≤◌, true, unsigned_abs}
+use Rattle.cal_civil.specs.Local.{IsLocalSecond}
+use Rattle.cal_civil.specs.headline.Local.{seconds_in_all}
+use Rattle.cal_spec.specs.headline.Match.{matches}
+use Rattle.cal_elapse.specs.Count.{count_from}
+use Rattle.cal_elapse.specs.Masks.{sets_in}
+use Rattle.cal_elapse.specs.MostMonths.{IsMostAfter}
+use Rattle.cal_elapse.proofs.search.searcher.Searcher.search_hour.Given as goal
+
+abbrev pub invariant-loop-next : goal.invariant-loop-next
+invariant-loop-next l = record {
+  inside : IsLocalSecond l.last;
+  is_match : matches (sets_in l.fn.self.masks) (unsigned_abs l.last) ≡ true;
+  begun : unsigned_abs l.fn.local ≤ unsigned_abs l.last;
+  hour : unsigned_abs l.last / 3_600 ≡ unsigned_abs l.fn.local / 3_600;
+  masks : l.self.masks ≡ l.fn.self.masks;
+  counted : l.self.searches ≡ l.fn.self.searches
+      + count_from (matches (sets_in l.fn.self.masks)) (unsigned_abs l.fn.local + 1) (unsigned_abs l.last - unsigned_abs l.fn.local);
+  most : IsMostAfter (sets_in l.fn.self.masks) (unsigned_abs l.fn.local) (unsigned_abs l.last) l.fn.self.most_months l.self.most_months;
+}
+
+abbrev pub decreases-loop-next : goal.decreases-loop-next
+decreases-loop-next l = seconds_in_all - unsigned_abs l.last

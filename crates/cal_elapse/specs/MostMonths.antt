@@ -1,0 +1,35 @@
+-- The largest number of months that one of several searches examines: a first search, and one after each match.
+use Rattle.std.specs.Prelude.{◌≡◌, ◌⊎◌, ◌+◌, ◌<◌, ◌≤◌, ℕ, true, Option}
+use Rattle.cal_civil.specs.headline.Local.{seconds_in_all}
+use Rattle.cal_elapse.specs.ExaminedMonths.{examined_months}
+use Rattle.cal_elapse.specs.Search.{IsFirstPassing}
+use Rattle.cal_spec.specs.headline.Match.{Sets, matches}
+
+-- `months` is how many months a search from `from` on examines
+pub record IsExamined (sets : Sets) (from months : ℕ) : Type 0 where
+  pub answer : Option ℕ
+  pub first : IsFirstPassing (matches sets) from seconds_in_all answer
+  pub examined : months ≡ examined_months sets from answer
+
+-- `months` is how many months the search examines that starts just after some match from `from` up to but not including
+-- `to`
+pub record IsExaminedAfter (sets : Sets) (from to months : ℕ) : Type 0 where
+  pub local : ℕ
+  pub low : from ≤ local
+  pub high : local < to
+  pub is_match : matches sets local ≡ true
+  pub examined : IsExamined sets (local + 1) months
+
+-- `most` is the larger of `before` and the largest number of months that one of the searches after these matches
+-- examines
+pub record IsMostAfter (sets : Sets) (from to before most : ℕ) : Type 0 where
+  pub not_below : before ≤ most
+  pub all : (months : ℕ) → IsExaminedAfter sets from to months → months ≤ most
+  pub one : (most ≡ before) ⊎ IsExaminedAfter sets from to most
+
+-- `most` is the largest number of months that one of these searches examines: the one from `start` on, and one after
+-- each match from there up to but not including `to`
+pub record IsMost (sets : Sets) (start to most : ℕ) : Type 0 where
+  pub first : ℕ
+  pub begun : IsExamined sets start first
+  pub later : IsMostAfter sets start to first most

@@ -1,0 +1,16 @@
+-- The remaining elapses of an expression.
+use Rattle.std.specs.Prelude.{List, [], ◌∷◌, ℤ, int_lt, filter, map}
+use Rattle.std.specs.Ordering.{int_cmp}
+use Rattle.std.specs.List.Sorted.{IsStrictlySortedBy}
+use Rattle.cal_elapse.specs.Elapses.{elapses_after, places}
+use Rattle.cal_rising.specs.Rises.{rises-union}
+use Rattle.cal_elapse.specs.Window.{timed_of}
+use Rattle.cal_elapse.specs.declared.window.Window.{Window}
+
+-- the elapses after the one that was returned last
+unfoldable pub remaining_elapses : Window → List ℤ
+remaining_elapses w = elapses_after (timed_of w ∷ []) w.last
+
+pub rises-remaining_elapses : (w : Window) → IsStrictlySortedBy int_cmp (remaining_elapses w)
+unfolding remaining_elapses elapses_after
+rises-remaining_elapses w = rises-union (map (λ e. filter (int_lt w.last) (places e)) (timed_of w ∷ []))

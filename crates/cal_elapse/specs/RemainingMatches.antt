@@ -1,0 +1,55 @@
+-- The remaining matches in the minute and in the hour of a match, as bits.
+use Rattle.std.specs.Prelude.{◌≡◌, ◌+◌, ◌-◌, ◌*◌, ◌/◌, ◌%◌, ◌<◌, ◌≤◌, ◌&&◌, nat_lt, ℕ, Bool, true, Option, None, Some}
+use Rattle.cal_civil.specs.headline.Local.{seconds_in_all}
+use Rattle.cal_elapse.specs.Bits.{is_bit}
+use Rattle.cal_elapse.specs.Months.{day_in, minute_in}
+use Rattle.cal_elapse.specs.Search.{IsFirstPassing, NonePasses}
+use Rattle.cal_spec.specs.headline.Match.{Sets}
+
+-- whether a minute, counted from the start of 1970, contains matches: its date, its hour and its minute all match
+unfoldable pub minute_matches : Sets → ℕ → Bool
+minute_matches sets minute = nat_lt minute 120_968_640 && (day_in sets (minute / 1_440) && minute_in sets (minute % 1_440))
+
+-- Bit i of `left` stands for the number `from` + i. The set bits are those of the numbers that pass the test, are
+-- greater than `found` and are in the same unit of 60 as `found`: local seconds in one minute, or minutes in one hour.
+pub record AreRemaining (passes : ℕ → Bool) (found from left : ℕ) : Type 0 where
+  pub begun : from ≤ found + 1
+  pub behind : (i : ℕ) → is_bit left i ≡ true → found < from + i
+  pub unit : (i : ℕ) → is_bit left i ≡ true → (from + i) / 60 ≡ found / 60
+  pub passing : (t : ℕ) → found < t → t / 60 ≡ found / 60 → passes t ≡ is_bit left (t - from)
+
+-- a search after `local` found `next` in the same minute; nothing is claimed if there was no search
+abbrev pub IsNextInMinute : (ℕ → Bool) → ℕ → Option ℕ → Type 0
+IsNextInMinute passes local None = Unit {0}
+IsNextInMinute passes local (Some next) = (next / 60 ≡ local / 60) × IsFirstPassing passes (local + 1) seconds_in_all (Some next)
+
+-- a later local second in the same minute passes
+pub record HasMoreInMinute (passes : ℕ → Bool) (local : ℕ) : Type 0 where
+  pub match_at : ℕ
+  pub behind : local < match_at
+  pub minute : match_at / 60 ≡ local / 60
+  pub is_match : passes match_at ≡ true
+
+-- a later local second in the same hour passes
+pub record HasMoreInHour (passes : ℕ → Bool) (local : ℕ) : Type 0 where
+  pub match_at : ℕ
+  pub behind : local < match_at
+  pub hour : match_at / 3_600 ≡ local / 3_600
+  pub is_match : passes match_at ≡ true
+
+-- `next` is the first local second after `local` that passes, and it is in the same hour
+abbrev pub IsNextInHour : (ℕ → Bool) → ℕ → ℕ → Type 0
+IsNextInHour passes local next = (next / 3_600 ≡ local / 3_600) × IsFirstPassing passes (local + 1) seconds_in_all (Some next)
+
+-- no later local second in the same minute passes
+abbrev pub NoneLeftInMinute : (ℕ → Bool) → ℕ → Type 0
+NoneLeftInMinute passes local = NonePasses passes (local + 1) (local / 60 * 60 + 60)
+
+-- Bit i of `bits` stands for the local second `local` + 1 + i. Of the local seconds after `local`, a match, and up to
+-- `last`, a match in the same minute, exactly those match whose bit is set.
+pub record IsRestOfMinute (passes : ℕ → Bool) (local bits last : ℕ) : Type 0 where
+  pub begun : local ≤ last
+  pub minute : last / 60 ≡ local / 60
+  pub is_match : passes last ≡ true
+  pub within : (i : ℕ) → is_bit bits i ≡ true → local + 1 + i ≤ last
+  pub matching : (t : ℕ) → local < t → t ≤ last → passes t ≡ is_bit bits (t - (local + 1))

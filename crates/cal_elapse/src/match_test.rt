@@ -1,0 +1,46 @@
+//! The test whether a local second matches, without a search (systemd.time(7), Calendar Events).
+
+ghost use Rattle.std.specs.Prelude.{◌≡◌, ◌<◌, unsigned_abs};
+ghost use Rattle.cal_civil.specs.Local.{IsLocalSecond};
+ghost use Rattle.cal_elapse.specs.Masks.{sets_in};
+ghost use Rattle.cal_elapse.specs.Months.{day_in};
+ghost use Rattle.cal_spec.specs.headline.Match.{matches, time_in};
+
+use crate::Masks;
+use crate::bits::has_bit;
+use crate::month::month_of_day;
+use crate::month_days::MonthDays;
+use crate::search::month::has_month;
+use crate::search::time::has_minute;
+use cal_civil::{day_of, second_of_day};
+
+/// Returns whether a local second matches. Tests the time of day first, because that is cheapest.
+#[tactic(auto, using(cal_civil::proofs::LocalLemmas::local_arith, crate::proofs::SearchLemmas::locals_at, std::proofs::lemmas::Bool::and_right))]
+pub(crate) fn is_match(masks: &Masks, local: i64) -> bool
+    requires { IsLocalSecond local }
+    ensures { result ≡ matches (sets_in masks.now) (unsigned_abs local) }
+{
+    has_time(masks, second_of_day(local)) && has_day(masks, day_of(local))
+}
+
+/// Returns whether the expression matches this time of day, in seconds since midnight.
+fn has_time(masks: &Masks, second: u32) -> bool
+    requires { second < 86_400 }
+    ensures { result ≡ time_in (sets_in masks.now) second }
+{
+    has_minute(masks, second / 60) && has_bit(masks.seconds, second % 60)
+}
+
+/// Returns whether the expression matches the date with this day number.
+#[tactic(auto, using(crate::proofs::MonthLemmas::month_bounds))]
+fn has_day(masks: &Masks, day: u32) -> bool
+    requires { day < 84_006 }
+    ensures { result ≡ day_in (sets_in masks.now) day }
+{
+    let month = month_of_day(day);
+    if !has_month(masks, month.index) {
+        return false;
+    }
+    let mut examined = 0;
+    MonthDays::of(masks, month, &mut examined).has(day - month.first)
+}

@@ -1,0 +1,67 @@
+//! The search for the next matching day, month by month. It counts the months that it examines (systemd.time(7),
+//! Calendar Events).
+
+ghost use Rattle.std.specs.Prelude.{◌≡◌, ◌+◌, ◌<◌, ◌≤◌, cond};
+ghost use Rattle.cal_elapse.specs.ExaminedMonths.{examined_from};
+ghost use Rattle.cal_elapse.specs.Masks.{sets_in};
+ghost use Rattle.cal_elapse.specs.Months.{day_in, first_day, month_in};
+ghost use Rattle.cal_elapse.specs.Search.{IsFirstPassing};
+
+use crate::Masks;
+use crate::month::{Month, month_at};
+use crate::month_days::MonthDays;
+use crate::search::month::{has_month, next_month};
+
+/// Returns the first matching day at or after `from`, which is a day of `month` or the day after it. Returns `None` if
+/// no such day is left. Sets `examined`, which must be 0, to the number of months examined.
+#[tactic(auto, using(crate::proofs::ExaminedMonthLemmas::examined_here, crate::proofs::ExaminedMonthLemmas::examined_on))]
+pub(crate) fn next_day(masks: &Masks, month: Month, from: u32, examined: &mut u32) -> Option<u32>
+    requires low { month.first ≤ from }
+    requires high { from ≤ month.first + month.length }
+    requires none { examined.old ≡ 0 }
+    ensures first { IsFirstPassing (day_in (sets_in masks.now)) from 84_006 result }
+    ensures counted { examined.new ≡ examined_from (sets_in masks.now) month.index result }
+{
+    match next_in_month(masks, month, from, examined) {
+        Some(day) => Some(day),
+        None => next_from_month(masks, month.index + 1, examined),
+    }
+}
+
+/// Returns the first matching day of `month` at or after `from`.
+#[tactic(auto, using(crate::proofs::MonthLemmas::month_bounds))]
+fn next_in_month(masks: &Masks, month: Month, from: u32, examined: &mut u32) -> Option<u32>
+    requires low { month.first ≤ from }
+    requires high { from ≤ month.first + month.length }
+    requires none { examined.old ≡ 0 }
+    ensures first { IsFirstPassing (day_in (sets_in masks.now)) from (month.first + month.length) result }
+    ensures counted { examined.new ≡ cond (month_in (sets_in masks.now) month.index) 1 0 }
+{
+    if !has_month(masks, month.index) {
+        return None;
+    }
+    match MonthDays::of(masks, month, examined).next(from - month.first) {
+        Some(day) => Some(month.first + day),
+        None => None,
+    }
+}
+
+/// Returns the first matching day at or after the first day of the month with index `from`. Adds the number of months
+/// examined to `examined`.
+#[tactic(auto, using(crate::proofs::MonthLemmas::month_bounds, crate::proofs::CountLemmas::count_bounds))]
+fn next_from_month(masks: &Masks, from: u32, examined: &mut u32) -> Option<u32>
+    requires from_in { from ≤ 2_760 }
+    requires few { examined.old ≤ from }
+    ensures first { IsFirstPassing (day_in (sets_in masks.now)) (first_day from) 84_006 result }
+    ensures counted { examined.new ≡ examined.old + examined_from (sets_in masks.now) from result }
+{
+    let mut index = from;
+    while let Some(next) = next_month(masks, index) {
+        let month = month_at(next);
+        if let Some(day) = MonthDays::of(masks, month, examined).next(0) {
+            return Some(month.first + day);
+        }
+        index = next + 1;
+    }
+    None
+}

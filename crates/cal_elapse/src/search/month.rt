@@ -1,0 +1,107 @@
+//! The search for the next month whose year and month number the expression matches. It jumps from bit to bit of the
+//! masks (systemd.time(7), Calendar Events).
+
+ghost use Rattle.std.specs.Prelude.{◌≡◌, ◌+◌, ◌*◌, ◌/◌, ◌<◌, ◌≤◌};
+ghost use Rattle.cal_elapse.specs.Bits.{is_bit_in};
+ghost use Rattle.cal_elapse.specs.Masks.{sets_in};
+ghost use Rattle.cal_elapse.specs.Months.{month_in};
+ghost use Rattle.cal_elapse.specs.Search.{IsFirstPassing};
+
+use crate::Masks;
+use crate::bits::{has_bit, lowest_bit, next_bit};
+use crate::month::MONTHS;
+
+/// Returns the first matching month at or after `from`, an index of at most 2,760. Returns `None` if no such month is
+/// left.
+pub(crate) fn next_month(masks: &Masks, from: u32) -> Option<u32>
+    requires { from ≤ 2_760 }
+    ensures { IsFirstPassing (month_in (sets_in masks.now)) from 2_760 result }
+{
+    if from == MONTHS {
+        return None;
+    }
+    match month_here(masks, from) {
+        Some(month) => Some(month),
+        None => month_later(masks, from / 12 + 1),
+    }
+}
+
+/// Returns whether the expression matches the year and the number of a month.
+pub(crate) fn has_month(masks: &Masks, index: u32) -> bool
+    requires { index < 2_760 }
+    ensures { result ≡ month_in (sets_in masks.now) index }
+{
+    has_year(&masks.years, index / 12) && has_bit(masks.months, index % 12)
+}
+
+/// Returns the first matching month at or after `from` and in the same year.
+fn month_here(masks: &Masks, from: u32) -> Option<u32>
+    requires { from < 2_760 }
+    ensures { IsFirstPassing (month_in (sets_in masks.now)) from ((from / 12 + 1) * 12) result }
+{
+    if !has_year(&masks.years, from / 12) {
+        return None;
+    }
+    match next_bit(masks.months, from % 12) {
+        Some(month) => Some(from / 12 * 12 + month),
+        None => None,
+    }
+}
+
+/// Returns the first matching month at or after the start of a year, which is counted from 1970.
+fn month_later(masks: &Masks, year: u32) -> Option<u32>
+    requires { year ≤ 230 }
+    ensures { IsFirstPassing (month_in (sets_in masks.now)) (year * 12) 2_760 result }
+{
+    if masks.months == 0 {
+        return None;
+    }
+    match next_year(&masks.years, year) {
+        Some(year) => Some(year * 12 + lowest_bit(masks.months)),
+        None => None,
+    }
+}
+
+/// Returns whether `years` contains a year, which is counted from 1970.
+#[tactic(auto, unfolding(crate::specs::Bits::is_bit_in))]
+fn has_year(years: &[u64; 4], year: u32) -> bool
+    requires { year < 256 }
+    ensures { result ≡ is_bit_in years.now year }
+{
+    has_bit(years[year as usize / 64], year % 64)
+}
+
+/// Returns the first year of `years` at or after `from`.
+fn next_year(years: &[u64; 4], from: u32) -> Option<u32>
+    requires { from < 256 }
+    ensures { IsFirstPassing (is_bit_in years.now) from 256 result }
+{
+    match year_here(years, from) {
+        Some(year) => Some(year),
+        None => year_later(years, from / 64 + 1),
+    }
+}
+
+/// Returns the first year at or after `from` whose bit is in the same word.
+fn year_here(years: &[u64; 4], from: u32) -> Option<u32>
+    requires { from < 256 }
+    ensures { IsFirstPassing (is_bit_in years.now) from ((from / 64 + 1) * 64) result }
+{
+    match next_bit(years[from as usize / 64], from % 64) {
+        Some(bit) => Some(from / 64 * 64 + bit),
+        None => None,
+    }
+}
+
+/// Returns the first year whose bit is in the word with index `first` or a later one.
+fn year_later(years: &[u64; 4], first: u32) -> Option<u32>
+    requires { first ≤ 4 }
+    ensures { IsFirstPassing (is_bit_in years.now) (first * 64) 256 result }
+{
+    for word in first..4 {
+        if let Some(year) = next_bit(years[word as usize], 0) {
+            return Some(word * 64 + year);
+        }
+    }
+    None
+}

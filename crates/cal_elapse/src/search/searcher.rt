@@ -1,0 +1,362 @@
+//! The search for an expression's matches. It counts its calls.
+
+ghost use Rattle.std.specs.Prelude.{◌≡◌, ◌+◌, ◌-◌, ◌*◌, ◌/◌, ◌<◌, ◌≤◌, ◌≤ℤ◌, pos, true, false, max, None, IfSome, unsigned_abs, unwrap_or};
+ghost use Rattle.std.specs.Option.{option_map};
+ghost use Rattle.cal_civil.specs.Local.{IsLocalSecond};
+ghost use Rattle.cal_civil.specs.headline.Local.{seconds_in_all};
+ghost use Rattle.cal_elapse.specs.Count.{count_from};
+ghost use Rattle.cal_elapse.specs.RemainingMatches.{AreRemaining, HasMoreInHour, HasMoreInMinute, IsNextInHour, IsNextInMinute, IsRestOfMinute, NoneLeftInMinute, minute_matches};
+ghost use Rattle.cal_elapse.specs.ExaminedMonths.{IsSearch};
+ghost use Rattle.cal_elapse.specs.Masks.{sets_in};
+ghost use Rattle.cal_elapse.specs.MostMonths.{IsMostAfter};
+ghost use Rattle.cal_elapse.specs.SearchStart.{CanStart, begin_of};
+ghost use Rattle.cal_spec.specs.headline.Match.{matches};
+ghost use Rattle.cal_spec.specs.headline.Members.{sets_of};
+
+use crate::bits::{lowest_bit, with_bit, without_lowest};
+use crate::search::{Found, next_after, next_local};
+use crate::{Masks, match_test};
+use cal_civil::{LOCAL_END, second_of_day};
+use cal_spec::Expr;
+
+/// The starting point of a search.
+#[derive(Drop)]
+pub enum SearchStart {
+    /// At a local second, from 0 to 7,258,118,400.
+    At(i64),
+    /// After a match. Its day is known to match, so if the next match is on the same day, no search for a day is
+    /// needed.
+    After(i64),
+}
+
+/// The matches that were found after a match in its minute.
+#[derive(Drop)]
+pub struct RestOfMinute {
+    /// One bit for each of them: bit i for the local second i + 1 seconds after the match.
+    pub bits: u64,
+    /// The last of them, or the match itself if there are none.
+    pub last: i64,
+    ghost last_in: { IsLocalSecond last },
+}
+
+/// The masks of an expression, the number of searches made with them, and the largest number of months that a single
+/// search examined. The fields are private, so that every search is counted.
+///
+/// Most searches end in the same minute or the same hour. The remaining matches in the minute of the last match, and
+/// the remaining minutes with matches in its hour, are therefore kept as bits.
+#[derive(Drop)]
+pub struct Searcher {
+    masks: Masks,
+    searches: u64,
+    most_months: u32,
+    /// The match that was found last. Before the first one, it is the end of the local seconds.
+    found: i64,
+    /// The local second for which the lowest bit of `left` stands.
+    from: i64,
+    /// One bit for each match after the last one in its minute.
+    left: u64,
+    /// The minute for which the lowest bit of `minutes` stands, counted from the start of 1970.
+    minute: u32,
+    /// One bit for each later minute with matches in the hour of the last match.
+    minutes: u64,
+    ghost few_months: { most_months ≤ 2_760 },
+    ghost found_low: { pos 0 ≤ℤ found },
+    ghost from_low: { pos 0 ≤ℤ from },
+    ghost is_left: { AreRemaining (matches (sets_in masks)) (unsigned_abs found) (unsigned_abs from) left },
+    ghost are_left: { AreRemaining (minute_matches (sets_in masks)) (unsigned_abs found / 60) minute minutes },
+}
+
+impl Searcher {
+    /// Creates a searcher for an expression. It has made no searches.
+    pub fn of(expr: &Expr) -> Searcher
+        ensures masks { sets_in result.masks ≡ sets_of expr.now }
+        ensures none { result.searches ≡ 0 }
+        ensures examined { result.most_months ≡ 0 }
+    {
+        Searcher {
+            masks: Masks::of(expr),
+            searches: 0,
+            most_months: 0,
+            found: LOCAL_END,
+            from: 0,
+            left: 0,
+            minute: 0,
+            minutes: 0,
+        }
+    }
+
+    /// Returns how many times `search` was called.
+    pub fn searches(&self) -> u64
+        ensures { result ≡ self.now.searches }
+    {
+        self.searches
+    }
+
+    /// Returns the largest number of months that a single search examined.
+    pub fn most_months(&self) -> u32
+        ensures kept { result ≡ self.now.most_months }
+        ensures few { result ≤ 2_760 }
+    {
+        self.most_months
+    }
+
+    /// Returns the first matching local second from `start` on, with the number of months examined. Each call counts as
+    /// one search. The result is the same as that of `next_local` from there.
+    #[inline(always)]
+    pub fn search(&mut self, start: SearchStart) -> Found
+        requires start { CanStart (matches (sets_in self.old.masks)) start }
+        requires few { self.old.searches ≤ seconds_in_all }
+        ensures found { IsSearch (sets_in self.old.masks) (begin_of start) result }
+        ensures masks { self.new.masks ≡ self.old.masks }
+        ensures counted { self.new.searches ≡ self.old.searches + 1 }
+        ensures most { self.new.most_months ≡ max self.old.most_months result.months }
+        ensures last { IfSome result.local (λ local. local ≡ self.new.found) }
+    {
+        self.searches += 1;
+        let found = match start {
+            SearchStart::At(local) => self.find_at(local),
+            SearchStart::After(local) => self.find_after(local),
+        };
+        self.most_months = self.most_months.max(found.months);
+        found
+    }
+
+    /// Returns whether a local second matches. This is not a search.
+    pub fn is_match(&self, local: i64) -> bool
+        requires { IsLocalSecond local }
+        ensures { result ≡ matches (sets_in self.now.masks) (unsigned_abs local) }
+    {
+        match_test::is_match(&self.masks, local)
+    }
+
+    /// Returns whether later matches in the minute of `local` are known. They are known only for the match that was
+    /// found last.
+    pub fn has_more_in_minute(&self, local: i64) -> bool
+        ensures more { result ≡ true → HasMoreInMinute (matches (sets_in self.now.masks)) (unsigned_abs local) }
+        ensures none { result ≡ false → local ≡ self.now.found
+            → NoneLeftInMinute (matches (sets_in self.now.masks)) (unsigned_abs local) }
+    {
+        self.left != 0 && self.found == local
+    }
+
+    /// Searches for the matches after `local`, a match, to the end of its minute. Finds none if `local` isn't the match
+    /// that was found last. Each match in the result counts as one search.
+    pub fn search_minute(&mut self, local: i64) -> RestOfMinute
+        requires start { CanStart (matches (sets_in self.old.masks)) (SearchStart.After local) }
+        requires few { self.old.searches ≤ unsigned_abs local + 1 }
+        ensures rest { IsRestOfMinute (matches (sets_in self.old.masks)) (unsigned_abs local) result.bits (unsigned_abs result.last) }
+        ensures whole { local ≡ self.old.found → NoneLeftInMinute (matches (sets_in self.old.masks)) (unsigned_abs result.last) }
+        ensures masks { self.new.masks ≡ self.old.masks }
+        ensures counted { self.new.searches ≡ self.old.searches
+            + count_from (matches (sets_in self.old.masks)) (unsigned_abs local + 1) (unsigned_abs result.last - unsigned_abs local) }
+        ensures most { IsMostAfter (sets_in self.old.masks) (unsigned_abs local) (unsigned_abs result.last)
+            self.old.most_months self.new.most_months }
+    {
+        let mut bits = 0;
+        let mut last = local;
+        while let Some(next) = self.next_in_minute(last) {
+            bits = with_bit(bits, (next - local - 1) as u32);
+            last = next;
+        }
+        RestOfMinute { bits, last }
+    }
+
+    /// Returns the next match in the minute of `local`, a match, found by one search. Returns `None` without a search
+    /// if no later match in the minute is known.
+    #[inline(always)]
+    fn next_in_minute(&mut self, local: i64) -> Option<i64>
+        requires start { CanStart (matches (sets_in self.old.masks)) (SearchStart.After local) }
+        requires few { self.old.searches ≤ seconds_in_all }
+        ensures inside { IfSome result IsLocalSecond }
+        ensures next { IsNextInMinute (matches (sets_in self.old.masks)) (unsigned_abs local) (option_map unsigned_abs result) }
+        ensures none { result ≡ None → local ≡ self.old.found
+            → NoneLeftInMinute (matches (sets_in self.old.masks)) (unsigned_abs local) }
+        ensures last { local ≡ self.old.found → unwrap_or result local ≡ self.new.found }
+        ensures masks { self.new.masks ≡ self.old.masks }
+        ensures counted { self.new.searches ≡ self.old.searches
+            + count_from (matches (sets_in self.old.masks)) (unsigned_abs local + 1)
+            (unsigned_abs (unwrap_or result local) - unsigned_abs local) }
+        ensures most { IsMostAfter (sets_in self.old.masks) (unsigned_abs local) (unsigned_abs (unwrap_or result local))
+            self.old.most_months self.new.most_months }
+    {
+        if !self.has_more_in_minute(local) {
+            return None;
+        }
+        self.search(SearchStart::After(local)).local
+    }
+
+    /// Returns whether a later minute with matches in the hour of `local` is known. Such minutes are known only for the
+    /// match that was found last.
+    pub fn has_more_in_hour(&self, local: i64) -> bool
+        ensures { result ≡ true → matches (sets_in self.now.masks) (unsigned_abs local) ≡ true
+            → HasMoreInHour (matches (sets_in self.now.masks)) (unsigned_abs local) }
+    {
+        self.minutes != 0 && self.found == local
+    }
+
+    /// Searches for the matches after `local`, a match, through its hour, while the next one is known to be in that
+    /// hour. Returns the last match found, or `local` if there is none.
+    pub fn search_hour(&mut self, local: i64) -> i64
+        requires start { CanStart (matches (sets_in self.old.masks)) (SearchStart.After local) }
+        requires few { self.old.searches ≤ unsigned_abs local + 1 }
+        ensures begun { unsigned_abs local ≤ unsigned_abs result }
+        ensures hour { unsigned_abs result / 3_600 ≡ unsigned_abs local / 3_600 }
+        ensures is_match { CanStart (matches (sets_in self.old.masks)) (SearchStart.After result) }
+        ensures masks { self.new.masks ≡ self.old.masks }
+        ensures counted { self.new.searches ≡ self.old.searches
+            + count_from (matches (sets_in self.old.masks)) (unsigned_abs local + 1) (unsigned_abs result - unsigned_abs local) }
+        ensures most { IsMostAfter (sets_in self.old.masks) (unsigned_abs local) (unsigned_abs result)
+            self.old.most_months self.new.most_months }
+    {
+        let mut last = local;
+        while let Some(next) = self.next_in_hour(last) {
+            last = next;
+        }
+        last
+    }
+
+    /// Returns the next match after `local`, a match, found by one search, if it is known to be in the same hour.
+    /// Otherwise returns `None` without a search.
+    #[inline(always)]
+    fn next_in_hour(&mut self, local: i64) -> Option<i64>
+        requires start { CanStart (matches (sets_in self.old.masks)) (SearchStart.After local) }
+        requires few { self.old.searches ≤ seconds_in_all }
+        ensures inside { IfSome result IsLocalSecond }
+        ensures next { IfSome result
+            (λ next. IsNextInHour (matches (sets_in self.old.masks)) (unsigned_abs local) (unsigned_abs next)) }
+        ensures masks { self.new.masks ≡ self.old.masks }
+        ensures counted { self.new.searches ≡ self.old.searches
+            + count_from (matches (sets_in self.old.masks)) (unsigned_abs local + 1)
+            (unsigned_abs (unwrap_or result local) - unsigned_abs local) }
+        ensures most { IsMostAfter (sets_in self.old.masks) (unsigned_abs local) (unsigned_abs (unwrap_or result local))
+            self.old.most_months self.new.most_months }
+    {
+        if !self.has_more_in_hour(local) {
+            return None;
+        }
+        self.search(SearchStart::After(local)).local
+    }
+
+    /// Finds the first match at or after a local second.
+    fn find_at(&mut self, local: i64) -> Found
+        requires low { pos 0 ≤ℤ local }
+        requires high { local ≤ℤ pos seconds_in_all }
+        ensures found { IsSearch (sets_in self.old.masks) (unsigned_abs local) result }
+        ensures masks { self.new.masks ≡ self.old.masks }
+        ensures searches { self.new.searches ≡ self.old.searches }
+        ensures most { self.new.most_months ≡ self.old.most_months }
+        ensures last { IfSome result.local (λ local. local ≡ self.new.found) }
+    {
+        let found = next_local(&self.masks, local);
+        self.keep(found.local);
+        found
+    }
+
+    /// Finds the next match after `local`, a match. Takes it from the stored bits if `local` is the match that was
+    /// found last and another one follows in its minute or hour.
+    #[inline(always)]
+    fn find_after(&mut self, local: i64) -> Found
+        requires inside { IsLocalSecond local }
+        requires is_match { matches (sets_in self.old.masks) (unsigned_abs local) ≡ true }
+        ensures found { IsSearch (sets_in self.old.masks) (unsigned_abs local + 1) result }
+        ensures masks { self.new.masks ≡ self.old.masks }
+        ensures searches { self.new.searches ≡ self.old.searches }
+        ensures most { self.new.most_months ≡ self.old.most_months }
+        ensures last { IfSome result.local (λ local. local ≡ self.new.found) }
+    {
+        if local == self.found {
+            if self.left != 0 {
+                return self.find_in_minute();
+            }
+            if self.minutes != 0 {
+                return self.find_in_hour();
+            }
+        }
+        let found = next_after(&self.masks, local);
+        self.keep(found.local);
+        found
+    }
+
+    /// Takes the next match from the stored bits of the minute. One month was examined, the month of both matches.
+    #[inline(always)]
+    fn find_in_minute(&mut self) -> Found
+        requires { 0 < self.old.left }
+        ensures found { IsSearch (sets_in self.old.masks) (unsigned_abs self.old.found + 1) result }
+        ensures masks { self.new.masks ≡ self.old.masks }
+        ensures searches { self.new.searches ≡ self.old.searches }
+        ensures most { self.new.most_months ≡ self.old.most_months }
+        ensures last { IfSome result.local (λ local. local ≡ self.new.found) }
+    {
+        let bit = lowest_bit(self.left);
+        let local = self.from + i64::from(bit);
+        self.left = without_lowest(self.left);
+        self.found = local;
+        Found {
+            local: Some(local),
+            months: 1,
+        }
+    }
+
+    /// Takes the next match from the stored bits of the hour: the first match of the next minute that has any. No bits
+    /// of the current minute may be left. One month was examined, the month of both matches.
+    #[inline(always)]
+    fn find_in_hour(&mut self) -> Found
+        requires none { self.old.left ≡ 0 }
+        requires more { 0 < self.old.minutes }
+        ensures found { IsSearch (sets_in self.old.masks) (unsigned_abs self.old.found + 1) result }
+        ensures masks { self.new.masks ≡ self.old.masks }
+        ensures searches { self.new.searches ≡ self.old.searches }
+        ensures most { self.new.most_months ≡ self.old.most_months }
+        ensures last { IfSome result.local (λ local. local ≡ self.new.found) }
+    {
+        let second = lowest_bit(self.masks.seconds);
+        let local = local_in(self.minute + lowest_bit(self.minutes), second);
+        self.found = local;
+        self.from = local + 1;
+        self.left = self.masks.seconds >> (second + 1);
+        self.minutes = without_lowest(self.minutes);
+        Found {
+            local: Some(local),
+            months: 1,
+        }
+    }
+
+    /// Stores the match that was found last, with the remaining bits of its minute and its hour.
+    #[tactic(auto, using(cal_civil::proofs::LocalLemmas::local_arith))]
+    fn keep(&mut self, found: Option<i64>)
+        requires { IfSome found
+            (λ local. IsLocalSecond local × (matches (sets_in self.old.masks) (unsigned_abs local) ≡ true)) }
+        ensures masks { self.new.masks ≡ self.old.masks }
+        ensures searches { self.new.searches ≡ self.old.searches }
+        ensures most { self.new.most_months ≡ self.old.most_months }
+        ensures last { IfSome found (λ local. local ≡ self.new.found) }
+    {
+        let Some(local) = found else {
+            return;
+        };
+        self.found = local;
+        self.from = local + 1;
+        self.left = self.masks.seconds >> (second_of_day(local) % 60 + 1);
+        let minute = minute_of(local);
+        self.minute = minute + 1;
+        self.minutes = self.masks.minutes >> (minute % 60 + 1);
+    }
+}
+
+/// Returns the minute of a local second, counted from the start of 1970.
+#[tactic(auto, using(cal_civil::proofs::LocalLemmas::local_arith))]
+fn minute_of(local: i64) -> u32
+    requires { IsLocalSecond local }
+    ensures { result ≡ unsigned_abs local / 60 }
+{
+    (local / 60) as u32
+}
+
+/// Returns the local second of a minute, counted from the start of 1970, and a second of that minute.
+fn local_in(minute: u32, second: u32) -> i64
+    requires minute { minute < 120_968_640 }
+    requires second { second < 60 }
+    ensures { result ≡ pos (minute * 60 + second) }
+{
+    i64::from(minute) * 60 + i64::from(second)
+}

@@ -1,9 +1,0 @@
--- `masks` holds the masks of the lines before the index.
-use Rattle.std.proofs.Common.{◌≡◌, map, take}
-use Rattle.cal_elapse.specs.Masks.{sets_in}
-use Rattle.cal_read.specs.TimerView.{shown}
-use Rattle.cal_report.specs.TimerPlan.{entry_sets}
-use Rattle.cal_report.proofs.timer_report.masks_of.Given as goal
-
-abbrev pub invariant-loop-line : goal.invariant-loop-line
-invariant-loop-line l = map sets_in l.masks.items ≡ map entry_sets (map shown (take l.line-index l.lines))
