@@ -67,7 +67,7 @@ verb_named name =
     else if bytes_eq name (codes "timespan") then Some Timespan
     else if bytes_eq name (codes "timer") then Some Timer else None
 
--- the verb and the values that were given
+-- the verb with its texts, and the texts of the options that were given
 pub record OptionTexts : Type 0 where
   pub verb : Verb
   pub texts : List Text

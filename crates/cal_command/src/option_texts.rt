@@ -1,11 +1,11 @@
-//! The values that `clap` finds in the arguments.
+//! The texts that `clap` finds in the arguments, for a verb and its options.
 
 ghost use Rattle.std.specs.Prelude.{◌≡◌, ◌≤◌, None, false, length, true};
 ghost use Rattle.cal_request.specs.Request.{is_timer, seeks_elapses};
 
 use cal_request::Verb;
 
-/// The values that `clap` found for a verb, not checked yet. If the verb doesn't have an option, the option is `None`.
+/// The texts that `clap` found for a verb, not checked yet. If the verb doesn't have an option, the option is `None`.
 /// For `timer` there is at most one text.
 #[derive(Clone, Copy)]
 pub(crate) struct OptionTexts<'b, 'a> {

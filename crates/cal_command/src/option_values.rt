@@ -73,7 +73,10 @@ pub(crate) fn zones_of(
 }
 
 /// Parses `--local`, UTC by default.
-pub(crate) fn local_zone_of(alloc: Global, text: Option<&str>) -> Result<Option<LocalZone>, AllocError>
+pub(crate) fn local_zone_of(
+    alloc: Global,
+    text: Option<&str>,
+) -> Result<Option<LocalZone>, AllocError>
     ensures value { IfOk result (λ local. option_map shown_local local
         ≡ option_map_or local_zone_in (option_copied text.entry) (Some in_utc)) }
     ensures offset { IfOk result (λ local. IfSome local IsLocalOffset) }

@@ -13,7 +13,7 @@ use Rattle.cal_text.proofs.General.{both_follow}
 pub has_all : (mask others : ℕ) → bit_or mask others ≡ mask → HasAll (is_bit mask) (is_bit others)
 has_all mask others same i other = grind (arith, is_bit-or, or_right)
 
--- the same for sets in four words, word by word
+-- the same for sets in four masks, mask by mask
 pub have_all : (masks others : List ℕ) → length others ≡ 4 → HasAll (is_bit (get_or masks 0 0)) (is_bit (get_or others 0 0))
     → HasAll (is_bit (get_or masks 1 0)) (is_bit (get_or others 1 0)) → HasAll (is_bit (get_or masks 2 0)) (is_bit (get_or others 2 0))
     → HasAll (is_bit (get_or masks 3 0)) (is_bit (get_or others 3 0)) → HasAll (is_bit_in masks) (is_bit_in others)

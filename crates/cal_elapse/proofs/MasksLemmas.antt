@@ -91,7 +91,7 @@ pub weeks_repeat : (mask : ℕ) (days : List Bool) → ((i : ℕ) → is_bit mas
     → (i : ℕ) → i < 42 → is_bit mask i ≡ is_bit mask (i % 7)
 weeks_repeat mask days filled i low = grind (arith, lt-ltb)
 
--- the years in four words
+-- the years in four masks
 year_word : (word first n i j : ℕ) (holds : ℕ → Bool) → ((p : ℕ) → is_bit word p ≡ (nat_lt p n && holds (first + p)))
     → first + j ≡ 1_970 + i → j < n → i < 230 → is_bit word j ≡ (nat_lt i 230 && holds (1_970 + i))
 year_word word first n i j holds filled same low inside = grind (arith, lt-ltb)

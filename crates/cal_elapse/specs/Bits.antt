@@ -1,11 +1,11 @@
--- Sets of small numbers, represented as the bits of one or several words: this project's own definition.
+-- Sets of small numbers, represented as the bits of one or several masks: this project's own definition.
 use Rattle.std.specs.Prelude.{◌==◌, ℕ, ◌/◌, ◌%◌, Bool, List, slice_index_or}
 use Rattle.std.specs.Int.{bit_at}
 
--- whether the set in a word contains i: bit i, counted from the lowest, is 1
+-- whether the set in a mask contains i: bit i, counted from the lowest, is 1
 unfoldable pub is_bit : ℕ → ℕ → Bool
 is_bit mask i = bit_at mask i == 1
 
--- whether the set in several words of 64 bits contains i
+-- whether the set in several masks of 64 bits contains i
 unfoldable pub is_bit_in : List ℕ → ℕ → Bool
 is_bit_in masks i = is_bit (slice_index_or masks (i / 64) 0) (i % 64)

@@ -33,7 +33,7 @@ fn has_all(mask: u64, others: u64) -> bool
     mask | others == mask
 }
 
-/// Returns whether each word of `masks` has all bits of the same word of `others`.
+/// Returns whether each of the four masks has all bits of the mask of `others` with the same index.
 fn have_all(masks: &[u64; 4], others: &[u64; 4]) -> bool
     ensures { result ≡ true → HasAll (is_bit_in masks.now) (is_bit_in others.now) }
 {

@@ -3,7 +3,6 @@
 
 mod bits;
 mod covers;
-
 mod elapses;
 pub mod laws;
 mod masks;
@@ -11,13 +10,10 @@ mod masks_of;
 mod match_test;
 mod month;
 mod month_days;
-
 mod pending;
 mod ring;
 mod scan;
 mod search;
-
-
 mod window;
 
 pub use cal_rising::{Listed, Merge, NoMemory, Rising};

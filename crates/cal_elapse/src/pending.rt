@@ -9,7 +9,7 @@ ghost use Rattle.cal_elapse.specs.PendingInstants.{IsNear};
 ghost use Rattle.cal_rising.specs.headline.Elements.{Has};
 
 use crate::NoMemory;
-use crate::ring::{CELLS, CELL_WORDS, clear_cell, first_held, set_cell, set_cells};
+use crate::ring::{CELL_WORDS, CELLS, clear_cell, first_held, set_cell, set_cells};
 use std::alloc::Global;
 use std::marker::Model;
 
@@ -24,8 +24,8 @@ const NO_SECOND: u64 = u64::MAX;
 pub struct Pending {
     /// One bit for each cell.
     cells: Box<[u64; CELL_WORDS]>,
-    /// The smallest element, or `NO_SECOND`. The ring starts at its cell. It is stored so that finding it takes one scan per
-    /// removal, and none per call of `least`.
+    /// The smallest element, or `NO_SECOND`. The ring starts at its cell. It is stored so that finding it takes one
+    /// scan per removal, and none per call of `least`.
     least: u64,
 }
 

@@ -10,7 +10,7 @@ ghost use Rattle.cal_elapse.specs.Search.{IsFirstPassing};
 use crate::bits::{lowest_bit, next_bit, with_bit, without_bit};
 use crate::scan::first_set;
 
-/// The number of words.
+/// The number of words of 64 bits that hold the cells.
 pub const CELL_WORDS: usize = 2_925;
 
 /// The number of cells. It is more than twice 93,599, the largest distance in seconds between a local second and its

@@ -8,7 +8,7 @@ ghost use Rattle.cal_zone.specs.headline.Zone.{zone_of};
 ghost use Rattle.cal_rising.specs.headline.Elements.{Has};
 ghost use Rattle.cal_elapse.specs.Window.{start_of, to_place, with_place};
 
-use crate::search::searcher::{Searcher, SearchStart};
+use crate::search::searcher::{SearchStart, Searcher};
 use crate::{NoMemory, Pending};
 use cal_spec::Expr;
 use cal_zone::{Instant, PlaceCache, Zone};

@@ -1,12 +1,12 @@
 //! Running a request: parsing its arguments, and writing the reports and the error lines.
 #![tactic(auto)]
 
-mod parsed;
 mod calendar_report;
-mod local_and_utc;
 mod context;
 mod elapse_lines;
 pub mod laws;
+mod local_and_utc;
+mod parsed;
 mod report;
 mod report_lines;
 mod timer_report;

@@ -9,8 +9,8 @@ use cal_bytes::{ShortText, push};
 use cal_zone::{Instant, InstantFormatter, Zone};
 use std::marker::Model;
 
-/// A formatter for the local zone and one for UTC, both kept for the whole report because each caches conversions.
-/// Contracts see only the local zone, since the cache doesn't affect what is printed.
+/// A formatter of instants in the local zone, and one in UTC. Both are kept for the whole report, because they cache
+/// conversions. Contracts see only the local zone, since the caches don't affect what is printed.
 #[derive(Drop)]
 pub struct LocalAndUtc<'z> {
     local: InstantFormatter<'z>,

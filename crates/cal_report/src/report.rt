@@ -19,8 +19,8 @@ ghost use Rattle.cal_request.specs.RunFault.{is_out_failed, is_err_failed};
 ghost use Rattle.cal_request.specs.declared.request.RunFault.TheVariants.{NoMemory};
 ghost use Rattle.cal_request.specs.declared.request.Status.TheVariants.{Refused};
 
-use crate::parsed::{TextError, put_report, read_text};
 use crate::context::Context;
+use crate::parsed::{TextError, put_report, read_text};
 use crate::timer_report::{TimerError, read_plan, write_timer};
 use cal_bytes::{Sink, Source, WriteFault, put_pieces};
 use cal_read::{StampFault, read_stamp};
@@ -201,12 +201,7 @@ fn answer_timer<R: Source, O: Sink, E: Sink>(
             Err(WriteFault::Failed) => Err(RunFault::OutFailed),
         },
         Err(TimerError::NoMemory) => Err(RunFault::NoMemory),
-        Err(error) => report_error(
-            err,
-            file_name(context.request),
-            error.line(),
-            error.words(),
-        ),
+        Err(error) => report_error(err, file_name(context.request), error.line(), error.words()),
     }
 }
 

@@ -21,10 +21,10 @@ ghost use Rattle.cal_report.specs.TimerReport.{HadMemory, first_unzoned, heading
 ghost use Rattle.cal_report.specs.TimerPlan.{IsAdded, IsCoveredEntry, IsMergeOf, IsUnzoned, each_of, entry_sets, plan_text, timer_error_line, timer_error_message};
 ghost use Rattle.cal_report.specs.declared.timer_report.TimerError.TheVariants.{NoMemory};
 
-use crate::parsed::zone_for;
 use crate::calendar_report::put_heading;
 use crate::context::Context;
 use crate::elapse_lines::put_elapses;
+use crate::parsed::zone_for;
 use crate::report_lines::{EXCEPT_LABEL, ORIGINAL_LABEL};
 use cal_bytes::{Sink, Source, WriteFault, put_pieces};
 use cal_elapse::{Elapses, Masks, Merge};

@@ -8,8 +8,8 @@ ghost use Rattle.cal_span.specs.declared.span.text.TheConstants.{SPAN_ROOM};
 ghost use Rattle.cal_report.specs.Context.{asked_by};
 ghost use Rattle.cal_report.specs.TimestampReport.{moment_lines, timestamp_report, unix_text};
 
-use crate::local_and_utc::LocalAndUtc;
 use crate::context::Context;
+use crate::local_and_utc::LocalAndUtc;
 use crate::report_lines::{ORIGINAL_LABEL, push_distance, put_text};
 use cal_bytes::{Fill, ShortText, Sink, WriteFault, padding, push, push_all, put_all};
 use cal_zone::{Instant, Moment, Zone};

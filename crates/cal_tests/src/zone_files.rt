@@ -106,7 +106,12 @@ static REFUSALS: [(&str, usize, Then, LoadFault); 8] = [
     ("1x", CUTTING_LIMIT, Then::Error, Zone(BadName)),
     ("1x", CUTTING_LIMIT, Then::Endless, Zone(BadName)),
     ("Test/A", CUTTING_LIMIT, Then::Error, LoadFault::ReadFailed),
-    ("utc", CUTTING_LIMIT, Then::Interrupted, LoadFault::ReadFailed),
+    (
+        "utc",
+        CUTTING_LIMIT,
+        Then::Interrupted,
+        LoadFault::ReadFailed,
+    ),
     ("utc", CUTTING_LIMIT, Then::Endless, Zone(TooLarge)),
     ("utc", CUTTING_LIMIT, Then::Zero, Zone(BadFile)),
     ("utc", AMPLE_LIMIT, Then::Error, Zone(NameTaken)),

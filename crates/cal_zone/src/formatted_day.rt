@@ -9,6 +9,7 @@ ghost use Rattle.cal_zone.specs.headline.Zone.{zone_of};
 
 use crate::civil_time::civil_at;
 use crate::instant_offset_range::InstantOffsetRange;
+use crate::instant_text::{push_day, push_time, push_zone};
 use crate::{Civil, Instant, Zone};
 use cal_bytes::{ShortText, push};
 use cal_civil::DAY;

@@ -12,8 +12,7 @@ ghost use Rattle.cal_zone.specs.declared.zone_fault.ZoneFault.TheVariants.{BadRu
 
 use crate::instant_offset_range::constant_offset_until;
 use crate::local_offset_range::{
-    LocalOffsetRange, LocalOffsetRange, TRANSITION_MARGIN, TRANSITION_MARGIN, local_range_in_table,
-    local_range_in_table, range_end_after_table, range_end_after_table, range_end_in_zone,
+    LocalOffsetRange, TRANSITION_MARGIN, local_range_in_table, range_end_after_table,
     range_end_in_zone,
 };
 use crate::places::place_by;

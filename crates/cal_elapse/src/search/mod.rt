@@ -1,4 +1,9 @@
 //! The search for the next matching local second: first the next matching day, and then the time on that day.
+//!
+//! [`Window`](crate::window::Window) asks [`searcher`] for one match after another. If the searcher doesn't have the
+//! next match stored, it calls [`next_local`] or [`next_after`] in this file. They call [`time`] for the time of day,
+//! and [`day`] for the day, which calls [`month`] for the months that are worth examining.
+
 ghost use Rattle.std.specs.Prelude.{◌≡◌, ◌+◌, ◌*◌, ◌≤◌, ◌<◌, true, pos, ◌≤ℤ◌, unsigned_abs};
 ghost use Rattle.std.specs.Option.{option_map};
 ghost use Rattle.cal_civil.specs.Local.{IsLocalSecond};
@@ -9,9 +14,14 @@ ghost use Rattle.cal_elapse.specs.Search.{IsFirstLocal, IsFirstPassing};
 ghost use Rattle.cal_elapse.specs.SearchSteps.{day_to_start, second_on};
 ghost use Rattle.cal_spec.specs.headline.Match.{matches, time_in};
 
-pub(crate) mod day; pub(crate) mod month; pub(crate) mod searcher; pub(crate) mod time; use crate::Masks;
-use crate::search::day::next_day;
+pub(crate) mod day;
+pub(crate) mod month;
+pub(crate) mod searcher;
+pub(crate) mod time;
+
+use crate::Masks;
 use crate::month::month_of_day;
+use crate::search::day::next_day;
 use crate::search::time::{first_second, next_second};
 use cal_civil::{DAY, LOCAL_END, day_of, second_of_day};
 

@@ -1,5 +1,5 @@
-//! The search for the next month whose year and month number the expression matches. It jumps from bit to bit of the
-//! masks (systemd.time(7), Calendar Events).
+//! The search for the next month whose year and month number the expression matches (systemd.time(7), Calendar Events).
+//! `search::day` calls it. It jumps from bit to bit of the masks.
 
 ghost use Rattle.std.specs.Prelude.{◌≡◌, ◌+◌, ◌*◌, ◌/◌, ◌<◌, ◌≤◌};
 ghost use Rattle.cal_elapse.specs.Bits.{is_bit_in};

@@ -1,4 +1,5 @@
-//! The search for an expression's matches. It counts its calls.
+//! The search for an expression's matches, one after another. `window` calls it, and it calls `next_local` and
+//! `next_after` of `search` if it doesn't have the next match stored. It counts the searches.
 
 ghost use Rattle.std.specs.Prelude.{◌≡◌, ◌+◌, ◌-◌, ◌*◌, ◌/◌, ◌<◌, ◌≤◌, ◌≤ℤ◌, pos, true, false, max, None, IfSome, unsigned_abs, unwrap_or};
 ghost use Rattle.std.specs.Option.{option_map};

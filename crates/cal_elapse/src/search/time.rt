@@ -1,5 +1,5 @@
-//! The search for the next matching time of day. It jumps from bit to bit of the masks (systemd.time(7), Calendar
-//! Events).
+//! The search for the next matching time of day (systemd.time(7), Calendar Events). `search` calls it. It jumps from
+//! bit to bit of the masks.
 
 ghost use Rattle.std.specs.Prelude.{◌≡◌, ◌+◌, ◌*◌, ◌/◌, ◌<◌, ◌≤◌};
 ghost use Rattle.cal_elapse.specs.Masks.{sets_in};

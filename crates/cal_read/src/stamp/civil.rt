@@ -9,11 +9,11 @@ ghost use Rattle.cal_read.specs.Stamp.{begins_with_digit, after_date, after_week
 ghost use Rattle.cal_read.specs.StampViews.{micros_or_fault, setting_seen, civil_stamp_seen, civil_stamp_or_fault};
 
 use crate::StampFault;
+use crate::stamp::civil_stamp::CivilStamp;
 use crate::stamp::date::read_date;
 use crate::stamp::moment::{settle_on, today};
 use crate::stamp::setting::Setting;
 use crate::stamp::time::read_time;
-use crate::stamp::civil_stamp::CivilStamp;
 use crate::stamp::zone::read_zone;
 use cal_civil::begins_with_letter;
 use cal_spec::find_day;

@@ -7,6 +7,7 @@ ghost use Rattle.cal_read.specs.Stamp.{moment_in};
 ghost use Rattle.cal_read.specs.StampViews.{setting, micros_or_fault};
 
 pub(crate) mod civil;
+pub(crate) mod civil_stamp;
 pub(crate) mod date;
 pub(crate) mod fault;
 pub(crate) mod form;
@@ -15,7 +16,6 @@ pub(crate) mod moment;
 pub(crate) mod setting;
 pub(crate) mod text;
 pub(crate) mod time;
-pub(crate) mod civil_stamp;
 pub(crate) mod zone;
 
 use crate::StampFault;
