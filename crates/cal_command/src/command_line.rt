@@ -25,9 +25,11 @@ impl Ask {
     /// any order. After an argument `--`, all arguments are texts.
     ///
     /// - `calendar TEXT..` and `timer FILE` have `--iterations`, `--base-time`, `--now`, `--zones` and `--local`,
-    ///   `timestamp TEXT..` has the last three, and `timespan TEXT..` has none.
-    /// - `--iterations=N`: digits for 1 to 1,000,000, or else [`CommandFault::BadIterations`]; 1 by default.
-    /// - `--now=@N`: digits for 0 to 7,258,211,998, or else [`CommandFault::BadNow`].
+    ///   `timestamp TEXT..` has `--now`, `--zones` and `--local`, and `timespan TEXT..` has none.
+    /// - `--iterations=N`: a number from 1 to 1,000,000, in digits only; 1 by default. Anything else is
+    ///   [`CommandFault::BadIterations`].
+    /// - `--now=@N`: `@` and a number from 0 to 7,258,211,998, in digits only. Anything else is
+    ///   [`CommandFault::BadNow`].
     /// - `--zones=NAME=FILE,..`: 1 to 64 items, each with a name that has the form of a zone's name and a path that
     ///   isn't empty, or else [`CommandFault::BadZones`].
     /// - `--local=Z`: `UTC` in any case, `+hh:mm` or `-hh:mm` up to 25:59, `posix:` and a rule, or a name that has the

@@ -37,7 +37,8 @@ pub fn add_except<S: Rising + Drop>(merge: &mut Merge<S>, exception: S) -> Resul
     }
 }
 
-/// A source that returns the numbers of another one and leaves `has` to the default, so that it can't tell what it has.
+/// A source that returns the numbers of another one but keeps the default `has`, which can't tell whether a number is
+/// still to come.
 #[derive(Drop)]
 pub struct Silent<S: Rising> {
     source: S,

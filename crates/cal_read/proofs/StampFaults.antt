@@ -28,7 +28,7 @@ never_if : {A : Type 0} (test : Bool) (x y : Result A StampFault) → Never x �
 never_if true x y p q = p
 never_if false x y p q = q
 
--- if two steps together have this error, and the second never has, then the first does
+-- if two steps in sequence fail with `NoSuchDate`, and the second never fails with it, then the first does
 fault_first : {A B : Type 0} (r : Result A StampFault) (f : A → Result B StampFault) → ((x : A) → Never (f x)) → (r >>= f) ≡ Err NoSuchDate → r ≡ Err NoSuchDate
 fault_first (Ok x) f more h = absurd (more x h)
 fault_first (Err fault) f more h = let same : fault ≡ NoSuchDate = cc in ap Err same

@@ -28,8 +28,8 @@ report_of_elapses asked text fields elapses =
 unfoldable pub calendar_report : Request → ℤ → List ℕ → Fields → TimeZone → List ℕ
 calendar_report asked base text fields tz = report_of_elapses asked text fields (elapses_after (timed fields tz ∷ []) base)
 
--- the zone in which an expression is evaluated: the zone that it names, if the zone table has it, the fixed zone with
--- its UTC offset, or the local zone if it has neither
+-- The zone in which an expression is evaluated. Without a zone of its own, it is the local zone; with a UTC offset, the
+-- fixed zone with that offset; with a name, the zone that the table has for it, or `None` if it has none.
 unfoldable pub zone_for : Request → Option ZoneSuffix → Option TimeZone
 zone_for asked None = Some (zone_of asked.local)
 zone_for asked (Some (of_name name)) = zone_named asked.zones name

@@ -25,7 +25,7 @@ has_zones Timestamp = true
 has_zones Timespan = false
 has_zones Timer = true
 
--- whether a verb reads a timer file, whose path is the only text
+-- whether a verb reads a timer file; the only text of the request is then the path of that file
 abbrev pub is_timer : Verb → Bool
 is_timer Calendar = false
 is_timer Timestamp = false

@@ -1,4 +1,4 @@
-//! Whole outputs of `run`, written to memory. The expected texts were typed by hand from the layouts.
+//! Complete outputs of `run`, written to memory. The expected texts were typed by hand, from the rules for each report.
 
 ghost use Rattle.std.specs.Prelude.{◌≡◌, false};
 

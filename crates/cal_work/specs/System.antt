@@ -4,7 +4,7 @@ use Rattle.cal_streams.specs.Whole.{is_read_failed}
 use Rattle.cal_streams.specs.declared.whole.WholeFault.{WholeFault}
 use Rattle.cal_streams.specs.declared.whole.WholeFault.TheVariants.{ReadFailed, TooLarge, NoMemory}
 
--- What is known about a system; `None` stands for "nothing". For each path: the bytes of the file, or that it can't be
+-- What is known about a system; an outer `None` says that nothing is known. For each path: the bytes of the file, or that it can't be
 -- opened, and whether reading it may fail. For the clock: its seconds of Unix time, or that it has none.
 pub record Known : Type 0 where
   pub file : List ℕ → Option (Option (List ℕ))

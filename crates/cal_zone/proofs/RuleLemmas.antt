@@ -147,7 +147,7 @@ ambiguous_beside std dst w at other h = grind (arith, signed_arith)
 pub window_beside : (w : ℤ × ℤ) (at other : ℤ) → IsBeside w.0 at other → IsBeside w.1 at other → in_window w at ≡ in_window w other
 window_beside w at other start end = rw (start.le, start.lt, end.le, end.lt) refl
 
--- the two moments of a window in ascending order
+-- the start and the end of a year's daylight saving time, in ascending order
 pub ordered_rises : (w : ℤ × ℤ) → (ordered w).0 ≤ℤ (ordered w).1
 ordered_rises w = grind (arith, signed_arith, int_le)
 
