@@ -17,7 +17,7 @@ use Rattle.cal_spec.specs.declared.spec_fault.SpecFault.TheVariants.{OutOfField,
 use Rattle.cal_text.proofs.General.{some_piece, option_or_none}
 use Rattle.cal_spec.proofs.ReadLemmas.{bind_ok, unless_ok, cond_ok}
 
--- Parts that pass the checks of their values
+-- If a part passes the checks of its values, its values are valid
 
 no_fault : (a b c d : Bool) → cond a (Some OutOfField) (cond b (Some BackwardRange) (cond c (Some ZeroRepeat) (cond d (Some NoRepeat) None))) ≡ None → (a ≡ false) × (b ≡ false) × (c ≡ false) × (d ≡ false)
 no_fault false false false false at = (refl, refl, refl, refl)
@@ -70,7 +70,7 @@ sound_parts slot (p ∷ ps) at =
     let none = option_or_none (fault_of slot p) (first_value_fault slot ps) at in
     (sound_part slot p none.0, sound_parts slot ps none.1)
 
--- The number of parsed parts: as many as texts, and no more than are allowed
+-- There are as many parsed parts as texts, and no more than are allowed
 
 pub part_due_ok : (slot : Slot) (room : ℕ) (text : List ℕ) (p : Part) → part_due slot room text ≡ Ok p → 0 < room
 unfolding part_due
@@ -119,12 +119,12 @@ counted_in : (time : Bool) (n room : ℕ) → n ≤ cond time (room + 1) room �
 counted_in true n room h = omega arith
 counted_in false n room h = h
 
--- what holds of a parsed component: valid values, and no more counted parts than are allowed
+-- the component `c` has valid values and at most `room` counted parts, as every parsed component has
 pub record IsRead (slot : Slot) (room : ℕ) (c : Option (List Part)) : Type 0 where
   pub sound : IsValidComponent slot c
   pub few : counted slot c ≤ room
 
--- a parsed component is `*`, or consists of parts that were parsed
+-- if a component is parsed, it is `*` if its text is, and otherwise it consists of the parsed parts of its text
 pub component_is : (slot : Slot) (room : ℕ) (text : List ℕ) (c : Option (List Part)) → component_of slot room text ≡ Ok c
     → ((is_star text ≡ true) × (c ≡ None)) ⊎ ((is_star text ≡ false) × ((ps : List Part) × (c ≡ Some ps) × ListedRead slot room text ps))
 unfolding component_of

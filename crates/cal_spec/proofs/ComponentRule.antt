@@ -23,7 +23,7 @@ use Rattle.cal_spec.proofs.FaultLemmas.{part_due_is}
 use Rattle.cal_spec.proofs.PartRule.{part_found, part_only}
 use Rattle.cal_text.proofs.General.{some_piece, list_all-wider, list_all-both, IsClear, Apart, clear_of, split_join_with_byte}
 
--- Parts with valid values pass the checks
+-- If the values of a part are valid, the part passes the checks of its values
 
 within_is : (slot : Slot) (n : ℕ) → IsWithin slot n → is_within slot n ≡ true
 within_is slot n h = and_from (leb (least slot) n) (leb n (greatest slot)) (le-leb (least slot) n h.0) (le-leb n (greatest slot) h.1)
@@ -56,7 +56,7 @@ pub no_first_fault : (slot : Slot) (ps : List Part) → AllByRecursion (IsValidP
 no_first_fault slot [] sound = refl
 no_first_fault slot (p ∷ ps) sound = rw (no_fault_of slot p sound.0) (no_first_fault slot ps sound.1)
 
--- The grammar allows each parsed component
+-- If a component is parsed, the grammar allows it
 
 parts_found : (slot : Slot) (room : ℕ) (ts : List (List ℕ)) (ps : List Part) → parts_of slot room ts ≡ Ok ps → AllZip (IsPartOf slot) ts ps
 parts_found slot room [] ps at = let none : [] ≡ ps = cc in rw (← none) tt
@@ -86,11 +86,11 @@ component_found slot room text c at =
 
 -- The bytes of parts and components
 
--- the bytes of parts: points, slashes and digits
+-- the bytes that can occur in a part: points, slashes and digits
 abbrev pub is_part_byte : ℕ → Bool
 is_part_byte b = leb 46 b && leb b 57
 
--- the bytes of components: those of parts, commas and stars
+-- the bytes that can occur in a component: those of parts, commas and stars
 abbrev pub is_component_byte : ℕ → Bool
 is_component_byte b = (b == 42) || ((b == 44) || is_part_byte b)
 
@@ -136,7 +136,7 @@ pub component_bytes : (slot : Slot) (text : List ℕ) (c : Option (List Part)) �
 component_bytes slot text None is = rw is refl
 component_bytes slot text (Some ps) is = rw is.whole (joined_bytes slot is.texts ps is.parts)
 
--- Each component that the grammar allows is parsed
+-- If the grammar allows a component, it is parsed
 
 part_due_only : (slot : Slot) (room : ℕ) (text : List ℕ) (p : Part) → IsPartOf slot text p → 0 < room → part_due slot room text ≡ Ok p
 unfolding part_due

@@ -20,7 +20,7 @@ use Rattle.cal_spec.proofs.ComponentRule.{is_component_byte, component_found, co
 use Rattle.cal_spec.proofs.FieldLemmas.{fields_with, date_found, time_found, counted_date, counted_time, day_no_time}
 use Rattle.cal_text.proofs.General.{filter_kept, woven, woven_whole, IsClear, Apart, clear_of, split_at, split_alone, filter_at, filter_alone}
 
--- The components of a date
+-- Splitting a date into its components agrees with the grammar
 
 sign_by : (s : ℕ) (tilde : Bool) → is_tilde s ≡ tilde → is_date_sign s ≡ true → last_sign tilde ≡ s ∷ []
 sign_by s true is test = ap (λ b. b ∷ []) (sym (eqb-true s 126 is))
@@ -79,7 +79,7 @@ date_shape_only : (word : List ℕ) (t : DateTexts) → IsClear is_date_sign t.y
 date_shape_only word t y m d (inl whole) = ap date_texts whole ∙ three_only t.year t.month t.day t.from_end y m d
 date_shape_only word t y m d (inr shape) = ap date_texts shape.1 ∙ two_only t.month t.day t.from_end m d ∙ ap Some (with_star t shape.0)
 
--- The components of a time
+-- Splitting a time into its components agrees with the grammar
 
 time_by_found : (ts : List (List ℕ)) (t : TimeTexts) → time_texts_by ts ≡ Some t → IsTimeShape (join_with_byte 58 ts) t
 time_by_found (a ∷ b ∷ []) t at =
@@ -108,7 +108,7 @@ time_shape_only : (word : List ℕ) (t : TimeTexts) → IsClear is_colon t.hour 
 time_shape_only word t h m s (inl whole) = ap time_texts whole ∙ time_three_only t.hour t.minute t.second h m s
 time_shape_only word t h m s (inr shape) = ap time_texts shape.1 ∙ time_two_only t.hour t.minute h m ∙ ap Some (with_zeros t shape.0)
 
--- The bytes of components
+-- No component contains `-`, `~` or a colon
 
 pub component_no_sign : Apart is_component_byte is_date_sign
 component_no_sign b h = grind (arith, nat_tests)
@@ -119,7 +119,7 @@ component_no_colon b h = grind (arith, nat_tests)
 component_clear : (p : ℕ → Bool) (slot : Slot) (text : List ℕ) (c : Option (List Part)) → Apart is_component_byte p → IsComponent slot text c → IsClear p text
 component_clear p slot text c apart is = clear_of is_component_byte p text apart (component_bytes slot text c is)
 
--- The grammar allows each parsed date and time
+-- If a date or a time is parsed, the grammar allows it
 
 pub is_date : (word : List ℕ) (weekdays : List Bool) (d : DateFields) (h : TimeFields) (name : Option ZoneSuffix) → date_in_word word ≡ Ok d → IsDate word (fields_with weekdays d h name)
 is_date word weekdays d h name at =
@@ -148,9 +148,10 @@ is_time room word weekdays d h name at =
       second = component_found Second (room - counted Hour h.hour - counted Minute h.minute) t.second h.second read.second;
     }
 
--- Each date and time that the grammar allows is parsed
+-- If the grammar allows a date or a time, it is parsed
 
--- each component has no more counted parts than those before it leave room for
+-- of the 240 counted parts that an expression may have, each component has at most as many as the components before it
+-- leave
 pub record AreFew (f : Fields) : Type 0 where
   pub year : counted Year f.year ≤ 240
   pub month : counted Month f.month ≤ 240 - counted Year f.year

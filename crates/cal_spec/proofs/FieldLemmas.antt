@@ -43,7 +43,7 @@ use Rattle.cal_spec.proofs.ComponentLemmas.{IsRead, component_read}
 use Rattle.cal_text.proofs.General.{some_piece}
 use Rattle.cal_spec.proofs.ReadLemmas.{bind_ok, cond_ok, three_ok, four_ok}
 
--- Dates and times
+-- If a date or a time is parsed, so is each of its components
 
 pub record DateRead (t : DateTexts) (d : DateFields) : Type 0 where
   pub year : component_of Year most_counted t.year ≡ Ok d.year
@@ -102,7 +102,7 @@ pub time_found : (room : ℕ) (word : List ℕ) (h : TimeFields) → time_in_wor
 unfolding time_in_word
 time_found room word h at = time_found_by room word (time_texts word) h refl at
 
--- Weekdays
+-- A parsed weekday list has seven values, one for each weekday, and at least one of them is `true`
 
 pub record ItemsRead (t : List ℕ) (ts : List (List ℕ)) (items : List WeekdayRange) : Type 0 where
   pub first : WeekdayRange
@@ -121,7 +121,7 @@ items_of-cons t ts items at =
     let two = bind_ok (items_of ts) (λ more. Ok (one.value ∷ more)) items one.next in
     record { first = one.value; rest = two.value; is = cc; first_is = due_ok (days_of t) one.value one.first; rest_is = two.first }
 
--- a set that contains a weekday is not empty
+-- if `f` is `true` for some weekday, at least one of the seven values in `map f week` is `true`
 among_week : (f : Weekday → Bool) (day : Weekday) → f day ≡ true → list_any (λ d. d) (map f week) ≡ true
 among_week f Monday h = list_any_at (λ d. d) (map f week) 0 false (omega arith) h
 among_week f Tuesday h = list_any_at (λ d. d) (map f week) 1 false (omega arith) h
@@ -178,7 +178,7 @@ is_week (Some word) days at =
     let found = weekdays_found word days at in
     rw found.is at (week_of_items (without_comma word) found.items found.read)
 
--- The zone
+-- The zone that parsing returns is valid
 
 name_kept : (word : List ℕ) (utc : Bool) → is_zone_name word ≡ true → is_zone_name (cond utc (codes "UTC") word) ≡ true
 unfolding is_zone_name
@@ -209,7 +209,7 @@ is_zone [] (Some suffix) at = cc
 is_zone (w ∷ []) suffix at = zone_by w (is_zone_name w) suffix refl at
 is_zone (w ∷ v ∷ ws) suffix at = cc
 
--- The whole text
+-- If a whole text is parsed, so are its weekdays, date, time and zone
 
 abbrev pub fields_with : List Bool → DateFields → TimeFields → Option ZoneSuffix → Fields
 fields_with weekdays date time name = record {
@@ -268,7 +268,7 @@ text_found text f at =
     let read = cond_ok (ltb max_text_bytes (length text)) TextTooLong (fields_due (roles_of (words text))) f at in
     text_found_by text (roles_of (words text)) f (ltb-false max_text_bytes (length text) read.0) refl read.1
 
--- The number of counted parts
+-- All parts of a year, month or day are counted, and all but the first part of an hour, minute or second
 
 pub counted_date : (slot : Slot) (c : Option (List Part)) → is_time slot ≡ false → counted slot c ≡ parts_in c
 counted_date slot None test = refl
@@ -282,7 +282,7 @@ pub day_no_time : (from_end : Bool) → is_time (day_slot from_end) ≡ false
 day_no_time true = refl
 day_no_time false = refl
 
--- What holds of a parsed date and a parsed time
+-- A parsed date and a parsed time have valid values, and no more counted parts than are allowed
 
 pub record IsDateRead (d : DateFields) : Type 0 where
   pub year : IsRead Year most_counted d.year
@@ -333,7 +333,7 @@ valid_with weekdays d h name week date time zone_is = record {
   zone = zone_is;
 }
 
--- the parsed fields of a text are valid
+-- if parsing a text returns the fields `f`, these are valid
 pub valid_fields : (text : List ℕ) (f : Fields) → fields_in text ≡ Ok f → IsValidFields f
 valid_fields text f at =
     let found = text_found text f at in

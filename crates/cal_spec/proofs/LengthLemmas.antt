@@ -27,9 +27,10 @@ use Rattle.cal_spec.proofs.NormalFieldsLemmas.{are_normal, component_sound, fiel
 use Rattle.cal_spec.proofs.NormalLemmas.{each_part}
 use Rattle.cal_text.proofs.General.{check_all, each_checked}
 
--- Numbers
+-- The numbers in a normal form are small
 
--- an optional number is below a bound; in "small" parts, all numbers are below 10,000 and steps are below 1,000
+-- a number is below a bound, if there is a number; a part is "small" if its start and end are below 10,000 and its step
+-- is below 1,000
 abbrev pub IsBelow : ℕ → Option ℕ → Type 0
 IsBelow bound None = Unit {0}
 IsBelow bound (Some n) = n < bound
@@ -99,7 +100,7 @@ unfolding normal_second
 small_second None h = tt
 small_second (Some ps) h = small_starred (normal_parts ps) (starred (normal_parts ps)) (starred_is (normal_parts ps)) (small_component Second (Some ps) h)
 
--- Texts
+-- How long the text of small parts is
 
 number_length : (lead : List ℕ) (width most n : ℕ) → 0 < most → width ≤ most → n < 10 ^ most → n < 10_000 → length (number_text lead width n) ≤ length lead + most
 unfolding number_text
@@ -168,7 +169,7 @@ fields_length f year month day hour minute second few =
     let lg = row_length (codes ":") 2 f.second (omega arith) second in
     omega (arith, lead_length f.from_end, length-append a (b ++ (c ++ (d ++ (e ++ (g ++ []))))), length-append b (c ++ (d ++ (e ++ (g ++ [])))), length-append c (d ++ (e ++ (g ++ []))), length-append d (e ++ (g ++ [])), length-append e (g ++ []), length-append g [])
 
--- Weekdays, by computing the text of each set
+-- How long the text of weekdays is, checked by computing it for each set of weekdays
 
 short_weekdays : check_all 7 (λ days. nat_le (length (weekdays_text days)) 20) ≡ true
 unfolding weekdays_text runs_text run_text name_of

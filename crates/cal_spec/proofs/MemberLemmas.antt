@@ -123,7 +123,8 @@ unfolding normal_second
 second_stays None v h = refl
 second_stays (Some ps) v h = starred_has (normal_parts ps) v ∙ parts_have Second ps v h
 
--- `~*` matches every day, as `*` does
+-- each day is between 1 and 31, whether it is counted from the month's start or end, so `~*` matches the same days as
+-- `*`
 every_day : (date : Date) → is_between 1 31 (day_value true date) ≡ is_between 1 31 (day_value false date)
 every_day date =
     let long = days_in_month_bounds date.year date.month in
@@ -155,7 +156,7 @@ time_stays f second valid =
     let seconds = second_stays f.second (second % 60) (parts_from_sound Second f.second valid.second) in
     rw (hour, minute, seconds) refl
 
--- an expression matches the same local seconds as its normal form
+-- valid fields match the same local seconds as their normal form
 pub matches_stay : (f : Fields) (local : ℕ) → IsValidFields f → matches (sets_of (normal_fields f)) local ≡ matches (sets_of f) local
 unfolding matches
 matches_stay f local valid = rw (date_stays f (civil_date (local / 86_400)) valid, time_stays f (local % 86_400) valid) refl

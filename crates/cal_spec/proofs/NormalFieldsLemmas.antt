@@ -24,7 +24,7 @@ use Rattle.cal_spec.proofs.NormalLemmas.{part_eq_exact, part_exact, part_total, 
 use Rattle.cal_spec.proofs.OrderLemmas.{has_in_order, sorted_in_order}
 use Rattle.cal_spec.proofs.ReducedLemmas.{normal_stays, reduced_is, reduced_normal, reduced_only, reduced_sound}
 
--- elements of a mapped list
+-- if `x` is in a list, `g x` is in the list that `map g` returns for it
 has_map : {A B : Type 0} (g : A → B) (xs : List A) (x : A) → Has xs x → Has (map g xs) (g x)
 has_map g [] x h = absurd h
 has_map g (y ∷ ys) x h = elim h [ inl same ↦ inl (ap g same) | inr k ↦ inr (has_map g ys x k) ]
@@ -36,7 +36,7 @@ map_has g (y ∷ ys) z h = elim h [
   | inr k ↦ (let found = map_has g ys z k in (found.0, inr found.1, found.2))
 ]
 
--- the normal form of a list consists of the normal forms of its parts
+-- a part is in the normal form of a list exactly if it is the normal form of a part of the list
 pub has_normal : (ps : List Part) (z : Part) → Has (normal_parts ps) z ↔ Has (map reduced ps) z
 unfolding normal_parts
 has_normal ps z = has_in_order part_cmp part_exact z (map reduced ps)
@@ -92,7 +92,8 @@ normal_fixed ps h =
 pub normal_twice : (raw : List Part) → AllByRecursion IsPart raw → normal_parts (normal_parts raw) ≡ normal_parts raw
 normal_twice raw all = normal_fixed (normal_parts raw) (are_normal raw all)
 
--- normalizing adds no parts, and leaves a list nonempty if it was nonempty
+-- a list into which a part is inserted is not empty, and it has at most one part more than before; this is the
+-- induction step
 length_inserted : (o : Ordering) (x y : Part) (ys more : List Part) → 0 < length more → length more ≤ length ys + 1
     → (0 < length (match_ordering o (x ∷ y ∷ ys) (y ∷ ys) (y ∷ more))) × (length (match_ordering o (x ∷ y ∷ ys) (y ∷ ys) (y ∷ more)) ≤ length (y ∷ ys) + 1)
 length_inserted Less x y ys more some few = (omega arith, omega arith)
@@ -117,7 +118,7 @@ unfolding normal_parts
 some_normal [] h = absurd (omega arith)
 some_normal (p ∷ ps) h = (length-insert_key (reduced p) (in_order part_cmp (map reduced ps))).0
 
--- the normal form of a valid component is valid
+-- if the values of all parts are valid, so are those of the parts in the normal form
 sound_parts : (slot : Slot) (ps : List Part) → AllByRecursion (IsValidPart slot) ps → AllByRecursion (IsValidPart slot) (normal_parts ps)
 sound_parts slot ps all = all_from (IsValidPart slot) (normal_parts ps) (λ z h.
     let found = map_has reduced ps z ((has_normal ps z).0 h) in
@@ -139,7 +140,7 @@ component_twice : (c : Option (List Part)) → AreParts c → normal_component (
 component_twice None h = refl
 component_twice (Some ps) h = ap Some (normal_twice ps h)
 
--- the normal form of seconds, in which `0/1` alone becomes `*`
+-- if `part_eq` returns `false` for `p` and `0/1`, the list of only `p` is not the list of only `0/1`
 not_each : (p : Part) → part_eq p each ≡ false → p ∷ [] ≡ each ∷ [] → ⊥
 not_each p other same = let is : part_eq p each ≡ true = (let e : p ≡ each = cc in ap (λ q. part_eq q each) e) in cc
 
@@ -191,7 +192,7 @@ unfolding normal_second
 second_twice None h = refl
 second_twice (Some ps) h = starred_twice (normal_parts ps) (starred (normal_parts ps)) (starred_is (normal_parts ps)) (normal_twice ps h)
 
--- normalizing doesn't increase the number of parts
+-- the normal form of a component has no more parts than the component
 component_few : (c : Option (List Part)) → parts_in (normal_component c) ≤ parts_in c
 component_few None = omega arith
 component_few (Some ps) = length_normal ps
@@ -240,7 +241,7 @@ from_end_twice : (from_end : Bool) (c : Option (List Part)) → normal_from_end 
 from_end_twice from_end None = refl
 from_end_twice from_end (Some ps) = refl
 
--- normalizing a second time changes nothing
+-- bringing valid fields into their normal form a second time changes nothing
 pub fields_twice : (f : Fields) → IsValidFields f → normal_fields (normal_fields f) ≡ normal_fields f
 unfolding normal_fields
 fields_twice f valid =
@@ -253,7 +254,7 @@ fields_twice f valid =
     let from_end = from_end_twice f.from_end f.day in
     rw (year, month, day, hour, minute, second, from_end) refl
 
--- `normal_fields` returns the normal form that the definition describes, and there is no other
+-- if fields are valid, `normal_fields` returns a normal form of them as `IsNormalFieldsOf` defines it
 pub fields_are : (f : Fields) → IsValidFields f → IsNormalFieldsOf f (normal_fields f)
 unfolding normal_fields
 fields_are f valid = record {

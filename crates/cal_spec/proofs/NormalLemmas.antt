@@ -23,7 +23,7 @@ use Rattle.cal_spec.specs.declared.part.Part.{Part}
 use Rattle.cal_spec.specs.declared.slot.Slot.{Slot}
 use Rattle.cal_spec.proofs.OrderLemmas.{has_in_order, sorted_in_order}
 
--- parts with valid values meet the conditions for a normal form
+-- if the values of parts are valid, no range runs backwards and no step is zero
 pub each_part : (slot : Slot) (ps : List Part) → AllByRecursion (IsValidPart slot) ps → AllByRecursion IsPart ps
 each_part slot [] h = tt
 each_part slot (p ∷ ps) h = (record { forward = h.0.forward; steps = h.0.some_step }, each_part slot ps h.1)
@@ -32,7 +32,7 @@ pub parts_from_sound : (slot : Slot) (c : Option (List Part)) → IsValidCompone
 parts_from_sound slot None h = tt
 parts_from_sound slot (Some ps) h = each_part slot ps h.1
 
--- the order of parts is total
+-- the order of parts, `part_cmp`, is total
 pub part_total : IsTotalOrder part_cmp
 unfolding part_cmp
 part_total =

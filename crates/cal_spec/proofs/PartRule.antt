@@ -54,7 +54,7 @@ written-symbols (b ∷ []) = written-byte b [] (is_ascii_digit b)
 written-symbols (b ∷ c ∷ bs) =
     written-pair b c (symbols bs) (symbols (c ∷ bs)) (is_point b && is_point c) refl (written-symbols (c ∷ bs) ∙ ap (λ more. c ∷ more) (sym (written-symbols bs))) ∙ ap (λ more. b ∷ c ∷ more) (written-symbols bs)
 
--- The grammar allows each parsed part
+-- If a part is parsed, the grammar allows it
 
 pub record NumberRead (ss : List Symbol) (r : Counted) : Type 0 where
   pub text : List ℕ
@@ -92,7 +92,7 @@ at_end_is : (slot : Slot) (p : Part) (ss : List Symbol) (q : Part) → part_at_e
 at_end_is slot p [] q at = (refl, cc)
 at_end_is slot p (s ∷ ss) q at = cc
 
--- the symbols after the start and the end of part `p` spell its step, if it has one
+-- `p` is the part with the start `a` and the end `last` whose step, if it has one, is spelled by the symbols `ss`
 pub record IsBehind (ss : List Symbol) (a : ℕ) (last : Option ℕ) (p : Part) : Type 0 where
   pub step : Option ℕ
   pub back : IsNext (codes "/") (written ss) step
@@ -117,7 +117,7 @@ end_read slot a b [] p sound at = record { step = None; back = refl; is = cc }
 end_read slot a b (slash ∷ ss) p sound at = step_read slot a (Some b) ss p sound.1 at
 end_read slot a b ss p sound at = cc
 
--- the text after the start of part `p` spells its end and its step, if it has them
+-- `p` is the part with the start `a` whose end and step, if it has them, are spelled by `text`
 pub record IsRest (text : List ℕ) (a : ℕ) (p : Part) : Type 0 where
   pub middle : List ℕ
   pub back : List ℕ
@@ -167,7 +167,7 @@ part_by : (text front middle back : List ℕ) (a : ℕ) (last step : Option ℕ)
 part_by text front middle back a last step p is whole start_is end_is step_is =
     rw (← is) (record { front = front; middle = middle; back = back; whole = whole; start = start_is; end = end_is; step = step_is })
 
--- a parsed part is the one that the grammar gives for its text
+-- if parsing a text returns the part `p`, the text spells `p` by the grammar
 pub part_found : (slot : Slot) (text : List ℕ) (p : Part) → part_of slot text ≡ Ok p → IsPartText text p
 unfolding part_of
 part_found slot text p at =
@@ -177,13 +177,13 @@ part_found slot text p at =
     let whole : text ≡ read.text ++ (rest.middle ++ rest.back) = sym (written-symbols text) ∙ ap written read.is ∙ ap (λ more. read.text ++ more) rest.whole in
     part_by text read.text rest.middle rest.back one.value.number rest.last rest.step p rest.is whole read.number rest.end_is rest.step_is
 
--- Each part that the grammar allows is parsed
+-- If the grammar allows a part, it is parsed
 
 number_due_is : (slot : Slot) (ds : List ℕ) (n : ℕ) (ss : List Symbol) → IsNumber ds n → starts_with_point ss ≡ false → number_due slot (digits ds ∷ ss) ≡ Ok (record { number = n; after = ss })
 number_due_is slot ds n ss number apart =
     rw (number.value, le-ltb most n number.small, and_right (is_second slot) (starts_with_point ss) apart) refl
 
--- the symbols of a number that is followed by no digit
+-- if no digit follows a number, its digits are one symbol
 number_symbols : (ds : List ℕ) (n : ℕ) (rest : List ℕ) → IsNumber ds n → begins_with is_ascii_digit rest ≡ false → symbols (ds ++ rest) ≡ digits ds ∷ symbols rest
 number_symbols [] n rest number apart = absurd (omega (arith, number.some))
 number_symbols (d ∷ ds) n rest number apart =
@@ -194,7 +194,7 @@ number_symbols (d ∷ ds) n rest number apart =
 pub slash_symbols : (bs : List ℕ) → symbols (47 ∷ bs) ≡ slash ∷ symbols bs
 slash_symbols bs = symbols_lone 47 bs refl refl
 
--- a step after the end of a range or after the first number is parsed
+-- if the text after a slash is the number `r`, `with_step` returns the part with the step `r`
 step_only : (slot : Slot) (a : ℕ) (last : Option ℕ) (rs : List ℕ) (r : ℕ) → IsNumber rs r → with_step slot a last (symbols rs) ≡ Ok (record { start = a; end = last; step = Some r })
 unfolding with_step
 step_only slot a last rs r number =
@@ -211,7 +211,7 @@ unfolding after_start
 start_only slot a back None none = rw none refl
 start_only slot a back (Some r) next = rw (next.1, slash_symbols next.0) (step_only slot a None next.0 r next.2)
 
--- the text after a number doesn't begin with a digit or a single point
+-- what can follow a number in a part begins neither with a digit nor with a single point
 back_no_digit : (back : List ℕ) (step : Option ℕ) → IsNext (codes "/") back step → begins_with is_ascii_digit back ≡ false
 back_no_digit back None none = rw none refl
 back_no_digit back (Some r) next = rw next.1 refl
@@ -237,7 +237,7 @@ rest_only : (slot : Slot) (a : ℕ) (middle back : List ℕ) (last step : Option
 rest_only slot a middle back None step none next = rw none (start_only slot a back step next)
 rest_only slot a middle back (Some b) step some next = rw some.1 (range_only slot a b some.0 back step some.2 next)
 
--- the parser returns the part that the grammar gives for its text
+-- if a text spells the part `p` by the grammar, parsing the text returns `p`
 pub part_only : (slot : Slot) (text : List ℕ) (p : Part) → IsPartText text p → part_of slot text ≡ Ok p
 unfolding part_of
 part_only slot text p is =

@@ -37,7 +37,7 @@ use Rattle.cal_spec.proofs.WordRule.{no_shorthand}
 use Rattle.cal_spec.proofs.WeekdayLemmas.{weekdays_text-all, weekdays_text-some}
 use Rattle.cal_spec.proofs.DateRule.{are_few, date_only, time_only}
 
--- fields that can be printed and parsed again: they are valid, and their numbers are small
+-- the fields are valid and their parts are small (see `IsSmall`), so they can be printed and parsed again
 pub record IsReadable (f : Fields) : Type 0 where
   pub valid : IsValidFields f
   pub year : AreSmall f.year
@@ -47,7 +47,7 @@ pub record IsReadable (f : Fields) : Type 0 where
   pub minute : AreSmall f.minute
   pub second : AreSmall f.second
 
--- The words of the date and of the time
+-- The printed fields are the word of the date, a space, and the word of the time
 
 date_word : Fields → List ℕ
 date_word f = component_text 4 f.year ++ (45 ∷ (component_text 2 f.month ++ (day_lead f.from_end ++ component_text 2 f.day)))
@@ -66,7 +66,8 @@ unfolding fields_text row_text date_word time_word
 fields_printed f =
     layout (day_lead f.from_end) (component_text 4 f.year) (component_text 2 f.month) (component_text 2 f.day) (component_text 2 f.hour) (component_text 2 f.minute) (component_text 2 f.second)
 
--- The bytes of dates and of times: those of components and separators. None of them is a letter or a blank.
+-- The bytes that can occur in a date or in a time: those of components, and separators. None of them is a letter or a
+-- blank.
 
 abbrev is_date_byte : ℕ → Bool
 is_date_byte b = is_component_byte b || (nat_eq b 45 || nat_eq b 126)
@@ -133,7 +134,7 @@ no_letter_first q (b ∷ bs) apart all = apart b (and_parts (q b) (list_all q bs
 component_sign : (b : ℕ) → is_component_byte b ≡ true → is_sign b ≡ false
 component_sign b h = grind (arith, nat_tests)
 
--- a component doesn't begin with a sign
+-- if a text begins with a component, it doesn't begin with `+` or `-`
 front_no_sign : (front rest : List ℕ) → 0 < length front → list_all is_component_byte front ≡ true → begins_with_sign (front ++ rest) ≡ false
 front_no_sign [] rest some all = absurd (omega arith)
 front_no_sign (b ∷ bs) rest some all = component_sign b (and_parts (is_component_byte b) (list_all is_component_byte bs) all).0
@@ -152,7 +153,7 @@ time_zone f h =
     let sign = front_no_sign (component_text 2 f.hour) (58 ∷ (component_text 2 f.minute ++ (58 ∷ component_text 2 f.second))) (printed_some Hour 2 f.hour h.valid.hour h.hour) (printed_bytes Hour 2 f.hour h.valid.hour h.hour) in
     rw (letter, sign) refl
 
--- Date and time
+-- The grammar allows the printed date and the printed time
 
 lead_is : (t : Bool) → day_lead t ≡ last_sign t
 lead_is true = refl
@@ -179,7 +180,7 @@ time_printed f h = record {
   second = component_printed Second 2 f.second h.valid.second h.second;
 }
 
--- Words
+-- The words of the printed date, time and zone
 
 word_first : (w rest : List ℕ) → list_any is_blank w ≡ false → 0 < length w → words (w ++ (32 ∷ rest)) ≡ w ∷ words rest
 unfolding words
@@ -213,12 +214,13 @@ words_of_fields f h =
     ∙ word_first (date_word f) (time_word f ++ after) (clear_of is_date_byte is_blank (date_word f) date_no_blank (date_bytes f h)) (date_some f h)
     ∙ ap (λ ws. date_word f ∷ ws) (words_to_zone (time_word f) f.zone (clear_of is_time_byte is_blank (time_word f) time_no_blank (time_bytes f h)) (time_some f h) h.valid.zone)
 
--- Roles of words
+-- The parser recognizes the printed weekdays, date, time and zone
 
 roles : Option (List ℕ) → Fields → WordRoles
 roles weekdays f = record { weekdays = weekdays; date = date_word f; time = time_word f; rest = zone_words f.zone }
 
--- the roles of a date, a time, and the words after them
+-- if `date` has no colon and `time` doesn't begin with a letter, `+` or `-`, `date_or_time` recognizes them as the date
+-- and the time
 date_roles : (weekdays : Option (List ℕ)) (date time : List ℕ) (rest : List (List ℕ)) → list_any is_colon date ≡ false → begins_zone time ≡ false
     → date_or_time weekdays date (time ∷ rest) ≡ record { weekdays = weekdays; date = date; time = time; rest = rest }
 date_roles weekdays date time rest no_time no_zone = rw (no_time, no_zone) refl
@@ -253,7 +255,7 @@ roles_back f weekdays h days =
     let name = zone_back f.zone h.valid.zone in
     rw (days, date, time, name) refl
 
--- The whole text
+-- Parsing a whole printed expression returns the same fields
 
 back_by : (f : Fields) (ws : List (List ℕ)) (p : WordRoles) → length (expr_text f) < 4_096 → words (expr_text f) ≡ ws → roles_of ws ≡ Some p → fields_at p ≡ Ok f → fields_in (expr_text f) ≡ Ok f
 unfolding fields_in

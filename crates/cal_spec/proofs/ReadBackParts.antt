@@ -1,4 +1,4 @@
--- The printed text of a part or component is one that the grammar allows.
+-- The grammar allows the printed text of a part or component.
 use Rattle.std.proofs.Common.{◌≡◌, ℕ, zero, suc, ◌-◌, ◌<◌, ◌≤◌, true, false, nat_lt, List, [], ◌∷◌, ◌++◌, length, map, replicate, codes, Option, None, Some, refl, sym, ap, ◌∙◌, arith}
 use Rattle.std.specs.Fmt.{decimal}
 use Rattle.std.specs.List.{AllByRecursion, AllZip, flat_map, list_all, join_with_byte}
@@ -56,7 +56,7 @@ part_printed width p small = record {
   step = next_printed (codes "/") 0 p.step (step_small p.step small.step);
 }
 
--- expanding two-digit years doesn't change numbers that are valid in their slot
+-- `with_century` doesn't change years from 100 on, since they don't have two digits
 pub century_stays : (n : ℕ) → 100 ≤ n → with_century n ≡ n
 century_stays n h =
     let late : nat_lt n 70 ≡ false = le-ltb n 70 (omega arith) in
@@ -71,7 +71,7 @@ values_stay : (slot : Slot) (p : Part) → IsValidPart slot p → with_values sl
 values_stay Year p h = same_part _ p (century_stays p.start (omega (arith, h.start_in.0))) (centuries_stay p.end h.end_in) refl
 values_stay slot p h = refl
 
--- parts joined by commas
+-- if parts are valid and small, the printed text of each spells this part by the grammar
 parts_printed : (slot : Slot) (width : ℕ) (ps : List Part) → AllByRecursion (IsValidPart slot) ps → AllByRecursion IsSmall ps → AllZip (IsPartOf slot) (map (part_text [] width) ps) ps
 parts_printed slot width [] sound small = tt
 parts_printed slot width (p ∷ ps) sound small = ((p, part_printed width p small.0, sym (values_stay slot p sound.0)), parts_printed slot width ps sound.1 small.1)

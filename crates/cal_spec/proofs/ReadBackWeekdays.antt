@@ -16,7 +16,8 @@ gives_days : Result (List Bool) SpecFault → List Bool → Bool
 gives_days (Ok ds) days = same_bools ds days
 gives_days (Err e) days = false
 
--- tests whether parsing `word` returns these days
+-- tests whether `word` can only be a weekday list (it has no blank, begins with a letter and isn't a shorthand), and
+-- whether parsing it returns `days`
 is_read_back : List ℕ → List Bool → Bool
 is_read_back word days =
     not (list_any is_blank word)
@@ -40,7 +41,7 @@ none_is : (o : Option Shorthand) → is_none o ≡ true → o ≡ None
 none_is None h = refl
 none_is (Some s) h = absurd (false≢true h)
 
--- parsing the word returns these days
+-- `word` can only be a weekday list, and parsing it returns `days`
 pub record ReadsDays (word : List ℕ) (days : List Bool) : Type 0 where
   pub clear : list_any is_blank word ≡ false
   pub letter : begins_with_letter word ≡ true
@@ -70,10 +71,10 @@ some_days days some chosen good =
     let none : not (list_any (λ d. d) days) ≡ false = ap not chosen in
     sym (ap (λ b. b || is_read_back (runs_text (runs_from 0 days)) days) none) ∙ (sym (cond-false (list_all (λ d. d) days) _ _ some) ∙ good)
 
--- all seven weekdays match if there is no weekday list
+-- if all seven weekdays are in the set, it is the set that is used if there is no weekday list
 pub weekdays_all : (days : List Bool) → length days ≡ 7 → list_all (λ d. d) days ≡ true → map (λ day. true) week ≡ days
 weekdays_all days seven all = all_days days all (each_checked 7 good_days days all_good seven)
 
--- parsing the text of any other set of weekdays returns this set
+-- if some of the weekdays are in a set, but not all, parsing the text of the set returns the set
 pub weekdays_some : (days : List Bool) → length days ≡ 7 → list_all (λ d. d) days ≡ false → list_any (λ d. d) days ≡ true → ReadsDays (runs_text (runs_from 0 days)) days
 weekdays_some days seven some chosen = reads_days (runs_text (runs_from 0 days)) days (some_days days some chosen (each_checked 7 good_days days all_good seven))

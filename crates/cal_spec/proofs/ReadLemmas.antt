@@ -5,7 +5,7 @@ use Rattle.cal_text.specs.AndThen.{◌>>=◌}
 use Rattle.cal_spec.specs.Reads.{unless}
 use Rattle.cal_spec.specs.declared.spec_fault.SpecFault.{SpecFault}
 
--- the second of two consecutive parsers returns `y`, from the value that the first returned
+-- the first of two consecutive parsers returns some value, and for this value the second returns `y`
 pub record Follows {A B E : Type 0} (r : Result A E) (f : A → Result B E) (y : B) : Type 0 where
   pub value : A
   pub first : r ≡ Ok value

@@ -1,4 +1,4 @@
--- Examples of texts, whose results and errors are checked by computation.
+-- Examples of texts and of what parsing them returns, checked by computation.
 use Rattle.std.proofs.Common.{◌≡◌, codes, refl, Err, List, [], ◌∷◌, ℕ, map}
 use Rattle.cal_spec.specs.Grammar.{fields_in, fields_at}
 use Rattle.cal_spec.specs.Words.{roles_of}
@@ -15,7 +15,7 @@ use Rattle.cal_spec.specs.declared.spec_fault.SpecFault.{SpecFault}
 use Rattle.cal_civil.specs.headline.Weekday.{name_of}
 use Rattle.cal_spec.specs.declared.spec_fault.SpecFault.TheVariants.{Empty, BadWeekday, BadDate, BadTime, FractionalSecond, NumberTooLarge, OutOfField, BackwardRange, ZeroRepeat, NoRepeat, TooManyParts, StrayWord, UnknownShorthand}
 
--- a text and its error
+-- a text and the error of parsing it
 abbrev Row : Type 0
 Row = List ℕ × SpecFault
 

@@ -1,4 +1,4 @@
--- The normal form of a part: its range ends at the last number that is reached, and it matches the same values.
+-- The normal form of a part: a range ends at the last number that it reaches, and it matches the same values as before.
 use Rattle.std.proofs.Common.{◌≡◌, ℕ, ◌+◌, ◌-◌, ◌*◌, ◌/◌, ◌%◌, ◌<◌, ◌≤◌, cond, Bool, true, false, nat_eq, nat_le, Option, None, Some, refl, ap, ◌∙◌, inl, inr, arith}
 use Rattle.std.proofs.Math.Nat.{mul-le-mul_right, mul-mod_left}
 use Rattle.std.proofs.lemmas.Bool.{ne_eqb, eqb-true, eqb-false, leb-true, le-leb, and_parts, and_from, cases_lt}
@@ -28,7 +28,7 @@ last_reached a b r positive forward =
       last = omega arith;
     }
 
--- only one number is the last one reached
+-- if `e` is the last number that a range from `a` to `b` with the step `r` reaches, `e` is `last_of a b r`
 pub one_last_reached : (a b r e : ℕ) → 0 < r → IsLastReached a b r e → e ≡ last_of a b r
 one_last_reached a b r e positive h =
     let whole = div-add-mod' (e - a) r in
@@ -42,7 +42,8 @@ pub step_positive : (step : Option ℕ) → IsStep step → 0 < step_of step
 step_positive None h = omega arith
 step_positive (Some r) h = h
 
--- `reduced_to` computes the normal form of a part, and there is no other
+-- if the range of a part isn't backwards and its step isn't zero, `reduced_to` returns its normal form as `IsReducedTo`
+-- defines it
 reduced_is_to : (a : ℕ) (end step : Option ℕ) → EndsAfter a end → IsStep step → IsReducedTo a end step (reduced_to a end step)
 reduced_is_to a None step forward steps = refl
 reduced_is_to a (Some b) step forward steps =
@@ -61,7 +62,8 @@ pub reduced_only : (p q : Part) → IsPart p → IsReduced p q → q ≡ reduced
 unfolding IsReduced reduced
 reduced_only p q h is = reduced_only_to p.start p.end p.step q h.steps is
 
--- the result is in normal form
+-- if the range from `a` to `e` has at least two numbers and reaches `e`, it is in normal form after `range_step` has
+-- dropped a step of 1
 range_normal : (a e : ℕ) (step : Option ℕ) → IsStep step → a < e → (e - a) % step_of step ≡ 0 → IsNormalRange a e (range_step step)
 range_normal a e None steps lt reached = lt
 range_normal a e (Some r) steps lt reached = by_one (nat_eq r 1) refl where
@@ -93,7 +95,7 @@ pub reduced_normal : (p : Part) → IsPart p → IsNormal (reduced p)
 unfolding reduced
 reduced_normal p h = reduced_normal_to p.start p.end p.step h.forward h.steps
 
--- a part in normal form is its own normal form
+-- if a range has at least two numbers and its step isn't 1, `range_to` returns the range unchanged
 range_to_stays : (a b : ℕ) (step : Option ℕ) → a < b → range_step step ≡ step → range_to a b step ≡ record { start = a; end = Some b; step = step }
 range_to_stays a b step lt same =
     let other : nat_eq b a ≡ false = ne_eqb b a (λ e. absurd (omega arith)) in
@@ -115,7 +117,8 @@ pub normal_stays : (p : Part) → IsNormal p → reduced p ≡ p
 unfolding IsNormal reduced
 normal_stays p h = normal_stays_to p.start p.end p.step h ∙ same_part _ p refl refl refl
 
--- if the values of a part are valid, so are those of its normal form
+-- if the slot allows `a` and `e`, `a` isn't above `e`, and the step isn't zero, then the number `a` and the range from
+-- `a` to `e` have valid values
 sound_by : (t : Bool) (slot : Slot) (a e : ℕ) (step : Option ℕ) → IsWithin slot a → IsWithin slot e → a ≤ e → IsStep step
     → IsValidPart slot (cond t (point a) (record { start = a; end = Some e; step = range_step step }))
 sound_by true slot a e step start end forward steps =
@@ -142,7 +145,8 @@ pub reduced_sound : (slot : Slot) (p : Part) → IsValidPart slot p → IsValidP
 unfolding reduced
 reduced_sound slot p h = sound_to slot p.start p.end p.step h.start_in h.end_in h.forward h.some_step h.goes_on
 
--- a range and its normal form match the same values
+-- if `e` is the last number that a range from `a` to `b` reaches, the range to `e` matches the same values as the range
+-- to `b`
 pub last_between : (a b r e v : ℕ) → 0 < r → IsLastReached a b r e → is_step_between a e r (v - a) v ≡ is_step_between a b r (v - a) v
 last_between a b r e v positive last = both_ways (is_step_between a e r (v - a) v) (is_step_between a b r (v - a) v)
     (λ h.

@@ -14,7 +14,7 @@ use Rattle.cal_spec.specs.ZoneSuffix.{IsSuffix, suffix_of}
 use Rattle.cal_spec.specs.headline.ZoneSuffix.{ZoneSuffix, ahead, of_name, suffix_text}
 use Rattle.cal_text.proofs.General.{clear_of}
 
--- a sign is not a letter, so a word that begins with a sign is not a name
+-- `+` and `-` are not letters, so a word that begins with one of them is not the name of a zone
 sign_letter : (b : ℕ) → is_sign b ≡ true → is_ascii_alphabetic b ≡ false
 sign_letter b h = grind (arith, nat_tests)
 

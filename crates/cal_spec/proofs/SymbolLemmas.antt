@@ -16,7 +16,7 @@ begins_with p (b ∷ bs) = p b
 pub digit_no_point : (b : ℕ) → is_ascii_digit b ≡ true → is_point b ≡ false
 digit_no_point b digit = ne_eqb b 46 (λ e. omega (arith, leb-true 48 b (and_parts (leb 48 b) (leb b 57) digit).0))
 
--- a digit joins a run of digits after it
+-- the symbols of a digit and a text after it are those of the text, with the digit put before them by `with_digit`
 pub symbols_digit : (b : ℕ) (bs : List ℕ) → is_ascii_digit b ≡ true → symbols (b ∷ bs) ≡ with_digit b (symbols bs)
 symbols_digit b [] digit = rw digit refl
 symbols_digit b (c ∷ bs) digit = rw (digit_no_point b digit, digit) refl
@@ -49,7 +49,8 @@ symbols_number b (d ∷ ds) rest digit all apart =
     let parts = and_parts (is_ascii_digit d) (list_all is_ascii_digit ds) all in
     symbols_digit b (d ∷ (ds ++ rest)) digit ∙ ap (with_digit b) (symbols_number d ds rest parts.0 parts.1 apart)
 
--- the leading digits of a text, and the text after them
+-- the text before the first byte that isn't a digit consists of digits, and the remaining text doesn't begin with a
+-- digit
 front_digits : (bs : List ℕ) → (list_all is_ascii_digit (take (prefix_len is_ascii_digit bs) bs) ≡ true) × (begins_with is_ascii_digit (drop (prefix_len is_ascii_digit bs) bs) ≡ false)
 front_digits [] = (refl, refl)
 front_digits (b ∷ bs) =
@@ -57,7 +58,7 @@ front_digits (b ∷ bs) =
     let one : 1 + prefix_len is_ascii_digit bs ≡ suc (prefix_len is_ascii_digit bs) = omega arith in
     elim (cases_Bool (is_ascii_digit b)) [ inl digit ↦ rw (digit, one) (rw digit more.0, more.1) | inr none ↦ rw none (refl, none) ]
 
--- the first symbol of a text that begins with a digit
+-- if a text begins with a digit, its first symbol is the run of its leading digits
 pub digits_first : (b : ℕ) (bs : List ℕ) → is_ascii_digit b ≡ true → symbols (b ∷ bs) ≡ digits (take (prefix_len is_ascii_digit (b ∷ bs)) (b ∷ bs)) ∷ symbols (drop (prefix_len is_ascii_digit (b ∷ bs)) (b ∷ bs))
 digits_first b bs digit =
     let n = prefix_len is_ascii_digit bs in
@@ -65,7 +66,7 @@ digits_first b bs digit =
     let front = front_digits bs in
     rw (digit, e) (ap (λ cs. symbols (b ∷ cs)) (sym (take-append-drop n bs)) ∙ symbols_number b (take n bs) (drop n bs) digit front.0 front.1)
 
--- a number consists of digits
+-- if the symbol is a number, it consists of one or more digits
 abbrev pub IsSymbol : Symbol → Type 0
 IsSymbol (digits ds) = (list_all is_ascii_digit ds ≡ true) × (0 < length ds)
 IsSymbol s = ⊤
@@ -88,7 +89,7 @@ pair_of_symbols : (b : ℕ) (ss ts : List Symbol) (pair : Bool) → AllByRecursi
 pair_of_symbols b ss ts true all more = (tt, all)
 pair_of_symbols b ss ts false all more = byte_of_symbols b ts (is_ascii_digit b) refl more
 
--- all numbers among the symbols consist of digits
+-- all numbers among the symbols of a text consist of one or more digits
 pub symbols_sound : (text : List ℕ) → AllByRecursion IsSymbol (symbols text)
 symbols_sound [] = tt
 symbols_sound (b ∷ []) = byte_of_symbols b [] (is_ascii_digit b) refl tt
@@ -97,11 +98,11 @@ symbols_sound (b ∷ c ∷ bs) = pair_of_symbols b (symbols bs) (symbols (c ∷ 
 pub sound_at : (text : List ℕ) (ss : List Symbol) → symbols text ≡ ss → AllByRecursion IsSymbol ss
 sound_at text ss at = rw at at (symbols_sound text)
 
--- a text that begins with a digit begins with a number
+-- like `digits_first`, but the first byte is known to be a digit by its value, from 48 to 57
 pub digits_at_front : (text : List ℕ) → 0 < length text → 48 ≤ get_or text 0 0 → get_or text 0 0 ≤ 57 → symbols text ≡ digits (take (prefix_len is_ascii_digit text) text) ∷ symbols (drop (prefix_len is_ascii_digit text) text)
 digits_at_front [] some low high = absurd (omega arith)
 digits_at_front (b ∷ bs) some low high = digits_first b bs (and_from _ _ (le-leb 48 b low) (le-leb b 57 high))
 
--- a number at the start of a text consists of digits
+-- if the first symbol of a text is a number, the number consists of digits
 pub first_has_digits : (text : List ℕ) (ds : List ℕ) (ss : List Symbol) → symbols text ≡ digits ds ∷ ss → list_all is_ascii_digit ds ≡ true
 first_has_digits text ds ss at = (sound_at text (digits ds ∷ ss) at).0.0

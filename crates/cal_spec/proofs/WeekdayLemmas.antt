@@ -14,7 +14,7 @@ use Rattle.cal_text.proofs.General.{or_assoc}
 run : ℕ → ℕ → Run
 run first last = record { first = first; last = last }
 
--- how many days match before the first one that doesn't
+-- the number of leading days that match
 abbrev pub front : List Bool → ℕ
 front = prefix_len (λ day. day)
 
@@ -36,30 +36,30 @@ with_day_apart : (day : ℕ) (rs : List Run) → AreApartFrom (day + 1) rs → A
 with_day_apart day [] a = (omega arith, omega arith, tt)
 with_day_apart day (r ∷ rs) a = with_day_by (nat_eq r.first (day + 1)) day r rs refl a
 
--- the runs begin at the first day or later, and are separated by at least one day
+-- the runs of days numbered from `day` on begin at `day` or later, and are separated by at least one day
 pub runs_apart : (day : ℕ) (bs : List Bool) → AreApartFrom day (runs_from day bs)
 runs_apart day [] = tt
 runs_apart day (true ∷ bs) = with_day_apart day (runs_from (day + 1) bs) (runs_apart (day + 1) bs)
 runs_apart day (false ∷ bs) = lower day (day + 1) (runs_from (day + 1) bs) (omega arith) (runs_apart (day + 1) bs)
 
--- if the runs begin later than the next day, the day is a run of its own
+-- if the runs begin after the next day, adding `day` before them makes it a run of its own
 with_day-alone : (day : ℕ) (rs : List Run) → AreApartFrom (day + 2) rs → with_day day rs ≡ record { first = day; last = day } ∷ rs
 with_day-alone day [] a = refl
 with_day-alone day (r ∷ rs) a =
     let other : nat_eq r.first (day + 1) ≡ false = ne_eqb r.first (day + 1) (λ e. absurd (omega (arith, a.0))) in
     rw other
 
--- if a run begins on the next day, the day joins this run
+-- if the first run begins on the next day, adding `day` makes this run begin on `day`
 with_day-joins : (day last : ℕ) (rs : List Run) → with_day day (record { first = day + 1; last = last } ∷ rs) ≡ record { first = day; last = last } ∷ rs
 with_day-joins day last rs = let same : nat_eq (day + 1) (day + 1) ≡ true = eq-eqb (day + 1) (day + 1) refl in rw same
 
--- a first day that doesn't match belongs to no run
+-- if the first day doesn't match, the runs are those of the days after it
 pub runs_skip : (day : ℕ) (bs : List Bool) → front bs ≡ 0 → runs_from day bs ≡ runs_from (day + 1) (drop 1 bs)
 runs_skip day [] h = refl
 runs_skip day (true ∷ bs) h = absurd (omega arith)
 runs_skip day (false ∷ bs) h = refl
 
--- the leading days that match are the first run
+-- if the number of leading days that match is `n + 1`, these days are the first run
 pub runs_front : (n day : ℕ) (bs : List Bool) → front bs ≡ suc n
     → runs_from day bs ≡ record { first = day; last = day + n } ∷ runs_from (day + n + 2) (drop (suc (suc n)) bs)
 runs_front n day [] h = absurd (omega arith)
@@ -76,7 +76,7 @@ runs_front (suc m) day (true ∷ bs) h =
     let next : day + suc m + 2 ≡ day + suc m + 2 = refl in
     rw (inner, last) (with_day-joins day (day + suc m) (runs_from (day + suc m + 2) (drop (suc (suc m)) bs)))
 
--- the text of the runs: `lead` before the first one, commas before the others
+-- the text of the runs: `lead` before the first run, commas before the others
 abbrev pub led : List ℕ → List Run → List ℕ
 led lead [] = []
 led lead (r ∷ rs) = run_text lead r ++ flat_map (λ q. codes "," ++ run_text [] q) rs
@@ -91,7 +91,8 @@ unfolding run_text
 led-comma [] = refl
 led-comma (r ∷ rs) = refl
 
--- the remaining text at a day that matches: the run that begins there, and the text after the run
+-- if `day` matches, the text of the runs from `day` on is that of the run from `day` to `last`, and then that of the
+-- runs from `next` on
 pub led-front : (lead : List ℕ) (day last next n : ℕ) (days : List Bool) → n ≡ front (drop day days) → 0 < n → last ≡ day + n - 1 → next ≡ day + (n + 1)
     → led lead (runs_from day (drop day days)) ≡ run_text lead (record { first = day; last = last }) ++ led (codes ",") (runs_from next (drop next days))
 led-front lead day last next zero days e positive at_last at_next = absurd (omega arith)
@@ -105,7 +106,7 @@ led-front lead day last next (suc m) days e positive at_last at_next =
     ∙ ap (λ t. run_text lead (record { first = day; last = day + m }) ++ t) (led-comma (runs_from (day + m + 2) (drop (suc (suc m)) bs)))
     ∙ rw (at_end, after, dropped) refl
 
--- the remaining text at a day that doesn't match is that of the days after it
+-- if `day` doesn't match, the text of the runs from `day` on is that of the runs from `next` on
 pub led-skip : (lead : List ℕ) (day next n : ℕ) (days : List Bool) → n ≡ front (drop day days) → n ≡ 0 → next ≡ day + (n + 1)
     → led lead (runs_from day (drop day days)) ≡ led lead (runs_from next (drop next days))
 led-skip lead day next n days e none at_next =
@@ -132,7 +133,7 @@ text_after_first-more first last h =
     let no_second : nat_eq (first + 1) last ≡ false = ne_eqb (first + 1) last (λ e. absurd (omega arith)) in
     rw (other, no_second)
 
--- the runs contain exactly the days that match
+-- if the runs begin at `low` or later, they contain no day before `low`
 is_in-later : (low day : ℕ) (rs : List Run) → AreApartFrom low rs → day < low → is_in day rs ≡ false
 is_in-later low day [] a h = refl
 is_in-later low day (r ∷ rs) a h =
@@ -188,7 +189,8 @@ run_past r rs day past =
 contradiction : {A : Type 0} (x y : Bool) → x ≡ true → y ≡ false → x ≡ y → A
 contradiction x y holds fails same = absurd (cc)
 
--- if two lists of runs contain the same days, their first runs begin and end on the same days
+-- if two lists of runs contain the same days, the first run `q` of the second list doesn't begin after the first run
+-- `r` of the first list
 first_le : (r q : Run) (rs qs : List Run) → r.first ≤ r.last → AreApartFrom q.first (q ∷ qs) → ((day : ℕ) → is_in day (r ∷ rs) ≡ is_in day (q ∷ qs))
     → q.first ≤ r.first
 first_le r q rs qs forward apart same = elim (cases_lt r.first q.first) [

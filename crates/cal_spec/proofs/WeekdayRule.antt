@@ -23,7 +23,7 @@ use Rattle.cal_spec.specs.declared.weekdays.WeekdayRange.{WeekdayRange}
 use Rattle.cal_spec.proofs.FieldLemmas.{items_of-cons, weekdays_found}
 use Rattle.cal_text.proofs.General.{list_all-both, some_none, some_pieces, list_all-wider, IsClear, Apart, clear_of, split_join_with_byte}
 
--- Names
+-- The parser recognizes exactly the names of weekdays that the grammar allows
 
 same_word : (text name : List ℕ) → str_eq_ignore_ascii_case text name ≡ true → map to_ascii_lowercase text ≡ map to_ascii_lowercase name
 same_word text name test = (bytes_eq-Decides (map to_ascii_lowercase text) (map to_ascii_lowercase name)).0 test
@@ -71,7 +71,7 @@ pub name_letters : (text : List ℕ) (day : Weekday) → IsName text day → lis
 name_letters text day (inl is) = letters_by text (ap (list_all is_ascii_lowercase) is ∙ (names_of day).2)
 name_letters text day (inr is) = letters_by text (ap (list_all is_ascii_lowercase) is ∙ (names_of day).3)
 
--- The leading letters of a text
+-- Splitting a text after its leading letters
 
 front_len : (xs rest : List ℕ) → list_all is_ascii_alphabetic xs ≡ true → begins_with_letter rest ≡ false → position_or_len is_no_letter (xs ++ rest) ≡ length xs
 front_len [] [] all stop = refl
@@ -86,7 +86,7 @@ letters_at xs rest all stop =
     let len = front_len xs rest all stop in
     (ap (λ n. take n (xs ++ rest)) len ∙ take_at xs rest _ refl, ap (λ n. drop n (xs ++ rest)) len ∙ drop_at xs rest _ refl)
 
--- Items
+-- If an item is parsed, the grammar allows it
 
 pub record JointRead (text : List ℕ) (name : List ℕ) : Type 0 where
   pub joint : List ℕ
@@ -145,7 +145,7 @@ unfolding days_of
 item_found item days at =
     rw take-append-drop at (item_by (leading_letters item) (after_letters item) (day_named (leading_letters item)) days refl at)
 
--- Each item that the grammar allows is parsed
+-- If the grammar allows an item, it is parsed
 
 joint_passed : (joint last : List ℕ) → (joint ≡ codes "..") ⊎ (joint ≡ codes "-") → 0 < length last → (begins_with_letter (joint ++ last) ≡ false) × (after_joint (joint ++ last) ≡ Some last)
 joint_passed joint last (inl dots) some = rw dots (refl, refl)
@@ -171,7 +171,7 @@ item_only text days (inr two) =
     let letters = letters_at two.first (two.joint ++ two.last) (name_letters two.first days.first two.first_name) passed.0 in
     rw (two.whole, letters.0, letters.1, name_only two.first days.first two.first_name, days_joined days.first (two.joint ++ two.last) two.last passed.1, name_only two.last days.last two.last_name) refl
 
--- The list
+-- If a weekday list is parsed, the grammar allows it
 
 items_found : (ts : List (List ℕ)) (items : List WeekdayRange) → items_of ts ≡ Ok items → AllZip IsItem ts items
 items_found [] items at = let none : [] ≡ items = cc in rw (← none) tt
@@ -179,7 +179,7 @@ items_found (t ∷ ts) items at =
     let read = items_of-cons t ts items at in
     rw read.is (item_found t read.first read.first_is, items_found ts read.rest read.rest_is)
 
--- the last byte of a text
+-- a nonempty text is its bytes without the last one, and then the last byte
 last_taken : (b : ℕ) (bs : List ℕ) → take (length bs) (b ∷ bs) ++ (get_or (b ∷ bs) (length bs) 0 ∷ []) ≡ b ∷ bs
 last_taken b [] = refl
 last_taken b (c ∷ bs) = ap (λ more. b ∷ more) (last_taken c bs)
@@ -221,7 +221,7 @@ pub weekdays_by_rule : (word : Option (List ℕ)) (days : List Bool) → weekday
 weekdays_by_rule None days at = let is : map (λ day. true) week ≡ days = cc in sym is
 weekdays_by_rule (Some word) days at = list_found word days at
 
--- the bytes of items: letters, points and dashes
+-- the bytes that can occur in an item of a weekday list: letters, points and dashes
 abbrev is_item_byte : ℕ → Bool
 is_item_byte b = is_ascii_alphabetic b || ((b == 45) || (b == 46))
 
@@ -251,8 +251,8 @@ items_only (t ∷ ts) (d ∷ items) zip =
     let more = items_only ts items zip.1 in
     ((clear_of is_item_byte is_comma t item_no_comma (item_bytes t d zip.0), more.0), rw (item_only t d zip.0, more.1) refl)
 
--- Removing a trailing comma: a text that ends in a letter is unchanged, and if a comma follows the letter, only this
--- comma is removed
+-- Removing a trailing comma: a text that ends in a letter is unchanged, and if a comma follows the letter, this comma
+-- alone is removed
 
 pub record EndsInLetter (text : List ℕ) : Type 0 where
   pub front : List ℕ
@@ -317,7 +317,7 @@ trimmed_is : (word : List ℕ) (text : List ℕ) → EndsInLetter text → (word
 trimmed_is word text ends (inl same) = ap without_comma same ∙ kept text ends
 trimmed_is word text ends (inr more) = ap without_comma more ∙ taken_by text
 
--- The name of a weekday at the start of a word
+-- If the grammar allows a weekday list, it begins with the name of a weekday, and it is parsed
 
 pub record BeginsWithName (text : List ℕ) (day : Weekday) : Type 0 where
   pub name : List ℕ

@@ -29,7 +29,7 @@ expression_with text p weekdays d h kept roles_are week date time last =
       zone = read.is;
     }
 
--- each text that is parsed is an expression of the grammar, with the same fields
+-- if parsing a text returns the fields `f`, the text is an expression of the grammar with the fields `f`
 pub valid_found : (text : List ℕ) (f : Fields) → fields_in text ≡ Ok f → IsValid text f
 valid_found text f at =
     let found = text_found text f at in
@@ -48,7 +48,7 @@ fields_only text f e few =
     let last : suffix_in p.rest ≡ Ok f.zone = ap suffix_in (rest_of (words text) p e.last e.roles_are) ∙ zone_only e.last f.zone e.zone in
     rw (weekdays_only p.weekdays f.weekdays e.weekdays, date_only p.date f few e.date, time_only p.time f few e.time, last) refl
 
--- each expression of the grammar is parsed, with the same fields
+-- if a text is an expression of the grammar with the fields `f`, parsing the text returns `f`
 pub valid_only : (text : List ℕ) (f : Fields) → IsValid text f → fields_in text ≡ Ok f
 unfolding fields_in
 valid_only text f valid =

@@ -26,7 +26,7 @@ use Rattle.cal_spec.specs.declared.shorthand.Shorthand.{Shorthand}
 use Rattle.cal_spec.proofs.FieldLemmas.{time_found}
 use Rattle.cal_text.proofs.General.{split_alone}
 
--- The zone
+-- A word is parsed as a zone exactly if the grammar allows it as one, and then it begins with a letter, `+` or `-`
 
 pub record ZoneRead (rest : List (List ℕ)) (suffix : Option ZoneSuffix) : Type 0 where
   pub last : Option (List ℕ)
@@ -73,7 +73,7 @@ pub zone_begins : (last : Option (List ℕ)) (suffix : Option ZoneSuffix) → Is
 zone_begins None suffix is = tt
 zone_begins (Some word) suffix is = word_begins word suffix is
 
--- A time has a colon
+-- A word that is parsed as a time has a colon
 
 time_needs : (word : List ℕ) (t : TimeTexts) → time_texts word ≡ Some t → list_any is_colon word ≡ false → ⊥
 unfolding time_texts
@@ -99,7 +99,8 @@ signless_more : (weekdays : Option (List ℕ)) (w time : List ℕ) → AllByRecu
 signless_more None w time first next = (next, tt)
 signless_more (Some v) w time first next = (first.0, (next, tt))
 
--- the words after the weekday list, or all words if there is no list
+-- the grammar gives the words after the weekday list, or all words if there is no such list, the roles that the parser
+-- finds
 module _ (weekdays last : Option (List ℕ)) (kind : IfSome weekdays IsWeekdaysWord) where
   plain_with : (date time : Option (List ℕ)) (rest : List (List ℕ)) → 0 < length (given weekdays ++ (given date ++ given time)) → IfSome date IsDateWord → IfSome time IsTimeWord → AllByRecursion IsSignless (drop 1 (given weekdays ++ (given date ++ given time))) → rest ≡ given last
       → ArePlain (given weekdays ++ (given date ++ (given time ++ rest))) (record { weekdays = weekdays; date = unwrap_or date any_date; time = unwrap_or time midnight; rest = rest }) last
@@ -184,7 +185,7 @@ after_weekdays_is weekdays None (Some time) last date_kind kind signless begins 
 after_weekdays_is weekdays (Some date) time last date_kind kind signless begins =
     rw (date_kind.0, signless.0, date_kind.1) (after_date_is weekdays date time last kind signless.1 begins)
 
--- a shorthand begins with a letter
+-- if the byte `b` isn't a letter, converting it to lower case doesn't return a letter `c` from `a` to `z`
 other_letter : (b c : ℕ) → is_ascii_alphabetic b ≡ false → 97 ≤ c → c ≤ 122 → eqb (to_ascii_lowercase b) c ≡ false
 other_letter b c none low high = grind (arith, nat_tests)
 

@@ -17,7 +17,8 @@ blank_before c text [] blank are = and_from (is_blank c) (list_all is_blank text
 blank_before c text (w ∷ ws) blank are =
     (c ∷ are.0, are.1, ap (λ more. c ∷ more) are.2, and_from (is_blank c) (list_all is_blank are.0) blank are.3, are.4, are.5, are.6)
 
--- the first piece of a text, and the words after it
+-- the text is `part`, which contains no blank, and then a text that is empty or begins with a blank; the words of this
+-- second text are the nonempty texts among `parts`
 record Spread (text part : List ℕ) (parts : List (List ℕ)) : Type 0 where
   rest : List ℕ
   whole : text ≡ part ++ rest
@@ -76,7 +77,7 @@ words_found text =
     let some = some_piece is_blank text in
     rw some.2 (words_by text some.0 some.1 (spread_of text some.0 some.1 some.2))
 
--- A text of blanks has no words
+-- Leading blanks don't change the words of a text, and a text of blanks has no words
 
 words_lead : (lead text : List ℕ) → list_all is_blank lead ≡ true → words (lead ++ text) ≡ words text
 words_lead [] text blanks = refl
@@ -98,7 +99,7 @@ words_first w [] word ends =
 words_first w (b ∷ rest) word ends =
     rw (split_at is_blank w b rest word.solid ends, lt-ltb 0 (length w) word.some) (ap (λ more. w ∷ more) (sym (words-blank b rest ends)))
 
--- the words of a text are unique
+-- if `ws` are the words of a text, `words` returns them
 pub words_only : (text : List ℕ) (ws : List (List ℕ)) → AreWords text ws → words text ≡ ws
 words_only text [] blanks = words_none text blanks
 words_only text (w ∷ ws) are =

@@ -1,6 +1,6 @@
 -- Parsing of a component of a date or time: systemd.time(7), Calendar Events. "Counted" parts are those that count
--- towards the limit: all parts of a date's component, all but the first of a time's. `room` is how many counted parts
--- are still allowed.
+-- towards the limit of 240: all parts of a year, month or day, and all but the first part of an hour, minute or second.
+-- `room` is how many counted parts are still allowed.
 use Rattle.std.specs.Prelude.{ℕ, ◌+◌, ◌-◌, ◌==◌, Bool, if◌then◌else◌, List, [], ◌∷◌, length, map, codes, Option, None, Some, Result, Ok, Err}
 use Rattle.std.specs.List.{slice_split}
 use Rattle.std.specs.Str.{bytes_eq}
@@ -14,7 +14,7 @@ use Rattle.cal_spec.specs.declared.spec_fault.SpecFault.{SpecFault}
 use Rattle.cal_spec.specs.declared.spec_fault.SpecFault.TheVariants.{TooManyParts}
 use Rattle.cal_text.specs.headline.Separators.{is_comma}
 
--- `*`, which matches all values
+-- whether a component is `*`, which matches all values
 abbrev pub is_star : List ℕ → Bool
 is_star text = bytes_eq text (codes "*")
 
@@ -27,22 +27,23 @@ abbrev pub counted : Slot → Option (List Part) → ℕ
 counted slot None = 0
 counted slot (Some ps) = if is_time slot then length ps - 1 else length ps
 
--- the number of parts that are allowed in a component, counted or not
+-- the number of parts that are allowed in a component if `room` counted parts are: one more in an hour, minute or
+-- second
 abbrev pub room_in : Slot → ℕ → ℕ
 room_in slot room = if is_time slot then room + 1 else room
 
--- parses the next part, or fails if there is no room
+-- parses the next part, or fails with `TooManyParts` if `room` is 0
 unfoldable pub part_due : Slot → ℕ → List ℕ → Result Part SpecFault
 part_due slot room text =
     if room == 0 then Err TooManyParts else (part_of slot text >>= λ p. Ok (with_values slot p))
 
--- parses the parts, or fails with the first syntax error
+-- parses the parts without checking their values, or fails with the first error
 abbrev pub parts_of : Slot → ℕ → List (List ℕ) → Result (List Part) SpecFault
 parts_of slot room [] = Ok []
 parts_of slot room (t ∷ ts) =
     part_due slot room t >>= λ p. parts_of slot (room - 1) ts >>= λ ps. Ok (p ∷ ps)
 
--- the first error among the values of the parts
+-- the first error in the values of the parts, if there is one
 abbrev pub first_value_fault : Slot → List Part → Option SpecFault
 first_value_fault slot ps = first_of (map (fault_of slot) ps)
 

@@ -10,7 +10,7 @@ use Rattle.cal_spec.specs.declared.field.Field.TheVariants as field
 use Rattle.cal_spec.specs.declared.part.Part.{Part}
 use Rattle.cal_spec.specs.declared.spec_fault.SpecFault.{SpecFault}
 
--- valid fields in normal form
+-- the fields are valid and in normal form
 pub record IsExpr (f : Fields) : Type 0 where
   pub valid : IsValidFields f
   pub normal : normal_fields f ≡ f
@@ -19,7 +19,7 @@ pub record IsExpr (f : Fields) : Type 0 where
 unfoldable pub expr_in : List ℕ → Result Fields SpecFault
 expr_in text = fields_in text >>= λ f. Ok (normal_fields f)
 
--- the component that `Field` names
+-- the component that a value of `Field` names
 abbrev pub component : Field → Fields → Option (List Part)
 component field.Year f = f.year
 component field.Month f = f.month

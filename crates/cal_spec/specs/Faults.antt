@@ -1,5 +1,6 @@
 -- All checks of an expression in their documented order, each independent of the others: systemd.time(7), Calendar
--- Events. The error of an invalid text is the first check that fails.
+-- Events. A check is `None` if it passes, and otherwise its error. The error of an invalid text is that of the first
+-- check that fails.
 use Rattle.std.specs.Prelude.{ℕ, ◌+◌, ◌-◌, nat_lt, if◌then◌else◌, List, [], ◌∷◌, ◌++◌, length, map, Option, None, Some, Result, Ok, Err}
 use Rattle.std.specs.List.{slice_split}
 use Rattle.std.specs.Result.{result_err}
@@ -31,11 +32,12 @@ abbrev pub numbered : Slot → List ℕ → ℕ
 numbered slot text =
     if is_star text then 0 else (if is_time slot then length (pieces_of text) - 1 else length (pieces_of text))
 
--- the number of a component's first part, after `before` counted parts of earlier components
+-- the number of a component's first part, after `before` counted parts of earlier components: counted parts are
+-- numbered from 1, and the first part of an hour, minute or second, which isn't counted, gets the number `before`
 abbrev pub first_number : Slot → ℕ → ℕ
 first_number slot before = if is_time slot then before else before + 1
 
--- the check of a part's syntax, by the number of the part and its text
+-- the check of a part's syntax; a part with a number above 240 is one too many, whatever its syntax
 abbrev pub shape_fault : Slot → ℕ → List ℕ → Option SpecFault
 shape_fault slot number text = if nat_lt most_counted number then Some TooManyParts else result_err (part_of slot text)
 
@@ -43,7 +45,7 @@ abbrev pub shape_faults : Slot → ℕ → List (List ℕ) → List (Option Spec
 shape_faults slot number [] = []
 shape_faults slot number (t ∷ ts) = shape_fault slot number t ∷ shape_faults slot (number + 1) ts
 
--- the check of a part's values; if its syntax is wrong, there is no such check
+-- the check of a part's values; if the syntax of the part is wrong, its values are not checked
 abbrev pub value_fault : Slot → Result Part SpecFault → Option SpecFault
 value_fault slot (Ok p) = fault_of slot (with_values slot p)
 value_fault slot (Err e) = None
@@ -83,6 +85,6 @@ faults_at (Some p) =
     ++ (time_faults (numbered_in (date_texts p.date)) (time_texts p.time)
     ++ (result_err (suffix_in p.rest) ∷ [])))
 
--- all checks of a text
+-- all checks of a text: its length, and then its words
 unfoldable pub judgements_of : List ℕ → List (Option SpecFault)
 judgements_of text = (if nat_lt max_text_bytes (length text) then Some TextTooLong else None) ∷ faults_at (roles_of (words text))

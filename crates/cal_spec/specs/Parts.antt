@@ -30,7 +30,7 @@ abbrev pub is_from_end : Slot → Bool
 is_from_end DayFromEnd = true
 is_from_end slot = false
 
--- the error for a malformed part of this component
+-- the error for a part with wrong syntax in this slot
 abbrev pub bad : Slot → SpecFault
 bad slot = if is_time slot then BadTime else BadDate
 
@@ -47,7 +47,7 @@ pub data Symbol : Type 0 where
   point : Symbol
   other : ℕ → Symbol
 
--- prepends a digit to symbols; it joins a run of digits that comes first
+-- puts a digit before symbols; if the first symbol is a run of digits, the digit becomes the first of this run
 abbrev pub with_digit : ℕ → List Symbol → List Symbol
 with_digit b (digits ds ∷ ss) = digits (b ∷ ds) ∷ ss
 with_digit b ss = digits (b ∷ []) ∷ ss
@@ -59,7 +59,7 @@ lone b = if is_point b then point else (if is_slash b then slash else other b)
 abbrev pub with_byte : ℕ → List Symbol → List Symbol
 with_byte b ss = if is_ascii_digit b then with_digit b ss else lone b ∷ ss
 
--- splits a text into symbols; points are paired from left to right
+-- splits a text into symbols; two consecutive points are one symbol, taken from the left, so `...` is `..` and then `.`
 abbrev pub symbols : List ℕ → List Symbol
 symbols [] = []
 symbols (b ∷ []) = with_byte b []
@@ -76,7 +76,7 @@ pub record Counted : Type 0 where
   pub number : ℕ
   pub after : List Symbol
 
--- checks a number; for seconds, also checks that no fraction follows
+-- checks that a number is at most 9999 and, for seconds, that no fraction follows
 abbrev pub after_number : Slot → ℕ → List Symbol → Result Counted SpecFault
 after_number slot n ss =
     if nat_lt most n then Err NumberTooLarge
@@ -92,7 +92,7 @@ abbrev pub part_at_end : Slot → Part → List Symbol → Result Part SpecFault
 part_at_end slot p [] = Ok p
 part_at_end slot p ss = Err (bad slot)
 
--- parses what follows a slash
+-- parses what follows the slash of a part: the step, after which nothing may follow
 unfoldable pub with_step : Slot → ℕ → Option ℕ → List Symbol → Result Part SpecFault
 with_step slot a last ss =
     number_due slot ss >>= λ r. part_at_end slot (record { start = a; end = last; step = Some r.number }) r.after
@@ -114,17 +114,17 @@ after_start slot a ss = Err (bad slot)
 unfoldable pub part_of : Slot → List ℕ → Result Part SpecFault
 part_of slot text = number_due slot (symbols text) >>= λ a. after_start slot a.number a.after
 
--- Values
+-- Checks of the values
 
 abbrev pub is_within : Slot → ℕ → Bool
 is_within slot n = nat_le (least slot) n && nat_le n (greatest slot)
 
--- the start or the end of the part is out of range
+-- whether the slot doesn't allow the start or the end of a part
 abbrev pub is_outside : Slot → ℕ → Option ℕ → Bool
 is_outside slot a None = not (is_within slot a)
 is_outside slot a (Some b) = not (is_within slot a && is_within slot b)
 
--- the end of the range is below its start
+-- whether a range ends below its start
 abbrev pub is_backward : ℕ → Option ℕ → Bool
 is_backward a None = false
 is_backward a (Some b) = nat_lt b a
@@ -133,7 +133,7 @@ abbrev pub is_zero : Option ℕ → Bool
 is_zero None = false
 is_zero (Some r) = r == 0
 
--- an open-ended repetition that doesn't reach a second number
+-- whether a part is an open-ended repetition that doesn't reach a second number
 abbrev pub reaches_no_further_value : Slot → ℕ → Option ℕ → Option ℕ → Bool
 reaches_no_further_value slot a None (Some r) = if is_from_end slot then nat_le a r else nat_lt (greatest slot) (a + r)
 reaches_no_further_value slot a last step = false

@@ -14,7 +14,7 @@ abbrev pub first_of : List (Option SpecFault) → Option SpecFault
 first_of [] = None
 first_of (o ∷ os) = option_or o (first_of os)
 
--- the call returns `read`, with its value as contracts see it
+-- a call returns the value or the error of `read`; `view` maps the value in memory to the one that contracts see
 abbrev pub Gives : {T V : Type 0} → (T → V) → Result T SpecFault → Result V SpecFault → Type 0
 Gives view (Ok x) read = read ≡ Ok (view x)
 Gives view (Err e) read = read ≡ Err e

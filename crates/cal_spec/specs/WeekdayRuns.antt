@@ -1,5 +1,5 @@
--- The runs of a set of weekdays, which are its maximal ranges of consecutive days, as a relation. Days are numbered
--- from 0 for Monday.
+-- What the runs of a set of weekdays are: its maximal ranges of consecutive days. The definition doesn't say how to
+-- compute them. Days are numbered from 0 for Monday.
 use Rattle.std.specs.Prelude.{◌≡◌, ℕ, ◌+◌, ◌≤◌, Bool, false, ◌||◌, List, [], ◌∷◌, slice_index_or}
 use Rattle.cal_spec.specs.headline.Members.{is_between}
 use Rattle.cal_spec.specs.headline.WeekdayRuns.{Run}
@@ -14,7 +14,7 @@ abbrev pub AreApartFrom : ℕ → List Run → Type 0
 AreApartFrom low [] = Unit {0}
 AreApartFrom low (r ∷ rs) = (low ≤ r.first) × (r.first ≤ r.last) × AreApartFrom (r.last + 2) rs
 
--- the runs of the weekdays that match
+-- `rs` are the runs of the weekdays for which `days` is `true`
 pub record AreWeekdayRuns (days : List Bool) (rs : List Run) : Type 0 where
   pub chosen : (day : ℕ) → is_in day rs ≡ slice_index_or days day false
   pub apart : AreApartFrom 0 rs

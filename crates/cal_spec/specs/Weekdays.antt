@@ -35,7 +35,7 @@ after_joint (b ∷ []) = if b == 45 then Some [] else None
 after_joint (b ∷ c ∷ bs) =
     if b == 45 then Some (c ∷ bs) else (if (b == 46) && (c == 46) then Some bs else None)
 
--- the days from `first` to the weekday of this name, which is the text after the joint
+-- the days from `first` to the weekday with this name, which is the text after `-` or `..`
 abbrev pub days_to : Weekday → Option (List ℕ) → Option WeekdayRange
 days_to first None = None
 days_to first (Some name) = option_map (λ last. record { first = first; last = last }) (day_named name)
@@ -56,11 +56,11 @@ abbrev pub items_of : List (List ℕ) → Result (List WeekdayRange) SpecFault
 items_of [] = Ok []
 items_of (t ∷ ts) = ok_or (days_of t) BadWeekday >>= λ days. items_of ts >>= λ more. Ok (days ∷ more)
 
--- the word without one trailing comma
+-- removes one trailing comma, if there is one
 abbrev pub without_comma : List ℕ → List ℕ
 without_comma word = if is_comma (slice_index word (length word - 1)) then take (length word - 1) word else word
 
--- parses items separated by commas
+-- parses a list of items that are separated by commas, with one trailing comma allowed
 unfoldable pub listed_days : List ℕ → Result (List Bool) SpecFault
 listed_days word = items_of (slice_split is_comma (without_comma word)) >>= λ items. Ok (set_of items)
 

@@ -9,28 +9,29 @@ use Rattle.cal_civil.specs.headline.ZoneName.{begins_with_letter}
 use Rattle.cal_spec.specs.declared.shorthand.Shorthand.{Shorthand}
 use Rattle.cal_spec.specs.headline.Words.{WordRoles}
 
--- the roles of the words after a date: one that begins with a letter or a sign is a zone, any other is the time
+-- the roles of the words after a date: if the first of them begins with a letter, `+` or `-`, it is a zone, otherwise
+-- the time
 abbrev pub roles_after_date : Option (List ℕ) → List ℕ → List (List ℕ) → WordRoles
 roles_after_date weekdays date [] = record { weekdays = weekdays; date = date; time = midnight; rest = [] }
 roles_after_date weekdays date (w ∷ ws) =
     if begins_zone w then record { weekdays = weekdays; date = date; time = midnight; rest = w ∷ ws }
     else record { weekdays = weekdays; date = date; time = w; rest = ws }
 
--- the roles of a word that is a date or a time, and of those after it: with a colon it is the time, otherwise the date
+-- the roles of `w` and of the words `ws` after it: if `w` contains a colon, it is the time, otherwise the date
 abbrev pub date_or_time : Option (List ℕ) → List ℕ → List (List ℕ) → WordRoles
 date_or_time weekdays w ws =
     if list_any is_colon w then record { weekdays = weekdays; date = any_date; time = w; rest = ws }
     else roles_after_date weekdays w ws
 
--- the roles of the words after the weekdays: one that begins with a letter or a sign is a zone
+-- the roles of the words after the weekdays: if the first of them begins with a letter, `+` or `-`, it is a zone
 abbrev pub after_weekdays : Option (List ℕ) → List (List ℕ) → WordRoles
 after_weekdays weekdays [] = record { weekdays = weekdays; date = any_date; time = midnight; rest = [] }
 after_weekdays weekdays (w ∷ ws) =
     if begins_zone w then record { weekdays = weekdays; date = any_date; time = midnight; rest = w ∷ ws }
     else date_or_time weekdays w ws
 
--- the roles of all words if there is no shorthand: a first word that begins with a letter is the weekday list, and no
--- first word is a zone, even if it begins with a sign
+-- the roles of all words if the first word `w` is not a shorthand: if `w` begins with a letter, it is the weekday list;
+-- it is never a zone, even if it begins with `+` or `-`
 abbrev pub roles_in : List ℕ → List (List ℕ) → WordRoles
 roles_in w ws = if begins_with_letter w then after_weekdays (Some w) ws else date_or_time None w ws
 

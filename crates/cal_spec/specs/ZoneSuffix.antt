@@ -20,7 +20,7 @@ suffix_in [] = Ok None
 suffix_in (word ∷ []) = suffix_due (suffix_of word)
 suffix_in words = Err StrayWord
 
--- the zones that a word can have
+-- the zones that parsing a word can return
 abbrev pub IsSuffix : ZoneSuffix → Type 0
 IsSuffix (of_name name) = (is_zone_name name ≡ true) × (kept_name name ≡ name)
 IsSuffix (ahead seconds) = AreWholeMinutes seconds

@@ -37,8 +37,8 @@ pub(crate) fn read_component(
     Ok(Some(parts))
 }
 
-/// Returns how many parts of the component count towards the limit: all parts of a date's component, all but the first
-/// of a time's.
+/// Returns how many parts of the component count towards the limit of 240: all parts of a year, month or day, and all
+/// but the first part of an hour, minute or second.
 pub(crate) fn count_parts(slot: Slot, component: &Option<Vec<Part>>) -> usize
     ensures { result ≡ counted slot (option_map (λ parts. parts.items) component.now) }
 {
@@ -55,7 +55,7 @@ fn read_listed(alloc: Global, slot: Slot, room: usize, text: &[u8]) -> Result<Ve
     requires { room ≤ most_counted }
     ensures { GivesUnlessNoMemory (λ parts. parts.items) result (parts_listed slot room text.now) }
 {
-    // The first part of a time's component isn't counted.
+    // The first part of an hour, minute or second isn't counted, so one more part is allowed.
     let room = if is_time(slot) { room + 1 } else { room };
     let parts = read_parts(alloc, slot, room, text)?;
     match first_fault(slot, &parts) {
@@ -94,7 +94,7 @@ fn part_due(slot: Slot, room: usize, text: &[u8]) -> Result<Part, SpecFault>
     Ok(with_values(slot, part))
 }
 
-/// Returns the first error among the values of the parts.
+/// Checks the values of the parts from left to right. Returns the first error, or `None` if all values are valid.
 fn first_fault(slot: Slot, parts: &[Part]) -> Option<SpecFault>
     ensures { result ≡ first_value_fault slot parts.now }
 {

@@ -22,7 +22,8 @@ const MAX_COUNTED_PARTS: usize = 240;
 /// Parses a date, `year-month-day` or `month-day`. A `~` in place of the last `-` means that the day is counted from
 /// the month's end (systemd.time(7), Calendar Events).
 ///
-/// The number of components and the position of `~` are checked first, then the components from left to right.
+/// The number of components and the position of `~` are checked first. Then the components are parsed from left to
+/// right.
 #[tactic(auto, unfolding(crate::specs::DateAndTime::date_in_word))]
 pub(crate) fn read_date(alloc: Global, word: &[u8]) -> Result<DateFields, SpecFault>
     ensures { GivesUnlessNoMemory date_fields_in result (date_in_word word.now) }
@@ -33,10 +34,10 @@ pub(crate) fn read_date(alloc: Global, word: &[u8]) -> Result<DateFields, SpecFa
     }
 }
 
-/// Parses a time, `hour:minute` or `hour:minute:second`, with at most `room` counted parts (systemd.time(7), Calendar
-/// Events).
+/// Parses a time, `hour:minute` or `hour:minute:second` (systemd.time(7), Calendar Events). It may have at most `room`
+/// parts, not counting the first part of each component.
 ///
-/// The number of components is checked first, then the components from left to right.
+/// The number of components is checked first. Then the components are parsed from left to right.
 #[tactic(auto, unfolding(crate::specs::DateAndTime::time_in_word))]
 pub(crate) fn read_time(alloc: Global, room: usize, word: &[u8]) -> Result<TimeFields, SpecFault>
     requires { room ≤ most_counted }
@@ -48,7 +49,7 @@ pub(crate) fn read_time(alloc: Global, room: usize, word: &[u8]) -> Result<TimeF
     }
 }
 
-/// Returns how many counted parts are still allowed after the date.
+/// Returns how many of the `MAX_COUNTED_PARTS` parts are left for the time after this date.
 pub(crate) fn room_after(date: &DateFields) -> usize
     ensures value { result ≡ room_after (date_fields_in date.now) }
     ensures bound { result ≤ most_counted }
@@ -76,8 +77,8 @@ struct TimeTexts<'a> {
     second: &'a [u8],
 }
 
-/// Splits a date into its components. Returns `None` if there are not two or three, or if `~` stands anywhere but
-/// before the day.
+/// Splits a date into its components. A missing year is `*`. Returns `None` if the number of components is neither two
+/// nor three, or if `~` stands anywhere but before the day.
 #[tactic(auto, unfolding(crate::specs::DateAndTime::date_texts))]
 fn date_texts(word: &[u8]) -> Option<DateTexts<'_>>
     ensures { option_map date_texts_in result ≡ date_texts word.now }
@@ -102,7 +103,8 @@ fn date_texts(word: &[u8]) -> Option<DateTexts<'_>>
     })
 }
 
-/// Splits `word` at its first `-` or `~`. Returns the text before it, the sign itself, and the text after it.
+/// Splits `word` at its first `-` or `~`. Returns the text before this sign, the sign itself, and the text after it, or
+/// `None` if there is no such sign.
 fn cut_at_sign(word: &[u8]) -> Option<(&[u8], u8, &[u8])>
     ensures { MatchOption result
         ((slice_split is_date_sign word.now ≡ word.now ∷ []) × (filter is_date_sign word.now ≡ []))
@@ -113,15 +115,15 @@ fn cut_at_sign(word: &[u8]) -> Option<(&[u8], u8, &[u8])>
     Some((&word[..index], word[index], &word[index + 1..]))
 }
 
-/// Returns the index of the first `-` or `~`.
+/// Returns the index of the first `-` or `~` in `word`, if there is one.
 fn sign_index(word: &[u8]) -> Option<usize>
     ensures { result ≡ position is_date_sign word.now }
 {
     word.iter().position(|byte| *byte == b'-' || *byte == b'~')
 }
 
-/// Splits a time into its components. Returns `None` if there are not two or three. If the seconds are missing, they
-/// are `00`.
+/// Splits a time into its components. Missing seconds are `00`. Returns `None` if the number of components is neither
+/// two nor three.
 #[tactic(auto, unfolding(crate::specs::DateAndTime::time_texts))]
 fn time_texts(word: &[u8]) -> Option<TimeTexts<'_>>
     ensures { option_map time_texts_in result ≡ time_texts word.now }
@@ -164,7 +166,8 @@ fn date_fields(alloc: Global, texts: DateTexts<'_>) -> Result<DateFields, SpecFa
     })
 }
 
-/// Parses the components of a time from left to right, with at most `room` counted parts.
+/// Parses the components of a time from left to right. They may have at most `room` parts, not counting the first part
+/// of each component.
 #[tactic(auto, unfolding(crate::specs::DateAndTime::time_fields))]
 fn time_fields(alloc: Global, room: usize, texts: TimeTexts<'_>) -> Result<TimeFields, SpecFault>
     requires { room ≤ most_counted }

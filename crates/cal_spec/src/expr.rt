@@ -16,7 +16,7 @@ use std::marker::Model;
 
 /// A valid calendar expression in normal form (systemd.time(7), Calendar Events).
 ///
-/// Contracts see its fields.
+/// In contracts, the value of an expression is its fields.
 #[derive(Debug, Drop)]
 pub struct Expr {
     fields: Fields,
@@ -77,8 +77,8 @@ impl Expr {
         has_local(&self.fields, local)
     }
 
-    /// Returns whether the component `field` matches `value`. For [`Field::Day`], `value` is the day of the month, or
-    /// its count from the month's end if [`Expr::from_end`] returns `true`.
+    /// Returns whether the component `field` matches `value`. For [`Field::Day`], `value` is the day of the month, or,
+    /// if [`Expr::from_end`] returns `true`, its count from the month's end (1 is the last day).
     #[tactic(auto, unfolding(crate::specs::Fields::fields_of, crate::specs::headline::Members::sets_of))]
     pub fn has_member(&self, field: Field, value: u16) -> bool
         ensures { result ≡ members_of field (sets_of self.now) value }
@@ -123,7 +123,7 @@ impl Expr {
         parts.as_deref()
     }
 
-    /// Returns whether days are counted from the month's end. The last day of a month is 1 then.
+    /// Returns whether days are counted from the month's end, so that 1 is the last day of a month.
     #[tactic(auto, unfolding(crate::specs::Fields::fields_of))]
     pub fn from_end(&self) -> bool
         ensures { result ≡ self.now.from_end }

@@ -16,8 +16,8 @@ use cal_bytes::{Fill, ShortText, Sink, WriteFault, padding, put_all, put_pieces}
 use cal_civil::push_offset;
 use itoa::Buffer;
 
-/// A component to print: the text before it, the minimum number of digits of its numbers, and its parts (`None` for
-/// `*`).
+/// A component to print: the text before it, the number of digits to which its numbers except steps are padded with
+/// zeros, and its parts (`None` for `*`).
 #[derive(Clone, Copy)]
 struct Row<'a> {
     lead: &'a [u8],
@@ -29,7 +29,8 @@ struct Row<'a> {
 /// Writes an expression in its normal form (systemd.time(7), Calendar Events): weekdays, date, time and zone, as in
 /// `Mon,Fri 2012-01/2-01,03 *:30:45`. Doesn't allocate.
 ///
-/// Fails with [`WriteFault::Failed`] exactly if the writer fails; a prefix of the text has been written then.
+/// Fails with [`WriteFault::Failed`] exactly if the writer fails. In that case, what was written is a prefix of the
+/// text.
 #[tactic(auto, using(cal_bytes::proofs::PutLemmas::puts), unfolding(crate::specs::headline::ExprText::expr_text))]
 pub fn write_expr<W: Sink>(out: &mut W, expr: &Expr) -> Result<(), WriteFault>
     requires { W.is_failed out.old ≡ false }
@@ -121,7 +122,7 @@ fn put_parts<W: Sink>(out: &mut W, width: usize, parts: &[Part]) -> Result<(), W
     Ok(())
 }
 
-/// Writes `lead` and then a part.
+/// Writes `lead` and then a part. Its start and end are padded with zeros to at least `width` digits.
 #[tactic(auto, using(cal_bytes::proofs::PutLemmas::puts), unfolding(crate::specs::headline::ExprText::part_text))]
 fn put_part<W: Sink>(out: &mut W, lead: &[u8], width: usize, part: Part) -> Result<(), WriteFault>
     requires works { W.is_failed out.old ≡ false }

@@ -1,5 +1,5 @@
-//! Laws of the definitions that the contracts cite. Each law is a function with an empty body, whose contract states
-//! the law.
+//! Laws about the definitions that the contracts of this crate use. Each law is a function with an empty body, whose
+//! contract states the law.
 
 ghost use Rattle.std.specs.Prelude.{◌≡◌, ◌⊎◌, ◌<◌, ℕ, Bool, List, None, Ok, Option, length};
 ghost use Rattle.std.specs.List.{AllByRecursion};
@@ -20,8 +20,8 @@ ghost use Rattle.cal_spec.specs.declared.part.Part.{Part};
 ghost use Rattle.cal_spec.specs.declared.slot.Slot.{Slot};
 ghost use Rattle.cal_spec.specs.declared.slot.Slot.TheVariants.{Second};
 
-/// A list of parts has exactly one normal form. Normalizing returns it, and leaves a list that is already normal
-/// unchanged.
+/// A list of parts has exactly one normal form if no range runs backwards and no step is zero; `normal_parts` returns
+/// it. A list that is already in normal form is unchanged.
 pub fn one_normal_form()
     ensures some { (raw : List Part) → AllByRecursion IsPart raw → AreNormalOf raw (normal_parts raw) }
     ensures only { (raw ps : List Part) → AllByRecursion IsPart raw → AreNormalOf raw ps → ps ≡ normal_parts raw }
@@ -29,7 +29,8 @@ pub fn one_normal_form()
     ensures stays { (ps : List Part) → AreNormal ps → normal_parts ps ≡ ps }
 {}
 
-/// A component has exactly one normal form. So do the seconds, whose normal form differs: `0/1` alone becomes `*`.
+/// A component has exactly one normal form if no range runs backwards and no step is zero. The same is true of the
+/// seconds, whose normal form differs in one case: the single part `0/1` becomes `*`.
 pub fn one_normal_component()
     ensures some { (raw : Option (List Part)) → AreParts raw → IsNormalOf raw (normal_component raw) }
     ensures only { (raw normal : Option (List Part)) → AreParts raw → IsNormalOf raw normal
@@ -47,7 +48,8 @@ pub fn one_normal_form_of_fields()
     ensures stays { (f : Fields) → IsValidFields f → normal_fields (normal_fields f) ≡ normal_fields f }
 {}
 
-/// Bringing a component into its normal form doesn't change which values it matches.
+/// Bringing a component into its normal form doesn't change which values it matches, if no range runs backwards and no
+/// step is zero.
 pub fn members_stay()
     ensures component { (slot : Slot) (raw : Option (List Part)) (v : ℕ) → AreParts raw
         → component_has slot (normal_component raw) v ≡ component_has slot raw v }
@@ -66,7 +68,7 @@ pub fn normal_texts_are_short()
     ensures { (f : Fields) → IsValidFields f → length (expr_text (normal_fields f)) < 4_096 }
 {}
 
-/// A set of weekdays has exactly one list of runs.
+/// A set of weekdays has exactly one list of runs. A run is a maximal range of consecutive days in the set.
 pub fn one_list_of_runs()
     ensures some { (days : List Bool) → AreWeekdayRuns days (runs_from 0 days) }
     ensures only { (days : List Bool) (rs : List Run) → AreWeekdayRuns days rs → rs ≡ runs_from 0 days }

@@ -1,4 +1,4 @@
-//! Matching of local seconds (systemd.time(7), Calendar Events).
+//! Tests whether a local second matches the fields of an expression (systemd.time(7), Calendar Events).
 
 ghost use Rattle.std.specs.Prelude.{◌≡◌, ◌<◌, false, unsigned_abs, slice_index_or};
 ghost use Rattle.jiff_core.specs.Weekday.{monday_zero};
@@ -13,8 +13,8 @@ use crate::slot::{Slot, day_slot};
 use cal_civil::{date_of_day, day_of, second_of_day};
 use jiff_core::civil::{Date, Weekday, days_in_month};
 
-/// Returns whether the weekday, date and time of a local second all match. The local second is in the years 1970 to
-/// 2199.
+/// Returns whether the fields match the weekday, date and time of the local second `local`, which is in the years 1970
+/// to 2199.
 #[tactic(auto, using(cal_civil::proofs::LocalLemmas::local_arith), unfolding(crate::specs::headline::Match::matches))]
 pub fn has_local(fields: &Fields, local: i64) -> bool
     requires { IsLocalSecond local }
@@ -23,7 +23,7 @@ pub fn has_local(fields: &Fields, local: i64) -> bool
     has_date(fields, date_of_day(day_of(local))) && has_time(fields, second_of_day(local))
 }
 
-/// Returns whether the expression matches the date.
+/// Returns whether the fields match the date and its weekday.
 #[tactic(auto, unfolding(crate::specs::headline::Match::date_in, crate::specs::headline::Members::sets_of, crate::specs::Fields::fields_of))]
 fn has_date(fields: &Fields, date: Date) -> bool
     ensures { result ≡ date_in (sets_of (fields_of fields.now)) date }
@@ -41,7 +41,7 @@ fn has_weekday(weekdays: &[bool; 7], weekday: Weekday) -> bool
     weekdays[usize::from(weekday.index())]
 }
 
-/// Returns whether the expression matches the time of day that is `second` seconds after midnight.
+/// Returns whether the fields match the time of day that is `second` seconds after midnight.
 #[tactic(auto, unfolding(crate::specs::headline::Match::time_in, crate::specs::headline::Members::sets_of, crate::specs::Fields::fields_of))]
 fn has_time(fields: &Fields, second: u32) -> bool
     requires { second < 86_400 }
@@ -53,8 +53,8 @@ fn has_time(fields: &Fields, second: u32) -> bool
         && component_has(Slot::Second, &time.second, (second % 60) as u16)
 }
 
-/// Returns the number that is compared with the expression's days: the day of the month, or its count from the month's
-/// end (the last day is 1).
+/// Returns the number that the day component of an expression has to match: the day of the month, or, if `from_end` is
+/// set, its count from the month's end (1 is the last day).
 pub fn day_value(from_end: bool, date: Date) -> u16
     ensures { result ≡ day_value from_end date }
 {

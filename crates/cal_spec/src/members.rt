@@ -41,8 +41,8 @@ fn part_has(slot: Slot, part: Part, value: u16) -> bool
     }
 }
 
-/// Returns whether an open-ended repetition reaches `value`. It counts upwards from its start, or downwards if days are
-/// counted from the month's end.
+/// Returns whether an open-ended repetition reaches `value`. The repetition counts upwards from `start`, or downwards
+/// if the slot is `DayFromEnd`.
 fn repeats(slot: Slot, start: u16, step: u16, value: u16) -> bool
     ensures { result ≡ repeats slot start step value }
 {
@@ -58,8 +58,8 @@ fn repeats(slot: Slot, start: u16, step: u16, value: u16) -> bool
     }
 }
 
-/// Returns whether `*` matches `value` in this component. It matches every day from 1 to 31, also if days are counted
-/// from the month's end.
+/// Returns whether `*` matches `value` in this slot. It matches all numbers that the slot allows. If days are counted
+/// from the month's end, it matches 1 to 31, although the slot allows only 1 to 28.
 fn in_field(slot: Slot, value: u16) -> bool
     ensures { result ≡ in_field slot value }
 {

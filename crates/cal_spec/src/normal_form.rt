@@ -1,5 +1,5 @@
-//! The normal form of components: each range ends at the last number that it reaches, and the parts are sorted, without
-//! duplicates.
+//! The normal form of components: each range ends at the last number that it reaches (`20..39/5` becomes `20..35/5`),
+//! and the parts are sorted, without duplicates.
 
 ghost use Rattle.std.specs.Prelude.{◌≡◌, None, Some, map, option_map, if◌then◌else◌};
 ghost use Rattle.std.specs.List.{AllByRecursion};
@@ -7,7 +7,7 @@ ghost use Rattle.cal_spec.specs.NormalForm.{AreParts, IsPart, normal_component, 
 
 use crate::Part;
 
-/// The part `0/1`.
+/// The part `0/1`, which matches every second.
 const EVERY_SECOND_PART: Part = Part {
     start: 0,
     end: None,
@@ -25,7 +25,7 @@ pub fn normal_component(parts: Option<Vec<Part>>) -> Option<Vec<Part>>
     }
 }
 
-/// Brings the seconds into their normal form. If this is the single part `0/1`, the result is `None`, which stands for
+/// Brings the seconds into their normal form. If only the part `0/1` is left, the result is `None`, which stands for
 /// `*`.
 #[tactic(auto, unfolding(crate::specs::NormalForm::normal_second))]
 pub fn normal_second(parts: Option<Vec<Part>>) -> Option<Vec<Part>>
@@ -72,8 +72,8 @@ fn reduce_each(parts: &mut Vec<Part>)
     }
 }
 
-/// Shortens a range to end at the last number that it reaches. If that is its start, the result is a single number.
-/// Drops a step of 1 from a range.
+/// Brings a part into its normal form. A range is shortened to end at the last number that it reaches; if this number
+/// is its start, the result is a single number. A step of 1 is dropped from a range. Other parts are unchanged.
 #[tactic(auto, unfolding(crate::specs::NormalForm::reduced))]
 fn reduce(part: Part) -> Part
     requires { IsPart part }

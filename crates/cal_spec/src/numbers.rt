@@ -1,4 +1,4 @@
-//! Splitting a part of a component into symbols, and the value of its numbers.
+//! Splitting the text of a part into symbols (numbers, `..`, `/` and others), and the value of a number.
 
 ghost use Rattle.std.specs.Prelude.{◌≡◌, ◌≤◌, ◌∷◌, [], IsTrue, MatchOption, min, length};
 ghost use Rattle.std.specs.List.{list_all, prefix_len};

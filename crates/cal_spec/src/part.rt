@@ -1,11 +1,12 @@
-//! Parts of components.
+//! Parts of components: single numbers, ranges and repetitions.
 
 /// A part of a component: a single number, a range if it has an end, and a repetition if it has a step.
 ///
 /// Parts are ordered by their start, then by their end, then by their step. `None` comes before any number.
 #[derive(Clone, Copy, PartialEq, Eq, PartialOrd, Ord, Debug)]
 pub struct Part {
-    /// The first number. In an open-ended repetition of days counted from the month's end, it is the greatest.
+    /// The first number. In an open-ended repetition of days counted from the month's end, it is the greatest number,
+    /// since the repetition counts downwards.
     pub start: u16,
     /// The last number of a range.
     pub end: Option<u16>,

@@ -62,7 +62,7 @@ pub(crate) fn is_time(slot: Slot) -> bool
     matches!(slot, Slot::Hour | Slot::Minute | Slot::Second)
 }
 
-/// Returns the error for a malformed part of this component.
+/// Returns the error for a part with wrong syntax: `BadTime` in an hour, minute or second, and otherwise `BadDate`.
 fn bad_shape(slot: Slot) -> SpecFault
     ensures { result ≡ bad slot }
 {
@@ -73,7 +73,8 @@ fn bad_shape(slot: Slot) -> SpecFault
     }
 }
 
-/// Parses a number at the start of `text`. Returns it and the text after it.
+/// Parses a number at the start of `text`. Returns the number and the text after it. Fails if `text` doesn't begin with
+/// a digit, if the number is above `MAX_NUMBER`, or if a single point follows a number of seconds.
 fn read_number(slot: Slot, text: &[u8]) -> Result<(u16, &[u8]), SpecFault>
     ensures { Gives (λ found. record { number = found.0; after = symbols found.1.now }) result
         (number_due slot (symbols text.now)) }
@@ -134,7 +135,7 @@ fn after_end(slot: Slot, start: u16, end: u16, text: &[u8]) -> Result<Part, Spec
     }
 }
 
-/// Parses what follows a slash: the step, and nothing after it.
+/// Parses what follows the slash of a part: the step, after which nothing may follow.
 #[tactic(auto, unfolding(crate::specs::Parts::with_step))]
 fn with_step(slot: Slot, start: u16, end: Option<u16>, text: &[u8]) -> Result<Part, SpecFault>
     ensures { Gives (λ part. part) result (with_step slot start end (symbols text.now)) }
@@ -167,7 +168,7 @@ fn is_within(slot: Slot, number: u16) -> bool
     slot.least() <= number && number <= slot.greatest()
 }
 
-/// Returns whether the start or the end of a part is out of range.
+/// Returns whether the slot doesn't allow the start or the end of a part.
 fn is_outside(slot: Slot, start: u16, end: Option<u16>) -> bool
     ensures { result ≡ is_outside slot start end }
 {

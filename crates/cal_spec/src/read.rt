@@ -54,7 +54,7 @@ fn read_fields(alloc: Global, text: &str) -> Result<Fields, SpecFault>
     }
 }
 
-/// Parses the weekdays, date, time and zone, in this order.
+/// Parses the weekdays, date, time and zone, in this order. Fails with the first error.
 #[tactic(auto, unfolding(crate::specs::Grammar::fields_at, crate::specs::Fields::fields_of))]
 fn read_roles(alloc: Global, roles: WordRoles<'_>) -> Result<Fields, SpecFault>
     ensures { GivesUnlessNoMemory fields_of result (fields_at (shown_word_roles roles.entry)) }

@@ -1,4 +1,4 @@
-//! Slots, the positions of numbers in a calendar expression, and the numbers that each slot allows.
+//! Slots, which say what component a number belongs to, and the numbers that each slot allows.
 
 ghost use Rattle.std.specs.Prelude.{◌≡◌, ◌≤◌};
 ghost use Rattle.cal_spec.specs.headline.Slot.{day_slot, least, greatest};
@@ -43,7 +43,7 @@ impl Slot {
     }
 }
 
-/// Returns the slot of the day.
+/// Returns the slot of the day, which depends on whether days are counted from the month's end.
 pub fn day_slot(from_end: bool) -> Slot
     ensures { result ≡ day_slot from_end }
 {

@@ -44,10 +44,10 @@ pub enum SpecFault {
     /// There are more than 240 parts, not counting the first part of the hour, of the minute and of the second.
     #[error("more than 240 parts")]
     TooManyParts = 12,
-    /// There is an unexpected word: it comes after the zone, or it stands where a zone is expected but is not one.
+    /// There is an unexpected word: it comes after the zone, or it stands where a zone is expected but is not a zone.
     #[error("stray word")]
     StrayWord = 13,
-    /// The first word looks like a shorthand but is not a known one.
+    /// The first word looks like a shorthand but is not a known shorthand.
     #[error("unknown shorthand")]
     UnknownShorthand = 14,
     /// Out of memory.

@@ -48,7 +48,7 @@ fn put_runs<W: Sink>(out: &mut W, days: &[bool]) -> Result<(), WriteFault>
     Ok(())
 }
 
-/// Returns how many days match before the first one that doesn't.
+/// Returns the number of leading days that match.
 #[tactic(auto, using(crate::proofs::WeekdayLemmas::front_within))]
 fn leading_days(days: &[bool]) -> usize
     ensures value { result ≡ prefix_len (λ day. day) days.now }

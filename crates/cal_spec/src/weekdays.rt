@@ -25,7 +25,7 @@ pub(crate) struct WeekdayRange {
 }
 
 /// Parses a weekday list and returns which weekdays match, from Monday to Sunday (systemd.time(7), Calendar Events).
-/// The items are separated by commas, and one trailing comma is allowed.
+/// Its items are weekdays and ranges of weekdays. They are separated by commas, and one trailing comma is allowed.
 ///
 /// Fails with `UnknownShorthand` if the word doesn't begin with the name of a weekday and consists of letters and `-`
 /// only, and with `BadWeekday` if it is invalid in any other way.
@@ -45,7 +45,7 @@ pub(crate) fn read_weekdays(alloc: Global, word: &[u8]) -> Result<[bool; 7], Spe
     Ok(set_of(&items))
 }
 
-/// Parses items separated by commas.
+/// Parses the items of a weekday list without its trailing comma.
 fn read_items(alloc: Global, list: &[u8]) -> Result<Vec<WeekdayRange>, SpecFault>
     ensures { GivesUnlessNoMemory (λ items. items.items) result
         (items_of (slice_split is_comma list.now)) }
@@ -61,7 +61,7 @@ fn read_items(alloc: Global, list: &[u8]) -> Result<Vec<WeekdayRange>, SpecFault
     Ok(items)
 }
 
-/// Parses an item: the name of a weekday, or two names joined by `..` or `-`.
+/// Parses an item of a weekday list: the name of a weekday, or two names joined by `..` or `-`.
 #[tactic(auto, unfolding(crate::specs::Weekdays::days_of))]
 fn read_days(item: &[u8]) -> Option<WeekdayRange>
     ensures { result ≡ days_of item.now }
@@ -111,14 +111,14 @@ fn letters_len(word: &[u8]) -> usize
         .count()
 }
 
-/// Removes at most one trailing comma.
+/// Removes the trailing comma, if there is one. If there are several, only the last comma is removed.
 fn without_comma(word: &[u8]) -> &[u8]
     ensures { result.now ≡ without_comma word.now }
 {
     word.strip_suffix(b",").unwrap_or(word)
 }
 
-/// Returns whether the word consists only of letters and `-`.
+/// Returns whether the word consists only of letters and `-`, as all shorthands do.
 fn is_like_shorthand(word: &[u8]) -> bool
     ensures { result ≡ is_like_shorthand word.now }
 {
@@ -126,7 +126,7 @@ fn is_like_shorthand(word: &[u8]) -> bool
         .all(|byte| byte.is_ascii_alphabetic() || *byte == b'-')
 }
 
-/// Returns which weekdays the items cover, from Monday to Sunday.
+/// Returns which weekdays are in at least one of the items, from Monday to Sunday.
 fn set_of(items: &[WeekdayRange]) -> [bool; 7]
     ensures { result ≡ set_of items.now }
 {

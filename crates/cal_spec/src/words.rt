@@ -16,11 +16,12 @@ use cal_text::first_word;
 pub(crate) struct WordRoles<'a> {
     /// The weekday list, if there is one.
     pub(crate) weekdays: Option<&'a [u8]>,
-    /// The date, or `*-*-*`.
+    /// The date, or `*-*-*` if the expression has none.
     pub(crate) date: &'a [u8],
-    /// The time, or `00:00:00`.
+    /// The time, or `00:00:00` if the expression has none.
     pub(crate) time: &'a [u8],
-    /// The text after the time: empty, or the zone.
+    /// The text after the weekdays, date and time. If the expression is valid, this text has at most one word, the
+    /// zone.
     pub(crate) rest: &'a str,
 }
 
@@ -47,7 +48,8 @@ pub(crate) fn find_word_roles(text: &str) -> Option<WordRoles<'_>>
     Some(date_or_time(None, word, after))
 }
 
-/// Determines what the words after the weekdays are. If the first of them begins with a letter or a sign, it is a zone.
+/// Determines what the words after the weekdays are. If the first of them begins with a letter, `+` or `-`, it is a
+/// zone.
 fn after_weekdays<'a>(weekdays: Option<&'a [u8]>, text: &'a str) -> WordRoles<'a>
     ensures { shown_word_roles result ≡ after_weekdays (option_copied weekdays.entry) (words text.now) }
 {
@@ -81,7 +83,7 @@ fn date_or_time<'a>(weekdays: Option<&'a [u8]>, word: &'a [u8], rest: &'a str) -
     after_date(weekdays, word, rest)
 }
 
-/// Determines what the words after the date are. If the first of them begins with a letter or a sign, it is a zone.
+/// Determines what the words after the date are. If the first of them begins with a letter, `+` or `-`, it is a zone.
 /// Otherwise it is the time.
 fn after_date<'a>(weekdays: Option<&'a [u8]>, date: &'a [u8], text: &'a str) -> WordRoles<'a>
     ensures { shown_word_roles result

@@ -9,7 +9,7 @@ use Rattle.cal_spec.specs.headline.WeekdayRuns.{weekdays_text}
 use Rattle.cal_spec.specs.headline.ZoneSuffix.{ZoneSuffix, suffix_text}
 use Rattle.cal_spec.specs.declared.part.Part.{Part}
 
--- `lead`, then a number padded with zeros to at least `width` digits
+-- the text of a number: `lead`, then the number padded with zeros to at least `width` digits
 unfoldable pub number_text : List ℕ → ℕ → ℕ → List ℕ
 number_text lead width n = joined (lead ∷ zeros width n ∷ decimal n ∷ [])
 
@@ -17,7 +17,7 @@ abbrev pub optional_text : List ℕ → ℕ → Option ℕ → List ℕ
 optional_text lead width None = []
 optional_text lead width (Some n) = number_text lead width n
 
--- `lead`, then a part: `a`, `a/r`, `a..b` or `a..b/r`
+-- the text of a part: `lead`, then `a`, `a/r`, `a..b` or `a..b/r`
 unfoldable pub part_text : List ℕ → ℕ → Part → List ℕ
 part_text lead width p =
     joined (number_text lead width p.start ∷ optional_text (codes "..") width p.end ∷ optional_text (codes "/") 0 p.step ∷ [])
@@ -29,11 +29,11 @@ abbrev pub component_text : ℕ → Option (List Part) → List ℕ
 component_text width None = codes "*"
 component_text width (Some ps) = parts_text width ps
 
--- `lead`, then a component
+-- the text of a component: `lead`, then `*` or its parts
 unfoldable pub row_text : List ℕ → ℕ → Option (List Part) → List ℕ
 row_text lead width parts = joined (lead ∷ component_text width parts ∷ [])
 
--- the sign before the day, which is `~` if days are counted from the month's end
+-- the sign before the day: `~` if days are counted from the month's end, otherwise `-`
 abbrev pub day_lead : Bool → List ℕ
 day_lead from_end = if from_end then codes "~" else codes "-"
 

@@ -26,19 +26,19 @@ use Rattle.cal_spec.specs.declared.slot.Slot.{Slot}
 use Rattle.cal_spec.specs.declared.slot.Slot.TheVariants.{Year, Month, Hour, Minute, Second}
 use Rattle.cal_spec.specs.declared.weekdays.WeekdayRange.{WeekdayRange}
 
--- one or more digits, with the value n
+-- the text is one or more digits with the value `n`, which is at most 9999
 pub record IsNumber (text : List ℕ) (n : ℕ) : Type 0 where
   pub some : 0 < length text
   pub digits : list_all is_ascii_digit text ≡ true
   pub value : digits_value 10 text ≡ n
   pub small : n ≤ most
 
--- no text if there is no number, otherwise `mark` and the number
+-- the text is empty if there is no number; otherwise it is `mark` and then the number
 abbrev pub IsNext : List ℕ → List ℕ → Option ℕ → Type 0
 IsNext mark text None = text ≡ []
 IsNext mark text (Some n) = (number : List ℕ) × (text ≡ mark ++ number) × IsNumber number n
 
--- `a`, `a/r`, `a..b` or `a..b/r`
+-- the text spells the part `p`: `a`, `a/r`, `a..b` or `a..b/r`
 pub record IsPartText (text : List ℕ) (p : Part) : Type 0 where
   pub front : List ℕ
   pub middle : List ℕ
@@ -48,7 +48,7 @@ pub record IsPartText (text : List ℕ) (p : Part) : Type 0 where
   pub end : IsNext (codes "..") middle p.end
   pub step : IsNext (codes "/") back p.step
 
--- the text of a part, with two-digit years expanded
+-- the text spells the part `p` once two-digit years have been expanded
 abbrev pub IsPartOf : Slot → List ℕ → Part → Type 0
 IsPartOf slot text p = (raw : Part) × IsPartText text raw × (p ≡ with_values slot raw)
 
@@ -65,7 +65,7 @@ abbrev pub IsComponent : Slot → List ℕ → Option (List Part) → Type 0
 IsComponent slot text None = text ≡ codes "*"
 IsComponent slot text (Some ps) = AreListed slot text ps
 
--- the sign before the day, which is `~` if it is counted from the month's end
+-- the sign before the day: `~` if the day is counted from the month's end, otherwise `-`
 abbrev pub last_sign : Bool → List ℕ
 last_sign true = codes "~"
 last_sign false = codes "-"
@@ -128,15 +128,16 @@ abbrev pub HasWeekdays : Option (List ℕ) → List Bool → Type 0
 HasWeekdays None days = days ≡ map (λ day. true) week
 HasWeekdays (Some word) days = AreWeekdays word days
 
--- a list of the word, or an empty list if there is none
+-- the list that consists of the word, or an empty list if there is no word
 abbrev pub given : Option (List ℕ) → List (List ℕ)
 given word = option_to_list word
 
 abbrev pub IsSignless : List ℕ → Type 0
 IsSignless word = begins_with_sign word ≡ false
 
--- `[weekdays] [date] [time] [zone]`, with at least one of the first three. The first letter of a word and a colon in it
--- show what it is. After the first word, only a zone begins with a sign.
+-- `[weekdays] [date] [time] [zone]`, with at least one of the first three. The weekdays begin with a letter; the date
+-- and the time don't. The time contains a colon; the date doesn't. After the first word, only a zone begins with `+` or
+-- `-`.
 pub record ArePlain (ws : List (List ℕ)) (p : WordRoles) (last : Option (List ℕ)) : Type 0 where
   pub date : Option (List ℕ)
   pub time : Option (List ℕ)
@@ -161,7 +162,7 @@ pub record AreShort (ws : List (List ℕ)) (p : WordRoles) (last : Option (List 
   pub time_is : p.time ≡ (expansion_of shorthand).time
   pub rest_is : p.rest ≡ given last
 
--- no word, the name of a zone, or a UTC offset
+-- the zone of an expression as a word: no word, the name of a zone, or a UTC offset
 abbrev pub IsZoneWord : Option (List ℕ) → Option ZoneSuffix → Type 0
 IsZoneWord None suffix = suffix ≡ None
 IsZoneWord (Some word) suffix =

@@ -1,4 +1,4 @@
--- Matching of local seconds: systemd.time(7), Calendar Events.
+-- Whether a local second matches the fields of an expression: systemd.time(7), Calendar Events.
 use Rattle.std.specs.Prelude.{ℕ, ◌+◌, ◌-◌, ◌/◌, ◌%◌, Bool, ◌&&◌, nat_lt, unsigned_abs, if◌then◌else◌}
 use Rattle.jiff_core.specs.declared.civil.date.Date.{Date}
 use Rattle.jiff_core.specs.Date.{month_length, weekday_of}
@@ -16,8 +16,8 @@ pub record Sets : Type 0 where
   pub second : ℕ → Bool
   pub from_end : Bool
 
--- the number that is compared with the days: the day of the month, or its count from the month's end (the last day is
--- 1)
+-- the number that the day field has to match: the day of the month, or its count from the month's end (1 is the last
+-- day)
 abbrev pub day_value : Bool → Date → ℕ
 day_value from_end date = if from_end then month_length date - date.day + 1 else date.day
 

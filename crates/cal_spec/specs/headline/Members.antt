@@ -12,17 +12,17 @@ use Rattle.cal_spec.specs.declared.slot.Slot.TheVariants.{Year, Month, Day, DayF
 abbrev pub is_between : ℕ → ℕ → ℕ → Bool
 is_between a b v = nat_le a v && nat_le v b
 
--- v is one of the numbers from a to b, and its distance is a multiple of r
+-- v is one of the numbers from a to b, and `distance` is a multiple of r
 abbrev pub is_step_between : ℕ → ℕ → ℕ → ℕ → ℕ → Bool
 is_step_between a b r distance v = is_between a b v && (distance % r == 0)
 
--- `a/r`: a, a + r, .. up to the greatest number of the slot; for days counted from the month's end a, a - r, .. down to
--- 1
+-- whether `a/r` matches v: it matches a, a + r, .. up to the greatest number of the slot; for days counted from the
+-- month's end, it matches a, a - r, .. down to 1
 abbrev pub repeats : Slot → ℕ → ℕ → ℕ → Bool
 repeats DayFromEnd a r v = is_step_between 1 a r (a - v) v
 repeats slot a r v = is_step_between a (greatest slot) r (v - a) v
 
--- `a`, `a/r`, `a..b` and `a..b/r`
+-- whether a part matches v: `a`, `a/r`, `a..b` or `a..b/r`
 abbrev pub values : Slot → ℕ → Option ℕ → Option ℕ → ℕ → Bool
 values slot a None None v = v == a
 values slot a None (Some r) v = repeats slot a r v
@@ -32,7 +32,8 @@ values slot a (Some b) (Some r) v = is_step_between a b r (v - a) v
 unfoldable pub part_has : Slot → Part → ℕ → Bool
 part_has slot p v = values slot p.start p.end p.step v
 
--- `*`: all numbers of the slot; if days are counted from the month's end, every day from 1 to 31
+-- whether `*` matches v: it matches all numbers of the slot; if days are counted from the month's end, it matches every
+-- day from 1 to 31
 abbrev pub in_field : Slot → ℕ → Bool
 in_field DayFromEnd v = is_between (least Day) (greatest Day) v
 in_field slot v = is_between (least slot) (greatest slot) v

@@ -16,20 +16,20 @@ pub record IsLastReached (a b r e : ℕ) : Type 0 where
   pub within : e ≤ b
   pub last : b < e + r
 
--- the distance between consecutive numbers of a range
+-- the distance between consecutive numbers of a range, which is 1 if no step is written
 abbrev pub step_of : Option ℕ → ℕ
 step_of step = unwrap_or step 1
 
--- the step of a range in normal form; `/1` is dropped
+-- the step of a range in normal form, in which `/1` is dropped
 abbrev pub range_step : Option ℕ → Option ℕ
 range_step None = None
 range_step (Some r) = if r == 1 then None else Some r
 
--- a single number
+-- the part that is the single number a
 abbrev pub point : ℕ → Part
 point a = record { start = a; end = None; step = None }
 
--- a range from a to e, or a single number if both are equal
+-- the range from a to e, or the single number a if both are equal
 abbrev pub range_to : ℕ → ℕ → Option ℕ → Part
 range_to a e step = if e == a then point a else record { start = a; end = Some e; step = range_step step }
 
@@ -62,7 +62,8 @@ IsNormalOf (Some raw) normal = (ps : List Part) × AreNormalOf raw ps × (normal
 abbrev pub each : Part
 each = record { start = 0; end = None; step = Some 1 }
 
--- the last step for seconds: a single part `0/1` becomes `*`
+-- what the seconds become once their parts `ps` are in normal form: `*` if `ps` is the single part `0/1`, and otherwise
+-- `ps`
 abbrev pub IsStarred : List Part → Option (List Part) → Type 0
 IsStarred ps None = ps ≡ each ∷ []
 IsStarred ps (Some qs) = (qs ≡ ps) × (ps ≡ each ∷ [] → ⊥)
@@ -71,7 +72,7 @@ abbrev pub IsNormalSecondOf : Option (List Part) → Option (List Part) → Type
 IsNormalSecondOf None normal = normal ≡ None
 IsNormalSecondOf (Some raw) normal = (ps : List Part) × AreNormalOf raw ps × IsStarred ps normal
 
--- `~*` becomes `-*`
+-- whether days are counted from the month's end in the normal form, in which `~*` becomes `-*`
 abbrev pub normal_from_end : Bool → Option (List Part) → Bool
 normal_from_end from_end None = false
 normal_from_end from_end (Some ps) = from_end

@@ -17,7 +17,7 @@ most = 9999
 abbrev pub with_century : ℕ → ℕ
 with_century n = if nat_lt n 70 then n + 2000 else (if nat_lt n 100 then n + 1900 else n)
 
--- the part with two-digit years expanded, if it is a year
+-- the part, with two-digit years expanded if it is a part of the year
 abbrev pub with_values : Slot → Part → Part
 with_values slot p =
     if is_year slot then record { start = with_century p.start; end = option_map with_century p.end; step = p.step } else p

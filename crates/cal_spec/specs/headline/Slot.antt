@@ -1,5 +1,5 @@
--- Slots, the positions of numbers in a calendar expression, and the numbers that each slot allows: systemd.time(7),
--- Calendar Events.
+-- Slots, which say what component a number belongs to, and the numbers that each slot allows: systemd.time(7), Calendar
+-- Events.
 use Rattle.std.specs.Prelude.{ℕ, Bool, true, false}
 use Rattle.cal_spec.specs.declared.slot.Slot.{Slot}
 use Rattle.cal_spec.specs.declared.slot.Slot.TheVariants.{Year, Month, Day, DayFromEnd, Hour, Minute, Second}
@@ -22,7 +22,7 @@ greatest Hour = 23
 greatest Minute = 59
 greatest Second = 59
 
--- the slot of the day, which differs if days are counted from the month's end
+-- the slot of the day, which depends on whether days are counted from the month's end
 abbrev pub day_slot : Bool → Slot
 day_slot false = Day
 day_slot true = DayFromEnd

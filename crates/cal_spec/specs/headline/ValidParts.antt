@@ -5,7 +5,7 @@ use Rattle.cal_spec.specs.declared.part.Part.{Part}
 use Rattle.cal_spec.specs.declared.slot.Slot.{Slot}
 use Rattle.cal_spec.specs.declared.slot.Slot.TheVariants.{DayFromEnd}
 
--- the slot allows the number
+-- the slot allows the number `n`
 abbrev pub IsWithin : Slot → ℕ → Type 0
 IsWithin slot n = (least slot ≤ n) × (n ≤ greatest slot)
 

@@ -10,7 +10,7 @@ pub record Run : Type 0 where
   pub first : ℕ
   pub last : ℕ
 
--- adds a day before the runs; if the first run begins on the next day, the day joins this run
+-- adds a day before the runs; if the first run begins on the next day, it is extended to begin on `day`
 abbrev pub with_day : ℕ → List Run → List Run
 with_day day [] = record { first = day; last = day } ∷ []
 with_day day (r ∷ rs) =
@@ -27,13 +27,13 @@ runs_from day (b ∷ bs) = if b then with_day day (runs_from (day + 1) bs) else 
 abbrev pub day_name : ℕ → List ℕ
 day_name day = short_name_of (slice_index_or week day Monday)
 
--- the text of a run after its first day: nothing for one day, `,` and the second of two days, or `..` and the last of
--- more
+-- the text of a run after its first day: nothing if the run is one day, `,` and the last day if it is two days, and
+-- `..` and the last day if it is longer
 abbrev pub text_after_first : ℕ → ℕ → List ℕ
 text_after_first first last =
     if first == last then [] else joined ((if first + 1 == last then codes "," else codes "..") ∷ day_name last ∷ [])
 
--- `lead`, then a run
+-- the text of a run: `lead`, its first day, and then `text_after_first`
 unfoldable pub run_text : List ℕ → Run → List ℕ
 run_text lead r = joined (lead ∷ day_name r.first ∷ text_after_first r.first r.last ∷ [])
 

@@ -1,4 +1,4 @@
--- The weekdays that a range covers: systemd.time(7), Calendar Events.
+-- The weekdays in a range of weekdays, which may wrap around from Sunday to Monday: systemd.time(7), Calendar Events.
 use Rattle.std.specs.Prelude.{ℕ, ◌+◌, ◌-◌, ◌%◌, nat_le, Bool, List, map}
 use Rattle.std.specs.List.{list_any}
 use Rattle.jiff_core.specs.declared.civil.weekday.Weekday.{Weekday}

@@ -1,4 +1,4 @@
--- The words of a calendar expression by what they are: systemd.time(7), Calendar Events.
+-- The words of a calendar expression that are its weekdays, date, time and zone: systemd.time(7), Calendar Events.
 use Rattle.std.specs.Prelude.{ℕ, List, Option}
 
 -- the weekdays, date and time, not yet parsed, and the words after them; a missing date is `*-*-*`, and a missing time

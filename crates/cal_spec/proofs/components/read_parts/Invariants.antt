@@ -7,7 +7,8 @@ use Rattle.cal_bytes.specs.SplitPieces.{left, pieces_after}
 use Rattle.cal_text.specs.AndThen.{◌>>=◌}
 use Rattle.cal_spec.proofs.components.read_parts.Given as goal
 
--- the result is the parts parsed so far, followed by those of the remaining text
+-- parsing the whole text returns the parts parsed so far and then the parts of the remaining text, or the error of the
+-- remaining text
 abbrev pub invariant-loop-rest : goal.invariant-loop-rest
 invariant-loop-rest l =
     (parts_of l.slot l.room (pieces_after is_comma (option_copied l.rest)) >>= λ parts. Ok (l.parts.items ++ parts)) ≡ parts_of l.slot l.fn.room (slice_split is_comma l.fn.text)

@@ -5,7 +5,7 @@ use Rattle.cal_text.proofs.General.{some_piece}
 use Rattle.cal_text.specs.headline.Separators.{is_colon}
 use Rattle.cal_spec.proofs.date_and_time.time_texts.Goals as goal
 
--- a text with four pieces or more is not a time
+-- a text with three colons or more is not a time
 no_time : (word hour minute second b1 b2 b3 : List ℕ) → slice_split is_colon word ≡ hour ∷ slice_split is_colon b1 → slice_split is_colon b1 ≡ minute ∷ slice_split is_colon b2 → slice_split is_colon b2 ≡ second ∷ slice_split is_colon b3 → None ≡ time_texts word
 unfolding time_texts
 no_time word hour minute second b1 b2 b3 first next last =

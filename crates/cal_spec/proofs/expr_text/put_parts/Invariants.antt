@@ -1,4 +1,5 @@
--- The writer hasn't failed, and the remaining text is that of the parts from the index on, each after a comma.
+-- The writer hasn't failed, and what is still to be written is the text of the parts from the index on, each after a
+-- comma.
 use Rattle.std.proofs.Common.{[], ◌++◌, drop, codes}
 use Rattle.std.specs.List.{flat_map}
 use Rattle.cal_bytes.proofs.PutLemmas.{PutsUpTo}

@@ -6,7 +6,7 @@ use Rattle.cal_spec.specs.headline.WeekdayRuns.{day_name, run_text, text_after_f
 use Rattle.cal_spec.proofs.WeekdayLemmas.{text_after_first-second, text_after_first-more}
 use Rattle.cal_spec.proofs.weekday_runs.put_run.Goals as goal
 
--- the text of a run is that of its first day and then that of the days after it
+-- the text of a run is `lead`, the name of its first day, and then `text_after_first`
 after_day : (lead : List ℕ) (first last : ℕ) → joined (lead ∷ day_name first ∷ []) ++ (text_after_first first last ++ []) ≡ run_text lead (record { first = first; last = last })
 unfolding run_text
 after_day lead first last = sym (flat_map-append (λ piece. piece) (lead ∷ day_name first ∷ []) (text_after_first first last ∷ []))

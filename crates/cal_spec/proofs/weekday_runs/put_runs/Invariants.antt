@@ -1,4 +1,4 @@
--- The writer hasn't failed, and the remaining text is that of the runs from the day `first` on.
+-- The writer hasn't failed, and what is still to be written is the text of the runs from the day `first` on.
 use Rattle.std.proofs.Common.{◌-◌, drop, length}
 use Rattle.cal_bytes.proofs.PutLemmas.{PutsUpTo}
 use Rattle.cal_spec.specs.headline.WeekdayRuns.{runs_from, runs_text}

@@ -7,7 +7,8 @@ use Rattle.cal_text.specs.AndThen.{◌>>=◌}
 use Rattle.cal_spec.specs.Weekdays.{items_of}
 use Rattle.cal_spec.proofs.weekdays.read_items.Given as goal
 
--- the result is the items parsed so far, followed by those of the remaining text
+-- parsing the whole text returns the items parsed so far and then the items of the remaining text, or the error of the
+-- remaining text
 abbrev pub invariant-loop-rest : goal.invariant-loop-rest
 invariant-loop-rest l =
     (items_of (pieces_after is_comma (option_copied l.rest)) >>= λ items. Ok (l.items.items ++ items)) ≡ items_of (slice_split is_comma l.fn.list)
