@@ -1,4 +1,4 @@
-//! Laws of the definitions that the contracts cite. Each law is a function with an empty body, whose contract states
+//! Laws about the definitions that the contracts of this crate use. Each law is a function with an empty body, whose contract states
 //! the law.
 
 ghost use Rattle.std.specs.Prelude.{◌≡◌, ℕ, List};
