@@ -13,14 +13,16 @@ use Rattle.cal_text.proofs.General.{both_follow}
 pub has_all : (mask others : ℕ) → bit_or mask others ≡ mask → HasAll (is_bit mask) (is_bit others)
 has_all mask others same i other = grind (arith, is_bit-or, or_right)
 
--- the same for sets in four masks, mask by mask
+-- if each of the four masks in `masks` has all bits of the mask of `others` with the same index, then the set in
+-- `masks` contains the set in `others`
 pub have_all : (masks others : List ℕ) → length others ≡ 4 → HasAll (is_bit (get_or masks 0 0)) (is_bit (get_or others 0 0))
     → HasAll (is_bit (get_or masks 1 0)) (is_bit (get_or others 1 0)) → HasAll (is_bit (get_or masks 2 0)) (is_bit (get_or others 2 0))
     → HasAll (is_bit (get_or masks 3 0)) (is_bit (get_or others 3 0)) → HasAll (is_bit_in masks) (is_bit_in others)
 unfolding is_bit_in
 have_all masks others four first second third fourth i = grind (arith, get_or, length, get_or-eq_default, is_bit-none)
 
--- so the values of `others` are among those of `masks`, field by field
+-- if each mask in `masks` has all bits of the same mask in `others`, and both count days from the same end of the
+-- month, then the values of `others` are among those of `masks`, field by field
 pub among : (masks others : Masks) → HasAll (is_bit masks.weekdays) (is_bit others.weekdays) → HasAll (is_bit_in masks.years) (is_bit_in others.years)
     → HasAll (is_bit masks.months) (is_bit others.months) → HasAll (is_bit masks.days) (is_bit others.days) → HasAll (is_bit masks.hours) (is_bit others.hours)
     → HasAll (is_bit masks.minutes) (is_bit others.minutes) → HasAll (is_bit masks.seconds) (is_bit others.seconds) → masks.from_end ≡ others.from_end

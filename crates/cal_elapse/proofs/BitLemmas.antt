@@ -24,17 +24,18 @@ is_bit-zero m i h = ap (λ (b : ℕ). b == 1) h
 pub is_bit-shifted : (m j k : ℕ) → is_bit (m / 2 ^ j) k ≡ is_bit m (j + k)
 is_bit-shifted m j k = is_bit-same (m / 2 ^ j) m k (j + k) (bit_at-shift m j k)
 
--- a word below 2 ^ k has no bit from k on
+-- in a word below 2 ^ k, no bit from k on is set
 pub is_bit-above : (m k i : ℕ) → m < 2 ^ k → k ≤ i → is_bit m i ≡ false
 is_bit-above m k i small high = is_bit-zero m i (bit_at_above m k i small high)
 
--- the lowest bit of a word that isn't 0
+-- the lowest set bit of a word that isn't 0 is given by the number of its trailing zeros
 pub first_bit : (m : ℕ) → 0 < m → m < 2 ^ 64 → IsFirstPassing (is_bit m) 0 64 (Some (trailing_zeros w64 m))
 first_bit m some fits =
     let h = bit_at-trailing_zeros w64 m some fits in
     (omega arith, h.0, is_bit-one m (trailing_zeros w64 m) h.1, λ t low below. is_bit-zero m t (h.2 t below))
 
--- the lowest bit at or above an index
+-- The lowest set bit of `m` at or above `from`: there is none if `m` shifted right by `from` is 0. Otherwise it is
+-- given by the number of trailing zeros of the shifted word.
 pub next_none : (m from : ℕ) → m / 2 ^ from ≡ 0 → NonePasses (is_bit m) from 64
 next_none m from none = λ t low below.
     let place : from + (t - from) ≡ t = omega arith in
@@ -56,12 +57,12 @@ next_some m from fits some =
           is_bit-zero m t (subst (λ (i : ℕ). bit_at m i ≡ 0) place (sym (bit_at-shift m from (t - from)) ∙ h.2 (t - from) (omega arith))),
     )
 
--- the bits that both words have
+-- a bit of the bitwise and of two words is set if it is set in both
 pub is_bit-and : (m n i : ℕ) → is_bit (bit_and m n) i ≡ (is_bit m i && is_bit n i)
 unfolding is_bit
 is_bit-and m n i = ap (λ (b : ℕ). b == 1) (bit_at_and m n i) ∙ min_of_bits (bit_at m i) (bit_at n i) (bit_at-lt m i) (bit_at-lt n i)
 
--- the bits that at least one of two words has
+-- a bit of the bitwise or of two words is set if it is set in at least one of them
 pub is_bit-or : (m n i : ℕ) → is_bit (bit_or m n) i ≡ (is_bit m i || is_bit n i)
 unfolding is_bit
 is_bit-or m n i = ap (λ (b : ℕ). b == 1) (bit_at_or m n i) ∙ max_of_bits (bit_at m i) (bit_at n i) (bit_at-lt m i) (bit_at-lt n i)
@@ -79,7 +80,7 @@ is_bit-up_none m k i low high =
     let whole : m * 2 ^ k + 0 ≡ m * 2 ^ k = omega arith in
     is_bit-zero (m * 2 ^ k % 2 ^ 64) i (bit_at-mod (m * 2 ^ k) i low ∙ (ap (λ (x : ℕ). bit_at x i) (sym whole) ∙ (bit_at_cat_low m k 0 i high ∙ bit_at-zero i)))
 
--- words of ones: all bits below an index, from an index on, or between two indices
+-- words in which exactly these bits are set: those below an index, those from an index on, or those between two indices
 ones_below : (high i : ℕ) → high ≤ 64 → is_bit ((2 ^ 64 - 1) / 2 ^ (64 - high)) i ≡ nat_lt i high
 ones_below high i within =
     let width : 64 - (64 - high) ≡ high = omega arith in
@@ -112,7 +113,7 @@ pub is_bit-run : (low high i : ℕ) → low < high → high ≤ 64
     → is_bit (bit_and ((2 ^ 64 - 1) * 2 ^ low % 2 ^ 64) ((2 ^ 64 - 1) / 2 ^ (64 - high))) i ≡ (nat_le low i && nat_lt i high)
 is_bit-run low high i some within = grind (arith, ones_from, ones_below, nat_le, nat_lt, nat_tests, is_bit-and)
 
--- A word without its lowest bit
+-- A word without its lowest set bit
 
 lowest_of : (m k : ℕ) → m < 2 ^ 64 → IsFirstPassing (is_bit m) 0 64 (Some k) → IsLowestBit m k
 unfolding is_bit

@@ -1,12 +1,13 @@
--- The first number that passes, if a number consists of a high part and a low part, each with its own test. A search
--- tries the remaining low parts first, and then the next high part with its first low part.
+-- The first number that passes, if a number consists of a high part and a low part, and passes if each part passes its
+-- own test. A search tries the remaining low parts first, and then the next high part with its first low part.
 use Rattle.std.proofs.Common.{◌≡◌, ℕ, ◌+◌, ◌*◌, ◌/◌, ◌%◌, ◌<◌, ◌≤◌, Bool, true, false, ◌&&◌, Option, Some, ap, subst, inl, inr, ◌∙◌, refl, arith, add-mul, one-mul, mul-le-mul_right}
 use Rattle.std.proofs.lemmas.Bool.{cases_lt, and_from, and_left, and_right}
 use Rattle.std.proofs.lemmas.Nat.{div-add-mod', div_below, le-div, mod_below}
 use Rattle.cal_elapse.specs.Search.{IsFirstPassing, NonePasses}
 use Rattle.cal_text.proofs.General.{quotient_part, remainder_part}
 
--- a search of two adjacent ranges
+-- if no number from `from` up to but not including `mid` passes, the first number from `mid` on that passes is also the
+-- first from `from` on
 pub first_then : (passes : ℕ → Bool) (from mid end : ℕ) (r : Option ℕ) → NonePasses passes from mid → from ≤ mid → IsFirstPassing passes mid end r → IsFirstPassing passes from end r
 first_then passes from mid end r none low rest = grind arith
 
@@ -32,7 +33,7 @@ module _ {passes high low : ℕ → Bool} {size limit : ℕ} (s : Splits passes 
   next_high : (a : ℕ) → (a + 1) * size ≡ a * size + size
   next_high a = add-mul a 1 size ∙ ap (λ (n : ℕ). a * size + n) (one-mul size)
 
-  -- no number with this high part passes
+  -- if the high part `a` doesn't pass, no number from `from` on with this high part passes
   pub none_by_high : (a l from : ℕ) → a * size + l ≡ from → a < limit → high a ≡ false → NonePasses passes from ((a + 1) * size)
   none_by_high a l from parts inside fails = λ t above below.
       let same = quotient_part size a t s.positive (omega arith) below in
@@ -44,7 +45,8 @@ module _ {passes high low : ℕ → Bool} {size limit : ℕ} (s : Splits passes 
       let small = mod_below t size s.positive in
       split_at a t inside same ∙ and_right (high a) (low (t % size)) (none (t % size) (remainder_part size a l t same (omega arith)) (omega (arith, small)))
 
-  -- the first number with this high part that passes
+  -- if the high part `a` passes, and `b` is the first low part from `l` on that passes, then a * size + b is the first
+  -- number from a * size + l on that passes
   pub first_here : (a l from end b : ℕ) → a * size + l ≡ from → a < limit → high a ≡ true → b < size → IsFirstPassing low l end (Some b)
       → IsFirstPassing passes from ((a + 1) * size) (Some (a * size + b))
   first_here a l from end b parts inside holds small found =
@@ -57,14 +59,15 @@ module _ {passes high low : ℕ → Bool} {size limit : ℕ} (s : Splits passes 
             split_at a t inside same ∙ and_right (high a) (low (t % size)) (found.3 (t % size) (remainder_part size a l t same (omega arith)) (low_end size a b t same below)),
       )
 
-  -- no number with this high part or a later one passes
+  -- if no high part from `a` on passes, no number from a * size up to but not including limit * size passes
   pub none_later : (a end : ℕ) → limit ≤ end → NonePasses high a end → NonePasses passes (a * size) (limit * size)
   none_later a end far none = λ t above below.
       let least = le-div a t size s.positive above in
       let most = div_below t size limit s.positive below in
       split_at (t / size) t most refl ∙ and_left (high (t / size)) (low (t % size)) (none (t / size) least (omega (arith, most)))
 
-  -- the first number with this high part or a later one that passes
+  -- if `h` is the first high part from `a` on that passes, and `b` the first low part that passes, then h * size + b is
+  -- the first number from a * size on that passes
   pub first_later : (a end h e b : ℕ) → h < limit → b < size → IsFirstPassing high a end (Some h) → IsFirstPassing low 0 e (Some b)
       → IsFirstPassing passes (a * size) (limit * size) (Some (h * size + b))
   first_later a end h e b inside small found first =

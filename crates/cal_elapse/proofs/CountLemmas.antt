@@ -6,18 +6,18 @@ use Rattle.cal_elapse.specs.Window.{count_from}
 one_at_most : (b : Bool) → cond b 1 0 ≤ 1
 one_at_most b = grind arith
 
--- at most as many pass as there are
+-- at most `k` of `k` numbers pass
 pub count_from-most : (passes : ℕ → Bool) (a k : ℕ) → count_from passes a k ≤ k
 unfolding count_from
 count_from-most passes a zero = omega arith
 count_from-most passes a (suc k) = omega (arith, count_from-most passes a k, one_at_most (passes (a + k)))
 
--- one more number that passes adds 1
+-- counting one more number adds 1 if that number passes
 pub count_from-one : (passes : ℕ → Bool) (a k : ℕ) → passes (a + k) ≡ true → count_from passes a (k + 1) ≡ count_from passes a k + 1
 unfolding count_from
 count_from-one passes a k holds = grind arith
 
--- more numbers that don't pass add nothing
+-- counting `n` more numbers adds nothing if none of them passes
 pub count_from-none : (passes : ℕ → Bool) (a k n : ℕ) → NonePasses passes (a + k) (a + k + n) → count_from passes a (k + n) ≡ count_from passes a k
 unfolding count_from
 count_from-none passes a k zero none = ap (count_from passes a) (omega arith)
@@ -27,7 +27,7 @@ count_from-none passes a k (suc n) none =
     let before = count_from-none passes a k n (λ t low high. none t low (omega arith)) in
     rw (next, fails) (omega arith)
 
--- counting up to and including a number that passes
+-- if `local` passes, the count up to and including `local` is 1 more than the count up to but not including it
 pub count_from-with : (passes : ℕ → Bool) (start local : ℕ) → start ≤ local → passes local ≡ true → count_from passes start (local + 1 - start) ≡ count_from passes start (local - start) + 1
 count_from-with passes start local low holds =
     let k = local - start in
@@ -35,7 +35,8 @@ count_from-with passes start local low holds =
     let ends : local + 1 - start ≡ k + 1 = omega arith in
     ap (count_from passes start) ends ∙ count_from-one passes start k (subst (λ (t : ℕ). passes t ≡ true) here holds)
 
--- counting on to a later number if none in between passes
+-- if no number from `middle` up to but not including `bound` passes, the count up to `bound` is the count up to
+-- `middle`
 pub count_from-on : (passes : ℕ → Bool) (start middle bound : ℕ) → start ≤ middle → middle ≤ bound → NonePasses passes middle bound
     → count_from passes start (bound - start) ≡ count_from passes start (middle - start)
 count_from-on passes start middle bound low high none =
@@ -45,7 +46,8 @@ count_from-on passes start middle bound low high none =
     let nothing = λ (t : ℕ) (above : start + k ≤ t) (below : t < start + k + n). none t (omega arith) (omega arith) in
     ap (count_from passes start) ends ∙ count_from-none passes start k n nothing
 
--- counting from a number to the next that passes
+-- if `next` is the first number after `local` that passes, the count up to and including `next` is 1 more than the
+-- count up to and including `local`
 pub count_from-to : (passes : ℕ → Bool) (start local next : ℕ) → start ≤ local → local + 1 ≤ next → passes next ≡ true → NonePasses passes (local + 1) next
     → count_from passes (start + 1) (next - start) ≡ count_from passes (start + 1) (local - start) + 1
 count_from-to passes start local next low high holds none =
@@ -57,12 +59,12 @@ count_from-to passes start local next low high holds none =
     ap (count_from passes (start + 1)) ends
     ∙ (count_from-one passes (start + 1) (k + n) (subst (λ (t : ℕ). passes t ≡ true) there holds) ∙ ap (λ (c : ℕ). c + 1) (count_from-none passes (start + 1) k n nothing))
 
--- no numbers, no passes
+-- the count of an empty range is 0
 pub count_from-nothing : (passes : ℕ → Bool) (a k : ℕ) → count_from passes a (k - k) ≡ 0
 unfolding count_from
 count_from-nothing passes a k = let none : k - k ≡ 0 = omega arith in rw none refl
 
--- the count of two adjacent ranges is the sum
+-- the count of two adjacent ranges together is the sum of their counts
 pub count_from-both : (passes : ℕ → Bool) (a k n : ℕ) → count_from passes a (k + n) ≡ count_from passes a k + count_from passes (a + k) n
 unfolding count_from
 count_from-both passes a k zero = let same : k + zero ≡ k = omega arith in rw same (omega arith)
@@ -71,7 +73,8 @@ count_from-both passes a k (suc n) =
     let place : a + (k + n) ≡ a + k + n = omega arith in
     rw (next, place) (omega (arith, count_from-both passes a k n))
 
--- the count of a range split after one of its numbers
+-- the count up to and including `last` is the count up to and including `local` plus the count of the numbers after
+-- `local` up to and including `last`
 pub count_from-part : (passes : ℕ → Bool) (start local last : ℕ) → start ≤ local → local ≤ last
     → count_from passes start (last + 1 - start) ≡ count_from passes start (local + 1 - start) + count_from passes (local + 1) (last - local)
 count_from-part passes start local last low high =

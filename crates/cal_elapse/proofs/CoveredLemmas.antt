@@ -16,7 +16,7 @@ use Rattle.cal_elapse.specs.headline.Elapses.{IsElapse, IsPlace, Timed}
 use Rattle.cal_elapse.specs.headline.Timed.{timed}
 use Rattle.cal_elapse.proofs.ElapsesLemmas.{AreAbove-elapses_after, AreElapses-elapses_except, AreElapses-only, first-none}
 
--- a local second that matches some sets also matches sets that contain all their values
+-- if `others` has every value that `sets` has, a local second that matches `sets` also matches `others`
 pub matches_among : (sets others : Sets) → AreAmong sets others → (local : ℕ) → matches sets local ≡ true → matches others local ≡ true
 unfolding matches date_in time_in
 matches_among sets others h local =
@@ -25,7 +25,8 @@ matches_among sets others h local =
     (both_follow _ _ _ _ (h.weekday _) (both_follow _ _ _ _ (h.year _) (both_follow _ _ _ _ (h.month _) (rw h.from_end (h.day _)))))
     (both_follow _ _ _ _ (h.hour _) (both_follow _ _ _ _ (h.minute _) (h.second _))))
 
--- so an expression is covered by another one in the same zone that matches all its values
+-- if the expression `others` matches all values of the expression `fields`, field by field, then in the same zone
+-- `fields` is covered by `others`
 pub place_among : (fields others : Fields) (zone : TimeZone) → AreAmong (sets_of fields) (sets_of others) → IsCovered (timed fields zone) (timed others zone ∷ [])
 unfolding timed
 place_among fields others zone among i p = grind (arith, matches_among)
@@ -33,7 +34,8 @@ place_among fields others zone among i p = grind (arith, matches_among)
 below : (i : ℤ) → (i -ℤ pos 1) <ℤ i
 below i = omega (arith, ints)
 
--- if no elapse of an expression is left after removing those of exceptions, every elapse is an elapse of an exception
+-- if `i` is an elapse of `e`, and no elapse of `e` after `i` - 1 is left when those of the exceptions are removed, then
+-- `i` is an elapse of an exception
 not_left : (e : Timed) (exceptions : List Timed) (i : ℤ) (b : Bool) → is_member int_eq (elapses_after exceptions (i -ℤ pos 1)) i ≡ b → elapses_except (e ∷ []) exceptions (i -ℤ pos 1) ≡ []
     → IsPlace e i → IsElapse exceptions i
 not_left e exceptions i true has none p = (((AreAbove-elapses_after exceptions (i -ℤ pos 1)).members i).0 (Has-is_member (elapses_after exceptions (i -ℤ pos 1)) i has)).1
@@ -42,7 +44,8 @@ not_left e exceptions i false lacks none p =
     let excepted = λ (x : IsElapse exceptions i). let has = is_member-Has (elapses_after exceptions base) i (((AreAbove-elapses_after exceptions base).members i).1 (below i, x)) in false≢true (sym lacks ∙ has) in
     absurd (subst (λ (xs : List ℤ). Has xs i) none (((AreElapses-elapses_except (e ∷ []) exceptions base).members i).1 (below i, (inl p, excepted))))
 
--- an expression is covered exactly if none of its elapses is left
+-- an expression is covered by exceptions exactly if, after any base, none of its elapses is left when those of the
+-- exceptions are removed
 pub elapses_of_covered : (e : Timed) (exceptions : List Timed) → IsCovered e exceptions ↔ ((base : ℤ) → elapses_except (e ∷ []) exceptions base ≡ [])
 elapses_of_covered e exceptions = (
   λ covered base.
@@ -53,7 +56,7 @@ elapses_of_covered e exceptions = (
   λ none i p. not_left e exceptions i (is_member int_eq (elapses_after exceptions (i -ℤ pos 1)) i) refl (none (i -ℤ pos 1)) p,
 )
 
--- an elapse of two lists of expressions together is an elapse of the one or of the other
+-- an instant is an elapse of `es` ++ `fs` exactly if it is an elapse of `es` or of `fs`
 pub IsElapse-left : (es fs : List Timed) (i : ℤ) → IsElapse es i → IsElapse (es ++ fs) i
 IsElapse-left [] fs i h = absurd h
 IsElapse-left (e ∷ es) fs i (inl here) = inl here
@@ -68,7 +71,8 @@ IsElapse-either [] fs i h = inr h
 IsElapse-either (e ∷ es) fs i (inl here) = inl (inl here)
 IsElapse-either (e ∷ es) fs i (inr rest) = elim (IsElapse-either es fs i rest) [ inl h ↦ inl (inr h) | inr h ↦ inr h ]
 
--- one more expression is kept, or left out if it is covered
+-- `AreKept` stays true if the same expression is added to `all` and to `kept`, or if an expression that is covered by
+-- the exceptions is added to `all` alone
 pub kept_one : (all exceptions kept : List Timed) (e : Timed) → AreKept all exceptions kept → AreKept (all ++ e ∷ []) exceptions (kept ++ e ∷ [])
 kept_one all exceptions kept e h = record {
   within = λ i m.
@@ -93,7 +97,7 @@ kept_without all exceptions kept e covered h = record {
       ];
 }
 
--- so the elapses stay the same
+-- if `AreKept` is true, `kept` and `all` have the same elapses after `b` that aren't elapses of exceptions
 pub elapses_except-kept : (all exceptions kept : List Timed) (b : ℤ) → AreKept all exceptions kept → elapses_except kept exceptions b ≡ elapses_except all exceptions b
 elapses_except-kept all exceptions kept b h =
     let these = AreElapses-elapses_except kept exceptions b in

@@ -1,4 +1,4 @@
--- The matching days of a month, as a word.
+-- The matching days of a month, as the bits of a word.
 use Rattle.std.proofs.Common.{◌≡◌, ℕ, ◌+◌, ◌-◌, ◌*◌, ◌/◌, ◌%◌, ◌^◌, ◌<◌, ◌≤◌, Bool, true, false, ◌&&◌, nat_le, nat_lt, bit_and, if◌then◌else◌, sym, inl, inr, ◌∙◌, arith}
 use Rattle.std.proofs.lemmas.Bool.{cases_lt, and_right}
 use Rattle.std.proofs.lemmas.Bool.Decides.{nat_tests}
@@ -11,7 +11,7 @@ use Rattle.cal_elapse.specs.declared.masks.Masks.{Masks}
 use Rattle.cal_elapse.proofs.BitLemmas.{is_bit-and, is_bit-one, is_bit-shifted, is_bit-zero}
 use Rattle.cal_elapse.proofs.MonthLemmas.{day_in-month, length_bounds}
 
--- a word with one bit for each day of a month
+-- in the word 2 ^ `length` - 1, the lowest `length` bits are set, and no others
 pub ones_are : (length k : ℕ) → length ≤ 31 → is_bit (1 * 2 ^ length % 2 ^ 64 - 1) k ≡ nat_lt k length
 ones_are length k short =
     let power : 1 * 2 ^ length % 2 ^ 64 ≡ 2 ^ length = one_shl length 64 (omega arith) in
@@ -21,7 +21,7 @@ ones_are length k short =
       | inr high ↦ (let out : nat_lt k length ≡ false = grind (arith, nat_tests) in rw out (is_bit-zero (2 ^ length - 1) k (bit_at_ones_above length k high)))
     ])
 
--- the bit of a day in the mask of days is the bit of the month's first day plus the index of the day
+-- in the mask of days, the bit of the day with index `k` in a month is the bit of the month's first day plus `k`
 day_at : (days : ℕ) (from_end : Bool) (length k : ℕ) → length ≤ 31 → k < length
     → ((nat_le 1 (if from_end then length - k else k + 1) && nat_le (if from_end then length - k else k + 1) 31)
     && is_bit days (day_place from_end (if from_end then length - k else k + 1)))
@@ -34,7 +34,8 @@ in_order d w y m h = grind arith
 weekday_at : (m : Masks) (first k : ℕ) → k < 31 → is_bit m.weekdays ((first + 3) % 7 + k) ≡ (nat_lt ((first + k + 3) % 7) 7 && is_bit m.weekdays ((first + k + 3) % 7))
 weekday_at m first k small = grind (arith, nat_lt, nat_tests)
 
--- the mask of days and the mask of weekdays, shifted to the first of the month, contain exactly its matching days
+-- if the expression matches the year and the number of month `n`, then the bits that the mask of days and the mask of
+-- weekdays have in common, both shifted to the first of the month, are exactly those of its matching days
 pub days_are : (m : Masks) (n first length lowest ones k : ℕ) → n < 2_760 → first ≡ first_day n → length ≡ length_of n
     → lowest ≡ (if m.from_end then 31 - length else 0) → month_in (sets_in m) n ≡ true → k < length → is_bit ones k ≡ true
     → is_bit (bit_and (bit_and (m.days / 2 ^ lowest) (m.weekdays / 2 ^ ((first + 3) % 7))) ones) k ≡ day_in (sets_in m) (first + k)
@@ -52,6 +53,6 @@ days_are m n first length lowest ones k within begins long place member small al
     (day ∙ (rw (number, ← weekday)
     (sym (in_order (is_bit m.days ((if m.from_end then 31 - length_of n else 0) + k)) (is_bit m.weekdays ((first_day n + 3) % 7 + k)) _ _ member))))))
 
--- no bit is set after the last day of the month
+-- if exactly the lowest `length` bits of `ones` are set, its bitwise and with any word has no higher bits set
 pub days_end : (bits ones length k : ℕ) → ((i : ℕ) → is_bit ones i ≡ nat_lt i length) → is_bit (bit_and bits ones) k ≡ true → k < length
 days_end bits ones length k all holds = grind (arith, nat_lt, nat_tests, bit_and, is_bit-and, and_right)

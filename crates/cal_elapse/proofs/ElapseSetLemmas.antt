@@ -38,7 +38,8 @@ has-none masks zone instant none = (
   λ p. absurd (let count = seconds_in_all-is in let inside = p.within in none (pos p.local) (omega (arith, signed_arith), omega (arith, signed_arith)) p.placed),
 )
 
--- for an instant after the one returned last, the test says whether the remaining elapses contain it
+-- if `i` is after the instant returned last, the remaining elapses contain `i` exactly if it is an elapse of the
+-- expression
 pub in_rest : (w : Window) (i : ℤ) (b : Bool) → w.last <ℤ i → (b ≡ true) ↔ IsPlace (timed_of w) i → b ≡ is_member int_eq (remaining_elapses w) i
 unfolding remaining_elapses
 in_rest w i b above h =
@@ -48,7 +49,8 @@ in_rest w i b above h =
     (λ t. is_member-Has rest i (all.1 (above, inl (h.0 t))))
     (λ t. h.1 (elim (all.0 (Has-is_member rest i t)).1 [ inl p ↦ p | inr n ↦ absurd n ]))
 
--- otherwise the remaining elapses don't contain it
+-- if `i` isn't both after the instant returned last and an elapse of the expression, the remaining elapses don't
+-- contain `i`
 pub not_in_rest : (w : Window) (i : ℤ) → (w.last <ℤ i → IsPlace (timed_of w) i → ⊥) → false ≡ is_member int_eq (remaining_elapses w) i
 unfolding remaining_elapses
 not_in_rest w i h =
@@ -61,7 +63,7 @@ not_in_rest w i h =
 pub not_above : (w : Window) (i : ℤ) → i ≤ℤ w.last → false ≡ is_member int_eq (remaining_elapses w) i
 not_above w i low = not_in_rest w i (λ above p. absurd (omega (arith, signed_arith)))
 
--- every place of 0 or more is an instant
+-- if a matching local second resolves to `i`, and `i` isn't negative, then `i` is an instant
 place-instant : (masks : Masks) (zone : Zone) (i : ℤ) → pos 0 ≤ℤ i → IsPlace (timed_by masks zone) i → IsInstant i
 unfolding timed_by
 place-instant masks zone i low p =

@@ -17,7 +17,7 @@ use Rattle.cal_text.proofs.General.{int_lt_trans, rises-drop}
 use Rattle.cal_rising.proofs.RisingLemmas.{above_first, later_members, same_rising, Has-union, rises-union}
 use Rattle.cal_rising.proofs.WithoutLemmas.{Has-without, without-none}
 
--- `i` is the instant of a matching local second among the `n` from `a` on
+-- `i` is the instant of a matching local second among the `n` local seconds from `a` on
 record IsPlaceFrom (e : Timed) (a n : ℕ) (i : ℤ) : Type 0 where
   local : ℕ
   low : a ≤ local
@@ -25,7 +25,7 @@ record IsPlaceFrom (e : Timed) (a n : ℕ) (i : ℤ) : Type 0 where
   is_match : e.matches local ≡ true
   placed : e.place local ≡ Some i
 
--- the effect of one more local second
+-- putting `o` in front of `rest`, if `b` is true and `o` isn't `None`, adds exactly the number in `o` to the elements
 Has-one : (b : Bool) (o : Option ℤ) (rest : List ℤ) (i : ℤ) → Has (cond b (cons_option o rest) rest) i ↔ (((b ≡ true) × (o ≡ Some i)) ⊎ Has rest i)
 Has-one b o rest i = grind arith
 
@@ -41,7 +41,8 @@ from_later e a n i p = record { local = p.local; low = omega arith; high = omega
 from_split : (e : Timed) (a n : ℕ) (i : ℤ) → IsPlaceFrom e a (suc n) i → ((e.matches a ≡ true) × (e.place a ≡ Some i)) ⊎ IsPlaceFrom e (a + 1) n i
 from_split e a n i p = grind arith
 
--- the instants of the matching local seconds among the `n` from `a` on
+-- filtering the `n` local seconds from `a` on by `e.matches` and mapping them by `e.place` yields exactly the instants
+-- for which `IsPlaceFrom` is true
 Has-from : (e : Timed) (a n : ℕ) (i : ℤ) → Has (filter_map e.place (filter e.matches (range_with_len a n))) i ↔ IsPlaceFrom e a n i
 Has-from e a zero i = (λ m. absurd m, λ p. absurd (omega arith))
 Has-from e a (suc n) i =
@@ -67,7 +68,7 @@ not_above b x i ge lt e = omega (arith, ints)
 not_both : (x e i : ℤ) → x <ℤ e → e <ℤ i → x ≡ i → ⊥
 not_both x e i h k f = omega (arith, ints)
 
--- a filter keeps the elements after `b`
+-- the numbers of a list that are after `b` are kept by a filter: for one element, and then for a whole list
 above-one : (b x : ℤ) (keep : Bool) (rest : List ℤ) (i : ℤ) → int_lt b x ≡ keep → Has (cond keep (x ∷ rest) rest) i ↔ (((b <ℤ i) × (x ≡ i)) ⊎ Has rest i)
 above-one b x keep rest i h = grind (arith, ints, not_above)
 
@@ -80,7 +81,8 @@ Has-above b (x ∷ xs) i =
       λ p. elim p.1 [ inl e ↦ one.1 (inl (p.0, e)) | inr n ↦ one.1 (inr (rest.1 (p.0, n))) ],
     )
 
--- `i` is after `b` and in one of the elapse sets
+-- one of the elapse sets, each without the instants up to `b`, contains `i` exactly if `i` is after `b` and an elapse
+-- of one of the expressions
 HasAny-elapses : (es : List Timed) (b i : ℤ) → HasAny (map (λ e. filter (int_lt b) (places e)) es) i ↔ ((b <ℤ i) × IsElapse es i)
 HasAny-elapses [] b i = (λ m. absurd m, λ p. p.1)
 HasAny-elapses (e ∷ es) b i =
@@ -91,7 +93,7 @@ HasAny-elapses (e ∷ es) b i =
       λ p. elim p.1 [ inl q ↦ inl (here.1 (p.0, set.1 q)) | inr q ↦ inr (rest.1 (p.0, q)) ],
     )
 
--- the list of elapses after a base satisfies its definition
+-- `elapses_after` is strictly increasing and contains exactly the elapses of `es` after `b`
 pub AreAbove-elapses_after : (es : List Timed) (b : ℤ) → AreAbove (IsElapse es) b (elapses_after es b)
 unfolding elapses_after
 AreAbove-elapses_after es b =
@@ -104,7 +106,8 @@ AreAbove-elapses_after es b =
       );
     }
 
--- so does the list without the elapses of exceptions
+-- `elapses_except` is strictly increasing and contains exactly the elapses of `es` after `b` that aren't elapses of
+-- exceptions
 pub AreElapses-elapses_except : (es exceptions : List Timed) (b : ℤ) → AreElapses es exceptions b (elapses_except es exceptions b)
 unfolding elapses_except
 AreElapses-elapses_except es exceptions b =
@@ -154,7 +157,8 @@ Has-drop (x ∷ xs) (suc k) e h at i =
       λ p. elim p.1 [ inl f ↦ absurd (not_both x e i up p.0 f) | inr n ↦ rest.1 (p.0, n) ],
     )
 
--- starting again at the k-th elapse yields exactly the elapses after it
+-- if `e` is the element with index `k` in the list of numbers after `b`, the list of numbers after `e` consists of the
+-- elements after that one
 later_above : {Holds : ℤ → Type 0} (b e : ℤ) (xs ys : List ℤ) (k : ℕ) → AreAbove Holds b xs → AreAbove Holds e ys → slice_get xs k ≡ Some e → ys ≡ drop (suc k) xs
 later_above b e xs ys k all again at =
     let up = ((all.members e).0 (has_at xs k e at)).0 in
@@ -176,19 +180,19 @@ pub elapses_except-later : (es exceptions : List Timed) (b e : ℤ) (k : ℕ) �
 elapses_except-later es exceptions b e k at =
     later_above b e (elapses_except es exceptions b) (elapses_except es exceptions e) k (AreElapses-elapses_except es exceptions b) (AreElapses-elapses_except es exceptions e) at
 
--- so the first k + 1 elapses, followed by the first m after the last of these, are the first k + 1 + m
+-- the first k + 1 elapses, followed by the first m elapses after the last of these, are the first k + 1 + m elapses
 pub elapses_except-parts : (es exceptions : List Timed) (b e : ℤ) (k m : ℕ) → slice_get (elapses_except es exceptions b) k ≡ Some e
     → take (suc k) (elapses_except es exceptions b) ++ take m (elapses_except es exceptions e) ≡ take (suc k + m) (elapses_except es exceptions b)
 elapses_except-parts es exceptions b e k m at = grind (arith, elapses_except-later, take-add)
 
--- starting again at the first elapse yields the list without it
+-- if `e` is the first elapse after `b`, the elapses after `e` are those after `b` without the first
 pub elapses_after-first : (es : List Timed) (b e : ℤ) → slice_get (elapses_after es b) 0 ≡ Some e → elapses_after es e ≡ drop 1 (elapses_after es b)
 elapses_after-first es b e h = elapses_after-later es b e zero h
 
 below_and_above : (x i : ℤ) → x <ℤ i → i ≤ℤ x → ⊥
 below_and_above x i h k = omega (arith, ints)
 
--- an empty list has no first element
+-- a list that contains no number has no first element
 pub first-none : (xs : List ℤ) → ((i : ℤ) → Has xs i → ⊥) → slice_get xs 0 ≡ None
 first-none [] h = refl
 first-none (x ∷ xs) h = absurd (h x (inl refl))
@@ -199,7 +203,8 @@ first-least [] i h m least = absurd m
 first-least (x ∷ xs) i h (inl e) least = ap Some e
 first-least (x ∷ xs) i h (inr n) least = absurd (below_and_above x i (above_first x i xs h n) (least x (inl refl)))
 
--- conditions for having no elapse, and for being the first elapse
+-- There is no first elapse after `b` if no elapse is after `b`. `i` is the first elapse after `b` if it is an elapse
+-- after `b` and none of the elapses after `b` is earlier.
 pub first_elapse-none : (es : List Timed) (b : ℤ) → ((i : ℤ) → b <ℤ i → IsElapse es i → ⊥) → slice_get (elapses_after es b) 0 ≡ None
 first_elapse-none es b h =
     let all = AreAbove-elapses_after es b in
@@ -211,7 +216,8 @@ first_elapse-least es b i above m least =
     first-least (elapses_after es b) i all.rises ((all.members i).1 (above, m))
     (λ j n. least j ((all.members j).0 n).0 ((all.members j).0 n).1)
 
--- an elapse of several expressions is an elapse of one of them
+-- one of the lists of elapses after `b`, one list for each expression, contains `i` exactly if `i` is after `b` and an
+-- elapse of one of the expressions
 HasAny-each : (es : List Timed) (b i : ℤ) → HasAny (map (λ e. elapses_after (e ∷ []) b) es) i ↔ ((b <ℤ i) × IsElapse es i)
 HasAny-each [] b i = (λ m. absurd m, λ p. p.1)
 HasAny-each (e ∷ es) b i =

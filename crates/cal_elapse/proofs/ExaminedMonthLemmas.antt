@@ -18,7 +18,8 @@ none_of_month sets n first length from within begins long low fails = λ t above
     let next = first_day-suc n in
     months_none sets n (suc n) (omega arith) (λ k a b. let same : k ≡ n = omega arith in rw same fails) t (omega arith) (omega arith)
 
--- the bits of a word are the matching days of a month
+-- bit k of `bits` is set exactly if the k-th day after `first`, the first day of a month with `length` days, is in that
+-- month and matches
 pub record HasDays (sets : Sets) (first length bits : ℕ) : Type 0 where
   pub days : (k : ℕ) → k < length → is_bit bits k ≡ day_in sets (first + k)
   pub within : (k : ℕ) → is_bit bits k ≡ true → k < length
@@ -34,7 +35,8 @@ pub none_in_month : (sets : Sets) (first length bits from : ℕ) → HasDays set
     → NonePasses (is_bit bits) (from - first) 64 → NonePasses (day_in sets) from (first + length)
 none_in_month sets first length bits from has low short none = grind (arith, day_is)
 
--- examining the next matching month adds 1 to the count
+-- if `next` is the first month from `index` on that passes, the count up to and including `next` is 1 more than the
+-- count up to but not including `index`
 pub count_step : (passes : ℕ → Bool) (from index next : ℕ) → from ≤ index → index ≤ next → NonePasses passes index next → passes next ≡ true
     → count_from passes from (suc next - from) ≡ count_from passes from (index - from) + 1
 count_step passes from index next low high none holds =
@@ -54,7 +56,8 @@ count_front passes a (suc k) =
     let here : a + suc k ≡ suc a + k = omega arith in
     rw here (omega (arith, before))
 
--- the count for a month and the months after it
+-- the number of months examined from month `n` on is the number examined from the month after it on, plus 1 if the
+-- expression matches the year and the number of month `n`
 pub examined_on : (sets : Sets) (n : ℕ) (r : Option ℕ) → n < 2_760 → IsFirstPassing (day_in sets) (first_day (n + 1)) 84_006 r
     → cond (month_in sets n) 1 0 + examined_from sets (n + 1) r ≡ examined_from sets n r
 examined_on sets n None within none =
@@ -68,7 +71,8 @@ examined_on sets n (Some day) within found =
     let next : n + 1 ≡ suc n = omega arith in
     rw (ends, next) (sym (rw next at (count_front (month_in sets) n (suc m - (n + 1)))))
 
--- the count for a search that ends in its first month
+-- a search that starts and ends in month `n` examines one month, or none if the expression doesn't match its year and
+-- number
 pub examined_here : (sets : Sets) (n first length day : ℕ) → n < 2_760 → first ≡ first_day n → length ≡ length_of n → first ≤ day → day < first + length
     → cond (month_in sets n) 1 0 ≡ examined_from sets n (Some day)
 unfolding count_from
@@ -80,17 +84,18 @@ examined_here sets n first length day within begins long low high =
     let here : n + 0 ≡ n = omega arith in
     rw (month, one, here) (omega arith)
 
--- the count for a search that ends in a later month
+-- if `old` months before month `index` were examined, and `next` is the first month from `index` on whose year and
+-- number match, then a search that ends in month `next` examines `old` + 1 months
 pub examined_some : (sets : Sets) (from index next place old new : ℕ) → from ≤ index → index ≤ next → next < 2_760 → place < length_of next
     → NonePasses (month_in sets) index next → month_in sets next ≡ true → old ≡ count_from (month_in sets) from (index - from)
     → examined_from sets from (Some (first_day next + place)) ≡ old + 1
 examined_some sets from index next place old new low high within small none holds counted = grind (arith, month_of-is, count_step)
 
--- no search examines more months than there are
+-- no search examines more than 2,760 months, the number of months in the years 1970 to 2199
 pub examined_most : (sets : Sets) (n from : ℕ) (r : Option ℕ) → IsFirstPassing (day_in sets) from 84_006 r → examined_from sets n r ≤ 2_760
 examined_most sets n from r none = grind (arith, count_from-most, located)
 
--- no month is left to examine after the last one
+-- a search that starts at the end of 2199 examines no month
 pub examined_end : (sets : Sets) → examined_from sets (month_of (civil_date 84_006)) None ≡ 0
 unfolding count_from
 examined_end sets =
@@ -100,7 +105,7 @@ examined_end sets =
     let last : month_of (civil_date 84_006) ≡ 2_760 = subst (λ (t : ℕ). month_of (civil_date t) ≡ 2_760) place month in
     rw last
 
--- if a day matches, its month matches
+-- if the expression matches a day, it matches the year and the number of its month
 month_of_match : (sets : Sets) (day : ℕ) → day < 84_006 → day_in sets day ≡ true → month_in sets (month_of (civil_date day)) ≡ true
 month_of_match sets day within holds = true_from_ne_false (month_in sets (month_of (civil_date day))) (λ fails. let none = no_day sets day within fails in cc)
 
@@ -117,7 +122,7 @@ pub examined_today : (sets : Sets) (t second : ℕ) → t / 86_400 < 84_006 → 
     → examined_months sets (t + 1) (Some (t / 86_400 * 86_400 + second)) ≡ 1
 examined_today sets t second within holds later small = grind (arith, one_examined)
 
--- a search over local seconds examines the same months as the search over their days
+-- a search for a local second examines as many months as the search for the day of that local second
 pub examined_of_days : (sets : Sets) (n from found second : ℕ) → n ≡ month_of (civil_date (from / 86_400)) → second < 86_400
     → examined_from sets n (Some found) ≡ examined_months sets from (Some (found * 86_400 + second))
 examined_of_days sets n from found second start small = grind arith

@@ -16,7 +16,8 @@ use Rattle.cal_text.proofs.General.{below_end, lt_from_pos, or_false}
 
 -- The cells
 
--- a word after more bits are set
+-- after the bits of `more` are set in a word, a cell of that word is set if it was set before, or if its bit in `more`
+-- is set
 filled_here : (cells : List ℕ) (word more i : ℕ) → word < length cells → i / 64 ≡ word
     → is_bit_in (set cells word (bit_or (get_or cells word 0) more)) i ≡ (is_bit_in cells i || is_bit more (i % 64))
 filled_here cells word more i inside same =
@@ -29,7 +30,8 @@ filled_else cells word value i other =
     in_word (set cells word value) i (i / 64) refl
     ∙ (ap (λ (w : ℕ). is_bit w (i % 64)) (get_or-set_other cells word (i / 64) value 0 other) ∙ sym (in_word cells i (i / 64) refl))
 
--- the bits that go into the word of the first cell, and those that go into the next word
+-- if `bits` is shifted for the word of the first cell, or for the next word, then a bit of that word is set exactly if
+-- the bit of `bits` that stands for its cell is set
 up_is : (bits cell i : ℕ) → bits < 2 ^ 64 → cell < 187_200 → i < 187_200 → i / 64 ≡ cell / 64
     → is_bit (bits * 2 ^ (cell % 64) % 2 ^ 64) (i % 64) ≡ is_bit bits (cells_behind cell i)
 up_is bits cell i fits inside there same =
@@ -49,7 +51,7 @@ far_behind : (cell i next : ℕ) → cell < 187_200 → i < 187_200 → (next �
     → i / 64 ≢ cell / 64 → i / 64 ≢ next → 64 ≤ cells_behind cell i
 far_behind cell i next inside there turn next_in other apart = elim turn [ inl on ↦ omega arith | inr round ↦ omega (arith, round.0, round.1) ]
 
--- all cells after both words are changed
+-- after both words are changed, a cell is set if it was set before, or if the bit of `bits` that stands for it is set
 pub filled : (cells : List ℕ) (cell bits next i : ℕ) → length cells ≡ 2_925 → cell < 187_200 → bits < 2 ^ 64 → (next ≡ cell / 64 + 1) ⊎ ((next ≡ 0) × (cell / 64 ≡ 2_924))
     → next < 2_925 → i < 187_200
     → let one = set cells (cell / 64) (bit_or (get_or cells (cell / 64) 0) (bits * 2 ^ (cell % 64) % 2 ^ 64)) in
@@ -94,7 +96,7 @@ new_held old new start bits bit all set small =
     let behind : cells_behind (start % 187_200) ((start + bit) % 187_200) ≡ bit = omega arith in
     held_all old new start bits (start + bit) all ∙ or_right _ _ (ap (is_bit bits) behind ∙ set)
 
--- one turn from `least` on contains all new instants
+-- all new instants are after `least`, are among the 187,200 seconds from `least` on, and aren't after the last instant
 pub record IsRoundOfAll (least start bits : ℕ) : Type 0 where
   pub behind : least < start
   pub inside : (bit : ℕ) → is_bit bits bit ≡ true → start + bit < least + 187_200
@@ -132,7 +134,7 @@ filled_back old new least start bits i all round fits (inr one) =
     let held = new_held old new start bits one.bit all one.set (small_bit bits one.bit fits one.set) in
     subst (Has (instants_in new least)) (one_at start one.bit i one.is) (member new least (start + one.bit) (omega arith) (round.inside one.bit one.set) held)
 
--- the elements after all new instants are added
+-- after all new instants are added, the ring contains exactly the old elements and the new instants
 pub filled_seen : (old new : List ℕ) (least start bits : ℕ) (i : ℤ) → AreFilled old new start bits → IsRoundOfAll least start bits → bits < 2 ^ 64
     → Has (instants_in new least) i ↔ (Has (instants_in old least) i ⊎ IsOneOf (pos start) bits i)
 filled_seen old new least start bits i all round fits =

@@ -1,4 +1,4 @@
--- The result of a search, as a natural number and as a machine integer.
+-- The result of a search, as a natural number and as an integer.
 use Rattle.std.proofs.Common.{◌≡◌, ◌≤ℤ◌, arith, true, Bool, IfSome, None, Option, Some, negsuc, option_map, pos, unsigned_abs, ℕ, ℤ}
 use Rattle.std.proofs.lemmas.Int.{ints}
 use Rattle.cal_civil.specs.Local.{IsLocalSecond}
@@ -10,11 +10,11 @@ first_passing passes from None none = grind (arith, ints)
 first_passing passes from (Some (pos s)) found = grind (arith, ints)
 first_passing passes from (Some (negsuc s)) found = absurd (omega (arith, ints, found.0))
 
--- the reverse direction
+-- if `s`, as a natural number, is the first local second from `from` on that passes, it is also the first as an integer
 pub first_local : (passes : ℕ → Bool) (from s : ℕ) → IsFirstPassing passes from seconds_in_all (Some s) → IsFirstLocal passes (pos from) (Some (pos s))
 first_local passes from s found = grind (arith, ints)
 
--- the result is a local second that passes
+-- the result of a search is `None` or a local second that passes
 pub first_match : (passes : ℕ → Bool) (from : ℤ) (found : Option ℤ) → pos 0 ≤ℤ from → IsFirstLocal passes from found → IfSome found (λ local. IsLocalSecond local × (passes (unsigned_abs local) ≡ true))
 first_match passes from None low none = grind arith
 first_match passes from (Some s) low found = let count = seconds_in_all-is in ((omega (arith, ints, found.0), omega (arith, ints, found.1)), found.2)

@@ -1,4 +1,4 @@
--- The values of a valid component are values of its field, so the masks represent all of them; and every valid
+-- All values of a valid component are in the range of its field, so the masks represent all of them; and every valid
 -- component has a value.
 use Rattle.std.proofs.Common.{◌≡◌, ◌&&◌, ◌%◌, nat_lt, if◌then◌else◌, sym, ℕ, ◌+◌, ◌-◌, ◌<◌, ◌≤◌, Bool, true, false, nat_le, get_or, length, List, [], ◌∷◌, Option, None, Some, ◌∙◌, inl, inr, arith, le-ltb, lt-ltb}
 use Rattle.std.specs.List.{AllByRecursion, list_any}
@@ -16,7 +16,8 @@ use Rattle.cal_spec.specs.declared.part.Part.{Part}
 use Rattle.cal_spec.specs.declared.slot.Slot.{Slot}
 use Rattle.cal_spec.specs.declared.slot.Slot.TheVariants.{DayFromEnd}
 
--- the largest value of a slot, for counts from the end of the month too
+-- the largest value that a component of a slot can match; if days are counted from the end of the month it is 31,
+-- because `*` matches every count up to 31
 abbrev pub last_of : Slot → ℕ
 last_of DayFromEnd = 31
 last_of slot = greatest slot
@@ -38,7 +39,7 @@ parts_both slot (p ∷ ps) v sound h =
       | inr rest ↦ parts_both slot ps v sound.1 rest
     ]
 
--- the values of a valid component are values of its field
+-- if a component is valid, all its values are between the smallest and the largest value of its slot
 pub component_both : (slot : Slot) (c : Option (List Part)) (v : ℕ) → IsValidComponent slot c → component_has slot c v ≡ true
     → (least slot ≤ v) × (v ≤ last_of slot)
 component_both slot c v sound h = grind (arith, parts_both)
@@ -47,11 +48,11 @@ pub day_both : (from_end : Bool) (c : Option (List Part)) (v : ℕ) → IsValidC
     → (1 ≤ v) × (v < 1 + 31)
 day_both from_end c v sound h = grind (arith, component_both)
 
--- a word that is filled bit by bit, from the lowest on
+-- a word is filled bit by bit, from the lowest on: at the start no bit is filled, and none is set
 pub filled_none : (has : ℕ → Bool) (i : ℕ) → is_bit 0 i ≡ (nat_lt i 0 && has i)
 filled_none has i = let out = le-ltb i 0 (omega arith) in rw out (is_bit-none i)
 
--- no bit is set above the filled ones
+-- if only bits below bit `n` were filled, no bit from `n` on is set
 pub filled_end : (mask n : ℕ) (has : ℕ → Bool) → ((i : ℕ) → is_bit mask i ≡ (nat_lt i n && has i)) → (i : ℕ) → n ≤ i → is_bit mask i ≡ false
 filled_end mask n has filled i high = let out = le-ltb i n high in filled i ∙ rw out
 
@@ -66,7 +67,8 @@ filled_some mask v holds =
           let clash : true ≡ false = sym nothing ∙ is_bit-none v in absurd (cc))
     ]
 
--- a word that was filled with every number that satisfies a test decides the test
+-- if `mask` was filled with the numbers below `n` that satisfy the test `holds`, and no other numbers satisfy it, then
+-- bit `v` is set exactly if `v` satisfies the test
 pub members_are : (mask n : ℕ) (holds : ℕ → Bool) → ((i : ℕ) → is_bit mask i ≡ (nat_lt i n && holds (0 + i)))
     → ((v : ℕ) → holds v ≡ true → (0 ≤ v) × (v < n)) → (v : ℕ) → is_bit mask v ≡ holds v
 members_are mask n holds filled within v = grind (arith, false_from_ne_true)
@@ -75,14 +77,15 @@ pub numbers_are : (bit : ℕ → Bool) (first n : ℕ) (holds : ℕ → Bool) �
     → ((v : ℕ) → holds v ≡ true → (first ≤ v) × (v < first + n)) → (v : ℕ) → (nat_le first v && bit (v - first)) ≡ holds v
 numbers_are bit first n holds filled within v = grind (arith, nat_le, nat_tests, false_from_ne_true)
 
--- the days, counted from the start or from the end of the month
+-- if the mask of days was filled with the days, or with the counts from the end of the month, that satisfy the test
+-- `holds`, then it contains exactly those
 pub days_are : (mask : ℕ) (from_end : Bool) (holds : ℕ → Bool)
     → ((i : ℕ) → is_bit mask i ≡ (nat_lt i 31 && holds (if from_end then 31 - i else i + 1)))
     → ((v : ℕ) → holds v ≡ true → (1 ≤ v) × (v < 1 + 31)) → (v : ℕ)
     → ((nat_le 1 v && nat_le v 31) && is_bit mask (day_place from_end v)) ≡ holds v
 days_are mask from_end holds filled within v = grind (arith, nat_le, nat_tests, false_from_ne_true, nat_lt, lt-ltb)
 
--- the first of the six weeks
+-- if the weekdays are repeated for six weeks in `mask`, its lowest 7 bits are the weekdays
 pub weekdays_are : (mask : ℕ) (days : List Bool) → length days ≡ 7 → ((i : ℕ) → is_bit mask i ≡ (nat_lt i 42 && get_or days (i % 7) false))
     → (v : ℕ) → (nat_lt v 7 && is_bit mask v) ≡ get_or days v false
 weekdays_are mask days seven filled v = grind (arith, get_or, lt-ltb, length, get_or-eq_default)
@@ -91,7 +94,8 @@ pub weeks_repeat : (mask : ℕ) (days : List Bool) → ((i : ℕ) → is_bit mas
     → (i : ℕ) → i < 42 → is_bit mask i ≡ is_bit mask (i % 7)
 weeks_repeat mask days filled i low = grind (arith, lt-ltb)
 
--- the years in four masks
+-- If each of four words was filled with its own years that satisfy the test `holds`, then together they contain exactly
+-- the years 1970 to 2199 that satisfy it. The first lemma is for a single word.
 year_word : (word first n i j : ℕ) (holds : ℕ → Bool) → ((p : ℕ) → is_bit word p ≡ (nat_lt p n && holds (first + p)))
     → first + j ≡ 1_970 + i → j < n → i < 230 → is_bit word j ≡ (nat_lt i 230 && holds (1_970 + i))
 year_word word first n i j holds filled same low inside = grind (arith, lt-ltb)

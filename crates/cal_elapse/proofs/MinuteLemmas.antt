@@ -1,4 +1,5 @@
--- The remaining bits of the minute and of the hour of a match, while each search removes one bit.
+-- The stored bits of the later matches in the minute of a match, and of the later minutes with matches in its hour. A
+-- search that takes its result from these bits removes one of them.
 use Rattle.std.proofs.Common.{IfSome, IsSome, ◌≡◌, ◌≢◌, ◌∙◌, ℕ, ◌+◌, ◌-◌, ◌*◌, ◌/◌, ◌%◌, ◌^◌, ◌<◌, ◌≤◌, Bool, true, false, ◌&&◌, Option, Some, ℤ, option_map, pos, unsigned_abs, w64, sym, subst, refl, arith, ltb-true, nat_lt}
 use Rattle.std.proofs.lemmas.Bool.{and_from, and_parts, false_from_ne_true, lt-ltb}
 use Rattle.std.specs.Int.{trailing_zeros}
@@ -36,8 +37,8 @@ day_of_match sets t holds =
 
 -- Lemmas for any unit of 60: local seconds in their minute, or minutes in their hour.
 
--- A minute, counted from the start of 1970, has matches if its hour does, counted likewise, and if its number within
--- the hour matches.
+-- An hour, counted from the start of 1970, has matches if its date and its hour of the day match. A minute has matches
+-- if its hour has matches and its number within the hour matches.
 hour_matches : Masks → ℕ → Bool
 hour_matches m hour = nat_lt hour 2_016_144 && (day_in (sets_in m) (hour / 24) && is_bit m.hours (hour % 24))
 
@@ -64,15 +65,15 @@ minutes_of_all m = record {
       split_at (locals_split (sets_in m)) (a / 1_440) (a * 60 + b) (omega arith) day ∙ rw (lt-ltb a 120_968_640 low, time, here) (sym (and_regrouped (day_in (sets_in m) (a / 1_440)) (minute_in (sets_in m) (a % 1_440)) (is_bit m.seconds b)));
 }
 
--- Numbers in the same unit as one that passes differ only in their low part, so the low part alone decides whether they
--- pass.
+-- If `found` passes, then of the numbers in the same unit of 60 exactly those pass whose low part passes.
 by_low : (passes high low : ℕ → Bool) (limit found t : ℕ) → Splits passes high low 60 limit → found / 60 < limit → passes found ≡ true → t / 60 ≡ found / 60 → passes t ≡ low (t % 60)
 by_low passes high low limit found t s within holds same =
     let both = and_parts _ _ (sym (split_at s (found / 60) found within refl) ∙ holds) in
     let here : high (found / 60) ≡ true = both.0 in
     split_at s (found / 60) t within same ∙ rw here refl
 
--- the numbers in the unit of `found` that pass and are greater than it are those whose low part has a higher set bit
+-- if `found` passes, the bits of `mask` above the low part of `found` stand for the greater numbers in its unit that
+-- pass
 left_after : (passes high : ℕ → Bool) (mask limit found : ℕ) → Splits passes high (is_bit mask) 60 limit → ((i : ℕ) → 60 ≤ i → is_bit mask i ≡ false) → found / 60 < limit
     → passes found ≡ true → AreRemaining passes found (found + 1) (mask / 2 ^ (found % 60 + 1))
 left_after passes high mask limit found s last within holds = record {
@@ -86,19 +87,20 @@ left_after passes high mask limit found s last within holds = record {
       by_low passes high (is_bit mask) limit found t s within holds same ∙ rw place (sym (is_bit-shifted mask (found % 60 + 1) (t - (found + 1))));
 }
 
--- no bit is left if no later number passes
+-- if no number after `found` passes, no bits remain: `AreRemaining` is true of the word 0
 left_none : (passes : ℕ → Bool) (found : ℕ) → ((t : ℕ) → found < t → passes t ≡ false) → AreRemaining passes found 0 0
 left_none passes found none = grind (arith, no_bit, is_bit-none)
 
 bit_passes : (passes : ℕ → Bool) (found from left bit : ℕ) → AreRemaining passes found from left → is_bit left bit ≡ true → passes (from + bit) ≡ true
 bit_passes passes found from left bit h set = grind arith
 
--- the lowest bit stands for the next number that passes
+-- the lowest set bit of `left` stands for the first number after `found` that passes
 next_in_minute : (passes : ℕ → Bool) (found from left bit end : ℕ) → AreRemaining passes found from left → IsFirstPassing (is_bit left) 0 64 (Some bit) → from + bit < end
     → IsFirstPassing passes (found + 1) end (Some (from + bit))
 next_in_minute passes found from left bit end h lowest inside = grind (arith, bit_passes)
 
--- after that bit is removed, the bits are those of the numbers after it
+-- after `bit`, the lowest set bit of `left`, is removed, the bits that remain stand for the numbers after `from` +
+-- `bit` that pass
 pub left_behind : (passes : ℕ → Bool) (found from left bit more : ℕ) → AreRemaining passes found from left → IsFirstPassing (is_bit left) 0 64 (Some bit) → is_bit more bit ≡ false
     → ((i : ℕ) → i ≢ bit → is_bit more i ≡ is_bit left i) → AreRemaining passes (from + bit) from more
 left_behind passes found from left bit more h lowest cleared others = grind arith
@@ -145,7 +147,7 @@ minute_inside : (sets : Sets) (minute : ℕ) → minute_matches sets minute ≡ 
 unfolding minute_matches
 minute_inside sets minute holds = ltb-true minute 120_968_640 (and_parts _ _ holds).0
 
--- a minute that contains a match has matches
+-- if a local second matches, its minute passes the test `minute_matches`
 minute_of_match : (m : Masks) (local : ℕ) → matches (sets_in m) local ≡ true → minute_matches (sets_in m) (local / 60) ≡ true
 minute_of_match m local holds =
     let count = seconds_in_all-is in
@@ -167,7 +169,8 @@ pub minutes_inside : (m : Masks) (found from minutes bit : ℕ) → AreRemaining
     → from + bit < 120_968_640
 minutes_inside m found from minutes bit h lowest = minute_inside (sets_in m) (from + bit) (bit_passes _ (found / 60) from minutes bit h lowest.2)
 
--- If no bits of the minute are left, the lowest bit of the hour stands for the minute of the next match.
+-- If no match is left in the minute of `found`, the lowest set bit of `minutes` stands for the minute of the next
+-- match, which is at the first matching second of that minute.
 pub next_in_hour : (m : Masks) (found from start minutes bit first : ℕ) → AreRemaining (matches (sets_in m)) found from 0
     → AreRemaining (minute_matches (sets_in m)) (found / 60) start minutes → IsFirstPassing (is_bit minutes) 0 64 (Some bit) → IsFirstPassing (is_bit m.seconds) 0 64 (Some first)
     → IsFirstPassing (matches (sets_in m)) (found + 1) seconds_in_all (Some ((start + bit) * 60 + first))
@@ -183,7 +186,8 @@ next_in_hour m found from start minutes bit first h later lowest second =
     (λ t above below. h.passing t (omega arith) (omega arith) ∙ is_bit-none (t - from)) (omega arith)
     (first_later (minutes_of_all m) (found / 60 + 1) 120_968_640 (start + bit) 64 first inside low minute second))
 
--- the result of the search that finds that match
+-- if no match is left in the minute of `found`, a search finds the first match of the next minute with matches in the
+-- same hour, and examines one month
 pub search_later : (m : Masks) (found from start minutes bit first : ℕ) → AreRemaining (matches (sets_in m)) found from 0
     → AreRemaining (minute_matches (sets_in m)) (found / 60) start minutes → IsFirstPassing (is_bit minutes) 0 64 (Some bit) → IsFirstPassing (is_bit m.seconds) 0 64 (Some first)
     → IsSearch (sets_in m) (found + 1) (record { local = Some (pos ((start + bit) * 60 + first)); months = 1 })
@@ -192,7 +196,8 @@ search_later m found from start minutes bit first h later lowest second =
     let same = later.unit bit lowest.2 in
     search_on m found ((start + bit) * 60 + first) (omega arith) (next_in_hour m found from start minutes bit first h later lowest second)
 
--- the remaining bits of that match's minute and hour
+-- After the first match of a later minute in the hour is found, the bits of `m.seconds` above the second of that match
+-- remain in its minute. In the hour, all bits but that of its minute remain.
 pub seconds_later : (m : Masks) (found from start minutes bit first : ℕ) → AreRemaining (matches (sets_in m)) found from 0
     → AreRemaining (minute_matches (sets_in m)) (found / 60) start minutes → IsFirstPassing (is_bit minutes) 0 64 (Some bit) → IsFirstPassing (is_bit m.seconds) 0 64 (Some first)
     → AreRemaining (matches (sets_in m)) ((start + bit) * 60 + first) ((start + bit) * 60 + first + 1) (m.seconds / 2 ^ (first + 1))
@@ -211,8 +216,8 @@ minutes_later m found start minutes bit first more later lowest second cleared o
 
 -- Searching an hour to its end.
 
--- if bits of the hour are left after a match, there is another match in the hour: the same second of the next of these
--- minutes
+-- if bits of the hour are left after the match `found`, there is another match in the hour, at the same second of the
+-- next minute with matches
 pub more_later : (m : Masks) (found start minutes : ℕ) → AreRemaining (minute_matches (sets_in m)) (found / 60) start minutes → minutes < 2 ^ 64 → 0 < minutes → matches (sets_in m) found ≡ true
     → HasMoreInHour (matches (sets_in m)) found
 more_later m found start minutes h fits some holds =
@@ -231,12 +236,13 @@ more_later m found start minutes h fits some holds =
       is_match = (minutes_of_all m).split (start + bit) (found % 60) inside (omega arith) ∙ and_from _ _ (bit_passes _ (found / 60) start minutes bit h lowest.2) second;
     }
 
--- then the next match is in the same hour
+-- if a later local second in the hour of `local` passes, the first local second after `local` that passes is in that
+-- hour
 hour_known : (passes : ℕ → Bool) (local : ℕ) (next : Option ℕ) → ((t : ℕ) → passes t ≡ true → t < seconds_in_all) → HasMoreInHour passes local
     → IsFirstPassing passes (local + 1) seconds_in_all next → IfSome next (λ next. IsNextInHour passes local next) × IsSome next
 hour_known passes local next inside more none = grind arith
 
--- and a search finds it
+-- if a later local second in the hour of `local` matches, a search after `local` finds a match in that hour
 pub hour_found : (m : Masks) (local : ℕ) (next : Option ℤ) → HasMoreInHour (matches (sets_in m)) local → IsFirstLocal (matches (sets_in m)) (pos (local + 1)) next
     → IfSome next (λ next. IsNextInHour (matches (sets_in m)) local (unsigned_abs next)) × IsSome next
 hour_found m local next more first = grind (arith, hour_known, match_inside, first_passing)
@@ -250,25 +256,27 @@ more_left m found from left local h fits some same =
     subst (HasMoreInMinute (matches (sets_in m))) same
     (record { match_at = from + trailing_zeros w64 left; behind = h.behind _ lowest.2; minute = h.unit _ lowest.2; is_match = bit_passes _ found from left _ h lowest.2 })
 
--- if no bits are left, there is no other match in its minute
+-- if no bits are left after the match found last, there is no later match in its minute
 pub none_left : (m : Masks) (found from left local : ℕ) → AreRemaining (matches (sets_in m)) found from left → left ≡ 0 → local ≡ found → NoneLeftInMinute (matches (sets_in m)) local
 none_left m found from left local h nothing same = grind (arith, is_bit-none)
 
--- if another match follows in the same minute, the next match is there
+-- if a later local second in the minute of `local` passes, the first local second after `local` that passes is in that
+-- minute
 next_known : (passes : ℕ → Bool) (local : ℕ) (next : Option ℕ) → ((t : ℕ) → passes t ≡ true → t < seconds_in_all) → HasMoreInMinute passes local
     → IsFirstPassing passes (local + 1) seconds_in_all next → IsNextInMinute passes local next × IsSome next
 next_known passes local next inside more none = grind arith
 
--- then a search finds it there
+-- if a later local second in the minute of `local` matches, a search after `local` finds a match in that minute
 pub next_found : (m : Masks) (local : ℕ) (next : Option ℤ) → HasMoreInMinute (matches (sets_in m)) local → IsFirstLocal (matches (sets_in m)) (pos (local + 1)) next
     → IsNextInMinute (matches (sets_in m)) local (option_map unsigned_abs next) × IsSome next
 next_found m local next more first = grind (arith, next_known, match_inside, first_passing)
 
--- if no bits are left, the rest of the minute is reported as empty, and the match itself as the last one
+-- if `local` matches, the rest of its minute up to `local` itself has no bits
 pub rest_unknown : (passes : ℕ → Bool) (local : ℕ) → passes local ≡ true → IsRestOfMinute passes local 0 local
 rest_unknown passes local holds = grind (arith, no_bit)
 
--- the rest of the minute after one more match is added
+-- if `next` is the first match after `last` and in the same minute, then `bits` with the bit of `next` added is the
+-- rest of the minute up to `next`
 pub rest_on : (passes : ℕ → Bool) (local bits last next more place : ℕ) → IsRestOfMinute passes local bits last → next / 60 ≡ last / 60 → IsFirstPassing passes (last + 1) seconds_in_all (Some next)
     → is_bit more place ≡ true → ((i : ℕ) → i ≢ place → is_bit more i ≡ is_bit bits i) → place ≡ next - local - 1 → IsRestOfMinute passes local more next
 rest_on passes local bits last next more place rest same first set others at = grind (arith, false_from_ne_true)

@@ -26,7 +26,7 @@ pub length_bounds : (n : ℕ) → (length_of n ≤ 31) × (28 ≤ length_of n)
 unfolding length_of
 length_bounds n = days_in_month_bounds (pos (year_of n)) (number_of n)
 
--- the first day of the next month in the same year
+-- the first day of the next month in the same year is as many days later as the month has days
 next_in_year : (y : ℤ) (m l f : ℕ) → 1 ≤ m → l ≡ days_in_month y m → 28 ≤ l → days_from_civil y m 1 ≡ pos f → days_from_civil y (m + 1) 1 ≡ pos (f + l)
 next_in_year y m l f one long some first =
     omega (arith, signed_arith, days_from_civil-next_month y m l one long, days_from_civil-day y m 1 l (omega arith) (omega arith))
@@ -43,7 +43,8 @@ length_is : (n : ℕ) → length_of n ≡ days_in_month (pos (year_of n)) (numbe
 unfolding length_of
 length_is n = refl
 
--- the number of days before a month agrees with the calendar
+-- the first day of month `n`, which is defined as the sum of the lengths of all earlier months, is the day number that
+-- the calendar gives for the first of that month
 pub first_is : (n : ℕ) → days_from_civil (pos (year_of n)) (number_of n) 1 ≡ pos (first_day n)
 first_is zero = days_from_civil-1970 ∙ ap pos (sym first_day-zero)
 first_is (suc n) =
@@ -65,7 +66,7 @@ first_is (suc n) =
 pub first_day-end : first_day 2_760 ≡ 84_006
 first_day-end = let last = first_is 2_760 in omega (arith, signed_arith, last, first_of_2200)
 
--- the date of the day with a given index in a month
+-- The date of the day with index `k`, counted from 0, in month `n`
 year_within : (n : ℕ) → n ≤ 2_760 → IsYear (pos (year_of n))
 year_within n h = (omega (arith, signed_arith), omega (arith, signed_arith))
 
@@ -103,7 +104,7 @@ month_of-date n k low small = omega arith
 pub month_of-is : (n k : ℕ) → n ≤ 2_760 → k < length_of n → month_of (civil_date (first_day n + k)) ≡ n
 month_of-is n k low small = ap month_of (date_is n k low small) ∙ month_of-date n k low small
 
--- the month that contains a day
+-- month `n` is in the years 1970 to 2199 and contains the day with the number `day`
 pub record Located (day n : ℕ) : Type 0 where
   pub within : n < 2_760
   pub first : first_day n + (civil_date day).day ≡ day + 1
@@ -113,7 +114,7 @@ pub record Located (day n : ℕ) : Type 0 where
   pub year_low : pos 1_970 ≤ℤ (civil_date day).year
   pub year_high : (civil_date day).year ≤ℤ pos 2_199
 
--- a year fits its machine type
+-- a year from 1970 to 2199 fits a 16-bit integer, so converting it to one and back doesn't change it
 pub year_word : (y : ℤ) → pos 1_970 ≤ℤ y → y ≤ℤ pos 2_199 → to_z w16 (of_z w16 y) ≡ y
 year_word y low high = grind (arith, to_z_pos, w16, signed_arith)
 
@@ -177,7 +178,7 @@ month_low day a h low =
 pub month_high : (day b : ℕ) → day < 84_006 → day < first_day b → month_of (civil_date day) < b
 month_high day b h high = grind (arith, located, first_day-rises)
 
--- the weekday of a day number
+-- 1970-01-01, day 0, is a Thursday, which is weekday 3, so the weekday of a day is its number plus 3, modulo 7
 weekday_of-pos : (day : ℕ) → weekday_number (pos day) ≡ (day + 3) % 7
 weekday_of-pos day = omega (arith, signed_arith, weekday_number-parts (pos day))
 
@@ -210,7 +211,7 @@ no_day sets day h fails =
 pub months_none : (sets : Sets) (a b : ℕ) → b ≤ 2_760 → NonePasses (month_in sets) a b → NonePasses (day_in sets) (first_day a) (first_day b)
 months_none sets a b within none = grind (arith, first_day-end, first_day-rises, no_day, month_low, month_high)
 
--- the month index of a date, as the code computes it
+-- the index that the code computes from the year and the month number of a date is the index of its month
 pub index_by : (d e : Date) (years months : ℕ) → d ≡ e → years ≡ unsigned_abs (to_z w16 (of_z w16 d.year)) - 1_970 → months ≡ d.month - 1
     → pos 1_970 ≤ℤ e.year → e.year ≤ℤ pos 2_199 → years * 12 + months ≡ month_of e
 unfolding month_of
@@ -219,5 +220,5 @@ index_by d e years months same y m low high = grind (arith, unsigned_abs, to_z, 
 pub length_by : (d e : Date) (l : ℕ) → d ≡ e → l ≡ days_in_month (to_z w16 (of_z w16 d.year)) d.month → pos 1_970 ≤ℤ e.year → e.year ≤ℤ pos 2_199 → l ≡ month_length e
 length_by d e l same is low high = grind (arith, to_z, w16, of_z, year_word)
 
--- the first days and the lengths of months
+-- bounds of the first days and the lengths of months
 pub ruleset month_bounds = (first_day-end, first_day-rises, length_bounds)

@@ -12,7 +12,7 @@ use Rattle.cal_elapse.proofs.CountLemmas.{count_from-nothing, count_from-to}
 use Rattle.cal_elapse.proofs.FoundLemmas.{first_passing}
 use Rattle.cal_text.proofs.General.{max_from_zero, max_is}
 
--- how many months a search examined
+-- the number of months in the result of a search is how many months the search examined
 pub search_examined : (sets : Sets) (from : ℕ) (found : Found) → IsSearch sets from found → IsExamined sets from found.months
 search_examined sets from found search =
     record { answer = option_map unsigned_abs found.local; first = first_passing (matches sets) from found.local search.first; examined = search.counted }
@@ -21,12 +21,14 @@ search_examined sets from found search =
 pub most_begun : (sets : Sets) (from before : ℕ) → IsMostAfter sets from from before before
 most_begun sets from before = record { not_below = omega arith; all = λ months one. absurd (let low = one.low in let high = one.high in omega arith); one = inl refl }
 
--- a range with one match
+-- if `t` is the only match from `t` up to but not including `next`, and the search after it examines `months` months,
+-- then the maximum is the larger of `before` and `months`
 pub most_next : (sets : Sets) (t next before months : ℕ) → matches sets t ≡ true → IsExamined sets (t + 1) months → t < next → NonePasses (matches sets) (t + 1) next
     → IsMostAfter sets t next before (max before months)
 most_next sets t next before months holds examined later none = grind (arith, max_is)
 
--- two adjacent ranges together
+-- if the searches after the matches of a range raise the maximum from `x` to `y`, and those of the adjacent range from
+-- `y` to `z`, then those of both ranges together raise it from `x` to `z`
 pub most_on : (sets : Sets) (a b c x y z : ℕ) → a ≤ b → b ≤ c → IsMostAfter sets a b x y → IsMostAfter sets b c y z → IsMostAfter sets a c x z
 most_on sets a b c x y z low high one two =
     record {
@@ -68,11 +70,12 @@ most_same sets start a b most same h = record {
   };
 }
 
--- the maximum after the matches of an adjacent range are added
+-- the maximum up to `a`, raised by the searches after the matches from `a` up to but not including `b`, is the maximum
+-- up to `b`
 pub most_more : (sets : Sets) (start a b most more : ℕ) → start ≤ a → a ≤ b → IsMost sets start a most → IsMostAfter sets a b most more → IsMost sets start b more
 most_more sets start a b most more low high h later = record { first = h.first; begun = h.begun; later = most_on sets start a b h.first most more low high h.later later }
 
--- the maximum after the first search, up to the match that it found
+-- if there is no match from `start` up to but not including `bound`, the maximum is what the first search examined
 pub most_start : (sets : Sets) (start bound old most months : ℕ) → IsExamined sets start months → start ≤ bound → NonePasses (matches sets) start bound → old ≡ 0
     → most ≡ max old months → IsMost sets start bound most
 most_start sets start bound old most months examined low none zero is = grind (arith, max_from_zero, most_same)

@@ -1,4 +1,4 @@
--- The values of a part of a component, as indices in a window of its field.
+-- The values of a part of a component, as indices in the `count` values from `first` on.
 use Rattle.std.proofs.Common.{◌≡◌, ◌==◌, ◌&&◌, ◌||◌, ◌+◌, ◌-◌, ◌%◌, ◌<◌, ◌≤◌, min, ℕ, Bool, true, false, nat_le, nat_lt, List, length, take, get_or, Option, None, Some, refl, ap, sym, ◌∙◌, inl, inr, arith}
 use Rattle.std.specs.List.{list_any}
 use Rattle.std.proofs.lemmas.List.Folds.{list_any_more}
@@ -21,7 +21,8 @@ pub members_by : (f : Field) (e : Fields) (v : ℕ) → members_of f (sets_of e)
 unfolding sets_of
 members_by f e v = grind arith
 
--- the values of a range that are in a window
+-- an index is from `a` - `first` to `b` - `first` and below `count` exactly if it stands for one of the `count` values
+-- from `first` on and this value is from `a` to `b`
 pub between_in_window : (a b first count i : ℕ) → (nat_le (a - first) i && nat_lt i (min (b + 1 - first) count)) ≡ (nat_lt i count && is_between a b (first + i))
 between_in_window a b first count i = grind (arith, nat_tests)
 
@@ -30,12 +31,14 @@ abbrev pub is_stepped : Option ℕ → ℕ → Bool
 is_stepped None distance = true
 is_stepped (Some r) distance = distance % r == 0
 
--- the values of a part that doesn't count from the end of the month
+-- if a slot doesn't count from the end of the month, a part matches exactly the values from its start to its last value
+-- that its repetition contains, or all of these if it has none
 values_up : (slot : Slot) (a : ℕ) (end step : Option ℕ) (v : ℕ) → is_from_end slot ≡ false → v ≤ greatest slot
     → values slot a end step v ≡ (is_between a (last_number a end step) v && is_stepped step (v - a))
 values_up slot a end step v up small = grind (arith, and_true)
 
--- their indices in a window
+-- If a slot doesn't count from the end of the month, the values that a part matches, among the `count` values from
+-- `first` on, are at the indices from `low` up to but not including `high` that the repetition contains.
 pub part_in_slot_values : (slot : Slot) (p : Part) (step : Option ℕ) (first count low high i : ℕ) → AreSlotValues slot first count → p.step ≡ step
     → low ≡ p.start - first → high ≡ min (last_number p.start p.end p.step + 1 - first) count
     → ((nat_le low i && nat_lt i high) && is_stepped step (first + i - p.start)) ≡ (nat_lt i count && part_has slot p (first + i))
@@ -63,7 +66,7 @@ pub parts_more : (has : Part → Bool) (ps : List Part) (k : ℕ) (inside before
     → (before || here) ≡ (inside && list_any has (take (k + 1) ps))
 parts_more has ps k inside before here more was now = grind (arith, list_any_more, and_shared, take, get_or)
 
--- `*` matches the whole window
+-- `*` matches all of the `count` values from `first` on, if they are values of the slot
 pub whole_slot_values : (f : Field) (e : Fields) (first count i : ℕ) → AreSlotValues (slot_of f e.from_end) first count → None ≡ component f e
     → (nat_le 0 i && nat_lt i count) ≡ (nat_lt i count && members_of f (sets_of e) (first + i))
 whole_slot_values f e first count i w star = grind (arith, nat_le, nat_tests, members_by, lt-ltb, le-ltb)

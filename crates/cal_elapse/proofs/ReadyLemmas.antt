@@ -1,4 +1,4 @@
--- The window is ready when it is created, and again after each match that is converted.
+-- A window satisfies `IsReady` when it is created, and again after a match is converted and the next match is found.
 use Rattle.std.proofs.Common.{◌≡◌, ℕ, ◌+◌, ◌-◌, ◌≤◌, Bool, List, Option, Some, ℤ, pos, ◌+ℤ◌, ◌≤ℤ◌, sym, ap, subst, arith, true, [], negsuc, max, unsigned_abs}
 use Rattle.std.proofs.lemmas.Int.{ints}
 use Rattle.jiff.proofs.SpanFacts.{signed_arith}
@@ -30,13 +30,14 @@ use Rattle.cal_elapse.proofs.MostMonthsLemmas.{most_more, most_next, most_start,
 use Rattle.cal_elapse.proofs.WindowLemmas.{timed_by-near, windowed_on, windowed_put, windowed_start}
 use Rattle.cal_spec.specs.headline.Match.{matches}
 
--- what the search for the next match returned
+-- `answer` is the first match from `from` on, or `None` if there is no match from there on
 pub record IsNext (e : Timed) (from : ℕ) (answer : Option ℤ) : Type 0 where
   pub low : from ≤ bound_of answer
   pub none : NonePasses e.matches from (bound_of answer)
   pub found : IsMatchAhead e answer
 
--- no local second before the result matches
+-- if a search from `from` on returned `ahead`, no local second from `from` up to but not including `ahead` passes, or
+-- none from `from` on if `ahead` is `None`
 none_before : (passes : ℕ → Bool) (from : ℕ) (ahead : Option ℤ) → from ≤ seconds_in_all → IsFirstLocal passes (pos from) ahead → (from ≤ bound_of ahead) × NonePasses passes from (bound_of ahead)
 none_before passes from ahead within none = grind (arith, first_passing)
 
@@ -50,7 +51,8 @@ pub is_next : (masks : Masks) (zone : Zone) (from : ℕ) (found : Option ℤ) �
 unfolding timed_by
 is_next masks zone from found h first = next_by (timed_by masks zone) from found h first
 
--- with the results of a new search, which keeps the masks, the window is ready
+-- if `searcher` has the masks of the window, and its counts, `ahead` and `pending` belong together as `IsReady` says,
+-- then the window is ready with them
 pub ready_after : (v : Window) (searcher : Searcher) (ahead : Option ℤ) (pending : List ℤ) → searcher.masks ≡ v.searcher.masks → pos 0 ≤ℤ v.base → v.base ≤ℤ v.last
     → Windowed (timed_of v) (start_of v.base) (bound_of ahead) v.last pending → IsMatchAhead (timed_of v) ahead → start_of v.base ≤ bound_of ahead
     → searcher.searches ≡ count_from (timed_of v).matches (start_of v.base) (bound_of ahead - start_of v.base) + 1
@@ -63,7 +65,8 @@ put_at : (masks : Masks) (zone : Zone) (from bound : ℕ) (last : ℤ) (xs : Lis
 unfolding timed_by
 put_at masks zone from bound last xs w holds near = windowed_put (timed_by masks zone) from bound last xs (timed_by-near masks zone) w holds near
 
--- the match ahead has been converted
+-- if a window is ready and its next match is `local`, then adding the instant of `local` to the pending instants
+-- converts all matches up to `local`
 pub placed_to : (v : Window) (local : ℤ) (ahead : Option ℤ) (pending : List ℤ) → IsReady v → v.ahead ≡ Some local → ((i : ℤ) → Has v.pending i → local ≤ℤ (i +ℤ pos 93_599))
     → pending ≡ with_place (place_of (zone_of v.zone) local) v.last v.pending → IsPlacedTo (record v { ahead = ahead; pending = pending }) local
 placed_to v (negsuc n) ahead pending h at near put =
@@ -86,12 +89,13 @@ placed_to v (pos local) ahead pending h at near put =
       examined = subst (λ (o : Option ℤ). IsMost (sets_in v.searcher.masks) start (bound_of o) v.searcher.most_months) at h.examined;
     }
 
--- the local second converted last is a match
+-- if all matches up to `local` were converted, and `local` was the last of them, then `local` is a local second that
+-- matches
 pub placed_is_match : (v : Window) (local : ℤ) → IsPlacedTo v local → IsLocalSecond local × (matches (sets_in v.searcher.masks) (unsigned_abs local) ≡ true)
 unfolding timed_by
 placed_is_match v local h = h.found
 
--- the window is ready again after the next match is found
+-- if all matches up to `local` were converted, the window is ready again after a search finds the next match
 pub next_ready : (v : Window) (local : ℤ) (searcher : Searcher) (found : Found) → IsPlacedTo v local → searcher.masks ≡ v.searcher.masks
     → searcher.searches ≡ v.searcher.searches + 1 → searcher.most_months ≡ max v.searcher.most_months found.months → IsSearch (sets_in v.searcher.masks) (unsigned_abs local + 1) found
     → IsReady (record v { searcher = searcher; ahead = found.local })
@@ -115,11 +119,12 @@ next_ready v (pos local) searcher found h masks more most search =
     ready_after v searcher ahead v.pending masks h.low h.above on next.found (omega arith) (omega arith)
     (subst (IsMost (sets_in v.searcher.masks) start (bound_of ahead)) (sym most) examined)
 
--- there were at most as many searches as local seconds so far, so the counter can't overflow
+-- at most `local` + 1 searches were made so far, so the counter can't overflow
 pub few_searches : (v : Window) (local : ℤ) → IsPlacedTo v local → v.searcher.searches ≤ unsigned_abs local + 1
 few_searches v local h = grind (arith, count_from-most)
 
--- pending instants are instants of earlier local seconds, so none is more than 93,599 seconds after the match ahead
+-- pending instants are instants of local seconds before `local`, the next match, so none is more than 93,599 seconds
+-- after `local`
 pub placed_before : (v : Window) (local : ℤ) → IsReady v → v.ahead ≡ Some local → (i : ℤ) → Has v.pending i → i ≤ℤ (local +ℤ pos 93_599)
 placed_before v (negsuc n) h at i m =
     let match_here = subst (IsMatchAhead (timed_of v)) at h.found in
@@ -134,7 +139,7 @@ pub start_inside : (secs : ℤ) → IsInstant secs → start_of secs ≤ seconds
 start_inside (pos n) h = let count = seconds_in_all-is in omega (arith, signed_arith, h.1)
 start_inside (negsuc n) h = absurd (omega (arith, signed_arith, h.0))
 
--- the window before any match is converted
+-- a new window is ready after its first search, before any match is converted
 pub begun_ready : (searcher after : Searcher) (zone : Zone) (base : ℤ) (pending : List ℤ) (found : Found) → IsInstant base → searcher.searches ≡ 0
     → searcher.most_months ≡ 0 → after.masks ≡ searcher.masks → after.searches ≡ searcher.searches + 1 → after.most_months ≡ max searcher.most_months found.months
     → IsSearch (sets_in searcher.masks) (start_of base) found → pending ≡ []

@@ -36,11 +36,11 @@ use Rattle.cal_elapse.proofs.WindowLemmas.{IsPlacedFrom, timed_by-near, windowed
 pub minute_end : (local : ℕ) → local < seconds_in_all → local / 60 * 60 + 59 < seconds_in_all
 minute_end local inside = let count = seconds_in_all-is in omega arith
 
--- the last second of its hour is a local second too
+-- the last second of a local second's hour is a local second too
 pub hour_end : (local : ℕ) → local < seconds_in_all → local / 3_600 * 3_600 + 3_599 < seconds_in_all
 hour_end local inside = let count = seconds_in_all-is in omega arith
 
--- the last match of the rest is in the same minute
+-- the last match found in the rest of a minute isn't after the end of that minute
 pub rest_inside : (passes : ℕ → Bool) (local bits last : ℕ) → IsRestOfMinute passes local bits last → last ≤ local / 60 * 60 + 59
 rest_inside passes local bits last rest = let same = rest.minute in omega arith
 
@@ -52,12 +52,13 @@ ahead_near tz from to offset ahead order inside =
     let near = within tz (pos from) (pos from -ℤ offset) (ahead (pos from) (omega (arith, ints), omega (arith, ints)) (omega (arith, ints)) (omega (arith, ints))) in
     (omega (arith, signed_arith, near), omega (arith, signed_arith, near))
 
--- a local second is unchanged as an argument
+-- a local second fits a 64-bit integer, so converting it to one and back doesn't change it
 signed_word : (local : ℕ) (signed : ℤ) → local < seconds_in_all → signed ≡ pos local → to_z w64 (of_z w64 signed) ≡ pos local
 signed_word local signed inside is = ap (λ z. to_z w64 (of_z w64 z)) is ∙ to_z_pos w64 local (omega (arith, seconds_in_all-is))
 
--- the UTC offset is constant from a local second to the end of its minute or hour; and these values fit the machine
--- type: both local seconds, the offset, the instants of both, and the instant after the first
+-- the UTC offset is constant from `local` to `end`, the end of its minute or hour; and these values fit 64-bit
+-- integers: both local seconds, the offset, the instants of both local seconds, and the second after the instant of
+-- `local`
 pub record IsRun (tz : TimeZone) (local end : ℕ) (from to offset : ℤ) : Type 0 where
   pub ahead : AreAtOffset tz (pos local) (pos end) offset
   pub low : offset ≤ℤ pos 93_599
@@ -94,14 +95,16 @@ run_of tz local end from to offset order inside fits from_is to_is ahead =
       start = rw place (to_z-of_z w64 ((pos local -ℤ offset) +ℤ pos 1) (omega (arith, signed_arith)));
     }
 
--- the match converted last, as a natural number and as a machine integer
+-- if `IsPlacedTo` holds for the match converted last, it also holds for the same match as a natural number, and as a
+-- 64-bit integer
 pub placed_at : (v : Window) (local : ℤ) → IsPlacedTo v local → IsPlacedTo v (pos (unsigned_abs local))
 placed_at v local h = subst (IsPlacedTo v) (sym (pos_unsigned_abs local _ h.found.0.0 refl)) h
 
 pub placed_last : (v : Window) (last : ℤ) → IsLocalSecond last → FitsSigned w64 last → IsPlacedTo v (pos (unsigned_abs last)) → IsPlacedTo v (to_z w64 (of_z w64 last))
 placed_last v last inside fits h = subst (IsPlacedTo v) (pos_unsigned_abs last _ inside.0 refl ∙ sym (to_z-of_z w64 last fits)) h
 
--- the instant of every local second up to that end is the local second minus `offset`
+-- if the UTC offset is constant from `local` to `end`, the instant of each local second `t` in between is `t` minus
+-- `offset`
 place_there : (v : Window) (local t end : ℕ) (offset : ℤ) → IsPlacedTo v (pos local) → AreAtOffset (zone_of v.zone) (pos local) (pos end) offset → local ≤ t → t ≤ end → end < seconds_in_all
     → (timed_of v).place t ≡ Some (pos t -ℤ offset)
 unfolding timed_by
@@ -109,8 +112,10 @@ place_there v local t end offset h ahead low high inside =
     let count = seconds_in_all-is in
     ahead (pos t) (omega (arith, ints), omega (arith, ints)) (omega (arith, ints)) (omega (arith, ints))
 
--- The remaining matches of the minute of a match, if the match has an instant at or after the smallest pending one, and
--- if every second of the minute has to be converted before that one can be returned.
+-- The condition for adding the remaining matches of a minute to the pending instants: `bits` and `last` are those of
+-- the rest of the minute of `local`, the UTC offset is constant to the end of the minute, the instant of `local` isn't
+-- before `least`, the smallest pending instant, and the end of the minute is at most 93,599 seconds after every pending
+-- instant.
 pub record IsBehind (v : Window) (local bits last : ℕ) (offset least : ℤ) : Type 0 where
   pub rest : IsRestOfMinute (matches (sets_in v.searcher.masks)) local bits last
   pub ahead : AreAtOffset (zone_of v.zone) (pos local) (pos (local / 60 * 60 + 59)) offset
@@ -144,7 +149,7 @@ module _ (v : Window) (local bits last : ℕ) (offset least : ℤ) (h : IsPlaced
   least_has : Has v.pending least
   least_has = subst (λ (ys : List ℤ). Has ys least) (sym (list-first v.pending least (sym b.least_is))) (inl refl)
 
-  -- the new instants are exactly the instants of the remaining matches
+  -- the instants for which the bits stand are exactly the instants of the remaining matches
   one_placed : (i : ℤ) → IsOneOf ((pos local -ℤ offset) +ℤ pos 1) bits i → IsPlacedFrom (timed_of v) (local + 1) (last + 1) i
   unfolding timed_by
   one_placed i one =
@@ -204,13 +209,14 @@ no_later xs none i m = subst (λ (ys : List ℤ). Has ys i) (list-no_first xs (s
 passed_by : (t end : ℕ) (last offset i : ℤ) → Some (pos t -ℤ offset) ≡ Some i → t ≤ end → (pos end -ℤ offset) ≤ℤ last → last <ℤ i → ⊥
 passed_by t end last offset i at up early above = grind (arith, signed_arith)
 
--- the window after the rest was converted
+-- the window after the remaining matches up to `last` were found
 module _ (v : Window) (local : ℕ) (searcher : Searcher) (last : ℕ) (h : IsPlacedTo v (pos local)) (masks : searcher.masks ≡ v.searcher.masks)
     (more : searcher.searches ≡ v.searcher.searches + count_from (matches (sets_in v.searcher.masks)) (local + 1) (last - local))
     (most : IsMostAfter (sets_in v.searcher.masks) local last v.searcher.most_months searcher.most_months)
     (later : local ≤ last) (holds : matches (sets_in v.searcher.masks) last ≡ true)
   where
-    -- given the new pending instants
+    -- if `pending` has the pending instants for the matches up to and including `last`, as `Windowed` says, then all of
+    -- these matches were converted
     rest_placed : (pending : List ℤ) → Windowed (timed_of v) (start_of v.base) (last + 1) v.last pending
         → IsPlacedTo (record v { searcher = searcher; pending = pending }) (pos last)
     unfolding timed_by
@@ -233,7 +239,8 @@ module _ (v : Window) (local : ℕ) (searcher : Searcher) (last : ℕ) (h : IsPl
               (most_more (sets_in v.searcher.masks) start local last v.searcher.most_months searcher.most_months begun later h.examined most);
         }
 
-    -- if nothing is pending, and no instant up to that end is after the instant returned last
+    -- if nothing is pending, and no local second up to `end` has an instant after the instant returned last, all
+    -- matches up to `last` were converted, without new pending instants
     pub rest_passed : (end : ℕ) (offset : ℤ) → last ≤ end → end < seconds_in_all → None ≡ slice_get v.pending 0 → AreAtOffset (zone_of v.zone) (pos local) (pos end) offset
         → (pos end -ℤ offset) ≤ℤ v.last → IsPlacedTo (record v { searcher = searcher }) (pos last)
     rest_passed end offset high end_in none ahead early =
@@ -246,7 +253,8 @@ module _ (v : Window) (local : ℕ) (searcher : Searcher) (last : ℕ) (h : IsPl
         (λ i. (λ m. inl m, λ o. elim o [ inl m ↦ m | inr p ↦ absurd (not_above i p.0 p.1) ]))
         (λ i m. absurd (no_later v.pending none i m)))
 
-    -- if the rest is added to the pending instants
+    -- if the instants of the remaining matches were added to the pending instants, all matches up to `last` were
+    -- converted
     pub rest_put : (bits : ℕ) (offset least : ℤ) (pending : List ℤ) → IsBehind v local bits last offset least → IsStrictlySortedBy int_cmp pending
         → ((i : ℤ) → Has pending i ↔ (Has v.pending i ⊎ IsOneOf ((pos local -ℤ offset) +ℤ pos 1) bits i)) → IsPlacedTo (record v { searcher = searcher; pending = pending }) (pos last)
     rest_put bits offset least pending b rises members =

@@ -81,7 +81,7 @@ rises-rising passes from (suc n) =
 
 -- Elements of a ring
 
--- the second is within one turn of the ring from `low` on, and its cell is set
+-- `i` is one of the 187,200 seconds from `low` on, and its cell is set
 pub record IsIn (cells : List ℕ) (low : ℕ) (i : ℤ) : Type 0 where
   pub at : ℕ
   pub is : pos at ≡ i
@@ -105,18 +105,18 @@ rises-instants cells low = rises-rising (is_held cells) low cells_in_all
 near_in : (low a b : ℕ) (i j : ℤ) → pos a ≡ i → pos b ≡ j → low ≤ a → a < low + 187_200 → low ≤ b → b < low + 187_200 → IsNear i j
 near_in low a b i j p q al ah bl bh = (omega (arith, ints), omega (arith, ints))
 
--- any two elements differ by less than one turn
+-- any two elements are less than 187,200 seconds apart
 pub members_near : (cells : List ℕ) (low : ℕ) (i j : ℤ) → Has (instants_in cells low) i → Has (instants_in cells low) j → IsNear i j
 members_near cells low i j m n =
     let a = (Has-instants cells low i).0 m in
     let b = (Has-instants cells low j).0 n in
     near_in low a.at b.at i j a.is b.is a.above a.below b.above b.below
 
--- two seconds of the same turn with the same cell are equal
+-- if two of the 187,200 seconds from `low` on have the same cell, they are equal
 pub same_second : (low i j : ℕ) → low ≤ i → i < low + 187_200 → low ≤ j → j < low + 187_200 → i % 187_200 ≡ j % 187_200 → i ≡ j
 same_second low i j il ih jl jh same = omega arith
 
--- the second within one turn from `low` on that has the same cell as `i`
+-- the second, of the 187,200 seconds from `low` on, that has the same cell as `i`
 record Turned (low i : ℕ) : Type 0 where
   at : ℕ
   above : low ≤ at
@@ -155,7 +155,7 @@ pub none_found : (cells : List ℕ) (low : ℕ) → IsFirstPassing (is_held cell
 none_found cells low none =
     first-none (instants_in cells low) (λ i m. let a = (Has-instants cells low i).0 m in let fails = none a.at a.above a.below in let holds = a.holds in cc)
 
--- The stored smallest second
+-- The smallest second, as it is stored
 
 pub kept_some : (least : ℕ) → least ≢ no_second → least_kept least ≡ Some least
 kept_some least some = let test : (least == no_second) ≡ false = grind (arith, nat_tests) in rw test refl
@@ -170,7 +170,8 @@ none_kept cells least first none = let test : (least == no_second) ≡ true = gr
 
 -- Adding an instant
 
--- one turn from `from` on contains the second `at`, and every second of the turn from `low` on that is near `at`
+-- `at` is one of the 187,200 seconds from `from` on; and so is every second that is one of the 187,200 seconds from
+-- `low` on and less than 187,200 seconds from `at`
 record IsRoundWith (low at from : ℕ) : Type 0 where
   above : from ≤ at
   below : at < from + 187_200
@@ -199,7 +200,8 @@ was_held : (old new : List ℕ) (at t : ℕ) → HasMore old new at → t % 187_
 unfolding is_held
 was_held old new at t more other holds = sym (more.others (t % 187_200) other) ∙ holds
 
--- a second whose cell was set is still within the turn that starts at `from`
+-- if `IsRoundWith` is true, and all old elements are less than 187,200 seconds from `at`, then each of them is one of
+-- the 187,200 seconds from `from` on
 kept_in : (old : List ℕ) (low at from t : ℕ) → IsRoundWith low at from → ((i : ℤ) → Has (instants_in old low) i → IsNear i (pos at))
     → low ≤ t → t < low + 187_200 → is_held old t ≡ true → (from ≤ t) × (t < from + 187_200)
 kept_in old low at from t round near above below holds =
@@ -231,7 +233,7 @@ put_back old new low at from i more round near (inr m) =
     let kept = kept_in old low at from a.at round near a.above a.below a.holds in
     subst (Has (instants_in new from)) a.is (member new from a.at kept.0 kept.1 (still_held old new at a.at more a.holds))
 
--- the list of elements is the old list with the new instant inserted
+-- after the cell of `at` is set, the list of elements is the old list with `at` inserted
 put_seen : (old new : List ℕ) (low at from : ℕ) → HasMore old new at → IsRoundWith low at from → ((i : ℤ) → Has (instants_in old low) i → IsNear i (pos at))
     → instants_in new from ≡ insert_key int_cmp (instants_in old low) (pos at)
 put_seen old new low at from more round near =
@@ -252,7 +254,8 @@ put_round old new low at from more round near high whole was =
       members = λ i m. elim (put_there old new low at from i more round near ((Has-instants new from i).0 m)) [ inl e ↦ last_at at i e high | inr n ↦ was.members i n ];
     }
 
--- after an instant near the smallest second is added, one turn from the new smallest second on contains all elements
+-- if `at` is before `least`, or less than 187,200 seconds after it, then a ring that started at `least` can start at
+-- the smaller of both after `at` is added
 with_least : (least at : ℕ) → (least ≤ at → at ≤ least + 187_199) → IsRoundWith least at (min least at)
 with_least least at near = grind (arith, min)
 
@@ -290,7 +293,8 @@ others_held : (old new : List ℕ) (at t : ℕ) → HasLess old new at → t % 1
 unfolding is_held
 others_held old new at t less other = less.others (t % 187_200) other
 
--- a second whose cell is still set was an element before, and is greater than the one removed
+-- if the cell of one of the 187,200 seconds from `at` on is still set after `at`, the smallest element, was removed,
+-- then this second was an element before, and is greater than `at`
 left_second : (old new : List ℕ) (low at t : ℕ) → IsFirstPassing (is_held old) low (low + 187_200) (Some at) → HasLess old new at
     → at ≤ t → t < at + 187_200 → is_held new t ≡ true → (at < t) × Has (instants_in old low) (pos t)
 left_second old new low at t found less above below holds =
@@ -318,7 +322,7 @@ still_in : (old new : List ℕ) (low at : ℕ) (i : ℤ) → IsFirstPassing (is_
     → pos at <ℤ i → IsIn old low i → Has (instants_in new at) i
 still_in old new low at i found less above a = grind (arith, lt_from_pos, same_second, member, others_held)
 
--- the list of elements is the old list without its first element
+-- after `at`, the smallest element, was removed, the list of elements is the old list without its first element
 taken_seen : (old new : List ℕ) (low at : ℕ) → IsFirstPassing (is_held old) low (low + 187_200) (Some at) → HasLess old new at
     → instants_in new at ≡ drop 1 (instants_in old low)
 taken_seen old new low at found less =
@@ -348,7 +352,8 @@ taken_round old new low at found less whole was =
       members = λ i m. was.members i (left_in old new low at i found less ((Has-instants new at i).0 m)).1;
     }
 
--- starting the ring at another second yields the same list if one turn from there contains every element
+-- if all elements are among the 187,200 seconds from `from` on, the ring has the same list of elements whether it
+-- starts at `from` or at `low`
 seen_from : (cells : List ℕ) (low from : ℕ) → ((t : ℕ) → low ≤ t → t < low + 187_200 → is_held cells t ≡ true → (from ≤ t) × (t < from + 187_200))
     → instants_in cells from ≡ instants_in cells low
 seen_from cells low from kept =
@@ -381,7 +386,7 @@ first_on cells low (Some at) round found =
     let inside = found_inside cells low at round found in
     subst (IsFirstPassing (is_held cells) at (at + 187_200)) (sym (kept_some at (omega arith))) (omega arith, omega arith, found.2, λ t above below. absurd (omega arith))
 
--- after the smallest second is removed, the ring starts at the next one
+-- after the smallest second was removed, the ring starts at the next one, or is empty if there is none
 pub taken_from : (old new : List ℕ) (least : ℕ) (next : Option ℕ) → IsFirstPassing (is_held old) least (least + 187_200) (Some least) → HasLess old new least → length new ≡ 2_925
     → IsRound old least → IsFirstPassing (is_held new) least (least + 187_200) next → IsRoundFrom new (unwrap_or next no_second)
 taken_from old new least next found less whole was first =

@@ -1,4 +1,4 @@
--- The tests that a search makes, and its steps.
+-- A search for a local second in two steps: first the day, and then the time of day.
 use Rattle.std.proofs.Common.{◌≡◌, ℕ, ◌+◌, ◌*◌, ◌/◌, ◌%◌, ◌<◌, ◌≤◌, true, false, ◌&&◌, nat_lt, ◌==◌, Option, ap, ◌∙◌, subst, None, Some, ℤ, pos, refl, sym, inl, inr, arith}
 use Rattle.std.proofs.lemmas.Bool.{and_parts, cases_lt}
 use Rattle.std.proofs.lemmas.Bool.Decides.{nat_tests}
@@ -24,7 +24,7 @@ matches_on : (sets : Sets) (day t : ℕ) → day < 84_006 → day * 86_400 ≤ t
 unfolding matches
 matches_on sets day t h low high = grind (arith, nat_lt, inside)
 
--- a local second consists of a day and a time of day
+-- a local second, split into a day and a time of day, matches if both do
 pub locals_split : (sets : Sets) → Splits (matches sets) (day_in sets) (time_in sets) 86_400 84_006
 unfolding day_in
 locals_split sets = record {
@@ -37,7 +37,7 @@ locals_split sets = record {
 pub locals_at : (sets : Sets) (t : ℕ) → t < seconds_in_all → matches sets t ≡ (day_in sets (t / 86_400) && time_in sets (t % 86_400))
 locals_at sets t below = split_at (locals_split sets) (t / 86_400) t (let count = seconds_in_all-is in omega arith) refl
 
--- no match on the first day or a later one
+-- if no day from `day_to_start` on matches, no local second from `from` on matches
 pub none_of_all : (sets : Sets) (day r from : ℕ) (today : Option ℕ) → day * 86_400 + r ≡ from → day < 84_006 → r < 86_400 → IsFirstPassing (time_in sets) r 86_400 today
     → NonePasses (day_in sets) (day_to_start day today) 84_006 → NonePasses (matches sets) from (84_006 * 86_400)
 none_of_all sets day r from None parts inside small none later =
@@ -49,7 +49,8 @@ none_of_all sets day r from (Some s) parts inside small found later =
     (none_by_high (locals_split sets) day r from parts inside (later day (omega arith) inside)) (omega arith)
     (none_later (locals_split sets) (day + 1) 84_006 (omega arith) (λ t above below. later t (omega arith) below))
 
--- the match on the first day, or the first match on a later day
+-- if `f` is the first day from `day_to_start` on that matches, the first local second from `from` on that matches is on
+-- day `f`, at the time `second_on`
 pub first_of_all : (sets : Sets) (day r from f first : ℕ) (today : Option ℕ) → day * 86_400 + r ≡ from → day < 84_006 → r < 86_400 → IsFirstPassing (time_in sets) r 86_400 today
     → IsFirstPassing (day_in sets) (day_to_start day today) 84_006 (Some f) → IsFirstPassing (time_in sets) 0 86_400 (Some first)
     → IsFirstPassing (matches sets) from (84_006 * 86_400) (Some (f * 86_400 + second_on f day today first))
@@ -75,7 +76,7 @@ first_of_all sets day r from f first (Some s) parts inside small today found beg
           (first_here (locals_split sets) day r from 86_400 s parts inside holds today.1 today)))
     ]
 
--- the two lemmas above, for local seconds as machine integers
+-- the two lemmas above, for local seconds as integers instead of natural numbers
 pub none_found : (sets : Sets) (day r : ℕ) (from : ℤ) (today : Option ℕ) → pos (day * 86_400 + r) ≡ from → day < 84_006 → r < 86_400 → IsFirstPassing (time_in sets) r 86_400 today
     → NonePasses (day_in sets) (day_to_start day today) 84_006 → IsFirstLocal (matches sets) from None
 none_found sets day r from today parts inside small none later = λ t above below.
@@ -91,7 +92,8 @@ first_found sets day r f first from found today parts inside small none later be
     let there = first_local (matches sets) (day * 86_400 + r) t (subst (λ (n : ℕ). IsFirstPassing (matches sets) (day * 86_400 + r) n (Some t)) (sym seconds_in_all-is) all) in
     subst (λ (z : ℤ). IsFirstLocal (matches sets) z (Some found)) parts (subst (λ (z : ℤ). IsFirstLocal (matches sets) (pos (day * 86_400 + r)) (Some z)) (sym is) there)
 
--- the next match after a match, on the same day
+-- if `second` is the first matching time on the day of the match `t` that is later than `t`, then the next match after
+-- `t` is on the same day, at `second`
 pub later_today : (sets : Sets) (t second : ℕ) → t < seconds_in_all → matches sets t ≡ true → IsFirstPassing (time_in sets) (t % 86_400 + 1) 86_400 (Some second)
     → IsFirstPassing (matches sets) (t + 1) seconds_in_all (Some (t / 86_400 * 86_400 + second))
 later_today sets t second below holds found =
@@ -101,7 +103,7 @@ later_today sets t second below holds found =
     first_within (matches sets) (t + 1) ((t / 86_400 + 1) * 86_400) seconds_in_all (t / 86_400 * 86_400 + second) (omega arith)
     (first_here (locals_split sets) (t / 86_400) (t % 86_400 + 1) (t + 1) 86_400 second (omega arith) day (and_parts _ _ both).0 found.1 found)
 
--- a search after a match that ends on the same day
+-- a search after the match `t` that finds a match on the same day, at `second`, examines one month
 pub search_today : (sets : Sets) (t second : ℕ) (found : ℤ) → t < seconds_in_all → matches sets t ≡ true → IsFirstPassing (time_in sets) (t % 86_400 + 1) 86_400 (Some second)
     → found ≡ pos (t / 86_400 * 86_400 + second) → IsSearch sets (t + 1) (record { local = Some found; months = 1 })
 search_today sets t second found below holds time same =

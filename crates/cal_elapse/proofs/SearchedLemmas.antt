@@ -1,4 +1,4 @@
--- The number of searches after an elapse was returned or none was left.
+-- How many searches were made when an elapse was returned, or when none was left.
 use Rattle.std.proofs.Common.{◌≡◌, ℕ, ◌+◌, ◌-◌, ◌<◌, ◌≤◌, nat_lt, true, false, Option, None, Some, ℤ, negsuc, pos, ◌<ℤ◌, ◌≤ℤ◌, ◌+ℤ◌, int_lt, unsigned_abs, sym, subst, arith, inl, inr, slice_get}
 use Rattle.std.proofs.lemmas.Bool.{and_left, cases_lt, false_from_ne_true}
 use Rattle.std.proofs.lemmas.Int.{ints}
@@ -22,7 +22,7 @@ none_past : (masks : Masks) (zone : Zone) (t : ℕ) → seconds_in_all ≤ t →
 unfolding timed_by matches
 none_past masks zone t late = and_left (nat_lt t seconds_in_all) _ (grind (arith))
 
--- no match before the match ahead is more than 93,599 seconds after a pending instant
+-- if `i` is pending, no match that was converted is more than 93,599 seconds after `i`
 matches_below : (v : Window) (i : ℤ) (top : ℕ) → IsReady v → Has v.pending i → (pos top) ≡ (i +ℤ pos 93_600) → start_of v.base ≤ top → (t : ℕ) → top ≤ t → t < bound_of v.ahead
     → (timed_of v).matches t ≡ true → ⊥
 matches_below v i top h m is begun t late inside holds =
@@ -61,9 +61,10 @@ searched_some v i h full at =
     let same = count_top v i (unsigned_abs i + 93_600) h m there top.0 top.1 in
     omega arith
 
--- The largest number of months that one of these searches examined
+-- The largest number of months that a single search examined
 
--- the same matches are below both bounds
+-- if `i` is pending and can be returned, exactly those matches were converted that are before `top`, 93,600 seconds
+-- after `i`
 same_below : (v : Window) (i : ℤ) (top : ℕ) → IsReady v → Has v.pending i → to_place v.ahead (Some i) ≡ None → (pos top) ≡ (i +ℤ pos 93_600) → start_of v.base ≤ top
     → (t : ℕ) → start_of v.base ≤ t → matches (sets_in v.searcher.masks) t ≡ true → (t < bound_of v.ahead → t < top) × (t < top → t < bound_of v.ahead)
 unfolding timed_by

@@ -38,7 +38,8 @@ timed_by-near masks zone local i placed =
     let near = within _ (pos local) i placed in
     (omega (arith, signed_arith, near), omega (arith, signed_arith, near))
 
--- raising the bound keeps instants of local seconds below it
+-- if `i` is the instant of a matching local second below `a`, and `b` isn't below `a`, then `i` is also the instant of
+-- a matching local second below `b`
 placed_on : (e : Timed) (a b : ℕ) (i : ℤ) → a ≤ b → IsPlacedBelow e a i → IsPlacedBelow e b i
 placed_on e a b i h p = record { local = p.local; below = omega arith; is_match = p.is_match; placed = p.placed }
 
@@ -46,7 +47,8 @@ placed_on e a b i h p = record { local = p.local; below = omega arith; is_match 
 placed_split : (e : Timed) (bound : ℕ) (i : ℤ) → IsPlacedBelow e (bound + 1) i → (e.place bound ≡ Some i) ⊎ IsPlacedBelow e bound i
 placed_split e bound i p = grind arith
 
--- no match up to and including `bound` is more than 93,599 seconds after the instant
+-- if no match below `bound` is more than 93,599 seconds after `i`, and `bound` isn't either, then no match up to and
+-- including `bound` is
 reach_on : (e : Timed) (from bound : ℕ) (i : ℤ) → ((t : ℕ) → from ≤ t → t < bound → e.matches t ≡ true → pos t ≤ℤ (i +ℤ pos 93_599))
     → pos bound ≤ℤ (i +ℤ pos 93_599) → (t : ℕ) → from ≤ t → t < bound + 1 → e.matches t ≡ true → pos t ≤ℤ (i +ℤ pos 93_599)
 reach_on e from bound i before here t low high m = grind arith
@@ -94,7 +96,8 @@ put_by e from bound last xs None near w is_match at close = put_none e from boun
 put_by e from bound last xs (Some p) near w is_match at close =
     put_test e from bound last p xs (int_lt last p) refl near w is_match at close
 
--- the match at the bound has been converted
+-- if all matches below `bound` were converted, and `bound` matches and is at most 93,599 seconds after each pending
+-- instant, then adding its instant converts all matches up to and including `bound`
 pub windowed_put : (e : Timed) (from bound : ℕ) (last : ℤ) (xs : List ℤ) → AreNear e → Windowed e from bound last xs → e.matches bound ≡ true
     → ((i : ℤ) → Has xs i → pos bound ≤ℤ (i +ℤ pos 93_599)) → Windowed e from (bound + 1) last (with_place (e.place bound) last xs)
 windowed_put e from bound last xs near w is_match close = put_by e from bound last xs (e.place bound) near w is_match refl close
@@ -102,7 +105,8 @@ windowed_put e from bound last xs near w is_match close = put_by e from bound la
 none_between : (e : Timed) (a b t : ℕ) → NonePasses e.matches a b → t < b → e.matches t ≡ true → t < a
 none_between e a b t none below m = grind arith
 
--- if there is no match up to a later bound, nothing more has to be converted
+-- if all matches below `a` were converted, and no local second from `a` up to but not including `b` matches, then all
+-- matches below `b` were converted
 pub windowed_on : (e : Timed) (from a b : ℕ) (last : ℤ) (xs : List ℤ) → a ≤ b → NonePasses e.matches a b → Windowed e from a last xs → Windowed e from b last xs
 windowed_on e from a b last xs h none w = grind (arith, placed_on, none_between)
 
@@ -114,8 +118,9 @@ pub record IsPlacedFrom (e : Timed) (a b : ℕ) (i : ℤ) : Type 0 where
   pub is_match : e.matches local ≡ true
   pub placed : e.place local ≡ Some i
 
--- all matches up to a later bound have been converted, if none of them is more than 93,599 seconds after a pending
--- instant
+-- if all matches below `a` were converted, and `ys` are the pending instants `xs` and the instants after `last` of the
+-- matches from `a` up to but not including `b`, and no local second below `b` is more than 93,599 seconds after an
+-- instant in `ys`, then all matches below `b` were converted
 pub windowed_more : (e : Timed) (from a b : ℕ) (last : ℤ) (xs ys : List ℤ) → a ≤ b → Windowed e from a last xs → IsStrictlySortedBy int_cmp ys
     → ((i : ℤ) → Has ys i ↔ (Has xs i ⊎ ((last <ℤ i) × IsPlacedFrom e a b i))) → ((i : ℤ) → Has ys i → (t : ℕ) → t < b → pos t ≤ℤ (i +ℤ pos 93_599)) → Windowed e from b last ys
 windowed_more e from a b last xs ys h w rises more near = record {
@@ -133,7 +138,8 @@ windowed_more e from a b last xs ys h w rises more near = record {
   reach = λ i m t low high k. near i m t high;
 }
 
--- the smallest pending instant has been returned
+-- after `x`, the smallest pending instant, was returned, the other pending instants are the instants after `x` of the
+-- matches below `bound`
 pub windowed_later : (e : Timed) (from bound : ℕ) (last x : ℤ) (xs : List ℤ) → Windowed e from bound last (x ∷ xs) → Windowed e from bound x xs
 windowed_later e from bound last x xs w =
     let above = ((w.members x).0 (inl refl)).0 in
@@ -149,7 +155,8 @@ windowed_later e from bound last x xs w =
 too_early : (base : ℤ) (t : ℕ) (i : ℤ) → pos 0 ≤ℤ base → t < start_of base → i ≤ℤ (pos t +ℤ pos 93_599) → base <ℤ i → ⊥
 too_early base t i low early near above = grind (arith, ints)
 
--- nothing has been converted at first
+-- at the start nothing is pending, because no local second before the start of the first search has an instant after
+-- the base
 pub windowed_start : (e : Timed) (base : ℤ) → AreNear e → pos 0 ≤ℤ base → Windowed e (start_of base) (start_of base) base []
 unfolding IsStrictlySortedBy
 windowed_start e base near low = record {
@@ -174,8 +181,8 @@ all_placed ahead h = grind arith
 bound_in : (e : Timed) (ahead : Option ℤ) → IsMatchAhead e ahead → bound_of ahead ≤ seconds_in_all
 bound_in e ahead h = grind (arith, local_inside)
 
--- the instant of a match that was not converted yet is at or after the smallest pending instant, if that may be
--- returned
+-- if the pending instant `x` can be returned before `ahead` is converted, and `j` is the instant of a local second that
+-- was not converted yet, then `j` isn't before `x`
 later_place : (ahead : Option ℤ) (x j : ℤ) (t : ℕ) → to_place ahead (Some x) ≡ None → bound_of ahead ≤ t → t < seconds_in_all → pos t ≤ℤ (j +ℤ pos 93_599) → x ≤ℤ j
 later_place None x j t full late inside near = grind arith
 later_place (Some (pos n)) x j t full late inside near = grind (arith, none_chosen, int_lt, ints)
@@ -207,7 +214,7 @@ full_first e from ahead last (x ∷ xs) near w found full =
     (inl (elapse_of e (bound_of ahead) x (bound_in e ahead found) here.1))
     (λ j above m. elim m [ inl p ↦ least_place e from ahead last x j xs near w full above p | inr n ↦ absurd n ])
 
--- the window after its smallest pending instant was returned
+-- a ready window is still ready after its smallest pending instant was returned
 pub taken_ready : (v : Window) (i last : ℤ) (xs : List ℤ) → IsReady v → slice_get v.pending 0 ≡ Some i → last ≡ i → xs ≡ drop 1 v.pending
     → IsReady (record v { last = last; pending = xs })
 taken_ready v i last xs h at same rest =
@@ -224,7 +231,7 @@ taken_ready v i last xs h at same rest =
       examined = h.examined;
     }
 
--- the instant that is returned is the next elapse
+-- if a window is ready and nothing has to be converted first, its smallest pending instant is the next elapse
 pub first_given : (v : Window) → IsReady v → to_place v.ahead (slice_get v.pending 0) ≡ None → slice_get (elapses_after (timed_of v ∷ []) v.last) 0 ≡ slice_get v.pending 0
 first_given v h full = full_first (timed_of v) (start_of v.base) v.ahead v.last v.pending (timed_by-near v.searcher.masks v.zone) h.windowed h.found full
 
@@ -236,14 +243,15 @@ pub none_given : (v : Window) → IsReady v → to_place v.ahead (slice_get v.pe
     → elapses_after (timed_of v ∷ []) v.last ≡ drop 1 (elapses_after (timed_of v ∷ []) v.last)
 none_given v h full none = drop_none (elapses_after (timed_of v ∷ []) v.last) (sym (first_given v h full ∙ none))
 
--- the instant of a local second within 93,599 seconds of a pending instant is near that pending instant
+-- if a local second is at most 93,599 seconds from a pending instant, its instant is less than 187,200 seconds from
+-- that pending instant
 pub put_near : (tz : TimeZone) (local place member : ℤ) → place_of tz local ≡ Some place → local ≤ℤ (member +ℤ pos 93_599)
     → member ≤ℤ (local +ℤ pos 93_599) → IsNear member place
 put_near tz local place member at low high =
     let near = within tz local place at in
     (omega (arith, signed_arith, near), omega (arith, signed_arith, near))
 
--- the place of a local second is an instant if it is after one
+-- if the place of a local second is after `last`, and `last` isn't negative, then the place is an instant
 pub put_instant : (tz : TimeZone) (local place last : ℤ) → place_of tz local ≡ Some place → IsLocalSecond local → pos 0 ≤ℤ last → last <ℤ place → IsInstant place
 put_instant tz local place last at inside low above =
     let near = within tz local place at in

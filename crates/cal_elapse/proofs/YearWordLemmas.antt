@@ -1,4 +1,4 @@
--- The years in masks of 64 bits, and months as years and month numbers.
+-- Years as the bits of words of 64 bits, and months as years and month numbers.
 use Rattle.std.proofs.Common.{◌≡◌, ℕ, ◌+◌, ◌-◌, ◌*◌, ◌/◌, ◌%◌, ◌<◌, ◌≤◌, ◌&&◌, nat_le, List, get_or, Some, subst, refl, ◌∙◌, arith}
 use Rattle.std.proofs.lemmas.Bool.Decides.{nat_tests}
 use Rattle.std.proofs.lemmas.Bool.{and_right}
@@ -10,7 +10,7 @@ use Rattle.cal_elapse.specs.declared.masks.Masks.{Masks}
 use Rattle.cal_elapse.proofs.BitLemmas.{is_bit-none}
 use Rattle.cal_elapse.proofs.CarryLemmas.{Splits, split_at}
 
--- the bits of one word
+-- in a list of words, bit `b` of the word with index `a` stands for the number a * 64 + b
 pub in_word : (masks : List ℕ) (a b : ℕ) → b < 64 → is_bit_in masks (a * 64 + b) ≡ is_bit (get_or masks a 0) b
 unfolding is_bit_in
 in_word masks a b small = grind arith

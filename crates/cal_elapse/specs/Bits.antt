@@ -6,6 +6,6 @@ use Rattle.std.specs.Int.{bit_at}
 unfoldable pub is_bit : ℕ → ℕ → Bool
 is_bit mask i = bit_at mask i == 1
 
--- whether the set in several masks of 64 bits contains i
+-- whether the set in a list of masks of 64 bits contains i: bit i % 64 of the mask with index i / 64 is 1
 unfoldable pub is_bit_in : List ℕ → ℕ → Bool
 is_bit_in masks i = is_bit (slice_index_or masks (i / 64) 0) (i % 64)

@@ -22,8 +22,7 @@ pub record AreAmong (sets others : Sets) : Type 0 where
 abbrev pub IsCovered : Timed → List Timed → Type 0
 IsCovered e exceptions = (i : ℤ) → IsPlace e i → IsElapse exceptions i
 
--- the expressions `kept` have only elapses of `all`, and every elapse of `all` that they lack is an elapse of an
--- exception
+-- every elapse of `kept` is an elapse of `all`, and every elapse of `all` is an elapse of `kept` or of an exception
 pub record AreKept (all exceptions kept : List Timed) : Type 0 where
   pub within : (i : ℤ) → IsElapse kept i → IsElapse all i
   pub rest : (i : ℤ) → IsElapse all i → IsElapse kept i ⊎ IsElapse exceptions i

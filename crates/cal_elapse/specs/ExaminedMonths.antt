@@ -10,12 +10,13 @@ use Rattle.cal_elapse.specs.Months.{month_in, month_of}
 use Rattle.cal_elapse.specs.Search.{IsFirstLocal}
 use Rattle.cal_elapse.specs.declared.search.Found.{Found}
 
--- the number of months examined from month `n` to the month of the day that was found
+-- the number of months that a search for a day examines if it starts in month `n`: those whose year and number match,
+-- up to the month of the day that it found, or up to the end of 2199 if it found none
 abbrev pub examined_from : Sets → ℕ → Option ℕ → ℕ
 examined_from sets n None = count_from (month_in sets) n (2_760 - n)
 examined_from sets n (Some day) = count_from (month_in sets) n (suc (month_of (civil_date day)) - n)
 
--- the number of months examined from a local second to the local second that was found
+-- the number of months that a search for a local second examines if it starts at `from` and its result is `answer`
 abbrev pub examined_months : Sets → ℕ → Option ℕ → ℕ
 examined_months sets from answer = examined_from sets (month_of (civil_date (from / 86_400))) (option_map (λ t. t / 86_400) answer)
 

@@ -10,8 +10,9 @@ use Rattle.cal_spec.specs.declared.field.Field.TheVariants as field
 use Rattle.cal_spec.specs.declared.slot.Slot.{Slot}
 use Rattle.cal_spec.specs.declared.slot.Slot.TheVariants.{Year, Month, Hour, Minute, Second}
 
--- the bit of the day `n`: days are stored in increasing order, and counts from the end of the month in decreasing
--- order, so that a later day of a month always has a higher bit
+-- Which bit in the mask of days stands for `n`, a day, or a count from the end of the month if `from_end` is true. Days
+-- are stored in increasing order, and counts from the end in decreasing order, so that a later day of a month always
+-- has a higher bit.
 abbrev pub day_place : Bool → ℕ → ℕ
 day_place from_end n = if from_end then 31 - n else n - 1
 

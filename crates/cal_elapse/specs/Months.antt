@@ -29,7 +29,7 @@ pub first_day-suc : (n : ℕ) → first_day (suc n) ≡ first_day n + length_of 
 unfolding first_day
 first_day-suc n = refl
 
--- the month of a date in 1970 or later
+-- the index of the month that contains a date in 1970 or later
 unfoldable pub month_of : Date → ℕ
 month_of date = (unsigned_abs date.year - 1_970) * 12 + (date.month - 1)
 

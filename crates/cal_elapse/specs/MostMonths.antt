@@ -20,15 +20,15 @@ pub record IsExaminedAfter (sets : Sets) (from to months : ℕ) : Type 0 where
   pub is_match : matches sets local ≡ true
   pub examined : IsExamined sets (local + 1) months
 
--- `most` is the larger of `before` and the largest number of months that one of the searches after these matches
--- examines
+-- `most` is the largest of `before` and the numbers of months that are examined by the searches that start just after a
+-- match from `from` up to but not including `to`
 pub record IsMostAfter (sets : Sets) (from to before most : ℕ) : Type 0 where
   pub not_below : before ≤ most
   pub all : (months : ℕ) → IsExaminedAfter sets from to months → months ≤ most
   pub one : (most ≡ before) ⊎ IsExaminedAfter sets from to most
 
--- `most` is the largest number of months that one of these searches examines: the one from `start` on, and one after
--- each match from there up to but not including `to`
+-- `most` is the largest number of months that one of these searches examines: the search from `start` on, and the
+-- searches that start just after a match from `start` up to but not including `to`
 pub record IsMost (sets : Sets) (start to most : ℕ) : Type 0 where
   pub first : ℕ
   pub begun : IsExamined sets start first

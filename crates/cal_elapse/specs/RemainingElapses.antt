@@ -7,7 +7,7 @@ use Rattle.cal_rising.specs.Rises.{rises-union}
 use Rattle.cal_elapse.specs.Window.{timed_of}
 use Rattle.cal_elapse.specs.declared.window.Window.{Window}
 
--- the elapses after the one that was returned last
+-- the elapses after the instant that was returned last, or after the base if none was returned
 unfoldable pub remaining_elapses : Window → List ℤ
 remaining_elapses w = elapses_after (timed_of w ∷ []) w.last
 

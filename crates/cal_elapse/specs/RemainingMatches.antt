@@ -18,7 +18,8 @@ pub record AreRemaining (passes : ℕ → Bool) (found from left : ℕ) : Type 0
   pub unit : (i : ℕ) → is_bit left i ≡ true → (from + i) / 60 ≡ found / 60
   pub passing : (t : ℕ) → found < t → t / 60 ≡ found / 60 → passes t ≡ is_bit left (t - from)
 
--- a search after `local` found `next` in the same minute; nothing is claimed if there was no search
+-- `Some next` means that `next` is the first local second after `local` that passes, and that it is in the same minute;
+-- `None` makes no claim
 abbrev pub IsNextInMinute : (ℕ → Bool) → ℕ → Option ℕ → Type 0
 IsNextInMinute passes local None = Unit {0}
 IsNextInMinute passes local (Some next) = (next / 60 ≡ local / 60) × IsFirstPassing passes (local + 1) seconds_in_all (Some next)
@@ -45,8 +46,8 @@ IsNextInHour passes local next = (next / 3_600 ≡ local / 3_600) × IsFirstPass
 abbrev pub NoneLeftInMinute : (ℕ → Bool) → ℕ → Type 0
 NoneLeftInMinute passes local = NonePasses passes (local + 1) (local / 60 * 60 + 60)
 
--- Bit i of `bits` stands for the local second `local` + 1 + i. Of the local seconds after `local`, a match, and up to
--- `last`, a match in the same minute, exactly those match whose bit is set.
+-- Bit i of `bits` stands for the local second `local` + 1 + i. `last` passes, is in the minute of `local`, and isn't
+-- before `local`. The set bits are those of the local seconds after `local`, up to and including `last`, that pass.
 pub record IsRestOfMinute (passes : ℕ → Bool) (local bits last : ℕ) : Type 0 where
   pub begun : local ≤ last
   pub minute : last / 60 ≡ local / 60

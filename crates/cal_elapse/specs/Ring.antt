@@ -1,5 +1,5 @@
 -- A ring of cells, one bit each. The cell of an instant is its number of seconds modulo the number of cells. Among
--- 187,200 consecutive seconds, one turn of the ring, no two have the same cell.
+-- 187,200 consecutive seconds, no two have the same cell.
 use Rattle.std.specs.Prelude.{◌≡◌, ◌+◌, ◌-◌, ◌%◌, ◌+ℤ◌, true, cond, if◌then◌else◌, ◌==◌, ℕ, zero, suc, Bool, List, [], ◌∷◌, length, Option, None, Some, ℤ, pos, ◌≤ℤ◌, refl}
 use Rattle.cal_zone.specs.Instant.{last_instant}
 use Rattle.cal_elapse.specs.Bits.{is_bit, is_bit_in}
@@ -33,16 +33,16 @@ abbrev pub rising_from : (ℕ → Bool) → ℕ → ℕ → List ℤ
 rising_from passes from zero = []
 rising_from passes from (suc n) = cond (passes from) (pos from ∷ rising_from passes (suc from) n) (rising_from passes (suc from) n)
 
--- the instants in a ring that starts at the second `low`
+-- the instants in a ring that starts at the second `low`: those of the 187,200 seconds from `low` on whose cell is set
 unfoldable pub instants_in : List ℕ → ℕ → List ℤ
 instants_in cells low = rising_from (is_held cells) low cells_in_all
 
--- the ring has one bit for each cell, and each of its elements is an instant
+-- the ring has one bit for each cell, in 2,925 words of 64 bits, and none of its elements is after the last instant
 pub record IsRound (cells : List ℕ) (low : ℕ) : Type 0 where
   pub whole : length cells ≡ 2_925
   pub members : (i : ℤ) → Has (instants_in cells low) i → i ≤ℤ last_instant
 
--- the stored smallest second of an empty ring, later than every instant
+-- the value that is stored as the smallest second if the ring is empty; it is later than every instant
 abbrev pub no_second : ℕ
 no_second = 18_446_744_073_709_551_615
 
@@ -50,7 +50,7 @@ no_second = 18_446_744_073_709_551_615
 abbrev pub least_kept : ℕ → Option ℕ
 least_kept least = if least == no_second then None else Some least
 
--- a ring that starts at its smallest second, unless it is empty
+-- a ring whose smallest second is `least`, or which is empty if `least` is `no_second`
 pub record IsRoundFrom (cells : List ℕ) (least : ℕ) : Type 0 where
   pub round : IsRound cells least
   pub first : IsFirstPassing (is_held cells) least (least + 187_200) (least_kept least)

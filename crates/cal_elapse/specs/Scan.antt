@@ -1,4 +1,4 @@
--- Words with a bit that is set.
+-- Words that aren't 0.
 use Rattle.std.specs.Prelude.{ℕ, Bool, not, ◌==◌}
 
 -- whether a word isn't 0

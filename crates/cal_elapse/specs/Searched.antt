@@ -17,8 +17,9 @@ abbrev pub IsSearched : Timed → ℤ → Option ℤ → ℕ → Type 0
 IsSearched e base (Some elapse) searches = searches ≡ matches_up_to e base (unsigned_abs elapse + 93_600) + 1
 IsSearched e base None searches = searches ≡ matches_up_to e base seconds_in_all + 1
 
--- The largest number of months that one of these searches examined: the first search, or a search after a match up to
--- 93,599 seconds after the elapse. After `next` returned `None`: the first search, or a search after any match.
+-- `most` is the largest number of months that one of these searches examined. After `next` returned `Some elapse`: the
+-- first search, and a search after each match from its start to 93,599 seconds after the elapse. After `next` returned
+-- `None`: the first search, and a search after each match from its start on.
 abbrev pub IsMostSearched : Sets → ℤ → Option ℤ → ℕ → Type 0
 IsMostSearched sets base (Some elapse) most = IsMost sets (start_of base) (unsigned_abs elapse + 93_600) most
 IsMostSearched sets base None most = IsMost sets (start_of base) seconds_in_all most

@@ -33,20 +33,22 @@ pub record Windowed (e : Timed) (from bound : ℕ) (last : ℤ) (xs : List ℤ) 
   pub members : (i : ℤ) → Has xs i ↔ ((last <ℤ i) × IsPlacedBelow e bound i)
   pub reach : (i : ℤ) → Has xs i → (t : ℕ) → from ≤ t → t < bound → e.matches t ≡ true → pos t ≤ℤ (i +ℤ pos 93_599)
 
--- the local second at which the first search starts: no earlier local second has an instant after the base
+-- the local second at which the first search starts: no earlier local second resolves to an instant after the base
 abbrev pub start_of : ℤ → ℕ
 start_of (pos base) = base - 93_599
 start_of (negsuc n) = 0
 
--- the first local second that was not converted yet: the match ahead, or the end of all local seconds if there is none
+-- the first local second that was not converted yet: `ahead`, the match that was found last, or the end of all local
+-- seconds if `ahead` is `None`
 abbrev pub bound_of : Option ℤ → ℕ
 bound_of ahead = unwrap_or (option_map unsigned_abs ahead) seconds_in_all
 
--- the match ahead, if there is one, is a local second that matches
+-- `ahead` is `None` or a local second that matches
 abbrev pub IsMatchAhead : Timed → Option ℤ → Type 0
 IsMatchAhead e ahead = IfSome ahead (λ local. IsLocalSecond local × (e.matches (unsigned_abs local) ≡ true))
 
--- the match ahead, if it has to be converted before the smallest pending instant can be returned
+-- `ahead`, if it has to be converted before `least`, the smallest pending instant, can be returned, and otherwise
+-- `None`; if nothing is pending, a match always has to be converted
 abbrev pub to_place : Option ℤ → Option ℤ → Option ℤ
 to_place None least = None
 to_place (Some local) None = Some local
@@ -64,8 +66,8 @@ timed_by masks zone = record { matches = matches (sets_in masks); place = λ loc
 abbrev pub timed_of : Window → Timed
 timed_of w = timed_by w.searcher.masks w.zone
 
--- all matching local seconds before the match ahead were converted; one search was made at the start, and one after
--- each of these matches
+-- all matching local seconds before `w.ahead` were converted, or all there are if it is `None`; one search was made at
+-- the start, and one after each of these matches
 pub record IsReady (w : Window) : Type 0 where
   pub windowed : Windowed (timed_of w) (start_of w.base) (bound_of w.ahead) w.last w.pending
   pub found : IsMatchAhead (timed_of w) w.ahead

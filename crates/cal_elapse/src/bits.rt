@@ -4,7 +4,7 @@ ghost use Rattle.std.specs.Prelude.{◌≡◌, ◌≢◌, ◌<◌, ℕ, true, fa
 ghost use Rattle.cal_elapse.specs.Bits.{is_bit};
 ghost use Rattle.cal_elapse.specs.Search.{IsFirstPassing};
 
-/// Returns whether the set contains a number below 64.
+/// Returns whether the set contains the number `index`, which is below 64.
 pub(crate) fn has_bit(mask: u64, index: u32) -> bool
     requires { index < 64 }
     ensures { result ≡ is_bit mask index }
@@ -12,7 +12,7 @@ pub(crate) fn has_bit(mask: u64, index: u32) -> bool
     mask >> index & 1 == 1
 }
 
-/// Returns the set with a number below 64 added.
+/// Returns the set with the number `index`, which is below 64, added.
 pub(crate) fn with_bit(mask: u64, index: u32) -> u64
     requires { index < 64 }
     ensures set { is_bit result index ≡ true }
@@ -21,7 +21,7 @@ pub(crate) fn with_bit(mask: u64, index: u32) -> u64
     mask | 1 << index
 }
 
-/// Returns the set without a number below 64.
+/// Returns the set without the number `index`, which is below 64.
 pub(crate) fn without_bit(mask: u64, index: u32) -> u64
     requires { index < 64 }
     ensures cleared { is_bit result index ≡ false }

@@ -1,4 +1,4 @@
-//! The test whether one calendar expression matches everything that another one matches (systemd.time(7), Calendar
+//! Tests whether one calendar expression matches everything that another one matches (systemd.time(7), Calendar
 //! Events).
 
 ghost use Rattle.std.specs.Prelude.{◌≡◌, true};

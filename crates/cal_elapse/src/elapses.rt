@@ -96,10 +96,10 @@ impl Rising for Elapses<'_> {
 
     /// Removes and returns the next elapse, or `None` if there are no more.
     ///
-    /// After `next` returned e, these searches were made: the first one, which starts at the local second base - 93,599
-    /// (at 0 if that is negative), and one after each matching local second from there to e + 93,599. After it returned
-    /// `None`, they are the first one and one after every match from there on. `most_months` is the largest number of
-    /// months that one of these searches examined, at most 2,760.
+    /// When `next` has returned e, `searches` counts the first search, which starts at the local second base - 93,599
+    /// (at 0 if that is negative), and one search after each matching local second from there to e + 93,599. When
+    /// `next` has returned `None`, `searches` counts the first search and one search after every match from there on.
+    /// `most_months` is the largest number of months that one of these searches examined, at most 2,760.
     fn next(&mut self) -> Option<i64>
         ensures given { result ≡ slice_get (remaining_elapses self.old) 0 }
         ensures left { remaining_elapses self.new ≡ drop 1 (remaining_elapses self.old) }
@@ -114,7 +114,7 @@ impl Rising for Elapses<'_> {
         self.window.take()
     }
 
-    /// Returns whether `number` is an elapse that was not returned yet. It makes no search, and it can always tell.
+    /// Returns whether `number` is an elapse that was not returned yet, without a search. The result is never `None`.
     fn has(&mut self, number: i64) -> Option<bool>
         ensures has { IfSome result (λ has. has ≡ is_member int_eq (remaining_elapses self.old) number) }
         ensures says { IsSome result }

@@ -30,10 +30,10 @@ pub fn elapses_of_each()
         ≡ elapses_except es exceptions base }
 {}
 
-/// An expression is covered by exceptions exactly if no elapse is left after theirs are removed. An expression is
-/// covered by another one in the same zone that matches all its values, field by field, and counts days from the same
-/// end of the month. Covered expressions may be left out: if every elapse of the expressions left out is an elapse of
-/// an exception, the result is unchanged.
+/// An expression is covered by exceptions exactly if none of its elapses is left after those of the exceptions are
+/// removed. An expression is covered by another one in the same zone that matches all its values, field by field, and
+/// counts days from the same end of the month. Covered expressions may be left out: if every elapse of the expressions
+/// left out is an elapse of an exception, the result is unchanged.
 pub fn covered_are_left_out()
     ensures covered { (e : Timed) (exceptions : List Timed) → IsCovered e exceptions
         ↔ ((base : ℤ) → elapses_except (e ∷ []) exceptions base ≡ []) }

@@ -48,8 +48,8 @@ fn weeks(weekdays: &[bool; 7]) -> u64
     mask
 }
 
-/// Returns which of the `count` values from `first` on are matched by a field of the expression. If the field is `*`,
-/// all of them are.
+/// Returns which of the `count` values from `first` on a field of the expression matches, as a mask with `first` at bit
+/// 0. A field that is `*` matches all of them.
 fn members(expr: &Expr, field: Field, first: u16, count: u32) -> u64
     requires few { count ≤ 64 }
     requires values { AreSlotValues (slot_of field expr.now.from_end) first count }
@@ -61,7 +61,8 @@ fn members(expr: &Expr, field: Field, first: u16, count: u32) -> u64
     }
 }
 
-/// Returns which of the `count` values from `first` on are matched by at least one of the parts.
+/// Returns which of the `count` values from `first` on at least one of the parts matches, as a mask with `first` at bit
+/// 0.
 fn in_parts(parts: &[Part], first: u16, count: u32) -> u64
     requires few { count ≤ 64 }
     requires within { first ≤ 2_200 }
@@ -75,7 +76,7 @@ fn in_parts(parts: &[Part], first: u16, count: u32) -> u64
     mask
 }
 
-/// Returns which of the `count` values from `first` on are matched by the part.
+/// Returns which of the `count` values from `first` on the part matches, as a mask with `first` at bit 0.
 fn in_part(part: Part, first: u16, count: u32) -> u64
     requires few { count ≤ 64 }
     requires within { first ≤ 2_200 }
@@ -92,7 +93,8 @@ fn in_part(part: Part, first: u16, count: u32) -> u64
     }
 }
 
-/// Returns the largest value that the part can match. An open-ended repetition has no limit of its own.
+/// Returns the largest value that the part can match. An open-ended repetition has no limit of its own, so this is
+/// 65,535 for it.
 fn last_of(part: Part) -> u16
     ensures { result ≡ last_number part.start part.end part.step }
 {
@@ -103,7 +105,7 @@ fn last_of(part: Part) -> u16
     }
 }
 
-/// Returns a word with the bits from `low` up to but not including `high`.
+/// Returns a word in which exactly the bits from `low` up to but not including `high` are set.
 fn bits_between(low: u32, high: u32) -> u64
     requires { high ≤ 64 }
     ensures { (i : ℕ) → is_bit result i ≡ (nat_le low i && nat_lt i high) }
@@ -115,8 +117,8 @@ fn bits_between(low: u32, high: u32) -> u64
     }
 }
 
-/// Returns a word with those bits from `low` up to but not including `high` whose value is a multiple of `step` above
-/// `start`. Bit 0 stands for the value `first`.
+/// Returns a word with those bits from `low` up to but not including `high` whose value exceeds `start` by a multiple
+/// of `step`. Bit i stands for the value `first` + i.
 fn steps(low: u32, high: u32, first: u16, start: u16, step: u16) -> u64
     requires few { high ≤ 64 }
     requires within { first ≤ 2_200 }
@@ -130,7 +132,8 @@ fn steps(low: u32, high: u32, first: u16, start: u16, step: u16) -> u64
     mask
 }
 
-/// Returns the matching days, or the matching counts from the end of the month, with count 31 at bit 0.
+/// Returns the mask of the matching days, with day 1 at bit 0. If days are counted from the end of the month, returns
+/// the mask of the matching counts, with count 31 at bit 0.
 fn days(expr: &Expr, from_end: bool) -> u64
     requires { from_end ≡ expr.now.from_end }
     ensures { (i : ℕ) → is_bit result i
@@ -143,7 +146,7 @@ fn days(expr: &Expr, from_end: bool) -> u64
     }
 }
 
-/// Returns the matching counts from the end of the month, with count 31 at bit 0.
+/// Returns the mask of the matching counts from the end of the month, with count 31 at bit 0.
 fn counts_from_end(expr: &Expr) -> u64
     ensures { (i : ℕ) → is_bit result i ≡ (nat_lt i 31 && members_of Day (sets_of expr.now) (31 - i)) }
 {
@@ -154,7 +157,7 @@ fn counts_from_end(expr: &Expr) -> u64
     mask
 }
 
-/// Returns `mask` with a bit added if `member` is true.
+/// Returns `mask` with bit `index` set if `member` is true, and unchanged otherwise.
 fn put_bit(mask: u64, index: u32, member: bool) -> u64
     requires { index < 64 }
     ensures here { is_bit result index ≡ (member || is_bit mask index) }

@@ -1,4 +1,4 @@
-//! The test whether a local second matches, without a search (systemd.time(7), Calendar Events).
+//! Tests whether a local second matches, without a search (systemd.time(7), Calendar Events).
 
 ghost use Rattle.std.specs.Prelude.{◌≡◌, ◌<◌, unsigned_abs};
 ghost use Rattle.cal_civil.specs.Local.{IsLocalSecond};

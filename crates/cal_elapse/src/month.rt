@@ -12,7 +12,7 @@ use jiff_core::civil::{Date, days_in_month};
 /// The number of months in the years 1970 to 2199.
 pub(crate) const MONTHS: u32 = 2_760;
 
-/// A month: its index, the day number of its first day, and its length in days.
+/// A month: its index, the day number of its first day (1970-01-01 is day 0), and its length in days.
 #[derive(Clone, Copy)]
 pub(crate) struct Month {
     pub(crate) index: u32,

@@ -1,5 +1,5 @@
-//! The matching days of a month. All examination of months goes through here, so that it can be counted
-//! (systemd.time(7), Calendar Events).
+//! The matching days of a month (systemd.time(7), Calendar Events). Months are examined only here, so that they can be
+//! counted.
 
 ghost use Rattle.std.specs.Prelude.{◌≡◌, ◌+◌, ◌-◌, ◌<◌, ◌≤◌, ℕ, true, nat_lt, if◌then◌else◌};
 ghost use Rattle.cal_elapse.specs.Bits.{is_bit};
@@ -11,15 +11,15 @@ use crate::Masks;
 use crate::bits::{has_bit, next_bit};
 use crate::month::Month;
 
-/// The matching days of a month, with the first of the month at the lowest bit. The field is private, so that a set
-/// can't be formed without being counted.
+/// The matching days of a month, with the first of the month at the lowest bit. The field is private, so that a value
+/// can be created only by `of`, which counts the months examined.
 #[derive(Clone, Copy)]
 pub(crate) struct MonthDays {
     bits: u64,
 }
 
 impl MonthDays {
-    /// Forms the set for a month whose year and number the expression matches, and adds 1 to `examined`. Shifts the
+    /// Creates the set for a month whose year and number the expression matches, and adds 1 to `examined`. Shifts the
     /// mask of days and the mask of weekdays so that both start with the first of the month.
     #[tactic(auto, using(crate::proofs::MonthLemmas::month_bounds))]
     pub(crate) fn of(masks: &Masks, month: Month, examined: &mut u32) -> MonthDays
@@ -55,7 +55,7 @@ impl MonthDays {
     }
 }
 
-/// Returns the bit of the month's first day in the mask of days.
+/// Returns which bit of the mask of days stands for the first day of a month with `length` days.
 fn first_day_bit(from_end: bool, length: u32) -> u32
     requires { length ≤ 31 }
     ensures { result ≡ (if from_end then 31 - length else 0) }

@@ -18,14 +18,14 @@ const NO_SECOND: u64 = u64::MAX;
 
 /// A set of instants. A contract sees it as a strictly increasing list.
 ///
-/// Any two elements differ by at most 187,199 seconds. The set is a ring of 187,200 cells, one bit each, so no two
-/// elements share a cell. Only `new` allocates.
+/// The set is a ring of 187,200 cells, one bit each. The cell of an instant is its number of seconds modulo 187,200.
+/// Any two elements differ by at most 187,199 seconds, so no two elements share a cell. Only `new` allocates.
 #[derive(Drop)]
 pub struct Pending {
     /// One bit for each cell.
     cells: Box<[u64; CELL_WORDS]>,
-    /// The smallest element, or `NO_SECOND`. The ring starts at its cell. It is stored so that finding it takes one
-    /// scan per removal, and none per call of `least`.
+    /// The smallest element, at whose cell the ring starts, or `NO_SECOND`. It is stored so that only removals scan the
+    /// ring, and calls of `least` don't.
     least: u64,
 }
 
@@ -65,8 +65,8 @@ impl Pending {
         self.least = self.least.min(second);
     }
 
-    /// Adds several instants: bit i of `bits` stands for the instant `start` + i. All must be later than the smallest
-    /// element, which must exist, and must differ from each element by at most 187,199 seconds.
+    /// Adds several instants: bit i of `bits` stands for the instant `start` + i. The set must not be empty. All new
+    /// instants must be later than its smallest element, and must differ from each element by at most 187,199 seconds.
     pub fn put_bits(&mut self, start: i64, bits: u64)
         requires begun { IsSomeAnd (slice_get self.old 0) (λ least. least <ℤ start) }
         requires instants { (i : ℤ) → IsOneOf start bits i → IsInstant i }

@@ -17,8 +17,8 @@ pub const CELL_WORDS: usize = 2_925;
 /// instant.
 pub const CELLS: u64 = 187_200;
 
-/// Returns the first second at or after `low` whose cell is set. It searches one turn of the ring, so each cell stands
-/// for one second.
+/// Returns the first second at or after `low` whose cell is set, or `None` if no cell is set. Searches only the 187,200
+/// seconds from `low` on, so that each cell stands for one second.
 pub fn first_held(cells: &[u64], low: u64) -> Option<u64>
     requires whole { length cells.now ≡ 2_925 }
     requires low { pos low ≤ℤ last_instant }
@@ -35,7 +35,7 @@ pub fn first_held(cells: &[u64], low: u64) -> Option<u64>
     }
 }
 
-/// Returns the first cell at or after `from` that is set.
+/// Returns the first cell at or after `from` that is set. Does not wrap around at the end of the ring.
 fn next_cell(cells: &[u64], from: u64) -> Option<u64>
     requires whole { length cells.now ≡ 2_925 }
     requires inside { from < 187_200 }
@@ -60,7 +60,7 @@ fn cell_at(word: usize, bit: u32) -> u64
     word as u64 * 64 + u64::from(bit)
 }
 
-/// Sets a cell.
+/// Sets the cell with the index `cell`, which is below 187,200.
 pub fn set_cell(cells: &mut [u64], cell: u64)
     requires whole { length cells.old ≡ 2_925 }
     requires inside { cell < 187_200 }
@@ -72,8 +72,8 @@ pub fn set_cell(cells: &mut [u64], cell: u64)
     cells[word] = with_bit(cells[word], (cell % 64) as u32);
 }
 
-/// Sets several cells at or after `cell`: bit i of `bits` stands for the cell i places after it. Wraps around at the
-/// end of the ring.
+/// Sets a cell for each set bit of `bits`: bit 0 stands for the cell `cell`, and bit i for the i-th cell after it.
+/// Wraps around at the end of the ring.
 pub fn set_cells(cells: &mut [u64], cell: u64, bits: u64)
     requires whole { length cells.old ≡ 2_925 }
     requires inside { cell < 187_200 }
@@ -88,7 +88,7 @@ pub fn set_cells(cells: &mut [u64], cell: u64, bits: u64)
     cells[next] |= bits >> 1 >> (63 - shift);
 }
 
-/// Clears a cell.
+/// Clears the cell with the index `cell`, which is below 187,200.
 pub fn clear_cell(cells: &mut [u64], cell: u64)
     requires whole { length cells.old ≡ 2_925 }
     requires inside { cell < 187_200 }

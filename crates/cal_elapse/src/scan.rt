@@ -6,7 +6,7 @@ ghost use Rattle.cal_elapse.specs.Scan.{is_set};
 
 use std::simd::prelude::*;
 
-/// The number of words that one load reads.
+/// The number of words that are loaded and tested at once.
 const LANES: usize = 32;
 
 /// Returns the index of the first word that isn't 0, or `None` if all words are 0.
@@ -21,8 +21,9 @@ pub fn first_set(cells: &[u64]) -> Option<usize>
     None
 }
 
-/// Returns a number of words at the start of the slice that are all 0, in whole loads: up to the first load with a word
-/// that isn't 0, or up to the last words, which fill no load.
+/// Returns a number of words at the start of the slice that are all 0. Tests whole groups of `LANES` words: the words
+/// counted are those before the first group with a word that isn't 0, or those of all whole groups if there is no such
+/// group.
 fn zeros_in_front(cells: &[u64]) -> usize
     ensures inside { result ≤ length cells.now }
     ensures zeros { (k : ℕ) → k < result → is_set (slice_index_or cells.now k 0) ≡ false }

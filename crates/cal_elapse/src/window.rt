@@ -17,19 +17,20 @@ use std::alloc::Global;
 /// The largest distance in seconds between a local second and its instant: the largest UTC offset, 25:59:59.
 const MAX_OFFSET: i64 = 93_599;
 
-/// The state of a source of elapses: the search, the pending instants, and the instant returned last. Every public call
-/// leaves it ready, as `IsReady` says.
+/// The state of a source of elapses: the search, the pending instants, and the instant returned last. It satisfies
+/// `IsReady` after every public call.
 #[derive(Drop)]
 pub struct Window<'z> {
     pub searcher: Searcher,
     zone: PlaceCache<'z>,
     /// The base: all elapses are later than this instant.
     base: i64,
-    /// The match that was found last and not converted yet, or `None` if no match is left.
+    /// The match that was found last, which is not converted to an instant yet. `None` if no match is left.
     ahead: Option<i64>,
     /// The instant that was returned last, or the base if none was.
     pub last: i64,
-    /// The instants after `last` of the matches before `ahead`.
+    /// The instants after `last` to which the matches before `ahead` resolve. If `ahead` is `None`, these are all
+    /// matches.
     pending: Pending,
 }
 
@@ -46,8 +47,8 @@ impl<'z> Window<'z> {
     ghost use Rattle.cal_elapse.specs.Window.{IsPlacedTo, IsReady, timed_of, to_place};
     ghost use Rattle.cal_spec.specs.headline.Members.{sets_of};
 
-    /// Creates the window and searches for the first match. The search starts at the first local second that can have
-    /// an instant after the base.
+    /// Creates the window and searches for the first match. The search starts at the first local second that can
+    /// resolve to an instant after the base.
     pub fn new(
         alloc: Global,
         expr: &Expr,
@@ -77,7 +78,8 @@ impl<'z> Window<'z> {
         })
     }
 
-    /// Converts matches to instants until no later match can precede the smallest pending instant.
+    /// Converts matches to instants until no later match can resolve to an instant at or before the smallest pending
+    /// one.
     #[tactic(auto, using(cal_civil::proofs::LocalLemmas::local_arith, crate::proofs::ReadyLemmas::few_searches, crate::proofs::ReadyLemmas::placed_is_match))]
     pub fn fill(&mut self)
         requires { IsReady self.old }
@@ -88,7 +90,7 @@ impl<'z> Window<'z> {
         ensures last { self.new.last ≡ self.old.last }
         ensures full { to_place self.new.ahead (slice_get self.new.pending 0) ≡ None }
     {
-        // A variable of the loop, so that it stays in a register from one match to the next.
+        // A local variable, so that it stays in a register from one match to the next.
         let mut ahead = self.ahead;
         while let Some(local) = ahead {
             if !is_to_place(local, self.pending.least()) {
@@ -101,10 +103,12 @@ impl<'z> Window<'z> {
         self.ahead = ahead;
     }
 
-    /// Searches for all remaining matches in the minute of `local`, a match that was converted, and converts them at
-    /// once. This is possible only if every second of the minute has to be converted now and the UTC offset is constant
-    /// to the end of the minute; if not, nothing changes. If no matches are left in the minute, calls `skip_hour`
-    /// instead. Returns the last match that was converted, which can be `local`.
+    /// Searches for all remaining matches in the minute of `local`, a match that was already converted, and converts
+    /// them at once. This has three conditions: every second of the minute has to be converted now; the UTC offset is
+    /// constant to the end of the minute; and either nothing is pending and the end of the minute doesn't resolve to an
+    /// instant after the one returned last, or the smallest pending instant isn't after the instant of `local`. If a
+    /// condition isn't met, nothing changes. If no later match in the minute is known, calls `skip_hour` instead.
+    /// Returns the last match that was converted, which can be `local`.
     #[tactic(auto, using(cal_civil::proofs::LocalLemmas::local_arith, crate::proofs::ReadyLemmas::few_searches, crate::proofs::ReadyLemmas::placed_is_match))]
     fn convert_minute(&mut self, local: i64) -> i64
         requires { IsPlacedTo self.old local }
@@ -128,10 +132,10 @@ impl<'z> Window<'z> {
         };
         let place = local - offset;
         match least {
-            // No instant of the rest is after the instant returned last.
+            // No remaining match resolves to an instant after the instant returned last, so none becomes pending.
             None if end - offset <= self.last => self.searcher.search_minute(local).last,
-            // All instants of the rest are after the smallest pending one, because the instant of the match isn't
-            // before it.
+            // All remaining matches resolve to instants after the smallest pending one, because `place`, the instant of
+            // `local`, isn't before it.
             Some(least) if least <= place => {
                 let rest = self.searcher.search_minute(local);
                 self.pending.put_bits(place + 1, rest.bits);
@@ -141,9 +145,10 @@ impl<'z> Window<'z> {
         }
     }
 
-    /// Searches for all remaining matches in the hour of `local`, a match that was converted, if nothing is pending and
-    /// no instant up to the end of that hour is after the instant returned last. These matches need no conversion.
-    /// Returns the last of them, or `local` if nothing was searched.
+    /// Searches for all remaining matches in the hour of `local`, a match that was already converted, if nothing is
+    /// pending, the UTC offset is constant to the end of the hour, and no second up to there resolves to an instant
+    /// after the instant returned last. Such matches need no conversion. Returns the last match found, or `local` if
+    /// there was no search.
     #[tactic(auto, using(cal_civil::proofs::LocalLemmas::local_arith, crate::proofs::ReadyLemmas::few_searches, crate::proofs::ReadyLemmas::placed_is_match))]
     fn skip_hour(&mut self, local: i64) -> i64
         requires { IsPlacedTo self.old local }
@@ -185,8 +190,9 @@ impl<'z> Window<'z> {
         instant
     }
 
-    /// Returns whether `instant` is an elapse of the expression, already returned or not. It is one if the local second
-    /// that the zone's clock shows at the instant matches and resolves to the instant. This makes no search.
+    /// Returns whether `instant` is an elapse of the expression, even if it was already returned or is not after the
+    /// base. It is an elapse if the local second that the zone's clock shows at `instant` matches and resolves to
+    /// `instant`. This makes no search.
     pub fn has_elapse(&mut self, instant: Instant) -> bool
         ensures has { (result ≡ true) ↔ IsPlace (timed_of self.old) instant.secs }
         ensures same { self.new ≡ self.old }
@@ -198,7 +204,8 @@ impl<'z> Window<'z> {
     }
 }
 
-/// Returns the local second at which the first search starts. No earlier local second has an instant after the base.
+/// Returns the local second at which the first search starts. No earlier local second resolves to an instant after the
+/// base.
 #[tactic(auto, using(cal_civil::proofs::LocalLemmas::local_arith))]
 fn first_local(base: Instant) -> i64
     ensures start { result ≡ pos (start_of base.secs) }
@@ -223,8 +230,8 @@ fn hour_end(local: i64) -> i64
     local / 3_600 * 3_600 + 3_599
 }
 
-/// Returns whether this match could still yield an instant at or before `least`, the smallest pending one, and so has
-/// to be converted first. If nothing is pending, every match has to be converted.
+/// Returns whether the match `local` could yield an instant at or before `least`, the smallest pending instant, and so
+/// has to be converted first. If nothing is pending, every match has to be converted.
 fn is_to_place(local: i64, least: Option<i64>) -> bool
     requires { IsLocalSecond local }
     ensures { to_place (Some local) least ≡ cond result (Some local) None }
@@ -235,7 +242,8 @@ fn is_to_place(local: i64, least: Option<i64>) -> bool
     }
 }
 
-/// Adds the instant of a local second to the pending ones if it exists and is after the instant returned last.
+/// Adds the instant of `local` to the pending instants, if there is one and it is after `last`, the instant returned
+/// last.
 fn put_place(pending: &mut Pending, place_cache: &mut PlaceCache<'_>, local: i64, last: i64)
     requires local_in { IsLocalSecond local }
     requires last_in { pos 0 ≤ℤ last }

@@ -12,8 +12,8 @@ use crate::month::{Month, month_at};
 use crate::month_days::MonthDays;
 use crate::search::month::{has_month, next_month};
 
-/// Returns the first matching day at or after `from`, which is a day of `month` or the day after it. Returns `None` if
-/// no such day is left. Sets `examined`, which must be 0, to the number of months examined.
+/// Returns the first matching day at or after `from`, which is a day of `month` or the first day after it. Returns
+/// `None` if no such day is left. Sets `examined`, which must be 0, to the number of months examined.
 #[tactic(auto, using(crate::proofs::ExaminedMonthLemmas::examined_here, crate::proofs::ExaminedMonthLemmas::examined_on))]
 pub(crate) fn next_day(masks: &Masks, month: Month, from: u32, examined: &mut u32) -> Option<u32>
     requires low { month.first ≤ from }

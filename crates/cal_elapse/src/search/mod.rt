@@ -36,8 +36,8 @@ pub struct Found {
     pub months: u32,
 }
 
-/// Returns the first matching local second of the years 1970 to 2199 at or after `from`, which is from 0 to
-/// 7,258,118,400 (systemd.time(7), Calendar Events), with the number of months examined.
+/// Returns the first matching local second of the years 1970 to 2199 at or after `from` (systemd.time(7), Calendar
+/// Events), with the number of months examined. `from` must be between 0 and 7,258,118,400.
 #[tactic(auto, using(cal_civil::proofs::LocalLemmas::local_arith, crate::proofs::ExaminedMonthLemmas::examined_most))]
 pub fn next_local(masks: &Masks, from: i64) -> Found
     requires low { pos 0 ≤ℤ from }
@@ -114,8 +114,8 @@ fn second_after(masks: &Masks, second: u32) -> Option<u32>
     }
 }
 
-/// Returns the first day that can have a result: the day of the start if a matching time is left on it, and otherwise
-/// the day after.
+/// Returns the first day on which a search can end: `day`, on which it starts, if `today`, a matching time left on that
+/// day, isn't `None`, and otherwise the day after.
 fn day_to_start(day: u32, today: Option<u32>) -> u32
     requires { day < 84_006 }
     ensures { result ≡ day_to_start day today }
@@ -126,8 +126,8 @@ fn day_to_start(day: u32, today: Option<u32>) -> u32
     }
 }
 
-/// Returns the time of the result: the first matching time left on the day of the start, or the first matching time of
-/// any later day.
+/// Returns the time of day of a result on day `found`. If the search started on that day, this is `today`, the first
+/// matching time that was left on it. Otherwise it is `first`, the first matching time of any day.
 fn second_on(found: u32, day: u32, today: Option<u32>, first: u32) -> u32
     ensures { result ≡ second_on found day today first }
 {

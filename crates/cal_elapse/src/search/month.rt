@@ -48,7 +48,7 @@ fn month_here(masks: &Masks, from: u32) -> Option<u32>
     }
 }
 
-/// Returns the first matching month at or after the start of a year, which is counted from 1970.
+/// Returns the first matching month in `year` or a later year. The year is counted from 1970.
 fn month_later(masks: &Masks, year: u32) -> Option<u32>
     requires { year ≤ 230 }
     ensures { IsFirstPassing (month_in (sets_in masks.now)) (year * 12) 2_760 result }
@@ -82,7 +82,7 @@ fn next_year(years: &[u64; 4], from: u32) -> Option<u32>
     }
 }
 
-/// Returns the first year at or after `from` whose bit is in the same word.
+/// Returns the first year of `years` at or after `from` whose bit is in the same word as that of `from`.
 fn year_here(years: &[u64; 4], from: u32) -> Option<u32>
     requires { from < 256 }
     ensures { IsFirstPassing (is_bit_in years.now) from ((from / 64 + 1) * 64) result }
@@ -93,7 +93,7 @@ fn year_here(years: &[u64; 4], from: u32) -> Option<u32>
     }
 }
 
-/// Returns the first year whose bit is in the word with index `first` or a later one.
+/// Returns the first year of `years` whose bit is in the word with index `first` or a later word.
 fn year_later(years: &[u64; 4], first: u32) -> Option<u32>
     requires { first ≤ 4 }
     ensures { IsFirstPassing (is_bit_in years.now) (first * 64) 256 result }

@@ -30,12 +30,12 @@ pub enum SearchStart {
     After(i64),
 }
 
-/// The matches that were found after a match in its minute.
+/// The matches that `search_minute` found: those after a given match in the same minute.
 #[derive(Drop)]
 pub struct RestOfMinute {
-    /// One bit for each of them: bit i for the local second i + 1 seconds after the match.
+    /// One bit for each match found: bit i for the local second i + 1 seconds after the given match.
     pub bits: u64,
-    /// The last of them, or the match itself if there are none.
+    /// The last match found, or the given match if none was found.
     pub last: i64,
     ghost last_in: { IsLocalSecond last },
 }
@@ -43,22 +43,22 @@ pub struct RestOfMinute {
 /// The masks of an expression, the number of searches made with them, and the largest number of months that a single
 /// search examined. The fields are private, so that every search is counted.
 ///
-/// Most searches end in the same minute or the same hour. The remaining matches in the minute of the last match, and
-/// the remaining minutes with matches in its hour, are therefore kept as bits.
+/// Most searches end in the minute or the hour of the match after which they start. The remaining matches in the minute
+/// of the match found last, and the remaining minutes with matches in its hour, are therefore stored as bits.
 #[derive(Drop)]
 pub struct Searcher {
     masks: Masks,
     searches: u64,
     most_months: u32,
-    /// The match that was found last. Before the first one, it is the end of the local seconds.
+    /// The match that was found last, or the end of the local seconds if none was found yet.
     found: i64,
-    /// The local second for which the lowest bit of `left` stands.
+    /// The local second that bit 0 of `left` stands for.
     from: i64,
-    /// One bit for each match after the last one in its minute.
+    /// One bit for each match after `found` in the same minute.
     left: u64,
-    /// The minute for which the lowest bit of `minutes` stands, counted from the start of 1970.
+    /// The minute that bit 0 of `minutes` stands for, counted from the start of 1970.
     minute: u32,
-    /// One bit for each later minute with matches in the hour of the last match.
+    /// One bit for each minute with matches after the minute of `found` in the same hour.
     minutes: u64,
     ghost few_months: { most_months ≤ 2_760 },
     ghost found_low: { pos 0 ≤ℤ found },
@@ -101,8 +101,8 @@ impl Searcher {
         self.most_months
     }
 
-    /// Returns the first matching local second from `start` on, with the number of months examined. Each call counts as
-    /// one search. The result is the same as that of `next_local` from there.
+    /// Returns the first matching local second from `start` on, with the number of months examined, as `next_local`
+    /// would. Each call counts as one search.
     #[inline(always)]
     pub fn search(&mut self, start: SearchStart) -> Found
         requires start { CanStart (matches (sets_in self.old.masks)) start }
@@ -122,7 +122,7 @@ impl Searcher {
         found
     }
 
-    /// Returns whether a local second matches. This is not a search.
+    /// Returns whether a local second matches. This doesn't count as a search.
     pub fn is_match(&self, local: i64) -> bool
         requires { IsLocalSecond local }
         ensures { result ≡ matches (sets_in self.now.masks) (unsigned_abs local) }
@@ -130,8 +130,8 @@ impl Searcher {
         match_test::is_match(&self.masks, local)
     }
 
-    /// Returns whether later matches in the minute of `local` are known. They are known only for the match that was
-    /// found last.
+    /// Returns whether later matches in the minute of `local` are known. They are known only if `local` is the match
+    /// that was found last.
     pub fn has_more_in_minute(&self, local: i64) -> bool
         ensures more { result ≡ true → HasMoreInMinute (matches (sets_in self.now.masks)) (unsigned_abs local) }
         ensures none { result ≡ false → local ≡ self.now.found
@@ -186,8 +186,8 @@ impl Searcher {
         self.search(SearchStart::After(local)).local
     }
 
-    /// Returns whether a later minute with matches in the hour of `local` is known. Such minutes are known only for the
-    /// match that was found last.
+    /// Returns whether a later minute with matches in the hour of `local` is known. Such minutes are known only if
+    /// `local` is the match that was found last.
     pub fn has_more_in_hour(&self, local: i64) -> bool
         ensures { result ≡ true → matches (sets_in self.now.masks) (unsigned_abs local) ≡ true
             → HasMoreInHour (matches (sets_in self.now.masks)) (unsigned_abs local) }
@@ -195,8 +195,8 @@ impl Searcher {
         self.minutes != 0 && self.found == local
     }
 
-    /// Searches for the matches after `local`, a match, through its hour, while the next one is known to be in that
-    /// hour. Returns the last match found, or `local` if there is none.
+    /// Searches for the matches after `local`, which must itself match, as long as the next match is known to be in the
+    /// same hour. Returns the last match found, or `local` if none was found.
     pub fn search_hour(&mut self, local: i64) -> i64
         requires start { CanStart (matches (sets_in self.old.masks)) (SearchStart.After local) }
         requires few { self.old.searches ≤ unsigned_abs local + 1 }
@@ -278,7 +278,8 @@ impl Searcher {
         found
     }
 
-    /// Takes the next match from the stored bits of the minute. One month was examined, the month of both matches.
+    /// Takes the next match from the stored bits of the minute. Reports one month as examined: the month of this match
+    /// and of the one before it.
     #[inline(always)]
     fn find_in_minute(&mut self) -> Found
         requires { 0 < self.old.left }
@@ -299,7 +300,8 @@ impl Searcher {
     }
 
     /// Takes the next match from the stored bits of the hour: the first match of the next minute that has any. No bits
-    /// of the current minute may be left. One month was examined, the month of both matches.
+    /// of the current minute may be left. Reports one month as examined: the month of this match and of the one before
+    /// it.
     #[inline(always)]
     fn find_in_hour(&mut self) -> Found
         requires none { self.old.left ≡ 0 }
@@ -322,7 +324,8 @@ impl Searcher {
         }
     }
 
-    /// Stores the match that was found last, with the remaining bits of its minute and its hour.
+    /// Stores `found` as the match that was found last, with the bits that remain after it in its minute and its hour.
+    /// Does nothing if `found` is `None`.
     #[tactic(auto, using(cal_civil::proofs::LocalLemmas::local_arith))]
     fn keep(&mut self, found: Option<i64>)
         requires { IfSome found
@@ -353,7 +356,8 @@ fn minute_of(local: i64) -> u32
     (local / 60) as u32
 }
 
-/// Returns the local second of a minute, counted from the start of 1970, and a second of that minute.
+/// Returns the local second that is `second` seconds after the start of `minute`, which is counted from the start of
+/// 1970.
 fn local_in(minute: u32, second: u32) -> i64
     requires minute { minute < 120_968_640 }
     requires second { second < 60 }

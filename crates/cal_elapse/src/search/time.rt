@@ -44,7 +44,7 @@ fn second_here(masks: &Masks, from: u32) -> Option<u32>
     }
 }
 
-/// Returns the first matching time of day at or after the start of a minute, which is counted from midnight.
+/// Returns the first matching time of day in `minute` or later. The minute is counted from midnight.
 fn second_later(masks: &Masks, minute: u32) -> Option<u32>
     requires { minute ≤ 1_440 }
     ensures { IsFirstPassing (time_in (sets_in masks.now)) (minute * 60) 86_400 result }
@@ -69,7 +69,7 @@ fn next_minute(masks: &Masks, from: u32) -> Option<u32>
     }
 }
 
-/// Returns whether the expression matches the hour and the minute of this minute of the day.
+/// Returns whether the expression matches the hour and the minute of the time `minute` minutes after midnight.
 #[tactic(auto, unfolding(crate::specs::Months::minute_in, crate::specs::Masks::sets_in))]
 pub(crate) fn has_minute(masks: &Masks, minute: u32) -> bool
     requires { minute < 1_440 }

@@ -17,7 +17,8 @@ returns-then-from-eq-LOCAL_END-clause-counted c =
     let day : unsigned_abs c.args.from / 86_400 ≡ 84_006 = grind (arith, signed_arith) in
     rw day (sym (examined_end (sets_in c.args.masks.now)))
 
--- the start of the search consists of a day and a time of day
+-- if `day` and `second` are the day and the time of day of `from`, then `from` is `second` seconds after the start of
+-- `day`
 parts : (from : ℤ) (day second : ℕ) → pos 0 ≤ℤ from → day ≡ unsigned_abs from / 86_400 → second ≡ unsigned_abs from % 86_400 → pos (day * 86_400 + second) ≡ from
 parts from day second low is_day is_second = grind (arith, ints)
 

@@ -14,7 +14,7 @@ none_of : (o : Option ℤ) → is_some o ≡ false → None ≡ o
 none_of None none = refl
 none_of (Some x) none = absurd (cc)
 
--- the UTC offset is constant to the end of the hour
+-- the UTC offset is constant from `local` to the end of its hour
 run_at : (c : In-Some) → IsRun (zone_of c.args.self.now.zone) (unsigned_abs c.args.local) (unsigned_abs c.args.local / 3_600 * 3_600 + 3_599) c.args.local c.hour_end-end.result c.in-Some.offset
 run_at c =
     let fits : FitsSigned w64 c.args.local = c.ranges.local in

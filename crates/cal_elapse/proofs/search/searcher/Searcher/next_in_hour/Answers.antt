@@ -27,7 +27,7 @@ known c =
     let fits : FitsSigned w64 c.args.local = c.ranges.local in
     hour_found c.args.self.now.masks (unsigned_abs c.args.local) c.search.result.local (simp to_z-of_z at c.has_more_in_hour.ensures c.if-not-has_more_in_hour.false c.requires.start.1) (simp to_z-of_z at c.search.ensures.found).first
 
--- and it is the first match after `local`
+-- the search returned the first match after `local`
 first : (c : goal.After-search) → IsFirstPassing (matches (sets_in c.args.self.now.masks)) (unsigned_abs c.args.local + 1) seconds_in_all (option_map unsigned_abs c.search.result.local)
 first c =
     let fits : FitsSigned w64 c.args.local = c.ranges.local in
