@@ -1,4 +1,4 @@
--- The date of a day number has that number, and is the only one that has it.
+-- Every day number in the range of `jiff`'s calendar has exactly one date, which is `date_of` of the number.
 use Rattle.std.specs.Prelude.{◌≡◌, ℕ, ℤ, pos, negsuc, ◌≤ℤ◌}
 use Rattle.std.proofs.Common.{ap, arith, sym, ◌∙◌}
 use Rattle.std.proofs.Props.{props}
@@ -38,7 +38,7 @@ same_date a b e =
 pub date_of-epoch_day : (d : Date) → date_of (epoch_day d) ≡ d
 date_of-epoch_day d = same_date (date_of (epoch_day d)) d (epoch_day-date_of (epoch_day d) (epoch_day_range d))
 
--- the date with a day number that counts from 1970 is that of `civil_date`
+-- if the day number of a date is `day`, which is 0 (1970-01-01) or greater, the date is `civil_date day`
 pub date_numbered : (d : Date) (day : ℕ) → epoch_day d ≡ pos day → d ≡ civil_date day
 unfolding civil_date
 date_numbered d day number = sym (date_of-epoch_day d) ∙ ap date_of number

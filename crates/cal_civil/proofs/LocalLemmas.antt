@@ -1,4 +1,4 @@
--- Local seconds as integers, as functions get them, and as natural numbers, as definitions count them.
+-- Functions have local seconds as integers, and some definitions have them as natural numbers. The ranges are the same.
 use Rattle.std.proofs.Common.{◌≡◌, ◌<◌, arith, nat_lt, negsuc, pos, unsigned_abs, ℕ, ℤ}
 use Rattle.std.proofs.lemmas.Int.{ints, to_z-of_z}
 use Rattle.jiff_core.proofs.SignedLemmas.{signed_arith}

@@ -1,4 +1,5 @@
--- Words for fixed UTC offsets.
+-- A word such as `+02:00` is parsed as the fixed UTC offset that it stands for, and an offset of whole minutes is
+-- printed as such a word.
 use Rattle.std.proofs.Common.{◌≡◌, ◌⊎◌, inl, inr, ℕ, zero, suc, ℤ, pos, negsuc, neg_ℤ, int_lt, if◌then◌else◌, append-nil, append_assoc, length-append, ◌+◌, ◌*◌, ◌/◌, ◌%◌, ◌<◌, ◌≤◌, Bool, true, false, ◌&&◌, ◌||◌, ◌==◌, cond, List, [], ◌∷◌, ◌++◌, length, codes, decimal, unsigned_abs, Option, None, Some, option_map, refl, arith, le-leb, leb-true}
 use Rattle.std.specs.Char.{is_ascii_digit}
 use Rattle.std.specs.Fmt.{digits}
@@ -113,7 +114,7 @@ signed-only word clock distance seconds is (inr west) = rw (west.0, is, west.1) 
 pub offset-only : (word : List ℕ) (seconds : ℤ) → IsOffsetWord word seconds → offset_in word ≡ Some seconds
 offset-only word seconds h = signed-only word h.clock h.distance seconds (clock-only h.clock h.distance h.clock_is) h.signed
 
--- The bytes of such a word
+-- The bytes of a word for an offset
 
 abbrev pub is_offset_byte : ℕ → Bool
 is_offset_byte b = is_ascii_digit b || (is_sign b || (b == 58))
@@ -131,7 +132,7 @@ bytes-by : (word clock : List ℕ) (distance : ℕ) (seconds : ℤ) → (list_al
 bytes-by word clock distance seconds h (inl east) = rw east.0 (h.0, omega (arith, h.1), refl)
 bytes-by word clock distance seconds h (inr west) = rw west.0 (h.0, omega (arith, h.1), refl)
 
--- an offset is six bytes: a sign first, then digits and a colon
+-- if `word` stands for a UTC offset, it has six bytes, which are digits, signs or colons, and begins with a sign
 pub offset-bytes : (word : List ℕ) (seconds : ℤ) → IsOffsetWord word seconds
     → (list_all is_offset_byte word ≡ true) × (length word ≡ 6) × (begins_with_sign word ≡ true)
 offset-bytes word seconds h = bytes-by word h.clock h.distance seconds (clock-bytes h.clock h.distance h.clock_is) h.signed

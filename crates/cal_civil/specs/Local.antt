@@ -1,4 +1,4 @@
--- The ranges of local seconds, and of the instants that they are converted to.
+-- The ranges of local seconds, and of the seconds of Unix time that they are converted to.
 use Rattle.std.specs.Prelude.{ℤ, pos, neg_ℤ}
 use Rattle.jiff_core.specs.Calendar.{IsBetween}
 
@@ -6,10 +6,10 @@ use Rattle.jiff_core.specs.Calendar.{IsBetween}
 abbrev pub IsLocalSecond : ℤ → Type 0
 IsLocalSecond local = IsBetween (pos 0) (pos 7_258_118_399) local
 
--- a local second that can be converted: one of these years, or up to some days before or after them
+-- a local second that can be converted to Unix time: in the years 1970 to 2199, or a few days before or after them
 abbrev pub CanSettle : ℤ → Type 0
 CanSettle local = IsBetween (neg_ℤ (pos 300_000)) (pos 7_258_500_000) local
 
--- a second of Unix time that such a local second can be converted to: at most 25:59:59 from it
+-- a second of Unix time that a local second with `CanSettle` can be converted to: the two differ by at most 25:59:59
 abbrev pub IsNearSettled : ℤ → Type 0
 IsNearSettled second = IsBetween (neg_ℤ (pos 393_599)) (pos 7_258_593_599) second

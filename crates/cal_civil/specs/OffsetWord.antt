@@ -5,36 +5,36 @@ use Rattle.std.specs.Str.Parse.{digits_value}
 use Rattle.cal_civil.specs.headline.ZoneName.{begins_with_letter}
 use Rattle.cal_civil.specs.headline.OffsetWord.{begins_with_sign}
 
--- whether a word in a zone's position is read as a zone: it begins with a letter or a sign
+-- whether a word, at a position where a zone may stand, is read as a zone: it begins with a letter or a sign
 abbrev pub begins_zone : List ℕ → Bool
 begins_zone word = begins_with_letter word || begins_with_sign word
 
--- the number that two digits stand for, if it is at most `greatest`
+-- the number that two bytes stand for, if both are digits and the number is at most `greatest`
 unfoldable pub two_digits : ℕ → ℕ → ℕ → Option ℕ
 two_digits greatest tens ones =
     let number = digits_value 10 (tens ∷ ones ∷ []) in
     if is_ascii_digit tens && is_ascii_digit ones && nat_le number greatest then Some number else None
 
--- hours and minutes in seconds
+-- hours and minutes as a number of seconds, if both are given
 abbrev pub hour_minute_seconds : Option ℕ → Option ℕ → Option ℕ
 hour_minute_seconds (Some hours) (Some minutes) = Some (hours * 3_600 + minutes * 60)
 hour_minute_seconds hours minutes = None
 
--- `hh:mm` in seconds
+-- `hh:mm`, up to 25:59, as a number of seconds; `None` for any other text
 unfoldable pub hour_minute_in : List ℕ → Option ℕ
 hour_minute_in (a ∷ b ∷ c ∷ d ∷ e ∷ []) = if c == 58 then hour_minute_seconds (two_digits 25 a b) (two_digits 59 d e) else None
 hour_minute_in text = None
 
--- the UTC offset in seconds that a word stands for
+-- the UTC offset in seconds that a word stands for; `None` if the word isn't `+hh:mm` or `-hh:mm`
 unfoldable pub offset_in : List ℕ → Option ℤ
 offset_in [] = None
 offset_in (sign ∷ clock) =
     if sign == 43 then option_map pos (hour_minute_in clock)
     else (if sign == 45 then option_map (λ seconds. neg_ℤ (pos seconds)) (hour_minute_in clock) else None)
 
--- The values of such words
+-- The values of words for offsets
 
--- a UTC offset that a word can stand for: whole minutes, at most 25:59
+-- a UTC offset that a word can stand for: a whole number of minutes, at most 25:59 east or west of UTC
 pub record AreWholeMinutes (seconds : ℤ) : Type 0 where
   pub near : unsigned_abs seconds ≤ 93_540
   pub whole : unsigned_abs seconds % 60 ≡ 0

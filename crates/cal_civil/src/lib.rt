@@ -1,4 +1,4 @@
-//! Days, weekdays, and the words for zones: the part of civil time that needs no zone.
+//! Days, weekdays, UTC offsets and the form of zone names: the parts of civil time that don't depend on a zone's rules.
 #![tactic(auto)]
 
 mod days;

@@ -1,8 +1,8 @@
--- That every day number has a date.
+-- Every day number in the range of `jiff`'s calendar has a date.
 --
 -- A date of `jiff` carries proofs that its month and its day are in range, so `date_of` can only be defined together
--- with a proof that such a date exists. It is found by counting from the first date: every date but the last has a next
--- one.
+-- with a proof that the day number has a date. This date is found by counting from the first date of the calendar:
+-- every date but the last has a next date.
 use Rattle.std.specs.Prelude.{◌≡◌, ℕ, zero, suc, ◌+◌, ◌<◌, ◌≤◌, ℤ, pos, neg_ℤ, ◌+ℤ◌, ◌-ℤ◌, ◌<ℤ◌, negsuc, min, refl}
 use Rattle.std.proofs.Common.{arith, rules, inl, inr}
 use Rattle.std.proofs.lemmas.Bool.{cases_lt}
@@ -20,14 +20,14 @@ pub record DateOn (day : ℤ) : Type 0 where
   pub date : Date
   pub is : epoch_day date ≡ day
 
--- the first day of a month is a date
+-- every month has a day 1, so the first day of a month is a date
 first_in : (year : ℤ) (month : ℕ) → IsInRange 1 (days_in_month year month) 1
 first_in year month = let long = days_in_month_bounds year month in (omega arith, omega arith)
 
 first_of_month : (year : ℤ) (month : ℕ) → IsYear year → IsInRange 1 12 month → Date
 first_of_month year month y m = record { year = year; month = month; day = 1; year_in = y; month_in = m; day_in = first_in year month }
 
--- the next day, if it is in the same month
+-- if a date isn't the last day of its month, the day after it is in the same month
 next_in : (d : Date) → d.day < month_length d → IsInRange 1 (month_length d) (d.day + 1)
 next_in d before = (omega arith, omega arith)
 
@@ -38,7 +38,7 @@ epoch_day-next_of : (d : Date) (before : d.day < month_length d) → epoch_day (
 unfolding next_of
 epoch_day-next_of d before = omega (arith, signed_arith, days_from_civil-day d.year d.month (d.day + 1) d.day (omega arith) d.day_in.0)
 
--- the next day after the end of a month, if it is in the same year
+-- if a date is the last day of a month before December, the day after it is the first day of the next month
 next_month_in : (d : Date) → d.month < 12 → IsInRange 1 12 (d.month + 1)
 next_month_in d before = (omega arith, omega arith)
 
@@ -47,7 +47,7 @@ epoch_day-next_month : (d : Date) (before : d.month < 12) → month_length d ≤
 unfolding first_of_month
 epoch_day-next_month d before last = days_from_civil-next_month d.year d.month d.day d.month_in.0 (omega (arith, d.day_in.1))
 
--- the next day after the end of a year
+-- if a date is 31 December of a year before 9999, the day after it is 1 January of the next year
 next_year_in : (d : Date) → d.year <ℤ pos 9999 → IsYear (d.year +ℤ pos 1)
 next_year_in d before = (omega (arith, signed_arith), omega (arith, signed_arith))
 
@@ -60,18 +60,19 @@ unfolding first_of_month
 epoch_day-next_year d before month day =
     rw (month, day) (days_from_civil-next_year d.year (d.year +ℤ pos 1) (omega (arith, signed_arith)) refl)
 
--- the last day of a December is its 31st
+-- if a date in December is the last day of its month, it is the 31st
 last_of_december : (d : Date) → month_length d ≤ d.day → d.month ≡ 12 → d.day ≡ 31
 last_of_december d last december =
     let long : days_in_month d.year 12 ≤ d.day = (rw december at last) in
     let bounds = days_in_month_bounds d.year d.month in
     omega (arith, d.day_in.1)
 
--- dates with the same year, month and day have the same day number, here for 9999-12-31
+-- if a date has the year 9999, the month 12 and the day 31, its day number is what `days_from_civil` returns for these
 epoch_day_is : (d : Date) → d.year ≡ pos 9999 → d.month ≡ 12 → d.day ≡ 31 → epoch_day d ≡ days_from_civil (pos 9999) 12 31
 epoch_day_is d year month day = rw (year, month, day)
 
--- the last day of every year before 9999 has a next day; 9999-12-31, the last date, has day number 2,932,896
+-- if a date is the last day of December, and is before 9999-12-31, the last date, with the day number 2,932,896, there
+-- is a date with the next day number
 next_of_december : (d : Date) → epoch_day d <ℤ pos 2_932_896 → month_length d ≤ d.day → 12 ≤ d.month → DateOn (epoch_day d +ℤ pos 1)
 next_of_december d before last late =
     let december : d.month ≡ 12 = omega (arith, d.month_in.1) in
@@ -81,7 +82,7 @@ next_of_december d before last late =
     (λ y. let year : d.year ≡ pos 9999 = omega (arith, signed_arith, d.year_in.1) in
     absurd (omega (arith, signed_arith, days_from_civil-max, epoch_day_is d year december day)))
 
--- every date before 9999-12-31 has a next day
+-- if a date is before 9999-12-31, there is a date with the next day number
 next : (d : Date) → epoch_day d <ℤ pos 2_932_896 → DateOn (epoch_day d +ℤ pos 1)
 next d before =
     elim (cases_lt d.day (month_length d)) [
@@ -95,7 +96,7 @@ next d before =
 first_year_in : IsYear (neg_ℤ (pos 9999))
 first_year_in = search rules
 
--- the first date is -9999-01-01
+-- the first date of `jiff`'s calendar, -9999-01-01, has the day number -4,371,587
 first_date : DateOn (pos 0 -ℤ pos 4_371_587)
 unfolding first_of_month
 first_date = record { date = first_of_month (neg_ℤ (pos 9999)) 1 first_year_in january_in; is = days_from_civil-min }
@@ -117,8 +118,8 @@ date_counted (suc n) h =
     let after = next before.date (not_last n (epoch_day before.date) h before.is) in
     record { date = after.date; is = one_more n (epoch_day before.date) (epoch_day after.date) before.is after.is }
 
--- the position of a day in the days from -9999-01-01 to 9999-12-31; days outside this range, which no caller has, are
--- mapped to its nearer end
+-- the position of a day in the range from -9999-01-01 (0) to 9999-12-31 (7,304,483); positions outside the range, which
+-- no caller has, are mapped to the nearer end of the range
 unfoldable pub place_among : ℤ → ℕ
 place_among (pos n) = min n 7_304_483
 place_among (negsuc n) = 0
@@ -128,6 +129,7 @@ unfolding place_among
 place_among_bound (pos n) = omega arith
 place_among_bound (negsuc n) = omega arith
 
--- the date of every day number, which for days outside `jiff`'s range is its first or last date
+-- the date with the day number `day`; for a day number outside the range of `jiff`'s calendar, this is the first or the
+-- last date of the calendar
 pub dated : (day : ℤ) → DateOn (pos (place_among (day +ℤ pos 4_371_587)) -ℤ pos 4_371_587)
 dated day = date_counted (place_among (day +ℤ pos 4_371_587)) (place_among_bound (day +ℤ pos 4_371_587))

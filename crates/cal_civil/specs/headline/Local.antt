@@ -4,8 +4,8 @@ use Rattle.std.specs.Int.{int_div_euclid, int_rem_euclid}
 use Rattle.jiff_core.specs.declared.civil.date.Date.{Date}
 use Rattle.cal_civil.specs.headline.Days.{date_of}
 
--- the number of local seconds in the years 1970 to 2199; its value is stated by the law below and isn't unfolded
--- otherwise, so that no proof builds a list of this length
+-- the number of local seconds in the years 1970 to 2199; the lemma below states this value, and no other proof unfolds
+-- it, so that no proof builds a list of this length
 pub seconds_in_all : ℕ
 seconds_in_all = 7_258_118_400
 
@@ -17,7 +17,7 @@ seconds_in_all-is = refl
 abbrev pub day_of : ℤ → ℤ
 day_of local = int_div_euclid local (pos 86_400)
 
--- the seconds of a local second since midnight
+-- the time of day of a local second, in seconds since midnight
 abbrev pub second_of_day : ℤ → ℕ
 second_of_day local = unsigned_abs (int_rem_euclid local (pos 86_400))
 

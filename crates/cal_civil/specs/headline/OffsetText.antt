@@ -10,13 +10,13 @@ zeros width n = replicate (width - length (decimal n)) 48
 abbrev pub sign_text : ℤ → List ℕ
 sign_text offset = if int_lt offset (pos 0) then codes "-" else codes "+"
 
--- `+02:00`: sign, hours and minutes
+-- the pieces of `+02:00`: sign, hours, colon and minutes
 abbrev pub minutes_pieces : ℤ → List (List ℕ)
 minutes_pieces offset =
     let ahead = unsigned_abs offset in
     sign_text offset ∷ zeros 2 (ahead / 3_600) ∷ decimal (ahead / 3_600) ∷ codes ":" ∷ zeros 2 (ahead / 60 % 60) ∷ decimal (ahead / 60 % 60) ∷ []
 
--- a UTC offset in seconds: `+02:00`, or `+00:53:28` if it isn't a whole number of minutes
+-- the text of a UTC offset that is given in seconds: `+02:00`, or `+00:53:28` if it isn't a whole number of minutes
 unfoldable pub offset_text : ℤ → List ℕ
 offset_text offset =
     let second = unsigned_abs offset % 60 in

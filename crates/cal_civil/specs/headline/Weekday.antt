@@ -7,7 +7,7 @@ use Rattle.jiff_core.specs.declared.civil.weekday.Weekday.TheVariants.{Monday, T
 abbrev pub week : List Weekday
 week = Monday ∷ Tuesday ∷ Wednesday ∷ Thursday ∷ Friday ∷ Saturday ∷ Sunday ∷ []
 
--- the full name
+-- the full English name of a weekday
 unfoldable pub name_of : Weekday → List ℕ
 name_of Monday = codes "Monday"
 name_of Tuesday = codes "Tuesday"
@@ -17,6 +17,6 @@ name_of Friday = codes "Friday"
 name_of Saturday = codes "Saturday"
 name_of Sunday = codes "Sunday"
 
--- the first three letters of the name
+-- the first three letters of a weekday's name
 abbrev pub short_name_of : Weekday → List ℕ
 short_name_of day = take 3 (name_of day)

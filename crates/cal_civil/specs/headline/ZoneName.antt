@@ -4,7 +4,7 @@ use Rattle.std.specs.Char.{is_ascii_alphabetic, is_ascii_alphanumeric, to_ascii_
 use Rattle.std.specs.List.{list_all}
 use Rattle.std.specs.Str.{bytes_eq}
 
--- the bytes of a zone's name: letters, digits, `/`, `_`, `+` and `-`
+-- whether a zone's name may contain a byte: letters, digits, `/`, `_`, `+` and `-`
 abbrev pub is_zone_byte : ℕ → Bool
 is_zone_byte b = is_ascii_alphanumeric b || (b == 47) || (b == 95) || (b == 43) || (b == 45)
 
@@ -12,14 +12,14 @@ abbrev pub begins_with_letter : List ℕ → Bool
 begins_with_letter [] = false
 begins_with_letter (b ∷ bs) = is_ascii_alphabetic b
 
--- the maximum length of a zone's name
+-- the maximum length of a zone's name, in bytes
 abbrev pub most_name_bytes : ℕ
 most_name_bytes = 255
 
--- a letter followed by letters, digits, `/`, `_`, `+` and `-`, up to the maximum length
+-- whether `name` is a letter followed by letters, digits, `/`, `_`, `+` and `-`, and not longer than the maximum length
 unfoldable pub is_zone_name : List ℕ → Bool
 is_zone_name name = begins_with_letter name && list_all is_zone_byte name && nat_le (length name) most_name_bytes
 
--- `UTC`, in any case
+-- whether `name` is `UTC`, ignoring case
 unfoldable pub is_utc_name : List ℕ → Bool
 is_utc_name name = bytes_eq (map to_ascii_lowercase name) (codes "utc")
