@@ -14,17 +14,18 @@ use Rattle.cal_zone.specs.headline.Zone.{local_shown_at}
 use Rattle.cal_zone.proofs.YearLemmas.{year-from_1969, year-to_2200}
 use Rattle.cal_zone.proofs.ZoneLemmas.{offset_at-in_range}
 
--- the day number of a civil time is that of its local second
+-- if a civil time is that of the local second `local`, its day number is the day number of `local`
 pub epoch_day-whole : (dt : DateTime) (local : ℤ) → civil_nanos dt ≡ nanos_of_seconds local → epoch_day dt.date ≡ day_of local
 unfolding civil_nanos
 epoch_day-whole dt local e = omega (arith, signed_arith, dt.time.hour_in, dt.time.minute_in, dt.time.second_in, dt.time.subsec_in)
 
--- the seconds since midnight of a civil time are those of its local second
+-- if a civil time is that of the local second `local`, it is as many seconds after midnight as `local` is
 pub time_seconds-whole : (dt : DateTime) (local : ℤ) → civil_nanos dt ≡ nanos_of_seconds local → time_seconds dt.time ≡ second_of_day local
 unfolding civil_nanos
 time_seconds-whole dt local e = omega (arith, signed_arith, dt.time.hour_in, dt.time.minute_in, dt.time.second_in, dt.time.subsec_in)
 
--- the fields of `jiff`'s civil time are those of `civil_of`
+-- if `dt` is what the zone's clock shows at `second`, the fields of `dt` with the UTC offset at `second` are those of
+-- `civil_of`
 pub civil_at_offset-civil_of : (tz : TimeZone) (second : ℤ) (dt : DateTime) → civil_nanos dt ≡ nanos_of_seconds (local_shown_at tz second)
     → civil_at_offset (offset_at tz (nanos_of_seconds second)) dt ≡ civil_of tz second
 unfolding civil_of

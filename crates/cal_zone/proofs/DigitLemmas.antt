@@ -11,6 +11,7 @@ below_ten n h = grind (arith, signed_arith, decimal_digit)
 from_ten : (n : ℕ) → 10 ≤ n → n < 100 → zeros 2 n ++ decimal n ≡ (48 + n / 10) ∷ (48 + n % 10) ∷ []
 from_ten n from h = rw (decimal_step n from (omega arith), decimal_digit (n / 10) (omega arith)) refl
 
--- padded with zeros to two digits, a number below 100 is its tens and its ones
+-- a number below 100 that is padded with zeros to two digits consists of the digit of its tens and the digit of its
+-- ones
 pub two_digits_are : (n : ℕ) → n < 100 → zeros 2 n ++ decimal n ≡ (48 + n / 10) ∷ (48 + n % 10) ∷ []
 two_digits_are n h = grind (arith, signed_arith, cases_lt, below_ten, from_ten)

@@ -1,7 +1,7 @@
 -- Between two transitions, the UTC offset is constant.
 --
--- A "moment" in these lemmas is a nanosecond at which a POSIX rule starts or ends daylight saving time; its "window" is
--- the two moments of one year.
+-- In these lemmas, `moment` is a nanosecond at which a POSIX rule starts or ends daylight saving time, and `w` is the
+-- pair of the start and the end in one year, in UTC.
 use Rattle.std.proofs.Common.{◌≡◌, ◌∙◌, ◌⊎◌, inl, inr, ◌<◌, ◌≤◌, ℤ, pos, neg_ℤ, ◌+ℤ◌, ◌≤ℤ◌, ◌<ℤ◌, Bool, true, false, if◌then◌else◌, int_le, int_lt, IfSome, Option, None, Some, refl, sym, ap, subst, arith, vec_len}
 use Rattle.std.specs.Int.{int_max}
 use Rattle.std.proofs.lemmas.Bool.{cases_lt, and_from}
@@ -32,12 +32,13 @@ use Rattle.cal_zone.proofs.LocalOffsetRangeLemmas.{floor_second-whole, offset_be
 use Rattle.cal_text.proofs.General.{lt_test, not_lt_test}
 use Rattle.cal_zone.proofs.RuleLemmas.{IsApart, IsBeside, clamped, in_its_year, moment_on, next_after_table, offset_in, ordered_apart, ordered_rises, utc_year, window_apart, window_beside, window_of}
 
--- two times in `low..high` are on the same side of a moment outside this range
+-- if `moment` isn't between `low` and `high`, two times in `low..high` are on the same side of `moment`
 beside_within : (low high moment at other : ℤ) → IsApart low high (pos 0) moment → low ≤ℤ at → at <ℤ high → low ≤ℤ other → other <ℤ high → IsBeside moment at other
 beside_within low high moment at other (inl h) a b c d = grind (arith, signed_arith, le_yes, not_lt_test)
 beside_within low high moment at other (inr h) a b c d = grind (arith, signed_arith, le_no, lt_test)
 
--- the moments that a rule has in a year are in that year
+-- `moment` is in the year from `low` to `high`; the lemmas below show this of the start and the end that a rule has for
+-- daylight saving time in a year
 abbrev pub IsIn : ℤ → ℤ → ℤ → Type 0
 IsIn low high moment = (low ≤ℤ moment) × (moment ≤ℤ high)
 
@@ -66,7 +67,7 @@ pub ordered_in : (low high : ℤ) (w : ℤ × ℤ) (b : Bool) → IsIn low high 
 ordered_in low high w true p q = (p, q)
 ordered_in low high w false p q = (q, p)
 
--- a moment in `jiff`'s range is a transition
+-- if `moment` is in a year in `jiff`'s range of timestamps, the rule has a transition at `moment`
 no_none : (b : Bool) (moment : ℤ × OffsetInfo) → b ≡ true → (if b then Some moment else None) ≡ None → ⊥
 no_none true moment e f = cc
 no_none false moment e f = cc
@@ -75,7 +76,8 @@ transition_some : (rule : Posix) (d : Dst) (w : ℤ × ℤ) (low high moment : �
     → IsIn low high moment → transition_of rule d w moment ≡ None → ⊥
 transition_some rule d w low high moment from to p e = grind (arith, signed_arith, no_none, int_le, and_from, le_yes)
 
--- if there is no later transition, both moments of the year have passed
+-- if the rule has no transition after `low`, neither the start nor the end of daylight saving time in the year `y` (in
+-- ascending order in `o`) is between `low` and `high`
 passed_ends : (rule : Posix) (d : Dst) (y first last low high : ℤ) (o : ℤ × ℤ) → o.0 ≤ℤ o.1 → (a b : Bool) → int_lt low o.0 ≡ a → int_lt low o.1 ≡ b
     → neg_ℤ (pos 377_705_023_201_000_000_000) ≤ℤ first → last ≤ℤ pos 253_402_207_200_999_999_999 → IsIn first last o.0 → IsIn first last o.1
     → (if a then transition_of rule d (utc_window d y rule.std_offset) o.0 else (if b then transition_of rule d (utc_window d y rule.std_offset) o.1 else next_year rule d y)) ≡ None
@@ -90,7 +92,8 @@ lowest = neg_ℤ (pos 377_705_023_201_000_000_000)
 abbrev highest : ℤ
 highest = pos 253_402_207_200_999_999_999
 
--- no moment of the year is between an instant and the next transition after it
+-- if the first transition after `low`, if there is one, is at `high` or later, daylight saving time neither starts nor
+-- ends between `low` and `high` in the year `y`
 window_constant : (rule : Posix) (d : Dst) (y low high : ℤ) (next : Option (ℤ × OffsetInfo)) → next_by rule d y low ≡ next → IfSome next (λ change. high ≤ℤ change.0)
     → first_nanosecond y ≤ℤ last_nanosecond y → lowest ≤ℤ first_nanosecond y → last_nanosecond y ≤ℤ highest
     → IsApart low high (pos 0) (utc_window d y rule.std_offset).0 × IsApart low high (pos 0) (utc_window d y rule.std_offset).1
@@ -106,7 +109,8 @@ not_after : (next : Option (ℤ × OffsetInfo)) (at : ℤ) → IfSome next (λ c
 not_after (Some change) at h = omega (arith, signed_arith)
 not_after None at h = h
 
--- the year of an instant from 1970 to 2200, and its first and last nanosecond
+-- the first nanosecond of a year isn't after the last one; and the year of a second from 0 to 7,258,500,000 is in
+-- `jiff`'s range of timestamps and ends at 7,300,000,000 or earlier
 pub year_order : (y : ℤ) → first_nanosecond y ≤ℤ last_nanosecond y
 year_order y = let long = days_in_year_bounds y in omega (arith, signed_arith)
 
@@ -120,7 +124,8 @@ instant_year from begun bound =
     let long = days_in_year_bounds (date_of (day_of from)).year in
     (omega (arith, signed_arith), omega (arith, signed_arith), omega (arith, signed_arith))
 
--- within one year, the UTC offset of a rule is constant until the next transition
+-- by a rule with daylight saving time, the UTC offset at `second` is that at `from`, if `second` is before the next
+-- transition and before the end of the year of `from`
 constant_in_summer : (rule : Posix) (d : Dst) (from second : ℤ) → rule.dst ≡ Some d → pos 0 ≤ℤ from → from ≤ℤ pos 7_258_500_000 → from ≤ℤ second
     → IsBeforeTransition (next_by rule d (year_of_nanos (nanos_of_seconds from)) (nanos_of_seconds from)) from second
     → ByPosix.offset_at rule (nanos_of_seconds second) ≡ ByPosix.offset_at rule (nanos_of_seconds from)
@@ -155,7 +160,8 @@ constant_by_rule rule from second begun bound later same = elim (no_dst rule.dst
       (subst (λ next. IsBeforeTransition next from second) (ap (λ dst. match_some dst None (λ d. next_by rule d (year_of_nanos (nanos_of_seconds from)) (nanos_of_seconds from))) some.1) same)
 ]
 
--- after the last transition of a table, its POSIX rule decides, if it has one
+-- after the last transition of a table, when the table's POSIX rule decides, if there is one, the UTC offset at
+-- `second` is that at `from`, if `second` is before the next transition and before the end of the year of `from`
 constant_by : (rule : Option Posix) (type : Offset) (from second : ℤ) → pos 0 ≤ℤ from → from ≤ℤ pos 7_258_500_000 → from ≤ℤ second
     → IsBeforeTransition (match_some rule None (λ tz. ByPosix.next_at tz (nanos_of_seconds from))) from second
     → match_some rule type (λ tz. ByPosix.offset_at tz (nanos_of_seconds second)) ≡ match_some rule type (λ tz. ByPosix.offset_at tz (nanos_of_seconds from))
@@ -196,11 +202,13 @@ constant_until_transition (ByTable table) from second begun bound later same = g
 pub max_before : (a b x : ℤ) → x <ℤ int_max a b → a ≤ℤ x → x <ℤ b
 max_before a b x = grind (arith, signed_arith)
 
--- the UTC offset is constant from the start of a range to its end
+-- if `range` has a constant UTC offset and contains `from`, the UTC offset is constant in `from..to`, if `to` isn't
+-- after the end of `range`
 pub constant_within : (tz : TimeZone) (from to : ℤ) (range : InstantOffsetRange) → IsInstantOffsetRangeAt tz from range → to ≤ℤ range.to → HasConstantOffset tz from to
 constant_within tz from to range at within = grind (arith, signed_arith)
 
--- if the next range has the same UTC offset, it is constant to the end of that range
+-- if `next`, a range that contains the end of `range`, has the same constant UTC offset as `range`, which contains
+-- `from`, the UTC offset is constant in `from..to`, if `to` isn't after the end of `next`
 pub constant_over : (tz : TimeZone) (from turn to : ℤ) (range next : InstantOffsetRange) → IsInstantOffsetRangeAt tz from range → turn ≡ range.to → IsInstantOffsetRangeAt tz turn next → to ≤ℤ next.to
     → next.offset.seconds ≡ range.offset.seconds → HasConstantOffset tz from to
 constant_over tz from turn to range next at ends after within same = λ second later before.

@@ -38,7 +38,7 @@ min_in_range x y p q = elim (int_lt y x) as (λ b. IsOffsetSeconds (cond b y x))
 max_in_range : (x y : ℤ) → IsOffsetSeconds x → IsOffsetSeconds y → IsOffsetSeconds (int_max x y)
 max_in_range x y p q = elim (int_lt y x) as (λ b. IsOffsetSeconds (cond b x y)) [ true ↦ p | false ↦ q ]
 
--- the gap or fold of a transition starts and ends at most one UTC offset from the transition
+-- the gap or fold of a transition starts and ends at most 93,599 seconds (the largest UTC offset) from the transition
 start_near : (row : Transition) → IsOffsetSeconds (civil_start row -ℤ row.second)
 start_near row = grind (arith, signed_arith, min_in_range)
 
@@ -54,7 +54,9 @@ pub count_stays : (z : Table) (from second : ℤ) → count_at z from < vec_len 
     → second <ℤ (transition_at z (count_at z from)).second → count_at z second ≡ count_at z from
 count_stays z from second some begun within = grind (arith, signed_arith, prefix_len_is, int_le, le_yes, transition_passed, le_no)
 
--- the count in local time is the same as in UTC, for local seconds more than one UTC offset away from the transitions
+-- if `local` is at least 93,599 seconds (the largest UTC offset) after `from`, and more than 93,599 seconds before the
+-- next transition after `from`, then the number of transitions whose gap or fold has begun by `local` is the count at
+-- `from`
 civil_count_stays : (z : Table) (from local : ℤ) → count_at z from < vec_len z.transitions → (from +ℤ pos 93_599) ≤ℤ local
     → (local +ℤ pos 93_599) <ℤ (transition_at z (count_at z from)).second → civil_count_at z local ≡ count_at z from
 civil_count_stays z from local some begun within =
@@ -64,7 +66,8 @@ civil_count_stays z from local some begun within =
     (λ l. le_no (civil_start (transition_at z (count_at z from))) local
     (let near = start_near (transition_at z (count_at z from)) in omega (arith, signed_arith)))
 
--- such local seconds are not in a gap or a fold
+-- if `local` is at least 93,599 seconds after `from`, it isn't in the gap or fold of the last transition before or at
+-- `from`
 outside_after : (z : Table) (rows : ℕ) (local : ℤ) → (0 < rows → civil_end (transition_at z (rows - 1)) ≤ℤ local) → is_inside z rows local ≡ false
 outside_after z zero local ended = refl
 outside_after z (suc rows) local ended = grind (arith, nat_tests)
@@ -79,7 +82,8 @@ outside z from local begun = outside_after z (count_at z from) local
 pub no_rule : (z : Table) (rows : ℕ) → rows < vec_len z.transitions → rule_after z rows ≡ None
 no_rule z rows some = grind (arith, signed_arith, vec_len)
 
--- the second of an instant that is a whole number of seconds, and that of the civil time of a local second
+-- if a whole number of seconds is rounded down to seconds, it stays the same; and the civil time of a local second,
+-- counted in seconds, is this local second
 pub floor_second-whole : (second : ℤ) → floor_second (nanos_of_seconds second) ≡ second
 floor_second-whole second = omega (arith, signed_arith)
 
@@ -87,7 +91,8 @@ civil_seconds-datetime_of : (local : ℤ) → IsEpochDay (day_of local) → civi
 unfolding civil_seconds datetime_of time_of
 civil_seconds-datetime_of local day = omega (arith, signed_arith, epoch_day-date_of (day_of local) day)
 
--- the UTC offset between two transitions of a table, at an instant and at a civil time
+-- between two transitions of a table, the UTC offset at an instant is that of the earlier transition, and so is the
+-- only UTC offset of a civil time that is farther than 93,599 seconds from both transitions
 pub offset_between : (z : Table) (from second : ℤ) → count_at z from < vec_len z.transitions → from ≤ℤ second
     → second <ℤ (transition_at z (count_at z from)).second
     → OfTable.offset_at z (nanos_of_seconds second) ≡ (type_after z (count_at z from)).offset
@@ -99,7 +104,8 @@ ambiguous_between : (z : Table) (from local : ℤ) → IsEpochDay (day_of local)
 ambiguous_between z from local day some begun within =
     grind (arith, signed_arith, civil_seconds-datetime_of, civil_count_stays, outside, no_rule)
 
--- the place of a local second more than one UTC offset away from the transitions before and after it
+-- if `local` is at least 93,599 seconds after `from`, and more than 93,599 seconds before the next transition after
+-- `from`, then its place is `local` minus the UTC offset at `from`
 pub place_of-between : (z : Table) (from local : ℤ) → IsLocalSecond local → count_at z from < vec_len z.transitions → (from +ℤ pos 93_599) ≤ℤ local
     → (local +ℤ pos 93_599) <ℤ (transition_at z (count_at z from)).second
     → place_of (zone_of_table z) local ≡ Some (local -ℤ (type_after z (count_at z from)).offset.seconds)
@@ -116,7 +122,8 @@ place_of-between z from local within_years some begun within =
 pub length_of_copy : (z : Table) (rows : List Transition) → map transition_text rows ≡ map transition_text z.transitions.items → length rows ≡ vec_len z.transitions
 length_of_copy z rows copy = grind (arith, signed_arith, length-map)
 
--- a transition of a copy has the content of the table's at the same index; functions on a table return such a copy
+-- if `rows` is a copy of a table's transitions, which is what functions on a table return, each transition in `rows`
+-- has the same content as the table's transition with the same index
 pub transition_of_copy : (z : Table) (rows : List Transition) → map transition_text rows ≡ map transition_text z.transitions.items
     → (row : ℕ) (d : Transition) → row < length rows → transition_text (get_or rows row d) ≡ transition_text (transition_at z row)
 transition_of_copy z rows copy row d l =
@@ -140,11 +147,13 @@ count_of_copy z rows copy second count d bound point =
     (λ row l. sym (ap (λ text. int_le text.second second) (transition_of_copy z rows copy row d (omega arith))) ∙ point.0 row d (omega arith) l)
     (λ l. sym (ap (λ text. int_le text.second second) (transition_of_copy z rows copy count d (omega arith))) ∙ point.1 count d (omega arith) (omega arith)))
 
--- the local time type after some transitions is the one that the last of them sets
+-- after the first `rows` transitions of a table, which are at least one, the local time type is the one that the last
+-- of these transitions sets
 pub type_after-last : (z : Table) (rows : ℕ) → 0 < rows → type_after z rows ≡ (transition_at z (rows - 1)).after
 type_after-last z rows some = grind (arith, signed_arith)
 
--- if the clock behaves the same around two local seconds, both have the same distance to their places
+-- if the clock behaves the same around two local seconds, and `other` has a place, then `local` has a place at the same
+-- distance
 pub place_of-same_offsets : (tz : TimeZone) (local other place : ℤ) → HaveSameOffsets tz local other → place_of tz other ≡ Some place → place_of tz local ≡ Some (local -ℤ (other -ℤ place))
 unfolding settle_of
 place_of-same_offsets tz local other place same_offsets placed =
@@ -219,8 +228,8 @@ offset_after_table z from second all begun = grind (arith, signed_arith, floor_s
 pub rule_after_table : (z : Table) → rule_after z (vec_len z.transitions) ≡ z.posix_tz
 rule_after_table z = grind (arith, signed_arith, vec_len)
 
--- if all transitions are more than one UTC offset before `other`, and the clock behaves the same around both local
--- seconds according to the rule, it does so according to the table
+-- if all transitions are at least 93,599 seconds before `other`, and the clock behaves the same around both local
+-- seconds according to the POSIX rule of the table, then it also does so according to the table
 pub same_offsets_after_table : (z : Table) (local other : ℤ) → IsLocalSecond local → IsLocalSecond other → vec_len z.transitions ≤ count_at z (other -ℤ pos 93_599) → other ≤ℤ local
     → HaveSameOffsetsBy z.posix_tz local other → HaveSameOffsets (zone_of_table z) local other
 unfolding offset_at ambiguous_at

@@ -15,7 +15,8 @@ same_offset a b e =
       in_range = is_prop→PathP (λ j. IsOffsetSeconds (e j)) (λ j. hlevel props) a.in_range b.in_range i;
     }
 
--- in `jiff`'s range, the offset of `seconds` has exactly that many seconds
+-- if `seconds` is in `jiff`'s range of UTC offsets, `offset_of_seconds seconds` is the offset of exactly `seconds`
+-- seconds
 pub nearest : (seconds : ℤ) → IsOffsetSeconds seconds → (offset_of_seconds seconds).seconds ≡ seconds
 unfolding offset_of_seconds
 nearest (pos n) h = let least : min n 93_599 ≡ n = omega (arith, signed_arith, h.1) in ap pos least

@@ -14,7 +14,7 @@ use Rattle.cal_civil.proofs.DayLemmas.{epoch_day-date_of}
 use Rattle.cal_zone.proofs.ZoneLemmas.{offset_at-in_range}
 use Rattle.cal_text.proofs.General.{some_by_test, int_eq-other}
 
--- the civil time of a local second is that many seconds after 1970-01-01 00:00:00
+-- the civil time of the local second `local` is `local` seconds after 1970-01-01 00:00:00
 pub civil_nanos-datetime_of : (local : ℤ) → IsEpochDay (day_of local) → civil_nanos (datetime_of local) ≡ nanos_of_seconds local
 unfolding civil_nanos datetime_of time_of
 civil_nanos-datetime_of local h = omega (arith, signed_arith, epoch_day-date_of (day_of local) h)
@@ -32,13 +32,13 @@ pub place_of-UTC : (local : ℤ) → place_of UTC local ≡ Some local
 unfolding place_of
 place_of-UTC local = rw (settle_of-UTC local, local_shown_at-UTC local, (Decides-int_eq local local).1 refl)
 
--- `settle_of` returns the instant that `jiff` picks
+-- `settle_of` is the instant that `jiff`'s compatible conversion picks for the civil time of a local second
 pub picked_instant-settle_of : (tz : TimeZone) (local : ℤ) → IsEpochDay (day_of local) → picked_instant tz (datetime_of local) ≡ nanos_of_seconds (settle_of tz local)
 unfolding settle_of
 picked_instant-settle_of tz local h = omega (arith, signed_arith, civil_nanos-datetime_of local h)
 
--- in a zone with a fixed offset, every civil time has this offset, whether `jiff` holds the zone as UTC (for offset 0)
--- or as a fixed offset
+-- in a zone with a fixed offset, every civil time has this offset, whether `jiff` represents the zone as UTC (for the
+-- offset 0) or as a fixed offset
 picked_by : (o : Offset) (shown : DateTime) (b : Bool) → int_eq o.seconds (pos 0) ≡ b
     → (compatible_offset (ambiguous_at (if b then UTC else Fixed o) shown)).seconds ≡ o.seconds
 unfolding ambiguous_at
@@ -53,12 +53,13 @@ local_shown_at-fixed_zone : (o : Offset) (local : ℤ) → local_shown_at (fixed
 unfolding local_shown_at
 local_shown_at-fixed_zone o local = omega (arith, signed_arith, offset_at-fixed_zone o (nanos_of_seconds (local -ℤ o.seconds)))
 
--- in such a zone, the place of a local second is the local second minus the offset
+-- in a zone with a fixed offset, the place of a local second is the local second minus the offset
 pub place_of-fixed_zone : (o : Offset) (local : ℤ) → place_of (fixed_zone o) local ≡ Some (local -ℤ o.seconds)
 unfolding place_of
 place_of-fixed_zone o local = rw (settle_of-fixed_zone o local, local_shown_at-fixed_zone o local, (Decides-int_eq local local).1 refl)
 
--- the instant that `jiff` picks for the civil time of a local second is `settle_of` of that local second
+-- if `shown` is the civil time of `local`, and `offsets` is what `jiff` reports for it, then the instant of `shown` at
+-- the offset that `jiff`'s compatible conversion picks is `settle_of` of `local`
 pub instant_of-settled : (tz : TimeZone) (offsets : AmbiguousOffset) (shown : DateTime) (local : ℤ) → IsEpochDay (day_of local)
     → shown ≡ datetime_of local → offsets ≡ ambiguous_at tz shown → instant_of shown (compatible_offset offsets) ≡ nanos_of_seconds (settle_of tz local)
 unfolding settle_of
@@ -67,12 +68,12 @@ instant_of-settled tz offsets shown local day e f =
     let same = ap (λ o. (compatible_offset o).seconds) (f ∙ ap (ambiguous_at tz) e) in
     omega (arith, signed_arith)
 
--- a local second is converted to an instant at most 25:59:59 from it
+-- a local second is converted to a second of Unix time that differs from it by at most 25:59:59
 pub settle_of-near : (tz : TimeZone) (local : ℤ) → IsOffsetSeconds (local -ℤ settle_of tz local)
 unfolding settle_of
 settle_of-near tz local = grind (arith, signed_arith)
 
--- if the clock shows the local second at the instant that it is converted to, this is its place
+-- if the clock shows a local second at the instant that the local second is converted to, this instant is its place
 pub place_of-shown : (tz : TimeZone) (local second : ℤ) → second ≡ settle_of tz local → local_shown_at tz second ≡ local → place_of tz local ≡ Some second
 unfolding place_of
 place_of-shown tz local second settled shown = grind (arith, signed_arith, Decides-int_eq)
@@ -81,7 +82,7 @@ pub place_of-skipped : (tz : TimeZone) (local second : ℤ) → second ≡ settl
 unfolding place_of
 place_of-skipped tz local second settled skipped = grind (arith, signed_arith, int_eq-other)
 
--- if a local second has a place, it is converted to this place, and the clock shows it there
+-- if a local second has a place, it is converted to this place, and the clock shows the local second at this instant
 pub place_of-Some : (tz : TimeZone) (local place : ℤ) → place_of tz local ≡ Some place → (settle_of tz local ≡ place) × (local_shown_at tz place ≡ local)
 unfolding place_of
 place_of-Some tz local place e = grind (arith, signed_arith, some_by_test, Decides-int_eq)
@@ -99,7 +100,7 @@ one_local_second tz a b place e f = sym (place_of-Some tz a place e).1 ∙ (plac
 same_where : (a b c d : ℤ) → (a ≡ b → c ≡ d) → (c ≡ d → a ≡ b) → int_eq a b ≡ int_eq c d
 same_where a b c d to from = grind (arith, ints)
 
--- the place of a local second follows from the one offset that `jiff`'s compatible conversion tries
+-- the place of a local second stays the same if only the offset that `jiff`'s compatible conversion picks is tried
 pub place_of-tried : (tz : TimeZone) (local : ℤ) (offsets : AmbiguousOffset) → ambiguous_at tz (datetime_of local) ≡ offsets
     → place_of tz local ≡ place_at tz local (compatible_offset offsets)
 unfolding place_of place_at settle_of local_shown_at

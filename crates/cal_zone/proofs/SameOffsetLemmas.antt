@@ -1,8 +1,8 @@
 -- From one transition of a POSIX rule to the next, local times are converted with the same UTC offset, also across a
 -- new year.
 --
--- A "moment" in these lemmas is a nanosecond at which a rule starts or ends daylight saving time. Its "window" is the
--- two moments of one year, in UTC.
+-- In these lemmas, `moment` is a nanosecond at which a POSIX rule starts or ends daylight saving time, and `w` is the
+-- pair of the start and the end in one year, in UTC.
 use Rattle.std.proofs.Common.{◌≡◌, ◌∙◌, inl, inr, ◌≤◌, ℤ, pos, ◌+ℤ◌, ◌-ℤ◌, ◌≤ℤ◌, ◌<ℤ◌, Bool, true, false, ◌&&◌, if◌then◌else◌, int_le, int_lt, Option, None, Some, refl, sym, ap, subst, arith, vec_len}
 use Rattle.std.proofs.lemmas.Bool.{and_parts}
 use borrow.Author.Differences.{le-false}
@@ -31,8 +31,8 @@ use Rattle.cal_zone.proofs.PlaceLemmas.{civil_nanos-datetime_of}
 use Rattle.cal_zone.proofs.LocalOffsetRangeLemmas.{HaveSameOffsetsBy, same_offsets_after_table, count_after_table, offset_after_table, rule_after_table}
 use Rattle.cal_zone.proofs.RuleLemmas.{IsApart, IsPart, ambiguous_beside, ambiguous_in, far, in_its_year, moments_apart, next_after_table, next_found, of_the_year, transition_at_moment, utc_year, walls_beside, window_apart, window_of, year_begun, year_goes_on}
 
--- if the moments of a year are far enough from two local seconds of that year, their civil times are ambiguous in the
--- same way, or not at all
+-- if two local seconds are in the same year, and daylight saving time starts and ends far enough from both in this
+-- year, then `jiff` reports the same for their civil times: unambiguous, in a gap or in a fold, with the same offsets
 civil_apart : (rule : Posix) (d : Dst) (y low high local other : ℤ) → rule.dst ≡ Some d → IsLocalSecond local → IsEpochDay (day_of other)
     → (datetime_of local).date.year ≡ y → (datetime_of other).date.year ≡ y → civil_min ≤ℤ low → high ≤ℤ civil_max
     → IsApart low high (pos 0) (rule_nanos y d.rule.start rule.std_offset.seconds) → IsApart low high (pos 93_599_000_000_000) (rule_nanos y d.rule.end d.offset.seconds)
@@ -47,8 +47,9 @@ civil_apart rule d y low high local other has years other_in year other_year fro
     ∙ ambiguous_beside rule.std_offset d.offset _ (nanos_of_seconds local) (nanos_of_seconds other) walls
     ∙ sym (ambiguous_in rule.std_offset rule.dst d (datetime_of other) y (nanos_of_seconds other) has other_year (civil_nanos-datetime_of other other_in))
 
--- the civil times of two local seconds in the year of `past`, before the first transition after `past`, are ambiguous
--- in the same way, or not at all
+-- if `other` is 374,397 seconds after `past`, and `local` isn't before `other`, is in the year of `past` and is at
+-- least 374,397 seconds before the first transition after `past`, then `jiff` reports the same for their civil times:
+-- unambiguous, in a gap or in a fold, with the same offsets
 civil_in_year : (rule : Posix) (d : Dst) (past other local : ℤ) (next : ℤ × OffsetInfo) → rule.dst ≡ Some d → next_by rule d (datetime_of past).date.year (nanos_of_seconds past) ≡ Some next
     → pos 0 ≤ℤ past → (past +ℤ pos 374_397) ≡ other → other ≤ℤ local → IsLocalSecond local → nanos_of_seconds (local +ℤ pos 374_397) ≤ℤ next.0
     → local <ℤ year_end (datetime_of past).date.year → ambiguous_at (ByRule rule) (datetime_of local) ≡ ambiguous_at (ByRule rule) (datetime_of other)
@@ -74,7 +75,8 @@ civil_in_year rule d past other local next has e from begun later years before_n
     (year_goes_on past other past_in other_in (omega (arith, signed_arith)) (omega (arith, signed_arith)))
     part.civil_from part.civil_to moments.0 moments.1 (omega (arith, signed_arith)) later (omega (arith, signed_arith))
 
--- if the first transition after an instant is after the instant's year, it is the first of the next year
+-- if the first transition after `low`, an instant in the year `y`, is later than the start and the end of daylight
+-- saving time in this year (in ascending order in `o`), it is the first transition of the next year
 next_in_next_year : (rule : Posix) (d : Dst) (y low : ℤ) (next : ℤ × OffsetInfo) (o : ℤ × ℤ) (a b : Bool) → o.0 <ℤ next.0 → o.1 <ℤ next.0 → int_lt low o.0 ≡ a → int_lt low o.1 ≡ b
     → (if a then transition_of rule d (utc_window d y rule.std_offset) o.0 else (if b then transition_of rule d (utc_window d y rule.std_offset) o.1 else next_year rule d y)) ≡ Some next
     → next_year rule d y ≡ Some next
@@ -87,12 +89,13 @@ of_next_year : (rule : Posix) (d : Dst) (y : ℤ) (next : ℤ × OffsetInfo) (b 
 of_next_year rule d y next true e g = absurd (cc)
 of_next_year rule d y next false e g = let under = le-false (pos 9999) y e in (omega (arith, signed_arith), g)
 
--- a time not later than the earlier moment of a window is not later than either of them
+-- if `high` isn't later than the earlier of the start and the end of daylight saving time in a year, it isn't later
+-- than either of them
 ordered_above : (high : ℤ) (w : ℤ × ℤ) → high ≤ℤ (ordered w).0 → (high ≤ℤ w.0) × (high ≤ℤ w.1)
 ordered_above high w = grind (arith, signed_arith, int_le)
 
--- if both ends of a window are after the start of the year, they are the moments of the rule: daylight saving time
--- doesn't last all year
+-- if `high` is after the start of the year, and not after the start and the end of daylight saving time by
+-- `utc_window`, then it isn't after those by the rule: daylight saving time doesn't last all year
 parts_above : (high first last start end : ℤ) (some b : Bool) → first <ℤ high → (int_same start first && some) ≡ b → high ≤ℤ (window_of b start last end).0 → high ≤ℤ (window_of b start last end).1
     → (high ≤ℤ start) × (high ≤ℤ end)
 parts_above high first last start end some true above e p q = grind (arith, signed_arith, and_parts)
@@ -104,7 +107,7 @@ unfolding utc_window
 moments_above d y std high above p q =
     parts_above high (first_nanosecond y) (last_nanosecond y) (rule_nanos y d.rule.start std.seconds) (rule_nanos y d.rule.end d.offset.seconds) _ _ above refl p q
 
--- a year starts where the year before it ends
+-- the year after `y` starts when the year `y` ends
 next_first : (y : ℤ) → IsYear y → first_nanosecond (y +ℤ pos 1) ≡ nanos_of_seconds (year_end y)
 next_first y year =
     let next = day_count-next_year y (y +ℤ pos 1) (omega (arith, signed_arith)) refl in
@@ -118,8 +121,9 @@ year_comes y second year under second_in begun before =
     let day = epoch_day-date_of (day_of second) second_in in
     of_the_year (date_of (day_of second)) (y +ℤ pos 1) (omega (arith, signed_arith), omega (arith, signed_arith)) (omega (arith, signed_arith)) (omega (arith, signed_arith))
 
--- the civil times of two local seconds in the year after that of `past`, before the first transition of that year, are
--- ambiguous in the same way, or not at all
+-- if `other` is 374,397 seconds after `past`, in the next year, and `local` isn't before `other` and is at least
+-- 374,397 seconds before the first transition after `past`, then `jiff` reports the same for their civil times:
+-- unambiguous, in a gap or in a fold, with the same offsets
 civil_in_next_year : (rule : Posix) (d : Dst) (past other local : ℤ) (next : ℤ × OffsetInfo) → rule.dst ≡ Some d → next_by rule d (datetime_of past).date.year (nanos_of_seconds past) ≡ Some next
     → pos 0 ≤ℤ past → (past +ℤ pos 374_397) ≡ other → other ≤ℤ local → IsLocalSecond local → nanos_of_seconds (local +ℤ pos 374_397) ≤ℤ next.0
     → year_end (datetime_of past).date.year ≤ℤ other → ambiguous_at (ByRule rule) (datetime_of local) ≡ ambiguous_at (ByRule rule) (datetime_of other)
@@ -158,8 +162,9 @@ year_not_over past past_in =
     let day = epoch_day-date_of (day_of past) past_in in
     omega (arith, signed_arith)
 
--- between a local second and the first transition after an instant that is 374,397 seconds earlier, the clock behaves
--- the same
+-- if `other` is 374,397 seconds after `past`, and `local` isn't before `other` and is far enough before the first
+-- transition after `past`, and the UTC offset is constant from `past` until more than 93,599 seconds after `local`,
+-- then the clock behaves the same around `local` and `other`
 pub same_offsets_by_next : (rule : Posix) (past other local constant_until : ℤ) → IsClearOfTransition (ByPosix.next_at rule (nanos_of_seconds past)) past local → HasConstantOffset (ByRule rule) past constant_until
     → (past +ℤ pos 374_397) ≡ other → other ≤ℤ local → IsLocalSecond local → (local +ℤ pos 93_599) <ℤ constant_until → HaveSameOffsets (ByRule rule) local other
 same_offsets_by_next rule past other local constant_until clear same from later years before_until =

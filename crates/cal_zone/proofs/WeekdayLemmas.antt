@@ -16,7 +16,7 @@ in_week Friday = refl
 in_week Saturday = refl
 in_week Sunday = refl
 
--- the name by number is the name of the weekday
+-- if `n` is the number of a weekday, where 1 is Monday, then `weekday_name n` is the short name of this weekday
 pub numbered : (day : Weekday) (n : ℕ) → monday_zero day ≡ n - 1 → short_name_of day ≡ weekday_name n
 unfolding weekday_name
 numbered day n e = ap short_name_of (in_week day) ∙ ap (λ k. short_name_of (slice_index_or week k Sunday)) e

@@ -39,19 +39,19 @@ last_of_2199 = record { year = pos 2199; month = 12; day = 31; year_in = search 
 last_of_2200 : Date
 last_of_2200 = record { year = pos 2200; month = 12; day = 31; year_in = search rules; month_in = search rules; day_in = search rules }
 
--- days from number 0 on are in 1970 or later
+-- a date whose day number is at least 0 is in 1970 or later
 pub year-from_1970 : (d : Date) → pos 0 ≤ℤ epoch_day d → pos 1970 ≤ℤ d.year
 unfolding first_of_1970
 year-from_1970 d h =
     by_lt_z d.year (pos 1970) (λ lt. absurd (omega (arith, signed_arith, days_from_civil-1970, epoch_day-lt d first_of_1970 (inl lt)))) (λ ge. ge)
 
--- days from number -365 on are in 1969 or later
+-- a date whose day number is at least -365 is in 1969 or later
 pub year-from_1969 : (d : Date) → negsuc 364 ≤ℤ epoch_day d → pos 1969 ≤ℤ d.year
 unfolding first_of_1969
 year-from_1969 d h =
     by_lt_z d.year (pos 1969) (λ lt. absurd (omega (arith, signed_arith, days_from_civil-1969, epoch_day-lt d first_of_1969 (inl lt)))) (λ ge. ge)
 
--- days up to number 84,005 are in 2199 or earlier
+-- a date whose day number is at most 84,005 is in 2199 or earlier
 pub year-to_2199 : (d : Date) → epoch_day d ≤ℤ pos 84_005 → d.year ≤ℤ pos 2199
 unfolding last_of_2199
 year-to_2199 d h =
@@ -84,7 +84,7 @@ first_of_2200 = record { year = pos 2200; month = 1; day = 1; year_in = search r
 last_of_1969 : Date
 last_of_1969 = record { year = pos 1969; month = 12; day = 31; year_in = search rules; month_in = search rules; day_in = search rules }
 
--- the days of the years 1970 to 2199 have the numbers 0 to 84,005
+-- the dates of the years 1970 to 2199 have the day numbers 0 to 84,005
 pub day_of_year : (d : Date) → IsBetween (pos 1970) (pos 2199) d.year → IsBetween (pos 0) (pos 84_005) (epoch_day d)
 unfolding first_of_2200 last_of_1969
 day_of_year d (from, to) =

@@ -6,7 +6,7 @@ use Rattle.jiff.specs.Words.{weekday_of, IsBetween, IsOffsetSeconds}
 use Rattle.cal_zone.specs.declared.civil_fields.Civil.{Civil}
 use Rattle.cal_civil.specs.headline.Local.{hour_of, minute_of, second_of}
 
--- a date and time of day with a UTC offset
+-- the fields of a date and time of day of `jiff`, with a UTC offset; weekday 1 is Monday
 abbrev pub civil_at_offset : ℤ → DateTime → Civil
 civil_at_offset offset shown = record {
   year = shown.date.year;
@@ -19,7 +19,7 @@ civil_at_offset offset shown = record {
   offset = offset;
 }
 
--- the ranges of the fields at an instant
+-- the fields are in the ranges that they have at every instant
 pub record IsCivil (shown : Civil) : Type 0 where
   pub year : IsBetween (pos 1969) (pos 2200) shown.year
   pub month : IsInRange 1 12 shown.month
@@ -30,7 +30,7 @@ pub record IsCivil (shown : Civil) : Type 0 where
   pub second : shown.second ≤ 59
   pub offset : IsOffsetSeconds shown.offset
 
--- the same day at another time, which is given in seconds since midnight
+-- the same day and UTC offset as in `c`, at the time `second` seconds after midnight
 abbrev pub at_second : Civil → ℕ → Civil
 at_second c second = record {
   year = c.year;

@@ -7,7 +7,7 @@ use Rattle.cal_civil.specs.headline.Local.{hour_of, minute_of, second_of}
 use Rattle.cal_zone.specs.declared.formatted_day.FormattedDay.{FormattedDay}
 use Rattle.cal_zone.specs.declared.zone.Zone.{Zone}
 
--- the text of a cached day at `second` seconds after midnight: the day, the time and the zone
+-- the text that is printed for the time `second` seconds after midnight of a cached day: the day, the time and the zone
 abbrev pub text_after : FormattedDay → ℕ → List ℕ
 text_after day second =
     joined (day.day.items ∷ time_text (hour_of second) (minute_of second) (second_of second) ∷ day.word.items ∷ [])
@@ -15,17 +15,19 @@ text_after day second =
 abbrev pub text_on : FormattedDay → ℤ → List ℕ
 text_on day second = text_after day (unsigned_abs (second -ℤ day.midnight))
 
--- the parts of a cached day are short enough that the whole text fits
+-- the cached texts of a day are short enough that, with the time between them, they fit the 84 bytes of a printed
+-- instant
 pub record HasShortTexts (day : FormattedDay) : Type 0 where
   pub date : length day.day.items ≤ 26
   pub word : length day.word.items ≤ 41
 
--- `second` is on the cached day, and its text follows from the cached parts
+-- `second` is on the cached day, and is printed with the cached texts of this day
 pub record IsOnDay (zone : Zone) (day : FormattedDay) (second : ℤ) : Type 0 where
   pub since_midnight : IsBetween (pos 0) (pos 86_399) (second -ℤ day.midnight)
   pub text : instant_text zone second ≡ text_on day second
 
--- the cached day is right: every instant of its range is on it
+-- a cached day is correct: every instant of its range is on this day and is printed with the day's texts, which are
+-- short
 pub record IsFormattedDay (zone : Zone) (day : FormattedDay) : Type 0 where
   pub each : (second : ℤ) → day.from ≤ℤ second → second <ℤ day.to → IsOnDay zone day second
   pub short : HasShortTexts day

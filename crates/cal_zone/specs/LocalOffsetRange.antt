@@ -28,31 +28,33 @@ pub record IsLocalOffsetRangeAt (tz : TimeZone) (local : ℤ) (range : LocalOffs
   pub within : local <ℤ range.to
   pub constant_offset : IsLocalOffsetRange tz range
 
--- the table has a transition with this index, and it is at this second
+-- the table has a transition with the index `index`, and this transition is at `second`
 abbrev pub IsTransitionSecond : Table → ℕ → ℤ → Type 0
 IsTransitionSecond table index second = (index < vec_len table.transitions) × (second ≡ (transition_at table index).second)
 
 -- the clock behaves the same around both local seconds: their civil times are both unambiguous, both in a gap or both
--- in a fold, with the same offsets; and instants equally far from them have the same UTC offset
+-- in a fold, with the same offsets; and for each offset that is subtracted from both local seconds, the zone has the
+-- same UTC offset at the two instants
 pub record HaveSameOffsets (tz : TimeZone) (local other : ℤ) : Type 0 where
   pub civil : ambiguous_at tz (datetime_of local) ≡ ambiguous_at tz (datetime_of other)
   pub instants : (offset : Offset) → offset_at tz (nanos_of_seconds (local -ℤ offset.seconds)) ≡ offset_at tz (nanos_of_seconds (other -ℤ offset.seconds))
 
--- the clock behaves the same from the local second `from` on, before `to`
+-- the clock behaves the same around every local second in `from..to` as around `from`
 abbrev pub HaveSameOffsetsUntil : TimeZone → ℤ → ℤ → Type 0
 HaveSameOffsetsUntil tz from to = (local : ℤ) → IsLocalSecond local → from ≤ℤ local → local <ℤ to → HaveSameOffsets tz local from
 
--- the first second of the next year, in UTC
+-- the first second of the year after `year`, in UTC
 abbrev pub year_end : ℤ → ℤ
 year_end year = (first_day year +ℤ pos (days_in_year year)) *ℤ pos 86_400
 
--- the UTC offset is constant from `from` on, before `to`
+-- the zone has the same UTC offset at every second of Unix time in `from..to`
 abbrev pub HasConstantOffset : TimeZone → ℤ → ℤ → Type 0
 HasConstantOffset tz from to =
     (second : ℤ) → from ≤ℤ second → second <ℤ to → offset_at tz (nanos_of_seconds second) ≡ offset_at tz (nanos_of_seconds from)
 
--- the first transition after the instant `past` is at least 374,397 seconds (four times the largest UTC offset, and one
--- second) after `local`; and `local` is in the year of `past`, or 374,397 seconds after `past` that year is over
+-- `next`, the first transition after the instant `past`, is at least 374,397 seconds (four times the largest UTC
+-- offset, and one second) after `local`; and `local` is before the end of the year of `past`, or this year ends at most
+-- 374,397 seconds after `past`
 pub record IsClearOfTransition (next : Option (ℤ × OffsetInfo)) (past local : ℤ) : Type 0 where
   pub change : ℤ × OffsetInfo
   pub is : next ≡ Some change

@@ -4,7 +4,8 @@ use Rattle.std.specs.Ordering.{int_eq}
 use Rattle.jiff.specs.Types.{Offset, TimeZone}
 use Rattle.jiff.specs.Words.{nanos_of_seconds, offset_at}
 
--- the instant that a local second has at this offset, if the zone really has this offset at that instant
+-- `local` minus the offset as a second of Unix time, if the zone really has this UTC offset at this second, or else
+-- `None`
 unfoldable pub place_at : TimeZone → ℤ → Offset → Option ℤ
 place_at tz local offset =
     let second = local -ℤ offset.seconds in

@@ -11,7 +11,7 @@ use Rattle.cal_zone.specs.declared.zone_fault.ZoneFault.TheVariants.{BadName, Ba
 abbrev pub file_limit : ℕ
 file_limit = 1_048_576
 
--- the zone is what `jiff` parses from the bytes; only tables are parsed from files
+-- the zone is what `jiff` parses from `bytes`, the content of a zone file, and so is always a table
 abbrev pub IsReadFrom : List ℕ → TimeZone → Type 0
 IsReadFrom bytes UTC = ⊥
 IsReadFrom bytes Unknown = ⊥
@@ -19,12 +19,12 @@ IsReadFrom bytes (Fixed offset) = ⊥
 IsReadFrom bytes (Posix rule) = ⊥
 IsReadFrom bytes (Tzif table) = (read_tzif bytes ≡ Ok (tzif_view table.now)) × RuleAgrees table.now
 
--- a file that is parsed: its name is valid and it isn't too large
+-- a file that isn't rejected before it is parsed: the zone's name is valid and the file isn't too large
 pub record IsReadable (name bytes : List ℕ) : Type 0 where
   pub named : is_zone_name name ≡ true
   pub fits : length bytes ≤ file_limit
 
--- `zone` is the zone of the file
+-- `zone` is the zone in the file with these bytes, for a zone that is named `name`
 abbrev pub IsFileZone : List ℕ → List ℕ → TimeZone → Type 0
 IsFileZone name bytes zone = IsReadable name bytes × IsReadFrom bytes zone
 

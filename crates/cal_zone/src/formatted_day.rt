@@ -16,7 +16,8 @@ use cal_civil::DAY;
 
 /// The instants `from..to`, all on one day of a zone's clock and at one UTC offset.
 ///
-/// The text of each of them is `day`, the time since `midnight`, and `word`, which is the zone.
+/// The text of each of these instants is `day` (weekday and date), the time of day (the seconds since `midnight`) and
+/// `word` (the zone).
 #[derive(Drop)]
 pub(crate) struct FormattedDay {
     pub(crate) from: i64,
@@ -42,8 +43,8 @@ impl FormattedDay {
         }
     }
 
-    /// Returns the day of the zone's clock that contains `instant`, limited to `range`, in which the UTC offset is
-    /// known to be constant.
+    /// Returns the day of the zone's clock that contains `instant`, limited to `range`: a range with a constant UTC
+    /// offset that contains `instant`.
     pub(crate) fn of(zone: Zone, range: InstantOffsetRange, instant: Instant) -> FormattedDay
         requires { IsInstantOffsetRangeAt (zone_of zone) instant.secs range }
         ensures day { IsFormattedDay zone.entry result }
@@ -65,7 +66,7 @@ impl FormattedDay {
         }
     }
 
-    /// Appends the text of an instant of this day.
+    /// Appends the text of `second`, an instant of this day: at most 84 bytes.
     pub(crate) fn push(&self, text: &mut ShortText, second: i64)
         requires short { HasShortTexts self.now }
         requires day { IsBetween (pos 0) (pos 86_399) (second -ℤ self.now.midnight) }

@@ -50,8 +50,8 @@ fn all_instants(offset: Offset) -> InstantOffsetRange
     }
 }
 
-/// Returns the range with a constant UTC offset that starts at `instant`. It ends at the next transition, and at the
-/// latest with the year, in UTC.
+/// Returns the range with a constant UTC offset that starts at `instant`. It ends at the next transition or at the end
+/// of the year in UTC, whichever is earlier.
 fn instant_range_by_rules(rules: &Rules, instant: Instant) -> InstantOffsetRange
     ensures { IsInstantOffsetRangeAt rules.now instant.secs result }
 {
@@ -68,11 +68,11 @@ fn instant_range_by_rules(rules: &Rules, instant: Instant) -> InstantOffsetRange
     }
 }
 
-/// Returns an instant before which the UTC offset stays what it is at `from`.
+/// Returns the end of a range of instants that starts at `from` and has a constant UTC offset.
 ///
-/// A range by the rules ends with the year even if there is no transition. So if the next range has the same offset,
-/// the result is the end of that one. Returns `from` itself, for an empty range, near the end of the supported
-/// instants.
+/// [`instant_range_by_rules`] ends a range with the year even if there is no transition. So if the range at `from` is
+/// followed by a range with the same offset that ends at a supported instant, the end of the second range is returned.
+/// Returns `from`, so that the result is an empty range, if the range at `from` ends after the last supported instant.
 pub(crate) fn constant_offset_until(rules: &Rules, from: Instant) -> Instant
     ensures { HasConstantOffset rules.now from.secs result.secs }
 {
@@ -87,8 +87,8 @@ pub(crate) fn constant_offset_until(rules: &Rules, from: Instant) -> Instant
     }
 }
 
-/// Returns the end of the range that starts at `second` and has a constant UTC offset, given the zone's next
-/// transition.
+/// Returns the end of the range that starts at `second` and has a constant UTC offset, given the zone's first
+/// transition after `second`, if there is one.
 fn instant_range_end(next: Option<Transition>, second: i64) -> i64
     requires { CanSettle second }
     ensures { IsBeforeTransitionUntil (option_map transition_view next) second result }

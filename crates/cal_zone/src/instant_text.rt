@@ -1,4 +1,4 @@
-//! The text of instants.
+//! Instants as they are printed.
 
 ghost use Rattle.std.specs.Prelude.{◌≡◌, ◌+◌, ◌<◌, ◌≤◌, decimal, ◌++◌, false, length};
 ghost use Rattle.std.specs.Int.{IsInRange};

@@ -35,8 +35,9 @@ pub fn local_seconds_are_counted()
         × ((epoch_day date *ℤ pos 86_400 +ℤ pos second) <ℤ pos seconds_in_all) }
 {}
 
-/// The civil time of a local second is that many seconds after 1970-01-01 00:00:00, and `settle_of` is the instant that
-/// `jiff`'s compatible conversion picks for this civil time. In UTC, the place of a local second is the same number.
+/// The civil time of the local second `local` is `local` seconds after 1970-01-01 00:00:00, and `settle_of` is the
+/// instant that `jiff`'s compatible conversion picks for this civil time. In UTC, the place of `local` is the same
+/// number, `local`.
 pub fn places_are_those_of_jiff()
     ensures civil { (local : ℤ) → IsEpochDay (day_of local)
         → civil_nanos (datetime_of local) ≡ nanos_of_seconds local }
@@ -67,9 +68,9 @@ pub fn places_are_of_one_local_second()
 /// How the place of a local second follows from what `jiff` reports of its civil time: that it occurs once, is in a
 /// gap, or is in a fold.
 ///
-/// Only one UTC offset is tried: the only one, or the one before the transition. So in a fold, the place is the first
-/// occurrence or none. In a gap there is no place, unless the zone really has the earlier offset at the instant that is
-/// tried.
+/// Only one UTC offset is tried: the only offset that `jiff` reports, or for a gap or a fold the offset before the
+/// transition. So in a fold, the place is the first occurrence, or there is no place. In a gap there is no place,
+/// unless the zone really has the offset before the transition at the instant that this offset yields.
 pub fn places_by_the_offset_tried()
     ensures once { (tz : TimeZone) (local : ℤ) (offset : Offset)
         → ambiguous_at tz (datetime_of local) ≡ Unambiguous offset → place_of tz local ≡ place_at tz local offset }
@@ -93,7 +94,8 @@ pub fn fixed_zones_place_every_local_second()
         → settle_of (fixed_zone offset) local ≡ local -ℤ offset.seconds }
 {}
 
-/// A zone that was added to a table is found under its name, and look-ups of every other name are unchanged.
+/// A zone that was added to a table under a name other than `UTC` (ignoring case) is found under this name. Look-ups of
+/// every name but the added one are unchanged.
 pub fn tables_change_at_one_name()
     ensures here { (table : ZoneMap) (name : List ℕ) (zone : TimeZone) → is_utc_name name ≡ false
         → zone_named (insert table name zone) name ≡ Some zone }
@@ -101,9 +103,9 @@ pub fn tables_change_at_one_name()
         → zone_named (insert table name zone) other ≡ zone_named table other }
 {}
 
-/// A word is an offset if and only if it is a sign, two digits of hours, a colon and two digits of minutes
-/// (systemd.time(7), Calendar Events and Parsing Timestamps), and no word stands for two offsets. An offset of whole
-/// minutes, up to 25:59, is printed as a word that is parsed as the same offset.
+/// A word is an offset if and only if it is a sign, two digits of hours from 00 to 25, a colon and two digits of
+/// minutes from 00 to 59 (systemd.time(7), Calendar Events and Parsing Timestamps), and no word stands for two offsets.
+/// An offset of whole minutes, up to 25:59, is printed as a word that is parsed as the same offset.
 pub fn one_offset_word()
     ensures found { (word : List ℕ) (seconds : ℤ) → offset_in word ≡ Some seconds → IsOffsetWord word seconds }
     ensures only { (word : List ℕ) (seconds : ℤ) → IsOffsetWord word seconds → offset_in word ≡ Some seconds }

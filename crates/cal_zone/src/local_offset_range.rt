@@ -26,8 +26,8 @@ use jiff_tz::{TimeZone, Transition, posix, tzif};
 /// second.
 const MAX_OFFSET: i64 = 93_599;
 
-/// How far a range stays away from the transitions of a POSIX rule. A rule fixes a transition in UTC, while gap and
-/// fold are in local time; the two can be up to four offsets apart.
+/// How many seconds a range stays away from the transitions of a POSIX rule. A rule fixes a transition in UTC, while
+/// gap and fold are in local time; the two can be up to four offsets apart.
 pub(crate) const TRANSITION_MARGIN: i64 = 4 * MAX_OFFSET + 1;
 
 /// The local seconds `from..to`, all at the same UTC offset in seconds.
@@ -66,8 +66,8 @@ fn all_local_seconds(offset: i64) -> LocalOffsetRange
 /// Returns the range with a constant UTC offset that starts at `local`, by the transitions of a zone file's table.
 ///
 /// It ends [`MAX_OFFSET`] before the next transition, since that transition can affect local seconds up to one offset
-/// earlier. Returns `None` if `local` is already that close, or if no transition follows: from there on the file's
-/// POSIX rule decides, if it has one.
+/// earlier. Returns `None` if `local` is already that close to the transition, or if no transition follows: from there
+/// on the file's POSIX rule decides, if it has one.
 pub(crate) fn local_range_in_table(table: &Tzif, local: i64) -> Option<LocalOffsetRange>
     requires { IsLocalSecond local }
     ensures { IfSome result (IsLocalOffsetRangeAt (zone_of_table table.now) local) }
@@ -84,8 +84,9 @@ pub(crate) fn local_range_in_table(table: &Tzif, local: i64) -> Option<LocalOffs
     })
 }
 
-/// Returns the end of a range that starts at `local` in which a table's clock doesn't change, if the last transition of
-/// the table is at least [`TRANSITION_MARGIN`] before `local`. Returns `local`, for an empty range, if it isn't.
+/// Returns the end of a range of local seconds that starts at `local` and in which the UTC offsets of a table don't
+/// change, if the last transition of the table is at least [`TRANSITION_MARGIN`] before `local`. Otherwise returns
+/// `local`, so that the range is empty.
 ///
 /// After the last transition the table's POSIX rule decides. If there is no such rule, or it has no daylight saving
 /// time, the range extends to [`LOCAL_END`]. The caller guarantees a constant UTC offset from [`TRANSITION_MARGIN`]
@@ -109,8 +110,8 @@ pub(crate) fn range_end_after_table(table: &Tzif, local: i64, constant_until: In
     }
 }
 
-/// Returns the end of a range that starts at `local` in which the clock of a zone doesn't change, if the zone is a
-/// POSIX rule. Returns `local`, for an empty range, for every other zone.
+/// Returns the end of a range of local seconds that starts at `local` and in which the UTC offsets of a zone don't
+/// change, if the zone is a POSIX rule. For every other zone, returns `local`, so that the range is empty.
 ///
 /// The caller guarantees a constant UTC offset from [`TRANSITION_MARGIN`] before `local` until `constant_until`.
 pub(crate) fn range_end_in_zone(zone: TimeZone<'_>, local: i64, constant_until: Instant) -> i64
@@ -124,7 +125,7 @@ pub(crate) fn range_end_in_zone(zone: TimeZone<'_>, local: i64, constant_until: 
     }
 }
 
-/// Like [`range_end_in_zone`], for the rule itself.
+/// Like [`range_end_in_zone`], for a POSIX rule.
 fn range_end_by_rule(rule: posix::TimeZone, local: i64, constant_until: Instant) -> i64
     requires local_in { IsLocalSecond local }
     requires constant { HasConstantOffset (ByRule rule) (local -ℤ pos 374_397) constant_until.secs }
@@ -144,7 +145,7 @@ fn range_end_by_rule(rule: posix::TimeZone, local: i64, constant_until: Instant)
 ///
 /// The range starts [`TRANSITION_MARGIN`] after `past` and ends [`TRANSITION_MARGIN`] before the transition. It also
 /// ends with the year of `past`, unless it starts after that year: a POSIX rule is evaluated year by year. Returns
-/// `past`, for an empty range, if there is no transition or if `past` is before 1970.
+/// `past`, so that the range is empty, if there is no transition or if `past` is before 1970.
 fn range_end_before_transition(next: Option<Transition>, past: i64) -> i64
     requires { past ≤ℤ pos 7_258_500_000 }
     ensures { IsClearOfTransitionUntil (option_map transition_view next) past result }
@@ -163,7 +164,7 @@ fn range_end_before_transition(next: Option<Transition>, past: i64) -> i64
     }
 }
 
-/// Returns the first second of the next year, in UTC.
+/// Returns the first second of the year after the one that contains `second`, in UTC.
 pub(crate) fn year_after(second: i64) -> i64
     requires { CanSettle second }
     ensures value { result ≡ year_end (datetime_of second).date.year }
@@ -201,7 +202,8 @@ fn transition_second(table: &Tzif, index: usize) -> Option<i64>
     Some(table.transitions().get(index)?.second)
 }
 
-/// Returns the UTC offset after the first `count` transitions of the table.
+/// Returns the UTC offset after the first `count` transitions of the table, in seconds. If `count` is 0, this is the
+/// offset before the first transition.
 fn offset_after(table: &Tzif, count: usize) -> i64
     requires { count ≤ vec_len table.now.transitions }
     ensures { result ≡ (type_after table.now count).offset.seconds }

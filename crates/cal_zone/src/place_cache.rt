@@ -1,4 +1,5 @@
-//! Conversion of many local seconds of one zone to instants, with a cached range in which it is one subtraction.
+//! Conversion of many local seconds of one zone to instants, with a cached range in which a conversion is one
+//! subtraction.
 
 ghost use Rattle.std.specs.Prelude.{◌≡◌, IfSome};
 ghost use Rattle.cal_civil.specs.Local.{IsLocalSecond};
@@ -13,8 +14,8 @@ use crate::{Instant, Zone, place};
 use cal_civil::LOCAL_END;
 use std::marker::Model;
 
-/// How far `seek_from` moves ahead after a search that found no range: up to there, local seconds are converted one by
-/// one, since a search costs more than a conversion.
+/// After a search that found no range, the next search starts at least this many local seconds later. Until then, local
+/// seconds are converted one by one, since a search costs more than a conversion.
 const SEEK_RETRY_DISTANCE: i64 = 1_000;
 
 /// A converter from local seconds of one zone to their places, fast for ascending local seconds.
@@ -81,8 +82,9 @@ impl<'z> PlaceCache<'z> {
         self.place_outside(local)
     }
 
-    /// Returns the UTC offset that all local seconds from `from` to `to` (inclusive) have in common, if they are all in
-    /// the cached range; then each of them has a place. `None` only means that this isn't known.
+    /// Returns the UTC offset of all local seconds from `from` to `to` (inclusive), if the zone is UTC or all of them
+    /// are in the cached range. Each of them then has a place, which is the local second minus this offset. `None` only
+    /// means that the offset isn't known to be constant.
     pub fn offset_over(&self, from: i64, to: i64) -> Option<i64>
         ensures { IfSome result (AreAtOffset (zone_of self.now) from to) }
     {
@@ -95,7 +97,8 @@ impl<'z> PlaceCache<'z> {
         None
     }
 
-    /// Returns the local second whose place is `instant`, as [`local_at`] does, or `None` if there is none.
+    /// Returns the local second whose place is `instant`, as [`local_at`] does, or `None` if there is no such local
+    /// second.
     pub fn local_at(&mut self, instant: Instant) -> Option<i64>
         ensures value { IsLocalAt (zone_of self.old) instant.secs result }
         ensures zone { self.new ≡ self.old }
@@ -128,7 +131,7 @@ impl<'z> PlaceCache<'z> {
     }
 
     /// Computes [`PlaceCache::place`] for a local second outside the cached range, by the zone's rules. Caches a range
-    /// that contains it, if one is found, for the calls that follow.
+    /// that contains `local`, if one is found, for the calls that follow.
     #[cold]
     #[inline(never)]
     fn place_outside(&mut self, local: i64) -> Option<i64>

@@ -30,8 +30,8 @@ pub fn place(zone: Zone, local: i64) -> Option<i64>
 }
 
 /// Converts a local second from -300,000 to 7,258,500,000 to Unix time, resolving gaps and folds as `jiff`'s compatible
-/// conversion does: a local second that the clock skips is moved forward by the length of the gap, and of one that it
-/// shows twice the first occurrence is taken. (systemd.time(7), Parsing Timestamps.)
+/// conversion does: a local second that the clock skips is moved forward by the length of the gap, and of a local
+/// second that it shows twice the first occurrence is taken. (systemd.time(7), Parsing Timestamps.)
 pub fn settle(zone: Zone, local: i64) -> i64
     requires { CanSettle local }
     ensures value { result ≡ settle_of (zone_of zone.entry) local }

@@ -140,7 +140,7 @@ impl Rules {
     }
 
     /// Returns a range with a constant UTC offset that starts at `local`, if a POSIX rule decides the offset there. In
-    /// a zone file, that is the rule after the last transition of the table.
+    /// a zone file, this is the rule that applies after the last transition of the table.
     fn local_range_by_rule(&self, local: i64) -> Option<LocalOffsetRange>
         requires { IsLocalSecond local }
         ensures { IfSome result (IsLocalOffsetRangeAt self.now local) }
@@ -158,8 +158,8 @@ impl Rules {
         }
     }
 
-    /// Returns the range `local..to`, for which the caller has shown that the clock doesn't change in it. Returns
-    /// `None` if this range is empty or if the clock skips `local`.
+    /// Returns the range `local..to` with its UTC offset. The caller guarantees that the zone's UTC offsets don't
+    /// change in this range. Returns `None` if the range is empty or if the clock skips `local`.
     fn local_range_until(&self, local: i64, to: i64) -> Option<LocalOffsetRange>
         requires local_in { IsLocalSecond local }
         requires same_offsets { HaveSameOffsetsUntil self.now local to }

@@ -30,7 +30,7 @@ impl<'t> Zone<'t> {
     ghost use Rattle.cal_zone.specs.headline.Zone.{is_utc, utc, zone_of};
     ghost use Rattle.cal_zone.specs.headline.FixedOffsetZone.{fixed_offset_zone};
 
-    /// Returns UTC, whose civil clock counts Unix time.
+    /// Returns UTC, in which every local second is the same second of Unix time.
     pub fn utc() -> Zone<'static>
         ensures { result ≡ utc }
     {

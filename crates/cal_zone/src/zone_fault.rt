@@ -15,7 +15,7 @@ pub enum ZoneFault {
     TooLarge = 4,
     /// Out of memory.
     NoMemory = 5,
-    /// The table already has a zone of this name. The name `UTC`, in any case, is always taken.
+    /// The table already has a zone of this name. The name `UTC`, ignoring case, is always taken.
     NameTaken = 6,
 }
 

@@ -10,8 +10,8 @@ use std::alloc::Global;
 use std::collections::BTreeMap;
 use std::marker::Model;
 
-/// A table of zones: a finite map from names to rules. `UTC`, in any case, is always a name of UTC and is not in the
-/// map.
+/// A table of zones: a finite map from names to rules. The name `UTC`, ignoring case, always stands for UTC and is not
+/// in the map.
 #[derive(Drop)]
 pub struct ZoneTable {
     alloc: Global,
@@ -53,7 +53,7 @@ impl ZoneTable {
     ///
     /// On failure the table is unchanged and the rules are returned to the caller. Fails with [`ZoneFault::BadName`] if
     /// `name` doesn't have the form of a zone's name, with [`ZoneFault::NameTaken`] if the table already has a zone of
-    /// this name, which it always has for `UTC` in any case, and with [`ZoneFault::NoMemory`] if allocation fails.
+    /// this name (as it always does for `UTC`, ignoring case), and with [`ZoneFault::NoMemory`] if allocation fails.
     pub fn add(&mut self, name: &str, rules: Rules) -> Result<(), (Rules, ZoneFault)>
         ensures added { MatchResult result
             (λ _. IsAddable self.old name.now × (self.new ≡ map.insert self.old name.now rules))
@@ -92,8 +92,8 @@ impl ZoneTable {
         }
     }
 
-    /// Returns the zone named `name`: UTC for `UTC` in any case, and otherwise the zone that was added under exactly
-    /// this name. Returns `None` if there is none.
+    /// Returns the zone named `name`: UTC for `UTC`, ignoring case, and otherwise the zone that was added under exactly
+    /// this name. Returns `None` if there is no such zone.
     #[tactic(auto, unfolding(crate::specs::headline::Zone::zone_of, crate::specs::headline::ZoneTable::zone_named))]
     pub fn find(&self, name: &str) -> Option<Zone<'_>>
         ensures zone { option_map zone_of result ≡ zone_named self.now name.now }
@@ -109,7 +109,7 @@ impl ZoneTable {
     }
 }
 
-/// Returns whether `text` is `UTC`, in any case.
+/// Returns whether `text` is `UTC`, ignoring case.
 fn is_utc_name(text: &str) -> bool
     ensures { result ≡ is_utc_name text.now }
 {

@@ -24,7 +24,7 @@ unfoldable pub time_text : ℕ → ℕ → ℕ → List ℕ
 time_text hour minute second =
     joined (zeros 2 hour ∷ decimal hour ∷ codes ":" ∷ zeros 2 minute ∷ decimal minute ∷ codes ":" ∷ zeros 2 second ∷ decimal second ∷ [])
 
--- the zone after a time: `UTC` for UTC itself, and otherwise the UTC offset
+-- the word for the zone after a time: `UTC` for UTC itself, and otherwise the UTC offset
 unfoldable pub zone_word : Bool → ℤ → List ℕ
 zone_word is_utc offset = if is_utc then codes "UTC" else offset_text offset
 
@@ -33,7 +33,7 @@ unfoldable pub shown_text : Civil → List ℕ
 shown_text c =
     joined (weekday_name c.weekday ∷ codes " " ∷ date_text c ∷ codes " " ∷ time_text c.hour c.minute c.second ∷ codes " " ∷ [])
 
--- an instant as clocks in the zone show it
+-- the text of the instant `second`: what clocks in the zone show at this instant, and the word for the zone
 unfoldable pub instant_text : Zone → ℤ → List ℕ
 instant_text zone second =
     let shown = civil_of (zone_of zone) second in

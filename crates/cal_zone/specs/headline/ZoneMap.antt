@@ -4,6 +4,6 @@ use Rattle.std.specs.FinMap.{FinMap}
 use Rattle.std.specs.Ordering.{nat_cmp}
 use Rattle.jiff.specs.Types.{TimeZone}
 
--- a finite map from names to zones of `jiff`
+-- a finite map from names, as lists of bytes, to zones of `jiff`
 abbrev pub ZoneMap : Type 0
 ZoneMap = FinMap (slice_cmp nat_cmp) TimeZone

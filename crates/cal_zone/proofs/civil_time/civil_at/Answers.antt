@@ -7,13 +7,13 @@ use Rattle.cal_zone.specs.headline.Zone.{local_shown_at}
 use Rattle.cal_zone.proofs.CivilLemmas.{civil_at_offset-civil_of, IsCivil-civil_at_offset}
 use Rattle.cal_zone.proofs.civil_time.civil_at.Goals as goal
 
--- the clock of a zone shows this civil time, if the zone has this UTC offset at the instant
+-- if a zone has the given UTC offset at the instant, the zone's clock shows the civil time that `to_datetime` returns
 shown : (c : goal.After-fields) (tz : TimeZone) → offset_at tz (nanos_of_seconds c.args.instant.secs) ≡ c.args.offset.seconds
     → civil_nanos c.to_datetime.result ≡ nanos_of_seconds (local_shown_at tz c.args.instant.secs)
 unfolding local_shown_at
 shown c tz here = omega (arith, signed_arith, c.to_datetime.ensures, ap (λ t. t.nanosecond) c.to_plain.ensures, c.in-Ok.ensures.value)
 
--- a zone with this fixed offset has it at the instant
+-- the zone with the given UTC offset as its fixed offset has this offset at the instant
 fixed : (c : goal.After-fields) → offset_at (Fixed c.args.offset) (nanos_of_seconds c.args.instant.secs) ≡ c.args.offset.seconds
 unfolding offset_at
 fixed c = refl

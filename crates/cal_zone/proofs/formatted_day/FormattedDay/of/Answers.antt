@@ -19,11 +19,11 @@ pub overflow_add-midnight : goal.overflow_add-midnight
 overflow_add-midnight c =
     grind (arith, signed_arith, c.args.instant.in_range, c.secs.ensures.value, c.since_midnight.ensures, c.civil_at-shown.ensures.ranges.hour, c.civil_at-shown.ensures.ranges.minute, c.civil_at-shown.ensures.ranges.second)
 
--- midnight, as the code computes it with 64-bit numbers
+-- the midnight `since` seconds before `second`, as the code computes it with 64-bit numbers
 abbrev midnight_of : ℤ → ℤ → ℤ
 midnight_of second since = to_z w64 (of_z w64 (to_z w64 (of_z w64 second) -ℤ to_z w64 (of_z w64 since)))
 
--- midnight is before the instant by the time of day that the clock shows
+-- the computed midnight is the instant minus the time of day that the clock shows, in seconds
 midnight : (c : goal.After-min) → midnight_of c.secs.result c.since_midnight.result ≡ c.args.instant.secs -ℤ pos (seconds_shown c.civil_at-shown.result)
 midnight c =
     grind (arith, signed_arith, c.args.instant.in_range, c.secs.ensures.value, c.since_midnight.ensures, c.civil_at-shown.ensures.ranges.hour, c.civil_at-shown.ensures.ranges.minute, c.civil_at-shown.ensures.ranges.second)
@@ -37,7 +37,7 @@ next_midnight c =
     let start = midnight c in
     omega (arith, signed_arith, c.civil_at-shown.ensures.ranges.hour, c.civil_at-shown.ensures.ranges.minute, c.civil_at-shown.ensures.ranges.second)
 
--- an instant of the day is in the range, and between midnight and the next midnight
+-- every instant of the returned day is in `range`, and between midnight and the next midnight
 at_midnight : (c : goal.After-min) (second : ℤ) → to_z w64 (of_z w64 c.max.result) ≤ℤ second
     → (c.args.range.from ≤ℤ second) × (midnight_of c.secs.result c.since_midnight.result ≤ℤ second)
 at_midnight c second from = grind (arith, signed_arith, c.max.ensures.self_bound, c.max.ensures.other_bound)
