@@ -12,6 +12,7 @@ mod bytes;
 mod counts;
 mod exceptions;
 mod lines;
+mod texts;
 
 /// The expressions of [`TIMER_FILE`].
 pub(crate) const UNIT_LINES: Lines = &[(6, "Mon  *:0/30"), (9, "hourly")];

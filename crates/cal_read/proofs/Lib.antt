@@ -14,3 +14,4 @@ pub mod StampRule
 pub mod TimerLemmas
 mod TimerRows
 pub mod TimerRuleLemmas
+pub mod TimerTextsLemmas

@@ -13,7 +13,7 @@ use Rattle.std.specs.Option.{option_or}
 use Rattle.std.proofs.lemmas.Bool.{and_right, and_parts, false_from_ne_true}
 use Rattle.cal_read.specs.TimerText.{TimerLine, Timer, bad_line, entries, entries_of, entry_of, fault_following, fault_joining, first_fault, lists_of, some_entries, unless_fault}
 use Rattle.cal_read.specs.headline.TimerText.{excepted, exception_key, has_no_value, is_exception, is_exception_reset, is_expression, is_reset, listed, max_expressions, timer_keys}
-use Rattle.cal_read.specs.TimerView.{changed, with_assignment, resumed, with_list}
+use Rattle.cal_read.specs.TimerView.{changed, empty_lists, entries_or_fault, with_assignment, resumed, with_list}
 use Rattle.cal_read.specs.declared.timer.fault.TimerFault.{TimerFault}
 use Rattle.cal_read.specs.declared.timer.fault.TimerFault.TheVariants.{BadLine}
 use Rattle.cal_read.proofs.ResumedLemmas.{joined_bad, joined_many, joined_read, resumed_changed, resumed_fault}
@@ -91,10 +91,10 @@ expression_is_no_exception a e =
 exception_is_no_expression : (a : Assignment) → is_exception a ≡ true → is_expression a ≡ false
 exception_is_no_expression a e = false_from_ne_true (is_expression a) (λ h. let other = expression_is_no_exception a h in absurd (cc))
 
-expression_is_no_reset : (a : Assignment) → is_expression a ≡ true → is_reset a ≡ false
+pub expression_is_no_reset : (a : Assignment) → is_expression a ≡ true → is_reset a ≡ false
 expression_is_no_reset a e = false_from_ne_true (is_reset a) (λ h. let other = reset_is_no_expression a h in absurd (cc))
 
-exception_is_no_exception_reset : (a : Assignment) → is_exception a ≡ true → is_exception_reset a ≡ false
+pub exception_is_no_exception_reset : (a : Assignment) → is_exception a ≡ true → is_exception_reset a ≡ false
 unfolding is_exception is_exception_reset
 exception_is_no_exception_reset a e = false_from_ne_true (is_exception_reset a) (λ h. let other = no_value (has_no_value a) _ (bytes_eq a.key exception_key) h in absurd (cc))
 
@@ -147,7 +147,7 @@ decides (Some fault) p es next r h = refl
 
 -- going on with the entries of the assignments in `before` gives the result for all assignments
 abbrev Resumes : {E : Type 0} → (List ℕ → Result E SpecFault) → List Assignment → List Assignment → Type 0
-Resumes read before after = resumed read (entries read before) after ≡ unless_fault (first_fault read before after) (some_entries (entries read (before ++ after)))
+Resumes read before after = resumed read (entries read before) after ≡ unless_fault (first_fault read before after) (Ok (entries read (before ++ after)))
 
 -- all assignments in both lists are valid
 abbrev AreAllRead : {E : Type 0} → (List ℕ → Result E SpecFault) → List Assignment → Type 0
@@ -155,11 +155,11 @@ AreAllRead read before = AreAll read (listed before) × AreAll read (excepted be
 
 -- the first error after `before` is that of the next assignment, or else the first after it
 ends : {E : Type 0} (read : List ℕ → Result E SpecFault) (before : List Assignment) (a : Assignment) (after : List Assignment) (o : Option TimerFault) → fault_following read before a ≡ o
-    → unless_fault (option_or o (first_fault read (before ++ a ∷ []) after)) (some_entries (entries read ((before ++ a ∷ []) ++ after)))
-    ≡ unless_fault (first_fault read before (a ∷ after)) (some_entries (entries read (before ++ (a ∷ after))))
+    → unless_fault (option_or o (first_fault read (before ++ a ∷ []) after)) (Ok (entries read ((before ++ a ∷ []) ++ after)))
+    ≡ unless_fault (first_fault read before (a ∷ after)) (Ok (entries read (before ++ (a ∷ after))))
 unfolding first_fault
 ends read before a after o same =
-    rw same (ap (λ all. unless_fault (option_or o (first_fault read (before ++ a ∷ []) after)) (some_entries (entries read all))) (append_assoc before (a ∷ []) after))
+    rw same (ap (λ all. unless_fault (option_or o (first_fault read (before ++ a ∷ []) after)) (Ok (entries read all))) (append_assoc before (a ∷ []) after))
 
 all_with : {E : Type 0} (read : List ℕ → Result E SpecFault) (list now : List Assignment) → now ≡ list → AreAll read list → AreAll read now
 all_with read list now e all = subst (λ (l : List Assignment). AreAll read l) (sym e) all
@@ -220,19 +220,74 @@ resumes_by read before a after None p c d same next =
     resumed_changed read (entries read before) a after (entries_of read (listed (before ++ a ∷ []))) (unless_fault p (Ok (entries_of read (excepted (before ++ a ∷ []))))) c.is d.is
     ∙ decides p (first_fault read (before ++ a ∷ []) after) (entries_of read (excepted (before ++ a ∷ [])))
     (λ es. resumed read (record { expressions = entries_of read (listed (before ++ a ∷ [])); exceptions = es }) after)
-    (some_entries (entries read ((before ++ a ∷ []) ++ after))) (λ none. next (c.all refl, d.all none))
+    (Ok (entries read ((before ++ a ∷ []) ++ after))) (λ none. next (c.all refl, d.all none))
     ∙ ends read before a after p same
 
 resumes_from : {E : Type 0} (read : List ℕ → Result E SpecFault) (before after : List Assignment) → AreAllRead read before → Resumes read before after
 unfolding resumed first_fault listed excepted
-resumes_from read before [] all = ap (λ all. some_entries (entries read all)) (sym (append-nil before))
+resumes_from read before [] all = ap (λ all. Ok (entries read all)) (sym (append-nil before))
 resumes_from read before (a ∷ after) all =
     resumes_by read before a after _ _
     (changes read is_expression is_reset before a (is_expression a) (is_reset a) refl refl (expression_is_no_reset a) all.0)
     (changes read is_exception is_exception_reset before a (is_exception a) (is_exception_reset a) refl refl (exception_is_no_exception_reset a) all.1)
     (either_fault read before a (is_expression a) refl) (resumes_from read (before ++ a ∷ []) after)
 
--- applying one assignment after another gives the lists of all assignments
-pub resumed_is_list : {E : Type 0} (read : List ℕ → Result E SpecFault) (assignments : List Assignment) → resumed read (record { expressions = []; exceptions = [] }) assignments ≡ lists_of read assignments
-unfolding lists_of entries listed excepted
-resumed_is_list read assignments = resumes_from read [] assignments (refl, refl)
+-- the first error, or the absence of one, follows from whether both lists were read
+lists_by : {E : Type 0} (o : Option TimerFault) (all lists : Timer E) → unless_fault o (Ok all) ≡ Ok lists → unless_fault o (some_entries all) ≡ some_entries lists
+lists_by None all lists h = let same : all ≡ lists = cc in ap some_entries same
+lists_by (Some fault) all lists h = cc
+
+fault_by : {E : Type 0} (o : Option TimerFault) (all : Timer E) (fault : TimerFault) → unless_fault o (Ok all) ≡ Err fault → unless_fault o (some_entries all) ≡ Err fault
+fault_by None all fault h = cc
+fault_by (Some f) all fault h = cc
+
+none_by : {E : Type 0} (o : Option TimerFault) (all lists : Timer E) → unless_fault o (Ok all) ≡ Ok lists → o ≡ None
+none_by None all lists h = refl
+none_by (Some fault) all lists h = cc
+
+some_by : {E : Type 0} (o : Option TimerFault) (all : Timer E) (fault : TimerFault) → unless_fault o (Ok all) ≡ Err fault → o ≡ Some fault
+some_by None all fault h = cc
+some_by (Some f) all fault h = cc
+
+-- applying one assignment after another gives the entries of all assignments, or the first error
+pub resumed_is_entries : {E : Type 0} (read : List ℕ → Result E SpecFault) (assignments : List Assignment) → resumed read (record { expressions = []; exceptions = [] }) assignments ≡ entries_or_fault read assignments
+unfolding entries_or_fault entries listed excepted
+resumed_is_entries read assignments = resumes_from read [] assignments (refl, refl)
+
+-- so the lists of a file follow from these entries, or its error is that error
+pub lists_from_entries : {E : Type 0} (read : List ℕ → Result E SpecFault) (all : List Assignment) (lists : Timer E) → resumed read empty_lists all ≡ Ok lists → lists_of read all ≡ some_entries lists
+unfolding lists_of entries_or_fault
+lists_from_entries read all lists h = lists_by (first_fault read [] all) (entries read all) lists (sym (resumed_is_entries read all) ∙ h)
+
+pub lists_from_fault : {E : Type 0} (read : List ℕ → Result E SpecFault) (all : List Assignment) (fault : TimerFault) → resumed read empty_lists all ≡ Err fault → lists_of read all ≡ Err fault
+unfolding lists_of entries_or_fault
+lists_from_fault read all fault h = fault_by (first_fault read [] all) (entries read all) fault (sym (resumed_is_entries read all) ∙ h)
+
+pub first_from_entries : {E : Type 0} (read : List ℕ → Result E SpecFault) (all : List Assignment) (lists : Timer E) → resumed read empty_lists all ≡ Ok lists → first_fault read [] all ≡ None
+unfolding entries_or_fault
+first_from_entries read all lists h = none_by (first_fault read [] all) (entries read all) lists (sym (resumed_is_entries read all) ∙ h)
+
+pub first_from_fault : {E : Type 0} (read : List ℕ → Result E SpecFault) (all : List Assignment) (fault : TimerFault) → resumed read empty_lists all ≡ Err fault → first_fault read [] all ≡ Some fault
+unfolding entries_or_fault
+first_from_fault read all fault h = some_by (first_fault read [] all) (entries read all) fault (sym (resumed_is_entries read all) ∙ h)
+
+-- what follows from both lists, unless there was an error
+abbrev pub with_lists : {E : Type 0} → Result (Timer E) TimerFault → (Timer E → Result (Timer E) TimerFault) → Result (Timer E) TimerFault
+with_lists (Ok lists) next = next lists
+with_lists (Err fault) next = Err fault
+
+list_then : {E : Type 0} (r : Result (List (TimerLine E)) TimerFault) (next first : List (TimerLine E) → Result (Timer E) TimerFault) (second : Timer E → Result (Timer E) TimerFault)
+    → ((es : List (TimerLine E)) → next es ≡ with_lists (first es) second) → with_list r next ≡ with_lists (with_list r first) second
+list_then (Ok es) next first second h = h es
+list_then (Err fault) next first second h = refl
+
+-- Applying two lists of assignments one after the other is applying their concatenation. This is what lets several
+-- texts be read without joining them.
+pub resumed_append : {E : Type 0} (read : List ℕ → Result E SpecFault) (lists : Timer E) (before after : List Assignment)
+    → resumed read lists (before ++ after) ≡ with_lists (resumed read lists before) (λ now. resumed read now after)
+unfolding resumed
+resumed_append read lists [] after = refl
+resumed_append read lists (a ∷ before) after =
+    list_then (changed read (is_expression a) (is_reset a) lists.expressions a) _ _ (λ now. resumed read now after)
+    (λ es. list_then (changed read (is_exception a) (is_exception_reset a) lists.exceptions a) _ _ (λ now. resumed read now after)
+    (λ xs. resumed_append read (record { expressions = es; exceptions = xs }) before after))

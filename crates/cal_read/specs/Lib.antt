@@ -13,5 +13,6 @@ pub mod StampViews
 pub mod TimerFault
 pub mod TimerRule
 pub mod TimerText
+pub mod TimerTexts
 pub mod TimerView
 pub mod headline

@@ -4,7 +4,7 @@ use Rattle.std.specs.Prelude.{ℕ, nat_le, Bool, true, false, if◌then◌else�
 use Rattle.cal_spec.specs.headline.Fields.{Fields}
 use Rattle.cal_spec.specs.declared.spec_fault.SpecFault.{SpecFault}
 use Rattle.cal_read.specs.headline.Assignments.{Assignment}
-use Rattle.cal_read.specs.TimerText.{TimerLine, Timer, some_entries}
+use Rattle.cal_read.specs.TimerText.{TimerLine, Timer, entries, first_fault, unless_fault}
 use Rattle.cal_read.specs.headline.TimerText.{is_exception, is_exception_reset, is_expression, is_reset, max_expressions}
 use Rattle.cal_read.specs.declared.timer.TimerLine as declared_line
 use Rattle.cal_read.specs.declared.timer.list.ReadLists.{ReadLists}
@@ -18,6 +18,10 @@ shown line = record { number = line.number; text = string_bytes line.text; expr 
 -- both lists
 abbrev pub shown_lists : ReadLists → Timer Fields
 shown_lists lists = record { expressions = map shown lists.expressions.items; exceptions = map shown lists.exceptions.items }
+
+-- two empty lists
+abbrev pub empty_lists : {E : Type 0} → Timer E
+empty_lists = record { expressions = []; exceptions = [] }
 
 -- a list with one more entry, given the result of parsing its expression, or the error
 abbrev pub with_read : {E : Type 0} → List (TimerLine E) → Assignment → Result E SpecFault → Result (List (TimerLine E)) TimerFault
@@ -40,10 +44,15 @@ with_list (Ok es) next = next es
 with_list (Err fault) next = Err fault
 
 -- The lists after the remaining assignments, given the lists so far. This follows the loop of the code and only private
--- contracts use it; the lemma `resumed_is_list` says that the result is `lists_of`.
+-- contracts use it; the lemma `resumed_is_entries` says that they are
+-- `entries_or_fault`.
 unfoldable pub resumed : {E : Type 0} → (List ℕ → Result E SpecFault) → Timer E → List Assignment → Result (Timer E) TimerFault
-resumed read lists [] = some_entries lists
+resumed read lists [] = Ok lists
 resumed read lists (a ∷ after) =
     with_list (changed read (is_expression a) (is_reset a) lists.expressions a)
     (λ es. with_list (changed read (is_exception a) (is_exception_reset a) lists.exceptions a)
     (λ xs. resumed read (record { expressions = es; exceptions = xs }) after))
+
+-- the entries of both lists, or the first error; unlike in `lists_of`, it is not an error if there is no expression
+unfoldable pub entries_or_fault : {E : Type 0} → (List ℕ → Result E SpecFault) → List Assignment → Result (Timer E) TimerFault
+entries_or_fault read assignments = unless_fault (first_fault read [] assignments) (Ok (entries read assignments))

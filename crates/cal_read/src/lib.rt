@@ -9,4 +9,5 @@ pub use stamp::fault::StampFault;
 pub use stamp::read_stamp;
 pub use timer::fault::TimerFault;
 pub use timer::file::read_timer;
+pub use timer::texts::{FileFault, UnitText, read_texts};
 pub use timer::{Timer, TimerLine};

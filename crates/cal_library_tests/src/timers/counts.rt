@@ -7,9 +7,9 @@ use std::alloc::{AllocError, Global};
 use std::process::Abort;
 use std::test::Fail;
 
-const DAILY: &str = "OnCalendar=daily";
+pub(super) const DAILY: &str = "OnCalendar=daily";
 
-const EXCEPTION: &str = "X-ExceptOnCalendar=Sat";
+pub(super) const EXCEPTION: &str = "X-ExceptOnCalendar=Sat";
 
 const RESET: &str = "OnCalendar=";
 
@@ -45,7 +45,7 @@ fn push_lines(file: &mut String, count: u32, line: &str) -> Result<(), AllocErro
 }
 
 /// Returns a timer file with the given number of copies of each line.
-fn counted_file(alloc: Global, lines: &[(u32, &str)]) -> Result<String, AllocError> {
+pub(super) fn counted_file(alloc: Global, lines: &[(u32, &str)]) -> Result<String, AllocError> {
     let mut file = String::from_str(alloc, "[Timer]\n")?;
     for (count, line) in lines {
         push_lines(&mut file, *count, line)?;

@@ -7,9 +7,9 @@ ghost use Rattle.cal_streams.specs.declared.whole.WholeFault.{WholeFault};
 ghost use Rattle.cal_spec.specs.Expr.{expr_in};
 ghost use Rattle.cal_read.specs.headline.Assignments.{assignments_in};
 ghost use Rattle.cal_lines.specs.headline.Lines.{logical_lines};
-ghost use Rattle.cal_read.specs.TimerText.{lists_of, timer_file_limit, some_entries, timer_in, timer_of, timer_text, ReadsWhole};
+ghost use Rattle.cal_read.specs.TimerText.{timer_file_limit, timer_in, timer_of, timer_text, ReadsWhole};
 ghost use Rattle.cal_read.specs.headline.TimerText.{without_mark};
-ghost use Rattle.cal_read.specs.TimerView.{shown_lists};
+ghost use Rattle.cal_read.specs.TimerView.{resumed, shown_lists};
 
 use crate::timer::list::{ReadLists, take_line};
 use crate::{Timer, TimerFault};
@@ -74,49 +74,48 @@ fn line_after(bytes: &[u8]) -> u32
 }
 
 /// Parses a timer file from its text.
-#[tactic(auto, unfolding(crate::specs::TimerText::timer_of))]
+#[tactic(auto, using(crate::proofs::ListedLemmas::lists_from_entries, crate::proofs::ListedLemmas::lists_from_fault), unfolding(crate::specs::TimerText::timer_of))]
 fn read_utf8(alloc: Global, text: &str) -> Result<Timer, TimerFault>
     requires { length text.now ≤ timer_file_limit }
     ensures { MatchResult result
         (λ timer. timer_of expr_in text.now ≡ Ok timer)
         (λ fault. fault ≢ TimerFault.NoMemory → timer_of expr_in text.now ≡ Err fault) }
 {
-    let lists = read_lists(alloc, without_mark(text))?;
-    if lists.expressions.is_empty() {
-        return Err(TimerFault::NothingToDo);
-    }
-    Ok(Timer::new(lists))
+    let mut lists = ReadLists::new(alloc);
+    take_text(alloc, &mut lists, 1, without_mark(text))?;
+    lists.into_timer()
 }
 
 /// Removes a byte order mark from the start of the text, if there is one.
 #[tactic(auto, unfolding(crate::specs::headline::TimerText::without_mark))]
-fn without_mark(text: &str) -> &str
+pub(crate) fn without_mark(text: &str) -> &str
     ensures mark { result.now ≡ without_mark text.now }
     ensures shorter { length result.now ≤ length text.now }
 {
     text.strip_prefix("\u{FEFF}").unwrap_or(text)
 }
 
-/// Parses the logical lines of a timer file, and returns both lists as they are after the last line. An empty list of
-/// expressions is not an error here.
-fn read_lists(alloc: Global, text: &str) -> Result<ReadLists, TimerFault>
-    requires { length text.now ≤ timer_file_limit }
+/// Parses the logical lines of a text and applies them to the lists. The first line has the number `first`, and belongs
+/// to no section. An empty list of expressions is not an error here.
+pub(crate) fn take_text(
+    alloc: Global,
+    lists: &mut ReadLists,
+    first: u32,
+    text: &str,
+) -> Result<(), TimerFault>
+    requires { first + length text.now < 2 ^ 32 }
     ensures { MatchResult result
-        (λ lists. lists_of expr_in (assignments_in false (logical_lines 1 text.now)) ≡ some_entries (shown_lists lists))
+        (λ _. resumed expr_in (shown_lists lists.old) (assignments_in false (logical_lines first text.now)) ≡ Ok (shown_lists lists.new))
         (λ fault. fault ≢ TimerFault.NoMemory
-        → lists_of expr_in (assignments_in false (logical_lines 1 text.now)) ≡ Err fault) }
+        → resumed expr_in (shown_lists lists.old) (assignments_in false (logical_lines first text.now)) ≡ Err fault) }
 {
-    let mut lists = ReadLists {
-        expressions: Vec::new(alloc),
-        exceptions: Vec::new(alloc),
-    };
     let mut inside = false;
-    let mut number = 1;
+    let mut number = first;
     let mut rest = text;
     while let Some(line) = first_logical(alloc, number, rest)? {
-        inside = take_line(alloc, &mut lists, inside, line.number, line.text.as_str())?;
+        inside = take_line(alloc, lists, inside, line.number, line.text.as_str())?;
         number = line.next;
         rest = line.rest;
     }
-    Ok(lists)
+    Ok(())
 }

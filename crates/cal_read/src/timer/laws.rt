@@ -1,4 +1,4 @@
-//! Laws of the definitions that the contract of [`crate::read_timer`] uses. Each law is a function that does nothing
+//! Laws of the definitions that the contracts of [`crate::read_timer`] and [`crate::read_texts`] use. Each law is a function that does nothing
 //! and whose contract is the law.
 
 ghost use Rattle.std.specs.Prelude.{◌≡◌, ◌∷◌, ◌++◌, [], ℕ, Bool, List, Result, codes, false, filter, true, if◌then◌else◌};
@@ -10,7 +10,9 @@ ghost use Rattle.cal_read.specs.headline.Assignments.{Assignment, is_header, sec
 ghost use Rattle.cal_lines.specs.headline.Lines.{Line};
 ghost use Rattle.cal_read.specs.TimerRule.{JudgesTimer};
 ghost use Rattle.cal_read.specs.declared.timer.fault.TimerFault.{TimerFault};
-ghost use Rattle.cal_read.specs.TimerText.{Timer, lists_of};
+ghost use Rattle.cal_read.specs.TimerText.{Timer, lists_of, timer_of};
+ghost use Rattle.cal_read.specs.TimerTexts.{assignments_of};
+ghost use Rattle.cal_read.specs.declared.timer.texts.UnitText.{UnitText};
 ghost use Rattle.cal_read.specs.headline.TimerText.{excepted, is_exception, is_exception_reset, is_expression, is_reset, listed};
 
 /// A line belongs to the section `Timer` if the last header before it opens that section. A header itself belongs to no
@@ -54,4 +56,10 @@ pub fn one_judgement()
         → JudgesTimer read all (lists_of read all) }
     ensures only { (read : List ℕ → Result Fields SpecFault) (all : List Assignment)
         (result : Result (Timer Fields) TimerFault) → JudgesTimer read all result → result ≡ lists_of read all }
+{}
+
+/// Reading a single text whose first line has the number 1 is reading a timer file with this text.
+pub fn one_text_is_a_timer_file()
+    ensures { (read : List ℕ → Result Fields SpecFault) (file : UnitText) → file.first ≡ 1
+        → lists_of read (assignments_of (file ∷ [])) ≡ timer_of read file.text.now }
 {}

@@ -1,23 +1,23 @@
 //! The lists of expressions and exceptions, which are built line by line (systemd.timer(5), OnCalendar=).
 
-ghost use Rattle.std.specs.Prelude.{◌≡◌, ◌≢◌, ◌∷◌, List, Some, Ok, Err, MatchResult, map};
+ghost use Rattle.std.specs.Prelude.{◌≡◌, ◌≢◌, ◌∷◌, List, Some, Ok, Err, IfErr, MatchResult, map};
 ghost use Rattle.cal_spec.specs.Expr.{expr_in};
 ghost use Rattle.cal_read.specs.headline.Assignments as assignments;
 ghost use Rattle.cal_read.specs.headline.Assignments.{assignments_in};
 ghost use Rattle.cal_lines.specs.LineView.{line_at};
 ghost use Rattle.cal_read.specs.AssignmentView.{shown_assignment};
 ghost use Rattle.cal_lines.specs.headline.Lines.{Line};
-ghost use Rattle.cal_read.specs.TimerText.{bad_line, entry_of};
-ghost use Rattle.cal_read.specs.TimerView.{changed, with_assignment, resumed, shown, shown_lists};
+ghost use Rattle.cal_read.specs.TimerText.{bad_line, entry_of, some_entries};
+ghost use Rattle.cal_read.specs.TimerView.{changed, empty_lists, with_assignment, resumed, shown, shown_lists};
 
 use crate::assignments::{Assignment, read_assignment, section};
-use crate::{TimerFault, TimerLine};
+use crate::{Timer, TimerFault, TimerLine};
 use cal_lines::trim;
 use cal_spec::{SpecFault, read_expr};
 use std::alloc::Global;
 
 /// The maximum number of expressions in a list.
-const MAX_EXPRESSIONS: usize = 256;
+pub(crate) const MAX_EXPRESSIONS: usize = 256;
 
 /// The name of the section whose assignments are read.
 const TIMER_SECTION: &[u8] = b"Timer";
@@ -27,6 +27,31 @@ const TIMER_SECTION: &[u8] = b"Timer";
 pub(crate) struct ReadLists {
     pub(crate) expressions: Vec<TimerLine>,
     pub(crate) exceptions: Vec<TimerLine>,
+}
+
+impl ReadLists {
+    /// Creates two empty lists.
+    pub(crate) fn new(alloc: Global) -> ReadLists
+        ensures { shown_lists result ≡ empty_lists }
+    {
+        ReadLists {
+            expressions: Vec::new(alloc),
+            exceptions: Vec::new(alloc),
+        }
+    }
+
+    /// Returns the timer with these lists. Fails with [`TimerFault::NothingToDo`] if there is no expression.
+    pub(crate) fn into_timer(self) -> Result<Timer, TimerFault>
+        ensures lists { MatchResult result
+            (λ timer. some_entries (shown_lists self) ≡ Ok timer)
+            (λ fault. some_entries (shown_lists self) ≡ Err fault) }
+        ensures nothing { IfErr result (λ fault. fault ≡ TimerFault.NothingToDo) }
+    {
+        if self.expressions.is_empty() {
+            return Err(TimerFault::NothingToDo);
+        }
+        Ok(Timer::new(self))
+    }
 }
 
 /// Applies a logical line to the lists. `inside` says whether the line is in the section `Timer`. Returns whether the

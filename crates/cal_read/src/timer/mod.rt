@@ -7,6 +7,7 @@ pub(crate) mod fault;
 pub(crate) mod file;
 pub mod laws;
 pub(crate) mod list;
+pub(crate) mod texts;
 
 use crate::timer::list::ReadLists;
 use cal_spec::Expr;

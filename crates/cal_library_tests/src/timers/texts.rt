@@ -1,0 +1,230 @@
+//! Timers that are read from several texts, as a unit file and its drop-ins.
+
+ghost use Rattle.std.specs.Prelude.{◌+◌, ◌<◌, ◌^◌, All, IfOk, length};
+
+use super::counts::{DAILY, EXCEPTION, counted_file};
+use super::{Lines, expect_list};
+use cal_read::{FileFault, Timer, TimerFault, UnitText, read_texts};
+use cal_spec::SpecFault;
+use std::alloc::Global;
+use std::process::Abort;
+use std::test::Fail;
+
+/// Texts, with the expressions and the exceptions that they have together.
+type Row = (&'static [&'static str], Lines, Lines);
+
+static READ: [Row; 9] = [
+    // A drop-in adds to the list of the unit file.
+    (
+        &["[Timer]\nOnCalendar=daily", "[Timer]\nOnCalendar=hourly"],
+        &[(2, "daily"), (2, "hourly")],
+        &[],
+    ),
+    // An empty value in a drop-in clears what the unit file and earlier drop-ins set.
+    (
+        &[
+            "[Timer]\nOnCalendar=daily",
+            "[Timer]\nOnCalendar=weekly",
+            "[Timer]\nOnCalendar=\nOnCalendar=hourly",
+        ],
+        &[(3, "hourly")],
+        &[],
+    ),
+    (
+        &[
+            "[Timer]\nOnCalendar=\nOnCalendar=hourly",
+            "[Timer]\nOnCalendar=daily",
+        ],
+        &[(3, "hourly"), (2, "daily")],
+        &[],
+    ),
+    // A text doesn't need an expression if another one has it.
+    (
+        &["[Unit]\nDescription=x", "", "\n\n[Timer]\nOnCalendar=daily"],
+        &[(4, "daily")],
+        &[],
+    ),
+    // A section ends with its text.
+    (
+        &["[Timer]\nOnCalendar=daily", "OnCalendar=x!\nOnCalendar="],
+        &[(2, "daily")],
+        &[],
+    ),
+    // So does a continued line, and a comment inside one.
+    (
+        &[
+            "[Timer]\nOnCalendar=Mon \\",
+            "12:00\n[Timer]\nOnCalendar=Tue \\\n# x",
+            "12:00",
+        ],
+        &[(2, "Mon"), (3, "Tue")],
+        &[],
+    ),
+    // Each text may begin with a byte order mark.
+    (
+        &[
+            "\u{FEFF}[Timer]\nOnCalendar=daily",
+            "\u{FEFF}[Timer]\nOnCalendar=hourly",
+        ],
+        &[(2, "daily"), (2, "hourly")],
+        &[],
+    ),
+    // Exceptions are cleared by their own key alone.
+    (
+        &[
+            "[Timer]\nOnCalendar=daily\nX-ExceptOnCalendar=Sat",
+            "[Timer]\nX-ExceptOnCalendar=\nX-ExceptOnCalendar=Sun",
+        ],
+        &[(2, "daily")],
+        &[(3, "Sun")],
+    ),
+    (
+        &[
+            "[Timer]\nOnCalendar=daily\nX-ExceptOnCalendar=Sat",
+            "[Timer]\nOnCalendar=\nOnCalendar=hourly",
+        ],
+        &[(3, "hourly")],
+        &[(3, "Sat")],
+    ),
+];
+
+/// Texts, and the index of a text and the error that they are rejected with.
+static REFUSED: [(&[&str], Option<usize>, TimerFault); 7] = [
+    (&[], None, TimerFault::NothingToDo),
+    (&["[Unit]", "[Timer]"], None, TimerFault::NothingToDo),
+    // A drop-in clears the only expression.
+    (
+        &["[Timer]\nOnCalendar=daily", "[Timer]\nOnBootSec="],
+        None,
+        TimerFault::NothingToDo,
+    ),
+    // The error has the index of its text, and its line in that text.
+    (
+        &["[Timer]\nOnCalendar=daily", "\n[Timer]\nOnCalendar=25:00"],
+        Some(1),
+        TimerFault::BadLine(3, SpecFault::OutOfField),
+    ),
+    // The first error is reported, even if a drop-in clears the list.
+    (
+        &[
+            "[Timer]\nOnCalendar=25:00",
+            "[Timer]\nOnCalendar=\nOnCalendar=daily",
+        ],
+        Some(0),
+        TimerFault::BadLine(2, SpecFault::OutOfField),
+    ),
+    (
+        &[
+            "[Timer]\nOnCalendar=daily",
+            "[Timer]\nX-ExceptOnCalendar=x!",
+            "[Timer]\nOnCalendar=7",
+        ],
+        Some(1),
+        TimerFault::BadLine(2, SpecFault::BadWeekday),
+    ),
+    (
+        &["", "", "[Timer]\nOnCalendar=20/4:00"],
+        Some(2),
+        TimerFault::BadLine(2, SpecFault::NoRepeat),
+    ),
+];
+
+/// Returns the texts with lines that are numbered from 1.
+fn unit_texts<'t>(alloc: Global, texts: &[&'t str]) -> Result<Vec<UnitText<'t>>, Fail>
+    ensures { IfOk result (λ files. All (λ file. file.first + length file.text.now < 2 ^ 32) files.items) }
+{
+    let mut files = Vec::new(alloc);
+    for text in texts {
+        if text.len() > Timer::FILE_LIMIT {
+            return Err("a text is too long".into());
+        }
+        files.push(UnitText { first: 1, text })?;
+    }
+    Ok(files)
+}
+
+/// Expects these texts to have these expressions and exceptions.
+fn expect_read(
+    rt: &(impl Abort + AllocGlobal),
+    (texts, expressions, exceptions): &Row,
+) -> Result<(), Fail> {
+    let files = unit_texts(rt.alloc(), texts)?;
+    match read_texts(rt.alloc(), &files) {
+        Ok(timer) => {
+            expect_list(rt, timer.lines(), expressions, b"several texts");
+            expect_list(rt, timer.exceptions(), exceptions, b"several texts");
+        }
+        Err(found) => panic!(rt; "{found:?} in {texts:?}"),
+    }
+    Ok(())
+}
+
+/// Expects these texts to be rejected with this error.
+fn expect_refused(
+    rt: &(impl Abort + AllocGlobal),
+    texts: &[&str],
+    fault: FileFault,
+) -> Result<(), Fail> {
+    let files = unit_texts(rt.alloc(), texts)?;
+    assert_eq!(rt;
+        read_texts(rt.alloc(), &files).err(),
+        Some(fault),
+        "in {texts:?}"
+    );
+    Ok(())
+}
+
+#[test]
+fn read(rt: HostRuntime) -> Result<(), Fail> {
+    for row in &READ {
+        expect_read(&rt, row)?;
+    }
+    Ok(())
+}
+
+#[test]
+fn refused(rt: HostRuntime) -> Result<(), Fail> {
+    for (texts, file, fault) in &REFUSED {
+        expect_refused(
+            &rt,
+            texts,
+            FileFault {
+                file: *file,
+                fault: *fault,
+            },
+        )?;
+    }
+    Ok(())
+}
+
+/// The limit of 256 expressions is that of all texts together.
+#[test]
+fn one_too_many(rt: HostRuntime) -> Result<(), Fail> {
+    let unit = counted_file(rt.alloc(), &[(200, DAILY), (256, EXCEPTION)])?;
+    let drop_in = counted_file(rt.alloc(), &[(57, DAILY)])?;
+    let fault = FileFault {
+        file: Some(1),
+        fault: TimerFault::TooMany(58),
+    };
+    expect_refused(&rt, &[&unit, &drop_in], fault)
+}
+
+/// The lines of a text are numbered from `first` on.
+#[test]
+fn numbered_lines(rt: HostRuntime) {
+    let files = [
+        UnitText {
+            first: 1,
+            text: "[Timer]\nOnCalendar=daily\n",
+        },
+        UnitText {
+            first: 3,
+            text: "[Timer]\nOnCalendar=7",
+        },
+    ];
+    let fault = FileFault {
+        file: Some(1),
+        fault: TimerFault::BadLine(4, SpecFault::BadDate),
+    };
+    assert_eq!(rt; read_texts(rt.alloc(), &files).err(), Some(fault));
+}

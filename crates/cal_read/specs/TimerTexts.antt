@@ -1,0 +1,28 @@
+-- Timers that are read from several texts, as a unit file and its drop-ins: the assignments of each text follow those of
+-- the texts before it (systemd.unit(5)). Each text starts outside any section.
+use Rattle.std.specs.Prelude.{◌≡◌, ◌<◌, ◌+◌, ℕ, false, List, [], length, take, Option, None, Some, Result}
+use Rattle.std.specs.List.{flat_map}
+use Rattle.cal_spec.specs.declared.spec_fault.SpecFault.{SpecFault}
+use Rattle.cal_lines.specs.headline.Lines.{logical_lines}
+use Rattle.cal_read.specs.headline.Assignments.{Assignment, assignments_in}
+use Rattle.cal_read.specs.headline.TimerText.{without_mark}
+use Rattle.cal_read.specs.TimerText.{first_fault}
+use Rattle.cal_read.specs.declared.timer.texts.UnitText.{UnitText}
+use Rattle.cal_read.specs.declared.timer.fault.TimerFault.{TimerFault}
+use Rattle.cal_read.specs.declared.timer.fault.TimerFault.TheVariants.{NothingToDo}
+
+-- the assignments of one text
+abbrev pub assignments_at : UnitText → List Assignment
+assignments_at file = assignments_in false (logical_lines file.first (without_mark file.text.now))
+
+-- the assignments of several texts, in order
+abbrev pub assignments_of : List UnitText → List Assignment
+assignments_of = flat_map assignments_at
+
+-- The first error of several texts. With an index, the texts before the one with this index have no error, and with it
+-- the first error is this one. Without an index, no assignment has an error, and there is no expression.
+abbrev pub IsFirstOf : {E : Type 0} → (List ℕ → Result E SpecFault) → List UnitText → Option ℕ → TimerFault → Type 0
+IsFirstOf read files None fault = (first_fault read [] (assignments_of files) ≡ None) × (fault ≡ NothingToDo)
+IsFirstOf read files (Some k) fault =
+    (k < length files) × (first_fault read [] (assignments_of (take k files)) ≡ None)
+    × (first_fault read [] (assignments_of (take (k + 1) files)) ≡ Some fault)
