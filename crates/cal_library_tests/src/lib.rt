@@ -16,6 +16,8 @@ mod numbers;
 mod refused;
 #[cfg(test)]
 mod searches;
+#[cfg(test)]
+mod settings;
 pub mod shared;
 #[cfg(test)]
 mod spans;

@@ -1,5 +1,6 @@
 pub mod ListedLemmas
 pub mod ResumedLemmas
+pub mod SettingsLemmas
 pub mod StampCivilRule
 pub mod StampCounted
 pub mod StampFaultRule

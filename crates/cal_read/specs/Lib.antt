@@ -1,4 +1,5 @@
 pub mod AssignmentView
+pub mod Settings
 pub mod Stamp
 pub mod StampCivilRule
 pub mod StampDate

@@ -2,9 +2,11 @@
 #![tactic(auto)]
 
 mod assignments;
+pub mod settings;
 pub mod stamp;
 pub mod timer;
 
+pub use settings::{Setting, Settings, read_settings};
 pub use stamp::fault::StampFault;
 pub use stamp::read_stamp;
 pub use timer::fault::TimerFault;

@@ -6,7 +6,8 @@ ghost use Rattle.std.specs.List.{list_any};
 ghost use Rattle.std.specs.Str.{bytes_eq};
 ghost use Rattle.cal_spec.specs.headline.Fields.{Fields};
 ghost use Rattle.cal_spec.specs.declared.spec_fault.SpecFault.{SpecFault};
-ghost use Rattle.cal_read.specs.headline.Assignments.{Assignment, is_header, section_of, timer_lines};
+ghost use Rattle.cal_read.specs.Settings.{settings_in};
+ghost use Rattle.cal_read.specs.headline.Assignments.{Assignment, assignments_in, is_header, section_of, timer_lines};
 ghost use Rattle.cal_lines.specs.headline.Lines.{Line};
 ghost use Rattle.cal_read.specs.TimerRule.{JudgesTimer};
 ghost use Rattle.cal_read.specs.declared.timer.fault.TimerFault.{TimerFault};
@@ -62,4 +63,9 @@ pub fn one_judgement()
 pub fn one_text_is_a_timer_file()
     ensures { (read : List ℕ → Result Fields SpecFault) (file : UnitText) → file.first ≡ 1
         → lists_of read (assignments_of (file ∷ [])) ≡ timer_of read file.text.now }
+{}
+
+/// The settings of the section `Timer` are the assignments of a timer file.
+pub fn settings_of_the_section_timer()
+    ensures { (inside : Bool) (lines : List Line) → settings_in (codes "Timer") inside lines ≡ assignments_in inside lines }
 {}

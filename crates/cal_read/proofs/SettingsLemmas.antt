@@ -1,0 +1,52 @@
+-- Lemmas about what each logical line adds to the settings of a section.
+use Rattle.std.proofs.Common.{◌≡◌, Bool, true, false, List, [], ◌∷◌, ◌++◌, ℕ, codes, map, refl, ap, Option, Some, None}
+use Rattle.std.specs.List.{filter_map}
+use Rattle.std.specs.Option.{option_to_list}
+use Rattle.std.specs.Str.{bytes_eq}
+use Rattle.cal_text.specs.headline.Trim.{trim_matches}
+use Rattle.cal_lines.specs.headline.Lines.{Line, is_blank_or_return}
+use Rattle.cal_read.specs.headline.Assignments.{Assignment, assignment_of, assignments_in, is_header, section_of, timer_lines, trimmed}
+use Rattle.cal_read.specs.Settings.{section_lines, settings_in}
+
+-- the settings of the section `Timer` are the assignments of a timer file
+lines_by : (headed inside : Bool) (line : Line) (lines : List Line) → is_header line.text ≡ headed → ((inside : Bool) → section_lines (codes "Timer") inside lines ≡ timer_lines inside lines)
+    → section_lines (codes "Timer") inside (line ∷ lines) ≡ timer_lines inside (line ∷ lines)
+unfolding section_lines timer_lines
+lines_by true inside line lines e next = rw e (next (bytes_eq (section_of line.text) (codes "Timer")))
+lines_by false true line lines e next = rw e (ap (λ ls. line ∷ ls) (next true))
+lines_by false false line lines e next = rw e (next false)
+
+lines_of_timer : (inside : Bool) (lines : List Line) → section_lines (codes "Timer") inside lines ≡ timer_lines inside lines
+unfolding section_lines timer_lines
+lines_of_timer inside [] = refl
+lines_of_timer inside (line ∷ lines) = lines_by (is_header line.text) inside line lines refl (λ inside. lines_of_timer inside lines)
+
+pub settings_of_timer : (inside : Bool) (lines : List Line) → settings_in (codes "Timer") inside lines ≡ assignments_in inside lines
+unfolding settings_in assignments_in
+settings_of_timer inside lines = ap (filter_map assignment_of) (lines_of_timer inside (map trimmed lines))
+
+-- without lines there are no settings
+pub no_settings : (name : List ℕ) (inside : Bool) → settings_in name inside [] ≡ []
+unfolding settings_in section_lines
+no_settings name inside = refl
+
+-- after a header, the remaining lines belong to the section that it opens
+pub header_opens : (name : List ℕ) (inside : Bool) (line : Line) (after : List Line) → is_header (trim_matches is_blank_or_return line.text) ≡ true
+    → settings_in name inside (line ∷ after) ≡ settings_in name (bytes_eq (section_of (trim_matches is_blank_or_return line.text)) name) after
+unfolding settings_in section_lines
+header_opens name inside line after e = rw e refl
+
+-- a line outside the section adds nothing
+pub outside_none : (name : List ℕ) (line : Line) (after : List Line) → is_header (trim_matches is_blank_or_return line.text) ≡ false → settings_in name false (line ∷ after) ≡ settings_in name false after
+unfolding settings_in section_lines
+outside_none name line after e = rw e refl
+
+some_or_none : (line : Line) (o : Option Assignment) (lines : List Line) → assignment_of (trimmed line) ≡ o → filter_map assignment_of (trimmed line ∷ lines) ≡ option_to_list o ++ filter_map assignment_of lines
+some_or_none line (Some a) lines e = rw e refl
+some_or_none line None lines e = rw e refl
+
+-- a line in the section adds its assignment, if it has one
+pub inside_gives : (name : List ℕ) (line : Line) (o : Option Assignment) (after : List Line) → is_header (trim_matches is_blank_or_return line.text) ≡ false → assignment_of (trimmed line) ≡ o
+    → settings_in name true (line ∷ after) ≡ option_to_list o ++ settings_in name true after
+unfolding settings_in section_lines
+inside_gives name line o after e f = rw e (some_or_none line o (section_lines name true (map trimmed after)) f)

@@ -1,0 +1,19 @@
+-- No setting has been found yet, so the remaining lines have all remaining settings.
+use Rattle.std.proofs.Common.{◌≡◌, ◌+◌, ◌<◌, ◌^◌, length}
+use denote.Shadow.{shadow}
+use denote.Text.{Utf8}
+use Rattle.cal_lines.specs.headline.Lines.{logical_lines}
+use Rattle.cal_read.specs.Settings.{settings_in}
+use Rattle.cal_read.proofs.settings.Settings.next.Given as goal
+
+abbrev pub invariant-loop-line : goal.invariant-loop-line
+invariant-loop-line l = record {
+  utf8 : shadow (Utf8 l.rest);
+  left : l.fn.self ≡ settings_in l.self-inside.section.now l.inside (logical_lines l.number l.rest);
+  kept : l.fn.self ≡ settings_in l.self-inside.section.now l.self-inside.inside (logical_lines l.self-inside.number l.self-inside.rest.now);
+  whole : l.self-inside.number + length l.self-inside.rest.now < 2 ^ 32;
+  room : l.number + length l.rest < 2 ^ 32;
+}
+
+abbrev pub decreases-loop-line : goal.decreases-loop-line
+decreases-loop-line l = length l.rest

@@ -1,0 +1,23 @@
+-- The settings of a section of a unit file (systemd.syntax(7)), in the same words as `assignments_in`, but for a section
+-- of any name.
+use Rattle.std.specs.Prelude.{ℕ, Bool, if◌then◌else◌, List, [], ◌∷◌, map, string_bytes}
+use Rattle.std.specs.List.{filter_map}
+use Rattle.std.specs.Str.{bytes_eq}
+use Rattle.cal_lines.specs.headline.Lines.{Line}
+use Rattle.cal_read.specs.headline.Assignments.{Assignment, assignment_of, is_header, section_of, trimmed}
+use Rattle.cal_read.specs.declared.settings.Setting.{Setting}
+
+-- the lines in the sections with this name, without their headers; `inside` says whether the first line belongs to one
+unfoldable pub section_lines : List ℕ → Bool → List Line → List Line
+section_lines name inside [] = []
+section_lines name inside (line ∷ lines) =
+    if is_header line.text then section_lines name (bytes_eq (section_of line.text) name) lines
+    else (if inside then line ∷ section_lines name inside lines else section_lines name inside lines)
+
+-- the settings in the sections with this name, in order
+unfoldable pub settings_in : List ℕ → Bool → List Line → List Assignment
+settings_in name inside lines = filter_map assignment_of (section_lines name inside (map trimmed lines))
+
+-- how contracts see a setting: by its text, not by where it is in memory
+abbrev pub shown_setting : Setting → Assignment
+shown_setting setting = record { number = setting.number; key = string_bytes setting.key; value = string_bytes setting.value }
