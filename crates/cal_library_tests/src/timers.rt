@@ -11,6 +11,7 @@ mod assignments;
 mod bytes;
 mod counts;
 mod exceptions;
+mod faults;
 mod lines;
 mod texts;
 

@@ -12,6 +12,7 @@ pub mod StampPrintedTexts
 pub mod StampPrintedZones
 mod StampRows
 pub mod StampRule
+pub mod TimerFaultsLemmas
 pub mod TimerLemmas
 mod TimerRows
 pub mod TimerRuleLemmas

@@ -1,7 +1,8 @@
 -- Lemmas which say that the lists built one assignment at a time are the lists of all assignments.
 use Rattle.std.proofs.Common.{◌≡◌, ◌≤◌, ◌<◌, ◌+◌, ◌&&◌, cond, ℕ, Bool, true, false, not, List, [], ◌∷◌, ◌++◌, codes, filter, length, refl, sym, subst, ap, ◌∙◌, arith, append_assoc, append-nil, length-append, Option, Some, None, Result, Ok, Err}
 use Rattle.std.specs.List.{after_last}
-use Rattle.std.specs.Prelude.{nat_le}
+use Rattle.std.specs.Prelude.{nat_le, min}
+use Rattle.cal_read.specs.TimerFaults.{count_with}
 use Rattle.std.proofs.lemmas.Bool.Decides.{nat_tests}
 use Rattle.std.proofs.lemmas.Slice.Eq.{bytes_eq-Decides}
 use Rattle.std.proofs.lemmas.List.Elements.{filter-append, filter_map-append}
@@ -37,6 +38,20 @@ kept_more adds resets before a e f =
     ap (filter adds) (after_last_more resets before a e)
     ∙ filter-append adds (after_last resets before) (a ∷ [])
     ∙ rw f refl
+
+-- the length of a list, counted one assignment at a time and capped at the limit
+pub counted_kept : (adds resets : Assignment → Bool) (before : List Assignment) (a : Assignment) (joined empties : Bool) (n : ℕ)
+    → adds a ≡ joined → resets a ≡ empties → (adds a ≡ true → resets a ≡ false) → n ≡ min (length (filter adds (after_last resets before))) max_expressions
+    → count_with n joined empties ≡ min (length (filter adds (after_last resets (before ++ a ∷ [])))) max_expressions
+counted_kept adds resets before a true empties n e f apart h =
+    let more : length (Kept adds resets (before ++ a ∷ [])) ≡ length (Kept adds resets before) + 1 = ap length (kept_more adds resets before a (apart e) e) ∙ length-append (Kept adds resets before) (a ∷ []) in
+    omega arith
+counted_kept adds resets before a false true n e f apart h =
+    let none : length (Kept adds resets (before ++ a ∷ [])) ≡ 0 = ap length (kept_reset adds resets before a f) in
+    omega arith
+counted_kept adds resets before a false false n e f apart h =
+    let same : length (Kept adds resets (before ++ a ∷ [])) ≡ length (Kept adds resets before) = ap length (kept_other adds resets before a f e) in
+    omega arith
 
 -- an assignment that neither adds to one of the lists nor clears it doesn't change that list
 listed_other : (before : List Assignment) (a : Assignment) → is_reset a ≡ false → is_expression a ≡ false → listed (before ++ a ∷ []) ≡ listed before

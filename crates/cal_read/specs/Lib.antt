@@ -12,6 +12,7 @@ pub mod StampRule
 pub mod StampTime
 pub mod StampViews
 pub mod TimerFault
+pub mod TimerFaults
 pub mod TimerRule
 pub mod TimerText
 pub mod TimerTexts

@@ -11,7 +11,7 @@ pub(super) const DAILY: &str = "OnCalendar=daily";
 
 pub(super) const EXCEPTION: &str = "X-ExceptOnCalendar=Sat";
 
-const RESET: &str = "OnCalendar=";
+pub(super) const RESET: &str = "OnCalendar=";
 
 /// The lines after `[Timer]`, each with the number of its copies, and the expressions or the error of that file.
 type Counted = (&'static [(u32, &'static str)], Result<Lines, TimerFault>);

@@ -1,7 +1,7 @@
 //! Laws of the definitions that the contracts of [`crate::read_timer`] and [`crate::read_texts`] use. Each law is a function that does nothing
 //! and whose contract is the law.
 
-ghost use Rattle.std.specs.Prelude.{◌≡◌, ◌∷◌, ◌++◌, [], ℕ, Bool, List, Result, codes, false, filter, true, if◌then◌else◌};
+ghost use Rattle.std.specs.Prelude.{◌≡◌, ◌∷◌, ◌++◌, [], ℕ, Bool, List, Result, codes, false, filter, map, slice_get, true, if◌then◌else◌};
 ghost use Rattle.std.specs.List.{list_any};
 ghost use Rattle.std.specs.Str.{bytes_eq};
 ghost use Rattle.cal_spec.specs.headline.Fields.{Fields};
@@ -11,7 +11,8 @@ ghost use Rattle.cal_read.specs.headline.Assignments.{Assignment, assignments_in
 ghost use Rattle.cal_lines.specs.headline.Lines.{Line};
 ghost use Rattle.cal_read.specs.TimerRule.{JudgesTimer};
 ghost use Rattle.cal_read.specs.declared.timer.fault.TimerFault.{TimerFault};
-ghost use Rattle.cal_read.specs.TimerText.{Timer, lists_of, timer_of};
+ghost use Rattle.cal_read.specs.TimerText.{Timer, first_fault, lists_of, timer_of};
+ghost use Rattle.cal_read.specs.TimerFaults.{all_faults, faults_of};
 ghost use Rattle.cal_read.specs.TimerTexts.{assignments_of};
 ghost use Rattle.cal_read.specs.declared.timer.texts.UnitText.{UnitText};
 ghost use Rattle.cal_read.specs.headline.TimerText.{excepted, is_exception, is_exception_reset, is_expression, is_reset, listed};
@@ -68,4 +69,13 @@ pub fn one_text_is_a_timer_file()
 /// The settings of the section `Timer` are the assignments of a timer file.
 pub fn settings_of_the_section_timer()
     ensures { (inside : Bool) (lines : List Line) → settings_in (codes "Timer") inside lines ≡ assignments_in inside lines }
+{}
+
+/// The first of all errors is the first error, and the errors of several texts are those of all their settings in order.
+/// So the first error of [`crate::find_faults`] is the error of [`crate::read_texts`].
+pub fn first_of_all_faults()
+    ensures first { (read : List ℕ → Result Fields SpecFault) (before after : List Assignment)
+        → first_fault read before after ≡ slice_get (all_faults read before after) 0 }
+    ensures texts { (read : List ℕ → Result Fields SpecFault) (before : List Assignment) (k : ℕ) (files : List UnitText)
+        → map (λ found. found.fault) (faults_of read before k files) ≡ all_faults read before (assignments_of files) }
 {}

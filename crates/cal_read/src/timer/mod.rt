@@ -3,6 +3,7 @@
 ghost use Rattle.std.specs.Prelude.{◌≡◌, map};
 ghost use Rattle.cal_read.specs.TimerView.{shown, shown_lists};
 
+pub(crate) mod all;
 pub(crate) mod fault;
 pub(crate) mod file;
 pub mod laws;

@@ -1,0 +1,120 @@
+//! All errors of the texts of a timer.
+
+use super::counts::{DAILY, EXCEPTION, RESET, counted_file};
+use super::texts::unit_texts;
+use cal_read::{FileFault, TimerFault, find_faults};
+use cal_spec::SpecFault;
+use std::process::Abort;
+use std::test::Fail;
+
+/// Texts, and all their errors: the index of a text, a line and the error in it.
+type Row = (&'static [&'static str], &'static [(usize, u32, SpecFault)]);
+
+static BAD_LINES: [Row; 5] = [
+    (&[], &[]),
+    // That there is no expression is not among these errors.
+    (&["[Timer]\nOnCalendar=daily", "[Timer]\nOnCalendar="], &[]),
+    // Each invalid expression and exception is an error, with the index of its text and its line in that text.
+    (
+        &[
+            "[Timer]\nOnCalendar=25:00\nOnCalendar=daily\nX-ExceptOnCalendar=x!",
+            "[Unit]\nOnCalendar=x!\n[Timer]\nOnCalendar=Mon \\\n7 \\\n7",
+            "",
+            "[Timer]\nOnCalendar=20/4:00",
+        ],
+        &[
+            (0, 2, SpecFault::OutOfField),
+            (0, 4, SpecFault::BadWeekday),
+            (1, 4, SpecFault::BadDate),
+            (3, 2, SpecFault::NoRepeat),
+        ],
+    ),
+    // Even if a later setting clears the list.
+    (
+        &[
+            "[Timer]\nOnCalendar=25:00",
+            "[Timer]\nOnCalendar=\nOnCalendar=fortnightly",
+        ],
+        &[
+            (0, 2, SpecFault::OutOfField),
+            (1, 3, SpecFault::UnknownShorthand),
+        ],
+    ),
+    // Other settings can have any value.
+    (
+        &["[Timer]\nOnBootSec=x!\nPersistent=x!\nOnCalendar=daily"],
+        &[],
+    ),
+];
+
+/// Expects these texts to have exactly these errors.
+fn expect_faults(
+    rt: &(impl Abort + AllocGlobal),
+    texts: &[&str],
+    expected: &[FileFault],
+) -> Result<(), Fail> {
+    let files = unit_texts(rt.alloc(), texts)?;
+    let found = find_faults(rt.alloc(), &files)?;
+    assert_eq!(rt; found.as_slice(), expected, "in {texts:?}");
+    Ok(())
+}
+
+/// The error of an invalid expression or exception.
+fn bad_line((file, line, fault): (usize, u32, SpecFault)) -> FileFault {
+    FileFault {
+        file: Some(file),
+        fault: TimerFault::BadLine(line, fault),
+    }
+}
+
+/// The error of an expression or exception over the limit.
+fn too_many(file: usize, line: u32) -> FileFault {
+    FileFault {
+        file: Some(file),
+        fault: TimerFault::TooMany(line),
+    }
+}
+
+/// Expects these texts to have exactly these invalid lines.
+fn expect_bad_lines(rt: &(impl Abort + AllocGlobal), (texts, lines): &Row) -> Result<(), Fail> {
+    let mut expected = Vec::new(rt.alloc());
+    for line in *lines {
+        expected.push(bad_line(*line))?;
+    }
+    expect_faults(rt, texts, &expected)
+}
+
+#[test]
+fn bad_lines(rt: HostRuntime) -> Result<(), Fail> {
+    for row in &BAD_LINES {
+        expect_bad_lines(&rt, row)?;
+    }
+    Ok(())
+}
+
+/// Each expression over the limit is an error, and so is each exception, until the list is cleared. Invalid ones count.
+#[test]
+fn several_too_many(rt: HostRuntime) -> Result<(), Fail> {
+    let unit = counted_file(rt.alloc(), &[(255, DAILY), (256, EXCEPTION)])?;
+    let drop_in = counted_file(
+        rt.alloc(),
+        &[
+            (1, "OnCalendar=25:00"),
+            (1, DAILY),
+            (1, "OnCalendar=x!"),
+            (1, EXCEPTION),
+            (1, RESET),
+            (256, DAILY),
+            (2, DAILY),
+        ],
+    )?;
+    let expected = [
+        bad_line((1, 2, SpecFault::OutOfField)),
+        too_many(1, 3),
+        too_many(1, 4),
+        too_many(1, 5),
+        too_many(1, 263),
+        too_many(1, 264),
+    ];
+    expect_faults(&rt, &[&unit, &drop_in], &expected)
+}

@@ -1,0 +1,155 @@
+-- Lemmas which say that counting gives the same errors as keeping the lists.
+use Rattle.std.proofs.Common.{◌≡◌, ◌+◌, ◌<◌, ℕ, List, [], ◌∷◌, ◌++◌, refl, subst, sym, ap, ◌∙◌, arith, append_assoc, append-nil, length, map, Option, Some, None, Result, drop, get_or, drop-cons, add-one}
+use Rattle.std.specs.Prelude.{nat_le, min}
+use Rattle.std.specs.List.{slice_get}
+use Rattle.std.proofs.lemmas.Bool.Decides.{nat_tests}
+use Rattle.std.specs.Option.{option_or, option_to_list}
+use Rattle.cal_spec.specs.declared.spec_fault.SpecFault.{SpecFault}
+use Rattle.cal_read.specs.headline.Assignments.{Assignment}
+use Rattle.cal_read.specs.headline.TimerText.{excepted, is_exception, is_exception_reset, is_expression, is_reset, listed, max_expressions}
+use Rattle.cal_read.specs.TimerText.{fault_following, fault_joining, first_fault}
+use Rattle.cal_read.specs.TimerTexts.{assignments_at, assignments_of}
+use Rattle.cal_read.specs.TimerFaults.{all_faults, counted_faults, counted_files, counts_over, counts_with, fault_at, faults_of, in_file}
+use Rattle.cal_read.specs.declared.timer.all.Counts.{Counts}
+use Rattle.cal_read.specs.declared.timer.fault.TimerFault.{TimerFault}
+use Rattle.cal_read.specs.declared.timer.texts.FileFault.{FileFault}
+use Rattle.cal_read.specs.declared.timer.texts.UnitText.{UnitText}
+use Rattle.std.proofs.lemmas.List.{map-append}
+use Rattle.std.proofs.Math.Seq.{drop-length}
+use Rattle.cal_read.proofs.ListedLemmas.{counted_kept, exception_is_no_exception_reset, expression_is_no_reset}
+
+-- the counts are the lengths of the lists of these assignments, capped at the limit
+pub record AreCounts (counts : Counts) (before : List Assignment) : Type 0 where
+  pub expressions : counts.expressions ≡ min (length (listed before)) max_expressions
+  pub exceptions : counts.exceptions ≡ min (length (excepted before)) max_expressions
+
+pub counts_none : AreCounts (record { expressions = 0; exceptions = 0 }) []
+unfolding listed excepted
+counts_none = record { expressions = refl; exceptions = refl }
+
+counts_more : (counts : Counts) (before : List Assignment) (a : Assignment) → AreCounts counts before → AreCounts (counts_with counts a) (before ++ a ∷ [])
+unfolding listed excepted
+counts_more counts before a h = record {
+  expressions = counted_kept is_expression is_reset before a (is_expression a) (is_reset a) counts.expressions refl refl (expression_is_no_reset a) h.expressions;
+  exceptions = counted_kept is_exception is_exception_reset before a (is_exception a) (is_exception_reset a) counts.exceptions refl refl (exception_is_no_exception_reset a) h.exceptions;
+}
+
+-- a list is full exactly if its count is
+same_limit : (n m : ℕ) → n ≡ min m max_expressions → nat_le max_expressions n ≡ nat_le max_expressions m
+same_limit n m h = grind (arith, nat_tests)
+
+fault_counted : {E : Type 0} (read : List ℕ → Result E SpecFault) (counts : Counts) (before : List Assignment) (a : Assignment) → AreCounts counts before → fault_at read counts a ≡ fault_following read before a
+unfolding fault_following fault_joining
+fault_counted read counts before a h =
+    rw (same_limit counts.expressions (length (listed before)) h.expressions, same_limit counts.exceptions (length (excepted before)) h.exceptions) refl
+
+counted_is_all : {E : Type 0} (read : List ℕ → Result E SpecFault) (counts : Counts) (before after : List Assignment) → AreCounts counts before → counted_faults read counts after ≡ all_faults read before after
+unfolding counted_faults all_faults
+counted_is_all read counts before [] h = refl
+counted_is_all read counts before (a ∷ after) h =
+    ap (λ o. option_to_list o ++ counted_faults read (counts_with counts a) after) (fault_counted read counts before a h)
+    ∙ ap (λ rest. option_to_list (fault_following read before a) ++ rest) (counted_is_all read (counts_with counts a) (before ++ a ∷ []) after (counts_more counts before a h))
+
+counts_over_are : (counts : Counts) (before after : List Assignment) → AreCounts counts before → AreCounts (counts_over counts after) (before ++ after)
+unfolding counts_over
+counts_over_are counts before [] h = subst (λ (all : List Assignment). AreCounts counts all) (sym (append-nil before)) h
+counts_over_are counts before (a ∷ after) h =
+    subst (λ (all : List Assignment). AreCounts (counts_over (counts_with counts a) after) all) (append_assoc before (a ∷ []) after)
+    (counts_over_are (counts_with counts a) (before ++ a ∷ []) after (counts_more counts before a h))
+
+files_by : {E : Type 0} (read : List ℕ → Result E SpecFault) (counts : Counts) (before : List Assignment) (k : ℕ) (files : List UnitText) → AreCounts counts before → counted_files read counts k files ≡ faults_of read before k files
+unfolding counted_files faults_of
+files_by read counts before k [] h = refl
+files_by read counts before k (file ∷ files) h =
+    ap (λ faults. map (in_file k) faults ++ counted_files read (counts_over counts (assignments_at file)) (k + 1) files) (counted_is_all read counts before (assignments_at file) h)
+    ∙ ap (λ rest. map (in_file k) (all_faults read before (assignments_at file)) ++ rest)
+    (files_by read (counts_over counts (assignments_at file)) (before ++ assignments_at file) (k + 1) files (counts_over_are counts before (assignments_at file) h))
+
+-- the errors of all texts
+pub files_counted : {E : Type 0} (read : List ℕ → Result E SpecFault) (files : List UnitText) → counted_files read (record { expressions = 0; exceptions = 0 }) 0 files ≡ faults_of read [] 0 files
+files_counted read files = files_by read (record { expressions = 0; exceptions = 0 }) [] 0 files counts_none
+
+-- the errors from a text on are its own errors and those of the remaining texts
+pub files_more : {E : Type 0} (read : List ℕ → Result E SpecFault) (counts : Counts) (files : List UnitText) (i : ℕ) (d : UnitText) → i < length files
+    → counted_files read counts i (drop i files) ≡ map (in_file i) (counted_faults read counts (assignments_at (get_or files i d))) ++ counted_files read (counts_over counts (assignments_at (get_or files i d))) (i + 1) (drop (i + 1) files)
+unfolding counted_files
+files_more read counts files i d h = rw (drop-cons files i d) (rw add-one refl)
+
+pub no_files : {E : Type 0} (read : List ℕ → Result E SpecFault) (counts : Counts) (k : ℕ) → counted_files read counts k [] ≡ []
+unfolding counted_files
+no_files read counts k = refl
+
+-- the errors of a list of settings are the error of the first one and those of the others
+pub setting_more : {E : Type 0} (read : List ℕ → Result E SpecFault) (counts : Counts) (a : Assignment) (after : List Assignment) → counted_faults read counts (a ∷ after) ≡ option_to_list (fault_at read counts a) ++ counted_faults read (counts_with counts a) after
+unfolding counted_faults
+setting_more read counts a after = refl
+
+pub counts_step : (counts : Counts) (a : Assignment) (after : List Assignment) → counts_over counts (a ∷ after) ≡ counts_over (counts_with counts a) after
+unfolding counts_over
+counts_step counts a after = refl
+
+-- the steps of the loops: what a setting adds to the errors and to the counts, and what a text adds
+pub step_faults : {E : Type 0} (read : List ℕ → Result E SpecFault) (k : ℕ) (found more : List FileFault) (counts now : Counts) (all : List Assignment) (a : Assignment) (after : List Assignment) (fault : Option TimerFault)
+    → all ≡ a ∷ after → fault ≡ fault_at read counts a → now ≡ counts_with counts a → more ≡ found ++ map (in_file k) (option_to_list fault)
+    → more ++ map (in_file k) (counted_faults read now after) ≡ found ++ map (in_file k) (counted_faults read counts all)
+step_faults read k found more counts now all a after fault e f g h =
+    rw (e, g, h, f, setting_more read counts a after)
+    (append_assoc found (map (in_file k) (option_to_list (fault_at read counts a))) (map (in_file k) (counted_faults read (counts_with counts a) after))
+    ∙ ap (λ rest. found ++ rest) (sym (map-append (in_file k) (option_to_list (fault_at read counts a)) (counted_faults read (counts_with counts a) after))))
+
+pub step_counts : (counts now : Counts) (all : List Assignment) (a : Assignment) (after : List Assignment) → all ≡ a ∷ after → now ≡ counts_with counts a → counts_over now after ≡ counts_over counts all
+step_counts counts now all a after e g = ap (λ counts. counts_over counts after) g ∙ sym (counts_step counts a after) ∙ ap (counts_over counts) (sym e)
+
+pub ended_faults : {E : Type 0} (read : List ℕ → Result E SpecFault) (k : ℕ) (found : List FileFault) (counts : Counts) (all : List Assignment) → all ≡ [] → found ≡ found ++ map (in_file k) (counted_faults read counts all)
+unfolding counted_faults
+ended_faults read k found counts all e = rw e (sym (append-nil found))
+
+pub ended_counts : (counts : Counts) (all : List Assignment) → all ≡ [] → counts ≡ counts_over counts all
+unfolding counts_over
+ended_counts counts all e = rw e refl
+
+pub step_files : {E : Type 0} (read : List ℕ → Result E SpecFault) (found more : List FileFault) (counts now : Counts) (files : List UnitText) (i : ℕ) (d : UnitText) → i < length files
+    → more ≡ found ++ map (in_file i) (counted_faults read counts (assignments_at (get_or files i d))) → now ≡ counts_over counts (assignments_at (get_or files i d))
+    → more ++ counted_files read now (i + 1) (drop (i + 1) files) ≡ found ++ counted_files read counts i (drop i files)
+step_files read found more counts now files i d h e f =
+    rw (e, f, files_more read counts files i d h)
+    (append_assoc found (map (in_file i) (counted_faults read counts (assignments_at (get_or files i d)))) (counted_files read (counts_over counts (assignments_at (get_or files i d))) (i + 1) (drop (i + 1) files)))
+
+pub ended_files : {E : Type 0} (read : List ℕ → Result E SpecFault) (found : List FileFault) (counts : Counts) (files : List UnitText) (i : ℕ) → i ≡ length files → found ≡ found ++ counted_files read counts i (drop i files)
+ended_files read found counts files i e = rw (e, drop-length files, no_files read counts (length files)) (sym (append-nil found))
+
+-- the first of all errors is the first error
+head_by : {E : Type 0} (read : List ℕ → Result E SpecFault) (before : List Assignment) (a : Assignment) (after : List Assignment) (o : Option TimerFault)
+    → first_fault read (before ++ a ∷ []) after ≡ slice_get (all_faults read (before ++ a ∷ []) after) 0
+    → option_or o (first_fault read (before ++ a ∷ []) after) ≡ slice_get (option_to_list o ++ all_faults read (before ++ a ∷ []) after) 0
+head_by read before a after (Some fault) rest = refl
+head_by read before a after None rest = rest
+
+pub first_is_head : {E : Type 0} (read : List ℕ → Result E SpecFault) (before after : List Assignment) → first_fault read before after ≡ slice_get (all_faults read before after) 0
+unfolding first_fault all_faults
+first_is_head read before [] = refl
+first_is_head read before (a ∷ after) = head_by read before a after (fault_following read before a) (first_is_head read (before ++ a ∷ []) after)
+
+-- the errors of two lists of assignments
+all_append : {E : Type 0} (read : List ℕ → Result E SpecFault) (before xs ys : List Assignment) → all_faults read before (xs ++ ys) ≡ all_faults read before xs ++ all_faults read (before ++ xs) ys
+unfolding all_faults
+all_append read before [] ys = ap (λ all. all_faults read all ys) (sym (append-nil before))
+all_append read before (a ∷ xs) ys =
+    ap (λ rest. option_to_list (fault_following read before a) ++ rest) (all_append read (before ++ a ∷ []) xs ys)
+    ∙ sym (append_assoc (option_to_list (fault_following read before a)) (all_faults read (before ++ a ∷ []) xs) (all_faults read ((before ++ a ∷ []) ++ xs) ys))
+    ∙ ap (λ all. (option_to_list (fault_following read before a) ++ all_faults read (before ++ a ∷ []) xs) ++ all_faults read all ys) (append_assoc before (a ∷ []) xs)
+
+without_file : (k : ℕ) (faults : List TimerFault) → map (λ (found : FileFault). found.fault) (map (in_file k) faults) ≡ faults
+without_file k [] = refl
+without_file k (fault ∷ faults) = ap (λ rest. fault ∷ rest) (without_file k faults)
+
+-- the errors of several texts are those of all their assignments
+pub texts_are_all : {E : Type 0} (read : List ℕ → Result E SpecFault) (before : List Assignment) (k : ℕ) (files : List UnitText)
+    → map (λ (found : FileFault). found.fault) (faults_of read before k files) ≡ all_faults read before (assignments_of files)
+unfolding faults_of all_faults
+texts_are_all read before k [] = refl
+texts_are_all read before k (file ∷ files) =
+    map-append (λ (found : FileFault). found.fault) (map (in_file k) (all_faults read before (assignments_at file))) (faults_of read (before ++ assignments_at file) (k + 1) files)
+    ∙ ap (λ front. front ++ map (λ (found : FileFault). found.fault) (faults_of read (before ++ assignments_at file) (k + 1) files)) (without_file k (all_faults read before (assignments_at file)))
+    ∙ ap (λ rest. all_faults read before (assignments_at file) ++ rest) (texts_are_all read (before ++ assignments_at file) (k + 1) files)
+    ∙ sym (all_append read before (assignments_at file) (assignments_of files))
