@@ -7,6 +7,7 @@ use std::alloc::Global;
 use std::process::Abort;
 
 mod counts;
+mod fault_words;
 mod faults;
 mod meaning;
 mod normal_texts;

@@ -15,6 +15,7 @@ pub mod ComponentLemmas
 pub mod ComponentRule
 pub mod DateRule
 pub mod FaultLemmas
+pub mod FaultSpanLemmas
 pub mod FieldLemmas
 pub mod PartRule
 pub mod ReadBackParts
@@ -23,5 +24,6 @@ pub mod SymbolLemmas
 pub mod WeekdayRule
 pub mod WholeRule
 pub mod SuffixLemmas
+pub mod TrailingBlanks
 pub mod WordRule
 pub mod WordsBetween

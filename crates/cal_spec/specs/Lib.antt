@@ -2,6 +2,7 @@ pub mod Components
 pub mod DateAndTime
 pub mod DateAndTimeViews
 pub mod Expr
+pub mod FaultSpan
 pub mod Faults
 pub mod Fields
 pub mod Grammar

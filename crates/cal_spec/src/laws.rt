@@ -1,12 +1,14 @@
 //! Laws about the definitions that the contracts of this crate use. Each law is a function with an empty body, whose
 //! contract states the law.
 
-ghost use Rattle.std.specs.Prelude.{◌≡◌, ◌⊎◌, ◌<◌, ℕ, Bool, List, None, Ok, Option, length};
+ghost use Rattle.std.specs.Prelude.{◌≡◌, ◌⊎◌, ◌<◌, ◌≤◌, ℕ, Bool, List, None, Ok, Option, length};
 ghost use Rattle.std.specs.List.{AllByRecursion};
-ghost use Rattle.cal_spec.specs.Expr.{IsExpr};
+ghost use Rattle.cal_text.specs.headline.Trim.{trim_end_matches};
+ghost use Rattle.cal_text.specs.headline.Words.{is_blank};
+ghost use Rattle.cal_spec.specs.Expr.{IsExpr, expr_in};
 ghost use Rattle.cal_spec.specs.headline.ExprText.{expr_text};
 ghost use Rattle.cal_spec.specs.headline.Fields.{Fields};
-ghost use Rattle.cal_spec.specs.Grammar.{fields_in};
+ghost use Rattle.cal_spec.specs.Grammar.{fields_in, max_text_bytes};
 ghost use Rattle.cal_spec.specs.headline.Match.{matches};
 ghost use Rattle.cal_spec.specs.headline.Members.{component_has, sets_of};
 ghost use Rattle.cal_spec.specs.NormalForm.{AreNormal, AreParts, IsPart, normal_component, normal_fields, normal_parts, normal_second};
@@ -84,4 +86,10 @@ pub fn normal_texts_read_back()
 /// The zone of an expression is never both a name and a UTC offset.
 pub fn zones_are_names_or_offsets()
     ensures { (suffix : Option ZoneSuffix) → (name_in suffix ≡ None) ⊎ (offset_said suffix ≡ None) }
+{}
+
+/// Trailing blanks don't change how a text is parsed, unless they make it longer than 4,096 bytes.
+pub fn trailing_blanks_are_ignored()
+    ensures { (text : List ℕ) → length text ≤ max_text_bytes
+        → expr_in (trim_end_matches is_blank text) ≡ expr_in text }
 {}

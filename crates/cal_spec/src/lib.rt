@@ -6,6 +6,7 @@ mod components;
 mod date_and_time;
 mod expr;
 mod expr_text;
+mod fault_word;
 mod field;
 mod fields;
 pub mod grammar_laws;
@@ -30,6 +31,7 @@ mod zone_suffix;
 
 pub use expr::Expr;
 pub use expr_text::write_expr;
+pub use fault_word::fault_span;
 pub use field::Field;
 pub use matching::day_value;
 pub use part::Part;

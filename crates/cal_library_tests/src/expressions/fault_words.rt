@@ -1,0 +1,102 @@
+//! The word at fault in an invalid expression.
+
+use cal_spec::fault_span;
+use std::alloc::{AllocError, Global};
+use std::process::Abort;
+use std::test::Fail;
+
+/// The text before the word at fault, this word, and the text after it.
+type Row = (&'static str, &'static str, &'static str);
+
+static FAULT_WORDS: [Row; 22] = [
+    ("", "fortnightly", ""),
+    ("", "Mon..Foo", " 12:00"),
+    ("", "Mon,,Tue", ""),
+    ("Mon,Tue ", "2012-13-01", " 12:00"),
+    ("Mon ", "5", ""),
+    ("", "7", " 12:00"),
+    ("", "*-1~5-2", ""),
+    ("Thu,Fri 2012-*-1,5 ", "25:00", " UTC"),
+    ("2012-1-1 ", "5", ""),
+    ("", "*:*/5", ""),
+    ("", "0:0:1.5", " UTC"),
+    ("\t  2003-02-30  ", "20/4:00", " \t"),
+    ("12:00 ", "13:00", ""),
+    ("12:00 UTC ", "UTC", " x!"),
+    ("daily ", "5", " 5"),
+    ("daily ", "+2", ""),
+    ("20:00 ", "+26:00", ""),
+    ("12:00 ", "A\u{e4}", " \u{e4}"),
+    ("", "\u{c4}", ""),
+    // Both words are wrong, and so is the first alone.
+    ("", "Foo", " 25:00"),
+    // A carriage return and a line feed are not blanks.
+    ("", "12:00\r", ""),
+    ("12:00 ", "\n", ""),
+];
+
+/// Valid expressions, most of them from systemd.time(7), and texts with only blanks.
+static NO_FAULT: [&str; 14] = [
+    "",
+    " ",
+    " \t \t",
+    "Sat,Thu,Mon..Wed,Sat..Sun",
+    "Mon,Sun 12-*-* 2,1:23",
+    "Wed, 17:48",
+    "Wed..Sat,Tue 12-10-15 1:2:3",
+    "*-*-7 0:0:0",
+    "10-15",
+    "Mon,Fri *-01/2-01,03 *:30:45",
+    "2003-02..04-05",
+    "*-*~1 12:00 Asia/Tokyo \t ",
+    "  daily   +02:00 ",
+    "12:00 UTC",
+];
+
+/// Expects the word between `front` and `back` to be at fault.
+fn expect_word(rt: &(impl Abort + AllocGlobal), (front, word, back): &Row) -> Result<(), Fail> {
+    let mut text = String::from_str(rt.alloc(), front)?;
+    text.push_str(word)?;
+    let end = text.len();
+    text.push_str(back)?;
+    let found = fault_span(rt.alloc(), &text)?;
+    assert_eq!(rt; found, Some(front.len()..end), "at {text:?}");
+    Ok(())
+}
+
+#[test]
+fn words_at_fault(rt: HostRuntime) -> Result<(), Fail> {
+    for row in &FAULT_WORDS {
+        expect_word(&rt, row)?;
+    }
+    Ok(())
+}
+
+#[test]
+fn no_word_at_fault(rt: HostRuntime) -> Result<(), Fail> {
+    for text in &NO_FAULT {
+        assert_eq!(rt; fault_span(rt.alloc(), text)?, None, "at {text:?}");
+    }
+    Ok(())
+}
+
+/// Returns `count` blanks.
+fn blanks(alloc: Global, count: usize) -> Result<String, AllocError> {
+    let mut text = String::new(alloc);
+    for _ in 0..count {
+        text.push(' ')?;
+    }
+    Ok(text)
+}
+
+/// A text that is too long has the word at fault that ends past 4,096 bytes. If only blanks do, no word is at fault.
+#[test]
+fn long_texts(rt: HostRuntime) -> Result<(), Fail> {
+    let mut text = blanks(rt.alloc(), 4_092)?;
+    text.push_str("12:00")?;
+    assert_eq!(rt; fault_span(rt.alloc(), &text)?, Some(4_092..4_097));
+    let mut text = String::from_str(rt.alloc(), "12:00")?;
+    text.push_str(&blanks(rt.alloc(), 4_092)?)?;
+    assert_eq!(rt; fault_span(rt.alloc(), &text)?, None);
+    Ok(())
+}
