@@ -11,8 +11,8 @@ use crate::shared::{EXCEPT_FILE, SUMMER_TIME, TIMER_FILE, instant, zone_file};
 use crate::timers::{EXCEPT_EXCEPTIONS, EXCEPT_LINES, Lines, UNIT_LINES, expect_list, read};
 use cal_base::{Port, Rules, Zone, ZoneTable, place, read_whole};
 use cal_elapse::{Elapses, Listed, Merge, Pending, Rising};
-use cal_read::TimerFault;
-use cal_spec::read_expr;
+use cal_read::{Setting, Settings, TimerFault, UnitText, find_faults, read_settings, read_texts};
+use cal_spec::{fault_span, read_expr};
 use std::alloc::AllocError;
 use std::process::Abort;
 use std::test::Fail;
@@ -166,5 +166,78 @@ fn expect_lists(
 fn timer_files(rt: HostRuntime) -> Result<(), Fail> {
     expect_lists(&rt, TIMER_FILE, UNIT_LINES, &[])?;
     expect_lists(&rt, EXCEPT_FILE, EXCEPT_LINES, EXCEPT_EXCEPTIONS)?;
+    Ok(())
+}
+
+#[test]
+fn several_texts(rt: HostRuntime) -> Result<(), Fail> {
+    let files = [
+        UnitText {
+            first: 1,
+            text: "[Timer]\nOnCalendar=daily",
+        },
+        UnitText {
+            first: 1,
+            text: "[Timer]\nX-ExceptOnCalendar=Sat \\\n12:00",
+        },
+    ];
+    match read_texts(rt.alloc(), &files) {
+        Ok(timer) => {
+            expect_list(&rt, timer.lines(), &[(2, "daily")], b"the texts");
+            expect_list(&rt, timer.exceptions(), &[(2, "Sat  12:00")], b"the texts");
+            Ok(())
+        }
+        Err(found) => Err(found.fault.into()),
+    }
+}
+
+#[test]
+fn all_faults(rt: HostRuntime) -> Result<(), Fail> {
+    let files = [UnitText {
+        first: 1,
+        text: "[Timer]\nOnCalendar=Sat,Sun 25:00\nOnCalendar=Mon \\\n12:00\nX-ExceptOnCalendar=7",
+    }];
+    let found = find_faults(rt.alloc(), &files)?;
+    assert_eq!(rt; found.len(), 2);
+    Ok(())
+}
+
+const SETTINGS: &str = "[Timer]\nOnCalendar=Mon \\\n12:00\nPersistent=yes\n";
+
+/// Expects the first setting of [`SETTINGS`].
+fn expect_first(rt: &impl Abort, setting: Option<Setting>) {
+    let value = setting.map(|setting| setting.value.as_str() == "Mon  12:00");
+    assert_eq!(rt; value, Some(true));
+}
+
+/// If allocation fails, the setting is not skipped.
+#[test]
+fn the_next_setting(rt: HostRuntime) -> Result<(), Fail> {
+    let mut settings = Settings::new("Timer", 1, SETTINGS);
+    match settings.next(rt.alloc()) {
+        Ok(setting) => {
+            expect_first(&rt, setting);
+            Ok(())
+        }
+        Err(fault) => {
+            if let Ok(setting) = settings.next(rt.alloc()) {
+                expect_first(&rt, setting);
+            }
+            Err(fault.into())
+        }
+    }
+}
+
+#[test]
+fn all_settings(rt: HostRuntime) -> Result<(), Fail> {
+    let all = read_settings(rt.alloc(), "Timer", 1, SETTINGS)?;
+    assert_eq!(rt; all.len(), 2);
+    Ok(())
+}
+
+#[test]
+fn a_word_at_fault(rt: HostRuntime) -> Result<(), Fail> {
+    let found = fault_span(rt.alloc(), "Sat,Sun 12:00 UTC 5")?;
+    assert_eq!(rt; found, Some(18..19));
     Ok(())
 }
