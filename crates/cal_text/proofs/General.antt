@@ -65,7 +65,7 @@ or_false a b h = grind arith
 pub or_assoc : (x y z : Bool) → ((x || y) || z) ≡ (x || (y || z))
 or_assoc x y z = grind arith
 
--- equality of lists of Booleans, as a computable test
+-- equality of Booleans, and of lists of Booleans, as computable tests
 unfoldable pub same_bool : Bool → Bool → Bool
 same_bool true b = b
 same_bool false b = not b
@@ -88,7 +88,7 @@ same_bools_is [] (c ∷ cs) h = grind arith
 same_bools_is (b ∷ bs) [] h = grind arith
 same_bools_is (b ∷ bs) (c ∷ cs) h = let parts = and_parts (same_bool b c) (same_bools bs cs) h in grind (arith, same_bool_is b c parts.0, same_bools_is bs cs parts.1)
 
--- whether `f` returns `true` for all lists of n Booleans
+-- whether `f` returns `true` for all lists of `n` Booleans
 abbrev pub check_all : ℕ → (List Bool → Bool) → Bool
 check_all zero f = f []
 check_all (suc n) f = check_all n (λ bs. f (true ∷ bs)) && check_all n (λ bs. f (false ∷ bs))
@@ -102,7 +102,7 @@ each_checked (suc n) f (true ∷ bs) all long =
 each_checked (suc n) f (false ∷ bs) all long =
     each_checked n (λ cs. f (false ∷ cs)) bs (and_parts (check_all n (λ cs. f (true ∷ cs))) (check_all n (λ cs. f (false ∷ cs))) all).1 (omega arith)
 
--- whether `f` returns `true` for all numbers below n
+-- whether `f` returns `true` for all numbers below `n`
 abbrev pub all_below : ℕ → (ℕ → Bool) → Bool
 all_below zero f = true
 all_below (suc n) f = f n && all_below n f
@@ -119,7 +119,7 @@ int_eq-other a b e = grind (arith, ints)
 pub int_lt_trans : (a b c : ℤ) → a <ℤ b → b <ℤ c → a <ℤ c
 int_lt_trans a b c h k = omega (arith, ints)
 
--- the result of `int_cmp` from an inequality
+-- if a < b, `int_cmp` returns `Less`
 pub int_cmp-less : (a b : ℤ) → a <ℤ b → int_cmp a b ≡ Less
 int_cmp-less a b h = sym (int_cmp_is a b Less h)
 
@@ -132,11 +132,11 @@ not_lt_test a b h = grind (arith, ints)
 pub none_between : (low high i : ℕ) → high ≤ low → (nat_le low i && nat_lt i high) ≡ false
 none_between low high i none = grind (arith, nat_tests)
 
--- if nothing from n on passes the test, a number that passes is below n
+-- if no number from `n` upwards passes the test, a number that passes it is below `n`
 pub below_end : (passes : ℕ → Bool) (n s : ℕ) → ((i : ℕ) → n ≤ i → passes i ≡ false) → passes s ≡ true → s < n
 below_end passes n s none holds = grind (arith, none s)
 
--- t / size is a if t lies between a * size and (a + 1) * size
+-- if t is at least a * size and less than (a + 1) * size, then t / size is a
 pub quotient_part : (size a t : ℕ) → 0 < size → a * size ≤ t → t < (a + 1) * size → t / size ≡ a
 quotient_part size a t positive low high = omega (arith, le-div a t size positive low, div_below t size (a + 1) positive high)
 
@@ -171,11 +171,12 @@ pub pos_unsigned_abs : (z : ℤ) (n : ℕ) → pos 0 ≤ℤ z → n ≡ unsigned
 pos_unsigned_abs (pos m) n low e = ap pos e
 pos_unsigned_abs (negsuc m) n low e = absurd (omega (arith, ints))
 
--- the sum of two nonnegative 64-bit integers that doesn't overflow
+-- if two natural numbers have a sum below 2 ^ 63, adding them as 64-bit integers gives that sum
 pub sum_whole : (a b : ℤ) (n m : ℕ) → a ≡ pos n → b ≡ pos m → n + m < 2 ^ 63 → to_z w64 (of_z w64 (to_z w64 (of_z w64 a) +ℤ to_z w64 (of_z w64 b))) ≡ pos (n + m)
 sum_whole a b n m is_n is_m small = rw (is_n, is_m, to_z_pos w64 n (omega arith), to_z_pos w64 m (omega arith)) (to_z_pos w64 (n + m) small)
 
--- how many integers lie strictly between two nonnegative 64-bit integers
+-- if m < n < 2 ^ 63, then n - m - 1, the number of integers strictly between m and n, can be computed with 64-bit
+-- integers without overflow
 pub between_whole : (a b : ℤ) (n m : ℕ) → a ≡ pos n → b ≡ pos m → m < n → n < 2 ^ 63
     → unsigned_abs (to_z w64 (of_z w64 (to_z w64 (of_z w64 (to_z w64 (of_z w64 a) -ℤ to_z w64 (of_z w64 b))) -ℤ pos 1))) ≡ n - m - 1
 between_whole a b n m is_n is_m less small =
@@ -186,7 +187,7 @@ between_whole a b n m is_n is_m less small =
 pub lt_from_less : (a b : ℤ) → int_cmp a b ≡ Less → a <ℤ b
 lt_from_less a b e = int_ranked a b Less (sym e)
 
--- if two natural numbers are equal exactly if two integers are, both equality tests return the same
+-- if `m` and `n` are equal exactly if `a` and `b` are, the equality tests of both pairs return the same
 alike_tests : (m n : ℕ) (a b : ℤ) → (m ≡ n → a ≡ b) → (a ≡ b → m ≡ n) → nat_eq m n ≡ int_eq a b
 alike_tests m n a b back forth = grind (arith, ints)
 
@@ -196,7 +197,7 @@ same_word w a b f g =
 
 -- Bits
 
--- the bits of a word after a right shift, and after truncation to 64 bits
+-- bit k of m / 2 ^ j, that is, of m shifted right by j bits, is bit j + k of m
 pub bit_at-shift : (m j k : ℕ) → bit_at (m / 2 ^ j) k ≡ bit_at m (j + k)
 bit_at-shift m j k = ap (λ (x : ℕ). x % 2) (shr-shr m j k)
 
@@ -225,7 +226,7 @@ pub record IsLowestBit (m k : ℕ) : Type 0 where
   pub one : bit_at m k ≡ 1
   pub none : (i : ℕ) → i < k → bit_at m i ≡ 0
 
--- of the bits up to the lowest one that is set, only this one contributes to m
+-- if bit k is the lowest bit of m that is set, m modulo 2 ^ (k + 1) is 2 ^ k
 lowest_mod : (m k : ℕ) → IsLowestBit m k → m % 2 ^ (k + 1) ≡ 2 ^ k
 lowest_mod m k h =
     let next = pow_next k in
@@ -254,7 +255,7 @@ min_none x y e = omega arith
 pub min_none_right : (x y : ℕ) → y ≡ 0 → min x y ≡ 0
 min_none_right x y e = omega arith
 
--- subtracting 1 changes no bit above the lowest one that is set
+-- subtracting 1 from m changes no bit above the lowest bit of m that is set
 pub high_bits_same : (m k i : ℕ) → IsLowestBit m k → k < i → bit_at m i ≡ bit_at (m - 1) i
 high_bits_same m k i h high =
     let next = pow_next k in
@@ -264,7 +265,7 @@ high_bits_same m k i h high =
     ∙ (bit_at_cat_high a (k + 1) (2 ^ k) i (omega arith) (omega arith)
     ∙ (sym (bit_at_cat_high a (k + 1) (2 ^ k - 1) i (omega arith) (omega arith)) ∙ ap (λ (x : ℕ). bit_at x i) (sym (less_split m k h))))
 
--- the bitwise or of several words is at least as large as each of them
+-- the bitwise or of `a` and of the words `xs` is at least `a`
 fold_least : (a : ℕ) (xs : List ℕ) → a ≤ fold_l bit_or a xs
 fold_least a [] = omega arith
 fold_least a (x ∷ xs) = omega (arith, le_or_l a x, fold_least (bit_or a x) xs)
@@ -292,7 +293,8 @@ not_some o e = grind arith
 pub is_some-option_map : {A B : Type 0} (f : A → B) (o : Option A) → is_some (option_map f o) ≡ is_some o
 is_some-option_map f o = grind arith
 
--- an option of pairs, in terms of the pair's first and second elements
+-- mapping an option with `f` is the same as mapping it to pairs of the results of `f` and `g` and then to the first
+-- element of the pair
 pub map-first : {B X Y : Type 0} (f : B → X) (g : B → Y) (o : Option B)
     → option_map f o ≡ option_map (λ (p : X × Y). p.0) (option_map (λ b. (f b, g b)) o)
 map-first f g o = grind arith
@@ -307,7 +309,7 @@ pair_some o x y h k = grind arith
 pub unwrap_or_kept : {A : Type 0} (next : Option A) (local last : A) → IsSome next → IfSome next (λ l. l ≡ last) → unwrap_or next local ≡ last
 unwrap_or_kept next local last some kept = grind arith
 
--- which branch of a test was taken, from the option that it returned
+-- if the test `b` selects between `None` and `Some x`, and the result is `None`, the test is `true`
 pub none_chosen : {A : Type 0} (b : Bool) (x : A) → ◌≡◌ {A = Option A} (cond b None (Some x)) None → b ≡ true
 none_chosen b x h = grind arith
 
@@ -326,7 +328,7 @@ pub if_ok : {T E : Type 0} (r : Result T E) (P : Type 0) → P → IfOk r (λ x.
 if_ok (Ok x) P h = h
 if_ok (Err e) P h = tt
 
--- `IfOk` holds trivially for an error
+-- if `r` is an error, `IfOk r P` holds for every `P`
 pub no_ok : {T E : Type 0} (r : Result T E) (P : T → Type 0) → IsErr r → IfOk r P
 no_ok (Ok x) P h = absurd (false≢true h)
 no_ok (Err e) P h = tt
@@ -339,7 +341,7 @@ some_front xs ys h = omega (arith, length-append xs ys)
 pub list_all-both : (q : ℕ → Bool) (xs ys : List ℕ) → list_all q xs ≡ true → list_all q ys ≡ true → list_all q (xs ++ ys) ≡ true
 list_all-both q xs ys h k = list_all-append q xs ys ∙ and_from (list_all q xs) (list_all q ys) h k
 
--- a list is its first item followed by the remaining ones
+-- if the first item of a list is `x`, the list is `x` followed by the remaining items
 pub list-first : (xs : List ℤ) (x : ℤ) → slice_get xs 0 ≡ Some x → xs ≡ x ∷ drop 1 xs
 list-first [] x h = absurd (cc)
 list-first (y ∷ ys) x h = let same : y ≡ x = cc in ap (λ (z : ℤ). z ∷ ys) same
@@ -348,26 +350,29 @@ pub list-no_first : (xs : List ℤ) → slice_get xs 0 ≡ None → xs ≡ []
 list-no_first [] h = refl
 list-no_first (y ∷ ys) h = absurd (cc)
 
--- the mapped list from index i on begins with the item at i
+-- if `y` is the item at index `i` mapped by `f`, then the mapped list from index `i` on is `y` followed by the mapped
+-- list from index `i + 1` on
 pub items_next : {A B : Type 0} (f : A → B) (xs : List A) (i : ℕ) (x : A) (y : B) → i < length xs → x ≡ get_or xs i x → y ≡ f x → map f (drop i xs) ≡ y ∷ map f (drop (i + 1) xs)
 items_next f xs i x y h is e =
     rw (add-one, drop-cons xs i x h) (ap (λ z. f z ∷ map f (drop (suc i) xs)) (sym is) ∙ ap (λ t. t ∷ map f (drop (suc i) xs)) (sym e))
 
--- the mapped list from its end on is empty
+-- if `i` is not less than the length of a list, the mapped list from index `i` on is empty
 pub items_end : {A B : Type 0} (f : A → B) (xs : List A) (i : ℕ) → length xs ≤ i → map f (drop i xs) ≡ []
 items_end f xs i h = ap (map f) (drop_all i xs h)
 
--- the first i + 1 mapped items are the first i and one more
+-- if `y` is the item at index `i` mapped by `f`, then the first `i + 1` mapped items are the first `i` and `y` after
+-- them
 pub items_taken : {A B : Type 0} (f : A → B) (xs : List A) (i : ℕ) (x : A) (y : B) → i < length xs → x ≡ get_or xs i x → y ≡ f x
     → map f (take (i + 1) xs) ≡ map f (take i xs) ++ y ∷ []
 items_taken f xs i x y h is e =
     rw (take_more xs i x h) (map-append f (take i xs) (get_or xs i x ∷ []) ∙ ap (λ y. map f (take i xs) ++ f y ∷ []) (sym is) ∙ ap (λ t. map f (take i xs) ++ t ∷ []) (sym e))
 
--- from index i on, a concatenation of texts begins with the text of item i
+-- the texts of the items from index `i` on, joined, are the text of item `i` followed by the joined texts of the items
+-- from index `i + 1` on
 flat_map-drop : {A : Type 0} (f : A → List ℕ) (i : ℕ) (xs : List A) (d : A) → i < length xs → flat_map f (drop i xs) ≡ f (get_or xs i d) ++ flat_map f (drop (i + 1) xs)
 flat_map-drop f i xs d h = rw (add-one, drop-cons xs i d h) refl
 
--- like `flat_map-drop`, with a text that equals that of item i
+-- like `flat_map-drop`, with `piece` in place of the text of item `i`, to which it is equal
 pub item_first : {A : Type 0} (f : A → List ℕ) (i : ℕ) (xs : List A) (d : A) {piece : List ℕ} → i < length xs → piece ≡ f (get_or xs i d) → flat_map f (drop i xs) ≡ piece ++ flat_map f (drop (i + 1) xs)
 item_first f i xs d h is = flat_map-drop f i xs d h ∙ ap (λ first. first ++ flat_map f (drop (i + 1) xs)) (sym is)
 
@@ -394,7 +399,7 @@ rises-next (x ∷ xs) (suc k) h = rises-next xs k h
 pub rises_after : (xs : List ℤ) (k : ℕ) → IsStrictlySortedBy int_cmp (drop k xs) → IsStrictlySortedBy int_cmp (drop (k + 1) xs)
 rises_after xs k h = rw (add-one k) (rises-next xs k h)
 
--- a list that overwrites another one of the same length leaves nothing of it
+-- if `xs` overwrites the start of a list `ys` of the same length `n`, the first `n` items of the result are `xs`
 pub taken_whole : {X : Type 0} (xs ys : List X) (n : ℕ) → length xs ≡ length ys → n ≡ length ys → take n (xs ++ drop (length xs) ys) ≡ xs
 taken_whole xs ys n long e =
     let past : length ys ≤ length xs = omega arith in
@@ -406,7 +411,7 @@ slice_get-taken n xs k e at =
     slice_get_read xs (length xs) k e refl (omega (arith, within, length-take n xs))
     (sym (get_or_from_slice_get (take n xs) k e e at) ∙ get_or-take n xs k e (omega (arith, within, length-take n xs)))
 
--- how `suffix_len` changes when an item is appended
+-- if an item that passes the test `p` is appended, the longest suffix of items that pass grows by one
 suffix_more : {X : Type 0} (p : X → Bool) (xs : List X) (x : X) → p x ≡ true → suffix_len p (xs ++ x ∷ []) ≡ 1 + suffix_len p xs
 suffix_more p xs x e = ap (prefix_len p) (reverse-append xs (x ∷ [])) ∙ rw e refl
 
@@ -432,15 +437,15 @@ pub list_any-same : {A : Type 0} (f g : A → Bool) (P : A → Type 0) (xs : Lis
 list_any-same f g P [] all same = refl
 list_any-same f g P (x ∷ xs) all same = rw (same x all.0, list_any-same f g P xs all.1 same) refl
 
--- no byte of the text passes the test p
+-- no byte of the text passes the test `p`
 abbrev pub IsClear : (ℕ → Bool) → List ℕ → Type 0
 IsClear p text = list_any p text ≡ false
 
--- no byte passes both tests
+-- no byte passes both of the tests `q` and `p`
 abbrev pub Apart : (ℕ → Bool) → (ℕ → Bool) → Type 0
 Apart q p = (b : ℕ) → q b ≡ true → p b ≡ false
 
--- a text has no separators if all its bytes belong to a class without separators
+-- if all bytes of a text pass `q`, and no byte passes both `q` and `p`, then no byte of the text passes `p`
 pub clear_of : (q p : ℕ → Bool) (text : List ℕ) → Apart q p → list_all q text ≡ true → IsClear p text
 clear_of q p [] apart all = refl
 clear_of q p (b ∷ bs) apart all = grind (arith, apart b, clear_of q p bs apart)
@@ -457,7 +462,7 @@ list_all-take p xs zero h = refl
 list_all-take p [] (suc n) h = refl
 list_all-take p (x ∷ xs) (suc n) h = grind (arith, list_all-take p xs n)
 
--- a property holds for all items of two lists exactly if it holds for all items of their concatenation
+-- if a property holds for all items of two lists, it holds for all items of their concatenation
 pub all_append : (P : ℕ → Type 0) (xs ys : List ℕ) → AllByRecursion P xs → AllByRecursion P ys → AllByRecursion P (xs ++ ys)
 all_append P [] ys h k = k
 all_append P (x ∷ xs) ys h k = (h.0, all_append P xs ys h.1 k)
@@ -466,7 +471,7 @@ pub all_reverse : (P : ℕ → Type 0) (xs : List ℕ) → AllByRecursion P xs �
 all_reverse P [] h = tt
 all_reverse P (x ∷ xs) h = subst (AllByRecursion P) (sym (reverse-append (x ∷ []) xs)) (all_append P (reverse xs) (x ∷ []) (all_reverse P xs h.1) (h.0, tt))
 
--- the list without its last n items, in terms of the reversed list
+-- a list without its last `n` items is the reversed list without its first `n` items, reversed again
 pub take_front : (text : List ℕ) (n : ℕ) → n ≤ length text → take (length text - n) text ≡ reverse (drop n (reverse text))
 take_front text n h =
     let back = reverse text in
@@ -477,7 +482,7 @@ take_front text n h =
 
 -- Splitting a text at separators
 
--- splitting always returns at least one piece
+-- `onto_first` always returns at least one piece, and so does `slice_split`
 some_onto : (x : ℕ) (pieces : List (List ℕ)) → (first : List ℕ) × (more : List (List ℕ)) × (onto_first x pieces ≡ first ∷ more)
 some_onto x [] = (x ∷ [], [], refl)
 some_onto x (t ∷ ts) = (x ∷ t, ts, refl)
@@ -495,12 +500,14 @@ pub split_alone : (p : ℕ → Bool) (xs : List ℕ) → IsClear p xs → slice_
 split_alone p [] clear = refl
 split_alone p (x ∷ xs) clear = grind (arith, split_alone p xs)
 
--- splitting at the first separator
+-- if `front` has no separator and `c` is a separator, splitting `front ++ (c ∷ rest)` gives `front` and then the pieces
+-- of `rest`
 pub split_at : (p : ℕ → Bool) (front : List ℕ) (c : ℕ) (rest : List ℕ) → IsClear p front → p c ≡ true → slice_split p (front ++ (c ∷ rest)) ≡ front ∷ slice_split p rest
 split_at p [] c rest clear sign = rw sign refl
 split_at p (x ∷ xs) c rest clear sign = grind (arith, split_at p xs c rest)
 
--- the list of separators, by the first of them
+-- if `front` has no separator and `c` is a separator, the separators of `front ++ (c ∷ rest)` are `c` and then those of
+-- `rest`
 pub filter_at : (p : ℕ → Bool) (front : List ℕ) (c : ℕ) (rest : List ℕ) → IsClear p front → p c ≡ true → filter p (front ++ (c ∷ rest)) ≡ c ∷ filter p rest
 filter_at p [] c rest clear is = rw is refl
 filter_at p (x ∷ xs) c rest clear is = grind (arith, filter_at p xs c rest)
@@ -509,13 +516,13 @@ pub filter_alone : (p : ℕ → Bool) (xs : List ℕ) → IsClear p xs → filte
 filter_alone p [] clear = refl
 filter_alone p (x ∷ xs) clear = grind (arith, filter_alone p xs)
 
--- splitting undoes joining if none of the texts has a separator
+-- splitting undoes joining with the separator `c` if none of the joined texts contains `c`
 pub split_join_with_byte : (c : ℕ) (t : List ℕ) (ts : List (List ℕ)) → nat_eq c c ≡ true → AllByRecursion (IsClear (λ b. b == c)) (t ∷ ts) → slice_split (λ b. b == c) (join_with_byte c (t ∷ ts)) ≡ t ∷ ts
 split_join_with_byte c t [] same clear = split_alone (λ b. b == c) t clear.0
 split_join_with_byte c t (u ∷ ts) same clear =
     split_at (λ b. b == c) t c (join_with_byte c (u ∷ ts)) clear.0 same ∙ ap (λ more. t ∷ more) (split_join_with_byte c u ts same clear.1)
 
--- the pieces interleaved with the separators
+-- the pieces of a text with the separators between them
 abbrev pub woven : List ℕ → List (List ℕ) → List ℕ
 woven cs [] = []
 woven [] (t ∷ ts) = t
@@ -532,7 +539,7 @@ woven_first x cs (t ∷ ts) some = woven_onto x cs t ts
 pub some_pieces : (p : ℕ → Bool) (xs : List ℕ) → 0 < length (slice_split p xs)
 some_pieces p xs = omega (arith, length-slice_split p xs)
 
--- interleaving the pieces with the separators returns the whole text
+-- the pieces of a text, with its separators put back between them, are the whole text
 pub woven_whole : (p : ℕ → Bool) (xs : List ℕ) → woven (filter p xs) (slice_split p xs) ≡ xs
 woven_whole p [] = refl
 woven_whole p (x ∷ xs) = grind (arith, woven_whole p xs, woven_first x (filter p xs) (slice_split p xs) (some_pieces p xs))
@@ -544,7 +551,7 @@ filter_kept p (x ∷ xs) = grind (arith, filter_kept p xs)
 not_found : (test : Bool) (m : ℕ) → cond test (Some m) None ≡ None → test ≡ false
 not_found test m at = grind arith
 
--- splitting at the first separator, by its index
+-- if the first separator is at index `n`, splitting gives the bytes before it and then the pieces of the bytes after it
 pub split_some : (p : ℕ → Bool) (xs : List ℕ) (n : ℕ) → position p xs ≡ Some n → slice_split p xs ≡ take n xs ∷ slice_split p (drop (n + 1) xs)
 split_some p xs n at =
     let found = cond_some (nat_lt (position_or_len p xs) (length xs)) (position_or_len p xs) n at in
@@ -555,7 +562,8 @@ split_none p xs at =
     let none = ltb-false _ _ (not_found (nat_lt (position_or_len p xs) (length xs)) (position_or_len p xs) at) in
     slice_split_none p xs (λ k d within. not-true _ (prefix_len_passes (λ x. not (p x)) xs k d (omega (arith, none))))
 
--- the list of separators, by the index of the first one
+-- if a text has a separator, its separators are the first of them and then those of the bytes after it (the induction
+-- step)
 filter_some_step : (p : ℕ → Bool) (x : ℕ) (xs : List ℕ) (test : Bool) → (position_or_len p xs < length xs → filter p xs ≡ get_or xs (position_or_len p xs) 0 ∷ filter p (drop (position_or_len p xs + 1) xs)) → cond (not test) (1 + position_or_len p xs) 0 < suc (length xs) → cond test (x ∷ filter p xs) (filter p xs) ≡ get_or (x ∷ xs) (cond (not test) (1 + position_or_len p xs) 0) 0 ∷ filter p (drop (cond (not test) (1 + position_or_len p xs) 0 + 1) (x ∷ xs))
 filter_some_step p x xs true rest within = refl
 filter_some_step p x xs false rest within =
@@ -572,7 +580,8 @@ filter_none : (p : ℕ → Bool) (xs : List ℕ) → length xs ≤ position_or_l
 filter_none p [] past = refl
 filter_none p (x ∷ xs) past = grind (arith, filter_none p xs)
 
--- splitting at the first separator, by its index, with the pieces and the list of separators
+-- if the first separator is at index `n`, the pieces are the bytes before it and then the pieces of the bytes after it,
+-- and the separators are this separator and then those of the bytes after it
 pub cut_some : (p : ℕ → Bool) (xs : List ℕ) (n : ℕ) → position p xs ≡ Some n → (slice_split p xs ≡ take n xs ∷ slice_split p (drop (n + 1) xs)) × (filter p xs ≡ get_or xs n 0 ∷ filter p (drop (n + 1) xs))
 cut_some p xs n at =
     let found = cond_some (nat_lt (position_or_len p xs) (length xs)) (position_or_len p xs) n at in (
@@ -584,7 +593,7 @@ pub cut_none : (p : ℕ → Bool) (xs : List ℕ) → position p xs ≡ None →
 cut_none p xs at =
     (split_none p xs at, filter_none p xs (ltb-false _ _ (not_found (nat_lt (position_or_len p xs) (length xs)) (position_or_len p xs) at)))
 
--- the index of the first byte that passes, or the length if none does
+-- if the first byte that passes the test is at index `n`, `position_or_len` is `n`, which is at most the length
 pub index_some : (p : ℕ → Bool) (xs : List ℕ) (n : ℕ) → position p xs ≡ Some n → (n ≡ position_or_len p xs) × (n ≤ length xs)
 index_some p xs n at =
     let found = cond_some (nat_lt (position_or_len p xs) (length xs)) (position_or_len p xs) n at in
@@ -603,7 +612,8 @@ pub none_above : (p : ℕ → Bool) (xs : List ℕ) → length xs ≤ position_o
 none_above p [] past = refl
 none_above p (x ∷ xs) past = grind (arith, none_above p xs)
 
--- the lines of a text that is split at its first line feed
+-- if other parts follow `part`, the first line is `part` without a carriage return at its end, and the other lines are
+-- those of the other parts
 lines_of_more : (part : List ℕ) (parts : List (List ℕ)) → 0 < length parts → lines_of_parts (part ∷ parts) ≡ strip_carriage_return part ∷ lines_of_parts parts
 lines_of_more part [] h = absurd (omega arith)
 lines_of_more part (next ∷ parts) h = refl
@@ -618,7 +628,7 @@ some_line : (part : List ℕ) → 0 < length part → lines_of_parts (part ∷ [
 some_line [] h = absurd (omega arith)
 some_line (b ∷ part) h = grind (arith, nat_tests)
 
--- a text without a line feed is one line
+-- a nonempty text without a line feed is one line
 pub lines_last : (text : List ℕ) → 0 < length text → ((i : ℕ) → i < length text → get_or text i 0 ≢ 10) → lines text ≡ text ∷ []
 lines_last text some none =
     let parts = slice_split_none (λ b. b == 10) text (All-from_get_or (λ b. (b == 10) ≡ false) text 0 (λ i h. let other : get_or text i 0 ≢ 10 = none i h in grind (arith, nat_tests))) in
@@ -626,7 +636,7 @@ lines_last text some none =
 
 -- Digits and letters
 
--- `AllDigits` holds exactly if each byte passes the test for digits
+-- if `AllDigits` holds for a text, each of its bytes passes the test for digits
 pub digits_all : (ds : List ℕ) → AllDigits 10 ds → list_all is_ascii_digit ds ≡ true
 digits_all [] h = refl
 digits_all (c ∷ cs) h = grind (arith, nat_tests, digit_from_value c h.0, digits_all cs h.1)
@@ -653,7 +663,7 @@ short_number ds all short =
     let most : 10 ^ length ds ≤ 10 ^ 4 = pow-le-pow_right (omega arith) short in
     omega (arith, digits_value-lt 10 ds (all_digits ds all), most)
 
--- each byte of a list of digits is a digit, and its value is at most 9
+-- each byte of a list of digits is from 48 to 57, and the value of the digit is 48 less
 pub digit_value_at : (digits : List ℕ) (i : ℕ) → i < length digits → list_all is_ascii_digit digits ≡ true → (48 ≤ get_or digits i 0) × (get_or digits i 0 ≤ 57) × (digit_value (get_or digits i 0) + 48 ≡ get_or digits i 0)
 digit_value_at digits i within all =
     let is = and_at (list_all is_ascii_digit) is_ascii_digit refl (λ _ _. refl) digits i 0 within all in
@@ -681,7 +691,7 @@ letter_no_digit b h = grind (arith, nat_tests)
 pub boundary_at : (text : List ℕ) (m n : ℕ) → m ≡ n → IsCharBoundary text m → IsCharBoundary text n
 boundary_at text m n e h = let P : ℕ → Type 0 = λ k. IsCharBoundary text k in subst P e h
 
--- the byte before the longest suffix that passes doesn't pass, and all bytes of the suffix do
+-- the byte before the longest suffix of bytes that pass `p` doesn't pass, and all bytes of that suffix do (`in_suffix`)
 pub before_suffix : (p : ℕ → Bool) (text : List ℕ) → suffix_len p text < length text → p (get_or text (length text - suffix_len p text - 1) 0) ≡ false
 before_suffix p text within =
     let n = suffix_len p text in
@@ -698,7 +708,7 @@ in_suffix p text k d from within =
     let reversed = get_or-reverse text back d (omega arith) in
     rw (reversed, here) at seen
 
--- a text may be split after leading ASCII bytes
+-- if only ASCII bytes pass `p`, a text may be split after the leading bytes that pass
 front_boundary_at : (p : ℕ → Bool) (bs : List ℕ) (n : ℕ) → ((b : ℕ) → p b ≡ true → b < 128) → IsUtf8 bs → prefix_len p bs ≡ n → IsCharBoundary bs n
 front_boundary_at p bs zero ascii utf8 e = IsCharBoundary-start bs utf8
 front_boundary_at p bs (suc n) ascii utf8 e =
@@ -708,7 +718,7 @@ front_boundary_at p bs (suc n) ascii utf8 e =
 pub front_boundary : (p : ℕ → Bool) (bs : List ℕ) → ((b : ℕ) → p b ≡ true → b < 128) → IsUtf8 bs → IsCharBoundary bs (prefix_len p bs)
 front_boundary p bs ascii utf8 = front_boundary_at p bs (prefix_len p bs) ascii utf8 refl
 
--- a text may be split before trailing ASCII bytes
+-- if only ASCII bytes pass `p`, a text may be split before the trailing bytes that pass
 end_boundary_at : (p : ℕ → Bool) (bs : List ℕ) (n : ℕ) → ((b : ℕ) → p b ≡ true → b < 128) → suffix_len p bs ≡ n → IsCharBoundary bs (length bs - n)
 end_boundary_at p bs zero ascii e = subst (IsCharBoundary bs) (omega arith) (IsCharBoundary-end bs)
 end_boundary_at p bs (suc n) ascii e =
@@ -722,7 +732,7 @@ end_boundary p bs ascii = end_boundary_at p bs (suffix_len p bs) ascii refl
 
 -- Texts that are read or written in pieces
 
--- a text that was written may be replaced by an equal one
+-- if a call appended `xs`, and `ys` is equal to `xs`, it appended `ys`
 pub appends_respelled : (a b : Option (List ℕ)) (xs ys : List ℕ) → xs ≡ ys → Appends a b xs → Appends a b ys
 appends_respelled a b xs ys e h = subst (Appends a b) e h
 
@@ -736,7 +746,8 @@ consumes-append (Some held) (Some bs) (Some cs) xs ys h k = h ∙ ap (λ rest. x
 pub length-taken : (xs ys : List ℕ) (n : ℕ) → n ≤ length ys → length (xs ++ take n ys) ≡ length xs + n
 length-taken xs ys n h = simp length-append (ap (λ m. length xs + m) (length-take-le n ys h))
 
--- if all pieces fit after a text, so does the next one after those before it
+-- if the texts of all items together fit into `cap` bytes after `front`, then the text of item `i` fits after `front`
+-- and the texts of the items before it
 pub next_fits : {A : Type 0} (f : A → List ℕ) (xs : List A) (i cap : ℕ) (d : A) (front text : List ℕ) → text ≡ front ++ flat_map f (take i xs) → i < length xs → length front + length (flat_map f xs) ≤ cap → length text + length (f (get_or xs i d)) ≤ cap
 next_fits f xs i cap d front text is h fits = omega (arith, length-flat_map-take f xs i d h, ap length is, length-append front (flat_map f (take i xs)))
 

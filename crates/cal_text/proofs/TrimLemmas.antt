@@ -8,7 +8,7 @@ use Rattle.cal_text.specs.TrimRule.{StartsSolid, IsTrimmed, IsUnindented}
 use Rattle.cal_text.specs.headline.Trim.{trim_matches, trim_end_matches, trim_start_matches}
 use Rattle.cal_text.proofs.General.{all_append, all_reverse, take_front}
 
--- `trim_start_matches` removes exactly the leading blanks
+-- if `trim_start_matches` removes exactly the leading blanks of `bs`, it removes exactly those of `b ∷ bs`
 unindented_as : (p : ℕ → Bool) (blank : Bool) (b : ℕ) (bs : List ℕ) → p b ≡ blank → IsUnindented p bs (trim_start_matches p bs) → IsUnindented p (b ∷ bs) (trim_start_matches p (b ∷ bs))
 unfolding trim_start_matches
 unindented_as p true b bs e rest = rw (e, one-add) (record { indent = b ∷ rest.indent; blanks = (e, rest.blanks); whole = ap (λ xs. b ∷ xs) rest.whole; solid_start = rest.solid_start })

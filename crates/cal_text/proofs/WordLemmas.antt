@@ -76,7 +76,8 @@ pub words-nil : words [] ≡ []
 unfolding words
 words-nil = refl
 
--- the first word of a text that doesn't begin with a blank
+-- if a text doesn't begin with a blank but contains one, its words are the bytes before the first blank, followed by
+-- the words of the text after that blank
 then_blank : (text : List ℕ) → 0 < position_or_len is_blank text → position_or_len is_blank text < length text
     → words text ≡ take (position_or_len is_blank text) text ∷ words (drop (position_or_len is_blank text + 1) text)
 unfolding words

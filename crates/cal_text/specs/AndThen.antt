@@ -1,7 +1,7 @@
 -- Sequencing of steps that can fail.
 use Rattle.std.specs.Prelude.{Result, Ok, Err}
 
--- runs the next step on the value, or passes the error on
+-- applies the next step to the value of a success, and returns an error unchanged
 infixl 10 ◌>>=◌
 abbrev pub ◌>>=◌ : {A B E : Type 0} → Result A E → (A → Result B E) → Result B E
 (Ok x) >>= f = f x

@@ -1,4 +1,4 @@
--- The definitions that the main theorem of `cal_report` depends on.
+-- The definitions that the law `headline` of cal_report depends on.
 pub mod Separators
 pub mod Trim
 pub mod Words

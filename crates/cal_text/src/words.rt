@@ -77,7 +77,7 @@ fn blanks_at_end(text: &[u8]) -> usize
         .count()
 }
 
-/// Returns the number of bytes before the first blank.
+/// Returns the number of bytes before the first blank, or the length of `text` if there is no blank.
 fn word_len(text: &[u8]) -> usize
     ensures value { result ≡ position_or_len is_blank text.now }
     ensures within { result ≤ length text.now }
@@ -85,7 +85,7 @@ fn word_len(text: &[u8]) -> usize
     text.iter().take_while(|byte| !is_blank(**byte)).count()
 }
 
-/// Returns the number of bytes after the last blank.
+/// Returns the number of bytes after the last blank, or the length of `text` if there is no blank.
 fn last_word_len(text: &[u8]) -> usize
     ensures value { result ≡ suffix_len (λ byte. not (is_blank byte)) text.now }
     ensures within { result ≤ length text.now }

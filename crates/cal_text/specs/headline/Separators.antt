@@ -1,4 +1,4 @@
--- Characters that separate the items of a list.
+-- Characters that separate the parts of an input: equals sign, comma, colon and point.
 use Rattle.std.specs.Prelude.{ℕ, ◌==◌, Bool}
 
 abbrev pub is_equals : ℕ → Bool
