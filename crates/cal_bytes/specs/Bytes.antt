@@ -1,9 +1,9 @@
--- What one call of a reader or a writer does to the bytes, and what a call that writes a whole text leaves written.
+-- What one call of a reader or a writer does to its bytes, and how much a call that writes a whole text has written.
 use Rattle.std.specs.Prelude.{◌≡◌, ℕ, ◌<◌, ◌≤◌, List, ◌++◌, length, take, Option, None, Some, Result, Ok, Err}
 use Rattle.std.specs.Io.KnownBytes.{Keeps, Appends, Consumes, IsAtEnd}
 
 -- What `offer` does with a piece: if it returns `None`, nothing was written; if it returns `Some n`, the first n bytes
--- of the piece were, and n is at least 1 unless the piece is empty.
+-- of the piece were written, and n is at least 1 unless the piece is empty.
 abbrev pub Offered : Option (List ℕ) → Option (List ℕ) → List ℕ → Option ℕ → Type 0
 Offered old new piece None = Keeps old new
 Offered old new piece (Some n) = (n ≤ length piece) × (0 < length piece → 0 < n) × Appends old new (take n piece)

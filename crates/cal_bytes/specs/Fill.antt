@@ -1,4 +1,4 @@
--- What a number is padded with on the left.
+-- The character with which a number is padded on the left.
 use Rattle.std.specs.Prelude.{ℕ}
 use Rattle.cal_bytes.specs.declared.short_text.Fill.{Fill}
 use Rattle.cal_bytes.specs.declared.short_text.Fill.TheVariants.{Zero, Blank}

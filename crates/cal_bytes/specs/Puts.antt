@@ -1,4 +1,4 @@
--- What a call that writes a text does to its writer.
+-- What a call that writes a text does to the writer, and what it returns.
 use Rattle.std.specs.Prelude.{◌≡◌, ℕ, List, Result, is_err}
 use Rattle.cal_bytes.specs.Bytes.{Writes}
 use Rattle.cal_bytes.specs.declared.bytes.Sink.{Ghosts}

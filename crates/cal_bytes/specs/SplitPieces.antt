@@ -2,12 +2,13 @@
 use Rattle.std.specs.Prelude.{ℕ, ◌+◌, Bool, List, [], length, Option, None, Some}
 use Rattle.std.specs.List.{slice_split}
 
--- the pieces after the first separator, if `text` is what follows a separator; no pieces if there is no separator
+-- the pieces of the text after a separator; `None` says that no separator was found, so that there are no pieces
 abbrev pub pieces_after : (ℕ → Bool) → Option (List ℕ) → List (List ℕ)
 pieces_after p None = []
 pieces_after p (Some text) = slice_split p text
 
--- the number of bytes still to be read, plus one for the separator before them, so that it decreases with each piece
+-- the number of bytes in the text after a separator, plus one for the separator itself, so that it decreases with each
+-- piece; 0 if no separator was found
 abbrev pub left : Option (List ℕ) → ℕ
 left None = 0
 left (Some text) = length text + 1

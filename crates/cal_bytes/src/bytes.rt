@@ -1,4 +1,4 @@
-//! The traits for output and input that every call of the project takes.
+//! The traits for output and input that the functions of this project take.
 
 ghost use Rattle.cal_bytes.specs.Bytes.{Offered, Fetched};
 ghost use Rattle.std.specs.Prelude.{◌≡◌, ℕ, List, Option, None, Bool, true, false, is_none};

@@ -30,7 +30,8 @@ pub fn put_all<W: Sink>(out: &mut W, piece: &[u8]) -> Result<(), WriteFault>
     Ok(())
 }
 
-/// Writes the pieces in order. Fails as [`put_all`] does; then only a prefix of all the pieces together was written.
+/// Writes the pieces in order. Fails with [`WriteFault::Failed`] if and only if a call of [`Sink::offer`] fails; then
+/// only a prefix of the joined pieces was written.
 pub fn put_pieces<W: Sink>(out: &mut W, pieces: &[&[u8]]) -> Result<(), WriteFault>
     requires { W.is_failed out.old ≡ false }
     ensures { Puts W.Sink out.old out.new result (flat_map (λ piece. piece.now) pieces.now) }

@@ -1,4 +1,4 @@
-//! Short texts on the stack. They are put together from pieces, so that each can be written in one call.
+//! Short texts on the stack. A short text is put together from pieces, so that it can be written in one call.
 
 ghost use Rattle.std.specs.Prelude.{◌≡◌, ◌+◌, ◌-◌, ◌≤◌, ◌++◌, length, replicate};
 ghost use Rattle.std.specs.List.{flat_map};
@@ -7,7 +7,7 @@ ghost use Rattle.cal_bytes.specs.declared.short_text.TheConstants.{SHORT_TEXT_RO
 
 use arrayvec::ArrayVec;
 
-/// What a number is padded with on the left.
+/// The character with which a number is padded on the left.
 #[derive(Clone, Copy, PartialEq, Eq, Debug)]
 pub enum Fill {
     /// The digit `0`.

@@ -1,4 +1,4 @@
--- The result for the remaining names is the result for all of them: none so far was equal.
+-- `word` is among the remaining names exactly if it is among all names: no name so far was equal to it.
 use Rattle.std.proofs.Common.{◌≡◌, map, drop}
 use Rattle.std.specs.List.{list_any}
 use Rattle.std.specs.Str.{bytes_eq}

@@ -1,4 +1,4 @@
--- No call has failed, and the pieces from the index on are still to be written.
+-- No call has failed, and the pieces from the loop's index on are still to be written.
 use Rattle.std.proofs.Common.{drop}
 use Rattle.std.specs.List.{flat_map}
 use Rattle.cal_bytes.proofs.PutLemmas.{PutsUpTo}

@@ -1,4 +1,4 @@
--- The pieces before the index have been appended.
+-- The pieces before the loop's index have been appended.
 use Rattle.std.proofs.Common.{◌≡◌, ◌++◌, take}
 use Rattle.std.specs.List.{flat_map}
 use Rattle.cal_bytes.proofs.short_text.push_all.Given as goal
