@@ -1,28 +1,30 @@
--- What a call that reads a source to its end does to the source. The limit on the size is this project's own.
+-- What a call that reads a source to its end does to the source. The limit on the number of bytes is this project's
+-- own.
 use Rattle.std.specs.Prelude.{ℕ, ◌<◌, ◌≤◌, Bool, true, false, List, length, Option, Result, Ok, Err}
 use Rattle.std.specs.Io.KnownBytes.{Consumes, IsAtEnd}
 use Rattle.cal_streams.specs.declared.whole.WholeFault.{WholeFault}
 use Rattle.cal_streams.specs.declared.whole.WholeFault.TheVariants.{ReadFailed, TooLarge, NoMemory}
 
--- The bytes are all that the source still had, the source is at its end, and they are within the limit.
+-- `bytes` are all bytes that the source still had, at most `limit` of them, and the source is now at its end.
 pub record GivesAll (old new : Option (List ℕ)) (limit : ℕ) (bytes : List ℕ) : Type 0 where
   pub taken : Consumes old new bytes
   pub at_end : IsAtEnd new
   pub fits : length bytes ≤ limit
 
--- The bytes that were read are within the limit.
+-- At most `limit` bytes were read.
 pub record CameWithin (old new : Option (List ℕ)) (limit : ℕ) : Type 0 where
   pub front : List ℕ
   pub taken : Consumes old new front
   pub fits : length front ≤ limit
 
--- More bytes were read than the limit allows.
+-- More than `limit` bytes were read.
 pub record CameBeyond (old new : Option (List ℕ)) (limit : ℕ) : Type 0 where
   pub front : List ℕ
   pub taken : Consumes old new front
   pub is_more : limit < length front
 
--- how much was read before each error: if a read or an allocation failed, the limit had not been exceeded
+-- how much was read before each error: more than `limit` bytes if the error is `TooLarge`, and at most `limit` bytes if
+-- a read or an allocation failed
 abbrev pub IsWholeFault : Option (List ℕ) → Option (List ℕ) → ℕ → WholeFault → Type 0
 IsWholeFault old new limit ReadFailed = CameWithin old new limit
 IsWholeFault old new limit TooLarge = CameBeyond old new limit

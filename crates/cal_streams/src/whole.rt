@@ -25,8 +25,8 @@ const CHUNK: usize = 4_096;
 /// The errors are:
 ///
 /// - [`WholeFault::ReadFailed`] if and only if a call of [`Source::fetch`] fails; no further call is made.
-/// - [`WholeFault::TooLarge`] if the source has more than `limit` bytes. Nothing is read after that, so an endless
-///   source is too large.
+/// - [`WholeFault::TooLarge`] if the source has more than `limit` bytes. Nothing more is read then, so that an endless
+///   source also gives this error.
 /// - [`WholeFault::NoMemory`] if allocation fails.
 ///
 /// It makes at most `limit` + 1 calls of `fetch`, since each but the last returns at least one byte.
