@@ -1,4 +1,4 @@
-//! An in-memory reader and writer for tests that is slow and fails on purpose.
+//! An in-memory reader and writer for tests that moves few bytes at a time and fails on purpose.
 
 ghost use Rattle.std.specs.Prelude.{◌≡◌, ◌+◌, ◌-◌, ◌^◌, ◌<◌, ◌≤◌, min};
 
@@ -20,9 +20,9 @@ pub enum Then {
 
 /// A std `Write` that appends to a buffer, and a std `Read` that reads from it.
 ///
-/// It moves at most `step` bytes a call and `limit` bytes in all; after that it does what its [`Then`] says. A reader
-/// that runs out of bytes before the limit is at its end. If the buffer can't grow because allocation fails, `write`
-/// returns an error.
+/// It reads or writes at most `step` bytes a call and `limit` bytes in all; after that it does what its [`Then`] says.
+/// A reader that runs out of bytes before the limit is at its end. If the buffer can't grow because allocation fails,
+/// `write` returns an error.
 #[derive(Debug, Drop)]
 pub struct Faulty {
     bytes: Vec<u8>,
@@ -69,7 +69,7 @@ impl Faulty {
         self.calls = self.calls.saturating_add(1);
     }
 
-    /// Returns how many of `wanted` bytes this call may move: 0 once the limit is reached.
+    /// Returns how many of `wanted` bytes this call may read or write. This is 0 once the limit is reached.
     fn allowed(&self, wanted: usize) -> usize
         ensures wanted { result ≤ wanted }
         ensures within { result ≤ self.now.limit - self.now.moved }
