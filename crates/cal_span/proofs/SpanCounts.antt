@@ -26,24 +26,25 @@ size_of_positive Second = lit< tt
 size_of_positive Millisecond = lit< tt
 size_of_positive Microsecond = lit< tt
 
--- what remains after division by all units
+-- what remains of a number after division by each of the units in turn
 abbrev remainder : List TimeUnit → ℕ → ℕ
 remainder [] n = n
 remainder (unit ∷ units) n = remainder units (n % size_of unit)
 
--- the counts and the remainder add up to the whole
+-- the counts of n in some units, and what remains after division by these units, add up to n
 weight-counts_of-remainder : (units : List TimeUnit) (n : ℕ) → weight (counts_of units n) + remainder units n ≡ n
 weight-counts_of-remainder [] n = omega arith
 weight-counts_of-remainder (unit ∷ units) n =
     omega (arith, weight-counts_of-remainder units (n % size_of unit), div-add-mod' n (size_of unit))
 
--- the counts after a unit are less than one of the unit, since they come from the remainder
+-- the counts that division finds satisfy `AreReduced`: those after a unit come from the remainder, so that they are
+-- less than one of the unit
 reduced-counts_of : (units : List TimeUnit) (n : ℕ) → AreReduced units (counts_of units n)
 reduced-counts_of [] n = tt
 reduced-counts_of (unit ∷ units) n =
     grind (arith, nat_tests, weight-counts_of-remainder, mod_below, size_of_positive, reduced-counts_of units (n % size_of unit))
 
--- nothing remains after the microseconds
+-- nothing remains after division by all units, the last of which is the microsecond
 remainder-all_units : (n : ℕ) → remainder all_units n ≡ 0
 remainder-all_units n = omega arith
 
@@ -58,7 +59,7 @@ counts_of-weight [] (c ∷ cs) h = absurd h
 counts_of-weight (unit ∷ units) [] h = absurd h
 counts_of-weight (unit ∷ units) (c ∷ cs) h = grind (arith, nat_tests, div-mul-add, mod-mul-add, counts_of-weight units cs h.2)
 
--- `span_text` is a text of the span, and the only one
+-- `span_text n` is a text of the span of `n` microseconds, and the only one (`span_text_only`)
 pub is_span_text : (n : ℕ) → IsSpanText n (span_text n)
 unfolding units_text
 is_span_text n = (counts_of all_units n, are_counts_of n, refl)
@@ -68,14 +69,15 @@ unfolding units_text
 span_text_only n text h =
     h.2 ∙ ap (λ (cs : List Count). counts_text (positive cs)) (counts_of-weight all_units h.0 h.1.reduced ∙ ap (counts_of all_units) h.1.sum)
 
--- a unit that fits has a count that isn't zero, and a unit that doesn't fit has none
+-- if a unit fits into `n`, the counts that aren't zero begin with its count; if it doesn't, they are those of the units
+-- after it
 positive_taken : (unit : TimeUnit) (units : List TimeUnit) (n : ℕ) → size_of unit ≤ n → positive (counts_of (unit ∷ units) n) ≡ record { number = n / size_of unit; unit = unit } ∷ positive (counts_of units (n % size_of unit))
 positive_taken unit units n fits = grind (arith, nat_tests, lt-ltb, le-div, size_of_positive)
 
 positive_skipped : (unit : TimeUnit) (units : List TimeUnit) (n : ℕ) → n < size_of unit → positive (counts_of (unit ∷ units) n) ≡ positive (counts_of units (n % size_of unit))
 positive_skipped unit units n below = grind (arith, nat_tests, le-ltb, div-eq_of_lt)
 
--- the counts as they are printed in a loop: `lead` before the first and a space before each other one
+-- the counts as a loop prints them: `lead` before the first count, and a space before every other count
 abbrev pub led : List ℕ → List Count → List ℕ
 led lead [] = []
 led lead (c ∷ cs) = lead ++ (count_text c ++ flat_map (λ d. codes " " ++ count_text d) cs)
@@ -87,13 +89,14 @@ led_space (c ∷ cs) = refl
 led_first : (lead : List ℕ) (c : Count) (cs : List Count) → led lead (c ∷ cs) ≡ joined (lead ∷ decimal c.number ∷ unit_name c.unit ∷ []) ++ led (codes " ") cs
 led_first lead c cs = grind (arith, nat_tests, led_space, append_assoc)
 
--- when the loop begins, all counts are left and `lead` is empty
+-- the printed counts are `led` with an empty `lead`, which is how the loop begins
 pub counts_in_row-led : (cs : List Count) → counts_in_row cs ≡ led [] cs
 unfolding counts_in_row
 counts_in_row-led [] = refl
 counts_in_row-led (c ∷ cs) = refl
 
--- what is left at the unit of index i: its count, if the unit fits, and then what is left after it
+-- if the unit at index `i` fits into `n`, then `led` of the counts from this unit on is `lead`, the count of this unit,
+-- and `led` of the counts after it
 pub led_taken : (lead : List ℕ) (units : List TimeUnit) (i : ℕ) (d : TimeUnit) (size n : ℕ) → i < length units → size ≡ size_of (get_or units i d) → size ≤ n → led lead (positive (counts_of (drop i units) n)) ≡ joined (lead ∷ decimal (n / size) ∷ unit_name (get_or units i d) ∷ []) ++ led (codes " ") (positive (counts_of (drop (i + 1) units) (n % size)))
 led_taken lead units i d size n within e fits =
     rw e
@@ -108,7 +111,8 @@ led_skipped lead units i d size n within e below =
     ∙ ap (led lead) (positive_skipped (get_or units i d) (drop (i + 1) units) n small)
     ∙ ap (λ left. led lead (positive (counts_of (drop (i + 1) units) left))) (mod-eq_of_lt small)
 
--- one more count, which is dropped if it is zero
+-- if the counts `kept` add up to `n`, putting `c` in front of them adds the value of `c` to the sum, even if `c` is
+-- left out because its number is zero
 weight-kept : (c : Count) (kept : List Count) (n : ℕ) → weight kept ≡ n → (b : Bool) → nat_lt 0 c.number ≡ b → weight (cond b (c ∷ kept) kept) ≡ c.number * size_of c.unit + n
 weight-kept c kept n e true t = ap (λ (m : ℕ). c.number * size_of c.unit + m) e
 weight-kept c kept n e false t = grind (arith, nat_tests, ltb-false)
@@ -118,7 +122,7 @@ pub weight-positive : (cs : List Count) → weight (positive cs) ≡ weight cs
 weight-positive [] = refl
 weight-positive (c ∷ cs) = weight-kept c (positive cs) (weight cs) (weight-positive cs) (nat_lt 0 c.number) refl
 
--- the text of the empty span is `0`, and that of any other span is its counts
+-- all counts of the empty span are zero
 positive-counts_of_zero : (units : List TimeUnit) → positive (counts_of units 0) ≡ []
 positive-counts_of_zero [] = refl
 positive-counts_of_zero (unit ∷ units) =

@@ -1,4 +1,4 @@
--- Lemmas on numbers, by the digits before and after the decimal point.
+-- Lemmas on the numbers of a time span, in terms of the digits before and after the decimal point.
 use Rattle.std.proofs.Common.{ℕ, suc, ◌+◌, ◌-◌, ◌*◌, ◌^◌, ◌/◌, ◌<◌, ◌≤◌, ◌≡◌, Bool, true, false, cond, not, ◌&&◌, ◌||◌, leb, List, [], ◌∷◌, length, take, drop, get_or, min, refl, sym, ◌∙◌, arith, zero-add, add-one, ⊎_elim}
 use Rattle.std.specs.Prelude.{count_by, nat_le, nat_lt}
 use Rattle.std.specs.List.{list_all, list_any, position_or_len, before_first, after_first}
@@ -34,7 +34,7 @@ before_first-cons x xs = take_one_more x xs (is_point x) (position_or_len is_poi
 pub after_first-cons : (x : ℕ) (xs : List ℕ) → after_first is_point (x ∷ xs) ≡ cond (is_point x) xs (after_first is_point xs)
 after_first-cons x xs = drop_one_more x xs (is_point x) (position_or_len is_point xs)
 
--- a word without a decimal point consists of digits and decimal points if and only if it consists of digits
+-- a word consists of digits without a decimal point if and only if it consists of digits (the induction step)
 no_point_step : (digit point rest all : Bool) (n : ℕ) → (point ≡ true → digit ≡ false) → (rest && nat_le n 0) ≡ all → (((digit || point) && rest) && nat_le (cond point 1 0 + n) 0) ≡ (digit && all)
 no_point_step true true rest all n apart h = absurd (false≢true (sym (apart refl)))
 no_point_step true false rest all n apart h = rw zero-add h
@@ -50,7 +50,8 @@ no_point (x ∷ xs) =
 at_most_one : (n : ℕ) → leb (1 + n) 1 ≡ leb n 0
 at_most_one n = grind (arith, nat_tests)
 
--- if there is at most one decimal point, everything before it and after it is a digit
+-- a word consists of digits and at most one decimal point if and only if there are only digits before and after its
+-- first decimal point (the induction step)
 one_point_step : (x : ℕ) (xs before after : List ℕ) (digit point rest : Bool) (n : ℕ) → is_ascii_digit x ≡ digit → (point ≡ true → digit ≡ false) → (rest && nat_le n 0) ≡ list_all is_ascii_digit xs → (rest && nat_le n 1) ≡ (list_all is_ascii_digit before && list_all is_ascii_digit after) → (((digit || point) && rest) && nat_le (cond point 1 0 + n) 1) ≡ (list_all is_ascii_digit (cond point [] (x ∷ before)) && list_all is_ascii_digit (cond point xs after))
 one_point_step x xs before after true true rest n is apart none one = grind (arith, nat_tests, false≢true)
 one_point_step x xs before after true false rest n is apart none one = rw (is, zero-add) one
@@ -62,7 +63,8 @@ one_point [] = refl
 one_point (x ∷ xs) =
     rw (sum_by-cons, before_first-cons x xs, after_first-cons x xs) (one_point_step x xs (before_first is_point xs) (after_first is_point xs) (is_ascii_digit x) (is_point x) (list_all is_digit_or_point xs) (count_by is_point xs) refl (point_no_digit x) (no_point xs) (one_point xs))
 
--- there is a digit before or after the decimal point if there is one at all
+-- if there are only digits before and after the first decimal point, a word has a digit if and only if there is a byte
+-- before or after that point (the induction step)
 some_digit_step : (x : ℕ) (xs before after : List ℕ) (point : Bool) → (point ≡ true → is_ascii_digit x ≡ false) → list_all is_ascii_digit (cond point [] (x ∷ before)) ≡ true → list_all is_ascii_digit (cond point xs after) ≡ true → list_any is_ascii_digit (x ∷ xs) ≡ nat_lt 0 (length (cond point [] (x ∷ before)) + length (cond point xs after))
 some_digit_step x [] before after true apart all_before all_after = rw (apart refl) refl
 some_digit_step x (y ∷ xs) before after true apart all_before all_after = grind (arith, nat_tests, and_parts, lt-ltb)
@@ -72,7 +74,8 @@ some_digit : (xs : List ℕ) → list_all is_ascii_digit (before_first is_point 
 some_digit [] all_before all_after = refl
 some_digit (x ∷ xs) all_before all_after = grind (arith, nat_tests, before_first-cons, after_first-cons, some_digit_step, point_no_digit)
 
--- whether a word is a number, told from the digits before and after the decimal point
+-- if there are only digits before and after the first decimal point, a word is a number if and only if there is at
+-- least one of these digits
 number_parts : (xs before after : List ℕ) → before ≡ before_first is_point xs → after ≡ after_first is_point xs → list_all is_ascii_digit before ≡ true → list_all is_ascii_digit after ≡ true → is_number xs ≡ nat_lt 0 (length before + length after)
 unfolding is_number
 number_parts xs before after at_before at_after all_before all_after = grind (arith, nat_tests, one_point, some_digit)
@@ -87,18 +90,20 @@ pub no_number_from_parts : (xs before after : List ℕ) → before ≡ before_fi
 unfolding is_number
 no_number_from_parts xs before after at_before at_after some = rw (one_point xs, ← at_before, ← at_after, some) refl
 
--- dividing a small number by a power that saturates gives the same as dividing by the power itself
+-- dividing a number below `top` by a divisor that saturates at `top` gives the same as dividing by the divisor itself
 quotient_at_top : (n divisor : ℕ) → n < top → 0 < divisor → n / min divisor top ≡ n / divisor
 quotient_at_top n divisor below positive = ⊎_elim (λ (h : divisor < top). rw (min-eq_left {n = divisor} {m = top} (omega arith)) refl) (λ (h : top ≤ divisor). rw (min-eq_right {n = top} {m = divisor} h) (div-eq_of_lt below ∙ sym (div-eq_of_lt {n = n} {m = divisor} (omega arith)))) (cases_lt divisor top)
 
 pub divisor_more : (i divisor : ℕ) → divisor ≡ min (10 ^ i) top → min (divisor * 10) top ≡ min (10 ^ (i + 1)) top
 divisor_more i divisor so_far = rw (add-one, pow-suc) (omega arith)
 
--- what one digit adds, in a unit of at most a year
+-- if a unit is at most a year, then dividing the digit at index `i` times the unit by a power of 10 that saturates
+-- gives the same as dividing by the power itself
 pub term_is : (digits : List ℕ) (i divisor size : ℕ) → i < length digits → list_all is_ascii_digit digits ≡ true → size ≤ 31557600000000 → divisor ≡ min (10 ^ (i + 1)) top → (get_or digits i 0 - 48) * size / divisor ≡ digit_value (get_or digits i 0) * size / 10 ^ (i + 1)
 term_is digits i divisor size within all small at_power = grind (arith, nat_tests, digit_value_at, mul-le-mul, one-le-pow, quotient_at_top)
 
--- one more digit after the decimal point
+-- if the sum so far and the value of the digits from index `i` on add up to the value of all digits, so do the sum with
+-- digit `i` and the value of the digits from index `i + 1` on; all sums saturate at `top`
 pub fraction_more : (digits : List ℕ) (i sum size : ℕ) → i < length digits → min (sum + fraction_worth size (i + 1) (drop i digits)) top ≡ min (fraction_worth size 1 digits) top → min (min (sum + digit_value (get_or digits i 0) * size / 10 ^ (i + 1)) top + fraction_worth size (i + 1 + 1) (drop (i + 1) digits)) top ≡ min (fraction_worth size 1 digits) top
 fraction_more digits i sum size within so_far =
     let step = at_drop_more (fraction_worth size (i + 1)) digits i 0 within in omega (arith, step)

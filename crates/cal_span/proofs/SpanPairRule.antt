@@ -1,4 +1,4 @@
--- The words form pairs by the rule, and in no other way.
+-- The pairs that `pairs_of` forms from words are those of the rule, and the rule allows no other pairs.
 use Rattle.std.proofs.Common.{◌≡◌, ◌⊎◌, ◌&&◌, Bool, true, false, cond, List, [], ◌∷◌, Some, None, refl, sym, ap, ◌∙◌, inl, inr}
 use Rattle.std.proofs.lemmas.Bool.{false≢true}
 use Rattle.cal_span.specs.declared.span.word.CharKind.{CharKind}
@@ -14,14 +14,15 @@ IsFirst ws p rest = IsWithUnit ws p rest ⊎ (IsWithoutUnit ws p rest ⊎ IsNoNu
 another : (j k : CharKind) → is_kind j k ≡ false → k ≡ j → ⊥
 another j k test same = false≢true (sym test ∙ ap (is_kind j) same ∙ is_kind-same j)
 
--- a word that no unit follows
+-- if no unit follows the word `w`, it forms a pair by itself, with an empty number if it is not a number
 first_alone : (w : Piece) (ws : List Piece) (numeric : Bool) → is_kind Numeric w.kind ≡ numeric → BeginsWithNoUnit ws → IsFirst (w ∷ ws) (record { number = cond numeric w.text []; unit = None }) ws
 first_alone w ws true test no_unit =
     inr (inl (record { number = w; words = refl; is_number = sym (same_from_is_kind Numeric w.kind test); no_unit = no_unit; pair = refl }))
 first_alone w ws false test no_unit =
     inr (inr (record { word = w; words = refl; is_other = another Numeric w.kind test; pair = refl }))
 
--- a word with another word after it, which may be its unit
+-- if `pairs_of` follows the rule for `ws` and for `v ∷ ws`, it does so for `w ∷ v ∷ ws`, whether `v` is the unit of `w`
+-- or not
 first_of_two : (w v : Piece) (ws : List Piece) (numeric letter : Bool) → is_kind Numeric w.kind ≡ numeric → is_kind Letter v.kind ≡ letter → ArePairs ws (pairs_of ws) → ArePairs (v ∷ ws) (pairs_of (v ∷ ws)) → ArePairs (w ∷ v ∷ ws) (cond (numeric && letter) (record { number = cond numeric w.text []; unit = Some v.text } ∷ pairs_of ws) (record { number = cond numeric w.text []; unit = None } ∷ pairs_of (v ∷ ws)))
 first_of_two w v ws true true n l two one =
     (ws, inl (record { number = w; unit = v; words = refl; is_number = sym (same_from_is_kind Numeric w.kind n); is_unit = sym (same_from_is_kind Letter v.kind l); pair = refl }), two)

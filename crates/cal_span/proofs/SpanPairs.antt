@@ -18,7 +18,7 @@ use Rattle.std.proofs.lemmas.Bool.Decides.{nat_tests}
 pub no_kind : (j k : CharKind) → (k ≡ j → ⊥) → is_kind j k ≡ false
 no_kind j k differs = false_from_ne_true (is_kind j k) (λ e. differs (sym (same_from_is_kind j k e)))
 
--- a word that is not a number where one is expected
+-- a word that is not a number, in place of a number, forms a pair with an empty number
 pub stray_first : (w : Piece) (ws : List Piece) → is_kind Numeric w.kind ≡ false → pairs_of (w ∷ ws) ≡ record { number = []; unit = None } ∷ pairs_of ws
 stray_first w [] other = rw other refl
 stray_first w (v ∷ ws) other = rw other refl
@@ -27,7 +27,7 @@ pub stray_is : (bytes text rest : List ℕ) (kind : CharKind) → words_in bytes
 unfolding pairs_in
 stray_is bytes text rest kind words other = grind (arith, nat_tests, stray_first, no_kind)
 
--- a number that no unit follows
+-- if the last word is a number, it forms a pair without a unit
 pub last_is : (bytes text rest : List ℕ) → words_in bytes ≡ record { kind = Numeric; text = text } ∷ words_in rest → words_in rest ≡ [] → pairs_in bytes ≡ record { number = text; unit = None } ∷ pairs_in rest
 unfolding pairs_in
 last_is bytes text rest words none = ap pairs_of words ∙ rw none refl
@@ -36,7 +36,7 @@ pub bare_is : (bytes text rest next after : List ℕ) (kind : CharKind) → word
 unfolding pairs_in
 bare_is bytes text rest next after kind words next_words other = grind (arith, nat_tests, no_kind)
 
--- a number and its unit
+-- if the first word is a number and the second word consists of letters, they form the first pair
 pub unit_is : (bytes text rest next after : List ℕ) → words_in bytes ≡ record { kind = Numeric; text = text } ∷ words_in rest → words_in rest ≡ record { kind = Letter; text = next } ∷ words_in after → pairs_in bytes ≡ record { number = text; unit = Some next } ∷ pairs_in after
 unfolding pairs_in
 unit_is bytes text rest next after words next_words = ap pairs_of words ∙ rw next_words refl
@@ -45,7 +45,7 @@ pub no_pair : (bytes : List ℕ) → words_in bytes ≡ [] → pairs_in bytes �
 unfolding pairs_in
 no_pair bytes none = ap pairs_of none
 
--- the value of a pair, from what the code found
+-- if the number of a pair is invalid, the error of the pair is `BadNumber`
 pub worth_bad_number : (p : Pair) → is_number p.number ≡ false → worth_of p ≡ Err BadNumber
 unfolding worth_of
 worth_bad_number p bad = rw bad refl
@@ -58,7 +58,7 @@ pub worth_good : (p : Pair) (unit : TimeUnit) → is_number p.number ≡ true �
 unfolding worth_of
 worth_good p unit good some = rw (good, some) refl
 
--- the sum with one more pair, which saturates
+-- adding the value `m` of a pair to the sum, both saturating, and then checking the limit gives what `sum_with` gives
 added_by : (sum m x : ℕ) (r : Option Span) → x ≡ min (sum + min m top) top → MatchOption r (limit < x) (λ span. (span.micros ≡ x) × (x ≤ limit)) → MatchResult (ok_or r TooLarge) (λ span. sum_with sum (Ok m) ≡ Ok span.micros) (λ fault. sum_with sum (Ok m) ≡ Err fault)
 added_by sum m x None at_top beyond = rw (lt-leb (sum + m) limit (omega arith)) refl
 added_by sum m x (Some span) at_top (is, small) = grind (arith, nat_tests, le-leb)

@@ -25,7 +25,7 @@ use Rattle.cal_span.proofs.SpanRuns.{BeginsApart}
 
 -- Words
 
--- a byte below 128 is a character
+-- a byte below 128 is a character of its own
 characters-ascii : (b : ℕ) (bytes : List ℕ) → b < 128 → characters (b ∷ bytes) ≡ record { kind = kind_of b; text = b ∷ [] } ∷ characters bytes
 characters-ascii b [] small = refl
 characters-ascii b (c ∷ bytes) small = grind (arith, nat_tests)
@@ -42,7 +42,7 @@ with_front-apart kind text (p ∷ ps) apart = rw apart refl
 with_front-same : (kind : CharKind) (b : ℕ) (text : List ℕ) (ps : List Piece) → with_front (record { kind = kind; text = b ∷ [] }) (record { kind = kind; text = text } ∷ ps) ≡ record { kind = kind; text = b ∷ text } ∷ ps
 with_front-same kind b text ps = rw (is_kind-same kind) refl
 
--- bytes of one kind are one run if a run of another kind follows, or nothing
+-- bytes of one kind are one run if nothing follows them, or a run of another kind
 pub runs-of_kind : (kind : CharKind) (b : ℕ) (front rest : List ℕ) → AllOfKind kind (b ∷ front) → BeginsApart kind (runs (characters rest)) → runs (characters ((b ∷ front) ++ rest)) ≡ record { kind = kind; text = b ∷ front } ∷ runs (characters rest)
 runs-of_kind kind b [] rest same apart = grind (arith, nat_tests, characters-ascii, with_front-apart)
 runs-of_kind kind b (c ∷ front) rest same apart =
@@ -86,7 +86,7 @@ count_words [] = []
 count_words (c ∷ cs) =
     record { kind = Numeric; text = decimal c.number } ∷ record { kind = Letter; text = unit_name c.unit } ∷ count_words cs
 
--- a count is two runs if no letter follows
+-- if no letter follows, a printed count is two runs: its digits and its unit
 runs-count : (c : Count) (rest : List ℕ) → c.number < 2 ^ 64 → BeginsApart Letter (runs (characters rest)) → runs (characters (count_text c ++ rest)) ≡ record { kind = Numeric; text = decimal c.number } ∷ record { kind = Letter; text = unit_name c.unit } ∷ runs (characters rest)
 runs-count c rest small apart =
     let unit = runs-of_kind_front Letter (unit_name c.unit) rest (name_of_nonempty c.unit) (letters-unit_name c.unit) apart in
@@ -98,7 +98,7 @@ runs-count c rest small apart =
 small_number : (c : Count) (cs : List Count) → weight (c ∷ cs) ≤ limit → c.number < 2 ^ 64
 small_number c cs within = omega (arith, le-mul_of_pos_right c.number (size_of_positive c.unit))
 
--- counts with a space before each, and their runs
+-- the text of counts with a space before each of them
 abbrev spaced : List Count → List ℕ
 spaced = flat_map (λ c. codes " " ++ count_text c)
 
@@ -178,7 +178,7 @@ span_of_zero : span_of (codes "0") ≡ Ok 0
 unfolding span_of pairs_in words_in worth_of is_number number_worth
 span_of_zero = refl
 
--- digits alone are a number of seconds
+-- the digits of a number are one word
 words-decimal : (n : ℕ) → n < 2 ^ 64 → words_in (decimal n) ≡ record { kind = Numeric; text = decimal n } ∷ []
 unfolding words_in
 words-decimal n small =

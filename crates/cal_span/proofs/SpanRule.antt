@@ -24,7 +24,7 @@ worth_fault : (p : Pair) (f : SpanFault) → worth_of p ≡ Err f → (f ≡ Bad
 unfolding worth_of
 worth_fault p f e = worth_fault_by p.number (is_number p.number) (unit_in p.unit) f e
 
--- the rule, if the pairs follow others with this sum
+-- the rule for the value of pairs that follow other pairs with this sum
 abbrev JudgesFrom : ℕ → List Pair → Result ℕ SpanFault → Type 0
 JudgesFrom sum ps (Ok n) = (k : ℕ) × AreWorth ps k × (n ≡ sum + k) × (n ≤ limit)
 JudgesFrom sum ps (Err f) =
@@ -37,7 +37,8 @@ fault_after sum p BadNumber e = e
 fault_after sum p UnknownUnit e = e
 fault_after sum p TooLarge e = grind (arith, nat_tests, ⊎_elim, worth_fault)
 
--- one more pair in front of pairs that follow the rule
+-- if the rule gives `r` for `ps` after the sum `sum + m`, it gives `r` for `p ∷ ps` after `sum`, with `m` as the value
+-- of `p`
 one_before : (sum : ℕ) (p : Pair) (ps : List Pair) (m : ℕ) (r : Result ℕ SpanFault) → worth_of p ≡ Ok m → JudgesFrom (sum + m) ps r → JudgesFrom sum (p ∷ ps) r
 one_before sum p ps m (Ok n) e (k, are, is, small) =
     (m + k, (m, k, e, are, refl), omega arith, small)
@@ -76,7 +77,7 @@ pub judges_span : (text : List ℕ) → Judges (pairs_in text) (span_of text)
 unfolding span_of
 judges_span text = judges_value (pairs_in text)
 
--- if the rule gives a value, `judged` returns it
+-- if the sum with a pair's value is within the limit, `sum_with` returns it
 sum_with-fits : (sum m : ℕ) → sum + m ≤ limit → sum_with sum (Ok m) ≡ Ok (sum + m)
 sum_with-fits sum m fits = rw (le-leb (sum + m) limit fits) refl
 
@@ -84,7 +85,7 @@ only_sum : (sum : ℕ) (ps : List Pair) (k : ℕ) → AreWorth ps k → sum + k 
 only_sum sum [] k are fits = rw are (rw add-zero refl)
 only_sum sum (p ∷ ps) n (m, k, e, are, is) fits = grind (arith, nat_tests, sum_with-fits, only_sum (sum + m) ps k are (omega arith))
 
--- if the rule gives an error, `judged` returns it
+-- if the pair `p` is invalid after this sum, `judged` returns its error
 fault_first : (sum : ℕ) (p : Pair) (after : List Pair) (f : SpanFault) → IsFaultAfter sum p f → judged sum (p ∷ after) ≡ Err f
 fault_first sum p after Empty e = rw e refl
 fault_first sum p after BadNumber e = rw e refl

@@ -1,4 +1,5 @@
--- `runs` splits the characters of a text wherever their kind changes, and nothing else does.
+-- `runs` splits the characters of a text wherever their kind changes and nowhere else, and only this list of runs does
+-- so.
 use Rattle.std.proofs.Common.{ℕ, ◌<◌, ◌≡◌, Bool, true, false, cond, List, [], ◌∷◌, ◌++◌, length, refl, sym, ap, ◌∙◌, subst, arith}
 use Rattle.std.specs.List.{AllByRecursion, flat_map}
 use Rattle.std.proofs.lemmas.List.{append-nil}
@@ -15,7 +16,7 @@ run_alone s = record { some = omega arith; kinds = (refl, tt); text = sym (appen
 kinds_as : (j k : CharKind) (ss : List Piece) → k ≡ j → AllByRecursion (λ (s : Piece). s.kind ≡ k) ss → AllByRecursion (λ (s : Piece). s.kind ≡ j) ss
 kinds_as j k ss e h = subst (λ (i : CharKind). AllByRecursion (λ (s : Piece). s.kind ≡ i) ss) e h
 
--- a run with a character of its kind in front is a run
+-- if a character is of the same kind as the run after it, both together are a run
 run_longer : (s w : Piece) (front : List Piece) → is_kind s.kind w.kind ≡ true → IsRun front w → IsRun (s ∷ front) (record { kind = s.kind; text = s.text ++ w.text })
 run_longer s w front same run =
     record { some = omega arith; kinds = (refl, kinds_as s.kind w.kind front (sym (same_from_is_kind s.kind w.kind same)) run.kinds); text = ap (λ text. s.text ++ text) run.text }
@@ -36,7 +37,7 @@ are_runs (s ∷ ss) = runs_first s ss (runs ss) (are_runs ss)
 pub runs_cut : (text : List ℕ) → AreRuns (characters text) (runs (characters text))
 runs_cut text = are_runs (characters text)
 
--- neighbouring runs are of different kinds
+-- if neighbouring runs are of different kinds, they still are after a character of the first run's kind is joined to it
 apart_joined : (s w : Piece) (ws : List Piece) → is_kind s.kind w.kind ≡ true → AreApart (w ∷ ws) → AreApart (record { kind = s.kind; text = s.text ++ w.text } ∷ ws)
 apart_joined s w [] same apart = tt
 apart_joined s w (v ∷ ws) same (first, rest) = grind (arith, nat_tests, same_from_is_kind)
@@ -58,7 +59,7 @@ runs_longest text = runs_apart (characters text)
 
 -- There are no other runs
 
--- a run of kind k may stand in front of these runs: the first of them is of another kind
+-- a run of kind k may stand in front of these runs: there are none, or the first of them is of another kind
 abbrev pub BeginsApart : CharKind → List Piece → Type 0
 BeginsApart k [] = Unit {0}
 BeginsApart k (v ∷ ws) = is_kind k v.kind ≡ false
@@ -71,12 +72,12 @@ apart_after : (w : Piece) (ws : List Piece) → AreApart (w ∷ ws) → AreApart
 apart_after w [] apart = tt
 apart_after w (v ∷ ws) (first, rest) = rest
 
--- a character in front of a run of another kind
+-- a character in front of runs is a run of its own if the first of them is of another kind, or if there are none
 first_apart : (s : Piece) (k : CharKind) (ws : List Piece) → s.kind ≡ k → BeginsApart k ws → with_front s ws ≡ s ∷ ws
 first_apart s k [] kind apart = refl
 first_apart s k (v ∷ ws) kind apart = rw kind (rw apart refl)
 
--- a character in front of a run of its own kind
+-- a character in front of a run of its own kind is joined to that run
 first_joined : (s : Piece) (k : CharKind) (text : List ℕ) (ws : List Piece) → s.kind ≡ k → with_front s (record { kind = k; text = text } ∷ ws) ≡ record { kind = k; text = s.text ++ text } ∷ ws
 first_joined s k text ws kind = rw kind (rw (is_kind-same k) refl)
 

@@ -35,24 +35,26 @@ same_from_is_kind Other Other e = refl
 abbrev pub without_blanks : List Piece → List Piece
 without_blanks ws = filter (λ (w : Piece). not (is_kind Blank w.kind)) ws
 
--- the first run, by whether the second character is of the same kind as the first
+-- if `runs_first` holds for the characters from `t` on, it holds from `s` on, whether `s` and `t` are of the same kind
+-- or not
 runs_second : (s t : Piece) (ss : List Piece) (same : Bool) → is_kind s.kind t.kind ≡ same → runs (t ∷ ss) ≡ record { kind = t.kind; text = t.text ++ front_of t.kind ss } ∷ runs (after_front t.kind ss) → cond same (record { kind = s.kind; text = s.text ++ (t.text ++ front_of t.kind ss) } ∷ runs (after_front t.kind ss)) (s ∷ record { kind = t.kind; text = t.text ++ front_of t.kind ss } ∷ runs (after_front t.kind ss)) ≡ record { kind = s.kind; text = s.text ++ cond same (t.text ++ front_of s.kind ss) [] } ∷ runs (cond same (after_front s.kind ss) (t ∷ ss))
 runs_second s t ss true test by_rest = grind (arith, nat_tests, same_from_is_kind)
 runs_second s t ss false test by_rest = rw append-nil (ap (λ ws. s ∷ ws) (sym by_rest))
 
--- the first run is the longest prefix of the first character's kind
+-- the first run is the longest prefix of characters of the first character's kind
 pub runs_first : (s : Piece) (ss : List Piece) → runs (s ∷ ss) ≡ record { kind = s.kind; text = s.text ++ front_of s.kind ss } ∷ runs (after_front s.kind ss)
 runs_first s [] = rw append-nil refl
 runs_first s (t ∷ ss) = grind (arith, nat_tests, runs_second, runs_first t ss)
 
--- one more character belongs to the prefix
+-- if the next character is of this kind, the longest prefix of this kind is that character and the longest prefix after
+-- it
 pub front_more : (kind : CharKind) (bytes : List ℕ) (len width : ℕ) (rest : List ℕ) → rest ≡ drop len bytes → characters rest ≡ record { kind = kind; text = take width rest } ∷ characters (drop width rest) → front_of kind (characters (drop len bytes)) ≡ take width (drop len bytes) ++ front_of kind (characters (drop (len + width) bytes))
 front_more kind bytes len width rest at first = grind (arith, nat_tests, is_kind-same, drop-drop)
 
 pub after_more : (kind : CharKind) (bytes : List ℕ) (len width : ℕ) (rest : List ℕ) → rest ≡ drop len bytes → characters rest ≡ record { kind = kind; text = take width rest } ∷ characters (drop width rest) → after_front kind (characters (drop len bytes)) ≡ after_front kind (characters (drop (len + width) bytes))
 after_more kind bytes len width rest at first = grind (arith, nat_tests, is_kind-same, drop-drop)
 
--- leading blanks don't belong to a word
+-- leaving out leading blanks doesn't change the runs that are not blanks
 without_blanks_first : (s : Piece) (ss : List Piece) (blank : Bool) → is_kind Blank s.kind ≡ blank → without_blanks (runs (s ∷ ss)) ≡ without_blanks (runs (cond blank (after_front Blank ss) (s ∷ ss)))
 without_blanks_first s ss true test = grind (arith, nat_tests, same_from_is_kind, runs_first)
 without_blanks_first s ss false test = refl
@@ -61,7 +63,7 @@ without_blanks_after : (ss : List Piece) → without_blanks (runs ss) ≡ withou
 without_blanks_after [] = refl
 without_blanks_after (s ∷ ss) = without_blanks_first s ss (is_kind Blank s.kind) refl
 
--- after the leading blanks, the next character is not a blank
+-- the first character after the leading blanks is not a blank (the induction step)
 after_blanks_step : (t : Piece) (ts : List Piece) (s : Piece) (rest : List Piece) (blank : Bool) → is_kind Blank t.kind ≡ blank → (after_front Blank ts ≡ s ∷ rest → is_kind Blank s.kind ≡ false) → cond blank (after_front Blank ts) (t ∷ ts) ≡ s ∷ rest → is_kind Blank s.kind ≡ false
 after_blanks_step t ts s rest true test further at = further at
 after_blanks_step t ts s rest false test further at = grind (arith, nat_tests)
@@ -70,12 +72,12 @@ after_blanks : (ss : List Piece) (s : Piece) (rest : List Piece) → after_front
 after_blanks [] s rest at = cc
 after_blanks (t ∷ ts) s rest at = grind (arith, nat_tests, after_blanks_step, after_blanks ts s rest)
 
--- the first word, if there is one
+-- if `s` is the first character that is not a blank, the first word is the longest prefix of its kind from `s` on
 word_first : (ss : List Piece) (s : Piece) (rest : List Piece) → after_front Blank ss ≡ s ∷ rest → without_blanks (runs ss) ≡ record { kind = s.kind; text = front_of s.kind (s ∷ rest) } ∷ without_blanks (runs (after_front s.kind (s ∷ rest)))
 word_first ss s rest at = grind (arith, nat_tests, after_blanks, without_blanks_after, runs_first, is_kind-same)
 
--- the first word, from what the code found: the bytes after the leading blanks, the kind of the first of them, and the
--- longest prefix of that kind
+-- if `solid` are the bytes after the leading blanks, `kind` is the kind of their first character, `text` is the longest
+-- prefix of this kind, and `rest` are the bytes after it, then the words are `text` and the words of `rest`
 pub first_word_is : (bytes solid : List ℕ) (kind : CharKind) (width : ℕ) (text rest : List ℕ) → characters solid ≡ after_front Blank (characters bytes) → characters solid ≡ record { kind = kind; text = take width solid } ∷ characters (drop width solid) → text ≡ front_of kind (characters solid) → characters rest ≡ after_front kind (characters solid) → words_in bytes ≡ record { kind = kind; text = text } ∷ words_in rest
 unfolding words_in
 first_word_is bytes solid kind width text rest at first front after =

@@ -10,13 +10,14 @@ use Rattle.cal_span.specs.SpanValue.{Piece, Pair, is_kind, worth_of}
 
 -- Runs
 
--- one or more consecutive characters of one kind
+-- `w` is the run of the characters `ss`: there is at least one, all are of the kind of `w`, and `w` has their joined
+-- texts
 pub record IsRun (ss : List Piece) (w : Piece) : Type 0 where
   pub some : 0 < length ss
   pub kinds : AllByRecursion (λ s. s.kind ≡ w.kind) ss
   pub text : w.text ≡ flat_map (λ s. s.text) ss
 
--- the characters, split into runs
+-- the characters, split into these runs in order
 abbrev pub AreRuns : List Piece → List Piece → Type 0
 AreRuns ss [] = ss ≡ []
 AreRuns ss (w ∷ ws) = (front : List Piece) × (rest : List Piece) × (ss ≡ front ++ rest) × IsRun front w × AreRuns rest ws
@@ -34,7 +35,7 @@ abbrev pub BeginsWithNoUnit : List Piece → Type 0
 BeginsWithNoUnit [] = ⊤
 BeginsWithNoUnit (v ∷ ws) = v.kind ≡ Letter → ⊥
 
--- a pair of a number and its unit
+-- the words `ws` begin with a number and its unit, which form the pair `p`, and `rest` follows them
 pub record IsWithUnit (ws : List Piece) (p : Pair) (rest : List Piece) : Type 0 where
   pub number : Piece
   pub unit : Piece
@@ -43,7 +44,7 @@ pub record IsWithUnit (ws : List Piece) (p : Pair) (rest : List Piece) : Type 0 
   pub is_unit : unit.kind ≡ Letter
   pub pair : p ≡ record { number = number.text; unit = Some unit.text }
 
--- a pair of a number that no unit follows
+-- the words `ws` begin with a number that no unit follows, which forms the pair `p`, and `rest` follows it
 pub record IsWithoutUnit (ws : List Piece) (p : Pair) (rest : List Piece) : Type 0 where
   pub number : Piece
   pub words : ws ≡ number ∷ rest
@@ -51,7 +52,8 @@ pub record IsWithoutUnit (ws : List Piece) (p : Pair) (rest : List Piece) : Type
   pub no_unit : BeginsWithNoUnit rest
   pub pair : p ≡ record { number = number.text; unit = None }
 
--- the pair for a word that is not a number where one is expected: its number is empty
+-- the words `ws` begin with a word that is not a number, which forms a pair `p` with an empty number, and `rest`
+-- follows it
 pub record IsNoNumber (ws : List Piece) (p : Pair) (rest : List Piece) : Type 0 where
   pub word : Piece
   pub words : ws ≡ word ∷ rest
@@ -70,7 +72,8 @@ abbrev pub AreWorth : List Pair → ℕ → Type 0
 AreWorth [] n = n ≡ 0
 AreWorth (p ∷ ps) n = (m : ℕ) × (k : ℕ) × (worth_of p ≡ Ok m) × AreWorth ps k × (n ≡ m + k)
 
--- the pair p is invalid if it follows pairs with this sum: it has no value, or the sum with it is more than the limit
+-- the pair `p` is invalid with this error if the pairs before it have this sum: `p` has no value, or the sum with its
+-- value is more than the limit
 abbrev pub IsFaultAfter : ℕ → Pair → SpanFault → Type 0
 IsFaultAfter sum p TooLarge = (m : ℕ) × (worth_of p ≡ Ok m) × (limit < sum + m)
 IsFaultAfter sum p fault = worth_of p ≡ Err fault
@@ -80,8 +83,8 @@ abbrev pub IsFirstFault : List Pair → SpanFault → Type 0
 IsFirstFault ps fault =
     (before : List Pair) × (p : Pair) × (after : List Pair) × (sum : ℕ) × (ps ≡ before ++ (p ∷ after)) × AreWorth before sum × (sum ≤ limit) × IsFaultAfter sum p fault
 
--- The value is the sum of the pairs, of which there is at least one, and at most the limit. The error is `Empty` if
--- there are no pairs, and that of the leftmost invalid pair otherwise.
+-- A value is the sum of the pairs; then there is at least one pair, and the sum is at most the limit. The error is
+-- `Empty` if there are no pairs, and otherwise that of the leftmost invalid pair.
 abbrev pub Judges : List Pair → Result ℕ SpanFault → Type 0
 Judges ps (Ok n) = (0 < length ps) × AreWorth ps n × (n ≤ limit)
 Judges ps (Err Empty) = ps ≡ []

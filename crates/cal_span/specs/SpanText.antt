@@ -9,15 +9,15 @@ abbrev pub weight : List Count → ℕ
 weight [] = 0
 weight (c ∷ cs) = c.number * size_of c.unit + weight cs
 
--- There is one count for each unit, in the order of the units, and all counts after it together are less than one of
--- its unit.
+-- There is one count for each unit, in the order of the units, and all counts after a unit together are less than one
+-- of that unit.
 abbrev pub AreReduced : List TimeUnit → List Count → Type 0
 AreReduced [] [] = Unit {0}
 AreReduced [] (c ∷ cs) = ⊥
 AreReduced (unit ∷ units) [] = ⊥
 AreReduced (unit ∷ units) (c ∷ cs) = (c.unit ≡ unit) × (weight cs < size_of unit) × AreReduced units cs
 
--- the counts of a span of n microseconds
+-- `cs` are the counts of a span of `n` microseconds
 pub record AreCounts (n : ℕ) (cs : List Count) : Type 0 where
   pub sum : weight cs ≡ n
   pub reduced : AreReduced all_units cs

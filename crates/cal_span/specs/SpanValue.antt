@@ -20,7 +20,7 @@ use Rattle.cal_text.specs.AndThen.{◌>>=◌}
 
 -- Characters
 
--- whether the two bytes are the micro sign, U+00B5, or the Greek letter mu, U+03BC, in UTF-8
+-- whether two bytes are the micro sign, U+00B5, or the Greek letter mu, U+03BC, in UTF-8
 abbrev pub is_micro : ℕ → ℕ → Bool
 is_micro b c = ((b == 194) && (c == 181)) || ((b == 206) && (c == 188))
 
@@ -83,12 +83,12 @@ pub record Pair : Type 0 where
 abbrev pub numeral_in : Piece → List ℕ
 numeral_in w = if is_kind Numeric w.kind then w.text else []
 
--- whether the second word is the unit of the first
+-- whether the first word is a number and the second its unit, by their kinds
 abbrev pub is_unit_of : Piece → Piece → Bool
 is_unit_of w v = is_kind Numeric w.kind && is_kind Letter v.kind
 
--- A number and the unit after it, if any, form a pair. Any other word where a number is expected is a pair with an
--- empty number.
+-- A number and the unit after it, if any, form a pair. Any other word that stands in place of a number forms a pair
+-- with an empty number.
 abbrev pub pairs_of : List Piece → List Pair
 pairs_of [] = []
 pairs_of (w ∷ []) = record { number = numeral_in w; unit = None } ∷ []
@@ -102,12 +102,12 @@ pairs_in bytes = pairs_of (words_in bytes)
 
 -- The value of a pair (systemd.time(7), Parsing Time Spans)
 
--- whether these are digits with at most one decimal point, and at least one digit
+-- whether the bytes are digits with at most one decimal point, and at least one of them is a digit
 unfoldable pub is_number : List ℕ → Bool
 is_number number =
     list_all (λ b. is_ascii_digit b || is_point b) number && nat_le (count_by is_point number) 1 && list_any is_ascii_digit number
 
--- the unit with this spelling
+-- the unit with this spelling, or `None` if no unit has it
 unfoldable pub unit_named : List ℕ → Option TimeUnit
 unit_named word = find (λ unit. list_any (bytes_eq word) (spellings_of unit)) all_units
 
@@ -143,7 +143,8 @@ worth_of p = if is_number p.number then worth_in p.number (unit_in p.unit) else 
 
 -- The value of a time span (systemd.time(7), Parsing Time Spans)
 
--- the sum with the value of one more pair, or the error
+-- the sum plus the value of one more pair, or the error of that pair, which is `TooLarge` if the sum is more than the
+-- limit
 abbrev pub sum_with : ℕ → Result ℕ SpanFault → Result ℕ SpanFault
 sum_with sum worth = worth >>= λ m. if nat_le (sum + m) limit then Ok (sum + m) else Err TooLarge
 
@@ -152,7 +153,7 @@ abbrev pub judged : ℕ → List Pair → Result ℕ SpanFault
 judged sum [] = Ok sum
 judged sum (p ∷ ps) = sum_with sum (worth_of p) >>= λ more. judged more ps
 
--- the sum of the pairs, or an error if there are no pairs
+-- the sum of the pairs, or the leftmost error; without pairs the error is `Empty`
 abbrev pub value_of_pairs : List Pair → Result ℕ SpanFault
 value_of_pairs [] = Err Empty
 value_of_pairs (p ∷ ps) = judged 0 (p ∷ ps)

@@ -13,7 +13,8 @@ pub enum SpanFault {
     /// There are no pairs: the time span is empty or blank.
     #[error("empty time span")]
     Empty = 1,
-    /// Not a number where one is expected. A number has one or more digits and at most one decimal point.
+    /// A word that is not a number stands in place of a number. A number has one or more digits and at most one decimal
+    /// point.
     #[error("bad number")]
     BadNumber = 2,
     /// The word after the number is not a unit.

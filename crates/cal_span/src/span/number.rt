@@ -1,6 +1,6 @@
 //! The numbers in a time span, with or without a decimal point (systemd.time(7), Parsing Time Spans).
 //!
-//! All arithmetic saturates at `u64::MAX`, which is far more than the longest time span.
+//! All arithmetic saturates at `u64::MAX`, which is more than the longest time span.
 
 ghost use Rattle.std.specs.Prelude.{◌≡◌, ◌≤◌, IsTrue, MatchOption, min, false, true};
 ghost use Rattle.std.specs.List.{list_all, position, before_first, after_first};
@@ -22,7 +22,7 @@ pub(crate) struct Number<'a> {
 }
 
 impl<'a> Number<'a> {
-    /// Parses `word` as digits with at most one decimal point. Returns `None` for anything else, also for a decimal
+    /// Parses `word` as digits with at most one decimal point. Returns `None` for anything else, and for a decimal
     /// point without digits.
     pub(crate) fn new(word: &'a [u8]) -> Option<Number<'a>>
         ensures { MatchOption result (is_number word.now ≡ false) (λ number.
@@ -40,7 +40,7 @@ impl<'a> Number<'a> {
         Some(Number { whole, fraction })
     }
 
-    /// Returns the length of this many of `unit` in microseconds, or `u64::MAX` if it is more than that.
+    /// Returns the length of this number of `unit`s in microseconds, or `u64::MAX` if the length is more than that.
     pub(crate) fn worth(self, unit: TimeUnit) -> u64
         ensures { result
             ≡ min (digits_worth self.entry.whole.now self.entry.fraction.now (size_of unit)) u64.MAX }
@@ -80,7 +80,8 @@ pub fn fraction_of(digits: &[u8], size: u64) -> u64
     let mut sum = 0_u64;
     let mut divisor = 1_u64;
     for digit in digits {
-        // A divisor that saturates is far larger than nine of any unit, so the digit adds nothing.
+        // If the divisor saturates, it is far larger than nine times the microseconds of any unit, so the digit adds
+        // nothing.
         divisor = divisor.saturating_mul(10);
         sum = sum.saturating_add(u64::from(*digit - b'0') * size / divisor);
     }

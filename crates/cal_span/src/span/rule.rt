@@ -8,8 +8,8 @@ ghost use Rattle.cal_span.specs.UnitSpellings.{spellings_of};
 ghost use Rattle.cal_span.specs.SpanRule.{AreRuns, AreApart, ArePairs, Judges};
 ghost use Rattle.cal_span.specs.SpanValue.{Piece, Pair, characters, runs, pairs_of, unit_named, pairs_in, span_of};
 
-/// Every text is either a time span with exactly one value or has exactly one error, by the rule of systemd.time(7),
-/// Parsing Time Spans, and `read_span` returns it.
+/// By the rule of systemd.time(7), Parsing Time Spans, every text has either exactly one value or exactly one error,
+/// and `read_span` returns this value or error.
 pub fn one_value()
     // A text is split wherever the kind of its characters changes, and nowhere else.
     ensures cut { (text : List ℕ) → AreRuns (characters text) (runs (characters text)) }
@@ -26,7 +26,7 @@ pub fn one_value()
     ensures spelled { (unit : TimeUnit)
         → AllByRecursion (λ word. unit_named word ≡ Some unit) (spellings_of unit) }
 
-    // The value is the sum of the pairs, unless one of them is invalid; then the error is that of the leftmost.
+    // The value is the sum of the pairs, unless a pair is invalid; then the error is that of the leftmost invalid pair.
     ensures found { (text : List ℕ) → Judges (pairs_in text) (span_of text) }
     ensures only { (pairs : List Pair) (a b : Result ℕ SpanFault)
         → Judges pairs a → Judges pairs b → a ≡ b }

@@ -21,9 +21,9 @@ use itoa::Buffer;
 /// of 5 bytes.
 pub const SPAN_ROOM: usize = 234;
 
-/// Appends a time span as it is printed: its units from the largest to the smallest without those that count zero, as
-/// in `1h 30min`, or `0` for the empty span (systemd.time(7), Parsing Time Spans). This is at most [`SPAN_ROOM`] bytes,
-/// and the caller guarantees that `text` has room for that many.
+/// Appends a time span as it is printed: its units from the largest to the smallest without those whose count is zero,
+/// as in `1h 30min`, or `0` for the empty span (systemd.time(7), Parsing Time Spans). This is at most [`SPAN_ROOM`]
+/// bytes, and the caller guarantees that `text` has room for that many.
 pub fn push_span(text: &mut ShortText, span: Span)
     requires room { length text.old.items + SPAN_ROOM ≤ SHORT_TEXT_ROOM }
     ensures text { text.new.items ≡ text.old.items ++ span_text span.micros }
@@ -66,7 +66,7 @@ pub fn text_reads_back()
     ensures { (n : ℕ) → n ≤ limit → span_of (span_text n) ≡ Ok n }
 {}
 
-/// Appends the units that don't count zero, with a space between them.
+/// Appends the counts of these units in `micros` that aren't zero, with a space between them.
 fn push_counts(text: &mut ShortText, units: &[TimeUnit], micros: u64)
     requires few { length units.now ≤ 9 }
     requires room { length text.old.items + SPAN_ROOM ≤ SHORT_TEXT_ROOM }

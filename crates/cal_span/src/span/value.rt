@@ -18,8 +18,8 @@ use cal_bytes::is_among;
 /// A number without a unit counts seconds. The values are added up. Each digit after a decimal point is rounded down to
 /// microseconds separately.
 ///
-/// If several pairs are invalid, the leftmost error is reported; in one pair `BadNumber` comes before `UnknownUnit`,
-/// and that before `TooLarge`. If `text` is empty or blank, the error is `Empty`.
+/// If several pairs are invalid, the leftmost error is reported. Of the errors of one pair, `BadNumber` is reported
+/// before `UnknownUnit`, and `UnknownUnit` before `TooLarge`. If `text` is empty or blank, the error is `Empty`.
 #[tactic(auto, unfolding(crate::specs::SpanValue::span_of))]
 pub fn read_span(text: &str) -> Result<Span, SpanFault>
     ensures { MatchResult result
@@ -93,7 +93,7 @@ fn add_pair(sum: Span, pair: Pair<'_>) -> Result<Span, SpanFault>
     Span::new(sum.micros().saturating_add(number.worth(unit))).ok_or(SpanFault::TooLarge)
 }
 
-/// Returns the unit that is spelled `word`, or seconds if there is no word.
+/// Returns the unit that is spelled `word`, or `None` if there is no such unit. Without a word, the unit is the second.
 fn unit_of(word: Option<&[u8]>) -> Option<TimeUnit>
     ensures { result ≡ unit_in (option_copied word.entry) }
 {
@@ -123,7 +123,7 @@ fn units_by_initial(word: &[u8]) -> &'static [TimeUnit]
     }
 }
 
-/// Returns the first of `units` that can be spelled `word`.
+/// Returns the first of `units` that can be spelled `word`, or `None` if there is none.
 fn find_unit(units: &[TimeUnit], word: &[u8]) -> Option<TimeUnit>
     ensures { result ≡ find (λ unit. list_any (bytes_eq word.now) (spellings_of unit)) units.now }
 {

@@ -1,5 +1,5 @@
-//! Splitting a time span into words. A word is as many consecutive characters of one kind as there are; blanks only
-//! separate words (systemd.time(7), Parsing Time Spans).
+//! Splitting a time span into words. Consecutive characters of one kind form a word, which is as long as possible;
+//! blanks only separate words (systemd.time(7), Parsing Time Spans).
 
 ghost use Rattle.std.specs.Prelude.{◌≡◌, ◌≤◌, ◌<◌, ◌∷◌, [], MatchOption, length, take, drop};
 ghost use Rattle.cal_span.specs.SpanValue.{characters, words_in};
@@ -54,8 +54,8 @@ fn front_len(bytes: &[u8], kind: CharKind) -> usize
     len
 }
 
-/// Returns the kind of the first character and its length in bytes, which is two for the micro sign and the letter mu.
-/// Any other character outside ASCII is read byte by byte.
+/// Returns the kind of the first character and its length in bytes, which is two for the micro sign and the letter mu,
+/// or `None` if there are no bytes. Any other character outside ASCII is read byte by byte.
 fn first(bytes: &[u8]) -> Option<(CharKind, usize)>
     ensures { MatchOption result (bytes.now ≡ []) (λ found.
         (characters bytes.now
