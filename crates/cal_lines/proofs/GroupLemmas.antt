@@ -1,11 +1,12 @@
--- The loop's steps when a logical line is joined from physical ones.
+-- Lemmas on the loops that find the lines that are not comments and join physical lines into a logical one.
 use Rattle.std.proofs.Common.{arith, ◌≡◌, ℕ, ◌+◌, Bool, true, false, List, [], ◌∷◌, ◌++◌, map, refl, sym, ap, ◌∙◌, append_assoc, append-nil}
 use Rattle.std.specs.List.{flat_map}
 use Rattle.std.specs.Str.Lines.{lines}
 use Rattle.cal_text.specs.headline.Trim.{trim_start_matches}
 use Rattle.cal_lines.specs.headline.Lines.{Group, Line, continued_by, groups, is_blank_or_return, is_comment, is_continued, joined_line, logical_lines, part_of_line, physical_lines, plain_lines}
 
--- how the first physical line affects the lines that are not comments
+-- if the first physical line is not a comment, it is the first of the lines that are not comments; the others are those
+-- of the text after it
 pub plain_here : (n : ℕ) (text line rest : List ℕ) → lines text ≡ line ∷ lines rest → is_comment (trim_start_matches is_blank_or_return line) ≡ false → plain_lines n text ≡ record { number = n; text = trim_start_matches is_blank_or_return line } ∷ plain_lines (n + 1) rest
 unfolding physical_lines plain_lines
 plain_here n text line rest e f = rw (e, f) refl
@@ -18,21 +19,23 @@ pub plain_none : (n : ℕ) (text : List ℕ) → lines text ≡ [] → plain_lin
 unfolding physical_lines plain_lines
 plain_none n text e = rw e refl
 
--- what a list of lines contributes to a logical line
+-- the concatenation of what these lines contribute to their logical line
 abbrev pub parts_of : List Line → List ℕ
 parts_of = flat_map (λ line. part_of_line line.text)
 
--- the logical lines of these groups, with `front` before the text of the first one
+-- the logical lines of these groups, except that the first one has the number `n` and begins with `front`; if there are
+-- no groups, `front` is a logical line of its own
 abbrev pub after : ℕ → List ℕ → List Group → List Line
 after n front [] = record { number = n; text = front } ∷ []
 after n front (group ∷ rest) = record { number = n; text = front ++ parts_of (group.first ∷ group.more) } ∷ map joined_line rest
 
--- the logical lines that begin with a partly joined one; it continues in these lines, or is complete
+-- the logical lines that begin with a partly joined one, which has the number `n` and the text `front` so far; the
+-- Boolean says whether it continues in the physical lines `ls` or is complete
 abbrev pub goes_on_in : ℕ → List ℕ → Bool → List Line → List Line
 goes_on_in n front true ls = after n front (groups ls)
 goes_on_in n front false ls = record { number = n; text = front } ∷ map joined_line (groups ls)
 
--- prepending a continued line to a group prepends what it contributes
+-- adding a continued line to the first group is the same as adding what the line contributes to `front`
 pub joined_continued : (n : ℕ) (front : List ℕ) (line : Line) (gs : List Group) → after n front (continued_by line gs) ≡ after n (front ++ part_of_line line.text) gs
 joined_continued n front line [] = ap (λ text. record { number = n; text = text } ∷ []) (ap (λ xs. front ++ xs) (append-nil (part_of_line line.text)))
 joined_continued n front line (g ∷ gs) = ap (λ text. record { number = n; text = text } ∷ map joined_line gs) (sym (append_assoc front (part_of_line line.text) (parts_of (g.first ∷ g.more))))
@@ -50,13 +53,13 @@ pub line_begins : (line : Line) (ls : List Line) → map joined_line (groups (li
 unfolding groups
 line_begins line ls = grind (arith, append-nil (part_of_line line.text), continued_alone line (groups ls))
 
--- a continued logical line ends at the end of the file
+-- at the end of the file a logical line is complete, whether its last physical line is continued or not
 pub line_ends : (n : ℕ) (front : List ℕ) (goes_on : Bool) → goes_on_in n front goes_on [] ≡ record { number = n; text = front } ∷ []
 unfolding groups
 line_ends n front true = refl
 line_ends n front false = refl
 
--- the logical lines of a text, by its first line that is not a comment
+-- if all lines of a text are comments, or if it has no lines, it has no logical lines
 pub logical_none : (n : ℕ) (text : List ℕ) → plain_lines n text ≡ [] → logical_lines n text ≡ []
 unfolding logical_lines groups
 logical_none n text e = rw e refl

@@ -8,7 +8,7 @@ use Rattle.std.proofs.lemmas.List.Sums.{prefix_len_passes, suffix_len-le-length}
 use Rattle.std.proofs.lemmas.Str.{IsCharBoundary-before_ascii}
 use Rattle.cal_lines.specs.headline.Lines.{is_blank_or_return, is_continued}
 
--- blanks are ASCII, so each is a single byte
+-- spaces, tabs and carriage returns are ASCII, so each is a single byte
 pub blank_is_ascii : (b : ℕ) → is_blank_or_return b ≡ true → b < 128
 blank_is_ascii b h = grind (arith, nat_tests)
 

@@ -1,4 +1,5 @@
--- The functions of `Lines` compute what the relations of `LogicalRule` describe, and nothing else satisfies these.
+-- The functions of `Lines` compute what the relations of `LogicalRule` describe, and no other results satisfy these
+-- relations.
 use Rattle.std.proofs.Common.{◌≡◌, ℕ, ◌+◌, ◌-◌, ◌<◌, ◌==◌, Bool, true, false, List, [], ◌∷◌, ◌++◌, length, not, filter, map, take, get_or, reverse, refl, sym, ap, ◌∙◌, inl, inr, arith}
 use Rattle.std.specs.List.{suffix_len}
 use Rattle.std.specs.Str.Lines.{lines}
@@ -13,7 +14,7 @@ use Rattle.cal_lines.specs.LogicalRule.{AreJoined, AreLogical, ArePhysical, Each
 use Rattle.cal_lines.proofs.GroupLemmas.{parts_of}
 use Rattle.cal_lines.proofs.LineRuleLemmas.{are_groups, groups_of_lines, lines_of_groups}
 
--- `numbered_lines` returns the physical lines
+-- `numbered_lines`, applied to lines without their leading blanks, returns the physical lines
 pub physical : (number : ℕ) (texts : List (List ℕ)) → ArePhysical number texts (numbered_lines number (map (trim_start_matches is_blank_or_return) texts))
 physical number [] = tt
 physical number (text ∷ texts) = (refl, unindented is_blank_or_return text, physical (number + 1) texts)

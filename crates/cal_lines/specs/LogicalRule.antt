@@ -13,7 +13,7 @@ ArePhysical number (text ∷ texts) (line ∷ lines) = (line.number ≡ number) 
 ArePhysical number [] (line ∷ lines) = ⊥
 ArePhysical number (text ∷ texts) [] = ⊥
 
--- the text ends in a backslash that continues it, and the part has a space in its place
+-- `text` ends in a backslash that continues the line, and `part` is `text` with a space in place of that backslash
 pub record IsContinuedPart (text part : List ℕ) : Type 0 where
   pub continued : is_continued text ≡ true
   pub front : List ℕ
@@ -29,7 +29,7 @@ abbrev pub AreJoined : List Line → List ℕ → Type 0
 AreJoined [] text = text ≡ []
 AreJoined (line ∷ lines) text = (part : List ℕ) × (rest : List ℕ) × IsLinePart line.text part × AreJoined lines rest × (text ≡ part ++ rest)
 
--- the logical line of a group, with the number of the group's first line
+-- `line` is the logical line of `group` and has the number of the group's first line
 pub record IsLogical (group : Group) (line : Line) : Type 0 where
   pub number : line.number ≡ group.first.number
   pub text : AreJoined (group.first ∷ group.more) line.text

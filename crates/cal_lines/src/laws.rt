@@ -1,5 +1,5 @@
-//! Laws about the definitions that the contracts of this crate use. Each law is a function with an empty body, whose contract states
-//! the law.
+//! Laws about the definitions that the contracts of this crate use. Each law is a function with an empty body, whose
+//! contract states the law.
 
 ghost use Rattle.std.specs.Prelude.{◌≡◌, ℕ, List};
 ghost use Rattle.cal_text.specs.TrimRule.{IsTrimmed};
@@ -26,7 +26,7 @@ pub fn logical_lines_are_those_of_the_rule()
 {}
 
 /// `trim` removes exactly the leading and trailing blanks (spaces, tabs and carriage returns): it removes nothing else,
-/// its result neither begins nor ends with one, and no other text satisfies this.
+/// and its result neither begins nor ends with a blank. No other text satisfies this.
 pub fn one_trimmed_text()
     ensures this { (text : List ℕ) → IsTrimmed is_blank_or_return text (trim_matches is_blank_or_return text) }
     ensures only { (text trimmed : List ℕ) → IsTrimmed is_blank_or_return text trimmed → trimmed ≡ trim_matches is_blank_or_return text }

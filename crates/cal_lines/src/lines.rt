@@ -151,7 +151,7 @@ fn without_backslash(line: &str) -> &str
 }
 
 /// Appends a physical line to a logical line, with a space in place of a backslash that continues it. Returns whether
-/// the line is continued.
+/// the line is continued. Fails only if allocation fails.
 #[tactic(auto, unfolding(crate::specs::headline::Lines::part_of_line))]
 fn push_part(joined: &mut String, line: &str) -> Result<bool, AllocError>
     ensures text { OnOk result (string_bytes joined.new ≡ string_bytes joined.old ++ part_of_line line.now) }
@@ -181,7 +181,7 @@ pub struct LogicalLine<'t> {
 }
 
 /// Returns the first logical line of `text`, or `None` if `text` has only comments or is empty. `number` is the number
-/// of the first physical line of `text`. The only error is that allocation fails.
+/// of the first physical line of `text`. Fails only if allocation fails.
 pub fn first_logical(
     alloc: Global,
     number: u32,

@@ -52,7 +52,7 @@ abbrev pub continued_by : Line → List Group → List Group
 continued_by line [] = record { first = line; more = [] } ∷ []
 continued_by line (group ∷ groups) = record { first = line; more = group.first ∷ group.more } ∷ groups
 
--- the lines in groups that each end at the first line that isn't continued
+-- the lines in groups, each of which ends at the first line that isn't continued, or at the end of the file
 unfoldable pub groups : List Line → List Group
 groups [] = []
 groups (line ∷ lines) =
