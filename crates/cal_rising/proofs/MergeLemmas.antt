@@ -18,7 +18,7 @@ use Rattle.cal_rising.specs.headline.Elements.{Has}
 use Rattle.cal_text.proofs.General.{lt_from_less, rises-drop}
 use Rattle.cal_rising.proofs.RisingLemmas.{above_first, later_members, same_rising, Has-union, rises-union}
 
--- the smaller of a missing number and another one is the other one
+-- the lesser of a number and a missing one is the number
 lesser-none : (a : Option ℤ) → lesser a None ≡ a
 lesser-none None = refl
 lesser-none (Some x) = refl
@@ -29,7 +29,7 @@ lesser-assoc (Some x) None c = refl
 lesser-assoc (Some x) (Some y) None = sym (lesser-none (lesser (Some x) (Some y)))
 lesser-assoc (Some x) (Some y) (Some z) = grind (arith, ints)
 
--- the first number of a list after an insertion
+-- after `x` is inserted into a list that begins with `y`, the first number is the lesser of `x` and `y`
 first_inserted : (o : Ordering) (x y : ℤ) (ys more : List ℤ) → int_cmp x y ≡ o → slice_get (match_ordering o (x ∷ y ∷ ys) (y ∷ ys) (y ∷ more)) 0 ≡ lesser (Some x) (Some y)
 first_inserted Less x y ys more e = grind (arith, ints, lt_from_less x y e)
 first_inserted Equal x y ys more e = grind (arith, ints, int_cmp-IsAntisymmetric x y e)
@@ -49,7 +49,8 @@ first-with_numbers [] ys h = refl
 first-with_numbers (x ∷ xs) ys h =
     grind (arith, ints, first-insert_key, sorted_tail, lesser-assoc, lesser-first, first-with_numbers xs ys (sorted_tail int_cmp x xs h))
 
--- the first number of a union is the smaller of the first list's first number and that of the union of the other lists
+-- the first number of the union of the first i + 1 sources is the lesser of that of the first i sources and the number
+-- read ahead from the source at index i
 first-union_more : (ss : List Peeked) (i : ℕ) (d : Peeked) → i < length ss → All HasHead ss
     → slice_get (union (map numbers (take (suc i) ss))) 0 ≡ lesser (slice_get (union (map numbers (take i ss))) 0) (get_or ss i d).head
 unfolding union
@@ -62,13 +63,15 @@ first-union_more (s ∷ ss) (suc i) d lt h =
     ∙ lesser-assoc (slice_get (numbers s) 0) (slice_get (union (map numbers (take i ss))) 0) (get_or ss i d).head
     ∙ ap (λ a. lesser a (get_or ss i d).head) (sym (first-with_numbers (numbers s) (union (map numbers (take i ss))) here.1))
 
--- the smallest number read ahead, after one more source is examined
+-- if `least` is the smallest number read ahead from the first i sources, then the lesser of `least` and the number read
+-- ahead from the source at index i is the smallest of the first i + 1 sources
 pub least_more : (ss ts : List Peeked) (i : ℕ) (s : Peeked) (least head next : Option ℤ) → ss ≡ ts → All HasHead ts → i < length ss
     → least ≡ slice_get (union (map numbers (take i ss))) 0 → s ≡ get_or ss i s → head ≡ s.head → next ≡ lesser least head
     → next ≡ slice_get (union (map numbers (take (i + 1) ss))) 0
 least_more ss ts i s least head next same heads lt so_far there its now = grind (arith, ints, add-one, first-union_more)
 
--- what remains of a strictly increasing list after a number at most its first was returned
+-- if no number of a strictly increasing list is below `m`, then after `m` is returned exactly its numbers above `m`
+-- remain
 Has-advanced : (m : ℤ) (xs : List ℤ) → IsStrictlySortedBy int_cmp xs → ((i : ℤ) → Has xs i → m ≤ℤ i) → (i : ℤ) → Has (advanced m xs) i ↔ ((m <ℤ i) × Has xs i)
 Has-advanced m [] h low i = (λ n. absurd n, λ p. p.1)
 Has-advanced m (y ∷ ys) h low i = grind (arith, ints, above_first y i ys h, low y (inl refl))
@@ -79,7 +82,7 @@ HasAny-advanced m [] h low i = (λ n. absurd n, λ p. p.1)
 HasAny-advanced m (s ∷ ss) h low i =
     grind (arith, ints, Has-advanced, All-head, All-tail, HasAny-advanced m ss (All-tail HasHead s ss h) (λ j n. low j (inr n)) i)
 
--- no number of a strictly increasing list is below its first
+-- no number of a strictly increasing list is below the first one
 first_is_least : (m : ℤ) (xs : List ℤ) → IsStrictlySortedBy int_cmp xs → slice_get xs 0 ≡ Some m → (i : ℤ) → Has xs i → m ≤ℤ i
 first_is_least m [] h e i n = absurd n
 first_is_least m (x ∷ xs) h e i n = grind (arith, ints, above_first x i xs h)
@@ -88,7 +91,7 @@ later_by_first : (m : ℤ) (xs : List ℤ) → IsStrictlySortedBy int_cmp xs →
 later_by_first m [] h e i = absurd (cc)
 later_by_first m (x ∷ xs) h e i = grind (arith, later_members x xs h i)
 
--- after the smallest number is returned, the union of what remains of each list remains
+-- after the smallest number is returned, the union of what remains of each list is what remains of the union
 pub union-advanced : (m : ℤ) (ss : List Peeked) → All HasHead ss
     → slice_get (union (map numbers ss)) 0 ≡ Some m → union (map (advanced m) (map numbers ss)) ≡ drop 1 (union (map numbers ss))
 union-advanced m ss h e =
@@ -98,7 +101,8 @@ union-advanced m ss h e =
     same_rising (union (map (advanced m) lists)) (drop 1 (union lists)) (rises-union (map (advanced m) lists)) (rises-drop (union lists) 1 rises)
     (λ i. grind (arith, HasAny-advanced m ss h low i, later_by_first m (union lists) rises e i, Has-union (map (advanced m) lists) i, Has-union lists i))
 
--- one more source was replaced by its image under a function
+-- if the first i sources of `xs` have the numbers of those of `ys` under the function `f`, and the source at index i is
+-- replaced by one for which this is so too, then it is so for the first i + 1 sources
 changed_next : (f : List ℤ → List ℤ) (xs ys : List Peeked) (i : ℕ) (y d : Peeked) → i < length xs → i < length ys
     → map numbers (take i xs) ≡ map f (map numbers (take i ys)) → numbers y ≡ f (numbers (get_or ys i d))
     → map numbers (take (suc i) (set xs i y)) ≡ map f (map numbers (take (suc i) ys))
@@ -117,7 +121,8 @@ pub changed_more : (f : List ℤ → List ℤ) (xs ys : List Peeked) (i : ℕ) (
     → map numbers (take (i + 1) (set xs i y)) ≡ map f (map numbers (take (i + 1) ys))
 changed_more f xs ys i y d lt lu so_far same now = grind (arith, ints, add-one, changed_next)
 
--- one more source was read ahead
+-- if `HasHead` holds for the first i sources, and the source at index i is replaced by one for which it holds, then it
+-- holds for the first i + 1 sources
 pub has_head_more : (ss : List Peeked) (i : ℕ) (s : Peeked) → i < length ss → HasHead s → ((k : ℕ) (d : Peeked) → k < i → HasHead (get_or ss k d))
     → (k : ℕ) (d : Peeked) → k < suc i → HasHead (get_or (set ss i s) k d)
 has_head_more [] i s lt h below k d le = absurd (omega arith)

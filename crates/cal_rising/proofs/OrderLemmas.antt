@@ -1,4 +1,5 @@
--- Strictly sorted lists: inserting an element adds just that element, and two of them with the same elements are equal.
+-- Strictly sorted lists: inserting an element adds just that element, and two such lists with the same elements are
+-- equal.
 use Rattle.std.proofs.Common.{◌≡◌, ◌⊎◌, ◌↔◌, ℕ, zero, suc, ◌<◌, List, [], ◌∷◌, length, get_or, refl, sym, subst, inl, inr, arith}
 use Rattle.std.specs.BTreeSet.{insert_key}
 use Rattle.std.specs.Cmp.{IsTotalOrder}
@@ -11,7 +12,8 @@ use Rattle.std.specs.declared.cmp.Ordering.{Ordering}
 use Rattle.std.specs.declared.cmp.Ordering.TheVariants.{Less, Equal, Greater}
 use Rattle.cal_rising.specs.headline.Elements.{Has}
 
--- membership as the standard library defines it, in both directions
+-- if `Has` says that an element is in a list, so does `Contains` of the standard library, and the other way round
+-- (`has_from_contains`)
 pub contains_from_has : {A : Type 0} (xs : List A) (x : A) → Has xs x → Contains xs x
 contains_from_has [] x h = absurd h
 contains_from_has (y ∷ ys) x h = elim h [
@@ -43,7 +45,7 @@ module _ {A : Type 0} (cmp : A → A → Ordering) (exact : IsAntisymmetric cmp)
   has_inserted Equal x y z ys more e rest = grind (arith, exact x y e)
   has_inserted Greater x y z ys more e rest = grind arith
 
-  -- the elements of a list after `x` is inserted
+  -- the elements of a list into which `x` was inserted are `x` and the elements from before
   pub has-insert_key : (x : A) (ys : List A) (z : A) → Has (insert_key cmp ys x) z ↔ ((x ≡ z) ⊎ Has ys z)
   has-insert_key x [] z = (λ h. h, λ h. h)
   has-insert_key x (y ∷ ys) z = has_inserted (cmp x y) x y z ys (insert_key cmp ys x) refl (has-insert_key x ys z)
@@ -55,7 +57,7 @@ module _ {A : Type 0} (cmp : A → A → Ordering) (total : IsTotalOrder cmp) wh
   same_first x y xs ys sx sy hx hy =
       grind (arith, all_at (λ z. cmp x z ≡ Less) xs y sx.0, all_at (λ z. cmp y z ≡ Less) ys x sy.0, total.trans x y x, tied_itself total x)
 
-  -- an element of one list's tail is an element of the other's
+  -- an element of the tail of a strictly sorted list `x ∷ xs` that is also in `x ∷ ys` is in `ys`, since it isn't `x`
   has_tail : (x z : A) (xs ys : List A) → IsStrictlySortedBy cmp (x ∷ xs) → Has xs z → Has (x ∷ ys) z → Has ys z
   unfolding IsStrictlySortedBy
   has_tail x z xs ys sorted h k = grind (arith, all_at (λ w. cmp x w ≡ Less) xs z sorted.0 h, tied_itself total x)

@@ -1,5 +1,5 @@
--- Strictly increasing lists: the numbers after the first are greater than the first, and a union contains the numbers
--- of its lists.
+-- Strictly increasing lists: the numbers after the first are greater than the first, and a union contains exactly the
+-- numbers of its lists.
 use Rattle.std.proofs.Common.{◌≡◌, ◌⊎◌, ◌↔◌, List, [], ◌∷◌, inl, inr, ℤ, ◌<ℤ◌, arith}
 use Rattle.std.proofs.lemmas.Cmp.{int_cmp_total}
 use Rattle.std.proofs.lemmas.Int.{ints}
@@ -28,19 +28,19 @@ later_members x xs h i = grind (arith, ints, above_first x i xs h)
 pub same_rising : (xs ys : List ℤ) → IsStrictlySortedBy int_cmp xs → IsStrictlySortedBy int_cmp ys → ((i : ℤ) → Has xs i ↔ Has ys i) → xs ≡ ys
 same_rising = same_sorted int_cmp int_cmp_total
 
--- inserting a number adds it
+-- inserting a number adds this number and no other
 pub Has-insert_key : (x : ℤ) (ys : List ℤ) (i : ℤ) → Has (insert_key int_cmp ys x) i ↔ ((x ≡ i) ⊎ Has ys i)
 Has-insert_key = has-insert_key int_cmp int_cmp-IsAntisymmetric
 
 pub rises-insert_key : (x : ℤ) (ys : List ℤ) → IsStrictlySortedBy int_cmp ys → IsStrictlySortedBy int_cmp (insert_key int_cmp ys x)
 rises-insert_key = sorted-insert_key int_cmp int_cmp_total
 
--- inserting several numbers adds them all
+-- inserting several numbers adds all of these and no other
 pub Has-with_numbers : (xs ys : List ℤ) (i : ℤ) → Has (with_numbers xs ys) i ↔ (Has xs i ⊎ Has ys i)
 Has-with_numbers [] ys i = (λ m. inr m, λ m. elim m [ inl n ↦ absurd n | inr n ↦ n ])
 Has-with_numbers (x ∷ xs) ys i = grind (arith, ints, Has-insert_key, Has-with_numbers xs ys i)
 
--- the union contains the numbers of the lists
+-- the union contains exactly the numbers of the lists
 pub Has-union : (xss : List (List ℤ)) (i : ℤ) → Has (union xss) i ↔ HasAny xss i
 unfolding union
 Has-union [] i = (λ m. m, λ m. m)

@@ -1,5 +1,5 @@
--- Lists without the numbers of exceptions: what they contain, and what one round of a merge's loop leaves of the
--- sources and the exceptions.
+-- Lists without the numbers of exceptions: which numbers they contain, and which numbers the sources and the exceptions
+-- of a merge still have after one round of its loop.
 use Rattle.std.proofs.Common.{None, IfSome, ◌≡◌, ◌≢◌, ◌↔◌, ◌||◌, ◌&&◌, ◌<◌, ◌≤◌, ◌+◌, ℕ, suc, cond, Bool, true, false, not, List, [], ◌∷◌, length, drop, slice_get, get_or, get_or-set_other, set, map, zero, Option, Some, ℤ, ◌≤ℤ◌, int_eq, refl, sym, ap, ◌∙◌, arith}
 use Rattle.std.specs.List.{AllByRecursion, list_any}
 use Rattle.std.specs.List.Sorted.{IsStrictlySortedBy}
@@ -22,7 +22,7 @@ use Rattle.std.specs.Cmp.{int_eq_equiv}
 use Rattle.std.proofs.lemmas.Map.Made.{is_member-filter}
 use Rattle.cal_text.proofs.General.{lt_from_less}
 
--- `is_member` decides whether a number is in a list
+-- if `is_member` returns `true`, the number is in the list
 pub Has-is_member : (xs : List ℤ) (i : ℤ) → is_member int_eq xs i ≡ true → Has xs i
 Has-is_member [] i h = absurd (cc)
 Has-is_member (x ∷ xs) i h = grind (arith, ints, Has-is_member xs i)
@@ -31,7 +31,7 @@ pub is_member-Has : (xs : List ℤ) (i : ℤ) → Has xs i → is_member int_eq 
 is_member-Has [] i m = absurd m
 is_member-Has (x ∷ xs) i m = grind (arith, ints, is_member-Has xs i)
 
--- a number remains exactly if it is in the list and in no exception
+-- a number is in `without xs ys` if and only if it is in `xs` and not in `ys`
 pub is_member-without : (xs ys : List ℤ) (n : ℤ) → is_member int_eq (without xs ys) n ≡ (is_member int_eq xs n && not (is_member int_eq ys n))
 unfolding without
 is_member-without xs ys n =
@@ -40,7 +40,7 @@ is_member-without xs ys n =
 pub Has-without : (xs ys : List ℤ) (i : ℤ) → Has (without xs ys) i ↔ (Has xs i × (Has ys i → ⊥))
 Has-without xs ys i = grind (arith, ints, is_member-without, Has-is_member, is_member-Has)
 
--- without exceptions, everything remains
+-- if there are no exceptions, all numbers remain
 pub without-none : (xs : List ℤ) → without xs [] ≡ xs
 unfolding without
 without-none [] = refl
@@ -76,18 +76,19 @@ member_reached None [] n first rises at = refl
 member_reached None (x ∷ xs) n first rises at = absurd (cc)
 member_reached (Some m) xs n first rises at = int_eq_equiv.symm m n ∙ sym (is_member-head (Some m) xs m n rises refl at)
 
--- A source that was read up to a number had that number exactly if it is now the number read ahead.
+-- if a source was read up to the number `n`, it had `n` before if and only if `n` is the number read ahead now
 pub is_member-reached : (s was : Peeked) (n : ℤ) → HasHead s → IfSome s.head (λ head. n ≤ℤ head) → IsSameFrom n (numbers s) (numbers was)
     → option_eq int_eq s.head (Some n) ≡ is_member int_eq (numbers was) n
 is_member-reached s was n h at same = member_reached s.head s.after n h.0 h.1 at ∙ same n (grind (arith, ints))
 
--- exceptions that agree from some number on leave the same of a list that begins above that number
+-- if two lists of exceptions have the same numbers from `n` upwards, the same remains of a list whose numbers are all
+-- above `n`
 without-same : (n : ℤ) (xs ys zs : List ℤ) → AllByRecursion (λ y. int_cmp n y ≡ Less) xs → IsSameFrom n zs ys → without xs zs ≡ without xs ys
 unfolding without
 without-same n [] ys zs h same = refl
 without-same n (x ∷ xs) ys zs h same = grind (arith, ints, lt_from_less n x h.0, same x, without-same n xs ys zs h.1 same)
 
--- one round of the loop: the first number of the sources is an exception and is skipped, or it is returned
+-- one round of the loop: the first number `n` of the sources is skipped if it is an exception, and returned otherwise
 pub without-first : (n : ℤ) (there : Bool) (xs ys zs : List ℤ) → slice_get xs 0 ≡ Some n → IsStrictlySortedBy int_cmp xs → IsSameFrom n zs ys → is_member int_eq ys n ≡ there
     → without xs ys ≡ cond (not there) (n ∷ without (drop 1 xs) zs) (without (drop 1 xs) zs)
 unfolding without
@@ -98,11 +99,11 @@ HasAny-any : (n : ℤ) (xss : List (List ℤ)) → HasAny xss n ↔ (list_any (�
 HasAny-any n [] = grind arith
 HasAny-any n (xs ∷ xss) = grind (arith, is_member-Has xs n, Has-is_member xs n, HasAny-any n xss)
 
--- a union contains a number exactly if one of the lists does
+-- a union contains a number if and only if one of the lists does
 pub any-union : (n number : ℤ) (has : Bool) (now xss : List (List ℤ)) → number ≡ n → has ≡ list_any (λ xs. is_member int_eq xs number) now → now ≡ xss → has ≡ is_member int_eq (union xss) n
 any-union n number has now xss same e whole = grind (arith, ints, HasAny-any, Has-union, is_member-Has, Has-is_member)
 
--- a source has the number if none before this one has it, or if this one has it
+-- if no source has the number `n`, testing them all returns `false`
 any-none : (n : ℤ) (ss : List Peeked) → ((k : ℕ) → k < length ss → (d : Peeked) → is_member int_eq (numbers (get_or ss k d)) n ≡ false)
     → list_any (λ xs. is_member int_eq xs n) (map numbers ss) ≡ false
 any-none n [] h = refl
@@ -115,13 +116,13 @@ any-here n [] i d lt h = absurd (omega arith)
 any-here n (s ∷ ss) zero d lt h = rw h refl
 any-here n (s ∷ ss) (suc i) d lt h = rw (any-here n ss i d (omega arith) h) (or-true (is_member int_eq (numbers s) n))
 
--- no source before index `at` had the number, and the sources from `at` on are unchanged
+-- no source before the index `at` had the number `n`, and the sources from `at` on are unchanged
 pub record AreBehind (n : ℤ) (at : ℕ) (given now : List Peeked) : Type 0 where
   pub none : (k : ℕ) → k < at → (d : Peeked) → is_member int_eq (numbers (get_or given k d)) n ≡ false
   pub untouched : (k : ℕ) (d : Peeked) → at ≤ k → get_or now k d ≡ get_or given k d
 
--- this still holds for index `at` + 1 if the source at `at` doesn't have the number, even if that source was read
--- further
+-- if `AreBehind` holds for the index `at`, and the source there doesn't have the number, then it holds for `at + 1`,
+-- even if that source was read further
 pub behind_more : (n : ℤ) (at : ℕ) (given now : List Peeked) (s t : Peeked) → AreBehind n at given now → at < length given
     → is_member int_eq (numbers (get_or now at s)) n ≡ false → AreBehind n (at + 1) given (set now at t)
 behind_more n at given now s t h lt lacks = record {
@@ -132,17 +133,18 @@ behind_more n at given now s t h lt lacks = record {
       get_or-set_other now at k t d other ∙ h.untouched k d (omega arith);
 }
 
--- after the last source, no source has the number
+-- if `AreBehind` holds for an index after the last source, no source has the number
 pub behind_all : (n number : ℤ) (at : ℕ) (given now ss : List Peeked) → AreBehind n at given now → n ≡ number → given ≡ ss → length given ≤ at
     → false ≡ list_any (λ xs. is_member int_eq xs number) (map numbers ss)
 behind_all n number at given now ss h same whole all = grind (arith, ints, any-none)
 
--- the source at this index decides
+-- if the source at the index `at` has the number, then at least one source has it
 pub behind_here : (n number : ℤ) (at : ℕ) (given now ss : List Peeked) (s : Peeked) → AreBehind n at given now → n ≡ number → given ≡ ss → at < length given
     → is_member int_eq (numbers (get_or now at s)) n ≡ true → true ≡ list_any (λ xs. is_member int_eq xs number) (map numbers ss)
 behind_here n number at given now ss s h same whole lt has = grind (arith, ints, any-here)
 
--- replacing one source by another changes nothing if both have the number, or if both lack it
+-- replacing a source changes nothing about whether any source has `n` if the new source has `n` exactly if the old one
+-- does
 pub any_replaced : (n : ℤ) (ss : List Peeked) (i : ℕ) (s d : Peeked) → i < length ss → is_member int_eq (numbers s) n ≡ is_member int_eq (numbers (get_or ss i d)) n
     → list_any (λ xs. is_member int_eq xs n) (map numbers (set ss i s)) ≡ list_any (λ xs. is_member int_eq xs n) (map numbers ss)
 any_replaced n [] i s d lt h = absurd (omega arith)

@@ -1,4 +1,5 @@
-//! Laws of the definitions that the contracts cite. Each law is the contract of a function that does nothing.
+//! Laws about the definitions that the contracts of this crate use. Each law is a function with an empty body, whose
+//! contract states the law.
 
 ghost use Rattle.std.specs.Prelude.{◌≡◌, [], ℤ, List};
 ghost use Rattle.cal_rising.specs.RisingList.{IsUnion, IsUnionWithout, union, without};

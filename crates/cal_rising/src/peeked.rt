@@ -9,8 +9,8 @@ ghost use Rattle.cal_rising.specs.RisingList.{IsSameFrom};
 use crate::Rising;
 use std::marker::Model;
 
-/// How many numbers a source has to lack before the next number is read from it. Reading a number from a sparse source
-/// costs far more than asking whether it has one.
+/// How many times a source has to say that it lacks a number before the next number is read from it. Reading a number
+/// from a sparse source costs far more than asking whether it has one.
 const MISSES_BEFORE_STEP: u8 = 128;
 
 /// A source whose next number may have been read ahead ("peeked"). A contract sees that number, if there is one, and
@@ -19,7 +19,7 @@ const MISSES_BEFORE_STEP: u8 = 128;
 pub struct Peeked<S: Rising> {
     head: Option<i64>,
     source: S,
-    /// How many calls of `step_toward` have read nothing since the last one that read from the source.
+    /// How many calls of `step_toward` were counted since the last one that read from the source.
     misses: u8,
 }
 
@@ -118,8 +118,9 @@ impl<S: Rising> Peeked<S> {
         }
     }
 
-    /// Replaces the number read ahead by the next one if it is below `number`, but only after [`MISSES_BEFORE_STEP`]
-    /// calls that read nothing.
+    /// Reads the next number from the source in place of the number read ahead. If the number read ahead is at least
+    /// `number`, this does nothing. Otherwise the first [`MISSES_BEFORE_STEP`] calls are only counted, and the next one
+    /// reads.
     fn step_toward(&mut self, number: i64)
         ensures { IsSameFrom number (numbers self.new) (numbers self.old) }
     {

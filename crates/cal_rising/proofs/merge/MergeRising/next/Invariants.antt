@@ -3,13 +3,13 @@ use Rattle.cal_rising.specs.Merge.{merged}
 use Rattle.cal_rising.specs.RisingList.{union, without}
 use Rattle.cal_rising.proofs.merge.MergeRising.next.Given as goal
 
--- the merge is started, and its remaining numbers are the same as before
+-- the merge is started, and the numbers that it has yet to return are the same as before the loop
 abbrev pub invariant-loop-number : goal.invariant-loop-number
 invariant-loop-number g l = record {
   started : l.self-inside.started ≡ true;
   same : without (union l.self-inside.sources) (union l.self-inside.exceptions) ≡ merged l.fn.self;
 }
 
--- each round reads a number from the sources
+-- each round takes a number from the sources, so that they have fewer numbers left
 abbrev pub decreases-loop-number : goal.decreases-loop-number
 decreases-loop-number g l = length (union l.self-inside.sources)

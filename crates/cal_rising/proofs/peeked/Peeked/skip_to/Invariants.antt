@@ -10,6 +10,6 @@ invariant-steps g l = record {
   taken : HasHead l.self;
 }
 
--- each round drops one number
+-- each round drops a number, so that the source has fewer numbers left
 abbrev pub decreases-steps : goal.decreases-steps
 decreases-steps g l = length (numbers l.self)
