@@ -1,4 +1,5 @@
--- Lemmas which say that the lists built one assignment at a time are the lists of all assignments.
+-- Lemmas which say that building the lists of expressions and exceptions one assignment at a time gives the same lists
+-- as filtering all assignments.
 use Rattle.std.proofs.Common.{◌≡◌, ◌≤◌, ◌<◌, ◌+◌, ◌&&◌, cond, ℕ, Bool, true, false, not, List, [], ◌∷◌, ◌++◌, codes, filter, length, refl, sym, subst, ap, ◌∙◌, arith, append_assoc, append-nil, length-append, Option, Some, None, Result, Ok, Err}
 use Rattle.std.specs.List.{after_last}
 use Rattle.std.specs.Prelude.{nat_le, min}
@@ -20,7 +21,8 @@ use Rattle.cal_read.specs.declared.timer.fault.TimerFault.TheVariants.{BadLine}
 use Rattle.cal_read.proofs.ResumedLemmas.{joined_bad, joined_many, joined_read, resumed_changed, resumed_fault}
 use Rattle.cal_text.proofs.General.{after_last_here, after_last_more, option_or-none}
 
--- a list to which `adds` adds and which `resets` clears, and how one more assignment changes it
+-- The list to which assignments that pass the test `adds` are added, and which assignments that pass `resets` clear.
+-- The lemmas say how one more assignment changes this list.
 abbrev Kept : (adds resets : Assignment → Bool) → List Assignment → List Assignment
 Kept adds resets all = filter adds (after_last resets all)
 
@@ -62,13 +64,14 @@ excepted_other : (before : List Assignment) (a : Assignment) → is_exception_re
 unfolding excepted
 excepted_other before a e f = kept_other is_exception is_exception_reset before a e f
 
--- An assignment is at most one of these four: it adds an expression, adds an exception, clears the expressions, or
--- clears the exceptions. It either has a value or has none, and its key is that of exceptions or one of a timer's keys.
+-- An assignment does at most one of these four things: it adds an expression, adds an exception, clears the
+-- expressions, or clears the exceptions. Only an assignment with a value can add and only one without a value can
+-- clear, and no key is both that of exceptions and one of `timer_keys`.
 no_value : (b x y : Bool) → (b && x) ≡ true → (not b && y) ≡ false
 no_value true x y e = refl
 no_value false x y e = cc
 
--- the key of exceptions is not one of a timer's keys
+-- the key of exceptions is not one of `timer_keys`
 other_key : (key : List ℕ) → bytes_eq key exception_key ≡ true → (list_any (bytes_eq key) timer_keys ≡ false) × (bytes_eq key (codes "OnCalendar") ≡ false)
 other_key key e =
     let same : key ≡ exception_key = (bytes_eq-Decides key exception_key).0 e in
@@ -113,14 +116,14 @@ pub exception_is_no_exception_reset : (a : Assignment) → is_exception a ≡ tr
 unfolding is_exception is_exception_reset
 exception_is_no_exception_reset a e = false_from_ne_true (is_exception_reset a) (λ h. let other = no_value (has_no_value a) _ (bytes_eq a.key exception_key) h in absurd (cc))
 
--- what clears one list doesn't change the other
+-- an assignment that clears one of the two lists doesn't change the other list
 pub excepted_kept : (before : List Assignment) (a : Assignment) → is_reset a ≡ true → excepted (before ++ a ∷ []) ≡ excepted before
 excepted_kept before a e = excepted_other before a (reset_is_no_exception_reset a e) (reset_is_no_exception a e)
 
 pub listed_kept : (before : List Assignment) (a : Assignment) → is_exception_reset a ≡ true → listed (before ++ a ∷ []) ≡ listed before
 listed_kept before a e = listed_other before a (exception_reset_is_no_reset a e) (exception_reset_is_no_expression a e)
 
--- every one of these assignments has an entry, so none of them is invalid
+-- every assignment in `list` has an entry, so the expressions of all of them are valid
 abbrev AreAll : {E : Type 0} → (List ℕ → Result E SpecFault) → List Assignment → Type 0
 AreAll read list = length (entries_of read list) ≡ length list
 
@@ -130,7 +133,8 @@ entries_more read list a entry good =
     filter_map-append (λ a. entry_of a (read a.value)) list (a ∷ [])
     ∙ rw good refl
 
--- An assignment is added to a list in which all are valid: either it has an error, or its entry is added.
+-- If all assignments in `list` are valid, adding `a` to their entries either fails with the error of `a`, or adds the
+-- entry of `a`; if it doesn't fail, all assignments are still valid.
 joins_by : {E : Type 0} (read : List ℕ → Result E SpecFault) (list : List Assignment) (a : Assignment) (many : Bool) (r : Result E SpecFault)
     → nat_le max_expressions (length list) ≡ many → read a.value ≡ r → AreAll read list
     → (with_assignment read (entries_of read list) a ≡ unless_fault (fault_joining read list a) (Ok (entries_of read (list ++ a ∷ []))))
@@ -154,21 +158,24 @@ joins_by {E} read list a false (Ok expr) m v all =
       λ h. ap length more ∙ length-append (entries_of read list) (entry ∷ []) ∙ ap (λ n. n + 1) all ∙ sym (length-append list (a ∷ [])),
     )
 
--- if there is no error, go on with the list; otherwise the first error is the result
+-- if `o` is an error, the result is this error; otherwise the result is that of `next` for the list `es`: the error `p`
+-- if there is one, and `r` if not
 decides : {E : Type 0} (o p : Option TimerFault) (es : List (TimerLine E)) (next : List (TimerLine E) → Result (Timer E) TimerFault) (r : Result (Timer E) TimerFault)
     → (o ≡ None → next es ≡ unless_fault p r) → with_list (unless_fault o (Ok es)) next ≡ unless_fault (option_or o p) r
 decides None p es next r h = h refl
 decides (Some fault) p es next r h = refl
 
--- going on with the entries of the assignments in `before` gives the result for all assignments
+-- applying the assignments in `after` to the lists of those in `before` gives the first error in `after`, or else the
+-- result for the lists of all assignments
 abbrev Resumes : {E : Type 0} → (List ℕ → Result E SpecFault) → List Assignment → List Assignment → Type 0
 Resumes read before after = resumed read (entries read before) after ≡ unless_fault (first_fault read before after) (Ok (entries read (before ++ after)))
 
--- all assignments in both lists are valid
+-- after the assignments in `before`, all assignments in the two lists are valid
 abbrev AreAllRead : {E : Type 0} → (List ℕ → Result E SpecFault) → List Assignment → Type 0
 AreAllRead read before = AreAll read (listed before) × AreAll read (excepted before)
 
--- the first error after `before` is that of the next assignment, or else the first after it
+-- the first error after the assignments in `before` is that of the next assignment `a`, or else the first error after
+-- `a`
 ends : {E : Type 0} (read : List ℕ → Result E SpecFault) (before : List Assignment) (a : Assignment) (after : List Assignment) (o : Option TimerFault) → fault_following read before a ≡ o
     → unless_fault (option_or o (first_fault read (before ++ a ∷ []) after)) (Ok (entries read ((before ++ a ∷ []) ++ after)))
     ≡ unless_fault (first_fault read before (a ∷ after)) (Ok (entries read (before ++ (a ∷ after))))
@@ -179,7 +186,8 @@ ends read before a after o same =
 all_with : {E : Type 0} (read : List ℕ → Result E SpecFault) (list now : List Assignment) → now ≡ list → AreAll read list → AreAll read now
 all_with read list now e all = subst (λ (l : List Assignment). AreAll read l) (sym e) all
 
--- an assignment is added to its list
+-- if all assignments in `list` are valid, adding `a` to their entries either fails with the error of `a`, or adds the
+-- entry of `a`
 joins : {E : Type 0} (read : List ℕ → Result E SpecFault) (list : List Assignment) (a : Assignment) → AreAll read list
     → (with_assignment read (entries_of read list) a ≡ unless_fault (fault_joining read list a) (Ok (entries_of read (list ++ a ∷ []))))
     × (fault_joining read list a ≡ None → AreAll read (list ++ a ∷ []))
@@ -193,8 +201,8 @@ pub fault_of_exception : {E : Type 0} (read : List ℕ → Result E SpecFault) (
 unfolding fault_following
 fault_of_exception read before a f = rw (exception_is_no_expression a f, f) refl
 
--- What an assignment does to one of the lists: it has this error, or the list becomes the one that all assignments up
--- to this one give.
+-- What the assignment `a` does to one of the lists: it has the error `fault`, or, if `fault` is `None`, the list
+-- becomes that of the assignments in `before` and `a`.
 record Changes {E : Type 0} (read : List ℕ → Result E SpecFault) (adds resets : Assignment → Bool) (before : List Assignment) (a : Assignment) (fault : Option TimerFault) : Type 0 where
   pub is : changed read (adds a) (resets a) (entries_of read (Kept adds resets before)) a ≡ unless_fault fault (Ok (entries_of read (Kept adds resets (before ++ a ∷ []))))
   pub all : fault ≡ None → AreAll read (Kept adds resets (before ++ a ∷ []))
@@ -247,62 +255,7 @@ resumes_from read before (a ∷ after) all =
     (changes read is_exception is_exception_reset before a (is_exception a) (is_exception_reset a) refl refl (exception_is_no_exception_reset a) all.1)
     (either_fault read before a (is_expression a) refl) (resumes_from read (before ++ a ∷ []) after)
 
--- the first error, or the absence of one, follows from whether both lists were read
-lists_by : {E : Type 0} (o : Option TimerFault) (all lists : Timer E) → unless_fault o (Ok all) ≡ Ok lists → unless_fault o (some_entries all) ≡ some_entries lists
-lists_by None all lists h = let same : all ≡ lists = cc in ap some_entries same
-lists_by (Some fault) all lists h = cc
-
-fault_by : {E : Type 0} (o : Option TimerFault) (all : Timer E) (fault : TimerFault) → unless_fault o (Ok all) ≡ Err fault → unless_fault o (some_entries all) ≡ Err fault
-fault_by None all fault h = cc
-fault_by (Some f) all fault h = cc
-
-none_by : {E : Type 0} (o : Option TimerFault) (all lists : Timer E) → unless_fault o (Ok all) ≡ Ok lists → o ≡ None
-none_by None all lists h = refl
-none_by (Some fault) all lists h = cc
-
-some_by : {E : Type 0} (o : Option TimerFault) (all : Timer E) (fault : TimerFault) → unless_fault o (Ok all) ≡ Err fault → o ≡ Some fault
-some_by None all fault h = cc
-some_by (Some f) all fault h = cc
-
--- applying one assignment after another gives the entries of all assignments, or the first error
-pub resumed_is_entries : {E : Type 0} (read : List ℕ → Result E SpecFault) (assignments : List Assignment) → resumed read (record { expressions = []; exceptions = [] }) assignments ≡ entries_or_fault read assignments
-unfolding entries_or_fault entries listed excepted
-resumed_is_entries read assignments = resumes_from read [] assignments (refl, refl)
-
--- so the lists of a file follow from these entries, or its error is that error
-pub lists_from_entries : {E : Type 0} (read : List ℕ → Result E SpecFault) (all : List Assignment) (lists : Timer E) → resumed read empty_lists all ≡ Ok lists → lists_of read all ≡ some_entries lists
-unfolding lists_of entries_or_fault
-lists_from_entries read all lists h = lists_by (first_fault read [] all) (entries read all) lists (sym (resumed_is_entries read all) ∙ h)
-
-pub lists_from_fault : {E : Type 0} (read : List ℕ → Result E SpecFault) (all : List Assignment) (fault : TimerFault) → resumed read empty_lists all ≡ Err fault → lists_of read all ≡ Err fault
-unfolding lists_of entries_or_fault
-lists_from_fault read all fault h = fault_by (first_fault read [] all) (entries read all) fault (sym (resumed_is_entries read all) ∙ h)
-
-pub first_from_entries : {E : Type 0} (read : List ℕ → Result E SpecFault) (all : List Assignment) (lists : Timer E) → resumed read empty_lists all ≡ Ok lists → first_fault read [] all ≡ None
-unfolding entries_or_fault
-first_from_entries read all lists h = none_by (first_fault read [] all) (entries read all) lists (sym (resumed_is_entries read all) ∙ h)
-
-pub first_from_fault : {E : Type 0} (read : List ℕ → Result E SpecFault) (all : List Assignment) (fault : TimerFault) → resumed read empty_lists all ≡ Err fault → first_fault read [] all ≡ Some fault
-unfolding entries_or_fault
-first_from_fault read all fault h = some_by (first_fault read [] all) (entries read all) fault (sym (resumed_is_entries read all) ∙ h)
-
--- what follows from both lists, unless there was an error
-abbrev pub with_lists : {E : Type 0} → Result (Timer E) TimerFault → (Timer E → Result (Timer E) TimerFault) → Result (Timer E) TimerFault
-with_lists (Ok lists) next = next lists
-with_lists (Err fault) next = Err fault
-
-list_then : {E : Type 0} (r : Result (List (TimerLine E)) TimerFault) (next first : List (TimerLine E) → Result (Timer E) TimerFault) (second : Timer E → Result (Timer E) TimerFault)
-    → ((es : List (TimerLine E)) → next es ≡ with_lists (first es) second) → with_list r next ≡ with_lists (with_list r first) second
-list_then (Ok es) next first second h = h es
-list_then (Err fault) next first second h = refl
-
--- Applying two lists of assignments one after the other is applying their concatenation. This is what lets several
--- texts be read without joining them.
-pub resumed_append : {E : Type 0} (read : List ℕ → Result E SpecFault) (lists : Timer E) (before after : List Assignment)
-    → resumed read lists (before ++ after) ≡ with_lists (resumed read lists before) (λ now. resumed read now after)
-unfolding resumed
-resumed_append read lists [] after = refl
-resumed_append read lists (a ∷ before) after =
-    list_then (changed read (is_expression a) (is_reset a) lists.expressions a) _ _ (λ now. resumed read now after)
-    (λ es. list_then (changed read (is_exception a) (is_exception_reset a) lists.exceptions a) _ _ (λ now. resumed read now after)
-    (λ xs. resumed_append read (record { expressions = es; exceptions = xs }) before after))
+-- applying the assignments one after another, from empty lists on, gives the result of `lists_of`
+pub resumed_is_list : {E : Type 0} (read : List ℕ → Result E SpecFault) (assignments : List Assignment) → resumed read (record { expressions = []; exceptions = [] }) assignments ≡ lists_of read assignments
+unfolding lists_of entries listed excepted
+resumed_is_list read assignments = resumes_from read [] assignments (refl, refl)

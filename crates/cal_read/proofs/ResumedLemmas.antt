@@ -13,7 +13,8 @@ use Rattle.cal_read.specs.TimerView.{changed, with_assignment, resumed, with_lis
 use Rattle.cal_read.specs.declared.timer.fault.TimerFault.{TimerFault}
 use Rattle.cal_read.specs.declared.timer.fault.TimerFault.TheVariants.{TooMany}
 
--- an assignment changes the list of expressions and then the list of exceptions, unless it has an error
+-- an assignment first changes the list of expressions and then the list of exceptions; if one of these changes fails,
+-- the result is its error
 pub resumed_changed : {E : Type 0} (read : List ℕ → Result E SpecFault) (lists : Timer E) (a : Assignment) (after : List Assignment) (es : List (TimerLine E)) (r : Result (List (TimerLine E)) TimerFault)
     → changed read (is_expression a) (is_reset a) lists.expressions a ≡ Ok es → changed read (is_exception a) (is_exception_reset a) lists.exceptions a ≡ r
     → resumed read lists (a ∷ after) ≡ with_list r (λ xs. resumed read (record { expressions = es; exceptions = xs }) after)
@@ -25,12 +26,12 @@ pub resumed_fault : {E : Type 0} (read : List ℕ → Result E SpecFault) (lists
 unfolding resumed
 resumed_fault read lists a after fault e = rw e refl
 
--- nothing can be added to a full list
+-- adding an assignment to a full list fails with `TooMany`
 pub joined_many : {E : Type 0} (read : List ℕ → Result E SpecFault) (es : List (TimerLine E)) (a : Assignment) → max_expressions ≤ length es → with_assignment read es a ≡ Err (TooMany a.number)
 unfolding with_assignment
 joined_many read es a many = let is_many : nat_le max_expressions (length es) ≡ true = grind (arith, nat_tests) in rw is_many refl
 
--- what is added to a list that has room, by whether the expression is valid
+-- adding an assignment to a list that isn't full fails if its expression is invalid, and otherwise adds its entry
 read_bad : {E : Type 0} (es : List (TimerLine E)) (a : Assignment) (r : Result E SpecFault) (fault : TimerFault) → bad_line a.number r ≡ Some fault → with_read es a r ≡ Err fault
 read_bad es a (Ok expr) fault e = cc
 read_bad es a (Err f) fault e = cc
@@ -47,17 +48,19 @@ pub joined_read : {E : Type 0} (read : List ℕ → Result E SpecFault) (es : Li
 unfolding with_assignment
 joined_read read es a entry few good = let is_few : nat_le max_expressions (length es) ≡ false = grind (arith, nat_tests) in rw is_few (read_good es a (read a.value) entry good)
 
--- a header opens a section
+-- if a line is a header, the lines up to the next header are in the section `Timer` if and only if this header names
+-- the section
 pub header_here : (inside : Bool) (line : Line) (after : List Line) → is_header (trim_matches is_blank_or_return line.text) ≡ true → assignments_in inside (line ∷ after) ≡ assignments_in (bytes_eq (section_of (trim_matches is_blank_or_return line.text)) (codes "Timer")) after
 unfolding assignments_in timer_lines
 header_here inside line after e = rw e refl
 
--- a line outside the section `Timer` is not an assignment
+-- a line outside the section `Timer` that isn't a header is not an assignment of the section
 pub outside_here : (line : Line) (after : List Line) → is_header (trim_matches is_blank_or_return line.text) ≡ false → assignments_in false (line ∷ after) ≡ assignments_in false after
 unfolding assignments_in timer_lines
 outside_here line after e = rw e refl
 
--- in the section, a line without `=` is not an assignment, and any other line that isn't a header is one
+-- in the section `Timer`, a line without `=` is not an assignment, and any other line that isn't a header is an
+-- assignment
 pub nothing_here : (line : Line) (after : List Line) → is_header (trim_matches is_blank_or_return line.text) ≡ false → assignment_of (trimmed line) ≡ None → assignments_in true (line ∷ after) ≡ assignments_in true after
 unfolding assignments_in timer_lines
 nothing_here line after e f = rw (e, f) refl
@@ -66,7 +69,7 @@ pub assigned_here : (line : Line) (after : List Line) (a : Assignment) → is_he
 unfolding assignments_in timer_lines
 assigned_here line after a e f = rw (e, f) refl
 
--- after the last line, the entries so far are the result
-pub no_lines : {E : Type 0} (read : List ℕ → Result E SpecFault) (lists : Timer E) (inside : Bool) → resumed read lists (assignments_in inside []) ≡ Ok lists
+-- after the last line, the result is the lists so far, or `NothingToDo` if there is no expression
+pub no_lines : {E : Type 0} (read : List ℕ → Result E SpecFault) (lists : Timer E) (inside : Bool) → resumed read lists (assignments_in inside []) ≡ some_entries lists
 unfolding resumed assignments_in timer_lines
 no_lines read lists inside = refl

@@ -38,7 +38,7 @@ number_by most word n true e h =
     record { some = grind (arith, nat_tests, long); digits = parts.1 }
 number_by most word n false e h = let none = rw e at h in cc
 
--- a number contains no colon and begins with a digit
+-- a number contains no colon, and a text that begins with a number begins with a digit
 pub digit_no_colon : (b : ℕ) → is_ascii_digit b ≡ true → is_colon b ≡ false
 digit_no_colon b h = grind (arith, nat_tests)
 
@@ -57,7 +57,7 @@ no_digit_first : (word : List ℕ) → begins_with_letter word ≡ true → begi
 no_digit_first [] h = refl
 no_digit_first (b ∷ bs) h = letter_no_digit b h
 
--- an offset begins with neither a letter nor a digit
+-- an offset begins with neither a letter nor a digit, so the word for a zone doesn't begin with a digit
 offset_begins : (word : List ℕ) (seconds : ℤ) → IsOffsetWord word seconds → (begins_with_letter word ≡ false) × (begins_with_digit word ≡ false)
 offset_begins word seconds h = elim h.signed [
   | inl east ↦ rw east.0 (refl, refl)
@@ -68,7 +68,7 @@ pub zone_begins : (find : List ℕ → Option TimeZone) (word : List ℕ) (zone 
 zone_begins find word zone (inl name) = no_digit_first word name.0
 zone_begins find word zone (inr offset) = (offset_begins word offset.0 offset.1).1
 
--- a date consists of three numbers with hyphens between them
+-- `word` consists of three numbers with hyphens between them; the lemmas below say that every valid date does
 record AreDatePieces (word : List ℕ) : Type 0 where
   year : List ℕ
   month : List ℕ
@@ -107,7 +107,7 @@ date_begins word day h =
     let p = date_word word _ day refl h in
     rw p.whole (no_letter_first (p.year ++ (45 ∷ (p.month ++ (45 ∷ p.day)))) (digit_first p.year (45 ∷ (p.month ++ (45 ∷ p.day))) p.is_year))
 
--- a time begins with the number of its hour and a colon
+-- `word` begins with a number and a colon; the lemmas below say that every valid time does
 record AreTimePieces (word : List ℕ) : Type 0 where
   hour : List ℕ
   after : List ℕ
@@ -143,7 +143,7 @@ unfolding time_written
 time_begins word micros h =
     let p = time_word word _ micros refl h in rw p.whole (digit_first p.hour (58 ∷ p.after) p.is_hour)
 
--- Words that satisfy the rule are parsed as it says
+-- Words that satisfy the rule are parsed as the rule says
 
 pub means_from : (find : List ℕ → Option TimeZone) (word : List ℕ) (zone : TimeZone) → MeansZone find word zone → zone_of_word find word ≡ Ok zone
 means_from find word zone (inl name) = rw (name.0, name.1) refl
@@ -189,7 +189,7 @@ pub only : (at : Setting) (ws : List (List ℕ)) (c : CivilStamp) → IsCivilTim
 only at ws c h =
     ap (civil_time at) h.whole ∙ civil_from at h.weekday h.date h.time h.zone c.weekday c.day c.micros c.zone h.some h.has_weekday h.has_date h.has_time h.has_zone
 
--- Words that are parsed satisfy the rule
+-- Words that are parsed without an error satisfy the rule
 
 means_name : (found : Option TimeZone) (zone : TimeZone) → name_found found ≡ Ok zone → found ≡ Some zone
 means_name None zone h = cc
@@ -214,7 +214,8 @@ zone_of_words at (w ∷ []) zone h =
 zone_of_words at (w ∷ v ∷ vs) zone h =
     let none = (bind_ok (zone_of_word at.find w) (λ z. zone_alone z (v ∷ vs)) zone h).next in cc
 
--- the words after the weekday, if there is one
+-- In this module, `first` is the word for the weekday, or `None` if no weekday is named. The lemmas are about the words
+-- that come after the weekday.
 module _ (at : Setting) (first : Option (List ℕ)) (weekday : Option Weekday) (c : CivilStamp) (names : NamesWeekday first weekday) where
   written : (date time : Option (List ℕ)) (day : Option ℤ) (micros : ℕ) (ws : List (List ℕ)) → (is_some date || is_some time) ≡ true → WritesDate date day → WritesTime time micros → civil_stamp_in at weekday day micros ws ≡ Ok c
       → IsCivilTime at (option_to_list first ++ (option_to_list date ++ (option_to_list time ++ ws))) c

@@ -1,4 +1,4 @@
--- Parsing `@` and the digits of an instant gives that instant.
+-- Parsing `@` and the decimal digits of an instant gives the same instant.
 use Rattle.std.proofs.Common.{◌≡◌, ℕ, ◌*◌, ◌≤◌, false, List, [], ◌∷◌, ℤ, pos, ◌+ℤ◌, ◌≤ℤ◌, Ok, refl, sym, ap, ◌∙◌, arith, append-nil, decimal, reverse}
 use Rattle.std.specs.List.{AllByRecursion}
 use Rattle.std.proofs.lemmas.Int.{ints}

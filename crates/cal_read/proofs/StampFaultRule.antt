@@ -21,7 +21,8 @@ use Rattle.cal_read.specs.declared.stamp.fault.StampFault.{StampFault}
 use Rattle.cal_read.specs.declared.stamp.fault.StampFault.TheVariants.{BadDate, NoSuchZone, StrayWord}
 use Rattle.cal_read.proofs.StampCivilRule.{date_begins, date_no_colon, means, means_from, no_letter_first, time_begins, time_has_colon, zone_begins}
 
--- if two steps together fail, either the first fails, or the first succeeds and the second fails
+-- if two steps in sequence fail with an error, either the first fails with it, or the first succeeds and the second
+-- fails with it
 pub err_of : {A B : Type 0} (r : Result A StampFault) (f : A → Result B StampFault) (e : StampFault) → (r >>= f) ≡ Err e → (r ≡ Err e) ⊎ ((x : A) × (r ≡ Ok x) × (f x ≡ Err e))
 err_of (Ok x) f e h = inr (x, refl, h)
 err_of (Err g) f e h = inl (let same : g ≡ e = cc in ap Err same)
@@ -61,7 +62,7 @@ date_or_time_only : (at : Setting) (weekday : Option Weekday) (word : List ℕ) 
 date_or_time_only at weekday word after fault (inl colon) = rw (colon.0, colon.1) refl
 date_or_time_only at weekday word after fault (inr none) = rw (none.0, none.1) refl
 
--- the error of a word that follows a date or a time
+-- if a word that follows a date or a time has an error, parsing the words after the weekday fails with this error
 body_only : (at : Setting) (first : Option (List ℕ)) (weekday : Option Weekday) (date time name : Option (List ℕ)) (day : Option ℤ) (micros : ℕ) (zone : TimeZone) (word : List ℕ) (after : List (List ℕ)) (fault : StampFault)
     → (is_some date || is_some time) ≡ true → WritesDate date day → WritesTime time micros → NamesZone at name zone → IsAtFault at first date time name word fault
     → after_weekday at weekday (option_to_list date ++ (option_to_list time ++ (option_to_list name ++ (word ∷ after)))) ≡ Err fault
@@ -129,7 +130,8 @@ no_zone find word fault h =
       | inr other ↦ (let lost = offset_missing (offset_in word) fault (rw other at h) in inr (other, no_offset word lost.0, lost.1))
     ]
 
--- the words after the weekday, if there is one
+-- In this module, `first` is the word for the weekday, or `None` if no weekday is named. The lemmas are about the words
+-- that come after the weekday.
 module _ (at : Setting) (first : Option (List ℕ)) (weekday : Option Weekday) (fault : StampFault) (names : NamesWeekday first weekday) where
   at_word : (date time name : Option (List ℕ)) (day : Option ℤ) (micros : ℕ) (zone : TimeZone) (word : List ℕ) (after : List (List ℕ))
       → WritesDate date day → WritesTime time micros → NamesZone at name zone → (is_some name ≡ true → (is_some date || is_some time) ≡ true) → IsAtFault at first date time name word fault
@@ -148,7 +150,8 @@ module _ (at : Setting) (first : Option (List ℕ)) (weekday : Option Weekday) (
         is_at_fault = h;
       })
 
-  -- the words from the zone on
+  -- if parsing the words from the zone on fails with `fault`, then `fault` is the error that the rule demands for all
+  -- words
   second_zone : (date time : Option (List ℕ)) (day : Option ℤ) (micros : ℕ) (w : List ℕ) (zone : TimeZone) (ws : List (List ℕ)) → (is_some date || is_some time) ≡ true → WritesDate date day → WritesTime time micros → NamesZone at (Some w) zone
       → zone_alone zone ws ≡ Err fault → HasFirstError at (option_to_list first ++ (option_to_list date ++ (option_to_list time ++ (w ∷ ws)))) fault
   second_zone date time day micros w zone [] some d t z h = cc
@@ -172,14 +175,16 @@ module _ (at : Setting) (first : Option (List ℕ)) (weekday : Option Weekday) (
         | inr none ↦ (let e = none.2 in cc)
       ]
 
-  -- the words after the time
+  -- if parsing the words after the time fails with `fault`, then `fault` is the error that the rule demands for all
+  -- words
   last_words : (date : Option (List ℕ)) (time : List ℕ) (day : Option ℤ) (micros : ℕ) (ws : List (List ℕ)) → WritesDate date day → time_written time ≡ Ok micros → civil_stamp_in at weekday day micros ws ≡ Err fault
       → HasFirstError at (option_to_list first ++ (option_to_list date ++ (time ∷ ws))) fault
   last_words date time day micros [] d t h = cc
   last_words None time day micros (w ∷ ws) d t h = written_words None (Some time) day micros w ws refl d t (λ no. no) h
   last_words (Some date) time day micros (w ∷ ws) d t h = written_words (Some date) (Some time) day micros w ws refl d t (λ no. no) h
 
-  -- the words after the date
+  -- if parsing the words after the date fails with `fault`, then `fault` is the error that the rule demands for all
+  -- words
   day_words : (d : List ℕ) (day : ℤ) (ws : List (List ℕ)) → day_written d ≡ Ok day → after_date at weekday day ws ≡ Err fault → HasFirstError at (option_to_list first ++ (d ∷ ws)) fault
   day_words d day [] e h = cc
   day_words d day (w ∷ ws) e h =

@@ -20,7 +20,7 @@ use Rattle.cal_read.specs.declared.stamp.fault.StampFault.TheVariants.{OutOfRang
 
 -- Numbers
 
--- the digits of a fraction add at most nine times the unit each
+-- each digit of a fraction adds at most nine times the unit `size` to the value of the fraction
 pub fraction_bound : (size place : ℕ) (ds : List ℕ) → list_all is_ascii_digit ds ≡ true → fraction_worth size place ds ≤ length ds * (9 * size)
 fraction_bound size place [] h = omega arith
 fraction_bound size place (d ∷ ds) h =
@@ -33,7 +33,8 @@ fraction_bound size place (d ∷ ds) h =
 
 -- Pieces
 
--- a date or time with more than three pieces is invalid, and so are seconds with more than two
+-- a date with more than three pieces between hyphens is invalid; so are a time with more than three pieces between
+-- colons, and seconds with more than two pieces between points
 pub no_date : (word year month day b1 b2 b3 : List ℕ) → slice_split is_hyphen word ≡ year ∷ slice_split is_hyphen b1 → slice_split is_hyphen b1 ≡ month ∷ slice_split is_hyphen b2 → slice_split is_hyphen b2 ≡ day ∷ slice_split is_hyphen b3 → None ≡ date_numbers word
 unfolding date_numbers
 no_date word year month day b1 b2 b3 first next last =
@@ -55,7 +56,7 @@ pub too_late : (micros : ℤ) → last_moment <ℤ micros → in_moments micros 
 unfolding in_moments
 too_late micros late = grind (arith, ints)
 
--- local time is UTC plus the offset that the clock shows
+-- the local second that a zone's clock shows at `second` is `second` plus the UTC offset that the clock shows
 pub local_shown_at-civil : (zone : TimeZone) (second : ℤ) (shown : Civil) → shown ≡ civil_of zone second → local_shown_at zone second ≡ second +ℤ shown.offset
 unfolding local_shown_at civil_of
 local_shown_at-civil zone second shown e = ap (λ o. second +ℤ o) (sym (ap (λ (s : Civil). s.offset) e))

@@ -1,5 +1,5 @@
--- Parsing a printed instant gives that instant, if the clock shows a year that a date can have and its offset is whole
--- minutes.
+-- Parsing a printed instant gives the same instant, if the zone's clock shows a year from 1970 to 2199 and its UTC
+-- offset is whole minutes.
 use Rattle.std.proofs.Common.{◌≡◌, ℕ, ◌+◌, ◌-◌, ◌*◌, ◌/◌, ◌%◌, ◌<◌, ◌≤◌, true, false, inr, List, [], ◌∷◌, ◌++◌, length, get_or, codes, ℤ, pos, neg_ℤ, ◌+ℤ◌, ◌*ℤ◌, ◌≤ℤ◌, Option, Some, Ok, Err, refl, sym, ap, ◌∙◌, arith, append_assoc, append-nil, decimal, eq-eqb, length-append, leb-true, reverse, slice_index_or, unsigned_abs}
 use Rattle.std.specs.List.{list_any}
 use Rattle.std.proofs.lemmas.List.{get_or-reverse}
@@ -77,23 +77,26 @@ solid_at : (text : List ℕ) → is_blank (get_or text 0 0) ≡ false → Starts
 solid_at [] h = tt
 solid_at (b ∷ bs) h = h
 
--- what doesn't match: a text that begins with a sign, a text that ends with a given word, and a text that begins with
--- the word for a day
+-- if the first byte of a text is at least 65 (`A`), the text doesn't begin with a sign that is below 65
 no_sign : (core : List ℕ) (sign : ℕ) (means : List ℕ → Form) → 65 ≤ get_or core 0 0 → sign < 65 → (other : Form) → IsBehindSign (sign ∷ []) means core other → ⊥
 no_sign core sign means capital below other p = absurd (omega (arith, capital, below, ap (λ t. get_or t 0 0) p.1))
 
+-- if the last byte of a text is at most 90 (`Z`), the text doesn't end with a blank and a word whose last byte is
+-- greater
 no_word : (core word : List ℕ) (means : List ℕ → Form) → last_byte core ≤ 90 → ((blank : ℕ) → last_byte (blank ∷ word) ≤ 90 → ⊥) → (other : Form) → IsBeforeWord word means core other → ⊥
 no_word core word means last apart other p =
     let same : last_byte core ≡ last_byte (p.1 ∷ word) = ap last_byte p.3 ∙ last_of p.0 (p.1 ∷ word) (omega arith) in
     apart p.1 (omega (arith, same, last))
 
+-- if the first word of a text has three bytes, it isn't the word for a day, which has more
 no_relative_day : (core name word : List ℕ) (rest : List (List ℕ)) (shift : ℤ) → words core ≡ name ∷ rest → length name ≡ 3 → 3 < length word → (other : Form) → IsRelativeDay word shift core other → ⊥
 no_relative_day core name word rest shift are short long other p =
     let same : name ∷ rest ≡ word ∷ p.0 = sym are ∙ p.1 in
     let first : name ≡ word = cc in
     absurd (omega (arith, short, long, ap length first))
 
--- the words of a line
+-- `name` is the name of the weekday `day`; `date`, `time` and `zone` are words, and `zone` can be the last word of a
+-- line
 record IsLine (day : Weekday) (name date time zone : List ℕ) : Type 0 where
   named : IsDayName day name
   date_word : IsWord date
@@ -114,7 +117,7 @@ module _ (day : Weekday) (name date time zone : List ℕ) (is : IsLine day name 
       let capital = leb-true 65 (get_or name 0 0) is.named.capital in
       omega (arith, capital, get_or-append name (after_name date time zone) 0 0 (omega (arith, is.named.long)))
 
-  -- the last byte of a line is that of its zone
+  -- the last byte of a line is the last byte of its zone
   line_last : last_byte (line name date time zone) ≡ last_byte zone
   line_last =
       last_of name (after_name date time zone) (omega arith)
@@ -163,7 +166,7 @@ module _ (day : Weekday) (name date time zone : List ℕ) (is : IsLine day name 
     fits = inr (λ other p. absurd (omega (arith, line_long, ap length p.0)), inr (λ other p. absurd (omega (arith, line_long, ap length p.0)), fits_sign));
   }
 
--- The words of a line
+-- Parsing the words of a line, from left to right
 
 date_first : (at : Setting) (day : Weekday) (name date time zone : List ℕ) → IsDayName day name → list_any is_colon date ≡ false
     → civil_time at (line_words name date time zone) ≡ (day_written date >>= λ number. after_date at (Some day) number (time ∷ zone ∷ []))
@@ -180,7 +183,7 @@ then_zone at day number micros word zone meant = rw meant refl
 no_zone : (at : Setting) (day : Option Weekday) (number : Option ℤ) (micros : ℕ) (word : List ℕ) → zone_of_word at.find word ≡ Err StrayWord → civil_stamp_in at day number micros (word ∷ []) ≡ Err StrayWord
 no_zone at day number micros word meant = rw meant refl
 
--- The line with this date, this second of the day and this word for the zone
+-- The line of a date, a second of the day and a word for the zone
 
 abbrev date_in : Date → List ℕ
 date_in date = date_word (year_of date) date.month date.day
@@ -208,7 +211,8 @@ is_line date second zone h last =
       zone_word = last;
     }
 
--- the printed date and time are made of numbers and the signs between them
+-- The printed date is three padded numbers with hyphens between them, and the printed time is three padded numbers with
+-- colons between them. A padded number is zeros and digits; the first lemma only regroups these pieces.
 pieces_row : (sign : ℕ) (a b c d e f : List ℕ) → a ++ (b ++ ((sign ∷ []) ++ (c ++ (d ++ ((sign ∷ []) ++ (e ++ (f ++ []))))))) ≡ (a ++ b) ++ (sign ∷ ((c ++ d) ++ (sign ∷ (e ++ f))))
 pieces_row sign a b c d e f = simp (append_assoc, append-nil)
 
@@ -233,7 +237,7 @@ fields_printed date second offset zone =
     rw (number, date_printed (shown_fields date second offset), time_printed (hour_of second) (minute_of second) (second_of second))
     (pieces_line (short_name_of (day_in date)) (date_in date) (time_in second) zone)
 
--- what the zone's clock shows at an instant
+-- the local second that the zone's clock shows at an instant
 abbrev local_in : Zone → ℤ → ℤ
 local_in zone secs = local_shown_at (zone_of zone) secs
 
@@ -250,7 +254,8 @@ printed_line zone secs =
 second_below : (secs : ℤ) → second_of_day secs < 86_400
 second_below secs = omega (arith, signed_arith)
 
--- the day that a clock shows at an instant is in 1969 or later, and jiff's calendar has it
+-- At an instant, a clock shows a local second from -93,599 to 7,258,305,597. So in `jiff`'s calendar, the date that it
+-- shows has the day number of this local second, and its year is 1969 or later.
 local_within : (zone : Zone) (secs : ℤ) → IsInstant secs → IsBetween (neg_ℤ (pos 93_599)) (pos 7_258_305_597) (local_in zone secs)
 unfolding local_shown_at
 local_within zone secs h =
@@ -267,7 +272,8 @@ shown_since zone secs h =
     let within = local_within zone secs h in
     year-from_1969 (shown_date zone secs) (omega (arith, signed_arith, shown_day zone secs h, within.0))
 
--- parsing a line comes down to parsing its date, its time and its zone
+-- the result for a line is that of parsing its date, then its time and its zone, and of converting the civil time to a
+-- moment
 words_read : (now : ℤ) (at : Setting) (date : Date) (second : ℕ) (zone : List ℕ) → second < 86_400 → IsLastWord zone
     → moment_in now at (line_of date second zone)
     ≡ ((day_written (date_in date) >>= λ number. after_date at (Some (day_in date)) number (time_in second ∷ zone ∷ [])) >>= λ stamp. moment_of_civil_stamp now stamp)
@@ -278,7 +284,7 @@ words_read now at date second zone h last =
     ap (moment_of_form now at) (sym (only (line_of date second zone) (civil (line_words name (date_in date) (time_in second) zone)) (line_form (day_in date) name (date_in date) (time_in second) zone is)))
     ∙ ap (λ read. read >>= λ stamp. moment_of_civil_stamp now stamp) (date_first at (day_in date) name (date_in date) (time_in second) zone is.named (date_no_colon date))
 
--- the microseconds after midnight
+-- the microseconds from midnight to a second of the day, as the parser of times computes them
 abbrev micros_in : ℕ → ℕ
 micros_in second = (hour_of second * 3_600 + minute_of second * 60) * 1_000_000 + (second_of second * 1_000_000 + 0)
 
@@ -313,7 +319,7 @@ moment_back now local secs zone date h back e =
 
 -- The law
 
--- if the year is one that a date can have, only the zone can still be invalid
+-- if the year of a line is from 1970 to 2199, its date and its time are valid, so only its zone can still be invalid
 zone_judged : (now local : ℤ) (at : Setting) (date : Date) (zone : List ℕ) → IsLastWord zone → IsBetween (pos 1_970) (pos 2_199) date.year → epoch_day date ≡ day_of local
     → moment_in now at (line_of date (second_of_day local) zone)
     ≡ (civil_stamp_in at (Some (day_in date)) (Some (day_of local)) (micros_in (second_of_day local)) (zone ∷ []) >>= λ stamp. moment_of_civil_stamp now stamp)
@@ -363,7 +369,7 @@ reads_as_none now local table zone secs h none =
     ∙ words_read now at (shown_date zone secs) (second_of_day shows) (shown_word zone secs) (second_below shows) (shown_last zone secs)
     ∙ rw (other_date_back (shown_date zone secs) (shown_since zone secs h) none) refl
 
--- a clock in UTC shows the instant itself
+-- at a second of the years 1970 to 2199, a clock in UTC shows one of these years, and its UTC offset is whole minutes
 utc_shows : (secs : ℤ) → IsLocalSecond secs → ShowsYear (civil_of (zone_of utc) secs)
 unfolding civil_of zone_of
 utc_shows secs h =

@@ -29,7 +29,7 @@ use Rattle.cal_spec.proofs.SymbolLemmas.{digit_no_point}
 
 -- Numbers
 
--- at most `width` digits that stand for the number n
+-- `ds` is one to `width` digits that stand for the number `n`
 record IsPrinted (width n : ℕ) (ds : List ℕ) : Type 0 where
   number : IsNumber ds n
   short : length ds ≤ width
@@ -40,14 +40,15 @@ printed width n some narrow few small =
     let long : length (padded width n) ≡ width - length (decimal n) + length (decimal n) = length-append (zeros width n) (decimal n) ∙ ap (λ m. m + length (decimal n)) (length-replicate (width - length (decimal n)) 48) in
     record { number = number_printed width n small; short = omega arith }
 
--- a year in four digits, and a number in two
+-- a number below 10,000 that is padded to four digits has at most four digits, which stand for the number; and so a
+-- number below 100 that is padded to two digits
 in_four : (n : ℕ) → n < 10_000 → IsPrinted 4 n (padded 4 n)
 in_four n small = printed 4 n (omega arith) (omega arith) (omega arith) small
 
 in_two : (n : ℕ) → n < 100 → IsPrinted 2 n (padded 2 n)
 in_two n small = printed 2 n (omega arith) (omega arith) (omega arith) (omega arith)
 
--- parsing the digits gives the number
+-- parsing one to `width` digits that stand for `n` gives `n`; in a time, `n` must also be at most `greatest`
 digits_read : (width n : ℕ) (ds : List ℕ) → IsPrinted width n ds → digits_number width ds ≡ Some n
 unfolding digits_number
 digits_read width n ds h =
@@ -64,7 +65,7 @@ digit_no_hyphen b h = grind (arith, nat_tests)
 digit_no_blank : (b : ℕ) → is_ascii_digit b ≡ true → is_blank b ≡ false
 digit_no_blank b h = grind (arith, nat_tests)
 
--- Three numbers with a sign between them
+-- Three numbers, with the byte `sign` between each two of them
 
 abbrev row : ℕ → List ℕ → List ℕ → List ℕ → List ℕ
 row sign a b c = a ++ (sign ∷ (b ++ (sign ∷ c)))
@@ -83,7 +84,7 @@ row_split p sign a b c is first second third =
 abbrev pub date_word : ℕ → ℕ → ℕ → List ℕ
 date_word year month day = row 45 (padded 4 year) (padded 2 month) (padded 2 day)
 
--- numbers that have no more digits than a date has room for
+-- a year of at most four digits, and a month and a day of at most two digits each
 record IsWritable (year month day : ℕ) : Type 0 where
   year_in : year < 10_000
   month_in : month < 100
@@ -108,7 +109,8 @@ date_numbers_back year month day h =
     (clear_of is_ascii_digit is_hyphen (padded 2 day) digit_no_hyphen d.number.digits))
     ∙ rw (digits_read 4 year (padded 4 year) y, digits_read 2 month (padded 2 month) m, digits_read 2 day (padded 2 day) d) refl
 
--- the tests of `is_day`, which a day from 1970 to 2199 passes and any other fails
+-- the tests of `is_day` succeed if the year is from 1970 to 2199, the month from 1 to 12 and the day from 1 to `most`,
+-- and they fail if the year isn't from 1970 to 2199
 day_tests : (year month day most : ℕ) → 1_970 ≤ year → year ≤ 2_199 → 1 ≤ month → month ≤ 12 → 1 ≤ day → day ≤ most
     → (nat_le 1_970 year && nat_le year 2_199 && nat_le 1 month && nat_le month 12 && nat_le 1 day && nat_le day most) ≡ true
 day_tests year month day most from to first last one within =
@@ -148,7 +150,8 @@ due date from =
     ap day_due (date_numbers_back (year_of date) date.month date.day (writable date))
     ∙ ap (λ y. day_of_date y date.month date.day) (century_stays (year_of date) (omega (arith, signed_arith, year_is date.year from)))
 
--- a date from 1970 to 2199 is parsed as its day, and a date of 1969 or of a later year is rejected
+-- parsing a printed date gives its day number if its year is from 1970 to 2199, and fails with `NoSuchDate` if its year
+-- is 1969, or 2200 or later
 pub date_back : (date : Date) → IsBetween (pos 1_970) (pos 2_199) date.year → day_written (date_word (year_of date) date.month date.day) ≡ Ok (epoch_day date)
 unfolding day_of_date
 date_back date h =
@@ -193,7 +196,7 @@ second_back second h =
     ap second_of_pieces (split_alone is_point (padded 2 second) (clear_of is_ascii_digit is_point (padded 2 second) digit_no_point digits.number.digits))
     ∙ rw (clock_read 59 second (padded 2 second) digits h) refl
 
--- parsing the time gives its microseconds after midnight
+-- parsing a printed time gives its microseconds after midnight
 pub time_back : (hour minute second : ℕ) → IsClock hour minute second
     → time_written (time_word hour minute second) ≡ Ok ((hour * 3_600 + minute * 60) * 1_000_000 + (second * 1_000_000 + 0))
 unfolding time_written time_numbers
@@ -207,7 +210,7 @@ time_back hour minute second h =
     (clear_of is_ascii_digit is_colon (padded 2 second) digit_no_colon c.number.digits))
     ∙ rw (clock_read 23 hour (padded 2 hour) a h.hour_in, clock_read 59 minute (padded 2 minute) b h.minute_in, second_back second h.second_in) refl
 
--- neither the date nor the time contains a blank, and the date contains no colon
+-- neither a printed date nor a printed time is empty or contains a blank, and a printed date contains no colon
 pub date_solid : (date : Date) → list_any is_blank (date_word (year_of date) date.month date.day) ≡ false
 date_solid date =
     date_clear is_blank (year_of date) date.month date.day (writable date) digit_no_blank refl
@@ -230,7 +233,7 @@ time_some hour minute second h =
 
 -- The weekday
 
--- a short name of a weekday, as a timestamp parses it
+-- `name` has three bytes, begins with a letter, contains no blank, and is parsed as the weekday `day`
 pub record IsDayName (day : Weekday) (name : List ℕ) : Type 0 where
   pub long : length name ≡ 3
   pub capital : nat_le 65 (get_or name 0 0) ≡ true
@@ -243,6 +246,6 @@ unfolding name_of day_named
 short_names Monday = record { long = refl; capital = refl; letter = refl; solid = refl; named = refl }
 short_names day = record { long = refl; capital = refl; letter = refl; solid = refl; named = refl }
 
--- the weekday with this number
+-- the weekday at the index `n` of `week` has the number `n`, if Monday has the number 0
 pub in_week : (n : ℕ) → n < 7 → monday_zero (slice_index_or week n Sunday) ≡ n
 in_week n h = eqb-true _ n (below_all 7 (λ day. nat_eq (monday_zero (slice_index_or week day Sunday)) day) n refl h)

@@ -35,7 +35,8 @@ use Rattle.cal_read.specs.declared.stamp.fault.StampFault.TheVariants.{StrayWord
 abbrev pub last_byte : List ℕ → ℕ
 last_byte text = get_or text (length text - 1) 0
 
--- a word that may end a printed instant: its last byte is neither a blank nor a lowercase letter
+-- `word` can be the last word of a printed instant: its last byte is from `+` to `Z`, so neither a blank nor a
+-- lowercase letter
 pub record IsLastWord (word : List ℕ) : Type 0 where
   pub is_word : IsWord word
   pub from : 43 ≤ last_byte word
@@ -43,7 +44,7 @@ pub record IsLastWord (word : List ℕ) : Type 0 where
 
 -- The bytes of an offset
 
--- signs, digits and colons, and the few other bytes from `+` to `:`
+-- whether a byte is from `+` to `:`, as all signs, digits and colons are
 abbrev is_signed_byte : ℕ → Bool
 is_signed_byte b = nat_le 43 b && nat_le b 58
 
@@ -66,7 +67,7 @@ no_letter b to = grind (arith, nat_tests)
 digits_fit : (ds : List ℕ) → list_all is_ascii_digit ds ≡ true → list_all is_signed_byte ds ≡ true
 digits_fit ds = list_all-wider is_ascii_digit is_signed_byte ds digit_fits
 
--- a sign followed by such bytes
+-- `text` is a sign, a byte from `+` to `-`, followed by bytes from `+` to `:`
 record IsSigned (text : List ℕ) : Type 0 where
   sign : ℕ
   body : List ℕ
@@ -156,7 +157,7 @@ offset_signed_by offset false h e = rw (in_seconds offset e) (signed_by offset _
 offset_signed : (offset : ℤ) → IsOffsetSeconds offset → IsSigned (offset_text offset)
 offset_signed offset h = offset_signed_by offset _ h refl
 
--- An offset of whole minutes is parsed as that offset, and any other is rejected
+-- A printed offset of whole minutes is parsed as the same offset, and any other printed offset is rejected
 
 whole_minutes : (offset : ℤ) → IsOffsetSeconds offset → unsigned_abs offset % 60 ≡ 0 → AreWholeMinutes offset
 whole_minutes offset h whole =
@@ -234,7 +235,7 @@ last_by false offset h = signed_last (offset_text offset) (offset_signed offset 
 pub shown_last : (zone : Zone) (secs : ℤ) → IsLastWord (shown_word zone secs)
 shown_last zone secs = last_by (is_utc zone) (shown_offset zone secs) (offset_at-in_range (zone_of zone) (nanos_of_seconds secs))
 
--- a word for a zone that converts the local second back to the instant
+-- `word` stands for a zone in which the local second `local` is converted to the instant `secs`
 pub record ConvertsBack (find : List ℕ → Option TimeZone) (word : List ℕ) (local secs : ℤ) : Type 0 where
   pub zone : TimeZone
   pub meant : zone_of_word find word ≡ Ok zone

@@ -27,7 +27,7 @@ use Rattle.cal_read.specs.declared.stamp.fault.StampFault.{StampFault}
 use Rattle.cal_read.specs.declared.stamp.fault.StampFault.TheVariants.{Empty, BadWeekday, BadDate, BadTime, NoSuchDate, WrongWeekday, BadSpan, NoSuchZone, StrayWord, OutOfRange}
 use Rattle.cal_zone.proofs.YearLemmas.{days_from_civil-1970}
 
--- the only zone is UTC
+-- the zones of the examples: the local zone is UTC, and no other zone has a name
 abbrev in_utc : Setting
 in_utc = record { local = UTC; find = λ name. if is_utc_name name then Some UTC else None }
 
@@ -77,7 +77,8 @@ rows =
     ∷ (codes "Wed 1969-12-31 23:00:00 -01:00", Err NoSuchDate)
     ∷ []
 
--- the day numbers of November 2012, proved here so that computing an example doesn't count the years from 1970 on
+-- day `day` of November 2012 has the day number 15,644 + `day`; this is proved here so that computing an example
+-- doesn't count the years from 1970 on
 in_november : (day : ℕ) → 1 ≤ day → days_from_civil (pos 2_012) 11 day ≡ pos (15_644 + day)
 in_november day first =
     omega (arith, signed_arith, days_from_civil-day_count (pos 2_012) 11 day, day_count-late (pos 2_012) 12_012 11 day refl (omega arith) (omega arith) first)

@@ -75,7 +75,7 @@ one_by_sign =
 one_fits : IsOne FitsFirst
 one_fits = or_else IsNothing (OrElse IsPresent FitsBySign) one_nothing (or_else IsPresent FitsBySign one_present one_by_sign)
 
--- The first form that matches
+-- The form that `form_of` returns is the first form that matches
 
 by_sign : (Q : List ℕ → Form → Type 0) (means : List ℕ → Form) (sign b : ℕ) (bs : List ℕ) (rest : Form) (test : Bool) → (b == sign) ≡ test → Q (b ∷ bs) rest
     → OrElse (IsBehindSign (sign ∷ []) means) Q (b ∷ bs) (if test then means bs else rest)
@@ -115,7 +115,8 @@ by_words core (w ∷ ws) are =
     (by_day (OrElse (IsRelativeDay (codes "tomorrow") (pos 1)) IsCivilForm) (codes "yesterday") (neg_ℤ (pos 1)) core w ws _ _ refl are
     (by_day IsCivilForm (codes "tomorrow") (pos 1) core w ws None _ refl are (ap civil (sym are))))
 
--- what it means that a text ends with a blank and a word
+-- if the part of a text after its last blank is `word`, the text ends with a blank and `word`; and vice versa, if
+-- `word` has no blank
 some_blank_within : (text : List ℕ) → list_any is_blank text ≡ true → suffix_len is_solid text < length text
 some_blank_within text some =
     elim (cases_lt (suffix_len is_solid text) (length text)) [

@@ -13,7 +13,7 @@ use Rattle.cal_read.specs.headline.TimerText.{excepted, is_exception, is_express
 use Rattle.cal_read.specs.declared.timer.fault.TimerFault.{TimerFault}
 use Rattle.cal_read.specs.declared.timer.fault.TimerFault.TheVariants.{BadLine, NotUtf8, ReadFailed, TooMany}
 
--- the errors that a line can have
+-- whether an error is one that an assignment can have: `BadLine` or `TooMany`
 abbrev pub is_of_line : TimerFault → Bool
 is_of_line (BadLine line fault) = true
 is_of_line (TooMany line) = true
@@ -52,7 +52,7 @@ never_of_list None [] xs never h = cc
 never_of_list None (e ∷ es) xs never h = cc
 never_of_list (Some fault) es xs never h = never cc
 
--- the error for bytes is never that a read failed
+-- parsing the bytes of a file never fails with `ReadFailed`
 pub never_failed : {E : Type 0} (read : List ℕ → Result E SpecFault) (bytes : List ℕ) → timer_in read bytes ≡ Err ReadFailed → ⊥
 unfolding timer_in timer_of lists_of
 never_failed read bytes h =
@@ -61,7 +61,7 @@ never_failed read bytes h =
       | inr broken ↦ (let none = rw broken at h in cc)
     ]
 
--- bytes that aren't valid UTF-8 are rejected
+-- parsing bytes that aren't valid UTF-8 fails with `NotUtf8` and the number of the line that has the first invalid byte
 pub broken_bytes : {E : Type 0} (read : List ℕ → Result E SpecFault) (bytes : List ℕ) (number : ℕ) → (IsUtf8 bytes → ⊥) → number ≡ broken_line bytes → timer_in read bytes ≡ Err (NotUtf8 number)
 unfolding timer_in
 broken_bytes read bytes number broken e = rw (false_from_ne_true (is_utf8 bytes) (λ h. broken (IsUtf8-from_is_utf8 bytes h)), e) refl

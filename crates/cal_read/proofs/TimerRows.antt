@@ -1,5 +1,5 @@
--- Examples that check the definitions of timer files. Parsing an expression gives back its text (`reads`), or always
--- fails (`rejects`).
+-- Examples that check the definitions of timer files. In each example, parsing an expression either always gives back
+-- its text (`reads`) or always fails (`rejects`).
 use Rattle.std.proofs.Common.{◌≡◌, ℕ, List, [], ◌∷◌, ◌++◌, codes, refl, Result, Ok, Err}
 use Rattle.std.specs.Prelude.{map}
 use Rattle.std.specs.List.{flat_map}
@@ -20,7 +20,7 @@ use Rattle.cal_read.specs.declared.timer.fault.TimerFault.TheVariants.{BadLine, 
 abbrev file : List (List ℕ) → List ℕ
 file = flat_map (λ line. line ++ 10 ∷ [])
 
--- a line that continues on the next one
+-- a line that ends with a backslash, so that it continues on the next line
 abbrev continued : List ℕ → List ℕ
 continued line = line ++ 92 ∷ []
 
@@ -34,7 +34,7 @@ reads text = Ok text
 abbrev rejects : List ℕ → Result (List ℕ) SpecFault
 rejects text = Err NoRepeat
 
--- the result of a file with these lists
+-- the result for a file with these expressions and these exceptions
 abbrev gives : List (TimerLine (List ℕ)) → List (TimerLine (List ℕ)) → Result (Timer (List ℕ)) TimerFault
 gives es xs = Ok (record { expressions = es; exceptions = xs })
 
@@ -52,7 +52,7 @@ rows =
     ∷ (reads, codes "[Timer]" ++ 10 ∷ continued (codes "OnCalendar=a"), gives (entry 2 (codes "a") ∷ []) [])
     ∷ (reads, file (codes "[Timer]" ∷ continued (continued (codes "OnCalendar=a")) ∷ codes "OnCalendar=b" ∷ []), gives (entry 2 (codes "a" ++ 92 ∷ 92 ∷ []) ∷ entry 3 (codes "b") ∷ []) [])
     ∷ (reads, file (codes "[Timer]" ∷ continued (codes "; x ") ∷ codes "OnCalendar=a=b" ∷ []), gives (entry 3 (codes "a=b") ∷ []) [])
-    -- exceptions: only an empty value of their own key clears their list
+    -- exceptions: only `X-ExceptOnCalendar=` without a value clears the list of exceptions
     ∷ (reads, file (codes "[Timer]" ∷ codes "OnCalendar=daily" ∷ codes "X-ExceptOnCalendar=Sat,Sun 12:00" ∷ codes "OnBootSec=" ∷ codes "OnCalendar=12:00" ∷ []), gives (entry 5 (codes "12:00") ∷ []) (entry 3 (codes "Sat,Sun 12:00") ∷ []))
     ∷ (reads, file (codes "[Timer]" ∷ codes "OnCalendar=a" ∷ codes "X-ExceptOnCalendar=b" ∷ codes "X-ExceptOnCalendar=" ∷ codes "X-ExceptOnCalendar=c" ∷ []), gives (entry 2 (codes "a") ∷ []) (entry 5 (codes "c") ∷ []))
     ∷ (reads, file (codes "[Timer]" ∷ codes "X-ExceptOnCalendar=b" ∷ []), Err NothingToDo)

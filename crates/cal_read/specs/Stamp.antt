@@ -32,16 +32,18 @@ pub record Setting : Type 0 where
 
 -- Time spans
 
--- the moment at this many microseconds of Unix time, or the error if there is none
+-- the moment at `micros` microseconds of Unix time, or `OutOfRange` if this is before the first moment or after the
+-- last
 unfoldable pub in_moments : ℤ → Result ℤ StampFault
 in_moments micros =
     if not (int_lt micros (pos 0)) && not (int_lt last_moment micros) then Ok micros else Err OutOfRange
 
--- the moment that is a time span after the second, or before it
+-- the moment that is a time span after the second, given the result of parsing the span
 abbrev pub after_second : ℤ → Result ℕ SpanFault → Result ℤ StampFault
 after_second second (Ok span) = in_moments (micros_of second +ℤ pos span)
 after_second second (Err fault) = Err (BadSpan fault)
 
+-- the moment that is a time span before the second, given the result of parsing the span
 abbrev pub before_second : ℤ → Result ℕ SpanFault → Result ℤ StampFault
 before_second second (Ok span) = in_moments (micros_of second -ℤ pos span)
 before_second second (Err fault) = Err (BadSpan fault)
@@ -52,8 +54,8 @@ before_second second (Err fault) = Err (BadSpan fault)
 unfoldable pub today : ℤ → TimeZone → ℤ
 today now zone = day_of (local_shown_at zone now)
 
--- the moment that is this many microseconds after midnight of the day; a local time in a gap is moved forward by the
--- length of the gap, and of a local time in a fold the first occurrence is used
+-- the moment that is `micros` microseconds after midnight of the day on the zone's clock; a local time in a gap is
+-- moved forward by the length of the gap, and of a local time in a fold the first occurrence is used
 unfoldable pub settle_on : TimeZone → ℤ → ℕ → Result ℤ StampFault
 settle_on zone day micros =
     in_moments (micros_of (settle_of zone (day *ℤ pos 86_400 +ℤ pos (micros / 1_000_000))) +ℤ pos (micros % 1_000_000))
@@ -75,7 +77,7 @@ offset_found (Some seconds) = Ok (fixed_offset_zone seconds)
 abbrev pub zone_of_word : (List ℕ → Option TimeZone) → List ℕ → Result TimeZone StampFault
 zone_of_word find w = if begins_with_letter w then name_found (find w) else offset_found (offset_in w)
 
--- no word may come after the zone
+-- the zone, or `StrayWord` if words come after the word for the zone
 abbrev pub zone_alone : TimeZone → List (List ℕ) → Result TimeZone StampFault
 zone_alone zone [] = Ok zone
 zone_alone zone (w ∷ ws) = Err StrayWord
@@ -101,14 +103,16 @@ abbrev pub begins_with_digit : List ℕ → Bool
 begins_with_digit [] = false
 begins_with_digit (b ∷ bs) = is_ascii_digit b
 
--- the civil time from the words after its date: if the first begins with a digit, it is the time
+-- the civil time, given its weekday, its day and the words after its date: if the first of these words begins with a
+-- digit, it is the time
 abbrev pub after_date : Setting → Option Weekday → ℤ → List (List ℕ) → Result CivilStamp StampFault
 after_date at weekday day [] = civil_stamp_in at weekday (Some day) 0 []
 after_date at weekday day (w ∷ ws) =
     if begins_with_digit w then (time_written w >>= λ micros. civil_stamp_in at weekday (Some day) micros ws)
     else civil_stamp_in at weekday (Some day) 0 (w ∷ ws)
 
--- the civil time from the words after its weekday: if the first has a colon it is the time, otherwise it is the date
+-- the civil time, given its weekday and the words after it: if the first of these words has a colon, it is the time,
+-- otherwise it is the date
 abbrev pub after_weekday : Setting → Option Weekday → List (List ℕ) → Result CivilStamp StampFault
 after_weekday at weekday [] = Err BadDate
 after_weekday at weekday (w ∷ ws) =
@@ -119,7 +123,7 @@ abbrev pub weekday_found : Setting → Option Weekday → List (List ℕ) → Re
 weekday_found at None ws = Err BadWeekday
 weekday_found at (Some weekday) ws = after_weekday at (Some weekday) ws
 
--- the civil time of these words: if the first begins with a letter, it is the weekday
+-- the civil time of these words: if the first word begins with a letter, it is the weekday
 abbrev pub civil_time : Setting → List (List ℕ) → Result CivilStamp StampFault
 civil_time at [] = Err BadDate
 civil_time at (w ∷ ws) =

@@ -12,34 +12,35 @@ use Rattle.cal_read.specs.StampDate.{day_written}
 use Rattle.cal_read.specs.StampTime.{time_written}
 use Rattle.cal_read.specs.declared.stamp.fault.StampFault.TheVariants.{NoSuchDate}
 
--- the word is the name of a weekday, or there is no word and no weekday is named
+-- the word is the name of the weekday, or there is neither a word nor a weekday
 abbrev pub NamesWeekday : Option (List ℕ) → Option Weekday → Type 0
 NamesWeekday None weekday = weekday ≡ None
 NamesWeekday (Some word) weekday =
     (named : Weekday) × (begins_with_letter word ≡ true) × (day_named word ≡ Some named) × (weekday ≡ Some named)
 
--- the word is a date, or there is no word and no date
+-- the word is a date with this day number, or there is neither a word nor a date
 abbrev pub WritesDate : Option (List ℕ) → Option ℤ → Type 0
 WritesDate None day = day ≡ None
 WritesDate (Some word) day = (number : ℤ) × (day_written word ≡ Ok number) × (day ≡ Some number)
 
--- the word is a time of day, or there is no word and the time is midnight
+-- the word is a time of day that is `micros` microseconds after midnight, or there is no word and the time is midnight
 abbrev pub WritesTime : Option (List ℕ) → ℕ → Type 0
 WritesTime None micros = micros ≡ 0
 WritesTime (Some word) micros = time_written word ≡ Ok micros
 
--- the word is the name of a zone in the table, or an offset
+-- the word is the name of the zone in the table, or the UTC offset of the zone
 abbrev pub MeansZone : (List ℕ → Option TimeZone) → List ℕ → TimeZone → Type 0
 MeansZone find word zone =
     ((begins_with_letter word ≡ true) × (find word ≡ Some zone))
     ⊎ ((seconds : ℤ) × IsOffsetWord word seconds × (zone ≡ fixed_offset_zone seconds))
 
--- the word stands for the zone, or there is no word and the zone is the local one
+-- the word stands for the zone, or there is no word and the zone is the local zone
 abbrev pub NamesZone : Setting → Option (List ℕ) → TimeZone → Type 0
 NamesZone at None zone = zone ≡ at.local
 NamesZone at (Some word) zone = MeansZone at.find word zone
 
--- the words are `[weekday] [date] [time] [zone]`, with at least a date or a time
+-- the words are `[weekday] [date] [time] [zone]`, with at least a date or a time, and `c` is the civil time that they
+-- stand for
 pub record IsCivilTime (at : Setting) (words : List (List ℕ)) (c : CivilStamp) : Type 0 where
   pub weekday : Option (List ℕ)
   pub date : Option (List ℕ)
@@ -52,7 +53,7 @@ pub record IsCivilTime (at : Setting) (words : List (List ℕ)) (c : CivilStamp)
   pub has_time : WritesTime time c.micros
   pub has_zone : NamesZone at zone c.zone
 
--- one of the words is a date that doesn't exist
+-- one of the words has the form of a date, but is not a day from 1970-01-01 to 2199-12-31
 abbrev pub HasNoSuchDate : List (List ℕ) → Type 0
 HasNoSuchDate [] = ⊥
 HasNoSuchDate (w ∷ ws) = (day_written w ≡ Err NoSuchDate) ⊎ HasNoSuchDate ws

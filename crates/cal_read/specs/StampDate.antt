@@ -10,7 +10,7 @@ use Rattle.cal_read.specs.declared.stamp.date.DateNumbers.{DateNumbers}
 use Rattle.cal_read.specs.declared.stamp.fault.StampFault.{StampFault}
 use Rattle.cal_read.specs.declared.stamp.fault.StampFault.TheVariants.{BadDate, NoSuchDate}
 
--- the number that 1 to `most` digits stand for
+-- the number that a word of 1 to `most` digits stands for
 unfoldable pub digits_number : ℕ → List ℕ → Option ℕ
 digits_number most word =
     if nat_le 1 (length word) && nat_le (length word) most && list_all is_ascii_digit word then Some (digits_value 10 word)
@@ -19,7 +19,7 @@ digits_number most word =
 abbrev pub is_hyphen : ℕ → Bool
 is_hyphen b = b == 45
 
--- a year, month and day as they are written
+-- a year, a month and a day as they are written, if all three are numbers
 abbrev pub date_by : Option ℕ → Option ℕ → Option ℕ → Option DateNumbers
 date_by (Some year) (Some month) (Some day) = Some (record { year = year; month = month; day = day })
 date_by year month day = None
@@ -38,7 +38,7 @@ is_day year month day =
     nat_le 1970 year && nat_le year 2199 && nat_le 1 month && nat_le month 12 && nat_le 1 day
     && nat_le day (days_in_month (pos year) month)
 
--- the number of the day, counted from 1970-01-01
+-- the day number of a date, counted from 1970-01-01, or `NoSuchDate` if it isn't a day from 1970-01-01 to 2199-12-31
 unfoldable pub day_of_date : ℕ → ℕ → ℕ → Result ℤ StampFault
 day_of_date year month day =
     if is_day year month day then Ok (days_from_civil (pos year) month day) else Err NoSuchDate

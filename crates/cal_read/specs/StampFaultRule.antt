@@ -54,8 +54,8 @@ IsAtFault at (Some weekday) None None None word fault = IsNoDateOrTime word faul
 IsAtFault at None None None None word fault =
     IsNoWeekday word fault ⊎ ((begins_with_letter word ≡ false) × IsNoDateOrTime word fault)
 
--- the words are valid and are this weekday, date, time and zone, as far as they are given; a zone is given only
--- together with a date or a time
+-- the words are a valid weekday, date, time and zone, in this order; each of the four can be left out (`None`), but a
+-- zone is given only together with a date or a time
 pub record AreRead (at : Setting) (words : List (List ℕ)) (weekday date time zone : Option (List ℕ)) : Type 0 where
   pub whole : words ≡ option_to_list weekday ++ (option_to_list date ++ (option_to_list time ++ option_to_list zone))
   pub has_weekday : (named : Option Weekday) × NamesWeekday weekday named
@@ -64,7 +64,7 @@ pub record AreRead (at : Setting) (words : List (List ℕ)) (weekday date time z
   pub has_zone : (meant : TimeZone) × NamesZone at zone meant
   pub zone_last : is_some zone ≡ true → (is_some date || is_some time) ≡ true
 
--- after valid words, a word has this error
+-- one of the words has this error, and all words before it are valid
 pub record HasWordAtFault (at : Setting) (words : List (List ℕ)) (fault : StampFault) : Type 0 where
   pub front : List (List ℕ)
   pub word : List ℕ
@@ -77,7 +77,7 @@ pub record HasWordAtFault (at : Setting) (words : List (List ℕ)) (fault : Stam
   pub are_read : AreRead at front weekday date time zone
   pub is_at_fault : IsAtFault at weekday date time zone word fault
 
--- the words end before a date or a time is given
+-- the words end before a date or a time is given, and the error is `BadDate`
 pub record EndsTooSoon (at : Setting) (words : List (List ℕ)) (fault : StampFault) : Type 0 where
   pub weekday : Option (List ℕ)
   pub are_read : AreRead at words weekday None None None
@@ -97,7 +97,7 @@ pub record HasWrongWeekday (now : ℤ) (at : Setting) (words : List (List ℕ)) 
 
 -- Errors of all forms
 
--- the word comes where a zone may be, or after the zone, and has this error
+-- the word has this error: it is in the position of the zone and is not a zone, or it comes after the zone
 abbrev pub IsNoLastWord : Setting → Option (List ℕ) → List ℕ → StampFault → Type 0
 IsNoLastWord at None word fault = IsNoZone at.find word fault
 IsNoLastWord at (Some zone) word fault = fault ≡ StrayWord
@@ -112,15 +112,16 @@ pub record HasZoneError (at : Setting) (words : List (List ℕ)) (fault : StampF
   pub has_zone : NamesZone at name zone
   pub is_at_fault : IsNoLastWord at name word fault
 
--- the text is not a valid time span
+-- the text is not a valid time span, and the error is `BadSpan` with the reason
 abbrev pub IsBadSpan : List ℕ → StampFault → Type 0
 IsBadSpan span fault = (why : SpanFault) × (span_of span ≡ Err why) × (fault ≡ BadSpan why)
 
--- the timestamp stands for a time before the first moment or after the last
+-- the form stands for a time before the first moment or after the last, and the error is `OutOfRange`
 abbrev pub IsOutside : ℤ → Setting → Form → StampFault → Type 0
 IsOutside now at form fault = ((time : ℤ) × MeansTime now at form time × (IsMoment time → ⊥)) × (fault ≡ OutOfRange)
 
--- an error of the text itself, or else of its weekday
+-- the form has this error, which is not `OutOfRange`: the timestamp is empty, a word or a time span is invalid, or the
+-- day isn't the weekday that is named
 abbrev pub IsWrong : ℤ → Setting → Form → StampFault → Type 0
 IsWrong now at nothing fault = fault ≡ Empty
 IsWrong now at present fault = ⊥
@@ -130,6 +131,6 @@ IsWrong now at (counted span) fault = IsBadSpan span fault
 IsWrong now at (from_today shift words) fault = HasZoneError at words fault
 IsWrong now at (civil words) fault = HasFirstError at words fault ⊎ (HasWrongWeekday now at words × (fault ≡ WrongWeekday))
 
--- all errors; the range is checked last
+-- the form has this error; the range is checked last, since only a form without another error stands for a time
 abbrev pub HasError : ℤ → Setting → Form → StampFault → Type 0
 HasError now at form fault = IsWrong now at form fault ⊎ IsOutside now at form fault

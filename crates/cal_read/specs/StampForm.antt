@@ -5,8 +5,9 @@ use Rattle.std.specs.Str.{bytes_eq}
 use Rattle.cal_text.specs.headline.Trim.{trim_matches}
 use Rattle.cal_text.specs.headline.Words.{is_blank, words}
 
--- The forms: nothing; the present; a time span after the present, before it, or after 0; the midnight of the day that
--- is so many days from today, with the words of its zone; and the words of a civil time.
+-- The forms of a timestamp: nothing; the present; the present plus a time span; the present minus a time span;
+-- 1970-01-01 00:00:00 UTC plus a time span; the midnight at which a day begins, given by its distance from today in
+-- days and by the words of its zone; and a civil time, given by its words.
 pub data Form : Type 0 where
   nothing : Form
   present : Form
@@ -21,7 +22,7 @@ abbrev pub before_word : List ℕ → List ℕ → Option (List ℕ)
 before_word word text =
     if list_any is_blank text && bytes_eq (after_last is_blank text) word then Some (before_last is_blank text) else None
 
--- how many days after the present day the day is that this word names
+-- how many days after today the day is that `today`, `yesterday` (-1) or `tomorrow` names; `None` for any other word
 unfoldable pub day_shift : List ℕ → Option ℤ
 day_shift word =
     if bytes_eq word (codes "today") then Some (pos 0)
@@ -36,7 +37,8 @@ abbrev pub form_of_words : List (List ℕ) → Form
 form_of_words [] = civil []
 form_of_words (w ∷ ws) = form_by_day (day_shift w) w ws
 
--- the form of a text by its last word: `left` stands for a time span after the present, and `ago` for one before it
+-- the form of a text by its last word: if it is `left`, the text before it is a time span that is added to the present,
+-- and if it is `ago`, a time span that is subtracted
 abbrev pub form_by_ago : Option (List ℕ) → List ℕ → Form
 form_by_ago None text = form_of_words (words text)
 form_by_ago (Some span) text = earlier span
@@ -48,7 +50,7 @@ form_by_left (Some span) text = later span
 unfoldable pub form_by_end : List ℕ → Form
 form_by_end text = form_by_left (before_word (codes "left") text) text
 
--- the form of a text without leading and trailing blanks: the first that matches
+-- the first form that matches a text without leading and trailing blanks
 abbrev pub form_of_solid : List ℕ → Form
 form_of_solid [] = nothing
 form_of_solid (b ∷ bs) =
@@ -58,6 +60,6 @@ form_of_solid (b ∷ bs) =
     else (if b == 64 then counted bs
     else form_by_end (b ∷ bs))))
 
--- the form of a text
+-- the first form that matches a text
 unfoldable pub form_of : List ℕ → Form
 form_of text = form_of_solid (trim_matches is_blank text)

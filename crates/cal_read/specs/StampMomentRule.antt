@@ -14,11 +14,11 @@ use Rattle.cal_read.specs.StampForm.{Form, nothing, present, later, earlier, cou
 
 -- Time spans
 
--- the time is a time span after the second
+-- the time in microseconds is the second plus the time span in the text `span`
 abbrev pub LiesAfter : ℤ → List ℕ → ℤ → Type 0
 LiesAfter second span time = (micros : ℕ) × (span_of span ≡ Ok micros) × (time -ℤ micros_of second ≡ pos micros)
 
--- the time is a time span before the second
+-- the time in microseconds is the second minus the time span in the text `span`
 abbrev pub LiesBefore : ℤ → List ℕ → ℤ → Type 0
 LiesBefore second span time = (micros : ℕ) × (span_of span ≡ Ok micros) × (micros_of second -ℤ time ≡ pos micros)
 
@@ -59,7 +59,8 @@ pub record IsMidnight (now : ℤ) (at : Setting) (shift : ℤ) (words : List (Li
   pub has_today : IsPresentDay now zone today
   pub is_midnight : IsTimeOfDay zone (today +ℤ shift) 0 time
 
--- the time is that of the civil time that the words stand for, whose day is the weekday that is named
+-- the words are a civil time that resolves to this time, and its day is the weekday that is named, if a weekday is
+-- named
 pub record IsCivilMoment (now : ℤ) (at : Setting) (words : List (List ℕ)) (time : ℤ) : Type 0 where
   pub stamp : CivilStamp
   pub day : ℤ

@@ -3,7 +3,7 @@ use Rattle.std.specs.Prelude.{◌≡◌, ◌%◌, pos, unsigned_abs}
 use Rattle.jiff.specs.Words.{IsBetween}
 use Rattle.cal_zone.specs.declared.civil_fields.Civil.{Civil}
 
--- the year is one that a date may have
+-- the year is from 1970 to 2199, as the year of a date in a timestamp must be
 abbrev pub ShowsYear : Civil → Type 0
 ShowsYear shown = IsBetween (pos 1_970) (pos 2_199) shown.year
 

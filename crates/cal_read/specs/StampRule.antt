@@ -6,48 +6,48 @@ use Rattle.cal_text.specs.TrimRule.{IsTrimmed}
 use Rattle.cal_text.specs.headline.Words.{is_blank, words}
 use Rattle.cal_read.specs.StampForm.{Form, nothing, present, later, earlier, counted, from_today, civil}
 
--- 1: nothing
+-- form 1: an empty text
 abbrev pub IsNothing : List ℕ → Form → Type 0
 IsNothing core form = (core ≡ []) × (form ≡ nothing)
 
--- 2: the word `now` and nothing else
+-- form 2: the word `now` and nothing else
 abbrev pub IsPresent : List ℕ → Form → Type 0
 IsPresent core form = (core ≡ codes "now") × (form ≡ present)
 
--- 3 and 4: a sign and a time span; so a text that begins with an offset is read as a time span
+-- forms 3 and 4: a sign (`+`, `-` or `@`) and a time span; so a text that begins with an offset is read as a time span
 abbrev pub IsBehindSign : List ℕ → (List ℕ → Form) → List ℕ → Form → Type 0
 IsBehindSign sign means core form = (span : List ℕ) × (core ≡ sign ++ span) × (form ≡ means span)
 
--- 5: a time span, a blank and the given word
+-- form 5: a time span, a blank and the given word (`left` or `ago`)
 abbrev pub IsBeforeWord : List ℕ → (List ℕ → Form) → List ℕ → Form → Type 0
 IsBeforeWord word means core form =
     (span : List ℕ) × (blank : ℕ) × (is_blank blank ≡ true) × (core ≡ span ++ (blank ∷ word)) × (form ≡ means span)
 
--- 6: the word for a day, followed by the words of a zone
+-- form 6: `today`, `yesterday` or `tomorrow`, followed by the words of a zone
 abbrev pub IsRelativeDay : List ℕ → ℤ → List ℕ → Form → Type 0
 IsRelativeDay word shift core form =
     (after : List (List ℕ)) × (words core ≡ word ∷ after) × (form ≡ from_today shift after)
 
--- 7: any words
+-- form 7: any words, which are those of a civil time
 abbrev pub IsCivilForm : List ℕ → Form → Type 0
 IsCivilForm core form = form ≡ civil (words core)
 
--- the first form, or the second if the first doesn't match
+-- the text has the form by the rule `P`, or by the rule `Q` if the text has no form by the rule `P`
 abbrev pub OrElse : (List ℕ → Form → Type 0) → (List ℕ → Form → Type 0) → List ℕ → Form → Type 0
 OrElse P Q core form = P core form ⊎ (((other : Form) → P core other → ⊥) × Q core form)
 
--- 6 or 7
+-- the first of the forms 6 and 7 that matches
 abbrev pub FitsByWords : List ℕ → Form → Type 0
 FitsByWords =
     OrElse (IsRelativeDay (codes "today") (pos 0))
     (OrElse (IsRelativeDay (codes "yesterday") (neg_ℤ (pos 1)))
     (OrElse (IsRelativeDay (codes "tomorrow") (pos 1)) IsCivilForm))
 
--- 5 to 7
+-- the first of the forms 5 to 7 that matches
 abbrev pub FitsByEnd : List ℕ → Form → Type 0
 FitsByEnd = OrElse (IsBeforeWord (codes "left") later) (OrElse (IsBeforeWord (codes "ago") earlier) FitsByWords)
 
--- 3 to 7
+-- the first of the forms 3 to 7 that matches
 abbrev pub FitsBySign : List ℕ → Form → Type 0
 FitsBySign =
     OrElse (IsBehindSign (codes "+") later)
@@ -57,7 +57,7 @@ FitsBySign =
 abbrev pub FitsFirst : List ℕ → Form → Type 0
 FitsFirst = OrElse IsNothing (OrElse IsPresent FitsBySign)
 
--- the text has this form
+-- `form` is the first form that matches the text without its leading and trailing blanks
 pub record HasForm (text : List ℕ) (form : Form) : Type 0 where
   pub core : List ℕ
   pub trimmed : IsTrimmed is_blank text core

@@ -8,19 +8,20 @@ use Rattle.cal_read.specs.StampDate.{digits_number}
 use Rattle.cal_read.specs.declared.stamp.fault.StampFault.{StampFault}
 use Rattle.cal_read.specs.declared.stamp.fault.StampFault.TheVariants.{BadTime}
 
--- a number of one or two digits that is at most `greatest`
+-- a number, if it is at most `greatest`
 abbrev pub up_to : ℕ → Option ℕ → Option ℕ
 up_to greatest None = None
 up_to greatest (Some n) = if nat_le n greatest then Some n else None
 
+-- a number of one or two digits that is at most `greatest`
 unfoldable pub clock_number : ℕ → List ℕ → Option ℕ
 clock_number greatest word = up_to greatest (digits_number 2 word)
 
--- how many digits of a fraction are used
+-- how many digits of a fraction of a second are used
 abbrev pub kept_digits : ℕ
 kept_digits = 6
 
--- the microseconds of a fraction of one or more digits; the digits after the sixth are dropped
+-- the microseconds of a fraction of a second that has one or more digits; the digits after the sixth are dropped
 unfoldable pub fraction_in : List ℕ → Option ℕ
 fraction_in digits =
     if nat_le 1 (length digits) && list_all is_ascii_digit digits then Some (fraction_worth 1_000_000 1 (take kept_digits digits))
@@ -36,11 +37,11 @@ second_of_pieces (whole ∷ []) = both (clock_number 59 whole) (Some 0)
 second_of_pieces (whole ∷ digits ∷ []) = both (clock_number 59 whole) (fraction_in digits)
 second_of_pieces pieces = None
 
--- the microseconds of `S`, or of `S.` followed by digits
+-- the seconds of a time, `S` or `S.` followed by digits, in microseconds
 unfoldable pub second_written : List ℕ → Option ℕ
 second_written word = second_of_pieces (slice_split is_point word)
 
--- the microseconds after midnight
+-- the microseconds after midnight, given the hour, the minute, and the microseconds since the full minute
 abbrev pub time_by : Option ℕ → Option ℕ → Option ℕ → Option ℕ
 time_by (Some hour) (Some minute) (Some micros) = Some ((hour * 3_600 + minute * 60) * 1_000_000 + micros)
 time_by hour minute micros = None
@@ -53,7 +54,7 @@ time_of_pieces pieces = None
 unfoldable pub time_numbers : List ℕ → Option ℕ
 time_numbers word = time_of_pieces (slice_split is_colon word)
 
--- the microseconds after midnight of a time as it is written, or the error
+-- the microseconds after midnight, or `BadTime` if there is no valid time
 abbrev pub micros_due : Option ℕ → Result ℕ StampFault
 micros_due None = Err BadTime
 micros_due (Some micros) = Ok micros

@@ -30,7 +30,7 @@ civil_stamp_seen w = record { weekday = w.weekday; day = w.day; micros = w.micro
 abbrev pub civil_stamp_or_fault : Result civil_stamp.CivilStamp StampFault → Result meaning.CivilStamp StampFault
 civil_stamp_or_fault = result_map_both civil_stamp_seen (λ fault. fault)
 
--- how many days after the present day this day is
+-- how many days after today the relative day is: -1, 0 or 1
 abbrev pub shift_of : RelativeDay → ℤ
 shift_of Yesterday = neg_ℤ (pos 1)
 shift_of Today = pos 0

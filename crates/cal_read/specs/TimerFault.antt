@@ -14,7 +14,7 @@ message_of (TooMany line) = codes "more than 256 expressions"
 message_of NothingToDo = codes "no calendar expression"
 message_of NoMemory = []
 
--- the number of the line that has the error
+-- the number of the line that has the error, if the error belongs to a line
 abbrev pub line_of : TimerFault → Option ℕ
 line_of ReadFailed = None
 line_of TooLarge = None

@@ -7,11 +7,11 @@ use Rattle.cal_read.specs.TimerText.{Timer, entries, fault_following}
 use Rattle.cal_read.specs.declared.timer.fault.TimerFault.{TimerFault}
 use Rattle.cal_read.specs.declared.timer.fault.TimerFault.TheVariants.{NothingToDo}
 
--- none of the assignments has an error
+-- none of the assignments in `all` has an error
 abbrev pub AreFine : {E : Type 0} → (List ℕ → Result E SpecFault) → List Assignment → Type 0
 AreFine read all = (before : List Assignment) (a : Assignment) (after : List Assignment) → all ≡ before ++ (a ∷ after) → fault_following read before a ≡ None
 
--- one of the assignments has this error, and none before it has one
+-- `at` is the first of the assignments in `all` that has an error, and its error is `fault`
 pub record IsFirstTimerFault {E : Type 0} (read : List ℕ → Result E SpecFault) (all : List Assignment) (fault : TimerFault) : Type 0 where
   pub before : List Assignment
   pub at : Assignment
@@ -20,8 +20,8 @@ pub record IsFirstTimerFault {E : Type 0} (read : List ℕ → Result E SpecFaul
   pub is_fault : fault_following read before at ≡ Some fault
   pub fine : AreFine read before
 
--- if no assignment has an error, the result is both lists, or `NothingToDo` if there is no expression; otherwise it is
--- the first error
+-- if no assignment has an error, the result is the lists of expressions and exceptions, or `NothingToDo` if there is no
+-- expression; otherwise the result is the first error
 abbrev pub JudgesTimer : {E : Type 0} → (List ℕ → Result E SpecFault) → List Assignment → Result (Timer E) TimerFault → Type 0
 JudgesTimer read all (Ok lists) = AreFine read all × (entries read all ≡ lists) × (0 < length lists.expressions)
 JudgesTimer read all (Err NothingToDo) = AreFine read all × ((entries read all).expressions ≡ [])

@@ -11,41 +11,39 @@ use Rattle.cal_read.specs.declared.timer.list.ReadLists.{ReadLists}
 use Rattle.cal_read.specs.declared.timer.fault.TimerFault.{TimerFault}
 use Rattle.cal_read.specs.declared.timer.fault.TimerFault.TheVariants.{BadLine, TooMany}
 
--- an entry of a list
+-- an entry of the code's list of expressions or of exceptions, as the definitions have it
 abbrev pub shown : declared_line.TimerLine → TimerLine Fields
 shown line = record { number = line.number; text = string_bytes line.text; expr = line.expr }
 
--- both lists
+-- the code's lists of expressions and exceptions, as the definitions have them
 abbrev pub shown_lists : ReadLists → Timer Fields
 shown_lists lists = record { expressions = map shown lists.expressions.items; exceptions = map shown lists.exceptions.items }
 
--- two empty lists
-abbrev pub empty_lists : {E : Type 0} → Timer E
-empty_lists = record { expressions = []; exceptions = [] }
-
--- a list with one more entry, given the result of parsing its expression, or the error
+-- the list `es` with an entry for the assignment `a` added, or the error of `a`, given the result of parsing the
+-- expression of `a`
 abbrev pub with_read : {E : Type 0} → List (TimerLine E) → Assignment → Result E SpecFault → Result (List (TimerLine E)) TimerFault
 with_read es a (Ok expr) = Ok (es ++ record { number = a.number; text = a.value; expr = expr } ∷ [])
 with_read es a (Err fault) = Err (BadLine a.number fault)
 
--- a list with the entry of an assignment, or the error
+-- the list `es` with an entry for the assignment `a` added, or the error of `a`
 unfoldable pub with_assignment : {E : Type 0} → (List ℕ → Result E SpecFault) → List (TimerLine E) → Assignment → Result (List (TimerLine E)) TimerFault
 with_assignment read es a = if nat_le max_expressions (length es) then Err (TooMany a.number) else with_read es a (read a.value)
 
--- a list after an assignment: with one more entry if it `adds`, or else empty if it `empties`
+-- the list `es` after the assignment `a`: if `adds`, an entry for `a` is added, or `a` has an error; otherwise the list
+-- is empty if `empties`, and unchanged if not
 abbrev pub changed : {E : Type 0} → (List ℕ → Result E SpecFault) → (adds empties : Bool) → List (TimerLine E) → Assignment → Result (List (TimerLine E)) TimerFault
 changed read true empties es a = with_assignment read es a
 changed read false true es a = Ok []
 changed read false false es a = Ok es
 
--- what follows from a list, unless there was an error
+-- the result of `next` for the list, or the error if there is one instead of a list
 abbrev pub with_list : {E A : Type 0} → Result (List (TimerLine E)) TimerFault → (List (TimerLine E) → Result A TimerFault) → Result A TimerFault
 with_list (Ok es) next = next es
 with_list (Err fault) next = Err fault
 
--- The lists after the remaining assignments, given the lists so far. This follows the loop of the code and only private
--- contracts use it; the lemma `resumed_is_entries` says that they are
--- `entries_or_fault`.
+-- The lists of expressions and exceptions after the remaining assignments, given the lists so far. This definition
+-- follows the loop of the code, and only private contracts use it; the lemma `resumed_is_list` says that, from empty
+-- lists on, the result is that of `lists_of`.
 unfoldable pub resumed : {E : Type 0} → (List ℕ → Result E SpecFault) → Timer E → List Assignment → Result (Timer E) TimerFault
 resumed read lists [] = Ok lists
 resumed read lists (a ∷ after) =

@@ -22,20 +22,22 @@ const TIMER_KEYS: [&[u8]; 6] = [
     b"OnCalendar",
 ];
 
-/// The key of an exception.
+/// The key of exceptions, this project's own. An assignment with an empty value clears the list of exceptions.
 const EXCEPTION_KEY: &str = "X-ExceptOnCalendar";
 
-/// A key and its value, without leading and trailing blanks.
+/// A key and its value, both without leading and trailing blanks.
 #[derive(Clone, Copy)]
 pub(crate) struct Assignment<'t> {
-    /// The number of the assignment's line.
+    /// The number of the assignment's line, from 1. If the line is continued, this is the number of its first physical
+    /// line.
     pub(crate) number: u32,
     pub(crate) key: &'t str,
     pub(crate) value: &'t str,
 }
 
 impl Assignment<'_> {
-    /// Returns whether the assignment clears the list of expressions: one of the `On..` keys with an empty value.
+    /// Returns whether the assignment clears the list of expressions: its key is in [`TIMER_KEYS`] and its value is
+    /// empty.
     #[tactic(auto, unfolding(crate::specs::headline::TimerText::is_reset))]
     pub(crate) fn is_reset(self) -> bool
         ensures { result ≡ is_reset (shown_assignment self.entry) }
@@ -80,8 +82,8 @@ pub(crate) fn section(line: &str) -> Option<&[u8]>
     }
 }
 
-/// Parses the assignment in a line, whose key is before the first `=` and whose value is after it. Returns `None` if
-/// the line has no `=`.
+/// Parses a line as an assignment: the key is before the first `=`, and the value is after it. Returns `None` if the
+/// line has no `=`.
 #[tactic(auto, unfolding(crate::specs::headline::Assignments::assignment_of))]
 pub(crate) fn read_assignment(number: u32, line: &str) -> Option<Assignment<'_>>
     ensures { option_map shown_assignment result ≡ assignment_of (line_at number line.now) }

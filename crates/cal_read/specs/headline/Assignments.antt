@@ -6,26 +6,26 @@ use Rattle.cal_text.specs.headline.Trim.{trim_matches}
 use Rattle.cal_lines.specs.headline.Lines.{Line, is_blank_or_return}
 use Rattle.cal_text.specs.headline.Separators.{is_equals}
 
--- a logical line that begins with `[` and ends with `]` opens the section that is named in between
+-- a logical line that begins with `[` and ends with `]` opens the section that is named between the brackets
 abbrev pub is_header : List ℕ → Bool
 is_header text = (slice_index text 0 == 91) && (slice_index text (length text - 1) == 93)
 
 abbrev pub section_of : List ℕ → List ℕ
 section_of text = take (length text - 2) (drop 1 text)
 
--- a line without leading and trailing blanks
+-- a line without leading and trailing blanks and carriage returns
 abbrev pub trimmed : Line → Line
 trimmed line = record { number = line.number; text = trim_matches is_blank_or_return line.text }
 
--- The lines of the section `Timer` without headers; `inside` says whether the first lines are in the section. The name
--- of the section must match exactly.
+-- The lines of the section `Timer` without headers; `inside` says whether the lines before the first header are in the
+-- section. The name of the section must match exactly.
 unfoldable pub timer_lines : Bool → List Line → List Line
 timer_lines inside [] = []
 timer_lines inside (line ∷ lines) =
     if is_header line.text then timer_lines (bytes_eq (section_of line.text) (codes "Timer")) lines
     else (if inside then line ∷ timer_lines inside lines else timer_lines inside lines)
 
--- a key, its value, and the number of their line
+-- an assignment: its key, its value, and the number of its line
 pub record Assignment : Type 0 where
   pub number : ℕ
   pub key : List ℕ
@@ -42,6 +42,7 @@ assignment_of line =
     })
     else None
 
--- the assignments of the section `Timer` in these logical lines
+-- the assignments of the section `Timer` in these logical lines; `inside` says whether the lines before the first
+-- header are in the section
 unfoldable pub assignments_in : Bool → List Line → List Assignment
 assignments_in inside lines = filter_map assignment_of (timer_lines inside (map trimmed lines))

@@ -11,13 +11,14 @@ timer_keys =
     codes "OnActiveSec" ∷ codes "OnBootSec" ∷ codes "OnStartupSec" ∷ codes "OnUnitActiveSec"
     ∷ codes "OnUnitInactiveSec" ∷ codes "OnCalendar" ∷ []
 
--- the key of an exception; it begins with `X-`, which systemd.unit(5) leaves to other programs
+-- the key of an exception; systemd.unit(5) leaves keys that begin with `X-` to other programs
 abbrev pub exception_key : List ℕ
 exception_key = codes "X-ExceptOnCalendar"
 
 abbrev pub has_no_value : Assignment → Bool
 has_no_value a = length a.value == 0
 
+-- whether the assignment clears the list of expressions: one of `timer_keys` without a value
 unfoldable pub is_reset : Assignment → Bool
 is_reset a = has_no_value a && list_any (bytes_eq a.key) timer_keys
 
@@ -25,10 +26,11 @@ is_reset a = has_no_value a && list_any (bytes_eq a.key) timer_keys
 unfoldable pub is_expression : Assignment → Bool
 is_expression a = not (has_no_value a) && bytes_eq a.key (codes "OnCalendar")
 
--- whether the assignment clears the list of exceptions, which it does if the value is empty, or is an exception
+-- whether the assignment clears the list of exceptions: `X-ExceptOnCalendar` without a value
 unfoldable pub is_exception_reset : Assignment → Bool
 is_exception_reset a = has_no_value a && bytes_eq a.key exception_key
 
+-- whether the assignment is an exception: `X-ExceptOnCalendar` with a value
 unfoldable pub is_exception : Assignment → Bool
 is_exception a = not (has_no_value a) && bytes_eq a.key exception_key
 
@@ -40,7 +42,7 @@ listed assignments = filter is_expression (after_last is_reset assignments)
 unfoldable pub excepted : List Assignment → List Assignment
 excepted assignments = filter is_exception (after_last is_exception_reset assignments)
 
--- the maximum number of expressions in a list
+-- the maximum number of entries in the list of expressions, and in the list of exceptions
 abbrev pub max_expressions : ℕ
 max_expressions = 256
 
@@ -48,6 +50,6 @@ max_expressions = 256
 abbrev pub byte_order_mark : List ℕ
 byte_order_mark = 239 ∷ 187 ∷ 191 ∷ []
 
--- the text without a byte order mark at its start
+-- the text without the byte order mark at its start, if there is one
 unfoldable pub without_mark : List ℕ → List ℕ
 without_mark text = if starts_with nat_eq text byte_order_mark then drop 3 text else text

@@ -36,7 +36,8 @@ pub(crate) fn read_civil<'t>(text: &str, at: &Setting<'t>) -> Result<CivilStamp<
     }
 }
 
-/// Parses what follows the weekday. If the first word has a colon it is the time, otherwise it is the date.
+/// Parses the words after the weekday, or all words if no weekday is named. If the first of these words has a colon, it
+/// is the time; otherwise it is the date.
 fn after_weekday<'t>(
     weekday: Option<Weekday>,
     text: &str,
@@ -59,7 +60,8 @@ fn after_weekday<'t>(
     after_date(weekday, day, after, at)
 }
 
-/// Parses what follows the date. If the first word begins with a digit it is the time; otherwise the time is midnight.
+/// Parses the words after the date. If the first of these words begins with a digit, it is the time; otherwise the time
+/// is midnight. The words that remain are the zone.
 fn after_date<'t>(
     weekday: Option<Weekday>,
     day: i64,
@@ -107,9 +109,9 @@ fn begins_with_digit(word: &[u8]) -> bool
     }
 }
 
-/// Converts a civil time to a moment. If it has no date, it is on the present day in its zone. Fails with
-/// `WrongWeekday` if the day isn't the weekday that was named, and otherwise with `OutOfRange` if the moment is not
-/// supported.
+/// Converts a civil time to a moment. If the civil time has no date, it is on the present day in its zone. Fails with
+/// `WrongWeekday` if the day isn't the weekday that was named, and otherwise with `OutOfRange` if the time is before
+/// the first moment or after the last.
 #[tactic(auto, unfolding(crate::specs::Stamp::moment_of_civil_stamp))]
 pub(crate) fn moment_of_civil_stamp(now: Instant, stamp: CivilStamp) -> Result<Moment, StampFault>
     ensures { micros_or_fault result ≡ moment_of_civil_stamp now.secs (civil_stamp_seen stamp.entry) }
@@ -124,7 +126,8 @@ pub(crate) fn moment_of_civil_stamp(now: Instant, stamp: CivilStamp) -> Result<M
     settle_on(stamp.zone, day, stamp.micros)
 }
 
-/// Returns whether the day is `weekday`, or `true` if there is none.
+/// Returns whether the day with this number, counted from 1970-01-01, is `weekday`. Returns `true` if `weekday` is
+/// `None`.
 fn fits_weekday(weekday: Option<Weekday>, day: i64) -> bool
     requires { IsBetween (neg_ℤ (pos 2)) (pos 84_008) day }
     ensures { result ≡ fits_weekday weekday day }

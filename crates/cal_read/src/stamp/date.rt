@@ -9,7 +9,7 @@ use cal_spec::{first_piece, with_century};
 use cal_text::{are_digits, decimal_value};
 use jiff_core::civil::Date;
 
-/// A year, month and day as they are written. The year may be without its century, and the date may not exist.
+/// A year, a month and a day as they are written. The year may lack its century, and there may be no such date.
 #[derive(Clone, Copy)]
 struct DateNumbers {
     year: u16,
@@ -62,8 +62,8 @@ pub(crate) fn read_number(word: &[u8], most: usize) -> Option<u16>
     Some(decimal_value(word) as u16)
 }
 
-/// Returns the number of a day, counted from 1970-01-01. Fails with `NoSuchDate` if it isn't a day from 1970-01-01 to
-/// 2199-12-31.
+/// Returns the day number of a date, counted from 1970-01-01. Fails with `NoSuchDate` if the date isn't a day from
+/// 1970-01-01 to 2199-12-31.
 #[tactic(auto, unfolding(crate::specs::StampDate::day_of_date))]
 fn day_of_date(year: u16, month: u16, day: u16) -> Result<i64, StampFault>
     ensures value { result ≡ day_of_date year month day }

@@ -8,7 +8,7 @@ use cal_span::SpanFault;
 /// Why a timestamp is invalid (systemd.time(7), Parsing Timestamps).
 ///
 /// If several words are invalid, the leftmost error is reported. `WrongWeekday` is reported only if all words are
-/// valid, and `OutOfRange` last of all.
+/// valid, and `OutOfRange` only if there is no other error.
 ///
 /// The errors are numbered:
 ///
@@ -32,18 +32,17 @@ pub enum StampFault {
     BadWeekday,
     /// A date is expected, but the word is not a date, or there are no more words.
     BadDate,
-    /// Not a time where one is expected.
+    /// A time is expected, but the word is not a time.
     BadTime,
     /// The date is not a day from 1970-01-01 to 2199-12-31.
     NoSuchDate,
-    /// The date isn't on the weekday that was named.
+    /// The day isn't the weekday that was named.
     WrongWeekday,
     /// The time span of the timestamp is invalid.
     BadSpan(SpanFault),
     /// A word in the position of the zone begins with a letter, but is not the name of a zone.
     NoSuchZone,
-    /// A word is left over. This is also the error if a word in the position of the zone doesn't begin with a letter
-    /// and is not an offset.
+    /// A word follows the zone, or a word in the position of the zone doesn't begin with a letter and is not an offset.
     StrayWord,
     /// The time is before the first moment or after the last.
     OutOfRange,

@@ -16,22 +16,22 @@ pub(crate) enum RelativeDay {
     Tomorrow,
 }
 
-/// A timestamp, sorted by its form. The parts are still to be parsed.
+/// The form of a timestamp, with the texts of its parts, which are not parsed yet.
 #[derive(Clone, Copy)]
 pub(crate) enum Form<'a> {
-    /// An empty timestamp.
+    /// An empty or blank timestamp.
     Nothing,
-    /// The present.
+    /// The present: `now`.
     Present,
-    /// The present plus a time span.
+    /// The present plus a time span: the text after `+` or before `left`.
     Later(&'a str),
-    /// The present minus a time span.
+    /// The present minus a time span: the text after `-` or before `ago`.
     Earlier(&'a str),
-    /// 1970-01-01 00:00:00 UTC plus a time span.
+    /// 1970-01-01 00:00:00 UTC plus a time span: the text after `@`.
     Counted(&'a str),
-    /// The midnight at which this day begins, and the text of its zone.
+    /// The midnight at which this day begins, and the text after the name of the day, which is parsed as a zone.
     Midnight(RelativeDay, &'a str),
-    /// A date and time of day, as text.
+    /// Any other text, which is parsed as a date and a time of day.
     Civil(&'a str),
 }
 

@@ -23,15 +23,15 @@ ghost use Rattle.cal_read.specs.StampViews.{setting};
 ghost use Rattle.cal_read.specs.declared.stamp.fault.StampFault.{StampFault};
 ghost use Rattle.cal_read.specs.declared.stamp.fault.StampFault.TheVariants.{NoSuchDate, OutOfRange, StrayWord, WrongWeekday};
 
-/// Every text has exactly one form by the rule of systemd.time(7), Parsing Timestamps: the first that matches it
-/// without leading and trailing blanks. `read_stamp` interprets the text in this form.
+/// Every text has exactly one form by the rule of systemd.time(7), Parsing Timestamps: the first form that matches the
+/// text without leading and trailing blanks. `read_stamp` interprets the text in this form.
 pub fn one_form()
     ensures found { (text : List ℕ) → HasForm text (form_of text) }
     ensures only { (text : List ℕ) (form : Form) → HasForm text form → form ≡ form_of text }
 {}
 
 /// A list of words is a civil time if and only if it is `[weekday] [date] [time] [zone]` with a date or a time
-/// (systemd.time(7), Parsing Timestamps). `read_stamp` reads it as that civil time.
+/// (systemd.time(7), Parsing Timestamps). `read_stamp` reads the words as that civil time.
 pub fn one_civil_time()
     ensures found { (at : Setting) (ws : List (List ℕ)) (c : CivilStamp)
         → civil_time at ws ≡ Ok c → IsCivilTime at ws c }
@@ -57,7 +57,7 @@ pub fn spans_count_from_the_present()
         → ((moment_in now at text ≡ Ok time) ↔ (LiesAfter (pos 0) span time × IsMoment time)) }
 {}
 
-/// `today`, `yesterday` and `tomorrow` resolve to the midnight at which that day begins. Today is the day that the
+/// `today`, `yesterday` and `tomorrow` resolve to the midnight at which the named day begins. Today is the day that the
 /// clock of the zone shows at present (systemd.time(7), Parsing Timestamps).
 pub fn relative_days_begin_at_midnight()
     ensures { (now : ℤ) (at : Setting) (text : List ℕ) (shift : ℤ) (words : List (List ℕ)) (time : ℤ)
@@ -65,9 +65,9 @@ pub fn relative_days_begin_at_midnight()
         → ((moment_in now at text ≡ Ok time) ↔ (IsMidnight now at shift words time × IsMoment time)) }
 {}
 
-/// A civil time resolves to the moment at which the clock of its zone shows that time on its day, and the day must be
-/// the weekday that is named (systemd.time(7), Parsing Timestamps). If it isn't, the error is `WrongWeekday`, even if
-/// the time is also out of range.
+/// A civil time resolves to the moment at which the clock of its zone shows its time of day on its day
+/// (systemd.time(7), Parsing Timestamps). If a weekday is named and the day isn't this weekday, the error is
+/// `WrongWeekday`, even if the time is also out of range.
 pub fn weekdays_are_checked()
     ensures right { (now : ℤ) (at : Setting) (text : List ℕ) (words : List (List ℕ)) (time : ℤ)
         → HasForm text (civil words)
@@ -77,9 +77,9 @@ pub fn weekdays_are_checked()
         → ((moment_in now at text ≡ Err WrongWeekday) ↔ (FallsOn c.weekday day → ⊥)) }
 {}
 
-/// The error of a civil time is that of the leftmost word that isn't valid in its position. If all words are valid, it
-/// is `WrongWeekday`, and only then `OutOfRange`, which is the last error to be checked in the other forms too
-/// (systemd.time(7), Parsing Timestamps).
+/// The error of a civil time is that of the leftmost word that isn't valid in its position, or `BadDate` if the words
+/// end before a date or a time. If all words are valid, the weekday is checked (`WrongWeekday`), and then the range
+/// (`OutOfRange`). In the other forms, too, the range is checked last (systemd.time(7), Parsing Timestamps).
 pub fn first_error()
     ensures { (now : ℤ) (at : Setting) (text : List ℕ) (form : Form) (fault : StampFault) → HasForm text form
         → ((moment_in now at text ≡ Err fault) ↔ HasError now at form fault) }
@@ -94,13 +94,13 @@ pub fn moments_are_in_range()
         → MeansTime now at form time → (IsMoment time → ⊥) → moment_in now at text ≡ Err OutOfRange }
 {}
 
-/// Parsing a printed instant gives the same instant, whatever the present, the local zone and the table are, if the
-/// clock shows a year from 1970 to 2199 and its UTC offset is whole minutes (systemd.time(7), Parsing Timestamps). For
-/// UTC this is always so from 1970 to 2199.
+/// Parsing a printed instant gives the same instant, whatever the present, the local zone and the table are, if at this
+/// instant the clock of the zone in which it is printed shows a year from 1970 to 2199 and the UTC offset is whole
+/// minutes (systemd.time(7), Parsing Timestamps). In UTC, this holds for every instant of the years 1970 to 2199.
 ///
-/// If the offset isn't whole minutes, it is printed with seconds, and the parser rejects it as a zone. At the first
-/// instants a clock west of UTC shows 1969, and at the last instants most clocks show 2200; dates in these years are
-/// rejected.
+/// An offset that isn't whole minutes is printed with seconds, and the parser rejects such a word as a zone
+/// (`StrayWord`). At the first instants, clocks west of UTC show 1969, and at the last instants most clocks show 2200;
+/// dates in these years are rejected (`NoSuchDate`).
 pub fn printed_instants_read_back()
     ensures back { (now : ℤ) (local : TimeZone) (table : ZoneMap) (zone : Zone) (secs : ℤ) → IsInstant secs
         → ShowsYear (civil_of (zone_of zone) secs) → ShowsMinutes (civil_of (zone_of zone) secs)

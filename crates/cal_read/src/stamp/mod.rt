@@ -43,7 +43,7 @@ use cal_zone::{Instant, Moment, Zone, ZoneTable};
 /// is given, the zone is `local`.
 ///
 /// If several words are invalid, the leftmost error is reported. `WrongWeekday` is reported only if all words are
-/// valid, and `OutOfRange` last of all.
+/// valid, and `OutOfRange` only if there is no other error.
 #[tactic(auto, unfolding(crate::specs::Stamp::moment_in))]
 pub fn read_stamp(
     text: &str,

@@ -15,7 +15,8 @@ use cal_civil::DAY;
 use cal_span::Span;
 use cal_zone::{Instant, Moment, Zone, civil, settle};
 
-/// Returns the moment at this many microseconds of Unix time. Fails with `OutOfRange` if there is none.
+/// Returns the moment at `micros` microseconds of Unix time. Fails with `OutOfRange` if `micros` is before the first
+/// moment or after the last.
 #[tactic(auto, unfolding(crate::specs::Stamp::in_moments))]
 pub(crate) fn moment_of(micros: i64) -> Result<Moment, StampFault>
     ensures { micros_or_fault result ≡ in_moments micros }
@@ -67,7 +68,8 @@ fn local_second(now: Instant, zone: Zone) -> i64
     now.secs() + i64::from(civil(zone, now).offset)
 }
 
-/// Converts a day and the microseconds after its midnight to a moment. Fails with `OutOfRange` if there is none.
+/// Converts a day number and the microseconds after the day's midnight, both on the zone's clock, to a moment. Fails
+/// with `OutOfRange` if the result is before the first moment or after the last.
 ///
 /// If the zone's clock skips this local time, it is moved forward by the length of the gap; if the clock shows it
 /// twice, the first occurrence is used (systemd.time(7), Parsing Timestamps).
@@ -99,7 +101,7 @@ fn with_micros(second: i64, micros: u64) -> i64
     micros_of(second) + micros as i64
 }
 
-/// Returns the number of yesterday, today or tomorrow in the zone, counted from 1970-01-01.
+/// Returns the day number of yesterday, today or tomorrow on the zone's clock, counted from 1970-01-01.
 #[tactic(auto, unfolding(crate::specs::Stamp::today))]
 pub(crate) fn relative_day_number(now: Instant, zone: Zone, day: RelativeDay) -> i64
     ensures value { result ≡ today now.secs (zone_of zone.entry) +ℤ shift_of day }

@@ -6,7 +6,7 @@ ghost use Rattle.cal_read.specs.StampForm.{before_word};
 
 use cal_text::last_word;
 
-/// Returns the text after its first character, which must be ASCII.
+/// Returns `text` without its first character, which must be ASCII.
 pub(crate) fn text_after_first(text: &str) -> &str
     requires some { 0 < length text.now }
     requires ascii { slice_index text.now 0 < 128 }
@@ -15,7 +15,7 @@ pub(crate) fn text_after_first(text: &str) -> &str
     &text[1..]
 }
 
-/// Returns the text before its last blank if the word after that blank is `word`.
+/// Returns the part of `text` before the last blank, if the part after this blank is `word`. Returns `None` otherwise.
 pub(crate) fn before_word<'a>(word: &str, text: &'a str) -> Option<&'a str>
     ensures { option_copied result ≡ before_word word.now text.now }
 {

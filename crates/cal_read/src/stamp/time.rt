@@ -12,12 +12,12 @@ use cal_text::are_digits;
 /// The number of microseconds in a second.
 pub(crate) const MICROS_PER_SECOND: u64 = 1_000_000;
 
-/// The number of digits of a fraction that are used.
+/// How many digits of a fraction of a second are used. Further digits are ignored.
 const KEPT_DIGITS: usize = 6;
 
-/// Parses a time of day and returns the microseconds after midnight: `H:M`, `H:M:S`, or `H:M:S.` followed by one or
-/// more digits, of which the first six are used (systemd.time(7), Parsing Timestamps). H is 0 to 23, M and S are 0 to
-/// 59, each with one or two digits. Fails with `BadTime` for anything else.
+/// Parses a time of day and returns the microseconds after midnight. A time of day is `H:M`, `H:M:S`, or `H:M:S.`
+/// followed by one or more digits, of which the first six are used (systemd.time(7), Parsing Timestamps). H is 0 to 23,
+/// M and S are 0 to 59, each with one or two digits. Fails with `BadTime` for anything else.
 #[tactic(auto, unfolding(crate::specs::StampTime::time_written))]
 pub(crate) fn read_time(word: &[u8]) -> Result<u64, StampFault>
     ensures value { result ≡ time_written word.now }
@@ -44,8 +44,8 @@ fn time_numbers(word: &[u8]) -> Option<u64>
     }
 }
 
-/// Returns the microseconds after midnight, from the digits of the hour and of the minute and the microseconds after
-/// the minute. Returns `None` if any of them is invalid.
+/// Returns the microseconds after midnight, given the digits of the hour, the digits of the minute, and the
+/// microseconds since the full minute. Returns `None` if any of the three is invalid.
 fn time_of(hour: &[u8], minute: &[u8], micros: Option<u64>) -> Option<u64>
     requires { IfSome micros (λ micros. micros ≤ 120_000_000) }
     ensures value { result ≡ time_by (clock_number 23 hour.now) (clock_number 59 minute.now) micros }
@@ -56,7 +56,8 @@ fn time_of(hour: &[u8], minute: &[u8], micros: Option<u64>) -> Option<u64>
     Some((hour * 3_600 + minute * 60) * MICROS_PER_SECOND + micros?)
 }
 
-/// Parses the seconds, `S` or `S.` followed by digits, and returns microseconds.
+/// Parses the seconds of a time, `S` or `S.` followed by digits, and returns microseconds. Returns `None` for anything
+/// else.
 #[tactic(auto, unfolding(crate::specs::StampTime::second_written))]
 fn read_second(word: &[u8]) -> Option<u64>
     ensures value { result ≡ second_written word.now }
@@ -82,7 +83,7 @@ fn both(seconds: Option<u64>, micros: Option<u64>) -> Option<u64>
     Some(seconds? * MICROS_PER_SECOND + micros?)
 }
 
-/// Parses a number of one or two digits that is at most `greatest`.
+/// Parses a number of one or two digits that is at most `greatest`. Returns `None` for anything else.
 #[tactic(auto, unfolding(crate::specs::StampTime::clock_number))]
 fn clock_number(word: &[u8], greatest: u16) -> Option<u64>
     ensures value { result ≡ clock_number greatest word.now }
@@ -96,6 +97,7 @@ fn clock_number(word: &[u8], greatest: u16) -> Option<u64>
 }
 
 /// Parses one or more digits of a fraction of a second and returns microseconds. Only the first six digits are used.
+/// Returns `None` for anything else.
 #[tactic(auto, unfolding(crate::specs::StampTime::fraction_in))]
 fn read_fraction(digits: &[u8]) -> Option<u64>
     ensures value { result ≡ fraction_in digits.now }

@@ -13,11 +13,11 @@ use cal_civil::{begins_with_letter, read_offset};
 use cal_text::first_word;
 use cal_zone::{Zone, ZoneTable};
 
-/// Parses the zone, which is all that may be left in `text`: a name in the table, or an offset, which is never looked
-/// up there. Returns the local zone if there are no words (systemd.time(7), Parsing Timestamps).
+/// Parses `text` as one zone: a name in the table, or an offset. A word that doesn't begin with a letter is never
+/// looked up in the table. Returns the local zone if `text` has no words (systemd.time(7), Parsing Timestamps).
 ///
-/// Fails with `NoSuchZone` if the word begins with a letter and is not a name in the table, and with `StrayWord` if it
-/// begins with anything else and is not an offset, or if another word follows it.
+/// Fails with `NoSuchZone` if the first word begins with a letter and is not a name in the table, and with `StrayWord`
+/// if the first word begins with anything else and is not an offset, or if another word follows a valid zone.
 pub(crate) fn read_zone<'t>(text: &str, at: &Setting<'t>) -> Result<Zone<'t>, StampFault>
     ensures { zone_or_fault result ≡ zone_by_words (setting_seen at.now) (words text.now) }
 {

@@ -32,9 +32,10 @@ pub enum TimerFault {
     NotUtf8(u32),
     /// The expression or the exception in this line is invalid, for this reason.
     BadLine(u32, SpecFault),
-    /// There are more than 256 expressions, or more than 256 exceptions. The first over the limit is in this line.
+    /// There are more than 256 expressions, or more than 256 exceptions. The first expression or exception over the
+    /// limit is in this line.
     TooMany(u32),
-    /// After the last line the list of expressions is empty, whatever the list of exceptions has.
+    /// The list of expressions is empty after the last line, even if there are exceptions.
     NothingToDo,
     /// Out of memory.
     NoMemory,
@@ -43,8 +44,8 @@ pub enum TimerFault {
 impl TimerFault {
     ghost use Rattle.cal_read.specs.TimerFault.{line_of, message_of};
 
-    /// Returns the message for users. For a bad line it is the message of its expression's error; for
-    /// [`TimerFault::NoMemory`] it is empty.
+    /// Returns the message for users. For [`TimerFault::BadLine`], this is the message of the error of the expression;
+    /// for [`TimerFault::NoMemory`], it is empty.
     pub fn words(&self) -> &str
         ensures { result.now ≡ message_of self.now }
     {

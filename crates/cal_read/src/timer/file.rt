@@ -26,7 +26,7 @@ use std::alloc::Global;
 /// - [`TimerFault::ReadFailed`] if and only if a read fails, or [`TimerFault::TooLarge`] if the input has more than
 ///   1,048,576 bytes;
 /// - [`TimerFault::NotUtf8`] if the bytes are not valid UTF-8;
-/// - for each logical line in order, [`TimerFault::TooMany`] if it is one expression or exception over the limit, or
+/// - for each logical line in order, [`TimerFault::TooMany`] if its expression or exception is one over the limit, or
 ///   else [`TimerFault::BadLine`] if its expression or exception is invalid;
 /// - [`TimerFault::NothingToDo`] if there is no expression.
 ///
@@ -95,15 +95,10 @@ pub(crate) fn without_mark(text: &str) -> &str
     text.strip_prefix("\u{FEFF}").unwrap_or(text)
 }
 
-/// Parses the logical lines of a text and applies them to the lists. The first line has the number `first`, and belongs
-/// to no section. An empty list of expressions is not an error here.
-pub(crate) fn take_text(
-    alloc: Global,
-    lists: &mut ReadLists,
-    first: u32,
-    text: &str,
-) -> Result<(), TimerFault>
-    requires { first + length text.now < 2 ^ 32 }
+/// Parses the logical lines of a timer file, and returns the lists of expressions and exceptions as they are after the
+/// last line. An empty list of expressions is not an error here.
+fn read_lists(alloc: Global, text: &str) -> Result<ReadLists, TimerFault>
+    requires { length text.now ≤ timer_file_limit }
     ensures { MatchResult result
         (λ _. resumed expr_in (shown_lists lists.old) (assignments_in false (logical_lines first text.now)) ≡ Ok (shown_lists lists.new))
         (λ fault. fault ≢ TimerFault.NoMemory

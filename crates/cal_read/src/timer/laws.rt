@@ -17,8 +17,8 @@ ghost use Rattle.cal_read.specs.TimerTexts.{assignments_of};
 ghost use Rattle.cal_read.specs.declared.timer.texts.UnitText.{UnitText};
 ghost use Rattle.cal_read.specs.headline.TimerText.{excepted, is_exception, is_exception_reset, is_expression, is_reset, listed};
 
-/// A line belongs to the section `Timer` if the last header before it opens that section. A header itself belongs to no
-/// section.
+/// A line belongs to the section `Timer` if the last header before the line opens this section. If there is no header
+/// before the line, `inside` decides. A header itself belongs to no section.
 pub fn one_section()
     ensures header { (inside : Bool) (front rest : List Line) (header : Line)
         → is_header header.text ≡ true → list_any (λ line. is_header line.text) rest ≡ false
@@ -28,8 +28,8 @@ pub fn one_section()
         → timer_lines inside lines ≡ (if inside then lines else []) }
 {}
 
-/// The list of expressions has those after the last assignment that clears the list, or all of them if no assignment
-/// clears it.
+/// The list of expressions has the expressions after the last assignment that clears the list, or all expressions if no
+/// assignment clears it.
 pub fn one_list()
     ensures after_reset { (front rest : List Assignment) (reset : Assignment)
         → is_reset reset ≡ true → list_any is_reset rest ≡ false
@@ -37,8 +37,9 @@ pub fn one_list()
     ensures no_reset { (all : List Assignment) → list_any is_reset all ≡ false → listed all ≡ filter is_expression all }
 {}
 
-/// The list of exceptions has those after the last assignment that clears the list, or all of them if no assignment
-/// clears it. What clears the list of expressions doesn't affect the list of exceptions, and vice versa.
+/// The list of exceptions has the exceptions after the last assignment that clears the list, or all exceptions if no
+/// assignment clears it. An assignment that clears the list of expressions doesn't change the list of exceptions, and
+/// vice versa.
 pub fn one_list_of_exceptions()
     ensures after_reset { (front rest : List Assignment) (reset : Assignment)
         → is_exception_reset reset ≡ true → list_any is_exception_reset rest ≡ false
@@ -51,8 +52,8 @@ pub fn one_list_of_exceptions()
         → listed (before ++ reset ∷ []) ≡ listed before }
 {}
 
-/// A list of assignments has exactly one result: both lists, if no assignment has an error and there is an expression;
-/// otherwise the first error, or `NothingToDo` if no assignment has one.
+/// A list of assignments has exactly one result. If no assignment has an error, it is the lists of expressions and
+/// exceptions, or `NothingToDo` if the list of expressions is empty. Otherwise it is the first error.
 pub fn one_judgement()
     ensures some { (read : List ℕ → Result Fields SpecFault) (all : List Assignment)
         → JudgesTimer read all (lists_of read all) }

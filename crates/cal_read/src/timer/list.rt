@@ -16,8 +16,8 @@ use cal_lines::trim;
 use cal_spec::{SpecFault, read_expr};
 use std::alloc::Global;
 
-/// The maximum number of expressions in a list.
-pub(crate) const MAX_EXPRESSIONS: usize = 256;
+/// The maximum number of entries of the list of expressions, and of the list of exceptions.
+const MAX_EXPRESSIONS: usize = 256;
 
 /// The name of the section whose assignments are read.
 const TIMER_SECTION: &[u8] = b"Timer";
@@ -55,7 +55,7 @@ impl ReadLists {
 }
 
 /// Applies a logical line to the lists. `inside` says whether the line is in the section `Timer`. Returns whether the
-/// next line is.
+/// next line is in this section.
 pub(crate) fn take_line(
     alloc: Global,
     lists: &mut ReadLists,
@@ -85,7 +85,7 @@ pub(crate) fn take_line(
     Ok(true)
 }
 
-/// Applies an assignment to the lists: it can add to one of them, clear one of them, or leave both unchanged.
+/// Applies an assignment to the lists: it can add to one of the lists, clear one of them, or leave both unchanged.
 fn assign(
     alloc: Global,
     lists: &mut ReadLists,
@@ -115,7 +115,8 @@ fn assign(
     )
 }
 
-/// Adds the assignment to the list if `adds`, and otherwise clears the list if `empties`.
+/// Adds the expression of the assignment to the list if `adds` is `true`; otherwise clears the list if `empties` is
+/// `true`.
 fn change(
     alloc: Global,
     list: &mut Vec<TimerLine>,

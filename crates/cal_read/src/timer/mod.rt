@@ -17,7 +17,8 @@ use std::marker::Model;
 /// A calendar expression of a timer file, or an exception.
 #[derive(Debug, Drop)]
 pub struct TimerLine {
-    /// The number of its line, from 1. If the line is continued, this is the number of its first physical line.
+    /// The number of the expression's line, from 1. If the line is continued, this is the number of its first physical
+    /// line.
     pub number: u32,
     /// The expression as it is written in the file, without leading and trailing blanks.
     pub text: String,
@@ -25,7 +26,7 @@ pub struct TimerLine {
     pub expr: Expr,
 }
 
-/// The calendar expressions of a timer file, at least one, and its exceptions. Both are in the order of the file.
+/// The calendar expressions of a timer file, at least one, and its exceptions. Both lists are in the order of the file.
 #[derive(Debug, Drop)]
 pub struct Timer {
     lines: Vec<TimerLine>,
