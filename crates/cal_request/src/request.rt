@@ -3,12 +3,12 @@
 ghost use Rattle.std.specs.Prelude.{◌≡◌, None, false, true, vec_len};
 ghost use Rattle.cal_request.specs.Request.{IsCount, is_timer, seeks_elapses};
 
-/// The verb of a request: what to report of each text, or of a timer file (systemd-analyze(1)).
+/// The verb of a request, which says what is reported for each text or for a timer file (systemd-analyze(1)).
 #[derive(Clone, Copy, PartialEq, Eq, Debug)]
 pub enum Verb {
     /// `calendar`: the normal form of a calendar expression, and its next elapses.
     Calendar,
-    /// `timer`: the next elapses of a timer file, whose path is the only text.
+    /// `timer`: the next elapses of a timer file. The request's only text is the path of this file.
     Timer,
     /// `timestamp`: the instant that a timestamp resolves to.
     Timestamp,
@@ -34,7 +34,7 @@ impl Verb {
         !matches!(self, Verb::Timespan)
     }
 
-    /// Returns whether the verb reads a timer file, whose path is the only text.
+    /// Returns whether the verb reads a timer file. The only text of the request is then the path of this file.
     pub fn is_timer(self) -> bool
         ensures { result ≡ is_timer self }
     {
@@ -45,7 +45,7 @@ impl Verb {
 /// A request: a verb with its texts and options.
 #[derive(Debug, Drop)]
 pub struct Request {
-    /// The verb.
+    /// What to report.
     pub verb: Verb,
     /// The expressions, timestamps or spans in the order of the arguments; for [`Verb::Timer`], only the path of the
     /// timer file.
@@ -73,14 +73,14 @@ impl Status {
     ghost use Rattle.std.specs.Prelude.{◌≡◌};
     ghost use Rattle.cal_request.specs.Status.{is_fine, status_and};
 
-    /// Returns whether no text was invalid.
+    /// Returns whether every text was valid.
     pub fn is_fine(self) -> bool
         ensures { result ≡ is_fine self }
     {
         matches!(self, Status::Fine)
     }
 
-    /// Combines the statuses of two parts of a run into [`Status::Fine`] if both are `Fine`, and otherwise
+    /// Combines the statuses of two parts of a run: returns [`Status::Fine`] if both are `Fine`, and otherwise
     /// [`Status::Refused`].
     pub fn and(self, later: Status) -> Status
         ensures { result ≡ status_and self later }
@@ -92,7 +92,8 @@ impl Status {
     }
 }
 
-/// Why a run could not write its output in full. What each of the two writers got is then a prefix of its whole output.
+/// Why a run could not write its output in full. There are two writers, one for reports and one for error lines. What
+/// each writer got is then a prefix of what a run without this error writes to it.
 #[derive(Clone, Copy, PartialEq, Eq, Debug)]
 pub enum RunFault {
     /// Writing a report failed.
